@@ -1,0 +1,22 @@
+//! SCSI commands, status, sense and names, as plain values.
+#![tactic(auto)]
+
+mod cdb;
+mod command;
+mod lun;
+mod memory;
+mod names;
+mod reply;
+mod sense;
+mod status;
+#[cfg(test)]
+mod tests;
+
+pub use cdb::decode;
+pub use command::{Asked, CdbFault, Command, Op, need};
+pub use lun::Lun;
+pub use memory::NoMemory;
+pub use names::{Group, Place, PortName};
+pub use reply::Reply;
+pub use sense::Sense;
+pub use status::Status;
