@@ -1,0 +1,16 @@
+-- Failures and their count.
+use Rattle.std.specs.Prelude.{◌≡◌, ℕ, ◌<◌, ◌≤◌, Result, IsOk}
+
+-- where a count ends: there it stays, and says nothing any more
+abbrev pub last_count : ℕ
+last_count = 18446744073709551615
+
+-- the count rises exactly where the fact fails
+pub record Tells (before now : ℕ) (done : Type 0) : Type 0 where
+  pub later : before ≤ now
+  pub stays : before < last_count → done → now ≡ before
+  pub rises : before < last_count → (done → ⊥) → before < now
+
+-- a call fails exactly where the count rises
+abbrev pub Counts : {T E : Type 0} → ℕ → ℕ → Result T E → Type 0
+Counts before now result = Tells before now (IsOk result)

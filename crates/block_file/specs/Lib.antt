@@ -1,0 +1,6 @@
+pub mod Cut
+pub mod Disk
+pub mod DiskLaws
+pub mod Failures
+pub mod Fuse
+pub mod Moment

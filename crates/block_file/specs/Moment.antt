@@ -1,0 +1,9 @@
+-- Crashes at some moment since an earlier one.
+use Rattle.std.specs.Prelude.{◌⊎◌, ℕ, ◌≤◌, List}
+
+-- Time goes on by one call: a crash since a moment may have left what it may have left before the call, or
+-- what it may leave after it, and all of the former.
+pub record Elapses (before now : ℕ) (past since : ℕ → List (List ℕ) → Type 0) (may_leave : List (List ℕ) → Type 0) : Type 0 where
+  pub later : before ≤ now
+  pub nothing_else : (t : ℕ) (disk : List (List ℕ)) → t ≤ before → since t disk → past t disk ⊎ may_leave disk
+  pub keeps : (t : ℕ) (disk : List (List ℕ)) → t ≤ before → past t disk → since t disk

@@ -1,0 +1,92 @@
+ghost use Rattle.std.specs.Prelude.{◌≡◌, ◌<◌, ◌≤◌, ◌^◌, [], ◌∷◌, List, ℕ, Bool, length, IsTrue, OnOk};
+ghost use Rattle.block_file.specs.Disk.{block_at, written, Between, NoMore, Adds, Only, MayLeave};
+ghost use Rattle.block_file.specs.Moment.{Elapses};
+ghost use Rattle.block_file.specs.Failures.{Counts, last_count};
+
+use thiserror::Error;
+
+/// The device refused a call, and counted it.
+#[derive(Clone, Copy, Debug, PartialEq, Eq, Error)]
+#[error("the device failed")]
+pub struct DeviceFailed;
+
+/// A device of blocks of 512 bytes, numbered from 0.
+///
+/// What is said of contents and of crashes holds where the type claims it. That a call fails exactly where
+/// the count of failures rises, and that the number of blocks stays, holds of every device.
+pub trait Blocks: Drop {
+    /// Whether the type keeps what is said of contents and of a crash now.
+    ghost claims: { Bool };
+
+    /// Whether it also keeps what is said of a crash at some moment since an earlier one.
+    ghost claims_moments: { Bool };
+
+    /// How many blocks there are.
+    ghost size: { Self → ℕ };
+
+    /// The blocks, as reads return them.
+    ghost contents: { Self → List (List ℕ) };
+
+    /// What the block at a place may hold after a crash now.
+    ghost may_hold: { Self → ℕ → List ℕ → Type 0 };
+
+    /// The moment, as a number that does not fall.
+    ghost moment: { Self → ℕ };
+
+    /// What a crash at some moment from this one on may have left.
+    ghost left_since: { Self → ℕ → List (List ℕ) → Type 0 };
+
+    /// How often the device has failed.
+    ghost failures: { Self → ℕ };
+
+    /// The number of blocks.
+    fn count(&self) -> u32
+        ensures { result ≡ size self.now };
+
+    /// Reads a block. After a failure nothing is known of what `block` holds.
+    fn read(&mut self, index: u32, block: &mut [u8; 512]) -> Result<(), DeviceFailed>
+        requires { index < size self.old }
+        ensures size { size self.new ≡ size self.old }
+        ensures read { IsTrue claims → OnOk result (block.new ≡ block_at (contents self.old) index) }
+        ensures contents { IsTrue claims → contents self.new ≡ contents self.old }
+        ensures crash { IsTrue claims → NoMore (may_hold self.old) (may_hold self.new) }
+        ensures time { IsTrue claims_moments → Elapses (moment self.old) (moment self.new) (left_since self.old) (left_since self.new) (MayLeave (size self.new) (may_hold self.new)) }
+        ensures failures { Counts (failures self.old) (failures self.new) result };
+
+    /// Writes a block. After a failure it is the old one or the new one.
+    fn write(&mut self, index: u32, block: &[u8; 512]) -> Result<(), DeviceFailed>
+        requires { index < size self.old }
+        ensures size { size self.new ≡ size self.old }
+        ensures written { IsTrue claims → OnOk result (contents self.new ≡ written (contents self.old) index (block.now ∷ [])) }
+        ensures torn { IsTrue claims → Between (contents self.old) index (block.now ∷ []) (contents self.new) }
+        ensures crash { IsTrue claims → Adds index (block.now ∷ []) (may_hold self.old) (may_hold self.new) }
+        ensures time { IsTrue claims_moments → Elapses (moment self.old) (moment self.new) (left_since self.old) (left_since self.new) (MayLeave (size self.new) (may_hold self.new)) }
+        ensures failures { Counts (failures self.old) (failures self.new) result };
+
+    /// Makes what was written last: after a success a crash leaves the contents.
+    fn flush(&mut self) -> Result<(), DeviceFailed>
+        ensures size { size self.new ≡ size self.old }
+        ensures contents { IsTrue claims → contents self.new ≡ contents self.old }
+        ensures durable { IsTrue claims → OnOk result (Only (contents self.old) (may_hold self.new)) }
+        ensures crash { IsTrue claims → NoMore (may_hold self.old) (may_hold self.new) }
+        ensures time { IsTrue claims_moments → Elapses (moment self.old) (moment self.new) (left_since self.old) (left_since self.new) (MayLeave (size self.new) (may_hold self.new)) }
+        ensures failures { Counts (failures self.old) (failures self.new) result };
+
+    /// The number of blocks fits 32 bits.
+    ghost fits: { (d : Self) → size d < 2 ^ 32 };
+
+    /// The count of failures has an end.
+    ghost bounded: { (d : Self) → failures d ≤ last_count };
+
+    /// The contents are as many blocks.
+    ghost sized: { (d : Self) → IsTrue claims → length (contents d) ≡ size d };
+
+    /// What reads return is one of the outcomes of a crash now.
+    ghost is_outcome: { (d : Self) (k : ℕ) → IsTrue claims → k < size d → may_hold d k (block_at (contents d) k) };
+
+    /// This moment is one of those since an earlier one.
+    ghost counts_now: { (d : Self) (t : ℕ) (disk : List (List ℕ)) → IsTrue claims_moments → t ≤ moment d → MayLeave (size d) (may_hold d) disk → left_since d t disk };
+
+    /// Since this moment there is no other.
+    ghost only_now: { (d : Self) (disk : List (List ℕ)) → IsTrue claims_moments → left_since d (moment d) disk → MayLeave (size d) (may_hold d) disk };
+}

@@ -1,0 +1,14 @@
+//! Devices of 512-byte blocks: what they keep, what a crash may leave of it, and when they fail.
+#![tactic(auto)]
+
+mod blocks;
+mod fused;
+pub mod laws;
+mod mem;
+
+pub use blocks::{Blocks, DeviceFailed};
+pub use fused::FusedBlocks;
+pub use mem::MemBlocks;
+
+#[cfg(test)]
+mod tests;

@@ -1,0 +1,101 @@
+ghost use Rattle.std.specs.Prelude.{◌≡◌, ◌<◌, ◌≤◌, ◌+◌, ◌*◌, ◌^◌, ◌++◌, [], ◌∷◌, List, ℕ, length, take, drop, replicate, true, false, refl, IfOk, IsOk, IsTrue, OnOk};
+ghost use Rattle.std.proofs.Common.{arith};
+ghost use Rattle.block_file.specs.Cut.{cut, length-cut};
+ghost use Rattle.block_file.specs.Disk.{block_at, written, Between, NoMore, Adds, Only};
+ghost use Rattle.block_file.specs.Failures.{Counts};
+
+use crate::{Blocks, DeviceFailed};
+use std::alloc::{AllocError, Global};
+
+/// Blocks in memory. Each write is done at once, so a crash leaves what is there, and no call fails.
+#[derive(Drop)]
+pub struct MemBlocks {
+    bytes: Vec<u8>,
+    count: u32,
+    ghost whole: { length bytes.items ≡ 512 * count },
+    ghost fits: { count < 2 ^ 32 },
+}
+
+impl MemBlocks {
+    /// So many blocks of zeros.
+    pub fn new(alloc: Global, count: u32) -> Result<MemBlocks, AllocError>
+        ensures size { IfOk result (λ d. ⟦<MemBlocks as Blocks>⟧.size d ≡ count) }
+        ensures zeros { IfOk result (λ d. ⟦<MemBlocks as Blocks>⟧.contents d ≡ replicate count (replicate 512 0)) }
+    {
+        let bytes = vec![in alloc; 0u8; 512 * count as usize]?;
+        Ok(MemBlocks { bytes, count })
+    }
+}
+
+impl Blocks for MemBlocks {
+    ghost claims = { true };
+
+    ghost claims_moments = { false };
+
+    ghost size = { λ d. d.count };
+
+    ghost contents = { λ d. cut d.count d.bytes.items };
+
+    ghost may_hold = { λ d k value. value ≡ block_at (cut d.count d.bytes.items) k };
+
+    ghost moment = { λ d. 0 };
+
+    ghost left_since = { λ d t disk. Unit {0} };
+
+    ghost failures = { λ d. 0 };
+
+    ghost fits = { λ d. d.fits };
+
+    ghost bounded = { λ d. Prim.omega arith };
+
+    ghost sized = { λ d h. length-cut d.count d.bytes.items };
+
+    ghost is_outcome = { λ d k h lt. refl };
+
+    ghost counts_now = { λ d t disk h. Prim.search };
+
+    ghost only_now = { λ d disk h. Prim.cc };
+
+    fn count(&self) -> u32 {
+        self.count
+    }
+
+    fn read(&mut self, index: u32, block: &mut [u8; 512]) -> Result<(), DeviceFailed>
+        requires { index < ⟦<MemBlocks as Blocks>⟧.size self.old }
+        ensures ok { IsOk result }
+        ensures unchanged { self.new ≡ self.old }
+        ensures read { block.new ≡ block_at (⟦<MemBlocks as Blocks>⟧.contents self.old) index }
+    {
+        let from = 512 * index as usize;
+        block.copy_from_slice(&self.bytes[from..from + 512]);
+        Ok(())
+    }
+
+    fn write(&mut self, index: u32, block: &[u8; 512]) -> Result<(), DeviceFailed>
+        requires { index < ⟦<MemBlocks as Blocks>⟧.size self.old }
+        ensures ok { IsOk result }
+        ensures size { ⟦<MemBlocks as Blocks>⟧.size self.new ≡ ⟦<MemBlocks as Blocks>⟧.size self.old }
+        ensures written { ⟦<MemBlocks as Blocks>⟧.contents self.new ≡ written (⟦<MemBlocks as Blocks>⟧.contents self.old) index (block.now ∷ []) }
+        ensures torn { Between (⟦<MemBlocks as Blocks>⟧.contents self.old) index (block.now ∷ []) (⟦<MemBlocks as Blocks>⟧.contents self.new) }
+        ensures crash { Adds index (block.now ∷ []) (⟦<MemBlocks as Blocks>⟧.may_hold self.old) (⟦<MemBlocks as Blocks>⟧.may_hold self.new) }
+    {
+        put(&mut self.bytes, 512 * index as usize, block);
+        Ok(())
+    }
+
+    fn flush(&mut self) -> Result<(), DeviceFailed>
+        ensures ok { IsOk result }
+        ensures unchanged { self.new ≡ self.old }
+    {
+        // Each write is done when it answers.
+        Ok(())
+    }
+}
+
+// Writes a block over the bytes from a place on.
+fn put(bytes: &mut Vec<u8>, from: usize, block: &[u8; 512])
+    requires { from + 512 ≤ length bytes.old.items }
+    ensures { bytes.new.items ≡ take from bytes.old.items ++ (block.now ++ drop (from + 512) bytes.old.items) }
+{
+    bytes[from..from + 512].copy_from_slice(block);
+}
