@@ -1,0 +1,5 @@
+use Rattle.iscsi_pdu.specs.Laws.{one_front}
+use Rattle.iscsi_pdu.proofs.laws.one_front.Goals as goal
+
+pub returns : goal.returns
+returns c = one_front

@@ -1,0 +1,5 @@
+use Rattle.iscsi_pdu.specs.Laws.{one_spelling}
+use Rattle.iscsi_pdu.proofs.laws.one_spelling.Goals as goal
+
+pub returns : goal.returns
+returns c = one_spelling

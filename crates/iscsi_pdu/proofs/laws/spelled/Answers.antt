@@ -1,0 +1,5 @@
+use Rattle.iscsi_pdu.specs.Laws.{spelled}
+use Rattle.iscsi_pdu.proofs.laws.spelled.Goals as goal
+
+pub returns : goal.returns
+returns c = spelled

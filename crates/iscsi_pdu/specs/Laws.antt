@@ -1,0 +1,133 @@
+-- No spelling of a PDU begins another's, and a target's PDU has one spelling.
+use Rattle.std.proofs.Common.{◌≡◌, ℕ, ◌+◌, ◌-◌, ◌^◌, ◌<◌, ◌≤◌, List, ◌++◌, length, get_or, take, drop, refl, sym, ap, subst, ◌∙◌, arith, append_assoc, length-append, length-drop, length-take-le, inl, inr}
+use Rattle.std.proofs.Math.ListN.{get_or-append}
+use Rattle.std.proofs.lemmas.List.{take_at, drop_at, get_or-take, get_or-drop, drop-drop, take-append-drop, length-replicate}
+use Rattle.std.specs.Prelude.{slice_index, slice_range}
+use Rattle.byteorder.specs.Numbers.{big_number-reads_back}
+use Rattle.iscsi_pdu.specs.declared.header.Header.{Header}
+use Rattle.iscsi_pdu.specs.declared.header.Header.TheVariants.{ScsiCommand, ScsiResponse, DataIn, Reject}
+use Rattle.iscsi_pdu.specs.Number.{three_at}
+use Rattle.iscsi_pdu.specs.Spelling.{response_bytes, data_in_bytes, reject_bytes, header_bytes, padded, zeros, spelling}
+use Rattle.iscsi_pdu.specs.Pdu.{opcode_of, IsTarget, HasFields, IsPdu}
+use Rattle.iscsi_pdu.specs.Fault.{IsTargetOpcode}
+
+three-same : (a b : List ℕ) (at : ℕ) → ((k : ℕ) → k < at + 3 → get_or a k 0 ≡ get_or b k 0) → three_at a at ≡ three_at b at
+unfolding three_at
+three-same a b at same =
+    let cell = λ (k : ℕ) (h : at + k < at + 3). get_or-drop at a k 0 ∙ same (at + k) h ∙ sym (get_or-drop at b k 0) in
+    rw (cell 0 (omega arith), cell 1 (omega arith), cell 2 (omega arith)) refl
+
+-- a front tells the number that it holds
+pub three-take : (b : List ℕ) (n at : ℕ) → at + 3 ≤ n → three_at (take n b) at ≡ three_at b at
+three-take b n at h = three-same (take n b) b at (λ k lt. get_or-take n b k 0 (omega arith))
+
+pub three-front : (a x : List ℕ) (at : ℕ) → at + 3 ≤ length a → three_at (a ++ x) at ≡ three_at a at
+three-front a x at h = three-same (a ++ x) a at (λ k lt. get_or-append a x 0 k (omega arith))
+
+-- No spelling of a PDU begins the spelling of another.
+pub one_front : (a b x y : List ℕ) (h k : Header) (d e : List ℕ) → IsPdu a h d → IsPdu b k e → a ++ x ≡ b ++ y → a ≡ b
+one_front a b x y h k d e p q same =
+    let len : three_at a 5 ≡ three_at b 5 = sym (three-front a x 5 (omega (arith, p.long))) ∙ ap (λ (z : List ℕ). three_at z 5) same ∙ three-front b y 5 (omega (arith, q.long)) in
+    let long : length a ≡ length b = p.size ∙ ap (λ (m : ℕ). 48 + padded m) len ∙ sym q.size in
+    sym (take_at a x (length b) long) ∙ ap (take (length b)) same ∙ take_at b y (length b) refl
+
+-- what a target's header spells
+pub length-header : (h : Header) (n : ℕ) → IsTarget h → length (header_bytes h n) ≡ 48
+unfolding response_bytes data_in_bytes reject_bytes
+length-header (ScsiCommand p) n t = absurd t
+length-header (ScsiResponse p) n t = refl
+length-header (DataIn p) n t = refl
+length-header (Reject p) n t = refl
+
+pub three-header : (h : Header) (n : ℕ) → IsTarget h → n < 2 ^ 24 → three_at (header_bytes h n) 5 ≡ n
+unfolding three_at response_bytes data_in_bytes reject_bytes
+three-header (ScsiCommand p) n t lt = absurd t
+three-header (ScsiResponse p) n t lt = big_number-reads_back 3 n (drop 8 (response_bytes p n)) lt
+three-header (DataIn p) n t lt = big_number-reads_back 3 n (drop 8 (data_in_bytes p n)) lt
+three-header (Reject p) n t lt = big_number-reads_back 3 n (drop 8 (reject_bytes p n)) lt
+
+pub ahs-header : (h : Header) (n : ℕ) → IsTarget h → slice_index (header_bytes h n) 4 ≡ 0
+unfolding response_bytes data_in_bytes reject_bytes
+ahs-header (ScsiCommand p) n t = absurd t
+ahs-header (ScsiResponse p) n t = refl
+ahs-header (DataIn p) n t = refl
+ahs-header (Reject p) n t = refl
+
+pub opcode-header : (h : Header) (n : ℕ) → IsTarget h → IsTargetOpcode (opcode_of (header_bytes h n))
+unfolding response_bytes data_in_bytes reject_bytes
+opcode-header (ScsiCommand p) n t = absurd t
+opcode-header (ScsiResponse p) n t = inl refl
+opcode-header (DataIn p) n t = inr (inl refl)
+opcode-header (Reject p) n t = inr (inr refl)
+
+pub fields-header : (h : Header) (w : List ℕ) → IsTarget h → w ≡ header_bytes h (three_at w 5) → HasFields w h
+fields-header (ScsiCommand p) w t e = absurd t
+fields-header (ScsiResponse p) w t e = e
+fields-header (DataIn p) w t e = e
+fields-header (Reject p) w t e = e
+
+pub header-fields : (h : Header) (w : List ℕ) → IsTarget h → HasFields w h → w ≡ header_bytes h (three_at w 5)
+header-fields (ScsiCommand p) w t e = absurd t
+header-fields (ScsiResponse p) w t e = e
+header-fields (DataIn p) w t e = e
+header-fields (Reject p) w t e = e
+
+pub length-zeros : (n : ℕ) → length (zeros n) ≡ n
+length-zeros n = length-replicate n 0
+
+-- a PDU takes its header, and its data with padding
+pub length-spelling-from : (h : Header) (d : List ℕ) → length (header_bytes h (length d)) ≡ 48 → length (spelling h d) ≡ 48 + padded (length d)
+unfolding spelling
+length-spelling-from h d wide =
+    let w : List ℕ = header_bytes h (length d) in
+    let z : List ℕ = zeros (padded (length d) - length d) in
+    omega (arith, length-append (w ++ d) z, length-append w d, wide, length-zeros (padded (length d) - length d))
+
+pub length-spelling : (h : Header) (d : List ℕ) → IsTarget h → length (spelling h d) ≡ 48 + padded (length d)
+length-spelling h d t = length-spelling-from h d (length-header h (length d) t)
+
+data-place : (b : List ℕ) (n : ℕ) → slice_range b 48 (48 + n) ≡ take n (drop 48 b)
+data-place b n = ap (λ (k : ℕ). take k (drop 48 b)) (omega arith)
+
+-- What `spelling` gives spells the PDU.
+pub spelled : (h : Header) (d : List ℕ) → IsTarget h → length d ≤ 65536 → IsPdu (spelling h d) h d
+unfolding spelling
+spelled h d t within =
+    let n : ℕ = length d in
+    let w : List ℕ = header_bytes h n in
+    let z : List ℕ = zeros (padded n - n) in
+    let b : List ℕ = w ++ d ++ z in
+    let wide : length w ≡ 48 = length-header h n t in
+    let told : three_at w 5 ≡ n = three-header h n t (omega arith) in
+    let parts : b ≡ w ++ (d ++ z) = append_assoc w d z in
+    let front : take 48 b ≡ w = ap (take 48) parts ∙ take_at w (d ++ z) 48 wide in
+    let rest : drop 48 b ≡ d ++ z = ap (drop 48) parts ∙ drop_at w (d ++ z) 48 wide in
+    let len : three_at b 5 ≡ n = ap (λ (x : List ℕ). three_at x 5) parts ∙ three-front w (d ++ z) 5 (omega (arith, wide)) ∙ told in
+    let size : length b ≡ 48 + padded n = length-spelling h d t in
+    record {
+      long = omega (arith, size);
+      no_ahs = ap (λ (x : List ℕ). slice_index x 4) parts ∙ get_or-append w (d ++ z) 0 4 (omega (arith, wide)) ∙ ahs-header h n t;
+      limit = omega (arith, len);
+      size = size ∙ ap (λ (m : ℕ). 48 + padded m) (sym len);
+      fields = subst (λ (x : List ℕ). HasFields x h) (sym front) (fields-header h w t (ap (header_bytes h) (sym told)));
+      same_data = sym (ap (λ (m : ℕ). slice_range b 48 (48 + m)) len ∙ data-place b n ∙ ap (take n) rest ∙ take_at d z n refl);
+      padding = λ _. ap (λ (m : ℕ). drop (48 + m) b) len ∙ sym (drop-drop n 48 b) ∙ ap (drop n) rest ∙ drop_at d z n refl ∙ ap (λ (m : ℕ). zeros (padded m - m)) (sym len);
+    }
+
+-- A target's PDU has one spelling.
+pub one_spelling : (b : List ℕ) (h : Header) (d : List ℕ) → IsTarget h → IsPdu b h d → b ≡ spelling h d
+unfolding spelling
+one_spelling b h d t p =
+    let n : ℕ = three_at b 5 in
+    let rest : List ℕ = drop 48 b in
+    let front : take 48 b ≡ header_bytes h n = header-fields h (take 48 b) t p.fields ∙ ap (header_bytes h) (three-take b 48 5 (omega arith)) in
+    let fit : n ≤ length rest = omega (arith, length-drop 48 b, p.size) in
+    let data-is : d ≡ take n rest = p.same_data ∙ data-place b n in
+    let len : length d ≡ n = ap length data-is ∙ length-take-le n rest fit in
+    let pad : drop n rest ≡ zeros (padded n - n) = drop-drop n 48 b ∙ p.padding t in
+    sym (take-append-drop 48 b) ∙ ap (λ (x : List ℕ). take 48 b ++ x) (sym (take-append-drop n rest))
+    ∙ ap (λ (x : List ℕ). x ++ (take n rest ++ drop n rest)) front
+    ∙ ap (λ (x : List ℕ). header_bytes h n ++ (x ++ drop n rest)) (sym data-is)
+    ∙ ap (λ (x : List ℕ). header_bytes h n ++ (d ++ x)) pad
+    ∙ sym (append_assoc (header_bytes h n) d (zeros (padded n - n)))
+    ∙ ap (λ (m : ℕ). header_bytes h m ++ d ++ zeros (padded m - m)) (sym len)

@@ -1,0 +1,131 @@
+ghost use Rattle.std.specs.Prelude.{◌≡◌, ◌≢◌, ◌++◌, ℕ, ◌+◌, ◌<◌, ◌≤◌, ◌↔◌, List, length, take, IfOk, IfErr, MatchOption, IfNone, IsTrue, true, false};
+ghost use Rattle.iscsi_pdu.specs.declared.header.Header.{Header};
+ghost use Rattle.iscsi_pdu.specs.declared.fault.PduFault.{PduFault};
+ghost use Rattle.iscsi_pdu.specs.declared.fault.PduFault.TheVariants.{BadReserved};
+ghost use Rattle.iscsi_pdu.specs.Number.{three_at};
+ghost use Rattle.iscsi_pdu.specs.Spelling.{zeros, header_bytes as header_spelling};
+ghost use Rattle.iscsi_pdu.specs.Pdu.{opcode_of, IsPdu, IsTarget, HasFields};
+ghost use Rattle.iscsi_pdu.specs.Fault.{IsKnown, IsTargetOpcode, HasHeader, HasBadReserved, Stands};
+
+use crate::fault::PduFault;
+use crate::fields::{data_in, reject, scsi_command, scsi_response};
+use crate::header::{Header, Pdu};
+use crate::numbers::{padded_length, three};
+use crate::spelling::header_bytes;
+
+fn is_known(opcode: u8) -> bool
+    ensures { IsTrue result ↔ IsKnown opcode }
+{
+    matches!(opcode, 0x01 | 0x21 | 0x25 | 0x3F)
+}
+
+fn is_target(header: &Header) -> bool
+    ensures { IsTrue result ↔ IsTarget header.now }
+{
+    !matches!(header, Header::ScsiCommand(_))
+}
+
+fn is_zeros(b: &[u8]) -> bool
+    ensures { IsTrue result ↔ (b.now ≡ zeros (length b.now)) }
+{
+    b.iter().all(|x| *x == 0)
+}
+
+/// Whether a PDU with this header may have this padding: a target's is zeros.
+fn is_padding(header: &Header, pad: &[u8]) -> bool
+    ensures right { result ≡ true → IsTarget header.now → pad.now ≡ zeros (length pad.now) }
+    ensures wrong { result ≡ false → IsTarget header.now × (pad.now ≢ zeros (length pad.now)) }
+{
+    !is_target(header) || is_zeros(pad)
+}
+
+fn is_same(a: &[u8], b: &[u8]) -> bool
+    ensures { IsTrue result ↔ (a.now ≡ b.now) }
+{
+    a == b
+}
+
+/// The fields of a target's header. Where any header is spelled so, the one of these fields is.
+fn target_fields(b: &[u8]) -> Header
+    requires long { length b.now ≡ 48 }
+    requires opcode { IsTargetOpcode (opcode_of b.now) }
+    ensures target { IsTarget result }
+    ensures again { (h : Header) (n : ℕ) → IsTarget h → b.now ≡ header_spelling h n → b.now ≡ header_spelling result n }
+{
+    match b[0] % 64 {
+        0x21 => Header::ScsiResponse(scsi_response(b)),
+        0x25 => Header::DataIn(data_in(b)),
+        _ => Header::Reject(reject(b)),
+    }
+}
+
+/// A target's header, where these 48 bytes are its spelling.
+fn target_header(b: &[u8], len: u32) -> Result<Header, PduFault>
+    requires long { length b.now ≡ 48 }
+    requires opcode { IsTargetOpcode (opcode_of b.now) }
+    requires same_length { len ≡ three_at b.now 5 }
+    requires limit { len ≤ 65536 }
+    ensures found { IfOk result (HasFields b.now) }
+    ensures fault { IfErr result (λ f. (f ≡ BadReserved) × HasBadReserved b.now) }
+{
+    let header = target_fields(b);
+    if is_same(b, &header_bytes(&header, len)) {
+        Ok(header)
+    } else {
+        Err(PduFault::BadReserved)
+    }
+}
+
+/// The header at the front, which has an opcode that is known and this length of its data segment.
+fn header_of(bytes: &[u8], len: u32) -> Result<Header, PduFault>
+    requires header { HasHeader bytes.now }
+    requires same_length { len ≡ three_at bytes.now 5 }
+    ensures found { IfOk result (HasFields (take 48 bytes.now)) }
+    ensures fault { IfErr result (Stands bytes.now) }
+{
+    let front = &bytes[..48];
+    if front[0] % 64 == 0x01 {
+        let header = scsi_command(front)?;
+        return Ok(Header::ScsiCommand(header));
+    }
+    target_header(front, len)
+}
+
+/// The PDU at the front of the bytes and how many bytes it takes, or its first fault. `None` where more
+/// bytes are needed. Takes no memory.
+pub fn decode(bytes: &[u8]) -> Result<Option<(Pdu<'_>, usize)>, PduFault>
+    ensures found { IfOk result (λ o. MatchOption o
+        ((n : ℕ) (h : Header) (d : List ℕ) → IsPdu (take n bytes.now) h d → n ≤ length bytes.now → ⊥)
+        (λ p. (p.1 ≤ length bytes.now) × IsPdu (take p.1 bytes.now) p.0.header p.0.data.now)) }
+    ensures sound { IfOk result (λ o. (f : PduFault) → Stands bytes.now f → ⊥) }
+    ensures fault { IfErr result (Stands bytes.now) }
+    ensures short { IfOk result (λ o. IfNone o (length bytes.now < 65584)) }
+{
+    if bytes.is_empty() {
+        return Ok(None);
+    }
+    if !is_known(bytes[0] % 64) {
+        return Err(PduFault::UnknownOpcode);
+    }
+    if bytes.len() < 48 {
+        return Ok(None);
+    }
+    if bytes[4] != 0 {
+        return Err(PduFault::HasAhs);
+    }
+    let len = three(bytes, 5);
+    if len > 65536 {
+        return Err(PduFault::TooLong);
+    }
+    let header = header_of(bytes, len)?;
+    let len = len as usize;
+    let end = 48 + padded_length(len);
+    if bytes.len() < end {
+        return Ok(None);
+    }
+    if !is_padding(&header, &bytes[48 + len..end]) {
+        return Err(PduFault::NonZeroPad);
+    }
+    let data = &bytes[48..48 + len];
+    Ok(Some((Pdu { header, data }, end)))
+}
