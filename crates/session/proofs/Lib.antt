@@ -1,0 +1,5 @@
+pub mod Facts
+pub mod Lawful
+pub mod Lists
+pub mod Running
+pub mod Turns

@@ -1,0 +1,59 @@
+use Rattle.std.proofs.Common.{◌≡◌, ◌∙◌, ℕ, List, arith, rules, subst}
+use Rattle.session.specs.Front.{IsWhole, IsFaulty}
+use Rattle.session.specs.declared.end.End.TheVariants.{OutputFailed}
+use Rattle.session.specs.Legal.{NoneWhole}
+use Rattle.session.specs.Source.{Rises}
+use Rattle.session.proofs.Running.{starts, pdu_goes_on, pdu_ends, fault_ends, more_came, input_ended, input_failed, taken_all}
+use Rattle.session.proofs.stream.serve_stream.Goals as goal
+
+pub loop-reads-init : goal.loop-reads-init
+loop-reads-init g c = record {
+  running = starts g.T.Target.leads c.args.start.exp_cmd_sn c.args.start.stat_sn _ _ _ _ _ (omega arith) (omega arith) c.new-session.ensures c.in_ok-inbox.ensures;
+  source_served = search rules;
+  sink_served = search rules;
+}
+
+pub returns-in-Some-clause-transcribed : goal.returns-in-Some-clause-transcribed
+returns-in-Some-clause-transcribed g c =
+    let w = subst (λ (b : List ℕ). IsWhole b c.in-Whole.header.now c.in-Whole.pdu c.in-Whole.taken) c.bytes.ensures c.in-Whole.ensures in
+    (pdu_ends g.T.Target.leads _ _ _ _ _ _ _ _ _ _ _ c.loop-reads.invariant.running c.turn.new.session c.turn.new.target _ _ _ c.in-Whole.header.now _ _ c.in-Whole.taken w.header_is w.within w.spelled c.in-Some.end c.in-Some.ensures).0
+
+pub returns-in-Some-clause-output_failed : goal.returns-in-Some-clause-output_failed
+returns-in-Some-clause-output_failed g c = λ e.
+    let w = subst (λ (b : List ℕ). IsWhole b c.in-Whole.header.now c.in-Whole.pdu c.in-Whole.taken) c.bytes.ensures c.in-Whole.ensures in
+    let failed : c.in-Some.end ≡ OutputFailed = cc in
+    subst (λ (n : ℕ). Rises n (g.K.Sink.failures c.turn.new.sink)) c.loop-reads.invariant.sink_served
+      ((pdu_ends g.T.Target.leads _ _ _ _ _ _ _ _ _ _ _ c.loop-reads.invariant.running c.turn.new.session c.turn.new.target _ _ _ c.in-Whole.header.now _ _ c.in-Whole.taken w.header_is w.within w.spelled c.in-Some.end c.in-Some.ensures).1 failed)
+
+pub returns-in-Faulty-clause-output_failed : goal.returns-in-Faulty-clause-output_failed
+returns-in-Faulty-clause-output_failed g c = λ e.
+    let w = subst (λ (b : List ℕ). IsFaulty b c.in-Faulty.header.now c.in-Faulty.fault) c.bytes.ensures c.in-Faulty.ensures in
+    let failed : c.fault_turn-end.result ≡ OutputFailed = cc in
+    subst (λ (n : ℕ). Rises n (g.K.Sink.failures c.fault_turn-end.new.sink)) c.loop-reads.invariant.sink_served
+      ((fault_ends g.T.Target.leads _ _ _ _ _ _ _ _ _ _ _ c.loop-reads.invariant.running c.fault_turn-end.new.session _ _ _ c.in-Faulty.header.now c.in-Faulty.fault c.fault_turn-end.result w.header_is w.long w.stands c.fault_turn-end.ensures).1 failed)
+
+pub loop-reads-preserved-in-None : goal.loop-reads-preserved-in-None
+loop-reads-preserved-in-None g c =
+    let w = subst (λ (b : List ℕ). IsWhole b c.in-Whole.header.now c.in-Whole.pdu c.in-Whole.taken) c.bytes.ensures c.in-Whole.ensures in
+    let on = pdu_goes_on g.T.Target.leads _ _ _ _ _ _ _ _ _ _ _ c.loop-reads.invariant.running c.turn.new.session c.turn.new.target _ _ _ c.in-Whole.header.now _ _ c.in-Whole.taken w.header_is w.within w.spelled c.in-None.ensures in
+    record {
+      running = rw c.consume.ensures on.0;
+      source_served = c.loop-reads.invariant.source_served;
+      sink_served = on.1 ∙ c.loop-reads.invariant.sink_served;
+    }
+
+pub returns-in-Faulty-clause-transcribed : goal.returns-in-Faulty-clause-transcribed
+returns-in-Faulty-clause-transcribed g c =
+    let w = subst (λ (b : List ℕ). IsFaulty b c.in-Faulty.header.now c.in-Faulty.fault) c.bytes.ensures c.in-Faulty.ensures in
+    (fault_ends g.T.Target.leads _ _ _ _ _ _ _ _ _ _ _ c.loop-reads.invariant.running c.fault_turn-end.new.session _ _ _ c.in-Faulty.header.now c.in-Faulty.fault c.fault_turn-end.result w.header_is w.long w.stands c.fault_turn-end.ensures).0
+
+pub returns-in-Ok-eq0-clause-transcribed : goal.returns-in-Ok-eq0-clause-transcribed
+returns-in-Ok-eq0-clause-transcribed g c =
+    input_ended g.T.Target.leads _ _ _ _ _ _ _ _ _ _ _ c.loop-reads.invariant.running _ _ _ (omega (arith, c.in-Ok-eq0.field-0-test)) c.in-Ok-eq0.ensures.ok (subst NoneWhole c.bytes.ensures c.in-Partial.ensures.0)
+
+pub loop-reads-preserved : goal.loop-reads-preserved
+loop-reads-preserved g c = record {
+  running = more_came g.T.Target.leads _ _ _ _ _ _ _ _ _ _ _ c.loop-reads.invariant.running _ _ c.in-Ok.field-0 c.in-Ok.ensures.ok (omega (arith, c.in-Ok.field-0-test));
+  source_served = c.in-Ok.ensures.failures ∙ c.loop-reads.invariant.source_served;
+  sink_served = c.loop-reads.invariant.sink_served;
+}

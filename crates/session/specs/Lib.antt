@@ -1,0 +1,12 @@
+pub mod Front
+pub mod Inbox
+pub mod Legal
+pub mod Machine
+pub mod Question
+pub mod Source
+pub mod Stream
+pub mod Task
+pub mod Transcript
+pub mod Turn
+pub mod Watched
+pub mod Window

@@ -1,0 +1,21 @@
+-- Readers and writers that count their failures.
+use Rattle.std.specs.Prelude.{◌≡◌, ℕ, ◌<◌, ◌≤◌, List, Option, take, Result, Ok, Err}
+use Rattle.std.specs.Io.KnownBytes.{Appends}
+
+-- where a count of failures ends: there it stays, and says nothing any more
+abbrev pub last_failure : ℕ
+last_failure = 18446744073709551615
+
+-- the count went up, unless it was at its end
+pub record Rises (before now : ℕ) : Type 0 where
+  pub later : before ≤ now
+  pub rises : before < last_failure → before < now
+
+-- a call fails exactly where the count rises
+abbrev pub Counted : {T E : Type 0} → ℕ → ℕ → Result T E → Type 0
+Counted before now (Ok x) = now ≡ before
+Counted before now (Err e) = Rises before now
+
+-- the bytes of a writer, where they are known, grow by a beginning of these
+abbrev pub AppendsFront : Option (List ℕ) → Option (List ℕ) → List ℕ → Type 0
+AppendsFront old new bytes = (n : ℕ) × Appends old new (take n bytes)

@@ -1,0 +1,34 @@
+-- What one turn makes of session, target and sink.
+use Rattle.std.specs.Prelude.{◌≡◌, ◌⊎◌, ℕ, List, [], ◌∷◌, ◌++◌, length, Option, Some, None}
+use Rattle.std.specs.Io.KnownBytes.{Appends}
+use Rattle.iscsi_pdu.specs.declared.header.Header.{Header}
+use Rattle.iscsi_pdu.specs.declared.fault.PduFault.{PduFault}
+use Rattle.session.specs.declared.end.End.{End}
+use Rattle.session.specs.declared.end.End.TheVariants.{EndOfInput, InputFailed, OutputFailed, Protocol, Reinstated}
+use Rattle.session.specs.declared.target.Served.{Served}
+use Rattle.session.specs.declared.verdict.Verdict.{Verdict}
+use Rattle.session.specs.declared.verdict.Verdict.TheVariants.{Accepted, Ignored, Gap, Refused}
+use Rattle.session.specs.Question.{Question, serve}
+use Rattle.session.specs.Source.{AppendsFront, Rises}
+use Rattle.session.specs.Turn.{Incoming, pdu, faulty, Out, Asking, Turn, bytes_of}
+use Rattle.session.specs.Legal.{end_after}
+use Rattle.session.specs.Machine.{Counters, IsMade}
+
+-- the bytes went out, and this is the end that was called for; or the sink failed, and counted it, and a
+-- beginning of them went out
+abbrev pub IsSentOut : Option (List ℕ) → Option (List ℕ) → ℕ → ℕ → List ℕ → Option End → Option End → Type 0
+IsSentOut held held' before now bytes wanted result =
+    ((result ≡ wanted) × Appends held held' bytes × (now ≡ before)) ⊎ ((result ≡ Some OutputFailed) × AppendsFront held held' bytes × Rises before now)
+
+-- a call leads the target on; with none it stays
+abbrev pub IsLed : {T : Type 0} → (T → Question → Served → T → Type 0) → Option Asking → T → T → Type 0
+IsLed leads None old new = new ≡ old
+IsLed leads (Some call) old new = leads old call.question call.answer new
+
+-- a turn of the session: what came, what the session made of it, what the target was asked and where that led
+-- it, and what went out
+pub record IsTurned {T : Type 0} (leads : T → Question → Served → T → Type 0) (s s' : Counters) (target target' : T) (held held' : Option (List ℕ)) (before now : ℕ) (came : Incoming) (result : Option End) : Type 0 where
+  pub turn : Turn
+  pub made : IsMade s came turn s'
+  pub led : IsLed leads turn.call target target'
+  pub out : IsSentOut held held' before now (bytes_of turn.sent) (end_after turn.verdict turn.call) result

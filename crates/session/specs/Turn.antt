@@ -1,0 +1,53 @@
+-- What passes in a session: a list of turns. A turn is a PDU that came, or a fault, with what it called for.
+use Rattle.std.specs.Prelude.{◌≡◌, ℕ, List, [], ◌∷◌, ◌++◌, take, Option, Some, None}
+use Rattle.std.specs.List.{filter_map, flat_map}
+use Rattle.iscsi_pdu.specs.Pdu.{IsPdu}
+use Rattle.iscsi_pdu.specs.Spelling.{spelling}
+use Rattle.iscsi_pdu.specs.declared.header.Header.{Header}
+use Rattle.iscsi_pdu.specs.declared.fault.PduFault.{PduFault}
+use Rattle.session.specs.Question.{Question}
+use Rattle.session.specs.declared.target.Served.{Served}
+use Rattle.session.specs.declared.verdict.Verdict.{Verdict}
+
+-- a PDU: the 48 bytes of its header, what they say, and its data; or a fault and the 48 bytes
+pub data Incoming : Type 0 where
+  pdu : List ℕ → Header → List ℕ → Incoming
+  faulty : PduFault → List ℕ → Incoming
+
+-- a PDU that went out
+pub record Out : Type 0 where
+  pub header : Header
+  pub bytes : List ℕ
+
+-- what the target was asked, and answered
+pub record Asking : Type 0 where
+  pub question : Question
+  pub answer : Served
+
+pub record Turn : Type 0 where
+  pub came : Incoming
+  pub verdict : Verdict
+  pub call : Option Asking
+  pub sent : List Out
+
+-- what the target was asked and what went out, in order
+abbrev pub calls : List Turn → List Asking
+calls ts = filter_map (λ t. t.call) ts
+
+abbrev pub sent : List Turn → List Out
+sent ts = flat_map (λ t. t.sent) ts
+
+-- the bytes of PDUs that went out
+abbrev pub bytes_of : List Out → List ℕ
+bytes_of outs = flat_map (λ o. spelling o.header o.bytes) outs
+
+-- the bytes are spellings of the PDUs that came, one after another; a fault takes none
+abbrev pub Spells : List Incoming → List ℕ → Type 0
+Spells [] bytes = bytes ≡ []
+Spells (pdu header_bytes h d ∷ is) bytes = (front : List ℕ) × (rest : List ℕ) × (bytes ≡ front ++ rest) × IsPdu front h d × (take 48 front ≡ header_bytes) × Spells is rest
+Spells (faulty f header_bytes ∷ is) bytes = Spells is bytes
+
+-- the calls, in order, lead the target from one state to another
+abbrev pub Leads : {T : Type 0} → (T → Question → Served → T → Type 0) → List Asking → T → T → Type 0
+Leads leads [] old new = new ≡ old
+Leads {T} leads (c ∷ cs) old new = (mid : T) × leads old c.question c.answer mid × Leads leads cs mid new

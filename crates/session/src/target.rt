@@ -1,0 +1,30 @@
+ghost use Rattle.session.specs.Question.{Question, serve};
+ghost use Rattle.session.specs.declared.target.Served.{Served};
+
+use scsi_types::{Asked, Reply};
+
+/// What a target answers to a command.
+#[derive(Debug, Drop)]
+pub enum Served {
+    /// The unit's reply.
+    Replied(Reply),
+    /// The reply for a unit that is not there.
+    Outside(Reply),
+    /// There was no memory or no room: nothing happened.
+    Busy,
+    /// The session is attached no more: nothing happened.
+    Gone,
+    /// The unit serves nothing more.
+    Halted,
+}
+
+/// What a session's commands are served by.
+pub trait Target {
+    /// From the first state this question may get this answer and lead to the second.
+    ghost leads: { Self → Question → Served → Self → Type 0 };
+
+    /// Serves a command of the unit that its LUN names, with the data that came for it. `unit` is none where
+    /// the LUN names no unit.
+    fn serve(&mut self, unit: Option<u8>, asked: Asked, bytes: &[u8]) -> Served
+        ensures { leads self.old (serve unit asked bytes.now) result self.new };
+}
