@@ -1,0 +1,3 @@
+pub mod Leads
+pub mod Once
+pub mod OneUnit
