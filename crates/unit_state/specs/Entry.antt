@@ -1,5 +1,5 @@
 -- The entries of a unit's history: what is possible, what is after one, and what it is answered.
-use Rattle.std.specs.Prelude.{◌≡◌, ℕ, ◌+◌, ◌<◌, ◌≤◌, List, [], ◌∷◌, ◌++◌, length, Option, Some, None, Result, Ok, Err, unwrap_or}
+use Rattle.std.specs.Prelude.{◌≡◌, ℕ, ◌+◌, ◌<◌, List, [], ◌∷◌, ◌++◌, length, Option, Some, None, Result, Ok, Err, unwrap_or}
 use Rattle.block_file.specs.Cut.{cut}
 use Rattle.block_file.specs.Disk.{written, range_bytes, Between}
 use Rattle.scsi_types.specs.Answer.{Answer, Nexus, good}
@@ -8,7 +8,7 @@ use Rattle.scsi_types.specs.declared.command.Command.{Command as ScsiCommand}
 use Rattle.scsi_types.specs.declared.command.Command.TheVariants.{TestUnitReady, Read, Write}
 use Rattle.scsi_types.specs.declared.command.CdbFault.{CdbFault}
 use Rattle.unit_state.specs.State.{UnitState}
-use Rattle.unit_state.specs.Sessions.{next_of, passed, nexus_of, without}
+use Rattle.unit_state.specs.Sessions.{next_of, passed, without}
 use Rattle.unit_state.specs.declared.sessions.Attached.{Attached}
 use Rattle.unit_state.specs.Choice.{Choice, Fine, ReadFailed, WriteFailed}
 use Rattle.unit_state.specs.Refusal.{Request, refusal, device_refusal, or_else}

@@ -1,5 +1,5 @@
 -- Histories: entries in order, the first one first.
-use Rattle.std.specs.Prelude.{ℕ, zero, suc, List, [], ◌∷◌, Option, Some, None}
+use Rattle.std.specs.Prelude.{ℕ, zero, suc, List, [], ◌∷◌, Option, None}
 use Rattle.scsi_types.specs.Answer.{Answer}
 use Rattle.unit_state.specs.State.{UnitState}
 use Rattle.unit_state.specs.Entry.{Entry, IsPossible, after, reply_to}

@@ -1,7 +1,10 @@
 pub mod Choice
 pub mod Entry
 pub mod History
+pub mod HistoryLaws
+pub mod Places
 pub mod Refusal
+pub mod Served
 pub mod Sessions
 pub mod State
 pub mod Step

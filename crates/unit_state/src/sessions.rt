@@ -1,7 +1,15 @@
+//! The sessions that are attached to a unit.
+ghost use Rattle.std.specs.Prelude.{◌≡◌, ◌<◌, ◌++◌, ◌-◌, ◌^◌, [], ◌∷◌, length, slice_get, None, IfSome, MatchOption, vec_capacity};
+ghost use Rattle.unit_state.specs.Places.{IsPassedAt, IsPlaceOf};
+ghost use Rattle.unit_state.specs.Sessions.{is_of, next_of, nexus_of, without};
+
 use scsi_types::{Group, PortName};
 
 /// A session's id: the place of its attach among the unit's entries.
 pub type SessionId = u64;
+
+/// The most sessions that are attached to a unit.
+pub const MOST_SESSIONS: usize = 64;
 
 /// A session that is attached: its nexus, and the serial of its next command.
 #[derive(Debug, Drop)]
@@ -10,4 +18,57 @@ pub struct Attached {
     pub port: PortName,
     pub group: Group,
     pub next: u64,
+}
+
+/// The place of a session.
+pub fn place_of(sessions: &[Attached], id: SessionId) -> Option<usize>
+    ensures { MatchOption result (next_of sessions.now id ≡ None) (λ at. IsPlaceOf sessions.now id at) }
+{
+    for (at, attached) in sessions.iter().enumerate() {
+        if attached.id == id {
+            return Some(at);
+        }
+    }
+    None
+}
+
+/// Counts one command more of the session at a place.
+pub fn pass(sessions: &mut Vec<Attached>, at: usize)
+    requires place { at < length sessions.old.items }
+    requires room { IfSome (slice_get sessions.old.items at) (λ a. a.next < 2 ^ 64 - 1) }
+    ensures passed { IsPassedAt sessions.old.items at sessions.new.items }
+    ensures capacity { vec_capacity sessions.new ≡ vec_capacity sessions.old }
+{
+    let attached = &mut sessions[at];
+    attached.next += 1;
+}
+
+/// Whether a session is that of a nexus.
+fn has_nexus(attached: &Attached, port: &PortName, group: Group) -> bool
+    ensures { result ≡ is_of (record { port = port.now; group = group }) attached.now }
+{
+    attached.group == group && attached.port.same(port)
+}
+
+/// How many sessions stay where a nexus attaches: all but its own.
+pub fn staying(sessions: &[Attached], port: &PortName, group: Group) -> usize
+    ensures { result ≡ length (without (record { port = port.now; group = group }) sessions.now) }
+{
+    let mut stay = 0;
+    for attached in sessions {
+        if !has_nexus(attached, port, group) {
+            stay += 1;
+        }
+    }
+    stay
+}
+
+/// Puts a new session in the place of the one that its nexus had. Takes no memory.
+pub fn replace(sessions: &mut Vec<Attached>, new: Attached)
+    requires room { length (without (nexus_of new) sessions.old.items) < vec_capacity sessions.old }
+    ensures items { sessions.new.items ≡ without (nexus_of new) sessions.old.items ++ new ∷ [] }
+    ensures capacity { vec_capacity sessions.new ≡ vec_capacity sessions.old }
+{
+    sessions.retain(|attached| !has_nexus(attached, &new.port, new.group));
+    sessions.push_reserved(new);
 }

@@ -1,0 +1,14 @@
+use Rattle.std.proofs.Common.{◌≡◌, ◌*◌, IsTrue, take}
+use Rattle.block_file.specs.Disk.{range_bytes}
+use Rattle.block_file.specs.Failures.{Tells}
+use Rattle.unit_state.proofs.medium.read_range.Given as goal
+
+abbrev pub invariant-loop-k : goal.invariant-loop-k
+invariant-loop-k g l =
+    let b = g.B.Blocks in
+    record {
+      size : b.size l.device ≡ b.size l.fn.device;
+      read : IsTrue b.claims → take (512 * l.k) l.out ≡ range_bytes (b.contents l.fn.device) l.lba l.k;
+      contents : IsTrue b.claims → b.contents l.device ≡ b.contents l.fn.device;
+      failures : Tells (b.failures l.fn.device) (b.failures l.device) (Unit {0});
+    }
