@@ -21,6 +21,10 @@ cut_at (suc n) bytes (suc k) lt =
     let e : 512 + 512 * k ≡ 512 * suc k = omega arith in
     cut_at n (drop 512 bytes) k (omega arith) ∙ ap (take 512) (drop-drop (512 * k) 512 bytes ∙ ap (λ (m : ℕ). drop m bytes) e)
 
+-- each block that whole bytes make has 512
+pub length-cut_at : (n : ℕ) (bytes : List ℕ) (k : ℕ) → length bytes ≡ 512 * n → k < n → length (block_at (cut n bytes) k) ≡ 512
+length-cut_at n bytes k long lt = ap length (cut_at n bytes k lt) ∙ (let e : length (take 512 (drop (512 * k) bytes)) ≡ 512 = omega (arith, length-take 512 (drop (512 * k) bytes), length-drop (512 * k) bytes, long, lt) in e)
+
 -- one block is read
 pub read_block : (count index : ℕ) (bytes block : List ℕ) → index < count → block ≡ take (512 * index + 512 - 512 * index) (drop (512 * index) bytes) → block ≡ block_at (cut count bytes) index
 read_block count index bytes block lt is =

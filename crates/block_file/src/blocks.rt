@@ -81,6 +81,9 @@ pub trait Blocks: Drop {
     /// The contents are as many blocks.
     ghost sized: { (d : Self) → IsTrue claims → length (contents d) ≡ size d };
 
+    /// A block has 512 bytes.
+    ghost wide: { (d : Self) (k : ℕ) → IsTrue claims → k < size d → length (block_at (contents d) k) ≡ 512 };
+
     /// What reads return is one of the outcomes of a crash now.
     ghost is_outcome: { (d : Self) (k : ℕ) → IsTrue claims → k < size d → may_hold d k (block_at (contents d) k) };
 

@@ -82,6 +82,8 @@ impl<B: Blocks> Blocks for FusedBlocks<B> {
 
     ghost sized = { λ d. B.sized d.inner };
 
+    ghost wide = { λ d. B.wide d.inner };
+
     ghost is_outcome = { λ d. B.is_outcome d.inner };
 
     ghost counts_now = { λ d. B.counts_now d.inner };

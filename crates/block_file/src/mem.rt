@@ -1,6 +1,6 @@
 ghost use Rattle.std.specs.Prelude.{◌≡◌, ◌<◌, ◌≤◌, ◌+◌, ◌*◌, ◌^◌, ◌++◌, [], ◌∷◌, List, ℕ, length, take, drop, replicate, true, false, refl, IfOk, IsOk, IsTrue, OnOk};
 ghost use Rattle.std.proofs.Common.{arith};
-ghost use Rattle.block_file.specs.Cut.{cut, length-cut};
+ghost use Rattle.block_file.specs.Cut.{length-cut_at, cut, length-cut};
 ghost use Rattle.block_file.specs.Disk.{block_at, written, Between, NoMore, Adds, Only};
 ghost use Rattle.block_file.specs.Failures.{Counts};
 
@@ -49,6 +49,8 @@ impl Blocks for MemBlocks {
     ghost bounded = { λ d. Prim.omega arith };
 
     ghost sized = { λ d h. length-cut d.count d.bytes.items };
+
+    ghost wide = { λ d k h. length-cut_at d.count d.bytes.items k d.whole };
 
     ghost is_outcome = { λ d k h lt. refl };
 

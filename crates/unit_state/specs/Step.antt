@@ -1,10 +1,11 @@
 -- What each end of a step tells.
-use Rattle.std.specs.Prelude.{◌≡◌, ◌≢◌, ℕ, List, Some, Result}
+use Rattle.std.specs.Prelude.{◌≡◌, ◌≢◌, ℕ, ◌+◌, List, Some, Result}
 use Rattle.scsi_types.specs.Answer.{Answer}
 use Rattle.scsi_types.specs.declared.names.Group.{Group}
 use Rattle.scsi_types.specs.declared.command.Command.{Command as ScsiCommand}
 use Rattle.scsi_types.specs.declared.command.CdbFault.{CdbFault}
-use Rattle.unit_state.specs.State.{UnitState}
+use Rattle.unit_state.specs.State.{UnitState, UnitValue}
+use Rattle.unit_state.specs.Sessions.{passed}
 use Rattle.unit_state.specs.Choice.{choice_of}
 use Rattle.unit_state.specs.Entry.{Entry, Command, IsTaken, IsPossible, after, reply_to}
 use Rattle.unit_state.specs.declared.unit.StepEnd.{StepEnd}
@@ -28,6 +29,12 @@ IsRouted s session serial by (Reply reply) = IsTaken s session serial × (by ≡
 IsRouted s session serial by Gone = IsTaken s session serial → ⊥
 IsRouted s session serial by (Moved owner) = IsTaken s session serial × (by ≢ s.owner) × (owner ≡ s.owner)
 IsRouted s session serial by NoMemory = IsTaken s session serial × (by ≡ s.owner)
+
+-- a command was passed: its session has had one more, the history has one entry more, the owner is the same
+pub record IsPassed {B : Type 0} (old new : UnitValue B) (session : ℕ) : Type 0 where
+  pub sessions : new.sessions ≡ passed old.sessions session
+  pub count : new.count ≡ old.count + 1
+  pub owner : new.owner ≡ old.owner
 
 -- the command's entry, whose choice its answer and the unit after it tell
 abbrev pub entry_of : ℕ → ℕ → Group → Result ScsiCommand CdbFault → List ℕ → Answer → UnitState → Entry

@@ -58,7 +58,7 @@ impl<B: Blocks> Unit<B> {
     ghost use Rattle.unit_state.specs.Choice.{IsFine, choice_of};
     ghost use Rattle.unit_state.specs.Entry.{Attach, HasRoom, IsPossible, after};
     ghost use Rattle.unit_state.specs.Served.{TakesMemory};
-    ghost use Rattle.unit_state.specs.Step.{OnReply, OnRefused, IsRouted, IsStep, entry_of};
+    ghost use Rattle.unit_state.specs.Step.{OnReply, OnRefused, IsPassed, IsRouted, IsStep, entry_of};
 
     /// Opens a unit over its blocks; its preferred group owns it. Refused, it drops the device.
     pub fn open(alloc: Global, place: Place, blocks: B) -> Result<Unit<B>, NoMemory>
@@ -113,6 +113,8 @@ impl<B: Blocks> Unit<B> {
         ensures refused { OnRefused result (self.new ≡ self.old) }
         ensures memory { asked ≡ Ok TestUnitReady → result ≡ StepEnd.NoMemory → ⊥ }
         ensures takes { result ≡ StepEnd.NoMemory → TakesMemory asked }
+        // Whatever the device keeps, the session has had one command more, and the history one entry.
+        ensures passed { OnReply result (λ reply. IsPassed self.old self.new session) }
         ensures entry { IsTrue B.claims → OnReply result (λ reply. IsStep (state_of B.contents self.old) (state_of B.contents self.new)
             (entry_of session serial by asked bytes.now reply (state_of B.contents self.new)) reply) }
         // The choice is Fine exactly where no count of failures rose.
