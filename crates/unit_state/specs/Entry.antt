@@ -27,7 +27,7 @@ abbrev pub most_sessions : ℕ
 most_sessions = 64
 
 abbrev pub request : ℕ → Result ScsiCommand CdbFault → List ℕ → Request
-request session asked bytes = record { session = session; asked = asked; given = length bytes }
+request session asked bytes = record { session = session; asked = asked; bytes = bytes }
 
 -- what a command returns, and the blocks that it leaves, where nothing refuses it
 abbrev pub data_of : List (List ℕ) → Result ScsiCommand CdbFault → List ℕ

@@ -10,11 +10,11 @@ use Rattle.scsi_types.specs.declared.command.CdbFault.TheVariants.{UnknownOpcode
 use Rattle.unit_state.specs.State.{UnitState}
 use Rattle.unit_state.specs.Choice.{Choice, Fine, ReadFailed, WriteFailed, read_error, write_error}
 
--- a command as the rules judge it: who sent it, what it asks, how many bytes of data came
+-- a command as the rules judge it: who sent it, what it asks, and the data that came
 pub record Request : Type 0 where
   pub session : ℕ
   pub asked : Result Command CdbFault
-  pub given : ℕ
+  pub bytes : List ℕ
 
 -- a rule answers a command that it refuses
 abbrev pub Rule : Type 0
@@ -47,7 +47,7 @@ cdb_refusal total (Err UnknownOpcode) given = None
 
 -- the rules that look at the state and the command
 abbrev pub rules_of_unit : List Rule
-rules_of_unit = (λ s r. opcode_refusal r.asked) ∷ (λ s r. cdb_refusal (length s.blocks) r.asked r.given) ∷ []
+rules_of_unit = (λ s r. opcode_refusal r.asked) ∷ (λ s r. cdb_refusal (length s.blocks) r.asked (length r.bytes)) ∷ []
 
 -- the last rule: the device failed
 abbrev pub device_refusal : Choice → Option Answer

@@ -1,10 +1,10 @@
 //! The commands on a unit's device.
-ghost use Rattle.std.specs.Prelude.{◌≡◌, ◌+◌, ◌*◌, ◌≤◌, ◌&&◌, nat_lt, nat_le, List, ℕ, IsTrue, IfOk, OnErr, MatchResult, length};
+ghost use Rattle.std.specs.Prelude.{◌≡◌, ◌+◌, ◌*◌, ◌≤◌, ◌&&◌, nat_lt, nat_le, List, ℕ, IsTrue, IfOk, IfSome, OnErr, MatchResult, length};
 ghost use Rattle.block_file.specs.Failures.{Tells};
 ghost use Rattle.scsi_types.specs.Sense.{sense};
 ghost use Rattle.scsi_types.specs.declared.command.Command.TheVariants.{Read, Write};
 ghost use Rattle.unit_state.specs.Choice.{IsFine, choice_of};
-ghost use Rattle.unit_state.specs.Served.{IsAdmitted, IsAnswered, IsDone, IsRefused, TakesMemory};
+ghost use Rattle.unit_state.specs.Served.{refused_by, IsAdmitted, IsAnswered, IsDone, IsRefused, TakesMemory};
 
 use crate::medium::{read_range, write_range};
 use block_file::Blocks;
@@ -29,6 +29,7 @@ pub fn serve<B: Blocks>(
 ) -> Result<Reply, NoMemory>
     ensures err { OnErr result (device.new ≡ device.old) }
     ensures memory { OnErr result (TakesMemory asked) }
+    ensures refused { IfOk result (λ reply. IfSome (refused_by (B.size device.old) asked (length bytes.now)) (λ refusal. (reply ≡ refusal) × (device.new ≡ device.old))) }
     ensures served { IsTrue B.claims → IfOk result (λ reply. IsAnswered (B.contents device.old) (B.contents device.new) asked bytes.now reply) }
     ensures fine { IfOk result (λ reply. Tells (B.failures device.old) (B.failures device.new) (IsFine (choice_of reply (B.contents device.new)))) }
 {

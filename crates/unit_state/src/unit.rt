@@ -1,4 +1,4 @@
-ghost use Rattle.std.specs.Prelude.{◌≡◌, ◌+◌, ℕ, ◌<◌, ◌≤◌, ◌↔◌, length, IsTrue, List, IfOk, OnErr, IsErr, Ok, Err};
+ghost use Rattle.std.specs.Prelude.{IfSome, ◌≡◌, ◌+◌, ℕ, ◌<◌, ◌≤◌, ◌↔◌, length, IsTrue, List, IfOk, OnErr, IsErr, Ok, Err};
 ghost use Rattle.block_file.specs.Failures.{Tells};
 ghost use Rattle.scsi_types.specs.declared.command.Command.TheVariants.{TestUnitReady};
 ghost use Rattle.unit_state.specs.State.{preferred};
@@ -57,7 +57,7 @@ impl<B: Blocks> Unit<B> {
     ghost use Rattle.unit_state.specs.State.{UnitState, UnitValue, opened, state_of, failures_of};
     ghost use Rattle.unit_state.specs.Choice.{IsFine, choice_of};
     ghost use Rattle.unit_state.specs.Entry.{Attach, HasRoom, IsPossible, after};
-    ghost use Rattle.unit_state.specs.Served.{TakesMemory};
+    ghost use Rattle.unit_state.specs.Served.{TakesMemory, refused_by};
     ghost use Rattle.unit_state.specs.Step.{OnReply, OnRefused, IsPassed, IsRouted, IsStep, entry_of};
 
     /// Opens a unit over its blocks; its preferred group owns it. Refused, it drops the device.
@@ -115,6 +115,8 @@ impl<B: Blocks> Unit<B> {
         ensures takes { result ≡ StepEnd.NoMemory → TakesMemory asked }
         // Whatever the device keeps, the session has had one command more, and the history one entry.
         ensures passed { OnReply result (λ reply. IsPassed self.old self.new session) }
+        // A command that a rule refuses gets that refusal, and does not reach the device.
+        ensures refusals { OnReply result (λ reply. IfSome (refused_by (B.size self.old.device) asked (length bytes.now)) (λ refusal. (reply ≡ refusal) × (self.new.device ≡ self.old.device))) }
         ensures entry { IsTrue B.claims → OnReply result (λ reply. IsStep (state_of B.contents self.old) (state_of B.contents self.new)
             (entry_of session serial by asked bytes.now reply (state_of B.contents self.new)) reply) }
         // The choice is Fine exactly where no count of failures rose.
