@@ -3,7 +3,7 @@ ghost use Rattle.scsi_types.specs.Lun.{NamesUnit};
 
 /// A logical unit number (SAM-5, 4.7).
 #[derive(Clone, Copy, Debug, PartialEq, Eq)]
-pub enum Lun {}
+pub struct Lun;
 
 impl Lun {
     /// The unit, 0 to 255, that eight bytes name in the first level by peripheral or flat addressing (SAM-5,
