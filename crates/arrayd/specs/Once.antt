@@ -8,7 +8,7 @@ use Rattle.session.specs.Question.{Question, serve}
 use Rattle.session.specs.declared.end.End.{End}
 use Rattle.session.specs.declared.target.Served.{Served}
 use Rattle.session.specs.declared.target.Served.TheVariants.{Replied, Outside, Busy, Gone, Halted}
-use Rattle.session.specs.Turn.{Asking, Turn, calls, sent, bytes_of, Spells}
+use Rattle.session.specs.Turn.{Asking, Turn, calls, Spells}
 use Rattle.session.specs.Legal.{Lawful, EndsBy}
 use Rattle.session.specs.Transcript.{Written}
 use Rattle.unit_state.specs.State.{UnitState, UnitValue, opening, state_of}
@@ -54,7 +54,7 @@ pub record IsOnce {B : Type 0} (contents : B → List (List ℕ)) (blocks device
   pub ends : EndsBy transcript rest (length spelled + length rest) (IsAtEnd left') end
   pub spells : Spells (map (λ t. t.came) transcript) spelled
   pub read : Consumes left left' (spelled ++ rest)
-  pub written : Written end held held' (bytes_of (sent transcript))
+  pub written : Written end held held' transcript
   pub history : List Entry
   pub legal : IsLegal (opening 0 (contents blocks)) (first_entry ∷ history)
   pub commands : AreCommands (after (opening 0 (contents blocks)) first_entry) (calls transcript) history

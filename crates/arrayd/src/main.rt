@@ -6,8 +6,8 @@ mod target;
 mod words;
 
 use block_file::MemBlocks;
-use session::{End, Watched};
 use scsi_types::NoMemory;
+use session::{End, Watched};
 use std::alloc::Global;
 use std::env::Env;
 use std::process::ExitCode;
@@ -91,3 +91,6 @@ fn main(rt: HostRuntime) -> ExitCode {
         Err(fault) => complain(&rt, fault),
     }
 }
+
+#[cfg(test)]
+mod tests;

@@ -1,6 +1,7 @@
 //! One session over one unit, from a stream of bytes to a stream of bytes.
 ghost use Rattle.std.specs.Prelude.{◌≡◌, Ok, IfOk, IsTrue};
-ghost use Rattle.session.specs.Source.{Rises};
+ghost use Rattle.session.specs.declared.end.End.TheVariants.{InputFailed, OutputFailed};
+ghost use Rattle.session.specs.Transcript.{IsFailureOf};
 ghost use Rattle.arrayd.specs.Once.{IsOnce, IsAttached};
 
 use crate::target::OneUnit;
@@ -23,8 +24,8 @@ pub fn once<S: Source, K: Sink, B: Blocks>(
     blocks: B,
 ) -> Result<(End, B), NoMemory>
     ensures served { IfOk result (λ r. IsTrue B.claims → IsOnce B.contents blocks r.1 (S.left source.old) (S.left source.new) (K.held sink.old) (K.held sink.new) r.0) }
-    ensures input_failed { IfOk result (λ r. r.0 ≡ End.InputFailed → Rises (S.failures source.old) (S.failures source.new)) }
-    ensures output_failed { IfOk result (λ r. r.0 ≡ End.OutputFailed → Rises (K.failures sink.old) (K.failures sink.new)) }
+    ensures input_failed { IfOk result (λ r. IsFailureOf InputFailed (S.failures source.old) (S.failures source.new) r.0) }
+    ensures output_failed { IfOk result (λ r. IsFailureOf OutputFailed (K.failures sink.old) (K.failures sink.new) r.0) }
 {
     let mut target = attached(alloc, blocks)?;
     let start = Start {

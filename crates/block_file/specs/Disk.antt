@@ -1,4 +1,4 @@
--- A disk as a list of blocks: what a write changes of it, and what a crash may leave (SBC-3, 4.5 and 4.10).
+-- A disk as a list of blocks: what a write changes of it, and what a crash may leave (SBC-3, logical blocks and caches).
 use Rattle.std.specs.Prelude.{◌≡◌, ◌⊎◌, ℕ, ◌+◌, ◌-◌, ◌<◌, ◌≤◌, List, [], ◌++◌, length, take, drop, flat_map, slice_index_or}
 
 -- the block at a place

@@ -2,7 +2,7 @@
 ghost use Rattle.std.specs.Prelude.{◌≡◌, ◌⊎◌, ◌+◌, ◌-◌, ◌<◌, ◌≤◌, List, ℕ, length};
 ghost use Rattle.block_file.specs.Disk.{block_at, written, Between};
 
-/// Outside its range a write that may have stopped leaves each block as it was (SBC-3, 4.10).
+/// Outside its range a write that may have stopped leaves each block as it was.
 pub fn outside_the_range()
     ensures { (old after blocks : List (List ℕ)) (first k : ℕ) → Between old first blocks after → (k < first) ⊎ (first + length blocks ≤ k) → block_at after k ≡ block_at old k }
 {}

@@ -16,7 +16,7 @@ pub struct ScsiCommand {
     pub cdb: [u8; 16],
 }
 
-/// The three numbers of a target's PDU (RFC 7143, 11.4.8 to 11.4.10).
+/// The three numbers of a target's PDU (RFC 7143, 11.4.9 to 11.4.11).
 #[derive(Clone, Copy, Debug, PartialEq, Eq)]
 pub struct Numbers {
     pub stat_sn: u32,

@@ -14,7 +14,7 @@ opcode_of cdb = slice_index cdb 0
 abbrev pub protect_of : List ℕ → ℕ
 protect_of cdb = slice_index cdb 1 / 32
 
--- the fields of READ (10) and WRITE (10) (SBC-3, 5.11 and 5.41)
+-- the fields of READ (10) and WRITE (10) (SBC-3)
 abbrev pub lba_10 : List ℕ → ℕ
 lba_10 cdb = big_number 4 (drop 2 cdb)
 

@@ -16,7 +16,7 @@ const WRITE_10: u8 = 0x2A;
 /// The most blocks that one READ or WRITE moves.
 const MOST_BLOCKS: u16 = 2048;
 
-/// What a CDB asks for: TEST UNIT READY (SPC-4, 6.47), READ (10) or WRITE (10) (SBC-3, 5.11 and 5.41). DPO, FUA, the
+/// What a CDB asks for: TEST UNIT READY (SPC-4, 6.47), READ (10) or WRITE (10) (SBC-3). DPO, FUA, the
 /// group number, the control byte and the bytes behind the end of a shorter CDB are not looked at.
 ///
 /// An operation code of no command is `UnknownOpcode`; protection information, or more than 2048 blocks, is `BadField`.

@@ -17,9 +17,9 @@ pub enum Op {
 pub enum Command {
     /// TEST UNIT READY (SPC-4, 6.47).
     TestUnitReady,
-    /// READ (SBC-3, 5.11).
+    /// READ (SBC-3, READ (10) command).
     Read { lba: u64, blocks: u16 },
-    /// WRITE (SBC-3, 5.41).
+    /// WRITE (SBC-3, WRITE (10) command).
     Write { lba: u64, blocks: u16 },
 }
 

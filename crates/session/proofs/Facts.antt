@@ -1,5 +1,5 @@
 -- What is judged of a turn holds of each turn that the session makes.
-use Rattle.std.proofs.Common.{◌≡◌, ◌⊎◌, ℕ, zero, suc, ◌+◌, ◌-◌, ◌<◌, ◌↔◌, min, Bool, true, false, not, List, [], ◌∷◌, ◌++◌, Option, Some, None, length, refl, sym, ap, subst, ◌∙◌, inl, inr, arith}
+use Rattle.std.proofs.Common.{◌≡◌, ◌⊎◌, ℕ, zero, suc, ◌+◌, ◌<◌, ◌≤◌, ◌↔◌, Bool, true, false, not, List, [], ◌∷◌, ◌++◌, Option, Some, length, length-take, refl, subst, inl, inr, arith}
 use Rattle.std.specs.Prelude.{IsTrue, IfSome, MatchOption, slice_get, Result, nat_lt, if◌then◌else◌, take}
 use Rattle.std.specs.List.{AllByRecursion}
 use Rattle.std.proofs.lemmas.List.{append-nil}
@@ -11,20 +11,17 @@ use Rattle.scsi_types.specs.declared.command.CdbFault.{CdbFault}
 use Rattle.iscsi_pdu.specs.declared.header.ScsiCommand.{ScsiCommand as CommandHeader}
 use Rattle.iscsi_pdu.specs.declared.header.ScsiResponse.{ScsiResponse as ResponseHeader}
 use Rattle.iscsi_pdu.specs.declared.header.DataIn.{DataIn as DataInHeader}
-use Rattle.iscsi_pdu.specs.declared.header.Numbers.{Numbers}
-use Rattle.iscsi_pdu.specs.declared.header.Header.{Header}
 use Rattle.iscsi_pdu.specs.declared.header.Header.TheVariants.{ScsiCommand, ScsiResponse, DataIn, Reject}
-use Rattle.iscsi_pdu.specs.declared.fault.PduFault.{PduFault}
 use Rattle.session.specs.declared.target.Served.{Served}
 use Rattle.session.specs.declared.target.Served.TheVariants.{Replied, Outside, Busy, Gone, Halted}
 use Rattle.session.specs.declared.verdict.Verdict.{Verdict}
 use Rattle.session.specs.declared.verdict.Verdict.TheVariants.{Accepted, Ignored, Gap, Refused}
-use Rattle.session.specs.Question.{Question, serve}
-use Rattle.session.specs.Turn.{Incoming, pdu, faulty, Out, Asking, Turn}
-use Rattle.session.specs.Window.{wrap, last_in_window, expected_of, IsJudged, is_sequenced, takes_number}
-use Rattle.session.specs.Task.{Task, task_by, responses, data_ins, data_for, IsCalled, HasOneResponse, IsAnsweredBy, reply_data, IsSegment, Tiles, sent_data, needed, IsResidual, IsTold, IsReply, IsBare, sense_part}
-use Rattle.session.specs.Legal.{status_numbers, IsWindow, HasWindow, no_rejects, header_of, IsRejected}
-use Rattle.session.specs.Machine.{Counters, IsServed, IsReplyOf, IsMadeBy, numbers_at, data_in_for, response_for, reply_for, reply_with, transfer_of, after_status, after_command, response_code, wire_status, wire_sense, reject_out}
+use Rattle.session.specs.Question.{serve}
+use Rattle.session.specs.Turn.{Incoming, pdu, faulty, Out, Asking}
+use Rattle.session.specs.Window.{most_segment, most_read, wrap, expected_of, IsJudged, takes_number}
+use Rattle.session.specs.Task.{task_by, responses, data_ins, data_for, IsCalled, HasOneResponse, IsAnsweredBy, reply_data, IsSegment, Tiles, sent_data, needed, IsResidual, IsTold}
+use Rattle.session.specs.Legal.{status_numbers, IsWindow, HasWindow, no_rejects, IsRejected}
+use Rattle.session.specs.Machine.{Counters, read_length, IsReplyOf, IsMadeBy, numbers_at, data_in_for, response_for, transfer_of, after_status, after_command, response_code, wire_status, wire_sense}
 
 -- what is judged of one turn, where the session's counters are these before and behind it
 pub record TurnFacts (s s' : Counters) (came : Incoming) (v : Verdict) (call : Option Asking) (outs : List Out) : Type 0 where
@@ -86,22 +83,30 @@ module _ (s : Counters) (p : CommandHeader) (r : ResponseHeader) (sense : List �
   abbrev the_segments : List ℕ → List (DataInHeader × List ℕ)
   the_segments bytes = (the_header, bytes) ∷ []
 
-  the_segment : (y : ℕ) (ys : List ℕ) → IsSegment p (the_segments (y ∷ ys)) 0 the_header (y ∷ ys)
-  the_segment y ys = record { some = omega arith; number = refl; place = refl; last = (λ e. refl, λ e. refl); tag = refl; no_transfer = refl; no_status = refl }
+  the_segment : (y : ℕ) (ys : List ℕ) → length (y ∷ ys) ≤ most_segment → IsSegment p (the_segments (y ∷ ys)) 0 the_header (y ∷ ys)
+  the_segment y ys short = record { some = omega arith; within = short; full = λ more. absurd (omega (arith, more)); number = refl; place = refl; last = (λ e. refl, λ e. refl); tag = refl; no_transfer = refl; no_status = refl }
 
-  segment_at : (y : ℕ) (ys : List ℕ) (k : ℕ) (x : DataInHeader × List ℕ) → slice_get (the_segments (y ∷ ys)) k ≡ Some x → IsSegment p (the_segments (y ∷ ys)) k x.0 x.1
-  segment_at y ys zero x e =
+  segment_at : (y : ℕ) (ys : List ℕ) → length (y ∷ ys) ≤ most_segment → (k : ℕ) (x : DataInHeader × List ℕ) → slice_get (the_segments (y ∷ ys)) k ≡ Some x → IsSegment p (the_segments (y ∷ ys)) k x.0 x.1
+  segment_at y ys short zero x e =
       let only : DataInHeader × List ℕ = (the_header, y ∷ ys) in
       let same : only ≡ x = cc in
-      subst (λ (z : DataInHeader × List ℕ). IsSegment p (the_segments (y ∷ ys)) 0 z.0 z.1) same (the_segment y ys)
-  segment_at y ys (suc k) x e = absurd (cc)
+      subst (λ (z : DataInHeader × List ℕ). IsSegment p (the_segments (y ∷ ys)) 0 z.0 z.1) same (the_segment y ys short)
+  segment_at y ys short (suc k) x e = absurd (cc)
 
-  outs_tiled : (sent : List ℕ) → Tiles p (data_ins (outs_of s p sent r sense)) sent
-  outs_tiled [] = record { joined = refl; each = λ k h d e. absurd (no_segment k (h, d) e) }
-  outs_tiled (y ∷ ys) = record { joined = append-nil (y ∷ ys); each = λ k h d e. segment_at y ys k (h, d) e }
+  outs_tiled : (sent : List ℕ) → length sent ≤ most_segment → Tiles p (data_ins (outs_of s p sent r sense)) sent
+  outs_tiled [] short = record { joined = refl; each = λ k h d e. absurd (no_segment k (h, d) e) }
+  outs_tiled (y ∷ ys) short = record { joined = append-nil (y ∷ ys); each = λ k h d e. segment_at y ys short k (h, d) e }
 
 less : (a b : ℕ) → IsTrue (nat_lt a b) ↔ (a < b)
 less a b = (λ e. ltb-true a b e, λ h. lt-ltb a b h)
+
+-- what is sent of a read's data fits one Data-In
+cond_short : (r : Bool) (most : ℕ) (bytes : List ℕ) → (if r then most else 0) ≤ most_read → length (if r then take most bytes else none_data) ≤ most_segment
+cond_short true most bytes within = omega (arith, within, length-take most bytes)
+cond_short false most bytes within = omega arith
+
+sent_short : (p : CommandHeader) (bytes : List ℕ) → read_length p ≤ most_read → length (sent_data p bytes) ≤ most_segment
+sent_short p bytes within = cond_short p.read p.expected bytes within
 
 -- ---- an accepted command
 
@@ -131,16 +136,16 @@ module _ (s : Counters) (b : List ℕ) (p : CommandHeader) (d : List ℕ) (asked
   commands_of true e = inl (refl, refl)
   commands_of false e = inr (refl, refl)
 
-  reply_facts : IsJudged s.exp_cmd_sn (pdu b (ScsiCommand p) d) Accepted → Means p.cdb asked → NamesUnit p.lun unit → (HasOneResponse p the_outs → IsAnsweredBy p answer the_outs) → IsTold answer the_response (wire_sense answer)
+  reply_facts : IsJudged s.exp_cmd_sn (pdu b (ScsiCommand p) d) Accepted → read_length p ≤ most_read → Means p.cdb asked → NamesUnit p.lun unit → (HasOneResponse p the_outs → IsAnsweredBy p answer the_outs) → IsTold answer the_response (wire_sense answer)
       → TurnFacts s (after_status mid) (pdu b (ScsiCommand p) d) Accepted (Some asking) the_outs
-  reply_facts judged means names answered told =
+  reply_facts judged within means names answered told =
       let responses_are = outs_responses mid p the_response (wire_sense answer) sent_bytes in
       record {
         judged = judged;
         windows = outs_windows mid p the_response (wire_sense answer) sent_bytes (record { exp_cmd_sn = refl; max_cmd_sn = refl });
         called = (asked, unit, answer, means, names, refl);
         answered = answered one_response;
-        tiled = outs_tiled mid p the_response (wire_sense answer) sent_bytes;
+        tiled = outs_tiled mid p the_response (wire_sense answer) sent_bytes (sent_short p (reply_data answer) within);
         counted = rw responses_are (outs_count mid p the_response (wire_sense answer) sent_bytes, tt);
         residual = rw responses_are (record { underflow = less (needed_of) (expected_of p); overflow = less (expected_of p) (needed_of); count = refl }, tt);
         told = rw responses_are (told, tt);
@@ -178,16 +183,16 @@ moved : {s s1 s2 : Counters} {came : Incoming} {v : Verdict} {call call' : Optio
 moved e f g k = rw (e, f, g) k
 
 served_facts : (s s' : Counters) (b : List ℕ) (p : CommandHeader) (d : List ℕ) (call : Option Asking) (outs : List Out) (asked : Result Command CdbFault) (unit : Option ℕ) (answer : Served)
-    → IsJudged s.exp_cmd_sn (pdu b (ScsiCommand p) d) Accepted → Means p.cdb asked → NamesUnit p.lun unit → call ≡ Some (record { question = serve unit asked (data_for p (Need asked) d); answer = answer })
+    → IsJudged s.exp_cmd_sn (pdu b (ScsiCommand p) d) Accepted → read_length p ≤ most_read → Means p.cdb asked → NamesUnit p.lun unit → call ≡ Some (record { question = serve unit asked (data_for p (Need asked) d); answer = answer })
     → IsReplyOf (after_command p s) p (Need asked) answer outs s' → TurnFacts s s' (pdu b (ScsiCommand p) d) Accepted call outs
-served_facts s s' b p d call outs asked unit (Replied a) judged means names e r = moved e r.0 r.1 (reply_facts s b p d asked unit (Replied a) judged means names (λ o. o) (record { response = refl; status = refl; sense = refl }))
-served_facts s s' b p d call outs asked unit (Outside a) judged means names e r = moved e r.0 r.1 (reply_facts s b p d asked unit (Outside a) judged means names (λ o. o) (record { response = refl; status = refl; sense = refl }))
-served_facts s s' b p d call outs asked unit Busy judged means names e r = moved e r.0 r.1 (reply_facts s b p d asked unit Busy judged means names (λ o. o) (record { response = refl; status_is = refl; nothing = refl }))
-served_facts s s' b p d call outs asked unit Gone judged means names e r = moved e r.0 r.1 (gone_facts s b p d asked unit Gone judged means names refl)
-served_facts s s' b p d call outs asked unit Halted judged means names e r = moved e r.0 r.1 (reply_facts s b p d asked unit Halted judged means names (λ o. o) (record { response = refl; status_is = refl; nothing = refl }))
+served_facts s s' b p d call outs asked unit (Replied a) judged within means names e r = moved e r.0 r.1 (reply_facts s b p d asked unit (Replied a) judged within means names (λ o. o) (record { response = refl; status = refl; sense = refl }))
+served_facts s s' b p d call outs asked unit (Outside a) judged within means names e r = moved e r.0 r.1 (reply_facts s b p d asked unit (Outside a) judged within means names (λ o. o) (record { response = refl; status = refl; sense = refl }))
+served_facts s s' b p d call outs asked unit Busy judged within means names e r = moved e r.0 r.1 (reply_facts s b p d asked unit Busy judged within means names (λ o. o) (record { response = refl; status_is = refl; nothing = refl }))
+served_facts s s' b p d call outs asked unit Gone judged within means names e r = moved e r.0 r.1 (gone_facts s b p d asked unit Gone judged means names refl)
+served_facts s s' b p d call outs asked unit Halted judged within means names e r = moved e r.0 r.1 (reply_facts s b p d asked unit Halted judged within means names (λ o. o) (record { response = refl; status_is = refl; nothing = refl }))
 
 pub made_facts : (s s' : Counters) (came : Incoming) (v : Verdict) (call : Option Asking) (outs : List Out) → IsJudged s.exp_cmd_sn came v → IsMadeBy v s came call outs s' → TurnFacts s s' came v call outs
-made_facts s s' (pdu b (ScsiCommand p) d) Accepted call outs judged k = served_facts s s' b p d call outs k.asked k.unit k.answer judged k.means k.names k.call_is k.replied
+made_facts s s' (pdu b (ScsiCommand p) d) Accepted call outs judged k = served_facts s s' b p d call outs k.asked k.unit k.answer judged k.within k.means k.names k.call_is k.replied
 made_facts s s' (pdu b (ScsiResponse p) d) Accepted call outs judged k = absurd k
 made_facts s s' (pdu b (DataIn p) d) Accepted call outs judged k = absurd k
 made_facts s s' (pdu b (Reject p) d) Accepted call outs judged k = absurd k

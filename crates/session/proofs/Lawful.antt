@@ -1,14 +1,13 @@
 -- One turn more keeps a transcript lawful.
-use Rattle.std.proofs.Common.{◌≡◌, ◌⊎◌, ℕ, zero, suc, ◌+◌, ◌%◌, ◌<◌, Bool, true, false, List, [], ◌∷◌, ◌++◌, Option, Some, None, length, refl, sym, ap, subst, ◌∙◌, inl, inr, arith, append_assoc, length-append, cond}
-use Rattle.std.specs.Prelude.{MatchOption, IfSome, slice_get}
-use Rattle.std.specs.List.{AllByRecursion, count_by, flat_map, filter_map, sum_by}
+use Rattle.std.proofs.Common.{◌≡◌, ◌⊎◌, ℕ, zero, suc, ◌+◌, ◌<◌, Bool, true, false, List, [], ◌∷◌, ◌++◌, Some, length, refl, sym, ap, subst, ◌∙◌, inl, inr, arith, length-append, cond}
+use Rattle.std.specs.Prelude.{slice_get}
+use Rattle.std.specs.List.{AllByRecursion, count_by}
 use Rattle.std.proofs.lemmas.List.{append-nil}
 use Rattle.std.proofs.lemmas.List.Sums.{sum_by-append}
 use Rattle.std.proofs.lemmas.List.Elements.{filter_map-append}
 use Rattle.std.proofs.lemmas.Grind.{flat_map-append}
 use Rattle.std.proofs.Math.Nat.{mod-add-mod}
-use Rattle.session.specs.declared.verdict.Verdict.{Verdict}
-use Rattle.session.specs.Turn.{Incoming, Out, Asking, Turn, sent}
+use Rattle.session.specs.Turn.{Incoming, Out, Turn, sent}
 use Rattle.session.specs.Window.{wrap, takes_number, expected_after, IsJudged}
 use Rattle.session.specs.Legal.{AtEach, status_number, status_numbers, HasWindow, Lawful}
 use Rattle.session.specs.Machine.{Counters, IsMade, IsMadeBy}
@@ -31,9 +30,9 @@ split_one (x ∷ ts) t (y ∷ before) u behind e =
 
 pub at_each_more : (P : List Turn → Turn → Type 0) (ts : List Turn) (t : Turn) → AtEach P ts → P ts t → AtEach P (ts ++ t ∷ [])
 at_each_more P ts t each here before u behind e = elim (split_one ts t before u behind e) [
-    | inl w ↦ each before u w.0 w.1
-    | inr w ↦ rw (w.0, w.1) here
-  ]
+  | inl w ↦ each before u w.0 w.1
+  | inr w ↦ rw (w.0, w.1) here
+]
 
 pub at_each_none : (P : List Turn → Turn → Type 0) → AtEach P []
 at_each_none P [] u behind e = absurd (cc)

@@ -1,4 +1,5 @@
 pub mod Facts
+pub mod Following
 pub mod Lawful
 pub mod Lists
 pub mod Running

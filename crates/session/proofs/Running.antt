@@ -1,12 +1,10 @@
 -- What is known between two turns of a session, and how a turn, a read and an end carry it on.
-use Rattle.std.proofs.Common.{◌≡◌, ◌⊎◌, ℕ, zero, suc, ◌+◌, ◌-◌, ◌*◌, ◌<◌, ◌≤◌, List, [], ◌∷◌, ◌++◌, Option, Some, None, length, map, take, drop, refl, sym, ap, subst, subst₂, ◌∙◌, arith, inl, inr, append_assoc, length-append, length-take-le, length-take, length-drop}
+use Rattle.std.proofs.Common.{◌≡◌, ◌⊎◌, ℕ, ◌+◌, ◌<◌, ◌≤◌, List, [], ◌∷◌, ◌++◌, Option, Some, None, length, map, take, drop, refl, sym, ap, subst, subst₂, ◌∙◌, arith, inl, inr, append_assoc, length-append, length-take-le, length-take}
 use Rattle.std.proofs.lemmas.List.{append-nil, take-append-drop, map-append, take-take}
 use Rattle.std.proofs.lemmas.List.Elements.{filter_map-append}
 use Rattle.std.proofs.lemmas.Grind.{flat_map-append}
-use Rattle.std.specs.List.{filter_map, flat_map}
-use Rattle.std.proofs.Math.Seq.{take-append-add}
 use Rattle.std.specs.Io.KnownBytes.{Keeps, Appends, Consumes, IsAtEnd}
-use Rattle.std.proofs.KnownBytes.{Appends-trans, Appends-kept, Appends-nil, Consumes-trans, Consumes-kept, Consumes-nil}
+use Rattle.std.proofs.KnownBytes.{Appends-trans, Appends-nil, Consumes-trans, Consumes-kept, Consumes-nil}
 use Rattle.iscsi_pdu.specs.Pdu.{IsPdu}
 use Rattle.iscsi_pdu.specs.Fault.{Stands as FaultStands}
 use Rattle.iscsi_pdu.specs.Spelling.{spelling}
@@ -19,13 +17,13 @@ use Rattle.session.specs.declared.target.Served.TheVariants.{Replied, Outside, B
 use Rattle.session.specs.declared.verdict.Verdict.{Verdict}
 use Rattle.session.specs.declared.verdict.Verdict.TheVariants.{Accepted, Ignored, Gap, Refused}
 use Rattle.session.specs.Question.{Question}
-use Rattle.session.specs.Source.{AppendsFront, Rises}
+use Rattle.session.specs.Source.{AppendsFront}
 use Rattle.session.specs.Inbox.{Filled}
 use Rattle.session.specs.Turn.{Incoming, pdu, faulty, Out, Asking, Turn, calls, sent, bytes_of, Spells, Leads}
-use Rattle.session.specs.Legal.{AtEach, end_by, end_after, Lawful, GoesOn, NoneWhole, StandsBehind, EndsWith, most_bytes, EndsBy}
-use Rattle.session.specs.Machine.{Counters, IsMade}
+use Rattle.session.specs.Legal.{end_by, end_after, GoesOn, NoneWhole, StandsBehind, EndsWith, most_bytes, EndsBy}
+use Rattle.session.specs.Machine.{Counters}
 use Rattle.session.specs.Stream.{IsSentOut, IsLed, IsTurned}
-use Rattle.session.specs.Transcript.{Written, IsTranscribed}
+use Rattle.session.specs.Transcript.{IsCut, Written, IsTranscribed, IsFailureOf}
 use Rattle.session.proofs.Lawful.{at_each_more, at_each_none, Stands, stands_more, stands_none}
 
 -- ---- what was read
@@ -49,9 +47,6 @@ bytes_more : (ts : List Turn) (t : Turn) → bytes_of (sent (ts ++ t ∷ [])) �
 bytes_more ts t =
     ap bytes_of (flat_map-append (λ u. u.sent) ts (t ∷ []) ∙ ap (λ (o : List Out). sent ts ++ o) (append-nil t.sent))
     ∙ flat_map-append (λ o. spelling o.header o.bytes) (sent ts) t.sent
-
-front_second : (a b c : Option (List ℕ)) (xs ys : List ℕ) → Appends a b xs → AppendsFront b c ys → AppendsFront a c (xs ++ ys)
-front_second a b c xs ys h k = (length xs + k.0, subst (λ (z : List ℕ). Appends a c z) (sym (take-append-add xs ys k.0)) (Appends-trans _ _ _ _ _ h k.1))
 
 -- ---- what the target was asked
 
@@ -124,8 +119,8 @@ module _ {T : Type 0} (leads : T → Question → Served → T → Type 0) (firs
     all_out : Appends held' held'' (bytes_of turned.turn.sent) → Appends held held'' (bytes_of (sent (r.transcript ++ turned.turn ∷ [])))
     all_out out = subst (Appends held held'') (sym (bytes_more r.transcript turned.turn)) (Appends-trans _ _ _ _ _ r.written out)
 
-    some_out : AppendsFront held' held'' (bytes_of turned.turn.sent) → AppendsFront held held'' (bytes_of (sent (r.transcript ++ turned.turn ∷ [])))
-    some_out out = subst (AppendsFront held held'') (sym (bytes_more r.transcript turned.turn)) (front_second _ _ _ _ _ r.written out)
+    some_out : AppendsFront held' held'' (bytes_of turned.turn.sent) → IsCut held held'' (r.transcript ++ turned.turn ∷ [])
+    some_out out = record { front = r.transcript; last = turned.turn; whole = refl; part = out.0; out = Appends-trans _ _ _ _ _ r.written out.1 }
 
     -- the last turn
     last_turn : (rest : List ℕ) (wanted : Option End) → StandsBehind came rest → end_after turned.turn.verdict turned.turn.call ≡ wanted → EndsWith (r.transcript ++ turned.turn ∷ []) rest wanted
@@ -140,7 +135,7 @@ module _ {T : Type 0} (leads : T → Question → Served → T → Type 0) (firs
 
     -- the session ends with it
     module _ (spelled rest : List ℕ) (spells : Spells (map (λ (t : Turn). t.came) r.transcript ++ came ∷ []) spelled) (read : Consumes left left' (spelled ++ rest)) (stands : StandsBehind came rest) where
-      ended : (end : End) → EndsBy (r.transcript ++ turned.turn ∷ []) rest (length spelled + length rest) (IsAtEnd left') end → Written end held held'' (bytes_of (sent (r.transcript ++ turned.turn ∷ [])))
+      ended : (end : End) → EndsBy (r.transcript ++ turned.turn ∷ []) rest (length spelled + length rest) (IsAtEnd left') end → Written end held held'' (r.transcript ++ turned.turn ∷ [])
           → IsTranscribed leads first_cmd first_stat left left' held held'' x x'' end
       ended end ends written = record {
         transcript = r.transcript ++ turned.turn ∷ [];
@@ -155,23 +150,23 @@ module _ {T : Type 0} (leads : T → Question → Served → T → Type 0) (firs
       }
 
       ends_now : (end : End) → result ≡ Some end → IsSentOut held' held'' before now (bytes_of turned.turn.sent) (end_after turned.turn.verdict turned.turn.call) result
-          → IsTranscribed leads first_cmd first_stat left left' held held'' x x'' end × (end ≡ OutputFailed → Rises before now)
+          → IsTranscribed leads first_cmd first_stat left left' held held'' x x'' end × IsFailureOf OutputFailed before now end
       ends_now end e (inl w) =
           let wanted : Some end ≡ end_after turned.turn.verdict turned.turn.call = sym e ∙ w.0 in
           elim (ends_so end turned.turn.verdict turned.turn.call wanted) [
             | inl protocol ↦ (
               subst (IsTranscribed leads first_cmd first_stat left left' held held'' x x'') (sym protocol) (ended Protocol (last_turn rest (Some Protocol) stands (sym wanted ∙ ap Some protocol)) (all_out w.1)),
-              λ f. absurd (let g : Protocol ≡ OutputFailed = sym protocol ∙ f in cc),
+              record { rises = λ f. absurd (let g : Protocol ≡ OutputFailed = sym protocol ∙ f in cc); stays = λ _. w.2 },
             )
             | inr reinstated ↦ (
               subst (IsTranscribed leads first_cmd first_stat left left' held held'' x x'') (sym reinstated) (ended Reinstated (last_turn rest (Some Reinstated) stands (sym wanted ∙ ap Some reinstated)) (all_out w.1)),
-              λ f. absurd (let g : Reinstated ≡ OutputFailed = sym reinstated ∙ f in cc),
+              record { rises = λ f. absurd (let g : Reinstated ≡ OutputFailed = sym reinstated ∙ f in cc); stays = λ _. w.2 },
             )
           ]
       ends_now end e (inr w) =
           let failed : OutputFailed ≡ end = let g : Some OutputFailed ≡ Some end = sym w.0 ∙ e in cc in (
             subst (IsTranscribed leads first_cmd first_stat left left' held held'' x x'') failed (ended OutputFailed (end_after turned.turn.verdict turned.turn.call, last_turn rest (end_after turned.turn.verdict turned.turn.call) stands refl) (some_out w.1)),
-            λ f. w.2,
+            record { rises = λ f. w.2; stays = λ other. absurd (other (sym failed)) },
           )
 
   -- a PDU comes, and the session goes on, or ends
@@ -206,15 +201,15 @@ module _ {T : Type 0} (leads : T → Question → Served → T → Type 0) (firs
           w.2,
         )
 
-    pub pdu_ends : (end : End) → IsTurned leads s s' x' x'' held' held'' before now (pdu header h d) (Some end) → IsTranscribed leads first_cmd first_stat left left' held held'' x x'' end × (end ≡ OutputFailed → Rises before now)
+    pub pdu_ends : (end : End) → IsTurned leads s s' x' x'' held' held'' before now (pdu header h d) (Some end) → IsTranscribed leads first_cmd first_stat left left' held held'' x x'' end × IsFailureOf OutputFailed before now end
     pdu_ends end t =
         ends_now s' x'' held'' before now (pdu header h d) (Some end) t (r.spelled ++ take n waiting) (drop n waiting) (spells_now n header h d header_is within spelled) (read_now n) tt end refl t.out
 
   pub fault_ends : (s' : Counters) (held'' : Option (List ℕ)) (before now : ℕ) (header : List ℕ) (f : PduFault) (end : End) → header ≡ take 48 waiting → length header ≡ 48 → FaultStands waiting f
-      → IsTurned leads s s' x' x' held' held'' before now (faulty f header) (Some end) → IsTranscribed leads first_cmd first_stat left left' held held'' x x' end × (end ≡ OutputFailed → Rises before now)
+      → IsTurned leads s s' x' x' held' held'' before now (faulty f header) (Some end) → IsTranscribed leads first_cmd first_stat left left' held held'' x x' end × IsFailureOf OutputFailed before now end
   fault_ends s' held'' before now header f end header_is long stands t =
       ends_now s' x' held'' before now (faulty f header) (Some end) t r.spelled waiting (spells_fault (map (λ (t : Turn). t.came) r.transcript) r.spelled header f r.spells) r.read
-        (stands, omega (arith, ap length header_is, long, length-take 48 waiting), header_is) end refl t.out
+      (stands, omega (arith, ap length header_is, long, length-take 48 waiting), header_is) end refl t.out
 
   -- more came, or the input is at its end
   pub more_came : (left'' : Option (List ℕ)) (waiting' : List ℕ) (n : ℕ) → Filled left' left'' waiting waiting' n → 0 < n → Running leads first_cmd first_stat left left'' held held' x x' s waiting' (reads + 1)
@@ -230,7 +225,7 @@ module _ {T : Type 0} (leads : T → Question → Served → T → Type 0) (firs
     many = omega (arith, r.many, ap length f.grown, length-append waiting f.more, f.count);
   }
 
-  stops_here : (end : End) (left'' : Option (List ℕ)) (rest : List ℕ) → Consumes left left'' (r.spelled ++ rest) → EndsBy r.transcript rest (length r.spelled + length rest) (IsAtEnd left'') end → Written end held held' (bytes_of (sent r.transcript))
+  stops_here : (end : End) (left'' : Option (List ℕ)) (rest : List ℕ) → Consumes left left'' (r.spelled ++ rest) → EndsBy r.transcript rest (length r.spelled + length rest) (IsAtEnd left'') end → Written end held held' r.transcript
       → IsTranscribed leads first_cmd first_stat left left'' held held' x x' end
   stops_here end left'' rest read ends written = record {
     transcript = r.transcript;
@@ -248,13 +243,13 @@ module _ {T : Type 0} (leads : T → Question → Served → T → Type 0) (firs
   input_ended left'' waiting' n nothing f none =
       let no_more : f.more ≡ [] = nil_of f.more (f.count ∙ nothing) in
       stops_here EndOfInput left'' waiting (subst (Consumes left left'') (ap (λ (z : List ℕ). r.spelled ++ z) (ap (λ (m : List ℕ). waiting ++ m) no_more ∙ append-nil waiting)) (subst (Consumes left left'') (append_assoc r.spelled waiting f.more) (Consumes-trans _ _ _ _ _ r.read f.read)))
-        (r.goes_on, inl (f.end nothing, none)) r.written
+      (r.goes_on, inl (f.end nothing, none)) r.written
 
   pub taken_all : most_bytes ≤ reads → IsTranscribed leads first_cmd first_stat left left' held held' x x' EndOfInput
   taken_all many = stops_here EndOfInput left' waiting r.read (r.goes_on, inr (omega (arith, many, r.many))) r.written
 
-  pub input_failed : (left'' : Option (List ℕ)) → Keeps left' left'' → IsTranscribed leads first_cmd first_stat left left'' held held' x x' InputFailed
-  input_failed left'' kept = stops_here InputFailed left'' waiting (Consumes-kept _ _ _ _ r.read kept) r.goes_on r.written
+  pub input_failed : (left'' : Option (List ℕ)) → Keeps left' left'' → NoneWhole waiting → IsTranscribed leads first_cmd first_stat left left'' held held' x x' InputFailed
+  input_failed left'' kept none = stops_here InputFailed left'' waiting (Consumes-kept _ _ _ _ r.read kept) (r.goes_on, none) r.written
 
 pub starts : {T : Type 0} (leads : T → Question → Served → T → Type 0) (first_cmd first_stat : ℕ) (left held : Option (List ℕ)) (x : T) (s : Counters) (waiting : List ℕ) → first_cmd < 4294967296 → first_stat < 4294967296
     → s ≡ record { stat_sn = first_stat; exp_cmd_sn = first_cmd } → waiting ≡ [] → Running leads first_cmd first_stat left left held held x x s waiting 0

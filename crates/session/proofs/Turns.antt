@@ -1,25 +1,21 @@
 -- What a turn of the session is, from what its parts say.
-use Rattle.std.proofs.Common.{◌≡◌, ℕ, List, [], ◌∷◌, Option, Some, None, refl, sym, ap, subst, ◌∙◌, inl, inr, ⊎_elim}
+use Rattle.std.proofs.Common.{◌≡◌, ℕ, List, Option, Some, None, refl, ap, subst}
 use Rattle.iscsi_pdu.specs.declared.header.Header.{Header}
 use Rattle.iscsi_pdu.specs.declared.header.Header.TheVariants.{ScsiCommand, ScsiResponse, DataIn, Reject}
 use Rattle.iscsi_pdu.specs.declared.fault.PduFault.{PduFault}
 use Rattle.session.specs.declared.actions.Actions.{Actions}
 use Rattle.session.specs.declared.actions.Call.{Call}
-use Rattle.session.specs.declared.actions.Pdus.{Pdus}
 use Rattle.session.specs.declared.end.End.{End}
-use Rattle.session.specs.declared.end.End.TheVariants.{Protocol}
 use Rattle.session.specs.declared.target.Served.{Served}
 use Rattle.session.specs.declared.target.Served.TheVariants.{Replied, Outside, Busy, Gone, Halted}
 use Rattle.session.specs.declared.verdict.Verdict.{Verdict}
 use Rattle.session.specs.declared.verdict.Verdict.TheVariants.{Accepted, Ignored, Gap, Refused}
-use Rattle.scsi_types.specs.Cdb.{Need}
 use Rattle.session.specs.Question.{Question, serve}
-use Rattle.session.specs.Turn.{Incoming, pdu, faulty, Out, Asking, Turn, bytes_of}
-use Rattle.session.specs.Task.{data_for}
+use Rattle.session.specs.Turn.{Incoming, pdu, faulty, bytes_of}
 use Rattle.session.specs.Window.{IsJudgedPdu, reason_of}
 use Rattle.session.specs.Legal.{end_after, end_by}
-use Rattle.session.specs.Machine.{Counters, IsSomeCall, IsCallOf, IsRejection, IsTakenBy, IsTaken, IsReplied, IsSent, IsReplyOf, IsServed, IsMadeBy, IsMade, sent_by, reply_for, after_status, after_command}
-use Rattle.session.specs.Stream.{IsSentOut, IsLed, IsTurned}
+use Rattle.session.specs.Machine.{Counters, IsSomeCall, IsCallOf, IsRejection, IsTakenBy, IsTaken, IsReplied, IsReplyOf, IsMade, sent_by}
+use Rattle.session.specs.Stream.{IsSentOut, IsTurned}
 
 module _ {T : Type 0} (leads : T → Question → Served → T → Type 0) (s s' : Counters) (x : T) (held held' : Option (List ℕ)) (before now : ℕ) (result : Option End) where
   -- a turn without a call

@@ -16,7 +16,7 @@ use Rattle.session.specs.declared.verdict.Verdict.{Verdict}
 use Rattle.session.specs.declared.verdict.Verdict.TheVariants.{Accepted, Ignored, Gap, Refused}
 use Rattle.session.specs.Turn.{Incoming, pdu, faulty, Out, Asking, Turn, sent}
 use Rattle.session.specs.Window.{wrap, last_in_window, expected_of, expected_after, IsJudged}
-use Rattle.session.specs.Task.{Task, task_of, responses, data_ins, IsCalled, IsAnsweredBy, Tiles, sent_data, reply_data, needed, IsResidual, IsTold}
+use Rattle.session.specs.Task.{task_of, responses, data_ins, IsCalled, IsAnsweredBy, Tiles, sent_data, reply_data, needed, IsResidual, IsTold}
 
 -- the fact holds at each place of the transcript
 abbrev pub AtEach : (List Turn → Turn → Type 0) → List Turn → Type 0
@@ -126,10 +126,11 @@ abbrev pub most_bytes : ℕ
 most_bytes = 18446744073709551615
 
 -- why the session ended so, where these bytes were read behind the PDUs and this many in all: the input is at
--- its end with no whole PDU left, or as many bytes came as a session takes; or the last turn calls for it
+-- its end with no whole PDU left, or as many bytes came as a session takes; the reader failed with no whole PDU
+-- left; or the last turn calls for it, or its bytes did not all go out
 abbrev pub EndsBy : List Turn → List ℕ → ℕ → Type 0 → End → Type 0
 EndsBy ts rest taken at_end EndOfInput = GoesOn ts × ((at_end × NoneWhole rest) ⊎ (most_bytes ≤ taken))
-EndsBy ts rest taken at_end InputFailed = GoesOn ts
+EndsBy ts rest taken at_end InputFailed = GoesOn ts × NoneWhole rest
 EndsBy ts rest taken at_end OutputFailed = (end : Option End) × EndsWith ts rest end
 EndsBy ts rest taken at_end Protocol = EndsWith ts rest (Some Protocol)
 EndsBy ts rest taken at_end Reinstated = EndsWith ts rest (Some Reinstated)

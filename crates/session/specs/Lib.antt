@@ -1,3 +1,4 @@
+pub mod Following
 pub mod Front
 pub mod Inbox
 pub mod Legal

@@ -1,5 +1,5 @@
 -- What a session keeps between two turns, and what it makes of a PDU and of an answer.
-use Rattle.std.specs.Prelude.{◌≡◌, ℕ, ◌+◌, ◌-◌, ◌≤◌, min, nat_lt, true, if◌then◌else◌, List, [], ◌∷◌, ◌++◌, length, Option, Some, None, IfSome, Result}
+use Rattle.std.specs.Prelude.{◌≡◌, ℕ, ◌+◌, ◌-◌, ◌≤◌, min, nat_lt, true, if◌then◌else◌, List, [], ◌∷◌, ◌++◌, length, Option, Some, None, Result}
 use Rattle.scsi_types.specs.Cdb.{Means, Need}
 use Rattle.scsi_types.specs.Lun.{NamesUnit}
 use Rattle.scsi_types.specs.Status.{status_code}
@@ -7,8 +7,6 @@ use Rattle.scsi_types.specs.declared.command.Command.{Command}
 use Rattle.scsi_types.specs.declared.command.CdbFault.{CdbFault}
 use Rattle.iscsi_pdu.specs.declared.header.ScsiCommand.{ScsiCommand as CommandHeader}
 use Rattle.iscsi_pdu.specs.declared.header.ScsiResponse.{ScsiResponse as ResponseHeader}
-use Rattle.iscsi_pdu.specs.declared.header.DataIn.{DataIn as DataInHeader}
-use Rattle.iscsi_pdu.specs.declared.header.Reject.{Reject as RejectHeader}
 use Rattle.iscsi_pdu.specs.declared.header.Numbers.{Numbers}
 use Rattle.iscsi_pdu.specs.declared.header.Header.{Header}
 use Rattle.iscsi_pdu.specs.declared.header.Header.TheVariants.{ScsiCommand, ScsiResponse, DataIn, Reject}

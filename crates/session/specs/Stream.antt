@@ -1,16 +1,12 @@
 -- What one turn makes of session, target and sink.
-use Rattle.std.specs.Prelude.{◌≡◌, ◌⊎◌, ℕ, List, [], ◌∷◌, ◌++◌, length, Option, Some, None}
+use Rattle.std.specs.Prelude.{◌≡◌, ◌⊎◌, ℕ, List, Option, Some, None}
 use Rattle.std.specs.Io.KnownBytes.{Appends}
-use Rattle.iscsi_pdu.specs.declared.header.Header.{Header}
-use Rattle.iscsi_pdu.specs.declared.fault.PduFault.{PduFault}
 use Rattle.session.specs.declared.end.End.{End}
-use Rattle.session.specs.declared.end.End.TheVariants.{EndOfInput, InputFailed, OutputFailed, Protocol, Reinstated}
+use Rattle.session.specs.declared.end.End.TheVariants.{OutputFailed}
 use Rattle.session.specs.declared.target.Served.{Served}
-use Rattle.session.specs.declared.verdict.Verdict.{Verdict}
-use Rattle.session.specs.declared.verdict.Verdict.TheVariants.{Accepted, Ignored, Gap, Refused}
-use Rattle.session.specs.Question.{Question, serve}
+use Rattle.session.specs.Question.{Question}
 use Rattle.session.specs.Source.{AppendsFront, Rises}
-use Rattle.session.specs.Turn.{Incoming, pdu, faulty, Out, Asking, Turn, bytes_of}
+use Rattle.session.specs.Turn.{Incoming, Asking, Turn, bytes_of}
 use Rattle.session.specs.Legal.{end_after}
 use Rattle.session.specs.Machine.{Counters, IsMade}
 

@@ -1,6 +1,6 @@
 -- A command that was accepted, and what is judged of its answer (RFC 7143, 4.4, 11.4 and 11.7).
-use Rattle.std.specs.Prelude.{◌≡◌, ℕ, suc, ◌+◌, ◌-◌, ◌<◌, ◌↔◌, min, Bool, if◌then◌else◌, List, [], ◌∷◌, ◌++◌, length, take, Option, Some, None, IsTrue, IfSome, MatchOption, slice_get, Result}
-use Rattle.std.specs.List.{filter_map, flat_map, AllByRecursion}
+use Rattle.std.specs.Prelude.{◌≡◌, ℕ, suc, ◌+◌, ◌-◌, ◌<◌, ◌≤◌, ◌↔◌, min, if◌then◌else◌, List, [], ◌∷◌, ◌++◌, length, take, Option, Some, None, IsTrue, slice_get, Result}
+use Rattle.std.specs.List.{filter_map, flat_map}
 use Rattle.scsi_types.specs.Answer.{Answer}
 use Rattle.scsi_types.specs.Cdb.{Means, Need}
 use Rattle.scsi_types.specs.Lun.{NamesUnit}
@@ -20,7 +20,7 @@ use Rattle.session.specs.declared.target.Served.TheVariants.{Replied, Outside, B
 use Rattle.session.specs.declared.verdict.Verdict.{Verdict}
 use Rattle.session.specs.declared.verdict.Verdict.TheVariants.{Accepted, Ignored, Gap, Refused}
 use Rattle.session.specs.Turn.{Incoming, pdu, faulty, Out, Asking, Turn}
-use Rattle.session.specs.Window.{expected_of}
+use Rattle.session.specs.Window.{most_segment}
 
 -- the SCSI Responses, the Data-In PDUs and the Rejects that went out, each with its data
 abbrev pub response_with : Header → List ℕ → Option (ResponseHeader × List ℕ)
@@ -105,9 +105,11 @@ reply_data Busy = []
 reply_data Gone = []
 reply_data Halted = []
 
--- the Data-In at a place among those of a command
+-- the Data-In at a place among those of a command: full, but for the last
 pub record IsSegment (p : CommandHeader) (segments : List (DataInHeader × List ℕ)) (k : ℕ) (h : DataInHeader) (d : List ℕ) : Type 0 where
   pub some : 0 < length d
+  pub within : length d ≤ most_segment
+  pub full : suc k < length segments → length d ≡ most_segment
   pub number : h.data_sn ≡ k
   pub place : h.offset ≡ length (flat_map (λ s. s.1) (take k segments))
   pub last : IsTrue h.last ↔ (suc k ≡ length segments)

@@ -1,21 +1,29 @@
 -- Bytes to bytes: what a session makes of a stream.
-use Rattle.std.specs.Prelude.{◌≡◌, ℕ, ◌+◌, List, ◌++◌, length, map, Option}
+use Rattle.std.specs.Prelude.{◌≡◌, ℕ, ◌+◌, List, [], ◌∷◌, ◌++◌, length, map, take, Option}
 use Rattle.std.specs.Io.KnownBytes.{Appends, Consumes, IsAtEnd}
 use Rattle.session.specs.declared.end.End.{End}
 use Rattle.session.specs.declared.end.End.TheVariants.{EndOfInput, InputFailed, OutputFailed, Protocol, Reinstated}
 use Rattle.session.specs.declared.target.Served.{Served}
 use Rattle.session.specs.Question.{Question}
-use Rattle.session.specs.Source.{AppendsFront}
+use Rattle.session.specs.Source.{Rises}
 use Rattle.session.specs.Turn.{Turn, calls, sent, bytes_of, Spells, Leads}
 use Rattle.session.specs.Legal.{Lawful, EndsBy}
 
--- the bytes that went out are all of these, or a beginning of them where the writer failed
-abbrev pub Written : End → Option (List ℕ) → Option (List ℕ) → List ℕ → Type 0
-Written EndOfInput held held' bytes = Appends held held' bytes
-Written InputFailed held held' bytes = Appends held held' bytes
-Written OutputFailed held held' bytes = AppendsFront held held' bytes
-Written Protocol held held' bytes = Appends held held' bytes
-Written Reinstated held held' bytes = Appends held held' bytes
+-- the writer failed in the last turn: the bytes of those before it went out, and a beginning of its own
+pub record IsCut (held held' : Option (List ℕ)) (ts : List Turn) : Type 0 where
+  pub front : List Turn
+  pub last : Turn
+  pub whole : ts ≡ front ++ last ∷ []
+  pub part : ℕ
+  pub out : Appends held held' (bytes_of (sent front) ++ take part (bytes_of last.sent))
+
+-- the bytes that went out are those of the PDUs of all turns, up to where the writer failed
+abbrev pub Written : End → Option (List ℕ) → Option (List ℕ) → List Turn → Type 0
+Written EndOfInput held held' ts = Appends held held' (bytes_of (sent ts))
+Written InputFailed held held' ts = Appends held held' (bytes_of (sent ts))
+Written OutputFailed held held' ts = IsCut held held' ts
+Written Protocol held held' ts = Appends held held' (bytes_of (sent ts))
+Written Reinstated held held' ts = Appends held held' (bytes_of (sent ts))
 
 -- The bytes that were read spell the PDUs of a legal transcript, and a rest behind them; the bytes that were
 -- written spell the PDUs that it sends; its calls lead the target from its state before to that after.
@@ -27,5 +35,10 @@ pub record IsTranscribed {T : Type 0} (leads : T → Question → Served → T �
   pub ends : EndsBy transcript rest (length spelled + length rest) (IsAtEnd left') end
   pub spells : Spells (map (λ t. t.came) transcript) spelled
   pub read : Consumes left left' (spelled ++ rest)
-  pub written : Written end held held' (bytes_of (sent transcript))
+  pub written : Written end held held' transcript
   pub led : Leads leads (calls transcript) target target'
+
+-- the session ended so exactly where its reader, or its writer, counted a failure
+pub record IsFailureOf (cause : End) (before now : ℕ) (end : End) : Type 0 where
+  pub rises : end ≡ cause → Rises before now
+  pub stays : (end ≡ cause → ⊥) → now ≡ before

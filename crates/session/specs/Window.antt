@@ -1,5 +1,5 @@
--- The command window, and why a PDU is rejected (RFC 7143, 4.2.2.1 and 7.2).
-use Rattle.std.specs.Prelude.{◌≡◌, ℕ, ◌+◌, ◌-◌, ◌%◌, ◌==◌, ◌&&◌, ◌||◌, nat_lt, nat_le, Bool, true, false, not, if◌then◌else◌, List, length, Result}
+-- The command window, and why a PDU is rejected (RFC 7143, 4.2.2.1 and 7.3).
+use Rattle.std.specs.Prelude.{◌≡◌, ℕ, ◌+◌, ◌-◌, ◌%◌, ◌==◌, ◌&&◌, ◌||◌, nat_lt, nat_le, Bool, false, not, if◌then◌else◌, List, length, Result}
 use Rattle.std.specs.List.{count_by}
 use Rattle.scsi_types.specs.Cdb.{Means, Need}
 use Rattle.scsi_types.specs.declared.command.Command.{Command}
@@ -17,7 +17,7 @@ use Rattle.session.specs.Turn.{Incoming, pdu, faulty, Turn}
 abbrev pub wrap : ℕ → ℕ
 wrap n = n % 4294967296
 
--- how far a CmdSN lies behind the expected one
+-- how far a CmdSN lies ahead of the expected one
 abbrev pub ahead : ℕ → ℕ → ℕ
 ahead cmd_sn expected = wrap (cmd_sn + (4294967296 - expected))
 
@@ -28,7 +28,11 @@ window = 32
 abbrev pub last_in_window : ℕ → ℕ
 last_in_window expected = wrap (expected + 31)
 
--- the most bytes that a READ may ask for
+-- the most bytes of a Data-In: the MaxRecvDataSegmentLength of an initiator that declares none (13.12)
+abbrev pub most_segment : ℕ
+most_segment = 8192
+
+-- the most bytes that a read may ask for, which are those of one Data-In
 abbrev pub most_read : ℕ
 most_read = 8192
 
@@ -36,8 +40,8 @@ most_read = 8192
 abbrev pub expected_of : CommandHeader → ℕ
 expected_of p = if p.read || p.write then p.expected else 0
 
--- a SCSI Command with the reserved tag, with more immediate data than it expects to send, a read of more than
--- one Data-In takes, or a write whose data did not all come with it
+-- a SCSI Command with the reserved tag, with more immediate data than the length that it expects, a read of more
+-- than one Data-In takes, or a write whose data did not all come with it
 abbrev pub is_refused : CommandHeader → List ℕ → ℕ → Bool
 is_refused p d need =
     (p.task_tag == 0xFFFFFFFF) || nat_lt (expected_of p) (length d) || (p.read && nat_lt most_read p.expected) || (p.write && nat_le need p.expected && nat_lt (length d) need)

@@ -5,18 +5,22 @@ use scsi_types::{Asked, Sense};
 /// What a PDU or an answer calls for: PDUs to write, then perhaps a call of the target, then perhaps the end.
 #[derive(Clone, Copy, Debug)]
 pub struct Actions<'a> {
+    /// PDUs to write first.
     pub pdus: Pdus<'a>,
+    /// A command for the target, whose answer goes to [`Session::on_reply`](crate::Session::on_reply).
     pub call: Option<Call<'a>>,
+    /// Nothing is read any more once these PDUs are written.
     pub end: Option<End>,
 }
 
 /// PDUs to write, in order.
 #[derive(Clone, Copy, Debug)]
 pub enum Pdus<'a> {
+    /// None.
     Nothing,
-    /// A Reject, whose data is the header of the PDU that is rejected.
+    /// A Reject, whose data is the 48 bytes of the header of what is rejected (RFC 7143, 11.17).
     Reject(Reject),
-    /// The data of a reply, where it has any, and its SCSI Response with its sense.
+    /// The data of a reply, where it has any, and its SCSI Response with its sense (RFC 7143, 11.4 and 11.7).
     Reply {
         data_in: Option<DataInPdu<'a>>,
         response: ScsiResponse,
@@ -24,26 +28,31 @@ pub enum Pdus<'a> {
     },
 }
 
-/// A Data-In with its data.
+/// A Data-In with its data, of 1 to 8192 bytes (RFC 7143, 11.7).
 #[derive(Clone, Copy, Debug)]
 pub struct DataInPdu<'a> {
     pub header: DataIn,
     pub bytes: &'a [u8],
 }
 
-/// A command that the target is to serve.
+/// A command that the target is to serve, as [`Target::serve`](crate::Target::serve) takes it.
 #[derive(Clone, Copy, Debug)]
 pub struct Call<'a> {
+    /// What the answer is given back with.
     pub task: Task,
+    /// The unit that the LUN names, if it names one (SAM-5, 4.7).
     pub unit: Option<u8>,
+    /// What the CDB asks for.
     pub asked: Asked,
+    /// The data of a write: as many bytes as it needs and the initiator expects to send.
     pub bytes: &'a [u8],
 }
 
 /// An accepted command, until it is answered.
 #[derive(Clone, Copy, Debug)]
 pub struct Task {
+    /// Its header.
     pub command: ScsiCommand,
-    /// How many bytes of data it needs.
+    /// How many bytes of data it needs from its initiator.
     pub need: u32,
 }

@@ -1,14 +1,14 @@
 /// How a session ended.
 #[derive(Clone, Copy, Debug, PartialEq, Eq)]
 pub enum End {
-    /// The input ended, perhaps in the middle of a PDU.
+    /// The input ended, perhaps in the middle of a PDU; or 2^64 - 1 bytes or more were read.
     EndOfInput,
-    /// The reader failed.
+    /// The source failed. No whole PDU that came before was left.
     InputFailed,
-    /// The writer failed. A beginning of the bytes was written.
+    /// The sink failed. A beginning of the bytes was written.
     OutputFailed,
-    /// The initiator broke the protocol.
+    /// The initiator broke the protocol: a PDU was rejected, or its CmdSN leaves a gap (RFC 7143, 7.2 and 4.2.2.1).
     Protocol,
-    /// The session is attached no more: another one took its nexus.
+    /// The session is attached no more: another one took its nexus (RFC 7143, 6.3.5).
     Reinstated,
 }

@@ -32,6 +32,7 @@ impl Model for Outbox {
 }
 
 impl Outbox {
+    /// An empty outbox, with all its memory.
     pub fn new(alloc: Global) -> Result<Outbox, AllocError>
         ensures { IfOk result (λ b. b ≡ []) }
     {
@@ -40,6 +41,7 @@ impl Outbox {
         })
     }
 
+    /// The bytes of the turn's PDUs, in order.
     pub fn bytes(&self) -> &[u8]
         ensures { result.now ≡ self.now }
     {

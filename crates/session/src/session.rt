@@ -13,7 +13,7 @@ use iscsi_pdu::{DataIn, Header, Numbers, Pdu, PduFault, Reject, ScsiCommand, Scs
 use scsi_types::{Asked, Lun, Reply, Sense, Status, decode, need};
 use std::marker::Model;
 
-/// How far MaxCmdSN lies behind ExpCmdSN.
+/// How many commands the window takes: MaxCmdSN lies 31 behind ExpCmdSN (RFC 7143, 4.2.2.1).
 const WINDOW: u32 = 32;
 
 /// The most bytes of a read, which one Data-In takes.
@@ -22,9 +22,11 @@ const MOST_READ: u32 = 8192;
 /// The Initiator Task Tag that no task has.
 const RESERVED_TAG: u32 = 0xFFFF_FFFF;
 
-/// Reasons of a Reject.
+/// Reasons of a Reject (RFC 7143, 11.17.1).
 const PROTOCOL_ERROR: u8 = 0x04;
+
 const NOT_SUPPORTED: u8 = 0x05;
+
 const INVALID_FIELD: u8 = 0x09;
 
 /// The numbers with which a session begins.
@@ -52,6 +54,7 @@ impl Model for Session {
 }
 
 impl Session {
+    /// A session that begins with these numbers.
     pub fn new(start: Start) -> Session
         ensures { result ≡ record { stat_sn = start.stat_sn; exp_cmd_sn = start.exp_cmd_sn } }
     {
@@ -61,8 +64,8 @@ impl Session {
         }
     }
 
-    /// What a PDU calls for: the window first, then the causes of a Reject. A command that is accepted is to be
-    /// called.
+    /// What a PDU calls for: the window first, then the causes of a Reject (RFC 7143, 4.2.2.1 and 7.3). A command
+    /// that is accepted is to be called.
     pub fn on_pdu<'a>(&mut self, pdu: Pdu<'a>) -> Actions<'a>
         ensures { IsTaken self.old pdu.entry.header pdu.entry.data.now result self.new }
     {
@@ -158,7 +161,11 @@ impl Session {
         ensures within { IsWithin (read_length task.command) result.pdus }
     {
         match served {
-            Served::Replied(reply) | Served::Outside(reply) => self.answer(&task, reply.bytes(), Wire::of(reply)),
+            Served::Replied(reply) | Served::Outside(reply) => self.answer(
+                &task,
+                reply.bytes(),
+                Wire::of(reply),
+            ),
             Served::Busy => self.answer(&task, &[], Wire::bare(0, Status::Busy)),
             Served::Halted => self.answer(&task, &[], Wire::bare(1, Status::Good)),
             Served::Gone => Actions {

@@ -1,25 +1,30 @@
 ghost use Rattle.std.specs.Prelude.{◌≡◌, length, Some, Ok, IfOk, OnErr};
 ghost use Rattle.session.specs.Turn.{pdu as came, faulty, bytes_of};
 ghost use Rattle.session.specs.Machine.{IsWithin, sent_by};
-ghost use Rattle.session.specs.Source.{Rises};
+ghost use Rattle.session.specs.declared.end.End.TheVariants.{InputFailed, OutputFailed};
 ghost use Rattle.session.specs.Stream.{IsSentOut, IsTurned};
-ghost use Rattle.session.specs.Transcript.{IsTranscribed};
+ghost use Rattle.session.specs.Transcript.{IsTranscribed, IsFailureOf};
 ghost use Rattle.session.specs.Window.{most_read};
 
 use crate::actions::Actions;
 use crate::end::End;
-use crate::waiting::{Front, front_of};
 use crate::inbox::Inbox;
 use crate::outbox::Outbox;
 use crate::session::{Session, Start};
 use crate::source::{Sink, Source};
 use crate::target::Target;
+use crate::waiting::{Front, front_of};
 use iscsi_pdu::{Pdu, PduFault};
 use scsi_types::NoMemory;
 use std::alloc::Global;
 
 // Writes the PDUs that actions say to write, in one write: the end that they call for, or that the sink failed.
-fn send<K: Sink>(sink: &mut K, outbox: &mut Outbox, header: &[u8], actions: &Actions<'_>) -> Option<End>
+fn send<K: Sink>(
+    sink: &mut K,
+    outbox: &mut Outbox,
+    header: &[u8],
+    actions: &Actions<'_>,
+) -> Option<End>
     requires header { length header.now ≡ 48 }
     requires within { IsWithin most_read actions.now.pdus }
     ensures { IsSentOut (K.held sink.old) (K.held sink.new) (K.failures sink.old) (K.failures sink.new) (bytes_of (sent_by header.now actions.now.pdus)) actions.now.end result }
@@ -84,8 +89,8 @@ pub fn serve_stream<S: Source, K: Sink, T: Target>(
     start: Start,
 ) -> Result<End, NoMemory>
     ensures transcribed { IfOk result (IsTranscribed T.leads start.exp_cmd_sn start.stat_sn (S.left source.old) (S.left source.new) (K.held sink.old) (K.held sink.new) target.old target.new) }
-    ensures input_failed { result ≡ Ok End.InputFailed → Rises (S.failures source.old) (S.failures source.new) }
-    ensures output_failed { result ≡ Ok End.OutputFailed → Rises (K.failures sink.old) (K.failures sink.new) }
+    ensures input_failed { IfOk result (IsFailureOf InputFailed (S.failures source.old) (S.failures source.new)) }
+    ensures output_failed { IfOk result (IsFailureOf OutputFailed (K.failures sink.old) (K.failures sink.new)) }
     ensures no_memory { OnErr result ((target.new ≡ target.old) × (source.new ≡ source.old) × (sink.new ≡ sink.old)) }
 {
     let mut inbox = Inbox::new(alloc)?;

@@ -10,11 +10,11 @@ pub enum Served {
     Replied(Reply),
     /// The reply for a unit that is not there.
     Outside(Reply),
-    /// There was no memory or no room: nothing happened.
+    /// There was no memory or no room: nothing happened. The status is BUSY (SAM-5, 5.3.1).
     Busy,
     /// The session is attached no more: nothing happened.
     Gone,
-    /// The unit serves nothing more.
+    /// The unit serves nothing more. The response code is 01h, target failure (RFC 7143, 11.4.3).
     Halted,
 }
 
@@ -23,8 +23,8 @@ pub trait Target {
     /// From the first state this question may get this answer and lead to the second.
     ghost leads: { Self → Question → Served → Self → Type 0 };
 
-    /// Serves a command of the unit that its LUN names, with the data that came for it. `unit` is none where
-    /// the LUN names no unit.
+    /// Serves a command of the unit that its LUN names, with the bytes that came for it: of a write as many as it
+    /// needs and the initiator expects to send, else none. `unit` is none where the LUN names no unit.
     fn serve(&mut self, unit: Option<u8>, asked: Asked, bytes: &[u8]) -> Served
         ensures { leads self.old (serve unit asked bytes.now) result self.new };
 }

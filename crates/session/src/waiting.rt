@@ -16,7 +16,10 @@ pub enum Front<'a> {
         taken: usize,
     },
     /// A fault, and the bytes of the header.
-    Faulty { header: &'a [u8], fault: PduFault },
+    Faulty {
+        header: &'a [u8],
+        fault: PduFault,
+    },
     /// Less than a PDU.
     Partial,
 }

@@ -1,4 +1,4 @@
--- What the device did in a command, and what a command may find and leave (SBC-3, 4.10 and 5.11).
+-- What the device did in a command, and what a command may find and leave (SBC-3, READ (10) and WRITE (10) commands).
 use Rattle.std.specs.Prelude.{ℕ, ◌==◌, ◌&&◌, Bool, if◌then◌else◌, List, Option, Some, None}
 use Rattle.scsi_types.specs.Answer.{Answer}
 use Rattle.scsi_types.specs.Sense.{sense}

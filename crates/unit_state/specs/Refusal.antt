@@ -30,7 +30,7 @@ opcode_refusal (Ok command) = None
 opcode_refusal (Err (BadField op)) = None
 opcode_refusal (Err UnknownOpcode) = illegal 0x20
 
--- LOGICAL BLOCK ADDRESS OUT OF RANGE: the LBA or the range passes the end (SBC-3, 4.4.3 and 5.11)
+-- LOGICAL BLOCK ADDRESS OUT OF RANGE: the LBA or the range passes the end (SBC-3, READ (10) command)
 abbrev pub range_refusal : ℕ → ℕ → ℕ → Option Answer
 range_refusal total lba blocks = if nat_lt lba total && nat_le (lba + blocks) total then None else illegal 0x21
 

@@ -63,7 +63,7 @@ fn admit(asked: Asked, total: u32, given: usize) -> Result<Command, Sense>
     }
 }
 
-/// Whether a range lies within a unit of so many blocks, its LBA too where it is empty (SBC-3, 5.11).
+/// Whether a range lies within a unit of so many blocks, its LBA too where it is empty (SBC-3, READ (10) command).
 fn is_within(lba: u64, blocks: u16, total: u32) -> bool
     ensures { result ≡ nat_lt lba total && nat_le (lba + blocks) total }
 {
@@ -77,7 +77,7 @@ fn illegal(asc: u8) -> Sense
     Sense::new(0x05, asc, 0x00)
 }
 
-/// READ (SBC-3, 5.11).
+/// READ (SBC-3, READ (10) command).
 fn read<B: Blocks>(device: &mut B, alloc: Global, lba: u64, blocks: u16) -> Result<Reply, NoMemory>
     requires { lba + blocks ≤ B.size device.old }
     ensures err { OnErr result (device.new ≡ device.old) }
@@ -91,7 +91,7 @@ fn read<B: Blocks>(device: &mut B, alloc: Global, lba: u64, blocks: u16) -> Resu
     Ok(Reply::good(out))
 }
 
-/// WRITE (SBC-3, 5.41).
+/// WRITE (SBC-3, WRITE (10) command).
 fn write<B: Blocks>(device: &mut B, alloc: Global, lba: u64, blocks: u16, bytes: &[u8]) -> Reply
     requires range { lba + blocks ≤ B.size device.old }
     requires given { 512 * blocks ≤ length bytes.now }

@@ -21,7 +21,7 @@ pub fn one_entry_more()
 {}
 
 /// Where nothing refuses a WRITE and the device does not fail, it is GOOD, and a READ of the same range gives the
-/// bytes that were written, to whatever session (SBC-3, 5.11 and 5.41).
+/// bytes that were written, to whatever session (SBC-3, READ (10) and WRITE (10) commands).
 pub fn a_read_gives_what_was_written()
     ensures write { (s : UnitState) (session serial : ℕ) (by : Group) (lba blocks : ℕ) (bytes : List ℕ) → refusal s (request session (Ok (Write lba blocks)) bytes) ≡ None
         → reply_to s (Command session serial by (Ok (Write lba blocks)) bytes Fine) ≡ Some (good []) }

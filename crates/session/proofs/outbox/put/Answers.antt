@@ -1,4 +1,4 @@
-use Rattle.std.proofs.Common.{◌≡◌, ◌∙◌, ap, length, arith, length-append}
+use Rattle.std.proofs.Common.{ap, length, arith, length-append}
 use Rattle.iscsi_pdu.specs.Laws.{length-spelling}
 use Rattle.iscsi_pdu.specs.Spelling.{spelling}
 use Rattle.session.proofs.outbox.put.Goals as goal

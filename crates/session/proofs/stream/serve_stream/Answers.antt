@@ -1,9 +1,9 @@
-use Rattle.std.proofs.Common.{◌≡◌, ◌∙◌, ℕ, List, arith, rules, subst}
+use Rattle.std.proofs.Common.{◌∙◌, ℕ, List, arith, rules, subst}
 use Rattle.session.specs.Front.{IsWhole, IsFaulty}
 use Rattle.session.specs.declared.end.End.TheVariants.{OutputFailed}
 use Rattle.session.specs.Legal.{NoneWhole}
-use Rattle.session.specs.Source.{Rises}
-use Rattle.session.proofs.Running.{starts, pdu_goes_on, pdu_ends, fault_ends, more_came, input_ended, input_failed, taken_all}
+use Rattle.session.specs.Transcript.{IsFailureOf}
+use Rattle.session.proofs.Running.{starts, pdu_goes_on, pdu_ends, fault_ends, more_came, input_ended}
 use Rattle.session.proofs.stream.serve_stream.Goals as goal
 
 pub loop-reads-init : goal.loop-reads-init
@@ -19,18 +19,16 @@ returns-in-Some-clause-transcribed g c =
     (pdu_ends g.T.Target.leads _ _ _ _ _ _ _ _ _ _ _ c.loop-reads.invariant.running c.turn.new.session c.turn.new.target _ _ _ c.in-Whole.header.now _ _ c.in-Whole.taken w.header_is w.within w.spelled c.in-Some.end c.in-Some.ensures).0
 
 pub returns-in-Some-clause-output_failed : goal.returns-in-Some-clause-output_failed
-returns-in-Some-clause-output_failed g c = λ e.
+returns-in-Some-clause-output_failed g c =
     let w = subst (λ (b : List ℕ). IsWhole b c.in-Whole.header.now c.in-Whole.pdu c.in-Whole.taken) c.bytes.ensures c.in-Whole.ensures in
-    let failed : c.in-Some.end ≡ OutputFailed = cc in
-    subst (λ (n : ℕ). Rises n (g.K.Sink.failures c.turn.new.sink)) c.loop-reads.invariant.sink_served
-      ((pdu_ends g.T.Target.leads _ _ _ _ _ _ _ _ _ _ _ c.loop-reads.invariant.running c.turn.new.session c.turn.new.target _ _ _ c.in-Whole.header.now _ _ c.in-Whole.taken w.header_is w.within w.spelled c.in-Some.end c.in-Some.ensures).1 failed)
+    subst (λ (n : ℕ). IsFailureOf OutputFailed n (g.K.Sink.failures c.turn.new.sink) c.in-Some.end) c.loop-reads.invariant.sink_served
+    (pdu_ends g.T.Target.leads _ _ _ _ _ _ _ _ _ _ _ c.loop-reads.invariant.running c.turn.new.session c.turn.new.target _ _ _ c.in-Whole.header.now _ _ c.in-Whole.taken w.header_is w.within w.spelled c.in-Some.end c.in-Some.ensures).1
 
 pub returns-in-Faulty-clause-output_failed : goal.returns-in-Faulty-clause-output_failed
-returns-in-Faulty-clause-output_failed g c = λ e.
+returns-in-Faulty-clause-output_failed g c =
     let w = subst (λ (b : List ℕ). IsFaulty b c.in-Faulty.header.now c.in-Faulty.fault) c.bytes.ensures c.in-Faulty.ensures in
-    let failed : c.fault_turn-end.result ≡ OutputFailed = cc in
-    subst (λ (n : ℕ). Rises n (g.K.Sink.failures c.fault_turn-end.new.sink)) c.loop-reads.invariant.sink_served
-      ((fault_ends g.T.Target.leads _ _ _ _ _ _ _ _ _ _ _ c.loop-reads.invariant.running c.fault_turn-end.new.session _ _ _ c.in-Faulty.header.now c.in-Faulty.fault c.fault_turn-end.result w.header_is w.long w.stands c.fault_turn-end.ensures).1 failed)
+    subst (λ (n : ℕ). IsFailureOf OutputFailed n (g.K.Sink.failures c.fault_turn-end.new.sink) c.fault_turn-end.result) c.loop-reads.invariant.sink_served
+    (fault_ends g.T.Target.leads _ _ _ _ _ _ _ _ _ _ _ c.loop-reads.invariant.running c.fault_turn-end.new.session _ _ _ c.in-Faulty.header.now c.in-Faulty.fault c.fault_turn-end.result w.header_is w.long w.stands c.fault_turn-end.ensures).1
 
 pub loop-reads-preserved-in-None : goal.loop-reads-preserved-in-None
 loop-reads-preserved-in-None g c =

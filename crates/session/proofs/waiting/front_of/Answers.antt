@@ -1,4 +1,4 @@
-use Rattle.std.proofs.Common.{◌≡◌, refl, arith, length, length-take-le}
+use Rattle.std.proofs.Common.{refl, arith, length-take-le}
 use Rattle.session.proofs.waiting.front_of.Goals as goal
 
 pub returns-in-Ok-Some : goal.returns-in-Ok-Some

@@ -1,0 +1,7 @@
+mod command_line;
+mod device_failures;
+mod examples;
+mod fakes;
+mod pdus;
+mod refusals;
+mod residuals;

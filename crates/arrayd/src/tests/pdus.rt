@@ -1,0 +1,86 @@
+//! PDUs of the tests (RFC 7143, 11.3, 11.4 and 11.7).
+ghost use Rattle.std.specs.Prelude.{◌≤◌, ◌+◌, length};
+
+use std::alloc::Global;
+use std::test::Fail;
+
+/// TEST UNIT READY to LUN 0, with the tag 1 and CmdSN 1.
+pub const TEST_UNIT_READY: [u8; 48] = [
+    0x01, 0x81, 0x00, 0x00, 0x00, 0x00, 0x00, 0x00, // flags, no data
+    0x00, 0x00, 0x00, 0x00, 0x00, 0x00, 0x00, 0x00, // LUN
+    0x00, 0x00, 0x00, 0x01, 0x00, 0x00, 0x00, 0x00, // tag, expected length
+    0x00, 0x00, 0x00, 0x01, 0x00, 0x00, 0x00, 0x01, // CmdSN, ExpStatSN
+    0x00, 0x00, 0x00, 0x00, 0x00, 0x00, 0x00, 0x00, // CDB
+    0x00, 0x00, 0x00, 0x00, 0x00, 0x00, 0x00, 0x00,
+];
+
+/// GOOD for it: StatSN 1, ExpCmdSN 2 and MaxCmdSN 33.
+pub const GOOD: [u8; 48] = [
+    0x21, 0x80, 0x00, 0x00, 0x00, 0x00, 0x00, 0x00, // flags, response, status
+    0x00, 0x00, 0x00, 0x00, 0x00, 0x00, 0x00, 0x00, //
+    0x00, 0x00, 0x00, 0x01, 0x00, 0x00, 0x00, 0x00, // tag
+    0x00, 0x00, 0x00, 0x01, 0x00, 0x00, 0x00, 0x02, // StatSN, ExpCmdSN
+    0x00, 0x00, 0x00, 0x21, 0x00, 0x00, 0x00, 0x00, // MaxCmdSN, ExpDataSN
+    0x00, 0x00, 0x00, 0x00, 0x00, 0x00, 0x00, 0x00, // residual counts
+];
+
+/// CHECK CONDITION for it, with 20 bytes of SenseLength and sense.
+pub const CHECK_CONDITION: [u8; 48] = [
+    0x21, 0x80, 0x00, 0x02, 0x00, 0x00, 0x00, 0x14, //
+    0x00, 0x00, 0x00, 0x00, 0x00, 0x00, 0x00, 0x00, //
+    0x00, 0x00, 0x00, 0x01, 0x00, 0x00, 0x00, 0x00, //
+    0x00, 0x00, 0x00, 0x01, 0x00, 0x00, 0x00, 0x02, //
+    0x00, 0x00, 0x00, 0x21, 0x00, 0x00, 0x00, 0x00, //
+    0x00, 0x00, 0x00, 0x00, 0x00, 0x00, 0x00, 0x00,
+];
+
+/// The F, R and W bits and the attribute SIMPLE, in byte 1 of a SCSI Command.
+pub const READS: u8 = 0xC1;
+
+pub const WRITES: u8 = 0xA1;
+
+/// The F bit of a SCSI Response, alone, with U and with O (RFC 7143, 11.4.1).
+pub const NO_RESIDUAL: u8 = 0x80;
+
+pub const UNDERFLOW: u8 = 0x82;
+
+pub const OVERFLOW: u8 = 0x84;
+
+/// The header with these bytes in place of those at `at`.
+pub fn with(header: [u8; 48], at: usize, bytes: &[u8]) -> [u8; 48]
+    requires { at + length bytes.now ≤ 48 }
+{
+    let mut new = header;
+    new[at..at + bytes.len()].copy_from_slice(bytes);
+    new
+}
+
+/// A SCSI Command with the tag 1 and CmdSN 1: byte 1, DataSegmentLength, the expected length and the CDB.
+pub fn command(flags: u8, segment: u16, expected: u32, cdb: &[u8; 10]) -> [u8; 48] {
+    let header = with(TEST_UNIT_READY, 1, &[flags]);
+    let header = with(header, 6, &segment.to_be_bytes());
+    let header = with(header, 20, &expected.to_be_bytes());
+    with(header, 32, cdb)
+}
+
+/// A SCSI Response with these flags and this Residual Count.
+pub fn with_residual(response: [u8; 48], flags: u8, residual: u32) -> [u8; 48] {
+    with(with(response, 1, &[flags]), 44, &residual.to_be_bytes())
+}
+
+/// SenseLength and the sense in the fixed format, with the qualifier 0 (SPC-4, 4.5.3).
+pub fn sense(key: u8, code: u8) -> [u8; 20] {
+    [
+        0x00, 0x12, 0x70, 0x00, key, 0x00, 0x00, 0x00, 0x00, 0x0A, //
+        0x00, 0x00, 0x00, 0x00, code, 0x00, 0x00, 0x00, 0x00, 0x00,
+    ]
+}
+
+/// The parts, one behind another.
+pub fn joined(alloc: Global, parts: &[&[u8]]) -> Result<Vec<u8>, Fail> {
+    let mut all = Vec::new(alloc);
+    for part in parts {
+        all.extend_from_slice(part)?;
+    }
+    Ok(all)
+}

@@ -1,0 +1,7 @@
+mod answers;
+mod fakes;
+mod pdus;
+mod rejects;
+mod residuals;
+mod streams;
+mod window;
