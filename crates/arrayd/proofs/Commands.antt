@@ -1,5 +1,5 @@
 -- The calls of a session are the commands of one legal history of its unit.
-use Rattle.std.proofs.Common.{◌≡◌, ℕ, List, [], ◌∷◌, Bool, Option, Some, refl, sym, ap, subst, ◌∙◌, arith}
+use Rattle.std.proofs.Common.{◌≡◌, ℕ, List, [], ◌∷◌, Bool, Option, refl, sym, ap, subst, ◌∙◌, arith}
 use Rattle.std.specs.Prelude.{IsTrue}
 use Rattle.session.specs.Question.{Question, serve}
 use Rattle.session.specs.declared.target.Served.{Served}
@@ -9,11 +9,10 @@ use Rattle.session.specs.Transcript.{IsTranscribed}
 use Rattle.session.specs.Turn.{Asking, Leads, calls}
 use Rattle.unit_state.specs.State.{UnitState, UnitValue, opening, state_of}
 use Rattle.unit_state.specs.Choice.{choice_of}
-use Rattle.unit_state.specs.Entry.{Entry, Command, IsPossible, after, reply_to}
+use Rattle.unit_state.specs.Entry.{Entry, Command}
 use Rattle.unit_state.specs.Step.{IsStep, entry_of}
 use Rattle.unit_state.specs.History.{state_after, IsLegal}
 use Rattle.arrayd.specs.declared.target.OneUnit.{OneUnit}
-use Rattle.arrayd.specs.OneUnit.{IsCommand}
 use Rattle.arrayd.specs.Leads.{IsAnswered}
 use Rattle.arrayd.specs.Once.{AreCommands, IsAttached, IsOnce}
 

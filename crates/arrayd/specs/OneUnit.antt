@@ -5,10 +5,9 @@ use Rattle.scsi_types.specs.Sense.{sense}
 use Rattle.scsi_types.specs.declared.names.Group.{Group}
 use Rattle.scsi_types.specs.declared.command.Command.{Command as ScsiCommand}
 use Rattle.scsi_types.specs.declared.command.CdbFault.{CdbFault}
-use Rattle.session.specs.Question.{Question, serve}
 use Rattle.session.specs.declared.target.Served.{Served}
 use Rattle.session.specs.declared.target.Served.TheVariants.{Replied, Outside, Busy, Gone, Halted}
-use Rattle.unit_state.specs.State.{UnitState, UnitValue, state_of}
+use Rattle.unit_state.specs.State.{UnitValue, state_of}
 use Rattle.unit_state.specs.Step.{IsStep, entry_of}
 use Rattle.unit_state.specs.declared.unit.StepEnd.{StepEnd}
 use Rattle.unit_state.specs.declared.unit.StepEnd.TheVariants as ends
