@@ -36,7 +36,7 @@ pub fn a_read_gets_the_data_of_its_answer()
         → length (flat_map (λ s. s.1) (data_ins t.sent)) ≡ min p.expected (length (reply_data call.answer))) ts }
 {}
 
-/// MaxCmdSN lies 31 behind the first CmdSN and the numbered PDUs that were accepted, whose number never falls: what
+/// MaxCmdSN lies 31 ahead of the first CmdSN and the numbered PDUs that were accepted, whose number never falls: what
 /// an initiator was told that it may send, it may send for good (RFC 7143, 4.2.2.1).
 pub fn the_window_never_falls()
     ensures counted { (first_cmd first_stat : ℕ) (ts : List Turn) → Lawful first_cmd first_stat ts

@@ -13,7 +13,7 @@ use iscsi_pdu::{DataIn, Header, Numbers, Pdu, PduFault, Reject, ScsiCommand, Scs
 use scsi_types::{Asked, Lun, Reply, Sense, Status, decode, need};
 use std::marker::Model;
 
-/// How many commands the window takes: MaxCmdSN lies 31 behind ExpCmdSN (RFC 7143, 4.2.2.1).
+/// How many commands the window takes: MaxCmdSN lies 31 ahead of ExpCmdSN (RFC 7143, 4.2.2.1).
 const WINDOW: u32 = 32;
 
 /// The most bytes of a read, which one Data-In takes.
