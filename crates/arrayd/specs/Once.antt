@@ -1,7 +1,7 @@
 -- What one session over one unit is, from bytes to bytes and from blocks to blocks.
 use Rattle.std.specs.Prelude.{◌≡◌, ℕ, ◌+◌, List, [], ◌∷◌, ◌++◌, length, map, codes, Option, Some}
 use Rattle.std.specs.Io.KnownBytes.{Consumes, IsAtEnd}
-use Rattle.scsi_types.specs.Answer.{Nexus}
+use Rattle.scsi_types.specs.Nexus.{Nexus}
 use Rattle.scsi_types.specs.declared.names.Group.{Group}
 use Rattle.scsi_types.specs.declared.names.Group.TheVariants.{One}
 use Rattle.session.specs.Question.{Question, serve}

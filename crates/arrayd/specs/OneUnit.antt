@@ -1,6 +1,6 @@
 -- What the target of one unit answers.
 use Rattle.std.specs.Prelude.{◌≡◌, ◌≢◌, ℕ, Bool, IsTrue, List, Option, Some, Result}
-use Rattle.scsi_types.specs.Answer.{Answer, check}
+use Rattle.scsi_types.specs.ReplyValue.{ReplyValue, check}
 use Rattle.scsi_types.specs.Sense.{sense}
 use Rattle.scsi_types.specs.declared.names.Group.{Group}
 use Rattle.scsi_types.specs.declared.command.Command.{Command as ScsiCommand}
@@ -13,13 +13,13 @@ use Rattle.unit_state.specs.declared.unit.StepEnd.{StepEnd}
 use Rattle.unit_state.specs.declared.unit.StepEnd.TheVariants as ends
 
 -- a command of the session was one step of the unit
-pub record IsCommand {B : Type 0} (claims : Bool) (contents : B → List (List ℕ)) (old new : UnitValue B) (session : ℕ) (asked : Result ScsiCommand CdbFault) (bytes : List ℕ) (reply : Answer) : Type 0 where
+pub record IsCommand {B : Type 0} (claims : Bool) (contents : B → List (List ℕ)) (old new : UnitValue B) (session : ℕ) (asked : Result ScsiCommand CdbFault) (bytes : List ℕ) (reply : ReplyValue) : Type 0 where
   pub serial : ℕ
   pub by : Group
   pub step : IsTrue claims → IsStep (state_of contents old) (state_of contents new) (entry_of session serial by asked bytes reply (state_of contents new)) reply
 
 -- LOGICAL UNIT NOT SUPPORTED (SPC-4, 4.5.6)
-abbrev pub not_there : Answer
+abbrev pub not_there : ReplyValue
 not_there = check (sense 0x05 0x25 0x00)
 
 -- what a step of the target's unit leaves: with a reply a command's step, else the unit as it was

@@ -48,13 +48,9 @@ Means cdb (Err (BadField ops.Read)) = IsBadTransfer_10 0x28 cdb
 Means cdb (Err (BadField ops.Write)) = IsBadTransfer_10 0x2A cdb
 Means cdb (Err UnknownOpcode) = (opcode_of cdb ≢ 0x00) × (opcode_of cdb ≢ 0x28) × (opcode_of cdb ≢ 0x2A)
 
--- the bytes of data that a command needs from its initiator
-abbrev pub need_of : Command → ℕ
-need_of TestUnitReady = 0
-need_of (Read lba blocks) = 0
-need_of (Write lba blocks) = 512 * blocks
-
--- a CDB that asks for nothing needs none
-abbrev pub Need : Result Command CdbFault → ℕ
-Need (Ok command) = need_of command
-Need (Err fault) = 0
+-- the bytes of data that a command needs from its initiator; a CDB that asks for nothing needs none
+abbrev pub need_of : Result Command CdbFault → ℕ
+need_of (Ok TestUnitReady) = 0
+need_of (Ok (Read lba blocks)) = 0
+need_of (Ok (Write lba blocks)) = 512 * blocks
+need_of (Err fault) = 0

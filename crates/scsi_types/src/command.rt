@@ -1,5 +1,5 @@
 //! Commands.
-ghost use Rattle.std.specs.Prelude.{◌≡◌};
+ghost use Rattle.std.specs.Prelude.{◌≡◌, Ok};
 ghost use Rattle.scsi_types.specs.Cdb.{need_of};
 
 use thiserror::Error;
@@ -39,7 +39,7 @@ pub type Asked = Result<Command, CdbFault>;
 
 /// How many bytes of data the command needs from its initiator: 512 for each block that it writes.
 pub fn need(command: &Command) -> u32
-    ensures { result ≡ need_of command.now }
+    ensures { result ≡ need_of (Ok command.now) }
 {
     match command {
         Command::TestUnitReady | Command::Read { .. } => 0,

@@ -1,6 +1,7 @@
 //! SCSI commands, status, sense and names, as plain values.
 #![tactic(auto)]
 
+mod attention;
 mod cdb;
 mod command;
 mod lun;
@@ -12,6 +13,7 @@ mod status;
 #[cfg(test)]
 mod tests;
 
+pub use attention::UnitAttention;
 pub use cdb::decode;
 pub use command::{Asked, CdbFault, Command, Op, need};
 pub use lun::Lun;

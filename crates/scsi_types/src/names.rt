@@ -29,7 +29,7 @@ pub struct PortName {
 }
 
 impl Model for PortName {
-    ghost use Rattle.scsi_types.specs.Answer.{Port};
+    ghost use Rattle.scsi_types.specs.Nexus.{Port};
 
     ghost Value = { Port };
 

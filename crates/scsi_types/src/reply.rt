@@ -1,6 +1,6 @@
 //! What a command is answered.
-ghost use Rattle.std.specs.Prelude.{◌≡◌};
-ghost use Rattle.scsi_types.specs.Answer;
+ghost use Rattle.std.specs.Prelude.{◌≡◌, IsTrue};
+ghost use Rattle.scsi_types.specs.ReplyValue;
 
 use crate::{Sense, Status};
 use std::alloc::Global;
@@ -15,17 +15,20 @@ pub struct Reply {
 }
 
 impl Model for Reply {
-    ghost use Rattle.scsi_types.specs.Answer.{Answer};
+    ghost use Rattle.std.specs.Prelude.{IsTrue};
+    ghost use Rattle.scsi_types.specs.ReplyValue.{ReplyValue, is_formed};
 
-    ghost Value = { Answer };
+    ghost Value = { ReplyValue };
 
     ghost view = { λ r. record { status = r.status; sense = r.sense; bytes = r.bytes.items } };
+
+    ghost invariant = { λ r. IsTrue (is_formed r.status r.sense r.bytes.items) };
 }
 
 impl Reply {
     /// GOOD with this data.
     pub fn good(bytes: Vec<u8>) -> Self
-        ensures { result ≡ Answer.good bytes.items }
+        ensures { result ≡ ReplyValue.good bytes.items }
     {
         Reply {
             status: Status::Good,
@@ -36,7 +39,7 @@ impl Reply {
 
     /// CHECK CONDITION with this sense.
     pub fn check(alloc: Global, sense: Sense) -> Self
-        ensures { result ≡ Answer.check sense }
+        ensures { result ≡ ReplyValue.check sense }
     {
         Reply {
             status: Status::CheckCondition,
@@ -47,7 +50,8 @@ impl Reply {
 
     /// The status.
     pub fn status(&self) -> Status
-        ensures { result ≡ self.now.status }
+        ensures status { result ≡ self.now.status }
+        ensures formed { IsTrue (ReplyValue.is_formed self.now.status self.now.sense self.now.bytes) }
     {
         self.status
     }

@@ -4,7 +4,7 @@ use Rattle.std.specs.Prelude.{IsTrue, IfSome, MatchOption, slice_get, Result, na
 use Rattle.std.specs.List.{AllByRecursion}
 use Rattle.std.proofs.lemmas.List.{append-nil}
 use Rattle.std.proofs.lemmas.Bool.{ltb-true, lt-ltb}
-use Rattle.scsi_types.specs.Cdb.{Means, Need}
+use Rattle.scsi_types.specs.Cdb.{Means, need_of}
 use Rattle.scsi_types.specs.Lun.{NamesUnit}
 use Rattle.scsi_types.specs.declared.command.Command.{Command}
 use Rattle.scsi_types.specs.declared.command.CdbFault.{CdbFault}
@@ -115,19 +115,19 @@ module _ (s : Counters) (b : List ℕ) (p : CommandHeader) (d : List ℕ) (asked
   mid = after_command p s
 
   abbrev asking : Asking
-  asking = record { question = serve unit asked (data_for p (Need asked) d); answer = answer }
+  asking = record { question = serve unit asked (data_for p (need_of asked) d); answer = answer }
 
   abbrev sent_bytes : List ℕ
   sent_bytes = sent_data p (reply_data answer)
 
   abbrev the_response : ResponseHeader
-  the_response = response_for mid p (transfer_of p (Need asked) (length (reply_data answer))) (length (data_in_for mid p sent_bytes)) (response_code answer) (wire_status answer)
+  the_response = response_for mid p (transfer_of p (need_of asked) (length (reply_data answer))) (length (data_in_for mid p sent_bytes)) (response_code answer) (wire_status answer)
 
   abbrev the_outs : List Out
   the_outs = outs_of mid p sent_bytes the_response (wire_sense answer)
 
   abbrev needed_of : ℕ
-  needed_of = transfer_of p (Need asked) (length (reply_data answer))
+  needed_of = transfer_of p (need_of asked) (length (reply_data answer))
 
   one_response : HasOneResponse p the_outs
   one_response = (data_in_for mid p sent_bytes, the_response, wire_sense answer, refl, outs_front mid p the_response (wire_sense answer) sent_bytes, refl)
@@ -183,8 +183,8 @@ moved : {s s1 s2 : Counters} {came : Incoming} {v : Verdict} {call call' : Optio
 moved e f g k = rw (e, f, g) k
 
 served_facts : (s s' : Counters) (b : List ℕ) (p : CommandHeader) (d : List ℕ) (call : Option Asking) (outs : List Out) (asked : Result Command CdbFault) (unit : Option ℕ) (answer : Served)
-    → IsJudged s.exp_cmd_sn (pdu b (ScsiCommand p) d) Accepted → read_length p ≤ most_read → Means p.cdb asked → NamesUnit p.lun unit → call ≡ Some (record { question = serve unit asked (data_for p (Need asked) d); answer = answer })
-    → IsReplyOf (after_command p s) p (Need asked) answer outs s' → TurnFacts s s' (pdu b (ScsiCommand p) d) Accepted call outs
+    → IsJudged s.exp_cmd_sn (pdu b (ScsiCommand p) d) Accepted → read_length p ≤ most_read → Means p.cdb asked → NamesUnit p.lun unit → call ≡ Some (record { question = serve unit asked (data_for p (need_of asked) d); answer = answer })
+    → IsReplyOf (after_command p s) p (need_of asked) answer outs s' → TurnFacts s s' (pdu b (ScsiCommand p) d) Accepted call outs
 served_facts s s' b p d call outs asked unit (Replied a) judged within means names e r = moved e r.0 r.1 (reply_facts s b p d asked unit (Replied a) judged within means names (λ o. o) (record { response = refl; status = refl; sense = refl }))
 served_facts s s' b p d call outs asked unit (Outside a) judged within means names e r = moved e r.0 r.1 (reply_facts s b p d asked unit (Outside a) judged within means names (λ o. o) (record { response = refl; status = refl; sense = refl }))
 served_facts s s' b p d call outs asked unit Busy judged within means names e r = moved e r.0 r.1 (reply_facts s b p d asked unit Busy judged within means names (λ o. o) (record { response = refl; status_is = refl; nothing = refl }))

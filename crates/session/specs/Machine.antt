@@ -1,6 +1,6 @@
 -- What a session keeps between two turns, and what it makes of a PDU and of an answer.
 use Rattle.std.specs.Prelude.{◌≡◌, ℕ, ◌+◌, ◌-◌, ◌≤◌, min, nat_lt, true, if◌then◌else◌, List, [], ◌∷◌, ◌++◌, length, Option, Some, None, Result}
-use Rattle.scsi_types.specs.Cdb.{Means, Need}
+use Rattle.scsi_types.specs.Cdb.{Means, need_of}
 use Rattle.scsi_types.specs.Lun.{NamesUnit}
 use Rattle.scsi_types.specs.Status.{status_code}
 use Rattle.scsi_types.specs.declared.command.Command.{Command}
@@ -67,9 +67,9 @@ IsWithin most (pdus.Reply (Some x) r s) = length x.bytes.now ≤ most
 pub record IsCallOf (p : CommandHeader) (d : List ℕ) (c : Call) : Type 0 where
   pub command : c.task.command ≡ p
   pub means : Means p.cdb c.asked
-  pub need : c.task.need ≡ Need c.asked
+  pub need : c.task.need ≡ need_of c.asked
   pub unit : NamesUnit p.lun c.unit
-  pub bytes : c.bytes.now ≡ data_for p (Need c.asked) d
+  pub bytes : c.bytes.now ≡ data_for p (need_of c.asked) d
   pub within : read_length p ≤ most_read
 
 abbrev pub IsSomeCall : CommandHeader → List ℕ → Option Call → Type 0
@@ -190,8 +190,8 @@ pub record IsServed (s : Counters) (p : CommandHeader) (d : List ℕ) (call : Op
   pub means : Means p.cdb asked
   pub names : NamesUnit p.lun unit
   pub within : read_length p ≤ most_read
-  pub call_is : call ≡ Some (record { question = serve unit asked (data_for p (Need asked) d); answer = answer })
-  pub replied : IsReplyOf (after_command p s) p (Need asked) answer outs s'
+  pub call_is : call ≡ Some (record { question = serve unit asked (data_for p (need_of asked) d); answer = answer })
+  pub replied : IsReplyOf (after_command p s) p (need_of asked) answer outs s'
 
 abbrev pub reject_out : Counters → ℕ → List ℕ → List Out
 reject_out s reason header_bytes = record { header = Reject (record { reason = reason; numbers = numbers_at s.stat_sn s }); bytes = header_bytes } ∷ []

@@ -1,8 +1,8 @@
 -- A command that was accepted, and what is judged of its answer (RFC 7143, 4.4, 11.4 and 11.7).
 use Rattle.std.specs.Prelude.{◌≡◌, ℕ, suc, ◌+◌, ◌-◌, ◌<◌, ◌≤◌, ◌↔◌, min, if◌then◌else◌, List, [], ◌∷◌, ◌++◌, length, take, Option, Some, None, IsTrue, slice_get, Result}
 use Rattle.std.specs.List.{filter_map, flat_map}
-use Rattle.scsi_types.specs.Answer.{Answer}
-use Rattle.scsi_types.specs.Cdb.{Means, Need}
+use Rattle.scsi_types.specs.ReplyValue.{ReplyValue}
+use Rattle.scsi_types.specs.Cdb.{Means, need_of}
 use Rattle.scsi_types.specs.Lun.{NamesUnit}
 use Rattle.scsi_types.specs.Sense.{sense_bytes}
 use Rattle.scsi_types.specs.Status.{status_code}
@@ -73,7 +73,7 @@ data_for p need d = if p.write then take (min p.expected need) d else []
 -- an accepted command has its one Call: of the unit that its LUN names, for what its CDB asks, with its data
 abbrev pub IsAskedFor : CommandHeader → List ℕ → Option Asking → Type 0
 IsAskedFor p d call = (asked : Result Command CdbFault) × (unit : Option ℕ) × (answer : Served)
-    × Means p.cdb asked × NamesUnit p.lun unit × (call ≡ Some (record { question = serve unit asked (data_for p (Need asked) d); answer = answer }))
+    × Means p.cdb asked × NamesUnit p.lun unit × (call ≡ Some (record { question = serve unit asked (data_for p (need_of asked) d); answer = answer }))
 
 abbrev pub IsCalled : Incoming → Verdict → Option Asking → Type 0
 IsCalled (pdu b (ScsiCommand p) d) Accepted call = IsAskedFor p d call
@@ -128,7 +128,7 @@ sent_data p bytes = if p.read then take p.expected bytes else []
 
 -- N, the data that the command needs or returns
 abbrev pub needed : Task → ℕ
-needed t = if t.command.write then Need t.asked else length (reply_data t.answer)
+needed t = if t.command.write then need_of t.asked else length (reply_data t.answer)
 
 -- the Residual Count is what lies between the two lengths, with U or O (11.4.5)
 pub record IsResidual (expected need : ℕ) (r : ResponseHeader) : Type 0 where
@@ -142,7 +142,7 @@ sense_part None = []
 sense_part (Some s) = 0 ∷ 18 ∷ sense_bytes s
 
 -- status and sense of a response are those of the answer
-pub record IsReply (a : Answer) (r : ResponseHeader) (d : List ℕ) : Type 0 where
+pub record IsReply (a : ReplyValue) (r : ResponseHeader) (d : List ℕ) : Type 0 where
   pub response : r.response ≡ 0
   pub status : r.status ≡ status_code a.status
   pub sense : d ≡ sense_part a.sense

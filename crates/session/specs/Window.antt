@@ -1,7 +1,7 @@
 -- The command window, and why a PDU is rejected (RFC 7143, 4.2.2.1 and 7.3).
 use Rattle.std.specs.Prelude.{◌≡◌, ℕ, ◌+◌, ◌-◌, ◌%◌, ◌==◌, ◌&&◌, ◌||◌, nat_lt, nat_le, Bool, false, not, if◌then◌else◌, List, length, Result}
 use Rattle.std.specs.List.{count_by}
-use Rattle.scsi_types.specs.Cdb.{Means, Need}
+use Rattle.scsi_types.specs.Cdb.{Means, need_of}
 use Rattle.scsi_types.specs.declared.command.Command.{Command}
 use Rattle.scsi_types.specs.declared.command.CdbFault.{CdbFault}
 use Rattle.iscsi_pdu.specs.declared.header.ScsiCommand.{ScsiCommand as CommandHeader}
@@ -64,7 +64,7 @@ verdict_of expected p d need =
 
 -- what becomes of a PDU: a target's PDU counts as an unknown opcode
 abbrev pub IsJudgedPdu : ℕ → Header → List ℕ → Verdict → Type 0
-IsJudgedPdu expected (ScsiCommand p) d v = (asked : Result Command CdbFault) × Means p.cdb asked × (v ≡ verdict_of expected p d (Need asked))
+IsJudgedPdu expected (ScsiCommand p) d v = (asked : Result Command CdbFault) × Means p.cdb asked × (v ≡ verdict_of expected p d (need_of asked))
 IsJudgedPdu expected (ScsiResponse p) d v = v ≡ Refused not_supported
 IsJudgedPdu expected (DataIn p) d v = v ≡ Refused not_supported
 IsJudgedPdu expected (Reject p) d v = v ≡ Refused not_supported

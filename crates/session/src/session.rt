@@ -1,5 +1,5 @@
 ghost use Rattle.std.specs.Prelude.{◌≡◌, ◌-◌, ◌+◌, ◌≤◌, min, length, take, None, IfSome};
-ghost use Rattle.scsi_types.specs.Cdb.{Need};
+ghost use Rattle.scsi_types.specs.Cdb.{need_of};
 ghost use Rattle.scsi_types.specs.Status.{status_code};
 ghost use Rattle.session.specs.Window.{verdict_of, is_refused, expected_of, reason_of};
 ghost use Rattle.session.specs.Task.{data_for, sent_data, sense_part};
@@ -272,7 +272,7 @@ impl Wire {
 
 // How many bytes of data what is asked needs.
 fn need_of(asked: &Asked) -> u32
-    ensures { result ≡ Need asked.now }
+    ensures { result ≡ need_of asked.now }
 {
     match asked {
         Ok(command) => need(command),

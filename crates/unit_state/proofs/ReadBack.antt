@@ -6,7 +6,7 @@ use Rattle.std.proofs.lemmas.List.{drop_at, take_at}
 use Rattle.block_file.specs.Cut.{cut, length-cut}
 use Rattle.block_file.specs.Disk.{written, range_bytes}
 use Rattle.block_file.specs.DiskLaws.{length-written}
-use Rattle.scsi_types.specs.Answer.{Answer, good}
+use Rattle.scsi_types.specs.ReplyValue.{ReplyValue, good}
 use Rattle.scsi_types.specs.declared.command.Command.TheVariants.{Write}
 use Rattle.unit_state.specs.declared.sessions.Attached.{Attached}
 use Rattle.unit_state.specs.State.{UnitState}
@@ -34,7 +34,7 @@ written_is_read disk lba n bytes fits =
     ap (λ (m : ℕ). flat_map (λ b. b) (take m (drop lba (written disk lba (cut n bytes))))) (sym long) ∙ ap (flat_map (λ b. b)) (read_back disk (cut n bytes) lba (omega (arith, long))) ∙ joined_front n bytes
 
 -- no rule refuses, neither for want of data nor for the range
-unrefused : (short : Bool) (range : Option Answer) → or_else (if short then illegal 0x24 else range) None ≡ None → range ≡ None
+unrefused : (short : Bool) (range : Option ReplyValue) → or_else (if short then illegal 0x24 else range) None ≡ None → range ≡ None
 unrefused true range h = absurd (cc)
 unrefused false None h = refl
 unrefused false (Some a) h = absurd (cc)

@@ -1,6 +1,6 @@
 -- What the device did in a command, and what a command may find and leave (SBC-3, READ (10) and WRITE (10) commands).
 use Rattle.std.specs.Prelude.{ℕ, ◌==◌, ◌&&◌, Bool, if◌then◌else◌, List, Option, Some, None}
-use Rattle.scsi_types.specs.Answer.{Answer}
+use Rattle.scsi_types.specs.ReplyValue.{ReplyValue}
 use Rattle.scsi_types.specs.Sense.{sense}
 use Rattle.scsi_types.specs.declared.sense.Sense.{Sense}
 
@@ -30,5 +30,5 @@ abbrev pub choice_by : Option Sense → List (List ℕ) → Choice
 choice_by None after = Fine
 choice_by (Some s) after = if is_sense s 0x03 0x11 0x00 then ReadFailed else if is_sense s 0x03 0x0C 0x00 then WriteFailed after else Fine
 
-abbrev pub choice_of : Answer → List (List ℕ) → Choice
+abbrev pub choice_of : ReplyValue → List (List ℕ) → Choice
 choice_of reply after = choice_by reply.sense after

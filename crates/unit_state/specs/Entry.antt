@@ -2,7 +2,8 @@
 use Rattle.std.specs.Prelude.{◌≡◌, ℕ, ◌+◌, ◌<◌, List, [], ◌∷◌, ◌++◌, length, Option, Some, None, Result, Ok, Err, unwrap_or}
 use Rattle.block_file.specs.Cut.{cut}
 use Rattle.block_file.specs.Disk.{written, range_bytes, Between}
-use Rattle.scsi_types.specs.Answer.{Answer, Nexus, good}
+use Rattle.scsi_types.specs.ReplyValue.{ReplyValue, good}
+use Rattle.scsi_types.specs.Nexus.{Nexus}
 use Rattle.scsi_types.specs.declared.names.Group.{Group}
 use Rattle.scsi_types.specs.declared.command.Command.{Command as ScsiCommand}
 use Rattle.scsi_types.specs.declared.command.Command.TheVariants.{TestUnitReady, Read, Write}
@@ -56,7 +57,7 @@ MayChoose blocks (Ok (Write lba n)) bytes (WriteFailed after) = Between blocks l
 MayChoose blocks (Err fault) bytes (WriteFailed after) = ⊥
 
 -- a command that is refused leaves the device alone
-abbrev pub CanChoose : Option Answer → List (List ℕ) → Result ScsiCommand CdbFault → List ℕ → Choice → Type 0
+abbrev pub CanChoose : Option ReplyValue → List (List ℕ) → Result ScsiCommand CdbFault → List ℕ → Choice → Type 0
 CanChoose (Some refused) blocks asked bytes choice = choice ≡ Fine
 CanChoose None blocks asked bytes choice = MayChoose blocks asked bytes choice
 
@@ -86,12 +87,12 @@ outcome blocks asked bytes Fine = changed blocks asked bytes
 outcome blocks asked bytes ReadFailed = blocks
 outcome blocks asked bytes (WriteFailed after) = after
 
-abbrev pub blocks_after : Option Answer → List (List ℕ) → Result ScsiCommand CdbFault → List ℕ → Choice → List (List ℕ)
+abbrev pub blocks_after : Option ReplyValue → List (List ℕ) → Result ScsiCommand CdbFault → List ℕ → Choice → List (List ℕ)
 blocks_after (Some refused) blocks asked bytes choice = blocks
 blocks_after None blocks asked bytes choice = outcome blocks asked bytes choice
 
 -- the answer of a command: the first refusal's, else GOOD with its data
-abbrev pub answer_to : UnitState → ℕ → Result ScsiCommand CdbFault → List ℕ → Choice → Answer
+abbrev pub answer_to : UnitState → ℕ → Result ScsiCommand CdbFault → List ℕ → Choice → ReplyValue
 answer_to s session asked bytes choice = unwrap_or (or_else (refusal s (request session asked bytes)) (device_refusal choice)) (good (data_of s.blocks asked))
 
 -- a session of this nexus, with this id, that had no command yet
@@ -108,6 +109,6 @@ after s (Command session serial by asked bytes choice) = record s {
 }
 
 -- what an entry is answered: a command's reply
-abbrev pub reply_to : UnitState → Entry → Option Answer
+abbrev pub reply_to : UnitState → Entry → Option ReplyValue
 reply_to s (Attach nexus) = None
 reply_to s (Command session serial by asked bytes choice) = Some (answer_to s session asked bytes choice)

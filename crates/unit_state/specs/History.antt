@@ -1,6 +1,6 @@
 -- Histories: entries in order, the first one first.
 use Rattle.std.specs.Prelude.{ℕ, zero, suc, List, [], ◌∷◌, Option, None}
-use Rattle.scsi_types.specs.Answer.{Answer}
+use Rattle.scsi_types.specs.ReplyValue.{ReplyValue}
 use Rattle.unit_state.specs.State.{UnitState}
 use Rattle.unit_state.specs.Entry.{Entry, IsPossible, after, reply_to}
 
@@ -15,7 +15,7 @@ IsLegal s [] = Unit {0}
 IsLegal s (e ∷ history) = IsPossible s e × IsLegal (after s e) history
 
 -- the reply of the entry at a place
-abbrev pub reply_at : UnitState → List Entry → ℕ → Option Answer
+abbrev pub reply_at : UnitState → List Entry → ℕ → Option ReplyValue
 reply_at s [] i = None
 reply_at s (e ∷ history) zero = reply_to s e
 reply_at s (e ∷ history) (suc i) = reply_at (after s e) history i

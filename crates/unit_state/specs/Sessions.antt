@@ -1,7 +1,7 @@
 -- The sessions that are attached to a unit: a map from a session's id to its nexus and its next serial.
 use Rattle.std.specs.Prelude.{ℕ, ◌+◌, Bool, true, false, not, ◌&&◌, nat_eq, if◌then◌else◌, List, [], ◌∷◌, filter, Option, Some, None}
 use lib.Pointwise.{pointwise}
-use Rattle.scsi_types.specs.Answer.{Port, Nexus}
+use Rattle.scsi_types.specs.Nexus.{Port, Nexus}
 use Rattle.scsi_types.specs.declared.names.Group.{Group}
 use Rattle.scsi_types.specs.declared.names.Group.TheVariants.{One, Two}
 use Rattle.unit_state.specs.declared.sessions.Attached.{Attached}

@@ -1,6 +1,6 @@
 -- What each end of a step tells.
 use Rattle.std.specs.Prelude.{◌≡◌, ◌≢◌, ℕ, ◌+◌, List, Some, Result}
-use Rattle.scsi_types.specs.Answer.{Answer}
+use Rattle.scsi_types.specs.ReplyValue.{ReplyValue}
 use Rattle.scsi_types.specs.declared.names.Group.{Group}
 use Rattle.scsi_types.specs.declared.command.Command.{Command as ScsiCommand}
 use Rattle.scsi_types.specs.declared.command.CdbFault.{CdbFault}
@@ -11,7 +11,7 @@ use Rattle.unit_state.specs.Entry.{Entry, Command, IsTaken, IsPossible, after, r
 use Rattle.unit_state.specs.declared.unit.StepEnd.{StepEnd}
 use Rattle.unit_state.specs.declared.unit.StepEnd.TheVariants.{Reply, Gone, Moved, NoMemory}
 
-abbrev pub OnReply : StepEnd → (Answer → Type 0) → Type 0
+abbrev pub OnReply : StepEnd → (ReplyValue → Type 0) → Type 0
 OnReply (Reply reply) P = P reply
 OnReply Gone P = Unit {0}
 OnReply (Moved owner) P = Unit {0}
@@ -37,11 +37,11 @@ pub record IsPassed {B : Type 0} (old new : UnitValue B) (session : ℕ) : Type 
   pub owner : new.owner ≡ old.owner
 
 -- the command's entry, whose choice its answer and the unit after it tell
-abbrev pub entry_of : ℕ → ℕ → Group → Result ScsiCommand CdbFault → List ℕ → Answer → UnitState → Entry
+abbrev pub entry_of : ℕ → ℕ → Group → Result ScsiCommand CdbFault → List ℕ → ReplyValue → UnitState → Entry
 entry_of session serial by asked bytes reply new = Command session serial by asked bytes (choice_of reply new.blocks)
 
 -- the step added this entry: it was possible, and state and reply are what the model gives
-pub record IsStep (old new : UnitState) (entry : Entry) (reply : Answer) : Type 0 where
+pub record IsStep (old new : UnitState) (entry : Entry) (reply : ReplyValue) : Type 0 where
   pub possible : IsPossible old entry
   pub state : new ≡ after old entry
   pub answer : reply_to old entry ≡ Some reply

@@ -1,6 +1,6 @@
 //! What the model of a unit says, in a storage engineer's words.
 ghost use Rattle.std.specs.Prelude.{◌≡◌, ◌*◌, ◌<◌, ◌↔◌, ℕ, List, [], ◌∷◌, ◌++◌, length, take, Option, Some, None, Ok, Result};
-ghost use Rattle.scsi_types.specs.Answer.{good};
+ghost use Rattle.scsi_types.specs.ReplyValue.{good};
 ghost use Rattle.scsi_types.specs.declared.names.Group.{Group};
 ghost use Rattle.scsi_types.specs.declared.command.Command.{Command as ScsiCommand};
 ghost use Rattle.scsi_types.specs.declared.command.Command.TheVariants.{Read, Write};

@@ -53,7 +53,7 @@ impl<B: Blocks> Model for Unit<B> {
 }
 
 impl<B: Blocks> Unit<B> {
-    ghost use Rattle.scsi_types.specs.Answer.{Port, Nexus};
+    ghost use Rattle.scsi_types.specs.Nexus.{Port, Nexus};
     ghost use Rattle.unit_state.specs.State.{UnitState, UnitValue, opened, state_of, failures_of};
     ghost use Rattle.unit_state.specs.Choice.{IsFine, choice_of};
     ghost use Rattle.unit_state.specs.Entry.{Attach, HasRoom, IsPossible, after};

@@ -1,5 +1,5 @@
 use Rattle.std.proofs.Common.{ap, refl, Option, Some, Ok, length}
-use Rattle.scsi_types.specs.Answer.{Answer}
+use Rattle.scsi_types.specs.ReplyValue.{ReplyValue}
 use Rattle.scsi_types.specs.declared.command.Command.TheVariants.{Write}
 use Rattle.unit_state.specs.Choice.{Fine}
 use Rattle.unit_state.specs.Entry.{blocks_after}
@@ -11,5 +11,5 @@ returns-clause-write c = λ s session serial by lba blocks bytes h. rw h refl
 
 pub returns-clause-read : goal.returns-clause-read
 returns-clause-read c = λ s session serial by reader next through lba blocks bytes none h.
-    ap (λ (a : Answer). let o : Option Answer = Some a in o)
-    (read_after s.blocks _ lba blocks (length none) bytes (ap (λ (r : Option Answer). blocks_after r s.blocks (Ok (Write lba blocks)) bytes Fine) h) (written_by s session lba blocks bytes h))
+    ap (λ (a : ReplyValue). let o : Option ReplyValue = Some a in o)
+    (read_after s.blocks _ lba blocks (length none) bytes (ap (λ (r : Option ReplyValue). blocks_after r s.blocks (Ok (Write lba blocks)) bytes Fine) h) (written_by s session lba blocks bytes h))
