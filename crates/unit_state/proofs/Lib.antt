@@ -1,4 +1,5 @@
 pub mod Places
 pub mod Ranges
 pub mod ReadBack
-pub mod Served
+pub mod Steps
+pub mod Works

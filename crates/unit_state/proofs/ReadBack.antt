@@ -7,11 +7,16 @@ use Rattle.block_file.specs.Cut.{cut, length-cut}
 use Rattle.block_file.specs.Disk.{written, range_bytes}
 use Rattle.block_file.specs.DiskLaws.{length-written}
 use Rattle.scsi_types.specs.ReplyValue.{ReplyValue, good}
-use Rattle.scsi_types.specs.declared.command.Command.TheVariants.{Write}
+use Rattle.scsi_types.specs.declared.names.Group.{Group}
+use Rattle.scsi_types.specs.declared.command.Command.TheVariants.{Read, Write}
 use Rattle.unit_state.specs.declared.sessions.Attached.{Attached}
-use Rattle.unit_state.specs.State.{UnitState}
-use Rattle.unit_state.specs.Entry.{request}
-use Rattle.unit_state.specs.Refusal.{refusal, range_refusal, illegal, or_else}
+use Rattle.unit_state.specs.State.{ControlValue, UnitState}
+use Rattle.unit_state.specs.declared.refusal.Refusal.{Refusal}
+use Rattle.unit_state.specs.declared.refusal.Refusal.TheVariants.{Check}
+use Rattle.unit_state.specs.Choice.{Choice, Fine}
+use Rattle.unit_state.specs.Medium.{Range}
+use Rattle.unit_state.specs.Entry.{Command, IsNext, after, reply_to, control_with}
+use Rattle.unit_state.specs.Refusal.{Request, refusal, request, outside, illegal, or_else}
 use Rattle.unit_state.specs.Sessions.{next_of, passed}
 
 joined_front : (n : ℕ) (bytes : List ℕ) → flat_map (λ b. b) (cut n bytes) ≡ take (512 * n) bytes
@@ -34,30 +39,37 @@ written_is_read disk lba n bytes fits =
     ap (λ (m : ℕ). flat_map (λ b. b) (take m (drop lba (written disk lba (cut n bytes))))) (sym long) ∙ ap (flat_map (λ b. b)) (read_back disk (cut n bytes) lba (omega (arith, long))) ∙ joined_front n bytes
 
 -- no rule refuses, neither for want of data nor for the range
-unrefused : (short : Bool) (range : Option ReplyValue) → or_else (if short then illegal 0x24 else range) None ≡ None → range ≡ None
+unrefused : (short : Bool) (range : Option Refusal) → or_else (if short then illegal 0x24 else range) None ≡ None → range ≡ None
 unrefused true range h = absurd (cc)
 unrefused false None h = refl
 unrefused false (Some a) h = absurd (cc)
 
-within : (total lba n : ℕ) → range_refusal total lba n ≡ None → lba + n ≤ total
-within total lba n h = grind (arith, nat_tests)
+pub within : (total : ℕ) (r : Range) → outside total r ≡ None → r.lba + r.blocks ≤ total
+within total r h = grind (arith, nat_tests)
 
-nothing_needed : (given : ℕ) → nat_lt given 0 ≡ false
+pub nothing_needed : (given : ℕ) → nat_lt given 0 ≡ false
 nothing_needed given = grind (arith, nat_tests)
 
--- a READ after the WRITE
-pub read_after : (disk new : List (List ℕ)) (lba n given : ℕ) (bytes : List ℕ) → new ≡ written disk lba (cut n bytes) → range_refusal (length disk) lba n ≡ None
-    → unwrap_or (or_else (or_else None (or_else (if nat_lt given 0 then illegal 0x24 else range_refusal (length new) lba n) None)) None) (good (range_bytes new lba n)) ≡ good (take (512 * n) bytes)
-read_after disk new lba n given bytes is fits =
-    let inside : lba + n ≤ length disk = within (length disk) lba n fits in
-    let long : length new ≡ length disk = ap length is ∙ length-written disk (cut n bytes) lba (omega (arith, length-cut n bytes)) in
-    let allowed : range_refusal (length new) lba n ≡ None = ap (λ (m : ℕ). range_refusal m lba n) long ∙ fits in
-    let read : range_bytes new lba n ≡ take (512 * n) bytes = ap (λ (d : List (List ℕ)). range_bytes d lba n) is ∙ written_is_read disk lba n bytes inside in
-    rw (nothing_needed given, allowed, read) refl
+-- a WRITE that nothing refuses lies within the unit
+pub written_within : (s : UnitState) (session lba n : ℕ) (bytes : List ℕ) → refusal s.control (request session (Ok (Write lba n)) bytes) ≡ None
+    → outside s.control.total (record { lba = lba; blocks = n }) ≡ None
+written_within s session lba n bytes h = unrefused (nat_lt (length bytes) (512 * n)) (outside s.control.total (record { lba = lba; blocks = n })) h
 
--- and what the WRITE left
-pub written_by : (s : UnitState) (session : ℕ) (lba n : ℕ) (bytes : List ℕ) → refusal s (request session (Ok (Write lba n)) bytes) ≡ None → range_refusal (length s.blocks) lba n ≡ None
-written_by s session lba n bytes h = unrefused (nat_lt (length bytes) (512 * n)) (range_refusal (length s.blocks) lba n) h
+-- a READ after the WRITE
+module _ (s : UnitState) (session serial : ℕ) (by_group : Group) (reader next : ℕ) (through : Group) (lba blocks : ℕ) (bytes none : List ℕ) where
+  abbrev wrote : UnitState
+  wrote = after s (Command session serial by_group (Ok (Write lba blocks)) bytes Fine)
+
+  abbrev range : Range
+  range = record { lba = lba; blocks = blocks }
+
+  pub read_after : length s.blocks ≡ s.control.total → refusal s.control (request session (Ok (Write lba blocks)) bytes) ≡ None
+      → reply_to wrote (Command reader next through (Ok (Read lba blocks)) none Fine) ≡ Some (good (take (512 * blocks) bytes))
+  read_after whole h =
+      let fits : outside s.control.total range ≡ None = written_within s session lba blocks bytes h in
+      let inside : lba + blocks ≤ s.control.total = within s.control.total range fits in
+      let read : range_bytes (written s.blocks lba (cut blocks bytes)) lba blocks ≡ take (512 * blocks) bytes = written_is_read s.blocks lba blocks bytes (omega (arith, whole, inside)) in
+      rw (h, nothing_needed (length none), fits) (ap (λ (b : List ℕ). let o : Option ReplyValue = Some (good b) in o) read)
 
 -- the serial of a session that had one command more
 pub next_passed : (sessions : List Attached) (id serial : ℕ) → next_of sessions id ≡ Some serial → next_of (passed sessions id) id ≡ Some (serial + 1)
@@ -66,3 +78,15 @@ next_passed (a ∷ rest) id serial h =
     ⊎_elim (λ (t : (nat_eq a.id id ≡ true) × (a.id ≡ id)). let here : Some a.next ≡ Some serial = rw t.0 at h in let e : a.next ≡ serial = cc in rw t.0 (rw t.0 (ap (λ (m : ℕ). let o : Option ℕ = Some (m + 1) in o) e)))
     (λ (f : (nat_eq a.id id ≡ false) × (a.id ≢ id)). rw f.0 (rw f.0 (next_passed rest id serial (rw f.0 at h))))
     (eqb_tells a.id id)
+
+-- one that was taken is not taken again
+kept_sessions : (refused : Option Refusal) (c : ControlValue) (r : Request) (choice : Choice) → (control_with refused c r choice).sessions ≡ c.sessions
+kept_sessions (Some (Check a)) c r choice = refl
+kept_sessions None c r choice = refl
+
+pub same_sessions : (c : ControlValue) (r : Request) (choice : Choice) (serial : ℕ) → IsNext c r.session serial → next_of (passed (control_with (refusal c r) c r choice).sessions r.session) r.session ≡ Some serial → ⊥
+same_sessions c r choice serial is again =
+    let once : next_of (passed c.sessions r.session) r.session ≡ Some (serial + 1) = next_passed c.sessions r.session serial is.next in
+    let twice : next_of (passed c.sessions r.session) r.session ≡ Some serial = rw (kept_sessions (refusal c r) c r choice) at again in
+    let same : serial ≡ serial + 1 = cc in
+    omega arith

@@ -1,5 +1,5 @@
--- What the device did in a command, and what a command may find and leave (SBC-3, READ (10) and WRITE (10) commands).
-use Rattle.std.specs.Prelude.{ℕ, ◌==◌, ◌&&◌, Bool, if◌then◌else◌, List, Option, Some, None}
+-- What the device did in a command (SBC-3, READ (10) and WRITE (10) commands).
+use Rattle.std.specs.Prelude.{ℕ, ◌==◌, ◌&&◌, Bool, true, false, IsTrue, if◌then◌else◌, List, Option, Some, None}
 use Rattle.scsi_types.specs.ReplyValue.{ReplyValue}
 use Rattle.scsi_types.specs.Sense.{sense}
 use Rattle.scsi_types.specs.declared.sense.Sense.{Sense}
@@ -10,10 +10,13 @@ pub data Choice : Type 0 where
   ReadFailed : Choice
   WriteFailed : List (List ℕ) → Choice
 
+abbrev pub is_fine : Choice → Bool
+is_fine Fine = true
+is_fine ReadFailed = false
+is_fine (WriteFailed after) = false
+
 abbrev pub IsFine : Choice → Type 0
-IsFine Fine = Unit {0}
-IsFine ReadFailed = ⊥
-IsFine (WriteFailed after) = ⊥
+IsFine choice = IsTrue (is_fine choice)
 
 -- MEDIUM ERROR: unrecovered read error, and write error (SPC-4, 4.5.6)
 abbrev pub read_error : Sense
@@ -25,10 +28,12 @@ write_error = sense 0x03 0x0C 0x00
 abbrev pub is_sense : Sense → ℕ → ℕ → ℕ → Bool
 is_sense s key asc ascq = (s.key == key) && (s.asc == asc) && (s.ascq == ascq)
 
--- the choice that an answer tells, with the blocks that are there after it
+-- the choice that a reply tells, with the blocks that are there after it
 abbrev pub choice_by : Option Sense → List (List ℕ) → Choice
 choice_by None after = Fine
-choice_by (Some s) after = if is_sense s 0x03 0x11 0x00 then ReadFailed else if is_sense s 0x03 0x0C 0x00 then WriteFailed after else Fine
+choice_by (Some s) after =
+    if is_sense s 0x03 0x11 0x00 then ReadFailed
+    else if is_sense s 0x03 0x0C 0x00 then WriteFailed after else Fine
 
 abbrev pub choice_of : ReplyValue → List (List ℕ) → Choice
 choice_of reply after = choice_by reply.sense after

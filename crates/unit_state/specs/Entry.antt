@@ -1,18 +1,20 @@
--- The entries of a unit's history: what is possible, what is after one, and what it is answered.
-use Rattle.std.specs.Prelude.{◌≡◌, ℕ, ◌+◌, ◌<◌, List, [], ◌∷◌, ◌++◌, length, Option, Some, None, Result, Ok, Err, unwrap_or}
-use Rattle.block_file.specs.Cut.{cut}
-use Rattle.block_file.specs.Disk.{written, range_bytes, Between}
-use Rattle.scsi_types.specs.ReplyValue.{ReplyValue, good}
+-- The entries of a unit's history: what is possible, what is after one, and what it is answered. What is said of the
+-- medium stands under the claim of the device's type.
+use Rattle.std.specs.Prelude.{◌≡◌, ℕ, ◌+◌, ◌<◌, Bool, IsTrue, List, [], ◌∷◌, ◌++◌, length, Option, Some, None, Result, Ok, Err}
+use Rattle.scsi_types.specs.ReplyValue.{ReplyValue}
 use Rattle.scsi_types.specs.Nexus.{Nexus}
 use Rattle.scsi_types.specs.declared.names.Group.{Group}
 use Rattle.scsi_types.specs.declared.command.Command.{Command as ScsiCommand}
-use Rattle.scsi_types.specs.declared.command.Command.TheVariants.{TestUnitReady, Read, Write}
 use Rattle.scsi_types.specs.declared.command.CdbFault.{CdbFault}
-use Rattle.unit_state.specs.State.{UnitState}
-use Rattle.unit_state.specs.Sessions.{next_of, passed, without}
+use Rattle.unit_state.specs.declared.refusal.Refusal.{Refusal}
+use Rattle.unit_state.specs.declared.control.TheConstants.{LAST_COUNT}
+use Rattle.unit_state.specs.declared.sessions.TheConstants.{MOST_SESSIONS}
 use Rattle.unit_state.specs.declared.sessions.Attached.{Attached}
-use Rattle.unit_state.specs.Choice.{Choice, Fine, ReadFailed, WriteFailed}
-use Rattle.unit_state.specs.Refusal.{Request, refusal, device_refusal, or_else}
+use Rattle.unit_state.specs.State.{ControlValue, UnitState}
+use Rattle.unit_state.specs.Sessions.{next_of, passed, without}
+use Rattle.unit_state.specs.Choice.{Choice, Fine}
+use Rattle.unit_state.specs.Medium.{Work, Finding, work_asked, MayChoose, MayFind, IsTorn, found, left, reply_by}
+use Rattle.unit_state.specs.Refusal.{Request, request, refusal, refusal_reply, refusal_control}
 
 -- A session attaches, or a command of a session is served: its serial in the session, the group by which it
 -- was served, what it asks, its data, and what the device did.
@@ -20,95 +22,109 @@ pub data Entry : Type 0 where
   Attach : Nexus → Entry
   Command : ℕ → ℕ → Group → Result ScsiCommand CdbFault → List ℕ → Choice → Entry
 
--- the most entries of a history, and the most sessions of a unit
-abbrev pub last_entry : ℕ
-last_entry = 18446744073709551615
-
-abbrev pub most_sessions : ℕ
-most_sessions = 64
-
-abbrev pub request : ℕ → Result ScsiCommand CdbFault → List ℕ → Request
-request session asked bytes = record { session = session; asked = asked; bytes = bytes }
-
--- what a command returns, and the blocks that it leaves, where nothing refuses it
-abbrev pub data_of : List (List ℕ) → Result ScsiCommand CdbFault → List ℕ
-data_of blocks (Ok TestUnitReady) = []
-data_of blocks (Ok (Read lba n)) = range_bytes blocks lba n
-data_of blocks (Ok (Write lba n)) = []
-data_of blocks (Err fault) = []
-
-abbrev pub changed : List (List ℕ) → Result ScsiCommand CdbFault → List ℕ → List (List ℕ)
-changed blocks (Ok TestUnitReady) bytes = blocks
-changed blocks (Ok (Read lba n)) bytes = blocks
-changed blocks (Ok (Write lba n)) bytes = written blocks lba (cut n bytes)
-changed blocks (Err fault) bytes = blocks
-
--- what the device may do in a command that nothing refuses: a READ may fail, and a WRITE, which then leaves
--- each block of its range old or new and every other block old
-abbrev pub MayChoose : List (List ℕ) → Result ScsiCommand CdbFault → List ℕ → Choice → Type 0
-MayChoose blocks asked bytes Fine = Unit {0}
-MayChoose blocks (Ok TestUnitReady) bytes ReadFailed = ⊥
-MayChoose blocks (Ok (Read lba n)) bytes ReadFailed = Unit {0}
-MayChoose blocks (Ok (Write lba n)) bytes ReadFailed = ⊥
-MayChoose blocks (Err fault) bytes ReadFailed = ⊥
-MayChoose blocks (Ok TestUnitReady) bytes (WriteFailed after) = ⊥
-MayChoose blocks (Ok (Read lba n)) bytes (WriteFailed after) = ⊥
-MayChoose blocks (Ok (Write lba n)) bytes (WriteFailed after) = Between blocks lba (cut n bytes) after
-MayChoose blocks (Err fault) bytes (WriteFailed after) = ⊥
-
--- a command that is refused leaves the device alone
-abbrev pub CanChoose : Option ReplyValue → List (List ℕ) → Result ScsiCommand CdbFault → List ℕ → Choice → Type 0
-CanChoose (Some refused) blocks asked bytes choice = choice ≡ Fine
-CanChoose None blocks asked bytes choice = MayChoose blocks asked bytes choice
+-- ---- what is possible
 
 -- this serial is the session's next, and the history has room
-pub record IsTaken (s : UnitState) (session serial : ℕ) : Type 0 where
-  pub room : s.count < last_entry
-  pub next : next_of s.sessions session ≡ Some serial
+pub record IsNext (c : ControlValue) (session serial : ℕ) : Type 0 where
+  pub room : c.count < LAST_COUNT
+  pub next : next_of c.sessions session ≡ Some serial
 
 -- a new session has room; that of its nexus ends
-pub record HasRoom (s : UnitState) (nexus : Nexus) : Type 0 where
-  pub room : s.count < last_entry
-  pub sessions : length (without nexus s.sessions) < most_sessions
+pub record HasRoom (c : ControlValue) (nexus : Nexus) : Type 0 where
+  pub room : c.count < LAST_COUNT
+  pub sessions : length (without nexus c.sessions) < MOST_SESSIONS
 
-pub record IsServed (s : UnitState) (session serial : ℕ) (by : Group) (asked : Result ScsiCommand CdbFault) (bytes : List ℕ) (choice : Choice) : Type 0 where
-  pub taken : IsTaken s session serial
-  pub owner : by ≡ s.owner
-  pub choice_is : CanChoose (refusal s (request session asked bytes)) s.blocks asked bytes choice
+-- a command that is refused leaves the device alone
+abbrev pub CanChoose : Option Refusal → Work → Choice → Type 0
+CanChoose (Some refused) work choice = choice ≡ Fine
+CanChoose None work choice = MayChoose work choice
 
--- the entry is possible in this state
-abbrev pub IsPossible : UnitState → Entry → Type 0
-IsPossible s (Attach nexus) = HasRoom s nexus
-IsPossible s (Command session serial by asked bytes choice) = IsServed s session serial by asked bytes choice
+abbrev pub CanTear : Option Refusal → List (List ℕ) → Work → Choice → Type 0
+CanTear (Some refused) blocks work choice = Unit {0}
+CanTear None blocks work choice = IsTorn blocks work choice
 
--- the blocks after a command
-abbrev pub outcome : List (List ℕ) → Result ScsiCommand CdbFault → List ℕ → Choice → List (List ℕ)
-outcome blocks asked bytes Fine = changed blocks asked bytes
-outcome blocks asked bytes ReadFailed = blocks
-outcome blocks asked bytes (WriteFailed after) = after
+-- a command that is the session's next came by the owner, and the device did this in it
+pub record CanCome (claims : Bool) (s : UnitState) (r : Request) (serial : ℕ) (by : Group) (choice : Choice) : Type 0 where
+  pub next : IsNext s.control r.session serial
+  pub owner : by ≡ s.control.owner
+  pub chosen : CanChoose (refusal s.control r) (work_asked r.asked r.bytes) choice
+  pub torn : IsTrue claims → CanTear (refusal s.control r) s.blocks (work_asked r.asked r.bytes) choice
 
-abbrev pub blocks_after : Option ReplyValue → List (List ℕ) → Result ScsiCommand CdbFault → List ℕ → Choice → List (List ℕ)
-blocks_after (Some refused) blocks asked bytes choice = blocks
-blocks_after None blocks asked bytes choice = outcome blocks asked bytes choice
+-- the entry is possible in this state, over a device whose type claims its contents or not
+abbrev pub IsPossible : Bool → UnitState → Entry → Type 0
+IsPossible claims s (Attach nexus) = HasRoom s.control nexus
+IsPossible claims s (Command session serial by asked bytes choice) = CanCome claims s (request session asked bytes) serial by choice
 
--- the answer of a command: the first refusal's, else GOOD with its data
-abbrev pub answer_to : UnitState → ℕ → Result ScsiCommand CdbFault → List ℕ → Choice → ReplyValue
-answer_to s session asked bytes choice = unwrap_or (or_else (refusal s (request session asked bytes)) (device_refusal choice)) (good (data_of s.blocks asked))
+-- ---- what is after an entry, and what it is answered
+
+-- What a command returns that no rule refuses, where the medium found this: a medium command answers the finding.
+abbrev pub returned : ControlValue → Request → Finding → ReplyValue
+returned c r finding = reply_by finding
+
+-- And what it leaves of all but the blocks: a medium command, all as it was.
+abbrev pub left_control : ControlValue → Request → Choice → ControlValue
+left_control c r choice = c
+
+-- a refusal has its answer, and changes what telling it changes
+abbrev pub reply_with : Option Refusal → ControlValue → Request → Finding → ReplyValue
+reply_with (Some refused) c r finding = refusal_reply refused
+reply_with None c r finding = returned c r finding
+
+abbrev pub control_with : Option Refusal → ControlValue → Request → Choice → ControlValue
+control_with (Some refused) c r choice = refusal_control c refused
+control_with None c r choice = left_control c r choice
+
+abbrev pub blocks_with : Option Refusal → List (List ℕ) → Work → Choice → List (List ℕ)
+blocks_with (Some refused) blocks work choice = blocks
+blocks_with None blocks work choice = left blocks work choice
 
 -- a session of this nexus, with this id, that had no command yet
 abbrev pub attached : Nexus → ℕ → Attached
 attached nexus id = record { id = id; port = nexus.port; group = nexus.group; next = 1 }
 
+-- one command more of a session, and one entry more
+abbrev pub pass : ControlValue → ℕ → ControlValue
+pass c session = record c { sessions = passed c.sessions session; count = c.count + 1 }
+
+-- what does not rest on the medium, after an entry
+abbrev pub control_after : ControlValue → Entry → ControlValue
+control_after c (Attach nexus) =
+    record c { sessions = without nexus c.sessions ++ attached nexus c.count ∷ []; count = c.count + 1 }
+control_after c (Command session serial by asked bytes choice) =
+    let r = request session asked bytes in
+    pass (control_with (refusal c r) c r choice) session
+
+-- the blocks of a disk after an entry
+abbrev pub blocks_after : UnitState → Entry → List (List ℕ)
+blocks_after s (Attach nexus) = s.blocks
+blocks_after s (Command session serial by asked bytes choice) =
+    blocks_with (refusal s.control (request session asked bytes)) s.blocks (work_asked asked bytes) choice
+
 -- the state after an entry
 abbrev pub after : UnitState → Entry → UnitState
-after s (Attach nexus) = record s { sessions = without nexus s.sessions ++ attached nexus s.count ∷ []; count = s.count + 1 }
-after s (Command session serial by asked bytes choice) = record s {
-  blocks = blocks_after (refusal s (request session asked bytes)) s.blocks asked bytes choice;
-  sessions = passed s.sessions session;
-  count = s.count + 1;
-}
+after s entry = record { control = control_after s.control entry; blocks = blocks_after s entry }
 
--- what an entry is answered: a command's reply
+-- what an entry over a disk is answered: a command's reply
 abbrev pub reply_to : UnitState → Entry → Option ReplyValue
 reply_to s (Attach nexus) = None
-reply_to s (Command session serial by asked bytes choice) = Some (answer_to s session asked bytes choice)
+reply_to s (Command session serial by asked bytes choice) =
+    let r = request session asked bytes in
+    Some (reply_with (refusal s.control r) s.control r (found s.blocks (work_asked asked bytes) choice))
+
+-- What a command is answered over any device: the refusal's answer, or by what the medium may have found, which under
+-- the claim is what the disk tells.
+pub record IsReturned (claims : Bool) (s : UnitState) (r : Request) (choice : Choice) (reply : ReplyValue) : Type 0 where
+  pub finding : Finding
+  pub may : MayFind (work_asked r.asked r.bytes) choice finding
+  pub is : reply ≡ returned s.control r finding
+  pub told : IsTrue claims → finding ≡ found s.blocks (work_asked r.asked r.bytes) choice
+
+abbrev pub IsReplyWith : Option Refusal → Bool → UnitState → Request → Choice → ReplyValue → Type 0
+IsReplyWith (Some refused) claims s r choice reply = reply ≡ refusal_reply refused
+IsReplyWith None claims s r choice reply = IsReturned claims s r choice reply
+
+abbrev pub IsReplyTo : Bool → UnitState → Entry → ReplyValue → Type 0
+IsReplyTo claims s (Attach nexus) reply = ⊥
+IsReplyTo claims s (Command session serial by asked bytes choice) reply =
+    let r = request session asked bytes in
+    IsReplyWith (refusal s.control r) claims s r choice reply

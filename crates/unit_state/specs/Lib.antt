@@ -1,10 +1,12 @@
+pub mod Answer
 pub mod Choice
 pub mod Entry
 pub mod History
 pub mod HistoryLaws
+pub mod Medium
 pub mod Places
 pub mod Refusal
-pub mod Served
+pub mod Route
 pub mod Sessions
 pub mod State
 pub mod Step

@@ -1,13 +1,15 @@
 -- What each end of a step tells.
-use Rattle.std.specs.Prelude.{◌≡◌, ◌≢◌, ℕ, ◌+◌, List, Some, Result}
+use Rattle.std.specs.Prelude.{◌≡◌, ◌≢◌, ℕ, Bool, IsTrue, List, Result, Ok, Err, Option, Some, None}
 use Rattle.scsi_types.specs.ReplyValue.{ReplyValue}
 use Rattle.scsi_types.specs.declared.names.Group.{Group}
 use Rattle.scsi_types.specs.declared.command.Command.{Command as ScsiCommand}
+use Rattle.scsi_types.specs.declared.command.Command.TheVariants.{TestUnitReady, Read, Write}
 use Rattle.scsi_types.specs.declared.command.CdbFault.{CdbFault}
-use Rattle.unit_state.specs.State.{UnitState, UnitValue}
-use Rattle.unit_state.specs.Sessions.{passed}
+use Rattle.unit_state.specs.declared.refusal.Refusal.{Refusal}
+use Rattle.unit_state.specs.State.{ControlValue, UnitState}
 use Rattle.unit_state.specs.Choice.{choice_of}
-use Rattle.unit_state.specs.Entry.{Entry, Command, IsTaken, IsPossible, after, reply_to}
+use Rattle.unit_state.specs.Refusal.{Request, refusal}
+use Rattle.unit_state.specs.Entry.{Entry, Command, IsNext, IsPossible, IsReplyTo, control_after, blocks_after}
 use Rattle.unit_state.specs.declared.unit.StepEnd.{StepEnd}
 use Rattle.unit_state.specs.declared.unit.StepEnd.TheVariants.{Reply, Gone, Moved, NoMemory}
 
@@ -17,31 +19,45 @@ OnReply Gone P = Unit {0}
 OnReply (Moved owner) P = Unit {0}
 OnReply NoMemory P = Unit {0}
 
-abbrev pub OnRefused : StepEnd → Type 0 → Type 0
-OnRefused (Reply reply) P = Unit {0}
-OnRefused Gone P = P
-OnRefused (Moved owner) P = P
-OnRefused NoMemory P = P
+abbrev pub OnNoReply : StepEnd → Type 0 → Type 0
+OnNoReply (Reply reply) P = Unit {0}
+OnNoReply Gone P = P
+OnNoReply (Moved owner) P = P
+OnNoReply NoMemory P = P
 
--- Gone exactly where the command is not taken; else Moved, to the owner, exactly where it came by another group
-abbrev pub IsRouted : UnitState → ℕ → ℕ → Group → StepEnd → Type 0
-IsRouted s session serial by (Reply reply) = IsTaken s session serial × (by ≡ s.owner)
-IsRouted s session serial by Gone = IsTaken s session serial → ⊥
-IsRouted s session serial by (Moved owner) = IsTaken s session serial × (by ≢ s.owner) × (owner ≡ s.owner)
-IsRouted s session serial by NoMemory = IsTaken s session serial × (by ≡ s.owner)
+-- Gone exactly where the command is not the session's next; else Moved, to the owner, exactly where it came by
+-- another group
+abbrev pub IsRouted : ControlValue → ℕ → ℕ → Group → StepEnd → Type 0
+IsRouted c session serial by (Reply reply) = IsNext c session serial × (by ≡ c.owner)
+IsRouted c session serial by Gone = IsNext c session serial → ⊥
+IsRouted c session serial by (Moved owner) = IsNext c session serial × (by ≢ c.owner) × (owner ≡ c.owner)
+IsRouted c session serial by NoMemory = IsNext c session serial × (by ≡ c.owner)
 
--- a command was passed: its session has had one more, the history has one entry more, the owner is the same
-pub record IsPassed {B : Type 0} (old new : UnitValue B) (session : ℕ) : Type 0 where
-  pub sessions : new.sessions ≡ passed old.sessions session
-  pub count : new.count ≡ old.count + 1
-  pub owner : new.owner ≡ old.owner
+-- a command whose reply has data takes memory for them: a READ
+abbrev pub ReturnsData : Result ScsiCommand CdbFault → Type 0
+ReturnsData (Ok TestUnitReady) = ⊥
+ReturnsData (Ok (Read lba blocks)) = Unit {0}
+ReturnsData (Ok (Write lba blocks)) = ⊥
+ReturnsData (Err fault) = ⊥
 
--- the command's entry, whose choice its answer and the unit after it tell
+-- the command takes memory: no rule refuses it, and its reply has data
+pub record TakesMemory (c : ControlValue) (r : Request) : Type 0 where
+  pub unrefused : refusal c r ≡ None
+  pub returns : ReturnsData r.asked
+
+-- the command's entry, whose choice its reply and the unit after it tell
 abbrev pub entry_of : ℕ → ℕ → Group → Result ScsiCommand CdbFault → List ℕ → ReplyValue → UnitState → Entry
 entry_of session serial by asked bytes reply new = Command session serial by asked bytes (choice_of reply new.blocks)
 
--- the step added this entry: it was possible, and state and reply are what the model gives
-pub record IsStep (old new : UnitState) (entry : Entry) (reply : ReplyValue) : Type 0 where
-  pub possible : IsPossible old entry
-  pub state : new ≡ after old entry
-  pub answer : reply_to old entry ≡ Some reply
+-- The step added this entry: it was possible, and what is left and the reply are what the model gives; the blocks
+-- too, where the device's type claims them.
+pub record IsStep (claims : Bool) (old new : UnitState) (entry : Entry) (reply : ReplyValue) : Type 0 where
+  pub possible : IsPossible claims old entry
+  pub control : new.control ≡ control_after old.control entry
+  pub blocks : IsTrue claims → new.blocks ≡ blocks_after old entry
+  pub answer : IsReplyTo claims old entry reply
+
+-- a command that a rule refuses does not reach the device
+abbrev pub OnRefusal : Option Refusal → Type 0 → Type 0
+OnRefusal (Some refused) P = P
+OnRefusal None P = Unit {0}

@@ -1,42 +1,57 @@
 //! The commands on a unit's device.
-ghost use Rattle.std.specs.Prelude.{◌≡◌, ◌+◌, ◌*◌, ◌≤◌, ◌&&◌, nat_lt, nat_le, List, ℕ, IsTrue, IfOk, IfSome, OnErr, MatchResult, length};
+ghost use Rattle.std.specs.Prelude.{◌≡◌, ◌+◌, ◌*◌, ◌≤◌, ℕ, List, IfOk, OnErr, Ok, length};
 ghost use Rattle.block_file.specs.Failures.{Tells};
-ghost use Rattle.scsi_types.specs.Sense.{sense};
 ghost use Rattle.scsi_types.specs.declared.command.Command.TheVariants.{Read, Write};
 ghost use Rattle.unit_state.specs.Choice.{IsFine, choice_of};
-ghost use Rattle.unit_state.specs.Served.{refused_by, IsAdmitted, IsAnswered, IsDone, IsRefused, TakesMemory};
+ghost use Rattle.unit_state.specs.Medium.{Fits, IsDone, Reads, Writes, work_of};
+ghost use Rattle.unit_state.specs.Answer.{IsAnswer};
+ghost use Rattle.unit_state.specs.Refusal.{refusal, request};
+ghost use Rattle.unit_state.specs.Step.{OnRefusal, ReturnsData, TakesMemory};
 
+use crate::control::Control;
 use crate::medium::{read_range, write_range};
 use block_file::Blocks;
-use scsi_types::{Asked, CdbFault, Command, NoMemory, Reply, Sense, need};
+use scsi_types::{Asked, Command, NoMemory, Reply, Sense};
 use std::alloc::Global;
 
-/// INVALID COMMAND OPERATION CODE, of the key ILLEGAL REQUEST (SPC-4, 4.5.6).
-const UNKNOWN_OPCODE: u8 = 0x20;
-
-/// LOGICAL BLOCK ADDRESS OUT OF RANGE.
-const OUT_OF_RANGE: u8 = 0x21;
-
-/// INVALID FIELD IN CDB.
-const INVALID_FIELD: u8 = 0x24;
-
-/// Serves a command on a device. Only a READ takes memory, before the device is asked.
-pub fn serve<B: Blocks>(
+/// Answers a command: the refusal of the first rule that applies, else what the command returns. Only a READ takes
+/// memory, before the device is asked.
+pub fn answer<B: Blocks>(
     device: &mut B,
+    control: &Control,
     alloc: Global,
     asked: Asked,
     bytes: &[u8],
 ) -> Result<Reply, NoMemory>
+    requires { control.now.total ≡ B.size device.old }
+    ensures size { B.size device.new ≡ B.size device.old }
     ensures err { OnErr result (device.new ≡ device.old) }
-    ensures memory { OnErr result (TakesMemory asked) }
-    ensures refused { IfOk result (λ reply. IfSome (refused_by (B.size device.old) asked (length bytes.now)) (λ refusal. (reply ≡ refusal) × (device.new ≡ device.old))) }
-    ensures served { IsTrue B.claims → IfOk result (λ reply. IsAnswered (B.contents device.old) (B.contents device.new) asked bytes.now reply) }
+    ensures memory { (session : ℕ) → OnErr result (TakesMemory control.now (request session asked bytes.now)) }
+    ensures answered { IfOk result (IsAnswer B.claims control.now (B.contents device.old) (B.contents device.new) asked bytes.now) }
+    ensures unreached { (session : ℕ) → OnRefusal (refusal control.now (request session asked bytes.now)) (device.new ≡ device.old) }
     ensures fine { IfOk result (λ reply. Tells (B.failures device.old) (B.failures device.new) (IsFine (choice_of reply (B.contents device.new)))) }
 {
-    let command = match admit(asked, device.count(), bytes.len()) {
+    let command = match control.admit(asked, bytes) {
         Ok(command) => command,
-        Err(sense) => return Ok(Reply::check(alloc, sense)),
+        Err(refusal) => return Ok(refusal.reply(alloc)),
     };
+    serve(device, alloc, command, bytes)
+}
+
+/// Serves a command that no rule refuses. Only a READ takes memory, before the device is asked.
+fn serve<B: Blocks>(
+    device: &mut B,
+    alloc: Global,
+    command: Command,
+    bytes: &[u8],
+) -> Result<Reply, NoMemory>
+    requires { Fits (B.size device.old) (work_of command bytes.now) }
+    ensures size { B.size device.new ≡ B.size device.old }
+    ensures err { OnErr result (device.new ≡ device.old) }
+    ensures memory { OnErr result (ReturnsData (Ok command)) }
+    ensures done { IfOk result (IsDone B.claims (B.contents device.old) (B.contents device.new) (work_of command bytes.now)) }
+    ensures fine { IfOk result (λ reply. Tells (B.failures device.old) (B.failures device.new) (IsFine (choice_of reply (B.contents device.new)))) }
+{
     match command {
         Command::TestUnitReady => Ok(Reply::good(Vec::new(alloc))),
         Command::Read { lba, blocks } => read(device, alloc, lba, blocks),
@@ -44,44 +59,12 @@ pub fn serve<B: Blocks>(
     }
 }
 
-/// The command, where no rule refuses it: its data is there, and its range lies within the unit.
-fn admit(asked: Asked, total: u32, given: usize) -> Result<Command, Sense>
-    ensures { MatchResult result (λ command. IsAdmitted total asked given command) (λ sense. IsRefused total asked given sense) }
-{
-    let command = match asked {
-        Ok(command) => command,
-        Err(CdbFault::UnknownOpcode) => return Err(illegal(UNKNOWN_OPCODE)),
-        Err(CdbFault::BadField(_)) => return Err(illegal(INVALID_FIELD)),
-    };
-    if (given as u64) < u64::from(need(&command)) {
-        return Err(illegal(INVALID_FIELD));
-    }
-    match command {
-        Command::Read { lba, blocks } | Command::Write { lba, blocks }
-            if !is_within(lba, blocks, total) => { Err(illegal(OUT_OF_RANGE)) }
-        _ => Ok(command),
-    }
-}
-
-/// Whether a range lies within a unit of so many blocks, its LBA too where it is empty (SBC-3, READ (10) command).
-fn is_within(lba: u64, blocks: u16, total: u32) -> bool
-    ensures { result ≡ nat_lt lba total && nat_le (lba + blocks) total }
-{
-    lba < u64::from(total) && lba + u64::from(blocks) <= u64::from(total)
-}
-
-/// ILLEGAL REQUEST (SPC-4, 4.5.6).
-fn illegal(asc: u8) -> Sense
-    ensures { result ≡ sense 0x05 asc 0x00 }
-{
-    Sense::new(0x05, asc, 0x00)
-}
-
 /// READ (SBC-3, READ (10) command).
 fn read<B: Blocks>(device: &mut B, alloc: Global, lba: u64, blocks: u16) -> Result<Reply, NoMemory>
     requires { lba + blocks ≤ B.size device.old }
+    ensures size { B.size device.new ≡ B.size device.old }
     ensures err { OnErr result (device.new ≡ device.old) }
-    ensures done { (bytes : List ℕ) → IsTrue B.claims → IfOk result (λ reply. IsDone (B.contents device.old) (B.contents device.new) (Read lba blocks) bytes reply) }
+    ensures done { IfOk result (IsDone B.claims (B.contents device.old) (B.contents device.new) (Reads (record { lba = lba; blocks = blocks }))) }
     ensures fine { IfOk result (λ reply. Tells (B.failures device.old) (B.failures device.new) (IsFine (choice_of reply (B.contents device.new)))) }
 {
     let mut out = vec![in alloc; 0u8; 512 * usize::from(blocks)]?;
@@ -95,7 +78,8 @@ fn read<B: Blocks>(device: &mut B, alloc: Global, lba: u64, blocks: u16) -> Resu
 fn write<B: Blocks>(device: &mut B, alloc: Global, lba: u64, blocks: u16, bytes: &[u8]) -> Reply
     requires range { lba + blocks ≤ B.size device.old }
     requires given { 512 * blocks ≤ length bytes.now }
-    ensures done { IsTrue B.claims → IsDone (B.contents device.old) (B.contents device.new) (Write lba blocks) bytes.now result }
+    ensures size { B.size device.new ≡ B.size device.old }
+    ensures done { IsDone B.claims (B.contents device.old) (B.contents device.new) (Writes (record { lba = lba; blocks = blocks }) bytes.now) result }
     ensures fine { Tells (B.failures device.old) (B.failures device.new) (IsFine (choice_of result (B.contents device.new))) }
 {
     let Ok(()) = write_range(device, lba as u32, blocks, bytes) else {

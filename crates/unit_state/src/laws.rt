@@ -1,36 +1,47 @@
 //! What the model of a unit says, in a storage engineer's words.
-ghost use Rattle.std.specs.Prelude.{◌≡◌, ◌*◌, ◌<◌, ◌↔◌, ℕ, List, [], ◌∷◌, ◌++◌, length, take, Option, Some, None, Ok, Result};
-ghost use Rattle.scsi_types.specs.ReplyValue.{good};
+ghost use Rattle.std.specs.Prelude.{◌≡◌, ◌*◌, ◌<◌, ◌↔◌, ℕ, Bool, true, List, [], ◌∷◌, ◌++◌, length, take, Option, Some, None, Ok, Result};
+ghost use Rattle.scsi_types.specs.ReplyValue.{ReplyValue, good};
 ghost use Rattle.scsi_types.specs.declared.names.Group.{Group};
 ghost use Rattle.scsi_types.specs.declared.command.Command.{Command as ScsiCommand};
 ghost use Rattle.scsi_types.specs.declared.command.Command.TheVariants.{Read, Write};
 ghost use Rattle.scsi_types.specs.declared.command.CdbFault.{CdbFault};
 ghost use Rattle.unit_state.specs.State.{UnitState};
 ghost use Rattle.unit_state.specs.Choice.{Choice, Fine};
-ghost use Rattle.unit_state.specs.Refusal.{refusal};
-ghost use Rattle.unit_state.specs.Entry.{Entry, Command, IsPossible, IsTaken, after, reply_to, request};
-ghost use Rattle.unit_state.specs.History.{state_after, IsLegal, reply_at};
+ghost use Rattle.unit_state.specs.Refusal.{refusal, request};
+ghost use Rattle.unit_state.specs.Entry.{Entry, Command, IsPossible, IsNext, after, reply_to};
+ghost use Rattle.unit_state.specs.History.{state_after, IsLegal, IsReplyAt, reply_at};
 
 /// One entry more of a history changes the state that the history gives, and is possible and answered in that
 /// state; the replies before it stay.
 pub fn one_entry_more()
     ensures state { (s : UnitState) (history : List Entry) (entry : Entry) → state_after s (history ++ entry ∷ []) ≡ after (state_after s history) entry }
-    ensures legal { (s : UnitState) (history : List Entry) (entry : Entry) → IsLegal s (history ++ entry ∷ []) ↔ (IsLegal s history × IsPossible (state_after s history) entry) }
-    ensures reply { (s : UnitState) (history : List Entry) (entry : Entry) → reply_at s (history ++ entry ∷ []) (length history) ≡ reply_to (state_after s history) entry }
-    ensures before { (s : UnitState) (history : List Entry) (entry : Entry) (i : ℕ) → i < length history → reply_at s (history ++ entry ∷ []) i ≡ reply_at s history i }
+    ensures legal { (claims : Bool) (s : UnitState) (history : List Entry) (entry : Entry)
+        → IsLegal claims s (history ++ entry ∷ []) ↔ (IsLegal claims s history × IsPossible claims (state_after s history) entry) }
+    ensures reply { (s : UnitState) (history : List Entry) (entry : Entry)
+        → reply_at s (history ++ entry ∷ []) (length history) ≡ reply_to (state_after s history) entry }
+    ensures before { (s : UnitState) (history : List Entry) (entry : Entry) (i : ℕ) → i < length history
+        → reply_at s (history ++ entry ∷ []) i ≡ reply_at s history i }
+{}
+
+/// Over a disk that keeps what it claims there is one reply to each command: the one that the model computes.
+pub fn a_disk_decides_the_reply()
+    ensures { (s : UnitState) (history : List Entry) (i : ℕ) (reply : ReplyValue) → IsReplyAt true s history i reply → reply_at s history i ≡ Some reply }
 {}
 
 /// Where nothing refuses a WRITE and the device does not fail, it is GOOD, and a READ of the same range gives the
 /// bytes that were written, to whatever session (SBC-3, READ (10) and WRITE (10) commands).
 pub fn a_read_gives_what_was_written()
-    ensures write { (s : UnitState) (session serial : ℕ) (by : Group) (lba blocks : ℕ) (bytes : List ℕ) → refusal s (request session (Ok (Write lba blocks)) bytes) ≡ None
+    ensures write { (s : UnitState) (session serial : ℕ) (by : Group) (lba blocks : ℕ) (bytes : List ℕ)
+        → refusal s.control (request session (Ok (Write lba blocks)) bytes) ≡ None
         → reply_to s (Command session serial by (Ok (Write lba blocks)) bytes Fine) ≡ Some (good []) }
-    ensures read { (s : UnitState) (session serial : ℕ) (by : Group) (reader next : ℕ) (through : Group) (lba blocks : ℕ) (bytes none : List ℕ) → refusal s (request session (Ok (Write lba blocks)) bytes) ≡ None
+    ensures read { (s : UnitState) (session serial : ℕ) (by : Group) (reader next : ℕ) (through : Group) (lba blocks : ℕ) (bytes none : List ℕ)
+        → length s.blocks ≡ s.control.total → refusal s.control (request session (Ok (Write lba blocks)) bytes) ≡ None
         → reply_to (after s (Command session serial by (Ok (Write lba blocks)) bytes Fine)) (Command reader next through (Ok (Read lba blocks)) none Fine) ≡ Some (good (take (512 * blocks) bytes)) }
 {}
 
 /// A command is served once: its serial is not taken again.
 pub fn a_serial_is_taken_once()
-    ensures { (s : UnitState) (session serial : ℕ) (by : Group) (asked : Result ScsiCommand CdbFault) (bytes : List ℕ) (choice : Choice) → IsPossible s (Command session serial by asked bytes choice)
-        → IsTaken (after s (Command session serial by asked bytes choice)) session serial → ⊥ }
+    ensures { (claims : Bool) (s : UnitState) (session serial : ℕ) (by : Group) (asked : Result ScsiCommand CdbFault) (bytes : List ℕ) (choice : Choice)
+        → IsPossible claims s (Command session serial by asked bytes choice)
+        → IsNext (after s (Command session serial by asked bytes choice)).control session serial → ⊥ }
 {}

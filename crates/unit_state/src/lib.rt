@@ -2,13 +2,16 @@
 #![tactic(auto)]
 
 mod commands;
+mod control;
 pub mod laws;
 mod medium;
+mod refusal;
 mod sessions;
 mod unit;
 
+pub use control::AttachFault;
 pub use sessions::SessionId;
-pub use unit::{AttachFault, StepEnd, Unit};
+pub use unit::{StepEnd, Unit};
 
 #[cfg(test)]
 mod tests;

@@ -15,6 +15,7 @@ pub fn read_range<B: Blocks>(
 ) -> Result<(), DeviceFailed>
     requires range { lba + blocks ≤ B.size device.old }
     requires fits { length out.old ≡ 512 * blocks }
+    ensures size { B.size device.new ≡ B.size device.old }
     ensures read { IsTrue B.claims → OnOk result (out.new ≡ range_bytes (B.contents device.old) lba blocks) }
     ensures contents { IsTrue B.claims → B.contents device.new ≡ B.contents device.old }
     ensures failures { Counts (B.failures device.old) (B.failures device.new) result }
@@ -52,6 +53,7 @@ pub fn write_range<B: Blocks>(
 ) -> Result<(), DeviceFailed>
     requires range { lba + blocks ≤ B.size device.old }
     requires fits { 512 * blocks ≤ length bytes.now }
+    ensures size { B.size device.new ≡ B.size device.old }
     ensures written { IsTrue B.claims → OnOk result (B.contents device.new ≡ written (B.contents device.old) lba (cut blocks bytes.now)) }
     ensures torn { IsTrue B.claims → Between (B.contents device.old) lba (cut blocks bytes.now) (B.contents device.new) }
     ensures failures { Counts (B.failures device.old) (B.failures device.new) result }

@@ -33,7 +33,7 @@ pub fn place_of(sessions: &[Attached], id: SessionId) -> Option<usize>
 }
 
 /// Counts one command more of the session at a place.
-pub fn pass(sessions: &mut Vec<Attached>, at: usize)
+pub fn pass_at(sessions: &mut Vec<Attached>, at: usize)
     requires place { at < length sessions.old.items }
     requires room { IfSome (slice_get sessions.old.items at) (λ a. a.next < 2 ^ 64 - 1) }
     ensures passed { IsPassedAt sessions.old.items at sessions.new.items }

@@ -1,0 +1,25 @@
+//! Refusals by rule.
+ghost use Rattle.std.specs.Prelude.{◌≡◌};
+
+use scsi_types::{Reply, Sense};
+use std::alloc::Global;
+
+/// Why a rule refuses a command, with its answer.
+#[derive(Clone, Copy, Debug, PartialEq, Eq)]
+pub enum Refusal {
+    /// CHECK CONDITION with this sense; nothing changes.
+    Check(Sense),
+}
+
+impl Refusal {
+    ghost use Rattle.unit_state.specs.Refusal.{refusal_reply};
+
+    /// Its answer.
+    pub fn reply(self, alloc: Global) -> Reply
+        ensures { result ≡ refusal_reply self }
+    {
+        match self {
+            Refusal::Check(sense) => Reply::check(alloc, sense),
+        }
+    }
+}
