@@ -4,18 +4,20 @@
 mod attention;
 mod cdb;
 mod command;
+mod form;
+pub mod laws;
 mod lun;
+mod medium;
 mod memory;
 mod names;
 mod reply;
 mod sense;
 mod status;
-#[cfg(test)]
-mod tests;
 
 pub use attention::UnitAttention;
 pub use cdb::decode;
 pub use command::{Asked, CdbFault, Command, Op, need};
+pub use form::CdbForm;
 pub use lun::Lun;
 pub use memory::NoMemory;
 pub use names::{Group, Place, PortName};
