@@ -8,6 +8,7 @@ mod lun;
 mod memory;
 mod names;
 mod reply;
+mod reservation;
 mod sense;
 mod status;
 #[cfg(test)]
@@ -20,5 +21,6 @@ pub use lun::Lun;
 pub use memory::NoMemory;
 pub use names::{Group, Place, PortName};
 pub use reply::Reply;
+pub use reservation::PrOutAction;
 pub use sense::Sense;
 pub use status::Status;
