@@ -11,6 +11,7 @@ mod medium;
 mod memory;
 mod names;
 mod reply;
+mod reservation;
 mod sense;
 mod status;
 
@@ -22,5 +23,6 @@ pub use lun::Lun;
 pub use memory::NoMemory;
 pub use names::{Group, Place, PortName};
 pub use reply::Reply;
+pub use reservation::PrOutAction;
 pub use sense::Sense;
 pub use status::Status;
