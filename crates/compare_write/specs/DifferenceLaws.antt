@@ -1,5 +1,5 @@
 -- Where runs of bytes differ first, and where they do not.
-use Rattle.std.proofs.Common.{◌≡◌, ◌≢◌, ⊎_elim, ℕ, zero, suc, ◌+◌, ◌-◌, ◌<◌, ◌≤◌, Bool, true, false, not, nat_eq, List, [], ◌∷◌, ◌++◌, length, get_or, Option, Some, None, refl, sym, ◌∙◌, ap, subst, arith}
+use Rattle.std.proofs.Common.{◌≡◌, ◌≢◌, ⊎_elim, MatchOption, ℕ, zero, suc, ◌+◌, ◌-◌, ◌<◌, true, false, nat_eq, List, [], ◌∷◌, ◌++◌, length, get_or, Option, Some, None, refl, sym, ◌∙◌, ap, arith}
 use Rattle.std.proofs.lemmas.Bool.Decides.{eqb_tells, nat_tests}
 use Rattle.std.proofs.lemmas.Grind.{common_steps}
 use Rattle.compare_write.specs.Difference.{first_difference}
@@ -38,10 +38,10 @@ difference_in_front (x ∷ xs) [] rest more at h = absurd (cc)
 difference_in_front (x ∷ xs) (y ∷ ys) rest more at h =
     ⊎_elim
     (λ (t : (nat_eq x y ≡ true) × (x ≡ y)).
-      let back = some_behind x y xs ys at t.1 h in
-      behind_equal x y (xs ++ rest) (ys ++ more) (at - 1) t.1 (difference_in_front xs ys rest more (at - 1) back.1) ∙ ap (λ (n : ℕ). let o : Option ℕ = Some n in o) (sym back.0))
+    let back = some_behind x y xs ys at t.1 h in
+    behind_equal x y (xs ++ rest) (ys ++ more) (at - 1) t.1 (difference_in_front xs ys rest more (at - 1) back.1) ∙ ap (λ (n : ℕ). let o : Option ℕ = Some n in o) (sym back.0))
     (λ (f : (nat_eq x y ≡ false) × (x ≢ y)).
-      at_once x y (xs ++ rest) (ys ++ more) f.1 ∙ ap (λ (n : ℕ). let o : Option ℕ = Some n in o) (sym (some_at_once x y xs ys at f.1 h)))
+    at_once x y (xs ++ rest) (ys ++ more) f.1 ∙ ap (λ (n : ℕ). let o : Option ℕ = Some n in o) (sym (some_at_once x y xs ys at f.1 h)))
     (eqb_tells x y)
 
 -- runs of one length that differ nowhere are equal
@@ -60,6 +60,11 @@ pub differs_nowhere : (xs : List ℕ) → first_difference xs xs ≡ None
 differs_nowhere [] = refl
 differs_nowhere (x ∷ xs) = let rest = differs_nowhere xs in grind (arith, common_steps, nat_tests)
 
+-- what a search for the first difference tells of runs of one length
+pub as_found : (xs ys : List ℕ) (found : Option ℕ) → length xs ≡ length ys → found ≡ first_difference xs ys → MatchOption found (xs ≡ ys) (λ at. first_difference xs ys ≡ Some at)
+as_found xs ys None long is = none_differs xs ys long (sym is)
+as_found xs ys (Some at) long is = sym is
+
 -- at the first difference the runs differ, and before it they agree
 pub within_both : (xs ys : List ℕ) (at : ℕ) → first_difference xs ys ≡ Some at → (at < length xs) × (at < length ys)
 within_both [] ys at h = absurd (cc)
@@ -67,8 +72,8 @@ within_both (x ∷ xs) [] at h = absurd (cc)
 within_both (x ∷ xs) (y ∷ ys) at h =
     ⊎_elim
     (λ (t : (nat_eq x y ≡ true) × (x ≡ y)).
-      let back = some_behind x y xs ys at t.1 h in let inner = within_both xs ys (at - 1) back.1 in
-      let one = back.0 in let left = inner.0 in let right = inner.1 in (omega arith, omega arith))
+    let back = some_behind x y xs ys at t.1 h in let inner = within_both xs ys (at - 1) back.1 in
+    let one = back.0 in let left = inner.0 in let right = inner.1 in (omega arith, omega arith))
     (λ (f : (nat_eq x y ≡ false) × (x ≢ y)). let here = some_at_once x y xs ys at f.1 h in (omega arith, omega arith))
     (eqb_tells x y)
 
@@ -78,7 +83,7 @@ differs_at (x ∷ xs) [] at h = absurd (cc)
 differs_at (x ∷ xs) (y ∷ ys) at h =
     ⊎_elim
     (λ (t : (nat_eq x y ≡ true) × (x ≡ y)).
-      let back = some_behind x y xs ys at t.1 h in rw back.0 (differs_at xs ys (at - 1) back.1))
+    let back = some_behind x y xs ys at t.1 h in rw back.0 (differs_at xs ys (at - 1) back.1))
     (λ (f : (nat_eq x y ≡ false) × (x ≢ y)). let here = some_at_once x y xs ys at f.1 h in rw here f.1)
     (eqb_tells x y)
 
@@ -92,6 +97,6 @@ agrees_before (x ∷ xs) (y ∷ ys) at h zero lt =
 agrees_before (x ∷ xs) (y ∷ ys) at h (suc k) lt =
     ⊎_elim
     (λ (t : (nat_eq x y ≡ true) × (x ≡ y)).
-      let back = some_behind x y xs ys at t.1 h in let one = back.0 in agrees_before xs ys (at - 1) back.1 k (omega arith))
+    let back = some_behind x y xs ys at t.1 h in let one = back.0 in agrees_before xs ys (at - 1) back.1 k (omega arith))
     (λ (f : (nat_eq x y ≡ false) × (x ≢ y)). let here = some_at_once x y xs ys at f.1 h in absurd (omega arith))
     (eqb_tells x y)

@@ -6,6 +6,6 @@ mod end;
 pub mod laws;
 mod medium;
 
-pub use compare::MOST_COMPARED;
+pub use compare::{MOST_COMPARED, compare_and_write};
 pub use end::MediumEnd;
 pub use medium::{read_range, sync, write_range};

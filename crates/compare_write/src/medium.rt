@@ -55,9 +55,7 @@ pub fn write_range<B: Blocks>(device: &mut B, lba: u32, blocks: u16, bytes: &[u8
     ensures size { B.size device.new ≡ B.size device.old }
     ensures ends { IsWriteEnd result }
     ensures failures { Tells (B.failures device.old) (B.failures device.new) (IsUnfailed result) }
-    ensures written {
-        IsTrue B.claims → OnDone result (B.contents device.new ≡ written (B.contents device.old) lba (cut blocks bytes.now))
-    }
+    ensures written { IsTrue B.claims → OnDone result (B.contents device.new ≡ written (B.contents device.old) lba (cut blocks bytes.now)) }
     ensures torn { IsTrue B.claims → Between (B.contents device.old) lba (cut blocks bytes.now) (B.contents device.new) }
     ensures crash { IsTrue B.claims → Adds lba (cut blocks bytes.now) (B.may_hold device.old) (B.may_hold device.new) }
 {

@@ -1,6 +1,4 @@
-use Rattle.std.proofs.Common.{◌≡◌, List, ℕ, subst}
-use Rattle.compare_write.specs.Difference.{first_difference}
-use Rattle.compare_write.specs.DifferenceLaws.{within_both, differs_at, agrees_before, none_differs, differs_nowhere, difference_in_front, first_difference-append}
+use Rattle.compare_write.specs.DifferenceLaws.{within_both, differs_at, agrees_before, none_differs, differs_nowhere}
 use Rattle.compare_write.proofs.laws.the_first_difference_is_the_least.Goals as goal
 
 pub returns-clause-differs : goal.returns-clause-differs
