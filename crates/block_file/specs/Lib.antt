@@ -5,3 +5,4 @@ pub mod FailureLaws
 pub mod Failures
 pub mod Fuse
 pub mod Moment
+pub mod ReadBack

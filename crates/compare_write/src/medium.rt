@@ -6,14 +6,14 @@ ghost use Rattle.block_file.specs.Failures.{Counts, Tells};
 ghost use Rattle.compare_write.specs.Ends.{IsUnfailed, IsReadEnd, IsWriteEnd, IsSyncEnd, OnDone};
 
 use crate::MediumEnd;
-use block_file::{Blocks, DeviceFailed};
+use block_file::{BLOCK_LENGTH, Blocks, DeviceFailed};
 
-/// Reads the blocks of a range into `out`, of 512 bytes a block (SBC-3, READ (10) command).
+/// Reads the blocks of a range into `out`, which has as many bytes (SBC-3, READ (10) command).
 ///
 /// Done, or ReadFailed where the device failed: then nothing is known of what `out` holds. No block changes.
 pub fn read_range<B: Blocks>(device: &mut B, lba: u32, blocks: u16, out: &mut [u8]) -> MediumEnd
     requires range { lba + blocks ≤ B.size device.old }
-    requires room { length out.old ≡ 512 * blocks }
+    requires room { length out.old ≡ BLOCK_LENGTH * blocks }
     ensures size { B.size device.new ≡ B.size device.old }
     ensures ends { IsReadEnd result }
     ensures failures { Tells (B.failures device.old) (B.failures device.new) (IsUnfailed result) }
@@ -22,8 +22,8 @@ pub fn read_range<B: Blocks>(device: &mut B, lba: u32, blocks: u16, out: &mut [u
     ensures crash { IsTrue B.claims → NoMore (B.may_hold device.old) (B.may_hold device.new) }
 {
     for k in 0..blocks {
-        let at = 512 * usize::from(k);
-        let Ok(()) = read_block(device, lba + u32::from(k), &mut out[at..at + 512]) else {
+        let at = BLOCK_LENGTH * usize::from(k);
+        let Ok(()) = read_block(device, lba + u32::from(k), &mut out[at..at + BLOCK_LENGTH]) else {
             return MediumEnd::ReadFailed;
         };
     }
@@ -33,7 +33,7 @@ pub fn read_range<B: Blocks>(device: &mut B, lba: u32, blocks: u16, out: &mut [u
 /// Reads one block into its place.
 fn read_block<B: Blocks>(device: &mut B, index: u32, place: &mut [u8]) -> Result<(), DeviceFailed>
     requires index { index < B.size device.old }
-    requires room { length place.old ≡ 512 }
+    requires room { length place.old ≡ BLOCK_LENGTH }
     ensures size { B.size device.new ≡ B.size device.old }
     ensures failures { Counts (B.failures device.old) (B.failures device.new) result }
     ensures read { IsTrue B.claims → OnOk result (place.new ≡ block_at (B.contents device.old) index) }
@@ -46,12 +46,12 @@ fn read_block<B: Blocks>(device: &mut B, index: u32, place: &mut [u8]) -> Result
     device.read(index, block)
 }
 
-/// Writes the first 512 bytes a block of `bytes` to a range (SBC-3, WRITE (10) command).
+/// Writes the first of `bytes`, as many as the range has, to it (SBC-3, WRITE (10) command).
 ///
 /// Done, or WriteFailed where the device failed: then each block of the range is the old one or the new one.
 pub fn write_range<B: Blocks>(device: &mut B, lba: u32, blocks: u16, bytes: &[u8]) -> MediumEnd
     requires range { lba + blocks ≤ B.size device.old }
-    requires given { 512 * blocks ≤ length bytes.now }
+    requires given { BLOCK_LENGTH * blocks ≤ length bytes.now }
     ensures size { B.size device.new ≡ B.size device.old }
     ensures ends { IsWriteEnd result }
     ensures failures { Tells (B.failures device.old) (B.failures device.new) (IsUnfailed result) }
@@ -60,8 +60,8 @@ pub fn write_range<B: Blocks>(device: &mut B, lba: u32, blocks: u16, bytes: &[u8
     ensures crash { IsTrue B.claims → Adds lba (cut blocks bytes.now) (B.may_hold device.old) (B.may_hold device.new) }
 {
     for k in 0..blocks {
-        let at = 512 * usize::from(k);
-        let Some(block) = bytes[at..at + 512].as_array::<512>() else {
+        let at = BLOCK_LENGTH * usize::from(k);
+        let Some(block) = bytes[at..at + BLOCK_LENGTH].as_array::<512>() else {
             unreachable!()
         };
         let Ok(()) = device.write(lba + u32::from(k), block) else {
