@@ -1,13 +1,14 @@
--- Bytes that are cut into blocks of 512.
+-- Bytes that are cut into blocks.
 use Rattle.std.proofs.Common.{◌≡◌, ◌⊎◌, ℕ, zero, suc, ◌+◌, ◌-◌, ◌*◌, ◌<◌, List, [], ◌∷◌, ◌++◌, length, take, drop, replicate, flat_map, refl, sym, ◌∙◌, ap, subst, arith, append_assoc, length-take, length-drop}
 use Rattle.std.proofs.lemmas.List.{drop-drop, take_all, take-append-le, drop-append-le, take-append-drop, take-take, drop-take, take-replicate, drop-replicate}
+use Rattle.block_file.specs.declared.blocks.TheConstants.{BLOCK_LENGTH}
 use Rattle.block_file.specs.Disk.{block_at, written, Between, IsNewAt}
 use Rattle.block_file.specs.DiskLaws.{between_written}
 
 -- so many blocks that bytes make
 abbrev pub cut : ℕ → List ℕ → List (List ℕ)
 cut zero bytes = []
-cut (suc n) bytes = take 512 bytes ∷ cut n (drop 512 bytes)
+cut (suc n) bytes = take BLOCK_LENGTH bytes ∷ cut n (drop BLOCK_LENGTH bytes)
 
 pub length-cut : (n : ℕ) (bytes : List ℕ) → length (cut n bytes) ≡ n
 length-cut zero bytes = refl

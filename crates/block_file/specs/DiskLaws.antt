@@ -1,5 +1,6 @@
 -- Laws of disks as lists of blocks, for the proofs of those who write and read them.
 use Rattle.std.proofs.Common.{◌≡◌, ◌⊎◌, inl, inr, ⊎_elim, ℕ, ◌+◌, ◌-◌, ◌<◌, ◌≤◌, List, [], ◌∷◌, ◌++◌, length, get_or, take, drop, flat_map, refl, sym, ◌∙◌, ap, arith, append_assoc, length-append, length-take, length-drop}
+use Rattle.std.proofs.Math.Seq.{take-add}
 use Rattle.std.proofs.lemmas.Bool.{cases_lt}
 use Rattle.std.proofs.lemmas.Grind.{common_steps}
 use Rattle.std.proofs.lemmas.List.{drop-drop, drop_at, take-append-drop, take_more, take-append-le, get_or-drop, get_or-take, get_or-append_right, append-nil, take_all}
@@ -113,3 +114,10 @@ range_more disk first k lt =
     ap (flat_map (λ b. b)) (take_more (drop first disk) k [] (omega (arith, length-drop first disk)))
     ∙ flat_map-append (λ b. b) (take k (drop first disk)) (get_or (drop first disk) k [] ∷ [])
     ∙ ap (λ (x : List ℕ). range_bytes disk first k ++ x) (append-nil (get_or (drop first disk) k []) ∙ get_or-drop first disk k [])
+
+-- the bytes of a range, in two parts
+pub range-add : (disk : List (List ℕ)) (first m n : ℕ) → range_bytes disk first (m + n) ≡ range_bytes disk first m ++ range_bytes disk (first + m) n
+range-add disk first m n =
+    ap (flat_map (λ b. b)) (take-add m n (drop first disk))
+    ∙ flat_map-append (λ b. b) (take m (drop first disk)) (take n (drop m (drop first disk)))
+    ∙ ap (λ (d : List (List ℕ)). range_bytes disk first m ++ flat_map (λ b. b) (take n d)) (drop-drop m first disk)

@@ -1,9 +1,9 @@
 -- Failures and their count.
-use Rattle.std.specs.Prelude.{◌≡◌, ℕ, ◌<◌, ◌≤◌, Result, IsOk}
+use Rattle.std.specs.Prelude.{◌≡◌, ℕ, ◌-◌, ◌^◌, ◌<◌, ◌≤◌, Result, IsOk}
 
 -- where a count ends: there it stays, and says nothing any more
 abbrev pub last_count : ℕ
-last_count = 18446744073709551615
+last_count = 2 ^ 64 - 1
 
 -- the count rises exactly where the fact fails
 pub record Tells (before now : ℕ) (done : Type 0) : Type 0 where

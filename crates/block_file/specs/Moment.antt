@@ -1,5 +1,6 @@
 -- Crashes at some moment since an earlier one.
 use Rattle.std.specs.Prelude.{◌⊎◌, ℕ, ◌≤◌, List}
+use Rattle.block_file.specs.Disk.{MayLeave}
 
 -- Time goes on by one call: a crash since a moment may have left what it may have left before the call, or
 -- what it may leave after it, and all of the former.
@@ -7,3 +8,8 @@ pub record Elapses (before now : ℕ) (past since : ℕ → List (List ℕ) → 
   pub later : before ≤ now
   pub nothing_else : (t : ℕ) (disk : List (List ℕ)) → t ≤ before → since t disk → past t disk ⊎ may_leave disk
   pub keeps : (t : ℕ) (disk : List (List ℕ)) → t ≤ before → past t disk → since t disk
+
+-- what a call on a device makes of that: its moment, what a crash since one may have left, its size, and what a
+-- crash now may hold, before the call and after it
+abbrev pub TimePasses : {D : Type 0} → (D → ℕ) → (D → ℕ → List (List ℕ) → Type 0) → (D → ℕ) → (D → ℕ → List ℕ → Type 0) → D → D → Type 0
+TimePasses moment left_since size may_hold old new = Elapses (moment old) (moment new) (left_since old) (left_since new) (MayLeave (size new) (may_hold new))

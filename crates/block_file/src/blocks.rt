@@ -1,9 +1,13 @@
 ghost use Rattle.std.specs.Prelude.{◌≡◌, ◌<◌, ◌≤◌, ◌^◌, [], ◌∷◌, List, ℕ, Bool, length, IsTrue, OnOk};
+ghost use Rattle.block_file.specs.declared.blocks.TheConstants.{BLOCK_LENGTH};
 ghost use Rattle.block_file.specs.Disk.{block_at, written, Between, NoMore, Adds, Only, MayLeave};
-ghost use Rattle.block_file.specs.Moment.{Elapses};
+ghost use Rattle.block_file.specs.Moment.{TimePasses};
 ghost use Rattle.block_file.specs.Failures.{Counts, last_count};
 
 use thiserror::Error;
+
+/// The length of a block in bytes (SBC-3, READ CAPACITY (10): LOGICAL BLOCK LENGTH IN BYTES).
+pub const BLOCK_LENGTH: usize = 512;
 
 /// The device refused a call, and counted it.
 #[derive(Clone, Copy, Debug, PartialEq, Eq, Error)]
@@ -50,17 +54,19 @@ pub trait Blocks: Drop {
         ensures read { IsTrue claims → OnOk result (block.new ≡ block_at (contents self.old) index) }
         ensures contents { IsTrue claims → contents self.new ≡ contents self.old }
         ensures crash { IsTrue claims → NoMore (may_hold self.old) (may_hold self.new) }
-        ensures time { IsTrue claims_moments → Elapses (moment self.old) (moment self.new) (left_since self.old) (left_since self.new) (MayLeave (size self.new) (may_hold self.new)) }
+        ensures time { IsTrue claims_moments → TimePasses moment left_since size may_hold self.old self.new }
         ensures failures { Counts (failures self.old) (failures self.new) result };
 
     /// Writes a block. After a failure it is the old one or the new one.
     fn write(&mut self, index: u32, block: &[u8; 512]) -> Result<(), DeviceFailed>
         requires { index < size self.old }
         ensures size { size self.new ≡ size self.old }
-        ensures written { IsTrue claims → OnOk result (contents self.new ≡ written (contents self.old) index (block.now ∷ [])) }
+        ensures written {
+            IsTrue claims → OnOk result (contents self.new ≡ written (contents self.old) index (block.now ∷ []))
+        }
         ensures torn { IsTrue claims → Between (contents self.old) index (block.now ∷ []) (contents self.new) }
         ensures crash { IsTrue claims → Adds index (block.now ∷ []) (may_hold self.old) (may_hold self.new) }
-        ensures time { IsTrue claims_moments → Elapses (moment self.old) (moment self.new) (left_since self.old) (left_since self.new) (MayLeave (size self.new) (may_hold self.new)) }
+        ensures time { IsTrue claims_moments → TimePasses moment left_since size may_hold self.old self.new }
         ensures failures { Counts (failures self.old) (failures self.new) result };
 
     /// Makes what was written last: after a success a crash leaves the contents.
@@ -69,7 +75,7 @@ pub trait Blocks: Drop {
         ensures contents { IsTrue claims → contents self.new ≡ contents self.old }
         ensures durable { IsTrue claims → OnOk result (Only (contents self.old) (may_hold self.new)) }
         ensures crash { IsTrue claims → NoMore (may_hold self.old) (may_hold self.new) }
-        ensures time { IsTrue claims_moments → Elapses (moment self.old) (moment self.new) (left_since self.old) (left_since self.new) (MayLeave (size self.new) (may_hold self.new)) }
+        ensures time { IsTrue claims_moments → TimePasses moment left_since size may_hold self.old self.new }
         ensures failures { Counts (failures self.old) (failures self.new) result };
 
     /// The number of blocks fits 32 bits.
@@ -81,15 +87,23 @@ pub trait Blocks: Drop {
     /// The contents are as many blocks.
     ghost sized: { (d : Self) → IsTrue claims → length (contents d) ≡ size d };
 
-    /// A block has 512 bytes.
-    ghost wide: { (d : Self) (k : ℕ) → IsTrue claims → k < size d → length (block_at (contents d) k) ≡ 512 };
+    /// Each block has its length.
+    ghost wide: {
+        (d : Self) (k : ℕ) → IsTrue claims → k < size d → length (block_at (contents d) k) ≡ BLOCK_LENGTH
+    };
 
     /// What reads return is one of the outcomes of a crash now.
     ghost is_outcome: { (d : Self) (k : ℕ) → IsTrue claims → k < size d → may_hold d k (block_at (contents d) k) };
 
     /// This moment is one of those since an earlier one.
-    ghost counts_now: { (d : Self) (t : ℕ) (disk : List (List ℕ)) → IsTrue claims_moments → t ≤ moment d → MayLeave (size d) (may_hold d) disk → left_since d t disk };
+    ghost counts_now: {
+        (d : Self) (t : ℕ) (disk : List (List ℕ)) → IsTrue claims_moments → t ≤ moment d
+            → MayLeave (size d) (may_hold d) disk → left_since d t disk
+    };
 
     /// Since this moment there is no other.
-    ghost only_now: { (d : Self) (disk : List (List ℕ)) → IsTrue claims_moments → left_since d (moment d) disk → MayLeave (size d) (may_hold d) disk };
+    ghost only_now: {
+        (d : Self) (disk : List (List ℕ)) → IsTrue claims_moments → left_since d (moment d) disk
+            → MayLeave (size d) (may_hold d) disk
+    };
 }

@@ -1,13 +1,41 @@
-//! What the definitions of a write that may have stopped say, in other words.
-ghost use Rattle.std.specs.Prelude.{◌≡◌, ◌⊎◌, ◌+◌, ◌-◌, ◌<◌, ◌≤◌, List, ℕ, length};
-ghost use Rattle.block_file.specs.Disk.{block_at, written, Between};
+//! What the definitions of disks and writes say, in other words, and which devices claim them.
+ghost use Rattle.std.specs.Prelude.{◌≡◌, ◌⊎◌, ◌+◌, ◌-◌, ◌*◌, ◌<◌, ◌≤◌, ℕ, List, length, take, IsTrue};
+ghost use Rattle.block_file.specs.Cut.{cut};
+ghost use Rattle.block_file.specs.Disk.{block_at, written, range_bytes, Between};
+
+use crate::{BLOCK_LENGTH, Blocks, FusedBlocks, MemBlocks};
 
 /// Outside its range a write that may have stopped leaves each block as it was.
 pub fn outside_the_range()
-    ensures { (old after blocks : List (List ℕ)) (first k : ℕ) → Between old first blocks after → (k < first) ⊎ (first + length blocks ≤ k) → block_at after k ≡ block_at old k }
+    ensures {
+        (old after blocks : List (List ℕ)) (first k : ℕ) → Between old first blocks after
+            → (k < first) ⊎ (first + length blocks ≤ k) → block_at after k ≡ block_at old k
+    }
 {}
 
 /// Inside its range each block is the old one or the new one.
 pub fn inside_the_range()
-    ensures { (old after blocks : List (List ℕ)) (first k : ℕ) → Between old first blocks after → k < length blocks → (block_at after (first + k) ≡ block_at old (first + k)) ⊎ (block_at after (first + k) ≡ block_at blocks k) }
+    ensures {
+        (old after blocks : List (List ℕ)) (first k : ℕ) → Between old first blocks after → k < length blocks
+            → (block_at after (first + k) ≡ block_at old (first + k)) ⊎ (block_at after (first + k) ≡ block_at blocks k)
+    }
+{}
+
+/// A range that was written gives the bytes that were written.
+pub fn a_range_that_was_written_is_read()
+    ensures {
+        (disk : List (List ℕ)) (first n : ℕ) (bytes : List ℕ) → first + n ≤ length disk
+            → range_bytes (written disk first (cut n bytes)) first n ≡ take (BLOCK_LENGTH * n) bytes
+    }
+{}
+
+/// Memory keeps what is said of contents and of a crash now.
+pub fn memory_claims()
+    ensures { IsTrue (⟦<MemBlocks as Blocks>⟧.claims) }
+{}
+
+/// A fuse claims what its device claims.
+pub fn a_fuse_claims_what_its_device_claims<B: Blocks>()
+    ensures now { ⟦<FusedBlocks<B> as Blocks>⟧.claims ≡ B.claims }
+    ensures moments { ⟦<FusedBlocks<B> as Blocks>⟧.claims_moments ≡ B.claims_moments }
 {}

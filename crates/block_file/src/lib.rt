@@ -6,7 +6,7 @@ mod fused;
 pub mod laws;
 mod mem;
 
-pub use blocks::{Blocks, DeviceFailed};
+pub use blocks::{BLOCK_LENGTH, Blocks, DeviceFailed};
 pub use fused::FusedBlocks;
 pub use mem::MemBlocks;
 

@@ -1,10 +1,11 @@
 ghost use Rattle.std.specs.Prelude.{◌≡◌, ◌<◌, ◌≤◌, ◌+◌, ◌*◌, ◌^◌, ◌++◌, [], ◌∷◌, List, ℕ, length, take, drop, replicate, true, false, refl, IfOk, IsOk, IsTrue, OnOk};
 ghost use Rattle.std.proofs.Common.{arith};
+ghost use Rattle.block_file.specs.declared.blocks.TheConstants.{BLOCK_LENGTH};
 ghost use Rattle.block_file.specs.Cut.{length-cut_at, cut, length-cut};
 ghost use Rattle.block_file.specs.Disk.{block_at, written, Between, NoMore, Adds, Only};
 ghost use Rattle.block_file.specs.Failures.{Counts};
 
-use crate::{Blocks, DeviceFailed};
+use crate::{BLOCK_LENGTH, Blocks, DeviceFailed};
 use std::alloc::{AllocError, Global};
 
 /// Blocks in memory. Each write is done at once, so a crash leaves what is there, and no call fails.
@@ -12,7 +13,7 @@ use std::alloc::{AllocError, Global};
 pub struct MemBlocks {
     bytes: Vec<u8>,
     count: u32,
-    ghost whole: { length bytes.items ≡ 512 * count },
+    ghost whole: { length bytes.items ≡ BLOCK_LENGTH * count },
     ghost fits: { count < 2 ^ 32 },
 }
 
@@ -20,9 +21,9 @@ impl MemBlocks {
     /// So many blocks of zeros.
     pub fn new(alloc: Global, count: u32) -> Result<MemBlocks, AllocError>
         ensures size { IfOk result (λ d. ⟦<MemBlocks as Blocks>⟧.size d ≡ count) }
-        ensures zeros { IfOk result (λ d. ⟦<MemBlocks as Blocks>⟧.contents d ≡ replicate count (replicate 512 0)) }
+        ensures zeros { IfOk result (λ d. ⟦<MemBlocks as Blocks>⟧.contents d ≡ replicate count (replicate BLOCK_LENGTH 0)) }
     {
-        let bytes = vec![in alloc; 0u8; 512 * count as usize]?;
+        let bytes = vec![in alloc; 0u8; BLOCK_LENGTH * count as usize]?;
         Ok(MemBlocks { bytes, count })
     }
 }
@@ -68,8 +69,8 @@ impl Blocks for MemBlocks {
         ensures unchanged { self.new ≡ self.old }
         ensures read { block.new ≡ block_at (⟦<MemBlocks as Blocks>⟧.contents self.old) index }
     {
-        let from = 512 * index as usize;
-        block.copy_from_slice(&self.bytes[from..from + 512]);
+        let from = BLOCK_LENGTH * index as usize;
+        block.copy_from_slice(&self.bytes[from..from + BLOCK_LENGTH]);
         Ok(())
     }
 
@@ -77,11 +78,20 @@ impl Blocks for MemBlocks {
         requires { index < ⟦<MemBlocks as Blocks>⟧.size self.old }
         ensures ok { IsOk result }
         ensures size { ⟦<MemBlocks as Blocks>⟧.size self.new ≡ ⟦<MemBlocks as Blocks>⟧.size self.old }
-        ensures written { ⟦<MemBlocks as Blocks>⟧.contents self.new ≡ written (⟦<MemBlocks as Blocks>⟧.contents self.old) index (block.now ∷ []) }
-        ensures torn { Between (⟦<MemBlocks as Blocks>⟧.contents self.old) index (block.now ∷ []) (⟦<MemBlocks as Blocks>⟧.contents self.new) }
-        ensures crash { Adds index (block.now ∷ []) (⟦<MemBlocks as Blocks>⟧.may_hold self.old) (⟦<MemBlocks as Blocks>⟧.may_hold self.new) }
+        ensures written {
+            ⟦<MemBlocks as Blocks>⟧.contents self.new
+                ≡ written (⟦<MemBlocks as Blocks>⟧.contents self.old) index (block.now ∷ [])
+        }
+        ensures torn {
+            Between (⟦<MemBlocks as Blocks>⟧.contents self.old) index (block.now ∷ [])
+                (⟦<MemBlocks as Blocks>⟧.contents self.new)
+        }
+        ensures crash {
+            Adds index (block.now ∷ []) (⟦<MemBlocks as Blocks>⟧.may_hold self.old)
+                (⟦<MemBlocks as Blocks>⟧.may_hold self.new)
+        }
     {
-        put(&mut self.bytes, 512 * index as usize, block);
+        put(&mut self.bytes, BLOCK_LENGTH * index as usize, block);
         Ok(())
     }
 
@@ -96,8 +106,8 @@ impl Blocks for MemBlocks {
 
 // Writes a block over the bytes from a place on.
 fn put(bytes: &mut Vec<u8>, from: usize, block: &[u8; 512])
-    requires { from + 512 ≤ length bytes.old.items }
-    ensures { bytes.new.items ≡ take from bytes.old.items ++ (block.now ++ drop (from + 512) bytes.old.items) }
+    requires { from + BLOCK_LENGTH ≤ length bytes.old.items }
+    ensures { bytes.new.items ≡ take from bytes.old.items ++ (block.now ++ drop (from + BLOCK_LENGTH) bytes.old.items) }
 {
-    bytes[from..from + 512].copy_from_slice(block);
+    bytes[from..from + BLOCK_LENGTH].copy_from_slice(block);
 }

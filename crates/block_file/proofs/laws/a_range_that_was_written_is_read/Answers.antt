@@ -1,0 +1,5 @@
+use Rattle.block_file.specs.ReadBack.{written_is_read}
+use Rattle.block_file.proofs.laws.a_range_that_was_written_is_read.Goals as goal
+
+pub returns : goal.returns
+returns c = written_is_read

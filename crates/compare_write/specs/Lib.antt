@@ -1,0 +1,4 @@
+pub mod Difference
+pub mod DifferenceLaws
+pub mod Ends
+pub mod Instances

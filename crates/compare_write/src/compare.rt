@@ -1,0 +1,119 @@
+//! COMPARE AND WRITE.
+ghost use Rattle.std.specs.Prelude.{◌≡◌, ◌+◌, ◌*◌, ◌<◌, ◌≤◌, Option, Some, IsTrue, IfOk, IfSome, MatchOption, length};
+ghost use Rattle.block_file.specs.Disk.{block_at, written, range_bytes, Between, NoMore, Adds};
+ghost use Rattle.block_file.specs.Failures.{Counts, Tells};
+ghost use Rattle.compare_write.specs.Difference.{first_difference};
+ghost use Rattle.compare_write.specs.Ends.{IsUnfailed, IsCompareEnd, OnDone, OnMiscompare, OnUnwritten, OnWriting};
+ghost use Rattle.compare_write.specs.Instances.{compare_instance, write_instance};
+
+use crate::{MediumEnd, write_range};
+use block_file::{BLOCK_LENGTH, Blocks, DeviceFailed};
+
+/// The most blocks of one COMPARE AND WRITE (SBC-3, Block Limits page: MAXIMUM COMPARE AND WRITE LENGTH).
+pub const MOST_COMPARED: u16 = 32;
+
+/// Compares a range with the first half of `bytes`, and where the whole range is equal writes the second half to it
+/// (SBC-3, COMPARE AND WRITE command). Each half has as many bytes as the range; what stands behind is not looked at.
+///
+/// Done, or Miscompare with the offset of the first byte that differs, or ReadFailed: after these two no block has
+/// changed. After WriteFailed the range was equal, and each of its blocks is the old one or the new one.
+pub fn compare_and_write<B: Blocks>(
+    device: &mut B,
+    lba: u32,
+    blocks: u16,
+    bytes: &[u8],
+) -> MediumEnd
+    requires range { lba + blocks ≤ B.size device.old }
+    requires few { blocks ≤ MOST_COMPARED }
+    requires given { 2 * BLOCK_LENGTH * blocks ≤ length bytes.now }
+    ensures size { B.size device.new ≡ B.size device.old }
+    ensures ends { IsCompareEnd result }
+    ensures failures { Tells (B.failures device.old) (B.failures device.new) (IsUnfailed result) }
+    ensures offset { OnMiscompare result (λ at. at < BLOCK_LENGTH * blocks) }
+    ensures equal { IsTrue B.claims → OnWriting result
+        (range_bytes (B.contents device.old) lba blocks ≡ compare_instance blocks bytes.now) }
+    ensures differs { IsTrue B.claims → OnMiscompare result (λ at.
+        first_difference (range_bytes (B.contents device.old) lba blocks) (compare_instance blocks bytes.now) ≡ Some at) }
+    ensures unwritten { IsTrue B.claims → OnUnwritten result (B.contents device.new ≡ B.contents device.old) }
+    ensures written { IsTrue B.claims → OnDone result
+        (B.contents device.new ≡ written (B.contents device.old) lba (write_instance blocks bytes.now)) }
+    ensures torn { IsTrue B.claims → Between (B.contents device.old) lba (write_instance blocks bytes.now) (B.contents device.new) }
+    ensures crash { IsTrue B.claims → Adds lba (write_instance blocks bytes.now) (B.may_hold device.old) (B.may_hold device.new) }
+{
+    let half = BLOCK_LENGTH * usize::from(blocks);
+    let Ok(found) = find_difference(device, lba, blocks, &bytes[..half]) else {
+        return MediumEnd::ReadFailed;
+    };
+    match found {
+        Some(at) => MediumEnd::Miscompare(at),
+        None => write_range(device, lba, blocks, &bytes[half..]),
+    }
+}
+
+/// Compares a range with as many bytes: the offset of the first one that differs.
+fn find_difference<B: Blocks>(
+    device: &mut B,
+    lba: u32,
+    blocks: u16,
+    given: &[u8],
+) -> Result<Option<u32>, DeviceFailed>
+    requires range { lba + blocks ≤ B.size device.old }
+    requires few { blocks ≤ MOST_COMPARED }
+    requires given { length given.now ≡ BLOCK_LENGTH * blocks }
+    ensures size { B.size device.new ≡ B.size device.old }
+    ensures failures { Counts (B.failures device.old) (B.failures device.new) result }
+    ensures offset { IfOk result (λ found. IfSome found (λ at. at < BLOCK_LENGTH * blocks)) }
+    ensures compared { IsTrue B.claims → IfOk result (λ found. MatchOption found
+        (range_bytes (B.contents device.old) lba blocks ≡ given.now)
+        (λ at. first_difference (range_bytes (B.contents device.old) lba blocks) given.now ≡ Some at)) }
+    ensures contents { IsTrue B.claims → B.contents device.new ≡ B.contents device.old }
+    ensures crash { IsTrue B.claims → NoMore (B.may_hold device.old) (B.may_hold device.new) }
+{
+    for k in 0..blocks {
+        let at = BLOCK_LENGTH * usize::from(k);
+        let part = &given[at..at + BLOCK_LENGTH];
+        let Ok(found) = compare_block(device, lba + u32::from(k), part) else {
+            return Err(DeviceFailed);
+        };
+        if let Some(offset) = found {
+            return Ok(Some((at + offset) as u32));
+        }
+    }
+    Ok(None)
+}
+
+/// Compares one block with as many bytes: the offset of the first one that differs.
+fn compare_block<B: Blocks>(
+    device: &mut B,
+    index: u32,
+    given: &[u8],
+) -> Result<Option<usize>, DeviceFailed>
+    requires index { index < B.size device.old }
+    requires given { length given.now ≡ BLOCK_LENGTH }
+    ensures size { B.size device.new ≡ B.size device.old }
+    ensures failures { Counts (B.failures device.old) (B.failures device.new) result }
+    ensures offset { IfOk result (λ found. IfSome found (λ at. at < BLOCK_LENGTH)) }
+    ensures compared { IsTrue B.claims → IfOk result (λ found. MatchOption found
+        (block_at (B.contents device.old) index ≡ given.now)
+        (λ at. first_difference (block_at (B.contents device.old) index) given.now ≡ Some at)) }
+    ensures contents { IsTrue B.claims → B.contents device.new ≡ B.contents device.old }
+    ensures crash { IsTrue B.claims → NoMore (B.may_hold device.old) (B.may_hold device.new) }
+{
+    let mut block = [0; 512];
+    let Ok(()) = device.read(index, &mut block) else {
+        return Err(DeviceFailed);
+    };
+    Ok(difference(&block, given))
+}
+
+/// The offset of the first byte that differs.
+fn difference(block: &[u8; 512], given: &[u8]) -> Option<usize>
+    requires { length given.now ≡ BLOCK_LENGTH }
+    ensures is { result ≡ first_difference block.now given.now }
+    ensures offset { IfSome result (λ at. at < BLOCK_LENGTH) }
+{
+    block
+        .iter()
+        .zip(given)
+        .position(|(held, wanted)| held != wanted)
+}

@@ -1,0 +1,89 @@
+//! READ, WRITE and SYNCHRONIZE CACHE.
+ghost use Rattle.std.specs.Prelude.{◌≡◌, ◌+◌, ◌*◌, ◌<◌, ◌≤◌, length, IsTrue, OnOk};
+ghost use Rattle.block_file.specs.Cut.{cut};
+ghost use Rattle.block_file.specs.Disk.{block_at, written, range_bytes, Between, NoMore, Adds, Only};
+ghost use Rattle.block_file.specs.Failures.{Counts, Tells};
+ghost use Rattle.compare_write.specs.Ends.{IsUnfailed, IsReadEnd, IsWriteEnd, IsSyncEnd, OnDone};
+
+use crate::MediumEnd;
+use block_file::{BLOCK_LENGTH, Blocks, DeviceFailed};
+
+/// Reads the blocks of a range into `out`, which has as many bytes (SBC-3, READ (10) command).
+///
+/// Done, or ReadFailed where the device failed: then nothing is known of what `out` holds. No block changes.
+pub fn read_range<B: Blocks>(device: &mut B, lba: u32, blocks: u16, out: &mut [u8]) -> MediumEnd
+    requires range { lba + blocks ≤ B.size device.old }
+    requires room { length out.old ≡ BLOCK_LENGTH * blocks }
+    ensures size { B.size device.new ≡ B.size device.old }
+    ensures ends { IsReadEnd result }
+    ensures failures { Tells (B.failures device.old) (B.failures device.new) (IsUnfailed result) }
+    ensures read { IsTrue B.claims → OnDone result (out.new ≡ range_bytes (B.contents device.old) lba blocks) }
+    ensures contents { IsTrue B.claims → B.contents device.new ≡ B.contents device.old }
+    ensures crash { IsTrue B.claims → NoMore (B.may_hold device.old) (B.may_hold device.new) }
+{
+    for k in 0..blocks {
+        let at = BLOCK_LENGTH * usize::from(k);
+        let Ok(()) = read_block(device, lba + u32::from(k), &mut out[at..at + BLOCK_LENGTH]) else {
+            return MediumEnd::ReadFailed;
+        };
+    }
+    MediumEnd::Done
+}
+
+/// Reads one block into its place.
+fn read_block<B: Blocks>(device: &mut B, index: u32, place: &mut [u8]) -> Result<(), DeviceFailed>
+    requires index { index < B.size device.old }
+    requires room { length place.old ≡ BLOCK_LENGTH }
+    ensures size { B.size device.new ≡ B.size device.old }
+    ensures failures { Counts (B.failures device.old) (B.failures device.new) result }
+    ensures read { IsTrue B.claims → OnOk result (place.new ≡ block_at (B.contents device.old) index) }
+    ensures contents { IsTrue B.claims → B.contents device.new ≡ B.contents device.old }
+    ensures crash { IsTrue B.claims → NoMore (B.may_hold device.old) (B.may_hold device.new) }
+{
+    let Some(block) = place.as_mut_array::<512>() else {
+        unreachable!()
+    };
+    device.read(index, block)
+}
+
+/// Writes the first of `bytes`, as many as the range has, to it (SBC-3, WRITE (10) command).
+///
+/// Done, or WriteFailed where the device failed: then each block of the range is the old one or the new one.
+pub fn write_range<B: Blocks>(device: &mut B, lba: u32, blocks: u16, bytes: &[u8]) -> MediumEnd
+    requires range { lba + blocks ≤ B.size device.old }
+    requires given { BLOCK_LENGTH * blocks ≤ length bytes.now }
+    ensures size { B.size device.new ≡ B.size device.old }
+    ensures ends { IsWriteEnd result }
+    ensures failures { Tells (B.failures device.old) (B.failures device.new) (IsUnfailed result) }
+    ensures written { IsTrue B.claims → OnDone result (B.contents device.new ≡ written (B.contents device.old) lba (cut blocks bytes.now)) }
+    ensures torn { IsTrue B.claims → Between (B.contents device.old) lba (cut blocks bytes.now) (B.contents device.new) }
+    ensures crash { IsTrue B.claims → Adds lba (cut blocks bytes.now) (B.may_hold device.old) (B.may_hold device.new) }
+{
+    for k in 0..blocks {
+        let at = BLOCK_LENGTH * usize::from(k);
+        let Some(block) = bytes[at..at + BLOCK_LENGTH].as_array::<512>() else {
+            unreachable!()
+        };
+        let Ok(()) = device.write(lba + u32::from(k), block) else {
+            return MediumEnd::WriteFailed;
+        };
+    }
+    MediumEnd::Done
+}
+
+/// Makes what was written last (SBC-3, SYNCHRONIZE CACHE (10) command).
+///
+/// Done: a crash leaves the contents. FlushFailed where the device failed. No block changes.
+pub fn sync<B: Blocks>(device: &mut B) -> MediumEnd
+    ensures size { B.size device.new ≡ B.size device.old }
+    ensures ends { IsSyncEnd result }
+    ensures failures { Tells (B.failures device.old) (B.failures device.new) (IsUnfailed result) }
+    ensures contents { IsTrue B.claims → B.contents device.new ≡ B.contents device.old }
+    ensures durable { IsTrue B.claims → OnDone result (Only (B.contents device.old) (B.may_hold device.new)) }
+    ensures crash { IsTrue B.claims → NoMore (B.may_hold device.old) (B.may_hold device.new) }
+{
+    match device.flush() {
+        Ok(()) => MediumEnd::Done,
+        Err(DeviceFailed) => MediumEnd::FlushFailed,
+    }
+}
