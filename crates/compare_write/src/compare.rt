@@ -24,7 +24,6 @@ pub fn compare_and_write<B: Blocks>(
     bytes: &[u8],
 ) -> MediumEnd
     requires range { lba + blocks ≤ B.size device.old }
-    requires few { blocks ≤ MOST_COMPARED }
     requires given { 2 * BLOCK_LENGTH * blocks ≤ length bytes.now }
     ensures size { B.size device.new ≡ B.size device.old }
     ensures ends { IsCompareEnd result }
@@ -58,7 +57,6 @@ fn find_difference<B: Blocks>(
     given: &[u8],
 ) -> Result<Option<u32>, DeviceFailed>
     requires range { lba + blocks ≤ B.size device.old }
-    requires few { blocks ≤ MOST_COMPARED }
     requires given { length given.now ≡ BLOCK_LENGTH * blocks }
     ensures size { B.size device.new ≡ B.size device.old }
     ensures failures { Counts (B.failures device.old) (B.failures device.new) result }

@@ -5,7 +5,8 @@ use Rattle.std.proofs.lemmas.Bool.Decides.{eqb_tells, nat_tests}
 use Rattle.std.proofs.lemmas.List.{drop_at, take_at}
 use Rattle.block_file.specs.Cut.{cut, length-cut}
 use Rattle.block_file.specs.Disk.{written, range_bytes}
-use Rattle.block_file.specs.DiskLaws.{length-written}
+use Rattle.block_file.specs.ReadBack.{written_is_read}
+use Rattle.scsi_types.specs.Sense.{invalid_field_in_cdb}
 use Rattle.scsi_types.specs.ReplyValue.{ReplyValue, good}
 use Rattle.scsi_types.specs.declared.names.Group.{Group}
 use Rattle.scsi_types.specs.declared.command.Command.TheVariants.{Read, Write}
@@ -16,33 +17,14 @@ use Rattle.unit_state.specs.declared.refusal.Refusal.TheVariants.{Check}
 use Rattle.unit_state.specs.Choice.{Choice, Fine}
 use Rattle.unit_state.specs.Medium.{Range}
 use Rattle.unit_state.specs.Entry.{Command, IsNext, after, reply_to, control_with}
-use Rattle.unit_state.specs.Refusal.{Request, refusal, request, outside, illegal, or_else}
+use Rattle.unit_state.specs.Refusal.{Request, refusal, request, outside, or_else}
 use Rattle.unit_state.specs.Sessions.{next_of, passed}
 
-joined_front : (n : ℕ) (bytes : List ℕ) → flat_map (λ b. b) (cut n bytes) ≡ take (512 * n) bytes
-joined_front zero bytes = refl
-joined_front (suc n) bytes =
-    let e : 512 + 512 * n ≡ 512 * suc n = omega arith in
-    ap (λ (r : List ℕ). take 512 bytes ++ r) (joined_front n (drop 512 bytes)) ∙ sym (take-add 512 (512 * n) bytes) ∙ ap (λ (m : ℕ). take m bytes) e
-
--- the range that was written
-read_back : (disk blocks : List (List ℕ)) (first : ℕ) → first + length blocks ≤ length disk → take (length blocks) (drop first (written disk first blocks)) ≡ blocks
-read_back disk blocks first fits =
-    let rest = drop (first + length blocks) disk in
-    ap (λ (d : List (List ℕ)). take (length blocks) (drop first d)) (append_assoc (take first disk) blocks rest)
-    ∙ ap (λ (d : List (List ℕ)). take (length blocks) d) (drop_at (take first disk) (blocks ++ rest) first (omega (arith, length-take first disk)))
-    ∙ take_at blocks rest (length blocks) refl
-
-pub written_is_read : (disk : List (List ℕ)) (lba n : ℕ) (bytes : List ℕ) → lba + n ≤ length disk → range_bytes (written disk lba (cut n bytes)) lba n ≡ take (512 * n) bytes
-written_is_read disk lba n bytes fits =
-    let long = length-cut n bytes in
-    ap (λ (m : ℕ). flat_map (λ b. b) (take m (drop lba (written disk lba (cut n bytes))))) (sym long) ∙ ap (flat_map (λ b. b)) (read_back disk (cut n bytes) lba (omega (arith, long))) ∙ joined_front n bytes
-
 -- no rule refuses, neither for want of data nor for the range
-unrefused : (short : Bool) (range : Option Refusal) → or_else (if short then illegal 0x24 else range) None ≡ None → range ≡ None
-unrefused true range h = absurd (cc)
-unrefused false None h = refl
-unrefused false (Some a) h = absurd (cc)
+unrefused : (short : Bool) (refused : Refusal) (range : Option Refusal) → or_else (if short then Some refused else range) None ≡ None → range ≡ None
+unrefused true refused range h = absurd (cc)
+unrefused false refused None h = refl
+unrefused false refused (Some a) h = absurd (cc)
 
 pub within : (total : ℕ) (r : Range) → outside total r ≡ None → r.lba + r.blocks ≤ total
 within total r h = grind (arith, nat_tests)
@@ -51,22 +33,22 @@ pub nothing_needed : (given : ℕ) → nat_lt given 0 ≡ false
 nothing_needed given = grind (arith, nat_tests)
 
 -- a WRITE that nothing refuses lies within the unit
-pub written_within : (s : UnitState) (session lba n : ℕ) (bytes : List ℕ) → refusal s.control (request session (Ok (Write lba n)) bytes) ≡ None
+pub written_within : (s : UnitState) (session lba n : ℕ) (fua : Bool) (bytes : List ℕ) → refusal s.control (request session (Ok (Write lba n fua)) bytes) ≡ None
     → outside s.control.total (record { lba = lba; blocks = n }) ≡ None
-written_within s session lba n bytes h = unrefused (nat_lt (length bytes) (512 * n)) (outside s.control.total (record { lba = lba; blocks = n })) h
+written_within s session lba n fua bytes h = unrefused (nat_lt (length bytes) (512 * n)) (Check invalid_field_in_cdb) (outside s.control.total (record { lba = lba; blocks = n })) h
 
 -- a READ after the WRITE
-module _ (s : UnitState) (session serial : ℕ) (by_group : Group) (reader next : ℕ) (through : Group) (lba blocks : ℕ) (bytes none : List ℕ) where
+module _ (s : UnitState) (session serial : ℕ) (by_group : Group) (reader next : ℕ) (through : Group) (lba blocks : ℕ) (fua past : Bool) (bytes none : List ℕ) where
   abbrev wrote : UnitState
-  wrote = after s (Command session serial by_group (Ok (Write lba blocks)) bytes Fine)
+  wrote = after s (Command session serial by_group (Ok (Write lba blocks fua)) bytes Fine)
 
   abbrev range : Range
   range = record { lba = lba; blocks = blocks }
 
-  pub read_after : length s.blocks ≡ s.control.total → refusal s.control (request session (Ok (Write lba blocks)) bytes) ≡ None
-      → reply_to wrote (Command reader next through (Ok (Read lba blocks)) none Fine) ≡ Some (good (take (512 * blocks) bytes))
+  pub read_after : length s.blocks ≡ s.control.total → refusal s.control (request session (Ok (Write lba blocks fua)) bytes) ≡ None
+      → reply_to wrote (Command reader next through (Ok (Read lba blocks past)) none Fine) ≡ Some (good (take (512 * blocks) bytes))
   read_after whole h =
-      let fits : outside s.control.total range ≡ None = written_within s session lba blocks bytes h in
+      let fits : outside s.control.total range ≡ None = written_within s session lba blocks fua bytes h in
       let inside : lba + blocks ≤ s.control.total = within s.control.total range fits in
       let read : range_bytes (written s.blocks lba (cut blocks bytes)) lba blocks ≡ take (512 * blocks) bytes = written_is_read s.blocks lba blocks bytes (omega (arith, whole, inside)) in
       rw (h, nothing_needed (length none), fits) (ap (λ (b : List ℕ). let o : Option ReplyValue = Some (good b) in o) read)

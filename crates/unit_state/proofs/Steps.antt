@@ -9,11 +9,10 @@ use Rattle.unit_state.specs.declared.refusal.Refusal.{Refusal}
 use Rattle.unit_state.specs.declared.refusal.Refusal.TheVariants.{Check}
 use Rattle.unit_state.specs.State.{ControlValue, UnitState}
 use Rattle.unit_state.specs.Choice.{choice_of}
-use Rattle.unit_state.specs.Medium.{IsDone, work_of}
 use Rattle.unit_state.specs.Refusal.{request, refusal, refusal_reply, refusal_control}
 use Rattle.unit_state.specs.Route.{IsAdmitted, IsRefused}
 use Rattle.unit_state.specs.Entry.{IsNext, pass}
-use Rattle.unit_state.specs.Answer.{IsAnswerWith, IsAnswer}
+use Rattle.unit_state.specs.Answer.{IsAnswerWith, IsAnswer, IsServed}
 use Rattle.unit_state.specs.Step.{IsStep, OnRefusal, ReturnsData, TakesMemory, entry_of}
 
 told_of_nothing : (c : ControlValue) (refused : Refusal) → refusal_control c refused ≡ c
@@ -30,25 +29,25 @@ refused_answer claims c blocks asked bytes refused reply is told session = rw (i
   answer = refl;
 })
 
-done_answer : (claims : Bool) (c : ControlValue) (old new : List (List ℕ)) (command : ScsiCommand) (bytes : List ℕ) (reply : ReplyValue) (session : ℕ) → IsDone claims old new (work_of command bytes) reply
+done_answer : (claims : Bool) (c : ControlValue) (old new : List (List ℕ)) (command : ScsiCommand) (bytes : List ℕ) (reply : ReplyValue) (session : ℕ) → IsServed claims c old new command bytes reply
     → IsAnswerWith claims (record { control = c; blocks = old }) new (request session (Ok command) bytes) None (choice_of reply new) reply
 done_answer claims c old new command bytes reply session done = record {
-  chosen = done.chosen;
-  torn = done.torn;
+  chosen = done.done.chosen;
+  torn = done.done.torn;
   control = refl;
-  blocks = done.leaves;
-  answer = record { finding = done.finding; may = done.may; is = done.answers; told = done.told };
+  blocks = done.done.leaves;
+  answer = record { finding = done.finding; may = done.done.may; is = done.answers; told = done.done.told };
 }
 
 -- a command that no rule refuses
-pub served_answer : (claims : Bool) (c : ControlValue) (old new : List (List ℕ)) (asked : Result ScsiCommand CdbFault) (bytes : List ℕ) (command : ScsiCommand) (reply : ReplyValue) → IsAdmitted c asked bytes command → IsDone claims old new (work_of command bytes) reply
+pub served_answer : (claims : Bool) (c : ControlValue) (old new : List (List ℕ)) (asked : Result ScsiCommand CdbFault) (bytes : List ℕ) (command : ScsiCommand) (reply : ReplyValue) → IsAdmitted c asked bytes command → IsServed claims c old new command bytes reply
     → IsAnswer claims c old new asked bytes reply
 served_answer claims c old new asked bytes command reply is done =
     let none : (session : ℕ) → refusal c (request session (Ok command) bytes) ≡ None =
     λ session. subst (λ (a : Result ScsiCommand CdbFault). refusal c (request session a bytes) ≡ None) is.asks (is.unrefused session) in
     subst (λ (a : Result ScsiCommand CdbFault). IsAnswer claims c old new a bytes reply) (sym is.asks) (λ session. rw (none session) (done_answer claims c old new command bytes reply session done))
 
-pub served_ok : {E : Type 0} (claims : Bool) (c : ControlValue) (old new : List (List ℕ)) (asked : Result ScsiCommand CdbFault) (bytes : List ℕ) (command : ScsiCommand) (result : Result ReplyValue E) → IsAdmitted c asked bytes command → IfOk result (IsDone claims old new (work_of command bytes))
+pub served_ok : {E : Type 0} (claims : Bool) (c : ControlValue) (old new : List (List ℕ)) (asked : Result ScsiCommand CdbFault) (bytes : List ℕ) (command : ScsiCommand) (result : Result ReplyValue E) → IsAdmitted c asked bytes command → IfOk result (IsServed claims c old new command bytes)
     → IfOk result (IsAnswer claims c old new asked bytes)
 served_ok claims c old new asked bytes command (Ok reply) is done = served_answer claims c old new asked bytes command reply is done
 served_ok claims c old new asked bytes command (Err e) is done = tt

@@ -1,10 +1,13 @@
 -- The entries of a unit's history: what is possible, what is after one, and what it is answered. What is said of the
 -- medium stands under the claim of the device's type.
 use Rattle.std.specs.Prelude.{◌≡◌, ℕ, ◌+◌, ◌<◌, Bool, IsTrue, List, [], ◌∷◌, ◌++◌, length, Option, Some, None, Result, Ok, Err}
-use Rattle.scsi_types.specs.ReplyValue.{ReplyValue}
+use Rattle.identity.specs.Capacity.{capacity_10, capacity_16}
+use Rattle.identity.specs.Table.{cut, spell}
+use Rattle.scsi_types.specs.ReplyValue.{ReplyValue, good}
 use Rattle.scsi_types.specs.Nexus.{Nexus}
 use Rattle.scsi_types.specs.declared.names.Group.{Group}
 use Rattle.scsi_types.specs.declared.command.Command.{Command as ScsiCommand}
+use Rattle.scsi_types.specs.declared.command.Command.TheVariants as commands
 use Rattle.scsi_types.specs.declared.command.CdbFault.{CdbFault}
 use Rattle.unit_state.specs.declared.refusal.Refusal.{Refusal}
 use Rattle.unit_state.specs.declared.control.TheConstants.{LAST_COUNT}
@@ -58,8 +61,15 @@ IsPossible claims s (Command session serial by asked bytes choice) = CanCome cla
 -- ---- what is after an entry, and what it is answered
 
 -- What a command returns that no rule refuses, where the medium found this: a medium command answers the finding.
-abbrev pub returned : ControlValue → Request → Finding → ReplyValue
-returned c r finding = reply_by finding
+abbrev pub returned_by : ControlValue → ScsiCommand → Finding → ReplyValue
+returned_by c commands.ReadCapacity10 finding = good (spell (capacity_10 c.total))
+returned_by c (commands.ReadCapacity16 allocation) finding = good (cut allocation (spell (capacity_16 c.total)))
+returned_by c command finding = reply_by finding
+
+-- a CDB that asks for nothing is refused
+abbrev pub returned : ControlValue → Result ScsiCommand CdbFault → Finding → ReplyValue
+returned c (Ok command) finding = returned_by c command finding
+returned c (Err fault) finding = reply_by finding
 
 -- And what it leaves of all but the blocks: a medium command, all as it was.
 abbrev pub left_control : ControlValue → Request → Choice → ControlValue
@@ -68,7 +78,7 @@ left_control c r choice = c
 -- a refusal has its answer, and changes what telling it changes
 abbrev pub reply_with : Option Refusal → ControlValue → Request → Finding → ReplyValue
 reply_with (Some refused) c r finding = refusal_reply refused
-reply_with None c r finding = returned c r finding
+reply_with None c r finding = returned c r.asked finding
 
 abbrev pub control_with : Option Refusal → ControlValue → Request → Choice → ControlValue
 control_with (Some refused) c r choice = refusal_control c refused
@@ -116,7 +126,7 @@ reply_to s (Command session serial by asked bytes choice) =
 pub record IsReturned (claims : Bool) (s : UnitState) (r : Request) (choice : Choice) (reply : ReplyValue) : Type 0 where
   pub finding : Finding
   pub may : MayFind (work_asked r.asked r.bytes) choice finding
-  pub is : reply ≡ returned s.control r finding
+  pub is : reply ≡ returned s.control r.asked finding
   pub told : IsTrue claims → finding ≡ found s.blocks (work_asked r.asked r.bytes) choice
 
 abbrev pub IsReplyWith : Option Refusal → Bool → UnitState → Request → Choice → ReplyValue → Type 0

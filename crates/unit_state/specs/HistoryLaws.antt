@@ -37,7 +37,7 @@ reply_at-before s (e ∷ history) entry (suc i) lt = reply_at-before (after s e)
 decided_with : (refused : Option Refusal) (s : UnitState) (r : Request) (choice : Choice) (reply : ReplyValue) → IsReplyWith refused true s r choice reply
     → reply_with refused s.control r (found s.blocks (work_asked r.asked r.bytes) choice) ≡ reply
 decided_with (Some a) s r choice reply is = sym is
-decided_with None s r choice reply is = ap (returned s.control r) (sym (is.told refl)) ∙ sym is.is
+decided_with None s r choice reply is = ap (returned s.control r.asked) (sym (is.told refl)) ∙ sym is.is
 
 decided_by : (s : UnitState) (entry : Entry) (reply : ReplyValue) → IsReplyTo true s entry reply → reply_to s entry ≡ Some reply
 decided_by s (Attach nexus) reply is = absurd is

@@ -10,3 +10,4 @@ pub mod Route
 pub mod Sessions
 pub mod State
 pub mod Step
+pub mod Worked

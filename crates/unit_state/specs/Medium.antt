@@ -1,100 +1,161 @@
--- What a command is to the medium, and what that finds and leaves (SBC-3, READ (10) and WRITE (10) commands).
-use Rattle.std.specs.Prelude.{◌≡◌, ℕ, ◌+◌, ◌*◌, ◌≤◌, Bool, IsTrue, List, [], length, Result, Ok, Err}
+-- What a command is to the medium, and what that finds and leaves (SBC-3, READ, WRITE, COMPARE AND WRITE and SYNCHRONIZE
+-- CACHE commands).
+use Rattle.std.specs.Prelude.{◌≡◌, ◌⊎◌, ℕ, ◌+◌, ◌*◌, ◌<◌, ◌≤◌, Bool, false, true, IsTrue, List, [], length, Option, Some, None, Result, Ok, Err}
+use Rattle.block_file.specs.declared.blocks.TheConstants.{BLOCK_LENGTH}
 use Rattle.block_file.specs.Cut.{cut}
 use Rattle.block_file.specs.Disk.{written, range_bytes, Between}
+use Rattle.compare_write.specs.Difference.{first_difference}
+use Rattle.compare_write.specs.Instances.{compare_instance, write_instance}
 use Rattle.scsi_types.specs.ReplyValue.{ReplyValue, good, check}
+use Rattle.scsi_types.specs.Sense.{unrecovered_read_error, write_error, miscompare}
 use Rattle.scsi_types.specs.declared.command.Command.{Command}
 use Rattle.scsi_types.specs.declared.command.Command.TheVariants as commands
 use Rattle.scsi_types.specs.declared.command.CdbFault.{CdbFault}
-use Rattle.unit_state.specs.Choice.{Choice, Fine, ReadFailed, WriteFailed, choice_of, read_error, write_error}
+use Rattle.unit_state.specs.Choice.{Choice, Fine, ReadFailed, WriteFailed}
 
 -- the blocks of a command: the first, and how many
 pub record Range : Type 0 where
   pub lba : ℕ
   pub blocks : ℕ
 
--- nothing; a read of a range; a write of these bytes over a range
+-- Nothing; a read of a range; a write of these bytes over it; a compare of it with a first half of these bytes, and
+-- a write of the second; a flush. The last of each tells whether there is a flush: before the read, behind the write.
 pub data Work : Type 0 where
   Nothing : Work
-  Reads : Range → Work
-  Writes : Range → List ℕ → Work
+  Reads : Range → Bool → Work
+  Writes : Range → List ℕ → Bool → Work
+  Compares : Range → List ℕ → Bool → Work
+  Flushes : Range → Work
 
 -- the work of a command with this data: here alone the range of each is named
 abbrev pub work_of : Command → List ℕ → Work
+work_of (commands.Read lba blocks fua) bytes = Reads (record { lba = lba; blocks = blocks }) fua
+work_of (commands.Write lba blocks fua) bytes = Writes (record { lba = lba; blocks = blocks }) bytes fua
+work_of (commands.CompareAndWrite lba blocks fua) bytes = Compares (record { lba = lba; blocks = blocks }) bytes fua
+work_of (commands.SynchronizeCache lba blocks) bytes = Flushes (record { lba = lba; blocks = blocks })
 work_of commands.TestUnitReady bytes = Nothing
-work_of (commands.Read lba blocks) bytes = Reads (record { lba = lba; blocks = blocks })
-work_of (commands.Write lba blocks) bytes = Writes (record { lba = lba; blocks = blocks }) bytes
+work_of commands.ReadCapacity10 bytes = Nothing
+work_of (commands.ReadCapacity16 allocation) bytes = Nothing
 
 abbrev pub work_asked : Result Command CdbFault → List ℕ → Work
 work_asked (Ok command) bytes = work_of command bytes
 work_asked (Err fault) bytes = Nothing
 
+abbrev pub range_of : Work → Option Range
+range_of Nothing = None
+range_of (Reads r flushed) = Some r
+range_of (Writes r bytes flushed) = Some r
+range_of (Compares r bytes flushed) = Some r
+range_of (Flushes r) = Some r
+
+-- a work that ends well only with all that was written made to last
+abbrev pub is_flushed : Work → Bool
+is_flushed Nothing = false
+is_flushed (Reads r flushed) = flushed
+is_flushed (Writes r bytes flushed) = flushed
+is_flushed (Compares r bytes flushed) = flushed
+is_flushed (Flushes r) = true
+
 -- the work lies within so many blocks, and its data are there
 abbrev pub Fits : ℕ → Work → Type 0
 Fits total Nothing = Unit {0}
-Fits total (Reads r) = r.lba + r.blocks ≤ total
-Fits total (Writes r bytes) = (r.lba + r.blocks ≤ total) × (512 * r.blocks ≤ length bytes)
+Fits total (Reads r flushed) = r.lba + r.blocks ≤ total
+Fits total (Writes r bytes flushed) = (r.lba + r.blocks ≤ total) × (BLOCK_LENGTH * r.blocks ≤ length bytes)
+Fits total (Compares r bytes flushed) = (r.lba + r.blocks ≤ total) × (2 * BLOCK_LENGTH * r.blocks ≤ length bytes)
+Fits total (Flushes r) = Unit {0}
 
--- What a work may come to, of every device: a read may fail in a read, a write in a write.
+-- What a work may come to, of every device: a read may fail where the work reads, a write or a flush where it writes
+-- or flushes.
 abbrev pub MayChoose : Work → Choice → Type 0
 MayChoose work Fine = Unit {0}
 MayChoose Nothing ReadFailed = ⊥
-MayChoose (Reads r) ReadFailed = Unit {0}
-MayChoose (Writes r bytes) ReadFailed = ⊥
+MayChoose (Reads r flushed) ReadFailed = Unit {0}
+MayChoose (Writes r bytes flushed) ReadFailed = ⊥
+MayChoose (Compares r bytes flushed) ReadFailed = Unit {0}
+MayChoose (Flushes r) ReadFailed = ⊥
 MayChoose Nothing (WriteFailed after) = ⊥
-MayChoose (Reads r) (WriteFailed after) = ⊥
-MayChoose (Writes r bytes) (WriteFailed after) = Unit {0}
+MayChoose (Reads r flushed) (WriteFailed after) = IsTrue flushed
+MayChoose (Writes r bytes flushed) (WriteFailed after) = Unit {0}
+MayChoose (Compares r bytes flushed) (WriteFailed after) = Unit {0}
+MayChoose (Flushes r) (WriteFailed after) = Unit {0}
 
--- what the medium tells: the work is done, with the bytes that were read; or a read or a write failed
+-- what the medium tells: the work is done, with the bytes that were read; the range differs, first at this offset; or
+-- a read failed, or a write or a flush
 pub data Finding : Type 0 where
   Done : List ℕ → Finding
+  Differs : ℕ → Finding
   ReadError : Finding
   WriteError : Finding
 
--- What may be told of a work, of every device: which bytes a read gives is the medium's to say.
+-- What may be told of a work, of every device: which bytes a read gives, and whether and where a compare finds a
+-- difference, is the medium's to say.
 abbrev pub MayFind : Work → Choice → Finding → Type 0
 MayFind Nothing Fine finding = finding ≡ Done []
-MayFind (Reads r) Fine finding = (bytes : List ℕ) × (finding ≡ Done bytes) × (length bytes ≡ 512 * r.blocks)
-MayFind (Writes r bytes) Fine finding = finding ≡ Done []
+MayFind (Reads r flushed) Fine finding = (bytes : List ℕ) × (finding ≡ Done bytes) × (length bytes ≡ BLOCK_LENGTH * r.blocks)
+MayFind (Writes r bytes flushed) Fine finding = finding ≡ Done []
+MayFind (Compares r bytes flushed) Fine finding = (finding ≡ Done []) ⊎ ((at : ℕ) × (finding ≡ Differs at) × (at < BLOCK_LENGTH * r.blocks))
+MayFind (Flushes r) Fine finding = finding ≡ Done []
 MayFind work ReadFailed finding = finding ≡ ReadError
 MayFind work (WriteFailed after) finding = finding ≡ WriteError
 
--- What a disk tells that has these blocks.
+-- ---- a disk with these blocks
+
+-- where the range first differs from the bytes to compare
+abbrev pub difference_in : List (List ℕ) → Range → List ℕ → Option ℕ
+difference_in blocks r bytes = first_difference (range_bytes blocks r.lba r.blocks) (compare_instance r.blocks bytes)
+
+abbrev pub found_by : Option ℕ → Finding
+found_by None = Done []
+found_by (Some at) = Differs at
+
+abbrev pub compared_by : Option ℕ → List (List ℕ) → List (List ℕ) → List (List ℕ)
+compared_by None old new = new
+compared_by (Some at) old new = old
+
+-- what it tells
 abbrev pub found : List (List ℕ) → Work → Choice → Finding
 found blocks Nothing Fine = Done []
-found blocks (Reads r) Fine = Done (range_bytes blocks r.lba r.blocks)
-found blocks (Writes r bytes) Fine = Done []
+found blocks (Reads r flushed) Fine = Done (range_bytes blocks r.lba r.blocks)
+found blocks (Writes r bytes flushed) Fine = Done []
+found blocks (Compares r bytes flushed) Fine = found_by (difference_in blocks r bytes)
+found blocks (Flushes r) Fine = Done []
 found blocks work ReadFailed = ReadError
 found blocks work (WriteFailed after) = WriteError
 
--- The blocks that such a disk then has: after a failed write those of the choice, each old or new.
+-- the blocks that it then has: after a failed write or flush those of the choice
 abbrev pub left : List (List ℕ) → Work → Choice → List (List ℕ)
 left blocks Nothing Fine = blocks
-left blocks (Reads r) Fine = blocks
-left blocks (Writes r bytes) Fine = written blocks r.lba (cut r.blocks bytes)
+left blocks (Reads r flushed) Fine = blocks
+left blocks (Writes r bytes flushed) Fine = written blocks r.lba (cut r.blocks bytes)
+left blocks (Compares r bytes flushed) Fine = compared_by (difference_in blocks r bytes) blocks (written blocks r.lba (write_instance r.blocks bytes))
+left blocks (Flushes r) Fine = blocks
 left blocks work ReadFailed = blocks
 left blocks work (WriteFailed after) = after
 
+-- what it may have after such a failure: each block of a range that is written old or new, and every other as it was;
+-- a compare writes only where it found no difference
 abbrev pub IsTorn : List (List ℕ) → Work → Choice → Type 0
 IsTorn blocks work Fine = Unit {0}
 IsTorn blocks work ReadFailed = Unit {0}
-IsTorn blocks Nothing (WriteFailed after) = Unit {0}
-IsTorn blocks (Reads r) (WriteFailed after) = Unit {0}
-IsTorn blocks (Writes r bytes) (WriteFailed after) = Between blocks r.lba (cut r.blocks bytes) after
+IsTorn blocks Nothing (WriteFailed after) = after ≡ blocks
+IsTorn blocks (Reads r flushed) (WriteFailed after) = after ≡ blocks
+IsTorn blocks (Writes r bytes flushed) (WriteFailed after) = Between blocks r.lba (cut r.blocks bytes) after
+IsTorn blocks (Compares r bytes flushed) (WriteFailed after) =
+    (range_bytes blocks r.lba r.blocks ≡ compare_instance r.blocks bytes) × Between blocks r.lba (write_instance r.blocks bytes) after
+IsTorn blocks (Flushes r) (WriteFailed after) = after ≡ blocks
 
 -- how a medium command answers what was found
 abbrev pub reply_by : Finding → ReplyValue
 reply_by (Done bytes) = good bytes
-reply_by ReadError = check read_error
+reply_by (Differs at) = check (miscompare at)
+reply_by ReadError = check unrecovered_read_error
 reply_by WriteError = check write_error
 
--- A device did this work, had these blocks and has those, and was answered so: under the claim the finding is a
--- disk's, and so is what is left.
-pub record IsDone (claims : Bool) (old new : List (List ℕ)) (work : Work) (reply : ReplyValue) : Type 0 where
-  pub finding : Finding
-  pub answers : reply ≡ reply_by finding
-  pub chosen : MayChoose work (choice_of reply new)
-  pub may : MayFind work (choice_of reply new) finding
-  pub torn : IsTrue claims → IsTorn old work (choice_of reply new)
-  pub told : IsTrue claims → finding ≡ found old work (choice_of reply new)
-  pub leaves : IsTrue claims → new ≡ left old work (choice_of reply new)
+-- A device did this work, had these blocks and has those: under the claim the finding is a disk's, and so is what is
+-- left.
+pub record IsDone (claims : Bool) (old new : List (List ℕ)) (work : Work) (choice : Choice) (finding : Finding) : Type 0 where
+  pub chosen : MayChoose work choice
+  pub may : MayFind work choice finding
+  pub torn : IsTrue claims → IsTorn old work choice
+  pub told : IsTrue claims → finding ≡ found old work choice
+  pub leaves : IsTrue claims → new ≡ left old work choice

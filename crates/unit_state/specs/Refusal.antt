@@ -2,15 +2,15 @@
 -- on the medium, and at the request.
 use Rattle.std.specs.Prelude.{ℕ, ◌+◌, ◌&&◌, nat_lt, nat_le, if◌then◌else◌, List, [], ◌∷◌, length, Option, Some, None, Result, Ok, Err}
 use Rattle.scsi_types.specs.ReplyValue.{ReplyValue, check}
-use Rattle.scsi_types.specs.Cdb.{need_of}
-use Rattle.scsi_types.specs.Sense.{sense}
+use Rattle.scsi_types.specs.Need.{need_of}
+use Rattle.scsi_types.specs.Sense.{invalid_opcode, invalid_field_in_cdb, lba_out_of_range}
 use Rattle.scsi_types.specs.declared.command.Command.{Command}
 use Rattle.scsi_types.specs.declared.command.CdbFault.{CdbFault}
 use Rattle.scsi_types.specs.declared.command.CdbFault.TheVariants.{UnknownOpcode, BadField}
 use Rattle.unit_state.specs.declared.refusal.Refusal.{Refusal}
 use Rattle.unit_state.specs.declared.refusal.Refusal.TheVariants.{Check}
 use Rattle.unit_state.specs.State.{ControlValue}
-use Rattle.unit_state.specs.Medium.{Range, Work, Nothing, Reads, Writes, work_of}
+use Rattle.unit_state.specs.Medium.{Range, Work, range_of, work_of}
 
 -- a command as the rules judge it: who sent it, what it asks, and the data that came
 pub record Request : Type 0 where
@@ -33,30 +33,26 @@ refusal_control c (Check s) = c
 abbrev pub Rule : Type 0
 Rule = ControlValue → Request → Option Refusal
 
--- ILLEGAL REQUEST with this additional sense (SPC-4, 4.5.6)
-abbrev pub illegal : ℕ → Option Refusal
-illegal asc = Some (Check (sense 0x05 asc 0x00))
-
--- INVALID COMMAND OPERATION CODE
+-- the opcode is no command's
 abbrev pub opcode_rule : Result Command CdbFault → Option Refusal
 opcode_rule (Ok command) = None
 opcode_rule (Err (BadField op)) = None
-opcode_rule (Err UnknownOpcode) = illegal 0x20
+opcode_rule (Err UnknownOpcode) = Some (Check invalid_opcode)
 
--- LOGICAL BLOCK ADDRESS OUT OF RANGE: the LBA or the range passes the end (SBC-3, READ (10) command)
+-- the LBA or the range passes the end, the LBA of an empty range too (SBC-3, READ (10) command)
 abbrev pub outside : ℕ → Range → Option Refusal
-outside total r = if nat_lt r.lba total && nat_le (r.lba + r.blocks) total then None else illegal 0x21
+outside total r = if nat_lt r.lba total && nat_le (r.lba + r.blocks) total then None else Some (Check lba_out_of_range)
 
-abbrev pub range_rule : ℕ → Work → Option Refusal
-range_rule total Nothing = None
-range_rule total (Reads r) = outside total r
-range_rule total (Writes r bytes) = outside total r
+abbrev pub range_rule : ℕ → Option Range → Option Refusal
+range_rule total None = None
+range_rule total (Some r) = outside total r
 
--- INVALID FIELD IN CDB, also where less data came than the command needs; then the range
+-- a field of the CDB is bad, or less data came than the command needs; then the range
 abbrev pub cdb_rule : ℕ → Result Command CdbFault → List ℕ → Option Refusal
 cdb_rule total (Ok command) bytes =
-    if nat_lt (length bytes) (need_of (Ok command)) then illegal 0x24 else range_rule total (work_of command bytes)
-cdb_rule total (Err (BadField op)) bytes = illegal 0x24
+    if nat_lt (length bytes) (need_of (Ok command)) then Some (Check invalid_field_in_cdb)
+    else range_rule total (range_of (work_of command bytes))
+cdb_rule total (Err (BadField op)) bytes = Some (Check invalid_field_in_cdb)
 cdb_rule total (Err UnknownOpcode) bytes = None
 
 -- the rules in their order

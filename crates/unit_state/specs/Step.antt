@@ -1,9 +1,9 @@
 -- What each end of a step tells.
-use Rattle.std.specs.Prelude.{◌≡◌, ◌≢◌, ℕ, Bool, IsTrue, List, Result, Ok, Err, Option, Some, None}
+use Rattle.std.specs.Prelude.{◌≡◌, ◌≢◌, ℕ, Bool, true, false, IsTrue, List, Result, Ok, Err, Option, Some, None}
 use Rattle.scsi_types.specs.ReplyValue.{ReplyValue}
 use Rattle.scsi_types.specs.declared.names.Group.{Group}
 use Rattle.scsi_types.specs.declared.command.Command.{Command as ScsiCommand}
-use Rattle.scsi_types.specs.declared.command.Command.TheVariants.{TestUnitReady, Read, Write}
+use Rattle.scsi_types.specs.declared.command.Command.TheVariants as commands
 use Rattle.scsi_types.specs.declared.command.CdbFault.{CdbFault}
 use Rattle.unit_state.specs.declared.refusal.Refusal.{Refusal}
 use Rattle.unit_state.specs.State.{ControlValue, UnitState}
@@ -33,11 +33,15 @@ IsRouted c session serial by Gone = IsNext c session serial → ⊥
 IsRouted c session serial by (Moved owner) = IsNext c session serial × (by ≢ c.owner) × (owner ≡ c.owner)
 IsRouted c session serial by NoMemory = IsNext c session serial × (by ≡ c.owner)
 
--- a command whose reply has data takes memory for them: a READ
+-- a command whose reply has data takes memory for them
+abbrev pub returns_data : ScsiCommand → Bool
+returns_data (commands.Read lba blocks fua) = true
+returns_data commands.ReadCapacity10 = true
+returns_data (commands.ReadCapacity16 allocation) = true
+returns_data command = false
+
 abbrev pub ReturnsData : Result ScsiCommand CdbFault → Type 0
-ReturnsData (Ok TestUnitReady) = ⊥
-ReturnsData (Ok (Read lba blocks)) = Unit {0}
-ReturnsData (Ok (Write lba blocks)) = ⊥
+ReturnsData (Ok command) = IsTrue (returns_data command)
 ReturnsData (Err fault) = ⊥
 
 -- the command takes memory: no rule refuses it, and its reply has data

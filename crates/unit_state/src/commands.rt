@@ -1,21 +1,25 @@
-//! The commands on a unit's device.
-ghost use Rattle.std.specs.Prelude.{◌≡◌, ◌+◌, ◌*◌, ◌≤◌, ℕ, List, IfOk, OnErr, Ok, length};
+//! What a command is answered.
+ghost use Rattle.std.specs.Prelude.{◌≡◌, ℕ, List, [], true, Bool, IsTrue, IfOk, OnErr, Ok, length};
+ghost use Rattle.block_file.specs.Disk.{Only};
 ghost use Rattle.block_file.specs.Failures.{Tells};
-ghost use Rattle.scsi_types.specs.declared.command.Command.TheVariants.{Read, Write};
+ghost use Rattle.scsi_types.specs.declared.status.Status.TheVariants.{Good};
+ghost use Rattle.unit_state.specs.Answer.{IsAnswer, IsServed, Lasts};
 ghost use Rattle.unit_state.specs.Choice.{IsFine, choice_of};
-ghost use Rattle.unit_state.specs.Medium.{Fits, IsDone, Reads, Writes, work_of};
-ghost use Rattle.unit_state.specs.Answer.{IsAnswer};
+ghost use Rattle.unit_state.specs.Medium.{Fits, reply_by, work_of, work_asked};
 ghost use Rattle.unit_state.specs.Refusal.{refusal, request};
 ghost use Rattle.unit_state.specs.Step.{OnRefusal, ReturnsData, TakesMemory};
+ghost use Rattle.unit_state.specs.Worked.{finding_at};
 
 use crate::control::Control;
-use crate::medium::{read_range, write_range};
-use block_file::Blocks;
+use crate::medium::{compare, read, write};
+use block_file::{BLOCK_LENGTH, Blocks};
+use compare_write::{MediumEnd, sync};
+use identity::{read_capacity_10, read_capacity_16};
 use scsi_types::{Asked, Command, NoMemory, Reply, Sense};
 use std::alloc::Global;
 
-/// Answers a command: the refusal of the first rule that applies, else what the command returns. Only a READ takes
-/// memory, before the device is asked.
+/// Answers a command: the refusal of the first rule that applies, else what the command returns. Memory is taken for
+/// the data of a reply alone, before the device is asked.
 pub fn answer<B: Blocks>(
     device: &mut B,
     control: &Control,
@@ -30,17 +34,19 @@ pub fn answer<B: Blocks>(
     ensures answered { IfOk result (IsAnswer B.claims control.now (B.contents device.old) (B.contents device.new) asked bytes.now) }
     ensures unreached { (session : ℕ) → OnRefusal (refusal control.now (request session asked bytes.now)) (device.new ≡ device.old) }
     ensures fine { IfOk result (λ reply. Tells (B.failures device.old) (B.failures device.new) (IsFine (choice_of reply (B.contents device.new)))) }
+    ensures lasts { IsTrue B.claims → IfOk result (Lasts (B.contents device.new) (B.may_hold device.new) (work_asked asked bytes.now)) }
 {
     let command = match control.admit(asked, bytes) {
         Ok(command) => command,
         Err(refusal) => return Ok(refusal.reply(alloc)),
     };
-    serve(device, alloc, command, bytes)
+    serve(device, control, alloc, command, bytes)
 }
 
-/// Serves a command that no rule refuses. Only a READ takes memory, before the device is asked.
+/// Serves a command that no rule refuses.
 fn serve<B: Blocks>(
     device: &mut B,
+    control: &Control,
     alloc: Global,
     command: Command,
     bytes: &[u8],
@@ -49,41 +55,46 @@ fn serve<B: Blocks>(
     ensures size { B.size device.new ≡ B.size device.old }
     ensures err { OnErr result (device.new ≡ device.old) }
     ensures memory { OnErr result (ReturnsData (Ok command)) }
-    ensures done { IfOk result (IsDone B.claims (B.contents device.old) (B.contents device.new) (work_of command bytes.now)) }
+    ensures served { IfOk result (IsServed B.claims control.now (B.contents device.old) (B.contents device.new) command bytes.now) }
     ensures fine { IfOk result (λ reply. Tells (B.failures device.old) (B.failures device.new) (IsFine (choice_of reply (B.contents device.new)))) }
+    ensures lasts { IsTrue B.claims → IfOk result (Lasts (B.contents device.new) (B.may_hold device.new) (work_of command bytes.now)) }
 {
     match command {
         Command::TestUnitReady => Ok(Reply::good(Vec::new(alloc))),
-        Command::Read { lba, blocks } => read(device, alloc, lba, blocks),
-        Command::Write { lba, blocks } => Ok(write(device, alloc, lba, blocks, bytes)),
+        Command::ReadCapacity10 => Ok(Reply::good(read_capacity_10(alloc, control.total())?)),
+        Command::ReadCapacity16 { allocation } => Ok(Reply::good(read_capacity_16(
+            alloc,
+            control.total(),
+            allocation,
+        )?)),
+        Command::Read { lba, blocks, fua } => {
+            let mut out = vec![in alloc; 0u8; BLOCK_LENGTH * usize::from(blocks)]?;
+            let end = read(device, lba as u32, blocks, fua, &mut out);
+            Ok(medium_reply(alloc, end, out))
+        }
+        Command::Write { lba, blocks, fua } => {
+            let end = write(device, lba as u32, blocks, fua, bytes);
+            Ok(medium_reply(alloc, end, Vec::new(alloc)))
+        }
+        Command::CompareAndWrite { lba, blocks, fua } => {
+            let end = compare(device, lba as u32, blocks, fua, bytes);
+            Ok(medium_reply(alloc, end, Vec::new(alloc)))
+        }
+        Command::SynchronizeCache { .. } => {
+            let end = sync(device);
+            Ok(medium_reply(alloc, end, Vec::new(alloc)))
+        }
     }
 }
 
-/// READ (SBC-3, READ (10) command).
-fn read<B: Blocks>(device: &mut B, alloc: Global, lba: u64, blocks: u16) -> Result<Reply, NoMemory>
-    requires { lba + blocks ≤ B.size device.old }
-    ensures size { B.size device.new ≡ B.size device.old }
-    ensures err { OnErr result (device.new ≡ device.old) }
-    ensures done { IfOk result (IsDone B.claims (B.contents device.old) (B.contents device.new) (Reads (record { lba = lba; blocks = blocks }))) }
-    ensures fine { IfOk result (λ reply. Tells (B.failures device.old) (B.failures device.new) (IsFine (choice_of reply (B.contents device.new)))) }
+/// How a medium command answers its end: with the bytes that were read where it is done.
+fn medium_reply(alloc: Global, end: MediumEnd, read: Vec<u8>) -> Reply
+    ensures { result ≡ reply_by (finding_at end read.items) }
 {
-    let mut out = vec![in alloc; 0u8; 512 * usize::from(blocks)]?;
-    let Ok(()) = read_range(device, lba as u32, blocks, &mut out) else {
-        return Ok(Reply::check(alloc, Sense::new(0x03, 0x11, 0x00)));
-    };
-    Ok(Reply::good(out))
-}
-
-/// WRITE (SBC-3, WRITE (10) command).
-fn write<B: Blocks>(device: &mut B, alloc: Global, lba: u64, blocks: u16, bytes: &[u8]) -> Reply
-    requires range { lba + blocks ≤ B.size device.old }
-    requires given { 512 * blocks ≤ length bytes.now }
-    ensures size { B.size device.new ≡ B.size device.old }
-    ensures done { IsDone B.claims (B.contents device.old) (B.contents device.new) (Writes (record { lba = lba; blocks = blocks }) bytes.now) result }
-    ensures fine { Tells (B.failures device.old) (B.failures device.new) (IsFine (choice_of result (B.contents device.new))) }
-{
-    let Ok(()) = write_range(device, lba as u32, blocks, bytes) else {
-        return Reply::check(alloc, Sense::new(0x03, 0x0C, 0x00));
-    };
-    Reply::good(Vec::new(alloc))
+    match end {
+        MediumEnd::Done => Reply::good(read),
+        MediumEnd::Miscompare(offset) => Reply::check(alloc, Sense::miscompare(offset)),
+        MediumEnd::ReadFailed => Reply::check(alloc, Sense::UNRECOVERED_READ_ERROR),
+        MediumEnd::WriteFailed | MediumEnd::FlushFailed => Reply::check(alloc, Sense::WRITE_ERROR),
+    }
 }

@@ -1,5 +1,9 @@
 //! All of a unit but its device.
-ghost use Rattle.std.specs.Prelude.{◌≡◌, ◌+◌, ℕ, ◌<◌, ◌≤◌, ◌↔◌, length, IfOk, OnErr, IsErr, MatchResult};
+ghost use Rattle.std.specs.Prelude.{◌≡◌, ◌+◌, ℕ, ◌<◌, ◌≤◌, ◌↔◌, ◌&&◌, nat_lt, nat_le, List, length, Some, None, IfOk, OnErr, IsErr, MatchResult};
+ghost use Rattle.std.specs.Bool.{MatchBool};
+ghost use Rattle.scsi_types.specs.Sense.{lba_out_of_range};
+ghost use Rattle.unit_state.specs.Medium.{range_of, work_of};
+ghost use Rattle.unit_state.specs.Refusal.{range_rule};
 ghost use Rattle.unit_state.specs.State.{preferred};
 
 use crate::refusal::Refusal;
@@ -11,15 +15,6 @@ use thiserror::Error;
 
 /// The last count of entries: there no entry joins.
 pub const LAST_COUNT: u64 = 18_446_744_073_709_551_615;
-
-/// INVALID COMMAND OPERATION CODE, of the key ILLEGAL REQUEST (SPC-4, 4.5.6).
-const UNKNOWN_OPCODE: u8 = 0x20;
-
-/// LOGICAL BLOCK ADDRESS OUT OF RANGE.
-const OUT_OF_RANGE: u8 = 0x21;
-
-/// INVALID FIELD IN CDB.
-const INVALID_FIELD_IN_CDB: u8 = 0x24;
 
 /// Why a session is not attached.
 #[derive(Clone, Copy, Debug, PartialEq, Eq, Error)]
@@ -124,23 +119,29 @@ impl Control {
         Route::At(at)
     }
 
+    /// How many blocks the unit has.
+    pub fn total(&self) -> u32
+        ensures { result ≡ self.now.total }
+    {
+        self.total
+    }
+
     /// The command, where no rule refuses it: its data is there, and its range lies within the unit.
     pub fn admit(&self, asked: Asked, bytes: &[u8]) -> Result<Command, Refusal>
         ensures { MatchResult result (IsAdmitted self.now asked bytes.now) (IsRefused self.now asked bytes.now) }
     {
         let command = match asked {
             Ok(command) => command,
-            Err(CdbFault::UnknownOpcode) => return Err(illegal(UNKNOWN_OPCODE)),
-            Err(CdbFault::BadField(_)) => return Err(illegal(INVALID_FIELD_IN_CDB)),
+            Err(CdbFault::UnknownOpcode) => return Err(Refusal::Check(Sense::INVALID_OPCODE)),
+            Err(CdbFault::BadField(_)) => return Err(Refusal::Check(Sense::INVALID_FIELD_IN_CDB)),
         };
         if (bytes.len() as u64) < u64::from(need(&command)) {
-            return Err(illegal(INVALID_FIELD_IN_CDB));
+            return Err(Refusal::Check(Sense::INVALID_FIELD_IN_CDB));
         }
-        match command {
-            Command::Read { lba, blocks } | Command::Write { lba, blocks }
-                if !is_within(lba, blocks, self.total) => { Err(illegal(OUT_OF_RANGE)) }
-            _ => Ok(command),
+        if !is_within(&command, self.total) {
+            return Err(Refusal::Check(Sense::LBA_OUT_OF_RANGE));
         }
+        Ok(command)
     }
 
     /// Counts one command more of the session at a place.
@@ -166,19 +167,25 @@ fn preferred(unit: u8) -> Group
     }
 }
 
-ghost use Rattle.std.specs.Prelude.{◌&&◌, nat_lt, nat_le};
-ghost use Rattle.scsi_types.specs.Sense.{sense};
+/// Whether the range of a command lies within a unit of so many blocks, its LBA too where it is empty (SBC-3, READ
+/// (10) command). A command without a range does.
+fn is_within(command: &Command, total: u32) -> bool
+    ensures { (bytes : List ℕ) → MatchBool result
+        (range_rule total (range_of (work_of command.now bytes)) ≡ None)
+        (range_rule total (range_of (work_of command.now bytes)) ≡ Some (Refusal.Check lba_out_of_range)) }
+{
+    match command {
+        Command::Read { lba, blocks, .. }
+        | Command::Write { lba, blocks, .. }
+        | Command::CompareAndWrite { lba, blocks, .. } => holds(*lba, u32::from(*blocks), total),
+        Command::SynchronizeCache { lba, blocks } => holds(*lba, *blocks, total),
+        _ => true,
+    }
+}
 
-/// Whether a range lies within a unit of so many blocks, its LBA too where it is empty (SBC-3, READ (10) command).
-fn is_within(lba: u64, blocks: u16, total: u32) -> bool
+/// Whether a range lies within so many blocks.
+fn holds(lba: u64, blocks: u32, total: u32) -> bool
     ensures { result ≡ nat_lt lba total && nat_le (lba + blocks) total }
 {
     lba < u64::from(total) && lba + u64::from(blocks) <= u64::from(total)
-}
-
-/// ILLEGAL REQUEST (SPC-4, 4.5.6).
-fn illegal(asc: u8) -> Refusal
-    ensures { result ≡ Refusal.Check (sense 0x05 asc 0x00) }
-{
-    Refusal::Check(Sense::new(0x05, asc, 0x00))
 }

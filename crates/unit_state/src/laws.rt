@@ -31,12 +31,12 @@ pub fn a_disk_decides_the_reply()
 /// Where nothing refuses a WRITE and the device does not fail, it is GOOD, and a READ of the same range gives the
 /// bytes that were written, to whatever session (SBC-3, READ (10) and WRITE (10) commands).
 pub fn a_read_gives_what_was_written()
-    ensures write { (s : UnitState) (session serial : ℕ) (by : Group) (lba blocks : ℕ) (bytes : List ℕ)
-        → refusal s.control (request session (Ok (Write lba blocks)) bytes) ≡ None
-        → reply_to s (Command session serial by (Ok (Write lba blocks)) bytes Fine) ≡ Some (good []) }
-    ensures read { (s : UnitState) (session serial : ℕ) (by : Group) (reader next : ℕ) (through : Group) (lba blocks : ℕ) (bytes none : List ℕ)
-        → length s.blocks ≡ s.control.total → refusal s.control (request session (Ok (Write lba blocks)) bytes) ≡ None
-        → reply_to (after s (Command session serial by (Ok (Write lba blocks)) bytes Fine)) (Command reader next through (Ok (Read lba blocks)) none Fine) ≡ Some (good (take (512 * blocks) bytes)) }
+    ensures write { (s : UnitState) (session serial : ℕ) (by : Group) (lba blocks : ℕ) (fua : Bool) (bytes : List ℕ)
+        → refusal s.control (request session (Ok (Write lba blocks fua)) bytes) ≡ None
+        → reply_to s (Command session serial by (Ok (Write lba blocks fua)) bytes Fine) ≡ Some (good []) }
+    ensures read { (s : UnitState) (session serial : ℕ) (by : Group) (reader next : ℕ) (through : Group) (lba blocks : ℕ) (fua past : Bool) (bytes none : List ℕ)
+        → length s.blocks ≡ s.control.total → refusal s.control (request session (Ok (Write lba blocks fua)) bytes) ≡ None
+        → reply_to (after s (Command session serial by (Ok (Write lba blocks fua)) bytes Fine)) (Command reader next through (Ok (Read lba blocks past)) none Fine) ≡ Some (good (take (512 * blocks) bytes)) }
 {}
 
 /// A command is served once: its serial is not taken again.

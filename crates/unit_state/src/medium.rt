@@ -1,71 +1,76 @@
-//! Reads and writes of a range of blocks.
-ghost use Rattle.std.specs.Prelude.{◌≡◌, ◌+◌, ◌*◌, ◌<◌, ◌≤◌, length, IsTrue, OnOk};
-ghost use Rattle.block_file.specs.Cut.{cut};
-ghost use Rattle.block_file.specs.Disk.{block_at, written, range_bytes, Between};
-ghost use Rattle.block_file.specs.Failures.{Counts};
+//! The commands on the medium, with their flushes.
+ghost use Rattle.std.specs.Prelude.{◌≡◌, ◌+◌, ◌*◌, ◌≤◌, [], true, length, IsTrue};
+ghost use Rattle.block_file.specs.Disk.{Only};
+ghost use Rattle.block_file.specs.Failures.{Tells};
+ghost use Rattle.compare_write.specs.Ends.{IsUnfailed, OnDone};
+ghost use Rattle.unit_state.specs.Medium.{Reads, Writes, Compares, Flushes};
+ghost use Rattle.unit_state.specs.Worked.{IsWorked};
 
-use block_file::{Blocks, DeviceFailed};
+use block_file::{BLOCK_LENGTH, Blocks};
+use compare_write::{MediumEnd, compare_and_write, read_range, sync, write_range};
 
-/// Reads the blocks of a range. After a failure nothing is known of what `out` holds.
-pub fn read_range<B: Blocks>(
+/// READ: with FUA what was written is made to last first, so that it comes from the medium.
+pub fn read<B: Blocks>(
     device: &mut B,
     lba: u32,
     blocks: u16,
+    fua: bool,
     out: &mut [u8],
-) -> Result<(), DeviceFailed>
+) -> MediumEnd
     requires range { lba + blocks ≤ B.size device.old }
-    requires fits { length out.old ≡ 512 * blocks }
+    requires room { length out.old ≡ BLOCK_LENGTH * blocks }
     ensures size { B.size device.new ≡ B.size device.old }
-    ensures read { IsTrue B.claims → OnOk result (out.new ≡ range_bytes (B.contents device.old) lba blocks) }
-    ensures contents { IsTrue B.claims → B.contents device.new ≡ B.contents device.old }
-    ensures failures { Counts (B.failures device.old) (B.failures device.new) result }
+    ensures worked { IsWorked B.claims (B.contents device.old) (B.contents device.new) (Reads (record { lba = lba; blocks = blocks }) fua) result out.new }
+    ensures failures { Tells (B.failures device.old) (B.failures device.new) (IsUnfailed result) }
+    ensures durable { IsTrue B.claims → fua ≡ true → OnDone result (Only (B.contents device.new) (B.may_hold device.new)) }
 {
-    for k in 0..blocks {
-        let at = 512 * usize::from(k);
-        let Ok(()) = read_block(device, lba + u32::from(k), &mut out[at..at + 512]) else {
-            return Err(DeviceFailed);
-        };
+    if !fua {
+        return read_range(device, lba, blocks, out);
     }
-    Ok(())
+    match sync(device) {
+        MediumEnd::Done => read_range(device, lba, blocks, out),
+        end => end,
+    }
 }
 
-/// Reads one block into its place.
-fn read_block<B: Blocks>(device: &mut B, index: u32, place: &mut [u8]) -> Result<(), DeviceFailed>
-    requires index { index < B.size device.old }
-    requires fits { length place.old ≡ 512 }
-    ensures size { B.size device.new ≡ B.size device.old }
-    ensures read { IsTrue B.claims → OnOk result (place.new ≡ block_at (B.contents device.old) index) }
-    ensures contents { IsTrue B.claims → B.contents device.new ≡ B.contents device.old }
-    ensures failures { Counts (B.failures device.old) (B.failures device.new) result }
-{
-    let Some(block) = place.as_mut_array::<512>() else {
-        unreachable!()
-    };
-    device.read(index, block)
-}
-
-/// Writes the blocks of a range. After a failure each of them is the old one or the new one.
-pub fn write_range<B: Blocks>(
+/// WRITE: with FUA it is made to last before it is answered.
+pub fn write<B: Blocks>(
     device: &mut B,
     lba: u32,
     blocks: u16,
+    fua: bool,
     bytes: &[u8],
-) -> Result<(), DeviceFailed>
+) -> MediumEnd
     requires range { lba + blocks ≤ B.size device.old }
-    requires fits { 512 * blocks ≤ length bytes.now }
+    requires given { BLOCK_LENGTH * blocks ≤ length bytes.now }
     ensures size { B.size device.new ≡ B.size device.old }
-    ensures written { IsTrue B.claims → OnOk result (B.contents device.new ≡ written (B.contents device.old) lba (cut blocks bytes.now)) }
-    ensures torn { IsTrue B.claims → Between (B.contents device.old) lba (cut blocks bytes.now) (B.contents device.new) }
-    ensures failures { Counts (B.failures device.old) (B.failures device.new) result }
+    ensures worked { IsWorked B.claims (B.contents device.old) (B.contents device.new) (Writes (record { lba = lba; blocks = blocks }) bytes.now fua) result [] }
+    ensures failures { Tells (B.failures device.old) (B.failures device.new) (IsUnfailed result) }
+    ensures durable { IsTrue B.claims → fua ≡ true → OnDone result (Only (B.contents device.new) (B.may_hold device.new)) }
 {
-    for k in 0..blocks {
-        let at = 512 * usize::from(k);
-        let Some(block) = bytes[at..at + 512].as_array::<512>() else {
-            unreachable!()
-        };
-        let Ok(()) = device.write(lba + u32::from(k), block) else {
-            return Err(DeviceFailed);
-        };
+    match write_range(device, lba, blocks, bytes) {
+        MediumEnd::Done if fua => sync(device),
+        end => end,
     }
-    Ok(())
+}
+
+/// COMPARE AND WRITE: with FUA what it writes is made to last before it is answered.
+pub fn compare<B: Blocks>(
+    device: &mut B,
+    lba: u32,
+    blocks: u16,
+    fua: bool,
+    bytes: &[u8],
+) -> MediumEnd
+    requires range { lba + blocks ≤ B.size device.old }
+    requires given { 2 * BLOCK_LENGTH * blocks ≤ length bytes.now }
+    ensures size { B.size device.new ≡ B.size device.old }
+    ensures worked { IsWorked B.claims (B.contents device.old) (B.contents device.new) (Compares (record { lba = lba; blocks = blocks }) bytes.now fua) result [] }
+    ensures failures { Tells (B.failures device.old) (B.failures device.new) (IsUnfailed result) }
+    ensures durable { IsTrue B.claims → fua ≡ true → OnDone result (Only (B.contents device.new) (B.may_hold device.new)) }
+{
+    match compare_and_write(device, lba, blocks, bytes) {
+        MediumEnd::Done if fua => sync(device),
+        end => end,
+    }
 }

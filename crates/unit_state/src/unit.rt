@@ -18,7 +18,7 @@ pub enum StepEnd {
     Gone,
     /// The unit belongs to this group, and the command came by another.
     Moved(Group),
-    /// There was no memory for the data of a READ.
+    /// There was no memory for the data of the reply.
     NoMemory,
 }
 
@@ -46,6 +46,9 @@ impl<B: Blocks> Unit<B> {
     ghost use Rattle.unit_state.specs.Choice.{IsFine, choice_of};
     ghost use Rattle.unit_state.specs.Refusal.{refusal, request};
     ghost use Rattle.unit_state.specs.Entry.{Attach, HasRoom, control_after};
+    ghost use Rattle.std.specs.Prelude.{IsTrue};
+    ghost use Rattle.unit_state.specs.Answer.{Lasts};
+    ghost use Rattle.unit_state.specs.Medium.{work_asked};
     ghost use Rattle.unit_state.specs.Step.{OnReply, OnNoReply, OnRefusal, IsRouted, IsStep, TakesMemory, entry_of};
 
     /// Opens a unit over its blocks; its preferred group owns it. Refused, it drops the device.
@@ -87,6 +90,8 @@ impl<B: Blocks> Unit<B> {
         // contents the blocks too.
         ensures entry { OnReply result (λ reply. IsStep B.claims (state_of B.contents self.old) (state_of B.contents self.new)
             (entry_of session serial by asked bytes.now reply (state_of B.contents self.new)) reply) }
+        // After GOOD of a SYNCHRONIZE CACHE or of a command with FUA a crash leaves the blocks that the unit holds.
+        ensures lasts { IsTrue B.claims → OnReply result (Lasts (B.contents self.new.device) (B.may_hold self.new.device) (work_asked asked bytes.now)) }
         // A command that a rule refuses does not reach the device.
         ensures unreached { OnReply result (λ reply. OnRefusal (refusal self.old.control (request session asked bytes.now)) (self.new.device ≡ self.old.device)) }
         // The choice is Fine exactly where no count of failures rose.

@@ -9,7 +9,7 @@ pub returns-clause-memory : goal.returns-clause-memory
 returns-clause-memory g c = takes_memory _ _ _ _ _ c.in-Ok.ensures c.serve.ensures.memory
 
 pub returns-clause-answered : goal.returns-clause-answered
-returns-clause-answered g c = served_ok _ _ _ _ _ _ _ _ c.in-Ok.ensures c.serve.ensures.done
+returns-clause-answered g c = served_ok _ _ _ _ _ _ _ _ c.in-Ok.ensures c.serve.ensures.served
 
 pub returns-clause-unreached : goal.returns-clause-unreached
 returns-clause-unreached g c = may_reach _ _ _ _ _ c.in-Ok.ensures
