@@ -1,5 +1,5 @@
 -- A disk as a list of blocks: what a write changes of it, and what a crash may leave (SBC-3, logical blocks and caches).
-use Rattle.std.specs.Prelude.{◌≡◌, ◌⊎◌, ℕ, ◌+◌, ◌-◌, ◌<◌, ◌≤◌, List, [], ◌++◌, length, take, drop, flat_map, slice_index_or}
+use Rattle.std.specs.Prelude.{◌≡◌, ◌⊎◌, ◌↔◌, ℕ, ◌+◌, ◌-◌, ◌<◌, ◌≤◌, List, [], ◌++◌, length, take, drop, flat_map, slice_index_or}
 
 -- the block at a place
 abbrev pub block_at : List (List ℕ) → ℕ → List ℕ
@@ -24,7 +24,10 @@ pub record Between (old : List (List ℕ)) (first : ℕ) (blocks after : List (L
   pub as_long : length after ≡ length old
   pub each : (k : ℕ) → (block_at after k ≡ block_at old k) ⊎ IsNewAt first blocks k (block_at after k)
 
--- What a block may hold after a crash: no more than before; that, or what is written; the contents alone.
+-- What a block may hold after a crash: just what it did; no more; that, or what is written; the contents alone.
+abbrev pub HoldsTheSame : (ℕ → List ℕ → Type 0) → (ℕ → List ℕ → Type 0) → Type 0
+HoldsTheSame old new = (k : ℕ) (value : List ℕ) → new k value ↔ old k value
+
 abbrev pub NoMore : (ℕ → List ℕ → Type 0) → (ℕ → List ℕ → Type 0) → Type 0
 NoMore old new = (k : ℕ) (value : List ℕ) → new k value → old k value
 

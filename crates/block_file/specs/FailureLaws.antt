@@ -1,6 +1,6 @@
 -- One call of a device after another, and the count of failures over them.
-use Rattle.std.proofs.Common.{◌≡◌, ℕ, ◌<◌, ◌≤◌, ◌∙◌, arith}
-use Rattle.block_file.specs.Failures.{Tells, last_count}
+use Rattle.std.proofs.Common.{◌≡◌, ℕ, ◌<◌, ◌∙◌, arith}
+use Rattle.block_file.specs.Failures.{Tells}
 
 -- calls of which none failed, and then more: the count over all of them tells what it tells over the later ones
 pub then_tells : (before mid now : ℕ) (done : Type 0) → Tells before mid (Unit {0}) → Tells mid now done → Tells before now done

@@ -5,4 +5,5 @@ pub mod FailureLaws
 pub mod Failures
 pub mod Fuse
 pub mod Moment
+pub mod OpenFuse
 pub mod ReadBack

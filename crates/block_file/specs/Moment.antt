@@ -1,5 +1,5 @@
 -- Crashes at some moment since an earlier one.
-use Rattle.std.specs.Prelude.{◌⊎◌, ℕ, ◌≤◌, List}
+use Rattle.std.specs.Prelude.{◌⊎◌, ◌↔◌, ℕ, ◌≤◌, List}
 use Rattle.block_file.specs.Disk.{MayLeave}
 
 -- Time goes on by one call: a crash since a moment may have left what it may have left before the call, or
@@ -8,6 +8,10 @@ pub record Elapses (before now : ℕ) (past since : ℕ → List (List ℕ) → 
   pub later : before ≤ now
   pub nothing_else : (t : ℕ) (disk : List (List ℕ)) → t ≤ before → since t disk → past t disk ⊎ may_leave disk
   pub keeps : (t : ℕ) (disk : List (List ℕ)) → t ≤ before → past t disk → since t disk
+
+-- a crash since a moment may have left just what it might have
+abbrev pub LeavesTheSame : (ℕ → List (List ℕ) → Type 0) → (ℕ → List (List ℕ) → Type 0) → Type 0
+LeavesTheSame past since = (t : ℕ) (disk : List (List ℕ)) → since t disk ↔ past t disk
 
 -- what a call on a device makes of that: its moment, what a crash since one may have left, its size, and what a
 -- crash now may hold, before the call and after it

@@ -61,9 +61,7 @@ pub trait Blocks: Drop {
     fn write(&mut self, index: u32, block: &[u8; 512]) -> Result<(), DeviceFailed>
         requires { index < size self.old }
         ensures size { size self.new ≡ size self.old }
-        ensures written {
-            IsTrue claims → OnOk result (contents self.new ≡ written (contents self.old) index (block.now ∷ []))
-        }
+        ensures written { IsTrue claims → OnOk result (contents self.new ≡ written (contents self.old) index (block.now ∷ [])) }
         ensures torn { IsTrue claims → Between (contents self.old) index (block.now ∷ []) (contents self.new) }
         ensures crash { IsTrue claims → Adds index (block.now ∷ []) (may_hold self.old) (may_hold self.new) }
         ensures time { IsTrue claims_moments → TimePasses moment left_since size may_hold self.old self.new }
@@ -88,22 +86,16 @@ pub trait Blocks: Drop {
     ghost sized: { (d : Self) → IsTrue claims → length (contents d) ≡ size d };
 
     /// Each block has its length.
-    ghost wide: {
-        (d : Self) (k : ℕ) → IsTrue claims → k < size d → length (block_at (contents d) k) ≡ BLOCK_LENGTH
-    };
+    ghost wide: { (d : Self) (k : ℕ) → IsTrue claims → k < size d → length (block_at (contents d) k) ≡ BLOCK_LENGTH };
 
     /// What reads return is one of the outcomes of a crash now.
     ghost is_outcome: { (d : Self) (k : ℕ) → IsTrue claims → k < size d → may_hold d k (block_at (contents d) k) };
 
     /// This moment is one of those since an earlier one.
-    ghost counts_now: {
-        (d : Self) (t : ℕ) (disk : List (List ℕ)) → IsTrue claims_moments → t ≤ moment d
-            → MayLeave (size d) (may_hold d) disk → left_since d t disk
-    };
+    ghost counts_now: { (d : Self) (t : ℕ) (disk : List (List ℕ)) → IsTrue claims_moments → t ≤ moment d
+        → MayLeave (size d) (may_hold d) disk → left_since d t disk };
 
     /// Since this moment there is no other.
-    ghost only_now: {
-        (d : Self) (disk : List (List ℕ)) → IsTrue claims_moments → left_since d (moment d) disk
-            → MayLeave (size d) (may_hold d) disk
-    };
+    ghost only_now: { (d : Self) (disk : List (List ℕ)) → IsTrue claims_moments → left_since d (moment d) disk
+        → MayLeave (size d) (may_hold d) disk };
 }

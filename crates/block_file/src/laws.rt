@@ -3,30 +3,24 @@ ghost use Rattle.std.specs.Prelude.{◌≡◌, ◌⊎◌, ◌+◌, ◌-◌, ◌*
 ghost use Rattle.block_file.specs.Cut.{cut};
 ghost use Rattle.block_file.specs.Disk.{block_at, written, range_bytes, Between};
 
-use crate::{BLOCK_LENGTH, Blocks, FusedBlocks, MemBlocks};
+use crate::{BLOCK_LENGTH, Blocks, FusedBlocks, FusedOpener, KeepOpener, MemBlocks, Opener};
 
 /// Outside its range a write that may have stopped leaves each block as it was.
 pub fn outside_the_range()
-    ensures {
-        (old after blocks : List (List ℕ)) (first k : ℕ) → Between old first blocks after
-            → (k < first) ⊎ (first + length blocks ≤ k) → block_at after k ≡ block_at old k
-    }
+    ensures { (old after blocks : List (List ℕ)) (first k : ℕ) → Between old first blocks after
+        → (k < first) ⊎ (first + length blocks ≤ k) → block_at after k ≡ block_at old k }
 {}
 
 /// Inside its range each block is the old one or the new one.
 pub fn inside_the_range()
-    ensures {
-        (old after blocks : List (List ℕ)) (first k : ℕ) → Between old first blocks after → k < length blocks
-            → (block_at after (first + k) ≡ block_at old (first + k)) ⊎ (block_at after (first + k) ≡ block_at blocks k)
-    }
+    ensures { (old after blocks : List (List ℕ)) (first k : ℕ) → Between old first blocks after → k < length blocks
+        → (block_at after (first + k) ≡ block_at old (first + k)) ⊎ (block_at after (first + k) ≡ block_at blocks k) }
 {}
 
 /// A range that was written gives the bytes that were written.
 pub fn a_range_that_was_written_is_read()
-    ensures {
-        (disk : List (List ℕ)) (first n : ℕ) (bytes : List ℕ) → first + n ≤ length disk
-            → range_bytes (written disk first (cut n bytes)) first n ≡ take (BLOCK_LENGTH * n) bytes
-    }
+    ensures { (disk : List (List ℕ)) (first n : ℕ) (bytes : List ℕ) → first + n ≤ length disk
+        → range_bytes (written disk first (cut n bytes)) first n ≡ take (BLOCK_LENGTH * n) bytes }
 {}
 
 /// Memory keeps what is said of contents and of a crash now.
@@ -38,4 +32,10 @@ pub fn memory_claims()
 pub fn a_fuse_claims_what_its_device_claims<B: Blocks>()
     ensures now { ⟦<FusedBlocks<B> as Blocks>⟧.claims ≡ B.claims }
     ensures moments { ⟦<FusedBlocks<B> as Blocks>⟧.claims_moments ≡ B.claims_moments }
+{}
+
+/// An opener that keeps the device keeps what is said of it, and a fuse before an opener claims what that claims.
+pub fn openers_claim<B: Blocks, O: Opener<B>>()
+    ensures keep { IsTrue (⟦<KeepOpener as Opener<B>>⟧.claims) }
+    ensures fuse { ⟦<FusedOpener<O> as Opener<B>>⟧.claims ≡ O.claims }
 {}

@@ -5,10 +5,9 @@ mod blocks;
 mod fused;
 pub mod laws;
 mod mem;
+mod opener;
 
 pub use blocks::{BLOCK_LENGTH, Blocks, DeviceFailed};
 pub use fused::FusedBlocks;
 pub use mem::MemBlocks;
-
-#[cfg(test)]
-mod tests;
+pub use opener::{FusedOpener, KeepOpener, Opener};

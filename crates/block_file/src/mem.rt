@@ -78,18 +78,12 @@ impl Blocks for MemBlocks {
         requires { index < ⟦<MemBlocks as Blocks>⟧.size self.old }
         ensures ok { IsOk result }
         ensures size { ⟦<MemBlocks as Blocks>⟧.size self.new ≡ ⟦<MemBlocks as Blocks>⟧.size self.old }
-        ensures written {
-            ⟦<MemBlocks as Blocks>⟧.contents self.new
-                ≡ written (⟦<MemBlocks as Blocks>⟧.contents self.old) index (block.now ∷ [])
-        }
-        ensures torn {
-            Between (⟦<MemBlocks as Blocks>⟧.contents self.old) index (block.now ∷ [])
-                (⟦<MemBlocks as Blocks>⟧.contents self.new)
-        }
-        ensures crash {
-            Adds index (block.now ∷ []) (⟦<MemBlocks as Blocks>⟧.may_hold self.old)
-                (⟦<MemBlocks as Blocks>⟧.may_hold self.new)
-        }
+        ensures written { ⟦<MemBlocks as Blocks>⟧.contents self.new
+            ≡ written (⟦<MemBlocks as Blocks>⟧.contents self.old) index (block.now ∷ []) }
+        ensures torn { Between (⟦<MemBlocks as Blocks>⟧.contents self.old) index (block.now ∷ [])
+            (⟦<MemBlocks as Blocks>⟧.contents self.new) }
+        ensures crash { Adds index (block.now ∷ []) (⟦<MemBlocks as Blocks>⟧.may_hold self.old)
+            (⟦<MemBlocks as Blocks>⟧.may_hold self.new) }
     {
         put(&mut self.bytes, BLOCK_LENGTH * index as usize, block);
         Ok(())
