@@ -1,56 +1,119 @@
 -- What a command descriptor block asks for.
-use Rattle.std.specs.Prelude.{◌≡◌, ◌≢◌, ◌⊎◌, ℕ, ◌*◌, ◌/◌, ◌<◌, ◌≤◌, List, drop, slice_index, Result, Ok, Err}
+use Rattle.std.specs.Prelude.{◌≡◌, ℕ, ◌+◌, ◌-◌, ◌*◌, ◌^◌, ◌/◌, ◌%◌, ◌==◌, ◌≤◌, Bool, false, if◌then◌else◌}
+use Rattle.std.specs.Prelude.{List, drop, slice_index, Option, Some, None, Result, Ok, Err}
 use Rattle.byteorder.specs.Endian.{big_number}
-use Rattle.scsi_types.specs.declared.command.Op.TheVariants as ops
+use Rattle.scsi_types.specs.declared.form.CdbForm.{CdbForm}
+use Rattle.scsi_types.specs.declared.form.CdbForm.TheVariants as forms
 use Rattle.scsi_types.specs.declared.command.Command.{Command}
-use Rattle.scsi_types.specs.declared.command.Command.TheVariants.{TestUnitReady, Read, Write}
+use Rattle.scsi_types.specs.declared.command.Command.TheVariants.{TestUnitReady, RequestSense, Inquiry, ModeSense}
+use Rattle.scsi_types.specs.declared.command.Command.TheVariants.{ReadCapacity10, ReadCapacity16, Read, Write}
+use Rattle.scsi_types.specs.declared.command.Command.TheVariants.{CompareAndWrite, SynchronizeCache, ReportLuns}
 use Rattle.scsi_types.specs.declared.command.CdbFault.{CdbFault}
 use Rattle.scsi_types.specs.declared.command.CdbFault.TheVariants.{UnknownOpcode, BadField}
+use Rattle.scsi_types.specs.declared.pages.InquiryPage.{InquiryPage}
+use Rattle.scsi_types.specs.declared.pages.ModeHeader.{ModeHeader}
+use Rattle.scsi_types.specs.declared.pages.ModeHeader.TheVariants.{Six, Ten}
+use Rattle.scsi_types.specs.declared.pages.PageControl.{PageControl}
+use Rattle.scsi_types.specs.declared.pages.ModePage.{ModePage}
+use Rattle.scsi_types.specs.declared.pages.LunSelect.{LunSelect}
+use Rattle.scsi_types.specs.Form.{HasForm, op_of}
+use Rattle.scsi_types.specs.Pages.{IsInquiryPage, control_code, mode_page_code, select_code}
 
-abbrev pub opcode_of : List ℕ → ℕ
-opcode_of cdb = slice_index cdb 0
+-- a byte of the CDB, and the number in the bytes from one to another, the first the highest
+abbrev pub byte : ℕ → List ℕ → ℕ
+byte at cdb = slice_index cdb at
 
--- RDPROTECT or WRPROTECT, the highest three bits of byte 1: without protection information, 0
+abbrev pub field : ℕ → ℕ → List ℕ → ℕ
+field from to cdb = big_number (to + 1 - from) (drop from cdb)
+
+-- READ (6) and WRITE (6): 21 bits of LBA, and a length of 0 that stands for 256 blocks (SBC-3, READ (6) command)
+abbrev pub lba_6 : List ℕ → ℕ
+lba_6 cdb = field 1 3 cdb % 2 ^ 21
+
+abbrev pub blocks_6 : List ℕ → ℕ
+blocks_6 cdb = if byte 4 cdb == 0 then 256 else byte 4 cdb
+
+-- RDPROTECT or WRPROTECT, the highest three bits of byte 1
 abbrev pub protect_of : List ℕ → ℕ
-protect_of cdb = slice_index cdb 1 / 32
+protect_of cdb = byte 1 cdb / 32
 
--- the fields of READ (10) and WRITE (10) (SBC-3)
-abbrev pub lba_10 : List ℕ → ℕ
-lba_10 cdb = big_number 4 (drop 2 cdb)
+-- FUA, a bit of byte 1
+abbrev pub fua_of : List ℕ → Bool
+fua_of cdb = byte 1 cdb / 8 % 2 == 1
 
-abbrev pub length_10 : List ℕ → ℕ
-length_10 cdb = big_number 2 (drop 7 cdb)
-
--- the most blocks of one transfer (the MAXIMUM TRANSFER LENGTH of the block limits page)
+-- the most blocks of a READ or WRITE, and of a COMPARE AND WRITE (SBC-3, Block Limits VPD page)
 abbrev pub most_blocks : ℕ
 most_blocks = 2048
 
--- a READ (10) or WRITE (10) of this opcode, LBA and number of blocks
-pub record IsTransfer_10 (op : ℕ) (cdb : List ℕ) (lba blocks : ℕ) : Type 0 where
-  pub opcode : opcode_of cdb ≡ op
+abbrev pub most_compared : ℕ
+most_compared = 32
+
+-- a transfer that the array takes: no protection information, and no more blocks than the most
+pub record IsGoodTransfer (cdb : List ℕ) (blocks most : ℕ) : Type 0 where
   pub unprotected : protect_of cdb ≡ 0
-  pub within : length_10 cdb ≤ most_blocks
-  pub lba_is : lba ≡ lba_10 cdb
-  pub blocks_is : blocks ≡ length_10 cdb
+  pub within : blocks ≤ most
 
--- one with a field that it may not have
-pub record IsBadTransfer_10 (op : ℕ) (cdb : List ℕ) : Type 0 where
-  pub opcode : opcode_of cdb ≡ op
-  pub bad : (protect_of cdb ≢ 0) ⊎ (most_blocks < length_10 cdb)
+-- a READ, a WRITE or a COMPARE AND WRITE of so many blocks from this LBA on
+abbrev pub Transfers : (ℕ → ℕ → Bool → Command) → ℕ → List ℕ → ℕ → ℕ → Command → Type 0
+Transfers kind most cdb lba blocks c = IsGoodTransfer cdb blocks most × (c ≡ kind lba blocks (fua_of cdb))
 
--- the CDB asks for this: a case for each command, and for each fault
+-- a MODE SENSE for this page control and page: PC and PAGE CODE share byte 2, and no page has subpages
+-- (SPC-4, 6.13.1)
+pub record IsModeSense (cdb : List ℕ) (control : PageControl) (page : ModePage) : Type 0 where
+  pub control_is : byte 2 cdb / 64 ≡ control_code control
+  pub page_is : byte 2 cdb % 64 ≡ mode_page_code page
+  pub no_subpage : byte 3 cdb ≡ 0
+
+abbrev pub SensesMode : ModeHeader → ℕ → List ℕ → Command → Type 0
+SensesMode header allocation cdb c =
+    (control : PageControl) × (page : ModePage) × IsModeSense cdb control page
+    × (c ≡ ModeSense header control page allocation)
+
+-- The table of commands: what a CDB of each form asks for, by its fields, where these are good. A form for which
+-- no command stands here has a bad field.
+abbrev pub Asks : CdbForm → List ℕ → Command → Type 0
+Asks forms.TestUnitReady cdb c = c ≡ TestUnitReady
+Asks forms.RequestSense cdb c = (byte 1 cdb % 2 ≡ 0) × (c ≡ RequestSense (byte 4 cdb))
+Asks forms.Read6 cdb c = c ≡ Read (lba_6 cdb) (blocks_6 cdb) false
+Asks forms.Write6 cdb c = c ≡ Write (lba_6 cdb) (blocks_6 cdb) false
+Asks forms.Inquiry cdb c =
+    (page : InquiryPage) × IsInquiryPage (byte 1 cdb % 2) (byte 2 cdb) page × (c ≡ Inquiry page (field 3 4 cdb))
+Asks forms.ModeSense6 cdb c = SensesMode Six (byte 4 cdb) cdb c
+Asks forms.ReadCapacity10 cdb c = c ≡ ReadCapacity10
+Asks forms.Read10 cdb c = Transfers Read most_blocks cdb (field 2 5 cdb) (field 7 8 cdb) c
+Asks forms.Write10 cdb c = Transfers Write most_blocks cdb (field 2 5 cdb) (field 7 8 cdb) c
+Asks forms.SynchronizeCache10 cdb c = c ≡ SynchronizeCache (field 2 5 cdb) (field 7 8 cdb)
+Asks forms.ModeSense10 cdb c = SensesMode Ten (field 7 8 cdb) cdb c
+Asks forms.Read16 cdb c = Transfers Read most_blocks cdb (field 2 9 cdb) (field 10 13 cdb) c
+Asks forms.CompareAndWrite cdb c = Transfers CompareAndWrite most_compared cdb (field 2 9 cdb) (byte 13 cdb) c
+Asks forms.Write16 cdb c = Transfers Write most_blocks cdb (field 2 9 cdb) (field 10 13 cdb) c
+Asks forms.SynchronizeCache16 cdb c = c ≡ SynchronizeCache (field 2 9 cdb) (field 10 13 cdb)
+Asks forms.ReadCapacity16 cdb c = c ≡ ReadCapacity16 (field 10 13 cdb)
+Asks forms.ReportLuns cdb c =
+    (select : LunSelect) × (byte 2 cdb ≡ select_code select) × (c ≡ ReportLuns select (field 6 9 cdb))
+
+-- a CDB of this form asks for this command, or has a bad field
+abbrev pub Decodes : CdbForm → List ℕ → Option Command → Type 0
+Decodes form cdb None = (c : Command) → Asks form cdb c → ⊥
+Decodes form cdb (Some c) = Asks form cdb c
+
+-- the CDB asks for this: a command of its form, or none of its form's commands, or it has none of the forms
 abbrev pub Means : List ℕ → Result Command CdbFault → Type 0
-Means cdb (Ok TestUnitReady) = opcode_of cdb ≡ 0x00
-Means cdb (Ok (Read lba blocks)) = IsTransfer_10 0x28 cdb lba blocks
-Means cdb (Ok (Write lba blocks)) = IsTransfer_10 0x2A cdb lba blocks
-Means cdb (Err (BadField ops.TestUnitReady)) = ⊥
-Means cdb (Err (BadField ops.Read)) = IsBadTransfer_10 0x28 cdb
-Means cdb (Err (BadField ops.Write)) = IsBadTransfer_10 0x2A cdb
-Means cdb (Err UnknownOpcode) = (opcode_of cdb ≢ 0x00) × (opcode_of cdb ≢ 0x28) × (opcode_of cdb ≢ 0x2A)
+Means cdb (Ok c) = (form : CdbForm) × HasForm cdb form × Asks form cdb c
+Means cdb (Err (BadField op)) = (form : CdbForm) × HasForm cdb form × Decodes form cdb None × (op ≡ op_of form)
+Means cdb (Err UnknownOpcode) = (form : CdbForm) → HasForm cdb form → ⊥
 
 -- the bytes of data that a command needs from its initiator; a CDB that asks for nothing needs none
 abbrev pub need_of : Result Command CdbFault → ℕ
 need_of (Ok TestUnitReady) = 0
-need_of (Ok (Read lba blocks)) = 0
-need_of (Ok (Write lba blocks)) = 512 * blocks
+need_of (Ok (RequestSense allocation)) = 0
+need_of (Ok (Inquiry page allocation)) = 0
+need_of (Ok (ModeSense header control page allocation)) = 0
+need_of (Ok ReadCapacity10) = 0
+need_of (Ok (ReadCapacity16 allocation)) = 0
+need_of (Ok (Read lba blocks fua)) = 0
+need_of (Ok (Write lba blocks fua)) = 512 * blocks
+need_of (Ok (CompareAndWrite lba blocks fua)) = 1024 * blocks
+need_of (Ok (SynchronizeCache lba blocks)) = 0
+need_of (Ok (ReportLuns select allocation)) = 0
 need_of (Err fault) = 0

@@ -25,11 +25,11 @@ impl UnitAttention {
         ensures { result ≡ attention_sense self }
     {
         match self {
-            UnitAttention::PowerOn => Sense::new(0x06, 0x29, 0x00),
-            UnitAttention::ReservationsPreempted => Sense::new(0x06, 0x2A, 0x03),
-            UnitAttention::ReservationsReleased => Sense::new(0x06, 0x2A, 0x04),
-            UnitAttention::RegistrationsPreempted => Sense::new(0x06, 0x2A, 0x05),
-            UnitAttention::AccessStateChanged => Sense::new(0x06, 0x2A, 0x06),
+            UnitAttention::PowerOn => Sense::POWER_ON,
+            UnitAttention::ReservationsPreempted => Sense::RESERVATIONS_PREEMPTED,
+            UnitAttention::ReservationsReleased => Sense::RESERVATIONS_RELEASED,
+            UnitAttention::RegistrationsPreempted => Sense::REGISTRATIONS_PREEMPTED,
+            UnitAttention::AccessStateChanged => Sense::ACCESS_STATE_CHANGED,
         }
     }
 }

@@ -1,54 +1,56 @@
 //! Command descriptor blocks.
-ghost use Rattle.std.specs.Prelude.{◌≡◌, MatchOption, Result};
+ghost use Rattle.std.specs.Prelude.{◌≡◌, Result};
 ghost use Rattle.scsi_types.specs.declared.command.CdbFault.{CdbFault};
 ghost use Rattle.scsi_types.specs.declared.command.Command.{Command};
-ghost use Rattle.scsi_types.specs.Cdb.{IsBadTransfer_10, IsTransfer_10, Means, opcode_of};
+ghost use Rattle.scsi_types.specs.Cdb.{Decodes, Means};
 
-use crate::{Asked, CdbFault, Command, Op};
-use byteorder::{BigEndian, ByteOrder};
+use crate::inquiries::{inquiry, mode_sense_6, mode_sense_10, report_luns, request_sense};
+use crate::medium::{
+    compare_and_write, read_6, read_10, read_16, read_capacity_16, synchronize_cache_10,
+    synchronize_cache_16, write_6, write_10, write_16,
+};
+use crate::{Asked, CdbFault, CdbForm, Command};
 
-const TEST_UNIT_READY: u8 = 0x00;
-
-const READ_10: u8 = 0x28;
-
-const WRITE_10: u8 = 0x2A;
-
-/// The most blocks that one READ or WRITE moves.
-const MOST_BLOCKS: u16 = 2048;
-
-/// What a CDB asks for: TEST UNIT READY (SPC-4, 6.47), READ (10) or WRITE (10) (SBC-3). DPO, FUA, the
-/// group number, the control byte and the bytes behind the end of a shorter CDB are not looked at.
+/// What a CDB asks for (SPC-4, section 6; SBC-3, section 5). DPO, IMMED, the group number, the control byte, what is
+/// reserved and the bytes behind the end of a shorter CDB are not looked at.
 ///
-/// An operation code of no command is `UnknownOpcode`; protection information, or more than 2048 blocks, is `BadField`.
+/// An operation code of no command, or one with a service action of no command, is `UnknownOpcode`. A field with
+/// a value that the command may not have here is `BadField`: protection information, more than 2048 blocks in a
+/// READ or WRITE, more than 32 in a COMPARE AND WRITE.
 pub fn decode(cdb: &[u8; 16]) -> Asked
     ensures means { Means cdb.now result }
     ensures only { (asked : Result Command CdbFault) → Means cdb.now asked → asked ≡ result }
 {
-    match cdb[0] {
-        TEST_UNIT_READY => Ok(Command::TestUnitReady),
-        READ_10 => match transfer_10(cdb) {
-            Some((lba, blocks)) => Ok(Command::Read { lba, blocks }),
-            None => Err(CdbFault::BadField(Op::Read)),
+    match CdbForm::of(cdb) {
+        Some(form) => match command_of(form, cdb) {
+            Some(command) => Ok(command),
+            None => Err(CdbFault::BadField(form.op())),
         },
-        WRITE_10 => match transfer_10(cdb) {
-            Some((lba, blocks)) => Ok(Command::Write { lba, blocks }),
-            None => Err(CdbFault::BadField(Op::Write)),
-        },
-        _ => Err(CdbFault::UnknownOpcode),
+        None => Err(CdbFault::UnknownOpcode),
     }
 }
 
-// The LBA and the number of blocks, unless a field is bad.
-fn transfer_10(cdb: &[u8; 16]) -> Option<(u64, u16)>
-    ensures { MatchOption result
-        (IsBadTransfer_10 (opcode_of cdb.now) cdb.now)
-        (λ t. IsTransfer_10 (opcode_of cdb.now) cdb.now t.0 t.1) }
+// The command that a CDB of this form asks for, unless a field is bad.
+fn command_of(form: CdbForm, cdb: &[u8; 16]) -> Option<Command>
+    ensures { Decodes form cdb.now result }
 {
-    let lba = u64::from(BigEndian::read_u32(&cdb[2..]));
-    let blocks = BigEndian::read_u16(&cdb[7..]);
-    if cdb[1] / 32 != 0 || blocks > MOST_BLOCKS {
-        None
-    } else {
-        Some((lba, blocks))
+    match form {
+        CdbForm::TestUnitReady => Some(Command::TestUnitReady),
+        CdbForm::RequestSense => request_sense(cdb),
+        CdbForm::Read6 => Some(read_6(cdb)),
+        CdbForm::Write6 => Some(write_6(cdb)),
+        CdbForm::Inquiry => inquiry(cdb),
+        CdbForm::ModeSense6 => mode_sense_6(cdb),
+        CdbForm::ReadCapacity10 => Some(Command::ReadCapacity10),
+        CdbForm::Read10 => read_10(cdb),
+        CdbForm::Write10 => write_10(cdb),
+        CdbForm::SynchronizeCache10 => Some(synchronize_cache_10(cdb)),
+        CdbForm::ModeSense10 => mode_sense_10(cdb),
+        CdbForm::Read16 => read_16(cdb),
+        CdbForm::CompareAndWrite => compare_and_write(cdb),
+        CdbForm::Write16 => write_16(cdb),
+        CdbForm::SynchronizeCache16 => Some(synchronize_cache_16(cdb)),
+        CdbForm::ReadCapacity16 => Some(read_capacity_16(cdb)),
+        CdbForm::ReportLuns => report_luns(cdb),
     }
 }

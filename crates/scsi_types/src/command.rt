@@ -2,31 +2,104 @@
 ghost use Rattle.std.specs.Prelude.{◌≡◌, Ok};
 ghost use Rattle.scsi_types.specs.Cdb.{need_of};
 
+use crate::{InquiryPage, LunSelect, ModeHeader, ModePage, PageControl};
 use thiserror::Error;
 
-/// A command by its kind.
+/// A command by its kind, whatever the form of its CDB.
 #[derive(Clone, Copy, Debug, PartialEq, Eq)]
 pub enum Op {
+    /// TEST UNIT READY (SPC-4, 6.47).
     TestUnitReady,
+    /// REQUEST SENSE (SPC-4, 6.39).
+    RequestSense,
+    /// INQUIRY (SPC-4, 6.6).
+    Inquiry,
+    /// MODE SENSE (6) and (10) (SPC-4, 6.13 and 6.14).
+    ModeSense,
+    /// READ CAPACITY (10) and (16) (SBC-3, READ CAPACITY commands).
+    ReadCapacity,
+    /// READ (6), (10) and (16) (SBC-3, READ commands).
     Read,
+    /// WRITE (6), (10) and (16) (SBC-3, WRITE commands).
     Write,
+    /// COMPARE AND WRITE (SBC-3, 5.2).
+    CompareAndWrite,
+    /// SYNCHRONIZE CACHE (10) and (16) (SBC-3, SYNCHRONIZE CACHE commands).
+    SynchronizeCache,
+    /// PERSISTENT RESERVE IN (SPC-4, 6.15).
+    PersistentReserveIn,
+    /// PERSISTENT RESERVE OUT (SPC-4, 6.16).
+    PersistentReserveOut,
+    /// REPORT LUNS (SPC-4, 6.33).
+    ReportLuns,
+    /// REPORT TARGET PORT GROUPS (SPC-4, 6.37).
+    ReportTargetPortGroups,
+    /// SET TARGET PORT GROUPS (SPC-4, 6.45).
+    SetTargetPortGroups,
 }
 
-/// A command that a CDB asks for. `blocks` is at most 2048 in what [`decode`](crate::decode) gives.
+/// A command that a CDB asks for. In what [`decode`](crate::decode) gives, a READ or a WRITE has at most 2048
+/// `blocks`, and a COMPARE AND WRITE at most 32.
 #[derive(Clone, Copy, Debug, PartialEq, Eq)]
 pub enum Command {
     /// TEST UNIT READY (SPC-4, 6.47).
     TestUnitReady,
-    /// READ (SBC-3, READ (10) command).
-    Read { lba: u64, blocks: u16 },
-    /// WRITE (SBC-3, WRITE (10) command).
-    Write { lba: u64, blocks: u16 },
+    /// REQUEST SENSE (SPC-4, 6.39), whose data is cut to `allocation` bytes, as below.
+    RequestSense {
+        allocation: u8,
+    },
+    /// INQUIRY (SPC-4, 6.6).
+    Inquiry {
+        page: InquiryPage,
+        allocation: u16,
+    },
+    /// MODE SENSE (6) and (10) (SPC-4, 6.13 and 6.14).
+    ModeSense {
+        header: ModeHeader,
+        control: PageControl,
+        page: ModePage,
+        allocation: u16,
+    },
+    /// READ CAPACITY (10) (SBC-3, READ CAPACITY (10) command).
+    ReadCapacity10,
+    /// READ CAPACITY (16) (SBC-3, READ CAPACITY (16) command).
+    ReadCapacity16 {
+        allocation: u32,
+    },
+    /// READ (SBC-3, READ (10) command); `fua`: from the medium, past every cache.
+    Read {
+        lba: u64,
+        blocks: u16,
+        fua: bool,
+    },
+    /// WRITE (SBC-3, WRITE (10) command); `fua`: onto the medium, before the answer.
+    Write {
+        lba: u64,
+        blocks: u16,
+        fua: bool,
+    },
+    /// COMPARE AND WRITE (SBC-3, 5.2): so many `blocks` to compare, and as many to write.
+    CompareAndWrite {
+        lba: u64,
+        blocks: u16,
+        fua: bool,
+    },
+    /// SYNCHRONIZE CACHE (SBC-3, SYNCHRONIZE CACHE (10) command); 0 `blocks` go to the end.
+    SynchronizeCache {
+        lba: u64,
+        blocks: u32,
+    },
+    /// REPORT LUNS (SPC-4, 6.33).
+    ReportLuns {
+        select: LunSelect,
+        allocation: u32,
+    },
 }
 
 /// Why a CDB asks for no command.
 #[derive(Clone, Copy, Debug, PartialEq, Eq, Error)]
 pub enum CdbFault {
-    /// No command of this array has the operation code.
+    /// No command of this array has the operation code, or the operation code with the service action.
     #[error("unknown operation code")]
     UnknownOpcode,
     /// A field of this command has a value that the array does not take.
@@ -37,12 +110,14 @@ pub enum CdbFault {
 /// What a CDB asks for, or why it asks for nothing.
 pub type Asked = Result<Command, CdbFault>;
 
-/// How many bytes of data the command needs from its initiator: 512 for each block that it writes.
+/// How many bytes of data the command needs from its initiator: 512 for each block that a WRITE writes, and
+/// 1024 for each block that a COMPARE AND WRITE compares and writes.
 pub fn need(command: &Command) -> u32
     ensures { result ≡ need_of (Ok command.now) }
 {
     match command {
-        Command::TestUnitReady | Command::Read { .. } => 0,
         Command::Write { blocks, .. } => 512 * u32::from(*blocks),
+        Command::CompareAndWrite { blocks, .. } => 1024 * u32::from(*blocks),
+        _ => 0,
     }
 }

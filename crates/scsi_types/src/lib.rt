@@ -4,21 +4,28 @@
 mod attention;
 mod cdb;
 mod command;
+mod form;
+mod inquiries;
+pub mod laws;
 mod lun;
+mod medium;
 mod memory;
 mod names;
+mod pages;
 mod reply;
+mod reservation;
 mod sense;
 mod status;
-#[cfg(test)]
-mod tests;
 
 pub use attention::UnitAttention;
 pub use cdb::decode;
 pub use command::{Asked, CdbFault, Command, Op, need};
+pub use form::CdbForm;
 pub use lun::Lun;
 pub use memory::NoMemory;
 pub use names::{Group, Place, PortName};
+pub use pages::{InquiryPage, LunSelect, ModeHeader, ModePage, PageControl};
 pub use reply::Reply;
+pub use reservation::PrOutAction;
 pub use sense::Sense;
 pub use status::Status;

@@ -1,6 +1,8 @@
 //! Names of controllers, units and initiator ports.
 ghost use Rattle.std.specs.Prelude.{◌≡◌, ◌↔◌, IsTrue};
+ghost use Rattle.scsi_types.specs.Nexus.{port_cmp};
 
+use std::cmp::Ordering;
 use std::marker::Model;
 
 /// A target port group, which is a controller (SPC-4, 5.15).
@@ -63,5 +65,12 @@ impl PortName {
         ensures { IsTrue result ↔ (self.now ≡ other.now) }
     {
         self.isid == other.isid && self.name == other.name
+    }
+
+    /// The order of ports: by the bytes of the InitiatorName, then by the ISID.
+    pub fn compare(&self, other: &PortName) -> Ordering
+        ensures { result ≡ port_cmp self.now other.now }
+    {
+        self.name.cmp(&other.name).then(self.isid.cmp(&other.isid))
     }
 }
