@@ -1,54 +1,141 @@
 -- A CDB asks for one thing.
 use Rattle.std.proofs.Common.{◌≡◌, ℕ, ◌==◌, if◌then◌else◌, List, get_or, Result, Ok, Err, refl, sym, ap, ◌∙◌}
 use Rattle.scsi_types.specs.declared.form.CdbForm.{CdbForm}
-use Rattle.scsi_types.specs.declared.form.CdbForm.TheVariants.{TestUnitReady, Read6, Write6, ReadCapacity10, Read10, Write10, SynchronizeCache10, Read16, CompareAndWrite, Write16, SynchronizeCache16, ReadCapacity16}
+use Rattle.scsi_types.specs.declared.form.CdbForm.TheVariants as forms
 use Rattle.scsi_types.specs.declared.command.Command.{Command}
 use Rattle.scsi_types.specs.declared.command.CdbFault.{CdbFault}
 use Rattle.scsi_types.specs.declared.command.CdbFault.TheVariants.{UnknownOpcode, BadField}
+use Rattle.scsi_types.specs.declared.pages.InquiryPage.{InquiryPage}
+use Rattle.scsi_types.specs.declared.pages.InquiryPage.TheVariants as inquiry
+use Rattle.scsi_types.specs.declared.pages.PageControl.{PageControl}
+use Rattle.scsi_types.specs.declared.pages.PageControl.TheVariants as controls
+use Rattle.scsi_types.specs.declared.pages.ModeHeader.{ModeHeader}
+use Rattle.scsi_types.specs.declared.pages.ModePage.{ModePage}
+use Rattle.scsi_types.specs.declared.pages.ModePage.TheVariants as modes
+use Rattle.scsi_types.specs.declared.pages.LunSelect.{LunSelect}
+use Rattle.scsi_types.specs.declared.pages.LunSelect.TheVariants as selects
 use Rattle.scsi_types.specs.Form.{HasForm, op_of}
-use Rattle.scsi_types.specs.Cdb.{Asks, Means}
+use Rattle.scsi_types.specs.Pages.{IsInquiryPage, control_code, mode_page_code, select_code}
+use Rattle.scsi_types.specs.Cdb.{Asks, Means, SensesMode}
 
 -- the form with an operation code
 form_at : ℕ → CdbForm
 form_at n =
-    if n == 0x00 then TestUnitReady else if n == 0x08 then Read6 else if n == 0x0A then Write6 else
-    if n == 0x25 then ReadCapacity10 else if n == 0x28 then Read10 else if n == 0x2A then Write10 else
-    if n == 0x35 then SynchronizeCache10 else if n == 0x88 then Read16 else if n == 0x89 then CompareAndWrite else
-    if n == 0x8A then Write16 else if n == 0x91 then SynchronizeCache16 else ReadCapacity16
+    if n == 0x00 then forms.TestUnitReady else if n == 0x03 then forms.RequestSense else
+    if n == 0x08 then forms.Read6 else if n == 0x0A then forms.Write6 else if n == 0x12 then forms.Inquiry else
+    if n == 0x1A then forms.ModeSense6 else if n == 0x25 then forms.ReadCapacity10 else
+    if n == 0x28 then forms.Read10 else if n == 0x2A then forms.Write10 else
+    if n == 0x35 then forms.SynchronizeCache10 else if n == 0x5A then forms.ModeSense10 else
+    if n == 0x88 then forms.Read16 else if n == 0x89 then forms.CompareAndWrite else
+    if n == 0x8A then forms.Write16 else if n == 0x91 then forms.SynchronizeCache16 else
+    if n == 0x9E then forms.ReadCapacity16 else forms.ReportLuns
 
 form-is : (cdb : List ℕ) (form : CdbForm) → HasForm cdb form → form_at (get_or cdb 0 0) ≡ form
 unfolding form_at
-form-is cdb TestUnitReady h = ap form_at h
-form-is cdb Read6 h = ap form_at h
-form-is cdb Write6 h = ap form_at h
-form-is cdb ReadCapacity10 h = ap form_at h
-form-is cdb Read10 h = ap form_at h
-form-is cdb Write10 h = ap form_at h
-form-is cdb SynchronizeCache10 h = ap form_at h
-form-is cdb Read16 h = ap form_at h
-form-is cdb CompareAndWrite h = ap form_at h
-form-is cdb Write16 h = ap form_at h
-form-is cdb SynchronizeCache16 h = ap form_at h
-form-is cdb ReadCapacity16 h = ap form_at h.opcode_is
+form-is cdb forms.TestUnitReady h = ap form_at h
+form-is cdb forms.RequestSense h = ap form_at h
+form-is cdb forms.Read6 h = ap form_at h
+form-is cdb forms.Write6 h = ap form_at h
+form-is cdb forms.Inquiry h = ap form_at h
+form-is cdb forms.ModeSense6 h = ap form_at h
+form-is cdb forms.ReadCapacity10 h = ap form_at h
+form-is cdb forms.Read10 h = ap form_at h
+form-is cdb forms.Write10 h = ap form_at h
+form-is cdb forms.SynchronizeCache10 h = ap form_at h
+form-is cdb forms.ModeSense10 h = ap form_at h
+form-is cdb forms.Read16 h = ap form_at h
+form-is cdb forms.CompareAndWrite h = ap form_at h
+form-is cdb forms.Write16 h = ap form_at h
+form-is cdb forms.SynchronizeCache16 h = ap form_at h
+form-is cdb forms.ReadCapacity16 h = ap form_at h.opcode_is
+form-is cdb forms.ReportLuns h = ap form_at h
 
 -- a CDB has one form
 pub one_form : (cdb : List ℕ) (a b : CdbForm) → HasForm cdb a → HasForm cdb b → a ≡ b
 one_form cdb a b p q = sym (form-is cdb a p) ∙ form-is cdb b q
 
+-- a code names one page, page control or choice
+inquiry_at : ℕ → ℕ → InquiryPage
+inquiry_at evpd code =
+    if evpd == 0 then inquiry.Standard else if code == 0x00 then inquiry.SupportedPages else
+    if code == 0x80 then inquiry.UnitSerialNumber else if code == 0x83 then inquiry.DeviceIdentification else
+    inquiry.BlockLimits
+
+inquiry-is : (evpd code : ℕ) (page : InquiryPage) → IsInquiryPage evpd code page → inquiry_at evpd code ≡ page
+unfolding inquiry_at
+inquiry-is evpd code inquiry.Standard h = rw h.0 refl
+inquiry-is evpd code inquiry.SupportedPages h = rw (h.0, h.1) refl
+inquiry-is evpd code inquiry.UnitSerialNumber h = rw (h.0, h.1) refl
+inquiry-is evpd code inquiry.DeviceIdentification h = rw (h.0, h.1) refl
+inquiry-is evpd code inquiry.BlockLimits h = rw (h.0, h.1) refl
+
+control_at : ℕ → PageControl
+control_at n =
+    if n == 0 then controls.Current else if n == 1 then controls.Changeable else if n == 2 then controls.Default else
+    controls.Saved
+
+control-is : (control : PageControl) → control_at (control_code control) ≡ control
+unfolding control_at
+control-is controls.Current = refl
+control-is controls.Changeable = refl
+control-is controls.Default = refl
+control-is controls.Saved = refl
+
+mode_at : ℕ → ModePage
+mode_at n = if n == 0x08 then modes.Caching else if n == 0x0A then modes.Control else modes.All
+
+mode-is : (page : ModePage) → mode_at (mode_page_code page) ≡ page
+unfolding mode_at
+mode-is modes.Caching = refl
+mode-is modes.Control = refl
+mode-is modes.All = refl
+
+select_at : ℕ → LunSelect
+select_at n = if n == 0 then selects.Units else if n == 1 then selects.WellKnown else selects.All
+
+select-is : (select : LunSelect) → select_at (select_code select) ≡ select
+unfolding select_at
+select-is selects.Units = refl
+select-is selects.WellKnown = refl
+select-is selects.All = refl
+
+one_sense : (header : ModeHeader) (n : ℕ) (cdb : List ℕ) (c d : Command)
+    → SensesMode header n cdb c → SensesMode header n cdb d → c ≡ d
+one_sense header n cdb c d p q =
+    let control : p.0 ≡ q.0 =
+    sym (control-is p.0) ∙ ap control_at (sym p.2.control_is ∙ q.2.control_is) ∙ control-is q.0 in
+    let page : p.1 ≡ q.1 = sym (mode-is p.1) ∙ ap mode_at (sym p.2.page_is ∙ q.2.page_is) ∙ mode-is q.1 in
+    let first = p.3 in
+    let second = q.3 in
+    cc
+
 -- a CDB of a form asks for one command
 one_command : (form : CdbForm) (cdb : List ℕ) (c d : Command) → Asks form cdb c → Asks form cdb d → c ≡ d
-one_command TestUnitReady cdb c d p q = p ∙ sym q
-one_command Read6 cdb c d p q = p ∙ sym q
-one_command Write6 cdb c d p q = p ∙ sym q
-one_command ReadCapacity10 cdb c d p q = p ∙ sym q
-one_command Read10 cdb c d p q = p.1 ∙ sym q.1
-one_command Write10 cdb c d p q = p.1 ∙ sym q.1
-one_command SynchronizeCache10 cdb c d p q = p ∙ sym q
-one_command Read16 cdb c d p q = p.1 ∙ sym q.1
-one_command CompareAndWrite cdb c d p q = p.1 ∙ sym q.1
-one_command Write16 cdb c d p q = p.1 ∙ sym q.1
-one_command SynchronizeCache16 cdb c d p q = p ∙ sym q
-one_command ReadCapacity16 cdb c d p q = p ∙ sym q
+one_command forms.TestUnitReady cdb c d p q = p ∙ sym q
+one_command forms.RequestSense cdb c d p q = p.1 ∙ sym q.1
+one_command forms.Read6 cdb c d p q = p ∙ sym q
+one_command forms.Write6 cdb c d p q = p ∙ sym q
+one_command forms.Inquiry cdb c d p q =
+    let page : p.0 ≡ q.0 = sym (inquiry-is _ _ p.0 p.1) ∙ inquiry-is _ _ q.0 q.1 in
+    let first = p.2 in
+    let second = q.2 in
+    cc
+one_command forms.ModeSense6 cdb c d p q = one_sense _ _ cdb c d p q
+one_command forms.ReadCapacity10 cdb c d p q = p ∙ sym q
+one_command forms.Read10 cdb c d p q = p.1 ∙ sym q.1
+one_command forms.Write10 cdb c d p q = p.1 ∙ sym q.1
+one_command forms.SynchronizeCache10 cdb c d p q = p ∙ sym q
+one_command forms.ModeSense10 cdb c d p q = one_sense _ _ cdb c d p q
+one_command forms.Read16 cdb c d p q = p.1 ∙ sym q.1
+one_command forms.CompareAndWrite cdb c d p q = p.1 ∙ sym q.1
+one_command forms.Write16 cdb c d p q = p.1 ∙ sym q.1
+one_command forms.SynchronizeCache16 cdb c d p q = p ∙ sym q
+one_command forms.ReadCapacity16 cdb c d p q = p ∙ sym q
+one_command forms.ReportLuns cdb c d p q =
+    let select : p.0 ≡ q.0 = sym (select-is p.0) ∙ ap select_at (sym p.1 ∙ q.1) ∙ select-is q.0 in
+    let first = p.2 in
+    let second = q.2 in
+    cc
 
 pub one_meaning : (cdb : List ℕ) (a b : Result Command CdbFault) → Means cdb a → Means cdb b → a ≡ b
 one_meaning cdb (Ok c) (Ok d) p q =

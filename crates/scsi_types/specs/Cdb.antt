@@ -1,13 +1,23 @@
 -- What a command descriptor block asks for.
-use Rattle.std.specs.Prelude.{◌≡◌, ℕ, ◌+◌, ◌-◌, ◌^◌, ◌/◌, ◌%◌, ◌==◌, ◌≤◌, Bool, false, if◌then◌else◌, List, drop, slice_index, Option, Some, None, Result, Ok, Err}
+use Rattle.std.specs.Prelude.{◌≡◌, ℕ, ◌+◌, ◌-◌, ◌*◌, ◌^◌, ◌/◌, ◌%◌, ◌==◌, ◌≤◌, Bool, false, if◌then◌else◌}
+use Rattle.std.specs.Prelude.{List, drop, slice_index, Option, Some, None, Result, Ok, Err}
 use Rattle.byteorder.specs.Endian.{big_number}
 use Rattle.scsi_types.specs.declared.form.CdbForm.{CdbForm}
 use Rattle.scsi_types.specs.declared.form.CdbForm.TheVariants as forms
 use Rattle.scsi_types.specs.declared.command.Command.{Command}
-use Rattle.scsi_types.specs.declared.command.Command.TheVariants.{TestUnitReady, ReadCapacity10, ReadCapacity16, Read, Write, CompareAndWrite, SynchronizeCache}
+use Rattle.scsi_types.specs.declared.command.Command.TheVariants.{TestUnitReady, RequestSense, Inquiry, ModeSense}
+use Rattle.scsi_types.specs.declared.command.Command.TheVariants.{ReadCapacity10, ReadCapacity16, Read, Write}
+use Rattle.scsi_types.specs.declared.command.Command.TheVariants.{CompareAndWrite, SynchronizeCache, ReportLuns}
 use Rattle.scsi_types.specs.declared.command.CdbFault.{CdbFault}
 use Rattle.scsi_types.specs.declared.command.CdbFault.TheVariants.{UnknownOpcode, BadField}
+use Rattle.scsi_types.specs.declared.pages.InquiryPage.{InquiryPage}
+use Rattle.scsi_types.specs.declared.pages.ModeHeader.{ModeHeader}
+use Rattle.scsi_types.specs.declared.pages.ModeHeader.TheVariants.{Six, Ten}
+use Rattle.scsi_types.specs.declared.pages.PageControl.{PageControl}
+use Rattle.scsi_types.specs.declared.pages.ModePage.{ModePage}
+use Rattle.scsi_types.specs.declared.pages.LunSelect.{LunSelect}
 use Rattle.scsi_types.specs.Form.{HasForm, op_of}
+use Rattle.scsi_types.specs.Pages.{IsInquiryPage, control_code, mode_page_code, select_code}
 
 -- a byte of the CDB, and the number in the bytes from one to another, the first the highest
 abbrev pub byte : ℕ → List ℕ → ℕ
@@ -39,29 +49,48 @@ abbrev pub most_compared : ℕ
 most_compared = 32
 
 -- a transfer that the array takes: no protection information, and no more blocks than the most
-pub record IsTransfer (cdb : List ℕ) (blocks most : ℕ) : Type 0 where
+pub record IsGoodTransfer (cdb : List ℕ) (blocks most : ℕ) : Type 0 where
   pub unprotected : protect_of cdb ≡ 0
   pub within : blocks ≤ most
 
--- a READ, a WRITE or a COMPARE AND WRITE of these blocks
-abbrev pub Moves : (ℕ → ℕ → Bool → Command) → ℕ → List ℕ → ℕ → ℕ → Command → Type 0
-Moves kind most cdb lba blocks c = IsTransfer cdb blocks most × (c ≡ kind lba blocks (fua_of cdb))
+-- a READ, a WRITE or a COMPARE AND WRITE of so many blocks from this LBA on
+abbrev pub Transfers : (ℕ → ℕ → Bool → Command) → ℕ → List ℕ → ℕ → ℕ → Command → Type 0
+Transfers kind most cdb lba blocks c = IsGoodTransfer cdb blocks most × (c ≡ kind lba blocks (fua_of cdb))
+
+-- a MODE SENSE for this page control and page: PC and PAGE CODE share byte 2, and no page has subpages
+-- (SPC-4, 6.13.1)
+pub record IsModeSense (cdb : List ℕ) (control : PageControl) (page : ModePage) : Type 0 where
+  pub control_is : byte 2 cdb / 64 ≡ control_code control
+  pub page_is : byte 2 cdb % 64 ≡ mode_page_code page
+  pub no_subpage : byte 3 cdb ≡ 0
+
+abbrev pub SensesMode : ModeHeader → ℕ → List ℕ → Command → Type 0
+SensesMode header allocation cdb c =
+    (control : PageControl) × (page : ModePage) × IsModeSense cdb control page
+    × (c ≡ ModeSense header control page allocation)
 
 -- The table of commands: what a CDB of each form asks for, by its fields, where these are good. A form for which
 -- no command stands here has a bad field.
 abbrev pub Asks : CdbForm → List ℕ → Command → Type 0
 Asks forms.TestUnitReady cdb c = c ≡ TestUnitReady
+Asks forms.RequestSense cdb c = (byte 1 cdb % 2 ≡ 0) × (c ≡ RequestSense (byte 4 cdb))
 Asks forms.Read6 cdb c = c ≡ Read (lba_6 cdb) (blocks_6 cdb) false
 Asks forms.Write6 cdb c = c ≡ Write (lba_6 cdb) (blocks_6 cdb) false
+Asks forms.Inquiry cdb c =
+    (page : InquiryPage) × IsInquiryPage (byte 1 cdb % 2) (byte 2 cdb) page × (c ≡ Inquiry page (field 3 4 cdb))
+Asks forms.ModeSense6 cdb c = SensesMode Six (byte 4 cdb) cdb c
 Asks forms.ReadCapacity10 cdb c = c ≡ ReadCapacity10
-Asks forms.Read10 cdb c = Moves Read most_blocks cdb (field 2 5 cdb) (field 7 8 cdb) c
-Asks forms.Write10 cdb c = Moves Write most_blocks cdb (field 2 5 cdb) (field 7 8 cdb) c
+Asks forms.Read10 cdb c = Transfers Read most_blocks cdb (field 2 5 cdb) (field 7 8 cdb) c
+Asks forms.Write10 cdb c = Transfers Write most_blocks cdb (field 2 5 cdb) (field 7 8 cdb) c
 Asks forms.SynchronizeCache10 cdb c = c ≡ SynchronizeCache (field 2 5 cdb) (field 7 8 cdb)
-Asks forms.Read16 cdb c = Moves Read most_blocks cdb (field 2 9 cdb) (field 10 13 cdb) c
-Asks forms.CompareAndWrite cdb c = Moves CompareAndWrite most_compared cdb (field 2 9 cdb) (byte 13 cdb) c
-Asks forms.Write16 cdb c = Moves Write most_blocks cdb (field 2 9 cdb) (field 10 13 cdb) c
+Asks forms.ModeSense10 cdb c = SensesMode Ten (field 7 8 cdb) cdb c
+Asks forms.Read16 cdb c = Transfers Read most_blocks cdb (field 2 9 cdb) (field 10 13 cdb) c
+Asks forms.CompareAndWrite cdb c = Transfers CompareAndWrite most_compared cdb (field 2 9 cdb) (byte 13 cdb) c
+Asks forms.Write16 cdb c = Transfers Write most_blocks cdb (field 2 9 cdb) (field 10 13 cdb) c
 Asks forms.SynchronizeCache16 cdb c = c ≡ SynchronizeCache (field 2 9 cdb) (field 10 13 cdb)
 Asks forms.ReadCapacity16 cdb c = c ≡ ReadCapacity16 (field 10 13 cdb)
+Asks forms.ReportLuns cdb c =
+    (select : LunSelect) × (byte 2 cdb ≡ select_code select) × (c ≡ ReportLuns select (field 6 9 cdb))
 
 -- a CDB of this form asks for this command, or has a bad field
 abbrev pub Decodes : CdbForm → List ℕ → Option Command → Type 0
@@ -73,3 +102,18 @@ abbrev pub Means : List ℕ → Result Command CdbFault → Type 0
 Means cdb (Ok c) = (form : CdbForm) × HasForm cdb form × Asks form cdb c
 Means cdb (Err (BadField op)) = (form : CdbForm) × HasForm cdb form × Decodes form cdb None × (op ≡ op_of form)
 Means cdb (Err UnknownOpcode) = (form : CdbForm) → HasForm cdb form → ⊥
+
+-- the bytes of data that a command needs from its initiator; a CDB that asks for nothing needs none
+abbrev pub need_of : Result Command CdbFault → ℕ
+need_of (Ok TestUnitReady) = 0
+need_of (Ok (RequestSense allocation)) = 0
+need_of (Ok (Inquiry page allocation)) = 0
+need_of (Ok (ModeSense header control page allocation)) = 0
+need_of (Ok ReadCapacity10) = 0
+need_of (Ok (ReadCapacity16 allocation)) = 0
+need_of (Ok (Read lba blocks fua)) = 0
+need_of (Ok (Write lba blocks fua)) = 512 * blocks
+need_of (Ok (CompareAndWrite lba blocks fua)) = 1024 * blocks
+need_of (Ok (SynchronizeCache lba blocks)) = 0
+need_of (Ok (ReportLuns select allocation)) = 0
+need_of (Err fault) = 0

@@ -3,7 +3,7 @@ use Rattle.std.specs.Prelude.{◌≡◌, ℕ, ◌%◌, List, slice_index}
 use Rattle.scsi_types.specs.declared.command.Op.{Op}
 use Rattle.scsi_types.specs.declared.command.Op.TheVariants as ops
 use Rattle.scsi_types.specs.declared.form.CdbForm.{CdbForm}
-use Rattle.scsi_types.specs.declared.form.CdbForm.TheVariants.{TestUnitReady, Read6, Write6, ReadCapacity10, Read10, Write10, SynchronizeCache10, Read16, CompareAndWrite, Write16, SynchronizeCache16, ReadCapacity16}
+use Rattle.scsi_types.specs.declared.form.CdbForm.TheVariants as forms
 
 -- a CDB with this operation code
 abbrev pub IsOpcode : List ℕ → ℕ → Type 0
@@ -17,30 +17,40 @@ pub record IsAction (cdb : List ℕ) (opcode action : ℕ) : Type 0 where
 -- the operation code of each form, and its service action where several commands have that code
 -- (SPC-4, 6.1; SBC-3, 5.1)
 abbrev pub HasForm : List ℕ → CdbForm → Type 0
-HasForm cdb TestUnitReady = IsOpcode cdb 0x00
-HasForm cdb Read6 = IsOpcode cdb 0x08
-HasForm cdb Write6 = IsOpcode cdb 0x0A
-HasForm cdb ReadCapacity10 = IsOpcode cdb 0x25
-HasForm cdb Read10 = IsOpcode cdb 0x28
-HasForm cdb Write10 = IsOpcode cdb 0x2A
-HasForm cdb SynchronizeCache10 = IsOpcode cdb 0x35
-HasForm cdb Read16 = IsOpcode cdb 0x88
-HasForm cdb CompareAndWrite = IsOpcode cdb 0x89
-HasForm cdb Write16 = IsOpcode cdb 0x8A
-HasForm cdb SynchronizeCache16 = IsOpcode cdb 0x91
-HasForm cdb ReadCapacity16 = IsAction cdb 0x9E 0x10
+HasForm cdb forms.TestUnitReady = IsOpcode cdb 0x00
+HasForm cdb forms.RequestSense = IsOpcode cdb 0x03
+HasForm cdb forms.Read6 = IsOpcode cdb 0x08
+HasForm cdb forms.Write6 = IsOpcode cdb 0x0A
+HasForm cdb forms.Inquiry = IsOpcode cdb 0x12
+HasForm cdb forms.ModeSense6 = IsOpcode cdb 0x1A
+HasForm cdb forms.ReadCapacity10 = IsOpcode cdb 0x25
+HasForm cdb forms.Read10 = IsOpcode cdb 0x28
+HasForm cdb forms.Write10 = IsOpcode cdb 0x2A
+HasForm cdb forms.SynchronizeCache10 = IsOpcode cdb 0x35
+HasForm cdb forms.ModeSense10 = IsOpcode cdb 0x5A
+HasForm cdb forms.Read16 = IsOpcode cdb 0x88
+HasForm cdb forms.CompareAndWrite = IsOpcode cdb 0x89
+HasForm cdb forms.Write16 = IsOpcode cdb 0x8A
+HasForm cdb forms.SynchronizeCache16 = IsOpcode cdb 0x91
+HasForm cdb forms.ReadCapacity16 = IsAction cdb 0x9E 0x10
+HasForm cdb forms.ReportLuns = IsOpcode cdb 0xA0
 
 -- the kind of command that has this form
 abbrev pub op_of : CdbForm → Op
-op_of TestUnitReady = ops.TestUnitReady
-op_of Read6 = ops.Read
-op_of Write6 = ops.Write
-op_of ReadCapacity10 = ops.ReadCapacity
-op_of Read10 = ops.Read
-op_of Write10 = ops.Write
-op_of SynchronizeCache10 = ops.SynchronizeCache
-op_of Read16 = ops.Read
-op_of CompareAndWrite = ops.CompareAndWrite
-op_of Write16 = ops.Write
-op_of SynchronizeCache16 = ops.SynchronizeCache
-op_of ReadCapacity16 = ops.ReadCapacity
+op_of forms.TestUnitReady = ops.TestUnitReady
+op_of forms.RequestSense = ops.RequestSense
+op_of forms.Read6 = ops.Read
+op_of forms.Write6 = ops.Write
+op_of forms.Inquiry = ops.Inquiry
+op_of forms.ModeSense6 = ops.ModeSense
+op_of forms.ReadCapacity10 = ops.ReadCapacity
+op_of forms.Read10 = ops.Read
+op_of forms.Write10 = ops.Write
+op_of forms.SynchronizeCache10 = ops.SynchronizeCache
+op_of forms.ModeSense10 = ops.ModeSense
+op_of forms.Read16 = ops.Read
+op_of forms.CompareAndWrite = ops.CompareAndWrite
+op_of forms.Write16 = ops.Write
+op_of forms.SynchronizeCache16 = ops.SynchronizeCache
+op_of forms.ReadCapacity16 = ops.ReadCapacity
+op_of forms.ReportLuns = ops.ReportLuns

@@ -2,8 +2,8 @@ pub mod Attention
 pub mod Cdb
 pub mod Form
 pub mod Lun
-pub mod Need
 pub mod Nexus
+pub mod Pages
 pub mod ReplyValue
 pub mod Sense
 pub mod Status

@@ -4,6 +4,7 @@ ghost use Rattle.scsi_types.specs.declared.command.CdbFault.{CdbFault};
 ghost use Rattle.scsi_types.specs.declared.command.Command.{Command};
 ghost use Rattle.scsi_types.specs.Cdb.{Decodes, Means};
 
+use crate::inquiries::{inquiry, mode_sense_6, mode_sense_10, report_luns, request_sense};
 use crate::medium::{
     compare_and_write, read_6, read_10, read_16, read_capacity_16, synchronize_cache_10,
     synchronize_cache_16, write_6, write_10, write_16,
@@ -35,16 +36,21 @@ fn command_of(form: CdbForm, cdb: &[u8; 16]) -> Option<Command>
 {
     match form {
         CdbForm::TestUnitReady => Some(Command::TestUnitReady),
+        CdbForm::RequestSense => request_sense(cdb),
         CdbForm::Read6 => Some(read_6(cdb)),
         CdbForm::Write6 => Some(write_6(cdb)),
+        CdbForm::Inquiry => inquiry(cdb),
+        CdbForm::ModeSense6 => mode_sense_6(cdb),
         CdbForm::ReadCapacity10 => Some(Command::ReadCapacity10),
         CdbForm::Read10 => read_10(cdb),
         CdbForm::Write10 => write_10(cdb),
         CdbForm::SynchronizeCache10 => Some(synchronize_cache_10(cdb)),
+        CdbForm::ModeSense10 => mode_sense_10(cdb),
         CdbForm::Read16 => read_16(cdb),
         CdbForm::CompareAndWrite => compare_and_write(cdb),
         CdbForm::Write16 => write_16(cdb),
         CdbForm::SynchronizeCache16 => Some(synchronize_cache_16(cdb)),
         CdbForm::ReadCapacity16 => Some(read_capacity_16(cdb)),
+        CdbForm::ReportLuns => report_luns(cdb),
     }
 }

@@ -1,7 +1,8 @@
 //! Commands.
 ghost use Rattle.std.specs.Prelude.{◌≡◌, Ok};
-ghost use Rattle.scsi_types.specs.Need.{need_of};
+ghost use Rattle.scsi_types.specs.Cdb.{need_of};
 
+use crate::{InquiryPage, LunSelect, ModeHeader, ModePage, PageControl};
 use thiserror::Error;
 
 /// A command by its kind, whatever the form of its CDB.
@@ -43,18 +44,56 @@ pub enum Op {
 pub enum Command {
     /// TEST UNIT READY (SPC-4, 6.47).
     TestUnitReady,
+    /// REQUEST SENSE (SPC-4, 6.39), whose data is cut to `allocation` bytes, as below.
+    RequestSense {
+        allocation: u8,
+    },
+    /// INQUIRY (SPC-4, 6.6).
+    Inquiry {
+        page: InquiryPage,
+        allocation: u16,
+    },
+    /// MODE SENSE (6) and (10) (SPC-4, 6.13 and 6.14).
+    ModeSense {
+        header: ModeHeader,
+        control: PageControl,
+        page: ModePage,
+        allocation: u16,
+    },
     /// READ CAPACITY (10) (SBC-3, READ CAPACITY (10) command).
     ReadCapacity10,
-    /// READ CAPACITY (16) (SBC-3, READ CAPACITY (16) command), whose data is cut to `allocation` bytes.
-    ReadCapacity16 { allocation: u32 },
+    /// READ CAPACITY (16) (SBC-3, READ CAPACITY (16) command).
+    ReadCapacity16 {
+        allocation: u32,
+    },
     /// READ (SBC-3, READ (10) command); `fua`: from the medium, past every cache.
-    Read { lba: u64, blocks: u16, fua: bool },
+    Read {
+        lba: u64,
+        blocks: u16,
+        fua: bool,
+    },
     /// WRITE (SBC-3, WRITE (10) command); `fua`: onto the medium, before the answer.
-    Write { lba: u64, blocks: u16, fua: bool },
+    Write {
+        lba: u64,
+        blocks: u16,
+        fua: bool,
+    },
     /// COMPARE AND WRITE (SBC-3, 5.2): so many `blocks` to compare, and as many to write.
-    CompareAndWrite { lba: u64, blocks: u16, fua: bool },
+    CompareAndWrite {
+        lba: u64,
+        blocks: u16,
+        fua: bool,
+    },
     /// SYNCHRONIZE CACHE (SBC-3, SYNCHRONIZE CACHE (10) command); 0 `blocks` go to the end.
-    SynchronizeCache { lba: u64, blocks: u32 },
+    SynchronizeCache {
+        lba: u64,
+        blocks: u32,
+    },
+    /// REPORT LUNS (SPC-4, 6.33).
+    ReportLuns {
+        select: LunSelect,
+        allocation: u32,
+    },
 }
 
 /// Why a CDB asks for no command.

@@ -8,24 +8,35 @@ use crate::Op;
 #[derive(Clone, Copy, Debug, PartialEq, Eq)]
 pub enum CdbForm {
     TestUnitReady,
+    RequestSense,
     Read6,
     Write6,
+    Inquiry,
+    ModeSense6,
     ReadCapacity10,
     Read10,
     Write10,
     SynchronizeCache10,
+    ModeSense10,
     Read16,
     CompareAndWrite,
     Write16,
     SynchronizeCache16,
     ReadCapacity16,
+    ReportLuns,
 }
 
 const TEST_UNIT_READY: u8 = 0x00;
 
+const REQUEST_SENSE: u8 = 0x03;
+
 const READ_6: u8 = 0x08;
 
 const WRITE_6: u8 = 0x0A;
+
+const INQUIRY: u8 = 0x12;
+
+const MODE_SENSE_6: u8 = 0x1A;
 
 const READ_CAPACITY_10: u8 = 0x25;
 
@@ -34,6 +45,8 @@ const READ_10: u8 = 0x28;
 const WRITE_10: u8 = 0x2A;
 
 const SYNCHRONIZE_CACHE_10: u8 = 0x35;
+
+const MODE_SENSE_10: u8 = 0x5A;
 
 const READ_16: u8 = 0x88;
 
@@ -44,6 +57,8 @@ const WRITE_16: u8 = 0x8A;
 const SYNCHRONIZE_CACHE_16: u8 = 0x91;
 /// SERVICE ACTION IN (16), whose commands are told apart by their service action.
 const SERVICE_ACTION_IN_16: u8 = 0x9E;
+
+const REPORT_LUNS: u8 = 0xA0;
 
 const READ_CAPACITY_16: u8 = 0x10;
 
@@ -60,12 +75,16 @@ impl CdbForm {
         let service_action = cdb[1] % 32;
         match cdb[0] {
             TEST_UNIT_READY => Some(CdbForm::TestUnitReady),
+            REQUEST_SENSE => Some(CdbForm::RequestSense),
             READ_6 => Some(CdbForm::Read6),
             WRITE_6 => Some(CdbForm::Write6),
+            INQUIRY => Some(CdbForm::Inquiry),
+            MODE_SENSE_6 => Some(CdbForm::ModeSense6),
             READ_CAPACITY_10 => Some(CdbForm::ReadCapacity10),
             READ_10 => Some(CdbForm::Read10),
             WRITE_10 => Some(CdbForm::Write10),
             SYNCHRONIZE_CACHE_10 => Some(CdbForm::SynchronizeCache10),
+            MODE_SENSE_10 => Some(CdbForm::ModeSense10),
             READ_16 => Some(CdbForm::Read16),
             COMPARE_AND_WRITE => Some(CdbForm::CompareAndWrite),
             WRITE_16 => Some(CdbForm::Write16),
@@ -73,6 +92,7 @@ impl CdbForm {
             SERVICE_ACTION_IN_16 if service_action == READ_CAPACITY_16 => {
                 Some(CdbForm::ReadCapacity16)
             }
+            REPORT_LUNS => Some(CdbForm::ReportLuns),
             _ => None,
         }
     }
@@ -83,11 +103,15 @@ impl CdbForm {
     {
         match self {
             CdbForm::TestUnitReady => Op::TestUnitReady,
+            CdbForm::RequestSense => Op::RequestSense,
+            CdbForm::Inquiry => Op::Inquiry,
+            CdbForm::ModeSense6 | CdbForm::ModeSense10 => Op::ModeSense,
             CdbForm::ReadCapacity10 | CdbForm::ReadCapacity16 => Op::ReadCapacity,
             CdbForm::Read6 | CdbForm::Read10 | CdbForm::Read16 => Op::Read,
             CdbForm::Write6 | CdbForm::Write10 | CdbForm::Write16 => Op::Write,
             CdbForm::CompareAndWrite => Op::CompareAndWrite,
             CdbForm::SynchronizeCache10 | CdbForm::SynchronizeCache16 => Op::SynchronizeCache,
+            CdbForm::ReportLuns => Op::ReportLuns,
         }
     }
 }

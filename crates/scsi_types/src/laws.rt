@@ -21,7 +21,7 @@ pub fn sense_by_name()
     ensures list { Sense.INVALID_FIELD_IN_PARAMETER_LIST ≡ named.invalid_field_in_parameter_list }
     ensures release { Sense.INVALID_RELEASE_OF_PERSISTENT_RESERVATION ≡ named.invalid_release_of_persistent_reservation }
     ensures saving { Sense.SAVING_PARAMETERS_NOT_SUPPORTED ≡ named.saving_parameters_not_supported }
-    ensures registration { Sense.INSUFFICIENT_REGISTRATION_RESOURCES ≡ named.insufficient_registration_resources }
+    ensures registered { Sense.INSUFFICIENT_REGISTRATION_RESOURCES ≡ named.insufficient_registration_resources }
     ensures power_on { Sense.POWER_ON ≡ named.power_on }
     ensures preempted { Sense.RESERVATIONS_PREEMPTED ≡ named.reservations_preempted }
     ensures released { Sense.RESERVATIONS_RELEASED ≡ named.reservations_released }

@@ -2,7 +2,7 @@
 ghost use Rattle.std.specs.Prelude.{◌≡◌, ◌+◌, ◌≤◌, ◌↔◌, ◌-◌, IsTrue, MatchOption, List, drop};
 ghost use Rattle.byteorder.specs.Endian.{big_number};
 ghost use Rattle.scsi_types.specs.declared.form.CdbForm.TheVariants as forms;
-ghost use Rattle.scsi_types.specs.Cdb.{Asks, Decodes, IsTransfer, blocks_6, field, fua_of, lba_6, most_blocks};
+ghost use Rattle.scsi_types.specs.Cdb.{Asks, Decodes, IsGoodTransfer, blocks_6, field, fua_of, lba_6, most_blocks};
 
 use crate::Command;
 use byteorder::{BigEndian, ByteOrder};
@@ -14,8 +14,8 @@ const MOST_BLOCKS: u32 = 2048;
 const MOST_COMPARED: u32 = 32;
 
 // RDPROTECT or WRPROTECT is 0, and there are no more blocks than the most.
-fn is_transfer(cdb: &[u8; 16], blocks: u32, most: u32) -> bool
-    ensures { IsTrue result ↔ IsTransfer cdb.now blocks most }
+fn is_good_transfer(cdb: &[u8; 16], blocks: u32, most: u32) -> bool
+    ensures { IsTrue result ↔ IsGoodTransfer cdb.now blocks most }
 {
     cdb[1] / 32 == 0 && blocks <= most
 }
@@ -40,11 +40,12 @@ fn transfer_6(cdb: &[u8; 16]) -> (u64, u16)
 // LBA and length of READ (10) and WRITE (10), unless a field is bad.
 fn transfer_10(cdb: &[u8; 16]) -> Option<(u64, u16)>
     ensures { MatchOption result
-        (IsTransfer cdb.now (field 7 8 cdb.now) most_blocks → ⊥)
-        (λ t. IsTransfer cdb.now (field 7 8 cdb.now) most_blocks × (t.0 ≡ field 2 5 cdb.now) × (t.1 ≡ field 7 8 cdb.now)) }
+        (IsGoodTransfer cdb.now (field 7 8 cdb.now) most_blocks → ⊥)
+        (λ t. IsGoodTransfer cdb.now (field 7 8 cdb.now) most_blocks
+        × (t.0 ≡ field 2 5 cdb.now) × (t.1 ≡ field 7 8 cdb.now)) }
 {
     let blocks = BigEndian::read_u16(&cdb[7..]);
-    if !is_transfer(cdb, u32::from(blocks), MOST_BLOCKS) {
+    if !is_good_transfer(cdb, u32::from(blocks), MOST_BLOCKS) {
         return None;
     }
     Some((u64::from(BigEndian::read_u32(&cdb[2..])), blocks))
@@ -53,11 +54,12 @@ fn transfer_10(cdb: &[u8; 16]) -> Option<(u64, u16)>
 // LBA and length of READ (16) and WRITE (16), unless a field is bad.
 fn transfer_16(cdb: &[u8; 16]) -> Option<(u64, u16)>
     ensures { MatchOption result
-        (IsTransfer cdb.now (field 10 13 cdb.now) most_blocks → ⊥)
-        (λ t. IsTransfer cdb.now (field 10 13 cdb.now) most_blocks × (t.0 ≡ field 2 9 cdb.now) × (t.1 ≡ field 10 13 cdb.now)) }
+        (IsGoodTransfer cdb.now (field 10 13 cdb.now) most_blocks → ⊥)
+        (λ t. IsGoodTransfer cdb.now (field 10 13 cdb.now) most_blocks
+        × (t.0 ≡ field 2 9 cdb.now) × (t.1 ≡ field 10 13 cdb.now)) }
 {
     let blocks = BigEndian::read_u32(&cdb[10..]);
-    if !is_transfer(cdb, blocks, MOST_BLOCKS) {
+    if !is_good_transfer(cdb, blocks, MOST_BLOCKS) {
         return None;
     }
     Some((BigEndian::read_u64(&cdb[2..]), blocks as u16))
@@ -133,7 +135,7 @@ pub fn compare_and_write(cdb: &[u8; 16]) -> Option<Command>
     ensures { Decodes forms.CompareAndWrite cdb.now result }
 {
     let blocks = cdb[13];
-    if !is_transfer(cdb, u32::from(blocks), MOST_COMPARED) {
+    if !is_good_transfer(cdb, u32::from(blocks), MOST_COMPARED) {
         return None;
     }
     Some(Command::CompareAndWrite {

@@ -66,6 +66,7 @@ impl PortName {
     {
         self.isid == other.isid && self.name == other.name
     }
+
     /// The order of ports: by the bytes of the InitiatorName, then by the ISID.
     pub fn compare(&self, other: &PortName) -> Ordering
         ensures { result ≡ port_cmp self.now other.now }
