@@ -1,10 +1,14 @@
 -- A list of LUNs that is filled from its front.
-use Rattle.std.proofs.Common.{◌≡◌, ℕ, zero, suc, ◌+◌, ◌-◌, ◌*◌, List, [], ◌∷◌, ◌++◌, length, take, set, replicate, length-append, append_assoc, refl, sym, ◌∙◌, ap, arith}
-use Rattle.std.proofs.lemmas.List.{set-append_right}
-use Rattle.std.proofs.Math.Seq.{take-append_seam}
-use Rattle.byteorder.specs.Endian.{big_bytes}
+use Rattle.std.proofs.Common.{◌≡◌, ℕ, zero, suc, ◌+◌, ◌-◌, ◌*◌, ◌<◌, inl, inr, List, [], ◌∷◌, ◌++◌, length, take, drop, set, replicate, length-append, append_assoc, refl, sym, ◌∙◌, ap, arith}
+use Rattle.std.proofs.lemmas.List.{set-append_right, drop-append-le, take-append-le, length-drop}
+use Rattle.std.proofs.lemmas.Bool.{cases_lt}
+use Rattle.std.proofs.Math.Seq.{take-append_seam, drop-append_seam}
+use Rattle.scsi_types.specs.declared.names.Place.{Place}
+use Rattle.scsi_types.specs.declared.pages.LunSelect.{LunSelect}
+use Rattle.scsi_types.specs.declared.pages.LunSelect.TheVariants.{Units, WellKnown, All}
+use Rattle.byteorder.specs.Endian.{big_bytes, big_number}
 use Rattle.identity.specs.Table.{Row, Number, Reserved, row_bytes, spell}
-use Rattle.identity.specs.Luns.{lun, luns_below}
+use Rattle.identity.specs.Luns.{lun, luns_below, lun_list, selected}
 
 pub spell-append : (a b : List Row) → spell (a ++ b) ≡ spell a ++ spell b
 spell-append [] b = refl
@@ -55,3 +59,40 @@ whole units listed list all is =
     ap (λ s. take (8 + 8 * units) s) is
     ∙ ap (λ n. take (8 + 8 * units) ((big_bytes 4 (8 * units) ++ replicate 4 0) ++ spell (luns_below n) ++ replicate {A = ℕ} (8 * (255 - n)) 0)) all
     ∙ filled (big_bytes 4 (8 * units) ++ replicate 4 0) units (8 * (255 - units)) refl
+
+-- the LUN at a place of the list
+pub lun_at : (units unit : ℕ) → unit < units → take 8 (drop (8 * unit) (spell (luns_below units))) ≡ spell (lun unit)
+lun_at zero unit below = absurd (omega arith)
+lun_at (suc last) unit below = elim (cases_lt unit last) [
+  | inl before ↦
+      let xs : List ℕ = spell (luns_below last) in
+      let long : length xs ≡ 8 * last = eight_each last in
+      ap (λ s. take 8 (drop (8 * unit) s)) (one_more last)
+      ∙ ap (take 8) (drop-append-le (8 * unit) xs (spell (lun last)) (omega arith))
+      ∙ take-append-le 8 (drop (8 * unit) xs) (spell (lun last)) (omega (arith, length-drop (8 * unit) xs))
+      ∙ lun_at last unit before
+  | inr past ↦
+      let xs : List ℕ = spell (luns_below last) in
+      let same : last ≡ unit = omega arith in
+      let long : 8 * unit ≡ length xs = omega (arith, eight_each last) in
+      ap (λ s. take 8 (drop (8 * unit) s)) (one_more last)
+      ∙ ap (λ n. take 8 (drop n (xs ++ spell (lun last)))) long
+      ∙ ap (take 8) (drop-append_seam xs (spell (lun last)))
+      ∙ ap (λ n. spell (lun n)) same
+]
+
+-- behind the header
+pub listed : (units unit : ℕ) → unit < units
+    → take 8 (drop (8 + 8 * unit) (spell (Number "LUN LIST LENGTH" 4 (8 * units) ∷ Reserved 4 ∷ luns_below units))) ≡ spell (lun unit)
+listed units unit below =
+    let e : 8 + 8 * unit ≡ suc (suc (suc (suc (suc (suc (suc (suc (8 * unit)))))))) = omega arith in
+    ap (λ n. take 8 (drop n (spell (Number "LUN LIST LENGTH" 4 (8 * units) ∷ Reserved 4 ∷ luns_below units)))) e ∙ lun_at units unit below
+
+few : (place : Place) (select : LunSelect) → place.units < 256 → selected place select < 256
+few place Units h = h
+few place WellKnown h = omega arith
+few place All h = h
+
+pub counted : (place : Place) (select : LunSelect) → place.units < 256
+    → big_number 4 (spell (lun_list place select)) + 8 ≡ length (spell (lun_list place select))
+counted place select h = omega (arith, eight_each (selected place select), few place select h)
