@@ -31,7 +31,8 @@ form_at n =
     if n == 0x1A then forms.ModeSense6 else if n == 0x25 then forms.ReadCapacity10 else
     if n == 0x28 then forms.Read10 else if n == 0x2A then forms.Write10 else
     if n == 0x35 then forms.SynchronizeCache10 else if n == 0x5A then forms.ModeSense10 else
-    if n == 0x5E then forms.PersistentReserveIn else if n == 0x5F then forms.PersistentReserveOut else if n == 0x88 then forms.Read16 else if n == 0x89 then forms.CompareAndWrite else
+    if n == 0x5E then forms.PersistentReserveIn else if n == 0x5F then forms.PersistentReserveOut else
+    if n == 0x88 then forms.Read16 else if n == 0x89 then forms.CompareAndWrite else
     if n == 0x8A then forms.Write16 else if n == 0x91 then forms.SynchronizeCache16 else
     if n == 0x9E then forms.ReadCapacity16 else if n == 0xA0 then forms.ReportLuns else
     if n == 0xA3 then forms.ReportTargetPortGroups else forms.SetTargetPortGroups

@@ -16,9 +16,14 @@ use crate::{Asked, CdbFault, CdbForm, Command};
 /// What a CDB asks for (SPC-4, section 6; SBC-3, section 5). DPO, IMMED, the group number, the control byte, what is
 /// reserved and the bytes behind the end of a shorter CDB are not looked at.
 ///
-/// An operation code of no command, or one with a service action of no command, is `UnknownOpcode`. A field with
-/// a value that the command may not have here is `BadField`: protection information, more than 2048 blocks in a
-/// READ or WRITE, more than 32 in a COMPARE AND WRITE.
+/// An operation code of no command, or one with a service action of no command, is `UnknownOpcode`. `BadField` is
+///
+/// - a READ, WRITE or COMPARE AND WRITE with protection information, of more than 2048 blocks, or more than 32 for
+///   COMPARE AND WRITE;
+/// - REQUEST SENSE in descriptor format; an unknown page in INQUIRY, or one without EVPD; an unknown page or a
+///   subpage in MODE SENSE (saved values are no bad field); an unknown selection in REPORT LUNS;
+/// - an unknown action in PERSISTENT RESERVE IN and OUT; a RESERVE of another scope than the logical unit, or of an
+///   unknown type; another format than the plain one in REPORT TARGET PORT GROUPS.
 pub fn decode(cdb: &[u8; 16]) -> Asked
     ensures means { Means cdb.now result }
     ensures only { (asked : Result Command CdbFault) → Means cdb.now asked → asked ≡ result }

@@ -38,13 +38,14 @@ pub enum Op {
     SetTargetPortGroups,
 }
 
-/// A command that a CDB asks for. In what [`decode`](crate::decode) gives, a READ or a WRITE has at most 2048
-/// `blocks`, and a COMPARE AND WRITE at most 32.
+/// A command that a CDB asks for. `allocation` is the ALLOCATION LENGTH, the most bytes of data that are to be
+/// returned (SPC-4, 4.2.5.6). In what [`decode`](crate::decode) gives, a READ or a WRITE has at most 2048 `blocks`,
+/// and a COMPARE AND WRITE at most 32.
 #[derive(Clone, Copy, Debug, PartialEq, Eq)]
 pub enum Command {
     /// TEST UNIT READY (SPC-4, 6.47).
     TestUnitReady,
-    /// REQUEST SENSE (SPC-4, 6.39), whose data is cut to `allocation` bytes, as below.
+    /// REQUEST SENSE (SPC-4, 6.39) in fixed format.
     RequestSense {
         allocation: u8,
     },

@@ -13,6 +13,7 @@ fn is_reservation_type(kind: u8) -> bool
     matches!(kind, 1 | 3 | 5 | 6 | 7 | 8)
 }
 
+/// PERSISTENT RESERVE IN.
 pub fn persistent_reserve_in(cdb: &[u8; 16]) -> Option<Command>
     ensures { Decodes forms.PersistentReserveIn cdb.now result }
 {
@@ -21,6 +22,7 @@ pub fn persistent_reserve_in(cdb: &[u8; 16]) -> Option<Command>
     Some(Command::PersistentReserveIn { action, allocation })
 }
 
+/// PERSISTENT RESERVE OUT.
 pub fn persistent_reserve_out(cdb: &[u8; 16]) -> Option<Command>
     ensures { Decodes forms.PersistentReserveOut cdb.now result }
 {

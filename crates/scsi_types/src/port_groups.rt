@@ -5,6 +5,7 @@ ghost use Rattle.scsi_types.specs.Cdb.{Asks, Decodes};
 use crate::Command;
 use byteorder::{BigEndian, ByteOrder};
 
+/// REPORT TARGET PORT GROUPS.
 pub fn report_target_port_groups(cdb: &[u8; 16]) -> Option<Command>
     ensures { Decodes forms.ReportTargetPortGroups cdb.now result }
 {
@@ -16,6 +17,7 @@ pub fn report_target_port_groups(cdb: &[u8; 16]) -> Option<Command>
     })
 }
 
+/// SET TARGET PORT GROUPS.
 pub fn set_target_port_groups(cdb: &[u8; 16]) -> Command
     ensures { Asks forms.SetTargetPortGroups cdb.now result }
 {
