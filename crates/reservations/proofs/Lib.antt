@@ -1,0 +1,4 @@
+pub mod Insert
+pub mod Order
+pub mod Rekey
+pub mod Rows

@@ -1,0 +1,24 @@
+//! Persistent reservations (SPC-4, 5.13): who is registered with a logical unit, who holds its reservation, and what a
+//! PERSISTENT RESERVE OUT makes of it.
+#![tactic(auto)]
+
+mod access;
+mod kind;
+mod laws;
+mod nexus;
+mod notice;
+mod out;
+mod preempt;
+mod register;
+mod registrant;
+mod request;
+mod reserve;
+mod slots;
+mod table;
+
+pub use kind::ReservationType;
+pub use laws::one_row_fits;
+pub use nexus::Nexus;
+pub use notice::Notice;
+pub use registrant::{Registrant, Reservation};
+pub use request::{Access, PrEnd, PrOut, Told};
