@@ -20,13 +20,13 @@ abbrev pub behind : Nexus → List Registrant → List Registrant
 behind n xs = filter (λ (x : Registrant). is_gt (nexus_cmp x.nexus n)) xs
 
 -- n is below x, and x below y, so n is below y
-above_both : (n x y : Nexus) → nexus_cmp x n ≡ Greater → nexus_cmp x y ≡ Less → nexus_cmp y n ≡ Greater
+pub above_both : (n x y : Nexus) → nexus_cmp x n ≡ Greater → nexus_cmp x y ≡ Less → nexus_cmp y n ≡ Greater
 above_both n x y h k =
     let below : nexus_cmp n x ≡ Less = nexus_total.antisymm n x ∙ ap ordering_reverse h in
     nexus_total.antisymm y n ∙ ap ordering_reverse (nexus_total.trans n x y below k)
 
 -- where the first is behind n, all are
-none_before : (n x : Nexus) (xs : List Registrant) → nexus_cmp x n ≡ Greater → AllByRecursion (λ (y : Registrant). nexus_cmp x y.nexus ≡ Less) xs → (before n xs ≡ []) × (behind n xs ≡ xs)
+pub none_before : (n x : Nexus) (xs : List Registrant) → nexus_cmp x n ≡ Greater → AllByRecursion (λ (y : Registrant). nexus_cmp x y.nexus ≡ Less) xs → (before n xs ≡ []) × (behind n xs ≡ xs)
 none_before n x [] h all = (refl, refl)
 none_before n x (y ∷ ys) h all =
     let above = above_both n x y.nexus h all.0 in
@@ -37,12 +37,12 @@ pub record IsPlace (n : Nexus) (xs : List Registrant) : Type 0 where
   pub front : take (length (before n xs)) xs ≡ before n xs
   pub back : drop (length (before n xs)) xs ≡ behind n xs
 
-found_first : (n x : Nexus) (xs : List Registrant) (r : Registrant) → r.nexus ≡ x → is_registered (r ∷ xs) n ≡ false → nexus_cmp x n ≡ Equal → ⊥
+pub found_first : (n x : Nexus) (xs : List Registrant) (r : Registrant) → r.nexus ≡ x → is_registered (r ∷ xs) n ≡ false → nexus_cmp x n ≡ Equal → ⊥
 found_first n x xs r is out tie =
     let same : same_nexus r.nexus n ≡ true = same_nexus_is r.nexus n ∙ ap (λ (m : Nexus). is_eq (nexus_cmp m n)) is ∙ ap is_eq tie in
     absurd (let found = rw same at out in cc)
 
-out_of_rest : (n : Nexus) (xs : List Registrant) (r : Registrant) → is_registered (r ∷ xs) n ≡ false → is_registered xs n ≡ false
+pub out_of_rest : (n : Nexus) (xs : List Registrant) (r : Registrant) → is_registered (r ∷ xs) n ≡ false → is_registered xs n ≡ false
 out_of_rest n xs r out =
     ⊎_elim (λ (t : same_nexus r.nexus n ≡ true). absurd (let found = rw t at out in cc)) (λ (f : same_nexus r.nexus n ≡ false). rw f at out)
     (cases_Bool (same_nexus r.nexus n))

@@ -1,4 +1,7 @@
+pub mod Held
 pub mod Insert
+pub mod Listed
 pub mod Order
 pub mod Rekey
 pub mod Rows
+pub mod Sound

@@ -145,3 +145,7 @@ pub record IsSound (registrants : List Registrant) (reservation : Option Reserva
   pub few : length registrants ≤ MOST_REGISTRANTS
   pub keys : AllByRecursion (λ (x : Registrant). IsTrue (not (nat_eq x.key 0))) registrants
   pub held : IsTrue (is_sound_hold reservation registrants)
+
+-- nobody is registered
+abbrev pub empty : RegistryValue
+empty = record { registrants = []; reservation = None; aptpl = false; generation = 0 }
