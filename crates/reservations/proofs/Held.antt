@@ -1,5 +1,5 @@
 -- Who is registered, and who holds, after a change.
-use Rattle.std.proofs.Common.{◌≡◌, ◌⊎◌, ⊎_elim, ℕ, ◌≤◌, Bool, true, false, not, ◌&&◌, ◌||◌, nat_eq, List, [], ◌∷◌, ◌++◌, length, take, drop, filter, refl, sym, ◌∙◌, ap, Option, Some, None, is_some}
+use Rattle.std.proofs.Common.{◌≡◌, ⊎_elim, ℕ, Bool, true, false, not, ◌&&◌, ◌||◌, nat_eq, List, [], ◌∷◌, ◌++◌, length, take, drop, filter, refl, sym, ◌∙◌, ap, Option, Some, None, is_some}
 use Rattle.std.proofs.lemmas.Bool.{cases_Bool}
 use Rattle.std.proofs.lemmas.List.{take-append-drop}
 use Rattle.std.specs.List.{find, insert, list_any}
@@ -11,7 +11,7 @@ use Rattle.reservations.specs.declared.registrant.Registrant.{Registrant}
 use Rattle.reservations.specs.declared.registrant.Reservation.{Reservation}
 use Rattle.reservations.specs.Kind.{is_of_all_registrants}
 use Rattle.reservations.specs.Nexus.{same_nexus}
-use Rattle.reservations.specs.Registry.{IsAscending, key_of, is_registered, is_key_of, is_own, is_held_by_all, is_holders_key, is_named, is_sole_holder, is_any, is_rightly_held, is_sound_hold, joined_by, left_to, made_by, only, others, rekeyed, with_key_of, without_key, without_others_of_key}
+use Rattle.reservations.specs.Registry.{IsAscending, key_of, is_registered, is_own, is_any, is_rightly_held, is_sound_hold, joined_by, left_to, made_by, only, others, with_key_of, without_key, without_others_of_key}
 use Rattle.reservations.proofs.Insert.{before, insert_is}
 use Rattle.reservations.proofs.Listed.{rekeyed_nexus}
 use Rattle.reservations.proofs.Order.{same_nexus_alike}

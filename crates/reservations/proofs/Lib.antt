@@ -1,3 +1,4 @@
+pub mod Appended
 pub mod Held
 pub mod Insert
 pub mod Listed

@@ -1,33 +1,19 @@
 -- Registrants that are listed in order, few and with keys: what keeps them so.
-use Rattle.std.proofs.Common.{◌≡◌, ◌⊎◌, ⊎_elim, ℕ, suc, ◌+◌, ◌<◌, ◌≤◌, Bool, true, false, not, ◌&&◌, ◌||◌, nat_eq, nat_lt, if◌then◌else◌, List, [], ◌∷◌, ◌++◌, length, take, drop, filter, map, refl, sym, ◌∙◌, ap, arith, Option, Some, None, is_some, IsTrue, IsFalse}
-use Rattle.std.proofs.lemmas.Bool.{cases_Bool, ltb-true, not_from_false, or_from, or_cases, and_parts, and_from}
-use Rattle.std.proofs.lemmas.List.{take-append-drop}
+use Rattle.std.proofs.Common.{◌≡◌, ⊎_elim, ℕ, suc, ◌≤◌, Bool, true, false, not, nat_eq, nat_lt, List, [], ◌∷◌, ◌++◌, length, filter, refl, ◌∙◌, ap, arith, Option, IsTrue}
+use Rattle.std.proofs.lemmas.Bool.{cases_Bool, ltb-true}
 use Rattle.std.proofs.lemmas.List.Edits.{length-insert}
-use Rattle.std.specs.List.{AllByRecursion, find, insert, list_any}
-use Rattle.std.specs.Option.{option_map}
+use Rattle.std.specs.List.{AllByRecursion}
 use Rattle.std.specs.Ordering.{is_lt, is_gt, ordering_reverse}
 use Rattle.std.specs.declared.cmp.Ordering.{Ordering}
 use Rattle.std.specs.declared.cmp.Ordering.TheVariants.{Less, Equal, Greater}
 use Rattle.scsi_types.specs.Nexus.{Nexus}
-use Rattle.scsi_types.specs.declared.reservation.PrOutAction.{PrOutAction}
-use Rattle.scsi_types.specs.declared.reservation.PrOutAction.TheVariants.{Register, Reserve, Release, Clear, Preempt, PreemptAndAbort, RegisterAndIgnoreExistingKey}
-use Rattle.reservations.specs.declared.kind.ReservationType.{ReservationType}
-use Rattle.reservations.specs.declared.kind.ReservationType.TheVariants.{WriteExclusive, ExclusiveAccess, WriteExclusiveRegistrantsOnly, ExclusiveAccessRegistrantsOnly, WriteExclusiveAllRegistrants, ExclusiveAccessAllRegistrants}
 use Rattle.reservations.specs.declared.registrant.Registrant.{Registrant}
 use Rattle.reservations.specs.declared.registrant.Reservation.{Reservation}
-use Rattle.reservations.specs.declared.request.PrEnd.{PrEnd}
-use Rattle.reservations.specs.declared.request.PrEnd.TheVariants.{Good, Conflict, Illegal, TableFull, NoMemory}
-use Rattle.reservations.specs.declared.request.PrOut.{PrOut}
-use Rattle.reservations.specs.declared.request.Told.{Told}
 use Rattle.reservations.specs.declared.table.TheConstants.{MOST_REGISTRANTS}
-use Rattle.reservations.specs.Kind.{is_of_all_registrants, type_of}
 use Rattle.reservations.specs.Nexus.{same_nexus, nexus_cmp}
-use Rattle.reservations.specs.Registry.{RegistryValue, IsAscending, IsSound, key_of, is_registered, is_key_of, is_own, is_held_by_all, is_holders_key, is_named, is_sole_holder, is_any, is_rightly_held, is_sound_hold, joined_by, left_to, made_by, only, others, rekeyed, with_key_of, without_key, without_others_of_key}
-use Rattle.reservations.specs.Rows.{Row, ReserveField, ParameterField, KeyConflict, RegistersNothing, RegistersNobodyMore, Registers, ChangesKey, HolderUnregisters, OtherUnregisters, Reserves, ReservesAgain, ReservesBesideAnother, ReleasesNothing, ReleasesAnotherType, Releases, Clears, PreemptField, PreemptsHolder, PreemptsAll, PreemptsKeyZero, PreemptsNobody, PreemptsRegistrants, Effect, Done, Fits, IsPreempting, effect, shows_key, is_preempting_holder, is_preempting_all}
-use Rattle.reservations.specs.Table.{IsAnswer, effect_of, row_of}
-use Rattle.reservations.proofs.Insert.{before, behind, insert_is, length_before, found_first, out_of_rest, none_before, above_both}
-use Rattle.reservations.proofs.Order.{nexus_total, same_nexus_alike, same_nexus_self}
-use Rattle.reservations.proofs.Rows.{row_fits}
+use Rattle.reservations.specs.Registry.{IsAscending, IsSound, is_registered, is_sound_hold, joined_by, rekeyed, with_key_of}
+use Rattle.reservations.proofs.Insert.{before, behind, insert_is, length_before, found_first, out_of_rest, none_before}
+use Rattle.reservations.proofs.Order.{nexus_total}
 
 -- ---- what a filter keeps
 

@@ -1,5 +1,5 @@
 -- One row of the table fits each request.
-use Rattle.std.proofs.Common.{◌≡◌, ◌⊎◌, ⊎_elim, ℕ, Bool, true, false, nat_eq, nat_lt, ◌&&◌, ◌||◌, not, length, is_some, Option, Some, None, refl, sym, arith, IsTrue, IsFalse}
+use Rattle.std.proofs.Common.{◌≡◌, ⊎_elim, Bool, true, false, nat_eq, nat_lt, ◌&&◌, ◌||◌, length, is_some, refl, IsTrue}
 use Rattle.std.proofs.lemmas.Bool.{cases_Bool}
 use Rattle.scsi_types.specs.Nexus.{Nexus}
 use Rattle.scsi_types.specs.declared.reservation.PrOutAction.{PrOutAction}
@@ -8,7 +8,7 @@ use Rattle.reservations.specs.declared.table.TheConstants.{MOST_REGISTRANTS}
 use Rattle.reservations.specs.declared.request.PrOut.{PrOut}
 use Rattle.reservations.specs.Registry.{RegistryValue, key_of, is_registered, is_key, is_held_by, is_sole_holder, is_of_code}
 use Rattle.reservations.specs.Rows.{Row, ReserveField, ParameterField, KeyConflict, RegistersNothing, RegistersNobodyMore, Registers, ChangesKey, HolderUnregisters, OtherUnregisters, Reserves, ReservesAgain, ReservesBesideAnother, ReleasesNothing, ReleasesAnotherType, Releases, Clears, PreemptField, PreemptsHolder, PreemptsAll, PreemptsKeyZero, PreemptsNobody, PreemptsRegistrants, Fits, Passes, IsPreempting, names_type, is_registering, is_bad_reserve, is_bad_parameter, shows_key, is_preempting_holder, is_preempting_all}
-use Rattle.reservations.specs.Table.{row_of, row_of_action, row_of_register, row_of_reserve, row_of_release, row_of_preempt}
+use Rattle.reservations.specs.Table.{row_of, row_of_action, row_of_register, row_of_preempt}
 
 -- ---- a row that fits is the one
 

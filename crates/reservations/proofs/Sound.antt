@@ -1,5 +1,5 @@
 -- Each row of the table leaves a sound registry.
-use Rattle.std.proofs.Common.{◌≡◌, ℕ, Bool, true, false, not, ◌&&◌, ◌||◌, nat_eq, List, [], ◌∷◌, ◌++◌, length, refl, sym, ◌∙◌, ap, subst, arith, Option, Some, None, is_some, IsTrue, IsFalse}
+use Rattle.std.proofs.Common.{◌≡◌, ℕ, Bool, true, false, not, ◌||◌, nat_eq, List, [], ◌∷◌, ◌++◌, refl, sym, ◌∙◌, ap, subst, arith, Option, Some, None, is_some}
 use Rattle.scsi_types.specs.Nexus.{Nexus}
 use Rattle.scsi_types.specs.declared.reservation.PrOutAction.{PrOutAction}
 use Rattle.scsi_types.specs.declared.reservation.PrOutAction.TheVariants.{Register, Reserve, Release, Clear, Preempt, PreemptAndAbort, RegisterAndIgnoreExistingKey}
@@ -11,8 +11,8 @@ use Rattle.reservations.specs.declared.request.PrOut.{PrOut}
 use Rattle.reservations.specs.declared.request.Told.{Told}
 use Rattle.reservations.specs.Kind.{type_of}
 use Rattle.reservations.specs.Nexus.{same_nexus}
-use Rattle.reservations.specs.Registry.{RegistryValue, IsSound, key_of, is_registered, is_key_of, is_own, is_holders_key, is_named, is_sole_holder, is_any, is_sound_hold, joined_by, left_to, others, with_key_of, without_key, without_others_of_key, only}
-use Rattle.reservations.specs.Rows.{Row, ReserveField, ParameterField, KeyConflict, RegistersNothing, RegistersNobodyMore, Registers, ChangesKey, HolderUnregisters, OtherUnregisters, Reserves, ReservesAgain, ReservesBesideAnother, ReleasesNothing, ReleasesAnotherType, Releases, Clears, PreemptField, PreemptsHolder, PreemptsAll, PreemptsKeyZero, PreemptsNobody, PreemptsRegistrants, Effect, Done, Fits, IsPreempting, effect, shows_key, is_preempting_holder, is_preempting_all}
+use Rattle.reservations.specs.Registry.{RegistryValue, IsSound, key_of, is_key_of, is_own, is_holders_key, is_named, is_sole_holder, is_any, joined_by, left_to, others, with_key_of, without_key, without_others_of_key, only}
+use Rattle.reservations.specs.Rows.{Row, ReserveField, ParameterField, KeyConflict, RegistersNothing, RegistersNobodyMore, Registers, ChangesKey, HolderUnregisters, OtherUnregisters, Reserves, ReservesAgain, ReservesBesideAnother, ReleasesNothing, ReleasesAnotherType, Releases, Clears, PreemptField, PreemptsHolder, PreemptsAll, PreemptsKeyZero, PreemptsNobody, PreemptsRegistrants, Done, Fits, IsPreempting, effect, shows_key, is_preempting_holder, is_preempting_all}
 use Rattle.reservations.specs.Table.{IsAnswer, effect_of, row_of}
 use Rattle.reservations.proofs.Held.{hold_kept, left_held, made_held, registered_joined, registered_only, registered_others, registered_preempting, registered_rekeyed, registered_without_key}
 use Rattle.reservations.proofs.Listed.{IsListed, listed_filter, listed_joined, listed_of, listed_rekeyed, sound_of}

@@ -1,9 +1,8 @@
 -- Who may use the medium beside a reservation (SPC-4, 5.13.2, the commands that each type of reservation lets through).
-use Rattle.std.specs.Prelude.{Bool, true, false, IsTrue, if◌then◌else◌, List, Option, Some, None}
+use Rattle.std.specs.Prelude.{Bool, true, false, IsTrue, if◌then◌else◌, Option, Some, None}
 use Rattle.scsi_types.specs.Nexus.{Nexus}
 use Rattle.reservations.specs.declared.kind.ReservationType.{ReservationType}
 use Rattle.reservations.specs.declared.kind.ReservationType.TheVariants.{WriteExclusive, ExclusiveAccess, WriteExclusiveRegistrantsOnly, ExclusiveAccessRegistrantsOnly, WriteExclusiveAllRegistrants, ExclusiveAccessAllRegistrants}
-use Rattle.reservations.specs.declared.registrant.Registrant.{Registrant}
 use Rattle.reservations.specs.declared.registrant.Reservation.{Reservation}
 use Rattle.reservations.specs.declared.request.Access.{Access}
 use Rattle.reservations.specs.declared.request.Access.TheVariants.{Read, Write, Other}

@@ -1,5 +1,5 @@
 -- The registrations and the reservation of a logical unit (SPC-4, 5.13).
-use Rattle.std.specs.Prelude.{◌≡◌, ◌≢◌, ◌≤◌, ℕ, ◌+◌, ◌%◌, ◌^◌, Bool, true, false, not, ◌&&◌, ◌||◌, nat_eq, if◌then◌else◌, IsTrue, List, [], ◌∷◌, ◌++◌, length, map, filter, Option, Some, None, is_some}
+use Rattle.std.specs.Prelude.{◌≡◌, ◌≤◌, ℕ, ◌+◌, ◌%◌, ◌^◌, Bool, true, false, not, ◌&&◌, ◌||◌, nat_eq, if◌then◌else◌, IsTrue, List, [], ◌∷◌, ◌++◌, length, map, filter, Option, Some, None, is_some}
 use Rattle.std.specs.List.{AllByRecursion, find, list_any}
 use Rattle.std.specs.Option.{option_map}
 use Rattle.std.specs.Ordering.{is_lt, is_gt}
@@ -149,3 +149,33 @@ pub record IsSound (registrants : List Registrant) (reservation : Option Reserva
 -- nobody is registered
 abbrev pub empty : RegistryValue
 empty = record { registrants = []; reservation = None; aptpl = false; generation = 0 }
+
+-- ---- what lasts
+
+-- what a restart finds of a registry
+pub record RecordValue : Type 0 where
+  pub aptpl : Bool
+  pub registrants : List Registrant
+  pub reservation : Option Reservation
+
+-- nothing lasts where aptpl is not set, else the registrants and the reservation
+abbrev pub to_last : RegistryValue → RecordValue
+to_last r =
+    if r.aptpl then record { aptpl = true; registrants = r.registrants; reservation = r.reservation }
+    else record { aptpl = false; registrants = []; reservation = None }
+
+-- without aptpl there is nothing
+abbrev pub is_lasting : Bool → List Registrant → Option Reservation → Bool
+is_lasting true registrants reservation = true
+is_lasting false [] None = true
+is_lasting false [] (Some held) = false
+is_lasting false (x ∷ xs) reservation = false
+
+pub record IsRecord (aptpl : Bool) (registrants : List Registrant) (reservation : Option Reservation) : Type 0 where
+  pub sound : IsSound registrants reservation
+  pub lasting : IsTrue (is_lasting aptpl registrants reservation)
+
+-- power on with what lasted: PRGENERATION begins at 0
+abbrev pub powered_on : RecordValue → RegistryValue
+powered_on lasted =
+    record { registrants = lasted.registrants; reservation = lasted.reservation; aptpl = lasted.aptpl; generation = 0 }

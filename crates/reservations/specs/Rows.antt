@@ -1,16 +1,14 @@
 -- What a PERSISTENT RESERVE OUT does (SPC-4, 5.13 and 6.16), as a table. A row has a condition on the registry, the
 -- nexus that asks and the request, and an effect. Just one row fits each request.
-use Rattle.std.specs.Prelude.{◌≡◌, ℕ, ◌<◌, Bool, true, false, not, ◌&&◌, ◌||◌, nat_eq, nat_lt, IsTrue, IsFalse, List, [], length, Option, Some, None, is_some, if◌then◌else◌}
+use Rattle.std.specs.Prelude.{◌≡◌, ℕ, Bool, true, false, not, ◌&&◌, ◌||◌, nat_eq, nat_lt, IsTrue, IsFalse, List, [], length, Option, Some, None, is_some, if◌then◌else◌}
 use Rattle.std.specs.Option.{option_map}
 use Rattle.scsi_types.specs.Nexus.{Nexus}
 use Rattle.scsi_types.specs.declared.reservation.PrOutAction.{PrOutAction}
 use Rattle.scsi_types.specs.declared.reservation.PrOutAction.TheVariants.{Register, Reserve, Release, Clear, Preempt, PreemptAndAbort, RegisterAndIgnoreExistingKey}
 use Rattle.scsi_types.specs.declared.attention.UnitAttention.TheVariants.{ReservationsPreempted, ReservationsReleased, RegistrationsPreempted}
 use Rattle.reservations.specs.declared.table.TheConstants.{MOST_REGISTRANTS}
-use Rattle.reservations.specs.declared.kind.ReservationType.{ReservationType}
 use Rattle.reservations.specs.declared.notice.Notice.{Notice}
 use Rattle.reservations.specs.declared.notice.Notice.TheVariants.{Nothing, ToAll, OfPreempted}
-use Rattle.reservations.specs.declared.registrant.Registrant.{Registrant}
 use Rattle.reservations.specs.declared.registrant.Reservation.{Reservation}
 use Rattle.reservations.specs.declared.request.PrOut.{PrOut}
 use Rattle.reservations.specs.declared.request.Told.{Told}

@@ -55,7 +55,7 @@ impl Nexus {
     pub(crate) fn copied(alloc: Global, port: &PortName, group: Group) -> Result<Nexus, AllocError>
         ensures { IfOk result (λ nexus. nexus ≡ record { port = port.now; group = group }) }
     {
-        let name = port.name().to_vec(alloc)?;
+        let name = Vec::from_slice(alloc, port.name())?;
         let port = PortName::new(name, port.isid());
         Ok(Nexus { port, group })
     }

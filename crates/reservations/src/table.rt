@@ -1,5 +1,6 @@
 //! The table of registrants and its look-ups.
 ghost use Rattle.std.specs.Prelude.{◌≡◌, ◌+◌, ◌%◌, ◌^◌, IfOk, OnErr, length};
+ghost use Rattle.std.specs.Option.{unwrap_or};
 ghost use Rattle.reservations.specs.Nexus.{through};
 ghost use Rattle.reservations.specs.Notice.{telling_of, told_of};
 ghost use Rattle.reservations.specs.Registry.{is_held_by, is_held_by_all, is_holders_key, is_key, is_of_code, is_own, is_sole_holder, key_of, left_to};
@@ -39,6 +40,20 @@ impl Table {
             Some(own) => own == key,
             None => false,
         }
+    }
+
+    /// The key of a nexus, and 0 where it isn't registered.
+    pub fn key_or_zero(&self, nexus: &Nexus) -> u64
+        ensures { result ≡ unwrap_or (key_of self.now.registrants.items nexus.now) 0 }
+    {
+        self.key_of(nexus.port(), nexus.group()).unwrap_or(0)
+    }
+
+    /// Whether a nexus, given whole, holds the reservation.
+    pub fn is_holder(&self, nexus: &Nexus) -> bool
+        ensures { result ≡ is_held_by self.now.reservation self.now.registrants.items nexus.now }
+    {
+        self.is_held_by(nexus.port(), nexus.group())
     }
 
     /// Whether some nexus is registered with this key.

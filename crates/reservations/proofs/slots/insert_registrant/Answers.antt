@@ -1,4 +1,4 @@
-use Rattle.std.proofs.Common.{◌≡◌, ◌≤◌, arith}
+use Rattle.std.proofs.Common.{arith}
 use Rattle.reservations.specs.Nexus.{through}
 use Rattle.reservations.proofs.Insert.{insert_is, length_before}
 use Rattle.reservations.proofs.slots.insert_registrant.Goals as goal

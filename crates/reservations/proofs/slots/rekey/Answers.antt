@@ -1,4 +1,4 @@
-use Rattle.std.proofs.Common.{◌≡◌, ◌<◌, length, sym, ◌∙◌, arith}
+use Rattle.std.proofs.Common.{◌<◌, length, sym, ◌∙◌, arith}
 use Rattle.reservations.proofs.Rekey.{rekey_one, rekey_other}
 use Rattle.reservations.proofs.slots.rekey.Goals as goal
 use Rattle.reservations.proofs.slots.rekey.Goals.{then-is, else-is}
