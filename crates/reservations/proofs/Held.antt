@@ -21,7 +21,7 @@ is_it n x = same_nexus x.nexus n
 
 -- ---- what was found
 
-found_passes : (p : Registrant → Bool) (xs : List Registrant) (x : Registrant) → find p xs ≡ Some x → p x ≡ true
+pub found_passes : (p : Registrant → Bool) (xs : List Registrant) (x : Registrant) → find p xs ≡ Some x → p x ≡ true
 found_passes p [] x is = absurd (cc)
 found_passes p (y ∷ ys) x is =
     ⊎_elim (λ (t : p y ≡ true). let first = rw t at is in let here : y ≡ x = cc in ap p (sym here) ∙ t)

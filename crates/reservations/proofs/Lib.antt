@@ -1,4 +1,5 @@
 pub mod Appended
+pub mod EveryRow
 pub mod Held
 pub mod Insert
 pub mod Listed

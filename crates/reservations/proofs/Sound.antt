@@ -80,7 +80,7 @@ done_with a b s t is sound = let same : a ≡ b = cc in subst Sound same sound
 nothing_listed : IsListed []
 nothing_listed = record { ascending = tt; few = omega arith; keys = tt }
 
-row_sound : (row : Row) (r : RegistryValue) (n : Nexus) (q : PrOut) (new : RegistryValue) (told : List Told) → Fits row r n q → effect row r n q ≡ Done new told → Sound r → Sound new
+pub row_sound : (row : Row) (r : RegistryValue) (n : Nexus) (q : PrOut) (new : RegistryValue) (told : List Told) → Fits row r n q → effect row r n q ≡ Done new told → Sound r → Sound new
 row_sound ReserveField r n q new told f is s = absurd (cc)
 row_sound ParameterField r n q new told f is s = absurd (cc)
 row_sound KeyConflict r n q new told f is s = absurd (cc)

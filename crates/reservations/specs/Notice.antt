@@ -1,6 +1,6 @@
 -- Who is told what (SPC-4, 5.13.11): the unit attention condition that each registrant but the sender gets.
 use Rattle.std.specs.Prelude.{ℕ, nat_eq, if◌then◌else◌, List, Option, Some, None}
-use Rattle.std.specs.List.{filter_map}
+use Rattle.std.specs.List.{filter_map, find}
 use Rattle.std.specs.Option.{option_map}
 use Rattle.scsi_types.specs.Nexus.{Nexus}
 use Rattle.scsi_types.specs.declared.attention.UnitAttention.{UnitAttention}
@@ -27,3 +27,7 @@ telling_of sender notice x = if same_nexus x.nexus sender then None else telling
 
 abbrev pub told_of : Nexus → Notice → List Registrant → List Told
 told_of sender notice registrants = filter_map (telling_of sender notice) registrants
+
+-- what a session of this nexus is told
+abbrev pub code_told : List Told → Nexus → Option UnitAttention
+code_told told nexus = option_map (λ (t : Told). t.code) (find (λ (t : Told). same_nexus t.nexus nexus) told)

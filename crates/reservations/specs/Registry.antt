@@ -69,6 +69,9 @@ abbrev pub is_held_by_all : Option Reservation → Bool
 is_held_by_all None = false
 is_held_by_all (Some held) = is_of_all_registrants held.kind
 
+abbrev pub reserved_type : Option Reservation → Option ReservationType
+reserved_type reservation = option_map (λ (held : Reservation). held.kind) reservation
+
 -- the reservation that there is has the type of this code
 abbrev pub is_of_code : Option Reservation → ℕ → Bool
 is_of_code None code = false

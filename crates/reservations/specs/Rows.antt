@@ -32,6 +32,16 @@ is_registering Preempt = false
 is_registering PreemptAndAbort = false
 is_registering RegisterAndIgnoreExistingKey = true
 
+-- the service actions that PRGENERATION counts (SPC-4, 5.13.3): all but RESERVE and RELEASE
+abbrev pub is_counted : PrOutAction → Bool
+is_counted Register = true
+is_counted Reserve = false
+is_counted Release = false
+is_counted Clear = true
+is_counted Preempt = true
+is_counted PreemptAndAbort = true
+is_counted RegisterAndIgnoreExistingKey = true
+
 -- a RESERVE with a field that it may not have
 abbrev pub is_bad_reserve : PrOutAction → PrOut → Bool
 is_bad_reserve Register q = false

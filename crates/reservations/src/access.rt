@@ -39,10 +39,11 @@ impl Table {
         let Some(held) = &self.reservation else {
             return true;
         };
-        if self.is_held_by(port, group) {
-            return true;
-        }
         let is_registered = self.key_of(port, group).is_some();
-        lets_in(held.kind, is_registered, access)
+        let holds = match &held.holder {
+            Some(holder) => holder.is(port, group),
+            None => is_registered,
+        };
+        holds || lets_in(held.kind, is_registered, access)
     }
 }

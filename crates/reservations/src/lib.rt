@@ -21,7 +21,10 @@ mod table;
 mod transport_id;
 
 pub use kind::ReservationType;
-pub use laws::one_row_fits;
+pub use laws::{
+    a_preempted_key_is_gone, one_row_fits, soundness_stays, the_generation_counts,
+    the_sender_is_not_told,
+};
 pub use nexus::Nexus;
 pub use notice::Notice;
 pub use record::Record;

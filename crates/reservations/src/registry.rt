@@ -3,12 +3,12 @@ ghost use Rattle.std.specs.Prelude.{◌≡◌, ◌↔◌, IfOk, IsTrue, length, 
 ghost use Rattle.reservations.specs.Access.{MayAccess};
 ghost use Rattle.reservations.specs.Nexus.{through};
 ghost use Rattle.reservations.specs.Reading.{capabilities_bytes, full_status_bytes, keys_bytes, reservation_bytes};
-ghost use Rattle.reservations.specs.Registry.{IsSound, empty, powered_on, to_last};
+ghost use Rattle.reservations.specs.Registry.{IsSound, empty, powered_on, reserved_type, to_last};
 ghost use Rattle.reservations.specs.Table.{IsAnswer, effect_of};
 
 use crate::registrant::{copy_registrants, copy_reservation};
 use crate::table::{MOST_REGISTRANTS, Table};
-use crate::{Access, PrEnd, PrOut, Record};
+use crate::{Access, PrEnd, PrOut, Record, ReservationType};
 use scsi_types::{Group, NoMemory, PortName};
 use std::alloc::Global;
 use std::marker::Model;
@@ -105,12 +105,30 @@ impl Registry {
         self.table.allows(port, group, access)
     }
 
-    /// How many nexuses are registered. In order, few, with keys, and the reservation rightly held: so every registry is.
-    pub fn registrants(&self) -> usize
-        ensures registrants { result ≡ length self.now.registrants }
+    /// How many nexuses are registered. Of every registry it is known that its registrants stand in order, are at most 64
+    /// and have keys, and that a reservation is held by a registrant.
+    pub fn registrant_count(&self) -> usize
+        ensures count { result ≡ length self.now.registrants }
         ensures sound { IsSound self.now.registrants self.now.reservation }
     {
         self.table.registrants.len()
+    }
+
+    /// PRGENERATION.
+    pub fn generation(&self) -> u32
+        ensures { result ≡ self.now.generation }
+    {
+        self.table.generation
+    }
+
+    /// The type of the reservation, if there is one.
+    pub fn reserved_type(&self) -> Option<ReservationType>
+        ensures { result ≡ reserved_type self.now.reservation }
+    {
+        match &self.table.reservation {
+            Some(held) => Some(held.kind),
+            None => None,
+        }
     }
 
     /// The data of READ KEYS (SPC-4, 6.15.2): PRGENERATION, a length and the keys in the order of their nexuses, as many
