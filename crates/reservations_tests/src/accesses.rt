@@ -23,7 +23,11 @@ fn reserved<R: AllocGlobal + Abort>(rt: &R, kind: u8) -> Result<Registry, NoMemo
         (B, PrOutAction::Register, 0, 0x22),
         (A, PrOutAction::Reserve, 0x11, 0),
     ] {
-        let end = registry.out(&port_of(alloc, who)?, who.2, asking(action, kind, key, sakey));
+        let end = registry.out(
+            &port_of(alloc, who)?,
+            who.2,
+            asking(action, kind, key, sakey),
+        );
         assert!(rt; ends_so(&end, Want::Good), "{end:?}");
     }
     Ok(registry)
@@ -50,7 +54,11 @@ fn beside_each_type(rt: HostRuntime) -> Result<(), NoMemory> {
     for (kind, holder, registered, neither) in ROWS {
         let registry = reserved(&rt, kind)?;
         for (who, letters) in [(A, holder), (B, registered), (C, neither)] {
-            assert_eq!(rt; allowed(&rt, &registry, who)?, *letters, "type {kind}, {who:?}");
+            assert_eq!(rt;
+                allowed(&rt, &registry, who)?,
+                *letters,
+                "type {kind}, {who:?}"
+            );
         }
     }
     let free = Registry::new(rt.alloc())?;

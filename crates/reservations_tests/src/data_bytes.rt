@@ -58,7 +58,9 @@ fn full_status_of_a_registrant(rt: HostRuntime) -> Result<(), NoMemory> {
     let port = PortName::new(name, 0x4000_0137_0000);
     let registry = after(alloc, &port, &[REGISTER])?;
     let mut data = Vec::from_slice(alloc, &[0, 0, 0, 1, 0, 0, 0, 0x40])?;
-    data.extend_from_slice(&[0, 0, 0, 0, 0, 0, 0, 0x11, 0, 0, 0, 0, 0, 0, 0, 0, 0, 0, 0, 1])?;
+    data.extend_from_slice(&[
+        0, 0, 0, 0, 0, 0, 0, 0x11, 0, 0, 0, 0, 0, 0, 0, 0, 0, 0, 0, 1,
+    ])?;
     data.extend_from_slice(&[0, 0, 0, 0x28, 0x45, 0, 0, 0x24])?;
     data.extend_from_slice(b"iqn.2000-01.test:a,i,0x400001370000")?;
     data.push(0)?;
@@ -72,7 +74,9 @@ fn full_status_of_a_holder(rt: HostRuntime) -> Result<(), NoMemory> {
     let registry = after(alloc, &port_of(alloc, A)?, &[REGISTER, RESERVE])?;
     let status = registry.full_status(28)?;
     let mut head = Vec::from_slice(alloc, &[0, 0, 0, 1, 0, 0, 0, 0x40])?;
-    head.extend_from_slice(&[0, 0, 0, 0, 0, 0, 0, 0x11, 0, 0, 0, 0, 1, 5, 0, 0, 0, 0, 0, 1])?;
+    head.extend_from_slice(&[
+        0, 0, 0, 0, 0, 0, 0, 0x11, 0, 0, 0, 0, 1, 5, 0, 0, 0, 0, 0, 1,
+    ])?;
     assert_eq!(rt; status, head);
     Ok(())
 }
@@ -84,7 +88,10 @@ fn capabilities(rt: HostRuntime) -> Result<(), NoMemory> {
         aptpl: true,
         ..REGISTER
     };
-    for (name, request, ptpl_a) in [("without APTPL", REGISTER, 0x80), ("with APTPL", lasting, 0x81)] {
+    for (name, request, ptpl_a) in [
+        ("without APTPL", REGISTER, 0x80),
+        ("with APTPL", lasting, 0x81),
+    ] {
         let registry = after(alloc, &port_of(alloc, A)?, &[request])?;
         let data = Vec::from_slice(alloc, &[0x00, 0x08, 0x01, ptpl_a, 0xEA, 0x01, 0x00, 0x00])?;
         assert_eq!(rt; registry.capabilities(8)?, data, "{name}");
@@ -99,8 +106,20 @@ fn flags(rt: HostRuntime) -> Result<(), NoMemory> {
     for (name, request, spec_i_pt, all_tg_pt, want) in [
         ("SPEC_I_PT", REGISTER, true, false, Want::Illegal(0x26, 0)),
         ("ALL_TG_PT", REGISTER, false, true, Want::Illegal(0x26, 0)),
-        ("SPEC_I_PT comes before the key", RESERVE, true, false, Want::Illegal(0x26, 0)),
-        ("ALL_TG_PT is not looked at", RESERVE, false, true, Want::Conflict),
+        (
+            "SPEC_I_PT comes before the key",
+            RESERVE,
+            true,
+            false,
+            Want::Illegal(0x26, 0),
+        ),
+        (
+            "ALL_TG_PT is not looked at",
+            RESERVE,
+            false,
+            true,
+            Want::Conflict,
+        ),
     ] {
         let asked = PrOut {
             spec_i_pt,
@@ -119,7 +138,11 @@ fn a_65th_registrant(rt: HostRuntime) -> Result<(), NoMemory> {
     let mut registry = Registry::new(alloc)?;
     for isid in 0..65 {
         let want = if isid < 64 { Want::Good } else { Want::Full };
-        let end = registry.out(&port_of(alloc, (b'a', isid, Group::Two))?, Group::Two, REGISTER);
+        let end = registry.out(
+            &port_of(alloc, (b'a', isid, Group::Two))?,
+            Group::Two,
+            REGISTER,
+        );
         assert!(rt; ends_so(&end, want), "{isid}: {end:?}");
     }
     assert_eq!(rt; registry.generation(), 64);
@@ -138,7 +161,11 @@ fn what_lasts(rt: HostRuntime) -> Result<(), NoMemory> {
         assert_eq!(rt; again.registrant_count(), registrants, "{name}");
         assert_eq!(rt; again.generation(), 0, "{name}");
         assert_eq!(rt; again.reserved_type().is_some(), aptpl, "{name}");
-        assert_eq!(rt; registry.copy()?.full_status(999)?, registry.full_status(999)?, "{name}");
+        assert_eq!(rt;
+            registry.copy()?.full_status(999)?,
+            registry.full_status(999)?,
+            "{name}"
+        );
     }
     Ok(())
 }

@@ -61,9 +61,18 @@ pub fn asking(action: PrOutAction, kind: u8, key: u64, sakey: u64) -> PrOut {
 macro_rules! steps {
     ($($by:ident $action:ident ($kind:literal, $key:literal, $sakey:literal) => $want:expr;
         [$($told:ident $code:ident),*]; $generation:literal; [$($left:literal),*]; $held:expr,)*) => {
-        [$(crate::script::Step {
+        &[$(crate::script::Step {
             by: crate::script::$by,
-            request: crate::script::asking(scsi_types::PrOutAction::$action, $kind, $key, $sakey),
+            request: reservations::PrOut {
+                action: scsi_types::PrOutAction::$action,
+                scope: 0,
+                kind: $kind,
+                key: $key,
+                sakey: $sakey,
+                spec_i_pt: false,
+                all_tg_pt: false,
+                aptpl: false,
+            },
             want: $want,
             told: &[$((crate::script::$told, scsi_types::UnitAttention::$code)),*],
             generation: $generation,
@@ -72,6 +81,7 @@ macro_rules! steps {
         }),*]
     };
 }
+
 pub(crate) use steps;
 
 /// The port of a nexus.
@@ -82,13 +92,21 @@ pub fn port_of(alloc: Global, who: Who) -> Result<PortName, NoMemory> {
 }
 
 /// Runs a script from where the registry stands.
-pub fn run<R: AllocGlobal + Abort>(rt: &R, registry: &mut Registry, name: &str, steps: &[Step]) -> Result<(), NoMemory> {
+pub fn run<R: AllocGlobal + Abort>(
+    rt: &R,
+    registry: &mut Registry,
+    name: &str,
+    steps: &[Step],
+) -> Result<(), NoMemory> {
     let alloc = rt.alloc();
     for (place, step) in steps.iter().enumerate() {
         let port = port_of(alloc, step.by)?;
         let end = registry.out(&port, step.by.2, step.request);
         assert!(rt; ends_so(&end, step.want), "{name}, step {place}: {end:?}");
-        assert!(rt; tells(alloc, &end, step.told)?, "{name}, step {place}: {end:?}");
+        assert!(rt;
+            tells(alloc, &end, step.told)?,
+            "{name}, step {place}: {end:?}"
+        );
         let keys = keys_data(alloc, step.generation, step.keys)?;
         assert_eq!(rt; registry.keys(4096)?, keys, "{name}, step {place}");
         let held = held_data(alloc, step.generation, step.held)?;
