@@ -125,9 +125,9 @@ found_kept p q (y ∷ ys) x is =
     let rest = found_kept p q ys x in
     ⊎_elim
     (λ (k : q y ≡ true).
-        let kept = rw k at is in
-        ⊎_elim (λ (t : p y ≡ true). let first = rw t at kept in let here : y ≡ x = cc in ap q (sym here) ∙ k)
-        (λ (f : p y ≡ false). rest (rw f at kept)) (cases_Bool (p y)))
+    let kept = rw k at is in
+    ⊎_elim (λ (t : p y ≡ true). let first = rw t at kept in let here : y ≡ x = cc in ap q (sym here) ∙ k)
+    (λ (f : p y ≡ false). rest (rw f at kept)) (cases_Bool (p y)))
     (λ (k : q y ≡ false). rest (rw k at is))
     (cases_Bool (q y))
 

@@ -33,8 +33,8 @@ kept_found p q [] x is keeps = absurd (cc)
 kept_found p q (y ∷ ys) x is keeps =
     ⊎_elim (λ (t : p y ≡ true). let first = rw t at is in let here : y ≡ x = cc in let kept = ap q here ∙ keeps in rw kept (rw t refl))
     (λ (f : p y ≡ false).
-        let rest = kept_found p q ys x (rw f at is) keeps in
-        ⊎_elim (λ (k : q y ≡ true). rw k (rw f rest)) (λ (k : q y ≡ false). rw k rest) (cases_Bool (q y)))
+    let rest = kept_found p q ys x (rw f at is) keeps in
+    ⊎_elim (λ (k : q y ≡ true). rw k (rw f rest)) (λ (k : q y ≡ false). rw k rest) (cases_Bool (q y)))
     (cases_Bool (p y))
 
 some_of : (o : Option Registrant) → is_some (option_map (λ (x : Registrant). x.key) o) ≡ is_some o

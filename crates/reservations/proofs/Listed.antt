@@ -115,9 +115,10 @@ ascending_rekeyed n key (x ∷ xs) a =
 
 keys_rekeyed : (n : Nexus) (key : ℕ) (xs : List Registrant) → nat_eq key 0 ≡ false → AllByRecursion (λ (x : Registrant). IsTrue (not (nat_eq x.key 0))) xs → AllByRecursion (λ (x : Registrant). IsTrue (not (nat_eq x.key 0))) (with_key_of n key xs)
 keys_rekeyed n key [] nonzero all = tt
-keys_rekeyed n key (x ∷ xs) nonzero all =
-    (⊎_elim (λ (t : same_nexus x.nexus n ≡ true). rw t (rw nonzero refl)) (λ (f : same_nexus x.nexus n ≡ false). rw f all.0) (cases_Bool (same_nexus x.nexus n)),
-     keys_rekeyed n key xs nonzero all.1)
+keys_rekeyed n key (x ∷ xs) nonzero all = (
+  ⊎_elim (λ (t : same_nexus x.nexus n ≡ true). rw t (rw nonzero refl)) (λ (f : same_nexus x.nexus n ≡ false). rw f all.0) (cases_Bool (same_nexus x.nexus n)),
+  keys_rekeyed n key xs nonzero all.1,
+)
 
 length_rekeyed : (n : Nexus) (key : ℕ) (xs : List Registrant) → length (with_key_of n key xs) ≡ length xs
 length_rekeyed n key [] = refl

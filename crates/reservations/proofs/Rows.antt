@@ -79,30 +79,30 @@ row_registering : (r : RegistryValue) (n : Nexus) (q : PrOut) → Passes r n q �
 row_registering r n q p a =
     split (is_registered r.registrants n)
     (λ registered. split (nat_eq q.sakey 0)
-        (λ leaves. split (is_sole_holder r.reservation n)
-            (λ holder. (HolderUnregisters, (p, a, registered, leaves, holder)))
-            (λ holder. (OtherUnregisters, (p, a, registered, leaves, holder))))
-        (λ leaves. (ChangesKey, (p, a, registered, leaves))))
+    (λ leaves. split (is_sole_holder r.reservation n)
+    (λ holder. (HolderUnregisters, (p, a, registered, leaves, holder)))
+    (λ holder. (OtherUnregisters, (p, a, registered, leaves, holder))))
+    (λ leaves. (ChangesKey, (p, a, registered, leaves))))
     (λ registered. split (nat_eq q.sakey 0)
-        (λ none. (RegistersNothing, (p, a, registered, none)))
-        (λ none. split (nat_lt (length r.registrants) MOST_REGISTRANTS)
-            (λ room. (Registers, (p, a, registered, none, room)))
-            (λ room. (RegistersNobodyMore, (p, a, registered, none, room)))))
+    (λ none. (RegistersNothing, (p, a, registered, none)))
+    (λ none. split (nat_lt (length r.registrants) MOST_REGISTRANTS)
+    (λ room. (Registers, (p, a, registered, none, room)))
+    (λ room. (RegistersNobodyMore, (p, a, registered, none, room)))))
 
 row_reserving : (r : RegistryValue) (n : Nexus) (q : PrOut) → Passes r n q → q.action ≡ Reserve → SomeRow r n q
 row_reserving r n q p a =
     split (is_some r.reservation)
     (λ there. split (is_held_by r.reservation r.registrants n && is_of_code r.reservation q.kind)
-        (λ same. (ReservesAgain, (p, a, there, same)))
-        (λ same. (ReservesBesideAnother, (p, a, there, same))))
+    (λ same. (ReservesAgain, (p, a, there, same)))
+    (λ same. (ReservesBesideAnother, (p, a, there, same))))
     (λ there. (Reserves, (p, a, there)))
 
 row_releasing : (r : RegistryValue) (n : Nexus) (q : PrOut) → Passes r n q → q.action ≡ Release → SomeRow r n q
 row_releasing r n q p a =
     split (is_held_by r.reservation r.registrants n)
     (λ holds. split (nat_eq q.scope 0 && is_of_code r.reservation q.kind)
-        (λ same. (Releases, (p, a, holds, same)))
-        (λ same. (ReleasesAnotherType, (p, a, holds, same))))
+    (λ same. (Releases, (p, a, holds, same)))
+    (λ same. (ReleasesAnotherType, (p, a, holds, same))))
     (λ holds. (ReleasesNothing, (p, a, holds)))
 
 of_or : (a b : Bool) → a || b ≡ true → a ≡ false → b ≡ true
@@ -113,15 +113,15 @@ row_preempting : (r : RegistryValue) (n : Nexus) (q : PrOut) → Passes r n q �
 row_preempting r n q p a =
     split (is_preempting_holder r q || is_preempting_all r q)
     (λ reservation. split (names_type q)
-        (λ named. split (is_preempting_holder r q)
-            (λ holder. (PreemptsHolder, (p, a, holder, named)))
-            (λ holder. (PreemptsAll, (p, a, holder, of_or _ _ reservation holder, named))))
-        (λ named. (PreemptField, (p, a, reservation, named))))
+    (λ named. split (is_preempting_holder r q)
+    (λ holder. (PreemptsHolder, (p, a, holder, named)))
+    (λ holder. (PreemptsAll, (p, a, holder, of_or _ _ reservation holder, named))))
+    (λ named. (PreemptField, (p, a, reservation, named))))
     (λ reservation. split (nat_eq q.sakey 0)
-        (λ none. (PreemptsKeyZero, (p, a, reservation, none)))
-        (λ none. split (is_key r.registrants q.sakey)
-            (λ victims. (PreemptsRegistrants, (p, a, reservation, none, victims)))
-            (λ victims. (PreemptsNobody, (p, a, reservation, none, victims)))))
+    (λ none. (PreemptsKeyZero, (p, a, reservation, none)))
+    (λ none. split (is_key r.registrants q.sakey)
+    (λ victims. (PreemptsRegistrants, (p, a, reservation, none, victims)))
+    (λ victims. (PreemptsNobody, (p, a, reservation, none, victims)))))
 
 row_of_passed : (action : PrOutAction) (r : RegistryValue) (n : Nexus) (q : PrOut) → q.action ≡ action → Passes r n q → SomeRow r n q
 row_of_passed Register r n q is p = row_registering r n q p (rw is refl)
@@ -137,10 +137,10 @@ some_row r n q =
     split (is_bad_reserve q.action q)
     (λ reserve. (ReserveField, reserve))
     (λ reserve. split (is_bad_parameter q)
-        (λ parameter. (ParameterField, (reserve, parameter)))
-        (λ parameter. split (shows_key q.action (key_of r.registrants n) q.key)
-            (λ key. row_of_passed q.action r n q refl (record { reserve = reserve; parameter = parameter; key = key }))
-            (λ key. (KeyConflict, (reserve, parameter, key)))))
+    (λ parameter. (ParameterField, (reserve, parameter)))
+    (λ parameter. split (shows_key q.action (key_of r.registrants n) q.key)
+    (λ key. row_of_passed q.action r n q refl (record { reserve = reserve; parameter = parameter; key = key }))
+    (λ key. (KeyConflict, (reserve, parameter, key)))))
 
 pub row_fits : (r : RegistryValue) (n : Nexus) (q : PrOut) → Fits (row_of r n q) r n q
 row_fits r n q = let found = some_row r n q in rw (← only_row found.0 r n q found.1) found.1

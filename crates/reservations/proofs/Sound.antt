@@ -97,22 +97,22 @@ row_sound Registers r n q new told f is s =
     let l = listed_of _ _ s in
     done_with _ new _ told is
     (sound_of (joined_by n q.sakey r.registrants) r.reservation (listed_joined n q.sakey r.registrants l f.2 f.3 f.4)
-        (hold_kept r.reservation r.registrants (joined_by n q.sakey r.registrants) s.held (λ any. any_joined n q.sakey r.registrants)
-            (λ held h there is in_it. registered_joined h n q.sakey r.registrants s.ascending f.2 in_it)))
+    (hold_kept r.reservation r.registrants (joined_by n q.sakey r.registrants) s.held (λ any. any_joined n q.sakey r.registrants)
+    (λ held h there is in_it. registered_joined h n q.sakey r.registrants s.ascending f.2 in_it)))
 row_sound ChangesKey r n q new told f is s =
     done_with _ new _ told is
     (sound_of (with_key_of n q.sakey r.registrants) r.reservation (listed_rekeyed n q.sakey r.registrants (listed_of _ _ s) f.3)
-        (hold_kept r.reservation r.registrants (with_key_of n q.sakey r.registrants) s.held (any_rekeyed n q.sakey r.registrants)
-            (λ held h there is in_it. registered_rekeyed h n q.sakey r.registrants in_it)))
+    (hold_kept r.reservation r.registrants (with_key_of n q.sakey r.registrants) s.held (any_rekeyed n q.sakey r.registrants)
+    (λ held h there is in_it. registered_rekeyed h n q.sakey r.registrants in_it)))
 row_sound HolderUnregisters r n q new told f is s =
     done_with _ new _ told is
     (sound_of (others n r.registrants) None (listed_filter (λ (x : Registrant). not (same_nexus x.nexus n)) r.registrants (listed_of _ _ s)) refl)
 row_sound OtherUnregisters r n q new told f is s =
     done_with _ new _ told is
     (sound_of (others n r.registrants) (left_to (others n r.registrants) r.reservation)
-        (listed_filter (λ (x : Registrant). not (same_nexus x.nexus n)) r.registrants (listed_of _ _ s))
-        (left_held r.reservation r.registrants (others n r.registrants) s.held
-            (λ held h there is in_it. registered_others h n r.registrants in_it (not_named n r.reservation held h f.4 there is))))
+    (listed_filter (λ (x : Registrant). not (same_nexus x.nexus n)) r.registrants (listed_of _ _ s))
+    (left_held r.reservation r.registrants (others n r.registrants) s.held
+    (λ held h there is in_it. registered_others h n r.registrants in_it (not_named n r.reservation held h f.4 there is))))
 row_sound Reserves r n q new told f is s =
     done_with _ new _ told is
     (sound_of r.registrants _ (listed_of _ _ s) (made_held n (type_of q.kind) r.registrants (own_shown q.action (key_of r.registrants n) q.key f.0.key f.1)))
@@ -122,20 +122,20 @@ row_sound PreemptsHolder r n q new told f is s =
     let in_it = own_preempting q.action (key_of r.registrants n) q.key f.0.key f.1 in
     done_with _ new _ told is
     (sound_of (without_others_of_key n q.sakey r.registrants) _
-        (listed_filter (λ (x : Registrant). same_nexus x.nexus n || not (nat_eq x.key q.sakey)) r.registrants (listed_of _ _ s))
-        (made_held n (type_of q.kind) (without_others_of_key n q.sakey r.registrants) (registered_preempting n q.sakey r.registrants in_it)))
+    (listed_filter (λ (x : Registrant). same_nexus x.nexus n || not (nat_eq x.key q.sakey)) r.registrants (listed_of _ _ s))
+    (made_held n (type_of q.kind) (without_others_of_key n q.sakey r.registrants) (registered_preempting n q.sakey r.registrants in_it)))
 row_sound PreemptsAll r n q new told f is s =
     let in_it = own_preempting q.action (key_of r.registrants n) q.key f.0.key f.1 in
     done_with _ new _ told is
     (sound_of (only n r.registrants) _ (listed_filter (λ (x : Registrant). same_nexus x.nexus n) r.registrants (listed_of _ _ s))
-        (made_held n (type_of q.kind) (only n r.registrants) (registered_only n r.registrants in_it)))
+    (made_held n (type_of q.kind) (only n r.registrants) (registered_only n r.registrants in_it)))
 row_sound PreemptsRegistrants r n q new told f is s =
     let other = neither (is_preempting_holder r q) (is_preempting_all r q) f.2 in
     done_with _ new _ told is
     (sound_of (without_key q.sakey r.registrants) (left_to (without_key q.sakey r.registrants) r.reservation)
-        (listed_filter (λ (x : Registrant). not (nat_eq x.key q.sakey)) r.registrants (listed_of _ _ s))
-        (left_held r.reservation r.registrants (without_key q.sakey r.registrants) s.held
-            (λ held h there is in_it. registered_without_key h q.sakey r.registrants in_it (not_its_key q.sakey r.registrants r.reservation held h other there is))))
+    (listed_filter (λ (x : Registrant). not (nat_eq x.key q.sakey)) r.registrants (listed_of _ _ s))
+    (left_held r.reservation r.registrants (without_key q.sakey r.registrants) s.held
+    (λ held h there is in_it. registered_without_key h q.sakey r.registrants in_it (not_its_key q.sakey r.registrants r.reservation held h other there is))))
 
 -- a call that ends so leaves the registry sound
 pub stays_sound : (end : PrEnd) (old new : RegistryValue) (n : Nexus) (q : PrOut) → IsAnswer end (effect_of old n q) old new → IsSound old.registrants old.reservation → IsSound new.registrants new.reservation

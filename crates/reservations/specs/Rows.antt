@@ -206,7 +206,7 @@ effect ChangesKey r n q =
     Done (counted (record r { registrants = with_key_of n q.sakey r.registrants; aptpl = q.aptpl })) []
 effect HolderUnregisters r n q =
     Done (counted (record r { registrants = others n r.registrants; reservation = None; aptpl = q.aptpl }))
-        (told_of n (of_end r.reservation) r.registrants)
+    (told_of n (of_end r.reservation) r.registrants)
 effect OtherUnregisters r n q =
     Done (counted (record r { registrants = others n r.registrants; reservation = left_to (others n r.registrants) r.reservation; aptpl = q.aptpl })) []
 effect Reserves r n q = Done (record r { reservation = asked_for n q }) []
@@ -220,12 +220,12 @@ effect Clears r n q =
 effect PreemptField r n q = Refused 0x24 0x00
 effect PreemptsHolder r n q =
     Done (counted (record r { registrants = without_others_of_key n q.sakey r.registrants; reservation = asked_for n q }))
-        (told_of n (OfPreempted q.sakey (not (is_of_code r.reservation q.kind))) r.registrants)
+    (told_of n (OfPreempted q.sakey (not (is_of_code r.reservation q.kind))) r.registrants)
 effect PreemptsAll r n q =
     Done (counted (record r { registrants = only n r.registrants; reservation = asked_for n q }))
-        (told_of n (ToAll RegistrationsPreempted) r.registrants)
+    (told_of n (ToAll RegistrationsPreempted) r.registrants)
 effect PreemptsKeyZero r n q = Refused 0x26 0x00
 effect PreemptsNobody r n q = Conflicting
 effect PreemptsRegistrants r n q =
     Done (counted (record r { registrants = without_key q.sakey r.registrants; reservation = left_to (without_key q.sakey r.registrants) r.reservation }))
-        (told_of n (OfPreempted q.sakey false) r.registrants)
+    (told_of n (OfPreempted q.sakey false) r.registrants)

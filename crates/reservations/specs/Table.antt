@@ -17,7 +17,7 @@ row_of_leaving r n q = if is_sole_holder r.reservation n then HolderUnregisters 
 abbrev pub row_of_register : RegistryValue → Nexus → PrOut → Row
 row_of_register r n q =
     if is_registered r.registrants n then
-        (if nat_eq q.sakey 0 then row_of_leaving r n q else ChangesKey)
+    (if nat_eq q.sakey 0 then row_of_leaving r n q else ChangesKey)
     else if nat_eq q.sakey 0 then RegistersNothing
     else if nat_lt (length r.registrants) MOST_REGISTRANTS then Registers
     else RegistersNobodyMore
@@ -25,19 +25,19 @@ row_of_register r n q =
 abbrev pub row_of_reserve : RegistryValue → Nexus → PrOut → Row
 row_of_reserve r n q =
     if is_some r.reservation then
-        (if is_held_by r.reservation r.registrants n && is_of_code r.reservation q.kind then ReservesAgain else ReservesBesideAnother)
+    (if is_held_by r.reservation r.registrants n && is_of_code r.reservation q.kind then ReservesAgain else ReservesBesideAnother)
     else Reserves
 
 abbrev pub row_of_release : RegistryValue → Nexus → PrOut → Row
 row_of_release r n q =
     if is_held_by r.reservation r.registrants n then
-        (if nat_eq q.scope 0 && is_of_code r.reservation q.kind then Releases else ReleasesAnotherType)
+    (if nat_eq q.scope 0 && is_of_code r.reservation q.kind then Releases else ReleasesAnotherType)
     else ReleasesNothing
 
 abbrev pub row_of_preempt : RegistryValue → Nexus → PrOut → Row
 row_of_preempt r n q =
     if is_preempting_holder r q || is_preempting_all r q then
-        (if names_type q then (if is_preempting_holder r q then PreemptsHolder else PreemptsAll) else PreemptField)
+    (if names_type q then (if is_preempting_holder r q then PreemptsHolder else PreemptsAll) else PreemptField)
     else if nat_eq q.sakey 0 then PreemptsKeyZero
     else if is_key r.registrants q.sakey then PreemptsRegistrants
     else PreemptsNobody

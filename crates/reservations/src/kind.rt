@@ -49,7 +49,8 @@ impl ReservationType {
     {
         matches!(
             self,
-            ReservationType::WriteExclusiveAllRegistrants | ReservationType::ExclusiveAccessAllRegistrants
+            ReservationType::WriteExclusiveAllRegistrants
+                | ReservationType::ExclusiveAccessAllRegistrants
         )
     }
 

@@ -52,7 +52,13 @@ impl Table {
     }
 
     // The only holder and all with its key go, and the sender holds.
-    fn preempt_holder(&mut self, port: &PortName, group: Group, request: PrOut, kind: ReservationType) -> PrEnd
+    fn preempt_holder(
+        &mut self,
+        port: &PortName,
+        group: Group,
+        request: PrOut,
+        kind: ReservationType,
+    ) -> PrEnd
         requires { type_of request.kind ≡ Some kind }
         ensures { Does PreemptsHolder self.old self.new (through port.now group) request result }
     {
@@ -73,7 +79,13 @@ impl Table {
     }
 
     // All others go, and the sender holds.
-    fn preempt_all(&mut self, port: &PortName, group: Group, request: PrOut, kind: ReservationType) -> PrEnd
+    fn preempt_all(
+        &mut self,
+        port: &PortName,
+        group: Group,
+        request: PrOut,
+        kind: ReservationType,
+    ) -> PrEnd
         requires { type_of request.kind ≡ Some kind }
         ensures { Does PreemptsAll self.old self.new (through port.now group) request result }
     {

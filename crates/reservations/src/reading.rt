@@ -10,7 +10,12 @@ use scsi_types::Group;
 use std::alloc::{AllocError, Global};
 
 // PRGENERATION, the length of the bytes, and the bytes: as many as the ALLOCATION LENGTH lets through (SPC-4, 4.2.5.6).
-fn counted(alloc: Global, generation: u32, bytes: &[u8], allocation: u32) -> Result<Vec<u8>, AllocError>
+fn counted(
+    alloc: Global,
+    generation: u32,
+    bytes: &[u8],
+    allocation: u32,
+) -> Result<Vec<u8>, AllocError>
     ensures { IfOk result (λ v. v.items ≡ take allocation (counted_bytes generation bytes.now)) }
 {
     let length = (bytes.len() as u64).to_be_bytes();

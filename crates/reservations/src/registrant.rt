@@ -49,7 +49,10 @@ impl Reservation {
 }
 
 /// Another value of the same registrants.
-pub(crate) fn copy_registrants(alloc: Global, registrants: &[Registrant]) -> Result<Vec<Registrant>, AllocError>
+pub(crate) fn copy_registrants(
+    alloc: Global,
+    registrants: &[Registrant],
+) -> Result<Vec<Registrant>, AllocError>
     ensures { IfOk result (λ v. v.items ≡ registrants.now) }
 {
     let mut copies = Vec::with_capacity(alloc, registrants.len())?;

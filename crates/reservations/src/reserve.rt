@@ -32,7 +32,13 @@ pub fn reservation_by(
 
 impl Table {
     /// Makes a reservation. The scope, the type and the key have been looked at.
-    pub fn reserve(&mut self, port: &PortName, group: Group, request: PrOut, kind: ReservationType) -> PrEnd
+    pub fn reserve(
+        &mut self,
+        port: &PortName,
+        group: Group,
+        request: PrOut,
+        kind: ReservationType,
+    ) -> PrEnd
         requires { type_of request.kind ≡ Some kind }
         ensures { DoesRow row_of_reserve self.old self.new (through port.now group) request result }
     {

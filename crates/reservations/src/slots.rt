@@ -12,7 +12,10 @@ use std::alloc::{AllocError, Global};
 pub fn place_of(registrants: &[Registrant], port: &PortName, group: Group) -> usize
     ensures { result ≡ length (filter (λ x. is_lt (nexus_cmp x.nexus (through port.now group))) registrants.now) }
 {
-    registrants.iter().filter(|x| x.nexus.compare(port, group).is_lt()).count()
+    registrants
+        .iter()
+        .filter(|x| x.nexus.compare(port, group).is_lt())
+        .count()
 }
 
 /// Puts a nexus that isn't registered in its place.
@@ -67,7 +70,12 @@ pub fn retain_without_key(registrants: &mut Vec<Registrant>, key: u64)
 }
 
 /// Drops all who have the key but a nexus.
-pub fn retain_without_others_of_key(registrants: &mut Vec<Registrant>, port: &PortName, group: Group, key: u64)
+pub fn retain_without_others_of_key(
+    registrants: &mut Vec<Registrant>,
+    port: &PortName,
+    group: Group,
+    key: u64,
+)
     ensures { registrants.new.items ≡ without_others_of_key (through port.now group) key registrants.old.items }
 {
     registrants.retain(|x| x.nexus.is(port, group) || x.key != key);

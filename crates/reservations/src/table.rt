@@ -139,7 +139,12 @@ impl Table {
     }
 
     /// Who is told what: every registrant but the sender what the notice has for it.
-    pub fn tell(&self, port: &PortName, group: Group, notice: Notice) -> Result<Vec<Told>, AllocError>
+    pub fn tell(
+        &self,
+        port: &PortName,
+        group: Group,
+        notice: Notice,
+    ) -> Result<Vec<Told>, AllocError>
         ensures { IfOk result (λ told. told.items ≡ told_of (through port.now group) notice self.now.registrants.items) }
     {
         let mut told = Vec::new(self.alloc);
@@ -169,7 +174,13 @@ impl Table {
 }
 
 // What one registrant is told.
-fn telling(x: &Registrant, alloc: Global, port: &PortName, group: Group, notice: Notice) -> Result<Option<Told>, AllocError>
+fn telling(
+    x: &Registrant,
+    alloc: Global,
+    port: &PortName,
+    group: Group,
+    notice: Notice,
+) -> Result<Option<Told>, AllocError>
     ensures { IfOk result (λ told. told ≡ telling_of (through port.now group) notice x.now) }
 {
     if x.nexus.is(port, group) {

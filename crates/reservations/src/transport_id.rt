@@ -61,5 +61,9 @@ fn digit(value: u8) -> u8
     requires { value < 16 }
     ensures { result ≡ digit value }
 {
-    if value < 10 { 0x30 + value } else { 0x57 + value }
+    if value < 10 {
+        0x30 + value
+    } else {
+        0x57 + value
+    }
 }

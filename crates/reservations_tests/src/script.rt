@@ -126,8 +126,8 @@ pub fn ends_so(end: &PrEnd, want: Want) -> bool {
     }
 }
 
-// The told are these, in this order.
-fn tells(alloc: Global, end: &PrEnd, want: &[(Who, UnitAttention)]) -> Result<bool, NoMemory> {
+/// Whether a call that is GOOD tells these, in this order.
+pub fn tells(alloc: Global, end: &PrEnd, want: &[(Who, UnitAttention)]) -> Result<bool, NoMemory> {
     match end {
         PrEnd::Good(told) => are(alloc, told, want),
         _ => Ok(want.is_empty()),
@@ -144,8 +144,8 @@ fn are(alloc: Global, told: &[Told], want: &[(Who, UnitAttention)]) -> Result<bo
     Ok(told.len() == want.len())
 }
 
-// The data of READ KEYS.
-fn keys_data(alloc: Global, generation: u32, keys: &[u64]) -> Result<Vec<u8>, NoMemory> {
+/// The data of READ KEYS.
+pub fn keys_data(alloc: Global, generation: u32, keys: &[u64]) -> Result<Vec<u8>, NoMemory> {
     let mut data = Vec::from_slice(alloc, &generation.to_be_bytes())?;
     data.extend_from_slice(&(8 * keys.len() as u64 % 65536).to_be_bytes()[4..])?;
     for key in keys {
@@ -154,8 +154,8 @@ fn keys_data(alloc: Global, generation: u32, keys: &[u64]) -> Result<Vec<u8>, No
     Ok(data)
 }
 
-// The data of READ RESERVATION.
-fn held_data(alloc: Global, generation: u32, held: (u64, u8)) -> Result<Vec<u8>, NoMemory> {
+/// The data of READ RESERVATION.
+pub fn held_data(alloc: Global, generation: u32, held: (u64, u8)) -> Result<Vec<u8>, NoMemory> {
     let mut data = Vec::from_slice(alloc, &generation.to_be_bytes())?;
     if held.1 == 0 {
         data.extend_from_slice(&[0, 0, 0, 0])?;
