@@ -1,5 +1,5 @@
 -- What the rows have in common.
-use Rattle.std.proofs.Common.{◌≡◌, ◌⊎◌, ⊎_elim, ℕ, ◌+◌, ◌%◌, ◌^◌, Bool, true, false, not, ◌&&◌, ◌||◌, nat_eq, eq-eqb, if◌then◌else◌, List, [], ◌∷◌, filter, refl, sym, ◌∙◌, ap, Option, Some, None, IsTrue, IsFalse}
+use Rattle.std.proofs.Common.{◌≡◌, ⊎_elim, ℕ, ◌+◌, ◌%◌, ◌^◌, Bool, true, false, not, ◌&&◌, ◌||◌, nat_eq, eq-eqb, if◌then◌else◌, List, [], ◌∷◌, filter, refl, sym, ◌∙◌, ap, Option, Some, None, IsFalse}
 use Rattle.std.proofs.lemmas.Bool.{cases_Bool}
 use Rattle.std.specs.List.{cons_option, find}
 use Rattle.std.specs.Option.{option_map}
@@ -15,12 +15,10 @@ use Rattle.reservations.specs.declared.request.PrOut.{PrOut}
 use Rattle.reservations.specs.declared.request.Told.{Told}
 use Rattle.reservations.specs.Nexus.{same_nexus}
 use Rattle.reservations.specs.Notice.{code_for, code_told, telling, told_of}
-use Rattle.reservations.specs.Registry.{RegistryValue, is_of_code, key_of, without_key, without_others_of_key}
-use Rattle.reservations.specs.Rows.{Row, ReserveField, ParameterField, KeyConflict, RegistersNothing, RegistersNobodyMore, Registers, ChangesKey, HolderUnregisters, OtherUnregisters, Reserves, ReservesAgain, ReservesBesideAnother, ReleasesNothing, ReleasesAnotherType, Releases, Clears, PreemptField, PreemptsHolder, PreemptsAll, PreemptsKeyZero, PreemptsNobody, PreemptsRegistrants, Effect, Done, Fits, IsPreempting, effect, is_counted, is_registering, is_preempting_holder, is_preempting_all}
-use Rattle.reservations.specs.Table.{effect_of, row_of}
+use Rattle.reservations.specs.Registry.{RegistryValue, is_of_code, key_of}
+use Rattle.reservations.specs.Rows.{PrRow, ReserveField, ParameterField, KeyConflict, RegistersNothing, RegistersNobodyMore, Registers, ChangesKey, HolderUnregisters, OtherUnregisters, Reserves, ReservesAgain, ReservesBesideAnother, ReleasesNothing, ReleasesAnotherType, Releases, Clears, PreemptField, PreemptsHolder, PreemptsAll, PreemptsKeyZero, PreemptsNobody, PreemptsRegistrants, Done, Fits, IsPreempting, effect, is_counted, is_registering}
 use Rattle.reservations.proofs.Held.{found_passes, is_it}
 use Rattle.reservations.proofs.Order.{same_nexus_alike}
-use Rattle.reservations.proofs.Rows.{row_fits}
 
 -- ---- the sender
 
@@ -38,7 +36,7 @@ sender_untold n notice (x ∷ xs) =
 same_told : (n : Nexus) (a b : RegistryValue) (s t : List Told) → Done a s ≡ Done b t → code_told s n ≡ None → code_told t n ≡ None
 same_told n a b s t is none = let same : s ≡ t = cc in ap (λ (ts : List Told). code_told ts n) (sym same) ∙ none
 
-pub row_untold : (row : Row) (r : RegistryValue) (n : Nexus) (q : PrOut) (new : RegistryValue) (told : List Told) → effect row r n q ≡ Done new told → code_told told n ≡ None
+pub row_untold : (row : PrRow) (r : RegistryValue) (n : Nexus) (q : PrOut) (new : RegistryValue) (told : List Told) → effect row r n q ≡ Done new told → code_told told n ≡ None
 row_untold ReserveField r n q new told is = absurd (cc)
 row_untold ParameterField r n q new told is = absurd (cc)
 row_untold KeyConflict r n q new told is = absurd (cc)
@@ -92,7 +90,7 @@ counted_one action g a b s t is counts one = let same : a ≡ b = cc in rw count
 counted_none : (action : PrOutAction) (g : ℕ) (a b : RegistryValue) (s t : List Told) → Done a s ≡ Done b t → is_counted action ≡ false → a.generation ≡ g → b.generation ≡ next_generation action g
 counted_none action g a b s t is stays none = let same : a ≡ b = cc in rw stays (ap (λ (v : RegistryValue). v.generation) (sym same) ∙ none)
 
-pub row_counts : (row : Row) (r : RegistryValue) (n : Nexus) (q : PrOut) (new : RegistryValue) (told : List Told) → Fits row r n q → effect row r n q ≡ Done new told → new.generation ≡ (if is_counted q.action then (r.generation + 1) % 2 ^ 32 else r.generation)
+pub row_counts : (row : PrRow) (r : RegistryValue) (n : Nexus) (q : PrOut) (new : RegistryValue) (told : List Told) → Fits row r n q → effect row r n q ≡ Done new told → new.generation ≡ (if is_counted q.action then (r.generation + 1) % 2 ^ 32 else r.generation)
 row_counts ReserveField r n q new told f is = absurd (cc)
 row_counts ParameterField r n q new told f is = absurd (cc)
 row_counts KeyConflict r n q new told f is = absurd (cc)
@@ -166,7 +164,7 @@ zero_asked : (a b : Bool) → a && b ≡ true → b ≡ true
 zero_asked true b h = h
 zero_asked false b h = absurd (cc)
 
-pub key_gone : (row : Row) (r : RegistryValue) (n : Nexus) (q : PrOut) (new : RegistryValue) (told : List Told) (m : Nexus) → Fits row r n q → IsPreempting q.action → IsFalse (nat_eq q.sakey 0) → effect row r n q ≡ Done new told → key_of new.registrants m ≡ Some q.sakey → same_nexus m n ≡ true
+pub key_gone : (row : PrRow) (r : RegistryValue) (n : Nexus) (q : PrOut) (new : RegistryValue) (told : List Told) (m : Nexus) → Fits row r n q → IsPreempting q.action → IsFalse (nat_eq q.sakey 0) → effect row r n q ≡ Done new told → key_of new.registrants m ≡ Some q.sakey → same_nexus m n ≡ true
 key_gone ReserveField r n q new told m f p z is k = absurd (cc)
 key_gone ParameterField r n q new told m f p z is k = absurd (cc)
 key_gone KeyConflict r n q new told m f p z is k = absurd (cc)

@@ -7,16 +7,16 @@ use Rattle.scsi_types.specs.declared.reservation.PrOutAction.TheVariants.{Regist
 use Rattle.reservations.specs.declared.table.TheConstants.{MOST_REGISTRANTS}
 use Rattle.reservations.specs.declared.request.PrOut.{PrOut}
 use Rattle.reservations.specs.Registry.{RegistryValue, key_of, is_registered, is_key, is_held_by, is_sole_holder, is_of_code}
-use Rattle.reservations.specs.Rows.{Row, ReserveField, ParameterField, KeyConflict, RegistersNothing, RegistersNobodyMore, Registers, ChangesKey, HolderUnregisters, OtherUnregisters, Reserves, ReservesAgain, ReservesBesideAnother, ReleasesNothing, ReleasesAnotherType, Releases, Clears, PreemptField, PreemptsHolder, PreemptsAll, PreemptsKeyZero, PreemptsNobody, PreemptsRegistrants, Fits, Passes, IsPreempting, names_type, is_registering, is_bad_reserve, is_bad_parameter, shows_key, is_preempting_holder, is_preempting_all}
+use Rattle.reservations.specs.Rows.{PrRow, ReserveField, ParameterField, KeyConflict, RegistersNothing, RegistersNobodyMore, Registers, ChangesKey, HolderUnregisters, OtherUnregisters, Reserves, ReservesAgain, ReservesBesideAnother, ReleasesNothing, ReleasesAnotherType, Releases, Clears, PreemptField, PreemptsHolder, PreemptsAll, PreemptsKeyZero, PreemptsNobody, PreemptsRegistrants, Fits, Passes, IsPreempting, names_type, is_registering, is_bad_reserve, is_bad_parameter, shows_key, is_preempting_holder, is_preempting_all}
 use Rattle.reservations.specs.Table.{row_of, row_of_action, row_of_register, row_of_preempt}
 
 -- ---- a row that fits is the one
 
 -- what passes the checks of every action goes by its action
-by_action : (r : RegistryValue) (n : Nexus) (q : PrOut) (row : Row) → Passes r n q → row ≡ row_of_action q.action r n q → row ≡ row_of r n q
+by_action : (r : RegistryValue) (n : Nexus) (q : PrOut) (row : PrRow) → Passes r n q → row ≡ row_of_action q.action r n q → row ≡ row_of r n q
 by_action r n q row p is = rw (p.reserve, p.parameter, p.key) is
 
-registering : (action : PrOutAction) (r : RegistryValue) (n : Nexus) (q : PrOut) (row : Row) → IsTrue (is_registering action) → row ≡ row_of_register r n q → row ≡ row_of_action action r n q
+registering : (action : PrOutAction) (r : RegistryValue) (n : Nexus) (q : PrOut) (row : PrRow) → IsTrue (is_registering action) → row ≡ row_of_register r n q → row ≡ row_of_action action r n q
 registering Register r n q row h is = is
 registering RegisterAndIgnoreExistingKey r n q row h is = is
 registering Reserve r n q row h is = absurd (cc)
@@ -25,7 +25,7 @@ registering Clear r n q row h is = absurd (cc)
 registering Preempt r n q row h is = absurd (cc)
 registering PreemptAndAbort r n q row h is = absurd (cc)
 
-preempting : (action : PrOutAction) (r : RegistryValue) (n : Nexus) (q : PrOut) (row : Row) → IsPreempting action → row ≡ row_of_preempt r n q → row ≡ row_of_action action r n q
+preempting : (action : PrOutAction) (r : RegistryValue) (n : Nexus) (q : PrOut) (row : PrRow) → IsPreempting action → row ≡ row_of_preempt r n q → row ≡ row_of_action action r n q
 preempting Preempt r n q row h is = is
 preempting PreemptAndAbort r n q row h is = is
 preempting Register r n q row h is = absurd h
@@ -41,7 +41,7 @@ other : (a b : Bool) → b ≡ true → a || b ≡ true
 other true b h = refl
 other false b h = h
 
-pub only_row : (row : Row) (r : RegistryValue) (n : Nexus) (q : PrOut) → Fits row r n q → row ≡ row_of r n q
+pub only_row : (row : PrRow) (r : RegistryValue) (n : Nexus) (q : PrOut) → Fits row r n q → row ≡ row_of r n q
 only_row ReserveField r n q f = rw f refl
 only_row ParameterField r n q f = rw (f.0, f.1) refl
 only_row KeyConflict r n q f = rw (f.0, f.1, f.2) refl
@@ -73,7 +73,7 @@ split : {C : Type 0} (b : Bool) → (b ≡ true → C) → (b ≡ false → C) �
 split b f g = ⊎_elim f g (cases_Bool b)
 
 abbrev SomeRow : RegistryValue → Nexus → PrOut → Type 0
-SomeRow r n q = (row : Row) × Fits row r n q
+SomeRow r n q = (row : PrRow) × Fits row r n q
 
 row_registering : (r : RegistryValue) (n : Nexus) (q : PrOut) → Passes r n q → IsTrue (is_registering q.action) → SomeRow r n q
 row_registering r n q p a =

@@ -12,7 +12,7 @@ use Rattle.reservations.specs.declared.request.Told.{Told}
 use Rattle.reservations.specs.Kind.{type_of}
 use Rattle.reservations.specs.Nexus.{same_nexus}
 use Rattle.reservations.specs.Registry.{RegistryValue, IsSound, key_of, is_key_of, is_own, is_holders_key, is_named, is_sole_holder, is_any, joined_by, left_to, others, with_key_of, without_key, without_others_of_key, only}
-use Rattle.reservations.specs.Rows.{Row, ReserveField, ParameterField, KeyConflict, RegistersNothing, RegistersNobodyMore, Registers, ChangesKey, HolderUnregisters, OtherUnregisters, Reserves, ReservesAgain, ReservesBesideAnother, ReleasesNothing, ReleasesAnotherType, Releases, Clears, PreemptField, PreemptsHolder, PreemptsAll, PreemptsKeyZero, PreemptsNobody, PreemptsRegistrants, Done, Fits, IsPreempting, effect, shows_key, is_preempting_holder, is_preempting_all}
+use Rattle.reservations.specs.Rows.{PrRow, ReserveField, ParameterField, KeyConflict, RegistersNothing, RegistersNobodyMore, Registers, ChangesKey, HolderUnregisters, OtherUnregisters, Reserves, ReservesAgain, ReservesBesideAnother, ReleasesNothing, ReleasesAnotherType, Releases, Clears, PreemptField, PreemptsHolder, PreemptsAll, PreemptsKeyZero, PreemptsNobody, PreemptsRegistrants, Done, Fits, IsPreempting, effect, shows_key, is_preempting_holder, is_preempting_all}
 use Rattle.reservations.specs.Table.{IsAnswer, effect_of, row_of}
 use Rattle.reservations.proofs.Held.{hold_kept, left_held, made_held, registered_joined, registered_only, registered_others, registered_preempting, registered_rekeyed, registered_without_key}
 use Rattle.reservations.proofs.Listed.{IsListed, listed_filter, listed_joined, listed_of, listed_rekeyed, sound_of}
@@ -80,7 +80,7 @@ done_with a b s t is sound = let same : a ≡ b = cc in subst Sound same sound
 nothing_listed : IsListed []
 nothing_listed = record { ascending = tt; few = omega arith; keys = tt }
 
-pub row_sound : (row : Row) (r : RegistryValue) (n : Nexus) (q : PrOut) (new : RegistryValue) (told : List Told) → Fits row r n q → effect row r n q ≡ Done new told → Sound r → Sound new
+pub row_sound : (row : PrRow) (r : RegistryValue) (n : Nexus) (q : PrOut) (new : RegistryValue) (told : List Told) → Fits row r n q → effect row r n q ≡ Done new told → Sound r → Sound new
 row_sound ReserveField r n q new told f is s = absurd (cc)
 row_sound ParameterField r n q new told f is s = absurd (cc)
 row_sound KeyConflict r n q new told f is s = absurd (cc)

@@ -22,7 +22,8 @@ pub record RegistryValue : Type 0 where
 
 -- the key with which a nexus is registered
 abbrev pub key_of : List Registrant → Nexus → Option ℕ
-key_of registrants nexus = option_map (λ (x : Registrant). x.key) (find (λ (x : Registrant). same_nexus x.nexus nexus) registrants)
+key_of registrants nexus =
+    option_map (λ (x : Registrant). x.key) (find (λ (x : Registrant). same_nexus x.nexus nexus) registrants)
 
 abbrev pub is_registered : List Registrant → Nexus → Bool
 is_registered registrants nexus = is_some (key_of registrants nexus)

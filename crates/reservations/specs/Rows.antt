@@ -9,6 +9,7 @@ use Rattle.scsi_types.specs.declared.attention.UnitAttention.TheVariants.{Reserv
 use Rattle.reservations.specs.declared.table.TheConstants.{MOST_REGISTRANTS}
 use Rattle.reservations.specs.declared.notice.Notice.{Notice}
 use Rattle.reservations.specs.declared.notice.Notice.TheVariants.{Nothing, ToAll, OfPreempted}
+use Rattle.reservations.specs.declared.registrant.Registrant.{Registrant}
 use Rattle.reservations.specs.declared.registrant.Reservation.{Reservation}
 use Rattle.reservations.specs.declared.request.PrOut.{PrOut}
 use Rattle.reservations.specs.declared.request.Told.{Told}
@@ -91,89 +92,130 @@ is_preempting_holder r q = is_holders_key r.reservation r.registrants q.sakey
 abbrev pub is_preempting_all : RegistryValue → PrOut → Bool
 is_preempting_all r q = is_held_by_all r.reservation && nat_eq q.sakey 0
 
+abbrev pub is_preempting_reservation : RegistryValue → PrOut → Bool
+is_preempting_reservation r q = is_preempting_holder r q || is_preempting_all r q
+
+-- the nexus is registered, holds the reservation, or holds one of the request's type
+abbrev pub is_in : RegistryValue → Nexus → Bool
+is_in r n = is_registered r.registrants n
+
+abbrev pub holds : RegistryValue → Nexus → Bool
+holds r n = is_held_by r.reservation r.registrants n
+
+abbrev pub holds_its_type : RegistryValue → Nexus → PrOut → Bool
+holds_its_type r n q = is_held_by r.reservation r.registrants n && is_of_code r.reservation q.kind
+
+-- SCOPE and TYPE are those of the reservation that there is
+abbrev pub names_it : RegistryValue → PrOut → Bool
+names_it r q = nat_eq q.scope 0 && is_of_code r.reservation q.kind
+
+-- one more can register
+abbrev pub has_room : RegistryValue → Bool
+has_room r = nat_lt (length r.registrants) MOST_REGISTRANTS
+
 -- ---- the rows
 
-pub data Row : Type 0 where
+pub data PrRow : Type 0 where
   -- refusals of every action
-  ReserveField : Row
-  ParameterField : Row
-  KeyConflict : Row
+  ReserveField : PrRow
+  ParameterField : PrRow
+  KeyConflict : PrRow
   -- REGISTER, REGISTER AND IGNORE EXISTING KEY
-  RegistersNothing : Row
-  RegistersNobodyMore : Row
-  Registers : Row
-  ChangesKey : Row
-  HolderUnregisters : Row
-  OtherUnregisters : Row
+  RegistersNothing : PrRow
+  RegistersNobodyMore : PrRow
+  Registers : PrRow
+  ChangesKey : PrRow
+  HolderUnregisters : PrRow
+  OtherUnregisters : PrRow
   -- RESERVE
-  Reserves : Row
-  ReservesAgain : Row
-  ReservesBesideAnother : Row
+  Reserves : PrRow
+  ReservesAgain : PrRow
+  ReservesBesideAnother : PrRow
   -- RELEASE
-  ReleasesNothing : Row
-  ReleasesAnotherType : Row
-  Releases : Row
+  ReleasesNothing : PrRow
+  ReleasesAnotherType : PrRow
+  Releases : PrRow
   -- CLEAR
-  Clears : Row
+  Clears : PrRow
   -- PREEMPT, PREEMPT AND ABORT
-  PreemptField : Row
-  PreemptsHolder : Row
-  PreemptsAll : Row
-  PreemptsKeyZero : Row
-  PreemptsNobody : Row
-  PreemptsRegistrants : Row
+  PreemptField : PrRow
+  PreemptsHolder : PrRow
+  PreemptsAll : PrRow
+  PreemptsKeyZero : PrRow
+  PreemptsNobody : PrRow
+  PreemptsRegistrants : PrRow
 
 -- the condition of each row
-abbrev pub Fits : Row → RegistryValue → Nexus → PrOut → Type 0
+abbrev pub Fits : PrRow → RegistryValue → Nexus → PrOut → Type 0
 Fits ReserveField r n q = IsTrue (is_bad_reserve q.action q)
 Fits ParameterField r n q = IsFalse (is_bad_reserve q.action q) × IsTrue (is_bad_parameter q)
 Fits KeyConflict r n q =
-    IsFalse (is_bad_reserve q.action q) × IsFalse (is_bad_parameter q) × IsFalse (shows_key q.action (key_of r.registrants n) q.key)
+    IsFalse (is_bad_reserve q.action q) × IsFalse (is_bad_parameter q)
+    × IsFalse (shows_key q.action (key_of r.registrants n) q.key)
+-- an unregistered nexus registers the key 0
 Fits RegistersNothing r n q =
-    Passes r n q × IsTrue (is_registering q.action) × IsFalse (is_registered r.registrants n) × IsTrue (nat_eq q.sakey 0)
+    Passes r n q × IsTrue (is_registering q.action) × IsFalse (is_in r n) × IsTrue (nat_eq q.sakey 0)
+-- the table of registrants is full
 Fits RegistersNobodyMore r n q =
-    Passes r n q × IsTrue (is_registering q.action) × IsFalse (is_registered r.registrants n) × IsFalse (nat_eq q.sakey 0)
-    × IsFalse (nat_lt (length r.registrants) MOST_REGISTRANTS)
+    Passes r n q × IsTrue (is_registering q.action) × IsFalse (is_in r n) × IsFalse (nat_eq q.sakey 0)
+    × IsFalse (has_room r)
+-- an unregistered nexus registers a key
 Fits Registers r n q =
-    Passes r n q × IsTrue (is_registering q.action) × IsFalse (is_registered r.registrants n) × IsFalse (nat_eq q.sakey 0)
-    × IsTrue (nat_lt (length r.registrants) MOST_REGISTRANTS)
+    Passes r n q × IsTrue (is_registering q.action) × IsFalse (is_in r n) × IsFalse (nat_eq q.sakey 0)
+    × IsTrue (has_room r)
+-- a registered nexus registers another key, or the same
 Fits ChangesKey r n q =
-    Passes r n q × IsTrue (is_registering q.action) × IsTrue (is_registered r.registrants n) × IsFalse (nat_eq q.sakey 0)
+    Passes r n q × IsTrue (is_registering q.action) × IsTrue (is_in r n) × IsFalse (nat_eq q.sakey 0)
+-- the only holder registers the key 0, and is registered no more
 Fits HolderUnregisters r n q =
-    Passes r n q × IsTrue (is_registering q.action) × IsTrue (is_registered r.registrants n) × IsTrue (nat_eq q.sakey 0)
+    Passes r n q × IsTrue (is_registering q.action) × IsTrue (is_in r n) × IsTrue (nat_eq q.sakey 0)
     × IsTrue (is_sole_holder r.reservation n)
+-- another registered nexus does, or one of all registrants that hold
 Fits OtherUnregisters r n q =
-    Passes r n q × IsTrue (is_registering q.action) × IsTrue (is_registered r.registrants n) × IsTrue (nat_eq q.sakey 0)
+    Passes r n q × IsTrue (is_registering q.action) × IsTrue (is_in r n) × IsTrue (nat_eq q.sakey 0)
     × IsFalse (is_sole_holder r.reservation n)
+-- nobody holds
 Fits Reserves r n q = Passes r n q × (q.action ≡ Reserve) × IsFalse (is_some r.reservation)
+-- a holder reserves with the same type
 Fits ReservesAgain r n q =
     Passes r n q × (q.action ≡ Reserve) × IsTrue (is_some r.reservation)
-    × IsTrue (is_held_by r.reservation r.registrants n && is_of_code r.reservation q.kind)
+    × IsTrue (holds_its_type r n q)
+-- another holds, or the type is another
 Fits ReservesBesideAnother r n q =
     Passes r n q × (q.action ≡ Reserve) × IsTrue (is_some r.reservation)
-    × IsFalse (is_held_by r.reservation r.registrants n && is_of_code r.reservation q.kind)
-Fits ReleasesNothing r n q = Passes r n q × (q.action ≡ Release) × IsFalse (is_held_by r.reservation r.registrants n)
+    × IsFalse (holds_its_type r n q)
+-- there is no reservation, or another holds it
+Fits ReleasesNothing r n q = Passes r n q × (q.action ≡ Release) × IsFalse (holds r n)
+-- a holder names another scope or type
 Fits ReleasesAnotherType r n q =
-    Passes r n q × (q.action ≡ Release) × IsTrue (is_held_by r.reservation r.registrants n)
-    × IsFalse (nat_eq q.scope 0 && is_of_code r.reservation q.kind)
+    Passes r n q × (q.action ≡ Release) × IsTrue (holds r n)
+    × IsFalse (names_it r q)
+-- a holder names the reservation's type
 Fits Releases r n q =
-    Passes r n q × (q.action ≡ Release) × IsTrue (is_held_by r.reservation r.registrants n)
-    × IsTrue (nat_eq q.scope 0 && is_of_code r.reservation q.kind)
+    Passes r n q × (q.action ≡ Release) × IsTrue (holds r n)
+    × IsTrue (names_it r q)
+-- a registered nexus clears
 Fits Clears r n q = Passes r n q × (q.action ≡ Clear)
+-- the reservation is preempted with a scope or type that it may not have
 Fits PreemptField r n q =
-    Passes r n q × IsPreempting q.action × IsTrue (is_preempting_holder r q || is_preempting_all r q) × IsFalse (names_type q)
+    Passes r n q × IsPreempting q.action × IsTrue (is_preempting_reservation r q) × IsFalse (names_type q)
+-- the key is that of the only holder
 Fits PreemptsHolder r n q = Passes r n q × IsPreempting q.action × IsTrue (is_preempting_holder r q) × IsTrue (names_type q)
+-- the key is 0, and all registrants hold
 Fits PreemptsAll r n q =
     Passes r n q × IsPreempting q.action × IsFalse (is_preempting_holder r q) × IsTrue (is_preempting_all r q)
     × IsTrue (names_type q)
+-- the key is 0 otherwise
 Fits PreemptsKeyZero r n q =
-    Passes r n q × IsPreempting q.action × IsFalse (is_preempting_holder r q || is_preempting_all r q)
+    Passes r n q × IsPreempting q.action × IsFalse (is_preempting_reservation r q)
     × IsTrue (nat_eq q.sakey 0)
+-- nobody is registered with the key
 Fits PreemptsNobody r n q =
-    Passes r n q × IsPreempting q.action × IsFalse (is_preempting_holder r q || is_preempting_all r q)
+    Passes r n q × IsPreempting q.action × IsFalse (is_preempting_reservation r q)
     × IsFalse (nat_eq q.sakey 0) × IsFalse (is_key r.registrants q.sakey)
+-- somebody is, and is not the only holder
 Fits PreemptsRegistrants r n q =
-    Passes r n q × IsPreempting q.action × IsFalse (is_preempting_holder r q || is_preempting_all r q)
+    Passes r n q × IsPreempting q.action × IsFalse (is_preempting_reservation r q)
     × IsFalse (nat_eq q.sakey 0) × IsTrue (is_key r.registrants q.sakey)
 
 -- ---- the effects
@@ -194,7 +236,11 @@ abbrev pub of_end : Option Reservation → Notice
 of_end None = Nothing
 of_end (Some held) = if is_of_registrants held.kind then ToAll ReservationsReleased else Nothing
 
-abbrev pub effect : Row → RegistryValue → Nexus → PrOut → Effect
+-- the registry in which just these registrants are left
+abbrev pub left_with : List Registrant → RegistryValue → RegistryValue
+left_with xs r = record r { registrants = xs; reservation = left_to xs r.reservation }
+
+abbrev pub effect : PrRow → RegistryValue → Nexus → PrOut → Effect
 effect ReserveField r n q = Refused 0x24 0x00
 effect ParameterField r n q = Refused 0x26 0x00
 effect KeyConflict r n q = Conflicting
@@ -208,7 +254,7 @@ effect HolderUnregisters r n q =
     Done (counted (record r { registrants = others n r.registrants; reservation = None; aptpl = q.aptpl }))
     (told_of n (of_end r.reservation) r.registrants)
 effect OtherUnregisters r n q =
-    Done (counted (record r { registrants = others n r.registrants; reservation = left_to (others n r.registrants) r.reservation; aptpl = q.aptpl })) []
+    Done (counted (record (left_with (others n r.registrants) r) { aptpl = q.aptpl })) []
 effect Reserves r n q = Done (record r { reservation = asked_for n q }) []
 effect ReservesAgain r n q = Done r []
 effect ReservesBesideAnother r n q = Conflicting
@@ -216,7 +262,8 @@ effect ReleasesNothing r n q = Done r []
 effect ReleasesAnotherType r n q = Refused 0x26 0x04
 effect Releases r n q = Done (record r { reservation = None }) (told_of n (of_end r.reservation) r.registrants)
 effect Clears r n q =
-    Done (counted (record r { registrants = []; reservation = None })) (told_of n (ToAll ReservationsPreempted) r.registrants)
+    Done (counted (record r { registrants = []; reservation = None }))
+    (told_of n (ToAll ReservationsPreempted) r.registrants)
 effect PreemptField r n q = Refused 0x24 0x00
 effect PreemptsHolder r n q =
     Done (counted (record r { registrants = without_others_of_key n q.sakey r.registrants; reservation = asked_for n q }))
@@ -227,5 +274,5 @@ effect PreemptsAll r n q =
 effect PreemptsKeyZero r n q = Refused 0x26 0x00
 effect PreemptsNobody r n q = Conflicting
 effect PreemptsRegistrants r n q =
-    Done (counted (record r { registrants = without_key q.sakey r.registrants; reservation = left_to (without_key q.sakey r.registrants) r.reservation }))
+    Done (counted (left_with (without_key q.sakey r.registrants) r))
     (told_of n (OfPreempted q.sakey false) r.registrants)

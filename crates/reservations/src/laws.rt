@@ -6,13 +6,13 @@ ghost use Rattle.reservations.specs.declared.request.Told.{Told};
 ghost use Rattle.reservations.specs.Nexus.{same_nexus};
 ghost use Rattle.reservations.specs.Notice.{code_told};
 ghost use Rattle.reservations.specs.Registry.{IsSound, RegistryValue, key_of};
-ghost use Rattle.reservations.specs.Rows.{Done, Fits, IsPreempting, Row, is_counted};
+ghost use Rattle.reservations.specs.Rows.{Done, Fits, IsPreempting, PrRow, is_counted};
 ghost use Rattle.reservations.specs.Table.{effect_of, row_of};
 
 /// Just one row of the table fits each request.
 pub fn one_row_fits()
     ensures fits { (r : RegistryValue) (n : Nexus) (q : PrOut) → Fits (row_of r n q) r n q }
-    ensures only { (row : Row) (r : RegistryValue) (n : Nexus) (q : PrOut) → Fits row r n q → row ≡ row_of r n q }
+    ensures only { (row : PrRow) (r : RegistryValue) (n : Nexus) (q : PrOut) → Fits row r n q → row ≡ row_of r n q }
 {}
 
 /// A registry stays sound: its registrants in order, at most 64 and with keys, its reservation held by a registrant.
