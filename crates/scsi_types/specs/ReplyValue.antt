@@ -16,6 +16,9 @@ good bytes = record { status = Good; sense = None; bytes = bytes }
 abbrev pub check : Sense → ReplyValue
 check s = record { status = CheckCondition; sense = Some s; bytes = [] }
 
+abbrev pub conflict : ReplyValue
+conflict = record { status = ReservationConflict; sense = None; bytes = [] }
+
 -- the form of a unit's reply: GOOD, CHECK CONDITION or RESERVATION CONFLICT; sense with CHECK CONDITION alone, data
 -- with GOOD alone
 abbrev pub is_formed : Status → Option Sense → List ℕ → Bool

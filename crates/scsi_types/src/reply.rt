@@ -48,6 +48,17 @@ impl Reply {
         }
     }
 
+    /// RESERVATION CONFLICT.
+    pub fn conflict(alloc: Global) -> Self
+        ensures { result ≡ ReplyValue.conflict }
+    {
+        Reply {
+            status: Status::ReservationConflict,
+            sense: None,
+            bytes: Vec::new(alloc),
+        }
+    }
+
     /// The status.
     pub fn status(&self) -> Status
         ensures status { result ≡ self.now.status }

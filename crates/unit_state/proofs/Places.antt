@@ -3,12 +3,15 @@ use Rattle.std.proofs.Common.{◌≡◌, ◌≢◌, ⊎_elim, ℕ, zero, suc, �
 use Rattle.std.specs.Option.{option_map}
 use Rattle.std.proofs.lemmas.Bool.Decides.{eqb_tells}
 use Rattle.std.proofs.lemmas.Grind.{common_steps}
-use Rattle.std.proofs.lemmas.List.{take_more, set-set}
+use Rattle.std.proofs.lemmas.List.{take_more, set-set, take-set, take-map, get_or-map, length-map}
+use Rattle.std.proofs.lemmas.Option.{get_or_from_slice_get, slice_get-get_or}
 use Rattle.std.proofs.lemmas.List.Elements.{All-filter, All-map, All-push}
 use Rattle.std.proofs.lemmas.List.Filters.{length-filter_both}
 use Rattle.scsi_types.specs.Nexus.{Nexus}
 use Rattle.unit_state.specs.declared.sessions.Attached.{Attached}
-use Rattle.unit_state.specs.Sessions.{attached, is_of, session_of, changed, pass_one, tell_one, ended, heard_reset, all_reset, without}
+use Rattle.unit_state.specs.Sessions.{attached, is_of, nexus_in, nexus_of, sender_of, session_of, changed, pass_one, tell_one, ended, heard_reset, all_reset, without}
+use Rattle.reservations.specs.declared.request.Told.{Told}
+use Rattle.unit_state.specs.Reserve.{all_heard, hear}
 use Rattle.unit_state.specs.Places.{IsChangedAt, IsPlaceOf}
 
 absent_append : (xs ys : List Attached) (id : ℕ) → session_of xs id ≡ None → session_of ys id ≡ None → session_of (xs ++ ys) id ≡ None
@@ -38,12 +41,12 @@ is_place [] id k a is lt same none = absurd (omega arith)
 is_place (x ∷ xs) id zero a is lt same none =
     let here : x.id ≡ id = ap (λ (a : Attached). a.id) (sym is) ∙ same in
     let test : nat_eq x.id id ≡ true = eq-eqb x.id id here in
-    record { below = lt; there = refl; found = rw test refl; changes = λ f. rw test refl }
+    record { below = lt; there = refl; first = none; found = rw test refl; changes = λ f. rw test refl }
 is_place (x ∷ xs) id (suc k) a is lt same none =
     ⊎_elim (λ (t : (nat_eq x.id id ≡ true) × (x.id ≡ id)). absurd (let b = rw t.0 at none in cc))
     (λ (f : (nat_eq x.id id ≡ false) × (x.id ≢ id)).
     let rest = is_place xs id k a is (omega arith) same (rw f.0 at none) in
-    record { below = lt; there = rest.there; found = rw f.0 rest.found; changes = λ g. rw f.0 (behind g x xs id k (slice_get xs k) (rest.changes g)) })
+    record { below = lt; there = rest.there; first = none; found = rw f.0 rest.found; changes = λ g. rw f.0 (behind g x xs id k (slice_get xs k) (rest.changes g)) })
     (eqb_tells x.id id)
 
 joined : (f : Attached → Attached) (xs ys zs : List Attached) (k : ℕ) (o : Option Attached) → IsSome o → IfSome o (λ a. ys ≡ set xs k (f a)) → IfSome o (λ a. zs ≡ set xs k (f a)) → zs ≡ ys
@@ -62,6 +65,12 @@ session_changed f keeps (x ∷ xs) id =
     (λ (n : (nat_eq x.id id ≡ false) × (x.id ≢ id)). rw n.0 (rw n.0 (session_changed f keeps xs id)))
     (eqb_tells x.id id)
 
+-- the nexus of a session at its place
+pub sender_at : (sessions : List Attached) (id k : ℕ) (a : Attached) → IsPlaceOf sessions id k → a ≡ get_or sessions k a → sender_of sessions id ≡ nexus_of a
+sender_at sessions id k a place is =
+    let got : slice_get sessions k ≡ Some (get_or sessions k a) = slice_get-get_or sessions k a place.below in
+    ap nexus_in (place.found ∙ got ∙ ap (λ (x : Attached). let o : Option Attached = Some x in o) (sym is))
+
 -- two changes of one session
 changed_twice : (f g : Attached → Attached) → ((a : Attached) → (f a).id ≡ a.id) → (sessions : List Attached) (id : ℕ) → changed g (changed f sessions id) id ≡ changed (λ a. g (f a)) sessions id
 changed_twice f g keeps [] id = refl
@@ -75,22 +84,55 @@ got_set [] k a lt = absurd (omega arith)
 got_set (x ∷ xs) zero a lt = refl
 got_set (x ∷ xs) (suc k) a lt = got_set xs k a (omega arith)
 
-stays_with : (f : Attached → Attached) → ((a : Attached) → (f a).id ≡ a.id) → (xs new : List Attached) (id k : ℕ) (o : Option Attached) → IsSome o → k < length xs → session_of xs id ≡ o
+stays_with : (f : Attached → Attached) → ((a : Attached) → (f a).id ≡ a.id) → (xs new : List Attached) (id k : ℕ) (o : Option Attached) → IsSome o → k < length xs → session_of (take k xs) id ≡ None → session_of xs id ≡ o
     → ((g : Attached → Attached) → IfSome o (λ a. changed g xs id ≡ set xs k (g a))) → new ≡ changed f xs id → IsPlaceOf new id k
-stays_with f keeps xs new id k None there lt found changes is = absurd (cc)
-stays_with f keeps xs new id k (Some a) there lt found changes is =
+stays_with f keeps xs new id k None there lt first found changes is = absurd (cc)
+stays_with f keeps xs new id k (Some a) there lt first found changes is =
     let here : new ≡ set xs k (f a) = is ∙ changes f in
     let got : slice_get new k ≡ Some (f a) = ap (λ (ss : List Attached). slice_get ss k) here ∙ got_set xs k (f a) lt in
     record {
       below = omega (arith, ap length here, length-set xs k (f a));
       there = rw got refl;
+      first = ap (λ (ss : List Attached). session_of (take k ss) id) here ∙ ap (λ (ss : List Attached). session_of ss id) (take-set xs k (f a)) ∙ first;
       found = ap (λ (ss : List Attached). session_of ss id) is ∙ session_changed f keeps xs id ∙ ap (option_map f) found ∙ sym got;
       changes = λ g. rw got (ap (λ (ss : List Attached). changed g ss id) is ∙ changed_twice f g keeps xs id ∙ changes (λ b. g (f b)) ∙ sym (ap (λ (ss : List Attached). set ss k (g (f a))) here ∙ set-set xs k (f a) (g (f a))));
     }
 
 -- a session stays at its place where its id stays
 pub place_stays : (f : Attached → Attached) → ((a : Attached) → (f a).id ≡ a.id) → (sessions new : List Attached) (id k : ℕ) → IsPlaceOf sessions id k → new ≡ changed f sessions id → IsPlaceOf new id k
-place_stays f keeps sessions new id k place is = stays_with f keeps sessions new id k (slice_get sessions k) place.there place.below place.found place.changes is
+place_stays f keeps sessions new id k place is = stays_with f keeps sessions new id k (slice_get sessions k) place.there place.below place.first place.found place.changes is
+
+-- ---- changes of all sessions that keep their ids
+
+pub session_mapped : (f : Attached → Attached) → ((a : Attached) → (f a).id ≡ a.id) → (sessions : List Attached) (id : ℕ) → session_of (map f sessions) id ≡ option_map f (session_of sessions id)
+session_mapped f keeps [] id = refl
+session_mapped f keeps (x ∷ xs) id =
+    ⊎_elim
+    (λ (t : (nat_eq x.id id ≡ true) × (x.id ≡ id)).
+    let test : nat_eq (f x).id id ≡ true = ap (λ (i : ℕ). nat_eq i id) (keeps x) ∙ t.0 in
+    rw (t.0, test) refl)
+    (λ (n : (nat_eq x.id id ≡ false) × (x.id ≢ id)).
+    let test : nat_eq (f x).id id ≡ false = ap (λ (i : ℕ). nat_eq i id) (keeps x) ∙ n.0 in
+    rw (n.0, test) (session_mapped f keeps xs id))
+    (eqb_tells x.id id)
+
+-- the session of an id has it
+pub has_id : (sessions : List Attached) (id : ℕ) (a : Attached) → session_of sessions id ≡ Some a → a.id ≡ id
+has_id [] id a h = absurd (cc)
+has_id (x ∷ xs) id a h =
+    ⊎_elim (λ (t : (nat_eq x.id id ≡ true) × (x.id ≡ id)). let e : Some x ≡ Some a = rw t.0 at h in let is : x ≡ a = cc in rw (sym is) t.1)
+    (λ (n : (nat_eq x.id id ≡ false) × (x.id ≢ id)). has_id xs id a (rw n.0 at h))
+    (eqb_tells x.id id)
+
+mapped_with : (f : Attached → Attached) → ((a : Attached) → (f a).id ≡ a.id) → (xs : List Attached) (id k : ℕ) (o : Option Attached) → IsSome o → slice_get xs k ≡ o → k < length xs → session_of (take k xs) id ≡ None → session_of xs id ≡ o → IsPlaceOf (map f xs) id k
+mapped_with f keeps xs id k None there at lt first found = absurd (cc)
+mapped_with f keeps xs id k (Some a) there at lt first found =
+    let here : f a ≡ get_or (map f xs) k (f a) = sym (get_or-map f xs k a (f a) lt ∙ ap f (get_or_from_slice_get xs k a a at)) in
+    let before : session_of (take k (map f xs)) id ≡ None = ap (λ (ss : List Attached). session_of ss id) (take-map f k xs) ∙ session_mapped f keeps (take k xs) id ∙ ap (option_map f) first in
+    is_place (map f xs) id k (f a) here (omega (arith, length-map xs f)) (keeps a ∙ has_id xs id a found) before
+
+pub place_mapped : (f : Attached → Attached) → ((a : Attached) → (f a).id ≡ a.id) → (sessions : List Attached) (id k : ℕ) → IsPlaceOf sessions id k → IsPlaceOf (map f sessions) id k
+place_mapped f keeps sessions id k place = mapped_with f keeps sessions id k (slice_get sessions k) place.there refl place.below place.first place.found
 
 -- no more sessions stay than there are
 pub fewer : (nexus : Nexus) (sessions : List Attached) → length (without nexus sessions) ≤ length sessions
@@ -109,6 +151,9 @@ serials_fit_ended id sessions count fit =
 next_reset : (id : ℕ) (a : Attached) → (heard_reset id a).next ≡ a.next
 next_reset id a =
     ⊎_elim (λ (t : (nat_eq a.id id ≡ true) × (a.id ≡ id)). rw t.0 refl) (λ (n : (nat_eq a.id id ≡ false) × (a.id ≢ id)). rw n.0 refl) (eqb_tells a.id id)
+
+pub serials_fit_heard : (told : List Told) (sessions : List Attached) (count : ℕ) → All (λ a. a.next ≤ count) sessions → All (λ a. a.next ≤ count) (all_heard told sessions)
+serials_fit_heard told sessions count fit = All-map (λ (a : Attached). a.next ≤ count) (hear told) sessions (λ k d lt. fit k d lt)
 
 pub serials_fit_reset : (id : ℕ) (sessions : List Attached) (count : ℕ) → All (λ a. a.next ≤ count) sessions → All (λ a. a.next ≤ count + 1) (all_reset sessions id)
 serials_fit_reset id sessions count fit =

@@ -11,7 +11,7 @@ use Rattle.unit_state.specs.Choice.{Fine}
 use Rattle.unit_state.specs.Medium.{Range}
 use Rattle.unit_state.specs.Entry.{Command, after, reply_to}
 use Rattle.unit_state.specs.Refusal.{refusal, request}
-use Rattle.unit_state.proofs.Rules.{ranged, within}
+use Rattle.unit_state.proofs.Order.{ranged, within}
 
 -- a READ after the WRITE
 module _ (s : UnitState) (session serial : ℕ) (by_group : Group) (reader next : ℕ) (through : Group) (lba blocks : ℕ) (fua past : Bool) (bytes none : List ℕ) where

@@ -12,7 +12,7 @@ use Rattle.unit_state.specs.Refusal.{Request, request, refusal, refusal_reply, r
 use Rattle.unit_state.specs.Route.{IsAdmitted, IsRefused}
 use Rattle.unit_state.specs.Entry.{IsNext, pass}
 use Rattle.unit_state.specs.Answer.{IsAnswerWith, IsAnswer, IsServed}
-use Rattle.unit_state.specs.Step.{IsStep, OnRefusal, ReturnsData, TakesMemory, entry_of}
+use Rattle.unit_state.specs.Step.{IsStep, OnRefusal, MayTake, TakesMemory, entry_of}
 
 -- a command that a rule refuses
 pub refused_answer : (claims : Bool) (old new : ControlValue) (before now : List (List ℕ)) (r : Request) (refused : Refusal) (reply : ReplyValue) → IsRefused old r refused → reply ≡ refusal_reply refused → new ≡ refusal_control old r.session refused → now ≡ before
@@ -59,10 +59,10 @@ answered_step claims old mid new session serial by_group asked bytes reply next 
 })
 
 -- a command that no rule refuses may find no memory, and may reach the device
-pub takes_memory : {T E : Type 0} (c : ControlValue) (session : ℕ) (asked : Result ScsiCommand CdbFault) (bytes : List ℕ) (command : ScsiCommand) (result : Result T E) → IsAdmitted c (request session asked bytes) command → OnErr result (ReturnsData (Ok command))
+pub takes_memory : {T E : Type 0} (c : ControlValue) (session : ℕ) (asked : Result ScsiCommand CdbFault) (bytes : List ℕ) (command : ScsiCommand) (result : Result T E) → IsAdmitted c (request session asked bytes) command → OnErr result (MayTake (Ok command))
     → OnErr result (TakesMemory c (request session asked bytes))
 takes_memory c session asked bytes command (Ok x) is takes = tt
-takes_memory c session asked bytes command (Err e) is takes = record { unrefused = is.unrefused; returns = rw is.asks takes }
+takes_memory c session asked bytes command (Err e) is takes = record { unrefused = is.unrefused; takes = rw is.asks takes }
 
 pub may_reach : (c : ControlValue) (r : Request) (command : ScsiCommand) (P : Type 0) → IsAdmitted c r command → OnRefusal (refusal c r) P
 may_reach c r command P is = rw is.unrefused tt

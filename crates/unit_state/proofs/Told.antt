@@ -1,17 +1,19 @@
 -- What commands, resets and ends leave of a session: its serial, and what is pending for it.
-use Rattle.std.proofs.Common.{◌≡◌, ◌≢◌, ◌⊎◌, inl, inr, ⊎_elim, ℕ, ◌+◌, Bool, true, false, not, ◌&&◌, nat_eq, List, [], ◌∷◌, drop, map, filter, Option, Some, None, IsSome, Result, Ok, Err, refl, sym, ◌∙◌, ap, arith, slice_get}
+use Rattle.std.proofs.Common.{◌≡◌, ◌≢◌, ◌⊎◌, inl, inr, ⊎_elim, ℕ, ◌+◌, Bool, true, false, not, ◌&&◌, nat_eq, eq-eqb, List, [], ◌∷◌, drop, map, filter, Option, Some, None, IsSome, Result, Ok, Err, refl, sym, ◌∙◌, ap, arith, slice_get}
 use Rattle.std.specs.Prelude.{IsTrue}
 use Rattle.std.specs.Option.{option_map}
 use Rattle.std.proofs.lemmas.Bool.Decides.{eqb_tells}
 use Rattle.attentions.specs.Queue.{is_pending, without_repeats}
-use Rattle.scsi_types.specs.ReplyValue.{check}
+use Rattle.reservations.specs.declared.request.Told.{Told}
+use Rattle.reservations.specs.Rows.{Effect, Done, Conflicting, Refused, Full}
+use Rattle.unit_state.specs.Reserve.{all_heard, hear, after_effect, effect_by, pr_out}
 use Rattle.scsi_types.specs.declared.attention.UnitAttention.{UnitAttention}
 use Rattle.scsi_types.specs.declared.attention.UnitAttention.TheVariants.{PowerOn}
 use Rattle.scsi_types.specs.declared.command.Command.{Command as ScsiCommand}
 use Rattle.scsi_types.specs.declared.command.Command.TheVariants as commands
 use Rattle.scsi_types.specs.declared.command.CdbFault.{CdbFault}
 use Rattle.unit_state.specs.declared.refusal.Refusal.{Refusal}
-use Rattle.unit_state.specs.declared.refusal.Refusal.TheVariants.{Attention, Check}
+use Rattle.unit_state.specs.declared.refusal.Refusal.TheVariants.{Attention, Conflict, Check}
 use Rattle.unit_state.specs.declared.sessions.Attached.{Attached}
 use Rattle.unit_state.specs.State.{ControlValue, UnitState}
 use Rattle.unit_state.specs.Choice.{Choice}
@@ -19,7 +21,7 @@ use Rattle.unit_state.specs.Sessions.{session_of, next_of, pending_in, pending_o
 use Rattle.unit_state.specs.Ops.{kind_asked, passes_attention}
 use Rattle.unit_state.specs.Refusal.{Request, request, refusal, tell}
 use Rattle.unit_state.specs.Entry.{IsNext, control_with, left_asked}
-use Rattle.unit_state.proofs.Places.{session_changed}
+use Rattle.unit_state.proofs.Places.{session_changed, session_mapped, has_id}
 
 -- ---- serials
 
@@ -38,28 +40,46 @@ told_in : (old new : Option Attached) → new ≡ option_map tell_one old → op
 told_in None new is = rw is refl
 told_in (Some a) new is = rw is refl
 
+heard_in : (told : List Told) (old new : Option Attached) → new ≡ option_map (hear told) old → option_map (λ (a : Attached). a.next) new ≡ option_map (λ (a : Attached). a.next) old
+heard_in told None new is = rw is refl
+heard_in told (Some a) new is = rw is refl
+
 next_told : (sessions : List Attached) (id : ℕ) → next_of (told sessions id) id ≡ next_of sessions id
 next_told sessions id = told_in (session_of sessions id) (session_of (told sessions id) id) (session_changed tell_one (λ a. refl) sessions id)
 
-next_left : (c : ControlValue) (session : ℕ) (asked : Result ScsiCommand CdbFault) → next_of (left_asked c session asked).sessions session ≡ next_of c.sessions session
-next_left c session (Err fault) = refl
-next_left c session (Ok (commands.RequestSense allocation)) = next_told c.sessions session
-next_left c session (Ok commands.TestUnitReady) = refl
-next_left c session (Ok (commands.Inquiry page allocation)) = refl
-next_left c session (Ok (commands.ModeSense header control page allocation)) = refl
-next_left c session (Ok commands.ReadCapacity10) = refl
-next_left c session (Ok (commands.ReadCapacity16 allocation)) = refl
-next_left c session (Ok (commands.Read lba blocks fua)) = refl
-next_left c session (Ok (commands.Write lba blocks fua)) = refl
-next_left c session (Ok (commands.CompareAndWrite lba blocks fua)) = refl
-next_left c session (Ok (commands.SynchronizeCache lba blocks)) = refl
-next_left c session (Ok (commands.ReportLuns select allocation)) = refl
+next_heard : (told : List Told) (sessions : List Attached) (id : ℕ) → next_of (all_heard told sessions) id ≡ next_of sessions id
+next_heard told sessions id = heard_in told (session_of sessions id) (session_of (all_heard told sessions) id) (session_mapped (hear told) (λ a. refl) sessions id)
+
+next_after : (c : ControlValue) (session : ℕ) (e : Effect) → next_of (after_effect c e).sessions session ≡ next_of c.sessions session
+next_after c session (Done new told) = next_heard told c.sessions session
+next_after c session Conflicting = refl
+next_after c session (Refused asc ascq) = refl
+next_after c session Full = refl
+
+next_left : (c : ControlValue) (session : ℕ) (asked : Result ScsiCommand CdbFault) (bytes : List ℕ) → next_of (left_asked c session asked bytes).sessions session ≡ next_of c.sessions session
+next_left c session (Err fault) bytes = refl
+next_left c session (Ok (commands.RequestSense allocation)) bytes = next_told c.sessions session
+next_left c session (Ok (commands.PersistentReserveOut action scope kind list_length)) bytes = next_after c session (effect_by c session (pr_out action scope kind bytes))
+next_left c session (Ok commands.TestUnitReady) bytes = refl
+next_left c session (Ok (commands.Inquiry page allocation)) bytes = refl
+next_left c session (Ok (commands.ModeSense header control page allocation)) bytes = refl
+next_left c session (Ok commands.ReadCapacity10) bytes = refl
+next_left c session (Ok (commands.ReadCapacity16 allocation)) bytes = refl
+next_left c session (Ok (commands.Read lba blocks fua)) bytes = refl
+next_left c session (Ok (commands.Write lba blocks fua)) bytes = refl
+next_left c session (Ok (commands.CompareAndWrite lba blocks fua)) bytes = refl
+next_left c session (Ok (commands.SynchronizeCache lba blocks)) bytes = refl
+next_left c session (Ok (commands.PersistentReserveIn action allocation)) bytes = refl
+next_left c session (Ok (commands.ReportLuns select allocation)) bytes = refl
+next_left c session (Ok (commands.ReportTargetPortGroups allocation)) bytes = refl
+next_left c session (Ok (commands.SetTargetPortGroups list_length)) bytes = refl
 
 -- what a command leaves before it is counted has its serial still
 next_kept : (refused : Option Refusal) (c : ControlValue) (r : Request) (choice : Choice) → next_of (control_with refused c r choice).sessions r.session ≡ next_of c.sessions r.session
 next_kept (Some (Attention a)) c r choice = next_told c.sessions r.session
+next_kept (Some Conflict) c r choice = refl
 next_kept (Some (Check s)) c r choice = refl
-next_kept None c r choice = next_left c r.session r.asked
+next_kept None c r choice = next_left c r.session r.asked r.bytes
 
 -- a serial that was taken is not taken again
 pub taken_once : (c : ControlValue) (r : Request) (choice : Choice) (serial : ℕ) → IsNext c r.session serial → next_of (passed (control_with (refusal c r) c r choice).sessions r.session) r.session ≡ Some serial → ⊥
@@ -89,34 +109,16 @@ told_no_more (code ∷ later) attention apart first =
 
 -- ---- resets and ends
 
--- changes of all sessions that keep their ids
-session_mapped : (f : Attached → Attached) → ((a : Attached) → (f a).id ≡ a.id) → (sessions : List Attached) (id : ℕ) → session_of (map f sessions) id ≡ option_map f (session_of sessions id)
-session_mapped f keeps [] id = refl
-session_mapped f keeps (x ∷ xs) id =
-    ⊎_elim
-    (λ (t : (nat_eq x.id id ≡ true) × (x.id ≡ id)).
-    let test : nat_eq (f x).id id ≡ true = ap (λ (i : ℕ). nat_eq i id) (keeps x) ∙ t.0 in
-    rw (t.0, test) refl)
-    (λ (n : (nat_eq x.id id ≡ false) × (x.id ≢ id)).
-    let test : nat_eq (f x).id id ≡ false = ap (λ (i : ℕ). nat_eq i id) (keeps x) ∙ n.0 in
-    rw (n.0, test) (session_mapped f keeps xs id))
-    (eqb_tells x.id id)
-
 reset_keeps : (id : ℕ) (a : Attached) → (heard_reset id a).id ≡ a.id
 reset_keeps id a =
     ⊎_elim (λ (t : (nat_eq a.id id ≡ true) × (a.id ≡ id)). rw t.0 refl) (λ (n : (nat_eq a.id id ≡ false) × (a.id ≢ id)). rw n.0 refl) (eqb_tells a.id id)
 
--- the session of an id has it
-has_id : (sessions : List Attached) (id : ℕ) (a : Attached) → session_of sessions id ≡ Some a → nat_eq a.id id ≡ true
-has_id [] id a h = absurd (cc)
-has_id (x ∷ xs) id a h =
-    ⊎_elim (λ (t : (nat_eq x.id id ≡ true) × (x.id ≡ id)). let e : Some x ≡ Some a = rw t.0 at h in let is : x ≡ a = cc in rw (sym is) t.0)
-    (λ (n : (nat_eq x.id id ≡ false) × (x.id ≢ id)). has_id xs id a (rw n.0 at h))
-    (eqb_tells x.id id)
+same_id : (sessions : List Attached) (id : ℕ) (a : Attached) → session_of sessions id ≡ Some a → nat_eq a.id id ≡ true
+same_id sessions id a h = eq-eqb a.id id (has_id sessions id a h)
 
 reset_own_in : (sessions : List Attached) (id : ℕ) (o : Option Attached) → session_of sessions id ≡ o → pending_in (option_map (heard_reset id) o) ≡ pending_in o
 reset_own_in sessions id None h = refl
-reset_own_in sessions id (Some a) h = rw (has_id sessions id a h) refl
+reset_own_in sessions id (Some a) h = rw (same_id sessions id a h) refl
 
 -- who asks for a reset is told what it was to be told
 pub reset_own : (sessions : List Attached) (id : ℕ) → pending_of (all_reset sessions id) id ≡ pending_of sessions id
@@ -130,7 +132,7 @@ other_id a id other apart is =
 
 reset_other_in : (sessions : List Attached) (id other : ℕ) (o : Option Attached) → other ≢ id → session_of sessions other ≡ o → IsSome o → pending_in (option_map (heard_reset id) o) ≡ PowerOn ∷ []
 reset_other_in sessions id other None apart h there = absurd (cc)
-reset_other_in sessions id other (Some a) apart h there = rw (other_id a id other apart (has_id sessions other a h)) refl
+reset_other_in sessions id other (Some a) apart h there = rw (other_id a id other apart (same_id sessions other a h)) refl
 
 -- every other session is told of the reset alone
 pub reset_other : (sessions : List Attached) (id other : ℕ) → other ≢ id → IsSome (session_of sessions other) → pending_of (all_reset sessions id) other ≡ PowerOn ∷ []

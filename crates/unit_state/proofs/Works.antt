@@ -1,5 +1,5 @@
 -- Works that were done, and their replies.
-use Rattle.std.proofs.Common.{◌≡◌, ℕ, ◌*◌, ◌<◌, Bool, List, [], Option, Some, None, refl, sym, ◌∙◌, ap, subst, inl, inr}
+use Rattle.std.proofs.Common.{◌≡◌, ℕ, ◌*◌, ◌<◌, Bool, true, List, [], Option, Some, None, Ok, refl, sym, ◌∙◌, ap, subst, inl, inr, arith}
 use Rattle.std.specs.Prelude.{IsTrue}
 use Rattle.block_file.specs.Disk.{written, range_bytes, Between}
 use Rattle.block_file.specs.Failures.{Tells}
@@ -9,14 +9,18 @@ use Rattle.compare_write.specs.declared.end.MediumEnd.{MediumEnd}
 use Rattle.compare_write.specs.declared.end.MediumEnd.TheVariants as ends
 use Rattle.compare_write.specs.Ends.{IsUnfailed, IsCompareEnd, IsSyncEnd, OnDone, OnMiscompare, OnUnwritten, OnWriting}
 use Rattle.compare_write.specs.Instances.{compare_instance, write_instance}
+use Rattle.reservations.specs.declared.request.PrOut.{PrOut}
+use Rattle.reservations.specs.Rows.{Effect, Done as Reserved, Conflicting, Refused, Full}
+use Rattle.scsi_types.specs.declared.reservation.PrOutAction.{PrOutAction}
+use Rattle.unit_state.specs.Reserve.{after_effect, effect_by, effect_reply, pr_out}
 use Rattle.scsi_types.specs.ReplyValue.{ReplyValue, good}
 use Rattle.scsi_types.specs.declared.command.Command.{Command}
 use Rattle.scsi_types.specs.declared.command.Command.TheVariants as commands
 use Rattle.unit_state.specs.Answer.{IsServed}
 use Rattle.unit_state.specs.State.{ControlValue, unit_of}
-use Rattle.unit_state.specs.Choice.{IsFine, WriteFailed, choice_of}
+use Rattle.unit_state.specs.Choice.{Fine, IsFine, WriteFailed, choice_of}
 use Rattle.unit_state.specs.Entry.{described, left_by, returned_by}
-use Rattle.unit_state.specs.Step.{is_describing}
+use Rattle.unit_state.specs.Step.{is_describing, MayTake}
 use Rattle.unit_state.specs.Medium.{Range, Nothing, Compares, Flushes, Finding, Done, WriteError, compared_by, found_by, reply_by, work_of}
 use Rattle.unit_state.specs.Worked.{IsWorked, choice_at, finding_at}
 
@@ -113,7 +117,7 @@ sync_worked claims old new r ends.WriteFailed is kept = absurd is
 
 -- one that the medium answers
 pub medium_served : (claims : Bool) (c now : ControlValue) (old new : List (List ℕ)) (session : ℕ) (command : Command) (bytes read kept : List ℕ) (end : MediumEnd) (reply : ReplyValue)
-    → ((finding : Finding) → returned_by c session command finding ≡ reply_by finding) → left_by c session command ≡ c → now ≡ c → IsWorked claims old new (work_of command bytes) end read → kept ≡ read → reply ≡ reply_by (finding_at end kept) → IsServed claims (unit_of c old) (unit_of now new) session command bytes reply
+    → ((finding : Finding) → returned_by c session command bytes finding ≡ reply_by finding) → left_by c session command bytes ≡ c → now ≡ c → IsWorked claims old new (work_of command bytes) end read → kept ≡ read → reply ≡ reply_by (finding_at end kept) → IsServed claims (unit_of c old) (unit_of now new) session command bytes reply
 medium_served claims c now old new session command bytes read kept end reply medium leaves same_control worked same is = rw (is, same) (record {
   finding = finding_at end read;
   done = rw (told_choice end read new) worked;
@@ -122,41 +126,99 @@ medium_served claims c now old new session command bytes read kept end reply med
 })
 
 -- one that does nothing on the medium
-pub other_served : (claims : Bool) (c now : ControlValue) (blocks : List (List ℕ)) (session : ℕ) (command : Command) (bytes told : List ℕ) (reply : ReplyValue) → work_of command bytes ≡ Nothing → returned_by c session command (Done []) ≡ good told → now ≡ left_by c session command → reply ≡ good told
-    → IsServed claims (unit_of c blocks) (unit_of now blocks) session command bytes reply
-other_served claims c now blocks session command bytes told reply nothing returns leaves is = rw is (record {
+pub other_served : (claims : Bool) (c now : ControlValue) (blocks : List (List ℕ)) (session : ℕ) (command : Command) (bytes : List ℕ) (reply : ReplyValue) → work_of command bytes ≡ Nothing → choice_of reply blocks ≡ Fine → now ≡ left_by c session command bytes
+    → reply ≡ returned_by c session command bytes (Done []) → IsServed claims (unit_of c blocks) (unit_of now blocks) session command bytes reply
+other_served claims c now blocks session command bytes reply nothing fine leaves is = record {
   finding = Done [];
-  done = rw nothing (record { chosen = tt; may = refl; torn = λ h. tt; told = λ h. refl; leaves = λ h. refl });
+  done = rw (nothing, fine) (record { chosen = tt; may = refl; torn = λ h. tt; told = λ h. refl; leaves = λ h. refl });
   control = leaves;
-  answers = sym returns;
-})
+  answers = is;
+}
 
--- one that asks what the unit is
-pub described_served : (claims : Bool) (c : ControlValue) (blocks : List (List ℕ)) (session : ℕ) (command : Command) (bytes told : List ℕ) (reply : ReplyValue) → IsTrue (is_describing command) → told ≡ described c session command → reply ≡ good told
+pub good_served : (claims : Bool) (c now : ControlValue) (blocks : List (List ℕ)) (session : ℕ) (command : Command) (bytes told : List ℕ) (reply : ReplyValue) → work_of command bytes ≡ Nothing → returned_by c session command bytes (Done []) ≡ good told → now ≡ left_by c session command bytes → reply ≡ good told
+    → IsServed claims (unit_of c blocks) (unit_of now blocks) session command bytes reply
+good_served claims c now blocks session command bytes told reply nothing returns leaves is =
+    rw is (other_served claims c now blocks session command bytes (good told) nothing refl leaves (sym returns))
+
+-- ---- PERSISTENT RESERVE OUT
+
+pub effect_is_fine : (e : Effect) (blocks : List (List ℕ)) → choice_of (effect_reply e) blocks ≡ Fine
+effect_is_fine (Reserved new told) blocks = refl
+effect_is_fine Conflicting blocks = refl
+effect_is_fine (Refused asc ascq) blocks = refl
+effect_is_fine Full blocks = refl
+
+pub fine_reply : (reply : ReplyValue) (e : Effect) (blocks : List (List ℕ)) → reply ≡ effect_reply e → choice_of reply blocks ≡ Fine
+fine_reply reply e blocks is = rw is (effect_is_fine e blocks)
+
+pub reserved_served : (claims : Bool) (c now : ControlValue) (blocks : List (List ℕ)) (session : ℕ) (action : PrOutAction) (scope kind n : ℕ) (bytes : List ℕ) (asked : PrOut) (reply : ReplyValue) → asked ≡ pr_out action scope kind bytes
+    → reply ≡ effect_reply (effect_by c session asked) → now ≡ after_effect c (effect_by c session asked) → IsServed claims (unit_of c blocks) (unit_of now blocks) session (commands.PersistentReserveOut action scope kind n) bytes reply
+reserved_served claims c now blocks session action scope kind n bytes asked reply same is leaves =
+    other_served claims c now blocks session (commands.PersistentReserveOut action scope kind n) bytes reply refl (fine_reply reply (effect_by c session asked) blocks is)
+    (leaves ∙ ap (λ (q : PrOut). after_effect c (effect_by c session q)) same) (is ∙ ap (λ (q : PrOut). effect_reply (effect_by c session q)) same)
+
+-- a reply that tells of no failure, where none was
+pub unfailed : (reply : ReplyValue) (blocks : List (List ℕ)) (count : ℕ) → choice_of reply blocks ≡ Fine → Tells count count (IsFine (choice_of reply blocks))
+unfailed reply blocks count fine = rw fine (record { later = omega arith; stays = λ r d. refl; rises = λ r f. absurd (f refl) })
+
+-- ---- commands of which the unit only tells
+
+abbrev pub is_told : Command → Bool
+is_told (commands.ReportTargetPortGroups allocation) = true
+is_told (commands.SetTargetPortGroups list_length) = true
+is_told command = is_describing command
+
+pub described_served : (claims : Bool) (c : ControlValue) (blocks : List (List ℕ)) (session : ℕ) (command : Command) (bytes told : List ℕ) (reply : ReplyValue) → IsTrue (is_told command) → told ≡ described c session command → reply ≡ good told
     → IsServed claims (unit_of c blocks) (unit_of c blocks) session command bytes reply
-described_served claims c blocks session (commands.Inquiry page allocation) bytes told reply d is said = other_served claims c c blocks session _ bytes told reply refl (ap good (sym is)) refl said
-described_served claims c blocks session (commands.ModeSense header control page allocation) bytes told reply d is said = other_served claims c c blocks session _ bytes told reply refl (ap good (sym is)) refl said
-described_served claims c blocks session (commands.ReportLuns select allocation) bytes told reply d is said = other_served claims c c blocks session _ bytes told reply refl (ap good (sym is)) refl said
-described_served claims c blocks session commands.ReadCapacity10 bytes told reply d is said = other_served claims c c blocks session _ bytes told reply refl (ap good (sym is)) refl said
-described_served claims c blocks session (commands.ReadCapacity16 allocation) bytes told reply d is said = other_served claims c c blocks session _ bytes told reply refl (ap good (sym is)) refl said
+described_served claims c blocks session (commands.Inquiry page n) bytes told reply d is said = good_served claims c c blocks session _ bytes told reply refl (ap good (sym is)) refl said
+described_served claims c blocks session (commands.ModeSense header control page n) bytes told reply d is said = good_served claims c c blocks session _ bytes told reply refl (ap good (sym is)) refl said
+described_served claims c blocks session (commands.ReportLuns select n) bytes told reply d is said = good_served claims c c blocks session _ bytes told reply refl (ap good (sym is)) refl said
+described_served claims c blocks session commands.ReadCapacity10 bytes told reply d is said = good_served claims c c blocks session _ bytes told reply refl (ap good (sym is)) refl said
+described_served claims c blocks session (commands.ReadCapacity16 n) bytes told reply d is said = good_served claims c c blocks session _ bytes told reply refl (ap good (sym is)) refl said
+described_served claims c blocks session (commands.PersistentReserveIn action n) bytes told reply d is said = good_served claims c c blocks session _ bytes told reply refl (ap good (sym is)) refl said
+described_served claims c blocks session (commands.ReportTargetPortGroups n) bytes told reply d is said = good_served claims c c blocks session _ bytes told reply refl (ap good (sym is)) refl said
+described_served claims c blocks session (commands.SetTargetPortGroups n) bytes told reply d is said = good_served claims c c blocks session _ bytes told reply refl (ap good (sym is)) refl said
 described_served claims c blocks session commands.TestUnitReady bytes told reply d is said = absurd (cc)
-described_served claims c blocks session (commands.RequestSense allocation) bytes told reply d is said = absurd (cc)
+described_served claims c blocks session (commands.RequestSense n) bytes told reply d is said = absurd (cc)
+described_served claims c blocks session (commands.PersistentReserveOut action scope kind n) bytes told reply d is said = absurd (cc)
 described_served claims c blocks session (commands.Read lba n fua) bytes told reply d is said = absurd (cc)
 described_served claims c blocks session (commands.Write lba n fua) bytes told reply d is said = absurd (cc)
 described_served claims c blocks session (commands.CompareAndWrite lba n fua) bytes told reply d is said = absurd (cc)
 described_served claims c blocks session (commands.SynchronizeCache lba n) bytes told reply d is said = absurd (cc)
 
 -- which is any command but these
-pub describes : (command : Command) → (command ≡ commands.TestUnitReady → ⊥) → ((n : ℕ) → command ≡ commands.RequestSense n → ⊥) → ((lba n : ℕ) (fua : Bool) → command ≡ commands.Read lba n fua → ⊥) → ((lba n : ℕ) (fua : Bool) → command ≡ commands.Write lba n fua → ⊥)
-    → ((lba n : ℕ) (fua : Bool) → command ≡ commands.CompareAndWrite lba n fua → ⊥) → ((lba n : ℕ) → command ≡ commands.SynchronizeCache lba n → ⊥) → IsTrue (is_describing command)
-describes commands.TestUnitReady ready sense read write compare sync = absurd (ready refl)
-describes (commands.RequestSense n) ready sense read write compare sync = absurd (sense n refl)
-describes (commands.Inquiry page n) ready sense read write compare sync = refl
-describes (commands.ModeSense header control page n) ready sense read write compare sync = refl
-describes commands.ReadCapacity10 ready sense read write compare sync = refl
-describes (commands.ReadCapacity16 n) ready sense read write compare sync = refl
-describes (commands.Read lba n fua) ready sense read write compare sync = absurd (read lba n fua refl)
-describes (commands.Write lba n fua) ready sense read write compare sync = absurd (write lba n fua refl)
-describes (commands.CompareAndWrite lba n fua) ready sense read write compare sync = absurd (compare lba n fua refl)
-describes (commands.SynchronizeCache lba n) ready sense read write compare sync = absurd (sync lba n refl)
-describes (commands.ReportLuns select n) ready sense read write compare sync = refl
+pub told_else : (command : Command) → (command ≡ commands.TestUnitReady → ⊥) → ((n : ℕ) → command ≡ commands.RequestSense n → ⊥) → ((action : PrOutAction) (scope kind n : ℕ) → command ≡ commands.PersistentReserveOut action scope kind n → ⊥)
+    → ((lba n : ℕ) (fua : Bool) → command ≡ commands.Read lba n fua → ⊥) → ((lba n : ℕ) (fua : Bool) → command ≡ commands.Write lba n fua → ⊥)
+    → ((lba n : ℕ) (fua : Bool) → command ≡ commands.CompareAndWrite lba n fua → ⊥) → ((lba n : ℕ) → command ≡ commands.SynchronizeCache lba n → ⊥) → IsTrue (is_told command)
+told_else commands.TestUnitReady ready sense reserve read write compare sync = absurd (ready refl)
+told_else (commands.RequestSense n) ready sense reserve read write compare sync = absurd (sense n refl)
+told_else (commands.PersistentReserveOut action scope kind n) ready sense reserve read write compare sync = absurd (reserve action scope kind n refl)
+told_else (commands.Inquiry page n) ready sense reserve read write compare sync = refl
+told_else (commands.ModeSense header control page n) ready sense reserve read write compare sync = refl
+told_else commands.ReadCapacity10 ready sense reserve read write compare sync = refl
+told_else (commands.ReadCapacity16 n) ready sense reserve read write compare sync = refl
+told_else (commands.Read lba n fua) ready sense reserve read write compare sync = absurd (read lba n fua refl)
+told_else (commands.Write lba n fua) ready sense reserve read write compare sync = absurd (write lba n fua refl)
+told_else (commands.CompareAndWrite lba n fua) ready sense reserve read write compare sync = absurd (compare lba n fua refl)
+told_else (commands.SynchronizeCache lba n) ready sense reserve read write compare sync = absurd (sync lba n refl)
+told_else (commands.PersistentReserveIn action n) ready sense reserve read write compare sync = refl
+told_else (commands.ReportLuns select n) ready sense reserve read write compare sync = refl
+told_else (commands.ReportTargetPortGroups n) ready sense reserve read write compare sync = refl
+told_else (commands.SetTargetPortGroups n) ready sense reserve read write compare sync = refl
+
+pub describing_takes : (command : Command) → IsTrue (is_describing command) → MayTake (Ok command)
+describing_takes commands.TestUnitReady d = absurd (cc)
+describing_takes (commands.RequestSense n) d = refl
+describing_takes (commands.PersistentReserveOut action scope kind n) d = refl
+describing_takes (commands.Inquiry page n) d = refl
+describing_takes (commands.ModeSense header control page n) d = refl
+describing_takes commands.ReadCapacity10 d = refl
+describing_takes (commands.ReadCapacity16 n) d = refl
+describing_takes (commands.Read lba n fua) d = refl
+describing_takes (commands.Write lba n fua) d = absurd (cc)
+describing_takes (commands.CompareAndWrite lba n fua) d = absurd (cc)
+describing_takes (commands.SynchronizeCache lba n) d = absurd (cc)
+describing_takes (commands.PersistentReserveIn action n) d = refl
+describing_takes (commands.ReportLuns select n) d = refl
+describing_takes (commands.ReportTargetPortGroups n) d = absurd (cc)
+describing_takes (commands.SetTargetPortGroups n) d = absurd (cc)

@@ -26,8 +26,8 @@ IsAnswer claims old new r reply = IsAnswerWith claims old new r (refusal old.con
 pub record IsServed (claims : Bool) (old new : UnitState) (session : ℕ) (command : Command) (bytes : List ℕ) (reply : ReplyValue) : Type 0 where
   pub finding : Finding
   pub done : IsDone claims old.blocks new.blocks (work_of command bytes) (choice_of reply new.blocks) finding
-  pub control : new.control ≡ left_by old.control session command
-  pub answers : reply ≡ returned_by old.control session command finding
+  pub control : new.control ≡ left_by old.control session command bytes
+  pub answers : reply ≡ returned_by old.control session command bytes finding
 
 -- after GOOD of a work with a flush, a crash leaves the blocks that the unit holds
 abbrev pub Lasts : List (List ℕ) → (ℕ → List ℕ → Type 0) → Work → ReplyValue → Type 0

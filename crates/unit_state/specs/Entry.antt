@@ -18,7 +18,8 @@ use Rattle.unit_state.specs.declared.refusal.Refusal.{Refusal}
 use Rattle.unit_state.specs.declared.control.TheConstants.{LAST_COUNT}
 use Rattle.unit_state.specs.declared.sessions.TheConstants.{MOST_SESSIONS}
 use Rattle.unit_state.specs.State.{ControlValue, UnitState}
-use Rattle.unit_state.specs.Sessions.{attached, session_of, next_of, group_of, first_pending, passed, ended, all_reset, without}
+use Rattle.unit_state.specs.Sessions.{attached, session_of, next_of, sender_of, first_pending, passed, ended, all_reset, without}
+use Rattle.unit_state.specs.Reserve.{pr_out, effect_by, effect_reply, after_effect, in_data}
 use Rattle.unit_state.specs.Choice.{Choice, Fine}
 use Rattle.unit_state.specs.Medium.{Work, Finding, work_asked, MayChoose, MayFind, IsTorn, found, left, reply_by}
 use Rattle.unit_state.specs.Refusal.{Request, request, refusal, refusal_reply, refusal_control, tell}
@@ -73,49 +74,55 @@ IsPossible claims s (Command session serial by asked bytes choice) = CanCome cla
 
 -- ---- what is after an entry, and what it is answered
 
--- the data of a command that asks what the unit is, by the group of its session
+-- the data of a command that asks what the unit is, by the group of its session, or who is registered with it
 abbrev pub described : ControlValue → ℕ → ScsiCommand → List ℕ
 described c session (commands.Inquiry page allocation) =
-    cut allocation (spell (inquiry_data c.place (group_of c.sessions session) page))
+    cut allocation (spell (inquiry_data c.place (sender_of c.sessions session).group page))
 described c session (commands.ModeSense header control page allocation) =
     cut allocation (spell (mode_data header control page))
 described c session (commands.ReportLuns select allocation) = cut allocation (spell (lun_list c.place select))
 described c session commands.ReadCapacity10 = spell (capacity_10 c.total)
 described c session (commands.ReadCapacity16 allocation) = cut allocation (spell (capacity_16 c.total))
+described c session (commands.PersistentReserveIn action allocation) = cut allocation (in_data c.registry action)
 described c session command = []
 
 -- What a command returns that no rule refuses, where the medium found this: REQUEST SENSE its session's first
--- attention as data, or that there is none (SPC-4, 6.39); a medium command answers the finding.
-abbrev pub returned_by : ControlValue → ℕ → ScsiCommand → Finding → ReplyValue
-returned_by c session (commands.RequestSense allocation) finding =
+-- attention as data, or that there is none (SPC-4, 6.39); PERSISTENT RESERVE OUT what its row of the table says; a medium
+-- command answers the finding.
+abbrev pub returned_by : ControlValue → ℕ → ScsiCommand → List ℕ → Finding → ReplyValue
+returned_by c session (commands.RequestSense allocation) bytes finding =
     good (cut allocation (sense_bytes (told_sense (first_pending c.sessions session))))
-returned_by c session (commands.Read lba blocks fua) finding = reply_by finding
-returned_by c session (commands.Write lba blocks fua) finding = reply_by finding
-returned_by c session (commands.CompareAndWrite lba blocks fua) finding = reply_by finding
-returned_by c session (commands.SynchronizeCache lba blocks) finding = reply_by finding
-returned_by c session commands.TestUnitReady finding = good []
-returned_by c session command finding = good (described c session command)
+returned_by c session (commands.PersistentReserveOut action scope kind list_length) bytes finding =
+    effect_reply (effect_by c session (pr_out action scope kind bytes))
+returned_by c session (commands.Read lba blocks fua) bytes finding = reply_by finding
+returned_by c session (commands.Write lba blocks fua) bytes finding = reply_by finding
+returned_by c session (commands.CompareAndWrite lba blocks fua) bytes finding = reply_by finding
+returned_by c session (commands.SynchronizeCache lba blocks) bytes finding = reply_by finding
+returned_by c session commands.TestUnitReady bytes finding = good []
+returned_by c session command bytes finding = good (described c session command)
 
 -- a CDB that asks for nothing is refused
-abbrev pub returned_asked : ControlValue → ℕ → Result ScsiCommand CdbFault → Finding → ReplyValue
-returned_asked c session (Ok command) finding = returned_by c session command finding
-returned_asked c session (Err fault) finding = reply_by finding
+abbrev pub returned_asked : ControlValue → ℕ → Result ScsiCommand CdbFault → List ℕ → Finding → ReplyValue
+returned_asked c session (Ok command) bytes finding = returned_by c session command bytes finding
+returned_asked c session (Err fault) bytes finding = reply_by finding
 
 abbrev pub returned : ControlValue → Request → Finding → ReplyValue
-returned c r finding = returned_asked c r.session r.asked finding
+returned c r finding = returned_asked c r.session r.asked r.bytes finding
 
--- And what it leaves of all but the blocks: REQUEST SENSE has told an attention (SPC-4, 6.39), and any other all as it
--- was.
-abbrev pub left_by : ControlValue → ℕ → ScsiCommand → ControlValue
-left_by c session (commands.RequestSense allocation) = tell c session
-left_by c session command = c
+-- And what it leaves of all but the blocks: REQUEST SENSE has told an attention, PERSISTENT RESERVE OUT did its row, and
+-- any other leaves all as it was.
+abbrev pub left_by : ControlValue → ℕ → ScsiCommand → List ℕ → ControlValue
+left_by c session (commands.RequestSense allocation) bytes = tell c session
+left_by c session (commands.PersistentReserveOut action scope kind list_length) bytes =
+    after_effect c (effect_by c session (pr_out action scope kind bytes))
+left_by c session command bytes = c
 
-abbrev pub left_asked : ControlValue → ℕ → Result ScsiCommand CdbFault → ControlValue
-left_asked c session (Ok command) = left_by c session command
-left_asked c session (Err fault) = c
+abbrev pub left_asked : ControlValue → ℕ → Result ScsiCommand CdbFault → List ℕ → ControlValue
+left_asked c session (Ok command) bytes = left_by c session command bytes
+left_asked c session (Err fault) bytes = c
 
 abbrev pub left_control : ControlValue → Request → Choice → ControlValue
-left_control c r choice = left_asked c r.session r.asked
+left_control c r choice = left_asked c r.session r.asked r.bytes
 
 -- a refusal has its answer, and changes what telling it changes
 abbrev pub reply_with : Option Refusal → ControlValue → Request → Finding → ReplyValue

@@ -7,6 +7,7 @@ pub mod Medium
 pub mod Ops
 pub mod Places
 pub mod Refusal
+pub mod Reserve
 pub mod Route
 pub mod Sessions
 pub mod State

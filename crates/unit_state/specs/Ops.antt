@@ -1,5 +1,7 @@
--- The kind of a command, also of one with a bad field.
+-- The kind of a command, also of one with a bad field, and what the kind alone decides.
 use Rattle.std.specs.Prelude.{Bool, true, false, Option, Some, None, Result, Ok, Err}
+use Rattle.reservations.specs.declared.request.Access.{Access}
+use Rattle.reservations.specs.declared.request.Access.TheVariants.{Read, Write, Other}
 use Rattle.scsi_types.specs.declared.command.Command.{Command}
 use Rattle.scsi_types.specs.declared.command.Command.TheVariants as commands
 use Rattle.scsi_types.specs.declared.command.CdbFault.{CdbFault}
@@ -18,7 +20,11 @@ kind_of (commands.Read lba blocks fua) = ops.Read
 kind_of (commands.Write lba blocks fua) = ops.Write
 kind_of (commands.CompareAndWrite lba blocks fua) = ops.CompareAndWrite
 kind_of (commands.SynchronizeCache lba blocks) = ops.SynchronizeCache
+kind_of (commands.PersistentReserveIn action allocation) = ops.PersistentReserveIn
+kind_of (commands.PersistentReserveOut action scope kind list_length) = ops.PersistentReserveOut
 kind_of (commands.ReportLuns select allocation) = ops.ReportLuns
+kind_of (commands.ReportTargetPortGroups allocation) = ops.ReportTargetPortGroups
+kind_of (commands.SetTargetPortGroups list_length) = ops.SetTargetPortGroups
 
 -- an unknown operation code is of no kind
 abbrev pub kind_asked : Result Command CdbFault → Option Op
@@ -32,3 +38,19 @@ passes_attention (Some ops.Inquiry) = true
 passes_attention (Some ops.ReportLuns) = true
 passes_attention (Some ops.RequestSense) = true
 passes_attention kind = false
+
+-- a kind that the unit serves: the target port group commands not yet
+abbrev pub is_served : Option Op → Bool
+is_served None = false
+is_served (Some ops.ReportTargetPortGroups) = false
+is_served (Some ops.SetTargetPortGroups) = false
+is_served kind = true
+
+-- what a command does with the medium, as a reservation sees it (SPC-4, 5.13.2): a flush counts as a write
+abbrev pub access_of : Option Op → Access
+access_of (Some ops.Read) = Read
+access_of (Some ops.Write) = Write
+access_of (Some ops.CompareAndWrite) = Write
+access_of (Some ops.SynchronizeCache) = Write
+access_of (Some ops.SetTargetPortGroups) = Write
+access_of kind = Other

@@ -1,5 +1,5 @@
 -- The place of a session among those that are attached.
-use Rattle.std.specs.Prelude.{◌≡◌, ℕ, ◌<◌, List, length, slice_get, slice_set, IfSome, IsSome}
+use Rattle.std.specs.Prelude.{◌≡◌, ℕ, ◌<◌, List, length, take, None, slice_get, slice_set, IfSome, IsSome}
 use Rattle.unit_state.specs.declared.sessions.Attached.{Attached}
 use Rattle.unit_state.specs.State.{ControlValue}
 use Rattle.unit_state.specs.Sessions.{session_of, changed}
@@ -12,6 +12,7 @@ IsChangedAt f old at new = IfSome (slice_get old at) (λ a. new ≡ slice_set ol
 pub record IsPlaceOf (sessions : List Attached) (id at : ℕ) : Type 0 where
   pub below : at < length sessions
   pub there : IsSome (slice_get sessions at)
+  pub first : session_of (take at sessions) id ≡ None
   pub found : session_of sessions id ≡ slice_get sessions at
   pub changes : (f : Attached → Attached) → IfSome (slice_get sessions at) (λ a. changed f sessions id ≡ slice_set sessions at (f a))
 

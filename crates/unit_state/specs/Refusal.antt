@@ -1,21 +1,29 @@
 -- Why a command is refused: rules in order, of which the first that applies decides. They look at what does not rest
 -- on the medium, and at the request.
-use Rattle.std.specs.Prelude.{ℕ, ◌+◌, ◌&&◌, Bool, true, false, nat_lt, nat_le, if◌then◌else◌, List, [], ◌∷◌, length, Option, Some, None, Result, Ok, Err}
-use Rattle.scsi_types.specs.ReplyValue.{ReplyValue, check}
+use Rattle.std.specs.Prelude.{ℕ, ◌+◌, ◌&&◌, Bool, nat_eq, true, false, nat_lt, nat_le, if◌then◌else◌, List, [], ◌∷◌, length, Option, Some, None, Result, Ok, Err}
+use Rattle.std.specs.Option.{option_or}
+use Rattle.reservations.specs.declared.request.Access.{Access}
+use Rattle.reservations.specs.Access.{is_let_through, party_of}
+use Rattle.reservations.specs.Rows.{is_registering}
+use Rattle.scsi_types.specs.Nexus.{Nexus}
+use Rattle.scsi_types.specs.ReplyValue.{ReplyValue, check, conflict}
 use Rattle.scsi_types.specs.Cdb.{need_of}
 use Rattle.scsi_types.specs.Attention.{attention_sense}
-use Rattle.scsi_types.specs.Sense.{invalid_opcode, invalid_field_in_cdb, lba_out_of_range, saving_parameters_not_supported}
+use Rattle.scsi_types.specs.Sense.{invalid_opcode, invalid_field_in_cdb, lba_out_of_range, saving_parameters_not_supported, parameter_list_length_error, invalid_field_in_parameter_list}
 use Rattle.scsi_types.specs.declared.attention.UnitAttention.{UnitAttention}
+use Rattle.scsi_types.specs.declared.command.Op.{Op}
 use Rattle.scsi_types.specs.declared.command.Command.{Command}
-use Rattle.scsi_types.specs.declared.command.Command.TheVariants.{ModeSense}
+use Rattle.scsi_types.specs.declared.command.Command.TheVariants.{ModeSense, PersistentReserveOut}
 use Rattle.scsi_types.specs.declared.command.CdbFault.{CdbFault}
 use Rattle.scsi_types.specs.declared.command.CdbFault.TheVariants.{UnknownOpcode, BadField}
 use Rattle.unit_state.specs.declared.refusal.Refusal.{Refusal}
 use Rattle.scsi_types.specs.declared.pages.PageControl.TheVariants.{Saved}
-use Rattle.unit_state.specs.declared.refusal.Refusal.TheVariants.{Attention, Check}
+use Rattle.unit_state.specs.declared.refusal.Refusal.TheVariants.{Attention, Conflict, Check}
 use Rattle.unit_state.specs.State.{ControlValue}
-use Rattle.unit_state.specs.Sessions.{first_pending, told}
-use Rattle.unit_state.specs.Ops.{kind_asked, passes_attention}
+use Rattle.unit_state.specs.Sessions.{first_pending, sender_of, told}
+use Rattle.unit_state.specs.Ops.{kind_asked, is_served, access_of, passes_attention}
+use Rattle.unit_state.specs.declared.reserve.TheConstants.{APTPL, LIST_LENGTH}
+use Rattle.unit_state.specs.Reserve.{flag_of}
 use Rattle.unit_state.specs.Medium.{Range, range_of, work_asked}
 
 -- a command as the rules judge it: who sent it, what it asks, and the data that came
@@ -30,6 +38,7 @@ request session asked bytes = record { session = session; asked = asked; bytes =
 -- the answer of a refusal
 abbrev pub refusal_reply : Refusal → ReplyValue
 refusal_reply (Attention attention) = check (attention_sense attention)
+refusal_reply Conflict = conflict
 refusal_reply (Check s) = check s
 
 -- the session was told its first attention
@@ -39,6 +48,7 @@ tell c session = record c { sessions = told c.sessions session }
 -- and what telling it changes: an attention that was told is pending no more; else nothing
 abbrev pub refusal_control : ControlValue → ℕ → Refusal → ControlValue
 refusal_control c session (Attention attention) = tell c session
+refusal_control c session Conflict = c
 refusal_control c session (Check s) = c
 
 -- a rule answers a command that it refuses
@@ -54,14 +64,23 @@ attention_by (Some attention) false = Some (Attention attention)
 abbrev pub attention_rule : Rule
 attention_rule c r = attention_by (first_pending c.sessions r.session) (passes_attention (kind_asked r.asked))
 
--- the opcode is no command's
-abbrev pub opcode_by : Result Command CdbFault → Option Refusal
-opcode_by (Ok command) = None
-opcode_by (Err (BadField op)) = None
-opcode_by (Err UnknownOpcode) = Some (Check invalid_opcode)
+-- the opcode is that of no command that is served
+abbrev pub opcode_by : Option Op → Option Refusal
+opcode_by kind = if is_served kind then None else Some (Check invalid_opcode)
 
 abbrev pub opcode_rule : Rule
-opcode_rule c r = opcode_by r.asked
+opcode_rule c r = opcode_by (kind_asked r.asked)
+
+-- the reservation does not let the nexus do this (SPC-4, 5.13.2)
+abbrev pub is_let : ControlValue → Nexus → Access → Bool
+is_let c nexus access = is_let_through c.registry.reservation (party_of c.registry nexus) access
+
+abbrev pub conflict_by : Bool → Option Refusal
+conflict_by true = None
+conflict_by false = Some Conflict
+
+abbrev pub conflict_rule : Rule
+conflict_rule c r = conflict_by (is_let c (sender_of c.sessions r.session) (access_of (kind_asked r.asked)))
 
 -- a field of the CDB is bad, or less data came than the command needs
 abbrev pub field_by : Result Command CdbFault → List ℕ → Option Refusal
@@ -73,12 +92,12 @@ abbrev pub field_rule : Rule
 field_rule c r = field_by r.asked r.bytes
 
 -- saved values of mode pages: none are saved (SPC-4, 6.13.1)
-abbrev pub saved_by : Result Command CdbFault → Option Refusal
-saved_by (Ok (ModeSense header Saved page allocation)) = Some (Check saving_parameters_not_supported)
-saved_by asked = None
+abbrev pub asks_saved : Result Command CdbFault → Bool
+asks_saved (Ok (ModeSense header Saved page allocation)) = true
+asks_saved asked = false
 
 abbrev pub saved_rule : Rule
-saved_rule c r = saved_by r.asked
+saved_rule c r = if asks_saved r.asked then Some (Check saving_parameters_not_supported) else None
 
 -- the LBA or the range passes the end, the LBA of an empty range too (SBC-3, READ (10) command)
 abbrev pub outside : ℕ → Range → Option Refusal
@@ -91,18 +110,33 @@ range_by total (Some r) = outside total r
 abbrev pub range_rule : Rule
 range_rule c r = range_by c.total (range_of (work_asked r.asked r.bytes))
 
+-- the PARAMETER LIST LENGTH of a PERSISTENT RESERVE OUT
+abbrev pub list_length_of : Result Command CdbFault → Option ℕ
+list_length_of (Ok (PersistentReserveOut action scope kind list_length)) = Some list_length
+list_length_of asked = None
+
+-- it registers, and that is to outlast a loss of power
+abbrev pub asks_to_last : Result Command CdbFault → List ℕ → Bool
+asks_to_last (Ok (PersistentReserveOut action scope kind list_length)) bytes = is_registering action && flag_of APTPL bytes
+asks_to_last asked bytes = false
+
+-- the list has 24 bytes (SPC-4, 6.16.1); APTPL is not supported yet
+abbrev pub list_by : Option ℕ → Bool → Option Refusal
+list_by None lasts = None
+list_by (Some list_length) lasts =
+    if nat_eq list_length LIST_LENGTH then (if lasts then Some (Check invalid_field_in_parameter_list) else None)
+    else Some (Check parameter_list_length_error)
+
+abbrev pub list_rule : Rule
+list_rule c r = list_by (list_length_of r.asked) (asks_to_last r.asked r.bytes)
+
 -- the rules in their order
 abbrev pub rules_of_unit : List Rule
-rules_of_unit = attention_rule ∷ opcode_rule ∷ field_rule ∷ saved_rule ∷ range_rule ∷ []
-
--- the first of two that answers
-abbrev pub or_else : Option Refusal → Option Refusal → Option Refusal
-or_else (Some a) b = Some a
-or_else None b = b
+rules_of_unit = attention_rule ∷ opcode_rule ∷ conflict_rule ∷ field_rule ∷ saved_rule ∷ range_rule ∷ list_rule ∷ []
 
 abbrev pub first_refusal : List Rule → ControlValue → Request → Option Refusal
 first_refusal [] c r = None
-first_refusal (rule ∷ rules) c r = or_else (rule c r) (first_refusal rules c r)
+first_refusal (rule ∷ rules) c r = option_or (rule c r) (first_refusal rules c r)
 
 -- the refusal of a command before the device is asked
 abbrev pub refusal : ControlValue → Request → Option Refusal

@@ -11,6 +11,7 @@ use Rattle.unit_state.specs.Choice.{Fine, choice_of}
 use Rattle.unit_state.specs.Medium.{Fits, work_of}
 use Rattle.unit_state.specs.Refusal.{Request, refusal, refusal_reply}
 use Rattle.unit_state.specs.Entry.{IsNext}
+use Rattle.unit_state.specs.Reserve.{HasList}
 
 -- to nobody, to the owner, or to the unit
 abbrev pub IsRouteOf : ControlValue → ℕ → ℕ → Group → Route → Type 0
@@ -23,6 +24,7 @@ pub record IsAdmitted (c : ControlValue) (r : Request) (command : Command) : Typ
   pub asks : r.asked ≡ Ok command
   pub unrefused : refusal c r ≡ None
   pub fits : Fits c.total (work_of command r.bytes)
+  pub list : HasList command r.bytes
 
 -- a rule refuses it, which tells of no failure
 pub record IsRefused (c : ControlValue) (r : Request) (refused : Refusal) : Type 0 where

@@ -1,13 +1,12 @@
 -- The sessions that are attached to a unit: a map from a session's id to its nexus, its next serial, and the unit
 -- attention conditions that wait to be told to it (SAM-5, 5.14).
-use Rattle.std.specs.Prelude.{ℕ, ◌+◌, Bool, true, false, not, ◌&&◌, nat_eq, if◌then◌else◌, List, [], ◌∷◌, drop, filter, map, slice_get, Option, Some, None}
+use Rattle.std.specs.Prelude.{ℕ, ◌+◌, Bool, not, nat_eq, if◌then◌else◌, List, [], ◌∷◌, drop, filter, map, slice_get, Option, Some, None}
 use Rattle.std.specs.Option.{option_map}
-use lib.Pointwise.{pointwise}
-use Rattle.scsi_types.specs.Nexus.{Port, Nexus}
+use Rattle.reservations.specs.Nexus.{same_nexus}
+use Rattle.scsi_types.specs.Nexus.{Nexus}
 use Rattle.scsi_types.specs.declared.attention.UnitAttention.{UnitAttention}
 use Rattle.scsi_types.specs.declared.attention.UnitAttention.TheVariants.{PowerOn}
-use Rattle.scsi_types.specs.declared.names.Group.{Group}
-use Rattle.scsi_types.specs.declared.names.Group.TheVariants.{One, Two}
+use Rattle.scsi_types.specs.declared.names.Group.TheVariants.{One}
 use Rattle.unit_state.specs.declared.sessions.Attached.{Attached}
 
 -- The map's entries, by ascending id. One of them: the id, the nexus, the serial of the next command, and what is
@@ -40,13 +39,13 @@ pending_of sessions id = pending_in (session_of sessions id)
 abbrev pub first_pending : List Attached → ℕ → Option UnitAttention
 first_pending sessions id = slice_get (pending_of sessions id) 0
 
--- the group by which its commands come; one that is not attached sends none
-abbrev pub group_in : Option Attached → Group
-group_in None = One
-group_in (Some a) = a.group
+-- its nexus; one that is not attached sends no command, and has none that a name tells
+abbrev pub nexus_in : Option Attached → Nexus
+nexus_in None = record { port = record { name = []; isid = 0 }; group = One }
+nexus_in (Some a) = nexus_of a
 
-abbrev pub group_of : List Attached → ℕ → Group
-group_of sessions id = group_in (session_of sessions id)
+abbrev pub sender_of : List Attached → ℕ → Nexus
+sender_of sessions id = nexus_in (session_of sessions id)
 
 -- ---- one session changes
 
@@ -83,18 +82,8 @@ all_reset sessions id = map (heard_reset id) sessions
 
 -- ---- the session of a nexus
 
--- two names of one port
-abbrev pub same_port : Port → Port → Bool
-same_port p q = nat_eq p.isid q.isid && pointwise nat_eq p.name q.name
-
-abbrev pub same_group : Group → Group → Bool
-same_group One One = true
-same_group One Two = false
-same_group Two One = false
-same_group Two Two = true
-
 abbrev pub is_of : Nexus → Attached → Bool
-is_of nexus a = same_group a.group nexus.group && same_port a.port nexus.port
+is_of nexus a = same_nexus (nexus_of a) nexus
 
 -- the sessions but that of this nexus
 abbrev pub without : Nexus → List Attached → List Attached

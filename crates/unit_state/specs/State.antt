@@ -4,6 +4,7 @@ use Rattle.std.specs.Prelude.{ℕ, ◌%◌, nat_eq, if◌then◌else◌, List, [
 use Rattle.scsi_types.specs.declared.names.Group.{Group}
 use Rattle.scsi_types.specs.declared.names.Group.TheVariants.{One, Two}
 use Rattle.scsi_types.specs.declared.names.Place.{Place}
+use Rattle.reservations.specs.Registry.{RegistryValue, empty}
 use Rattle.unit_state.specs.declared.sessions.Attached.{Attached}
 
 -- all of a unit but its blocks
@@ -14,6 +15,8 @@ pub record ControlValue : Type 0 where
   pub total : ℕ
   -- the group whose ports are active/optimized
   pub owner : Group
+  -- who is registered with it, and who holds its reservation
+  pub registry : RegistryValue
   -- the sessions that are attached, by ascending id
   pub sessions : List Attached
   -- the number of entries so far
@@ -33,7 +36,7 @@ preferred unit = if nat_eq (unit % 2) 0 then One else Two
 
 -- a unit at this place with so many blocks, as it opens
 abbrev pub opening_control : Place → ℕ → ControlValue
-opening_control place total = record { place = place; total = total; owner = preferred place.unit; sessions = []; count = 0 }
+opening_control place total = record { place = place; total = total; owner = preferred place.unit; registry = empty; sessions = []; count = 0 }
 
 abbrev pub opening : Place → ℕ → List (List ℕ) → UnitState
 opening place total blocks = record { control = opening_control place total; blocks = blocks }

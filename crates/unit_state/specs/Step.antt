@@ -33,29 +33,31 @@ IsRouted c session serial by Gone = IsNext c session serial → ⊥
 IsRouted c session serial by (Moved owner) = IsNext c session serial × (by ≢ c.owner) × (owner ≡ c.owner)
 IsRouted c session serial by NoMemory = IsNext c session serial × (by ≡ c.owner)
 
--- a command that asks what the unit is
+-- a command that asks what the unit is, or who is registered with it
 abbrev pub is_describing : ScsiCommand → Bool
 is_describing (commands.Inquiry page allocation) = true
 is_describing (commands.ModeSense header control page allocation) = true
 is_describing (commands.ReportLuns select allocation) = true
 is_describing commands.ReadCapacity10 = true
 is_describing (commands.ReadCapacity16 allocation) = true
+is_describing (commands.PersistentReserveIn action allocation) = true
 is_describing command = false
 
--- a command whose reply has data takes memory for them
-abbrev pub returns_data : ScsiCommand → Bool
-returns_data (commands.Read lba blocks fua) = true
-returns_data (commands.RequestSense allocation) = true
-returns_data command = is_describing command
+-- a command takes memory for the data of its reply, and PERSISTENT RESERVE OUT for registrants and for who is told
+abbrev pub takes_memory : ScsiCommand → Bool
+takes_memory (commands.Read lba blocks fua) = true
+takes_memory (commands.RequestSense allocation) = true
+takes_memory (commands.PersistentReserveOut action scope kind list_length) = true
+takes_memory command = is_describing command
 
-abbrev pub ReturnsData : Result ScsiCommand CdbFault → Type 0
-ReturnsData (Ok command) = IsTrue (returns_data command)
-ReturnsData (Err fault) = ⊥
+abbrev pub MayTake : Result ScsiCommand CdbFault → Type 0
+MayTake (Ok command) = IsTrue (takes_memory command)
+MayTake (Err fault) = ⊥
 
--- the command takes memory: no rule refuses it, and its reply has data
+-- the command takes memory: no rule refuses it, and it is one that does
 pub record TakesMemory (c : ControlValue) (r : Request) : Type 0 where
   pub unrefused : refusal c r ≡ None
-  pub returns : ReturnsData r.asked
+  pub takes : MayTake r.asked
 
 -- the command's entry, whose choice its reply and the unit after it tell
 abbrev pub entry_of : ℕ → ℕ → Group → Result ScsiCommand CdbFault → List ℕ → ReplyValue → UnitState → Entry

@@ -8,16 +8,19 @@ ghost use Rattle.identity.specs.SenseData.{told_sense};
 ghost use Rattle.identity.specs.Table.{cut};
 ghost use Rattle.scsi_types.specs.Sense.{sense_bytes};
 ghost use Rattle.unit_state.specs.Entry.{described};
+ghost use Rattle.unit_state.specs.Reserve.{HasList};
 ghost use Rattle.unit_state.specs.Sessions.{first_pending};
 ghost use Rattle.unit_state.specs.Places.{IsPlaceOf, Stays};
 ghost use Rattle.unit_state.specs.Refusal.{refusal, refusal_control, request, tell};
 ghost use Rattle.unit_state.specs.State.{unit_of};
-ghost use Rattle.unit_state.specs.Step.{OnRefusal, ReturnsData, TakesMemory};
+ghost use Rattle.unit_state.specs.Step.{MayTake, OnRefusal, is_describing, TakesMemory};
 ghost use Rattle.unit_state.specs.Worked.{finding_at};
 
 use crate::control::Control;
 use crate::medium::{compare, read, write};
 use crate::refusal::Refusal;
+use crate::reserve::{pr_out, reservation_data};
+use crate::rules::admit;
 use crate::sessions::Sender;
 use block_file::{BLOCK_LENGTH, Blocks};
 use compare_write::{MediumEnd, sync};
@@ -28,7 +31,7 @@ use scsi_types::{Asked, Command, NoMemory, Reply, Sense};
 use std::alloc::Global;
 
 /// Answers a command: the refusal of the first rule that applies, else what the command returns. Memory is taken for
-/// the data of a reply alone, before anything changes.
+/// the data of a reply and for a PERSISTENT RESERVE OUT alone, before anything changes.
 pub fn answer<B: Blocks>(
     device: &mut B,
     control: &mut Control,
@@ -49,7 +52,7 @@ pub fn answer<B: Blocks>(
     ensures fine { IfOk result (λ reply. Tells (B.failures device.old) (B.failures device.new) (IsFine (choice_of reply (B.contents device.new)))) }
     ensures lasts { IsTrue B.claims → IfOk result (Lasts (B.contents device.new) (B.may_hold device.new) (work_asked asked bytes.now)) }
 {
-    let command = match control.admit(sender, asked, bytes) {
+    let command = match admit(control, sender, asked, bytes) {
         Ok(command) => command,
         Err(refusal) => {
             refuse(control, sender, refusal);
@@ -67,7 +70,7 @@ fn refuse(control: &mut Control, sender: Sender, refusal: Refusal)
 {
     match refusal {
         Refusal::Attention(_) => control.tell(sender),
-        Refusal::Check(_) => {}
+        Refusal::Conflict | Refusal::Check(_) => {}
     }
 }
 
@@ -81,11 +84,12 @@ fn serve<B: Blocks>(
     bytes: &[u8],
 ) -> Result<Reply, NoMemory>
     requires fits { Fits (B.size device.old) (work_of command bytes.now) }
+    requires list { HasList command bytes.now }
     requires place { IsPlaceOf control.old.sessions sender.session sender.at }
     ensures size { B.size device.new ≡ B.size device.old }
     ensures stays { Stays control.old control.new sender.session sender.at }
     ensures err { OnErr result ((device.new ≡ device.old) × (control.new ≡ control.old)) }
-    ensures memory { OnErr result (ReturnsData (Ok command)) }
+    ensures memory { OnErr result (MayTake (Ok command)) }
     ensures served { IfOk result (IsServed B.claims (unit_of control.old (B.contents device.old)) (unit_of control.new (B.contents device.new)) sender.session command bytes.now) }
     ensures fine { IfOk result (λ reply. Tells (B.failures device.old) (B.failures device.new) (IsFine (choice_of reply (B.contents device.new)))) }
     ensures lasts { IsTrue B.claims → IfOk result (Lasts (B.contents device.new) (B.may_hold device.new) (work_of command bytes.now)) }
@@ -94,6 +98,15 @@ fn serve<B: Blocks>(
         Command::TestUnitReady => Ok(Reply::good(Vec::new(alloc))),
         Command::RequestSense { allocation } => {
             Ok(Reply::good(sense(control, alloc, sender, allocation)?))
+        }
+        Command::PersistentReserveOut {
+            action,
+            scope,
+            kind,
+            ..
+        } => {
+            let reply = control.reserve(alloc, sender, pr_out(action, scope, kind, bytes))?;
+            Ok(reply)
         }
         Command::Read { lba, blocks, fua } => {
             let mut out = vec![in alloc; 0u8; BLOCK_LENGTH * usize::from(blocks)]?;
@@ -134,7 +147,7 @@ fn sense(
     Ok(sense)
 }
 
-/// The data of a command that asks what the unit is.
+/// The data of a command that asks what the unit is, or who is registered with it.
 fn describe(
     control: &Control,
     alloc: Global,
@@ -142,7 +155,8 @@ fn describe(
     command: Command,
 ) -> Result<Vec<u8>, NoMemory>
     requires { IsPlaceOf control.now.sessions sender.session sender.at }
-    ensures { IfOk result (λ v. v.items ≡ described control.now sender.session command) }
+    ensures described { IfOk result (λ v. v.items ≡ described control.now sender.session command) }
+    ensures memory { OnErr result (IsTrue (is_describing command)) }
 {
     match command {
         Command::Inquiry { page, allocation } => {
@@ -162,6 +176,9 @@ fn describe(
         } => mode_sense(alloc, header, values, page, allocation),
         Command::ReportLuns { select, allocation } => {
             report_luns(alloc, control.place(), select, allocation)
+        }
+        Command::PersistentReserveIn { action, allocation } => {
+            reservation_data(control.registry(), action, allocation)
         }
         Command::ReadCapacity10 => read_capacity_10(alloc, control.total()),
         Command::ReadCapacity16 { allocation } => {

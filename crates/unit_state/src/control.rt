@@ -1,23 +1,15 @@
 //! All of a unit but its device.
-ghost use Rattle.std.specs.Prelude.{◌≡◌, ◌+◌, ℕ, ◌<◌, ◌≤◌, ◌↔◌, ◌&&◌, nat_lt, nat_le, List, length, Option, Some, None, Ok, IfOk, OnErr, IsErr, MatchResult};
-ghost use Rattle.std.specs.Bool.{MatchBool};
-ghost use Rattle.scsi_types.specs.Sense.{lba_out_of_range, saving_parameters_not_supported};
-ghost use Rattle.unit_state.specs.Medium.{range_of, work_of};
+ghost use Rattle.std.specs.Prelude.{◌≡◌, ◌+◌, ℕ, ◌<◌, ◌≤◌, ◌↔◌, length, IfOk, OnErr, IsErr};
 ghost use Rattle.unit_state.specs.Places.{IsPlaceOf};
-ghost use Rattle.unit_state.specs.Refusal.{range_by, saved_by};
 ghost use Rattle.unit_state.specs.State.{preferred};
 
-use crate::ops::{kind_asked, passes_attention};
-use crate::refusal::Refusal;
 use crate::sessions::{
-    Attached, MOST_SESSIONS, Sender, SessionId, end, pass_at, place_of, replace, reset, staying,
-    tell_at,
+    Attached, MOST_SESSIONS, Sender, SessionId, end, hear_all, pass_at, place_of, replace, reset,
+    staying, tell_at,
 };
 use attentions::Pending;
-use scsi_types::{
-    Asked, CdbFault, Command, Group, NoMemory, PageControl, Place, PortName, Sense, UnitAttention,
-    need,
-};
+use reservations::{Access, PrEnd, PrOut, Registry};
+use scsi_types::{Group, NoMemory, Place, PortName, Reply, Sense, UnitAttention};
 use std::alloc::Global;
 use std::marker::Model;
 use thiserror::Error;
@@ -49,12 +41,13 @@ pub enum Route {
     At(usize),
 }
 
-/// All of a unit but its device: who is attached and what each is to be told, and who owns it.
+/// All of a unit but its device: who is attached and what each is to be told, who is registered, and who owns it.
 #[derive(Drop)]
 pub struct Control {
     place: Place,
     total: u32,
     owner: Group,
+    registry: Registry,
     sessions: Vec<Attached>,
     count: u64,
 }
@@ -65,7 +58,7 @@ impl Model for Control {
 
     ghost Value = { ControlValue };
 
-    ghost view = { λ u. record { place = u.place; total = u.total; owner = u.owner; sessions = u.sessions.items; count = u.count } };
+    ghost view = { λ u. record { place = u.place; total = u.total; owner = u.owner; registry = u.registry; sessions = u.sessions.items; count = u.count } };
 
     ghost invariant = { λ u. All (λ a. a.next ≤ u.count) u.sessions.items × (64 ≤ vec_capacity u.sessions) };
 }
@@ -75,19 +68,22 @@ impl Control {
     ghost use Rattle.unit_state.specs.State.{opening_control};
     ghost use Rattle.unit_state.specs.Entry.{Attach, Detach, Reset, HasRoom, IsAttached, control_after, pass};
     ghost use Rattle.unit_state.specs.Places.{Stays};
-    ghost use Rattle.unit_state.specs.Refusal.{attention_rule, request, tell};
-    ghost use Rattle.unit_state.specs.Route.{IsAdmitted, IsRefused, IsRouteOf};
-    ghost use Rattle.unit_state.specs.Sessions.{group_of, first_pending};
+    ghost use Rattle.unit_state.specs.Refusal.{is_let, tell};
+    ghost use Rattle.unit_state.specs.Reserve.{after_effect, effect_by, effect_reply};
+    ghost use Rattle.unit_state.specs.Route.{IsRouteOf};
+    ghost use Rattle.unit_state.specs.Sessions.{first_pending, sender_of};
 
-    /// As a unit of so many blocks opens: its preferred group owns it, and no session is attached.
+    /// As a unit of so many blocks opens: its preferred group owns it, nobody is registered, and no session is attached.
     pub fn new(alloc: Global, place: Place, total: u32) -> Result<Control, NoMemory>
         ensures { IfOk result (λ c. c ≡ opening_control place total) }
     {
         let sessions = Vec::with_capacity(alloc, MOST_SESSIONS)?;
+        let registry = Registry::new(alloc)?;
         Ok(Control {
             place,
             total,
             owner: preferred(place.unit),
+            registry,
             sessions,
             count: 0,
         })
@@ -195,9 +191,25 @@ impl Control {
     /// The group by which a session's commands come.
     pub fn group(&self, sender: Sender) -> Group
         requires { IsPlaceOf self.now.sessions sender.session sender.at }
-        ensures { result ≡ group_of self.now.sessions sender.session }
+        ensures { result ≡ (sender_of self.now.sessions sender.session).group }
     {
         self.sessions[sender.at].group
+    }
+
+    /// Who is registered, and who holds the reservation.
+    pub fn registry(&self) -> &Registry
+        ensures { result.now ≡ self.now.registry }
+    {
+        &self.registry
+    }
+
+    /// Whether the reservation lets a session do this.
+    pub fn allows(&self, sender: Sender, access: Access) -> bool
+        requires { IsPlaceOf self.now.sessions sender.session sender.at }
+        ensures { result ≡ is_let self.now (sender_of self.now.sessions sender.session) access }
+    {
+        let attached = &self.sessions[sender.at];
+        self.registry.allows(&attached.port, attached.group, access)
     }
 
     /// The attention that a session is told next.
@@ -217,43 +229,31 @@ impl Control {
         tell_at(&mut self.sessions, sender.at);
     }
 
-    /// The command, where no rule refuses it: nothing else is to be told first, its data is there, and its range lies
-    /// within the unit.
-    pub fn admit(&self, sender: Sender, asked: Asked, bytes: &[u8]) -> Result<Command, Refusal>
-        requires { IsPlaceOf self.now.sessions sender.session sender.at }
-        ensures { let r = request sender.session asked bytes.now in
-            MatchResult result (IsAdmitted self.now r) (IsRefused self.now r) }
+    /// Does a PERSISTENT RESERVE OUT of a session, and tells who is to hear of it. A refusal, and a want of memory,
+    /// changes nothing.
+    pub fn reserve(
+        &mut self,
+        alloc: Global,
+        sender: Sender,
+        asked: PrOut,
+    ) -> Result<Reply, NoMemory>
+        requires { IsPlaceOf self.old.sessions sender.session sender.at }
+        ensures reply { IfOk result (λ reply. reply ≡ effect_reply (effect_by self.old sender.session asked)) }
+        ensures after { IfOk result (λ reply. self.new ≡ after_effect self.old (effect_by self.old sender.session asked)) }
+        ensures stays { Stays self.old self.new sender.session sender.at }
+        ensures err { OnErr result (self.new ≡ self.old) }
     {
-        if let Some(refusal) = self.attention(sender, &asked) {
-            return Err(refusal);
+        let attached = &self.sessions[sender.at];
+        match self.registry.out(&attached.port, attached.group, asked) {
+            PrEnd::Good(told) => {
+                hear_all(&mut self.sessions, &told);
+                Ok(Reply::good(Vec::new(alloc)))
+            }
+            PrEnd::Conflict => Ok(Reply::conflict(alloc)),
+            PrEnd::Illegal(asc, ascq) => Ok(Reply::check(alloc, Sense::new(0x05, asc, ascq))),
+            PrEnd::TableFull => Ok(Reply::check(alloc, Sense::INSUFFICIENT_REGISTRATION_RESOURCES)),
+            PrEnd::NoMemory => Err(NoMemory),
         }
-        let command = match asked {
-            Ok(command) => command,
-            Err(CdbFault::UnknownOpcode) => return Err(Refusal::Check(Sense::INVALID_OPCODE)),
-            Err(CdbFault::BadField(_)) => return Err(Refusal::Check(Sense::INVALID_FIELD_IN_CDB)),
-        };
-        if (bytes.len() as u64) < u64::from(need(&command)) {
-            return Err(Refusal::Check(Sense::INVALID_FIELD_IN_CDB));
-        }
-        if asks_saved(&command) {
-            return Err(Refusal::Check(Sense::SAVING_PARAMETERS_NOT_SUPPORTED));
-        }
-        if !is_within(&command, self.total) {
-            return Err(Refusal::Check(Sense::LBA_OUT_OF_RANGE));
-        }
-        Ok(command)
-    }
-
-    /// What a session is to be told before this command is looked at.
-    fn attention(&self, sender: Sender, asked: &Asked) -> Option<Refusal>
-        requires { IsPlaceOf self.now.sessions sender.session sender.at }
-        ensures { (bytes : List ℕ) → result ≡ attention_rule self.now (request sender.session asked.now bytes) }
-    {
-        let attention = self.first(sender)?;
-        if passes_attention(kind_asked(asked)) {
-            return None;
-        }
-        Some(Refusal::Attention(attention))
     }
 
     /// Counts one command more of a session.
@@ -277,42 +277,4 @@ fn preferred(unit: u8) -> Group
     } else {
         Group::Two
     }
-}
-
-/// Whether a command asks for saved values of mode pages.
-fn asks_saved(command: &Command) -> bool
-    ensures { MatchBool result
-        (saved_by (Ok command.now) ≡ Some (Refusal.Check saving_parameters_not_supported))
-        (saved_by (Ok command.now) ≡ None) }
-{
-    match command {
-        Command::ModeSense {
-            control: PageControl::Saved,
-            ..
-        } => true,
-        _ => false,
-    }
-}
-
-/// Whether the range of a command lies within a unit of so many blocks, its LBA too where it is empty (SBC-3, READ
-/// (10) command). A command without a range does.
-fn is_within(command: &Command, total: u32) -> bool
-    ensures { (bytes : List ℕ) → MatchBool result
-        (range_by total (range_of (work_of command.now bytes)) ≡ None)
-        (range_by total (range_of (work_of command.now bytes)) ≡ Some (Refusal.Check lba_out_of_range)) }
-{
-    match command {
-        Command::Read { lba, blocks, .. }
-        | Command::Write { lba, blocks, .. }
-        | Command::CompareAndWrite { lba, blocks, .. } => holds(*lba, u32::from(*blocks), total),
-        Command::SynchronizeCache { lba, blocks } => holds(*lba, *blocks, total),
-        _ => true,
-    }
-}
-
-/// Whether a range lies within so many blocks.
-fn holds(lba: u64, blocks: u32, total: u32) -> bool
-    ensures { result ≡ nat_lt lba total && nat_le (lba + blocks) total }
-{
-    lba < u64::from(total) && lba + u64::from(blocks) <= u64::from(total)
 }

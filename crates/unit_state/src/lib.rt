@@ -7,6 +7,8 @@ pub mod laws;
 mod medium;
 mod ops;
 mod refusal;
+mod reserve;
+mod rules;
 mod sessions;
 mod unit;
 

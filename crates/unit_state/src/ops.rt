@@ -1,7 +1,8 @@
-//! The kind of a command.
+//! The kind of a command, and what the kind alone decides.
 ghost use Rattle.std.specs.Prelude.{◌≡◌};
-ghost use Rattle.unit_state.specs.Ops.{kind_of, kind_asked, passes_attention};
+ghost use Rattle.unit_state.specs.Ops.{access_of, is_served, kind_of, kind_asked, passes_attention};
 
+use reservations::Access;
 use scsi_types::{Asked, CdbFault, Command, Op};
 
 /// The kind of a command, also of one with a bad field.
@@ -28,7 +29,11 @@ fn kind_of(command: &Command) -> Op
         Command::Write { .. } => Op::Write,
         Command::CompareAndWrite { .. } => Op::CompareAndWrite,
         Command::SynchronizeCache { .. } => Op::SynchronizeCache,
+        Command::PersistentReserveIn { .. } => Op::PersistentReserveIn,
+        Command::PersistentReserveOut { .. } => Op::PersistentReserveOut,
         Command::ReportLuns { .. } => Op::ReportLuns,
+        Command::ReportTargetPortGroups { .. } => Op::ReportTargetPortGroups,
+        Command::SetTargetPortGroups { .. } => Op::SetTargetPortGroups,
     }
 }
 
@@ -39,5 +44,29 @@ pub fn passes_attention(kind: Option<Op>) -> bool
     match kind {
         Some(Op::Inquiry) | Some(Op::ReportLuns) | Some(Op::RequestSense) => true,
         _ => false,
+    }
+}
+
+/// Whether the unit serves a kind of command: the target port group commands not yet.
+pub fn is_served(kind: Option<Op>) -> bool
+    ensures { result ≡ is_served kind }
+{
+    match kind {
+        None | Some(Op::ReportTargetPortGroups) | Some(Op::SetTargetPortGroups) => false,
+        _ => true,
+    }
+}
+
+/// What a command does with the medium, as a reservation sees it (SPC-4, 5.13.2).
+pub fn access_of(kind: Option<Op>) -> Access
+    ensures { result ≡ access_of kind }
+{
+    match kind {
+        Some(Op::Read) => Access::Read,
+        Some(Op::Write)
+        | Some(Op::CompareAndWrite)
+        | Some(Op::SynchronizeCache)
+        | Some(Op::SetTargetPortGroups) => Access::Write,
+        _ => Access::Other,
     }
 }

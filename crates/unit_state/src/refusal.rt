@@ -9,6 +9,8 @@ use std::alloc::Global;
 pub enum Refusal {
     /// CHECK CONDITION with the sense of an attention that was pending, which is told so.
     Attention(UnitAttention),
+    /// RESERVATION CONFLICT; nothing changes.
+    Conflict,
     /// CHECK CONDITION with this sense; nothing changes.
     Check(Sense),
 }
@@ -22,6 +24,7 @@ impl Refusal {
     {
         match self {
             Refusal::Attention(attention) => Reply::check(alloc, attention.sense()),
+            Refusal::Conflict => Reply::conflict(alloc),
             Refusal::Check(sense) => Reply::check(alloc, sense),
         }
     }

@@ -2,8 +2,11 @@
 ghost use Rattle.std.specs.Prelude.{◌≡◌, ◌<◌, ◌++◌, ◌-◌, ◌^◌, [], ◌∷◌, length, slice_get, None, IfSome, MatchOption, vec_capacity};
 ghost use Rattle.unit_state.specs.Places.{IsChangedAt, IsPlaceOf};
 ghost use Rattle.unit_state.specs.Sessions.{all_reset, ended, heard_reset, is_of, nexus_of, pass_one, session_of, tell_one, without};
+ghost use Rattle.reservations.specs.Notice.{code_told};
+ghost use Rattle.unit_state.specs.Reserve.{all_heard, hear};
 
 use attentions::Pending;
+use reservations::Told;
 use scsi_types::{Group, PortName, UnitAttention};
 
 /// A session's id: the place of its attach among the unit's entries.
@@ -86,6 +89,33 @@ fn hear_reset(attached: &mut Attached, by: SessionId)
     if attached.id != by {
         attached.pending.replace_all(UnitAttention::PowerOn);
     }
+}
+
+/// Tells each session what is told to its nexus, behind what it is to be told already.
+pub fn hear_all(sessions: &mut Vec<Attached>, told: &[Told])
+    ensures items { sessions.new.items ≡ all_heard told.now sessions.old.items }
+    ensures capacity { vec_capacity sessions.new ≡ vec_capacity sessions.old }
+{
+    for attached in sessions.iter_mut() {
+        hear(attached, told);
+    }
+}
+
+fn hear(attached: &mut Attached, told: &[Told])
+    ensures { attached.new ≡ hear told.now attached.old }
+{
+    if let Some(code) = code_told(told, &attached.port, attached.group) {
+        attached.pending.establish(code);
+    }
+}
+
+/// What is told to a nexus.
+fn code_told(told: &[Told], port: &PortName, group: Group) -> Option<UnitAttention>
+    ensures { result ≡ code_told told.now (record { port = port.now; group = group }) }
+{
+    told.iter()
+        .find(|told| told.nexus.is(port, group))
+        .map(|told| told.code)
 }
 
 /// Whether a session is that of a nexus.

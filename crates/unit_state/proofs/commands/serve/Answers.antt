@@ -1,11 +1,11 @@
 use Rattle.std.proofs.Common.{◌≡◌, ◌∙◌, ap, List, ℕ, length, refl, sym, arith}
 use Rattle.std.proofs.lemmas.List.{take_at}
 use Rattle.scsi_types.specs.ReplyValue.{ReplyValue, good}
-use Rattle.unit_state.proofs.Works.{medium_served, other_served, described_served, describes, sync_worked}
+use Rattle.unit_state.proofs.Works.{medium_served, good_served, described_served, reserved_served, fine_reply, unfailed, told_else, sync_worked}
 use Rattle.unit_state.proofs.commands.serve.Goals as goal
 
 pub returns-in-TestUnitReady-clause-served : goal.returns-in-TestUnitReady-clause-served
-returns-in-TestUnitReady-clause-served g c = rw c.in-TestUnitReady.is (other_served _ _ _ _ _ _ _ _ _ refl refl refl (c.good.ensures ∙ ap good c.new.ensures.items))
+returns-in-TestUnitReady-clause-served g c = rw c.in-TestUnitReady.is (good_served _ _ _ _ _ _ _ _ _ refl refl refl (c.good.ensures ∙ ap good c.new.ensures.items))
 
 pub returns-in_ok-out-in-Read-clause-served : goal.returns-in_ok-out-in-Read-clause-served
 returns-in_ok-out-in-Read-clause-served g c =
@@ -29,9 +29,22 @@ returns-in-SynchronizeCache-clause-served g c =
 pub returns-in_ok-sense-in-RequestSense-clause-served : goal.returns-in_ok-sense-in-RequestSense-clause-served
 returns-in_ok-sense-in-RequestSense-clause-served g c =
     let told = c.in_ok-sense-in-RequestSense.ensures in
-    rw c.in-RequestSense.is (other_served _ _ _ _ _ _ _ _ _ refl refl told.told (c.good-in-RequestSense.ensures ∙ ap good told.sense))
+    rw c.in-RequestSense.is (good_served _ _ _ _ _ _ _ _ _ refl refl told.told (c.good-in-RequestSense.ensures ∙ ap good told.sense))
 
 pub returns-in_ok-describe-in_default-clause-served : goal.returns-in_ok-describe-in_default-clause-served
 returns-in_ok-describe-in_default-clause-served g c =
     let d = c.in_default in
-    described_served _ _ _ _ _ _ _ _ (describes _ d.not-TestUnitReady d.not-RequestSense d.not-Read d.not-Write d.not-CompareAndWrite d.not-SynchronizeCache) c.in_ok-describe-in_default.ensures c.good-in_default.ensures
+    described_served _ _ _ _ _ _ _ _ (told_else _ d.not-TestUnitReady d.not-RequestSense d.not-PersistentReserveOut d.not-Read d.not-Write d.not-CompareAndWrite d.not-SynchronizeCache) c.in_ok-describe-in_default.ensures.described c.good-in_default.ensures
+
+pub returns-in_ok-reply-in-PersistentReserveOut-clause-served : goal.returns-in_ok-reply-in-PersistentReserveOut-clause-served
+returns-in_ok-reply-in-PersistentReserveOut-clause-served g c =
+    let of = c.in-PersistentReserveOut in
+    let told = c.in_ok-reply-in-PersistentReserveOut.ensures in
+    let asked = c.pr_out.ensures in
+    rw of.is
+    (reserved_served _ _ _ _ _ _ _ _ _ _ _ _ asked told.reply told.after)
+
+pub returns-in_ok-reply-in-PersistentReserveOut-clause-fine : goal.returns-in_ok-reply-in-PersistentReserveOut-clause-fine
+returns-in_ok-reply-in-PersistentReserveOut-clause-fine g c =
+    let told = c.in_ok-reply-in-PersistentReserveOut.ensures in
+    unfailed c.in_ok-reply-in-PersistentReserveOut.reply (g.B.Blocks.contents c.args.device.now) _ (fine_reply _ _ _ told.reply)

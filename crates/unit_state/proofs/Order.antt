@@ -1,0 +1,219 @@
+-- Rules that refuse a command, or do not.
+use Rattle.std.proofs.Common.{◌≡◌, ℕ, ◌+◌, ◌*◌, ◌<◌, ◌≤◌, Bool, true, false, nat_lt, nat_eq, if◌then◌else◌, List, length, Option, Some, None, Result, Ok, Err, refl, sym, ◌∙◌, ap, arith}
+use Rattle.std.specs.Option.{option_or}
+use Rattle.std.proofs.lemmas.Bool.Decides.{nat_tests}
+use Rattle.scsi_types.specs.Attention.{attention_sense}
+use Rattle.scsi_types.specs.Cdb.{need_of}
+use Rattle.scsi_types.specs.ReplyValue.{check}
+use Rattle.scsi_types.specs.Sense.{parameter_list_length_error, invalid_field_in_parameter_list}
+use Rattle.scsi_types.specs.declared.attention.UnitAttention.{UnitAttention}
+use Rattle.scsi_types.specs.declared.attention.UnitAttention.TheVariants.{PowerOn, ReservationsPreempted, ReservationsReleased, RegistrationsPreempted, AccessStateChanged}
+use Rattle.scsi_types.specs.declared.command.Command.{Command as ScsiCommand}
+use Rattle.scsi_types.specs.declared.command.Command.TheVariants as commands
+use Rattle.scsi_types.specs.declared.command.CdbFault.{CdbFault}
+use Rattle.scsi_types.specs.declared.command.CdbFault.TheVariants.{UnknownOpcode, BadField}
+use Rattle.scsi_types.specs.declared.sense.Sense.{Sense}
+use Rattle.unit_state.specs.declared.refusal.Refusal.{Refusal}
+use Rattle.unit_state.specs.declared.refusal.Refusal.TheVariants.{Attention, Conflict, Check}
+use Rattle.unit_state.specs.State.{ControlValue}
+use Rattle.unit_state.specs.Choice.{Fine, choice_of}
+use Rattle.unit_state.specs.Medium.{Range, Fits, range_of, work_of, work_asked}
+use Rattle.unit_state.specs.Ops.{is_served, kind_asked}
+use Rattle.unit_state.specs.Reserve.{HasList}
+use Rattle.unit_state.specs.Refusal.{Request, request, refusal, refusal_reply, attention_by, attention_rule, conflict_by, conflict_rule, opcode_by, opcode_rule, field_by, field_rule, saved_rule, range_rule, range_by, outside, asks_saved, asks_to_last, list_by, list_length_of, list_rule}
+use Rattle.unit_state.specs.Route.{IsAdmitted, IsRefused}
+
+-- ---- no refusal tells of a failure
+
+abbrev IsQuiet : Option Refusal → Type 0
+IsQuiet o = (refused : Refusal) → o ≡ Some refused → (after : List (List ℕ)) → choice_of (refusal_reply refused) after ≡ Fine
+
+quiet_none : IsQuiet None
+quiet_none refused is after = absurd (cc)
+
+quiet_some : (a : Refusal) → ((after : List (List ℕ)) → choice_of (refusal_reply a) after ≡ Fine) → IsQuiet (Some a)
+quiet_some a quiet refused is after = let e : refused ≡ a = cc in rw e (quiet after)
+
+quiet_or : (a b : Option Refusal) → IsQuiet a → IsQuiet b → IsQuiet (option_or a b)
+quiet_or None b qa qb = qb
+quiet_or (Some s) b qa qb = qa
+
+quiet_unless : (test : Bool) (a : Refusal) → IsQuiet (Some a) → IsQuiet (if test then None else Some a)
+quiet_unless true a q = quiet_none
+quiet_unless false a q = q
+
+quiet_if : (test : Bool) (a : Refusal) → IsQuiet (Some a) → IsQuiet (if test then Some a else None)
+quiet_if true a q = q
+quiet_if false a q = quiet_none
+
+attention_is_fine : (attention : UnitAttention) (after : List (List ℕ)) → choice_of (check (attention_sense attention)) after ≡ Fine
+attention_is_fine PowerOn after = refl
+attention_is_fine ReservationsPreempted after = refl
+attention_is_fine ReservationsReleased after = refl
+attention_is_fine RegistrationsPreempted after = refl
+attention_is_fine AccessStateChanged after = refl
+
+quiet_attention : (first : Option UnitAttention) (passes : Bool) → IsQuiet (attention_by first passes)
+quiet_attention None passes = quiet_none
+quiet_attention (Some attention) true = quiet_none
+quiet_attention (Some attention) false = quiet_some (Attention attention) (attention_is_fine attention)
+
+quiet_conflict : (lets : Bool) → IsQuiet (conflict_by lets)
+quiet_conflict true = quiet_none
+quiet_conflict false = quiet_some Conflict (λ after. refl)
+
+quiet_field : (asked : Result ScsiCommand CdbFault) (bytes : List ℕ) → IsQuiet (field_by asked bytes)
+quiet_field (Ok command) bytes = quiet_if (nat_lt (length bytes) (need_of (Ok command))) _ (quiet_some _ (λ after. refl))
+quiet_field (Err (BadField op)) bytes = quiet_some _ (λ after. refl)
+quiet_field (Err UnknownOpcode) bytes = quiet_none
+
+quiet_range : (total : ℕ) (range : Option Range) → IsQuiet (range_by total range)
+quiet_range total None = quiet_none
+quiet_range total (Some r) = quiet_unless _ _ (quiet_some _ (λ after. refl))
+
+quiet_list_of : (long lasts : Bool) → IsQuiet (if long then (if lasts then Some (Check invalid_field_in_parameter_list) else None) else Some (Check parameter_list_length_error))
+quiet_list_of true lasts = quiet_if lasts _ (quiet_some _ (λ after. refl))
+quiet_list_of false lasts = quiet_some _ (λ after. refl)
+
+quiet_list : (list_length : Option ℕ) (lasts : Bool) → IsQuiet (list_by list_length lasts)
+quiet_list None lasts = quiet_none
+quiet_list (Some n) lasts = quiet_list_of (nat_eq n 24) lasts
+
+quiet_rules : (c : ControlValue) (r : Request) → IsQuiet (refusal c r)
+quiet_rules c r =
+    quiet_or (attention_rule c r) _ (quiet_attention _ _)
+    (quiet_or (opcode_rule c r) _ (quiet_unless (is_served (kind_asked r.asked)) _ (quiet_some _ (λ after. refl)))
+    (quiet_or (conflict_rule c r) _ (quiet_conflict _)
+    (quiet_or (field_rule c r) _ (quiet_field r.asked r.bytes)
+    (quiet_or (saved_rule c r) _ (quiet_if (asks_saved r.asked) _ (quiet_some _ (λ after. refl)))
+    (quiet_or (range_rule c r) _ (quiet_range c.total (range_of (work_asked r.asked r.bytes)))
+    (quiet_or (list_rule c r) None (quiet_list (list_length_of r.asked) (asks_to_last r.asked r.bytes)) quiet_none))))))
+
+pub refused_by : (c : ControlValue) (r : Request) (refused : Refusal) → Some refused ≡ refusal c r → IsRefused c r refused
+refused_by c r refused is = record { refuses = sym is; fine = quiet_rules c r refused (sym is) }
+
+-- ---- where nothing refuses a command, no rule did
+
+none_left : (a b : Option Refusal) → option_or a b ≡ None → a ≡ None
+none_left None b h = refl
+none_left (Some a) b h = absurd (cc)
+
+none_right : (a b : Option Refusal) → option_or a b ≡ None → b ≡ None
+none_right None b h = h
+none_right (Some a) b h = absurd (cc)
+
+module _ (c : ControlValue) (r : Request) (none : refusal c r ≡ None) where
+  abbrev of_range : Option Refusal
+  of_range = option_or (range_rule c r) (option_or (list_rule c r) None)
+
+  abbrev of_field : Option Refusal
+  of_field = option_or (field_rule c r) (option_or (saved_rule c r) of_range)
+
+  behind_kind : of_field ≡ None
+  behind_kind =
+      none_right (conflict_rule c r) of_field
+      (none_right (opcode_rule c r) (option_or (conflict_rule c r) of_field)
+      (none_right (attention_rule c r) (option_or (opcode_rule c r) (option_or (conflict_rule c r) of_field)) none))
+
+  behind_saved : of_range ≡ None
+  behind_saved = none_right (saved_rule c r) of_range (none_right (field_rule c r) (option_or (saved_rule c r) of_range) behind_kind)
+
+  pub no_attention : attention_rule c r ≡ None
+  no_attention = none_left (attention_rule c r) (option_or (opcode_rule c r) (option_or (conflict_rule c r) of_field)) none
+
+  pub known : opcode_rule c r ≡ None
+  known =
+      none_left (opcode_rule c r) (option_or (conflict_rule c r) of_field)
+      (none_right (attention_rule c r) (option_or (opcode_rule c r) (option_or (conflict_rule c r) of_field)) none)
+
+  pub whole : field_rule c r ≡ None
+  whole = none_left (field_rule c r) (option_or (saved_rule c r) of_range) behind_kind
+
+  pub ranged : range_rule c r ≡ None
+  ranged = none_left (range_rule c r) (option_or (list_rule c r) None) behind_saved
+
+  pub listed : list_rule c r ≡ None
+  listed = none_left (list_rule c r) None (none_right (range_rule c r) (option_or (list_rule c r) None) behind_saved)
+
+-- a CDB that asks for nothing is refused
+known_fault : (fault : CdbFault) (bytes : List ℕ) → opcode_by (kind_asked (Err fault)) ≡ None → field_by (Err fault) bytes ≡ None → ⊥
+known_fault UnknownOpcode bytes known whole = cc
+known_fault (BadField op) bytes known whole = cc
+
+pub asks_something : (c : ControlValue) (session : ℕ) (asked : Result ScsiCommand CdbFault) (bytes : List ℕ) (fault : CdbFault) → None ≡ refusal c (request session asked bytes) → asked ≡ Err fault → ⊥
+asks_something c session asked bytes fault none is =
+    let nothing : refusal c (request session (Err fault) bytes) ≡ None = rw is at (sym none) in
+    known_fault fault bytes (known c (request session (Err fault) bytes) nothing) (whole c (request session (Err fault) bytes) nothing)
+
+-- ---- what lets a command through
+
+pub within : (total : ℕ) (r : Range) → outside total r ≡ None → r.lba + r.blocks ≤ total
+within total r h = grind (arith, nat_tests)
+
+not_if : (test : Bool) (a : Refusal) → (if test then Some a else None) ≡ None → test ≡ false
+not_if true a h = absurd (cc)
+not_if false a h = refl
+
+not_unless : (test : Bool) (a : Refusal) (b : Option Refusal) → (if test then b else Some a) ≡ None → test ≡ true
+not_unless true a b h = refl
+not_unless false a b h = absurd (cc)
+
+enough : (command : ScsiCommand) (bytes : List ℕ) → field_by (Ok command) bytes ≡ None → need_of (Ok command) ≤ length bytes
+enough command bytes h =
+    let not_short : nat_lt (length bytes) (need_of (Ok command)) ≡ false = not_if _ _ h in
+    grind (arith, nat_tests)
+
+fitting : (total : ℕ) (command : ScsiCommand) (bytes : List ℕ) → need_of (Ok command) ≤ length bytes → range_by total (range_of (work_of command bytes)) ≡ None → Fits total (work_of command bytes)
+fitting total commands.TestUnitReady bytes le h = tt
+fitting total (commands.RequestSense n) bytes le h = tt
+fitting total (commands.Inquiry page n) bytes le h = tt
+fitting total (commands.ModeSense header control page n) bytes le h = tt
+fitting total commands.ReadCapacity10 bytes le h = tt
+fitting total (commands.ReadCapacity16 n) bytes le h = tt
+fitting total (commands.Read lba n fua) bytes le h = within total (record { lba = lba; blocks = n }) h
+fitting total (commands.Write lba n fua) bytes le h = (within total (record { lba = lba; blocks = n }) h, omega arith)
+fitting total (commands.CompareAndWrite lba n fua) bytes le h = (within total (record { lba = lba; blocks = n }) h, omega arith)
+fitting total (commands.SynchronizeCache lba n) bytes le h = tt
+fitting total (commands.PersistentReserveIn action n) bytes le h = tt
+fitting total (commands.PersistentReserveOut action scope kind n) bytes le h = tt
+fitting total (commands.ReportLuns select n) bytes le h = tt
+fitting total (commands.ReportTargetPortGroups n) bytes le h = tt
+fitting total (commands.SetTargetPortGroups n) bytes le h = tt
+
+listing : (command : ScsiCommand) (bytes : List ℕ) → need_of (Ok command) ≤ length bytes → list_by (list_length_of (Ok command)) (asks_to_last (Ok command) bytes) ≡ None → HasList command bytes
+listing commands.TestUnitReady bytes le h = tt
+listing (commands.RequestSense n) bytes le h = tt
+listing (commands.Inquiry page n) bytes le h = tt
+listing (commands.ModeSense header control page n) bytes le h = tt
+listing commands.ReadCapacity10 bytes le h = tt
+listing (commands.ReadCapacity16 n) bytes le h = tt
+listing (commands.Read lba n fua) bytes le h = tt
+listing (commands.Write lba n fua) bytes le h = tt
+listing (commands.CompareAndWrite lba n fua) bytes le h = tt
+listing (commands.SynchronizeCache lba n) bytes le h = tt
+listing (commands.PersistentReserveIn action n) bytes le h = tt
+listing (commands.PersistentReserveOut action scope kind n) bytes le h =
+    let is : nat_eq n 24 ≡ true = not_unless (nat_eq n 24) _ _ h in
+    rw is at le
+listing (commands.ReportLuns select n) bytes le h = tt
+listing (commands.ReportTargetPortGroups n) bytes le h = tt
+listing (commands.SetTargetPortGroups n) bytes le h = tt
+
+pub admitted : (c : ControlValue) (session : ℕ) (asked : Result ScsiCommand CdbFault) (bytes : List ℕ) (command : ScsiCommand) → None ≡ refusal c (request session asked bytes) → asked ≡ Ok command → IsAdmitted c (request session asked bytes) command
+admitted c session asked bytes command none is =
+    let nothing : refusal c (request session (Ok command) bytes) ≡ None = rw is at (sym none) in
+    let r : Request = request session (Ok command) bytes in
+    let le : need_of (Ok command) ≤ length bytes = enough command bytes (whole c r nothing) in
+    record { asks = is; unrefused = sym none; fits = fitting c.total command bytes le (ranged c r nothing); list = listing command bytes le (listed c r nothing) }
+
+-- ---- the rules one after the other
+
+pub in_order : (a b c d e f g : Option Refusal) → option_or (option_or (option_or (option_or (option_or (option_or a b) c) d) e) f) g ≡ option_or a (option_or b (option_or c (option_or d (option_or e (option_or f (option_or g None))))))
+in_order (Some x) b c d e f g = refl
+in_order None (Some x) c d e f g = refl
+in_order None None (Some x) d e f g = refl
+in_order None None None (Some x) e f g = refl
+in_order None None None None (Some x) f g = refl
+in_order None None None None None (Some x) g = refl
+in_order None None None None None None (Some x) = refl
+in_order None None None None None None None = refl

@@ -1,0 +1,79 @@
+-- PERSISTENT RESERVE IN and OUT as a unit serves them (SPC-4, 5.13, 6.15 and 6.16): the parameter list, the data, and
+-- what the table of service actions in `reservations` makes of the unit.
+use Rattle.std.specs.Prelude.{ℕ, ◌/◌, ◌%◌, ◌==◌, ◌≤◌, Bool, List, [], drop, map, length, slice_index, Option, Some, None}
+use Rattle.byteorder.specs.Endian.{big_number}
+use Rattle.attentions.specs.Queue.{established}
+use Rattle.reservations.specs.declared.request.PrOut.{PrOut}
+use Rattle.reservations.specs.declared.request.Told.{Told}
+use Rattle.reservations.specs.Notice.{code_told}
+use Rattle.reservations.specs.Reading.{keys_bytes, reservation_bytes, capabilities_bytes, full_status_bytes}
+use Rattle.reservations.specs.Registry.{RegistryValue}
+use Rattle.reservations.specs.Rows.{Effect, Done, Conflicting, Refused, Full}
+use Rattle.reservations.specs.Table.{effect_of}
+use Rattle.scsi_types.specs.ReplyValue.{ReplyValue, good, check, conflict}
+use Rattle.scsi_types.specs.Sense.{sense, insufficient_registration_resources}
+use Rattle.scsi_types.specs.declared.attention.UnitAttention.{UnitAttention}
+use Rattle.scsi_types.specs.declared.command.Command.{Command}
+use Rattle.scsi_types.specs.declared.command.Command.TheVariants.{PersistentReserveOut}
+use Rattle.scsi_types.specs.declared.reservation.PrInAction.{PrInAction}
+use Rattle.scsi_types.specs.declared.reservation.PrInAction.TheVariants.{ReadKeys, ReadReservation, ReportCapabilities, ReadFullStatus}
+use Rattle.scsi_types.specs.declared.reservation.PrOutAction.{PrOutAction}
+use Rattle.unit_state.specs.declared.reserve.TheConstants.{ALL_TG_PT, APTPL, LIST_LENGTH, SPEC_I_PT}
+use Rattle.unit_state.specs.declared.sessions.Attached.{Attached}
+use Rattle.unit_state.specs.State.{ControlValue}
+use Rattle.unit_state.specs.Sessions.{nexus_of, sender_of}
+
+-- ---- the parameter list of PERSISTENT RESERVE OUT (SPC-4, 6.16.3)
+
+-- a flag of byte 20, by its value
+abbrev pub flag_of : ℕ → List ℕ → Bool
+flag_of value list = slice_index list 20 / value % 2 == 1
+
+-- RESERVATION KEY, SERVICE ACTION RESERVATION KEY, and the flags, with the fields of the CDB
+abbrev pub pr_out : PrOutAction → ℕ → ℕ → List ℕ → PrOut
+pr_out action scope kind list =
+    record { action = action; scope = scope; kind = kind; key = big_number 8 list; sakey = big_number 8 (drop 8 list); spec_i_pt = flag_of SPEC_I_PT list; all_tg_pt = flag_of ALL_TG_PT list; aptpl = flag_of APTPL list }
+
+-- the list of the command came whole
+abbrev pub HasList : Command → List ℕ → Type 0
+HasList (PersistentReserveOut action scope kind list_length) bytes = LIST_LENGTH ≤ length bytes
+HasList command bytes = Unit {0}
+
+-- ---- what it does
+
+abbrev pub effect_by : ControlValue → ℕ → PrOut → Effect
+effect_by c session asked = effect_of c.registry (sender_of c.sessions session) asked
+
+-- how its effect is answered
+abbrev pub effect_reply : Effect → ReplyValue
+effect_reply (Done new told) = good []
+effect_reply Conflicting = conflict
+effect_reply (Refused asc ascq) = check (sense 0x05 asc ascq)
+effect_reply Full = check insufficient_registration_resources
+
+-- The condition that a session hears of waits behind the others (SAM-5, 5.14). It is the one that is told to its nexus; a
+-- condition for a nexus of which no session is attached is told to nobody.
+abbrev pub with_heard : Option UnitAttention → List UnitAttention → List UnitAttention
+with_heard None pending = pending
+with_heard (Some code) pending = established pending code
+
+abbrev pub hear : List Told → Attached → Attached
+hear told a = record a { pending = with_heard (code_told told (nexus_of a)) a.pending }
+
+abbrev pub all_heard : List Told → List Attached → List Attached
+all_heard told sessions = map (hear told) sessions
+
+-- and what it leaves: only GOOD changes anything
+abbrev pub after_effect : ControlValue → Effect → ControlValue
+after_effect c (Done new told) = record c { registry = new; sessions = all_heard told c.sessions }
+after_effect c Conflicting = c
+after_effect c (Refused asc ascq) = c
+after_effect c Full = c
+
+-- ---- the data of PERSISTENT RESERVE IN (SPC-4, 6.15)
+
+abbrev pub in_data : RegistryValue → PrInAction → List ℕ
+in_data r ReadKeys = keys_bytes r
+in_data r ReadReservation = reservation_bytes r
+in_data r ReportCapabilities = capabilities_bytes r.aptpl
+in_data r ReadFullStatus = full_status_bytes r

@@ -1,0 +1,172 @@
+//! The rules that refuse a command, in their order.
+ghost use Rattle.std.specs.Prelude.{◌≡◌, ◌+◌, ◌&&◌, ℕ, List, Ok, Some, None, nat_lt, nat_le, if◌then◌else◌, MatchResult};
+ghost use Rattle.unit_state.specs.Medium.{range_of, work_asked};
+ghost use Rattle.unit_state.specs.Ops.{access_of, passes_attention};
+ghost use Rattle.unit_state.specs.Places.{IsPlaceOf};
+ghost use Rattle.unit_state.specs.Refusal.{attention_by, conflict_by, field_by, is_let, list_by, list_length_of, asks_saved, asks_to_last, opcode_by, outside, range_by, refusal, request};
+ghost use Rattle.scsi_types.specs.Sense.{saving_parameters_not_supported};
+ghost use Rattle.unit_state.specs.Reserve.{flag_of};
+ghost use Rattle.reservations.specs.Rows.{is_registering};
+ghost use Rattle.unit_state.specs.Route.{IsAdmitted, IsRefused};
+ghost use Rattle.unit_state.specs.Sessions.{first_pending, sender_of};
+
+use crate::control::Control;
+use crate::ops::{access_of, is_served, kind_asked, passes_attention};
+use crate::refusal::Refusal;
+use crate::reserve::{APTPL, LIST_LENGTH, has_flag};
+use crate::sessions::Sender;
+use scsi_types::{Asked, CdbFault, Command, Op, PageControl, PrOutAction, Sense, need};
+
+/// The command, where no rule refuses it.
+pub fn admit(
+    control: &Control,
+    sender: Sender,
+    asked: Asked,
+    bytes: &[u8],
+) -> Result<Command, Refusal>
+    requires { IsPlaceOf control.now.sessions sender.session sender.at }
+    ensures { let r = request sender.session asked bytes.now in
+        MatchResult result (IsAdmitted control.now r) (IsRefused control.now r) }
+{
+    if let Some(refusal) = first_refusal(control, sender, &asked, bytes) {
+        return Err(refusal);
+    }
+    match asked {
+        Ok(command) => Ok(command),
+        Err(_) => unreachable!(),
+    }
+}
+
+/// The refusal of the first rule that applies. Each looks at a field or two, so that all are asked at once.
+fn first_refusal(control: &Control, sender: Sender, asked: &Asked, bytes: &[u8]) -> Option<Refusal>
+    requires { IsPlaceOf control.now.sessions sender.session sender.at }
+    ensures { result ≡ refusal control.now (request sender.session asked.now bytes.now) }
+{
+    let kind = kind_asked(asked);
+    attention(control, sender, kind)
+        .or(opcode(kind))
+        .or(conflict(control, sender, kind))
+        .or(field(asked, bytes))
+        .or(saved(asked))
+        .or(range(asked, control.total()))
+        .or(list(asked, bytes))
+}
+
+/// An attention is pending, and the command is none that it lets pass (SAM-5, 5.14).
+fn attention(control: &Control, sender: Sender, kind: Option<Op>) -> Option<Refusal>
+    requires { IsPlaceOf control.now.sessions sender.session sender.at }
+    ensures { result ≡ attention_by (first_pending control.now.sessions sender.session) (passes_attention kind) }
+{
+    let attention = control.first(sender)?;
+    if passes_attention(kind) {
+        return None;
+    }
+    Some(Refusal::Attention(attention))
+}
+
+/// The opcode is that of no command that is served.
+fn opcode(kind: Option<Op>) -> Option<Refusal>
+    ensures { result ≡ opcode_by kind }
+{
+    if is_served(kind) {
+        return None;
+    }
+    Some(Refusal::Check(Sense::INVALID_OPCODE))
+}
+
+/// The reservation does not let the nexus do this (SPC-4, 5.13.2).
+fn conflict(control: &Control, sender: Sender, kind: Option<Op>) -> Option<Refusal>
+    requires { IsPlaceOf control.now.sessions sender.session sender.at }
+    ensures { result ≡ conflict_by (is_let control.now (sender_of control.now.sessions sender.session) (access_of kind)) }
+{
+    if control.allows(sender, access_of(kind)) {
+        return None;
+    }
+    Some(Refusal::Conflict)
+}
+
+/// A field of the CDB is bad, or less data came than the command needs.
+fn field(asked: &Asked, bytes: &[u8]) -> Option<Refusal>
+    ensures { result ≡ field_by asked.now bytes.now }
+{
+    match asked {
+        Ok(command) if (bytes.len() as u64) < u64::from(need(command)) => {
+            Some(Refusal::Check(Sense::INVALID_FIELD_IN_CDB))
+        }
+        Err(CdbFault::BadField(_)) => Some(Refusal::Check(Sense::INVALID_FIELD_IN_CDB)),
+        Ok(_) | Err(CdbFault::UnknownOpcode) => None,
+    }
+}
+
+/// Saved values of mode pages are asked for: none are saved (SPC-4, 6.13.1).
+fn saved(asked: &Asked) -> Option<Refusal>
+    ensures { result ≡ (if asks_saved asked.now then Some (Refusal.Check saving_parameters_not_supported) else None) }
+{
+    match asked {
+        Ok(
+            Command::ModeSense {
+                control: PageControl::Saved,
+                ..
+            },
+        ) => Some(Refusal::Check(Sense::SAVING_PARAMETERS_NOT_SUPPORTED)),
+        _ => None,
+    }
+}
+
+/// The range passes the end of a unit of so many blocks.
+fn range(asked: &Asked, total: u32) -> Option<Refusal>
+    ensures { (bytes : List ℕ) → result ≡ range_by total (range_of (work_asked asked.now bytes)) }
+{
+    match asked {
+        Ok(Command::Read { lba, blocks, .. })
+        | Ok(Command::Write { lba, blocks, .. })
+        | Ok(Command::CompareAndWrite { lba, blocks, .. }) => {
+            outside(*lba, u32::from(*blocks), total)
+        }
+        Ok(Command::SynchronizeCache { lba, blocks }) => outside(*lba, *blocks, total),
+        _ => None,
+    }
+}
+
+/// The LBA or the range passes the end, the LBA of an empty range too (SBC-3, READ (10) command).
+fn outside(lba: u64, blocks: u32, total: u32) -> Option<Refusal>
+    ensures { result ≡ outside total (record { lba = lba; blocks = blocks }) }
+{
+    if lba < u64::from(total) && lba + u64::from(blocks) <= u64::from(total) {
+        return None;
+    }
+    Some(Refusal::Check(Sense::LBA_OUT_OF_RANGE))
+}
+
+/// A PERSISTENT RESERVE OUT with a parameter list of another length, or that is to outlast a loss of power.
+fn list(asked: &Asked, bytes: &[u8]) -> Option<Refusal>
+    ensures { result ≡ list_by (list_length_of asked.now) (asks_to_last asked.now bytes.now) }
+{
+    let Ok(
+        Command::PersistentReserveOut {
+            action,
+            list_length,
+            ..
+        },
+    ) = asked
+    else {
+        return None;
+    };
+    if *list_length != LIST_LENGTH {
+        return Some(Refusal::Check(Sense::PARAMETER_LIST_LENGTH_ERROR));
+    }
+    if registers(*action) && has_flag(bytes, APTPL) {
+        return Some(Refusal::Check(Sense::INVALID_FIELD_IN_PARAMETER_LIST));
+    }
+    None
+}
+
+/// Whether a service action registers its nexus.
+fn registers(action: PrOutAction) -> bool
+    ensures { result ≡ is_registering action }
+{
+    match action {
+        PrOutAction::Register | PrOutAction::RegisterAndIgnoreExistingKey => true,
+        _ => false,
+    }
+}
