@@ -52,10 +52,12 @@ impl Reply {
     pub fn conflict(alloc: Global) -> Self
         ensures { result ≡ ReplyValue.conflict }
     {
+        let sense = None;
+        let bytes = Vec::new(alloc);
         Reply {
             status: Status::ReservationConflict,
-            sense: None,
-            bytes: Vec::new(alloc),
+            sense,
+            bytes,
         }
     }
 

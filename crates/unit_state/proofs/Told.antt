@@ -5,6 +5,11 @@ use Rattle.std.specs.Option.{option_map}
 use Rattle.std.proofs.lemmas.Bool.Decides.{eqb_tells}
 use Rattle.attentions.specs.Queue.{is_pending, without_repeats}
 use Rattle.reservations.specs.declared.request.Told.{Told}
+use Rattle.reservations.specs.declared.request.PrOut.{PrOut}
+use Rattle.reservations.specs.Notice.{code_told}
+use Rattle.reservations.specs.Registry.{RegistryValue}
+use Rattle.reservations.specs.Table.{effect_of}
+use Rattle.scsi_types.specs.Nexus.{Nexus}
 use Rattle.reservations.specs.Rows.{Effect, Done, Conflicting, Refused, Full}
 use Rattle.unit_state.specs.Reserve.{all_heard, hear, after_effect, effect_by, pr_out}
 use Rattle.scsi_types.specs.declared.attention.UnitAttention.{UnitAttention}
@@ -17,7 +22,7 @@ use Rattle.unit_state.specs.declared.refusal.Refusal.TheVariants.{Attention, Con
 use Rattle.unit_state.specs.declared.sessions.Attached.{Attached}
 use Rattle.unit_state.specs.State.{ControlValue, UnitState}
 use Rattle.unit_state.specs.Choice.{Choice}
-use Rattle.unit_state.specs.Sessions.{session_of, next_of, pending_in, pending_of, first_pending, changed, pass_one, passed, tell_one, told, ended, heard_reset, all_reset}
+use Rattle.unit_state.specs.Sessions.{session_of, sender_of, nexus_in, next_of, pending_in, pending_of, first_pending, changed, pass_one, passed, tell_one, told, ended, heard_reset, all_reset}
 use Rattle.unit_state.specs.Ops.{kind_asked, passes_attention}
 use Rattle.unit_state.specs.Refusal.{Request, request, refusal, tell}
 use Rattle.unit_state.specs.Entry.{IsNext, control_with, left_asked}
@@ -106,6 +111,20 @@ told_no_more [] attention apart first = absurd (cc)
 told_no_more (code ∷ later) attention apart first =
     let is : code ≡ attention = cc in
     rw (sym is) (grind arith)
+
+heard_none : (told : List Told) (o : Option Attached) → code_told told (nexus_in o) ≡ None → pending_in (option_map (hear told) o) ≡ pending_in o
+heard_none told None none = refl
+heard_none told (Some a) none = rw none refl
+
+-- where the sender is told nothing, its session has nothing more pending
+pub own_after : ((r : RegistryValue) (n : Nexus) (q : PrOut) (new : RegistryValue) (told : List Told) → effect_of r n q ≡ Done new told → code_told told n ≡ None) → (c : ControlValue) (session : ℕ) (asked : PrOut) (e : Effect) → effect_by c session asked ≡ e
+    → pending_of (after_effect c e).sessions session ≡ pending_of c.sessions session
+own_after untold c session asked (Done new told) is =
+    ap pending_in (session_mapped (hear told) (λ a. refl) c.sessions session)
+    ∙ heard_none told (session_of c.sessions session) (untold c.registry (sender_of c.sessions session) asked new told is)
+own_after untold c session asked Conflicting is = refl
+own_after untold c session asked (Refused asc ascq) is = refl
+own_after untold c session asked Full is = refl
 
 -- ---- resets and ends
 

@@ -1,6 +1,6 @@
 -- Why a command is refused: rules in order, of which the first that applies decides. They look at what does not rest
 -- on the medium, and at the request.
-use Rattle.std.specs.Prelude.{ℕ, ◌+◌, ◌&&◌, Bool, nat_eq, true, false, nat_lt, nat_le, if◌then◌else◌, List, [], ◌∷◌, length, Option, Some, None, Result, Ok, Err}
+use Rattle.std.specs.Prelude.{◌≡◌, ℕ, ◌+◌, ◌&&◌, Bool, nat_eq, true, false, nat_lt, nat_le, if◌then◌else◌, List, [], ◌∷◌, length, Option, Some, None, Result, Ok, Err}
 use Rattle.std.specs.Option.{option_or}
 use Rattle.reservations.specs.declared.request.Access.{Access}
 use Rattle.reservations.specs.Access.{is_let_through, party_of}
@@ -141,3 +141,9 @@ first_refusal (rule ∷ rules) c r = option_or (rule c r) (first_refusal rules c
 -- the refusal of a command before the device is asked
 abbrev pub refusal : ControlValue → Request → Option Refusal
 refusal c r = first_refusal rules_of_unit c r
+
+-- nothing is to be told to the session first, its command is one that is served, and the reservation does not let it
+pub record IsKeptOut (c : ControlValue) (session : ℕ) (asked : Result Command CdbFault) : Type 0 where
+  pub nothing_first : first_pending c.sessions session ≡ None
+  pub served : is_served (kind_asked asked) ≡ true
+  pub not_let : is_let c (sender_of c.sessions session) (access_of (kind_asked asked)) ≡ false

@@ -17,13 +17,13 @@ ghost use Rattle.unit_state.specs.Step.{MayTake, OnRefusal, is_describing, Takes
 ghost use Rattle.unit_state.specs.Worked.{finding_at};
 
 use crate::control::Control;
-use crate::medium::{compare, read, write};
+use crate::medium::{compare, flush, read, write};
 use crate::refusal::Refusal;
 use crate::reserve::{pr_out, reservation_data};
 use crate::rules::admit;
 use crate::sessions::Sender;
 use block_file::{BLOCK_LENGTH, Blocks};
-use compare_write::{MediumEnd, sync};
+use compare_write::MediumEnd;
 use identity::{
     inquiry, mode_sense, read_capacity_10, read_capacity_16, report_luns, request_sense,
 };
@@ -46,11 +46,15 @@ pub fn answer<B: Blocks>(
     ensures stays { Stays control.old control.new sender.session sender.at }
     ensures err { OnErr result ((device.new ≡ device.old) × (control.new ≡ control.old)) }
     ensures memory { OnErr result (TakesMemory control.old (request sender.session asked bytes.now)) }
-    ensures answered { IfOk result (IsAnswer B.claims (unit_of control.old (B.contents device.old)) (unit_of control.new (B.contents device.new))
+    ensures answered { IfOk result (IsAnswer B.claims (unit_of control.old (B.contents device.old))
+        (unit_of control.new (B.contents device.new))
         (request sender.session asked bytes.now)) }
-    ensures unreached { OnRefusal (refusal control.old (request sender.session asked bytes.now)) (device.new ≡ device.old) }
-    ensures fine { IfOk result (λ reply. Tells (B.failures device.old) (B.failures device.new) (IsFine (choice_of reply (B.contents device.new)))) }
-    ensures lasts { IsTrue B.claims → IfOk result (Lasts (B.contents device.new) (B.may_hold device.new) (work_asked asked bytes.now)) }
+    ensures unreached { OnRefusal (refusal control.old (request sender.session asked bytes.now))
+        (device.new ≡ device.old) }
+    ensures fine { IfOk result (λ reply. Tells (B.failures device.old) (B.failures device.new)
+        (IsFine (choice_of reply (B.contents device.new)))) }
+    ensures lasts { IsTrue B.claims → IfOk result (Lasts (B.contents device.new) (B.may_hold device.new)
+        (work_asked asked bytes.now)) }
 {
     let command = match admit(control, sender, asked, bytes) {
         Ok(command) => command,
@@ -90,9 +94,12 @@ fn serve<B: Blocks>(
     ensures stays { Stays control.old control.new sender.session sender.at }
     ensures err { OnErr result ((device.new ≡ device.old) × (control.new ≡ control.old)) }
     ensures memory { OnErr result (MayTake (Ok command)) }
-    ensures served { IfOk result (IsServed B.claims (unit_of control.old (B.contents device.old)) (unit_of control.new (B.contents device.new)) sender.session command bytes.now) }
-    ensures fine { IfOk result (λ reply. Tells (B.failures device.old) (B.failures device.new) (IsFine (choice_of reply (B.contents device.new)))) }
-    ensures lasts { IsTrue B.claims → IfOk result (Lasts (B.contents device.new) (B.may_hold device.new) (work_of command bytes.now)) }
+    ensures served { IfOk result (IsServed B.claims (unit_of control.old (B.contents device.old))
+        (unit_of control.new (B.contents device.new)) sender.session command bytes.now) }
+    ensures fine { IfOk result (λ reply. Tells (B.failures device.old) (B.failures device.new)
+        (IsFine (choice_of reply (B.contents device.new)))) }
+    ensures lasts { IsTrue B.claims → IfOk result (Lasts (B.contents device.new) (B.may_hold device.new)
+        (work_of command bytes.now)) }
 {
     match command {
         Command::TestUnitReady => Ok(Reply::good(Vec::new(alloc))),
@@ -122,7 +129,7 @@ fn serve<B: Blocks>(
             Ok(medium_reply(alloc, end, Vec::new(alloc)))
         }
         Command::SynchronizeCache { .. } => {
-            let end = sync(device);
+            let end = flush(device);
             Ok(medium_reply(alloc, end, Vec::new(alloc)))
         }
         other => Ok(Reply::good(describe(control, alloc, sender, other)?)),
@@ -137,7 +144,8 @@ fn sense(
     allocation: u8,
 ) -> Result<Vec<u8>, NoMemory>
     requires { IsPlaceOf control.old.sessions sender.session sender.at }
-    ensures sense { IfOk result (λ v. v.items ≡ cut allocation (sense_bytes (told_sense (first_pending control.old.sessions sender.session)))) }
+    ensures sense { IfOk result (λ v. v.items ≡ cut allocation
+        (sense_bytes (told_sense (first_pending control.old.sessions sender.session)))) }
     ensures told { IfOk result (λ v. control.new ≡ tell control.old sender.session) }
     ensures stays { Stays control.old control.new sender.session sender.at }
     ensures err { OnErr result (control.new ≡ control.old) }

@@ -93,7 +93,8 @@ impl Control {
     pub fn attach(&mut self, port: PortName, group: Group) -> Result<SessionId, AttachFault>
         ensures room { IsErr result ↔ (HasRoom self.old (record { port = port; group = group }) → ⊥) }
         ensures id { IfOk result (λ id. id ≡ self.old.count) }
-        ensures after { IfOk result (λ id. self.new ≡ control_after self.old (Attach (record { port = port; group = group }))) }
+        ensures after { IfOk result (λ id. self.new
+            ≡ control_after self.old (Attach (record { port = port; group = group }))) }
         ensures total { self.new.total ≡ self.old.total }
         ensures err { OnErr result (self.new ≡ self.old) }
     {
@@ -239,7 +240,8 @@ impl Control {
     ) -> Result<Reply, NoMemory>
         requires { IsPlaceOf self.old.sessions sender.session sender.at }
         ensures reply { IfOk result (λ reply. reply ≡ effect_reply (effect_by self.old sender.session asked)) }
-        ensures after { IfOk result (λ reply. self.new ≡ after_effect self.old (effect_by self.old sender.session asked)) }
+        ensures after { IfOk result (λ reply. self.new
+            ≡ after_effect self.old (effect_by self.old sender.session asked)) }
         ensures stays { Stays self.old self.new sender.session sender.at }
         ensures err { OnErr result (self.new ≡ self.old) }
     {

@@ -1,6 +1,7 @@
 //! What the model of a unit says, in a storage engineer's words.
-ghost use Rattle.std.specs.Prelude.{◌≡◌, ◌≢◌, IsSome, IsTrue, false, ◌*◌, ◌<◌, ◌↔◌, ℕ, Bool, true, List, [], ◌∷◌, ◌++◌, length, take, Option, Some, None, Ok, Result};
-ghost use Rattle.scsi_types.specs.ReplyValue.{ReplyValue, check, good};
+ghost use Rattle.std.specs.Prelude.{◌≡◌, ◌≢◌, IsSome, IsTrue, false, ◌*◌, ◌<◌, ◌↔◌, ℕ, Bool, true, List, [], ◌∷◌};
+ghost use Rattle.std.specs.Prelude.{◌++◌, length, take, Option, Some, None, Ok, Result};
+ghost use Rattle.scsi_types.specs.ReplyValue.{ReplyValue, check, conflict, good};
 ghost use Rattle.scsi_types.specs.declared.names.Group.{Group};
 ghost use Rattle.scsi_types.specs.declared.command.Command.{Command as ScsiCommand};
 ghost use Rattle.scsi_types.specs.declared.command.Command.TheVariants.{Read, Write};
@@ -10,19 +11,27 @@ ghost use Rattle.scsi_types.specs.declared.attention.UnitAttention.{UnitAttentio
 ghost use Rattle.scsi_types.specs.declared.attention.UnitAttention.TheVariants.{PowerOn};
 ghost use Rattle.attentions.specs.Queue.{is_pending, without_repeats};
 ghost use Rattle.unit_state.specs.Ops.{kind_asked, passes_attention};
+ghost use Rattle.reservations.specs.declared.request.PrOut.{PrOut};
+ghost use Rattle.unit_state.specs.Refusal.{IsKeptOut};
+ghost use Rattle.unit_state.specs.Reserve.{after_effect, effect_by};
 ghost use Rattle.unit_state.specs.Sessions.{session_of, first_pending, pending_of};
 ghost use Rattle.unit_state.specs.State.{ControlValue, UnitState};
 ghost use Rattle.unit_state.specs.Choice.{Choice, Fine};
 ghost use Rattle.unit_state.specs.Refusal.{refusal, request};
-ghost use Rattle.unit_state.specs.Entry.{Entry, Command, Detach, Reset, IsPossible, IsNext, after, blocks_after, control_after, reply_to};
+ghost use Rattle.unit_state.specs.Entry.{Entry, Command, Detach, Reset, IsPossible, IsNext, after, blocks_after};
+ghost use Rattle.unit_state.specs.Entry.{control_after, pass, reply_to};
 ghost use Rattle.unit_state.specs.History.{state_after, IsLegal, IsReplyAt, reply_at};
+
+use reservations::the_sender_is_not_told;
 
 /// One entry more of a history changes the state that the history gives, and is possible and answered in that
 /// state; the replies before it stay.
 pub fn one_entry_more()
-    ensures state { (s : UnitState) (history : List Entry) (entry : Entry) → state_after s (history ++ entry ∷ []) ≡ after (state_after s history) entry }
+    ensures state { (s : UnitState) (history : List Entry) (entry : Entry)
+        → state_after s (history ++ entry ∷ []) ≡ after (state_after s history) entry }
     ensures legal { (claims : Bool) (s : UnitState) (history : List Entry) (entry : Entry)
-        → IsLegal claims s (history ++ entry ∷ []) ↔ (IsLegal claims s history × IsPossible claims (state_after s history) entry) }
+        → IsLegal claims s (history ++ entry ∷ []) ↔
+        (IsLegal claims s history × IsPossible claims (state_after s history) entry) }
     ensures reply { (s : UnitState) (history : List Entry) (entry : Entry)
         → reply_at s (history ++ entry ∷ []) (length history) ≡ reply_to (state_after s history) entry }
     ensures before { (s : UnitState) (history : List Entry) (entry : Entry) (i : ℕ) → i < length history
@@ -31,7 +40,8 @@ pub fn one_entry_more()
 
 /// Over a disk that keeps what it claims there is one reply to each command: the one that the model computes.
 pub fn a_disk_decides_the_reply()
-    ensures { (s : UnitState) (history : List Entry) (i : ℕ) (reply : ReplyValue) → IsReplyAt true s history i reply → reply_at s history i ≡ Some reply }
+    ensures { (s : UnitState) (history : List Entry) (i : ℕ) (reply : ReplyValue) → IsReplyAt true s history i reply
+        → reply_at s history i ≡ Some reply }
 {}
 
 /// Where nothing refuses a WRITE and the device does not fail, it is GOOD, and a READ of the same range that nothing
@@ -40,15 +50,21 @@ pub fn a_read_gives_what_was_written()
     ensures write { (s : UnitState) (session serial : ℕ) (by : Group) (lba blocks : ℕ) (fua : Bool) (bytes : List ℕ)
         → refusal s.control (request session (Ok (Write lba blocks fua)) bytes) ≡ None
         → reply_to s (Command session serial by (Ok (Write lba blocks fua)) bytes Fine) ≡ Some (good []) }
-    ensures read { (s : UnitState) (session serial : ℕ) (by : Group) (reader next : ℕ) (through : Group) (lba blocks : ℕ) (fua past : Bool) (bytes none : List ℕ)
-        → length s.blocks ≡ s.control.total → refusal s.control (request session (Ok (Write lba blocks fua)) bytes) ≡ None
-        → refusal (after s (Command session serial by (Ok (Write lba blocks fua)) bytes Fine)).control (request reader (Ok (Read lba blocks past)) none) ≡ None
-        → reply_to (after s (Command session serial by (Ok (Write lba blocks fua)) bytes Fine)) (Command reader next through (Ok (Read lba blocks past)) none Fine) ≡ Some (good (take (512 * blocks) bytes)) }
+    ensures read { (s : UnitState) (session serial : ℕ) (by : Group) (reader next : ℕ) (through : Group)
+        (lba blocks : ℕ) (fua past : Bool) (bytes none : List ℕ)
+        → length s.blocks ≡ s.control.total → refusal s.control (request session (Ok (Write lba blocks fua)) bytes)
+        ≡ None
+        → refusal (after s (Command session serial by (Ok (Write lba blocks fua)) bytes Fine)).control
+        (request reader (Ok (Read lba blocks past)) none) ≡ None
+        → reply_to (after s (Command session serial by (Ok (Write lba blocks fua)) bytes Fine))
+        (Command reader next through (Ok (Read lba blocks past)) none Fine)
+        ≡ Some (good (take (512 * blocks) bytes)) }
 {}
 
 /// A command is served once: its serial is not taken again.
 pub fn a_serial_is_taken_once()
-    ensures { (claims : Bool) (s : UnitState) (session serial : ℕ) (by : Group) (asked : Result ScsiCommand CdbFault) (bytes : List ℕ) (choice : Choice)
+    ensures { (claims : Bool) (s : UnitState) (session serial : ℕ) (by : Group) (asked : Result ScsiCommand CdbFault)
+        (bytes : List ℕ) (choice : Choice)
         → IsPossible claims s (Command session serial by asked bytes choice)
         → IsNext (after s (Command session serial by asked bytes choice)).control session serial → ⊥ }
 {}
@@ -56,21 +72,48 @@ pub fn a_serial_is_taken_once()
 /// A command that a pending attention does not let pass is answered with it and does nothing else, and the attention is
 /// pending no more, since none is pending twice (SAM-5, 5.14).
 pub fn an_attention_is_told_once()
-    ensures reply { (s : UnitState) (session serial : ℕ) (by : Group) (asked : Result ScsiCommand CdbFault) (bytes : List ℕ) (attention : Condition)
+    ensures reply { (s : UnitState) (session serial : ℕ) (by : Group) (asked : Result ScsiCommand CdbFault)
+        (bytes : List ℕ) (attention : Condition)
         → first_pending s.control.sessions session ≡ Some attention → passes_attention (kind_asked asked) ≡ false
         → reply_to s (Command session serial by asked bytes Fine) ≡ Some (check (attention_sense attention)) }
-    ensures blocks { (s : UnitState) (session serial : ℕ) (by : Group) (asked : Result ScsiCommand CdbFault) (bytes : List ℕ) (attention : Condition)
+    ensures blocks { (s : UnitState) (session serial : ℕ) (by : Group) (asked : Result ScsiCommand CdbFault)
+        (bytes : List ℕ) (attention : Condition)
         → first_pending s.control.sessions session ≡ Some attention → passes_attention (kind_asked asked) ≡ false
         → blocks_after s (Command session serial by asked bytes Fine) ≡ s.blocks }
-    ensures told { (s : UnitState) (session serial : ℕ) (by : Group) (asked : Result ScsiCommand CdbFault) (bytes : List ℕ) (attention : Condition)
+    ensures told { (s : UnitState) (session serial : ℕ) (by : Group) (asked : Result ScsiCommand CdbFault)
+        (bytes : List ℕ) (attention : Condition)
         → first_pending s.control.sessions session ≡ Some attention → passes_attention (kind_asked asked) ≡ false
         → IsTrue (without_repeats (pending_of s.control.sessions session))
         → is_pending (pending_of (after s (Command session serial by asked bytes Fine)).control.sessions session) attention ≡ false }
 {}
 
+/// A command that the reservation does not let its nexus do is RESERVATION CONFLICT and does nothing: where nothing is to be
+/// told first, it is judged when it is served (SPC-4, 5.13.2).
+pub fn a_reservation_keeps_others_out()
+    ensures reply { (s : UnitState) (session serial : ℕ) (by : Group) (asked : Result ScsiCommand CdbFault)
+        (bytes : List ℕ)
+        → IsKeptOut s.control session asked → reply_to s (Command session serial by asked bytes Fine) ≡ Some conflict }
+    ensures blocks { (s : UnitState) (session serial : ℕ) (by : Group) (asked : Result ScsiCommand CdbFault)
+        (bytes : List ℕ)
+        → IsKeptOut s.control session asked → blocks_after s (Command session serial by asked bytes Fine) ≡ s.blocks }
+    ensures control { (s : UnitState) (session serial : ℕ) (by : Group) (asked : Result ScsiCommand CdbFault)
+        (bytes : List ℕ)
+        → IsKeptOut s.control session asked
+        → control_after s.control (Command session serial by asked bytes Fine) ≡ pass s.control session }
+{}
+
+/// Who sends a PERSISTENT RESERVE OUT is to be told nothing more by what it does (SPC-4, 5.13.11).
+pub fn a_sender_hears_nothing_of_its_own()
+    ensures { (c : ControlValue) (session : ℕ) (asked : PrOut)
+        → pending_of (after_effect c (effect_by c session asked)).sessions session ≡ pending_of c.sessions session }
+{
+    the_sender_is_not_told();
+}
+
 /// Who asks for a logical unit reset keeps what it was to be told; every other session is told of the reset alone.
 pub fn a_reset_is_told_to_the_others()
-    ensures own { (c : ControlValue) (session : ℕ) → pending_of (control_after c (Reset session)).sessions session ≡ pending_of c.sessions session }
+    ensures own { (c : ControlValue) (session : ℕ) → pending_of (control_after c (Reset session)).sessions session
+        ≡ pending_of c.sessions session }
     ensures others { (c : ControlValue) (session other : ℕ) → other ≢ session → IsSome (session_of c.sessions other)
         → pending_of (control_after c (Reset session)).sessions other ≡ PowerOn ∷ [] }
 {}

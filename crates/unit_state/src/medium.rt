@@ -1,5 +1,5 @@
 //! The commands on the medium, with their flushes.
-ghost use Rattle.std.specs.Prelude.{◌≡◌, ◌+◌, ◌*◌, ◌≤◌, [], true, length, IsTrue};
+ghost use Rattle.std.specs.Prelude.{◌≡◌, ◌+◌, ◌*◌, ◌≤◌, ℕ, [], true, length, IsTrue};
 ghost use Rattle.block_file.specs.Disk.{Only};
 ghost use Rattle.block_file.specs.Failures.{Tells};
 ghost use Rattle.compare_write.specs.Ends.{IsUnfailed, OnDone};
@@ -20,9 +20,11 @@ pub fn read<B: Blocks>(
     requires range { lba + blocks ≤ B.size device.old }
     requires room { length out.old ≡ BLOCK_LENGTH * blocks }
     ensures size { B.size device.new ≡ B.size device.old }
-    ensures worked { IsWorked B.claims (B.contents device.old) (B.contents device.new) (Reads (record { lba = lba; blocks = blocks }) fua) result out.new }
+    ensures worked { IsWorked B.claims (B.contents device.old) (B.contents device.new)
+        (Reads (record { lba = lba; blocks = blocks }) fua) result out.new }
     ensures failures { Tells (B.failures device.old) (B.failures device.new) (IsUnfailed result) }
-    ensures durable { IsTrue B.claims → fua ≡ true → OnDone result (Only (B.contents device.new) (B.may_hold device.new)) }
+    ensures durable { IsTrue B.claims → fua ≡ true → OnDone result
+        (Only (B.contents device.new) (B.may_hold device.new)) }
 {
     if !fua {
         return read_range(device, lba, blocks, out);
@@ -38,9 +40,11 @@ pub fn write<B: Blocks>(device: &mut B, lba: u32, blocks: u16, fua: bool, bytes:
     requires range { lba + blocks ≤ B.size device.old }
     requires given { BLOCK_LENGTH * blocks ≤ length bytes.now }
     ensures size { B.size device.new ≡ B.size device.old }
-    ensures worked { IsWorked B.claims (B.contents device.old) (B.contents device.new) (Writes (record { lba = lba; blocks = blocks }) bytes.now fua) result [] }
+    ensures worked { IsWorked B.claims (B.contents device.old) (B.contents device.new)
+        (Writes (record { lba = lba; blocks = blocks }) bytes.now fua) result [] }
     ensures failures { Tells (B.failures device.old) (B.failures device.new) (IsUnfailed result) }
-    ensures durable { IsTrue B.claims → fua ≡ true → OnDone result (Only (B.contents device.new) (B.may_hold device.new)) }
+    ensures durable { IsTrue B.claims → fua ≡ true → OnDone result
+        (Only (B.contents device.new) (B.may_hold device.new)) }
 {
     match write_range(device, lba, blocks, bytes) {
         MediumEnd::Done if fua => sync(device),
@@ -59,12 +63,25 @@ pub fn compare<B: Blocks>(
     requires range { lba + blocks ≤ B.size device.old }
     requires given { 2 * BLOCK_LENGTH * blocks ≤ length bytes.now }
     ensures size { B.size device.new ≡ B.size device.old }
-    ensures worked { IsWorked B.claims (B.contents device.old) (B.contents device.new) (Compares (record { lba = lba; blocks = blocks }) bytes.now fua) result [] }
+    ensures worked { IsWorked B.claims (B.contents device.old) (B.contents device.new)
+        (Compares (record { lba = lba; blocks = blocks }) bytes.now fua) result [] }
     ensures failures { Tells (B.failures device.old) (B.failures device.new) (IsUnfailed result) }
-    ensures durable { IsTrue B.claims → fua ≡ true → OnDone result (Only (B.contents device.new) (B.may_hold device.new)) }
+    ensures durable { IsTrue B.claims → fua ≡ true → OnDone result
+        (Only (B.contents device.new) (B.may_hold device.new)) }
 {
     match compare_and_write(device, lba, blocks, bytes) {
         MediumEnd::Done if fua => sync(device),
         end => end,
     }
+}
+
+/// SYNCHRONIZE CACHE: all that was written is made to last, whatever its range.
+pub fn flush<B: Blocks>(device: &mut B) -> MediumEnd
+    ensures size { B.size device.new ≡ B.size device.old }
+    ensures worked { (lba blocks : ℕ) → IsWorked B.claims (B.contents device.old) (B.contents device.new)
+        (Flushes (record { lba = lba; blocks = blocks })) result [] }
+    ensures failures { Tells (B.failures device.old) (B.failures device.new) (IsUnfailed result) }
+    ensures durable { IsTrue B.claims → OnDone result (Only (B.contents device.new) (B.may_hold device.new)) }
+{
+    sync(device)
 }

@@ -1,9 +1,11 @@
 //! The rules that refuse a command, in their order.
-ghost use Rattle.std.specs.Prelude.{◌≡◌, ◌+◌, ◌&&◌, ℕ, List, Ok, Some, None, nat_lt, nat_le, if◌then◌else◌, MatchResult};
+ghost use Rattle.std.specs.Prelude.{◌≡◌, ◌+◌, ◌&&◌, ℕ, List, Ok, Some, None, nat_lt, nat_le, if◌then◌else◌};
+ghost use Rattle.std.specs.Prelude.{MatchResult};
 ghost use Rattle.unit_state.specs.Medium.{range_of, work_asked};
 ghost use Rattle.unit_state.specs.Ops.{access_of, passes_attention};
 ghost use Rattle.unit_state.specs.Places.{IsPlaceOf};
-ghost use Rattle.unit_state.specs.Refusal.{attention_by, conflict_by, field_by, is_let, list_by, list_length_of, asks_saved, asks_to_last, opcode_by, outside, range_by, refusal, request};
+ghost use Rattle.unit_state.specs.Refusal.{attention_by, conflict_by, field_by, is_let, list_by, list_length_of};
+ghost use Rattle.unit_state.specs.Refusal.{asks_saved, asks_to_last, opcode_by, outside, range_by, refusal, request};
 ghost use Rattle.scsi_types.specs.Sense.{saving_parameters_not_supported};
 ghost use Rattle.unit_state.specs.Reserve.{flag_of};
 ghost use Rattle.reservations.specs.Rows.{is_registering};
@@ -77,7 +79,8 @@ fn opcode(kind: Option<Op>) -> Option<Refusal>
 /// The reservation does not let the nexus do this (SPC-4, 5.13.2).
 fn conflict(control: &Control, sender: Sender, kind: Option<Op>) -> Option<Refusal>
     requires { IsPlaceOf control.now.sessions sender.session sender.at }
-    ensures { result ≡ conflict_by (is_let control.now (sender_of control.now.sessions sender.session) (access_of kind)) }
+    ensures { result ≡ conflict_by (is_let control.now (sender_of control.now.sessions sender.session)
+        (access_of kind)) }
 {
     if control.allows(sender, access_of(kind)) {
         return None;

@@ -1,7 +1,9 @@
 //! The sessions that are attached to a unit.
-ghost use Rattle.std.specs.Prelude.{◌≡◌, ◌<◌, ◌++◌, ◌-◌, ◌^◌, [], ◌∷◌, length, slice_get, None, IfSome, MatchOption, vec_capacity};
+ghost use Rattle.std.specs.Prelude.{◌≡◌, ◌<◌, ◌++◌, ◌-◌, ◌^◌, [], ◌∷◌, length, slice_get, None, IfSome, MatchOption};
+ghost use Rattle.std.specs.Prelude.{vec_capacity};
 ghost use Rattle.unit_state.specs.Places.{IsChangedAt, IsPlaceOf};
-ghost use Rattle.unit_state.specs.Sessions.{all_reset, ended, heard_reset, is_of, nexus_of, pass_one, session_of, tell_one, without};
+ghost use Rattle.unit_state.specs.Sessions.{all_reset, ended, heard_reset, is_of, nexus_of, pass_one, session_of};
+ghost use Rattle.unit_state.specs.Sessions.{tell_one, without};
 ghost use Rattle.reservations.specs.Notice.{code_told};
 ghost use Rattle.unit_state.specs.Reserve.{all_heard, hear};
 

@@ -66,7 +66,8 @@ impl<B: Blocks> Unit<B> {
     pub fn attach(&mut self, port: PortName, group: Group) -> Result<SessionId, AttachFault>
         ensures room { IsErr result ↔ (HasRoom self.old.control (record { port = port; group = group }) → ⊥) }
         ensures id { IfOk result (λ id. id ≡ self.old.control.count) }
-        ensures control { IfOk result (λ id. self.new.control ≡ control_after self.old.control (Attach (record { port = port; group = group }))) }
+        ensures control { IfOk result (λ id. self.new.control
+            ≡ control_after self.old.control (Attach (record { port = port; group = group }))) }
         ensures device { self.new.device ≡ self.old.device }
         ensures err { OnErr result (self.new ≡ self.old) }
     {
@@ -109,14 +110,18 @@ impl<B: Blocks> Unit<B> {
         ensures memory { result ≡ StepEnd.NoMemory → TakesMemory self.old.control (request session asked bytes.now) }
         // Over every device one entry of the model, as far as the medium does not decide it; over one that claims its
         // contents the blocks too.
-        ensures entry { OnReply result (λ reply. IsStep B.claims (state_of B.contents self.old) (state_of B.contents self.new)
+        ensures entry { OnReply result (λ reply. IsStep B.claims (state_of B.contents self.old)
+            (state_of B.contents self.new)
             (entry_of session serial by asked bytes.now reply (state_of B.contents self.new)) reply) }
         // After GOOD of a SYNCHRONIZE CACHE or of a command with FUA a crash leaves the blocks that the unit holds.
-        ensures lasts { IsTrue B.claims → OnReply result (Lasts (B.contents self.new.device) (B.may_hold self.new.device) (work_asked asked bytes.now)) }
+        ensures lasts { IsTrue B.claims → OnReply result
+            (Lasts (B.contents self.new.device) (B.may_hold self.new.device) (work_asked asked bytes.now)) }
         // A command that a rule refuses does not reach the device.
-        ensures unreached { OnReply result (λ reply. OnRefusal (refusal self.old.control (request session asked bytes.now)) (self.new.device ≡ self.old.device)) }
+        ensures unreached { OnReply result (λ reply. OnRefusal
+            (refusal self.old.control (request session asked bytes.now)) (self.new.device ≡ self.old.device)) }
         // The choice is Fine exactly where no count of failures rose.
-        ensures fine { OnReply result (λ reply. Tells (failures_of B.failures self.old) (failures_of B.failures self.new)
+        ensures fine { OnReply result (λ reply. Tells (failures_of B.failures self.old)
+            (failures_of B.failures self.new)
             (IsFine (choice_of reply (B.contents self.new.device)))) }
     {
         let sender = match self.control.route(session, serial, by) {

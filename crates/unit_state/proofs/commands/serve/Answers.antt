@@ -1,7 +1,7 @@
 use Rattle.std.proofs.Common.{◌≡◌, ◌∙◌, ap, List, ℕ, length, refl, sym, arith}
 use Rattle.std.proofs.lemmas.List.{take_at}
 use Rattle.scsi_types.specs.ReplyValue.{ReplyValue, good}
-use Rattle.unit_state.proofs.Works.{medium_served, good_served, described_served, reserved_served, fine_reply, unfailed, told_else, sync_worked}
+use Rattle.unit_state.proofs.Works.{medium_served, good_served, described_served, reserved_served, fine_reply, unfailed, told_else}
 use Rattle.unit_state.proofs.commands.serve.Goals as goal
 
 pub returns-in-TestUnitReady-clause-served : goal.returns-in-TestUnitReady-clause-served
@@ -24,7 +24,7 @@ returns-in-CompareAndWrite-clause-served g c =
 pub returns-in-SynchronizeCache-clause-served : goal.returns-in-SynchronizeCache-clause-served
 returns-in-SynchronizeCache-clause-served g c =
     rw c.in-SynchronizeCache.is
-    (medium_served _ _ _ _ _ _ _ _ _ _ _ _ (λ f. refl) refl refl (sync_worked _ _ _ _ _ c.sync-end.ensures.ends c.sync-end.ensures.contents) c.new-in-SynchronizeCache.ensures.items c.medium_reply-in-SynchronizeCache.ensures)
+    (medium_served _ _ _ _ _ _ _ _ _ _ _ _ (λ f. refl) refl refl (c.flush-end.ensures.worked _ _) c.new-in-SynchronizeCache.ensures.items c.medium_reply-in-SynchronizeCache.ensures)
 
 pub returns-in_ok-sense-in-RequestSense-clause-served : goal.returns-in_ok-sense-in-RequestSense-clause-served
 returns-in_ok-sense-in-RequestSense-clause-served g c =
