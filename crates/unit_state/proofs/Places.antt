@@ -9,7 +9,7 @@ use Rattle.std.proofs.lemmas.List.Elements.{All-filter, All-map, All-push}
 use Rattle.std.proofs.lemmas.List.Filters.{length-filter_both}
 use Rattle.scsi_types.specs.Nexus.{Nexus}
 use Rattle.unit_state.specs.declared.sessions.Attached.{Attached}
-use Rattle.unit_state.specs.Sessions.{attached, is_of, nexus_in, nexus_of, sender_of, session_of, changed, pass_one, tell_one, ended, heard_reset, all_reset, without}
+use Rattle.unit_state.specs.Sessions.{is_of, nexus_in, nexus_of, sender_of, session_of, changed, ended, heard_reset, all_reset, without}
 use Rattle.reservations.specs.declared.request.Told.{Told}
 use Rattle.unit_state.specs.Reserve.{all_heard, hear}
 use Rattle.unit_state.specs.Places.{IsChangedAt, IsPlaceOf}

@@ -1,5 +1,5 @@
 -- What commands, resets and ends leave of a session: its serial, and what is pending for it.
-use Rattle.std.proofs.Common.{◌≡◌, ◌≢◌, ◌⊎◌, inl, inr, ⊎_elim, ℕ, ◌+◌, Bool, true, false, not, ◌&&◌, nat_eq, eq-eqb, List, [], ◌∷◌, drop, map, filter, Option, Some, None, IsSome, Result, Ok, Err, refl, sym, ◌∙◌, ap, arith, slice_get}
+use Rattle.std.proofs.Common.{◌≡◌, ◌≢◌, ⊎_elim, ℕ, ◌+◌, true, false, nat_eq, eq-eqb, List, [], ◌∷◌, drop, Option, Some, None, IsSome, Result, Ok, Err, refl, sym, ◌∙◌, ap, arith, slice_get}
 use Rattle.std.specs.Prelude.{IsTrue}
 use Rattle.std.specs.Option.{option_map}
 use Rattle.std.proofs.lemmas.Bool.Decides.{eqb_tells}
@@ -20,11 +20,10 @@ use Rattle.scsi_types.specs.declared.command.CdbFault.{CdbFault}
 use Rattle.unit_state.specs.declared.refusal.Refusal.{Refusal}
 use Rattle.unit_state.specs.declared.refusal.Refusal.TheVariants.{Attention, Conflict, Check}
 use Rattle.unit_state.specs.declared.sessions.Attached.{Attached}
-use Rattle.unit_state.specs.State.{ControlValue, UnitState}
+use Rattle.unit_state.specs.State.{ControlValue}
 use Rattle.unit_state.specs.Choice.{Choice}
-use Rattle.unit_state.specs.Sessions.{session_of, sender_of, nexus_in, next_of, pending_in, pending_of, first_pending, changed, pass_one, passed, tell_one, told, ended, heard_reset, all_reset}
-use Rattle.unit_state.specs.Ops.{kind_asked, passes_attention}
-use Rattle.unit_state.specs.Refusal.{Request, request, refusal, tell}
+use Rattle.unit_state.specs.Sessions.{session_of, sender_of, nexus_in, next_of, pending_in, pending_of, pass_one, passed, tell_one, told, ended, heard_reset, all_reset}
+use Rattle.unit_state.specs.Refusal.{Request, refusal}
 use Rattle.unit_state.specs.Entry.{IsNext, control_with, left_asked}
 use Rattle.unit_state.proofs.Places.{session_changed, session_mapped, has_id}
 
