@@ -31,8 +31,11 @@ HoldsTheSame old new = (k : ℕ) (value : List ℕ) → new k value ↔ old k va
 abbrev pub NoMore : (ℕ → List ℕ → Type 0) → (ℕ → List ℕ → Type 0) → Type 0
 NoMore old new = (k : ℕ) (value : List ℕ) → new k value → old k value
 
+abbrev pub or_new : ℕ → List (List ℕ) → (ℕ → List ℕ → Type 0) → ℕ → List ℕ → Type 0
+or_new first blocks may_hold k value = may_hold k value ⊎ IsNewAt first blocks k value
+
 abbrev pub Adds : ℕ → List (List ℕ) → (ℕ → List ℕ → Type 0) → (ℕ → List ℕ → Type 0) → Type 0
-Adds first blocks old new = (k : ℕ) (value : List ℕ) → new k value → old k value ⊎ IsNewAt first blocks k value
+Adds first blocks old new = NoMore (or_new first blocks old) new
 
 abbrev pub Only : List (List ℕ) → (ℕ → List ℕ → Type 0) → Type 0
 Only disk may_hold = (k : ℕ) (value : List ℕ) → may_hold k value → value ≡ block_at disk k

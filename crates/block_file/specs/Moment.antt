@@ -17,3 +17,7 @@ LeavesTheSame past since = (t : ℕ) (disk : List (List ℕ)) → since t disk �
 -- crash now may hold, before the call and after it
 abbrev pub TimePasses : {D : Type 0} → (D → ℕ) → (D → ℕ → List (List ℕ) → Type 0) → (D → ℕ) → (D → ℕ → List ℕ → Type 0) → D → D → Type 0
 TimePasses moment left_since size may_hold old new = Elapses (moment old) (moment new) (left_since old) (left_since new) (MayLeave (size new) (may_hold new))
+
+-- what several calls make of it: a stop inside them leaves a disk whose blocks hold such values
+abbrev pub StopsAmong : {D : Type 0} → (D → ℕ) → (D → ℕ → List (List ℕ) → Type 0) → (D → ℕ) → (ℕ → List ℕ → Type 0) → D → D → Type 0
+StopsAmong moment left_since size values old new = Elapses (moment old) (moment new) (left_since old) (left_since new) (MayLeave (size old) values)
