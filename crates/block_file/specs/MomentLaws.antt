@@ -4,8 +4,10 @@ use Rattle.block_file.specs.Disk.{NoMore, MayLeave}
 use Rattle.block_file.specs.Moment.{Elapses, TimePasses, StopsAmong}
 
 -- no call
-pub no_time : (now : ℕ) (past : ℕ → List (List ℕ) → Type 0) (leave : List (List ℕ) → Type 0) → Elapses now now past past leave
-no_time now past leave = record { later = omega arith; nothing_else = λ t disk le left. inl left; keeps = λ t disk le left. left }
+pub no_time : (now : ℕ) (past : ℕ → List (List ℕ) → Type 0) (leave : List (List ℕ) → Type 0)
+    → Elapses now now past past leave
+no_time now past leave =
+    record { later = omega arith; nothing_else = λ t disk le left. inl left; keeps = λ t disk le left. left }
 
 -- calls, and then more, which leave nothing else
 pub then_elapses : (a b c : ℕ) (past mid since : ℕ → List (List ℕ) → Type 0) (leave more : List (List ℕ) → Type 0)
@@ -38,7 +40,8 @@ module _ {D : Type 0} (moment : D → ℕ) (left_since : D → ℕ → List (Lis
       (λ disk left. leaves_within (size old) (size new) values (may_hold new) disk same within left)
 
   -- and calls more, which stop among fewer values
-  pub stops_then : (old mid new : D) (values fewer : ℕ → List ℕ → Type 0) → StopsAmong moment left_since size values old mid
+  pub stops_then : (old mid new : D) (values fewer : ℕ → List ℕ → Type 0)
+      → StopsAmong moment left_since size values old mid
       → StopsAmong moment left_since size fewer mid new → size mid ≡ size old → NoMore values fewer
       → StopsAmong moment left_since size values old new
   stops_then old mid new values fewer so_far more same within =

@@ -14,6 +14,7 @@ invariant-loop-k g l =
       written : IsTrue b.claims → b.contents l.device ≡ written (b.contents l.fn.device) l.lba (take l.k blocks);
       torn : IsTrue b.claims → Between (b.contents l.fn.device) l.lba blocks (b.contents l.device);
       crash : IsTrue b.claims → Adds l.lba blocks (b.may_hold l.fn.device) (b.may_hold l.device);
-      stop : IsTrue b.claims → IsTrue b.claims_moments → StopsAmong b.moment b.left_since b.size (or_new l.lba blocks (b.may_hold l.fn.device)) l.fn.device l.device;
+      stop : IsTrue b.claims → IsTrue b.claims_moments
+          → StopsAmong b.moment b.left_since b.size (or_new l.lba blocks (b.may_hold l.fn.device)) l.fn.device l.device;
       failures : Tells (b.failures l.fn.device) (b.failures l.device) (Unit {0});
     }
