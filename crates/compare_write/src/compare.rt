@@ -34,13 +34,16 @@ pub fn compare_and_write<B: Blocks>(
     ensures equal { IsTrue B.claims → OnWriting result
         (range_bytes (B.contents device.old) lba blocks ≡ compare_instance blocks bytes.now) }
     ensures differs { IsTrue B.claims → OnMiscompare result (λ at.
-        first_difference (range_bytes (B.contents device.old) lba blocks) (compare_instance blocks bytes.now) ≡ Some at) }
+        first_difference (range_bytes (B.contents device.old) lba blocks) (compare_instance blocks bytes.now)
+        ≡ Some at) }
     ensures unwritten { IsTrue B.claims → OnUnwritten result (B.contents device.new ≡ B.contents device.old) }
     ensures untouched { IsTrue B.claims → OnUnwritten result (NoMore (B.may_hold device.old) (B.may_hold device.new)) }
     ensures written { IsTrue B.claims → OnDone result
         (B.contents device.new ≡ written (B.contents device.old) lba (write_instance blocks bytes.now)) }
-    ensures torn { IsTrue B.claims → Between (B.contents device.old) lba (write_instance blocks bytes.now) (B.contents device.new) }
-    ensures crash { IsTrue B.claims → Adds lba (write_instance blocks bytes.now) (B.may_hold device.old) (B.may_hold device.new) }
+    ensures torn { IsTrue B.claims
+        → Between (B.contents device.old) lba (write_instance blocks bytes.now) (B.contents device.new) }
+    ensures crash { IsTrue B.claims
+        → Adds lba (write_instance blocks bytes.now) (B.may_hold device.old) (B.may_hold device.new) }
     ensures stop { IsTrue B.claims → IsTrue B.claims_moments → StopsAmong B.moment B.left_since B.size
         (or_new lba (write_instance blocks bytes.now) (B.may_hold device.old)) device.old device.new }
     ensures stop_unwritten { IsTrue B.claims → IsTrue B.claims_moments → OnUnwritten result

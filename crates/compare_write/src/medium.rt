@@ -59,11 +59,14 @@ pub fn write_range<B: Blocks>(device: &mut B, lba: u32, blocks: u16, bytes: &[u8
     ensures size { B.size device.new ≡ B.size device.old }
     ensures ends { IsWriteEnd result }
     ensures failures { Tells (B.failures device.old) (B.failures device.new) (IsUnfailed result) }
-    ensures written { IsTrue B.claims → OnDone result (B.contents device.new ≡ written (B.contents device.old) lba (cut blocks bytes.now)) }
-    ensures torn { IsTrue B.claims → Between (B.contents device.old) lba (cut blocks bytes.now) (B.contents device.new) }
+    ensures written { IsTrue B.claims → OnDone result
+        (B.contents device.new ≡ written (B.contents device.old) lba (cut blocks bytes.now)) }
+    ensures torn { IsTrue B.claims
+        → Between (B.contents device.old) lba (cut blocks bytes.now) (B.contents device.new) }
     ensures crash { IsTrue B.claims → Adds lba (cut blocks bytes.now) (B.may_hold device.old) (B.may_hold device.new) }
     ensures stop { IsTrue B.claims → IsTrue B.claims_moments
-        → StopsAmong B.moment B.left_since B.size (or_new lba (cut blocks bytes.now) (B.may_hold device.old)) device.old device.new }
+        → StopsAmong B.moment B.left_since B.size (or_new lba (cut blocks bytes.now) (B.may_hold device.old))
+        device.old device.new }
 {
     for k in 0..blocks {
         let at = BLOCK_LENGTH * usize::from(k);
