@@ -9,14 +9,21 @@ use crate::medium::{
     compare_and_write, read_6, read_10, read_16, read_capacity_16, synchronize_cache_10,
     synchronize_cache_16, write_6, write_10, write_16,
 };
+use crate::persistent_reserve::{persistent_reserve_in, persistent_reserve_out};
+use crate::port_groups::{report_target_port_groups, set_target_port_groups};
 use crate::{Asked, CdbFault, CdbForm, Command};
 
 /// What a CDB asks for (SPC-4, section 6; SBC-3, section 5). DPO, IMMED, the group number, the control byte, what is
 /// reserved and the bytes behind the end of a shorter CDB are not looked at.
 ///
-/// An operation code of no command, or one with a service action of no command, is `UnknownOpcode`. A field with
-/// a value that the command may not have here is `BadField`: protection information, more than 2048 blocks in a
-/// READ or WRITE, more than 32 in a COMPARE AND WRITE.
+/// An operation code of no command, or one with a service action of no command, is `UnknownOpcode`. `BadField` is
+///
+/// - a READ, WRITE or COMPARE AND WRITE with protection information, of more than 2048 blocks, or more than 32 for
+///   COMPARE AND WRITE;
+/// - REQUEST SENSE in descriptor format; an unknown page in INQUIRY, or one without EVPD; an unknown page or a
+///   subpage in MODE SENSE (saved values are no bad field); an unknown selection in REPORT LUNS;
+/// - an unknown action in PERSISTENT RESERVE IN and OUT; a RESERVE of another scope than the logical unit, or of an
+///   unknown type; another format than the plain one in REPORT TARGET PORT GROUPS.
 pub fn decode(cdb: &[u8; 16]) -> Asked
     ensures means { Means cdb.now result }
     ensures only { (asked : Result Command CdbFault) → Means cdb.now asked → asked ≡ result }
@@ -46,11 +53,15 @@ fn command_of(form: CdbForm, cdb: &[u8; 16]) -> Option<Command>
         CdbForm::Write10 => write_10(cdb),
         CdbForm::SynchronizeCache10 => Some(synchronize_cache_10(cdb)),
         CdbForm::ModeSense10 => mode_sense_10(cdb),
+        CdbForm::PersistentReserveIn => persistent_reserve_in(cdb),
+        CdbForm::PersistentReserveOut => persistent_reserve_out(cdb),
         CdbForm::Read16 => read_16(cdb),
         CdbForm::CompareAndWrite => compare_and_write(cdb),
         CdbForm::Write16 => write_16(cdb),
         CdbForm::SynchronizeCache16 => Some(synchronize_cache_16(cdb)),
         CdbForm::ReadCapacity16 => Some(read_capacity_16(cdb)),
         CdbForm::ReportLuns => report_luns(cdb),
+        CdbForm::ReportTargetPortGroups => report_target_port_groups(cdb),
+        CdbForm::SetTargetPortGroups => Some(set_target_port_groups(cdb)),
     }
 }

@@ -8,6 +8,7 @@ ghost use Rattle.scsi_types.specs.Cdb.{Decodes, IsModeSense};
 use crate::{Command, InquiryPage, LunSelect, ModeHeader, ModePage, PageControl};
 use byteorder::{BigEndian, ByteOrder};
 
+/// REQUEST SENSE (6.39).
 pub fn request_sense(cdb: &[u8; 16]) -> Option<Command>
     ensures { Decodes forms.RequestSense cdb.now result }
 {
@@ -17,6 +18,7 @@ pub fn request_sense(cdb: &[u8; 16]) -> Option<Command>
     Some(Command::RequestSense { allocation: cdb[4] })
 }
 
+/// INQUIRY (6.6).
 pub fn inquiry(cdb: &[u8; 16]) -> Option<Command>
     ensures { Decodes forms.Inquiry cdb.now result }
 {
@@ -38,6 +40,7 @@ fn mode_page(cdb: &[u8; 16]) -> Option<(PageControl, ModePage)>
     Some((PageControl::of(cdb[2] / 64), page))
 }
 
+/// MODE SENSE (6) (6.13).
 pub fn mode_sense_6(cdb: &[u8; 16]) -> Option<Command>
     ensures { Decodes forms.ModeSense6 cdb.now result }
 {
@@ -52,6 +55,7 @@ pub fn mode_sense_6(cdb: &[u8; 16]) -> Option<Command>
     })
 }
 
+/// MODE SENSE (10) (6.14).
 pub fn mode_sense_10(cdb: &[u8; 16]) -> Option<Command>
     ensures { Decodes forms.ModeSense10 cdb.now result }
 {
@@ -66,6 +70,7 @@ pub fn mode_sense_10(cdb: &[u8; 16]) -> Option<Command>
     })
 }
 
+/// REPORT LUNS (6.33).
 pub fn report_luns(cdb: &[u8; 16]) -> Option<Command>
     ensures { Decodes forms.ReportLuns cdb.now result }
 {

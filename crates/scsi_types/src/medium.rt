@@ -65,6 +65,7 @@ fn transfer_16(cdb: &[u8; 16]) -> Option<(u64, u16)>
     Some((BigEndian::read_u64(&cdb[2..]), blocks as u16))
 }
 
+/// READ (6).
 pub fn read_6(cdb: &[u8; 16]) -> Command
     ensures { Asks forms.Read6 cdb.now result }
 {
@@ -76,6 +77,7 @@ pub fn read_6(cdb: &[u8; 16]) -> Command
     }
 }
 
+/// WRITE (6).
 pub fn write_6(cdb: &[u8; 16]) -> Command
     ensures { Asks forms.Write6 cdb.now result }
 {
@@ -87,6 +89,7 @@ pub fn write_6(cdb: &[u8; 16]) -> Command
     }
 }
 
+/// READ (10).
 pub fn read_10(cdb: &[u8; 16]) -> Option<Command>
     ensures { Decodes forms.Read10 cdb.now result }
 {
@@ -98,6 +101,7 @@ pub fn read_10(cdb: &[u8; 16]) -> Option<Command>
     })
 }
 
+/// WRITE (10).
 pub fn write_10(cdb: &[u8; 16]) -> Option<Command>
     ensures { Decodes forms.Write10 cdb.now result }
 {
@@ -109,6 +113,7 @@ pub fn write_10(cdb: &[u8; 16]) -> Option<Command>
     })
 }
 
+/// READ (16).
 pub fn read_16(cdb: &[u8; 16]) -> Option<Command>
     ensures { Decodes forms.Read16 cdb.now result }
 {
@@ -120,6 +125,7 @@ pub fn read_16(cdb: &[u8; 16]) -> Option<Command>
     })
 }
 
+/// WRITE (16).
 pub fn write_16(cdb: &[u8; 16]) -> Option<Command>
     ensures { Decodes forms.Write16 cdb.now result }
 {
@@ -131,6 +137,7 @@ pub fn write_16(cdb: &[u8; 16]) -> Option<Command>
     })
 }
 
+/// COMPARE AND WRITE.
 pub fn compare_and_write(cdb: &[u8; 16]) -> Option<Command>
     ensures { Decodes forms.CompareAndWrite cdb.now result }
 {
@@ -145,6 +152,7 @@ pub fn compare_and_write(cdb: &[u8; 16]) -> Option<Command>
     })
 }
 
+/// SYNCHRONIZE CACHE (10).
 pub fn synchronize_cache_10(cdb: &[u8; 16]) -> Command
     ensures { Asks forms.SynchronizeCache10 cdb.now result }
 {
@@ -154,6 +162,7 @@ pub fn synchronize_cache_10(cdb: &[u8; 16]) -> Command
     }
 }
 
+/// SYNCHRONIZE CACHE (16).
 pub fn synchronize_cache_16(cdb: &[u8; 16]) -> Command
     ensures { Asks forms.SynchronizeCache16 cdb.now result }
 {
@@ -163,6 +172,7 @@ pub fn synchronize_cache_16(cdb: &[u8; 16]) -> Command
     }
 }
 
+/// READ CAPACITY (16).
 pub fn read_capacity_16(cdb: &[u8; 16]) -> Command
     ensures { Asks forms.ReadCapacity16 cdb.now result }
 {
