@@ -14,6 +14,11 @@ use Rattle.scsi_types.specs.declared.pages.ModePage.{ModePage}
 use Rattle.scsi_types.specs.declared.pages.ModePage.TheVariants as modes
 use Rattle.scsi_types.specs.declared.pages.LunSelect.{LunSelect}
 use Rattle.scsi_types.specs.declared.pages.LunSelect.TheVariants as selects
+use Rattle.scsi_types.specs.declared.reservation.PrInAction.{PrInAction}
+use Rattle.scsi_types.specs.declared.reservation.PrInAction.TheVariants as ins
+use Rattle.scsi_types.specs.declared.reservation.PrOutAction.{PrOutAction}
+use Rattle.scsi_types.specs.declared.reservation.PrOutAction.TheVariants as outs
+use Rattle.scsi_types.specs.Reservation.{in_code, out_code}
 use Rattle.scsi_types.specs.Form.{HasForm, op_of}
 use Rattle.scsi_types.specs.Pages.{IsInquiryPage, control_code, mode_page_code, select_code}
 use Rattle.scsi_types.specs.Cdb.{Asks, Means, SensesMode}
@@ -26,9 +31,10 @@ form_at n =
     if n == 0x1A then forms.ModeSense6 else if n == 0x25 then forms.ReadCapacity10 else
     if n == 0x28 then forms.Read10 else if n == 0x2A then forms.Write10 else
     if n == 0x35 then forms.SynchronizeCache10 else if n == 0x5A then forms.ModeSense10 else
-    if n == 0x88 then forms.Read16 else if n == 0x89 then forms.CompareAndWrite else
+    if n == 0x5E then forms.PersistentReserveIn else if n == 0x5F then forms.PersistentReserveOut else if n == 0x88 then forms.Read16 else if n == 0x89 then forms.CompareAndWrite else
     if n == 0x8A then forms.Write16 else if n == 0x91 then forms.SynchronizeCache16 else
-    if n == 0x9E then forms.ReadCapacity16 else forms.ReportLuns
+    if n == 0x9E then forms.ReadCapacity16 else if n == 0xA0 then forms.ReportLuns else
+    if n == 0xA3 then forms.ReportTargetPortGroups else forms.SetTargetPortGroups
 
 form-is : (cdb : List ℕ) (form : CdbForm) → HasForm cdb form → form_at (get_or cdb 0 0) ≡ form
 unfolding form_at
@@ -43,12 +49,16 @@ form-is cdb forms.Read10 h = ap form_at h
 form-is cdb forms.Write10 h = ap form_at h
 form-is cdb forms.SynchronizeCache10 h = ap form_at h
 form-is cdb forms.ModeSense10 h = ap form_at h
+form-is cdb forms.PersistentReserveIn h = ap form_at h
+form-is cdb forms.PersistentReserveOut h = ap form_at h
 form-is cdb forms.Read16 h = ap form_at h
 form-is cdb forms.CompareAndWrite h = ap form_at h
 form-is cdb forms.Write16 h = ap form_at h
 form-is cdb forms.SynchronizeCache16 h = ap form_at h
 form-is cdb forms.ReadCapacity16 h = ap form_at h.opcode_is
 form-is cdb forms.ReportLuns h = ap form_at h
+form-is cdb forms.ReportTargetPortGroups h = ap form_at h.opcode_is
+form-is cdb forms.SetTargetPortGroups h = ap form_at h.opcode_is
 
 -- a CDB has one form
 pub one_form : (cdb : List ℕ) (a b : CdbForm) → HasForm cdb a → HasForm cdb b → a ≡ b
@@ -109,6 +119,34 @@ one_sense header n cdb c d p q =
     let second = q.3 in
     cc
 
+in_at : ℕ → PrInAction
+in_at n =
+    if n == 0 then ins.ReadKeys else if n == 1 then ins.ReadReservation else if n == 2 then ins.ReportCapabilities else
+    ins.ReadFullStatus
+
+in-is : (action : PrInAction) → in_at (in_code action) ≡ action
+unfolding in_at
+in-is ins.ReadKeys = refl
+in-is ins.ReadReservation = refl
+in-is ins.ReportCapabilities = refl
+in-is ins.ReadFullStatus = refl
+
+out_at : ℕ → PrOutAction
+out_at n =
+    if n == 0 then outs.Register else if n == 1 then outs.Reserve else if n == 2 then outs.Release else
+    if n == 3 then outs.Clear else if n == 4 then outs.Preempt else if n == 5 then outs.PreemptAndAbort else
+    outs.RegisterAndIgnoreExistingKey
+
+out-is : (action : PrOutAction) → out_at (out_code action) ≡ action
+unfolding out_at
+out-is outs.Register = refl
+out-is outs.Reserve = refl
+out-is outs.Release = refl
+out-is outs.Clear = refl
+out-is outs.Preempt = refl
+out-is outs.PreemptAndAbort = refl
+out-is outs.RegisterAndIgnoreExistingKey = refl
+
 -- a CDB of a form asks for one command
 one_command : (form : CdbForm) (cdb : List ℕ) (c d : Command) → Asks form cdb c → Asks form cdb d → c ≡ d
 one_command forms.TestUnitReady cdb c d p q = p ∙ sym q
@@ -126,6 +164,16 @@ one_command forms.Read10 cdb c d p q = p.1 ∙ sym q.1
 one_command forms.Write10 cdb c d p q = p.1 ∙ sym q.1
 one_command forms.SynchronizeCache10 cdb c d p q = p ∙ sym q
 one_command forms.ModeSense10 cdb c d p q = one_sense _ _ cdb c d p q
+one_command forms.PersistentReserveIn cdb c d p q =
+    let action : p.0 ≡ q.0 = sym (in-is p.0) ∙ ap in_at (sym p.1 ∙ q.1) ∙ in-is q.0 in
+    let first = p.2 in
+    let second = q.2 in
+    cc
+one_command forms.PersistentReserveOut cdb c d p q =
+    let action : p.0 ≡ q.0 = sym (out-is p.0) ∙ ap out_at (sym p.1.action_is ∙ q.1.action_is) ∙ out-is q.0 in
+    let first = p.2 in
+    let second = q.2 in
+    cc
 one_command forms.Read16 cdb c d p q = p.1 ∙ sym q.1
 one_command forms.CompareAndWrite cdb c d p q = p.1 ∙ sym q.1
 one_command forms.Write16 cdb c d p q = p.1 ∙ sym q.1
@@ -136,6 +184,8 @@ one_command forms.ReportLuns cdb c d p q =
     let first = p.2 in
     let second = q.2 in
     cc
+one_command forms.ReportTargetPortGroups cdb c d p q = p.1 ∙ sym q.1
+one_command forms.SetTargetPortGroups cdb c d p q = p ∙ sym q
 
 pub one_meaning : (cdb : List ℕ) (a b : Result Command CdbFault) → Means cdb a → Means cdb b → a ≡ b
 one_meaning cdb (Ok c) (Ok d) p q =

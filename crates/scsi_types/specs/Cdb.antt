@@ -1,5 +1,5 @@
 -- What a command descriptor block asks for.
-use Rattle.std.specs.Prelude.{◌≡◌, ℕ, ◌+◌, ◌-◌, ◌*◌, ◌^◌, ◌/◌, ◌%◌, ◌==◌, ◌≤◌, Bool, false, if◌then◌else◌}
+use Rattle.std.specs.Prelude.{◌≡◌, ℕ, ◌+◌, ◌-◌, ◌*◌, ◌^◌, ◌/◌, ◌%◌, ◌==◌, ◌≤◌, ◌&&◌, nat_le, Bool, false, if◌then◌else◌}
 use Rattle.std.specs.Prelude.{List, drop, slice_index, Option, Some, None, Result, Ok, Err}
 use Rattle.byteorder.specs.Endian.{big_number}
 use Rattle.scsi_types.specs.declared.form.CdbForm.{CdbForm}
@@ -8,6 +8,8 @@ use Rattle.scsi_types.specs.declared.command.Command.{Command}
 use Rattle.scsi_types.specs.declared.command.Command.TheVariants.{TestUnitReady, RequestSense, Inquiry, ModeSense}
 use Rattle.scsi_types.specs.declared.command.Command.TheVariants.{ReadCapacity10, ReadCapacity16, Read, Write}
 use Rattle.scsi_types.specs.declared.command.Command.TheVariants.{CompareAndWrite, SynchronizeCache, ReportLuns}
+use Rattle.scsi_types.specs.declared.command.Command.TheVariants.{PersistentReserveIn, PersistentReserveOut}
+use Rattle.scsi_types.specs.declared.command.Command.TheVariants.{ReportTargetPortGroups, SetTargetPortGroups}
 use Rattle.scsi_types.specs.declared.command.CdbFault.{CdbFault}
 use Rattle.scsi_types.specs.declared.command.CdbFault.TheVariants.{UnknownOpcode, BadField}
 use Rattle.scsi_types.specs.declared.pages.InquiryPage.{InquiryPage}
@@ -16,8 +18,12 @@ use Rattle.scsi_types.specs.declared.pages.ModeHeader.TheVariants.{Six, Ten}
 use Rattle.scsi_types.specs.declared.pages.PageControl.{PageControl}
 use Rattle.scsi_types.specs.declared.pages.ModePage.{ModePage}
 use Rattle.scsi_types.specs.declared.pages.LunSelect.{LunSelect}
+use Rattle.scsi_types.specs.declared.reservation.PrInAction.{PrInAction}
+use Rattle.scsi_types.specs.declared.reservation.PrOutAction.{PrOutAction}
+use Rattle.scsi_types.specs.declared.reservation.PrOutAction.TheVariants.{Reserve}
 use Rattle.scsi_types.specs.Form.{HasForm, op_of}
 use Rattle.scsi_types.specs.Pages.{IsInquiryPage, control_code, mode_page_code, select_code}
+use Rattle.scsi_types.specs.Reservation.{in_code, out_code, IsReservationType}
 
 -- a byte of the CDB, and the number in the bytes from one to another, the first the highest
 abbrev pub byte : ℕ → List ℕ → ℕ
@@ -69,6 +75,13 @@ SensesMode header allocation cdb c =
     (control : PageControl) × (page : ModePage) × IsModeSense cdb control page
     × (c ≡ ModeSense header control page allocation)
 
+-- a PERSISTENT RESERVE OUT of this action, whose SCOPE and TYPE share byte 2: a RESERVE is of a logical unit and
+-- of a type that there is (SPC-4, 6.16.1)
+pub record IsReserveOut (cdb : List ℕ) (action : PrOutAction) : Type 0 where
+  pub action_is : byte 1 cdb % 32 ≡ out_code action
+  pub scope : action ≡ Reserve → byte 2 cdb / 16 ≡ 0
+  pub kind : action ≡ Reserve → IsReservationType (byte 2 cdb % 16)
+
 -- The table of commands: what a CDB of each form asks for, by its fields, where these are good. A form for which
 -- no command stands here has a bad field.
 abbrev pub Asks : CdbForm → List ℕ → Command → Type 0
@@ -84,6 +97,11 @@ Asks forms.Read10 cdb c = Transfers Read most_blocks cdb (field 2 5 cdb) (field 
 Asks forms.Write10 cdb c = Transfers Write most_blocks cdb (field 2 5 cdb) (field 7 8 cdb) c
 Asks forms.SynchronizeCache10 cdb c = c ≡ SynchronizeCache (field 2 5 cdb) (field 7 8 cdb)
 Asks forms.ModeSense10 cdb c = SensesMode Ten (field 7 8 cdb) cdb c
+Asks forms.PersistentReserveIn cdb c =
+    (action : PrInAction) × (byte 1 cdb % 32 ≡ in_code action) × (c ≡ PersistentReserveIn action (field 7 8 cdb))
+Asks forms.PersistentReserveOut cdb c =
+    (action : PrOutAction) × IsReserveOut cdb action
+    × (c ≡ PersistentReserveOut action (byte 2 cdb / 16) (byte 2 cdb % 16) (field 5 8 cdb))
 Asks forms.Read16 cdb c = Transfers Read most_blocks cdb (field 2 9 cdb) (field 10 13 cdb) c
 Asks forms.CompareAndWrite cdb c = Transfers CompareAndWrite most_compared cdb (field 2 9 cdb) (byte 13 cdb) c
 Asks forms.Write16 cdb c = Transfers Write most_blocks cdb (field 2 9 cdb) (field 10 13 cdb) c
@@ -91,6 +109,8 @@ Asks forms.SynchronizeCache16 cdb c = c ≡ SynchronizeCache (field 2 9 cdb) (fi
 Asks forms.ReadCapacity16 cdb c = c ≡ ReadCapacity16 (field 10 13 cdb)
 Asks forms.ReportLuns cdb c =
     (select : LunSelect) × (byte 2 cdb ≡ select_code select) × (c ≡ ReportLuns select (field 6 9 cdb))
+Asks forms.ReportTargetPortGroups cdb c = (byte 1 cdb / 32 ≡ 0) × (c ≡ ReportTargetPortGroups (field 6 9 cdb))
+Asks forms.SetTargetPortGroups cdb c = c ≡ SetTargetPortGroups (field 6 9 cdb)
 
 -- a CDB of this form asks for this command, or has a bad field
 abbrev pub Decodes : CdbForm → List ℕ → Option Command → Type 0
@@ -102,6 +122,11 @@ abbrev pub Means : List ℕ → Result Command CdbFault → Type 0
 Means cdb (Ok c) = (form : CdbForm) × HasForm cdb form × Asks form cdb c
 Means cdb (Err (BadField op)) = (form : CdbForm) × HasForm cdb form × Decodes form cdb None × (op ≡ op_of form)
 Means cdb (Err UnknownOpcode) = (form : CdbForm) → HasForm cdb form → ⊥
+
+-- a parameter list that SET TARGET PORT GROUPS may have: four bytes, and four for each of 64 groups at most
+pub record IsGroupList (list_length : ℕ) : Type 0 where
+  pub whole : list_length % 4 ≡ 0
+  pub few : list_length ≤ 260
 
 -- the bytes of data that a command needs from its initiator; a CDB that asks for nothing needs none
 abbrev pub need_of : Result Command CdbFault → ℕ
@@ -115,5 +140,10 @@ need_of (Ok (Read lba blocks fua)) = 0
 need_of (Ok (Write lba blocks fua)) = 512 * blocks
 need_of (Ok (CompareAndWrite lba blocks fua)) = 1024 * blocks
 need_of (Ok (SynchronizeCache lba blocks)) = 0
+need_of (Ok (PersistentReserveIn action allocation)) = 0
+need_of (Ok (PersistentReserveOut action scope kind list_length)) = if list_length == 24 then 24 else 0
 need_of (Ok (ReportLuns select allocation)) = 0
+need_of (Ok (ReportTargetPortGroups allocation)) = 0
+need_of (Ok (SetTargetPortGroups list_length)) =
+    if list_length % 4 == 0 && nat_le list_length 260 then list_length else 0
 need_of (Err fault) = 0

@@ -28,12 +28,16 @@ HasForm cdb forms.Read10 = IsOpcode cdb 0x28
 HasForm cdb forms.Write10 = IsOpcode cdb 0x2A
 HasForm cdb forms.SynchronizeCache10 = IsOpcode cdb 0x35
 HasForm cdb forms.ModeSense10 = IsOpcode cdb 0x5A
+HasForm cdb forms.PersistentReserveIn = IsOpcode cdb 0x5E
+HasForm cdb forms.PersistentReserveOut = IsOpcode cdb 0x5F
 HasForm cdb forms.Read16 = IsOpcode cdb 0x88
 HasForm cdb forms.CompareAndWrite = IsOpcode cdb 0x89
 HasForm cdb forms.Write16 = IsOpcode cdb 0x8A
 HasForm cdb forms.SynchronizeCache16 = IsOpcode cdb 0x91
 HasForm cdb forms.ReadCapacity16 = IsAction cdb 0x9E 0x10
 HasForm cdb forms.ReportLuns = IsOpcode cdb 0xA0
+HasForm cdb forms.ReportTargetPortGroups = IsAction cdb 0xA3 0x0A
+HasForm cdb forms.SetTargetPortGroups = IsAction cdb 0xA4 0x0A
 
 -- the kind of command that has this form
 abbrev pub op_of : CdbForm → Op
@@ -48,9 +52,13 @@ op_of forms.Read10 = ops.Read
 op_of forms.Write10 = ops.Write
 op_of forms.SynchronizeCache10 = ops.SynchronizeCache
 op_of forms.ModeSense10 = ops.ModeSense
+op_of forms.PersistentReserveIn = ops.PersistentReserveIn
+op_of forms.PersistentReserveOut = ops.PersistentReserveOut
 op_of forms.Read16 = ops.Read
 op_of forms.CompareAndWrite = ops.CompareAndWrite
 op_of forms.Write16 = ops.Write
 op_of forms.SynchronizeCache16 = ops.SynchronizeCache
 op_of forms.ReadCapacity16 = ops.ReadCapacity
 op_of forms.ReportLuns = ops.ReportLuns
+op_of forms.ReportTargetPortGroups = ops.ReportTargetPortGroups
+op_of forms.SetTargetPortGroups = ops.SetTargetPortGroups

@@ -5,5 +5,6 @@ pub mod Lun
 pub mod Nexus
 pub mod Pages
 pub mod ReplyValue
+pub mod Reservation
 pub mod Sense
 pub mod Status

@@ -9,6 +9,8 @@ use crate::medium::{
     compare_and_write, read_6, read_10, read_16, read_capacity_16, synchronize_cache_10,
     synchronize_cache_16, write_6, write_10, write_16,
 };
+use crate::persistent_reserve::{persistent_reserve_in, persistent_reserve_out};
+use crate::port_groups::{report_target_port_groups, set_target_port_groups};
 use crate::{Asked, CdbFault, CdbForm, Command};
 
 /// What a CDB asks for (SPC-4, section 6; SBC-3, section 5). DPO, IMMED, the group number, the control byte, what is
@@ -46,11 +48,15 @@ fn command_of(form: CdbForm, cdb: &[u8; 16]) -> Option<Command>
         CdbForm::Write10 => write_10(cdb),
         CdbForm::SynchronizeCache10 => Some(synchronize_cache_10(cdb)),
         CdbForm::ModeSense10 => mode_sense_10(cdb),
+        CdbForm::PersistentReserveIn => persistent_reserve_in(cdb),
+        CdbForm::PersistentReserveOut => persistent_reserve_out(cdb),
         CdbForm::Read16 => read_16(cdb),
         CdbForm::CompareAndWrite => compare_and_write(cdb),
         CdbForm::Write16 => write_16(cdb),
         CdbForm::SynchronizeCache16 => Some(synchronize_cache_16(cdb)),
         CdbForm::ReadCapacity16 => Some(read_capacity_16(cdb)),
         CdbForm::ReportLuns => report_luns(cdb),
+        CdbForm::ReportTargetPortGroups => report_target_port_groups(cdb),
+        CdbForm::SetTargetPortGroups => Some(set_target_port_groups(cdb)),
     }
 }

@@ -1,8 +1,8 @@
 //! Commands.
-ghost use Rattle.std.specs.Prelude.{◌≡◌, Ok};
-ghost use Rattle.scsi_types.specs.Cdb.{need_of};
+ghost use Rattle.std.specs.Prelude.{◌≡◌, ◌↔◌, IsTrue, Ok};
+ghost use Rattle.scsi_types.specs.Cdb.{need_of, IsGroupList};
 
-use crate::{InquiryPage, LunSelect, ModeHeader, ModePage, PageControl};
+use crate::{InquiryPage, LunSelect, ModeHeader, ModePage, PageControl, PrInAction, PrOutAction};
 use thiserror::Error;
 
 /// A command by its kind, whatever the form of its CDB.
@@ -89,10 +89,30 @@ pub enum Command {
         lba: u64,
         blocks: u32,
     },
+    /// PERSISTENT RESERVE IN (SPC-4, 6.15).
+    PersistentReserveIn {
+        action: PrInAction,
+        allocation: u16,
+    },
+    /// PERSISTENT RESERVE OUT (SPC-4, 6.16): SCOPE, TYPE (`kind`) and PARAMETER LIST LENGTH in bytes.
+    PersistentReserveOut {
+        action: PrOutAction,
+        scope: u8,
+        kind: u8,
+        list_length: u32,
+    },
     /// REPORT LUNS (SPC-4, 6.33).
     ReportLuns {
         select: LunSelect,
         allocation: u32,
+    },
+    /// REPORT TARGET PORT GROUPS (SPC-4, 6.37).
+    ReportTargetPortGroups {
+        allocation: u32,
+    },
+    /// SET TARGET PORT GROUPS (SPC-4, 6.45): PARAMETER LIST LENGTH in bytes.
+    SetTargetPortGroups {
+        list_length: u32,
     },
 }
 
@@ -110,14 +130,32 @@ pub enum CdbFault {
 /// What a CDB asks for, or why it asks for nothing.
 pub type Asked = Result<Command, CdbFault>;
 
-/// How many bytes of data the command needs from its initiator: 512 for each block that a WRITE writes, and
-/// 1024 for each block that a COMPARE AND WRITE compares and writes.
+/// The bytes of the parameter list of PERSISTENT RESERVE OUT (SPC-4, 6.16.3).
+const RESERVE_LIST: u32 = 24;
+
+/// The most bytes of the parameter list of SET TARGET PORT GROUPS that are taken.
+const MOST_GROUP_LIST: u32 = 260;
+
+// A length that the parameter list of SET TARGET PORT GROUPS may have.
+fn is_group_list(list_length: u32) -> bool
+    ensures { IsTrue result ↔ IsGroupList list_length }
+{
+    list_length % 4 == 0 && list_length <= MOST_GROUP_LIST
+}
+
+/// How many bytes of data the command needs from its initiator: 512 for each block that a WRITE writes, 1024 for
+/// each block that a COMPARE AND WRITE compares and writes, and the parameter list, where its length is one that
+/// the command may have: 24 bytes for PERSISTENT RESERVE OUT, multiples of 4 up to 260 for SET TARGET PORT GROUPS.
 pub fn need(command: &Command) -> u32
     ensures { result ≡ need_of (Ok command.now) }
 {
     match command {
         Command::Write { blocks, .. } => 512 * u32::from(*blocks),
         Command::CompareAndWrite { blocks, .. } => 1024 * u32::from(*blocks),
+        Command::PersistentReserveOut { list_length, .. } if *list_length == RESERVE_LIST => {
+            RESERVE_LIST
+        }
+        Command::SetTargetPortGroups { list_length } if is_group_list(*list_length) => *list_length,
         _ => 0,
     }
 }

@@ -18,12 +18,16 @@ pub enum CdbForm {
     Write10,
     SynchronizeCache10,
     ModeSense10,
+    PersistentReserveIn,
+    PersistentReserveOut,
     Read16,
     CompareAndWrite,
     Write16,
     SynchronizeCache16,
     ReadCapacity16,
     ReportLuns,
+    ReportTargetPortGroups,
+    SetTargetPortGroups,
 }
 
 const TEST_UNIT_READY: u8 = 0x00;
@@ -48,6 +52,10 @@ const SYNCHRONIZE_CACHE_10: u8 = 0x35;
 
 const MODE_SENSE_10: u8 = 0x5A;
 
+const PERSISTENT_RESERVE_IN: u8 = 0x5E;
+
+const PERSISTENT_RESERVE_OUT: u8 = 0x5F;
+
 const READ_16: u8 = 0x88;
 
 const COMPARE_AND_WRITE: u8 = 0x89;
@@ -55,12 +63,21 @@ const COMPARE_AND_WRITE: u8 = 0x89;
 const WRITE_16: u8 = 0x8A;
 
 const SYNCHRONIZE_CACHE_16: u8 = 0x91;
-/// SERVICE ACTION IN (16), whose commands are told apart by their service action.
-const SERVICE_ACTION_IN_16: u8 = 0x9E;
 
 const REPORT_LUNS: u8 = 0xA0;
 
+// Operation codes whose commands are told apart by their service action.
+const SERVICE_ACTION_IN_16: u8 = 0x9E;
+
+const MAINTENANCE_IN: u8 = 0xA3;
+
+const MAINTENANCE_OUT: u8 = 0xA4;
+
 const READ_CAPACITY_16: u8 = 0x10;
+
+const REPORT_TARGET_PORT_GROUPS: u8 = 0x0A;
+
+const SET_TARGET_PORT_GROUPS: u8 = 0x0A;
 
 impl CdbForm {
     ghost use Rattle.std.specs.Prelude.{MatchOption};
@@ -85,6 +102,8 @@ impl CdbForm {
             WRITE_10 => Some(CdbForm::Write10),
             SYNCHRONIZE_CACHE_10 => Some(CdbForm::SynchronizeCache10),
             MODE_SENSE_10 => Some(CdbForm::ModeSense10),
+            PERSISTENT_RESERVE_IN => Some(CdbForm::PersistentReserveIn),
+            PERSISTENT_RESERVE_OUT => Some(CdbForm::PersistentReserveOut),
             READ_16 => Some(CdbForm::Read16),
             COMPARE_AND_WRITE => Some(CdbForm::CompareAndWrite),
             WRITE_16 => Some(CdbForm::Write16),
@@ -93,6 +112,12 @@ impl CdbForm {
                 Some(CdbForm::ReadCapacity16)
             }
             REPORT_LUNS => Some(CdbForm::ReportLuns),
+            MAINTENANCE_IN if service_action == REPORT_TARGET_PORT_GROUPS => {
+                Some(CdbForm::ReportTargetPortGroups)
+            }
+            MAINTENANCE_OUT if service_action == SET_TARGET_PORT_GROUPS => {
+                Some(CdbForm::SetTargetPortGroups)
+            }
             _ => None,
         }
     }
@@ -111,7 +136,11 @@ impl CdbForm {
             CdbForm::Write6 | CdbForm::Write10 | CdbForm::Write16 => Op::Write,
             CdbForm::CompareAndWrite => Op::CompareAndWrite,
             CdbForm::SynchronizeCache10 | CdbForm::SynchronizeCache16 => Op::SynchronizeCache,
+            CdbForm::PersistentReserveIn => Op::PersistentReserveIn,
+            CdbForm::PersistentReserveOut => Op::PersistentReserveOut,
             CdbForm::ReportLuns => Op::ReportLuns,
+            CdbForm::ReportTargetPortGroups => Op::ReportTargetPortGroups,
+            CdbForm::SetTargetPortGroups => Op::SetTargetPortGroups,
         }
     }
 }
