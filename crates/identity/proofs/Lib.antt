@@ -1,1 +1,2 @@
 pub mod LunList
+pub mod Serials

@@ -1,7 +1,8 @@
--- READ CAPACITY data of a unit of so many blocks of 512 bytes.
+-- READ CAPACITY data of a unit of so many blocks.
 use Rattle.std.specs.Prelude.{ℕ, ◌-◌, List, [], ◌∷◌}
-use Rattle.identity.specs.Table.{Row, Byte, Shared, Number, Reserved, bits}
+use Rattle.identity.specs.Table.{Row, Byte, Shared, Number, Reserved, bits, flag}
 
+-- the bytes of a block
 abbrev pub block_length : ℕ
 block_length = 512
 
@@ -18,9 +19,9 @@ abbrev pub capacity_16 : ℕ → List Row
 capacity_16 blocks =
     Number "RETURNED LOGICAL BLOCK ADDRESS" 8 (blocks - 1)
     ∷ Number "LOGICAL BLOCK LENGTH IN BYTES" 4 block_length
-    ∷ Shared (bits "Reserved" 4 0 ∷ bits "P_TYPE" 3 0 ∷ bits "PROT_EN" 1 0 ∷ [])
+    ∷ Shared (bits "Reserved" 4 0 ∷ bits "P_TYPE" 3 0 ∷ flag "PROT_EN" 0 ∷ [])
     ∷ Shared (bits "P_I_EXPONENT" 4 0 ∷ bits "LOGICAL BLOCKS PER PHYSICAL BLOCK EXPONENT" 4 0 ∷ [])
-    ∷ Shared (bits "LBPME" 1 0 ∷ bits "LBPRZ" 1 0 ∷ bits "LOWEST ALIGNED LOGICAL BLOCK ADDRESS (high)" 6 0 ∷ [])
+    ∷ Shared (flag "LBPME" 0 ∷ flag "LBPRZ" 0 ∷ bits "LOWEST ALIGNED LOGICAL BLOCK ADDRESS (high)" 6 0 ∷ [])
     ∷ Byte "LOWEST ALIGNED LOGICAL BLOCK ADDRESS (low)" 0
     ∷ Reserved 16
     ∷ []

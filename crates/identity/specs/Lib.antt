@@ -1,7 +1,9 @@
-pub mod Table
+pub mod Absent
 pub mod Capacity
 pub mod Inquiry
+pub mod InquiryData
 pub mod Luns
 pub mod Mode
-pub mod Pages
+pub mod SenseData
+pub mod Table
 pub mod VitalProductData

@@ -1,8 +1,8 @@
 -- REPORT LUNS parameter data (SPC-4, 6.33).
 use Rattle.std.specs.Prelude.{ℕ, suc, zero, ◌*◌, List, [], ◌∷◌, ◌++◌}
 use Rattle.scsi_types.specs.declared.names.Place.{Place}
-use Rattle.identity.specs.declared.luns.LunSelect.{LunSelect}
-use Rattle.identity.specs.declared.luns.LunSelect.TheVariants.{Addressed, WellKnown, All}
+use Rattle.scsi_types.specs.declared.pages.LunSelect.{LunSelect}
+use Rattle.scsi_types.specs.declared.pages.LunSelect.TheVariants.{Units, WellKnown, All}
 use Rattle.identity.specs.Table.{Row, Byte, Shared, Number, Reserved, bits}
 
 -- a unit's LUN by peripheral device addressing (SAM-5, 4.7.7)
@@ -20,7 +20,7 @@ luns_below (suc unit) = luns_below unit ++ lun unit
 
 -- how many units are selected: there are no well known logical units
 abbrev pub selected : Place → LunSelect → ℕ
-selected place Addressed = place.units
+selected place Units = place.units
 selected place WellKnown = 0
 selected place All = place.units
 

@@ -2,22 +2,12 @@
 ghost use Rattle.std.specs.Prelude.{◌≡◌, IfOk};
 ghost use Rattle.identity.specs.Table.{cut, spell};
 ghost use Rattle.identity.specs.Inquiry.{disk, standard_inquiry};
-ghost use Rattle.identity.specs.Pages.{inquiry_data};
+ghost use Rattle.identity.specs.InquiryData.{inquiry_data};
 
 use crate::cut::cut_to;
 use crate::vital::{block_limits, device_identification, serial_number, supported_pages};
-use scsi_types::{Group, NoMemory, Place};
+use scsi_types::{Group, InquiryPage, NoMemory, Place};
 use std::alloc::Global;
-
-/// What INQUIRY asks for (SPC-4, 6.6.1).
-#[derive(Clone, Copy, Debug, PartialEq, Eq)]
-pub enum InquiryPage {
-    Standard,
-    SupportedPages,
-    SerialNumber,
-    DeviceIdentification,
-    BlockLimits,
-}
 
 /// INQUIRY data of the unit at a place, for a command that came by this group, cut to the allocation length (SPC-4, 6.6
 /// and 7.8).
@@ -34,7 +24,7 @@ pub fn inquiry(
     match page {
         InquiryPage::Standard => cut_to(alloc, allocation, &standard()),
         InquiryPage::SupportedPages => cut_to(alloc, allocation, &supported_pages()),
-        InquiryPage::SerialNumber => cut_to(alloc, allocation, &serial_number(place)),
+        InquiryPage::UnitSerialNumber => cut_to(alloc, allocation, &serial_number(place)),
         InquiryPage::DeviceIdentification => cut_to(
             alloc,
             allocation,

@@ -5,16 +5,8 @@ ghost use Rattle.identity.specs.Luns.{lun_list, selected};
 
 use crate::cut::cut_to;
 use byteorder::{BigEndian, ByteOrder};
-use scsi_types::{NoMemory, Place};
+use scsi_types::{LunSelect, NoMemory, Place};
 use std::alloc::Global;
-
-/// SELECT REPORT (SPC-4, 6.33).
-#[derive(Clone, Copy, Debug, PartialEq, Eq)]
-pub enum LunSelect {
-    Addressed,
-    WellKnown,
-    All,
-}
 
 /// The bytes of a LUN, and those before the first.
 const LUN: usize = 8;
@@ -42,7 +34,7 @@ fn how_many(place: Place, select: LunSelect) -> u8
     ensures { result ≡ selected place select }
 {
     match select {
-        LunSelect::Addressed | LunSelect::All => place.units,
+        LunSelect::Units | LunSelect::All => place.units,
         LunSelect::WellKnown => 0,
     }
 }

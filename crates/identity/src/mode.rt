@@ -5,31 +5,8 @@ ghost use Rattle.identity.specs.Mode.{mode_data, mode_header, mode_pages};
 
 use crate::cut::cut_to;
 use byteorder::{BigEndian, ByteOrder};
-use scsi_types::NoMemory;
+use scsi_types::{ModeHeader, ModePage, NoMemory, PageControl};
 use std::alloc::Global;
-
-/// The form of MODE SENSE.
-#[derive(Clone, Copy, Debug, PartialEq, Eq)]
-pub enum ModeForm {
-    Six,
-    Ten,
-}
-
-/// PAGE CONTROL (SPC-4, 6.13.1).
-#[derive(Clone, Copy, Debug, PartialEq, Eq)]
-pub enum PageControl {
-    Current,
-    Changeable,
-    Default,
-}
-
-/// A mode page, or all of them (SPC-4, 6.13.1).
-#[derive(Clone, Copy, Debug, PartialEq, Eq)]
-pub enum ModePage {
-    Caching,
-    Control,
-    All,
-}
 
 /// The Caching page and the Control page with their values.
 static VALUES: [u8; 32] = [
@@ -52,17 +29,17 @@ const DPOFUA: u8 = 0x10;
 /// Mode parameter data with these pages and no block descriptors, cut to the allocation length (SPC-4, 6.13 and 7.5).
 pub fn mode_sense(
     alloc: Global,
-    form: ModeForm,
+    header: ModeHeader,
     control: PageControl,
     page: ModePage,
     allocation: u16,
 ) -> Result<Vec<u8>, NoMemory>
-    ensures { IfOk result (λ v. v.items ≡ cut allocation (spell (mode_data form control page))) }
+    ensures { IfOk result (λ v. v.items ≡ cut allocation (spell (mode_data header control page))) }
 {
     let pages = asked_pages(control, page);
-    match form {
-        ModeForm::Six => with_header_6(alloc, pages, allocation),
-        ModeForm::Ten => with_header_10(alloc, pages, allocation),
+    match header {
+        ModeHeader::Six => with_header_6(alloc, pages, allocation),
+        ModeHeader::Ten => with_header_10(alloc, pages, allocation),
     }
 }
 
@@ -72,7 +49,7 @@ fn asked_pages(control: PageControl, page: ModePage) -> &'static [u8]
     ensures few { length result.now ≤ 32 }
 {
     let pages = match control {
-        PageControl::Current | PageControl::Default => &VALUES,
+        PageControl::Current | PageControl::Default | PageControl::Saved => &VALUES,
         PageControl::Changeable => &MASKS,
     };
     match page {
@@ -85,7 +62,8 @@ fn asked_pages(control: PageControl, page: ModePage) -> &'static [u8]
 // The pages behind the header of MODE SENSE (6).
 fn with_header_6(alloc: Global, pages: &[u8], allocation: u16) -> Result<Vec<u8>, NoMemory>
     requires { length pages.now ≤ 32 }
-    ensures { IfOk result (λ v. v.items ≡ cut allocation (spell (mode_header ModeForm.Six (length pages.now)) ++ pages.now)) }
+    ensures { IfOk result (λ v. v.items
+        ≡ cut allocation (spell (mode_header ModeHeader.Six (length pages.now)) ++ pages.now)) }
 {
     let length = pages.len();
     let mut list = [0; 36];
@@ -98,7 +76,8 @@ fn with_header_6(alloc: Global, pages: &[u8], allocation: u16) -> Result<Vec<u8>
 // The pages behind the header of MODE SENSE (10).
 fn with_header_10(alloc: Global, pages: &[u8], allocation: u16) -> Result<Vec<u8>, NoMemory>
     requires { length pages.now ≤ 32 }
-    ensures { IfOk result (λ v. v.items ≡ cut allocation (spell (mode_header ModeForm.Ten (length pages.now)) ++ pages.now)) }
+    ensures { IfOk result (λ v. v.items
+        ≡ cut allocation (spell (mode_header ModeHeader.Ten (length pages.now)) ++ pages.now)) }
 {
     let length = pages.len();
     let mut list = [0; 40];

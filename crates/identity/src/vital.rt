@@ -6,14 +6,14 @@ ghost use Rattle.identity.specs.VitalProductData as vpd;
 use byteorder::{BigEndian, ByteOrder};
 use scsi_types::{Group, Place};
 
-/// The page of the pages that there are (SPC-4, 7.8.14).
+/// The page of the pages that there are (SPC-4, 7.8).
 pub fn supported_pages() -> [u8; 8]
     ensures { result ≡ spell vpd.supported_pages }
 {
     [0x00, 0x00, 0x00, 4, 0x00, 0x80, 0x83, 0xB0]
 }
 
-/// The Unit Serial Number page (SPC-4, 7.8.15).
+/// The Unit Serial Number page (SPC-4, 7.8).
 pub fn serial_number(place: Place) -> [u8; 14]
     ensures { result ≡ spell (vpd.serial_number place) }
 {
@@ -48,7 +48,7 @@ fn hexadecimal(number: u32) -> u8
     }
 }
 
-/// The Device Identification page (SPC-4, 7.8.5) for a command that came by this group.
+/// The Device Identification page (SPC-4, 7.8) for a command that came by this group.
 pub fn device_identification(place: Place, group: Group) -> [u8; 32]
     ensures { result ≡ spell (vpd.device_identification place group) }
 {
