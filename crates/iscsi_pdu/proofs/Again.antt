@@ -3,14 +3,14 @@ use Rattle.std.proofs.Common.{◌≡◌, ℕ, ◌+◌, ◌/◌, ◌%◌, Bool, t
 use Rattle.std.specs.Prelude.{◌↔◌, IsTrue}
 use Rattle.byteorder.specs.Endian.{big_number, big_bytes}
 use Rattle.byteorder.specs.Numbers.{big_from-bytes}
-use Rattle.iscsi_pdu.specs.declared.header.Header.{Header}
-use Rattle.iscsi_pdu.specs.declared.header.Header.TheVariants.{ScsiCommand, ScsiResponse, DataIn, Reject}
+use Rattle.iscsi_pdu.specs.declared.header.TargetHeader.{TargetHeader}
+use Rattle.iscsi_pdu.specs.declared.header.TargetHeader.TheVariants.{ScsiResponse, DataIn, Reject}
 use Rattle.iscsi_pdu.specs.declared.header.ScsiResponse.{ScsiResponse as ResponseHeader}
 use Rattle.iscsi_pdu.specs.declared.header.DataIn.{DataIn as DataInHeader}
 use Rattle.iscsi_pdu.specs.declared.header.Reject.{Reject as RejectHeader}
 use Rattle.iscsi_pdu.specs.Number.{word_at}
-use Rattle.iscsi_pdu.specs.Spelling.{flag, response_bytes, data_in_bytes, reject_bytes, header_bytes}
-use Rattle.iscsi_pdu.specs.Pdu.{opcode_of, IsTarget}
+use Rattle.iscsi_pdu.specs.Spelling.{flag, scsi_response_bhs, data_in_bhs, reject_bhs, target_bhs}
+use Rattle.iscsi_pdu.specs.Pdu.{opcode_of}
 use Rattle.iscsi_pdu.specs.Fields.{ResponseAt, DataInAt, RejectAt}
 
 word-again : (x y : ℕ) → y ≡ big_number 4 (big_bytes 4 x) → big_bytes 4 x ≡ big_bytes 4 y
@@ -44,8 +44,8 @@ last-again true false h = sym (h.1 refl)
 last-again false true h = absurd (omega (arith, h.0 refl))
 last-again false false h = refl
 
-response-again : (p q : ResponseHeader) (n : ℕ) → ResponseAt (response_bytes p n) q → response_bytes p n ≡ response_bytes q n
-unfolding word_at response_bytes
+response-again : (p q : ResponseHeader) (n : ℕ) → ResponseAt (scsi_response_bhs p n) q → scsi_response_bhs p n ≡ scsi_response_bhs q n
+unfolding word_at scsi_response_bhs
 response-again p q n r =
     let over = overflow-again p.overflow p.underflow q.overflow r.overflow in
     let under = underflow-again p.overflow p.underflow q.underflow r.underflow in
@@ -59,8 +59,8 @@ response-again p q n r =
     let three : p.status ≡ q.status = sym r.status in
     cc
 
-data_in-again : (p q : DataInHeader) (n : ℕ) → DataInAt (data_in_bytes p n) q → data_in_bytes p n ≡ data_in_bytes q n
-unfolding word_at data_in_bytes
+data_in-again : (p q : DataInHeader) (n : ℕ) → DataInAt (data_in_bhs p n) q → data_in_bhs p n ≡ data_in_bhs q n
+unfolding word_at data_in_bhs
 data_in-again p q n r =
     let last = last-again p.last q.last r.last in
     let w16 = word-again p.task_tag q.task_tag r.task_tag in
@@ -72,8 +72,8 @@ data_in-again p q n r =
     let w40 = word-again p.offset q.offset r.offset in
     cc
 
-reject-again : (p q : RejectHeader) (n : ℕ) → RejectAt (reject_bytes p n) q → reject_bytes p n ≡ reject_bytes q n
-unfolding word_at reject_bytes
+reject-again : (p q : RejectHeader) (n : ℕ) → RejectAt (reject_bhs p n) q → reject_bhs p n ≡ reject_bhs q n
+unfolding word_at reject_bhs
 reject-again p q n r =
     let w24 = word-again p.numbers.stat_sn q.numbers.stat_sn r.numbers.stat_sn in
     let w28 = word-again p.numbers.exp_cmd_sn q.numbers.exp_cmd_sn r.numbers.exp_cmd_sn in
@@ -85,23 +85,20 @@ reject-again p q n r =
 other-kind : (b w : List ℕ) (k m : ℕ) → opcode_of b ≡ k → opcode_of w ≡ m → b ≡ w → k ≡ m
 other-kind b w k m x y e = sym x ∙ ap opcode_of e ∙ y
 
-pub response-only : (b : List ℕ) (q : ResponseHeader) (h : Header) (n : ℕ) → ResponseAt b q → opcode_of b ≡ 0x21 → IsTarget h → b ≡ header_bytes h n → b ≡ response_bytes q n
-unfolding data_in_bytes reject_bytes
-response-only b q (ScsiCommand p) n r op t e = absurd t
-response-only b q (ScsiResponse p) n r op t e = e ∙ response-again p q n (subst (λ (x : List ℕ). ResponseAt x q) e r)
-response-only b q (DataIn p) n r op t e = absurd (omega (arith, other-kind b (data_in_bytes p n) 0x21 0x25 op refl e))
-response-only b q (Reject p) n r op t e = absurd (omega (arith, other-kind b (reject_bytes p n) 0x21 0x3F op refl e))
+pub response-only : (b : List ℕ) (q : ResponseHeader) (h : TargetHeader) (n : ℕ) → ResponseAt b q → opcode_of b ≡ 0x21 → b ≡ target_bhs h n → b ≡ scsi_response_bhs q n
+unfolding data_in_bhs reject_bhs
+response-only b q (ScsiResponse p) n r op e = e ∙ response-again p q n (subst (λ (x : List ℕ). ResponseAt x q) e r)
+response-only b q (DataIn p) n r op e = absurd (omega (arith, other-kind b (data_in_bhs p n) 0x21 0x25 op refl e))
+response-only b q (Reject p) n r op e = absurd (omega (arith, other-kind b (reject_bhs p n) 0x21 0x3F op refl e))
 
-pub data_in-only : (b : List ℕ) (q : DataInHeader) (h : Header) (n : ℕ) → DataInAt b q → opcode_of b ≡ 0x25 → IsTarget h → b ≡ header_bytes h n → b ≡ data_in_bytes q n
-unfolding response_bytes reject_bytes
-data_in-only b q (ScsiCommand p) n r op t e = absurd t
-data_in-only b q (ScsiResponse p) n r op t e = absurd (omega (arith, other-kind b (response_bytes p n) 0x25 0x21 op refl e))
-data_in-only b q (DataIn p) n r op t e = e ∙ data_in-again p q n (subst (λ (x : List ℕ). DataInAt x q) e r)
-data_in-only b q (Reject p) n r op t e = absurd (omega (arith, other-kind b (reject_bytes p n) 0x25 0x3F op refl e))
+pub data_in-only : (b : List ℕ) (q : DataInHeader) (h : TargetHeader) (n : ℕ) → DataInAt b q → opcode_of b ≡ 0x25 → b ≡ target_bhs h n → b ≡ data_in_bhs q n
+unfolding scsi_response_bhs reject_bhs
+data_in-only b q (ScsiResponse p) n r op e = absurd (omega (arith, other-kind b (scsi_response_bhs p n) 0x25 0x21 op refl e))
+data_in-only b q (DataIn p) n r op e = e ∙ data_in-again p q n (subst (λ (x : List ℕ). DataInAt x q) e r)
+data_in-only b q (Reject p) n r op e = absurd (omega (arith, other-kind b (reject_bhs p n) 0x25 0x3F op refl e))
 
-pub reject-only : (b : List ℕ) (q : RejectHeader) (h : Header) (n : ℕ) → RejectAt b q → opcode_of b ≡ 0x3F → IsTarget h → b ≡ header_bytes h n → b ≡ reject_bytes q n
-unfolding response_bytes data_in_bytes
-reject-only b q (ScsiCommand p) n r op t e = absurd t
-reject-only b q (ScsiResponse p) n r op t e = absurd (omega (arith, other-kind b (response_bytes p n) 0x3F 0x21 op refl e))
-reject-only b q (DataIn p) n r op t e = absurd (omega (arith, other-kind b (data_in_bytes p n) 0x3F 0x25 op refl e))
-reject-only b q (Reject p) n r op t e = e ∙ reject-again p q n (subst (λ (x : List ℕ). RejectAt x q) e r)
+pub reject-only : (b : List ℕ) (q : RejectHeader) (h : TargetHeader) (n : ℕ) → RejectAt b q → opcode_of b ≡ 0x3F → b ≡ target_bhs h n → b ≡ reject_bhs q n
+unfolding scsi_response_bhs data_in_bhs
+reject-only b q (ScsiResponse p) n r op e = absurd (omega (arith, other-kind b (scsi_response_bhs p n) 0x3F 0x21 op refl e))
+reject-only b q (DataIn p) n r op e = absurd (omega (arith, other-kind b (data_in_bhs p n) 0x3F 0x25 op refl e))
+reject-only b q (Reject p) n r op e = e ∙ reject-again p q n (subst (λ (x : List ℕ). RejectAt x q) e r)

@@ -15,6 +15,14 @@ take-put o w a within four = take_at (take a o ++ w) (drop (a + 4) o) (a + 4) (l
 drop-put : (o w : List ℕ) (a : ℕ) → a ≤ length o → length w ≡ 4 → drop (a + 4) (put o a w) ≡ drop (a + 4) o
 drop-put o w a within four = drop_at (take a o ++ w) (drop (a + 4) o) (a + 4) (length-front o w a within four)
 
+-- two words in a row
+pub two-words : (o u v : List ℕ) → 32 ≤ length o → length u ≡ 4 → length v ≡ 4 → put (put o 24 u) 28 v ≡ take 24 o ++ (u ++ v) ++ drop 32 o
+two-words o u v long fu fv =
+    let p : List ℕ = put o 24 u in
+    let front : take 28 p ≡ take 24 o ++ u = take-put o u 24 (omega arith) fu in
+    let past : drop 32 p ≡ drop 32 o = sym (drop-drop 4 28 p) ∙ ap (drop 4) (drop-put o u 24 (omega arith) fu) ∙ drop-drop 4 28 o in
+    ap (λ (x : List ℕ). x ++ v ++ drop 32 p) front ∙ ap (λ (x : List ℕ). take 24 o ++ u ++ v ++ x) past ∙ simp append_assoc
+
 -- three words in a row
 pub three-words : (o u v w : List ℕ) → 36 ≤ length o → length u ≡ 4 → length v ≡ 4 → put (put (put o 24 u) 28 v) 32 w ≡ take 24 o ++ (u ++ v ++ w) ++ drop 36 o
 three-words o u v w long fu fv =

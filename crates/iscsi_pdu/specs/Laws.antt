@@ -5,10 +5,13 @@ use Rattle.std.proofs.lemmas.List.{take_at, drop_at, get_or-take, get_or-drop, d
 use Rattle.std.specs.Prelude.{slice_index, slice_range}
 use Rattle.byteorder.specs.Numbers.{big_number-reads_back}
 use Rattle.iscsi_pdu.specs.declared.header.Header.{Header}
-use Rattle.iscsi_pdu.specs.declared.header.Header.TheVariants.{ScsiCommand, ScsiResponse, DataIn, Reject}
+use Rattle.iscsi_pdu.specs.declared.header.Header.TheVariants.{Initiator, Target}
+use Rattle.iscsi_pdu.specs.declared.header.TargetHeader.{TargetHeader}
+use Rattle.iscsi_pdu.specs.declared.header.TargetHeader.TheVariants.{ScsiResponse, DataIn, Reject}
+use Rattle.iscsi_pdu.specs.declared.TheConstants.{BHS_LENGTH, MAX_DATA_SEGMENT_LENGTH}
 use Rattle.iscsi_pdu.specs.Number.{three_at}
-use Rattle.iscsi_pdu.specs.Spelling.{response_bytes, data_in_bytes, reject_bytes, header_bytes, padded, zeros, spelling}
-use Rattle.iscsi_pdu.specs.Pdu.{opcode_of, IsTarget, HasFields, IsPdu}
+use Rattle.iscsi_pdu.specs.Spelling.{scsi_response_bhs, data_in_bhs, reject_bhs, target_bhs, bhs, padded, zeros, spelling}
+use Rattle.iscsi_pdu.specs.Pdu.{opcode_of, IsPdu}
 use Rattle.iscsi_pdu.specs.Fault.{IsTargetOpcode}
 
 three-same : (a b : List ℕ) (at : ℕ) → ((k : ℕ) → k < at + 3 → get_or a k 0 ≡ get_or b k 0) → three_at a at ≡ three_at b at
@@ -32,102 +35,83 @@ one_front a b x y h k d e p q same =
     sym (take_at a x (length b) long) ∙ ap (take (length b)) same ∙ take_at b y (length b) refl
 
 -- what a target's header spells
-pub length-header : (h : Header) (n : ℕ) → IsTarget h → length (header_bytes h n) ≡ 48
-unfolding response_bytes data_in_bytes reject_bytes
-length-header (ScsiCommand p) n t = absurd t
-length-header (ScsiResponse p) n t = refl
-length-header (DataIn p) n t = refl
-length-header (Reject p) n t = refl
+pub length-bhs : (h : TargetHeader) (n : ℕ) → length (target_bhs h n) ≡ 48
+unfolding scsi_response_bhs data_in_bhs reject_bhs
+length-bhs (ScsiResponse p) n = refl
+length-bhs (DataIn p) n = refl
+length-bhs (Reject p) n = refl
 
-pub three-header : (h : Header) (n : ℕ) → IsTarget h → n < 2 ^ 24 → three_at (header_bytes h n) 5 ≡ n
-unfolding three_at response_bytes data_in_bytes reject_bytes
-three-header (ScsiCommand p) n t lt = absurd t
-three-header (ScsiResponse p) n t lt = big_number-reads_back 3 n (drop 8 (response_bytes p n)) lt
-three-header (DataIn p) n t lt = big_number-reads_back 3 n (drop 8 (data_in_bytes p n)) lt
-three-header (Reject p) n t lt = big_number-reads_back 3 n (drop 8 (reject_bytes p n)) lt
+pub three-bhs : (h : TargetHeader) (n : ℕ) → n < 2 ^ 24 → three_at (target_bhs h n) 5 ≡ n
+unfolding three_at scsi_response_bhs data_in_bhs reject_bhs
+three-bhs (ScsiResponse p) n lt = big_number-reads_back 3 n (drop 8 (scsi_response_bhs p n)) lt
+three-bhs (DataIn p) n lt = big_number-reads_back 3 n (drop 8 (data_in_bhs p n)) lt
+three-bhs (Reject p) n lt = big_number-reads_back 3 n (drop 8 (reject_bhs p n)) lt
 
-pub ahs-header : (h : Header) (n : ℕ) → IsTarget h → slice_index (header_bytes h n) 4 ≡ 0
-unfolding response_bytes data_in_bytes reject_bytes
-ahs-header (ScsiCommand p) n t = absurd t
-ahs-header (ScsiResponse p) n t = refl
-ahs-header (DataIn p) n t = refl
-ahs-header (Reject p) n t = refl
+pub ahs-bhs : (h : TargetHeader) (n : ℕ) → slice_index (target_bhs h n) 4 ≡ 0
+unfolding scsi_response_bhs data_in_bhs reject_bhs
+ahs-bhs (ScsiResponse p) n = refl
+ahs-bhs (DataIn p) n = refl
+ahs-bhs (Reject p) n = refl
 
-pub opcode-header : (h : Header) (n : ℕ) → IsTarget h → IsTargetOpcode (opcode_of (header_bytes h n))
-unfolding response_bytes data_in_bytes reject_bytes
-opcode-header (ScsiCommand p) n t = absurd t
-opcode-header (ScsiResponse p) n t = inl refl
-opcode-header (DataIn p) n t = inr (inl refl)
-opcode-header (Reject p) n t = inr (inr refl)
-
-pub fields-header : (h : Header) (w : List ℕ) → IsTarget h → w ≡ header_bytes h (three_at w 5) → HasFields w h
-fields-header (ScsiCommand p) w t e = absurd t
-fields-header (ScsiResponse p) w t e = e
-fields-header (DataIn p) w t e = e
-fields-header (Reject p) w t e = e
-
-pub header-fields : (h : Header) (w : List ℕ) → IsTarget h → HasFields w h → w ≡ header_bytes h (three_at w 5)
-header-fields (ScsiCommand p) w t e = absurd t
-header-fields (ScsiResponse p) w t e = e
-header-fields (DataIn p) w t e = e
-header-fields (Reject p) w t e = e
+pub opcode-bhs : (h : TargetHeader) (n : ℕ) → IsTargetOpcode (opcode_of (target_bhs h n))
+unfolding scsi_response_bhs data_in_bhs reject_bhs
+opcode-bhs (ScsiResponse p) n = inl refl
+opcode-bhs (DataIn p) n = inr (inl refl)
+opcode-bhs (Reject p) n = inr (inr refl)
 
 pub length-zeros : (n : ℕ) → length (zeros n) ≡ n
 length-zeros n = length-replicate n 0
 
--- a PDU takes its header, and its data with padding
-pub length-spelling-from : (h : Header) (d : List ℕ) → length (header_bytes h (length d)) ≡ 48 → length (spelling h d) ≡ 48 + padded (length d)
+-- a PDU takes its BHS, and its data with padding
+pub length-spelling : (h : Header) (d : List ℕ) → length (bhs h (length d)) ≡ 48 → length (spelling h d) ≡ 48 + padded (length d)
 unfolding spelling
-length-spelling-from h d wide =
-    let w : List ℕ = header_bytes h (length d) in
+length-spelling h d wide =
+    let w : List ℕ = bhs h (length d) in
     let z : List ℕ = zeros (padded (length d) - length d) in
     omega (arith, length-append (w ++ d) z, length-append w d, wide, length-zeros (padded (length d) - length d))
-
-pub length-spelling : (h : Header) (d : List ℕ) → IsTarget h → length (spelling h d) ≡ 48 + padded (length d)
-length-spelling h d t = length-spelling-from h d (length-header h (length d) t)
 
 data-place : (b : List ℕ) (n : ℕ) → slice_range b 48 (48 + n) ≡ take n (drop 48 b)
 data-place b n = ap (λ (k : ℕ). take k (drop 48 b)) (omega arith)
 
 -- What `spelling` gives spells the PDU.
-pub spelled : (h : Header) (d : List ℕ) → IsTarget h → length d ≤ 65536 → IsPdu (spelling h d) h d
+pub spelled : (h : TargetHeader) (d : List ℕ) → length d ≤ MAX_DATA_SEGMENT_LENGTH → IsPdu (spelling (Target h) d) (Target h) d
 unfolding spelling
-spelled h d t within =
+spelled h d within =
     let n : ℕ = length d in
-    let w : List ℕ = header_bytes h n in
+    let w : List ℕ = target_bhs h n in
     let z : List ℕ = zeros (padded n - n) in
     let b : List ℕ = w ++ d ++ z in
-    let wide : length w ≡ 48 = length-header h n t in
-    let told : three_at w 5 ≡ n = three-header h n t (omega arith) in
+    let wide : length w ≡ 48 = length-bhs h n in
+    let told : three_at w 5 ≡ n = three-bhs h n (omega arith) in
     let parts : b ≡ w ++ (d ++ z) = append_assoc w d z in
     let front : take 48 b ≡ w = ap (take 48) parts ∙ take_at w (d ++ z) 48 wide in
     let rest : drop 48 b ≡ d ++ z = ap (drop 48) parts ∙ drop_at w (d ++ z) 48 wide in
     let len : three_at b 5 ≡ n = ap (λ (x : List ℕ). three_at x 5) parts ∙ three-front w (d ++ z) 5 (omega (arith, wide)) ∙ told in
-    let size : length b ≡ 48 + padded n = length-spelling h d t in
+    let size : length b ≡ 48 + padded n = length-spelling (Target h) d wide in
     record {
       long = omega (arith, size);
-      no_ahs = ap (λ (x : List ℕ). slice_index x 4) parts ∙ get_or-append w (d ++ z) 0 4 (omega (arith, wide)) ∙ ahs-header h n t;
+      no_ahs = ap (λ (x : List ℕ). slice_index x 4) parts ∙ get_or-append w (d ++ z) 0 4 (omega (arith, wide)) ∙ ahs-bhs h n;
       limit = omega (arith, len);
       size = size ∙ ap (λ (m : ℕ). 48 + padded m) (sym len);
-      fields = subst (λ (x : List ℕ). HasFields x h) (sym front) (fields-header h w t (ap (header_bytes h) (sym told)));
+      fields = front ∙ ap (target_bhs h) (sym (ap (λ (x : List ℕ). three_at x 5) front ∙ told));
       same_data = sym (ap (λ (m : ℕ). slice_range b 48 (48 + m)) len ∙ data-place b n ∙ ap (take n) rest ∙ take_at d z n refl);
       padding = λ _. ap (λ (m : ℕ). drop (48 + m) b) len ∙ sym (drop-drop n 48 b) ∙ ap (drop n) rest ∙ drop_at d z n refl ∙ ap (λ (m : ℕ). zeros (padded m - m)) (sym len);
     }
 
 -- A target's PDU has one spelling.
-pub one_spelling : (b : List ℕ) (h : Header) (d : List ℕ) → IsTarget h → IsPdu b h d → b ≡ spelling h d
+pub one_spelling : (b : List ℕ) (h : TargetHeader) (d : List ℕ) → IsPdu b (Target h) d → b ≡ spelling (Target h) d
 unfolding spelling
-one_spelling b h d t p =
+one_spelling b h d p =
     let n : ℕ = three_at b 5 in
     let rest : List ℕ = drop 48 b in
-    let front : take 48 b ≡ header_bytes h n = header-fields h (take 48 b) t p.fields ∙ ap (header_bytes h) (three-take b 48 5 (omega arith)) in
+    let front : take 48 b ≡ target_bhs h n = p.fields ∙ ap (target_bhs h) (three-take b 48 5 (omega arith)) in
     let fit : n ≤ length rest = omega (arith, length-drop 48 b, p.size) in
     let data-is : d ≡ take n rest = p.same_data ∙ data-place b n in
     let len : length d ≡ n = ap length data-is ∙ length-take-le n rest fit in
-    let pad : drop n rest ≡ zeros (padded n - n) = drop-drop n 48 b ∙ p.padding t in
+    let pad : drop n rest ≡ zeros (padded n - n) = drop-drop n 48 b ∙ p.padding tt in
     sym (take-append-drop 48 b) ∙ ap (λ (x : List ℕ). take 48 b ++ x) (sym (take-append-drop n rest))
     ∙ ap (λ (x : List ℕ). x ++ (take n rest ++ drop n rest)) front
-    ∙ ap (λ (x : List ℕ). header_bytes h n ++ (x ++ drop n rest)) (sym data-is)
-    ∙ ap (λ (x : List ℕ). header_bytes h n ++ (d ++ x)) pad
-    ∙ sym (append_assoc (header_bytes h n) d (zeros (padded n - n)))
-    ∙ ap (λ (m : ℕ). header_bytes h m ++ d ++ zeros (padded m - m)) (sym len)
+    ∙ ap (λ (x : List ℕ). target_bhs h n ++ (x ++ drop n rest)) (sym data-is)
+    ∙ ap (λ (x : List ℕ). target_bhs h n ++ (d ++ x)) pad
+    ∙ sym (append_assoc (target_bhs h n) d (zeros (padded n - n)))
+    ∙ ap (λ (m : ℕ). target_bhs h m ++ d ++ zeros (padded m - m)) (sym len)

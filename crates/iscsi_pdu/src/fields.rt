@@ -6,13 +6,14 @@ ghost use Rattle.iscsi_pdu.specs.Pdu.{opcode_of, IsScsiCommand};
 ghost use Rattle.iscsi_pdu.specs.Fault.{HasBadFlags};
 ghost use Rattle.iscsi_pdu.specs.Fields.{NumbersAt, ResponseAt, DataInAt, RejectAt};
 
+use crate::BHS_LENGTH;
 use crate::fault::PduFault;
-use crate::header::{DataIn, Numbers, Reject, ScsiCommand, ScsiResponse};
+use crate::header::{CommandNumbers, DataIn, Numbers, Reject, ScsiCommand, ScsiResponse};
 use crate::numbers::word;
 
 /// The header of a SCSI Command, where its flags are right.
 pub fn scsi_command(b: &[u8]) -> Result<ScsiCommand, PduFault>
-    requires long { length b.now ≡ 48 }
+    requires long { length b.now ≡ BHS_LENGTH }
     requires opcode { opcode_of b.now ≡ 0x01 }
     ensures found { IfOk result (IsScsiCommand b.now) }
     ensures fault { IfErr result (λ f. (f ≡ BadFlags) × HasBadFlags b.now) }
@@ -33,15 +34,17 @@ pub fn scsi_command(b: &[u8]) -> Result<ScsiCommand, PduFault>
         attribute: b[1] % 8,
         lun,
         task_tag: word(b, 16),
-        expected: word(b, 20),
-        cmd_sn: word(b, 24),
-        exp_stat_sn: word(b, 28),
+        expected_length: word(b, 20),
+        numbers: CommandNumbers {
+            cmd_sn: word(b, 24),
+            exp_stat_sn: word(b, 28),
+        },
         cdb,
     })
 }
 
 fn numbers(b: &[u8]) -> Numbers
-    requires { length b.now ≡ 48 }
+    requires { length b.now ≡ BHS_LENGTH }
     ensures { NumbersAt b.now result }
 {
     Numbers {
@@ -53,7 +56,7 @@ fn numbers(b: &[u8]) -> Numbers
 
 /// The fields of a SCSI Response.
 pub fn scsi_response(b: &[u8]) -> ScsiResponse
-    requires { length b.now ≡ 48 }
+    requires { length b.now ≡ BHS_LENGTH }
     ensures { ResponseAt b.now result }
 {
     ScsiResponse {
@@ -70,7 +73,7 @@ pub fn scsi_response(b: &[u8]) -> ScsiResponse
 
 /// The fields of a Data-In.
 pub fn data_in(b: &[u8]) -> DataIn
-    requires { length b.now ≡ 48 }
+    requires { length b.now ≡ BHS_LENGTH }
     ensures { DataInAt b.now result }
 {
     DataIn {
@@ -85,7 +88,7 @@ pub fn data_in(b: &[u8]) -> DataIn
 
 /// The fields of a Reject.
 pub fn reject(b: &[u8]) -> Reject
-    requires { length b.now ≡ 48 }
+    requires { length b.now ≡ BHS_LENGTH }
     ensures { RejectAt b.now result }
 {
     Reject {

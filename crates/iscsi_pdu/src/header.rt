@@ -1,3 +1,18 @@
+/// The two numbers of an initiator's PDU (RFC 7143, 11.3.5 and 11.3.6).
+#[derive(Clone, Copy, Debug, PartialEq, Eq)]
+pub struct CommandNumbers {
+    pub cmd_sn: u32,
+    pub exp_stat_sn: u32,
+}
+
+/// The three numbers of a target's PDU (RFC 7143, 11.4.9 to 11.4.11).
+#[derive(Clone, Copy, Debug, PartialEq, Eq)]
+pub struct Numbers {
+    pub stat_sn: u32,
+    pub exp_cmd_sn: u32,
+    pub max_cmd_sn: u32,
+}
+
 /// The header of a SCSI Command (RFC 7143, 11.3).
 #[derive(Clone, Copy, Debug, PartialEq, Eq)]
 pub struct ScsiCommand {
@@ -10,18 +25,9 @@ pub struct ScsiCommand {
     /// The Initiator Task Tag.
     pub task_tag: u32,
     /// The Expected Data Transfer Length in bytes.
-    pub expected: u32,
-    pub cmd_sn: u32,
-    pub exp_stat_sn: u32,
+    pub expected_length: u32,
+    pub numbers: CommandNumbers,
     pub cdb: [u8; 16],
-}
-
-/// The three numbers of a target's PDU (RFC 7143, 11.4.9 to 11.4.11).
-#[derive(Clone, Copy, Debug, PartialEq, Eq)]
-pub struct Numbers {
-    pub stat_sn: u32,
-    pub exp_cmd_sn: u32,
-    pub max_cmd_sn: u32,
 }
 
 /// The header of a SCSI Response (RFC 7143, 11.4).
@@ -60,13 +66,25 @@ pub struct Reject {
     pub numbers: Numbers,
 }
 
-/// The header of a PDU.
+/// The header of an initiator's PDU.
 #[derive(Clone, Copy, Debug, PartialEq, Eq)]
-pub enum Header {
+pub enum InitiatorHeader {
     ScsiCommand(ScsiCommand),
+}
+
+/// The header of a target's PDU.
+#[derive(Clone, Copy, Debug, PartialEq, Eq)]
+pub enum TargetHeader {
     ScsiResponse(ScsiResponse),
     DataIn(DataIn),
     Reject(Reject),
+}
+
+/// The header of a PDU: what the fields of its basic header segment say.
+#[derive(Clone, Copy, Debug, PartialEq, Eq)]
+pub enum Header {
+    Initiator(InitiatorHeader),
+    Target(TargetHeader),
 }
 
 /// A PDU: its header, and its data segment without padding.

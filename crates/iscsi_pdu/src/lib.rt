@@ -11,10 +11,19 @@ mod spelling;
 mod writing;
 
 pub use fault::PduFault;
-pub use header::{DataIn, Header, Numbers, Pdu, Reject, ScsiCommand, ScsiResponse};
+pub use header::{
+    CommandNumbers, DataIn, Header, InitiatorHeader, Numbers, Pdu, Reject, ScsiCommand,
+    ScsiResponse, TargetHeader,
+};
 pub use laws::{one_front, one_spelling, spelled};
 pub use reading::decode;
 pub use writing::encode;
 
-#[cfg(test)]
-mod tests;
+/// The bytes of a basic header segment (RFC 7143, 11.2.1).
+pub const BHS_LENGTH: usize = 48;
+
+/// The most bytes of a data segment: the target's MaxRecvDataSegmentLength (RFC 7143, 13.12).
+pub const MAX_DATA_SEGMENT_LENGTH: usize = 65536;
+
+/// The most bytes of a PDU.
+pub const LONGEST_PDU: usize = BHS_LENGTH + MAX_DATA_SEGMENT_LENGTH;

@@ -3,6 +3,7 @@ ghost use Rattle.byteorder.specs.Endian.{big_bytes};
 ghost use Rattle.iscsi_pdu.specs.Number.{three_at, word_at};
 ghost use Rattle.iscsi_pdu.specs.Spelling.{flag, padded};
 
+use crate::{BHS_LENGTH, MAX_DATA_SEGMENT_LENGTH};
 use byteorder::{BigEndian, ByteOrder};
 
 /// The number in three bytes from a place on.
@@ -23,20 +24,20 @@ pub fn word(bytes: &[u8], at: usize) -> u32
     BigEndian::read_u32(&bytes[at..])
 }
 
-/// Writes the DataSegmentLength of a header, in its bytes 5 to 7.
-pub fn put_length(header: &mut [u8; 48], n: u32)
+/// Writes the DataSegmentLength of a BHS, in its bytes 5 to 7.
+pub fn put_length(bhs: &mut [u8; BHS_LENGTH], n: u32)
     requires { n < 2 ^ 24 }
-    ensures { header.new ≡ take 5 header.old ++ big_bytes 3 n ++ drop 8 header.old }
+    ensures { bhs.new ≡ take 5 bhs.old ++ big_bytes 3 n ++ drop 8 bhs.old }
 {
-    BigEndian::write_u24(&mut header[5..8], n);
+    BigEndian::write_u24(&mut bhs[5..8], n);
 }
 
-/// Writes a number into the four bytes of a header from a place on.
-pub fn put_word(header: &mut [u8; 48], at: usize, n: u32)
-    requires { at + 4 ≤ 48 }
-    ensures { header.new ≡ take at header.old ++ big_bytes 4 n ++ drop (at + 4) header.old }
+/// Writes a number into the four bytes of a BHS from a place on.
+pub fn put_word(bhs: &mut [u8; BHS_LENGTH], at: usize, n: u32)
+    requires { at + 4 ≤ BHS_LENGTH }
+    ensures { bhs.new ≡ take at bhs.old ++ big_bytes 4 n ++ drop (at + 4) bhs.old }
 {
-    BigEndian::write_u32(&mut header[at..at + 4], n);
+    BigEndian::write_u32(&mut bhs[at..at + 4], n);
 }
 
 /// A flag's value in its byte.
@@ -48,7 +49,7 @@ pub fn flag_value(set: bool, value: u8) -> u8
 
 /// The length of a data segment with its padding (RFC 7143, 11.1).
 pub fn padded_length(n: usize) -> usize
-    requires { n ≤ 65536 }
+    requires { n ≤ MAX_DATA_SEGMENT_LENGTH }
     ensures { result ≡ padded n }
 {
     (n + 3) / 4 * 4
