@@ -3,25 +3,26 @@ use Rattle.std.specs.Prelude.{◌≡◌, ◌≢◌, ◌⊎◌, ℕ, ◌+◌, ◌
 use Rattle.iscsi_pdu.specs.declared.fault.PduFault.{PduFault}
 use Rattle.iscsi_pdu.specs.declared.fault.PduFault.TheVariants.{UnknownOpcode, HasAhs, TooLong, BadFlags, BadReserved, NonZeroPad}
 use Rattle.iscsi_pdu.specs.declared.header.TargetHeader.{TargetHeader}
+use Rattle.iscsi_pdu.specs.declared.header.Header.TheVariants.{Target}
 use Rattle.iscsi_pdu.specs.declared.TheConstants.{BHS_LENGTH, MAX_DATA_SEGMENT_LENGTH}
 use Rattle.iscsi_pdu.specs.Number.{three_at}
-use Rattle.iscsi_pdu.specs.Spelling.{target_bhs, padded, zeros}
-use Rattle.iscsi_pdu.specs.Pdu.{opcode_of}
+use Rattle.iscsi_pdu.specs.Spelling.{padded, zeros}
+use Rattle.iscsi_pdu.specs.Fields.{opcode_of, HasBadFlags}
+use Rattle.iscsi_pdu.specs.Pdu.{HasFields}
 
--- an opcode of a SCSI Response, a Data-In or a Reject
+-- the opcodes of an initiator's PDUs, and of a target's without Asynchronous Message (11.2.1.2)
+abbrev pub IsInitiatorOpcode : ℕ → Type 0
+IsInitiatorOpcode n = n ≤ 0x06
+
 abbrev pub IsTargetOpcode : ℕ → Type 0
-IsTargetOpcode n = (n ≡ 0x21) ⊎ (n ≡ 0x25) ⊎ (n ≡ 0x3F)
+IsTargetOpcode n = ((0x20 ≤ n) × (n ≤ 0x26)) ⊎ (n ≡ 0x31) ⊎ (n ≡ 0x3F)
 
 abbrev pub IsKnown : ℕ → Type 0
-IsKnown n = (n ≡ 0x01) ⊎ IsTargetOpcode n
+IsKnown n = IsInitiatorOpcode n ⊎ IsTargetOpcode n
 
--- without F, or with R and W
-abbrev pub HasBadFlags : List ℕ → Type 0
-HasBadFlags b = (opcode_of b ≡ 0x01) × ((slice_index b 1 / 128 ≢ 1) ⊎ ((slice_index b 1 / 64 % 2 ≡ 1) × (slice_index b 1 / 32 % 2 ≡ 1)))
-
--- a target's BHS that no header of a target is spelled by
+-- a target's BHS that says no header
 abbrev pub HasBadReserved : List ℕ → Type 0
-HasBadReserved b = IsTargetOpcode (opcode_of b) × ((h : TargetHeader) → take BHS_LENGTH b ≡ target_bhs h (three_at b 5) → ⊥)
+HasBadReserved b = IsTargetOpcode (opcode_of b) × ((h : TargetHeader) → HasFields (take BHS_LENGTH b) (Target h) → ⊥)
 
 -- the whole BHS is there, and has an opcode that is known, no additional segment, a length within the limit
 pub record HasBhs (b : List ℕ) : Type 0 where
