@@ -1,5 +1,6 @@
 -- What is written at a place of a BHS is read there again.
-use Rattle.std.proofs.Common.{◌≡◌, ℕ, ◌+◌, ◌*◌, ◌/◌, ◌%◌, ◌^◌, ◌<◌, Bool, true, false, nat_eq, List, ◌++◌, drop, refl, sym, ap, ◌∙◌, arith}
+use Rattle.std.proofs.Common.{◌≡◌, ℕ, ◌+◌, ◌*◌, ◌/◌, ◌%◌, ◌^◌, ◌<◌, Bool, true, false, nat_eq}
+use Rattle.std.proofs.Common.{List, ◌++◌, drop, refl, sym, ap, ◌∙◌, arith}
 use Rattle.std.proofs.lemmas.Bool.Decides.{nat_tests}
 use Rattle.byteorder.specs.Endian.{big_number}
 use Rattle.byteorder.specs.Numbers.{big_number-reads_back}
@@ -7,7 +8,7 @@ use Rattle.iscsi_pdu.specs.declared.header.CommandNumbers.{CommandNumbers}
 use Rattle.iscsi_pdu.specs.declared.header.Numbers.{Numbers}
 use Rattle.iscsi_pdu.specs.Number.{half_at, word_at}
 use Rattle.iscsi_pdu.specs.Fields.{command_numbers_at, numbers_at}
-use Rattle.iscsi_pdu.specs.Spelling.{flag, half, word, stages}
+use Rattle.iscsi_pdu.specs.Spelling.{flag, half, word, login_flags}
 use Rattle.iscsi_pdu.specs.Range.{IsHalf, IsWord, AreCommandNumbers, AreNumbers}
 
 pub word-back : (b : List ℕ) (at x : ℕ) → drop at b ≡ word x ++ drop (at + 4) b → IsWord x → word_at b at ≡ x
@@ -18,12 +19,16 @@ pub half-back : (b : List ℕ) (at x : ℕ) → drop at b ≡ half x ++ drop (at
 unfolding half_at
 half-back b at x e lt = ap (big_number 2) e ∙ big_number-reads_back 2 x (drop (at + 2) b) lt
 
-pub command_numbers-back : (b : List ℕ) (n : CommandNumbers) → drop 24 b ≡ word n.cmd_sn ++ drop 28 b → drop 28 b ≡ word n.exp_stat_sn ++ drop 32 b
+pub command_numbers-back : (b : List ℕ) (n : CommandNumbers) → drop 24 b ≡ word n.cmd_sn ++ drop 28 b
+    → drop 28 b ≡ word n.exp_stat_sn ++ drop 32 b
     → AreCommandNumbers n → command_numbers_at b ≡ n
-command_numbers-back b n e f r = λ i. record { cmd_sn = word-back b 24 n.cmd_sn e r.cmd_sn i; exp_stat_sn = word-back b 28 n.exp_stat_sn f r.exp_stat_sn i }
+command_numbers-back b n e f r = λ i. record {
+  cmd_sn = word-back b 24 n.cmd_sn e r.cmd_sn i;
+  exp_stat_sn = word-back b 28 n.exp_stat_sn f r.exp_stat_sn i;
+}
 
-pub numbers-back : (b : List ℕ) (n : Numbers) → drop 24 b ≡ word n.stat_sn ++ drop 28 b → drop 28 b ≡ word n.exp_cmd_sn ++ drop 32 b
-    → drop 32 b ≡ word n.max_cmd_sn ++ drop 36 b → AreNumbers n → numbers_at b ≡ n
+pub numbers-back : (b : List ℕ) (n : Numbers) → drop 24 b ≡ word n.stat_sn ++ drop 28 b
+    → drop 28 b ≡ word n.exp_cmd_sn ++ drop 32 b → drop 32 b ≡ word n.max_cmd_sn ++ drop 36 b → AreNumbers n → numbers_at b ≡ n
 numbers-back b n e f g r = λ i. record {
   stat_sn = word-back b 24 n.stat_sn e r.stat_sn i;
   exp_cmd_sn = word-back b 28 n.exp_cmd_sn f r.exp_cmd_sn i;
@@ -66,16 +71,16 @@ pub seven-back : (n : ℕ) → n < 128 → (128 + n % 128) % 128 ≡ n
 seven-back n h = omega arith
 
 -- byte 1 of a login
-pub transit-back : (t c : Bool) (x y : ℕ) → nat_eq ((flag t 128 + flag c 64 + stages x y) / 128 % 2) 1 ≡ t
+pub transit-back : (t c : Bool) (x y : ℕ) → nat_eq (login_flags t c x y / 128 % 2) 1 ≡ t
 transit-back t c x y = grind (arith, nat_tests)
 
-pub login_continues-back : (t c : Bool) (x y : ℕ) → nat_eq ((flag t 128 + flag c 64 + stages x y) / 64 % 2) 1 ≡ c
+pub login_continues-back : (t c : Bool) (x y : ℕ) → nat_eq (login_flags t c x y / 64 % 2) 1 ≡ c
 login_continues-back t c x y = grind (arith, nat_tests)
 
-pub current-back : (t c : Bool) (x y : ℕ) → x < 4 → (flag t 128 + flag c 64 + stages x y) / 4 % 4 ≡ x
+pub current-back : (t c : Bool) (x y : ℕ) → x < 4 → login_flags t c x y / 4 % 4 ≡ x
 current-back t c x y h = grind (arith, nat_tests)
 
-pub next-back : (t c : Bool) (x y : ℕ) → y < 4 → (flag t 128 + flag c 64 + stages x y) % 4 ≡ y
+pub next-back : (t c : Bool) (x y : ℕ) → y < 4 → login_flags t c x y % 4 ≡ y
 next-back t c x y h = grind (arith, nat_tests)
 
 -- byte 1 of a Text Request, of data, of a SCSI Response

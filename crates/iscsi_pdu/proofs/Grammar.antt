@@ -6,7 +6,15 @@ use Rattle.std.specs.Prelude.{◌⊎◌, IsTrue, slice_index, slice_range}
 use Rattle.iscsi_pdu.specs.declared.header.Header.{Header}
 use Rattle.iscsi_pdu.specs.declared.header.Header.TheVariants.{Initiator, Target}
 use Rattle.iscsi_pdu.specs.declared.header.InitiatorHeader.{InitiatorHeader}
-use Rattle.iscsi_pdu.specs.declared.header.InitiatorHeader.TheVariants.{NopOut, ScsiCommand, TaskManagementRequest, LoginRequest, TextRequest, DataOut, LogoutRequest}
+use Rattle.iscsi_pdu.specs.declared.header.InitiatorHeader.TheVariants.{
+  NopOut,
+  ScsiCommand,
+  TaskManagementRequest,
+  LoginRequest,
+  TextRequest,
+  DataOut,
+  LogoutRequest,
+}
 use Rattle.iscsi_pdu.specs.declared.header.TargetHeader.{TargetHeader}
 use Rattle.iscsi_pdu.specs.declared.TheConstants.{BHS_LENGTH, MAX_DATA_SEGMENT_LENGTH}
 use Rattle.iscsi_pdu.specs.Number.{three_at}

@@ -8,14 +8,51 @@ use Rattle.iscsi_pdu.specs.declared.header.TextRequest.{TextRequest as TextReque
 use Rattle.iscsi_pdu.specs.declared.header.DataOut.{DataOut as DataOutHeader}
 use Rattle.iscsi_pdu.specs.declared.header.LogoutRequest.{LogoutRequest as LogoutRequestHeader}
 use Rattle.iscsi_pdu.specs.declared.header.InitiatorHeader.{InitiatorHeader}
-use Rattle.iscsi_pdu.specs.declared.header.InitiatorHeader.TheVariants.{NopOut, ScsiCommand, TaskManagementRequest, LoginRequest, TextRequest, DataOut, LogoutRequest}
-use Rattle.iscsi_pdu.specs.Fields.{IsInitiators, nop_out_at, scsi_command_at, task_management_request_at, login_request_at, text_request_at, data_out_at, logout_request_at}
+use Rattle.iscsi_pdu.specs.declared.header.InitiatorHeader.TheVariants.{
+  NopOut,
+  ScsiCommand,
+  TaskManagementRequest,
+  LoginRequest,
+  TextRequest,
+  DataOut,
+  LogoutRequest,
+}
+use Rattle.iscsi_pdu.specs.Fields.{
+  HasInitiatorFields,
+  nop_out_at,
+  scsi_command_at,
+  task_management_request_at,
+  login_request_at,
+  text_request_at,
+  data_out_at,
+  logout_request_at,
+}
 use Rattle.iscsi_pdu.specs.Spelling.{initiator_bhs}
 use Rattle.iscsi_pdu.specs.Range.{IsInitiatorInRange}
 use Rattle.iscsi_pdu.proofs.Cells.{cells-whole}
-use Rattle.iscsi_pdu.proofs.Back.{word-back, half-back, command_numbers-back, immediate-back, opcode-back, lone_immediate-back, lone_opcode-back, read-back, write-back, attribute-back, seven-back, transit-back, login_continues-back, current-back, next-back, text_last-back, text_continues-back, last-back}
+use Rattle.iscsi_pdu.proofs.Back.{
+  word-back,
+  half-back,
+  command_numbers-back,
+  immediate-back,
+  opcode-back,
+  lone_immediate-back,
+  lone_opcode-back,
+  read-back,
+  write-back,
+  attribute-back,
+  seven-back,
+  transit-back,
+  login_continues-back,
+  current-back,
+  next-back,
+  text_last-back,
+  text_continues-back,
+  last-back,
+}
 
-nop_out-says : (p : NopOutHeader) (n : ℕ) → IsInitiatorInRange (NopOut p) → nop_out_at (initiator_bhs (NopOut p) n) ≡ p
+nop_out-says : (p : NopOutHeader) (n : ℕ) → IsInitiatorInRange (NopOut p)
+    → nop_out_at (initiator_bhs (NopOut p) n) ≡ p
 unfolding initiator_bhs
 nop_out-says p n (l, t, x, c) =
     let b : List ℕ = initiator_bhs (NopOut p) n in
@@ -27,7 +64,8 @@ nop_out-says p n (l, t, x, c) =
       numbers = command_numbers-back b p.numbers refl refl c i;
     }
 
-scsi_command-says : (p : ScsiCommandHeader) (n : ℕ) → IsInitiatorInRange (ScsiCommand p) → scsi_command_at (initiator_bhs (ScsiCommand p) n) ≡ p
+scsi_command-says : (p : ScsiCommandHeader) (n : ℕ) → IsInitiatorInRange (ScsiCommand p)
+    → scsi_command_at (initiator_bhs (ScsiCommand p) n) ≡ p
 unfolding initiator_bhs
 scsi_command-says p n (f, a, l, t, e, c, d) =
     let b : List ℕ = initiator_bhs (ScsiCommand p) n in
@@ -43,7 +81,8 @@ scsi_command-says p n (f, a, l, t, e, c, d) =
       cdb = cells-whole 16 p.cdb d i;
     }
 
-task_management_request-says : (p : TaskManagementRequestHeader) (n : ℕ) → IsInitiatorInRange (TaskManagementRequest p) → task_management_request_at (initiator_bhs (TaskManagementRequest p) n) ≡ p
+task_management_request-says : (p : TaskManagementRequestHeader) (n : ℕ) → IsInitiatorInRange (TaskManagementRequest p)
+    → task_management_request_at (initiator_bhs (TaskManagementRequest p) n) ≡ p
 unfolding initiator_bhs
 task_management_request-says p n (f, l, t, x, c, r) =
     let b : List ℕ = initiator_bhs (TaskManagementRequest p) n in
@@ -57,7 +96,8 @@ task_management_request-says p n (f, l, t, x, c, r) =
       ref_cmd_sn = word-back b 32 p.ref_cmd_sn refl r i;
     }
 
-login_request-says : (p : LoginRequestHeader) (n : ℕ) → IsInitiatorInRange (LoginRequest p) → login_request_at (initiator_bhs (LoginRequest p) n) ≡ p
+login_request-says : (p : LoginRequestHeader) (n : ℕ) → IsInitiatorInRange (LoginRequest p)
+    → login_request_at (initiator_bhs (LoginRequest p) n) ≡ p
 unfolding initiator_bhs
 login_request-says p n (u, v, l, s, t, x, c) =
     let b : List ℕ = initiator_bhs (LoginRequest p) n in
@@ -75,7 +115,8 @@ login_request-says p n (u, v, l, s, t, x, c) =
       numbers = command_numbers-back b p.numbers refl refl c i;
     }
 
-text_request-says : (p : TextRequestHeader) (n : ℕ) → IsInitiatorInRange (TextRequest p) → text_request_at (initiator_bhs (TextRequest p) n) ≡ p
+text_request-says : (p : TextRequestHeader) (n : ℕ) → IsInitiatorInRange (TextRequest p)
+    → text_request_at (initiator_bhs (TextRequest p) n) ≡ p
 unfolding initiator_bhs
 text_request-says p n (l, t, x, c) =
     let b : List ℕ = initiator_bhs (TextRequest p) n in
@@ -89,7 +130,8 @@ text_request-says p n (l, t, x, c) =
       numbers = command_numbers-back b p.numbers refl refl c i;
     }
 
-data_out-says : (p : DataOutHeader) (n : ℕ) → IsInitiatorInRange (DataOut p) → data_out_at (initiator_bhs (DataOut p) n) ≡ p
+data_out-says : (p : DataOutHeader) (n : ℕ) → IsInitiatorInRange (DataOut p)
+    → data_out_at (initiator_bhs (DataOut p) n) ≡ p
 unfolding initiator_bhs
 data_out-says p n (l, t, x, e, d, o) =
     let b : List ℕ = initiator_bhs (DataOut p) n in
@@ -103,7 +145,8 @@ data_out-says p n (l, t, x, e, d, o) =
       offset = word-back b 40 p.offset refl o i;
     }
 
-logout_request-says : (p : LogoutRequestHeader) (n : ℕ) → IsInitiatorInRange (LogoutRequest p) → logout_request_at (initiator_bhs (LogoutRequest p) n) ≡ p
+logout_request-says : (p : LogoutRequestHeader) (n : ℕ) → IsInitiatorInRange (LogoutRequest p)
+    → logout_request_at (initiator_bhs (LogoutRequest p) n) ≡ p
 unfolding initiator_bhs
 logout_request-says p n (f, t, x, c) =
     let b : List ℕ = initiator_bhs (LogoutRequest p) n in
@@ -115,7 +158,7 @@ logout_request-says p n (f, t, x, c) =
       numbers = command_numbers-back b p.numbers refl refl c i;
     }
 
-pub initiator-says : (h : InitiatorHeader) (n : ℕ) → IsInitiatorInRange h → IsInitiators (initiator_bhs h n) h
+pub initiator-says : (h : InitiatorHeader) (n : ℕ) → IsInitiatorInRange h → HasInitiatorFields (initiator_bhs h n) h
 unfolding initiator_bhs
 initiator-says (NopOut p) n r = (lone_opcode-back p.immediate, sym (nop_out-says p n r))
 initiator-says (ScsiCommand p) n r = (opcode-back p.immediate 0x01 (omega arith), sym (scsi_command-says p n r))

@@ -10,14 +10,47 @@ use Rattle.iscsi_pdu.specs.declared.header.LogoutResponse.{LogoutResponse as Log
 use Rattle.iscsi_pdu.specs.declared.header.R2t.{R2t as R2tHeader}
 use Rattle.iscsi_pdu.specs.declared.header.Reject.{Reject as RejectHeader}
 use Rattle.iscsi_pdu.specs.declared.header.TargetHeader.{TargetHeader}
-use Rattle.iscsi_pdu.specs.declared.header.TargetHeader.TheVariants.{NopIn, ScsiResponse, TaskManagementResponse, LoginResponse, TextResponse, DataIn, LogoutResponse, R2t, Reject}
-use Rattle.iscsi_pdu.specs.Fields.{IsTargets, nop_in_at, scsi_response_at, task_management_response_at, login_response_at, text_response_at, data_in_at, logout_response_at, r2t_at, reject_at}
+use Rattle.iscsi_pdu.specs.declared.header.TargetHeader.TheVariants.{
+  NopIn,
+  ScsiResponse,
+  TaskManagementResponse,
+  LoginResponse,
+  TextResponse,
+  DataIn,
+  LogoutResponse,
+  R2t,
+  Reject,
+}
+use Rattle.iscsi_pdu.specs.Fields.{
+  HasTargetFields,
+  nop_in_at,
+  scsi_response_at,
+  task_management_response_at,
+  login_response_at,
+  text_response_at,
+  data_in_at,
+  logout_response_at,
+  r2t_at,
+  reject_at,
+}
 use Rattle.iscsi_pdu.specs.Spelling.{target_bhs}
 use Rattle.iscsi_pdu.specs.Range.{IsTargetInRange}
 use Rattle.iscsi_pdu.proofs.Cells.{cells-whole}
-use Rattle.iscsi_pdu.proofs.Back.{word-back, half-back, numbers-back, transit-back, login_continues-back, current-back, next-back, last-back, overflow-back, underflow-back}
+use Rattle.iscsi_pdu.proofs.Back.{
+  word-back,
+  half-back,
+  numbers-back,
+  transit-back,
+  login_continues-back,
+  current-back,
+  next-back,
+  last-back,
+  overflow-back,
+  underflow-back,
+}
 
-nop_in-says : (p : NopInHeader) (n : ℕ) → IsTargetInRange (NopIn p) → nop_in_at (target_bhs (NopIn p) n) ≡ p
+nop_in-says : (p : NopInHeader) (n : ℕ) → IsTargetInRange (NopIn p)
+    → nop_in_at (target_bhs (NopIn p) n) ≡ p
 unfolding target_bhs
 nop_in-says p n (l, t, x, c) =
     let b : List ℕ = target_bhs (NopIn p) n in
@@ -28,7 +61,8 @@ nop_in-says p n (l, t, x, c) =
       numbers = numbers-back b p.numbers refl refl refl c i;
     }
 
-scsi_response-says : (p : ScsiResponseHeader) (n : ℕ) → IsTargetInRange (ScsiResponse p) → scsi_response_at (target_bhs (ScsiResponse p) n) ≡ p
+scsi_response-says : (p : ScsiResponseHeader) (n : ℕ) → IsTargetInRange (ScsiResponse p)
+    → scsi_response_at (target_bhs (ScsiResponse p) n) ≡ p
 unfolding target_bhs
 scsi_response-says p n (t, c, e, r) =
     let b : List ℕ = target_bhs (ScsiResponse p) n in
@@ -43,7 +77,8 @@ scsi_response-says p n (t, c, e, r) =
       residual = word-back b 44 p.residual refl r i;
     }
 
-task_management_response-says : (p : TaskManagementResponseHeader) (n : ℕ) → IsTargetInRange (TaskManagementResponse p) → task_management_response_at (target_bhs (TaskManagementResponse p) n) ≡ p
+task_management_response-says : (p : TaskManagementResponseHeader) (n : ℕ) → IsTargetInRange (TaskManagementResponse p)
+    → task_management_response_at (target_bhs (TaskManagementResponse p) n) ≡ p
 unfolding target_bhs
 task_management_response-says p n (t, c) =
     let b : List ℕ = target_bhs (TaskManagementResponse p) n in
@@ -53,7 +88,8 @@ task_management_response-says p n (t, c) =
       numbers = numbers-back b p.numbers refl refl refl c i;
     }
 
-login_response-says : (p : LoginResponseHeader) (n : ℕ) → IsTargetInRange (LoginResponse p) → login_response_at (target_bhs (LoginResponse p) n) ≡ p
+login_response-says : (p : LoginResponseHeader) (n : ℕ) → IsTargetInRange (LoginResponse p)
+    → login_response_at (target_bhs (LoginResponse p) n) ≡ p
 unfolding target_bhs
 login_response-says p n (u, v, l, s, t, c) =
     let b : List ℕ = target_bhs (LoginResponse p) n in
@@ -70,7 +106,8 @@ login_response-says p n (u, v, l, s, t, c) =
       status_detail = p.status_detail;
     }
 
-text_response-says : (p : TextResponseHeader) (n : ℕ) → IsTargetInRange (TextResponse p) → text_response_at (target_bhs (TextResponse p) n) ≡ p
+text_response-says : (p : TextResponseHeader) (n : ℕ) → IsTargetInRange (TextResponse p)
+    → text_response_at (target_bhs (TextResponse p) n) ≡ p
 unfolding target_bhs
 text_response-says p n (t, x, c) =
     let b : List ℕ = target_bhs (TextResponse p) n in
@@ -80,7 +117,8 @@ text_response-says p n (t, x, c) =
       numbers = numbers-back b p.numbers refl refl refl c i;
     }
 
-data_in-says : (p : DataInHeader) (n : ℕ) → IsTargetInRange (DataIn p) → data_in_at (target_bhs (DataIn p) n) ≡ p
+data_in-says : (p : DataInHeader) (n : ℕ) → IsTargetInRange (DataIn p)
+    → data_in_at (target_bhs (DataIn p) n) ≡ p
 unfolding target_bhs
 data_in-says p n (t, x, c, d, o) =
     let b : List ℕ = target_bhs (DataIn p) n in
@@ -93,7 +131,8 @@ data_in-says p n (t, x, c, d, o) =
       offset = word-back b 40 p.offset refl o i;
     }
 
-logout_response-says : (p : LogoutResponseHeader) (n : ℕ) → IsTargetInRange (LogoutResponse p) → logout_response_at (target_bhs (LogoutResponse p) n) ≡ p
+logout_response-says : (p : LogoutResponseHeader) (n : ℕ) → IsTargetInRange (LogoutResponse p)
+    → logout_response_at (target_bhs (LogoutResponse p) n) ≡ p
 unfolding target_bhs
 logout_response-says p n (t, c, w, r) =
     let b : List ℕ = target_bhs (LogoutResponse p) n in
@@ -105,7 +144,8 @@ logout_response-says p n (t, c, w, r) =
       time_to_retain = half-back b 42 p.time_to_retain refl r i;
     }
 
-r2t-says : (p : R2tHeader) (n : ℕ) → IsTargetInRange (R2t p) → r2t_at (target_bhs (R2t p) n) ≡ p
+r2t-says : (p : R2tHeader) (n : ℕ) → IsTargetInRange (R2t p)
+    → r2t_at (target_bhs (R2t p) n) ≡ p
 unfolding target_bhs
 r2t-says p n (l, t, x, c, r, o, d) =
     let b : List ℕ = target_bhs (R2t p) n in
@@ -119,7 +159,8 @@ r2t-says p n (l, t, x, c, r, o, d) =
       desired_length = word-back b 44 p.desired_length refl d i;
     }
 
-reject-says : (p : RejectHeader) (n : ℕ) → IsTargetInRange (Reject p) → reject_at (target_bhs (Reject p) n) ≡ p
+reject-says : (p : RejectHeader) (n : ℕ) → IsTargetInRange (Reject p)
+    → reject_at (target_bhs (Reject p) n) ≡ p
 unfolding target_bhs
 reject-says p n c =
     let b : List ℕ = target_bhs (Reject p) n in
@@ -128,7 +169,7 @@ reject-says p n c =
       numbers = numbers-back b p.numbers refl refl refl c i;
     }
 
-pub target-says : (h : TargetHeader) (n : ℕ) → IsTargetInRange h → IsTargets (target_bhs h n) h
+pub target-says : (h : TargetHeader) (n : ℕ) → IsTargetInRange h → HasTargetFields (target_bhs h n) h
 unfolding target_bhs
 target-says (NopIn p) n r = (refl, sym (nop_in-says p n r))
 target-says (ScsiResponse p) n r = (refl, sym (scsi_response-says p n r))

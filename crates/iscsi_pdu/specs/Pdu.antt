@@ -4,7 +4,7 @@ use Rattle.iscsi_pdu.specs.declared.header.Header.{Header}
 use Rattle.iscsi_pdu.specs.declared.header.Header.TheVariants.{Initiator, Target}
 use Rattle.iscsi_pdu.specs.declared.TheConstants.{BHS_LENGTH, MAX_DATA_SEGMENT_LENGTH}
 use Rattle.iscsi_pdu.specs.Number.{three_at}
-use Rattle.iscsi_pdu.specs.Fields.{HasBadFlags, IsInitiators, IsTargets}
+use Rattle.iscsi_pdu.specs.Fields.{HasBadFlags, HasInitiatorFields, HasTargetFields}
 use Rattle.iscsi_pdu.specs.Spelling.{target_bhs, padded, zeros}
 
 -- a target's PDU
@@ -14,8 +14,8 @@ IsTarget (Target h) = Unit {0}
 
 -- The BHS says this header. Of an initiator, its reserved bits may hold anything; a target's has one spelling.
 abbrev pub HasFields : List ℕ → Header → Type 0
-HasFields b (Initiator h) = IsInitiators b h × (HasBadFlags b → ⊥)
-HasFields b (Target h) = IsTargets b h × (b ≡ target_bhs h (three_at b 5))
+HasFields b (Initiator h) = HasInitiatorFields b h × (HasBadFlags b → ⊥)
+HasFields b (Target h) = HasTargetFields b h × (b ≡ target_bhs h (three_at b 5))
 
 -- The bytes spell this PDU: its BHS, no additional segment, the data, and padding up to a multiple of four, which
 -- is zeros from a target.

@@ -1,7 +1,7 @@
 //! The fields of an initiator's basic header segments at their places (RFC 7143, section 11).
 
 ghost use Rattle.std.specs.Prelude.{◌≡◌, length};
-ghost use Rattle.iscsi_pdu.specs.Fields.{opcode_of, IsInitiators, nop_out_at, scsi_command_at, task_management_request_at, login_request_at, text_request_at, data_out_at, logout_request_at};
+ghost use Rattle.iscsi_pdu.specs.Fields.{opcode_of, HasInitiatorFields, nop_out_at, scsi_command_at, task_management_request_at, login_request_at, text_request_at, data_out_at, logout_request_at};
 ghost use Rattle.iscsi_pdu.specs.Fault.{IsInitiatorOpcode};
 
 use crate::BHS_LENGTH;
@@ -122,7 +122,7 @@ fn logout_request(bhs: &[u8]) -> LogoutRequest
 pub fn initiator_fields(bhs: &[u8]) -> InitiatorHeader
     requires long { length bhs.now ≡ BHS_LENGTH }
     requires opcode { IsInitiatorOpcode (opcode_of bhs.now) }
-    ensures { IsInitiators bhs.now result }
+    ensures { HasInitiatorFields bhs.now result }
 {
     match bhs[0] % 64 {
         0x00 => InitiatorHeader::NopOut(nop_out(bhs)),

@@ -2,7 +2,7 @@
 
 ghost use Rattle.std.specs.Prelude.{◌≡◌, ◌<◌, ◌^◌, ◌++◌, ◌∷◌, [], flat_map};
 ghost use Rattle.byteorder.specs.Endian.{big_bytes};
-ghost use Rattle.iscsi_pdu.specs.Spelling.{bhs, cells, flag, half, initiator_bhs, stages, target_bhs, word, zeros};
+ghost use Rattle.iscsi_pdu.specs.Spelling.{bhs, cells, flag, half, initiator_bhs, login_flags, target_bhs, word, zeros};
 
 use crate::BHS_LENGTH;
 use crate::header::{CommandNumbers, Header, InitiatorHeader, Numbers, ScsiCommand, TargetHeader};
@@ -15,11 +15,11 @@ fn flag_value(set: bool, value: u8) -> u8
     if set { value } else { 0 }
 }
 
-/// CSG and NSG in their byte.
-fn stages_value(current: u8, next: u8) -> u8
-    ensures { result ≡ stages current next }
+/// Byte 1 of a login: T, C, CSG and NSG.
+fn login_flags_value(transit: bool, continues: bool, current: u8, next: u8) -> u8
+    ensures { result ≡ login_flags transit continues current next }
 {
-    current % 4 * 4 + next % 4
+    flag_value(transit, 0x80) + flag_value(continues, 0x40) + (current % 4 * 4 + next % 4)
 }
 
 /// Two numbers of two bytes, as one of four.
@@ -112,9 +112,7 @@ pub fn spell_target(header: &TargetHeader, len: u32) -> [u8; BHS_LENGTH]
             bhs_with([0x22, 0x80, p.response, 0], len, [0; 8], words)
         }
         TargetHeader::LoginResponse(p) => {
-            let flags = flag_value(p.transit, 0x80)
-                + flag_value(p.continues, 0x40)
-                + stages_value(p.current_stage, p.next_stage);
+            let flags = login_flags_value(p.transit, p.continues, p.current_stage, p.next_stage);
             let words = target_words(
                 p.task_tag,
                 0,
@@ -208,9 +206,7 @@ fn spell_initiator(header: &InitiatorHeader, len: u32) -> [u8; BHS_LENGTH]
             bhs_with(first, len, p.lun, words)
         }
         InitiatorHeader::LoginRequest(p) => {
-            let flags = flag_value(p.transit, 0x80)
-                + flag_value(p.continues, 0x40)
-                + stages_value(p.current_stage, p.next_stage);
+            let flags = login_flags_value(p.transit, p.continues, p.current_stage, p.next_stage);
             let words = initiator_words(p.task_tag, halves(p.cid, 0), &p.numbers, [0; 4]);
             bhs_with(
                 [0x43, flags, p.version_max, p.version_min],

@@ -1,7 +1,7 @@
 //! The fields of a target's basic header segments at their places (RFC 7143, section 11).
 
 ghost use Rattle.std.specs.Prelude.{◌≡◌, length};
-ghost use Rattle.iscsi_pdu.specs.Fields.{opcode_of, IsTargets, nop_in_at, scsi_response_at, task_management_response_at, login_response_at, text_response_at, data_in_at, logout_response_at, r2t_at, reject_at};
+ghost use Rattle.iscsi_pdu.specs.Fields.{opcode_of, HasTargetFields, nop_in_at, scsi_response_at, task_management_response_at, login_response_at, text_response_at, data_in_at, logout_response_at, r2t_at, reject_at};
 ghost use Rattle.iscsi_pdu.specs.Fault.{IsTargetOpcode};
 
 use crate::BHS_LENGTH;
@@ -135,7 +135,7 @@ fn reject(bhs: &[u8]) -> Reject
 pub fn target_fields(bhs: &[u8]) -> TargetHeader
     requires long { length bhs.now ≡ BHS_LENGTH }
     requires opcode { IsTargetOpcode (opcode_of bhs.now) }
-    ensures { IsTargets bhs.now result }
+    ensures { HasTargetFields bhs.now result }
 {
     match bhs[0] % 64 {
         0x20 => TargetHeader::NopIn(nop_in(bhs)),
