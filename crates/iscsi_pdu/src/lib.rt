@@ -4,11 +4,13 @@
 mod fault;
 mod header;
 mod initiator_fields;
+mod initiator_spelling;
 mod laws;
 mod numbers;
+mod pieces;
 mod reading;
-mod spelling;
 mod target_fields;
+mod target_spelling;
 mod writing;
 
 pub use fault::PduFault;

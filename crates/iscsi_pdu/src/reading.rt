@@ -13,8 +13,8 @@ use crate::fault::PduFault;
 use crate::header::{Header, Pdu, TargetHeader};
 use crate::initiator_fields::initiator_fields;
 use crate::numbers::{has_bit, padded_length, three};
-use crate::spelling::spell_target;
 use crate::target_fields::target_fields;
+use crate::target_spelling::spell_target;
 use crate::{BHS_LENGTH, LONGEST_PDU, MAX_DATA_SEGMENT_LENGTH};
 
 fn is_initiators(opcode: u8) -> bool

@@ -2,7 +2,7 @@ use Rattle.std.proofs.Common.{◌≡◌, ℕ, List, [], ◌∷◌, ◌++◌, sym
 use Rattle.std.proofs.lemmas.List.{append-nil}
 use Rattle.iscsi_pdu.specs.Spelling.{cells}
 use Rattle.iscsi_pdu.proofs.Cells.{cells-whole}
-use Rattle.iscsi_pdu.proofs.spelling.bhs_with.Goals as goal
+use Rattle.iscsi_pdu.proofs.pieces.bhs_with.Goals as goal
 
 joined : (f l a w f' l' a' w' : List ℕ) → f ≡ f' → l ≡ l' → a ≡ a' → w ≡ w' → f ++ 0 ∷ (l ++ (a ++ (w ++ []))) ≡ f' ++ 0 ∷ [] ++ l' ++ a' ++ w'
 joined f l a w f' l' a' w' ef el ea ew = rw (ef, el, ea, ew) (simp (append_assoc, append-nil {A = ℕ}))
