@@ -7,14 +7,14 @@ use Rattle.iscsi_pdu.specs.declared.fault.PduFault.TheVariants.{UnknownOpcode, H
 use Rattle.iscsi_pdu.specs.declared.header.Header.{Header}
 use Rattle.iscsi_pdu.specs.declared.header.Header.TheVariants.{Initiator, Target}
 use Rattle.iscsi_pdu.specs.declared.header.InitiatorHeader.{InitiatorHeader}
-use Rattle.iscsi_pdu.specs.declared.header.InitiatorHeader.TheVariants.{ScsiCommand}
 use Rattle.iscsi_pdu.specs.declared.header.TargetHeader.{TargetHeader}
 use Rattle.iscsi_pdu.specs.Number.{three_at}
-use Rattle.iscsi_pdu.specs.Spelling.{target_bhs, padded, zeros}
-use Rattle.iscsi_pdu.specs.declared.header.ScsiCommand.{ScsiCommand as CommandHeader}
-use Rattle.iscsi_pdu.specs.Pdu.{opcode_of, IsTarget, IsScsiCommand, HasFields, IsPdu}
-use Rattle.iscsi_pdu.specs.Fault.{IsTargetOpcode, HasBadFlags, HasBadReserved, HasBadPadding, HasBhs, Stands}
-use Rattle.iscsi_pdu.specs.Laws.{three-take, opcode-bhs}
+use Rattle.iscsi_pdu.specs.Spelling.{padded, zeros}
+use Rattle.iscsi_pdu.specs.Fields.{opcode_of, HasBadFlags}
+use Rattle.iscsi_pdu.specs.Pdu.{IsTarget, HasFields, IsPdu}
+use Rattle.iscsi_pdu.specs.Fault.{IsInitiatorOpcode, IsTargetOpcode, HasBadReserved, HasBadPadding, HasBhs, Stands}
+use Rattle.iscsi_pdu.proofs.Grammar.{three-take}
+use Rattle.iscsi_pdu.proofs.OneHeader.{initiator-opcode, target-opcode}
 
 pub index-take : (b : List ℕ) (n k : ℕ) → k < n → slice_index (take n b) k ≡ slice_index b k
 index-take b n k h = get_or-take n b k 0 h
@@ -22,50 +22,33 @@ index-take b n k h = get_or-take n b k 0 h
 opcode-take : (b : List ℕ) → opcode_of (take 48 b) ≡ opcode_of b
 opcode-take b = ap (λ (x : ℕ). x % 64) (index-take b 48 0 (omega arith))
 
-three-48 : (b : List ℕ) → three_at (take 48 b) 5 ≡ three_at b 5
-three-48 b = three-take b 48 5 (omega arith)
+-- a fault of the front is one of the whole, and the other way round
+pub flags-front : (b : List ℕ) → HasBadFlags b → HasBadFlags (take 48 b)
+flags-front b bad = rw (index-take b 48 0 (omega arith), index-take b 48 1 (omega arith)) bad
 
--- a fault of the front is one of the whole
+pub bad-flags-stands : (b : List ℕ) → HasBhs b → HasBadFlags (take 48 b) → Stands b BadFlags
+bad-flags-stands b front bad = (front, rw (index-take b 48 0 (omega arith), index-take b 48 1 (omega arith)) at bad)
+
 pub bad-reserved-stands : (b : List ℕ) (f : PduFault) → HasBhs b → (f ≡ BadReserved) × HasBadReserved (take 48 b) → Stands b f
 bad-reserved-stands b f front (is, (target, none)) =
-    subst (Stands b) (sym is) (
-      front,
-      (
-        subst IsTargetOpcode (opcode-take b) target,
-        λ h e. none h (take-take 48 48 b (omega arith) ∙ e ∙ ap (target_bhs h) (sym (three-48 b))),
-      ),
-    )
+    subst (Stands b) (sym is)
+    (front, (subst IsTargetOpcode (opcode-take b) target, λ h e. none h (subst (λ (x : List ℕ). HasFields x (Target h)) (sym (take-take 48 48 b (omega arith))) e)))
 
 -- the fields are read, so neither fault of a BHS stands
-target-opcode : (h : TargetHeader) (b : List ℕ) → take 48 b ≡ target_bhs h (three_at (take 48 b) 5) → IsTargetOpcode (opcode_of b)
-target-opcode h b fields = subst IsTargetOpcode (ap opcode_of (sym fields) ∙ opcode-take b) (opcode-bhs h (three_at (take 48 b) 5))
-
 pub opcode-target : (h : Header) (b : List ℕ) → IsTarget h → HasFields (take 48 b) h → IsTargetOpcode (opcode_of b)
 opcode-target (Initiator h) b t fields = absurd t
-opcode-target (Target h) b t fields = target-opcode h b fields
+opcode-target (Target h) b t fields = subst IsTargetOpcode (opcode-take b) (target-opcode (take 48 b) h fields.0)
 
-command-opcode : (h : InitiatorHeader) (b : List ℕ) → HasFields (take 48 b) (Initiator h) → opcode_of b ≡ 1
-command-opcode (ScsiCommand p) b r = sym (opcode-take b) ∙ r.opcode
+opcode-initiator : (h : InitiatorHeader) (b : List ℕ) → HasFields (take 48 b) (Initiator h) → IsInitiatorOpcode (opcode_of b)
+opcode-initiator h b fields = subst IsInitiatorOpcode (opcode-take b) (initiator-opcode (take 48 b) h fields.0)
 
 pub good-reserved : (h : Header) (b : List ℕ) → HasFields (take 48 b) h → HasBadReserved b → ⊥
-good-reserved (Initiator h) b fields bad = let op = command-opcode h b fields in omega (arith, op, bad.0)
-good-reserved (Target h) b fields bad = bad.1 h (fields ∙ ap (target_bhs h) (three-48 b))
-
-one-way : (b : List ℕ) (p : CommandHeader) → IsScsiCommand (take 48 b) p → (slice_index b 1 / 64 % 2 ≡ 1) → (slice_index b 1 / 32 % 2 ≡ 1) → ⊥
-one-way b p r x y =
-    let e = index-take b 48 1 (omega arith) in
-    r.one_way (r.read.1 (ap (λ (n : ℕ). n / 64 % 2) e ∙ x)) (r.write.1 (ap (λ (n : ℕ). n / 32 % 2) e ∙ y))
-
-command-flags : (b : List ℕ) (p : CommandHeader) → IsScsiCommand (take 48 b) p → (slice_index b 1 / 128 ≢ 1) ⊎ ((slice_index b 1 / 64 % 2 ≡ 1) × (slice_index b 1 / 32 % 2 ≡ 1)) → ⊥
-command-flags b p r (inl x) = x (ap (λ (n : ℕ). n / 128) (sym (index-take b 48 1 (omega arith))) ∙ r.last)
-command-flags b p r (inr y) = one-way b p r y.0 y.1
-
-initiator-flags : (h : InitiatorHeader) (b : List ℕ) → HasFields (take 48 b) (Initiator h) → HasBadFlags b → ⊥
-initiator-flags (ScsiCommand p) b fields bad = command-flags b p fields bad.1
+good-reserved (Initiator h) b fields bad = let op = opcode-initiator h b fields in omega (arith, op, bad.0)
+good-reserved (Target h) b fields bad = bad.1 h fields
 
 pub good-flags : (h : Header) (b : List ℕ) → HasFields (take 48 b) h → HasBadFlags b → ⊥
-good-flags (Initiator h) b fields bad = initiator-flags h b fields bad
-good-flags (Target h) b fields bad = let op = target-opcode h b fields in omega (arith, op, bad.0)
+good-flags (Initiator h) b fields bad = fields.1 (flags-front b bad)
+good-flags (Target h) b fields bad = let op = opcode-target (Target h) b tt fields in omega (arith, op, bad.0)
 
 -- where the fields are read, nothing but the padding can be wrong
 pub none-behind : (b : List ℕ) (h : Header) → HasBhs b → HasFields (take 48 b) h → (HasBadPadding b → ⊥) → (f : PduFault) → Stands b f → ⊥
@@ -138,5 +121,5 @@ pad-to b n x y ex ey fits e =
 -- padding that is right where the header is a target's is not wrong
 pub bad-padding : (b : List ℕ) (h : Header) → HasFields (take 48 b) h → HasBadPadding b
     → (IsTarget h → slice_range b (48 + three_at b 5) (48 + padded (three_at b 5)) ≡ zeros (padded (three_at b 5) - three_at b 5)) → ⊥
-bad-padding b (Initiator h) fields bad right = let op = command-opcode h b fields in omega (arith, op, bad.0)
+bad-padding b (Initiator h) fields bad right = let op = opcode-initiator h b fields in omega (arith, op, bad.0)
 bad-padding b (Target h) fields bad right = bad.2 (right tt)

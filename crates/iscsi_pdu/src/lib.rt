@@ -2,20 +2,25 @@
 #![tactic(auto)]
 
 mod fault;
-mod fields;
 mod header;
+mod initiator_fields;
+mod initiator_spelling;
 mod laws;
 mod numbers;
+mod pieces;
 mod reading;
-mod spelling;
+mod target_fields;
+mod target_spelling;
 mod writing;
 
 pub use fault::PduFault;
 pub use header::{
-    CommandNumbers, DataIn, Header, InitiatorHeader, Numbers, Pdu, Reject, ScsiCommand,
-    ScsiResponse, TargetHeader,
+    CommandNumbers, DataIn, DataOut, Header, InitiatorHeader, LoginRequest, LoginResponse,
+    LogoutRequest, LogoutResponse, NopIn, NopOut, Numbers, Pdu, R2t, Reject, ScsiCommand,
+    ScsiResponse, TargetHeader, TaskManagementRequest, TaskManagementResponse, TextRequest,
+    TextResponse,
 };
-pub use laws::{one_front, one_spelling, spelled};
+pub use laws::{one_front, one_pdu, one_spelling, spelled};
 pub use reading::decode;
 pub use writing::encode;
 

@@ -1,25 +1,41 @@
 ghost use Rattle.std.specs.Prelude.{◌≡◌, ◌≢◌, ◌++◌, ℕ, ◌+◌, ◌<◌, ◌≤◌, ◌↔◌, List, length, take, IfOk, IfErr, MatchOption, IfNone, IsTrue, true, false};
 ghost use Rattle.iscsi_pdu.specs.declared.header.Header.{Header};
-ghost use Rattle.iscsi_pdu.specs.declared.header.Header.TheVariants.{Initiator, Target};
-ghost use Rattle.iscsi_pdu.specs.declared.header.TargetHeader.{TargetHeader};
+ghost use Rattle.iscsi_pdu.specs.declared.header.Header.TheVariants.{Target};
 ghost use Rattle.iscsi_pdu.specs.declared.fault.PduFault.{PduFault};
 ghost use Rattle.iscsi_pdu.specs.declared.fault.PduFault.TheVariants.{BadReserved};
 ghost use Rattle.iscsi_pdu.specs.Number.{three_at};
-ghost use Rattle.iscsi_pdu.specs.Spelling.{zeros, target_bhs};
-ghost use Rattle.iscsi_pdu.specs.Pdu.{opcode_of, IsPdu, IsTarget, HasFields};
-ghost use Rattle.iscsi_pdu.specs.Fault.{IsKnown, IsTargetOpcode, HasBhs, HasBadReserved, Stands};
+ghost use Rattle.iscsi_pdu.specs.Spelling.{zeros};
+ghost use Rattle.iscsi_pdu.specs.Fields.{opcode_of, HasBadFlags};
+ghost use Rattle.iscsi_pdu.specs.Pdu.{IsPdu, IsTarget, HasFields};
+ghost use Rattle.iscsi_pdu.specs.Fault.{IsInitiatorOpcode, IsTargetOpcode, HasBhs, HasBadReserved, Stands};
 
 use crate::fault::PduFault;
-use crate::fields::{data_in, reject, scsi_command, scsi_response};
-use crate::header::{Header, InitiatorHeader, Pdu, TargetHeader};
-use crate::numbers::{padded_length, three};
-use crate::spelling::spell_target;
+use crate::header::{Header, Pdu, TargetHeader};
+use crate::initiator_fields::initiator_fields;
+use crate::numbers::{has_bit, padded_length, three};
+use crate::target_fields::target_fields;
+use crate::target_spelling::spell_target;
 use crate::{BHS_LENGTH, LONGEST_PDU, MAX_DATA_SEGMENT_LENGTH};
 
-fn is_known(opcode: u8) -> bool
-    ensures { IsTrue result ↔ IsKnown opcode }
+fn is_initiators(opcode: u8) -> bool
+    ensures { IsTrue result ↔ IsInitiatorOpcode opcode }
 {
-    matches!(opcode, 0x01 | 0x21 | 0x25 | 0x3F)
+    opcode <= 0x06
+}
+
+fn is_targets(opcode: u8) -> bool
+    ensures { IsTrue result ↔ IsTargetOpcode opcode }
+{
+    matches!(opcode, 0x20..=0x26 | 0x31 | 0x3F)
+}
+
+/// Whether this is a SCSI Command without F, or with both R and W.
+fn has_bad_flags(bhs: &[u8]) -> bool
+    requires { length bhs.now ≡ BHS_LENGTH }
+    ensures { IsTrue result ↔ HasBadFlags bhs.now }
+{
+    bhs[0] % 64 == 0x01
+        && (!has_bit(bhs, 1, 0x80) || (has_bit(bhs, 1, 0x40) && has_bit(bhs, 1, 0x20)))
 }
 
 fn is_target(header: &Header) -> bool
@@ -48,19 +64,6 @@ fn is_same(a: &[u8], b: &[u8]) -> bool
     a == b
 }
 
-/// The fields of a target's header. Where any header is spelled so, the one of these fields is.
-fn target_fields(b: &[u8]) -> TargetHeader
-    requires long { length b.now ≡ BHS_LENGTH }
-    requires opcode { IsTargetOpcode (opcode_of b.now) }
-    ensures { (h : TargetHeader) (n : ℕ) → b.now ≡ target_bhs h n → b.now ≡ target_bhs result n }
-{
-    match b[0] % 64 {
-        0x21 => TargetHeader::ScsiResponse(scsi_response(b)),
-        0x25 => TargetHeader::DataIn(data_in(b)),
-        _ => TargetHeader::Reject(reject(b)),
-    }
-}
-
 /// A target's header, where this is its BHS.
 fn target_header(b: &[u8], len: u32) -> Result<TargetHeader, PduFault>
     requires long { length b.now ≡ BHS_LENGTH }
@@ -86,9 +89,11 @@ fn header_of(bytes: &[u8], len: u32) -> Result<Header, PduFault>
     ensures fault { IfErr result (Stands bytes.now) }
 {
     let bhs = &bytes[..BHS_LENGTH];
-    if bhs[0] % 64 == 0x01 {
-        let command = scsi_command(bhs)?;
-        return Ok(Header::Initiator(InitiatorHeader::ScsiCommand(command)));
+    if is_initiators(bhs[0] % 64) {
+        if has_bad_flags(bhs) {
+            return Err(PduFault::BadFlags);
+        }
+        return Ok(Header::Initiator(initiator_fields(bhs)));
     }
     match target_header(bhs, len) {
         Ok(header) => Ok(Header::Target(header)),
@@ -109,7 +114,7 @@ pub fn decode(bytes: &[u8]) -> Result<Option<(Pdu<'_>, usize)>, PduFault>
     if bytes.is_empty() {
         return Ok(None);
     }
-    if !is_known(bytes[0] % 64) {
+    if !is_initiators(bytes[0] % 64) && !is_targets(bytes[0] % 64) {
         return Err(PduFault::UnknownOpcode);
     }
     if bytes.len() < BHS_LENGTH {

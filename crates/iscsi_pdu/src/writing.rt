@@ -1,14 +1,25 @@
-ghost use Rattle.std.specs.Prelude.{◌≡◌, ◌++◌, ◌+◌, ◌<◌, ◌≤◌, length, vec_capacity, OnOk, OnErr};
-ghost use Rattle.iscsi_pdu.specs.Spelling.{padded, spelling};
+ghost use Rattle.std.specs.Prelude.{◌≡◌, ◌++◌, ◌+◌, ◌<◌, ◌≤◌, ◌^◌, length, vec_capacity, OnOk, OnErr};
+ghost use Rattle.iscsi_pdu.specs.Spelling.{bhs, padded, spelling};
 
-use crate::header::Pdu;
+use crate::header::{Header, Pdu};
+use crate::initiator_spelling::spell_initiator;
 use crate::numbers::padded_length;
-use crate::spelling::spell_bhs;
+use crate::target_spelling::spell_target;
 use crate::{BHS_LENGTH, MAX_DATA_SEGMENT_LENGTH};
 use std::alloc::AllocError;
 
 /// The most padding that a data segment has.
 const PADDING: [u8; 3] = [0; 3];
+
+fn spell_bhs(header: &Header, len: u32) -> [u8; BHS_LENGTH]
+    requires { len < 2 ^ 24 }
+    ensures { result ≡ bhs header.now len }
+{
+    match header {
+        Header::Initiator(header) => spell_initiator(header, len),
+        Header::Target(header) => spell_target(header, len),
+    }
+}
 
 /// Appends the PDU's spelling: a target's PDU has no other, and of an initiator's it is the one with zeros in
 /// every reserved place. Refused, nothing is appended.
