@@ -17,7 +17,7 @@ use Rattle.iscsi_pdu.specs.declared.header.Header.TheVariants.{Initiator}
 use Rattle.iscsi_pdu.specs.declared.header.InitiatorHeader.TheVariants.{ScsiCommand}
 use Rattle.iscsi_pdu.specs.declared.header.TargetHeader.TheVariants.{ScsiResponse}
 use Rattle.session.specs.declared.data_in.TheConstants.{MAX_DATA_IN_LENGTH, NO_TRANSFER_TAG}
-use Rattle.session.specs.declared.response.Outcome.{Outcome}
+use Rattle.session.specs.declared.response.Completion.{Completion}
 use Rattle.session.specs.declared.response.TheConstants.{COMPLETED, TARGET_FAILURE}
 use Rattle.session.specs.declared.target.TargetAnswer.{TargetAnswer}
 use Rattle.session.specs.declared.target.TargetAnswer.TheVariants.{Replied, Outside, Busy, Gone, Halted}
@@ -173,12 +173,12 @@ module _ (s : Counters) (b : List ℕ) (p : CommandHeader) (d : List ℕ) (asked
   abbrev transfer : ℕ
   transfer = transfer_of p (need_of asked) (length (reply_data answer))
 
-  module _ (outcome : Outcome) where
+  module _ (completion : Completion) where
     abbrev sense : List ℕ
-    sense = sense_part outcome.sense
+    sense = sense_part completion.sense
 
     abbrev the_response : ResponseHeader
-    the_response = response_for (numbers_at mid.stat_sn mid.exp_cmd_sn) p transfer (length (data_in_for (numbers_at 0 mid.exp_cmd_sn) p sent_bytes)) outcome
+    the_response = response_for (numbers_at mid.stat_sn mid.exp_cmd_sn) p transfer (length (data_in_for (numbers_at 0 mid.exp_cmd_sn) p sent_bytes)) completion
 
     abbrev the_outs : List Out
     the_outs = outs_of mid.exp_cmd_sn p the_response sense sent_bytes
@@ -233,7 +233,7 @@ module _ (s : Counters) (b : List ℕ) (p : CommandHeader) (d : List ℕ) (asked
 
 -- ---- each verdict
 
-abbrev told : ℕ → Status → Option Sense → Outcome
+abbrev told : ℕ → Status → Option Sense → Completion
 told response status sense = record { response = response; status = status; sense = sense }
 
 moved : {s s1 s2 : Counters} {came : Incoming} {v : Verdict} {call call' : Option Asking} {outs outs' : List Out}

@@ -10,7 +10,7 @@ use Rattle.session.specs.declared.actions.Pdus.{Pdus}
 use Rattle.session.specs.declared.actions.Pdus.TheVariants as pdus
 use Rattle.session.specs.declared.actions.DataInPdu.{DataInPdu}
 use Rattle.session.specs.declared.data_in.TheConstants.{NO_TRANSFER_TAG}
-use Rattle.session.specs.declared.response.Outcome.{Outcome}
+use Rattle.session.specs.declared.response.Completion.{Completion}
 use Rattle.session.specs.declared.response.TheConstants.{COMPLETED, TARGET_FAILURE}
 use Rattle.session.specs.declared.target.TargetAnswer.{TargetAnswer}
 use Rattle.session.specs.declared.target.TargetAnswer.TheVariants.{Replied, Outside, Busy, Gone, Halted}
@@ -52,12 +52,12 @@ data_in_for numbers p (x ∷ bytes) = record {
 } ∷ []
 
 -- the SCSI Response that tells this, behind so many Data-In, for data of this length
-abbrev pub response_for : Numbers → CommandHeader → ℕ → ℕ → Outcome → ResponseHeader
-response_for numbers p transfer data_ins outcome = record {
+abbrev pub response_for : Numbers → CommandHeader → ℕ → ℕ → Completion → ResponseHeader
+response_for numbers p transfer data_ins completion = record {
   overflow = nat_lt (expected_transfer p) transfer;
   underflow = nat_lt transfer (expected_transfer p);
-  response = outcome.response;
-  status = status_code outcome.status;
+  response = completion.response;
+  status = status_code completion.status;
   task_tag = p.task_tag;
   numbers = numbers;
   exp_data_sn = data_ins;
@@ -65,17 +65,17 @@ response_for numbers p transfer data_ins outcome = record {
 }
 
 -- the PDUs of an answer with this data
-abbrev pub reply_with : Counters → CommandHeader → ℕ → List ℕ → Outcome → List Out
-reply_with s p need bytes outcome =
+abbrev pub reply_with : Counters → CommandHeader → ℕ → List ℕ → Completion → List Out
+reply_with s p need bytes completion =
     let segments = data_in_for (numbers_at 0 s.exp_cmd_sn) p (sent_data p bytes) in
     let transfer = transfer_of p need (length bytes) in
-    let response = response_for (numbers_at s.stat_sn s.exp_cmd_sn) p transfer (length segments) outcome in
-    segments ++ record { header = ScsiResponse response; bytes = sense_part outcome.sense } ∷ []
+    let response = response_for (numbers_at s.stat_sn s.exp_cmd_sn) p transfer (length segments) completion in
+    segments ++ record { header = ScsiResponse response; bytes = sense_part completion.sense } ∷ []
 
 -- what a SCSI Response tells of an answer; there is none where the session is gone
-abbrev pub outcome_of : TargetAnswer → Option Outcome
-outcome_of (Replied a) = Some (record { response = COMPLETED; status = a.status; sense = a.sense })
-outcome_of (Outside a) = Some (record { response = COMPLETED; status = a.status; sense = a.sense })
-outcome_of Busy = Some (record { response = COMPLETED; status = statuses.Busy; sense = None })
-outcome_of Halted = Some (record { response = TARGET_FAILURE; status = statuses.Good; sense = None })
-outcome_of Gone = None
+abbrev pub completion_of : TargetAnswer → Option Completion
+completion_of (Replied a) = Some (record { response = COMPLETED; status = a.status; sense = a.sense })
+completion_of (Outside a) = Some (record { response = COMPLETED; status = a.status; sense = a.sense })
+completion_of Busy = Some (record { response = COMPLETED; status = statuses.Busy; sense = None })
+completion_of Halted = Some (record { response = TARGET_FAILURE; status = statuses.Good; sense = None })
+completion_of Gone = None

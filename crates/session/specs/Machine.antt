@@ -23,7 +23,7 @@ use Rattle.session.specs.Transfer.{data_for}
 use Rattle.session.specs.Task.{reply_data}
 use Rattle.session.specs.Response.{sense_part}
 use Rattle.session.specs.Counters.{Counters, after_status, after_command}
-use Rattle.session.specs.AnswerPdus.{read_length, data_in_of, reply_with, outcome_of}
+use Rattle.session.specs.AnswerPdus.{read_length, data_in_of, reply_with, completion_of}
 
 -- the PDUs that actions say to write, where the basic header segment in hand has these bytes
 abbrev pub sent_by : List ℕ → Pdus → List Out
@@ -90,5 +90,5 @@ pub record OnGone (s : Counters) (a : Actions) (s' : Counters) : Type 0 where
 
 abbrev pub OnAnswer : Counters → CommandHeader → ℕ → TargetAnswer → Actions → Counters → Type 0
 OnAnswer s p need answer a s' =
-    MatchOption (outcome_of answer) (OnGone s a s')
-    (λ outcome. Sends s (reply_with s p need (reply_data answer) outcome) a s')
+    MatchOption (completion_of answer) (OnGone s a s')
+    (λ completion. Sends s (reply_with s p need (reply_data answer) completion) a s')

@@ -15,13 +15,13 @@ use Rattle.session.specs.Verdict.{IsJudged}
 use Rattle.session.specs.Task.{IsAskedFor, reply_data}
 use Rattle.session.specs.Legal.{bhs_of}
 use Rattle.session.specs.Counters.{Counters, after_status, after_command}
-use Rattle.session.specs.AnswerPdus.{read_length, reply_with, outcome_of}
+use Rattle.session.specs.AnswerPdus.{read_length, reply_with, completion_of}
 
 -- the PDUs and the counters behind an answer
 abbrev pub TurnOnAnswer : Counters → CommandHeader → ℕ → TargetAnswer → List Out → Counters → Type 0
 TurnOnAnswer s p need answer outs s' =
-    MatchOption (outcome_of answer) ((outs ≡ []) × (s' ≡ s))
-    (λ outcome. (outs ≡ reply_with s p need (reply_data answer) outcome) × (s' ≡ after_status s))
+    MatchOption (completion_of answer) ((outs ≡ []) × (s' ≡ s))
+    (λ completion. (outs ≡ reply_with s p need (reply_data answer) completion) × (s' ≡ after_status s))
 
 -- an accepted command is called, and its answer goes out
 pub record TurnOnCall (s : Counters) (p : CommandHeader) (d : List ℕ) (call : Option Asking) (outs : List Out)

@@ -23,14 +23,14 @@ abbrev pub IsLed : {T : Type 0} → (T → Question → TargetAnswer → T → T
 IsLed leads None old new = new ≡ old
 IsLed leads (Some call) old new = leads old call.question call.answer new
 
--- a turn of session and target, whose PDUs wait: what came, what the session made of it, what the target was asked
+-- a turn of session and target, before anything is written: what came, what the session made of it, what the target was asked
 -- and where that led it, the bytes that are to go out, and the end that it calls for
 pub record MakesTurn {T : Type 0} (leads : T → Question → TargetAnswer → T → Type 0)
-    (s s' : Counters) (target target' : T) (came : Incoming) (waiting : List ℕ) (wanted : Option End) : Type 0 where
+    (s s' : Counters) (target target' : T) (came : Incoming) (outgoing : List ℕ) (wanted : Option End) : Type 0 where
   pub turn : Turn
   pub made : TurnOf s came turn s'
   pub led : IsLed leads turn.call target target'
-  pub waiting_is : waiting ≡ bytes_of turn.sent
+  pub outgoing_is : outgoing ≡ bytes_of turn.sent
   pub wanted_is : wanted ≡ end_after turn.verdict turn.call
 
 -- a turn whose bytes were written

@@ -5,7 +5,17 @@ use Rattle.iscsi_pdu.specs.declared.header.ScsiCommand.{ScsiCommand as CommandHe
 use Rattle.iscsi_pdu.specs.declared.header.Header.TheVariants.{Initiator}
 use Rattle.iscsi_pdu.specs.declared.header.InitiatorHeader.TheVariants.{ScsiCommand}
 use Rattle.iscsi_pdu.specs.declared.header.TargetHeader.{TargetHeader}
-use Rattle.iscsi_pdu.specs.declared.header.TargetHeader.TheVariants.{ScsiResponse, DataIn, Reject}
+use Rattle.iscsi_pdu.specs.declared.header.TargetHeader.TheVariants.{
+  NopIn,
+  ScsiResponse,
+  TaskManagementResponse,
+  LoginResponse,
+  TextResponse,
+  DataIn,
+  LogoutResponse,
+  R2t,
+  Reject,
+}
 use Rattle.iscsi_pdu.specs.declared.header.Numbers.{Numbers}
 use Rattle.session.specs.declared.verdict.Verdict.{Verdict}
 use Rattle.session.specs.declared.verdict.Verdict.TheVariants.{Accepted, Ignored, Gap, Refused}
@@ -34,8 +44,14 @@ numbers_at stat_sn exp_cmd_sn = record {
 
 -- the numbers that a PDU goes out with
 abbrev pub numbers_of : TargetHeader → Numbers
+numbers_of (NopIn p) = p.numbers
 numbers_of (ScsiResponse p) = p.numbers
+numbers_of (TaskManagementResponse p) = p.numbers
+numbers_of (LoginResponse p) = p.numbers
+numbers_of (TextResponse p) = p.numbers
 numbers_of (DataIn p) = p.numbers
+numbers_of (LogoutResponse p) = p.numbers
+numbers_of (R2t p) = p.numbers
 numbers_of (Reject p) = p.numbers
 
 -- the CmdSN that is expected behind a command that was accepted

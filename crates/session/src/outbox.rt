@@ -25,7 +25,7 @@ pub const OUTBOX_CAPACITY: usize = BHS_LENGTH
     + BHS_LENGTH
     + SENSE_SEGMENT_LENGTH;
 
-/// The bytes of a turn's PDUs that wait to be written, in memory that was taken once.
+/// The bytes of a turn's PDUs until they are written, in memory that was taken once.
 #[derive(Drop)]
 pub struct Outbox {
     bytes: Vec<u8>,
@@ -52,21 +52,21 @@ impl Outbox {
         })
     }
 
-    /// The bytes that wait, in order.
+    /// The bytes to write, in order.
     pub fn bytes(&self) -> &[u8]
         ensures { result.now ≡ self.now }
     {
         &self.bytes
     }
 
-    /// Nothing waits any more.
+    /// Nothing is left to write.
     pub fn clear(&mut self)
         ensures { self.new ≡ [] }
     {
         self.bytes.clear();
     }
 
-    /// Takes the PDUs of a turn in, where nothing waits; a Reject has the header segment's bytes as its data.
+    /// Takes the PDUs of a turn in, where none is left to write; a Reject has the header segment's bytes as its data.
     pub fn fill(&mut self, bhs: &[u8], pdus: &Pdus<'_>)
         requires empty { self.old ≡ [] }
         requires bhs { length bhs.now ≡ BHS_LENGTH }

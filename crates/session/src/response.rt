@@ -16,18 +16,18 @@ pub const TARGET_FAILURE: u8 = 0x01;
 
 /// What a SCSI Response tells of an answer.
 #[derive(Clone, Copy, Debug)]
-pub struct Outcome {
+pub struct Completion {
     pub response: u8,
     pub status: Status,
     pub sense: Option<Sense>,
 }
 
-impl Outcome {
+impl Completion {
     /// What a reply tells.
-    pub fn of(reply: &Reply) -> Outcome
+    pub fn of(reply: &Reply) -> Completion
         ensures { result ≡ record { response = COMPLETED; status = reply.now.status; sense = reply.now.sense } }
     {
-        Outcome {
+        Completion {
             response: COMPLETED,
             status: reply.status(),
             sense: reply.sense(),
@@ -35,10 +35,10 @@ impl Outcome {
     }
 
     /// A response code and a status, without sense.
-    pub fn bare(response: u8, status: Status) -> Outcome
+    pub fn bare(response: u8, status: Status) -> Completion
         ensures { result ≡ record { response = response; status = status; sense = None } }
     {
-        Outcome {
+        Completion {
             response,
             status,
             sense: None,
@@ -52,10 +52,10 @@ pub fn scsi_response(
     task: &OpenTask,
     returned: usize,
     data_ins: u32,
-    outcome: Outcome,
+    completion: Completion,
 ) -> ScsiResponse
     ensures { result ≡ response_for numbers task.now.command
-        (transfer_of task.now.command task.now.need returned) data_ins outcome }
+        (transfer_of task.now.command task.now.need returned) data_ins completion }
 {
     let expected_length = u64::from(expected_data_length(&task.command));
     let transfer = if task.command.write {
@@ -66,8 +66,8 @@ pub fn scsi_response(
     ScsiResponse {
         overflow: expected_length < transfer,
         underflow: transfer < expected_length,
-        response: outcome.response,
-        status: outcome.status.code(),
+        response: completion.response,
+        status: completion.status.code(),
         task_tag: task.command.task_tag,
         numbers,
         exp_data_sn: data_ins,

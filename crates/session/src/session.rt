@@ -9,7 +9,7 @@ ghost use Rattle.session.specs.Machine.{OnPdu, OnCommand, OnRefusal, OnAnswer, S
 use crate::actions::{Actions, Call, OpenTask, Pdus};
 use crate::data_in::data_in_pdu;
 use crate::end::End;
-use crate::response::{COMPLETED, Outcome, TARGET_FAILURE, scsi_response};
+use crate::response::{COMPLETED, Completion, TARGET_FAILURE, scsi_response};
 use crate::target::TargetAnswer;
 use crate::transfer::command_data;
 use crate::verdict::{COMMAND_NOT_SUPPORTED, Verdict, command_verdict, reject_reason};
@@ -59,9 +59,17 @@ impl Session {
         ensures { OnPdu self.old pdu.entry.header pdu.entry.data.now result self.new }
     {
         match pdu.header {
-            Header::Initiator(InitiatorHeader::ScsiCommand(command)) => {
-                self.on_command(command, pdu.data)
-            }
+            Header::Initiator(header) => self.on_initiator(header, pdu.data),
+            Header::Target(_) => self.reject(COMMAND_NOT_SUPPORTED),
+        }
+    }
+
+    // What an initiator's PDU calls for.
+    fn on_initiator<'a>(&mut self, header: InitiatorHeader, bytes: &'a [u8]) -> Actions<'a>
+        ensures { OnPdu self.old (Header.Initiator header) bytes.now result self.new }
+    {
+        match header {
+            InitiatorHeader::ScsiCommand(command) => self.on_command(command, bytes),
             _ => self.reject(COMMAND_NOT_SUPPORTED),
         }
     }
@@ -135,11 +143,15 @@ impl Session {
     {
         match answer {
             TargetAnswer::Replied(reply) | TargetAnswer::Outside(reply) => {
-                self.respond(&task, reply.bytes(), Outcome::of(reply))
+                self.respond(&task, reply.bytes(), Completion::of(reply))
             }
-            TargetAnswer::Busy => self.respond(&task, &[], Outcome::bare(COMPLETED, Status::Busy)),
+            TargetAnswer::Busy => self.respond(
+                &task,
+                &[],
+                Completion::bare(COMPLETED, Status::Busy),
+            ),
             TargetAnswer::Halted => {
-                self.respond(&task, &[], Outcome::bare(TARGET_FAILURE, Status::Good))
+                self.respond(&task, &[], Completion::bare(TARGET_FAILURE, Status::Good))
             }
             TargetAnswer::Gone => Actions {
                 pdus: Pdus::Nothing,
@@ -150,22 +162,27 @@ impl Session {
     }
 
     // The Data-In, where a read returns anything, and the SCSI Response.
-    fn respond<'a>(&mut self, task: &OpenTask, bytes: &'a [u8], outcome: Outcome) -> Actions<'a>
+    fn respond<'a>(
+        &mut self,
+        task: &OpenTask,
+        bytes: &'a [u8],
+        completion: Completion,
+    ) -> Actions<'a>
         ensures sent { Sends self.old
-            (reply_with self.old task.now.command task.now.need bytes.now outcome) result self.new }
+            (reply_with self.old task.now.command task.now.need bytes.now completion) result self.new }
         ensures within { IsWithin (read_length task.now.command) result.pdus }
     {
         // A Data-In without a status has no StatSN (RFC 7143, 11.7.3).
         let data_in = data_in_pdu(target_numbers(0, self.exp_cmd_sn), &task.command, bytes);
         let numbers = target_numbers(self.stat_sn, self.exp_cmd_sn);
         let data_ins = u32::from(data_in.is_some());
-        let response = scsi_response(numbers, task, bytes.len(), data_ins, outcome);
+        let response = scsi_response(numbers, task, bytes.len(), data_ins, completion);
         self.stat_sn = self.stat_sn.wrapping_add(1);
         Actions {
             pdus: Pdus::Answer {
                 data_in,
                 response,
-                sense: outcome.sense,
+                sense: completion.sense,
             },
             call: None,
             end: None,

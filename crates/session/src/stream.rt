@@ -18,7 +18,7 @@ use iscsi_pdu::{BHS_LENGTH, LONGEST_PDU, Pdu, PduFault};
 use scsi_types::NoMemory;
 use std::alloc::Global;
 
-// One turn: what a PDU calls for, with the target's answer. Its PDUs wait in the outbox; the end that it calls for.
+// One turn: what a PDU calls for, with the target's answer, put into the outbox; the end that it calls for.
 fn turn<T: Target>(
     session: &mut Session,
     target: &mut T,
@@ -27,7 +27,7 @@ fn turn<T: Target>(
     pdu: Pdu<'_>,
 ) -> Option<End>
     requires bhs { length bhs.now ≡ BHS_LENGTH }
-    requires nothing_waits { outbox.old ≡ [] }
+    requires empty { outbox.old ≡ [] }
     ensures { MakesTurn T.leads session.old session.new target.old target.new
         (came bhs.now pdu.entry.header pdu.entry.data.now) outbox.new result }
 {
@@ -46,11 +46,11 @@ fn turn<T: Target>(
     }
 }
 
-// Writes what waits, in one write: the end that was called for, or that the sink failed.
+// Writes what stands in the outbox, in one write: the end that was called for, or that the sink failed.
 fn flush<K: Sink>(sink: &mut K, outbox: &mut Outbox, wanted: Option<End>) -> Option<End>
     ensures written { IsSentOut (K.held sink.old) (K.held sink.new) (K.failures sink.old) (K.failures sink.new)
         outbox.old wanted result }
-    ensures nothing_waits { outbox.new ≡ [] }
+    ensures all_written { outbox.new ≡ [] }
 {
     let written = sink.write_whole(outbox.bytes());
     outbox.clear();
@@ -70,7 +70,7 @@ fn fault_turn<K: Sink, T: Target>(
     fault: PduFault,
 ) -> End
     requires bhs { length bhs.now ≡ BHS_LENGTH }
-    requires nothing_waits { outbox.old ≡ [] }
+    requires empty { outbox.old ≡ [] }
     ensures { StreamTurn T.leads session.old session.new target.now target.now (K.held sink.old) (K.held sink.new)
         (K.failures sink.old) (K.failures sink.new) (faulty fault bhs.now) (Some result) }
 {
@@ -84,7 +84,7 @@ fn fault_turn<K: Sink, T: Target>(
 
 // One read: how many bytes came. No answer waits meanwhile, for its initiator may send no more before it has it.
 fn read_more<S: Source>(inbox: &mut Inbox, outbox: &Outbox, source: &mut S) -> Result<usize, Failed>
-    requires nothing_waits { outbox.now ≡ [] }
+    requires all_written { outbox.now ≡ [] }
     requires partial { length inbox.old < LONGEST_PDU }
     ensures ok { IfOk result (λ n. Filled (S.left source.old) (S.left source.new) inbox.old inbox.new n) }
     ensures err { OnErr result ((inbox.new ≡ inbox.old) × Keeps (S.left source.old) (S.left source.new)) }

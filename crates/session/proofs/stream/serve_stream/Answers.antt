@@ -9,7 +9,7 @@ use Rattle.session.proofs.stream.serve_stream.Goals as goal
 pub loop-reads-init : goal.loop-reads-init
 loop-reads-init g c = record {
   running = starts g.T.Target.leads c.args.start.exp_cmd_sn c.args.start.stat_sn _ _ _ _ _ (omega arith) (omega arith) c.new-session.ensures c.in_ok-inbox.ensures;
-  nothing_waits = c.in_ok-outbox.ensures;
+  all_written = c.in_ok-outbox.ensures;
   source_served = search rules;
   sink_served = search rules;
 }
@@ -37,7 +37,7 @@ loop-reads-preserved-in-None g c =
     let on = pdu_goes_on g.T.Target.leads _ _ _ _ _ _ _ _ _ _ _ c.loop-reads.invariant.running c.turn-wanted.new.session c.turn-wanted.new.target _ _ _ c.in-Whole.bhs.now _ _ c.in-Whole.taken w.bhs_is w.within w.spelled _ _ c.turn-wanted.ensures c.in-None.ensures.written in
     record {
       running = rw c.consume.ensures on.0;
-      nothing_waits = c.in-None.ensures.nothing_waits;
+      all_written = c.in-None.ensures.all_written;
       source_served = c.loop-reads.invariant.source_served;
       sink_served = on.1 ∙ c.loop-reads.invariant.sink_served;
     }
@@ -54,7 +54,7 @@ returns-in-Ok-eq0-clause-transcribed g c =
 pub loop-reads-preserved : goal.loop-reads-preserved
 loop-reads-preserved g c = record {
   running = more_came g.T.Target.leads _ _ _ _ _ _ _ _ _ _ _ c.loop-reads.invariant.running _ _ c.in-Ok.field-0 c.in-Ok.ensures.ok (omega (arith, c.in-Ok.field-0-test));
-  nothing_waits = c.loop-reads.invariant.nothing_waits;
+  all_written = c.loop-reads.invariant.all_written;
   source_served = c.in-Ok.ensures.failures ∙ c.loop-reads.invariant.source_served;
   sink_served = c.loop-reads.invariant.sink_served;
 }

@@ -1,7 +1,7 @@
-use Rattle.std.proofs.Common.{refl}
-use Rattle.session.specs.declared.verdict.TheConstants.{COMMAND_NOT_SUPPORTED}
-use Rattle.session.specs.declared.verdict.Verdict.TheVariants.{Refused}
+use Rattle.std.proofs.Common.{ap}
+use Rattle.session.specs.Turn.{command_of}
+use Rattle.session.proofs.Unserved.{refused}
 use Rattle.session.proofs.session.Session.on_pdu.Goals as goal
 
-pub returns-in_default : goal.returns-in_default
-returns-in_default c = rw c.in_default.is (record { verdict = Refused COMMAND_NOT_SUPPORTED; judged = refl; made = c.reject.ensures })
+pub returns-in-Target : goal.returns-in-Target
+returns-in-Target c = refused _ _ c.args.pdu.header c.args.pdu.data.now c.reject.result (ap command_of c.in-Target.is) c.reject.ensures
