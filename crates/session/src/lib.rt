@@ -13,19 +13,23 @@
 #![tactic(auto)]
 
 mod actions;
+mod data_in;
 mod end;
 mod inbox;
 mod laws;
 mod outbox;
+mod response;
 mod session;
 mod source;
 mod stream;
 mod target;
+mod transfer;
 mod verdict;
 mod waiting;
 mod watched;
+mod window;
 
-pub use actions::{Actions, Call, DataInPdu, Pdus, Task};
+pub use actions::{Actions, Call, DataInPdu, OpenTask, Pdus};
 pub use end::End;
 pub use laws::{
     a_read_gets_the_data_of_its_answer, no_command_is_answered_twice,
@@ -34,9 +38,6 @@ pub use laws::{
 pub use session::{Session, Start};
 pub use source::{Failed, Sink, Source};
 pub use stream::serve_stream;
-pub use target::{Served, Target};
+pub use target::{Target, TargetAnswer};
 pub use verdict::Verdict;
 pub use watched::Watched;
-
-#[cfg(test)]
-mod tests;

@@ -2,7 +2,7 @@ use Rattle.std.proofs.Common.{◌≡◌, ℕ, ◌+◌, ◌-◌, ◌≤◌, ◌<�
 use Rattle.iscsi_pdu.specs.Number.{three_at}
 use Rattle.iscsi_pdu.specs.Spelling.{padded}
 use Rattle.iscsi_pdu.specs.Pdu.{IsPdu}
-use Rattle.iscsi_pdu.specs.Fault.{HasHeader}
+use Rattle.iscsi_pdu.specs.Fault.{HasBhs}
 use Rattle.iscsi_pdu.proofs.Fronts.{none-whole, none-behind, good-reserved, opcode-target, whole, pad-from, pad-to, bad-padding}
 use Rattle.iscsi_pdu.proofs.reading.decode.Goals as goal
 
@@ -16,7 +16,7 @@ pub returns-then-bytes-end-clause-sound : goal.returns-then-bytes-end-clause-sou
 returns-then-bytes-end-clause-sound c =
     let b = c.args.bytes.now in
     let end : c.padded_length-end.result ≡ padded (three_at b 5) = c.padded_length-end.ensures ∙ ap padded c.three-len.ensures in
-    let front : HasHeader b = search rules in
+    let front : HasBhs b = search rules in
     λ f s. none-behind b c.in_ok-header.header front c.in_ok-header.ensures.found (λ bad. absurd (omega (arith, bad.1, end, c.if-bytes-end.true))) f s
 
 pub returns-then-not-is_padding-clause-fault : goal.returns-then-not-is_padding-clause-fault
@@ -26,7 +26,7 @@ returns-then-not-is_padding-clause-fault c =
     let fields = c.in_ok-header.ensures.found in
     let end : c.padded_length-end.result ≡ padded (three_at b 5) = c.padded_length-end.ensures ∙ ap padded c.three-len.ensures in
     let fits : 48 + padded (three_at b 5) ≤ length b = subst (λ (k : ℕ). 48 + k ≤ length b) end c.if-bytes-end.false in
-    let front : HasHeader b = search rules in
+    let front : HasBhs b = search rules in
     let wrong = c.is_padding.ensures.wrong c.if-not-is_padding.true in
     (front, good-reserved h b fields, (opcode-target h b wrong.0 fields, fits, λ e. wrong.1 (pad-to b (three_at b 5) c.three-len.result c.padded_length-end.result c.three-len.ensures end fits e)))
 
@@ -36,7 +36,7 @@ returns-clause-found c =
     let h = c.in_ok-header.header in
     let end : c.padded_length-end.result ≡ padded (three_at b 5) = c.padded_length-end.ensures ∙ ap padded c.three-len.ensures in
     let fits : 48 + padded (three_at b 5) ≤ length b = subst (λ (k : ℕ). 48 + k ≤ length b) end c.if-bytes-end.false in
-    let front : HasHeader b = search rules in
+    let front : HasBhs b = search rules in
     let pdu = whole b h front c.in_ok-header.ensures.found fits (λ t. pad-from b (three_at b 5) c.three-len.result c.padded_length-end.result c.three-len.ensures end fits (c.is_padding.ensures.right c.if-not-is_padding.false t)) in (
       c.if-bytes-end.false,
       subst (λ (k : ℕ). IsPdu (take (48 + k) b) h (take (48 + c.three-len.result - 48) (drop 48 b))) (sym end)
@@ -49,5 +49,5 @@ returns-clause-sound c =
     let h = c.in_ok-header.header in
     let fields = c.in_ok-header.ensures.found in
     let end : c.padded_length-end.result ≡ padded (three_at b 5) = c.padded_length-end.ensures ∙ ap padded c.three-len.ensures in
-    let front : HasHeader b = search rules in
+    let front : HasBhs b = search rules in
     λ f s. none-behind b h front fields (λ bad. bad-padding b h fields bad (λ t. pad-from b (three_at b 5) c.three-len.result c.padded_length-end.result c.three-len.ensures end bad.1 (c.is_padding.ensures.right c.if-not-is_padding.false t))) f s
