@@ -1,3 +1,5 @@
+//! PDUs as bytes (RFC 7143, section 11).
+
 ghost use Rattle.std.specs.Prelude.{◌≡◌, ◌++◌, ◌+◌, ◌<◌, ◌≤◌, ◌^◌, length, vec_capacity, OnOk, OnErr};
 ghost use Rattle.iscsi_pdu.specs.Spelling.{bhs, padded, spelling};
 
