@@ -8,7 +8,7 @@ use Rattle.iscsi_pdu.specs.declared.header.CommandNumbers.{CommandNumbers}
 use Rattle.iscsi_pdu.specs.declared.header.Numbers.{Numbers}
 use Rattle.iscsi_pdu.specs.Number.{half_at, word_at}
 use Rattle.iscsi_pdu.specs.Fields.{command_numbers_at, numbers_at}
-use Rattle.iscsi_pdu.specs.Spelling.{flag, half, word, login_flags}
+use Rattle.iscsi_pdu.specs.Spelling.{flag, half, word, command_flags, login_flags}
 use Rattle.iscsi_pdu.specs.Range.{IsHalf, IsWord, AreCommandNumbers, AreNumbers}
 
 pub word-back : (b : List ℕ) (at x : ℕ) → drop at b ≡ word x ++ drop (at + 4) b → IsWord x → word_at b at ≡ x
@@ -28,7 +28,8 @@ command_numbers-back b n e f r = λ i. record {
 }
 
 pub numbers-back : (b : List ℕ) (n : Numbers) → drop 24 b ≡ word n.stat_sn ++ drop 28 b
-    → drop 28 b ≡ word n.exp_cmd_sn ++ drop 32 b → drop 32 b ≡ word n.max_cmd_sn ++ drop 36 b → AreNumbers n → numbers_at b ≡ n
+    → drop 28 b ≡ word n.exp_cmd_sn ++ drop 32 b → drop 32 b ≡ word n.max_cmd_sn ++ drop 36 b → AreNumbers n
+    → numbers_at b ≡ n
 numbers-back b n e f g r = λ i. record {
   stat_sn = word-back b 24 n.stat_sn e r.stat_sn i;
   exp_cmd_sn = word-back b 28 n.exp_cmd_sn f r.exp_cmd_sn i;
@@ -54,16 +55,16 @@ lone_opcode-back true = refl
 lone_opcode-back false = refl
 
 -- byte 1 of a SCSI Command
-pub final-back : (r w : Bool) (a : ℕ) → nat_eq ((128 + flag r 64 + flag w 32 + a % 8) / 128 % 2) 1 ≡ true
+pub final-back : (r w : Bool) (a : ℕ) → nat_eq (command_flags r w a / 128 % 2) 1 ≡ true
 final-back r w a = grind (arith, nat_tests)
 
-pub read-back : (r w : Bool) (a : ℕ) → nat_eq ((128 + flag r 64 + flag w 32 + a % 8) / 64 % 2) 1 ≡ r
+pub read-back : (r w : Bool) (a : ℕ) → nat_eq (command_flags r w a / 64 % 2) 1 ≡ r
 read-back r w a = grind (arith, nat_tests)
 
-pub write-back : (r w : Bool) (a : ℕ) → nat_eq ((128 + flag r 64 + flag w 32 + a % 8) / 32 % 2) 1 ≡ w
+pub write-back : (r w : Bool) (a : ℕ) → nat_eq (command_flags r w a / 32 % 2) 1 ≡ w
 write-back r w a = grind (arith, nat_tests)
 
-pub attribute-back : (r w : Bool) (a : ℕ) → a < 8 → (128 + flag r 64 + flag w 32 + a % 8) % 8 ≡ a
+pub attribute-back : (r w : Bool) (a : ℕ) → a < 8 → command_flags r w a % 8 ≡ a
 attribute-back r w a h = grind (arith, nat_tests)
 
 -- byte 1 of Task Management and Logout: seven bits

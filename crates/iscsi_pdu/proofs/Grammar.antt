@@ -1,7 +1,10 @@
 -- No spelling of a PDU begins another's, bytes spell one PDU at most, and a target's PDU has one spelling.
-use Rattle.std.proofs.Common.{◌≡◌, ℕ, ◌+◌, ◌-◌, ◌/◌, ◌%◌, ◌^◌, Bool, true, false, nat_eq, inl, inr, ◌<◌, ◌≤◌, List, ◌++◌, length, get_or, take, drop, refl, sym, ap, subst, ◌∙◌, arith, append_assoc, length-append, length-drop, length-take-le}
+use Rattle.std.proofs.Common.{◌≡◌, ℕ, ◌+◌, ◌-◌, ◌/◌, ◌%◌, ◌^◌, Bool, true, false, nat_eq, inl, inr, ◌<◌, ◌≤◌, List}
+use Rattle.std.proofs.Common.{◌++◌, length, get_or, take, drop, refl, sym, ap, subst, ◌∙◌, arith, append_assoc}
+use Rattle.std.proofs.Common.{length-append, length-drop, length-take-le}
 use Rattle.std.proofs.Math.ListN.{get_or-append}
-use Rattle.std.proofs.lemmas.List.{take_at, drop_at, get_or-take, get_or-drop, drop-drop, take-append-drop, length-replicate}
+use Rattle.std.proofs.lemmas.List.{take_at, drop_at, get_or-take, get_or-drop, drop-drop, take-append-drop}
+use Rattle.std.proofs.lemmas.List.{length-replicate}
 use Rattle.std.specs.Prelude.{◌⊎◌, IsTrue, slice_index, slice_range}
 use Rattle.iscsi_pdu.specs.declared.header.Header.{Header}
 use Rattle.iscsi_pdu.specs.declared.header.Header.TheVariants.{Initiator, Target}
@@ -19,7 +22,7 @@ use Rattle.iscsi_pdu.specs.declared.header.TargetHeader.{TargetHeader}
 use Rattle.iscsi_pdu.specs.declared.TheConstants.{BHS_LENGTH, MAX_DATA_SEGMENT_LENGTH}
 use Rattle.iscsi_pdu.specs.Number.{three_at}
 use Rattle.iscsi_pdu.specs.Fields.{HasBadFlags}
-use Rattle.iscsi_pdu.specs.Spelling.{flag, initiator_bhs, target_bhs, bhs, padded, zeros, spelling}
+use Rattle.iscsi_pdu.specs.Spelling.{command_flags, initiator_bhs, target_bhs, bhs, padded, zeros, spelling}
 use Rattle.iscsi_pdu.specs.Range.{IsInitiatorInRange, IsInRange}
 use Rattle.iscsi_pdu.specs.Pdu.{HasFields, IsPdu}
 use Rattle.iscsi_pdu.proofs.Back.{final-back, read-back, write-back}
@@ -28,7 +31,8 @@ use Rattle.iscsi_pdu.proofs.TargetSays.{target-says}
 use Rattle.iscsi_pdu.proofs.OneHeader.{one-initiator, one-target, initiator-opcode, target-opcode}
 use Rattle.iscsi_pdu.proofs.Parts.{has-parts, told-length}
 
-three-same : (a b : List ℕ) (at : ℕ) → ((k : ℕ) → k < at + 3 → get_or a k 0 ≡ get_or b k 0) → three_at a at ≡ three_at b at
+three-same : (a b : List ℕ) (at : ℕ) → ((k : ℕ) → k < at + 3 → get_or a k 0 ≡ get_or b k 0)
+    → three_at a at ≡ three_at b at
 unfolding three_at
 three-same a b at same =
     let cell = λ (k : ℕ) (h : at + k < at + 3). get_or-drop at a k 0 ∙ same (at + k) h ∙ sym (get_or-drop at b k 0) in
@@ -44,7 +48,8 @@ three-front a x at h = three-same (a ++ x) a at (λ k lt. get_or-append a x 0 k 
 -- No spelling of a PDU begins the spelling of another.
 pub one_front : (a b x y : List ℕ) (h k : Header) (d e : List ℕ) → IsPdu a h d → IsPdu b k e → a ++ x ≡ b ++ y → a ≡ b
 one_front a b x y h k d e p q same =
-    let len : three_at a 5 ≡ three_at b 5 = sym (three-front a x 5 (omega (arith, p.long))) ∙ ap (λ (z : List ℕ). three_at z 5) same ∙ three-front b y 5 (omega (arith, q.long)) in
+    let len : three_at a 5 ≡ three_at b 5 = sym (three-front a x 5 (omega (arith, p.long)))
+    ∙ ap (λ (z : List ℕ). three_at z 5) same ∙ three-front b y 5 (omega (arith, q.long)) in
     let long : length a ≡ length b = p.size ∙ ap (λ (m : ℕ). 48 + padded m) len ∙ sym q.size in
     sym (take_at a x (length b) long) ∙ ap (take (length b)) same ∙ take_at b y (length b) refl
 
@@ -62,7 +67,8 @@ pub length-zeros : (n : ℕ) → length (zeros n) ≡ n
 length-zeros n = length-replicate n 0
 
 -- a PDU takes its BHS, and its data with padding
-pub length-spelling : (h : Header) (d : List ℕ) → length (bhs h (length d)) ≡ 48 → length (spelling h d) ≡ 48 + padded (length d)
+pub length-spelling : (h : Header) (d : List ℕ) → length (bhs h (length d)) ≡ 48
+    → length (spelling h d) ≡ 48 + padded (length d)
 unfolding spelling
 length-spelling h d wide =
     let w : List ℕ = bhs h (length d) in
@@ -73,14 +79,22 @@ data-place : (b : List ℕ) (n : ℕ) → slice_range b 48 (48 + n) ≡ take n (
 data-place b n = ap (λ (k : ℕ). take k (drop 48 b)) (omega arith)
 
 -- the flags of the BHS that is written of a header are right
-command-flags : (r w : Bool) (a : ℕ) → (IsTrue r → IsTrue w → ⊥) → (nat_eq ((128 + flag r 64 + flag w 32 + a % 8) / 128 % 2) 1 ≡ false) ⊎ ((nat_eq ((128 + flag r 64 + flag w 32 + a % 8) / 64 % 2) 1 ≡ true) × (nat_eq ((128 + flag r 64 + flag w 32 + a % 8) / 32 % 2) 1 ≡ true)) → ⊥
-command-flags r w a one (inl x) = let e = final-back r w a in cc
-command-flags r w a one (inr (x, y)) = one (sym (read-back r w a) ∙ x) (sym (write-back r w a) ∙ y)
+right-flags : (b : List ℕ) (r w : Bool) (a : ℕ) → slice_index b 1 ≡ command_flags r w a
+    → (IsTrue r → IsTrue w → ⊥) → HasBadFlags b → ⊥
+right-flags b r w a e one (o, inl x) =
+    let f = final-back r w a in
+    let g = ap (λ (n : ℕ). nat_eq (n / 128 % 2) 1) e in
+    cc
+right-flags b r w a e one (o, inr (x, y)) =
+    let read : r ≡ true = sym (read-back r w a) ∙ sym (ap (λ (n : ℕ). nat_eq (n / 64 % 2) 1) e) ∙ x in
+    let write : w ≡ true = sym (write-back r w a) ∙ sym (ap (λ (n : ℕ). nat_eq (n / 32 % 2) 1) e) ∙ y in
+    one read write
 
 flags-right : (h : InitiatorHeader) (n : ℕ) → IsInitiatorInRange h → HasBadFlags (initiator_bhs h n) → ⊥
 unfolding initiator_bhs
 flags-right (NopOut p) n r bad = omega (arith, bad.0, (initiator-says (NopOut p) n r).0)
-flags-right (ScsiCommand p) n r bad = command-flags p.read p.write p.attribute r.0 bad.1
+flags-right (ScsiCommand p) n r bad =
+    right-flags (initiator_bhs (ScsiCommand p) n) p.read p.write p.attribute refl r.0 bad
 flags-right (TaskManagementRequest p) n r bad = omega (arith, bad.0, (initiator-says (TaskManagementRequest p) n r).0)
 flags-right (LoginRequest p) n r bad = omega (arith, bad.0)
 flags-right (TextRequest p) n r bad = omega (arith, bad.0, (initiator-says (TextRequest p) n r).0)
@@ -89,7 +103,11 @@ flags-right (LogoutRequest p) n r bad = omega (arith, bad.0, (initiator-says (Lo
 
 says : (h : Header) (n : ℕ) → n < 2 ^ 24 → IsInRange h → HasFields (bhs h n) h
 says (Initiator h) n lt r = (initiator-says h n r, flags-right h n r)
-says (Target h) n lt r = (target-says h n r, ap (target_bhs h) (sym (told-length (target_bhs h n) n (has-parts (Target h) n) lt)))
+says (Target h) n lt r = (
+  target-says h n r,
+  ap (target_bhs h)
+      (sym (told-length (target_bhs h n) n (has-parts (Target h) n) lt)),
+)
 
 -- What `spelling` gives of a header whose fields are in range spells it.
 pub spelled : (h : Header) (d : List ℕ) → IsInRange h → length d ≤ MAX_DATA_SEGMENT_LENGTH → IsPdu (spelling h d) h d
@@ -104,16 +122,20 @@ spelled h d range within =
     let parts : b ≡ w ++ (d ++ z) = append_assoc w d z in
     let front : take 48 b ≡ w = ap (take 48) parts ∙ take_at w (d ++ z) 48 wide in
     let rest : drop 48 b ≡ d ++ z = ap (drop 48) parts ∙ drop_at w (d ++ z) 48 wide in
-    let len : three_at b 5 ≡ n = ap (λ (x : List ℕ). three_at x 5) parts ∙ three-front w (d ++ z) 5 (omega (arith, wide)) ∙ told in
+    let len : three_at b 5 ≡ n = ap (λ (x : List ℕ). three_at x 5) parts
+    ∙ three-front w (d ++ z) 5 (omega (arith, wide)) ∙ told in
     let size : length b ≡ 48 + padded n = length-spelling h d wide in
     record {
       long = omega (arith, size);
-      no_ahs = ap (λ (x : List ℕ). slice_index x 4) parts ∙ get_or-append w (d ++ z) 0 4 (omega (arith, wide)) ∙ (has-parts h n).no_ahs;
+      no_ahs = ap (λ (x : List ℕ). slice_index x 4) parts ∙ get_or-append w (d ++ z) 0 4 (omega (arith, wide))
+          ∙ (has-parts h n).no_ahs;
       limit = omega (arith, len);
       size = size ∙ ap (λ (m : ℕ). 48 + padded m) (sym len);
       fields = subst (λ (x : List ℕ). HasFields x h) (sym front) (says h n (omega arith) range);
-      same_data = sym (ap (λ (m : ℕ). slice_range b 48 (48 + m)) len ∙ data-place b n ∙ ap (take n) rest ∙ take_at d z n refl);
-      padding = λ _. ap (λ (m : ℕ). drop (48 + m) b) len ∙ sym (drop-drop n 48 b) ∙ ap (drop n) rest ∙ drop_at d z n refl ∙ ap (λ (m : ℕ). zeros (padded m - m)) (sym len);
+      same_data = sym (ap (λ (m : ℕ). slice_range b 48 (48 + m)) len ∙ data-place b n ∙ ap (take n) rest
+          ∙ take_at d z n refl);
+      padding = λ _. ap (λ (m : ℕ). drop (48 + m) b) len ∙ sym (drop-drop n 48 b) ∙ ap (drop n) rest
+          ∙ drop_at d z n refl ∙ ap (λ (m : ℕ). zeros (padded m - m)) (sym len);
     }
 
 -- A target's PDU has one spelling.

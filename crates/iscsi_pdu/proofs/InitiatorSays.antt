@@ -162,7 +162,8 @@ pub initiator-says : (h : InitiatorHeader) (n : ℕ) → IsInitiatorInRange h �
 unfolding initiator_bhs
 initiator-says (NopOut p) n r = (lone_opcode-back p.immediate, sym (nop_out-says p n r))
 initiator-says (ScsiCommand p) n r = (opcode-back p.immediate 0x01 (omega arith), sym (scsi_command-says p n r))
-initiator-says (TaskManagementRequest p) n r = (opcode-back p.immediate 0x02 (omega arith), sym (task_management_request-says p n r))
+initiator-says (TaskManagementRequest p) n r =
+    (opcode-back p.immediate 0x02 (omega arith), sym (task_management_request-says p n r))
 initiator-says (LoginRequest p) n r = (refl, sym (login_request-says p n r))
 initiator-says (TextRequest p) n r = (opcode-back p.immediate 0x04 (omega arith), sym (text_request-says p n r))
 initiator-says (DataOut p) n r = (refl, sym (data_out-says p n r))

@@ -23,7 +23,11 @@ use Rattle.iscsi_pdu.specs.declared.header.TargetHeader.TheVariants.{
   R2t,
   Reject,
 }
-use Rattle.iscsi_pdu.specs.Fields.{opcode_of, HasInitiatorFields, HasTargetFields, nop_out_at, scsi_command_at, task_management_request_at, login_request_at, text_request_at, data_out_at, logout_request_at, nop_in_at, scsi_response_at, task_management_response_at, login_response_at, text_response_at, data_in_at, logout_response_at, r2t_at, reject_at}
+use Rattle.iscsi_pdu.specs.Fields.{opcode_of, HasInitiatorFields, HasTargetFields, nop_out_at, scsi_command_at}
+use Rattle.iscsi_pdu.specs.Fields.{task_management_request_at, login_request_at, text_request_at, data_out_at}
+use Rattle.iscsi_pdu.specs.Fields.{logout_request_at, nop_in_at, scsi_response_at, task_management_response_at}
+use Rattle.iscsi_pdu.specs.Fields.{login_response_at, text_response_at, data_in_at, logout_response_at, r2t_at}
+use Rattle.iscsi_pdu.specs.Fields.{reject_at}
 use Rattle.iscsi_pdu.specs.Fault.{IsInitiatorOpcode, IsTargetOpcode}
 
 -- the header of an initiator with this opcode

@@ -13,7 +13,7 @@ use Rattle.iscsi_pdu.specs.declared.header.TargetHeader.{TargetHeader}
 use Rattle.iscsi_pdu.specs.declared.header.Header.TheVariants.{Target}
 use Rattle.iscsi_pdu.specs.declared.TheConstants.{BHS_LENGTH, MAX_DATA_SEGMENT_LENGTH}
 use Rattle.iscsi_pdu.specs.Number.{three_at}
-use Rattle.iscsi_pdu.specs.Spelling.{padded, zeros}
+use Rattle.iscsi_pdu.specs.Spelling.{padded, pdu_length, zeros}
 use Rattle.iscsi_pdu.specs.Fields.{opcode_of, HasBadFlags}
 use Rattle.iscsi_pdu.specs.Pdu.{HasFields}
 
@@ -41,8 +41,8 @@ pub record HasBhs (b : List ℕ) : Type 0 where
 
 -- the whole of a target's PDU is there, and its padding is not zeros
 abbrev pub HasBadPadding : List ℕ → Type 0
-HasBadPadding b = IsTargetOpcode (opcode_of b) × (BHS_LENGTH + padded (three_at b 5) ≤ length b)
-    × (slice_range b (BHS_LENGTH + three_at b 5) (BHS_LENGTH + padded (three_at b 5))
+HasBadPadding b = IsTargetOpcode (opcode_of b) × (pdu_length (three_at b 5) ≤ length b)
+    × (slice_range b (BHS_LENGTH + three_at b 5) (pdu_length (three_at b 5))
     ≢ zeros (padded (three_at b 5) - three_at b 5))
 
 -- this fault stands at the front of the bytes

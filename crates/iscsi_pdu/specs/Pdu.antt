@@ -5,7 +5,7 @@ use Rattle.iscsi_pdu.specs.declared.header.Header.TheVariants.{Initiator, Target
 use Rattle.iscsi_pdu.specs.declared.TheConstants.{BHS_LENGTH, MAX_DATA_SEGMENT_LENGTH}
 use Rattle.iscsi_pdu.specs.Number.{three_at}
 use Rattle.iscsi_pdu.specs.Fields.{HasBadFlags, HasInitiatorFields, HasTargetFields}
-use Rattle.iscsi_pdu.specs.Spelling.{target_bhs, padded, zeros}
+use Rattle.iscsi_pdu.specs.Spelling.{target_bhs, padded, pdu_length, zeros}
 
 -- a target's PDU
 abbrev pub IsTarget : Header → Type 0
@@ -23,7 +23,7 @@ pub record IsPdu (b : List ℕ) (header : Header) (d : List ℕ) : Type 0 where
   pub long : BHS_LENGTH ≤ length b
   pub no_ahs : slice_index b 4 ≡ 0
   pub limit : three_at b 5 ≤ MAX_DATA_SEGMENT_LENGTH
-  pub size : length b ≡ BHS_LENGTH + padded (three_at b 5)
+  pub size : length b ≡ pdu_length (three_at b 5)
   pub fields : HasFields (take BHS_LENGTH b) header
   pub same_data : d ≡ slice_range b BHS_LENGTH (BHS_LENGTH + three_at b 5)
   pub padding : IsTarget header → drop (BHS_LENGTH + three_at b 5) b ≡ zeros (padded (three_at b 5) - three_at b 5)

@@ -27,6 +27,7 @@ use Rattle.iscsi_pdu.specs.declared.header.TargetHeader.TheVariants.{
   Reject,
 }
 use Rattle.iscsi_pdu.specs.declared.header.Header.{Header}
+use Rattle.iscsi_pdu.specs.declared.TheConstants.{BHS_LENGTH}
 use Rattle.iscsi_pdu.specs.declared.header.Header.TheVariants.{Initiator, Target}
 
 -- a flag's value in its byte
@@ -46,6 +47,10 @@ half n = big_bytes 2 n
 
 abbrev pub word : ℕ → List ℕ
 word n = big_bytes 4 n
+
+-- byte 1 of a SCSI Command: F, R, W and the task attribute
+abbrev pub command_flags : Bool → Bool → ℕ → ℕ
+command_flags read write attribute = 0x80 + flag read 0x40 + flag write 0x20 + attribute % 8
 
 -- byte 1 of a login: T, C, CSG and NSG
 abbrev pub login_flags : Bool → Bool → ℕ → ℕ → ℕ
@@ -72,7 +77,8 @@ initiator_bhs (NopOut p) len =
     (cells 8 p.lun) p.task_tag (word p.transfer_tag)
     (command_numbers p.numbers ++ zeros 16)
 initiator_bhs (ScsiCommand p) len =
-    bhs_with ((0x01 + flag p.immediate 0x40) ∷ (0x80 + flag p.read 0x40 + flag p.write 0x20 + p.attribute % 8) ∷ 0 ∷ 0 ∷ []) len
+    bhs_with ((0x01 + flag p.immediate 0x40) ∷
+    command_flags p.read p.write p.attribute ∷ 0 ∷ 0 ∷ []) len
     (cells 8 p.lun) p.task_tag (word p.expected_length)
     (command_numbers p.numbers ++ cells 16 p.cdb)
 initiator_bhs (TaskManagementRequest p) len =
@@ -142,6 +148,10 @@ bhs (Target h) len = target_bhs h len
 -- the length of a data segment with its padding, a multiple of four (RFC 7143, 11.1)
 abbrev pub padded : ℕ → ℕ
 padded n = (n + 3) / 4 * 4
+
+-- the length of a PDU with so many bytes of data
+abbrev pub pdu_length : ℕ → ℕ
+pdu_length n = BHS_LENGTH + padded n
 
 unfoldable pub spelling : Header → List ℕ → List ℕ
 spelling h d = bhs h (length d) ++ d ++ zeros (padded (length d) - length d)

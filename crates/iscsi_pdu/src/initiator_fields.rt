@@ -1,7 +1,9 @@
 //! The fields of an initiator's basic header segments at their places (RFC 7143, section 11).
 
 ghost use Rattle.std.specs.Prelude.{◌≡◌, length};
-ghost use Rattle.iscsi_pdu.specs.Fields.{opcode_of, HasInitiatorFields, nop_out_at, scsi_command_at, task_management_request_at, login_request_at, text_request_at, data_out_at, logout_request_at};
+ghost use Rattle.iscsi_pdu.specs.Fields.{opcode_of, HasInitiatorFields};
+ghost use Rattle.iscsi_pdu.specs.Fields.{nop_out_at, scsi_command_at, task_management_request_at, login_request_at};
+ghost use Rattle.iscsi_pdu.specs.Fields.{text_request_at, data_out_at, logout_request_at};
 ghost use Rattle.iscsi_pdu.specs.Fault.{IsInitiatorOpcode};
 
 use crate::BHS_LENGTH;

@@ -2,7 +2,9 @@
 #![tactic(auto, unfolding(crate::specs::Spelling::initiator_bhs))]
 
 ghost use Rattle.std.specs.Prelude.{◌≡◌, ◌<◌, ◌^◌};
-ghost use Rattle.iscsi_pdu.specs.declared.header.InitiatorHeader.TheVariants.{NopOut, ScsiCommand, TaskManagementRequest, LoginRequest, TextRequest, DataOut, LogoutRequest};
+ghost use Rattle.iscsi_pdu.specs.declared.header.InitiatorHeader.TheVariants.{NopOut, ScsiCommand};
+ghost use Rattle.iscsi_pdu.specs.declared.header.InitiatorHeader.TheVariants.{TaskManagementRequest, LoginRequest};
+ghost use Rattle.iscsi_pdu.specs.declared.header.InitiatorHeader.TheVariants.{TextRequest, DataOut, LogoutRequest};
 ghost use Rattle.iscsi_pdu.specs.Spelling.{initiator_bhs};
 
 use crate::header::InitiatorHeader;

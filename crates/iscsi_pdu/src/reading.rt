@@ -1,4 +1,7 @@
-ghost use Rattle.std.specs.Prelude.{◌≡◌, ◌≢◌, ◌++◌, ℕ, ◌+◌, ◌<◌, ◌≤◌, ◌↔◌, List, length, take, IfOk, IfErr, MatchOption, IfNone, IsTrue, true, false};
+//! Bytes as PDUs (RFC 7143, section 11).
+
+ghost use Rattle.std.specs.Prelude.{◌≡◌, ◌≢◌, ◌++◌, ℕ, ◌+◌, ◌<◌, ◌≤◌, ◌↔◌, List, length, take};
+ghost use Rattle.std.specs.Prelude.{IfOk, IfErr, MatchOption, IfNone, IsTrue, true, false};
 ghost use Rattle.iscsi_pdu.specs.declared.header.Header.{Header};
 ghost use Rattle.iscsi_pdu.specs.declared.header.Header.TheVariants.{Target};
 ghost use Rattle.iscsi_pdu.specs.declared.fault.PduFault.{PduFault};

@@ -1,7 +1,9 @@
 //! The fields of a target's basic header segments at their places (RFC 7143, section 11).
 
 ghost use Rattle.std.specs.Prelude.{◌≡◌, length};
-ghost use Rattle.iscsi_pdu.specs.Fields.{opcode_of, HasTargetFields, nop_in_at, scsi_response_at, task_management_response_at, login_response_at, text_response_at, data_in_at, logout_response_at, r2t_at, reject_at};
+ghost use Rattle.iscsi_pdu.specs.Fields.{opcode_of, HasTargetFields};
+ghost use Rattle.iscsi_pdu.specs.Fields.{nop_in_at, scsi_response_at, task_management_response_at, login_response_at};
+ghost use Rattle.iscsi_pdu.specs.Fields.{text_response_at, data_in_at, logout_response_at, r2t_at, reject_at};
 ghost use Rattle.iscsi_pdu.specs.Fault.{IsTargetOpcode};
 
 use crate::BHS_LENGTH;

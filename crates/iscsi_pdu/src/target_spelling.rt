@@ -2,7 +2,10 @@
 #![tactic(auto, unfolding(crate::specs::Spelling::target_bhs))]
 
 ghost use Rattle.std.specs.Prelude.{◌≡◌, ◌<◌, ◌^◌};
-ghost use Rattle.iscsi_pdu.specs.declared.header.TargetHeader.TheVariants.{NopIn, ScsiResponse, TaskManagementResponse, LoginResponse, TextResponse, DataIn, LogoutResponse, R2t, Reject};
+ghost use Rattle.iscsi_pdu.specs.declared.header.TargetHeader.TheVariants.{NopIn, ScsiResponse};
+ghost use Rattle.iscsi_pdu.specs.declared.header.TargetHeader.TheVariants.{TaskManagementResponse, LoginResponse};
+ghost use Rattle.iscsi_pdu.specs.declared.header.TargetHeader.TheVariants.{TextResponse, DataIn, LogoutResponse};
+ghost use Rattle.iscsi_pdu.specs.declared.header.TargetHeader.TheVariants.{R2t, Reject};
 ghost use Rattle.iscsi_pdu.specs.Spelling.{target_bhs};
 
 use crate::header::TargetHeader;

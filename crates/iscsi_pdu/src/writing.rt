@@ -1,5 +1,7 @@
+//! PDUs as bytes (RFC 7143, section 11).
+
 ghost use Rattle.std.specs.Prelude.{◌≡◌, ◌++◌, ◌+◌, ◌<◌, ◌≤◌, ◌^◌, length, vec_capacity, OnOk, OnErr};
-ghost use Rattle.iscsi_pdu.specs.Spelling.{bhs, padded, spelling};
+ghost use Rattle.iscsi_pdu.specs.Spelling.{bhs, pdu_length, spelling};
 
 use crate::header::{Header, Pdu};
 use crate::initiator_spelling::spell_initiator;
@@ -22,13 +24,13 @@ fn spell_bhs(header: &Header, len: u32) -> [u8; BHS_LENGTH]
 }
 
 /// Appends the PDU's spelling: a target's PDU has no other, and of an initiator's it is the one with zeros in
-/// every reserved place. Refused, nothing is appended.
+/// every reserved place. A field of fewer bits than a byte is cut to its bits. Refused, nothing is appended.
 pub fn encode(pdu: &Pdu<'_>, out: &mut Vec<u8>) -> Result<(), AllocError>
     requires { length pdu.now.data.now ≤ MAX_DATA_SEGMENT_LENGTH }
     ensures ok { OnOk result (out.new.items ≡ out.old.items ++ spelling pdu.now.header pdu.now.data.now) }
-    ensures size { length (spelling pdu.now.header pdu.now.data.now) ≡ BHS_LENGTH + padded (length pdu.now.data.now) }
+    ensures size { length (spelling pdu.now.header pdu.now.data.now) ≡ pdu_length (length pdu.now.data.now) }
     ensures err { OnErr result (out.new.items ≡ out.old.items) }
-    ensures full { OnErr result (vec_capacity out.old < length out.old.items + (BHS_LENGTH + padded (length pdu.now.data.now))) }
+    ensures full { OnErr result (vec_capacity out.old < length out.old.items + pdu_length (length pdu.now.data.now)) }
     ensures room { vec_capacity out.old ≤ vec_capacity out.new }
 {
     let len = pdu.data.len();

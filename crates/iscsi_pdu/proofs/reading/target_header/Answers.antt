@@ -16,10 +16,12 @@ returns-else-is_same-clause-fault c =
       (
         c.requires.opcode,
         λ h front.
-            let fields : HasFields b (Target h) = subst (λ (x : List ℕ). HasFields x (Target h)) (take_all 48 b (omega arith)) front in
+            let fields : HasFields b (Target h) = subst (λ (x : List ℕ). HasFields x (Target h))
+            (take_all 48 b (omega arith)) front in
             let one : h ≡ k = one-target b h k fields.0 c.target_fields-header.ensures in
             let written : b ≡ c.spell_target.result =
-            fields.1 ∙ ap (λ (x : TargetHeader). target_bhs x (three_at b 5)) one ∙ ap (target_bhs k) (sym c.requires.same_length) ∙ sym c.spell_target.ensures in
+            fields.1 ∙ ap (λ (x : TargetHeader). target_bhs x (three_at b 5)) one
+            ∙ ap (target_bhs k) (sym c.requires.same_length) ∙ sym c.spell_target.ensures in
             let yes : c.is_same.result ≡ true = c.is_same.ensures.1 written in
             absurd (cc (yes, c.if-is_same.false)),
       ),
