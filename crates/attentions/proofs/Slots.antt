@@ -1,10 +1,10 @@
 -- The first so many of five slots.
-use Rattle.std.proofs.Common.{◌≡◌, ℕ, zero, suc, ◌+◌, ◌-◌, ◌<◌, ◌≤◌, List, [], ◌∷◌, ◌++◌, length, take, drop, set, false, true, length-take-le, length-set, refl, sym, ◌∙◌, ap, arith}
+use Rattle.std.proofs.Common.{◌≡◌, ℕ, zero, suc, ◌+◌, ◌-◌, ◌<◌, ◌≤◌, List, [], ◌∷◌, ◌++◌, length, take, drop, set, false, true, length-take-le, refl, arith}
 use Rattle.std.proofs.lemmas.Grind.{common_steps}
 use Rattle.std.proofs.lemmas.List.{take_more_set}
 use Rattle.scsi_types.specs.declared.attention.UnitAttention.{UnitAttention}
-use Rattle.attentions.specs.Queue.{is_pending, without_repeats, established}
-use Rattle.attentions.proofs.Repeats.{room, one_more, goes_behind, rest_of}
+use Rattle.attentions.specs.Queue.{is_pending, without_repeats}
+use Rattle.attentions.proofs.Repeats.{room}
 
 pub none_taken : {X : Type 0} (n : ℕ) (slots : List X) → n ≤ length slots → take n slots ≡ [] → n ≡ 0
 none_taken zero slots le h = refl
