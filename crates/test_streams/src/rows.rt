@@ -8,6 +8,8 @@ use std::alloc::{AllocError, Global};
 pub enum Segment<'a> {
     None,
     Bytes(&'a [u8]),
+    /// So many of each byte, one run behind another.
+    Runs(&'a [(usize, u8)]),
     /// So many of the bytes 0, 1, 2, .. modulo 251, which no shift of them is.
     Pattern(usize),
     /// The header segment of a PDU that is rejected, and what differs from it.
@@ -50,6 +52,7 @@ pub fn spelled(alloc: Global, rows: &[PduRow<'_>]) -> Result<Vec<u8>, RowError> 
         match row.2 {
             Segment::None => {}
             Segment::Bytes(segment) => bytes.extend_from_slice(segment)?,
+            Segment::Runs(runs) => put_runs(&mut bytes, runs)?,
             Segment::Pattern(len) => put_pattern(&mut bytes, len)?,
             Segment::Rejected(bhs, changes) => {
                 let segment = changed(bhs, changes)?;
@@ -77,6 +80,16 @@ fn put_padding(bytes: &mut Vec<u8>) -> Result<(), AllocError> {
     for _ in 0..3 {
         if bytes.len() % 4 != 0 {
             bytes.push(0)?;
+        }
+    }
+    Ok(())
+}
+
+// Appends so many of each byte.
+fn put_runs(bytes: &mut Vec<u8>, runs: &[(usize, u8)]) -> Result<(), AllocError> {
+    for (len, byte) in runs {
+        for _ in 0..*len {
+            bytes.push(*byte)?;
         }
     }
     Ok(())

@@ -7,7 +7,7 @@ use test_streams::{
     UNDERFLOW, WHOLE, WRITES, spelled,
 };
 
-const BLOCK: [u8; 512] = [0x5A; 512];
+const BLOCK: Segment<'static> = Segment::Runs(&[(512, 0x5A)]);
 
 // TEST UNIT READY; WRITE (10) of block 5 with 512 bytes 5Ah; READ (10) of it.
 const THREE_COMMANDS: Row = Row {
@@ -23,7 +23,7 @@ const THREE_COMMANDS: Row = Row {
                 (16, &[0, 0, 0, 2, 0, 0, 2, 0, 0, 0, 0, 2, 0, 0, 0, 2]),
                 (32, &[0x2A, 0, 0, 0, 0, 5, 0, 0, 1]),
             ],
-            Segment::Bytes(&BLOCK),
+            BLOCK,
         ),
         PduRow(
             &TEST_UNIT_READY,
@@ -52,7 +52,7 @@ const THREE_COMMANDS: Row = Row {
                 (16, &[0, 0, 0, 3]),
                 (24, &[0, 0, 0, 0, 0, 0, 0, 4, 0, 0, 0, 0x23]),
             ],
-            Segment::Bytes(&BLOCK),
+            BLOCK,
         ),
         PduRow(
             &GOOD,
@@ -89,7 +89,7 @@ const ROWS: &[Row] = &[
                 (20, &[0, 0, 4, 0]),
                 (32, &[0x2A, 0, 0, 0, 0, 7, 0, 0, 1]),
             ],
-            Segment::Bytes(&BLOCK),
+            BLOCK,
         )],
         output: &[PduRow(
             &GOOD,
@@ -111,7 +111,7 @@ const ROWS: &[Row] = &[
                 (20, &[0, 0, 1, 0]),
                 (32, &[0x2A, 0, 0, 0, 0, 7, 0, 0, 1]),
             ],
-            Segment::Bytes(&[0x5A; 256]),
+            Segment::Runs(&[(256, 0x5A)]),
         )],
         output: &[PduRow(
             &CHECK_CONDITION,

@@ -22,14 +22,8 @@ const FOUR_BLOCKS: &[PduRow<'static>] = &[PduRow(
         (20, &[0, 0, 8, 0]),
         (32, &[0x2A, 0, 0, 0, 0, 10, 0, 0, 4]),
     ],
-    Segment::Bytes(&[0x5A; 2048]),
+    Segment::Runs(&[(2048, 0x5A)]),
 )];
-
-// The zeros of a block, but for its byte 5, and what would be written.
-const DIFFERENT: [u8; 1024] = {
-    let mut bytes = [0x5A; 1024];
-    bytes
-};
 
 const FAILED_WRITE: &[PduRow<'static>] = &[PduRow(&CHECK_CONDITION, &[], WRITE_ERROR)];
 
@@ -98,7 +92,7 @@ const ROWS: &[Row] = &[
                 (20, &[0, 0, 2, 0]),
                 (32, &[0x2A, 0x08, 0, 0, 0, 0, 0, 0, 1]),
             ],
-            Segment::Bytes(&[0x5A; 512]),
+            Segment::Runs(&[(512, 0x5A)]),
         )],
         output: FAILED_WRITE,
         written: &[(0, 0x5A)],
@@ -163,7 +157,7 @@ const ROWS: &[Row] = &[
                 (20, &[0, 0, 4, 0]),
                 (32, &[0x89, 0, 0, 0, 0, 0, 0, 0, 0, 3, 0, 0, 0, 1]),
             ],
-            Segment::Bytes(&DIFFERENT),
+            Segment::Runs(&[(5, 0), (1, 1), (506, 0), (512, 0x5A)]),
         )],
         output: &[PduRow(
             &CHECK_CONDITION,
@@ -186,7 +180,7 @@ const ROWS: &[Row] = &[
                 (20, &[0, 0, 4, 0]),
                 (32, &[0x89, 0, 0, 0, 0, 0, 0, 0, 0, 3, 0, 0, 0, 1]),
             ],
-            Segment::Bytes(&EQUAL),
+            Segment::Runs(&[(512, 0), (512, 0x5A)]),
         )],
         output: &[PduRow(&GOOD, &[], Segment::None)],
         written: &[(3, 0x5A)],
