@@ -1,7 +1,6 @@
 -- What a session makes of a PDU, of a fault and of an answer: the PDUs to write, the call, the end, its counters.
 use Rattle.std.specs.Prelude.{◌≡◌, ℕ, ◌≤◌, List, [], ◌∷◌, ◌++◌, Some, None, MatchOption}
-use Rattle.scsi_types.specs.Cdb.{Means}
-use Rattle.scsi_types.specs.Need.{need_of}
+use Rattle.scsi_types.specs.Cdb.{Means, need_of}
 use Rattle.scsi_types.specs.Lun.{NamesUnit}
 use Rattle.iscsi_pdu.specs.declared.header.ScsiCommand.{ScsiCommand as CommandHeader}
 use Rattle.iscsi_pdu.specs.declared.header.Header.{Header}

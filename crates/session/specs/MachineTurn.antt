@@ -1,6 +1,6 @@
 -- What a session makes of a whole turn: of what came, with what its target answered.
 use Rattle.std.specs.Prelude.{◌≡◌, ℕ, ◌≤◌, List, [], ◌∷◌, Option, None, MatchOption}
-use Rattle.scsi_types.specs.Need.{need_of}
+use Rattle.scsi_types.specs.Cdb.{need_of}
 use Rattle.iscsi_pdu.specs.declared.header.ScsiCommand.{ScsiCommand as CommandHeader}
 use Rattle.iscsi_pdu.specs.declared.header.Header.TheVariants.{Initiator}
 use Rattle.iscsi_pdu.specs.declared.header.InitiatorHeader.TheVariants.{ScsiCommand}

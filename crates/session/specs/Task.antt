@@ -1,7 +1,6 @@
 -- A command that was accepted, and its call (RFC 7143, 4.4).
 use Rattle.std.specs.Prelude.{◌≡◌, ℕ, List, [], length, Option, Some, None, Result}
-use Rattle.scsi_types.specs.Cdb.{Means}
-use Rattle.scsi_types.specs.Need.{need_of}
+use Rattle.scsi_types.specs.Cdb.{Means, need_of}
 use Rattle.scsi_types.specs.Lun.{NamesUnit}
 use Rattle.scsi_types.specs.declared.command.Command.{Command}
 use Rattle.scsi_types.specs.declared.command.CdbFault.{CdbFault}

@@ -1,7 +1,6 @@
 -- What becomes of a PDU: the command window, and why a PDU is rejected (RFC 7143, 4.2.2.1, 7.3 and 11.17.1).
 use Rattle.std.specs.Prelude.{◌≡◌, ℕ, ◌==◌, ◌&&◌, ◌||◌, nat_lt, nat_le, Bool, if◌then◌else◌, List, length, Result, MatchOption}
-use Rattle.scsi_types.specs.Cdb.{Means}
-use Rattle.scsi_types.specs.Need.{need_of}
+use Rattle.scsi_types.specs.Cdb.{Means, need_of}
 use Rattle.scsi_types.specs.declared.command.Command.{Command}
 use Rattle.scsi_types.specs.declared.command.CdbFault.{CdbFault}
 use Rattle.iscsi_pdu.specs.declared.header.ScsiCommand.{ScsiCommand as CommandHeader}

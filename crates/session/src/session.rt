@@ -1,6 +1,6 @@
 //! A session without bytes: what it makes of PDUs and of answers.
 ghost use Rattle.std.specs.Prelude.{◌≡◌};
-ghost use Rattle.scsi_types.specs.Need.{need_of};
+ghost use Rattle.scsi_types.specs.Cdb.{need_of};
 ghost use Rattle.session.specs.Counters.{Counters, after_command};
 ghost use Rattle.session.specs.Verdict.{reason_of};
 ghost use Rattle.session.specs.AnswerPdus.{IsWithin, read_length, reply_with};

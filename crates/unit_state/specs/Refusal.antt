@@ -2,7 +2,7 @@
 -- on the medium, and at the request.
 use Rattle.std.specs.Prelude.{ℕ, ◌+◌, ◌&&◌, nat_lt, nat_le, if◌then◌else◌, List, [], ◌∷◌, length, Option, Some, None, Result, Ok, Err}
 use Rattle.scsi_types.specs.ReplyValue.{ReplyValue, check}
-use Rattle.scsi_types.specs.Need.{need_of}
+use Rattle.scsi_types.specs.Cdb.{need_of}
 use Rattle.scsi_types.specs.Sense.{invalid_opcode, invalid_field_in_cdb, lba_out_of_range}
 use Rattle.scsi_types.specs.declared.command.Command.{Command}
 use Rattle.scsi_types.specs.declared.command.CdbFault.{CdbFault}
