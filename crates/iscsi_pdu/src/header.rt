@@ -3,7 +3,7 @@
 //! `immediate` is the I bit (11.2.1.1), `last` the F bit and `continues` the C bit; `task_tag` is the Initiator Task
 //! Tag and `transfer_tag` the Target Transfer Tag.
 
-/// The two numbers of an initiator's PDU (RFC 7143, 11.3.5 and 11.3.6).
+/// The two numbers of an initiator's PDU (RFC 7143, 11.3.2 and 11.3.3).
 #[derive(Clone, Copy, Debug, PartialEq, Eq)]
 pub struct CommandNumbers {
     pub cmd_sn: u32,

@@ -3,10 +3,14 @@
 use crate::rows::{Figure, bytes_of};
 use iscsi_pdu::PduFault::{BadFlags, BadReserved, HasAhs, NonZeroPad, TooLong, UnknownOpcode};
 use iscsi_pdu::{PduFault, decode};
+use std::alloc::Global;
+use std::process::Abort;
 use std::test::Fail;
 
+type Row = (&'static str, Figure, PduFault);
+
 // Each row has the faults behind its own too. Behind each figure stand one byte of data and 1, 0, 0.
-const ROWS: [(&str, Figure, PduFault); 24] = [
+const ROWS: [Row; 24] = [
     (
         "opcode 07h",
         [0x07E10000, 0x01010001, 0, 0, 1, 0, 1, 1, 0, 0, 0, 0],
@@ -129,22 +133,26 @@ const ROWS: [(&str, Figure, PduFault); 24] = [
     ),
 ];
 
-#[test]
-fn each_fault_is_found_first_and_in_time(rt: HostRuntime) -> Result<(), Fail> {
-    for (name, figure, fault) in ROWS {
-        let bytes = bytes_of(rt.alloc(), &figure, [7, 1, 0, 0])?;
-        assert_eq!(rt; decode(&bytes).err(), Some(fault), "{name}");
+fn expect_rows(rt: &impl Abort, alloc: Global, rows: &[Row]) -> Result<(), Fail> {
+    for (name, figure, fault) in rows {
+        let bytes = bytes_of(alloc, figure, [7, 1, 0, 0])?;
+        assert_eq!(rt; decode(&bytes).err(), Some(*fault), "{name}");
         let needed = match fault {
             UnknownOpcode => 1,
             NonZeroPad => 52,
             _ => 48,
         };
         let front = bytes.get(..needed).ok_or("the front is there")?;
-        assert_eq!(rt; decode(front).err(), Some(fault), "the front of {name}");
+        assert_eq!(rt; decode(front).err(), Some(*fault), "the front of {name}");
         let less = bytes.get(..needed - 1).ok_or("less is there")?;
         assert!(rt; matches!(decode(less), Ok(None)), "less of {name}");
     }
     Ok(())
+}
+
+#[test]
+fn each_fault_is_found_first_and_in_time(rt: HostRuntime) -> Result<(), Fail> {
+    expect_rows(&rt, rt.alloc(), &ROWS)
 }
 
 const TEXTS: [(PduFault, &str); 6] = [

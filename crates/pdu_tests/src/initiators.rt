@@ -5,6 +5,8 @@ use iscsi_pdu::{
     DataOut, Header, InitiatorHeader, LoginRequest, LogoutRequest, NopOut, ScsiCommand,
     TaskManagementRequest, TextRequest,
 };
+use std::alloc::Global;
+use std::process::Abort;
 use std::test::Fail;
 
 /// A header, its plainest figure, and one with other values in the reserved bits.
@@ -179,15 +181,19 @@ const ROWS: [Row; 8] = [
     },
 ];
 
-#[test]
-fn each_initiator_pdu_is_read_whatever_its_reserved_bits_hold(rt: HostRuntime) -> Result<(), Fail> {
-    for row in &ROWS {
+fn expect_rows(rt: &impl Abort, alloc: Global, rows: &[Row]) -> Result<(), Fail> {
+    for row in rows {
         let header = Header::Initiator(row.header);
-        expect_encoded(&rt, rt.alloc(), row.name, header, &row.plain)?;
-        let plain = bytes_of(rt.alloc(), &row.plain, [7, 8, 0, 0])?;
-        expect_decoded(&rt, row.name, &plain, header)?;
-        let reserved = bytes_of(rt.alloc(), &row.reserved, [7, 8, 0xEE, 0xFF])?;
-        expect_decoded(&rt, row.name, &reserved, header)?;
+        expect_encoded(rt, alloc, row.name, header, &row.plain)?;
+        let plain = bytes_of(alloc, &row.plain, [7, 8, 0, 0])?;
+        expect_decoded(rt, row.name, &plain, header)?;
+        let reserved = bytes_of(alloc, &row.reserved, [7, 8, 0xEE, 0xFF])?;
+        expect_decoded(rt, row.name, &reserved, header)?;
     }
     Ok(())
+}
+
+#[test]
+fn each_initiator_pdu_is_read_whatever_its_reserved_bits_hold(rt: HostRuntime) -> Result<(), Fail> {
+    expect_rows(&rt, rt.alloc(), &ROWS)
 }

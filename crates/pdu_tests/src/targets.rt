@@ -5,9 +5,14 @@ use iscsi_pdu::{
     DataIn, Header, LoginResponse, LogoutResponse, NopIn, R2t, Reject, ScsiResponse, TargetHeader,
     TaskManagementResponse, TextResponse,
 };
+use std::alloc::Global;
+use std::process::Abort;
 use std::test::Fail;
 
-const ROWS: [(&str, TargetHeader, Figure); 12] = [
+/// A name, a header, and its figure.
+type Row = (&'static str, TargetHeader, Figure);
+
+const ROWS: [Row; 12] = [
     (
         "NOP-In",
         TargetHeader::NopIn(NopIn {
@@ -186,13 +191,17 @@ const ROWS: [(&str, TargetHeader, Figure); 12] = [
     ),
 ];
 
-#[test]
-fn each_target_pdu_has_its_bytes(rt: HostRuntime) -> Result<(), Fail> {
-    for (name, header, figure) in ROWS {
-        let header = Header::Target(header);
-        expect_encoded(&rt, rt.alloc(), name, header, &figure)?;
-        let bytes = bytes_of(rt.alloc(), &figure, [7, 8, 0, 0])?;
-        expect_decoded(&rt, name, &bytes, header)?;
+fn expect_rows(rt: &impl Abort, alloc: Global, rows: &[Row]) -> Result<(), Fail> {
+    for (name, header, figure) in rows {
+        let header = Header::Target(*header);
+        expect_encoded(rt, alloc, name, header, figure)?;
+        let bytes = bytes_of(alloc, figure, [7, 8, 0, 0])?;
+        expect_decoded(rt, name, &bytes, header)?;
     }
     Ok(())
+}
+
+#[test]
+fn each_target_pdu_has_its_bytes(rt: HostRuntime) -> Result<(), Fail> {
+    expect_rows(&rt, rt.alloc(), &ROWS)
 }
