@@ -34,7 +34,7 @@ use Rattle.session.specs.Response.{responses, HasOneResponse, IsAnsweredBy, IsTo
 use Rattle.session.specs.DataIn.{data_ins, IsSegment, Tiles}
 use Rattle.session.specs.Legal.{status_numbers, IsWindow, HaveWindow, IsRejected, IsAnsweredTask, IsTiledTask, IsCountedTask, HasResiduals, IsToldTask}
 use Rattle.std.specs.List.{AllByRecursion}
-use Rattle.session.specs.Legal.{IsNoReject}
+use Rattle.session.specs.Legal.{IsOfCommand}
 use Rattle.session.specs.Counters.{Counters, after_status, after_command}
 use Rattle.session.specs.AnswerPdus.{read_length, data_in_for, response_for}
 use Rattle.session.specs.MachineTurn.{TurnOnAnswer, TurnOnAccepted, TurnOnVerdict}
@@ -93,7 +93,7 @@ module _ (e : ℕ) (p : CommandHeader) (r : ResponseHeader) (sense : List ℕ) w
   outs_count [] = refl
   outs_count (y ∷ ys) = refl
 
-  outs_rejects : (sent : List ℕ) → AllByRecursion (λ o. IsNoReject o.header) (outs_of sent)
+  outs_rejects : (sent : List ℕ) → AllByRecursion (λ o. IsOfCommand o.header) (outs_of sent)
   outs_rejects [] = (tt, tt)
   outs_rejects (y ∷ ys) = (tt, (tt, tt))
 

@@ -6,7 +6,7 @@ use Rattle.iscsi_pdu.specs.Pdu.{IsPdu}
 use Rattle.iscsi_pdu.specs.Fault.{Stands}
 use Rattle.iscsi_pdu.specs.declared.header.Header.{Header}
 use Rattle.iscsi_pdu.specs.declared.header.TargetHeader.{TargetHeader}
-use Rattle.iscsi_pdu.specs.declared.header.TargetHeader.TheVariants.{ScsiResponse, Reject}
+use Rattle.iscsi_pdu.specs.declared.header.TargetHeader.TheVariants.{ScsiResponse, DataIn, Reject}
 use Rattle.iscsi_pdu.specs.declared.header.Numbers.{Numbers}
 use Rattle.iscsi_pdu.specs.declared.fault.PduFault.{PduFault}
 use Rattle.session.specs.declared.end.End.{End}
@@ -45,18 +45,20 @@ pub record IsWindow (exp_cmd_sn : ℕ) (n : Numbers) : Type 0 where
 abbrev pub HaveWindow : ℕ → List Out → Type 0
 HaveWindow exp_cmd_sn outs = AllByRecursion (λ o. IsWindow exp_cmd_sn (numbers_of o.header)) outs
 
--- a PDU that is rejected has a Reject with its basic header segment, and nothing else; one that is not accepted
--- has no answer
+-- what may go out for an accepted command: its Data-In and its SCSI Response, and no other kind
+abbrev pub IsOfCommand : TargetHeader → Type 0
+IsOfCommand (ScsiResponse p) = Unit {0}
+IsOfCommand (DataIn p) = Unit {0}
+IsOfCommand h = ⊥
+
+-- a PDU that is rejected has a Reject with its basic header segment, and nothing else; one that is ignored or out of
+-- order has nothing
 abbrev pub bhs_of : Incoming → List ℕ
 bhs_of (pdu bhs h d) = bhs
 bhs_of (faulty f bhs) = bhs
 
-abbrev pub IsNoReject : TargetHeader → Type 0
-IsNoReject (Reject p) = ⊥
-IsNoReject h = Unit {0}
-
 abbrev pub IsRejected : Verdict → Incoming → List Out → Type 0
-IsRejected Accepted came outs = AllByRecursion (λ o. IsNoReject o.header) outs
+IsRejected Accepted came outs = AllByRecursion (λ o. IsOfCommand o.header) outs
 IsRejected Ignored came outs = outs ≡ []
 IsRejected Gap came outs = outs ≡ []
 IsRejected (Refused reason) came outs =
@@ -119,7 +121,7 @@ pub record Lawful (first_cmd first_stat : ℕ) (ts : List Turn) : Type 0 where
   pub residual : AtEach (λ before t. HasResiduals (task_of t)) ts
   -- status and sense are those of the Call's answer
   pub told : AtEach (λ before t. IsToldTask (task_of t)) ts
-  -- what is rejected has a Reject, and nothing else has one
+  -- what is rejected has a Reject, and nothing else has one; no turn has a PDU of another kind
   pub rejected : AtEach (λ before t. IsRejected t.verdict t.came t.sent) ts
 
 -- no turn calls for an end

@@ -6,10 +6,11 @@
 //! bytes: what a PDU, a fault or an answer calls for. [`Watched`] makes a source or a sink of a reader or writer.
 //!
 //! The theorem stands on [`serve_stream`]: the bytes that are written spell a legal transcript of the bytes that
-//! were read, however they were cut. Of specs/, `Turn` says what a transcript is, `Window` which PDUs are accepted,
-//! `Task` how a command is called and answered, `Legal` which transcripts are legal and why one ends, and
-//! `Transcript` how it lies over the bytes. `Machine` says what `Session` does at a step, `Source` and `Inbox` how
-//! bytes come. What follows for an initiator is stated by the functions without a body, in `laws`.
+//! were read, however they were cut. Of specs/, `Turn` says what a transcript is, `Window` how numbers count, `Verdict`
+//! which PDUs are accepted, `Task` how a command is called, `Response` and `DataIn` how it is answered, `Legal` which
+//! transcripts are legal and why one ends, and `Transcript` how it lies over the bytes. `Machine` says what `Session`
+//! does at a step, `Source` and `Inbox` how bytes come. What follows for an initiator is stated by the functions
+//! without a body, in `laws`.
 #![tactic(auto)]
 
 mod actions;

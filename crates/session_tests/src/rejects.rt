@@ -22,6 +22,21 @@ const ROWS: &[Row] = &[
         ..PLAIN
     },
     Row {
+        name: "a NOP-Out, which is not served",
+        input: &[
+            PduRow(&TEST_UNIT_READY, &[(0, &[0x40, 0x80])], Segment::None),
+            PduRow(&TEST_UNIT_READY, &[], Segment::None),
+        ],
+        asked: &[],
+        output: &[PduRow(
+            &REJECT,
+            &[(2, &[5])],
+            Segment::Rejected(&TEST_UNIT_READY, &[(0, &[0x40, 0x80])]),
+        )],
+        end: End::Protocol,
+        ..PLAIN
+    },
+    Row {
         name: "a PDU of a target",
         input: &[
             PduRow(&GOOD, &[], Segment::None),
