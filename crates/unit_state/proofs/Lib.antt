@@ -1,4 +1,6 @@
 pub mod Places
 pub mod ReadBack
+pub mod Rules
 pub mod Steps
+pub mod Told
 pub mod Works

@@ -11,10 +11,12 @@ use Rattle.compare_write.specs.Ends.{IsUnfailed, IsCompareEnd, IsSyncEnd, OnDone
 use Rattle.compare_write.specs.Instances.{compare_instance, write_instance}
 use Rattle.scsi_types.specs.ReplyValue.{ReplyValue, good}
 use Rattle.scsi_types.specs.declared.command.Command.{Command}
+use Rattle.scsi_types.specs.declared.command.Command.TheVariants as commands
 use Rattle.unit_state.specs.Answer.{IsServed}
-use Rattle.unit_state.specs.State.{ControlValue}
+use Rattle.unit_state.specs.State.{ControlValue, unit_of}
 use Rattle.unit_state.specs.Choice.{IsFine, WriteFailed, choice_of}
-use Rattle.unit_state.specs.Entry.{returned_by}
+use Rattle.unit_state.specs.Entry.{described, left_by, returned_by}
+use Rattle.unit_state.specs.Step.{is_describing}
 use Rattle.unit_state.specs.Medium.{Range, Nothing, Compares, Flushes, Finding, Done, WriteError, compared_by, found_by, reply_by, work_of}
 use Rattle.unit_state.specs.Worked.{IsWorked, choice_at, finding_at}
 
@@ -110,19 +112,51 @@ sync_worked claims old new r ends.WriteFailed is kept = absurd is
 -- ---- commands
 
 -- one that the medium answers
-pub medium_served : (claims : Bool) (c : ControlValue) (old new : List (List ℕ)) (command : Command) (bytes read given : List ℕ) (end : MediumEnd) (reply : ReplyValue)
-    → ((finding : Finding) → returned_by c command finding ≡ reply_by finding) → IsWorked claims old new (work_of command bytes) end read → given ≡ read → reply ≡ reply_by (finding_at end given) → IsServed claims c old new command bytes reply
-medium_served claims c old new command bytes read given end reply medium worked same is = rw (is, same) (record {
+pub medium_served : (claims : Bool) (c now : ControlValue) (old new : List (List ℕ)) (session : ℕ) (command : Command) (bytes read kept : List ℕ) (end : MediumEnd) (reply : ReplyValue)
+    → ((finding : Finding) → returned_by c session command finding ≡ reply_by finding) → left_by c session command ≡ c → now ≡ c → IsWorked claims old new (work_of command bytes) end read → kept ≡ read → reply ≡ reply_by (finding_at end kept) → IsServed claims (unit_of c old) (unit_of now new) session command bytes reply
+medium_served claims c now old new session command bytes read kept end reply medium leaves same_control worked same is = rw (is, same) (record {
   finding = finding_at end read;
   done = rw (told_choice end read new) worked;
+  control = same_control ∙ sym leaves;
   answers = sym (medium (finding_at end read));
 })
 
 -- one that does nothing on the medium
-pub other_served : (claims : Bool) (c : ControlValue) (blocks : List (List ℕ)) (command : Command) (bytes given : List ℕ) (reply : ReplyValue) → work_of command bytes ≡ Nothing → returned_by c command (Done []) ≡ good given → reply ≡ good given
-    → IsServed claims c blocks blocks command bytes reply
-other_served claims c blocks command bytes given reply nothing returns is = rw is (record {
+pub other_served : (claims : Bool) (c now : ControlValue) (blocks : List (List ℕ)) (session : ℕ) (command : Command) (bytes told : List ℕ) (reply : ReplyValue) → work_of command bytes ≡ Nothing → returned_by c session command (Done []) ≡ good told → now ≡ left_by c session command → reply ≡ good told
+    → IsServed claims (unit_of c blocks) (unit_of now blocks) session command bytes reply
+other_served claims c now blocks session command bytes told reply nothing returns leaves is = rw is (record {
   finding = Done [];
   done = rw nothing (record { chosen = tt; may = refl; torn = λ h. tt; told = λ h. refl; leaves = λ h. refl });
+  control = leaves;
   answers = sym returns;
 })
+
+-- one that asks what the unit is
+pub described_served : (claims : Bool) (c : ControlValue) (blocks : List (List ℕ)) (session : ℕ) (command : Command) (bytes told : List ℕ) (reply : ReplyValue) → IsTrue (is_describing command) → told ≡ described c session command → reply ≡ good told
+    → IsServed claims (unit_of c blocks) (unit_of c blocks) session command bytes reply
+described_served claims c blocks session (commands.Inquiry page allocation) bytes told reply d is said = other_served claims c c blocks session _ bytes told reply refl (ap good (sym is)) refl said
+described_served claims c blocks session (commands.ModeSense header control page allocation) bytes told reply d is said = other_served claims c c blocks session _ bytes told reply refl (ap good (sym is)) refl said
+described_served claims c blocks session (commands.ReportLuns select allocation) bytes told reply d is said = other_served claims c c blocks session _ bytes told reply refl (ap good (sym is)) refl said
+described_served claims c blocks session commands.ReadCapacity10 bytes told reply d is said = other_served claims c c blocks session _ bytes told reply refl (ap good (sym is)) refl said
+described_served claims c blocks session (commands.ReadCapacity16 allocation) bytes told reply d is said = other_served claims c c blocks session _ bytes told reply refl (ap good (sym is)) refl said
+described_served claims c blocks session commands.TestUnitReady bytes told reply d is said = absurd (cc)
+described_served claims c blocks session (commands.RequestSense allocation) bytes told reply d is said = absurd (cc)
+described_served claims c blocks session (commands.Read lba n fua) bytes told reply d is said = absurd (cc)
+described_served claims c blocks session (commands.Write lba n fua) bytes told reply d is said = absurd (cc)
+described_served claims c blocks session (commands.CompareAndWrite lba n fua) bytes told reply d is said = absurd (cc)
+described_served claims c blocks session (commands.SynchronizeCache lba n) bytes told reply d is said = absurd (cc)
+
+-- which is any command but these
+pub describes : (command : Command) → (command ≡ commands.TestUnitReady → ⊥) → ((n : ℕ) → command ≡ commands.RequestSense n → ⊥) → ((lba n : ℕ) (fua : Bool) → command ≡ commands.Read lba n fua → ⊥) → ((lba n : ℕ) (fua : Bool) → command ≡ commands.Write lba n fua → ⊥)
+    → ((lba n : ℕ) (fua : Bool) → command ≡ commands.CompareAndWrite lba n fua → ⊥) → ((lba n : ℕ) → command ≡ commands.SynchronizeCache lba n → ⊥) → IsTrue (is_describing command)
+describes commands.TestUnitReady ready sense read write compare sync = absurd (ready refl)
+describes (commands.RequestSense n) ready sense read write compare sync = absurd (sense n refl)
+describes (commands.Inquiry page n) ready sense read write compare sync = refl
+describes (commands.ModeSense header control page n) ready sense read write compare sync = refl
+describes commands.ReadCapacity10 ready sense read write compare sync = refl
+describes (commands.ReadCapacity16 n) ready sense read write compare sync = refl
+describes (commands.Read lba n fua) ready sense read write compare sync = absurd (read lba n fua refl)
+describes (commands.Write lba n fua) ready sense read write compare sync = absurd (write lba n fua refl)
+describes (commands.CompareAndWrite lba n fua) ready sense read write compare sync = absurd (compare lba n fua refl)
+describes (commands.SynchronizeCache lba n) ready sense read write compare sync = absurd (sync lba n refl)
+describes (commands.ReportLuns select n) ready sense read write compare sync = refl

@@ -1,9 +1,14 @@
 -- The entries of a unit's history: what is possible, what is after one, and what it is answered. What is said of the
 -- medium stands under the claim of the device's type.
-use Rattle.std.specs.Prelude.{◌≡◌, ℕ, ◌+◌, ◌<◌, Bool, IsTrue, List, [], ◌∷◌, ◌++◌, length, Option, Some, None, Result, Ok, Err}
+use Rattle.std.specs.Prelude.{◌≡◌, ℕ, ◌+◌, ◌<◌, Bool, IsTrue, List, [], ◌∷◌, ◌++◌, length, Option, Some, None, IsSome, Result, Ok, Err}
 use Rattle.identity.specs.Capacity.{capacity_10, capacity_16}
+use Rattle.identity.specs.InquiryData.{inquiry_data}
+use Rattle.identity.specs.Luns.{lun_list}
+use Rattle.identity.specs.Mode.{mode_data}
+use Rattle.identity.specs.SenseData.{told_sense}
 use Rattle.identity.specs.Table.{cut, spell}
 use Rattle.scsi_types.specs.ReplyValue.{ReplyValue, good}
+use Rattle.scsi_types.specs.Sense.{sense_bytes}
 use Rattle.scsi_types.specs.Nexus.{Nexus}
 use Rattle.scsi_types.specs.declared.names.Group.{Group}
 use Rattle.scsi_types.specs.declared.command.Command.{Command as ScsiCommand}
@@ -12,17 +17,18 @@ use Rattle.scsi_types.specs.declared.command.CdbFault.{CdbFault}
 use Rattle.unit_state.specs.declared.refusal.Refusal.{Refusal}
 use Rattle.unit_state.specs.declared.control.TheConstants.{LAST_COUNT}
 use Rattle.unit_state.specs.declared.sessions.TheConstants.{MOST_SESSIONS}
-use Rattle.unit_state.specs.declared.sessions.Attached.{Attached}
 use Rattle.unit_state.specs.State.{ControlValue, UnitState}
-use Rattle.unit_state.specs.Sessions.{next_of, passed, without}
+use Rattle.unit_state.specs.Sessions.{attached, session_of, next_of, group_of, first_pending, passed, ended, all_reset, without}
 use Rattle.unit_state.specs.Choice.{Choice, Fine}
 use Rattle.unit_state.specs.Medium.{Work, Finding, work_asked, MayChoose, MayFind, IsTorn, found, left, reply_by}
-use Rattle.unit_state.specs.Refusal.{Request, request, refusal, refusal_reply, refusal_control}
+use Rattle.unit_state.specs.Refusal.{Request, request, refusal, refusal_reply, refusal_control, tell}
 
--- A session attaches, or a command of a session is served: its serial in the session, the group by which it
--- was served, what it asks, its data, and what the device did.
+-- A session attaches, or ends; one resets the unit (SAM-5, logical unit reset); or a command of one is served: its
+-- serial in the session, the group by which it was served, what it asks, its data, and what the device did.
 pub data Entry : Type 0 where
   Attach : Nexus → Entry
+  Detach : ℕ → Entry
+  Reset : ℕ → Entry
   Command : ℕ → ℕ → Group → Result ScsiCommand CdbFault → List ℕ → Choice → Entry
 
 -- ---- what is possible
@@ -31,6 +37,11 @@ pub data Entry : Type 0 where
 pub record IsNext (c : ControlValue) (session serial : ℕ) : Type 0 where
   pub room : c.count < LAST_COUNT
   pub next : next_of c.sessions session ≡ Some serial
+
+-- this session is attached, and the history has room
+pub record IsAttached (c : ControlValue) (session : ℕ) : Type 0 where
+  pub room : c.count < LAST_COUNT
+  pub attached : IsSome (session_of c.sessions session)
 
 -- a new session has room; that of its nexus ends
 pub record HasRoom (c : ControlValue) (nexus : Nexus) : Type 0 where
@@ -56,41 +67,68 @@ pub record CanCome (claims : Bool) (s : UnitState) (r : Request) (serial : ℕ) 
 -- the entry is possible in this state, over a device whose type claims its contents or not
 abbrev pub IsPossible : Bool → UnitState → Entry → Type 0
 IsPossible claims s (Attach nexus) = HasRoom s.control nexus
+IsPossible claims s (Detach session) = IsAttached s.control session
+IsPossible claims s (Reset session) = IsAttached s.control session
 IsPossible claims s (Command session serial by asked bytes choice) = CanCome claims s (request session asked bytes) serial by choice
 
 -- ---- what is after an entry, and what it is answered
 
--- What a command returns that no rule refuses, where the medium found this: a medium command answers the finding.
-abbrev pub returned_by : ControlValue → ScsiCommand → Finding → ReplyValue
-returned_by c commands.ReadCapacity10 finding = good (spell (capacity_10 c.total))
-returned_by c (commands.ReadCapacity16 allocation) finding = good (cut allocation (spell (capacity_16 c.total)))
-returned_by c command finding = reply_by finding
+-- the data of a command that asks what the unit is, by the group of its session
+abbrev pub described : ControlValue → ℕ → ScsiCommand → List ℕ
+described c session (commands.Inquiry page allocation) =
+    cut allocation (spell (inquiry_data c.place (group_of c.sessions session) page))
+described c session (commands.ModeSense header control page allocation) =
+    cut allocation (spell (mode_data header control page))
+described c session (commands.ReportLuns select allocation) = cut allocation (spell (lun_list c.place select))
+described c session commands.ReadCapacity10 = spell (capacity_10 c.total)
+described c session (commands.ReadCapacity16 allocation) = cut allocation (spell (capacity_16 c.total))
+described c session command = []
+
+-- What a command returns that no rule refuses, where the medium found this: REQUEST SENSE its session's first
+-- attention as data, or that there is none (SPC-4, 6.39); a medium command answers the finding.
+abbrev pub returned_by : ControlValue → ℕ → ScsiCommand → Finding → ReplyValue
+returned_by c session (commands.RequestSense allocation) finding =
+    good (cut allocation (sense_bytes (told_sense (first_pending c.sessions session))))
+returned_by c session (commands.Read lba blocks fua) finding = reply_by finding
+returned_by c session (commands.Write lba blocks fua) finding = reply_by finding
+returned_by c session (commands.CompareAndWrite lba blocks fua) finding = reply_by finding
+returned_by c session (commands.SynchronizeCache lba blocks) finding = reply_by finding
+returned_by c session commands.TestUnitReady finding = good []
+returned_by c session command finding = good (described c session command)
 
 -- a CDB that asks for nothing is refused
-abbrev pub returned : ControlValue → Result ScsiCommand CdbFault → Finding → ReplyValue
-returned c (Ok command) finding = returned_by c command finding
-returned c (Err fault) finding = reply_by finding
+abbrev pub returned_asked : ControlValue → ℕ → Result ScsiCommand CdbFault → Finding → ReplyValue
+returned_asked c session (Ok command) finding = returned_by c session command finding
+returned_asked c session (Err fault) finding = reply_by finding
 
--- And what it leaves of all but the blocks: a medium command, all as it was.
+abbrev pub returned : ControlValue → Request → Finding → ReplyValue
+returned c r finding = returned_asked c r.session r.asked finding
+
+-- And what it leaves of all but the blocks: REQUEST SENSE has told an attention (SPC-4, 6.39), and any other all as it
+-- was.
+abbrev pub left_by : ControlValue → ℕ → ScsiCommand → ControlValue
+left_by c session (commands.RequestSense allocation) = tell c session
+left_by c session command = c
+
+abbrev pub left_asked : ControlValue → ℕ → Result ScsiCommand CdbFault → ControlValue
+left_asked c session (Ok command) = left_by c session command
+left_asked c session (Err fault) = c
+
 abbrev pub left_control : ControlValue → Request → Choice → ControlValue
-left_control c r choice = c
+left_control c r choice = left_asked c r.session r.asked
 
 -- a refusal has its answer, and changes what telling it changes
 abbrev pub reply_with : Option Refusal → ControlValue → Request → Finding → ReplyValue
 reply_with (Some refused) c r finding = refusal_reply refused
-reply_with None c r finding = returned c r.asked finding
+reply_with None c r finding = returned c r finding
 
 abbrev pub control_with : Option Refusal → ControlValue → Request → Choice → ControlValue
-control_with (Some refused) c r choice = refusal_control c refused
+control_with (Some refused) c r choice = refusal_control c r.session refused
 control_with None c r choice = left_control c r choice
 
 abbrev pub blocks_with : Option Refusal → List (List ℕ) → Work → Choice → List (List ℕ)
 blocks_with (Some refused) blocks work choice = blocks
 blocks_with None blocks work choice = left blocks work choice
-
--- a session of this nexus, with this id, that had no command yet
-abbrev pub attached : Nexus → ℕ → Attached
-attached nexus id = record { id = id; port = nexus.port; group = nexus.group; next = 1 }
 
 -- one command more of a session, and one entry more
 abbrev pub pass : ControlValue → ℕ → ControlValue
@@ -100,6 +138,8 @@ pass c session = record c { sessions = passed c.sessions session; count = c.coun
 abbrev pub control_after : ControlValue → Entry → ControlValue
 control_after c (Attach nexus) =
     record c { sessions = without nexus c.sessions ++ attached nexus c.count ∷ []; count = c.count + 1 }
+control_after c (Detach session) = record c { sessions = ended c.sessions session; count = c.count + 1 }
+control_after c (Reset session) = record c { sessions = all_reset c.sessions session; count = c.count + 1 }
 control_after c (Command session serial by asked bytes choice) =
     let r = request session asked bytes in
     pass (control_with (refusal c r) c r choice) session
@@ -107,6 +147,8 @@ control_after c (Command session serial by asked bytes choice) =
 -- the blocks of a disk after an entry
 abbrev pub blocks_after : UnitState → Entry → List (List ℕ)
 blocks_after s (Attach nexus) = s.blocks
+blocks_after s (Detach session) = s.blocks
+blocks_after s (Reset session) = s.blocks
 blocks_after s (Command session serial by asked bytes choice) =
     blocks_with (refusal s.control (request session asked bytes)) s.blocks (work_asked asked bytes) choice
 
@@ -117,6 +159,8 @@ after s entry = record { control = control_after s.control entry; blocks = block
 -- what an entry over a disk is answered: a command's reply
 abbrev pub reply_to : UnitState → Entry → Option ReplyValue
 reply_to s (Attach nexus) = None
+reply_to s (Detach session) = None
+reply_to s (Reset session) = None
 reply_to s (Command session serial by asked bytes choice) =
     let r = request session asked bytes in
     Some (reply_with (refusal s.control r) s.control r (found s.blocks (work_asked asked bytes) choice))
@@ -126,7 +170,7 @@ reply_to s (Command session serial by asked bytes choice) =
 pub record IsReturned (claims : Bool) (s : UnitState) (r : Request) (choice : Choice) (reply : ReplyValue) : Type 0 where
   pub finding : Finding
   pub may : MayFind (work_asked r.asked r.bytes) choice finding
-  pub is : reply ≡ returned s.control r.asked finding
+  pub is : reply ≡ returned s.control r finding
   pub told : IsTrue claims → finding ≡ found s.blocks (work_asked r.asked r.bytes) choice
 
 abbrev pub IsReplyWith : Option Refusal → Bool → UnitState → Request → Choice → ReplyValue → Type 0
@@ -135,6 +179,8 @@ IsReplyWith None claims s r choice reply = IsReturned claims s r choice reply
 
 abbrev pub IsReplyTo : Bool → UnitState → Entry → ReplyValue → Type 0
 IsReplyTo claims s (Attach nexus) reply = ⊥
+IsReplyTo claims s (Detach session) reply = ⊥
+IsReplyTo claims s (Reset session) reply = ⊥
 IsReplyTo claims s (Command session serial by asked bytes choice) reply =
     let r = request session asked bytes in
     IsReplyWith (refusal s.control r) claims s r choice reply

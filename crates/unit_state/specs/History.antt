@@ -4,7 +4,7 @@ use Rattle.std.specs.List.{count_by}
 use Rattle.scsi_types.specs.ReplyValue.{ReplyValue}
 use Rattle.unit_state.specs.State.{UnitState}
 use Rattle.unit_state.specs.Choice.{is_fine}
-use Rattle.unit_state.specs.Entry.{Entry, Attach, Command, IsPossible, IsReplyTo, after, reply_to}
+use Rattle.unit_state.specs.Entry.{Entry, Attach, Detach, Reset, Command, IsPossible, IsReplyTo, after, reply_to}
 
 -- the state after a history that began in this state
 abbrev pub state_after : UnitState → List Entry → UnitState
@@ -31,6 +31,8 @@ IsReplyAt claims s (e ∷ history) (suc i) reply = IsReplyAt claims (after s e) 
 -- how many entries of a history tell of a failure
 abbrev pub has_failed : Entry → Bool
 has_failed (Attach nexus) = false
+has_failed (Detach session) = false
+has_failed (Reset session) = false
 has_failed (Command session serial by asked bytes choice) = not (is_fine choice)
 
 abbrev pub failed_entries : List Entry → ℕ

@@ -6,7 +6,7 @@ use Rattle.unit_state.specs.State.{UnitState}
 use Rattle.unit_state.specs.Choice.{Choice}
 use Rattle.unit_state.specs.Medium.{Finding, found, work_asked}
 use Rattle.unit_state.specs.Refusal.{Request, request, refusal}
-use Rattle.unit_state.specs.Entry.{Entry, Attach, Command, IsPossible, IsReplyTo, IsReplyWith, after, reply_to, reply_with, returned}
+use Rattle.unit_state.specs.Entry.{Entry, Attach, Detach, Reset, Command, IsPossible, IsReplyTo, IsReplyWith, after, reply_to, reply_with, returned}
 use Rattle.unit_state.specs.History.{state_after, IsLegal, reply_at, IsReplyAt}
 
 -- its state is that after the last entry
@@ -37,10 +37,12 @@ reply_at-before s (e ∷ history) entry (suc i) lt = reply_at-before (after s e)
 decided_with : (refused : Option Refusal) (s : UnitState) (r : Request) (choice : Choice) (reply : ReplyValue) → IsReplyWith refused true s r choice reply
     → reply_with refused s.control r (found s.blocks (work_asked r.asked r.bytes) choice) ≡ reply
 decided_with (Some a) s r choice reply is = sym is
-decided_with None s r choice reply is = ap (returned s.control r.asked) (sym (is.told refl)) ∙ sym is.is
+decided_with None s r choice reply is = ap (returned s.control r) (sym (is.told refl)) ∙ sym is.is
 
 decided_by : (s : UnitState) (entry : Entry) (reply : ReplyValue) → IsReplyTo true s entry reply → reply_to s entry ≡ Some reply
 decided_by s (Attach nexus) reply is = absurd is
+decided_by s (Detach session) reply is = absurd is
+decided_by s (Reset session) reply is = absurd is
 decided_by s (Command session serial by_group asked bytes choice) reply is =
     let r = request session asked bytes in
     ap (λ (a : ReplyValue). let o : Option ReplyValue = Some a in o) (decided_with (refusal s.control r) s r choice reply is)

@@ -4,6 +4,7 @@ pub mod Entry
 pub mod History
 pub mod HistoryLaws
 pub mod Medium
+pub mod Ops
 pub mod Places
 pub mod Refusal
 pub mod Route

@@ -34,8 +34,12 @@ work_of (commands.Write lba blocks fua) bytes = Writes (record { lba = lba; bloc
 work_of (commands.CompareAndWrite lba blocks fua) bytes = Compares (record { lba = lba; blocks = blocks }) bytes fua
 work_of (commands.SynchronizeCache lba blocks) bytes = Flushes (record { lba = lba; blocks = blocks })
 work_of commands.TestUnitReady bytes = Nothing
+work_of (commands.RequestSense allocation) bytes = Nothing
+work_of (commands.Inquiry page allocation) bytes = Nothing
+work_of (commands.ModeSense header control page allocation) bytes = Nothing
 work_of commands.ReadCapacity10 bytes = Nothing
 work_of (commands.ReadCapacity16 allocation) bytes = Nothing
+work_of (commands.ReportLuns select allocation) bytes = Nothing
 
 abbrev pub work_asked : Result Command CdbFault → List ℕ → Work
 work_asked (Ok command) bytes = work_of command bytes

@@ -1,19 +1,22 @@
 -- The place of a session among those that are attached.
-use Rattle.std.specs.Prelude.{◌≡◌, ℕ, ◌+◌, ◌<◌, List, length, slice_get, slice_set, IfSome, IsSome}
-use Rattle.std.specs.Option.{option_map}
+use Rattle.std.specs.Prelude.{◌≡◌, ℕ, ◌<◌, List, length, slice_get, slice_set, IfSome, IsSome}
 use Rattle.unit_state.specs.declared.sessions.Attached.{Attached}
-use Rattle.unit_state.specs.Sessions.{next_of, passed}
+use Rattle.unit_state.specs.State.{ControlValue}
+use Rattle.unit_state.specs.Sessions.{session_of, changed}
 
-abbrev pub pass_one : Attached → Attached
-pass_one a = record a { next = a.next + 1 }
-
--- new is old, where the session at this place has had one command more
-abbrev pub IsPassedAt : List Attached → ℕ → List Attached → Type 0
-IsPassedAt old at new = IfSome (slice_get old at) (λ a. new ≡ slice_set old at (pass_one a))
+-- new is old, where the session at this place changed so
+abbrev pub IsChangedAt : (Attached → Attached) → List Attached → ℕ → List Attached → Type 0
+IsChangedAt f old at new = IfSome (slice_get old at) (λ a. new ≡ slice_set old at (f a))
 
 -- the first place of the session
 pub record IsPlaceOf (sessions : List Attached) (id at : ℕ) : Type 0 where
   pub below : at < length sessions
   pub there : IsSome (slice_get sessions at)
-  pub found : next_of sessions id ≡ option_map (λ a. a.next) (slice_get sessions at)
-  pub passes : IfSome (slice_get sessions at) (λ a. passed sessions id ≡ slice_set sessions at (pass_one a))
+  pub found : session_of sessions id ≡ slice_get sessions at
+  pub changes : (f : Attached → Attached) → IfSome (slice_get sessions at) (λ a. changed f sessions id ≡ slice_set sessions at (f a))
+
+-- what serving a command leaves as it was, whatever else changes
+pub record Stays (old new : ControlValue) (session at : ℕ) : Type 0 where
+  pub total : new.total ≡ old.total
+  pub count : new.count ≡ old.count
+  pub place : IsPlaceOf new.sessions session at

@@ -1,24 +1,87 @@
--- The sessions that are attached to a unit: a map from a session's id to its nexus and its next serial.
-use Rattle.std.specs.Prelude.{ℕ, ◌+◌, Bool, true, false, not, ◌&&◌, nat_eq, if◌then◌else◌, List, [], ◌∷◌, filter, Option, Some, None}
+-- The sessions that are attached to a unit: a map from a session's id to its nexus, its next serial, and the unit
+-- attention conditions that wait to be told to it (SAM-5, 5.14).
+use Rattle.std.specs.Prelude.{ℕ, ◌+◌, Bool, true, false, not, ◌&&◌, nat_eq, if◌then◌else◌, List, [], ◌∷◌, drop, filter, map, slice_get, Option, Some, None}
+use Rattle.std.specs.Option.{option_map}
 use lib.Pointwise.{pointwise}
 use Rattle.scsi_types.specs.Nexus.{Port, Nexus}
+use Rattle.scsi_types.specs.declared.attention.UnitAttention.{UnitAttention}
+use Rattle.scsi_types.specs.declared.attention.UnitAttention.TheVariants.{PowerOn}
 use Rattle.scsi_types.specs.declared.names.Group.{Group}
 use Rattle.scsi_types.specs.declared.names.Group.TheVariants.{One, Two}
 use Rattle.unit_state.specs.declared.sessions.Attached.{Attached}
 
--- The map's entries, by ascending id. One of them: the id, the nexus, and the serial of the next command.
+-- The map's entries, by ascending id. One of them: the id, the nexus, the serial of the next command, and what is
+-- pending.
 abbrev pub nexus_of : Attached → Nexus
 nexus_of a = record { port = a.port; group = a.group }
 
--- the serial of the session's next command, where it is attached
-abbrev pub next_of : List Attached → ℕ → Option ℕ
-next_of [] id = None
-next_of (a ∷ rest) id = if nat_eq a.id id then Some a.next else next_of rest id
+-- a session of this nexus, with this id, that had no command yet: it is told of the power on (SAM-5, 5.14)
+abbrev pub attached : Nexus → ℕ → Attached
+attached nexus id = record { id = id; port = nexus.port; group = nexus.group; next = 1; pending = PowerOn ∷ [] }
 
--- the session has had one command more
+-- the session of this id
+abbrev pub session_of : List Attached → ℕ → Option Attached
+session_of [] id = None
+session_of (a ∷ rest) id = if nat_eq a.id id then Some a else session_of rest id
+
+-- the serial of its next command, where it is attached
+abbrev pub next_of : List Attached → ℕ → Option ℕ
+next_of sessions id = option_map (λ a. a.next) (session_of sessions id)
+
+-- what is pending for it, the oldest first; nothing is for a session that is not attached
+abbrev pub pending_in : Option Attached → List UnitAttention
+pending_in None = []
+pending_in (Some a) = a.pending
+
+abbrev pub pending_of : List Attached → ℕ → List UnitAttention
+pending_of sessions id = pending_in (session_of sessions id)
+
+-- the condition that it is told next
+abbrev pub first_pending : List Attached → ℕ → Option UnitAttention
+first_pending sessions id = slice_get (pending_of sessions id) 0
+
+-- the group by which its commands come; one that is not attached sends none
+abbrev pub group_in : Option Attached → Group
+group_in None = One
+group_in (Some a) = a.group
+
+abbrev pub group_of : List Attached → ℕ → Group
+group_of sessions id = group_in (session_of sessions id)
+
+-- ---- one session changes
+
+abbrev pub changed : (Attached → Attached) → List Attached → ℕ → List Attached
+changed f [] id = []
+changed f (a ∷ rest) id = if nat_eq a.id id then f a ∷ rest else a ∷ changed f rest id
+
+-- it had one command more
+abbrev pub pass_one : Attached → Attached
+pass_one a = record a { next = a.next + 1 }
+
 abbrev pub passed : List Attached → ℕ → List Attached
-passed [] id = []
-passed (a ∷ rest) id = if nat_eq a.id id then record a { next = a.next + 1 } ∷ rest else a ∷ passed rest id
+passed sessions id = changed pass_one sessions id
+
+-- it was told its first condition, which is pending no more
+abbrev pub tell_one : Attached → Attached
+tell_one a = record a { pending = drop 1 a.pending }
+
+abbrev pub told : List Attached → ℕ → List Attached
+told sessions id = changed tell_one sessions id
+
+-- ---- all sessions change
+
+-- the session of this id ended
+abbrev pub ended : List Attached → ℕ → List Attached
+ended sessions id = filter (λ a. not (nat_eq a.id id)) sessions
+
+-- the unit was reset by the session of this id: every other one is to be told so, and of nothing before it
+abbrev pub heard_reset : ℕ → Attached → Attached
+heard_reset id a = if nat_eq a.id id then a else record a { pending = PowerOn ∷ [] }
+
+abbrev pub all_reset : List Attached → ℕ → List Attached
+all_reset sessions id = map (heard_reset id) sessions
+
+-- ---- the session of a nexus
 
 -- two names of one port
 abbrev pub same_port : Port → Port → Bool
@@ -30,7 +93,6 @@ same_group One Two = false
 same_group Two One = false
 same_group Two Two = true
 
--- the session of this nexus
 abbrev pub is_of : Nexus → Attached → Bool
 is_of nexus a = same_group a.group nexus.group && same_port a.port nexus.port
 

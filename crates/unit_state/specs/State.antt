@@ -24,6 +24,9 @@ pub record UnitState : Type 0 where
   pub control : ControlValue
   pub blocks : List (List ℕ)
 
+abbrev pub unit_of : ControlValue → List (List ℕ) → UnitState
+unit_of control blocks = record { control = control; blocks = blocks }
+
 -- the preferred group of a unit (SPC-4, 5.15.2.1): the first for the units of even number
 abbrev pub preferred : ℕ → Group
 preferred unit = if nat_eq (unit % 2) 0 then One else Two

@@ -33,12 +33,20 @@ IsRouted c session serial by Gone = IsNext c session serial → ⊥
 IsRouted c session serial by (Moved owner) = IsNext c session serial × (by ≢ c.owner) × (owner ≡ c.owner)
 IsRouted c session serial by NoMemory = IsNext c session serial × (by ≡ c.owner)
 
+-- a command that asks what the unit is
+abbrev pub is_describing : ScsiCommand → Bool
+is_describing (commands.Inquiry page allocation) = true
+is_describing (commands.ModeSense header control page allocation) = true
+is_describing (commands.ReportLuns select allocation) = true
+is_describing commands.ReadCapacity10 = true
+is_describing (commands.ReadCapacity16 allocation) = true
+is_describing command = false
+
 -- a command whose reply has data takes memory for them
 abbrev pub returns_data : ScsiCommand → Bool
 returns_data (commands.Read lba blocks fua) = true
-returns_data commands.ReadCapacity10 = true
-returns_data (commands.ReadCapacity16 allocation) = true
-returns_data command = false
+returns_data (commands.RequestSense allocation) = true
+returns_data command = is_describing command
 
 abbrev pub ReturnsData : Result ScsiCommand CdbFault → Type 0
 ReturnsData (Ok command) = IsTrue (returns_data command)

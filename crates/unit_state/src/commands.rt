@@ -1,72 +1,100 @@
 //! What a command is answered.
 ghost use Rattle.std.specs.Prelude.{◌≡◌, ℕ, List, [], true, Bool, IsTrue, IfOk, OnErr, Ok, length};
-ghost use Rattle.block_file.specs.Disk.{Only};
 ghost use Rattle.block_file.specs.Failures.{Tells};
-ghost use Rattle.scsi_types.specs.declared.status.Status.TheVariants.{Good};
 ghost use Rattle.unit_state.specs.Answer.{IsAnswer, IsServed, Lasts};
 ghost use Rattle.unit_state.specs.Choice.{IsFine, choice_of};
-ghost use Rattle.unit_state.specs.Medium.{Fits, reply_by, work_of, work_asked};
-ghost use Rattle.unit_state.specs.Refusal.{refusal, request};
+ghost use Rattle.unit_state.specs.Medium.{Done, Fits, reply_by, work_of, work_asked};
+ghost use Rattle.identity.specs.SenseData.{told_sense};
+ghost use Rattle.identity.specs.Table.{cut};
+ghost use Rattle.scsi_types.specs.Sense.{sense_bytes};
+ghost use Rattle.unit_state.specs.Entry.{described};
+ghost use Rattle.unit_state.specs.Sessions.{first_pending};
+ghost use Rattle.unit_state.specs.Places.{IsPlaceOf, Stays};
+ghost use Rattle.unit_state.specs.Refusal.{refusal, refusal_control, request, tell};
+ghost use Rattle.unit_state.specs.State.{unit_of};
 ghost use Rattle.unit_state.specs.Step.{OnRefusal, ReturnsData, TakesMemory};
 ghost use Rattle.unit_state.specs.Worked.{finding_at};
 
 use crate::control::Control;
 use crate::medium::{compare, read, write};
+use crate::refusal::Refusal;
+use crate::sessions::Sender;
 use block_file::{BLOCK_LENGTH, Blocks};
 use compare_write::{MediumEnd, sync};
-use identity::{read_capacity_10, read_capacity_16};
+use identity::{
+    inquiry, mode_sense, read_capacity_10, read_capacity_16, report_luns, request_sense,
+};
 use scsi_types::{Asked, Command, NoMemory, Reply, Sense};
 use std::alloc::Global;
 
 /// Answers a command: the refusal of the first rule that applies, else what the command returns. Memory is taken for
-/// the data of a reply alone, before the device is asked.
+/// the data of a reply alone, before anything changes.
 pub fn answer<B: Blocks>(
     device: &mut B,
-    control: &Control,
+    control: &mut Control,
     alloc: Global,
+    sender: Sender,
     asked: Asked,
     bytes: &[u8],
 ) -> Result<Reply, NoMemory>
-    requires { control.now.total ≡ B.size device.old }
+    requires total { control.old.total ≡ B.size device.old }
+    requires place { IsPlaceOf control.old.sessions sender.session sender.at }
     ensures size { B.size device.new ≡ B.size device.old }
-    ensures err { OnErr result (device.new ≡ device.old) }
-    ensures memory { (session : ℕ) → OnErr result (TakesMemory control.now (request session asked bytes.now)) }
-    ensures answered { IfOk result (IsAnswer B.claims control.now (B.contents device.old) (B.contents device.new) asked bytes.now) }
-    ensures unreached { (session : ℕ) → OnRefusal (refusal control.now (request session asked bytes.now)) (device.new ≡ device.old) }
+    ensures stays { Stays control.old control.new sender.session sender.at }
+    ensures err { OnErr result ((device.new ≡ device.old) × (control.new ≡ control.old)) }
+    ensures memory { OnErr result (TakesMemory control.old (request sender.session asked bytes.now)) }
+    ensures answered { IfOk result (IsAnswer B.claims (unit_of control.old (B.contents device.old)) (unit_of control.new (B.contents device.new))
+        (request sender.session asked bytes.now)) }
+    ensures unreached { OnRefusal (refusal control.old (request sender.session asked bytes.now)) (device.new ≡ device.old) }
     ensures fine { IfOk result (λ reply. Tells (B.failures device.old) (B.failures device.new) (IsFine (choice_of reply (B.contents device.new)))) }
     ensures lasts { IsTrue B.claims → IfOk result (Lasts (B.contents device.new) (B.may_hold device.new) (work_asked asked bytes.now)) }
 {
-    let command = match control.admit(asked, bytes) {
+    let command = match control.admit(sender, asked, bytes) {
         Ok(command) => command,
-        Err(refusal) => return Ok(refusal.reply(alloc)),
+        Err(refusal) => {
+            refuse(control, sender, refusal);
+            return Ok(refusal.reply(alloc));
+        }
     };
-    serve(device, control, alloc, command, bytes)
+    serve(device, control, alloc, sender, command, bytes)
+}
+
+/// What telling a refusal changes.
+fn refuse(control: &mut Control, sender: Sender, refusal: Refusal)
+    requires { IsPlaceOf control.old.sessions sender.session sender.at }
+    ensures told { control.new ≡ refusal_control control.old sender.session refusal }
+    ensures stays { Stays control.old control.new sender.session sender.at }
+{
+    match refusal {
+        Refusal::Attention(_) => control.tell(sender),
+        Refusal::Check(_) => {}
+    }
 }
 
 /// Serves a command that no rule refuses.
 fn serve<B: Blocks>(
     device: &mut B,
-    control: &Control,
+    control: &mut Control,
     alloc: Global,
+    sender: Sender,
     command: Command,
     bytes: &[u8],
 ) -> Result<Reply, NoMemory>
-    requires { Fits (B.size device.old) (work_of command bytes.now) }
+    requires fits { Fits (B.size device.old) (work_of command bytes.now) }
+    requires place { IsPlaceOf control.old.sessions sender.session sender.at }
     ensures size { B.size device.new ≡ B.size device.old }
-    ensures err { OnErr result (device.new ≡ device.old) }
+    ensures stays { Stays control.old control.new sender.session sender.at }
+    ensures err { OnErr result ((device.new ≡ device.old) × (control.new ≡ control.old)) }
     ensures memory { OnErr result (ReturnsData (Ok command)) }
-    ensures served { IfOk result (IsServed B.claims control.now (B.contents device.old) (B.contents device.new) command bytes.now) }
+    ensures served { IfOk result (IsServed B.claims (unit_of control.old (B.contents device.old)) (unit_of control.new (B.contents device.new)) sender.session command bytes.now) }
     ensures fine { IfOk result (λ reply. Tells (B.failures device.old) (B.failures device.new) (IsFine (choice_of reply (B.contents device.new)))) }
     ensures lasts { IsTrue B.claims → IfOk result (Lasts (B.contents device.new) (B.may_hold device.new) (work_of command bytes.now)) }
 {
     match command {
         Command::TestUnitReady => Ok(Reply::good(Vec::new(alloc))),
-        Command::ReadCapacity10 => Ok(Reply::good(read_capacity_10(alloc, control.total())?)),
-        Command::ReadCapacity16 { allocation } => Ok(Reply::good(read_capacity_16(
-            alloc,
-            control.total(),
-            allocation,
-        )?)),
+        Command::RequestSense { allocation } => {
+            Ok(Reply::good(sense(control, alloc, sender, allocation)?))
+        }
         Command::Read { lba, blocks, fua } => {
             let mut out = vec![in alloc; 0u8; BLOCK_LENGTH * usize::from(blocks)]?;
             let end = read(device, lba as u32, blocks, fua, &mut out);
@@ -84,6 +112,62 @@ fn serve<B: Blocks>(
             let end = sync(device);
             Ok(medium_reply(alloc, end, Vec::new(alloc)))
         }
+        other => Ok(Reply::good(describe(control, alloc, sender, other)?)),
+    }
+}
+
+/// The data of REQUEST SENSE: tells a session its first attention, or that there is none.
+fn sense(
+    control: &mut Control,
+    alloc: Global,
+    sender: Sender,
+    allocation: u8,
+) -> Result<Vec<u8>, NoMemory>
+    requires { IsPlaceOf control.old.sessions sender.session sender.at }
+    ensures sense { IfOk result (λ v. v.items ≡ cut allocation (sense_bytes (told_sense (first_pending control.old.sessions sender.session)))) }
+    ensures told { IfOk result (λ v. control.new ≡ tell control.old sender.session) }
+    ensures stays { Stays control.old control.new sender.session sender.at }
+    ensures err { OnErr result (control.new ≡ control.old) }
+{
+    let sense = request_sense(alloc, control.first(sender), allocation)?;
+    control.tell(sender);
+    Ok(sense)
+}
+
+/// The data of a command that asks what the unit is.
+fn describe(
+    control: &Control,
+    alloc: Global,
+    sender: Sender,
+    command: Command,
+) -> Result<Vec<u8>, NoMemory>
+    requires { IsPlaceOf control.now.sessions sender.session sender.at }
+    ensures { IfOk result (λ v. v.items ≡ described control.now sender.session command) }
+{
+    match command {
+        Command::Inquiry { page, allocation } => {
+            inquiry(
+                alloc,
+                control.place(),
+                control.group(sender),
+                page,
+                allocation,
+            )
+        }
+        Command::ModeSense {
+            header,
+            control: values,
+            page,
+            allocation,
+        } => mode_sense(alloc, header, values, page, allocation),
+        Command::ReportLuns { select, allocation } => {
+            report_luns(alloc, control.place(), select, allocation)
+        }
+        Command::ReadCapacity10 => read_capacity_10(alloc, control.total()),
+        Command::ReadCapacity16 { allocation } => {
+            read_capacity_16(alloc, control.total(), allocation)
+        }
+        _ => Ok(Vec::new(alloc)),
     }
 }
 

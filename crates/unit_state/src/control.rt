@@ -1,14 +1,23 @@
 //! All of a unit but its device.
-ghost use Rattle.std.specs.Prelude.{◌≡◌, ◌+◌, ℕ, ◌<◌, ◌≤◌, ◌↔◌, ◌&&◌, nat_lt, nat_le, List, length, Some, None, IfOk, OnErr, IsErr, MatchResult};
+ghost use Rattle.std.specs.Prelude.{◌≡◌, ◌+◌, ℕ, ◌<◌, ◌≤◌, ◌↔◌, ◌&&◌, nat_lt, nat_le, List, length, Option, Some, None, Ok, IfOk, OnErr, IsErr, MatchResult};
 ghost use Rattle.std.specs.Bool.{MatchBool};
-ghost use Rattle.scsi_types.specs.Sense.{lba_out_of_range};
+ghost use Rattle.scsi_types.specs.Sense.{lba_out_of_range, saving_parameters_not_supported};
 ghost use Rattle.unit_state.specs.Medium.{range_of, work_of};
-ghost use Rattle.unit_state.specs.Refusal.{range_rule};
+ghost use Rattle.unit_state.specs.Places.{IsPlaceOf};
+ghost use Rattle.unit_state.specs.Refusal.{range_by, saved_by};
 ghost use Rattle.unit_state.specs.State.{preferred};
 
+use crate::ops::{kind_asked, passes_attention};
 use crate::refusal::Refusal;
-use crate::sessions::{Attached, MOST_SESSIONS, SessionId, pass_at, place_of, replace, staying};
-use scsi_types::{Asked, CdbFault, Command, Group, NoMemory, Place, PortName, Sense, need};
+use crate::sessions::{
+    Attached, MOST_SESSIONS, Sender, SessionId, end, pass_at, place_of, replace, reset, staying,
+    tell_at,
+};
+use attentions::Pending;
+use scsi_types::{
+    Asked, CdbFault, Command, Group, NoMemory, PageControl, Place, PortName, Sense, UnitAttention,
+    need,
+};
 use std::alloc::Global;
 use std::marker::Model;
 use thiserror::Error;
@@ -24,6 +33,11 @@ pub enum AttachFault {
     TooManySessions,
 }
 
+/// The session is not attached, or the history has its last length.
+#[derive(Clone, Copy, Debug, PartialEq, Eq, Error)]
+#[error("the session is gone")]
+pub struct Gone;
+
 /// Where a command goes.
 #[derive(Clone, Copy, Debug, PartialEq, Eq)]
 pub enum Route {
@@ -35,7 +49,7 @@ pub enum Route {
     At(usize),
 }
 
-/// All of a unit but its device: who is attached, and who owns it.
+/// All of a unit but its device: who is attached and what each is to be told, and who owns it.
 #[derive(Drop)]
 pub struct Control {
     place: Place,
@@ -59,9 +73,11 @@ impl Model for Control {
 impl Control {
     ghost use Rattle.scsi_types.specs.Nexus.{Port, Nexus};
     ghost use Rattle.unit_state.specs.State.{opening_control};
-    ghost use Rattle.unit_state.specs.Entry.{Attach, HasRoom, control_after, pass};
-    ghost use Rattle.unit_state.specs.Places.{IsPlaceOf};
+    ghost use Rattle.unit_state.specs.Entry.{Attach, Detach, Reset, HasRoom, IsAttached, control_after, pass};
+    ghost use Rattle.unit_state.specs.Places.{Stays};
+    ghost use Rattle.unit_state.specs.Refusal.{attention_rule, request, tell};
     ghost use Rattle.unit_state.specs.Route.{IsAdmitted, IsRefused, IsRouteOf};
+    ghost use Rattle.unit_state.specs.Sessions.{group_of, first_pending};
 
     /// As a unit of so many blocks opens: its preferred group owns it, and no session is attached.
     pub fn new(alloc: Global, place: Place, total: u32) -> Result<Control, NoMemory>
@@ -90,6 +106,7 @@ impl Control {
         }
         let id = self.count;
         let next = 1;
+        let pending = Pending::power_on();
         replace(
             &mut self.sessions,
             Attached {
@@ -97,26 +114,75 @@ impl Control {
                 port,
                 group,
                 next,
+                pending,
             },
         );
         self.count += 1;
         Ok(id)
     }
 
+    /// Ends a session. Takes no memory.
+    pub fn detach(&mut self, session: SessionId) -> Result<(), Gone>
+        ensures gone { IsErr result ↔ (IsAttached self.old session → ⊥) }
+        ensures after { IfOk result (λ done. self.new ≡ control_after self.old (Detach session)) }
+        ensures total { self.new.total ≡ self.old.total }
+        ensures err { OnErr result (self.new ≡ self.old) }
+    {
+        self.find(session)?;
+        end(&mut self.sessions, session);
+        self.count += 1;
+        Ok(())
+    }
+
+    /// Tells every other session of a reset that this session asked for. Takes no memory.
+    pub fn reset(&mut self, session: SessionId) -> Result<(), Gone>
+        ensures gone { IsErr result ↔ (IsAttached self.old session → ⊥) }
+        ensures after { IfOk result (λ done. self.new ≡ control_after self.old (Reset session)) }
+        ensures total { self.new.total ≡ self.old.total }
+        ensures err { OnErr result (self.new ≡ self.old) }
+    {
+        self.find(session)?;
+        reset(&mut self.sessions, session);
+        self.count += 1;
+        Ok(())
+    }
+
+    /// Where a session is, if it is attached and the history has room.
+    fn find(&self, session: SessionId) -> Result<usize, Gone>
+        ensures gone { IsErr result ↔ (IsAttached self.now session → ⊥) }
+        ensures place { IfOk result (IsPlaceOf self.now.sessions session) }
+        ensures room { IfOk result (λ at. self.now.count < LAST_COUNT) }
+    {
+        let Some(at) = place_of(&self.sessions, session) else {
+            return Err(Gone);
+        };
+        if self.count == LAST_COUNT {
+            return Err(Gone);
+        }
+        Ok(at)
+    }
+
     /// Where a command of a session goes that comes by this group.
     pub fn route(&self, session: SessionId, serial: u64, by: Group) -> Route
         ensures { IsRouteOf self.now session serial by result }
     {
-        let Some(at) = place_of(&self.sessions, session) else {
+        let Ok(at) = self.find(session) else {
             return Route::Gone;
         };
-        if self.sessions[at].next != serial || self.count == LAST_COUNT {
+        if self.sessions[at].next != serial {
             return Route::Gone;
         }
         if by != self.owner {
             return Route::Moved(self.owner);
         }
         Route::At(at)
+    }
+
+    /// The place of the unit.
+    pub fn place(&self) -> Place
+        ensures { result ≡ self.now.place }
+    {
+        self.place
     }
 
     /// How many blocks the unit has.
@@ -126,10 +192,41 @@ impl Control {
         self.total
     }
 
-    /// The command, where no rule refuses it: its data is there, and its range lies within the unit.
-    pub fn admit(&self, asked: Asked, bytes: &[u8]) -> Result<Command, Refusal>
-        ensures { MatchResult result (IsAdmitted self.now asked bytes.now) (IsRefused self.now asked bytes.now) }
+    /// The group by which a session's commands come.
+    pub fn group(&self, sender: Sender) -> Group
+        requires { IsPlaceOf self.now.sessions sender.session sender.at }
+        ensures { result ≡ group_of self.now.sessions sender.session }
     {
+        self.sessions[sender.at].group
+    }
+
+    /// The attention that a session is told next.
+    pub fn first(&self, sender: Sender) -> Option<UnitAttention>
+        requires { IsPlaceOf self.now.sessions sender.session sender.at }
+        ensures { result ≡ first_pending self.now.sessions sender.session }
+    {
+        self.sessions[sender.at].pending.first()
+    }
+
+    /// Tells a session its first attention, which is pending no more.
+    pub fn tell(&mut self, sender: Sender)
+        requires { IsPlaceOf self.old.sessions sender.session sender.at }
+        ensures told { self.new ≡ tell self.old sender.session }
+        ensures stays { Stays self.old self.new sender.session sender.at }
+    {
+        tell_at(&mut self.sessions, sender.at);
+    }
+
+    /// The command, where no rule refuses it: nothing else is to be told first, its data is there, and its range lies
+    /// within the unit.
+    pub fn admit(&self, sender: Sender, asked: Asked, bytes: &[u8]) -> Result<Command, Refusal>
+        requires { IsPlaceOf self.now.sessions sender.session sender.at }
+        ensures { let r = request sender.session asked bytes.now in
+            MatchResult result (IsAdmitted self.now r) (IsRefused self.now r) }
+    {
+        if let Some(refusal) = self.attention(sender, &asked) {
+            return Err(refusal);
+        }
         let command = match asked {
             Ok(command) => command,
             Err(CdbFault::UnknownOpcode) => return Err(Refusal::Check(Sense::INVALID_OPCODE)),
@@ -138,20 +235,35 @@ impl Control {
         if (bytes.len() as u64) < u64::from(need(&command)) {
             return Err(Refusal::Check(Sense::INVALID_FIELD_IN_CDB));
         }
+        if asks_saved(&command) {
+            return Err(Refusal::Check(Sense::SAVING_PARAMETERS_NOT_SUPPORTED));
+        }
         if !is_within(&command, self.total) {
             return Err(Refusal::Check(Sense::LBA_OUT_OF_RANGE));
         }
         Ok(command)
     }
 
-    /// Counts one command more of the session at a place.
-    pub fn pass(&mut self, at: usize)
-        requires place { at < length self.old.sessions }
+    /// What a session is to be told before this command is looked at.
+    fn attention(&self, sender: Sender, asked: &Asked) -> Option<Refusal>
+        requires { IsPlaceOf self.now.sessions sender.session sender.at }
+        ensures { (bytes : List ℕ) → result ≡ attention_rule self.now (request sender.session asked.now bytes) }
+    {
+        let attention = self.first(sender)?;
+        if passes_attention(kind_asked(asked)) {
+            return None;
+        }
+        Some(Refusal::Attention(attention))
+    }
+
+    /// Counts one command more of a session.
+    pub fn pass(&mut self, sender: Sender)
+        requires place { IsPlaceOf self.old.sessions sender.session sender.at }
         requires room { self.old.count < LAST_COUNT }
-        ensures passed { (id : ℕ) → IsPlaceOf self.old.sessions id at → self.new ≡ pass self.old id }
+        ensures passed { self.new ≡ pass self.old sender.session }
         ensures total { self.new.total ≡ self.old.total }
     {
-        pass_at(&mut self.sessions, at);
+        pass_at(&mut self.sessions, sender.at);
         self.count += 1;
     }
 }
@@ -167,12 +279,27 @@ fn preferred(unit: u8) -> Group
     }
 }
 
+/// Whether a command asks for saved values of mode pages.
+fn asks_saved(command: &Command) -> bool
+    ensures { MatchBool result
+        (saved_by (Ok command.now) ≡ Some (Refusal.Check saving_parameters_not_supported))
+        (saved_by (Ok command.now) ≡ None) }
+{
+    match command {
+        Command::ModeSense {
+            control: PageControl::Saved,
+            ..
+        } => true,
+        _ => false,
+    }
+}
+
 /// Whether the range of a command lies within a unit of so many blocks, its LBA too where it is empty (SBC-3, READ
 /// (10) command). A command without a range does.
 fn is_within(command: &Command, total: u32) -> bool
     ensures { (bytes : List ℕ) → MatchBool result
-        (range_rule total (range_of (work_of command.now bytes)) ≡ None)
-        (range_rule total (range_of (work_of command.now bytes)) ≡ Some (Refusal.Check lba_out_of_range)) }
+        (range_by total (range_of (work_of command.now bytes)) ≡ None)
+        (range_by total (range_of (work_of command.now bytes)) ≡ Some (Refusal.Check lba_out_of_range)) }
 {
     match command {
         Command::Read { lba, blocks, .. }

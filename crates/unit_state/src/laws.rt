@@ -1,14 +1,20 @@
 //! What the model of a unit says, in a storage engineer's words.
-ghost use Rattle.std.specs.Prelude.{◌≡◌, ◌*◌, ◌<◌, ◌↔◌, ℕ, Bool, true, List, [], ◌∷◌, ◌++◌, length, take, Option, Some, None, Ok, Result};
-ghost use Rattle.scsi_types.specs.ReplyValue.{ReplyValue, good};
+ghost use Rattle.std.specs.Prelude.{◌≡◌, ◌≢◌, IsSome, IsTrue, false, ◌*◌, ◌<◌, ◌↔◌, ℕ, Bool, true, List, [], ◌∷◌, ◌++◌, length, take, Option, Some, None, Ok, Result};
+ghost use Rattle.scsi_types.specs.ReplyValue.{ReplyValue, check, good};
 ghost use Rattle.scsi_types.specs.declared.names.Group.{Group};
 ghost use Rattle.scsi_types.specs.declared.command.Command.{Command as ScsiCommand};
 ghost use Rattle.scsi_types.specs.declared.command.Command.TheVariants.{Read, Write};
 ghost use Rattle.scsi_types.specs.declared.command.CdbFault.{CdbFault};
-ghost use Rattle.unit_state.specs.State.{UnitState};
+ghost use Rattle.scsi_types.specs.Attention.{attention_sense};
+ghost use Rattle.scsi_types.specs.declared.attention.UnitAttention.{UnitAttention as Condition};
+ghost use Rattle.scsi_types.specs.declared.attention.UnitAttention.TheVariants.{PowerOn};
+ghost use Rattle.attentions.specs.Queue.{is_pending, without_repeats};
+ghost use Rattle.unit_state.specs.Ops.{kind_asked, passes_attention};
+ghost use Rattle.unit_state.specs.Sessions.{session_of, first_pending, pending_of};
+ghost use Rattle.unit_state.specs.State.{ControlValue, UnitState};
 ghost use Rattle.unit_state.specs.Choice.{Choice, Fine};
 ghost use Rattle.unit_state.specs.Refusal.{refusal, request};
-ghost use Rattle.unit_state.specs.Entry.{Entry, Command, IsPossible, IsNext, after, reply_to};
+ghost use Rattle.unit_state.specs.Entry.{Entry, Command, Detach, Reset, IsPossible, IsNext, after, blocks_after, control_after, reply_to};
 ghost use Rattle.unit_state.specs.History.{state_after, IsLegal, IsReplyAt, reply_at};
 
 /// One entry more of a history changes the state that the history gives, and is possible and answered in that
@@ -28,14 +34,15 @@ pub fn a_disk_decides_the_reply()
     ensures { (s : UnitState) (history : List Entry) (i : ℕ) (reply : ReplyValue) → IsReplyAt true s history i reply → reply_at s history i ≡ Some reply }
 {}
 
-/// Where nothing refuses a WRITE and the device does not fail, it is GOOD, and a READ of the same range gives the
-/// bytes that were written, to whatever session (SBC-3, READ (10) and WRITE (10) commands).
+/// Where nothing refuses a WRITE and the device does not fail, it is GOOD, and a READ of the same range that nothing
+/// refuses gives the bytes that were written, to whatever session (SBC-3, READ (10) and WRITE (10) commands).
 pub fn a_read_gives_what_was_written()
     ensures write { (s : UnitState) (session serial : ℕ) (by : Group) (lba blocks : ℕ) (fua : Bool) (bytes : List ℕ)
         → refusal s.control (request session (Ok (Write lba blocks fua)) bytes) ≡ None
         → reply_to s (Command session serial by (Ok (Write lba blocks fua)) bytes Fine) ≡ Some (good []) }
     ensures read { (s : UnitState) (session serial : ℕ) (by : Group) (reader next : ℕ) (through : Group) (lba blocks : ℕ) (fua past : Bool) (bytes none : List ℕ)
         → length s.blocks ≡ s.control.total → refusal s.control (request session (Ok (Write lba blocks fua)) bytes) ≡ None
+        → refusal (after s (Command session serial by (Ok (Write lba blocks fua)) bytes Fine)).control (request reader (Ok (Read lba blocks past)) none) ≡ None
         → reply_to (after s (Command session serial by (Ok (Write lba blocks fua)) bytes Fine)) (Command reader next through (Ok (Read lba blocks past)) none Fine) ≡ Some (good (take (512 * blocks) bytes)) }
 {}
 
@@ -44,4 +51,31 @@ pub fn a_serial_is_taken_once()
     ensures { (claims : Bool) (s : UnitState) (session serial : ℕ) (by : Group) (asked : Result ScsiCommand CdbFault) (bytes : List ℕ) (choice : Choice)
         → IsPossible claims s (Command session serial by asked bytes choice)
         → IsNext (after s (Command session serial by asked bytes choice)).control session serial → ⊥ }
+{}
+
+/// A command that a pending attention does not let pass is answered with it and does nothing else, and the attention is
+/// pending no more, since none is pending twice (SAM-5, 5.14).
+pub fn an_attention_is_told_once()
+    ensures reply { (s : UnitState) (session serial : ℕ) (by : Group) (asked : Result ScsiCommand CdbFault) (bytes : List ℕ) (attention : Condition)
+        → first_pending s.control.sessions session ≡ Some attention → passes_attention (kind_asked asked) ≡ false
+        → reply_to s (Command session serial by asked bytes Fine) ≡ Some (check (attention_sense attention)) }
+    ensures blocks { (s : UnitState) (session serial : ℕ) (by : Group) (asked : Result ScsiCommand CdbFault) (bytes : List ℕ) (attention : Condition)
+        → first_pending s.control.sessions session ≡ Some attention → passes_attention (kind_asked asked) ≡ false
+        → blocks_after s (Command session serial by asked bytes Fine) ≡ s.blocks }
+    ensures told { (s : UnitState) (session serial : ℕ) (by : Group) (asked : Result ScsiCommand CdbFault) (bytes : List ℕ) (attention : Condition)
+        → first_pending s.control.sessions session ≡ Some attention → passes_attention (kind_asked asked) ≡ false
+        → IsTrue (without_repeats (pending_of s.control.sessions session))
+        → is_pending (pending_of (after s (Command session serial by asked bytes Fine)).control.sessions session) attention ≡ false }
+{}
+
+/// Who asks for a logical unit reset keeps what it was to be told; every other session is told of the reset alone.
+pub fn a_reset_is_told_to_the_others()
+    ensures own { (c : ControlValue) (session : ℕ) → pending_of (control_after c (Reset session)).sessions session ≡ pending_of c.sessions session }
+    ensures others { (c : ControlValue) (session other : ℕ) → other ≢ session → IsSome (session_of c.sessions other)
+        → pending_of (control_after c (Reset session)).sessions other ≡ PowerOn ∷ [] }
+{}
+
+/// A session that ended is not attached.
+pub fn an_ended_session_is_gone()
+    ensures { (c : ControlValue) (session : ℕ) → session_of (control_after c (Detach session)).sessions session ≡ None }
 {}

@@ -5,13 +5,11 @@ mod commands;
 mod control;
 pub mod laws;
 mod medium;
+mod ops;
 mod refusal;
 mod sessions;
 mod unit;
 
-pub use control::AttachFault;
+pub use control::{AttachFault, Gone};
 pub use sessions::SessionId;
 pub use unit::{StepEnd, Unit};
-
-#[cfg(test)]
-mod tests;

@@ -34,13 +34,7 @@ pub fn read<B: Blocks>(
 }
 
 /// WRITE: with FUA it is made to last before it is answered.
-pub fn write<B: Blocks>(
-    device: &mut B,
-    lba: u32,
-    blocks: u16,
-    fua: bool,
-    bytes: &[u8],
-) -> MediumEnd
+pub fn write<B: Blocks>(device: &mut B, lba: u32, blocks: u16, fua: bool, bytes: &[u8]) -> MediumEnd
     requires range { lba + blocks ≤ B.size device.old }
     requires given { BLOCK_LENGTH * blocks ≤ length bytes.now }
     ensures size { B.size device.new ≡ B.size device.old }

@@ -1,12 +1,14 @@
 //! Refusals by rule.
 ghost use Rattle.std.specs.Prelude.{◌≡◌};
 
-use scsi_types::{Reply, Sense};
+use scsi_types::{Reply, Sense, UnitAttention};
 use std::alloc::Global;
 
 /// Why a rule refuses a command, with its answer.
 #[derive(Clone, Copy, Debug, PartialEq, Eq)]
 pub enum Refusal {
+    /// CHECK CONDITION with the sense of an attention that was pending, which is told so.
+    Attention(UnitAttention),
     /// CHECK CONDITION with this sense; nothing changes.
     Check(Sense),
 }
@@ -19,6 +21,7 @@ impl Refusal {
         ensures { result ≡ refusal_reply self }
     {
         match self {
+            Refusal::Attention(attention) => Reply::check(alloc, attention.sense()),
             Refusal::Check(sense) => Reply::check(alloc, sense),
         }
     }

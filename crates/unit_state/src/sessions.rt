@@ -1,9 +1,10 @@
 //! The sessions that are attached to a unit.
 ghost use Rattle.std.specs.Prelude.{◌≡◌, ◌<◌, ◌++◌, ◌-◌, ◌^◌, [], ◌∷◌, length, slice_get, None, IfSome, MatchOption, vec_capacity};
-ghost use Rattle.unit_state.specs.Places.{IsPassedAt, IsPlaceOf};
-ghost use Rattle.unit_state.specs.Sessions.{is_of, next_of, nexus_of, without};
+ghost use Rattle.unit_state.specs.Places.{IsChangedAt, IsPlaceOf};
+ghost use Rattle.unit_state.specs.Sessions.{all_reset, ended, heard_reset, is_of, nexus_of, pass_one, session_of, tell_one, without};
 
-use scsi_types::{Group, PortName};
+use attentions::Pending;
+use scsi_types::{Group, PortName, UnitAttention};
 
 /// A session's id: the place of its attach among the unit's entries.
 pub type SessionId = u64;
@@ -11,18 +12,26 @@ pub type SessionId = u64;
 /// The most sessions that are attached to a unit.
 pub const MOST_SESSIONS: usize = 64;
 
-/// A session that is attached: its nexus, and the serial of its next command.
+/// A session that is attached: its nexus, the serial of its next command, and what it is to be told.
 #[derive(Debug, Drop)]
 pub struct Attached {
     pub id: SessionId,
     pub port: PortName,
     pub group: Group,
     pub next: u64,
+    pub pending: Pending,
+}
+
+/// The session that sends a command: its id, and its place among those that are attached.
+#[derive(Clone, Copy, Debug, PartialEq, Eq)]
+pub struct Sender {
+    pub session: SessionId,
+    pub at: usize,
 }
 
 /// The place of a session.
 pub fn place_of(sessions: &[Attached], id: SessionId) -> Option<usize>
-    ensures { MatchOption result (next_of sessions.now id ≡ None) (λ at. IsPlaceOf sessions.now id at) }
+    ensures { MatchOption result (session_of sessions.now id ≡ None) (λ at. IsPlaceOf sessions.now id at) }
 {
     for (at, attached) in sessions.iter().enumerate() {
         if attached.id == id {
@@ -36,11 +45,47 @@ pub fn place_of(sessions: &[Attached], id: SessionId) -> Option<usize>
 pub fn pass_at(sessions: &mut Vec<Attached>, at: usize)
     requires place { at < length sessions.old.items }
     requires room { IfSome (slice_get sessions.old.items at) (λ a. a.next < 2 ^ 64 - 1) }
-    ensures passed { IsPassedAt sessions.old.items at sessions.new.items }
+    ensures passed { IsChangedAt pass_one sessions.old.items at sessions.new.items }
     ensures capacity { vec_capacity sessions.new ≡ vec_capacity sessions.old }
 {
     let attached = &mut sessions[at];
     attached.next += 1;
+}
+
+/// Tells the session at a place what it is to be told next.
+pub fn tell_at(sessions: &mut Vec<Attached>, at: usize)
+    requires { at < length sessions.old.items }
+    ensures told { IsChangedAt tell_one sessions.old.items at sessions.new.items }
+    ensures capacity { vec_capacity sessions.new ≡ vec_capacity sessions.old }
+{
+    let attached = &mut sessions[at];
+    let _ = attached.pending.take();
+}
+
+/// Ends the session of an id.
+pub fn end(sessions: &mut Vec<Attached>, id: SessionId)
+    ensures items { sessions.new.items ≡ ended sessions.old.items id }
+    ensures capacity { vec_capacity sessions.new ≡ vec_capacity sessions.old }
+{
+    sessions.retain(|attached| attached.id != id);
+}
+
+/// Tells every session but that of an id, which asked for it, of a reset, and of nothing before it.
+pub fn reset(sessions: &mut Vec<Attached>, by: SessionId)
+    ensures items { sessions.new.items ≡ all_reset sessions.old.items by }
+    ensures capacity { vec_capacity sessions.new ≡ vec_capacity sessions.old }
+{
+    for attached in sessions.iter_mut() {
+        hear_reset(attached, by);
+    }
+}
+
+fn hear_reset(attached: &mut Attached, by: SessionId)
+    ensures { attached.new ≡ heard_reset by attached.old }
+{
+    if attached.id != by {
+        attached.pending.replace_all(UnitAttention::PowerOn);
+    }
 }
 
 /// Whether a session is that of a nexus.

@@ -2,8 +2,8 @@ ghost use Rattle.std.specs.Prelude.{IfSome, ◌≡◌, ◌<◌, ◌↔◌, IfOk,
 ghost use Rattle.block_file.specs.Failures.{Tells};
 
 use crate::commands::answer;
-use crate::control::{AttachFault, Control, Route};
-use crate::sessions::SessionId;
+use crate::control::{AttachFault, Control, Gone, Route};
+use crate::sessions::{Sender, SessionId};
 use block_file::Blocks;
 use scsi_types::{Asked, Group, NoMemory, Place, PortName, Reply};
 use std::alloc::Global;
@@ -12,7 +12,7 @@ use std::marker::Model;
 /// What a step ended with. Only `Reply` is an entry of the unit's history; the others change nothing.
 #[derive(Debug, Drop)]
 pub enum StepEnd {
-    /// The command was served, or refused with a sense.
+    /// The command was served, or refused.
     Reply(Reply),
     /// The session is not attached, the serial is not its next, or the history has its last length.
     Gone,
@@ -45,7 +45,7 @@ impl<B: Blocks> Unit<B> {
     ghost use Rattle.unit_state.specs.State.{UnitState, UnitValue, opening_control, state_of, failures_of};
     ghost use Rattle.unit_state.specs.Choice.{IsFine, choice_of};
     ghost use Rattle.unit_state.specs.Refusal.{refusal, request};
-    ghost use Rattle.unit_state.specs.Entry.{Attach, HasRoom, control_after};
+    ghost use Rattle.unit_state.specs.Entry.{Attach, Detach, Reset, HasRoom, IsAttached, control_after};
     ghost use Rattle.std.specs.Prelude.{IsTrue};
     ghost use Rattle.unit_state.specs.Answer.{Lasts};
     ghost use Rattle.unit_state.specs.Medium.{work_asked};
@@ -73,6 +73,27 @@ impl<B: Blocks> Unit<B> {
         self.control.attach(port, group)
     }
 
+    /// Ends a session. Takes no memory.
+    pub fn detach(&mut self, session: SessionId) -> Result<(), Gone>
+        ensures gone { IsErr result ↔ (IsAttached self.old.control session → ⊥) }
+        ensures control { IfOk result (λ done. self.new.control ≡ control_after self.old.control (Detach session)) }
+        ensures device { self.new.device ≡ self.old.device }
+        ensures err { OnErr result (self.new ≡ self.old) }
+    {
+        self.control.detach(session)
+    }
+
+    /// LOGICAL UNIT RESET by a session (SAM-5): every other one is told of it, and of nothing before it. Takes no
+    /// memory.
+    pub fn reset(&mut self, session: SessionId) -> Result<(), Gone>
+        ensures gone { IsErr result ↔ (IsAttached self.old.control session → ⊥) }
+        ensures control { IfOk result (λ done. self.new.control ≡ control_after self.old.control (Reset session)) }
+        ensures device { self.new.device ≡ self.old.device }
+        ensures err { OnErr result (self.new ≡ self.old) }
+    {
+        self.control.reset(session)
+    }
+
     /// Serves one command of a session, with the data that came for it.
     pub fn step(
         &mut self,
@@ -98,16 +119,23 @@ impl<B: Blocks> Unit<B> {
         ensures fine { OnReply result (λ reply. Tells (failures_of B.failures self.old) (failures_of B.failures self.new)
             (IsFine (choice_of reply (B.contents self.new.device)))) }
     {
-        let at = match self.control.route(session, serial, by) {
+        let sender = match self.control.route(session, serial, by) {
             Route::Gone => return StepEnd::Gone,
             Route::Moved(owner) => return StepEnd::Moved(owner),
-            Route::At(at) => at,
+            Route::At(at) => Sender { session, at },
         };
-        let reply = match answer(&mut self.device, &self.control, alloc, asked, bytes) {
+        let reply = match answer(
+            &mut self.device,
+            &mut self.control,
+            alloc,
+            sender,
+            asked,
+            bytes,
+        ) {
             Ok(reply) => reply,
             Err(NoMemory) => return StepEnd::NoMemory,
         };
-        self.control.pass(at);
+        self.control.pass(sender);
         StepEnd::Reply(reply)
     }
 

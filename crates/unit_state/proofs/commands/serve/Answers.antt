@@ -1,39 +1,37 @@
 use Rattle.std.proofs.Common.{◌≡◌, ◌∙◌, ap, List, ℕ, length, refl, sym, arith}
 use Rattle.std.proofs.lemmas.List.{take_at}
-use Rattle.identity.specs.Capacity.{capacity_10, capacity_16}
-use Rattle.identity.specs.Table.{cut, spell}
 use Rattle.scsi_types.specs.ReplyValue.{ReplyValue, good}
-use Rattle.unit_state.proofs.Works.{medium_served, other_served, sync_worked}
+use Rattle.unit_state.proofs.Works.{medium_served, other_served, described_served, describes, sync_worked}
 use Rattle.unit_state.proofs.commands.serve.Goals as goal
 
 pub returns-in-TestUnitReady-clause-served : goal.returns-in-TestUnitReady-clause-served
-returns-in-TestUnitReady-clause-served g c = rw c.in-TestUnitReady.is (other_served _ _ _ _ _ _ _ refl refl (c.good.ensures ∙ ap good c.new.ensures.items))
-
-pub returns-in_ok-read_capacity_10-in-ReadCapacity10-clause-served : goal.returns-in_ok-read_capacity_10-in-ReadCapacity10-clause-served
-returns-in_ok-read_capacity_10-in-ReadCapacity10-clause-served g c =
-    let told = c.in_ok-read_capacity_10-in-ReadCapacity10.ensures in
-    rw c.in-ReadCapacity10.is (other_served _ _ _ _ _ _ _ refl refl (c.good-in-ReadCapacity10.ensures ∙ ap good (told ∙ ap (λ (n : ℕ). spell (capacity_10 n)) c.total.ensures)))
-
-pub returns-in_ok-read_capacity_16-in-ReadCapacity16-clause-served : goal.returns-in_ok-read_capacity_16-in-ReadCapacity16-clause-served
-returns-in_ok-read_capacity_16-in-ReadCapacity16-clause-served g c =
-    let told = c.in_ok-read_capacity_16-in-ReadCapacity16.ensures in
-    rw c.in-ReadCapacity16.is (other_served _ _ _ _ _ _ _ refl refl (c.good-in-ReadCapacity16.ensures ∙ ap good (told ∙ ap (λ (n : ℕ). cut c.in-ReadCapacity16.allocation (spell (capacity_16 n))) c.total-in-ReadCapacity16.ensures)))
+returns-in-TestUnitReady-clause-served g c = rw c.in-TestUnitReady.is (other_served _ _ _ _ _ _ _ _ _ refl refl refl (c.good.ensures ∙ ap good c.new.ensures.items))
 
 pub returns-in_ok-out-in-Read-clause-served : goal.returns-in_ok-out-in-Read-clause-served
 returns-in_ok-out-in-Read-clause-served g c =
     let long : length c.read-end.new.out ≡ c.in_ok-out-in-Read.out.len = omega arith in
     rw c.in-Read.is
-    (medium_served _ _ _ _ _ _ _ _ _ _ (λ f. refl) c.read-end.ensures.worked (take_at c.read-end.new.out _ c.in_ok-out-in-Read.out.len long) c.medium_reply.ensures)
+    (medium_served _ _ _ _ _ _ _ _ _ _ _ _ (λ f. refl) refl refl c.read-end.ensures.worked (take_at c.read-end.new.out _ c.in_ok-out-in-Read.out.len long) c.medium_reply.ensures)
 
 pub returns-in-Write-clause-served : goal.returns-in-Write-clause-served
-returns-in-Write-clause-served g c = rw c.in-Write.is (medium_served _ _ _ _ _ _ _ _ _ _ (λ f. refl) c.write-end.ensures.worked c.new-in-Write.ensures.items c.medium_reply-in-Write.ensures)
+returns-in-Write-clause-served g c = rw c.in-Write.is (medium_served _ _ _ _ _ _ _ _ _ _ _ _ (λ f. refl) refl refl c.write-end.ensures.worked c.new-in-Write.ensures.items c.medium_reply-in-Write.ensures)
 
 pub returns-in-CompareAndWrite-clause-served : goal.returns-in-CompareAndWrite-clause-served
 returns-in-CompareAndWrite-clause-served g c =
     rw c.in-CompareAndWrite.is
-    (medium_served _ _ _ _ _ _ _ _ _ _ (λ f. refl) c.compare-end.ensures.worked c.new-in-CompareAndWrite.ensures.items c.medium_reply-in-CompareAndWrite.ensures)
+    (medium_served _ _ _ _ _ _ _ _ _ _ _ _ (λ f. refl) refl refl c.compare-end.ensures.worked c.new-in-CompareAndWrite.ensures.items c.medium_reply-in-CompareAndWrite.ensures)
 
 pub returns-in-SynchronizeCache-clause-served : goal.returns-in-SynchronizeCache-clause-served
 returns-in-SynchronizeCache-clause-served g c =
     rw c.in-SynchronizeCache.is
-    (medium_served _ _ _ _ _ _ _ _ _ _ (λ f. refl) (sync_worked _ _ _ _ _ c.sync-end.ensures.ends c.sync-end.ensures.contents) c.new-in-SynchronizeCache.ensures.items c.medium_reply-in-SynchronizeCache.ensures)
+    (medium_served _ _ _ _ _ _ _ _ _ _ _ _ (λ f. refl) refl refl (sync_worked _ _ _ _ _ c.sync-end.ensures.ends c.sync-end.ensures.contents) c.new-in-SynchronizeCache.ensures.items c.medium_reply-in-SynchronizeCache.ensures)
+
+pub returns-in_ok-sense-in-RequestSense-clause-served : goal.returns-in_ok-sense-in-RequestSense-clause-served
+returns-in_ok-sense-in-RequestSense-clause-served g c =
+    let told = c.in_ok-sense-in-RequestSense.ensures in
+    rw c.in-RequestSense.is (other_served _ _ _ _ _ _ _ _ _ refl refl told.told (c.good-in-RequestSense.ensures ∙ ap good told.sense))
+
+pub returns-in_ok-describe-in_default-clause-served : goal.returns-in_ok-describe-in_default-clause-served
+returns-in_ok-describe-in_default-clause-served g c =
+    let d = c.in_default in
+    described_served _ _ _ _ _ _ _ _ (describes _ d.not-TestUnitReady d.not-RequestSense d.not-Read d.not-Write d.not-CompareAndWrite d.not-SynchronizeCache) c.in_ok-describe-in_default.ensures c.good-in_default.ensures

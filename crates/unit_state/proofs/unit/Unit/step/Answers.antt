@@ -1,13 +1,13 @@
-use Rattle.std.proofs.Common.{rules}
-use Rattle.unit_state.proofs.Places.{passed_at}
+use Rattle.std.proofs.Common.{refl}
 use Rattle.unit_state.proofs.Steps.{answered_step}
 use Rattle.unit_state.proofs.unit.Unit.step.Goals as goal
 
 pub returns-clause-entry : goal.returns-clause-entry
-returns-clause-entry g c = answered_step _ _ _ _ _ _ _ _ _ (rw (← c.self.view_is) c.in-At.ensures.0) (rw (← c.self.view_is) c.in-At.ensures.1) (rw (← c.self.view_is) c.in-Ok.ensures.answered) (rw (← c.self.view_is) (c.pass.ensures.passed _ c.in-At.ensures.2))
+returns-clause-entry g c =
+    answered_step _ _ _ _ _ _ _ _ _ _ (rw (← c.self.view_is) c.in-At.ensures.0) (rw (← c.self.view_is) c.in-At.ensures.1) (rw (← c.self.view_is) c.in-Ok.ensures.answered) refl c.pass.ensures.passed
 
 pub returns-in-Err-clause-memory : goal.returns-in-Err-clause-memory
-returns-in-Err-clause-memory g c = λ h. rw (← c.self.view_is) (c.in-Err.ensures.memory c.args.session)
+returns-in-Err-clause-memory g c = λ h. rw (← c.self.view_is) c.in-Err.ensures.memory
 
 pub returns-clause-unreached : goal.returns-clause-unreached
-returns-clause-unreached g c = rw (← c.self.view_is) (c.in-Ok.ensures.unreached c.args.session)
+returns-clause-unreached g c = rw (← c.self.view_is) c.in-Ok.ensures.unreached

@@ -1,0 +1,146 @@
+-- What commands, resets and ends leave of a session: its serial, and what is pending for it.
+use Rattle.std.proofs.Common.{◌≡◌, ◌≢◌, ◌⊎◌, inl, inr, ⊎_elim, ℕ, ◌+◌, Bool, true, false, not, ◌&&◌, nat_eq, List, [], ◌∷◌, drop, map, filter, Option, Some, None, IsSome, Result, Ok, Err, refl, sym, ◌∙◌, ap, arith, slice_get}
+use Rattle.std.specs.Prelude.{IsTrue}
+use Rattle.std.specs.Option.{option_map}
+use Rattle.std.proofs.lemmas.Bool.Decides.{eqb_tells}
+use Rattle.attentions.specs.Queue.{is_pending, without_repeats}
+use Rattle.scsi_types.specs.ReplyValue.{check}
+use Rattle.scsi_types.specs.declared.attention.UnitAttention.{UnitAttention}
+use Rattle.scsi_types.specs.declared.attention.UnitAttention.TheVariants.{PowerOn}
+use Rattle.scsi_types.specs.declared.command.Command.{Command as ScsiCommand}
+use Rattle.scsi_types.specs.declared.command.Command.TheVariants as commands
+use Rattle.scsi_types.specs.declared.command.CdbFault.{CdbFault}
+use Rattle.unit_state.specs.declared.refusal.Refusal.{Refusal}
+use Rattle.unit_state.specs.declared.refusal.Refusal.TheVariants.{Attention, Check}
+use Rattle.unit_state.specs.declared.sessions.Attached.{Attached}
+use Rattle.unit_state.specs.State.{ControlValue, UnitState}
+use Rattle.unit_state.specs.Choice.{Choice}
+use Rattle.unit_state.specs.Sessions.{session_of, next_of, pending_in, pending_of, first_pending, changed, pass_one, passed, tell_one, told, ended, heard_reset, all_reset}
+use Rattle.unit_state.specs.Ops.{kind_asked, passes_attention}
+use Rattle.unit_state.specs.Refusal.{Request, request, refusal, tell}
+use Rattle.unit_state.specs.Entry.{IsNext, control_with, left_asked}
+use Rattle.unit_state.proofs.Places.{session_changed}
+
+-- ---- serials
+
+next_in : (old new : Option Attached) (serial : ℕ) → option_map (λ (a : Attached). a.next) old ≡ Some serial → new ≡ option_map pass_one old → option_map (λ (a : Attached). a.next) new ≡ Some (serial + 1)
+next_in None new serial h is = absurd (let e : None ≡ Some serial = h in cc)
+next_in (Some a) new serial h is =
+    let here : Some a.next ≡ Some serial = h in
+    let e : a.next ≡ serial = cc in
+    rw is (ap (λ (m : ℕ). let o : Option ℕ = Some (m + 1) in o) e)
+
+-- one command more is one serial more
+next_passed : (sessions : List Attached) (id serial : ℕ) → next_of sessions id ≡ Some serial → next_of (passed sessions id) id ≡ Some (serial + 1)
+next_passed sessions id serial h = next_in (session_of sessions id) (session_of (passed sessions id) id) serial h (session_changed pass_one (λ a. refl) sessions id)
+
+told_in : (old new : Option Attached) → new ≡ option_map tell_one old → option_map (λ (a : Attached). a.next) new ≡ option_map (λ (a : Attached). a.next) old
+told_in None new is = rw is refl
+told_in (Some a) new is = rw is refl
+
+next_told : (sessions : List Attached) (id : ℕ) → next_of (told sessions id) id ≡ next_of sessions id
+next_told sessions id = told_in (session_of sessions id) (session_of (told sessions id) id) (session_changed tell_one (λ a. refl) sessions id)
+
+next_left : (c : ControlValue) (session : ℕ) (asked : Result ScsiCommand CdbFault) → next_of (left_asked c session asked).sessions session ≡ next_of c.sessions session
+next_left c session (Err fault) = refl
+next_left c session (Ok (commands.RequestSense allocation)) = next_told c.sessions session
+next_left c session (Ok commands.TestUnitReady) = refl
+next_left c session (Ok (commands.Inquiry page allocation)) = refl
+next_left c session (Ok (commands.ModeSense header control page allocation)) = refl
+next_left c session (Ok commands.ReadCapacity10) = refl
+next_left c session (Ok (commands.ReadCapacity16 allocation)) = refl
+next_left c session (Ok (commands.Read lba blocks fua)) = refl
+next_left c session (Ok (commands.Write lba blocks fua)) = refl
+next_left c session (Ok (commands.CompareAndWrite lba blocks fua)) = refl
+next_left c session (Ok (commands.SynchronizeCache lba blocks)) = refl
+next_left c session (Ok (commands.ReportLuns select allocation)) = refl
+
+-- what a command leaves before it is counted has its serial still
+next_kept : (refused : Option Refusal) (c : ControlValue) (r : Request) (choice : Choice) → next_of (control_with refused c r choice).sessions r.session ≡ next_of c.sessions r.session
+next_kept (Some (Attention a)) c r choice = next_told c.sessions r.session
+next_kept (Some (Check s)) c r choice = refl
+next_kept None c r choice = next_left c r.session r.asked
+
+-- a serial that was taken is not taken again
+pub taken_once : (c : ControlValue) (r : Request) (choice : Choice) (serial : ℕ) → IsNext c r.session serial → next_of (passed (control_with (refusal c r) c r choice).sessions r.session) r.session ≡ Some serial → ⊥
+taken_once c r choice serial is again =
+    let once : next_of (passed (control_with (refusal c r) c r choice).sessions r.session) r.session ≡ Some (serial + 1) =
+    next_passed (control_with (refusal c r) c r choice).sessions r.session serial (next_kept (refusal c r) c r choice ∙ is.next) in
+    let same : serial ≡ serial + 1 = cc in
+    omega arith
+
+-- ---- attentions
+
+pending_told_in : (old mid new : Option Attached) → mid ≡ option_map tell_one old → new ≡ option_map pass_one mid → pending_in new ≡ drop 1 (pending_in old)
+pending_told_in None mid new is then_is = rw (then_is, is) refl
+pending_told_in (Some a) mid new is then_is = rw (then_is, is) refl
+
+-- a session that was told its first attention has the others
+pub pending_told : (sessions : List Attached) (id : ℕ) → pending_of (passed (told sessions id) id) id ≡ drop 1 (pending_of sessions id)
+pending_told sessions id =
+    pending_told_in (session_of sessions id) (session_of (told sessions id) id) (session_of (passed (told sessions id) id) id)
+    (session_changed tell_one (λ a. refl) sessions id) (session_changed pass_one (λ a. refl) (told sessions id) id)
+
+pub told_no_more : (codes : List UnitAttention) (attention : UnitAttention) → IsTrue (without_repeats codes) → slice_get codes 0 ≡ Some attention → is_pending (drop 1 codes) attention ≡ false
+told_no_more [] attention apart first = absurd (cc)
+told_no_more (code ∷ later) attention apart first =
+    let is : code ≡ attention = cc in
+    rw (sym is) (grind arith)
+
+-- ---- resets and ends
+
+-- changes of all sessions that keep their ids
+session_mapped : (f : Attached → Attached) → ((a : Attached) → (f a).id ≡ a.id) → (sessions : List Attached) (id : ℕ) → session_of (map f sessions) id ≡ option_map f (session_of sessions id)
+session_mapped f keeps [] id = refl
+session_mapped f keeps (x ∷ xs) id =
+    ⊎_elim
+    (λ (t : (nat_eq x.id id ≡ true) × (x.id ≡ id)).
+    let test : nat_eq (f x).id id ≡ true = ap (λ (i : ℕ). nat_eq i id) (keeps x) ∙ t.0 in
+    rw (t.0, test) refl)
+    (λ (n : (nat_eq x.id id ≡ false) × (x.id ≢ id)).
+    let test : nat_eq (f x).id id ≡ false = ap (λ (i : ℕ). nat_eq i id) (keeps x) ∙ n.0 in
+    rw (n.0, test) (session_mapped f keeps xs id))
+    (eqb_tells x.id id)
+
+reset_keeps : (id : ℕ) (a : Attached) → (heard_reset id a).id ≡ a.id
+reset_keeps id a =
+    ⊎_elim (λ (t : (nat_eq a.id id ≡ true) × (a.id ≡ id)). rw t.0 refl) (λ (n : (nat_eq a.id id ≡ false) × (a.id ≢ id)). rw n.0 refl) (eqb_tells a.id id)
+
+-- the session of an id has it
+has_id : (sessions : List Attached) (id : ℕ) (a : Attached) → session_of sessions id ≡ Some a → nat_eq a.id id ≡ true
+has_id [] id a h = absurd (cc)
+has_id (x ∷ xs) id a h =
+    ⊎_elim (λ (t : (nat_eq x.id id ≡ true) × (x.id ≡ id)). let e : Some x ≡ Some a = rw t.0 at h in let is : x ≡ a = cc in rw (sym is) t.0)
+    (λ (n : (nat_eq x.id id ≡ false) × (x.id ≢ id)). has_id xs id a (rw n.0 at h))
+    (eqb_tells x.id id)
+
+reset_own_in : (sessions : List Attached) (id : ℕ) (o : Option Attached) → session_of sessions id ≡ o → pending_in (option_map (heard_reset id) o) ≡ pending_in o
+reset_own_in sessions id None h = refl
+reset_own_in sessions id (Some a) h = rw (has_id sessions id a h) refl
+
+-- who asks for a reset is told what it was to be told
+pub reset_own : (sessions : List Attached) (id : ℕ) → pending_of (all_reset sessions id) id ≡ pending_of sessions id
+reset_own sessions id = ap pending_in (session_mapped (heard_reset id) (reset_keeps id) sessions id) ∙ reset_own_in sessions id (session_of sessions id) refl
+
+other_id : (a : Attached) (id other : ℕ) → other ≢ id → nat_eq a.id other ≡ true → nat_eq a.id id ≡ false
+other_id a id other apart is =
+    ⊎_elim (λ (t : (nat_eq a.id id ≡ true) × (a.id ≡ id)).
+    ⊎_elim (λ (u : (nat_eq a.id other ≡ true) × (a.id ≡ other)). absurd (apart (sym u.1 ∙ t.1))) (λ (n : (nat_eq a.id other ≡ false) × (a.id ≢ other)). absurd (let e = is in cc)) (eqb_tells a.id other))
+    (λ (n : (nat_eq a.id id ≡ false) × (a.id ≢ id)). n.0) (eqb_tells a.id id)
+
+reset_other_in : (sessions : List Attached) (id other : ℕ) (o : Option Attached) → other ≢ id → session_of sessions other ≡ o → IsSome o → pending_in (option_map (heard_reset id) o) ≡ PowerOn ∷ []
+reset_other_in sessions id other None apart h there = absurd (cc)
+reset_other_in sessions id other (Some a) apart h there = rw (other_id a id other apart (has_id sessions other a h)) refl
+
+-- every other session is told of the reset alone
+pub reset_other : (sessions : List Attached) (id other : ℕ) → other ≢ id → IsSome (session_of sessions other) → pending_of (all_reset sessions id) other ≡ PowerOn ∷ []
+reset_other sessions id other apart there =
+    ap pending_in (session_mapped (heard_reset id) (reset_keeps id) sessions other) ∙ reset_other_in sessions id other (session_of sessions other) apart refl there
+
+-- a session that ended is not attached
+pub ended_gone : (sessions : List Attached) (id : ℕ) → session_of (ended sessions id) id ≡ None
+ended_gone [] id = refl
+ended_gone (x ∷ xs) id =
+    ⊎_elim (λ (t : (nat_eq x.id id ≡ true) × (x.id ≡ id)). rw t.0 (ended_gone xs id))
+    (λ (n : (nat_eq x.id id ≡ false) × (x.id ≢ id)). rw n.0 (rw n.0 (ended_gone xs id)))
+    (eqb_tells x.id id)

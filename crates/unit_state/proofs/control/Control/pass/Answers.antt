@@ -1,0 +1,14 @@
+use Rattle.std.proofs.Common.{◌≡◌, ◌+◌, refl, ap, List}
+use Rattle.unit_state.specs.declared.sessions.Attached.{Attached}
+use Rattle.unit_state.specs.Places.{IsPlaceOf}
+use Rattle.unit_state.specs.Sessions.{pass_one, passed}
+use Rattle.unit_state.specs.State.{ControlValue}
+use Rattle.unit_state.proofs.Places.{changed_at}
+use Rattle.unit_state.proofs.control.Control.pass.Goals as goal
+
+pub returns-clause-passed : goal.returns-clause-passed
+returns-clause-passed c =
+    let place : IsPlaceOf c.self.inside.sessions.items c.args.sender.session c.args.sender.at = rw (← c.self.view_is) at c.requires.place in
+    let is : c.pass_at.new.sessions.items ≡ passed c.self.inside.sessions.items c.args.sender.session = changed_at pass_one _ _ _ _ place c.pass_at.ensures.passed in
+    rw (← c.self.view_is)
+    (ap (λ (ss : List Attached). let v : ControlValue = record { place = c.self.inside.place; total = c.self.inside.total; owner = c.self.inside.owner; sessions = ss; count = c.self.inside.count + 1 } in v) is)

@@ -1,0 +1,43 @@
+//! The kind of a command.
+ghost use Rattle.std.specs.Prelude.{◌≡◌};
+ghost use Rattle.unit_state.specs.Ops.{kind_of, kind_asked, passes_attention};
+
+use scsi_types::{Asked, CdbFault, Command, Op};
+
+/// The kind of a command, also of one with a bad field.
+pub fn kind_asked(asked: &Asked) -> Option<Op>
+    ensures { result ≡ kind_asked asked.now }
+{
+    match asked {
+        Ok(command) => Some(kind_of(command)),
+        Err(CdbFault::BadField(op)) => Some(*op),
+        Err(CdbFault::UnknownOpcode) => None,
+    }
+}
+
+fn kind_of(command: &Command) -> Op
+    ensures { result ≡ kind_of command.now }
+{
+    match command {
+        Command::TestUnitReady => Op::TestUnitReady,
+        Command::RequestSense { .. } => Op::RequestSense,
+        Command::Inquiry { .. } => Op::Inquiry,
+        Command::ModeSense { .. } => Op::ModeSense,
+        Command::ReadCapacity10 | Command::ReadCapacity16 { .. } => Op::ReadCapacity,
+        Command::Read { .. } => Op::Read,
+        Command::Write { .. } => Op::Write,
+        Command::CompareAndWrite { .. } => Op::CompareAndWrite,
+        Command::SynchronizeCache { .. } => Op::SynchronizeCache,
+        Command::ReportLuns { .. } => Op::ReportLuns,
+    }
+}
+
+/// Whether a pending attention lets a command pass (SAM-5, 5.14).
+pub fn passes_attention(kind: Option<Op>) -> bool
+    ensures { result ≡ passes_attention kind }
+{
+    match kind {
+        Some(Op::Inquiry) | Some(Op::ReportLuns) | Some(Op::RequestSense) => true,
+        _ => false,
+    }
+}
