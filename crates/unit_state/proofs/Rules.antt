@@ -10,12 +10,11 @@ use Rattle.scsi_types.specs.declared.attention.UnitAttention.TheVariants.{PowerO
 use Rattle.scsi_types.specs.declared.command.Command.{Command as ScsiCommand}
 use Rattle.scsi_types.specs.declared.command.Command.TheVariants as commands
 use Rattle.scsi_types.specs.declared.command.CdbFault.{CdbFault}
-use Rattle.scsi_types.specs.declared.command.CdbFault.TheVariants.{UnknownOpcode, BadField}
-use Rattle.scsi_types.specs.declared.command.Op.{Op}
 use Rattle.unit_state.specs.declared.refusal.Refusal.{Refusal}
 use Rattle.unit_state.specs.declared.refusal.Refusal.TheVariants.{Attention, Check}
 use Rattle.unit_state.specs.State.{ControlValue}
 use Rattle.unit_state.specs.Choice.{Fine, choice_of}
+use Rattle.unit_state.specs.Ops.{kind_asked, is_served}
 use Rattle.unit_state.specs.Medium.{Range, Fits, range_of, work_of, work_asked}
 use Rattle.unit_state.specs.Refusal.{Request, request, refusal, refusal_reply, attention_by, attention_rule, opcode_rule, field_rule, saved_rule, range_rule, saved_by, outside, range_by, or_else}
 use Rattle.unit_state.specs.Route.{IsAdmitted, IsRefused}
@@ -58,34 +57,35 @@ fitting total (commands.Read lba blocks fua) bytes le h = within total (record {
 fitting total (commands.Write lba blocks fua) bytes le h = (within total (record { lba = lba; blocks = blocks }) h, omega arith)
 fitting total (commands.CompareAndWrite lba blocks fua) bytes le h = (within total (record { lba = lba; blocks = blocks }) h, omega arith)
 fitting total (commands.SynchronizeCache lba blocks) bytes le h = tt
+fitting total (commands.PersistentReserveIn action allocation) bytes le h = tt
+fitting total (commands.PersistentReserveOut action scope kind list_length) bytes le h = tt
 fitting total (commands.ReportLuns select allocation) bytes le h = tt
+fitting total (commands.ReportTargetPortGroups allocation) bytes le h = tt
+fitting total (commands.SetTargetPortGroups list_length) bytes le h = tt
 
 -- no attention refuses the command
 module _ (c : ControlValue) (session : ℕ) (asked : Result ScsiCommand CdbFault) (bytes : List ℕ) (none : None ≡ attention_rule c (request session asked bytes)) where
   abbrev r : Request
   r = request session asked bytes
 
-  pub by_opcode : asked ≡ Err UnknownOpcode → IsRefused c r (Check invalid_opcode)
-  by_opcode is = record { refuses = rw (sym none) (rw is refl); fine = λ after. refl }
+  pub by_opcode : is_served (kind_asked asked) ≡ false → IsRefused c r (Check invalid_opcode)
+  by_opcode unserved = record { refuses = rw (sym none) (rw unserved refl); fine = λ after. refl }
 
-  pub by_field : (op : Op) → asked ≡ Err (BadField op) → IsRefused c r (Check invalid_field_in_cdb)
-  by_field op is = record { refuses = rw (sym none) (rw is refl); fine = λ after. refl }
-
-  module _ (command : ScsiCommand) (is : asked ≡ Ok command) where
+  module _ (served : is_served (kind_asked asked) ≡ true) (command : ScsiCommand) (is : asked ≡ Ok command) where
     pub by_length : length bytes < need_of (Ok command) → IsRefused c r (Check invalid_field_in_cdb)
-    by_length lt = record { refuses = rw (sym none) (rw is (rw (is_short (length bytes) (need_of (Ok command)) lt) refl)); fine = λ after. refl }
+    by_length lt = record { refuses = rw (sym none) (rw served (rw is (rw (is_short (length bytes) (need_of (Ok command)) lt) refl))); fine = λ after. refl }
 
     pub by_saved : need_of (Ok command) ≤ length bytes → saved_by (Ok command) ≡ Some (Check saving_parameters_not_supported) → IsRefused c r (Check saving_parameters_not_supported)
-    by_saved le saved = record { refuses = rw (sym none) (rw is (rw (is_long (length bytes) (need_of (Ok command)) le, saved) refl)); fine = λ after. refl }
+    by_saved le saved = record { refuses = rw (sym none) (rw served (rw is (rw (is_long (length bytes) (need_of (Ok command)) le, saved) refl))); fine = λ after. refl }
 
     pub by_range : need_of (Ok command) ≤ length bytes → saved_by (Ok command) ≡ None → range_by c.total (range_of (work_of command bytes)) ≡ Some (Check lba_out_of_range) → IsRefused c r (Check lba_out_of_range)
-    by_range le saved range = record { refuses = rw (sym none) (rw is (rw (is_long (length bytes) (need_of (Ok command)) le, saved, range) refl)); fine = λ after. refl }
+    by_range le saved range = record { refuses = rw (sym none) (rw served (rw is (rw (is_long (length bytes) (need_of (Ok command)) le, saved, range) refl))); fine = λ after. refl }
 
     unrefused : need_of (Ok command) ≤ length bytes → saved_by (Ok command) ≡ None → range_by c.total (range_of (work_of command bytes)) ≡ None → refusal c r ≡ None
-    unrefused le saved range = rw (sym none) (rw is (rw (is_long (length bytes) (need_of (Ok command)) le, saved, range) refl))
+    unrefused le saved range = rw (sym none) (rw served (rw is (rw (is_long (length bytes) (need_of (Ok command)) le, saved, range) refl)))
 
     pub admitted : need_of (Ok command) ≤ length bytes → saved_by (Ok command) ≡ None → range_by c.total (range_of (work_of command bytes)) ≡ None → IsAdmitted c r command
-    admitted le saved range = record { asks = is; unrefused = unrefused le saved range; fits = fitting c.total command bytes le range }
+    admitted le saved range = record { asks = is; served = rw (ap kind_asked (sym is)) served; unrefused = unrefused le saved range; fits = fitting c.total command bytes le range }
 
 -- where nothing refuses a command, no rule did
 none_of_two : (a b : Option Refusal) → or_else a b ≡ None → (a ≡ None) × (b ≡ None)

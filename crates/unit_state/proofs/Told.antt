@@ -7,59 +7,17 @@ use Rattle.attentions.specs.Queue.{is_pending, without_repeats}
 use Rattle.scsi_types.specs.ReplyValue.{check}
 use Rattle.scsi_types.specs.declared.attention.UnitAttention.{UnitAttention}
 use Rattle.scsi_types.specs.declared.attention.UnitAttention.TheVariants.{PowerOn}
-use Rattle.scsi_types.specs.declared.command.Command.{Command as ScsiCommand}
-use Rattle.scsi_types.specs.declared.command.Command.TheVariants as commands
-use Rattle.scsi_types.specs.declared.command.CdbFault.{CdbFault}
-use Rattle.unit_state.specs.declared.refusal.Refusal.{Refusal}
-use Rattle.unit_state.specs.declared.refusal.Refusal.TheVariants.{Attention, Check}
 use Rattle.unit_state.specs.declared.sessions.Attached.{Attached}
 use Rattle.unit_state.specs.State.{ControlValue, UnitState}
 use Rattle.unit_state.specs.Choice.{Choice}
 use Rattle.unit_state.specs.Sessions.{session_of, next_of, pending_in, pending_of, first_pending, changed, pass_one, passed, tell_one, told, ended, heard_reset, all_reset}
 use Rattle.unit_state.specs.Ops.{kind_asked, passes_attention}
 use Rattle.unit_state.specs.Refusal.{Request, request, refusal, tell}
-use Rattle.unit_state.specs.Entry.{IsNext, control_with, left_asked}
+use Rattle.unit_state.specs.Entry.{IsNext, control_with}
+use Rattle.unit_state.specs.CommandLaws.{next_passed, next_kept}
 use Rattle.unit_state.proofs.Places.{session_changed}
 
 -- ---- serials
-
-next_in : (old new : Option Attached) (serial : ℕ) → option_map (λ (a : Attached). a.next) old ≡ Some serial → new ≡ option_map pass_one old → option_map (λ (a : Attached). a.next) new ≡ Some (serial + 1)
-next_in None new serial h is = absurd (let e : None ≡ Some serial = h in cc)
-next_in (Some a) new serial h is =
-    let here : Some a.next ≡ Some serial = h in
-    let e : a.next ≡ serial = cc in
-    rw is (ap (λ (m : ℕ). let o : Option ℕ = Some (m + 1) in o) e)
-
--- one command more is one serial more
-next_passed : (sessions : List Attached) (id serial : ℕ) → next_of sessions id ≡ Some serial → next_of (passed sessions id) id ≡ Some (serial + 1)
-next_passed sessions id serial h = next_in (session_of sessions id) (session_of (passed sessions id) id) serial h (session_changed pass_one (λ a. refl) sessions id)
-
-told_in : (old new : Option Attached) → new ≡ option_map tell_one old → option_map (λ (a : Attached). a.next) new ≡ option_map (λ (a : Attached). a.next) old
-told_in None new is = rw is refl
-told_in (Some a) new is = rw is refl
-
-next_told : (sessions : List Attached) (id : ℕ) → next_of (told sessions id) id ≡ next_of sessions id
-next_told sessions id = told_in (session_of sessions id) (session_of (told sessions id) id) (session_changed tell_one (λ a. refl) sessions id)
-
-next_left : (c : ControlValue) (session : ℕ) (asked : Result ScsiCommand CdbFault) → next_of (left_asked c session asked).sessions session ≡ next_of c.sessions session
-next_left c session (Err fault) = refl
-next_left c session (Ok (commands.RequestSense allocation)) = next_told c.sessions session
-next_left c session (Ok commands.TestUnitReady) = refl
-next_left c session (Ok (commands.Inquiry page allocation)) = refl
-next_left c session (Ok (commands.ModeSense header control page allocation)) = refl
-next_left c session (Ok commands.ReadCapacity10) = refl
-next_left c session (Ok (commands.ReadCapacity16 allocation)) = refl
-next_left c session (Ok (commands.Read lba blocks fua)) = refl
-next_left c session (Ok (commands.Write lba blocks fua)) = refl
-next_left c session (Ok (commands.CompareAndWrite lba blocks fua)) = refl
-next_left c session (Ok (commands.SynchronizeCache lba blocks)) = refl
-next_left c session (Ok (commands.ReportLuns select allocation)) = refl
-
--- what a command leaves before it is counted has its serial still
-next_kept : (refused : Option Refusal) (c : ControlValue) (r : Request) (choice : Choice) → next_of (control_with refused c r choice).sessions r.session ≡ next_of c.sessions r.session
-next_kept (Some (Attention a)) c r choice = next_told c.sessions r.session
-next_kept (Some (Check s)) c r choice = refl
-next_kept None c r choice = next_left c r.session r.asked
 
 -- a serial that was taken is not taken again
 pub taken_once : (c : ControlValue) (r : Request) (choice : Choice) (serial : ℕ) → IsNext c r.session serial → next_of (passed (control_with (refusal c r) c r choice).sessions r.session) r.session ≡ Some serial → ⊥

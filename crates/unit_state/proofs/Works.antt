@@ -16,6 +16,7 @@ use Rattle.unit_state.specs.Answer.{IsServed}
 use Rattle.unit_state.specs.State.{ControlValue, unit_of}
 use Rattle.unit_state.specs.Choice.{IsFine, WriteFailed, choice_of}
 use Rattle.unit_state.specs.Entry.{described, left_by, returned_by}
+use Rattle.unit_state.specs.Ops.{is_served, kind_of}
 use Rattle.unit_state.specs.Step.{is_describing}
 use Rattle.unit_state.specs.Medium.{Range, Nothing, Compares, Flushes, Finding, Done, WriteError, compared_by, found_by, reply_by, work_of}
 use Rattle.unit_state.specs.Worked.{IsWorked, choice_at, finding_at}
@@ -145,18 +146,26 @@ described_served claims c blocks session (commands.Read lba n fua) bytes told re
 described_served claims c blocks session (commands.Write lba n fua) bytes told reply d is said = absurd (cc)
 described_served claims c blocks session (commands.CompareAndWrite lba n fua) bytes told reply d is said = absurd (cc)
 described_served claims c blocks session (commands.SynchronizeCache lba n) bytes told reply d is said = absurd (cc)
+described_served claims c blocks session (commands.PersistentReserveIn action n) bytes told reply d is said = absurd (cc)
+described_served claims c blocks session (commands.PersistentReserveOut action scope kind n) bytes told reply d is said = absurd (cc)
+described_served claims c blocks session (commands.ReportTargetPortGroups n) bytes told reply d is said = absurd (cc)
+described_served claims c blocks session (commands.SetTargetPortGroups n) bytes told reply d is said = absurd (cc)
 
 -- which is any command but these
-pub describes : (command : Command) → (command ≡ commands.TestUnitReady → ⊥) → ((n : ℕ) → command ≡ commands.RequestSense n → ⊥) → ((lba n : ℕ) (fua : Bool) → command ≡ commands.Read lba n fua → ⊥) → ((lba n : ℕ) (fua : Bool) → command ≡ commands.Write lba n fua → ⊥)
+pub describes : (command : Command) → IsTrue (is_served (Some (kind_of command))) → (command ≡ commands.TestUnitReady → ⊥) → ((n : ℕ) → command ≡ commands.RequestSense n → ⊥) → ((lba n : ℕ) (fua : Bool) → command ≡ commands.Read lba n fua → ⊥) → ((lba n : ℕ) (fua : Bool) → command ≡ commands.Write lba n fua → ⊥)
     → ((lba n : ℕ) (fua : Bool) → command ≡ commands.CompareAndWrite lba n fua → ⊥) → ((lba n : ℕ) → command ≡ commands.SynchronizeCache lba n → ⊥) → IsTrue (is_describing command)
-describes commands.TestUnitReady ready sense read write compare sync = absurd (ready refl)
-describes (commands.RequestSense n) ready sense read write compare sync = absurd (sense n refl)
-describes (commands.Inquiry page n) ready sense read write compare sync = refl
-describes (commands.ModeSense header control page n) ready sense read write compare sync = refl
-describes commands.ReadCapacity10 ready sense read write compare sync = refl
-describes (commands.ReadCapacity16 n) ready sense read write compare sync = refl
-describes (commands.Read lba n fua) ready sense read write compare sync = absurd (read lba n fua refl)
-describes (commands.Write lba n fua) ready sense read write compare sync = absurd (write lba n fua refl)
-describes (commands.CompareAndWrite lba n fua) ready sense read write compare sync = absurd (compare lba n fua refl)
-describes (commands.SynchronizeCache lba n) ready sense read write compare sync = absurd (sync lba n refl)
-describes (commands.ReportLuns select n) ready sense read write compare sync = refl
+describes commands.TestUnitReady served ready sense read write compare sync = absurd (ready refl)
+describes (commands.RequestSense n) served ready sense read write compare sync = absurd (sense n refl)
+describes (commands.Inquiry page n) served ready sense read write compare sync = refl
+describes (commands.ModeSense header control page n) served ready sense read write compare sync = refl
+describes commands.ReadCapacity10 served ready sense read write compare sync = refl
+describes (commands.ReadCapacity16 n) served ready sense read write compare sync = refl
+describes (commands.Read lba n fua) served ready sense read write compare sync = absurd (read lba n fua refl)
+describes (commands.Write lba n fua) served ready sense read write compare sync = absurd (write lba n fua refl)
+describes (commands.CompareAndWrite lba n fua) served ready sense read write compare sync = absurd (compare lba n fua refl)
+describes (commands.SynchronizeCache lba n) served ready sense read write compare sync = absurd (sync lba n refl)
+describes (commands.ReportLuns select n) served ready sense read write compare sync = refl
+describes (commands.PersistentReserveIn action n) served ready sense read write compare sync = absurd (cc)
+describes (commands.PersistentReserveOut action scope kind n) served ready sense read write compare sync = absurd (cc)
+describes (commands.ReportTargetPortGroups n) served ready sense read write compare sync = absurd (cc)
+describes (commands.SetTargetPortGroups n) served ready sense read write compare sync = absurd (cc)

@@ -39,7 +39,11 @@ work_of (commands.Inquiry page allocation) bytes = Nothing
 work_of (commands.ModeSense header control page allocation) bytes = Nothing
 work_of commands.ReadCapacity10 bytes = Nothing
 work_of (commands.ReadCapacity16 allocation) bytes = Nothing
+work_of (commands.PersistentReserveIn action allocation) bytes = Nothing
+work_of (commands.PersistentReserveOut action scope kind list_length) bytes = Nothing
 work_of (commands.ReportLuns select allocation) bytes = Nothing
+work_of (commands.ReportTargetPortGroups allocation) bytes = Nothing
+work_of (commands.SetTargetPortGroups list_length) bytes = Nothing
 
 abbrev pub work_asked : Result Command CdbFault → List ℕ → Work
 work_asked (Ok command) bytes = work_of command bytes

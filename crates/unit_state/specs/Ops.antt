@@ -18,13 +18,26 @@ kind_of (commands.Read lba blocks fua) = ops.Read
 kind_of (commands.Write lba blocks fua) = ops.Write
 kind_of (commands.CompareAndWrite lba blocks fua) = ops.CompareAndWrite
 kind_of (commands.SynchronizeCache lba blocks) = ops.SynchronizeCache
+kind_of (commands.PersistentReserveIn action allocation) = ops.PersistentReserveIn
+kind_of (commands.PersistentReserveOut action scope kind list_length) = ops.PersistentReserveOut
 kind_of (commands.ReportLuns select allocation) = ops.ReportLuns
+kind_of (commands.ReportTargetPortGroups allocation) = ops.ReportTargetPortGroups
+kind_of (commands.SetTargetPortGroups list_length) = ops.SetTargetPortGroups
 
 -- an unknown operation code is of no kind
 abbrev pub kind_asked : Result Command CdbFault → Option Op
 kind_asked (Ok command) = Some (kind_of command)
 kind_asked (Err (BadField op)) = Some op
 kind_asked (Err UnknownOpcode) = None
+
+-- a command that the unit serves, which as yet are none of reservations and of target port groups
+abbrev pub is_served : Option Op → Bool
+is_served None = false
+is_served (Some ops.PersistentReserveIn) = false
+is_served (Some ops.PersistentReserveOut) = false
+is_served (Some ops.ReportTargetPortGroups) = false
+is_served (Some ops.SetTargetPortGroups) = false
+is_served kind = true
 
 -- a command that a pending attention lets pass (SAM-5, 5.14)
 abbrev pub passes_attention : Option Op → Bool

@@ -9,13 +9,12 @@ use Rattle.scsi_types.specs.declared.attention.UnitAttention.{UnitAttention}
 use Rattle.scsi_types.specs.declared.command.Command.{Command}
 use Rattle.scsi_types.specs.declared.command.Command.TheVariants.{ModeSense}
 use Rattle.scsi_types.specs.declared.command.CdbFault.{CdbFault}
-use Rattle.scsi_types.specs.declared.command.CdbFault.TheVariants.{UnknownOpcode, BadField}
 use Rattle.unit_state.specs.declared.refusal.Refusal.{Refusal}
 use Rattle.scsi_types.specs.declared.pages.PageControl.TheVariants.{Saved}
 use Rattle.unit_state.specs.declared.refusal.Refusal.TheVariants.{Attention, Check}
 use Rattle.unit_state.specs.State.{ControlValue}
 use Rattle.unit_state.specs.Sessions.{first_pending, told}
-use Rattle.unit_state.specs.Ops.{kind_asked, passes_attention}
+use Rattle.unit_state.specs.Ops.{kind_asked, is_served, passes_attention}
 use Rattle.unit_state.specs.Medium.{Range, range_of, work_asked}
 
 -- a command as the rules judge it: who sent it, what it asks, and the data that came
@@ -54,20 +53,14 @@ attention_by (Some attention) false = Some (Attention attention)
 abbrev pub attention_rule : Rule
 attention_rule c r = attention_by (first_pending c.sessions r.session) (passes_attention (kind_asked r.asked))
 
--- the opcode is no command's
-abbrev pub opcode_by : Result Command CdbFault → Option Refusal
-opcode_by (Ok command) = None
-opcode_by (Err (BadField op)) = None
-opcode_by (Err UnknownOpcode) = Some (Check invalid_opcode)
-
+-- the operation code is of no command that the unit serves
 abbrev pub opcode_rule : Rule
-opcode_rule c r = opcode_by r.asked
+opcode_rule c r = if is_served (kind_asked r.asked) then None else Some (Check invalid_opcode)
 
 -- a field of the CDB is bad, or less data came than the command needs
 abbrev pub field_by : Result Command CdbFault → List ℕ → Option Refusal
 field_by (Ok command) bytes = if nat_lt (length bytes) (need_of (Ok command)) then Some (Check invalid_field_in_cdb) else None
-field_by (Err (BadField op)) bytes = Some (Check invalid_field_in_cdb)
-field_by (Err UnknownOpcode) bytes = None
+field_by (Err fault) bytes = Some (Check invalid_field_in_cdb)
 
 abbrev pub field_rule : Rule
 field_rule c r = field_by r.asked r.bytes

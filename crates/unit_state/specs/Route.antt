@@ -1,5 +1,5 @@
 -- Where a command goes, and what lets it through.
-use Rattle.std.specs.Prelude.{◌≡◌, ◌≢◌, ℕ, List, Option, Some, None, Ok}
+use Rattle.std.specs.Prelude.{◌≡◌, ◌≢◌, ℕ, IsTrue, List, Option, Some, None, Ok}
 use Rattle.scsi_types.specs.declared.names.Group.{Group}
 use Rattle.scsi_types.specs.declared.command.Command.{Command}
 use Rattle.unit_state.specs.declared.control.Route.{Route}
@@ -10,6 +10,7 @@ use Rattle.unit_state.specs.Places.{IsPlaceOf}
 use Rattle.unit_state.specs.Choice.{Fine, choice_of}
 use Rattle.unit_state.specs.Medium.{Fits, work_of}
 use Rattle.unit_state.specs.Refusal.{Request, refusal, refusal_reply}
+use Rattle.unit_state.specs.Ops.{kind_of, is_served}
 use Rattle.unit_state.specs.Entry.{IsNext}
 
 -- to nobody, to the owner, or to the unit
@@ -21,6 +22,7 @@ IsRouteOf c session serial by (At at) = IsNext c session serial × (by ≡ c.own
 -- no rule refuses the command
 pub record IsAdmitted (c : ControlValue) (r : Request) (command : Command) : Type 0 where
   pub asks : r.asked ≡ Ok command
+  pub served : IsTrue (is_served (Some (kind_of command)))
   pub unrefused : refusal c r ≡ None
   pub fits : Fits c.total (work_of command r.bytes)
 

@@ -1,5 +1,5 @@
 //! What a command is answered.
-ghost use Rattle.std.specs.Prelude.{◌≡◌, ℕ, List, [], true, Bool, IsTrue, IfOk, OnErr, Ok, length};
+ghost use Rattle.std.specs.Prelude.{◌≡◌, ℕ, List, [], true, Bool, IsTrue, IfOk, OnErr, Ok, Some, length};
 ghost use Rattle.block_file.specs.Failures.{Tells};
 ghost use Rattle.unit_state.specs.Answer.{IsAnswer, IsServed, Lasts};
 ghost use Rattle.unit_state.specs.Choice.{IsFine, choice_of};
@@ -9,6 +9,7 @@ ghost use Rattle.identity.specs.Table.{cut};
 ghost use Rattle.scsi_types.specs.Sense.{sense_bytes};
 ghost use Rattle.unit_state.specs.Entry.{described};
 ghost use Rattle.unit_state.specs.Sessions.{first_pending};
+ghost use Rattle.unit_state.specs.Ops.{is_served, kind_of};
 ghost use Rattle.unit_state.specs.Places.{IsPlaceOf, Stays};
 ghost use Rattle.unit_state.specs.Refusal.{refusal, refusal_control, request, tell};
 ghost use Rattle.unit_state.specs.State.{unit_of};
@@ -80,6 +81,7 @@ fn serve<B: Blocks>(
     command: Command,
     bytes: &[u8],
 ) -> Result<Reply, NoMemory>
+    requires served { IsTrue (is_served (Some (kind_of command))) }
     requires fits { Fits (B.size device.old) (work_of command bytes.now) }
     requires place { IsPlaceOf control.old.sessions sender.session sender.at }
     ensures size { B.size device.new ≡ B.size device.old }

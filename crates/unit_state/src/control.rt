@@ -7,7 +7,7 @@ ghost use Rattle.unit_state.specs.Places.{IsPlaceOf};
 ghost use Rattle.unit_state.specs.Refusal.{range_by, saved_by};
 ghost use Rattle.unit_state.specs.State.{preferred};
 
-use crate::ops::{kind_asked, passes_attention};
+use crate::ops::{is_served, kind_asked, passes_attention};
 use crate::refusal::Refusal;
 use crate::sessions::{
     Attached, MOST_SESSIONS, Sender, SessionId, end, pass_at, place_of, replace, reset, staying,
@@ -15,7 +15,7 @@ use crate::sessions::{
 };
 use attentions::Pending;
 use scsi_types::{
-    Asked, CdbFault, Command, Group, NoMemory, PageControl, Place, PortName, Sense, UnitAttention,
+    Asked, Command, Group, NoMemory, PageControl, Place, PortName, Sense, UnitAttention,
     need,
 };
 use std::alloc::Global;
@@ -227,10 +227,11 @@ impl Control {
         if let Some(refusal) = self.attention(sender, &asked) {
             return Err(refusal);
         }
-        let command = match asked {
-            Ok(command) => command,
-            Err(CdbFault::UnknownOpcode) => return Err(Refusal::Check(Sense::INVALID_OPCODE)),
-            Err(CdbFault::BadField(_)) => return Err(Refusal::Check(Sense::INVALID_FIELD_IN_CDB)),
+        if !is_served(kind_asked(&asked)) {
+            return Err(Refusal::Check(Sense::INVALID_OPCODE));
+        }
+        let Ok(command) = asked else {
+            return Err(Refusal::Check(Sense::INVALID_FIELD_IN_CDB));
         };
         if (bytes.len() as u64) < u64::from(need(&command)) {
             return Err(Refusal::Check(Sense::INVALID_FIELD_IN_CDB));

@@ -1,6 +1,6 @@
 //! The kind of a command.
 ghost use Rattle.std.specs.Prelude.{◌≡◌};
-ghost use Rattle.unit_state.specs.Ops.{kind_of, kind_asked, passes_attention};
+ghost use Rattle.unit_state.specs.Ops.{kind_of, kind_asked, is_served, passes_attention};
 
 use scsi_types::{Asked, CdbFault, Command, Op};
 
@@ -28,7 +28,25 @@ fn kind_of(command: &Command) -> Op
         Command::Write { .. } => Op::Write,
         Command::CompareAndWrite { .. } => Op::CompareAndWrite,
         Command::SynchronizeCache { .. } => Op::SynchronizeCache,
+        Command::PersistentReserveIn { .. } => Op::PersistentReserveIn,
+        Command::PersistentReserveOut { .. } => Op::PersistentReserveOut,
         Command::ReportLuns { .. } => Op::ReportLuns,
+        Command::ReportTargetPortGroups { .. } => Op::ReportTargetPortGroups,
+        Command::SetTargetPortGroups { .. } => Op::SetTargetPortGroups,
+    }
+}
+
+/// Whether the unit serves a command: as yet none of reservations and of target port groups.
+pub fn is_served(kind: Option<Op>) -> bool
+    ensures { result ≡ is_served kind }
+{
+    match kind {
+        None
+        | Some(Op::PersistentReserveIn)
+        | Some(Op::PersistentReserveOut)
+        | Some(Op::ReportTargetPortGroups)
+        | Some(Op::SetTargetPortGroups) => false,
+        _ => true,
     }
 }
 

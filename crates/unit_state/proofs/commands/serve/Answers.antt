@@ -34,4 +34,4 @@ returns-in_ok-sense-in-RequestSense-clause-served g c =
 pub returns-in_ok-describe-in_default-clause-served : goal.returns-in_ok-describe-in_default-clause-served
 returns-in_ok-describe-in_default-clause-served g c =
     let d = c.in_default in
-    described_served _ _ _ _ _ _ _ _ (describes _ d.not-TestUnitReady d.not-RequestSense d.not-Read d.not-Write d.not-CompareAndWrite d.not-SynchronizeCache) c.in_ok-describe-in_default.ensures c.good-in_default.ensures
+    described_served _ _ _ _ _ _ _ _ (describes _ c.requires.served d.not-TestUnitReady d.not-RequestSense d.not-Read d.not-Write d.not-CompareAndWrite d.not-SynchronizeCache) c.in_ok-describe-in_default.ensures c.good-in_default.ensures
