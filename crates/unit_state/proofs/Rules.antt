@@ -87,6 +87,12 @@ module _ (c : ControlValue) (session : ℕ) (asked : Result ScsiCommand CdbFault
     pub admitted : need_of (Ok command) ≤ length bytes → saved_by (Ok command) ≡ None → range_by c.total (range_of (work_of command bytes)) ≡ None → IsAdmitted c r command
     admitted le saved range = record { asks = is; served = rw (ap kind_asked (sym is)) served; unrefused = unrefused le saved range; fits = fitting c.total command bytes le range }
 
+-- a CDB of a command that is served, which asks for none
+pub by_field : (c : ControlValue) (session : ℕ) (asked : Result ScsiCommand CdbFault) (bytes : List ℕ) → None ≡ attention_rule c (request session asked bytes) → is_served (kind_asked asked) ≡ true → ((command : ScsiCommand) → asked ≡ Ok command → ⊥)
+    → IsRefused c (request session asked bytes) (Check invalid_field_in_cdb)
+by_field c session (Ok command) bytes none served faulty = absurd (faulty command refl)
+by_field c session (Err fault) bytes none served faulty = record { refuses = rw (sym none) (rw served refl); fine = λ after. refl }
+
 -- where nothing refuses a command, no rule did
 none_of_two : (a b : Option Refusal) → or_else a b ≡ None → (a ≡ None) × (b ≡ None)
 none_of_two None b h = (refl, h)

@@ -2,7 +2,7 @@ use Rattle.std.proofs.Common.{◌≡◌, ◌∙◌, ◌<◌, ◌≤◌, sym, ap,
 use Rattle.scsi_types.specs.Cdb.{need_of}
 use Rattle.unit_state.specs.Ops.{is_served}
 use Rattle.unit_state.specs.Refusal.{request, attention_rule}
-use Rattle.unit_state.proofs.Rules.{by_attention, by_opcode, by_length, by_saved, by_range, admitted}
+use Rattle.unit_state.proofs.Rules.{by_attention, by_opcode, by_field, by_length, by_saved, by_range, admitted}
 use Rattle.unit_state.proofs.control.Control.admit.Goals as goal
 
 pub returns-in-Some : goal.returns-in-Some
@@ -11,6 +11,10 @@ returns-in-Some c = by_attention _ _ _ (sym c.in-Some.is ∙ c.attention.ensures
 pub returns-then-not-is_served : goal.returns-then-not-is_served
 returns-then-not-is_served c =
     by_opcode _ _ _ _ (sym c.in_default.is ∙ c.attention.ensures c.args.bytes.now) (ap is_served (sym c.kind_asked.ensures) ∙ sym c.if-not-is_served.ensures)
+
+pub returns-in_default-asked : goal.returns-in_default-asked
+returns-in_default-asked c =
+    by_field _ _ _ _ (sym c.in_default.is ∙ c.attention.ensures c.args.bytes.now) (ap is_served (sym c.kind_asked.ensures) ∙ sym c.if-not-is_served.ensures) c.in_default-asked.not-Ok
 
 pub returns-then-bytes-from : goal.returns-then-bytes-from
 returns-then-bytes-from c =
