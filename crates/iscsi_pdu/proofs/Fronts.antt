@@ -1,15 +1,14 @@
 -- The header at the front of the bytes, and what faults stand behind it.
-use Rattle.std.proofs.Common.{◌≡◌, ℕ, ◌+◌, ◌-◌, ◌/◌, ◌%◌, ◌<◌, ◌≤◌, List, length, take, drop, sym, ap, subst, ◌∙◌}
-use Rattle.std.proofs.Common.{arith, length-drop, length-take-le, inl, inr}
+use Rattle.std.proofs.Common.{◌≡◌, ℕ, ◌+◌, ◌-◌, ◌%◌, ◌<◌, ◌≤◌, List, length, take, drop, sym, ap, subst, ◌∙◌}
+use Rattle.std.proofs.Common.{arith, length-drop, length-take-le}
 use Rattle.std.proofs.lemmas.List.{get_or-take, take-take, drop-take}
-use Rattle.std.specs.Prelude.{slice_index, slice_range, ◌≢◌, ◌⊎◌}
+use Rattle.std.specs.Prelude.{slice_index, slice_range}
 use Rattle.iscsi_pdu.specs.declared.fault.PduFault.{PduFault}
 use Rattle.iscsi_pdu.specs.declared.fault.PduFault.TheVariants.{UnknownOpcode, HasAhs, TooLong, BadFlags}
 use Rattle.iscsi_pdu.specs.declared.fault.PduFault.TheVariants.{BadReserved, NonZeroPad}
 use Rattle.iscsi_pdu.specs.declared.header.Header.{Header}
 use Rattle.iscsi_pdu.specs.declared.header.Header.TheVariants.{Initiator, Target}
 use Rattle.iscsi_pdu.specs.declared.header.InitiatorHeader.{InitiatorHeader}
-use Rattle.iscsi_pdu.specs.declared.header.TargetHeader.{TargetHeader}
 use Rattle.iscsi_pdu.specs.Number.{three_at}
 use Rattle.iscsi_pdu.specs.Spelling.{padded, zeros}
 use Rattle.iscsi_pdu.specs.Fields.{opcode_of, HasBadFlags}

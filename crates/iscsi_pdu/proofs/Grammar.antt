@@ -1,11 +1,11 @@
 -- No spelling of a PDU begins another's, bytes spell one PDU at most, and a target's PDU has one spelling.
-use Rattle.std.proofs.Common.{◌≡◌, ℕ, ◌+◌, ◌-◌, ◌/◌, ◌%◌, ◌^◌, Bool, true, false, nat_eq, inl, inr, ◌<◌, ◌≤◌, List}
+use Rattle.std.proofs.Common.{◌≡◌, ℕ, ◌+◌, ◌-◌, ◌/◌, ◌%◌, ◌^◌, Bool, true, nat_eq, inl, inr, ◌<◌, ◌≤◌, List}
 use Rattle.std.proofs.Common.{◌++◌, length, get_or, take, drop, refl, sym, ap, subst, ◌∙◌, arith, append_assoc}
 use Rattle.std.proofs.Common.{length-append, length-drop, length-take-le}
 use Rattle.std.proofs.Math.ListN.{get_or-append}
 use Rattle.std.proofs.lemmas.List.{take_at, drop_at, get_or-take, get_or-drop, drop-drop, take-append-drop}
 use Rattle.std.proofs.lemmas.List.{length-replicate}
-use Rattle.std.specs.Prelude.{◌⊎◌, IsTrue, slice_index, slice_range}
+use Rattle.std.specs.Prelude.{IsTrue, slice_index, slice_range}
 use Rattle.iscsi_pdu.specs.declared.header.Header.{Header}
 use Rattle.iscsi_pdu.specs.declared.header.Header.TheVariants.{Initiator, Target}
 use Rattle.iscsi_pdu.specs.declared.header.InitiatorHeader.{InitiatorHeader}
@@ -19,7 +19,7 @@ use Rattle.iscsi_pdu.specs.declared.header.InitiatorHeader.TheVariants.{
   LogoutRequest,
 }
 use Rattle.iscsi_pdu.specs.declared.header.TargetHeader.{TargetHeader}
-use Rattle.iscsi_pdu.specs.declared.TheConstants.{BHS_LENGTH, MAX_DATA_SEGMENT_LENGTH}
+use Rattle.iscsi_pdu.specs.declared.TheConstants.{MAX_DATA_SEGMENT_LENGTH}
 use Rattle.iscsi_pdu.specs.Number.{three_at}
 use Rattle.iscsi_pdu.specs.Fields.{HasBadFlags}
 use Rattle.iscsi_pdu.specs.Spelling.{command_flags, initiator_bhs, target_bhs, bhs, padded, zeros, spelling}

@@ -1,5 +1,5 @@
 -- A BHS says one header.
-use Rattle.std.proofs.Common.{◌≡◌, ℕ, List, nat_eq, refl, sym, ap, ◌∙◌, arith, inl, inr}
+use Rattle.std.proofs.Common.{◌≡◌, ℕ, List, nat_eq, sym, ap, ◌∙◌, arith, inl, inr}
 use Rattle.std.specs.Prelude.{if◌then◌else◌}
 use Rattle.iscsi_pdu.specs.declared.header.InitiatorHeader.{InitiatorHeader}
 use Rattle.iscsi_pdu.specs.declared.header.InitiatorHeader.TheVariants.{

@@ -1,5 +1,5 @@
 -- The BHS that is written of a target's header says that header.
-use Rattle.std.proofs.Common.{◌≡◌, ℕ, List, refl, sym, arith}
+use Rattle.std.proofs.Common.{◌≡◌, ℕ, List, refl, sym}
 use Rattle.iscsi_pdu.specs.declared.header.NopIn.{NopIn as NopInHeader}
 use Rattle.iscsi_pdu.specs.declared.header.ScsiResponse.{ScsiResponse as ScsiResponseHeader}
 use Rattle.iscsi_pdu.specs.declared.header.TaskManagementResponse.{TaskManagementResponse as TaskManagementResponseHeader}

@@ -1,6 +1,5 @@
 use Rattle.std.proofs.Common.{◌≡◌, ℕ, List, [], ◌∷◌, ◌++◌, sym, ◌∙◌, arith, append_assoc}
 use Rattle.std.proofs.lemmas.List.{append-nil}
-use Rattle.iscsi_pdu.specs.Spelling.{cells}
 use Rattle.iscsi_pdu.proofs.Cells.{cells-whole}
 use Rattle.iscsi_pdu.proofs.pieces.bhs_with.Goals as goal
 

@@ -1,4 +1,4 @@
-use Rattle.std.proofs.Common.{refl, sym, ◌∙◌, arith}
+use Rattle.std.proofs.Common.{sym, ◌∙◌, arith}
 use Rattle.iscsi_pdu.proofs.Grammar.{three-take}
 use Rattle.iscsi_pdu.proofs.Fronts.{bad-reserved-stands}
 use Rattle.iscsi_pdu.proofs.reading.header_of.Goals as goal
