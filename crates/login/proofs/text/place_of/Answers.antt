@@ -1,0 +1,19 @@
+use Rattle.std.proofs.Common.{◌≡◌, ℕ, ◌<◌, ◌==◌, false, true, length, get_or, sym, arith}
+use Rattle.std.proofs.lemmas.Bool.Decides.{nat_tests}
+use Rattle.std.proofs.lemmas.List.Sums.{position_or_len_is}
+use Rattle.login.specs.Text.{is_byte}
+use Rattle.login.proofs.text.place_of.Goals as goal
+
+not_byte : (c b : ℕ) → (b ≡ c → ⊥) → is_byte c b ≡ false
+not_byte c b h = grind (arith, nat_tests)
+
+this_byte : (c b : ℕ) → b ≡ c → is_byte c b ≡ true
+this_byte c b h = grind (arith, nat_tests)
+
+pub returns-then-b-byte-clause-place : goal.returns-then-b-byte-clause-place
+returns-then-b-byte-clause-place c =
+    sym (position_or_len_is (is_byte c.args.byte) c.args.bytes.now c.loop-i.i 0 (omega arith) (λ k lt. not_byte c.args.byte _ (c.loop-i.invariant k lt)) (λ lt. this_byte c.args.byte _ c.if-b-byte.true))
+
+pub returns-clause-place : goal.returns-clause-place
+returns-clause-place c =
+    sym (position_or_len_is (is_byte c.args.byte) c.args.bytes.now (length c.args.bytes.now) 0 (omega arith) (λ k lt. not_byte c.args.byte _ (c.loop-i.invariant k (omega arith))) (λ lt. absurd (omega arith)))
