@@ -14,7 +14,6 @@ beyond base n most (c ∷ cs) some more =
     let go : within 0 most (read_on base (n * base + digit_value c) cs) ≡ None = beyond base (n * base + digit_value c) most cs some (omega arith) in
     elim (nat_lt (digit_value c) base) as (λ v. within 0 most (if v then read_on base (n * base + digit_value c) cs else None) ≡ None) [ true ↦ go | false ↦ refl ]
 
-
 -- a number within the higher limit, and the lower one
 pub raised : (low high n : ℕ) (o : Option ℕ) → within 0 high o ≡ Some n → low ≤ n → within low high o ≡ Some n
 raised low high n None e h = cc

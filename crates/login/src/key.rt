@@ -38,7 +38,9 @@ pub enum Key {
 const LONGEST: u32 = 16777215;
 
 const YES: Value = Value::Flag(true);
+
 const NO: Value = Value::Flag(false);
+
 const UNUSED: Value = Value::Word(Word::Unused);
 
 /// Every known key.
@@ -124,17 +126,49 @@ impl Key {
             Key::DataDigest => entry(b"DataDigest", Rule::Listed(Word::Unused), UNUSED),
             Key::InitialR2T => entry(b"InitialR2T", Rule::Either(true), YES),
             Key::ImmediateData => entry(b"ImmediateData", Rule::Both(true), YES),
-            Key::MaxBurstLength => entry(b"MaxBurstLength", least(512, LONGEST, 262144), Value::Number(262144)),
-            Key::FirstBurstLength => entry(b"FirstBurstLength", least(512, LONGEST, 65536), Value::Number(65536)),
-            Key::MaxRecvDataSegmentLength => entry(b"MaxRecvDataSegmentLength", declared(512, LONGEST, 65536), Value::Number(8192)),
+            Key::MaxBurstLength => entry(
+                b"MaxBurstLength",
+                least(512, LONGEST, 262144),
+                Value::Number(262144),
+            ),
+            Key::FirstBurstLength => entry(
+                b"FirstBurstLength",
+                least(512, LONGEST, 65536),
+                Value::Number(65536),
+            ),
+            Key::MaxRecvDataSegmentLength => entry(
+                b"MaxRecvDataSegmentLength",
+                declared(512, LONGEST, 65536),
+                Value::Number(8192),
+            ),
             Key::MaxConnections => entry(b"MaxConnections", least(1, 65535, 1), Value::Number(1)),
-            Key::MaxOutstandingR2T => entry(b"MaxOutstandingR2T", least(1, 65535, 1), Value::Number(1)),
-            Key::DefaultTime2Wait => entry(b"DefaultTime2Wait", greatest(0, 3600, 2), Value::Number(2)),
-            Key::DefaultTime2Retain => entry(b"DefaultTime2Retain", least(0, 3600, 0), Value::Number(20)),
+            Key::MaxOutstandingR2T => entry(
+                b"MaxOutstandingR2T",
+                least(1, 65535, 1),
+                Value::Number(1),
+            ),
+            Key::DefaultTime2Wait => entry(
+                b"DefaultTime2Wait",
+                greatest(0, 3600, 2),
+                Value::Number(2),
+            ),
+            Key::DefaultTime2Retain => entry(
+                b"DefaultTime2Retain",
+                least(0, 3600, 0),
+                Value::Number(20),
+            ),
             Key::DataPDUInOrder => entry(b"DataPDUInOrder", Rule::Either(true), YES),
             Key::DataSequenceInOrder => entry(b"DataSequenceInOrder", Rule::Either(true), YES),
-            Key::ErrorRecoveryLevel => entry(b"ErrorRecoveryLevel", least(0, 2, 0), Value::Number(0)),
-            Key::TaskReporting => entry(b"TaskReporting", Rule::Listed(Word::Rfc3720), Value::Word(Word::Rfc3720)),
+            Key::ErrorRecoveryLevel => entry(
+                b"ErrorRecoveryLevel",
+                least(0, 2, 0),
+                Value::Number(0),
+            ),
+            Key::TaskReporting => entry(
+                b"TaskReporting",
+                Rule::Listed(Word::Rfc3720),
+                Value::Word(Word::Rfc3720),
+            ),
             Key::IFMarker => entry(b"IFMarker", Rule::Both(false), NO),
             Key::OFMarker => entry(b"OFMarker", Rule::Both(false), NO),
             Key::IFMarkInt => entry(b"IFMarkInt", Rule::Refused, Value::Unset),

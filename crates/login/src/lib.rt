@@ -2,9 +2,16 @@
 #![tactic(auto)]
 
 mod answer;
+mod checks;
 mod key;
+mod negotiation;
+mod parameters;
+mod status;
 mod text;
 mod value;
 
-pub use key::Key;
+pub use key::{Key, Row};
+pub use negotiation::{LoginEnd, Negotiation};
+pub use parameters::{Parameters, in_force};
+pub use status::{Kind, LoginFlags, LoginStatus};
 pub use value::{Limits, Rule, Value, Word};
