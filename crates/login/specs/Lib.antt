@@ -8,4 +8,5 @@ pub mod Status
 pub mod Table
 pub mod Targets
 pub mod Text
+pub mod TextEnd
 pub mod Value

@@ -1,5 +1,5 @@
 -- What a Text request is answered (RFC 7143, 11.10 and appendix C).
-use Rattle.std.specs.Prelude.{ℕ, ◌+◌, Bool, bytes_eq, codes, decimal, count_by, nat_lt, not, ◌||◌, is_some, if◌then◌else◌, List, [], ◌∷◌, ◌++◌, Option, Some, None}
+use Rattle.std.specs.Prelude.{ℕ, ◌+◌, Bool, bytes_eq, codes, decimal, length, ◌==◌, count_by, nat_lt, not, ◌||◌, is_some, if◌then◌else◌, List, [], ◌∷◌, ◌++◌, Option, Some, None}
 use Rattle.std.specs.Net.Text.{socket_v4_text}
 use Rattle.std.specs.declared.net.SocketAddrV4.{SocketAddrV4}
 use Rattle.login.specs.Text.{Pair, is_byte, is_text, pairs, spelled}
@@ -7,9 +7,12 @@ use Rattle.login.specs.Table.{key_named}
 use Rattle.login.specs.declared.status.Kind.{Kind}
 use Rattle.login.specs.declared.status.Kind.TheVariants.{Normal, Discovery}
 
--- a portal with the tag of its group
+-- a portal, `a.b.c.d:port`, with the tag of its group
+unfoldable pub portal_text : ℕ → SocketAddrV4 → List ℕ
+portal_text tag portal = socket_v4_text portal ++ codes "," ++ decimal tag
+
 abbrev pub address_text : ℕ → SocketAddrV4 → List ℕ
-address_text tag portal = spelled (codes "TargetAddress") (socket_v4_text portal ++ codes "," ++ decimal tag)
+address_text tag portal = spelled (codes "TargetAddress") (portal_text tag portal)
 
 abbrev pub addresses : ℕ → List SocketAddrV4 → List ℕ
 addresses tag [] = []
@@ -26,7 +29,7 @@ all_text Normal told = spelled (codes "SendTargets") (codes "Reject")
 
 abbrev pub targets_text : List ℕ → Kind → List ℕ → List ℕ → List ℕ
 targets_text target kind value told =
-    if bytes_eq value target || bytes_eq value [] then told
+    if bytes_eq value target || length value == 0 then told
     else (if bytes_eq value (codes "All") then all_text kind told else [])
 
 -- any other key of a login is rejected here, and any other key is not understood

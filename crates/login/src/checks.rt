@@ -12,7 +12,7 @@ use crate::value::is_listed;
 /// The most bytes of text, and pairs, of a negotiation.
 const MOST_BYTES: usize = 8192;
 
-const MOST_PAIRS: usize = 64;
+pub const MOST_PAIRS: usize = 64;
 
 /// The most bytes of a name.
 const LONGEST_NAME: usize = 223;

@@ -7,6 +7,7 @@ mod key;
 mod negotiation;
 mod parameters;
 mod status;
+mod targets;
 mod text;
 mod value;
 
@@ -14,4 +15,5 @@ pub use key::{Key, Row};
 pub use negotiation::{LoginEnd, Negotiation};
 pub use parameters::{Parameters, in_force};
 pub use status::{Kind, LoginFlags, LoginStatus};
+pub use targets::{TextEnd, send_targets};
 pub use value::{Limits, Rule, Value, Word};
