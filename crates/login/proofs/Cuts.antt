@@ -2,6 +2,7 @@
 use Rattle.std.proofs.Common.{◌≡◌, ℕ, ◌+◌, ◌<◌, List, [], ◌∷◌, Bool, true, false, ◌&&◌, ◌||◌, length, refl, sym, ap, ◌∙◌, arith}
 use Rattle.std.specs.Prelude.{bytes_eq, count_by, nat_eq}
 use Rattle.std.specs.List.{slice_split, before_first, after_first, position_or_len, list_any}
+use Rattle.std.proofs.lemmas.Bool.Decides.{nat_tests}
 use Rattle.std.proofs.lemmas.List.Splits.{slice_split_first, slice_split_none, length-slice_split}
 use Rattle.std.proofs.lemmas.List.Sums.{fails_before_first}
 use Rattle.login.specs.Text.{Pair, is_byte, pair_of, pairs_of, pairs, is_pair, are_pairs, is_text}
@@ -11,14 +12,20 @@ use Rattle.login.specs.Number.{is_listed}
 all_else : (c : ℕ) (bs : List ℕ) → position_or_len (is_byte c) bs ≡ length bs → slice_split (is_byte c) bs ≡ bs ∷ []
 all_else c bs e = slice_split_none (is_byte c) bs (λ k d lt. fails_before_first (is_byte c) bs k d (omega (arith, e)))
 
-some_part : (c : ℕ) (bs : List ℕ) → 0 < length (slice_split (is_byte c) bs)
+pub not_byte : (c b : ℕ) → (b ≡ c → ⊥) → is_byte c b ≡ false
+not_byte c b h = grind (arith, nat_tests)
+
+pub this_byte : (c b : ℕ) → b ≡ c → is_byte c b ≡ true
+this_byte c b h = grind (arith, nat_tests)
+
+pub some_part : (c : ℕ) (bs : List ℕ) → 0 < length (slice_split (is_byte c) bs)
 some_part c bs = omega (arith, length-slice_split (is_byte c) bs)
 
-pairs_of_more : (part : List ℕ) (parts : List (List ℕ)) → 0 < length parts → pairs_of (part ∷ parts) ≡ pair_of part ∷ pairs_of parts
+pub pairs_of_more : (part : List ℕ) (parts : List (List ℕ)) → 0 < length parts → pairs_of (part ∷ parts) ≡ pair_of part ∷ pairs_of parts
 pairs_of_more part [] none = absurd (omega arith)
 pairs_of_more part (next ∷ more) some = refl
 
-are_pairs_more : (part : List ℕ) (parts : List (List ℕ)) → 0 < length parts → are_pairs (part ∷ parts) ≡ (is_pair part && are_pairs parts)
+pub are_pairs_more : (part : List ℕ) (parts : List (List ℕ)) → 0 < length parts → are_pairs (part ∷ parts) ≡ (is_pair part && are_pairs parts)
 are_pairs_more part [] none = absurd (omega arith)
 are_pairs_more part (next ∷ more) some = refl
 

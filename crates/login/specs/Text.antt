@@ -1,5 +1,5 @@
 -- Text (RFC 7143, 6.1): pairs `key=value`, each with a zero byte behind it.
-use Rattle.std.specs.Prelude.{ℕ, ◌<◌, Bool, true, ◌&&◌, ◌==◌, nat_lt, nat_le, bytes_eq, if◌then◌else◌, List, [], ◌∷◌, ◌++◌, length, Option, Some, None}
+use Rattle.std.specs.Prelude.{ℕ, ◌<◌, ◌≢◌, All, Bool, true, ◌&&◌, ◌==◌, nat_lt, bytes_eq, if◌then◌else◌, List, [], ◌∷◌, ◌++◌, length, Option, Some, None}
 use Rattle.std.specs.List.{slice_split, before_first, after_first, position_or_len}
 
 pub record Pair : Type 0 where
@@ -49,3 +49,14 @@ spelled key value = key ++ (61 ∷ []) ++ value ++ (0 ∷ [])
 abbrev pub text_of : List Pair → List ℕ
 text_of [] = []
 text_of (p ∷ ps) = spelled p.key p.value ++ text_of ps
+
+-- a pair that text can spell: a key of 1 to 63 bytes without `=` and zero, and a value without zero
+pub record IsPair (p : Pair) : Type 0 where
+  pub some : 0 < length p.key
+  pub short : length p.key < 64
+  pub key : All (λ b. (b ≢ 61) × (b ≢ 0)) p.key
+  pub value : All (λ b. b ≢ 0) p.value
+
+abbrev pub ArePairs : List Pair → Type 0
+ArePairs [] = Unit {0}
+ArePairs (p ∷ ps) = IsPair p × ArePairs ps

@@ -4,6 +4,7 @@
 mod answer;
 mod checks;
 mod key;
+mod laws;
 mod negotiation;
 mod parameters;
 mod status;
@@ -12,6 +13,10 @@ mod text;
 mod value;
 
 pub use key::{Key, Row};
+pub use laws::{
+    a_text_and_its_pairs, booleans_that_are_negotiated, numbers_that_are_negotiated,
+    what_the_target_says_once,
+};
 pub use negotiation::{LoginEnd, Negotiation};
 pub use parameters::{Parameters, in_force};
 pub use status::{Kind, LoginFlags, LoginStatus};

@@ -1,14 +1,8 @@
 use Rattle.std.proofs.Common.{◌≡◌, ℕ, ◌<◌, ◌==◌, false, true, length, get_or, sym, arith}
-use Rattle.std.proofs.lemmas.Bool.Decides.{nat_tests}
 use Rattle.std.proofs.lemmas.List.Sums.{position_or_len_is}
 use Rattle.login.specs.Text.{is_byte}
+use Rattle.login.proofs.Cuts.{not_byte, this_byte}
 use Rattle.login.proofs.text.place_of.Goals as goal
-
-not_byte : (c b : ℕ) → (b ≡ c → ⊥) → is_byte c b ≡ false
-not_byte c b h = grind (arith, nat_tests)
-
-this_byte : (c b : ℕ) → b ≡ c → is_byte c b ≡ true
-this_byte c b h = grind (arith, nat_tests)
 
 pub returns-then-b-byte-clause-place : goal.returns-then-b-byte-clause-place
 returns-then-b-byte-clause-place c =
