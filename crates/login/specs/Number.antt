@@ -32,7 +32,9 @@ number_within limits value = within limits.low limits.high (number_in value)
 
 -- a boolean: `Yes` or `No`
 unfoldable pub flag_in : List ℕ → Option Bool
-flag_in value = if bytes_eq value (codes "Yes") then Some true else (if bytes_eq value (codes "No") then Some false else None)
+flag_in value =
+    if bytes_eq value (codes "Yes") then Some true
+    else (if bytes_eq value (codes "No") then Some false else None)
 
 -- whether a word is among those of a list, which commas part
 unfoldable pub is_listed : List ℕ → List ℕ → Bool

@@ -18,4 +18,12 @@ pub record Progress : Type 0 where
   pub unfinished : List ℕ
 
 abbrev pub beginning : List ℕ → ℕ → Progress
-beginning target tag = record { target = target; tag = tag; stage = None; kind = None; declared = false; said = []; unfinished = [] }
+beginning target tag = record {
+  target = target;
+  tag = tag;
+  stage = None;
+  kind = None;
+  declared = false;
+  said = [];
+  unfinished = [];
+}

@@ -30,15 +30,18 @@ is_stage None now = nat_lt now 2
 is_stage (Some current) now = nat_lt now 2 && now == current
 
 abbrev pub may_go : ℕ → ℕ → Bool
-may_go now next = now == 0 && next == 1 || (now == 0 && next == 3) || (now == 1 && next == 3)
+may_go now next = (now == 0 && next == 1) || (now == 0 && next == 3) || (now == 1 && next == 3)
 
 -- T with C, another stage than the current one, or with T a transition that there is not
 abbrev pub has_wrong_flags : Option ℕ → LoginFlags → Bool
-has_wrong_flags stage f = f.transit && f.continues || not (is_stage stage f.current_stage) || (f.transit && not (may_go f.current_stage f.next_stage))
+has_wrong_flags stage f =
+    (f.transit && f.continues) || not (is_stage stage f.current_stage)
+    || (f.transit && not (may_go f.current_stage f.next_stage))
 
 -- a negotiation has at most 8192 bytes of text and 64 pairs, each of which ends in a zero byte
 abbrev pub is_too_long : List ℕ → List ℕ → Bool
-is_too_long said text = nat_lt 8192 (length said + length text) || nat_lt 64 (count_by (is_byte 0) said + count_by (is_byte 0) text)
+is_too_long said text =
+    nat_lt 8192 (length said + length text) || nat_lt 64 (count_by (is_byte 0) said + count_by (is_byte 0) text)
 
 -- what the first request said of these keys stands: a later one may say them again, and is not heard
 abbrev pub stands_from_first : Option Key → Bool
@@ -55,7 +58,8 @@ has_key key ps = is_some (found key ps)
 abbrev pub has_repeated : Bool → List Pair → List Pair → Bool
 has_repeated first said [] = false
 has_repeated first said (p ∷ ps) =
-    (first || not (stands_from_first (key_named p.key))) && (has_key p.key said || has_key p.key ps) || has_repeated first said ps
+    ((first || not (stands_from_first (key_named p.key))) && (has_key p.key said || has_key p.key ps))
+    || has_repeated first said ps
 
 -- a name has at least so many bytes, and at most 223 (RFC 7143, 4.2.7.1)
 abbrev pub has_bad_length : ℕ → Option (List ℕ) → Bool
@@ -68,7 +72,9 @@ has_bad_name ps = has_bad_length 1 (value_said Of.InitiatorName ps) || has_bad_l
 -- the session type: Normal where nothing is said
 abbrev pub kind_said : Option (List ℕ) → Option Kind
 kind_said None = Some Normal
-kind_said (Some value) = if bytes_eq value (codes "Normal") then Some Normal else (if bytes_eq value (codes "Discovery") then Some Discovery else None)
+kind_said (Some value) =
+    if bytes_eq value (codes "Normal") then Some Normal
+    else (if bytes_eq value (codes "Discovery") then Some Discovery else None)
 
 abbrev pub kind_of : List Pair → Option Kind
 kind_of ps = kind_said (value_said Of.SessionType ps)
@@ -113,7 +119,8 @@ abbrev pub kind_rule : Rule
 kind_rule s f text = when (is_none (kind_of (pairs text))) (Refused SessionTypeNotSupported)
 
 abbrev pub target_rule : Rule
-target_rule s f text = when (needs_target (kind_of (pairs text)) && is_none (value_said Of.TargetName (pairs text))) (Refused MissingParameter)
+target_rule s f text =
+    when (needs_target (kind_of (pairs text)) && is_none (value_said Of.TargetName (pairs text))) (Refused MissingParameter)
 
 abbrev pub other_target_rule : Rule
 other_target_rule s f text = when (is_other s.target (value_said Of.TargetName (pairs text))) (Refused NotFound)
@@ -122,7 +129,8 @@ abbrev pub session_rule : Rule
 session_rule s f text = when (not (f.tsih == 0)) NamesSession
 
 abbrev pub authentication_rule : Rule
-authentication_rule s f text = when (wants_authentication (value_said Of.AuthMethod (pairs text))) (Refused AuthenticationFailure)
+authentication_rule s f text =
+    when (wants_authentication (value_said Of.AuthMethod (pairs text))) (Refused AuthenticationFailure)
 
 -- of a request with C, whose text goes on; of the first request that ends a run; and of a later one
 abbrev pub rules_of_part : List Rule
@@ -138,7 +146,9 @@ abbrev pub checks_of_later : List Rule
 checks_of_later = length_rule ∷ form_rule ∷ repeated_rule ∷ authentication_rule ∷ []
 
 abbrev pub rules_for : Progress → LoginFlags → List Rule
-rules_for s f = if f.continues then rules_of_part else flags_rule ∷ (if is_none s.kind then checks_of_first else checks_of_later)
+rules_for s f =
+    if f.continues then rules_of_part
+    else flags_rule ∷ (if is_none s.kind then checks_of_first else checks_of_later)
 
 -- the first of two that applies
 abbrev pub or_else : Option Stop → Option Stop → Option Stop

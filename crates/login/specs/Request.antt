@@ -43,20 +43,29 @@ tells_length s f = not s.declared && f.current_stage == 1
 
 -- the text of a response: what the target says by itself, then the answers
 abbrev pub response : Progress → LoginFlags → List Pair → List ℕ
-response s f ps = group_text s.tag s.kind (kind_after s.kind ps) ++ length_text (tells_length s f) ++ answers ps
+response s f ps =
+    group_text s.tag s.kind (kind_after s.kind ps) ++ length_text (tells_length s f) ++ answers ps
 
 abbrev pub answer_by : Option Stop → LoginFlags → List ℕ → Ending
 answer_by (Some stop) f text = Stopped stop
-answer_by None f text = if f.continues then Answered [] else (if next_stage f == 3 then Finished text else Answered text)
+answer_by None f text =
+    if f.continues then Answered []
+    else (if next_stage f == 3 then Finished text else Answered text)
 
 -- what a request is answered; a request with C is answered with nothing, until the last of its run
 unfoldable pub answer_to : Progress → LoginFlags → List ℕ → Ending
 answer_to s f text = let whole = s.unfinished ++ text in answer_by (stop_of s f whole) f (response s f (pairs whole))
 
 abbrev pub passed : Progress → LoginFlags → List ℕ → Progress
-passed s f whole = if f.continues
-    then record s { stage = Some f.current_stage; unfinished = whole }
-    else record s { stage = Some (next_stage f); kind = kind_after s.kind (pairs whole); declared = s.declared || f.current_stage == 1; said = s.said ++ whole; unfinished = [] }
+passed s f whole =
+    if f.continues then record s { stage = Some f.current_stage; unfinished = whole }
+    else record s {
+      stage = Some (next_stage f);
+      kind = kind_after s.kind (pairs whole);
+      declared = s.declared || f.current_stage == 1;
+      said = s.said ++ whole;
+      unfinished = [];
+    }
 
 abbrev pub after_by : Option Stop → Progress → LoginFlags → List ℕ → Progress
 after_by (Some stop) s f whole = s

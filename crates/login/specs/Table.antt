@@ -23,7 +23,8 @@ limits low high own = record { low = low; high = high; own = own }
 abbrev pub row : List ℕ → Rule → Value → Row
 row name rule default = record { name = name; rule = rule; default = default }
 
--- No value of the target's own is another than the default, but that it takes no time to retain (0).
+-- A list of words is agreed on where the target's word is in it. A number has its range and the target's own offer; a
+-- boolean has the target's own offer. The own length of a data segment is said by the target in stage 1.
 abbrev pub row_of : Key → Row
 row_of Of.AuthMethod = row (codes "AuthMethod") (Listed Unused) Unset
 row_of Of.HeaderDigest = row (codes "HeaderDigest") (Listed Unused) (Word Unused)
@@ -32,7 +33,8 @@ row_of Of.InitialR2T = row (codes "InitialR2T") (Either true) (Flag true)
 row_of Of.ImmediateData = row (codes "ImmediateData") (Both true) (Flag true)
 row_of Of.MaxBurstLength = row (codes "MaxBurstLength") (Least (limits 512 16777215 262144)) (Number 262144)
 row_of Of.FirstBurstLength = row (codes "FirstBurstLength") (Least (limits 512 16777215 65536)) (Number 65536)
-row_of Of.MaxRecvDataSegmentLength = row (codes "MaxRecvDataSegmentLength") (Declared (limits 512 16777215 65536)) (Number 8192)
+row_of Of.MaxRecvDataSegmentLength =
+    row (codes "MaxRecvDataSegmentLength") (Declared (limits 512 16777215 65536)) (Number 8192)
 row_of Of.MaxConnections = row (codes "MaxConnections") (Least (limits 1 65535 1)) (Number 1)
 row_of Of.MaxOutstandingR2T = row (codes "MaxOutstandingR2T") (Least (limits 1 65535 1)) (Number 1)
 row_of Of.DefaultTime2Wait = row (codes "DefaultTime2Wait") (Greatest (limits 0 3600 2)) (Number 2)
@@ -52,8 +54,10 @@ row_of Of.SessionType = row (codes "SessionType") Kept Unset
 row_of Of.TargetPortalGroupTag = row (codes "TargetPortalGroupTag") Kept Unset
 
 abbrev pub keys : List Key
-keys = Of.AuthMethod ∷ Of.HeaderDigest ∷ Of.DataDigest ∷ Of.InitialR2T ∷ Of.ImmediateData ∷ Of.MaxBurstLength ∷ Of.FirstBurstLength
-    ∷ Of.MaxRecvDataSegmentLength ∷ Of.MaxConnections ∷ Of.MaxOutstandingR2T ∷ Of.DefaultTime2Wait ∷ Of.DefaultTime2Retain
+keys =
+    Of.AuthMethod ∷ Of.HeaderDigest ∷ Of.DataDigest ∷ Of.InitialR2T ∷ Of.ImmediateData ∷ Of.MaxBurstLength
+    ∷ Of.FirstBurstLength ∷ Of.MaxRecvDataSegmentLength ∷ Of.MaxConnections ∷ Of.MaxOutstandingR2T
+    ∷ Of.DefaultTime2Wait ∷ Of.DefaultTime2Retain
     ∷ Of.DataPDUInOrder ∷ Of.DataSequenceInOrder ∷ Of.ErrorRecoveryLevel ∷ Of.TaskReporting ∷ Of.IFMarker ∷ Of.OFMarker
     ∷ Of.IFMarkInt ∷ Of.OFMarkInt ∷ Of.InitiatorName ∷ Of.InitiatorAlias ∷ Of.TargetName ∷ Of.SessionType
     ∷ Of.TargetPortalGroupTag ∷ []
@@ -65,8 +69,8 @@ has_name name key = bytes_eq (row_of key).name name
 unfoldable pub key_named : List ℕ → Option Key
 key_named name = find (has_name name) keys
 
--- The value of a key that is in force after these pairs: the agreed one, or the default where the key was not offered, or
--- was offered with a value that is not of its form or out of its range.
+-- The value of a key that is in force after these pairs: the agreed one, or the default where the key was not
+-- offered, or was offered with a value that is not of its form or out of its range.
 abbrev pub value_after : Row → Option (List ℕ) → Value
 value_after r None = r.default
 value_after r (Some value) = unwrap_or (agreed r.rule value) r.default

@@ -22,7 +22,8 @@ addresses tag (portal ∷ portals) = address_text tag portal ++ addresses tag po
 abbrev pub target_text : List ℕ → List SocketAddrV4 → List SocketAddrV4 → List ℕ
 target_text target first second = spelled (codes "TargetName") target ++ addresses 1 first ++ addresses 2 second
 
--- `All` is asked in a discovery session alone; the target's name, or the session's own target by an empty value, in each
+-- `All` is asked in a discovery session alone; the target's name, or an empty value for the session's own target, in
+-- each kind of session
 abbrev pub all_text : Kind → List ℕ → List ℕ
 all_text Discovery told = told
 all_text Normal told = spelled (codes "SendTargets") (codes "Reject")

@@ -10,6 +10,7 @@ use Rattle.login.specs.declared.targets.TextEnd.TheVariants.{Answer, Fault, NoMe
 -- a fault just where the text is none; else the answers to its pairs in order, unless memory was short
 abbrev pub IsTextEnd : TextEnd → List ℕ → Kind → List SocketAddrV4 → List SocketAddrV4 → List ℕ → Type 0
 IsTextEnd (Answer answer) target kind first second text =
-    (is_bad_request text ≡ false) × (answer.items ≡ answers_of target kind (target_text target first second) (pairs text))
+    (is_bad_request text ≡ false)
+    × (answer.items ≡ answers_of target kind (target_text target first second) (pairs text))
 IsTextEnd Fault target kind first second text = is_bad_request text ≡ true
 IsTextEnd NoMemory target kind first second text = is_bad_request text ≡ false

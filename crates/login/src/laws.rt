@@ -13,16 +13,16 @@ ghost use Rattle.login.specs.declared.value.Limits.{Limits as Bounds};
 ghost use Rattle.login.specs.declared.value.Rule.TheVariants.{Least, Greatest, Either, Both};
 ghost use Rattle.login.specs.declared.value.Value.TheVariants.{Number, Flag};
 
-/// What pairs spell is a text, and is read as those pairs; and a text is what its pairs spell (RFC 7143, 6.1). So a text
-/// and its pairs tell each other.
+/// What pairs spell is a text, and is read as those pairs; and a text is what its pairs spell (RFC 7143, 6.1). So a
+/// text and its pairs tell each other.
 pub fn a_text_and_its_pairs()
     ensures text { (ps : List Pair) → ArePairs ps → is_text (text_of ps) ≡ true }
     ensures read { (ps : List Pair) → ArePairs ps → pairs (text_of ps) ≡ ps }
     ensures spelled { (text : List ℕ) → is_text text ≡ true → text_of (pairs text) ≡ text }
 {}
 
-/// A number that is negotiated is one of both offers, and the lesser or the greater of them (RFC 7143, 6.2.2); an offer is
-/// taken only within the key's range.
+/// A number that is negotiated is one of both offers, and the lesser or the greater of them (RFC 7143, 6.2.2); an offer
+/// is taken only within the key's range.
 pub fn numbers_that_are_negotiated()
     ensures range { (limits : Bounds) (value : List ℕ) (offer : ℕ) → number_within limits value ≡ Some offer
         → (limits.low ≤ offer) × (offer ≤ limits.high) }

@@ -213,7 +213,8 @@ impl Negotiation {
 
     /// Goes on behind a request that passed the checks.
     fn pass(&mut self, flags: LoginFlags, whole: Vec<u8>) -> LoginEnd
-        ensures answer { IfSome (told result) (λ ending. ending ≡ answer_by None flags (response self.old flags (pairs whole.items))) }
+        ensures answer { IfSome (told result) (λ ending.
+            ending ≡ answer_by None flags (response self.old flags (pairs whole.items))) }
         ensures state { IfSome (told result) (λ ending. self.new ≡ passed self.old flags whole.items) }
         ensures memory { IfNone (told result) (self.new ≡ self.old) }
     {

@@ -23,8 +23,8 @@ pub enum TextEnd {
     NoMemory,
 }
 
-/// Answers the text of a Text request in a session of this kind: SendTargets with the target's name and the addresses of
-/// the portals of the first controller in order, then of the second.
+/// Answers the text of a Text request in a session of this kind: SendTargets with the target's name and the addresses
+/// of the portals of the first controller in order, then of the second.
 pub fn send_targets(
     alloc: Global,
     target: &[u8],

@@ -68,7 +68,8 @@ fn is_pair(part: &[u8]) -> bool
 /// The first pair of a text, if it has one.
 pub fn first_pair(text: &[u8]) -> Option<First<'_>>
     ensures none { IfNone result (pairs text.now ≡ []) }
-    ensures some { IfSome result (λ f. pairs text.now ≡ record { key = f.key.now; value = f.value.now } ∷ pairs f.rest.now) }
+    ensures some { IfSome result (λ f.
+        pairs text.now ≡ record { key = f.key.now; value = f.value.now } ∷ pairs f.rest.now) }
     ensures shorter { IfSome result (λ f. length f.rest.now < length text.now) }
 {
     let Some((part, rest)) = parted(text, 0) else {
