@@ -1,12 +1,11 @@
 -- What is agreed on, in the words of RFC 7143, 6.2.
 use Rattle.std.proofs.Common.{◌≡◌, ℕ, ◌≤◌, ◌⊎◌, min, max, List, Bool, true, false, ◌||◌, ◌&&◌, refl, sym, ap, subst, ◌∙◌, arith, inl, inr, Option, Some, None}
-use Rattle.std.specs.Prelude.{option_map, nat_le, ◌↔◌, IsTrue, unwrap_or, if◌then◌else◌}
+use Rattle.std.specs.Prelude.{option_map, ◌↔◌, IsTrue}
 use Rattle.std.proofs.lemmas.Bool.Decides.{nat_tests}
 use Rattle.login.specs.Number.{number_within, number_in, within, flag_in}
 use Rattle.login.specs.Value.{agreed}
 use Rattle.login.specs.declared.value.Limits.{Limits}
 use Rattle.login.specs.declared.value.Rule.TheVariants.{Least, Greatest, Either, Both}
-use Rattle.login.specs.declared.value.Value.{Value}
 use Rattle.login.specs.declared.value.Value.TheVariants.{Number, Flag}
 
 lesser : (a b : ℕ) → (min a b ≤ a) × (min a b ≤ b) × ((min a b ≡ a) ⊎ (min a b ≡ b))

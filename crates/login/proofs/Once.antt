@@ -1,5 +1,5 @@
 -- What the target says once, and what is known behind the first request that it answers.
-use Rattle.std.proofs.Common.{◌≡◌, rules, List, [], ◌∷◌, ◌++◌, ℕ, Bool, true, false, not, ◌&&◌, ◌||◌, refl, sym, ap, subst, ◌∙◌, Option, Some, None}
+use Rattle.std.proofs.Common.{◌≡◌, rules, List, [], ◌∷◌, ◌++◌, ℕ, Bool, true, false, not, ◌&&◌, refl, sym, ap, subst, ◌∙◌, Option, Some, None}
 use Rattle.std.specs.Prelude.{IsSome, is_none, if◌then◌else◌, ◌==◌}
 use Rattle.login.specs.Text.{Pair, pairs}
 use Rattle.login.specs.Answer.{answers}

@@ -1,6 +1,6 @@
 -- Pairs that are spelled are read again, and a text is what its pairs spell.
-use Rattle.std.proofs.Common.{◌≡◌, ◌≢◌, ℕ, zero, suc, ◌+◌, ◌<◌, ◌≤◌, List, [], ◌∷◌, ◌++◌, Bool, true, false, ◌&&◌, length, get_or, take, drop, refl, sym, ap, subst, ◌∙◌, arith, append_assoc, length-append, drop-cons, add-one}
-use Rattle.std.specs.Prelude.{nat_lt, nat_eq, ◌==◌}
+use Rattle.std.proofs.Common.{◌≡◌, ◌≢◌, ℕ, zero, suc, ◌+◌, ◌<◌, List, [], ◌∷◌, ◌++◌, Bool, true, false, ◌&&◌, length, get_or, take, drop, refl, sym, ap, ◌∙◌, arith, append_assoc, length-append, drop-cons, add-one}
+use Rattle.std.specs.Prelude.{nat_lt, ◌==◌}
 use Rattle.std.specs.List.{All, slice_split, before_first, after_first, position_or_len, join_with_byte}
 use Rattle.std.proofs.Math.ListN.{get_or-append}
 use Rattle.std.proofs.Math.Seq.{take-append_seam, drop-append-add, get_or-append_seam}
@@ -9,7 +9,7 @@ use Rattle.std.proofs.lemmas.List.{take-append-drop}
 use Rattle.std.proofs.lemmas.List.Elements.{All-append}
 use Rattle.std.proofs.lemmas.List.Splits.{slice_split_at, join_with_byte-slice_split}
 use Rattle.std.proofs.lemmas.List.Sums.{position_or_len_is, passes_at_first}
-use Rattle.login.specs.Text.{Pair, IsPair, ArePairs, is_byte, pair_of, pairs_of, pairs, is_pair, are_pairs, is_text, spelled, text_of}
+use Rattle.login.specs.Text.{Pair, IsPair, ArePairs, is_byte, pair_of, pairs_of, pairs, is_pair, are_pairs, is_text, text_of}
 use Rattle.login.proofs.Cuts.{not_byte, this_byte, some_part, pairs_of_more, are_pairs_more}
 
 all_one : (P : ℕ → Type 0) (x : ℕ) → P x → All P (x ∷ [])

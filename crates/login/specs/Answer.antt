@@ -1,5 +1,5 @@
 -- What is answered to pairs (RFC 7143, 6.2).
-use Rattle.std.specs.Prelude.{ℕ, Bool, true, false, codes, if◌then◌else◌, List, [], ◌∷◌, ◌++◌, Option, Some, None}
+use Rattle.std.specs.Prelude.{ℕ, codes, if◌then◌else◌, List, [], ◌∷◌, ◌++◌, Option, Some, None}
 use Rattle.login.specs.Text.{Pair, spelled}
 use Rattle.login.specs.Value.{agreed, value_text, is_declared}
 use Rattle.login.specs.Table.{row_of, key_named}

@@ -1,5 +1,5 @@
 -- The values in force in a session (RFC 7143, 13).
-use Rattle.std.specs.Prelude.{ℕ, Bool, false, List, []}
+use Rattle.std.specs.Prelude.{ℕ, Bool, false, List}
 use Rattle.login.specs.Text.{Pair}
 use Rattle.login.specs.Table.{in_force}
 use Rattle.login.specs.declared.key.Key.TheVariants as Of

@@ -3,7 +3,7 @@ use Rattle.std.specs.Prelude.{ℕ, Bool, not, ◌&&◌, ◌||◌, ◌==◌, code
 use Rattle.login.specs.Text.{Pair, pairs, spelled}
 use Rattle.login.specs.Answer.{answers}
 use Rattle.login.specs.Progress.{Progress}
-use Rattle.login.specs.Refusal.{stop_of, kind_of, value_said}
+use Rattle.login.specs.Refusal.{stop_of, kind_of}
 use Rattle.login.specs.declared.status.LoginFlags.{LoginFlags}
 use Rattle.login.specs.declared.status.Kind.{Kind}
 use Rattle.login.specs.declared.status.Kind.TheVariants.{Normal, Discovery}

@@ -1,8 +1,8 @@
 -- What a Text request is answered (RFC 7143, 11.10 and appendix C).
-use Rattle.std.specs.Prelude.{ℕ, ◌+◌, Bool, bytes_eq, codes, decimal, length, ◌==◌, count_by, nat_lt, not, ◌||◌, is_some, if◌then◌else◌, List, [], ◌∷◌, ◌++◌, Option, Some, None}
+use Rattle.std.specs.Prelude.{ℕ, Bool, bytes_eq, codes, decimal, length, ◌==◌, count_by, nat_lt, not, ◌||◌, is_some, if◌then◌else◌, List, [], ◌∷◌, ◌++◌}
 use Rattle.std.specs.Net.Text.{socket_v4_text}
 use Rattle.std.specs.declared.net.SocketAddrV4.{SocketAddrV4}
-use Rattle.login.specs.Text.{Pair, is_byte, is_text, pairs, spelled}
+use Rattle.login.specs.Text.{Pair, is_byte, is_text, spelled}
 use Rattle.login.specs.Table.{key_named}
 use Rattle.login.specs.declared.status.Kind.{Kind}
 use Rattle.login.specs.declared.status.Kind.TheVariants.{Normal, Discovery}

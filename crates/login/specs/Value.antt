@@ -24,7 +24,7 @@ agreed (Listed word) value = if is_listed (word_text word) value then Some (Chos
 agreed Kept value = Some Unset
 agreed Refused value = None
 
--- what is said of an agreed value: nothing where the key is declared by one side
+-- how an agreed value is written in an answer
 abbrev pub value_text : Value → List ℕ
 value_text (Number n) = decimal n
 value_text (Flag true) = codes "Yes"
@@ -32,6 +32,7 @@ value_text (Flag false) = codes "No"
 value_text (Chosen word) = word_text word
 value_text Unset = []
 
+-- what one side declares is not answered
 abbrev pub is_declared : Rule → Bool
 is_declared (Declared limits) = true
 is_declared Kept = true

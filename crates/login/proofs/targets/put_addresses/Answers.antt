@@ -1,4 +1,4 @@
-use Rattle.std.proofs.Common.{◌≡◌, ℕ, ◌+◌, ◌<◌, List, ◌∷◌, ◌++◌, length, get_or, drop, sym, ap, ◌∙◌, append_assoc, drop-cons, add-one}
+use Rattle.std.proofs.Common.{◌≡◌, ℕ, ◌+◌, ◌<◌, List, ◌++◌, length, get_or, drop, sym, ap, ◌∙◌, append_assoc, drop-cons, add-one}
 use Rattle.std.specs.declared.net.SocketAddrV4.{SocketAddrV4}
 use Rattle.login.specs.Targets.{addresses, address_text}
 use Rattle.login.proofs.targets.put_addresses.Goals as goal

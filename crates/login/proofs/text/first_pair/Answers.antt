@@ -1,4 +1,3 @@
-use Rattle.std.proofs.Common.{◌≡◌}
 use Rattle.login.proofs.Cuts.{pairs_first, pairs_none}
 use Rattle.login.proofs.text.first_pair.Goals as goal
 

@@ -1,4 +1,4 @@
-use Rattle.std.proofs.Common.{◌≡◌, sym, ◌∙◌}
+use Rattle.std.proofs.Common.{sym, ◌∙◌}
 use Rattle.login.proofs.Cuts.{is_text_first, is_text_none, and_false, and_true}
 use Rattle.login.proofs.text.is_text.Goals as goal
 

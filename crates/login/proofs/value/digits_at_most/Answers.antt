@@ -1,4 +1,4 @@
-use Rattle.std.proofs.Common.{◌≡◌, ◌<◌, ◌+◌, ◌*◌, ℕ, List, [], ◌∷◌, Option, Some, None, get_or, drop, length, sym, ap, ◌∙◌, arith, refl}
+use Rattle.std.proofs.Common.{◌≡◌, ◌<◌, ◌+◌, ◌*◌, ℕ, List, [], ◌∷◌, drop, length, sym, ap, ◌∙◌, arith, refl}
 use Rattle.login.specs.Number.{read_on, digits_in, within}
 use Rattle.login.proofs.Numbers.{beyond, digit_more}
 use Rattle.login.proofs.value.digits_at_most.Goals as goal

@@ -1,4 +1,4 @@
-use Rattle.std.proofs.Common.{◌≡◌, sym, ◌∙◌}
+use Rattle.std.proofs.Common.{sym, ◌∙◌}
 use Rattle.login.proofs.Cuts.{is_listed_first, is_listed_none, or_true, or_left}
 use Rattle.login.proofs.value.is_listed.Goals as goal
 

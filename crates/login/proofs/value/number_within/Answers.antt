@@ -1,4 +1,4 @@
-use Rattle.std.proofs.Common.{◌≡◌, sym, ◌∙◌}
+use Rattle.std.proofs.Common.{sym, ◌∙◌}
 use Rattle.login.specs.Number.{number_within, number_in}
 use Rattle.login.proofs.Numbers.{raised, raised_below, raised_none}
 use Rattle.login.proofs.value.number_within.Goals as goal
