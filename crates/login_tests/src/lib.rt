@@ -4,7 +4,11 @@
 #[cfg(test)]
 mod keys;
 #[cfg(test)]
+mod limits;
+#[cfg(test)]
 mod logins;
+#[cfg(test)]
+mod numbers;
 #[cfg(test)]
 mod refusals;
 #[cfg(test)]
