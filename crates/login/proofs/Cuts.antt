@@ -21,35 +21,41 @@ this_byte c b h = grind (arith, nat_tests)
 pub some_part : (c : ℕ) (bs : List ℕ) → 0 < length (slice_split (is_byte c) bs)
 some_part c bs = omega (arith, length-slice_split (is_byte c) bs)
 
-pub pairs_of_more : (part : List ℕ) (parts : List (List ℕ)) → 0 < length parts → pairs_of (part ∷ parts) ≡ pair_of part ∷ pairs_of parts
+pub pairs_of_more : (part : List ℕ) (parts : List (List ℕ)) → 0 < length parts
+    → pairs_of (part ∷ parts) ≡ pair_of part ∷ pairs_of parts
 pairs_of_more part [] none = absurd (omega arith)
 pairs_of_more part (next ∷ more) some = refl
 
-pub are_pairs_more : (part : List ℕ) (parts : List (List ℕ)) → 0 < length parts → are_pairs (part ∷ parts) ≡ (is_pair part && are_pairs parts)
+pub are_pairs_more : (part : List ℕ) (parts : List (List ℕ)) → 0 < length parts
+    → are_pairs (part ∷ parts) ≡ (is_pair part && are_pairs parts)
 are_pairs_more part [] none = absurd (omega arith)
 are_pairs_more part (next ∷ more) some = refl
 
 -- the first part of a text and what stands behind it are told by the place of the first zero byte
-pub pairs_first : (text part rest key value : List ℕ) → position_or_len (is_byte 0) text < length text → part ≡ before_first (is_byte 0) text → rest ≡ after_first (is_byte 0) text
+pub pairs_first : (text part rest key value : List ℕ) → position_or_len (is_byte 0) text < length text
+    → part ≡ before_first (is_byte 0) text → rest ≡ after_first (is_byte 0) text
     → key ≡ before_first (is_byte 61) part → value ≡ after_first (is_byte 61) part → pairs text ≡ record { key = key; value = value } ∷ pairs rest
 unfolding pairs
 pairs_first text part rest key value some p r k v =
     let first : pair_of part ≡ record { key = key; value = value } = rw (k, v) refl in
     let cut : slice_split (is_byte 0) text ≡ part ∷ slice_split (is_byte 0) rest = slice_split_first (is_byte 0) text 0 some ∙ rw (p, r) refl in
-    ap pairs_of cut ∙ pairs_of_more part (slice_split (is_byte 0) rest) (some_part 0 rest) ∙ ap (λ (x : Pair). x ∷ pairs_of (slice_split (is_byte 0) rest)) first
+    ap pairs_of cut ∙ pairs_of_more part (slice_split (is_byte 0) rest) (some_part 0 rest)
+    ∙ ap (λ (x : Pair). x ∷ pairs_of (slice_split (is_byte 0) rest)) first
 
 pub pairs_none : (text : List ℕ) → position_or_len (is_byte 0) text ≡ length text → pairs text ≡ []
 unfolding pairs
 pairs_none text none = ap pairs_of (all_else 0 text none)
 
-pub is_text_first : (text part rest : List ℕ) → position_or_len (is_byte 0) text < length text → part ≡ before_first (is_byte 0) text → rest ≡ after_first (is_byte 0) text
+pub is_text_first : (text part rest : List ℕ) → position_or_len (is_byte 0) text < length text
+    → part ≡ before_first (is_byte 0) text → rest ≡ after_first (is_byte 0) text
     → is_text text ≡ (is_pair part && is_text rest)
 unfolding is_text
 is_text_first text part rest some p r =
     let cut : slice_split (is_byte 0) text ≡ part ∷ slice_split (is_byte 0) rest = slice_split_first (is_byte 0) text 0 some ∙ rw (p, r) refl in
     ap are_pairs cut ∙ are_pairs_more part (slice_split (is_byte 0) rest) (some_part 0 rest)
 
-pub is_text_none : (text : List ℕ) → position_or_len (is_byte 0) text ≡ length text → is_text text ≡ (nat_eq (length text) 0)
+pub is_text_none : (text : List ℕ) → position_or_len (is_byte 0) text ≡ length text
+    → is_text text ≡ (nat_eq (length text) 0)
 unfolding is_text
 is_text_none text none = ap are_pairs (all_else 0 text none)
 
@@ -57,16 +63,19 @@ or_false : (b : Bool) → (b || false) ≡ b
 or_false true = refl
 or_false false = refl
 
-pub is_listed_first : (word list item rest : List ℕ) → position_or_len (is_byte 44) list < length list → item ≡ before_first (is_byte 44) list → rest ≡ after_first (is_byte 44) list
+pub is_listed_first : (word list item rest : List ℕ) → position_or_len (is_byte 44) list < length list
+    → item ≡ before_first (is_byte 44) list → rest ≡ after_first (is_byte 44) list
     → is_listed word list ≡ (bytes_eq item word || is_listed word rest)
 unfolding is_listed
 is_listed_first word list item rest some p r =
     let cut : slice_split (is_byte 44) list ≡ item ∷ slice_split (is_byte 44) rest = slice_split_first (is_byte 44) list 0 some ∙ rw (p, r) refl in
     ap (list_any (λ x. bytes_eq x word)) cut
 
-pub is_listed_none : (word list : List ℕ) → position_or_len (is_byte 44) list ≡ length list → is_listed word list ≡ bytes_eq list word
+pub is_listed_none : (word list : List ℕ) → position_or_len (is_byte 44) list ≡ length list
+    → is_listed word list ≡ bytes_eq list word
 unfolding is_listed
-is_listed_none word list none = ap (list_any (λ item. bytes_eq item word)) (all_else 44 list none) ∙ or_false (bytes_eq list word)
+is_listed_none word list none = ap (list_any (λ item. bytes_eq item word)) (all_else 44 list none)
+    ∙ or_false (bytes_eq list word)
 
 -- a test of the first part decides, or leaves it to the rest
 pub and_false : (a b whole all : Bool) → whole ≡ (a && b) → a ≡ false → whole ≡ all → false ≡ all

@@ -27,13 +27,16 @@ pub raised_none : (low high : ℕ) (o : Option ℕ) → within 0 high o ≡ None
 raised_none low high None e = refl
 raised_none low high (Some m) e = grind (arith, nat_tests)
 
-digit_first : (base n d c : ℕ) (cs : List ℕ) → digit_value c ≡ d → d < base → read_on base n (c ∷ cs) ≡ read_on base (n * base + d) cs
+digit_first : (base n d c : ℕ) (cs : List ℕ) → digit_value c ≡ d → d < base
+    → read_on base n (c ∷ cs) ≡ read_on base (n * base + d) cs
 digit_first base n d c cs e small =
     let yes : nat_lt (digit_value c) base ≡ true = grind (arith, nat_tests) in
-    ap (λ (v : Bool). if v then read_on base (n * base + digit_value c) cs else None) yes ∙ ap (λ (x : ℕ). read_on base (n * base + x) cs) e
+    ap (λ (v : Bool). if v then read_on base (n * base + digit_value c) cs else None) yes
+    ∙ ap (λ (x : ℕ). read_on base (n * base + x) cs) e
 
 -- one digit more
 pub digit_more : (base n d : ℕ) (cs : List ℕ) (i : ℕ) → i < length cs → digit_value (get_or cs i 0) ≡ d → d < base
     → read_on base n (drop i cs) ≡ read_on base (n * base + d) (drop (i + 1) cs)
 digit_more base n d cs i lt e small =
-    ap (read_on base n) (drop-cons cs i 0 lt) ∙ digit_first base n d (get_or cs i 0) (drop (suc i) cs) e small ∙ ap (λ (k : ℕ). read_on base (n * base + d) (drop k cs)) (sym (add-one i))
+    ap (read_on base n) (drop-cons cs i 0 lt) ∙ digit_first base n d (get_or cs i 0) (drop (suc i) cs) e small
+    ∙ ap (λ (k : ℕ). read_on base (n * base + d) (drop k cs)) (sym (add-one i))

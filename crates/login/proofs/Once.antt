@@ -28,14 +28,16 @@ first_none : (a b : Option Stop) → or_else a b ≡ None → a ≡ None
 first_none None b h = refl
 first_none (Some x) b h = cc
 
-behind : (rule : Rule) (rules : List Rule) (s : Progress) (f : LoginFlags) (t : List ℕ) → first_stop (rule ∷ rules) s f t ≡ None → first_stop rules s f t ≡ None
+behind : (rule : Rule) (rules : List Rule) (s : Progress) (f : LoginFlags) (t : List ℕ)
+    → first_stop (rule ∷ rules) s f t ≡ None → first_stop rules s f t ≡ None
 behind rule rules s f t h = rest_none (rule s f t) (first_stop rules s f t) h
 
 when_none : (kind : Option Kind) (stop : Stop) → when (is_none kind) stop ≡ None → IsSome kind
 when_none None stop h = cc
 when_none (Some k) stop h = search rules
 
-kind_known : (s : Progress) (f : LoginFlags) (t : List ℕ) → first_stop checks_of_first s f t ≡ None → IsSome (kind_of (pairs t))
+kind_known : (s : Progress) (f : LoginFlags) (t : List ℕ) → first_stop checks_of_first s f t ≡ None
+    → IsSome (kind_of (pairs t))
 kind_known s f t h =
     let a = behind version_rule (length_rule ∷ form_rule ∷ repeated_rule ∷ name_rule ∷ checks_of_names) s f t h in
     let b = behind length_rule (form_rule ∷ repeated_rule ∷ name_rule ∷ checks_of_names) s f t a in
@@ -46,15 +48,18 @@ kind_known s f t h =
     let g = behind initiator_rule (kind_rule ∷ later) s f t e in
     when_none (kind_of (pairs t)) (Refused SessionTypeNotSupported) (first_none (kind_rule s f t) (first_stop later s f t) g)
 
-kind_after_known : (kind : Option Kind) (ps : List Pair) → (is_none kind ≡ true → IsSome (kind_of ps)) → IsSome (kind_after kind ps)
+kind_after_known : (kind : Option Kind) (ps : List Pair) → (is_none kind ≡ true → IsSome (kind_of ps))
+    → IsSome (kind_after kind ps)
 kind_after_known None ps h = h refl
 kind_after_known (Some k) ps h = search rules
 
-passed_kind : (s : Progress) (f : LoginFlags) (t : List ℕ) → f.continues ≡ false → (passed s f t).kind ≡ kind_after s.kind (pairs t)
+passed_kind : (s : Progress) (f : LoginFlags) (t : List ℕ) → f.continues ≡ false
+    → (passed s f t).kind ≡ kind_after s.kind (pairs t)
 passed_kind s f t e = rw e refl
 
 -- the session type is known behind the first request that is answered
-pub known : (s : Progress) (f : LoginFlags) (text : List ℕ) → stop_of s f (s.unfinished ++ text) ≡ None → f.continues ≡ false → IsSome (after s f text).kind
+pub known : (s : Progress) (f : LoginFlags) (text : List ℕ) → stop_of s f (s.unfinished ++ text) ≡ None
+    → f.continues ≡ false → IsSome (after s f text).kind
 unfolding stop_of after
 known s f text none whole =
     let t : List ℕ = s.unfinished ++ text in

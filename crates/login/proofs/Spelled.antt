@@ -32,8 +32,10 @@ unfolding part_of
 pair_of_part p h =
     let part : List ℕ = p.key ++ 61 ∷ p.value in
     let n : position_or_len (is_byte 61) part ≡ length p.key = place 61 p.key p.value (λ k d lt. (h.key k d lt).0) in
-    let key : before_first (is_byte 61) part ≡ p.key = ap (λ (m : ℕ). take m part) n ∙ take-append_seam p.key (61 ∷ p.value) in
-    let value : after_first (is_byte 61) part ≡ p.value = ap (λ (m : ℕ). drop (m + 1) part) n ∙ drop-append-add p.key (61 ∷ p.value) 1 in
+    let key : before_first (is_byte 61) part ≡ p.key = ap (λ (m : ℕ). take m part) n
+    ∙ take-append_seam p.key (61 ∷ p.value) in
+    let value : after_first (is_byte 61) part ≡ p.value = ap (λ (m : ℕ). drop (m + 1) part) n
+    ∙ drop-append-add p.key (61 ∷ p.value) 1 in
     let made : List ℕ → List ℕ → Pair = λ a b. record { key = a; value = b } in
     ap (λ (a : List ℕ). made a (after_first (is_byte 61) part)) key ∙ ap (λ (b : List ℕ). made p.key b) value
 
@@ -59,22 +61,26 @@ text_of_more : (p : Pair) (ps : List Pair) → text_of (p ∷ ps) ≡ part_of p 
 unfolding part_of
 text_of_more p ps = simp append_assoc
 
-split_more : (p : Pair) (ps : List Pair) → IsPair p → slice_split (is_byte 0) (text_of (p ∷ ps)) ≡ part_of p ∷ slice_split (is_byte 0) (text_of ps)
-split_more p ps h = ap (slice_split (is_byte 0)) (text_of_more p ps) ∙ slice_split_at (is_byte 0) (part_of p) 0 (text_of ps) (no_zero p h) refl
+split_more : (p : Pair) (ps : List Pair) → IsPair p
+    → slice_split (is_byte 0) (text_of (p ∷ ps)) ≡ part_of p ∷ slice_split (is_byte 0) (text_of ps)
+split_more p ps h = ap (slice_split (is_byte 0)) (text_of_more p ps)
+    ∙ slice_split_at (is_byte 0) (part_of p) 0 (text_of ps) (no_zero p h) refl
 
 -- What pairs spell is a text, and is read as those pairs.
 pub read_again : (ps : List Pair) → ArePairs ps → pairs (text_of ps) ≡ ps
 unfolding pairs
 read_again [] h = refl
 read_again (p ∷ ps) h =
-    ap pairs_of (split_more p ps h.0) ∙ pairs_of_more (part_of p) (slice_split (is_byte 0) (text_of ps)) (some_part 0 (text_of ps))
+    ap pairs_of (split_more p ps h.0)
+    ∙ pairs_of_more (part_of p) (slice_split (is_byte 0) (text_of ps)) (some_part 0 (text_of ps))
     ∙ ap (λ (x : Pair). x ∷ pairs (text_of ps)) (pair_of_part p h.0) ∙ ap (λ (x : List Pair). p ∷ x) (read_again ps h.1)
 
 pub is_text_again : (ps : List Pair) → ArePairs ps → is_text (text_of ps) ≡ true
 unfolding is_text
 is_text_again [] h = refl
 is_text_again (p ∷ ps) h =
-    ap are_pairs (split_more p ps h.0) ∙ are_pairs_more (part_of p) (slice_split (is_byte 0) (text_of ps)) (some_part 0 (text_of ps))
+    ap are_pairs (split_more p ps h.0)
+    ∙ are_pairs_more (part_of p) (slice_split (is_byte 0) (text_of ps)) (some_part 0 (text_of ps))
     ∙ ap (λ (x : Bool). x && is_text (text_of ps)) (is_pair_part p h.0) ∙ is_text_again ps h.1
 
 inside : (n len : ℕ) (b : Bool) → (nat_lt n len && b) ≡ true → n < len
@@ -99,15 +105,18 @@ both_parts false b h = cc
 not_zero : (n : ℕ) → (suc n == 0) ≡ true → ⊥
 not_zero n h = grind (arith, nat_tests)
 
-join_again : (part : List ℕ) (parts : List (List ℕ)) → are_pairs (part ∷ parts) ≡ true → text_of (pairs_of (part ∷ parts)) ≡ join_with_byte 0 (part ∷ parts)
+join_again : (part : List ℕ) (parts : List (List ℕ)) → are_pairs (part ∷ parts) ≡ true
+    → text_of (pairs_of (part ∷ parts)) ≡ join_with_byte 0 (part ∷ parts)
 join_again [] [] h = refl
 join_again (b ∷ bs) [] h = absurd (not_zero (length bs) h)
 join_again part (next ∷ more) h =
     let two = both_parts (is_pair part) (are_pairs (next ∷ more)) h in
-    text_of_more (pair_of part) (pairs_of (next ∷ more)) ∙ ap (λ (x : List ℕ). x ++ 0 ∷ text_of (pairs_of (next ∷ more))) (part_again part two.0)
+    text_of_more (pair_of part) (pairs_of (next ∷ more))
+    ∙ ap (λ (x : List ℕ). x ++ 0 ∷ text_of (pairs_of (next ∷ more))) (part_again part two.0)
     ∙ ap (λ (x : List ℕ). part ++ 0 ∷ x) (join_again next more two.1)
 
-join_all : (parts : List (List ℕ)) → 0 < length parts → are_pairs parts ≡ true → text_of (pairs_of parts) ≡ join_with_byte 0 parts
+join_all : (parts : List (List ℕ)) → 0 < length parts → are_pairs parts ≡ true
+    → text_of (pairs_of parts) ≡ join_with_byte 0 parts
 join_all [] some h = absurd (omega arith)
 join_all (part ∷ parts) some h = join_again part parts h
 

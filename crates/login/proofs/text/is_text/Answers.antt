@@ -13,4 +13,5 @@ loop-part-preserved c =
     and_true _ _ _ _ (is_text_first _ _ _ e.some e.before e.behind) (sym c.is_pair.ensures ∙ c.if-not-is_pair.false) c.loop-part.invariant
 
 pub returns : goal.returns
-returns c = let e = is_text_none c.loop-part.rest.now c.in_default.ensures.none in c.is_empty.ensures ∙ sym e ∙ c.loop-part.invariant
+returns c = let e = is_text_none c.loop-part.rest.now c.in_default.ensures.none in c.is_empty.ensures ∙ sym e
+    ∙ c.loop-part.invariant

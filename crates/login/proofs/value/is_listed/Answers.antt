@@ -13,4 +13,5 @@ loop-item-preserved c =
     or_left _ _ _ _ (is_listed_first _ _ _ _ e.some e.before e.behind) (sym c.eq.ensures ∙ c.if-eq.false) c.loop-item.invariant
 
 pub returns : goal.returns
-returns c = let e = is_listed_none c.args.word.now c.loop-item.rest.now c.in_default.ensures.none in c.eq-2.ensures ∙ sym e ∙ c.loop-item.invariant
+returns c = let e = is_listed_none c.args.word.now c.loop-item.rest.now c.in_default.ensures.none in c.eq-2.ensures
+    ∙ sym e ∙ c.loop-item.invariant
