@@ -213,7 +213,7 @@ is_once {B = B} claims size contents failures blocks device x x' left left' held
       transcript = t.transcript;
       served = record { spelled = t.spelled; rest = t.rest; lawful = t.lawful; ends = t.ends; spells = t.spells; read = t.read; written = t.written };
       history = k.history;
-      legal = (record { room = omega arith; sessions = omega arith }, record { next = record { room = omega arith; next = refl }; owner = refl; chosen = refl; torn = λ h. tt }, k.legal);
+      legal = (record { room = omega arith; sessions = omega arith }, (record { next = record { room = omega arith; next = refl }; owner = refl; chosen = refl; torn = λ h. tt }, k.legal));
       commands = k.commands;
       others = k.others;
       counted = subst (λ (d : B). AreCounted (failures d) (failures device) k.history) first.device (subst (λ (d : B). AreCounted (failures x.unit.device) (failures d) k.history) (sym is_device) k.counted);
