@@ -1,0 +1,162 @@
+//! The registry of a unit.
+ghost use Rattle.std.specs.Prelude.{◌≡◌, ◌↔◌, IfOk, IsTrue, length, take};
+ghost use Rattle.reservations.specs.Access.{MayAccess};
+ghost use Rattle.reservations.specs.Nexus.{through};
+ghost use Rattle.reservations.specs.Reading.{capabilities_bytes, full_status_bytes, keys_bytes, reservation_bytes};
+ghost use Rattle.reservations.specs.Registry.{IsSound, empty, powered_on, reserved_type, to_last};
+ghost use Rattle.reservations.specs.Table.{IsAnswer, effect_of};
+
+use crate::registrant::{copy_registrants, copy_reservation};
+use crate::table::{MOST_REGISTRANTS, Table};
+use crate::{Access, PrEnd, PrOut, Record, ReservationType};
+use scsi_types::{Group, NoMemory, PortName};
+use std::alloc::Global;
+use std::marker::Model;
+
+/// The registrations and the reservation of a logical unit (SPC-4, 5.13).
+#[derive(Drop)]
+pub struct Registry {
+    table: Table,
+}
+
+impl Model for Registry {
+    ghost use Rattle.reservations.specs.Registry.{IsSound, RegistryValue};
+    ghost use Rattle.reservations.specs.Seen.{value_of};
+
+    ghost Value = { RegistryValue };
+
+    ghost view = { λ r. value_of r.table };
+
+    ghost invariant = { λ r. IsSound r.table.registrants.items r.table.reservation };
+}
+
+impl Registry {
+    /// No registrant and no reservation, with room for as many registrants as a unit takes.
+    pub fn new(alloc: Global) -> Result<Registry, NoMemory>
+        ensures { IfOk result (λ registry. registry ≡ empty) }
+    {
+        let table = Table {
+            alloc,
+            registrants: Vec::with_capacity(alloc, MOST_REGISTRANTS)?,
+            reservation: None,
+            aptpl: false,
+            generation: 0,
+        };
+        Ok(Registry { table })
+    }
+
+    /// The registry after a power on that found this record (SPC-4, 5.13.5): PRGENERATION begins at 0.
+    pub fn from_record(alloc: Global, lasted: Record) -> Result<Registry, NoMemory>
+        ensures { IfOk result (λ registry. registry ≡ powered_on lasted) }
+    {
+        let (aptpl, mut registrants, reservation) = lasted.into_parts();
+        registrants.reserve(MOST_REGISTRANTS)?;
+        let table = Table {
+            alloc,
+            registrants,
+            reservation,
+            aptpl,
+            generation: 0,
+        };
+        Ok(Registry { table })
+    }
+
+    /// An equal registry, to be kept while what changes this one may still be undone.
+    pub fn copy(&self) -> Result<Registry, NoMemory>
+        ensures { IfOk result (λ registry. registry ≡ self.now) }
+    {
+        let alloc = self.table.alloc;
+        let table = Table {
+            alloc,
+            registrants: copy_registrants(alloc, &self.table.registrants)?,
+            reservation: copy_reservation(alloc, &self.table.reservation)?,
+            aptpl: self.table.aptpl,
+            generation: self.table.generation,
+        };
+        Ok(Registry { table })
+    }
+
+    /// What is to outlast a loss of power (SPC-4, 5.13.5): nothing where the last registration was without APTPL.
+    pub fn record(&self) -> Result<Record, NoMemory>
+        ensures { IfOk result (λ lasting. lasting ≡ to_last self.now) }
+    {
+        let alloc = self.table.alloc;
+        if !self.table.aptpl {
+            return Ok(Record::empty(alloc));
+        }
+        let registrants = copy_registrants(alloc, &self.table.registrants)?;
+        let reservation = copy_reservation(alloc, &self.table.reservation)?;
+        Ok(Record::new(true, registrants, reservation))
+    }
+
+    /// Does a PERSISTENT RESERVE OUT (SPC-4, 6.16) of the nexus of a port through a group. A refusal, and a want of
+    /// memory, changes nothing.
+    pub fn out(&mut self, port: &PortName, group: Group, request: PrOut) -> PrEnd
+        ensures { IsAnswer result (effect_of self.old (through port.now group) request) self.old self.new }
+    {
+        self.table.out(port, group, request)
+    }
+
+    /// Whether the nexus of a port through a group may use the medium so (SPC-4, 5.13.2). Takes no memory; looks at no
+    /// registrant where there is no reservation.
+    pub fn allows(&self, port: &PortName, group: Group, access: Access) -> bool
+        ensures { IsTrue result ↔ MayAccess self.now (through port.now group) access }
+    {
+        self.table.allows(port, group, access)
+    }
+
+    /// How many nexuses are registered. Of every registry it is known that its registrants stand in order, are at most 64
+    /// and have keys, and that a reservation is held by a registrant.
+    pub fn registrant_count(&self) -> usize
+        ensures count { result ≡ length self.now.registrants }
+        ensures sound { IsSound self.now.registrants self.now.reservation }
+    {
+        self.table.registrants.len()
+    }
+
+    /// PRGENERATION.
+    pub fn generation(&self) -> u32
+        ensures { result ≡ self.now.generation }
+    {
+        self.table.generation
+    }
+
+    /// The type of the reservation, if there is one.
+    pub fn reserved_type(&self) -> Option<ReservationType>
+        ensures { result ≡ reserved_type self.now.reservation }
+    {
+        match &self.table.reservation {
+            Some(held) => Some(held.kind),
+            None => None,
+        }
+    }
+
+    /// The data of READ KEYS (SPC-4, 6.15.2): PRGENERATION, a length and the keys in the order of their nexuses, as many
+    /// bytes as `allocation`, the ALLOCATION LENGTH, lets through.
+    pub fn keys(&self, allocation: u32) -> Result<Vec<u8>, NoMemory>
+        ensures { IfOk result (λ v. v.items ≡ take allocation (keys_bytes self.now)) }
+    {
+        Ok(self.table.keys(allocation)?)
+    }
+
+    /// The data of READ RESERVATION (SPC-4, 6.15.3), cut as above.
+    pub fn reservation(&self, allocation: u32) -> Result<Vec<u8>, NoMemory>
+        ensures { IfOk result (λ v. v.items ≡ take allocation (reservation_bytes self.now)) }
+    {
+        Ok(self.table.reservation(allocation)?)
+    }
+
+    /// The data of REPORT CAPABILITIES (SPC-4, 6.15.4), cut as above.
+    pub fn capabilities(&self, allocation: u32) -> Result<Vec<u8>, NoMemory>
+        ensures { IfOk result (λ v. v.items ≡ take allocation (capabilities_bytes self.now.aptpl)) }
+    {
+        Ok(self.table.capabilities(allocation)?)
+    }
+
+    /// The data of READ FULL STATUS (SPC-4, 6.15.5), cut as above.
+    pub fn full_status(&self, allocation: u32) -> Result<Vec<u8>, NoMemory>
+        ensures { IfOk result (λ v. v.items ≡ take allocation (full_status_bytes self.now)) }
+    {
+        Ok(self.table.full_status(allocation)?)
+    }
+}

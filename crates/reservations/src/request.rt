@@ -1,0 +1,109 @@
+//! What PERSISTENT RESERVE OUT asks, and what it is answered.
+ghost use Rattle.std.specs.Prelude.{◌≡◌, if◌then◌else◌, nat_eq};
+ghost use Rattle.reservations.specs.Kind.{type_of};
+ghost use Rattle.reservations.specs.Rows.{is_bad_parameter, is_bad_reserve, shows_key};
+
+use crate::{Nexus, ReservationType};
+use scsi_types::{PrOutAction, UnitAttention};
+
+/// A PERSISTENT RESERVE OUT: the fields of its CDB and of its parameter list (SPC-4, 6.16).
+#[derive(Clone, Copy, Debug, PartialEq, Eq)]
+pub struct PrOut {
+    /// The service action.
+    pub action: PrOutAction,
+    /// SCOPE, the high half of byte 2 of the CDB; 0 is the logical unit.
+    pub scope: u8,
+    /// TYPE, the low half of byte 2 of the CDB.
+    pub kind: u8,
+    /// RESERVATION KEY.
+    pub key: u64,
+    /// SERVICE ACTION RESERVATION KEY.
+    pub sakey: u64,
+    /// SPEC_I_PT.
+    pub spec_i_pt: bool,
+    /// ALL_TG_PT.
+    pub all_tg_pt: bool,
+    /// APTPL.
+    pub aptpl: bool,
+}
+
+/// A unit attention condition that is to be established for a nexus.
+#[derive(Debug, Drop)]
+pub struct Told {
+    pub nexus: Nexus,
+    pub code: UnitAttention,
+}
+
+/// How a PERSISTENT RESERVE OUT ends.
+#[derive(Debug, Drop)]
+pub enum PrEnd {
+    /// GOOD; these nexuses are told.
+    Good(Vec<Told>),
+    /// RESERVATION CONFLICT.
+    Conflict,
+    /// ILLEGAL REQUEST with this additional sense code and qualifier.
+    Illegal(u8, u8),
+    /// ILLEGAL REQUEST, INSUFFICIENT REGISTRATION RESOURCES (05 55/04).
+    TableFull,
+    /// There was no memory; nothing has changed.
+    NoMemory,
+}
+
+/// How a command uses the medium, as reservations see it (SPC-4, 5.13.2).
+#[derive(Clone, Copy, Debug, PartialEq, Eq)]
+pub enum Access {
+    /// It reads blocks.
+    Read,
+    /// It writes blocks, or changes what other sessions may do.
+    Write,
+    /// No reservation keeps it out.
+    Other,
+}
+
+/// The type that a request names, if its scope is the logical unit and the type is one.
+pub fn type_asked(request: PrOut) -> Option<ReservationType>
+    ensures { result ≡ (if nat_eq request.scope 0 then type_of request.kind else None) }
+{
+    if request.scope != 0 {
+        return None;
+    }
+    ReservationType::from_code(request.kind)
+}
+
+/// Whether a RESERVE has a scope or type that it may not have.
+pub fn is_bad_reserve(request: PrOut) -> bool
+    ensures { result ≡ is_bad_reserve request.action request }
+{
+    match request.action {
+        PrOutAction::Reserve => type_asked(request).is_none(),
+        _ => false,
+    }
+}
+
+/// Whether the parameter list asks for what is not supported.
+pub fn is_bad_parameter(request: PrOut) -> bool
+    ensures { result ≡ is_bad_parameter request }
+{
+    let registers = matches!(
+        request.action,
+        PrOutAction::Register | PrOutAction::RegisterAndIgnoreExistingKey
+    );
+    request.spec_i_pt || registers && request.all_tg_pt
+}
+
+/// Whether the reservation key is the one that the action must show, by the key with which its nexus is registered.
+pub fn shows_key(action: PrOutAction, own: Option<u64>, key: u64) -> bool
+    ensures { result ≡ shows_key action own key }
+{
+    match action {
+        PrOutAction::RegisterAndIgnoreExistingKey => true,
+        PrOutAction::Register => match own {
+            None => key == 0,
+            Some(own) => key == own,
+        },
+        _ => match own {
+            None => false,
+            Some(own) => key == own,
+        },
+    }
+}

@@ -1,0 +1,15 @@
+//! Scripts of PERSISTENT RESERVE OUT, as rows of data, and what each step must leave.
+#![tactic(auto)]
+
+#[cfg(test)]
+mod accesses;
+#[cfg(test)]
+mod actions;
+#[cfg(test)]
+mod data_bytes;
+#[cfg(test)]
+mod model;
+#[cfg(test)]
+mod script;
+#[cfg(test)]
+mod scripts;

@@ -1,0 +1,314 @@
+//! A plain model of a registry of four nexuses, written apart from the library's definitions, and a long script of
+//! requests drawn by a fixed seed that runs on both.
+ghost use Rattle.std.specs.Prelude.{◌<◌};
+
+use crate::script::{
+    A, A_ISID, A_TWO, B, Want, Who, asking, ends_so, held_data, keys_data, port_of, tells,
+};
+use reservations::Registry;
+use scsi_types::{NoMemory, PrOutAction, UnitAttention};
+use std::alloc::Global;
+use std::process::Abort;
+
+const NEXUSES: [Who; 4] = [A, A_TWO, A_ISID, B];
+
+const ACTIONS: [PrOutAction; 7] = [
+    PrOutAction::Register,
+    PrOutAction::Reserve,
+    PrOutAction::Release,
+    PrOutAction::Clear,
+    PrOutAction::Preempt,
+    PrOutAction::PreemptAndAbort,
+    PrOutAction::RegisterAndIgnoreExistingKey,
+];
+
+const TYPES: [u8; 8] = [1, 3, 5, 6, 7, 8, 8, 2];
+
+const KEYS: [u64; 4] = [0, 0x11, 0x22, 0x33];
+
+/// The key of each nexus, 0 where it isn't registered; the type of the reservation, 0 where there is none, and its maker.
+#[derive(Drop)]
+struct Model {
+    keys: [u64; 4],
+    kind: u8,
+    holder: usize,
+    generation: u32,
+}
+
+type Codes = [Option<UnitAttention>; 4];
+
+impl Model {
+    fn is_all(&self) -> bool {
+        self.kind == 7 || self.kind == 8
+    }
+
+    fn holds(&self, by: usize) -> bool
+        requires { by < 4 }
+    {
+        self.kind != 0 && self.keys[by] != 0 && (self.is_all() || self.holder == by)
+    }
+
+    // All but the sender that are registered are told so.
+    fn tell_all(&self, by: usize, code: UnitAttention) -> Codes {
+        let mut codes = [None; 4];
+        for (place, key) in self.keys.iter().enumerate() {
+            if *key != 0 && place != by {
+                codes[place] = Some(code);
+            }
+        }
+        codes
+    }
+
+    fn nobody_is_left(&self) -> bool {
+        self.keys == [0; 4]
+    }
+
+    fn end_if_nobody_is_left(&mut self) {
+        if self.nobody_is_left() {
+            self.kind = 0;
+        }
+    }
+
+    fn set_key(&mut self, by: usize, sakey: u64) -> Codes
+        requires { by < 4 }
+    {
+        let mut codes = [None; 4];
+        if self.keys[by] != 0
+            && sakey == 0
+            && self.holder == by
+            && self.kind != 0
+            && !self.is_all()
+        {
+            if self.kind == 5 || self.kind == 6 {
+                codes = self.tell_all(by, UnitAttention::ReservationsReleased);
+            }
+            self.kind = 0;
+        }
+        self.keys[by] = sakey;
+        self.end_if_nobody_is_left();
+        self.generation = self.generation.wrapping_add(1);
+        codes
+    }
+
+    fn reserve(&mut self, by: usize, kind: u8) -> Want
+        requires { by < 4 }
+    {
+        if self.kind == 0 {
+            self.kind = kind;
+            self.holder = by;
+            return Want::Good;
+        }
+        if self.holds(by) && self.kind == kind {
+            Want::Good
+        } else {
+            Want::Conflict
+        }
+    }
+
+    fn release(&mut self, by: usize, kind: u8) -> (Want, Codes)
+        requires { by < 4 }
+    {
+        if !self.holds(by) {
+            return (Want::Good, [None; 4]);
+        }
+        if self.kind != kind {
+            return (Want::Illegal(0x26, 4), [None; 4]);
+        }
+        let mut codes = [None; 4];
+        if kind >= 5 {
+            codes = self.tell_all(by, UnitAttention::ReservationsReleased);
+        }
+        self.kind = 0;
+        (Want::Good, codes)
+    }
+
+    fn clear(&mut self, by: usize) -> Codes {
+        let codes = self.tell_all(by, UnitAttention::ReservationsPreempted);
+        self.keys = [0; 4];
+        self.kind = 0;
+        self.generation = self.generation.wrapping_add(1);
+        codes
+    }
+
+    fn preempt(&mut self, by: usize, kind: u8, sakey: u64) -> (Want, Codes) {
+        let holders_key = self.keys.get(self.holder).copied().unwrap_or(0);
+        let is_of_holder = self.kind != 0 && !self.is_all() && holders_key == sakey;
+        if is_of_holder || self.is_all() && sakey == 0 {
+            if !is_type(kind) {
+                return (Want::Illegal(0x24, 0), [None; 4]);
+            }
+            let codes = self.take_over(by, kind, sakey);
+            return (Want::Good, codes);
+        }
+        if sakey == 0 {
+            return (Want::Illegal(0x26, 0), [None; 4]);
+        }
+        if !self.keys.contains(&sakey) {
+            return (Want::Conflict, [None; 4]);
+        }
+        let mut codes = [None; 4];
+        for place in 0..4 {
+            if self.keys[place] == sakey {
+                self.keys[place] = 0;
+                if place != by {
+                    codes[place] = Some(UnitAttention::RegistrationsPreempted);
+                }
+            }
+        }
+        self.end_if_nobody_is_left();
+        self.generation = self.generation.wrapping_add(1);
+        (Want::Good, codes)
+    }
+
+    // The others with the key go, or all others where it is 0, and the sender holds.
+    fn take_over(&mut self, by: usize, kind: u8, sakey: u64) -> Codes {
+        let mut codes = [None; 4];
+        for place in 0..4 {
+            if place != by && self.keys[place] != 0 {
+                if sakey == 0 || self.keys[place] == sakey {
+                    self.keys[place] = 0;
+                    codes[place] = Some(UnitAttention::RegistrationsPreempted);
+                } else if kind != self.kind {
+                    codes[place] = Some(UnitAttention::ReservationsReleased);
+                }
+            }
+        }
+        self.kind = kind;
+        self.holder = by;
+        self.generation = self.generation.wrapping_add(1);
+        codes
+    }
+
+    fn step(
+        &mut self,
+        by: usize,
+        action: PrOutAction,
+        kind: u8,
+        key: u64,
+        sakey: u64,
+    ) -> (Want, Codes)
+        requires { by < 4 }
+    {
+        if action == PrOutAction::Reserve && !is_type(kind) {
+            return (Want::Illegal(0x24, 0), [None; 4]);
+        }
+        let own = self.keys[by];
+        let must_be_registered = action != PrOutAction::Register;
+        if action != PrOutAction::RegisterAndIgnoreExistingKey
+            && (key != own || own == 0 && must_be_registered)
+        {
+            return (Want::Conflict, [None; 4]);
+        }
+        match action {
+            PrOutAction::Register => (Want::Good, self.set_key(by, sakey)),
+            PrOutAction::RegisterAndIgnoreExistingKey => (Want::Good, self.set_key(by, sakey)),
+            PrOutAction::Reserve => (self.reserve(by, kind), [None; 4]),
+            PrOutAction::Release => self.release(by, kind),
+            PrOutAction::Clear => (Want::Good, self.clear(by)),
+            PrOutAction::Preempt => self.preempt(by, kind, sakey),
+            PrOutAction::PreemptAndAbort => self.preempt(by, kind, sakey),
+        }
+    }
+
+    // What READ RESERVATION shows of the holder.
+    fn held(&self) -> (u64, u8) {
+        if self.kind == 0 || self.is_all() {
+            return (0, self.kind);
+        }
+        (self.keys.get(self.holder).copied().unwrap_or(0), self.kind)
+    }
+}
+
+fn is_type(kind: u8) -> bool {
+    kind == 1 || kind == 3 || kind >= 5 && kind <= 8
+}
+
+/// Numbers that look random: the high bits of a linear congruence.
+#[derive(Drop)]
+struct Draws(u64);
+
+impl Draws {
+    fn below(&mut self, n: usize) -> usize
+        requires { 0 < n }
+        ensures { result < n }
+    {
+        let next = self.0.wrapping_mul(6364136223846793005);
+        self.0 = next.wrapping_add(1442695040888963407);
+        (self.0 >> 33) as usize % n
+    }
+}
+
+// Those who are told, in their order.
+fn told_of(alloc: Global, codes: Codes) -> Result<Vec<(Who, UnitAttention)>, NoMemory> {
+    let mut told = Vec::new(alloc);
+    for (who, code) in NEXUSES.iter().zip(&codes) {
+        if let Some(code) = code {
+            told.push((*who, *code))?;
+        }
+    }
+    Ok(told)
+}
+
+fn registered_keys(alloc: Global, model: &Model) -> Result<Vec<u64>, NoMemory> {
+    let mut keys = Vec::new(alloc);
+    for key in &model.keys {
+        if *key != 0 {
+            keys.push(*key)?;
+        }
+    }
+    Ok(keys)
+}
+
+// One request that is drawn, on both.
+fn one_step<R: AllocGlobal + Abort>(
+    rt: &R,
+    place: u32,
+    draws: &mut Draws,
+    model: &mut Model,
+    registry: &mut Registry,
+) -> Result<(), NoMemory> {
+    let alloc = rt.alloc();
+    let by = draws.below(4);
+    let action = ACTIONS[draws.below(7)];
+    let kind = TYPES[draws.below(8)];
+    let drawn = KEYS[draws.below(4)];
+    let key = if draws.below(8) == 0 {
+        drawn
+    } else {
+        model.keys[by]
+    };
+    let sakey = KEYS[draws.below(4)];
+    let (want, codes) = model.step(by, action, kind, key, sakey);
+    let who = NEXUSES[by];
+    let end = registry.out(
+        &port_of(alloc, who)?,
+        who.2,
+        asking(action, kind, key, sakey),
+    );
+    assert!(rt; ends_so(&end, want), "step {place}: {end:?}, not {want:?}");
+    assert!(rt;
+        tells(alloc, &end, &told_of(alloc, codes)?)?,
+        "step {place}: {end:?}"
+    );
+    let keys = keys_data(alloc, model.generation, &registered_keys(alloc, model)?)?;
+    assert_eq!(rt; registry.keys(4096)?, keys, "step {place}");
+    let held = held_data(alloc, model.generation, model.held())?;
+    assert_eq!(rt; registry.reservation(4096)?, held, "step {place}");
+    Ok(())
+}
+
+#[test]
+fn a_thousand_requests(rt: HostRuntime) -> Result<(), NoMemory> {
+    let mut registry = Registry::new(rt.alloc())?;
+    let mut draws = Draws(2026);
+    let mut model = Model {
+        keys: [0; 4],
+        kind: 0,
+        holder: 0,
+        generation: 0,
+    };
+    for place in 0..1000 {
+        one_step(&rt, place, &mut draws, &mut model, &mut registry)?;
+    }
+    Ok(())
+}

@@ -1,0 +1,168 @@
+//! The form of a script, and the one that runs it.
+use reservations::{Nexus, PrEnd, PrOut, Registry, Told};
+use scsi_types::{Group, NoMemory, PortName, PrOutAction, UnitAttention};
+use std::alloc::Global;
+use std::process::Abort;
+
+/// A nexus of a script: the last letter of its name, its ISID and its group.
+pub type Who = (u8, u64, Group);
+
+pub const A: Who = (b'a', 0, Group::One);
+
+/// The same port through the other group.
+pub const A_TWO: Who = (b'a', 0, Group::Two);
+
+/// The same name with another ISID.
+pub const A_ISID: Who = (b'a', 1, Group::One);
+
+pub const B: Who = (b'b', 0, Group::One);
+
+pub const C: Who = (b'c', 0, Group::One);
+
+pub const D: Who = (b'd', 0, Group::One);
+
+/// How a step ends.
+#[derive(Clone, Copy, Debug, PartialEq, Eq)]
+pub enum Want {
+    Good,
+    Conflict,
+    Illegal(u8, u8),
+    Full,
+}
+
+/// A step of a script: who asks for what, and what must come of it. `told` is in the order of the registrants, `keys`
+/// in the order of the nexuses, and `held` the holder's key and the type, both 0 without a reservation.
+#[derive(Clone, Copy)]
+pub struct Step {
+    pub by: Who,
+    pub request: PrOut,
+    pub want: Want,
+    pub told: &'static [(Who, UnitAttention)],
+    pub generation: u32,
+    pub keys: &'static [u64],
+    pub held: (u64, u8),
+}
+
+/// A request with no flag and scope 0.
+pub fn asking(action: PrOutAction, kind: u8, key: u64, sakey: u64) -> PrOut {
+    PrOut {
+        action,
+        scope: 0,
+        kind,
+        key,
+        sakey,
+        spec_i_pt: false,
+        all_tg_pt: false,
+        aptpl: false,
+    }
+}
+
+/// Steps, each: who, the action (type, key, service action key) => the end; told; generation; keys; held.
+macro_rules! steps {
+    ($($by:ident $action:ident ($kind:literal, $key:literal, $sakey:literal) => $want:expr;
+        [$($told:ident $code:ident),*]; $generation:literal; [$($left:literal),*]; $held:expr,)*) => {
+        &[$(crate::script::Step {
+            by: crate::script::$by,
+            request: reservations::PrOut {
+                action: scsi_types::PrOutAction::$action,
+                scope: 0,
+                kind: $kind,
+                key: $key,
+                sakey: $sakey,
+                spec_i_pt: false,
+                all_tg_pt: false,
+                aptpl: false,
+            },
+            want: $want,
+            told: &[$((crate::script::$told, scsi_types::UnitAttention::$code)),*],
+            generation: $generation,
+            keys: &[$($left),*],
+            held: $held,
+        }),*]
+    };
+}
+
+pub(crate) use steps;
+
+/// The port of a nexus.
+pub fn port_of(alloc: Global, who: Who) -> Result<PortName, NoMemory> {
+    let mut name = Vec::from_slice(alloc, b"iqn.2000-01.test:")?;
+    name.push(who.0)?;
+    Ok(PortName::new(name, who.1))
+}
+
+/// Runs a script from where the registry stands.
+pub fn run<R: AllocGlobal + Abort>(
+    rt: &R,
+    registry: &mut Registry,
+    name: &str,
+    steps: &[Step],
+) -> Result<(), NoMemory> {
+    let alloc = rt.alloc();
+    for (place, step) in steps.iter().enumerate() {
+        let port = port_of(alloc, step.by)?;
+        let end = registry.out(&port, step.by.2, step.request);
+        assert!(rt; ends_so(&end, step.want), "{name}, step {place}: {end:?}");
+        assert!(rt;
+            tells(alloc, &end, step.told)?,
+            "{name}, step {place}: {end:?}"
+        );
+        let keys = keys_data(alloc, step.generation, step.keys)?;
+        assert_eq!(rt; registry.keys(4096)?, keys, "{name}, step {place}");
+        let held = held_data(alloc, step.generation, step.held)?;
+        assert_eq!(rt; registry.reservation(4096)?, held, "{name}, step {place}");
+    }
+    Ok(())
+}
+
+/// Whether a call ended so.
+pub fn ends_so(end: &PrEnd, want: Want) -> bool {
+    match end {
+        PrEnd::Good(_) => want == Want::Good,
+        PrEnd::Conflict => want == Want::Conflict,
+        PrEnd::Illegal(asc, ascq) => want == Want::Illegal(*asc, *ascq),
+        PrEnd::TableFull => want == Want::Full,
+        PrEnd::NoMemory => false,
+    }
+}
+
+/// Whether a call that is GOOD tells these, in this order.
+pub fn tells(alloc: Global, end: &PrEnd, want: &[(Who, UnitAttention)]) -> Result<bool, NoMemory> {
+    match end {
+        PrEnd::Good(told) => are(alloc, told, want),
+        _ => Ok(want.is_empty()),
+    }
+}
+
+fn are(alloc: Global, told: &[Told], want: &[(Who, UnitAttention)]) -> Result<bool, NoMemory> {
+    for (one, (who, code)) in told.iter().zip(want) {
+        let port = port_of(alloc, *who)?;
+        if !one.nexus.is(&port, who.2) || one.code != *code {
+            return Ok(false);
+        }
+    }
+    Ok(told.len() == want.len())
+}
+
+/// The data of READ KEYS.
+pub fn keys_data(alloc: Global, generation: u32, keys: &[u64]) -> Result<Vec<u8>, NoMemory> {
+    let mut data = Vec::from_slice(alloc, &generation.to_be_bytes())?;
+    data.extend_from_slice(&(8 * keys.len() as u64 % 65536).to_be_bytes()[4..])?;
+    for key in keys {
+        data.extend_from_slice(&key.to_be_bytes())?;
+    }
+    Ok(data)
+}
+
+/// The data of READ RESERVATION.
+pub fn held_data(alloc: Global, generation: u32, held: (u64, u8)) -> Result<Vec<u8>, NoMemory> {
+    let mut data = Vec::from_slice(alloc, &generation.to_be_bytes())?;
+    if held.1 == 0 {
+        data.extend_from_slice(&[0, 0, 0, 0])?;
+        return Ok(data);
+    }
+    data.extend_from_slice(&[0, 0, 0, 16])?;
+    data.extend_from_slice(&held.0.to_be_bytes())?;
+    data.extend_from_slice(&[0, 0, 0, 0, 0, held.1, 0, 0])?;
+    Ok(data)
+}
