@@ -1,5 +1,5 @@
 mod command_line;
 mod examples;
-mod identity;
+mod first_questions;
 mod medium;
 mod run;

@@ -2,8 +2,6 @@
 #![tactic(auto)]
 
 #[cfg(test)]
-mod attentions;
-#[cfg(test)]
 mod bench;
 #[cfg(test)]
 mod bytes;
@@ -17,3 +15,5 @@ mod medium;
 mod run;
 #[cfg(test)]
 mod sessions;
+#[cfg(test)]
+mod unit_attentions;
