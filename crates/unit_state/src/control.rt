@@ -15,8 +15,7 @@ use crate::sessions::{
 };
 use attentions::Pending;
 use scsi_types::{
-    Asked, Command, Group, NoMemory, PageControl, Place, PortName, Sense, UnitAttention,
-    need,
+    Asked, Command, Group, NoMemory, PageControl, Place, PortName, Sense, UnitAttention, need,
 };
 use std::alloc::Global;
 use std::marker::Model;

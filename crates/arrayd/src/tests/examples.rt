@@ -3,8 +3,8 @@ use super::run::{Row, SOUND, run, serve};
 use session::End;
 use std::test::*;
 use test_streams::{
-    CHECK_CONDITION, DATA_IN, GOOD, OVERFLOW, PduRow, READS, Segment, TEST_UNIT_READY,
-    UNDERFLOW, WHOLE, WRITES, spelled,
+    CHECK_CONDITION, DATA_IN, GOOD, OVERFLOW, PduRow, READS, Segment, TEST_UNIT_READY, UNDERFLOW,
+    WHOLE, WRITES, spelled,
 };
 
 const BLOCK: Segment<'static> = Segment::Runs(&[(512, 0x5A)]);
