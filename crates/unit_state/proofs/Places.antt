@@ -8,7 +8,7 @@ use Rattle.std.proofs.lemmas.List.Elements.{All-filter, All-map, All-push}
 use Rattle.std.proofs.lemmas.List.Filters.{length-filter_both}
 use Rattle.scsi_types.specs.Nexus.{Nexus}
 use Rattle.unit_state.specs.declared.sessions.Attached.{Attached}
-use Rattle.unit_state.specs.Sessions.{attached, is_of, session_of, changed, pass_one, tell_one, ended, heard_reset, all_reset, without}
+use Rattle.unit_state.specs.Sessions.{is_of, session_of, changed, ended, heard_reset, all_reset, without}
 use Rattle.unit_state.specs.Places.{IsChangedAt, IsPlaceOf}
 
 absent_append : (xs ys : List Attached) (id : ℕ) → session_of xs id ≡ None → session_of ys id ≡ None → session_of (xs ++ ys) id ≡ None

@@ -1,18 +1,16 @@
 -- What commands, resets and ends leave of a session: its serial, and what is pending for it.
-use Rattle.std.proofs.Common.{◌≡◌, ◌≢◌, ◌⊎◌, inl, inr, ⊎_elim, ℕ, ◌+◌, Bool, true, false, not, ◌&&◌, nat_eq, List, [], ◌∷◌, drop, map, filter, Option, Some, None, IsSome, Result, Ok, Err, refl, sym, ◌∙◌, ap, arith, slice_get}
+use Rattle.std.proofs.Common.{◌≡◌, ◌≢◌, ⊎_elim, ℕ, ◌+◌, true, false, nat_eq, List, [], ◌∷◌, drop, map, Option, Some, None, IsSome, refl, sym, ◌∙◌, ap, arith, slice_get}
 use Rattle.std.specs.Prelude.{IsTrue}
 use Rattle.std.specs.Option.{option_map}
 use Rattle.std.proofs.lemmas.Bool.Decides.{eqb_tells}
 use Rattle.attentions.specs.Queue.{is_pending, without_repeats}
-use Rattle.scsi_types.specs.ReplyValue.{check}
 use Rattle.scsi_types.specs.declared.attention.UnitAttention.{UnitAttention}
 use Rattle.scsi_types.specs.declared.attention.UnitAttention.TheVariants.{PowerOn}
 use Rattle.unit_state.specs.declared.sessions.Attached.{Attached}
-use Rattle.unit_state.specs.State.{ControlValue, UnitState}
+use Rattle.unit_state.specs.State.{ControlValue}
 use Rattle.unit_state.specs.Choice.{Choice}
-use Rattle.unit_state.specs.Sessions.{session_of, next_of, pending_in, pending_of, first_pending, changed, pass_one, passed, tell_one, told, ended, heard_reset, all_reset}
-use Rattle.unit_state.specs.Ops.{kind_asked, passes_attention}
-use Rattle.unit_state.specs.Refusal.{Request, request, refusal, tell}
+use Rattle.unit_state.specs.Sessions.{session_of, next_of, pending_in, pending_of, pass_one, passed, tell_one, told, ended, heard_reset, all_reset}
+use Rattle.unit_state.specs.Refusal.{Request, refusal}
 use Rattle.unit_state.specs.Entry.{IsNext, control_with}
 use Rattle.unit_state.specs.CommandLaws.{next_passed, next_kept}
 use Rattle.unit_state.proofs.Places.{session_changed}

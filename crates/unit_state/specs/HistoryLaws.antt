@@ -4,7 +4,7 @@ use Rattle.scsi_types.specs.ReplyValue.{ReplyValue}
 use Rattle.unit_state.specs.declared.refusal.Refusal.{Refusal}
 use Rattle.unit_state.specs.State.{UnitState}
 use Rattle.unit_state.specs.Choice.{Choice}
-use Rattle.unit_state.specs.Medium.{Finding, found, work_asked}
+use Rattle.unit_state.specs.Medium.{found, work_asked}
 use Rattle.unit_state.specs.Refusal.{Request, request, refusal}
 use Rattle.unit_state.specs.Entry.{Entry, Attach, Detach, Reset, Command, IsPossible, IsReplyTo, IsReplyWith, after, reply_to, reply_with, returned}
 use Rattle.unit_state.specs.History.{state_after, IsLegal, reply_at, IsReplyAt}

@@ -1,6 +1,6 @@
-use Rattle.std.proofs.Common.{◌≡◌, ◌∙◌, ap, List, ℕ, length, refl, sym, arith}
+use Rattle.std.proofs.Common.{◌≡◌, ◌∙◌, ap, length, refl, arith}
 use Rattle.std.proofs.lemmas.List.{take_at}
-use Rattle.scsi_types.specs.ReplyValue.{ReplyValue, good}
+use Rattle.scsi_types.specs.ReplyValue.{good}
 use Rattle.unit_state.proofs.Works.{medium_served, other_served, described_served, describes, sync_worked}
 use Rattle.unit_state.proofs.commands.serve.Goals as goal
 

@@ -1,5 +1,4 @@
-use Rattle.std.proofs.Common.{◌≡◌, ◌∙◌, refl, ap, sym, List, map, take, drop, ◌++◌}
-use Rattle.unit_state.specs.declared.sessions.Attached.{Attached}
+use Rattle.std.proofs.Common.{refl}
 use Rattle.unit_state.specs.Sessions.{heard_reset}
 use Rattle.unit_state.proofs.Places.{next_changed, written_back}
 use Rattle.unit_state.proofs.sessions.reset.Goals as goal

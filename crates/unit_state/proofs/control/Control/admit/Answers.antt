@@ -1,7 +1,6 @@
-use Rattle.std.proofs.Common.{◌≡◌, ◌∙◌, ◌<◌, ◌≤◌, sym, ap, arith, length, Ok}
+use Rattle.std.proofs.Common.{◌∙◌, ◌<◌, ◌≤◌, sym, ap, arith, length, Ok}
 use Rattle.scsi_types.specs.Cdb.{need_of}
 use Rattle.unit_state.specs.Ops.{is_served}
-use Rattle.unit_state.specs.Refusal.{request, attention_rule}
 use Rattle.unit_state.proofs.Rules.{by_attention, by_opcode, by_field, by_length, by_saved, by_range, admitted}
 use Rattle.unit_state.proofs.control.Control.admit.Goals as goal
 

@@ -1,4 +1,4 @@
-use Rattle.std.proofs.Common.{◌≡◌, ◌+◌, refl, ap, List}
+use Rattle.std.proofs.Common.{◌≡◌, ◌+◌, ap, List}
 use Rattle.unit_state.specs.declared.sessions.Attached.{Attached}
 use Rattle.unit_state.specs.Places.{IsPlaceOf}
 use Rattle.unit_state.specs.Sessions.{pass_one, passed}
