@@ -1,2 +1,3 @@
-pub mod Commands
-pub mod Told
+pub mod Owners
+pub mod Ready
+pub mod Stories

@@ -1,3 +1,2 @@
-pub mod Leads
 pub mod Once
 pub mod OneUnit

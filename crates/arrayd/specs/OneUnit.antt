@@ -1,39 +1,76 @@
 -- What the target of one unit answers.
-use Rattle.std.specs.Prelude.{◌≡◌, ◌≢◌, ℕ, Bool, IsTrue, List, Option, Some, Result}
-use Rattle.scsi_types.specs.ReplyValue.{ReplyValue, check}
-use Rattle.scsi_types.specs.Sense.{sense}
+use Rattle.std.specs.Prelude.{◌≡◌, ◌≢◌, ◌⊎◌, ℕ, ◌≤◌, Bool, List, Option, Some, Result}
+use Rattle.block_file.specs.Failures.{Tells}
+use Rattle.identity.specs.Absent.{absent_reply}
+use Rattle.scsi_types.specs.ReplyValue.{ReplyValue}
 use Rattle.scsi_types.specs.declared.names.Group.{Group}
+use Rattle.scsi_types.specs.declared.status.Status.TheVariants.{Good}
 use Rattle.scsi_types.specs.declared.command.Command.{Command as ScsiCommand}
 use Rattle.scsi_types.specs.declared.command.CdbFault.{CdbFault}
-use Rattle.session.specs.declared.target.Served.{Served}
-use Rattle.session.specs.declared.target.Served.TheVariants.{Replied, Outside, Busy, Gone, Halted}
-use Rattle.unit_state.specs.State.{UnitValue, state_of}
-use Rattle.unit_state.specs.Step.{IsStep, entry_of}
+use Rattle.session.specs.Question.{Question, serve}
+use Rattle.session.specs.declared.target.TargetAnswer.{TargetAnswer}
+use Rattle.session.specs.declared.target.TargetAnswer.TheVariants.{Replied, Outside, Busy, Gone, Halted}
+use Rattle.unit_state.specs.declared.control.TheConstants.{LAST_COUNT}
+use Rattle.unit_state.specs.State.{ControlValue, UnitValue, state_of, failures_of}
+use Rattle.unit_state.specs.Choice.{IsFine, choice_of}
+use Rattle.unit_state.specs.Refusal.{request}
+use Rattle.unit_state.specs.Step.{IsStep, TakesMemory, entry_of}
 use Rattle.unit_state.specs.declared.unit.StepEnd.{StepEnd}
 use Rattle.unit_state.specs.declared.unit.StepEnd.TheVariants as ends
 
--- a command of the session was one step of the unit
-pub record IsCommand {B : Type 0} (claims : Bool) (contents : B → List (List ℕ)) (old new : UnitValue B) (session : ℕ) (asked : Result ScsiCommand CdbFault) (bytes : List ℕ) (reply : ReplyValue) : Type 0 where
+-- What contracts see of the target: its unit, the session that is attached to it, the serial of the session's next
+-- command, and the group that is believed to own the unit.
+pub record TargetValue (B : Type 0) : Type 0 where
+  pub unit : UnitValue B
+  pub session : ℕ
   pub serial : ℕ
   pub by : Group
-  pub step : IsTrue claims → IsStep (state_of contents old) (state_of contents new) (entry_of session serial by asked bytes reply (state_of contents new)) reply
 
--- LOGICAL UNIT NOT SUPPORTED (SPC-4, 4.5.6)
-abbrev pub not_there : ReplyValue
-not_there = check (sense 0x05 0x25 0x00)
+-- a command of the session was one step of the unit, which tells the truth of failures
+pub record IsCommand {B : Type 0} (claims : Bool) (contents : B → List (List ℕ)) (failures : B → ℕ) (old new : TargetValue B)
+    (asked : Result ScsiCommand CdbFault) (bytes : List ℕ) (reply : ReplyValue) : Type 0 where
+  pub session : new.session ≡ old.session
+  pub step : IsStep claims (state_of contents old.unit) (state_of contents new.unit)
+      (entry_of old.session old.serial old.by asked bytes reply (state_of contents new.unit)) reply
+  pub fine : Tells (failures_of failures old.unit) (failures_of failures new.unit) (IsFine (choice_of reply (contents new.unit.device)))
 
--- what a step of the target's unit leaves: with a reply a command's step, else the unit as it was
-abbrev pub IsTold : {B : Type 0} → Bool → (B → List (List ℕ)) → UnitValue B → ℕ → Result ScsiCommand CdbFault → List ℕ → StepEnd → UnitValue B → ℕ → Type 0
-IsTold claims contents old session asked bytes (ends.Reply reply) new session' = (session' ≡ session) × IsCommand claims contents old new session asked bytes reply
-IsTold claims contents old session asked bytes ends.Gone new session' = (session' ≡ session) × (new ≡ old)
-IsTold claims contents old session asked bytes (ends.Moved owner) new session' = (session' ≡ session) × (new ≡ old)
-IsTold claims contents old session asked bytes ends.NoMemory new session' = (session' ≡ session) × (new ≡ old)
+-- nothing happened to the unit
+pub record IsSame {B : Type 0} (old new : TargetValue B) : Type 0 where
+  pub session : new.session ≡ old.session
+  pub unit : new.unit ≡ old.unit
 
--- what the target answers to a command: of its unit a command's step, or nothing happened; of another unit that
--- it is not there
-abbrev pub IsServedBy : {B : Type 0} → Bool → (B → List (List ℕ)) → UnitValue B → ℕ → Option ℕ → Result ScsiCommand CdbFault → List ℕ → Served → UnitValue B → ℕ → Type 0
-IsServedBy claims contents old session unit asked bytes (Replied reply) new session' = (unit ≡ Some 0) × (session' ≡ session) × IsCommand claims contents old new session asked bytes reply
-IsServedBy claims contents old session unit asked bytes (Outside reply) new session' = (unit ≢ Some 0) × (reply ≡ not_there) × (session' ≡ session) × (new ≡ old)
-IsServedBy claims contents old session unit asked bytes Busy new session' = (unit ≡ Some 0) × (session' ≡ session) × (new ≡ old)
-IsServedBy claims contents old session unit asked bytes Gone new session' = (unit ≡ Some 0) × (session' ≡ session) × (new ≡ old)
-IsServedBy claims contents old session unit asked bytes Halted new session' = ⊥
+-- What one step of the target's unit leaves. A session that is attached and keeps its serials is gone only where the
+-- history has its last length.
+abbrev pub IsStepped : {B : Type 0} → Bool → (B → List (List ℕ)) → (B → ℕ) → TargetValue B → Result ScsiCommand CdbFault → List ℕ → StepEnd → TargetValue B → Type 0
+IsStepped claims contents failures old asked bytes (ends.Reply reply) new = IsCommand claims contents failures old new asked bytes reply
+IsStepped claims contents failures old asked bytes ends.Gone new = IsSame old new × (LAST_COUNT ≤ old.unit.control.count)
+IsStepped claims contents failures old asked bytes (ends.Moved owner) new =
+    IsSame old new × (old.by ≢ old.unit.control.owner) × (new.by ≡ new.unit.control.owner)
+IsStepped claims contents failures old asked bytes ends.NoMemory new = IsSame old new × TakesMemory old.unit.control (request old.session asked bytes)
+
+-- What such a step leaves that is made once more by the owner where it came by another group.
+abbrev pub IsOwnStep : {B : Type 0} → Bool → (B → List (List ℕ)) → (B → ℕ) → TargetValue B → Result ScsiCommand CdbFault → List ℕ → StepEnd → TargetValue B → Type 0
+IsOwnStep {B} claims contents failures old asked bytes (ends.Reply reply) new =
+    (by_owner : TargetValue B) × IsSame old by_owner × IsCommand claims contents failures by_owner new asked bytes reply
+IsOwnStep claims contents failures old asked bytes ends.Gone new = IsSame old new × (LAST_COUNT ≤ old.unit.control.count)
+IsOwnStep claims contents failures old asked bytes (ends.Moved owner) new = ⊥
+IsOwnStep claims contents failures old asked bytes ends.NoMemory new = IsSame old new × TakesMemory old.unit.control (request old.session asked bytes)
+
+-- There was no memory for the data of a reply: of the unit, or of one that is not there.
+abbrev pub IsBusy : ControlValue → ℕ → Option ℕ → Result ScsiCommand CdbFault → List ℕ → Type 0
+IsBusy c session unit asked bytes =
+    ((unit ≡ Some 0) × TakesMemory c (request session asked bytes)) ⊎ ((unit ≢ Some 0) × ((absent_reply asked).status ≡ Good))
+
+-- What the target answers to a command: of its unit a command's step; that there was no memory for it, or that its
+-- session is gone, and nothing happened; of another unit that it is not there.
+abbrev pub IsAnsweredBy : {B : Type 0} → Bool → (B → List (List ℕ)) → (B → ℕ) → TargetValue B → Option ℕ → Result ScsiCommand CdbFault → List ℕ → TargetAnswer → TargetValue B → Type 0
+IsAnsweredBy {B} claims contents failures old unit asked bytes (Replied reply) new =
+    (unit ≡ Some 0) × (by_owner : TargetValue B) × IsSame old by_owner × IsCommand claims contents failures by_owner new asked bytes reply
+IsAnsweredBy claims contents failures old unit asked bytes (Outside reply) new = (unit ≢ Some 0) × (reply ≡ absent_reply asked) × IsSame old new
+IsAnsweredBy claims contents failures old unit asked bytes Busy new = IsBusy old.unit.control old.session unit asked bytes × IsSame old new
+IsAnsweredBy claims contents failures old unit asked bytes Gone new = (unit ≡ Some 0) × IsSame old new × (LAST_COUNT ≤ old.unit.control.count)
+IsAnsweredBy claims contents failures old unit asked bytes Halted new = ⊥
+
+-- where a question with its answer leads the target
+abbrev pub LeadsOn : {B : Type 0} → Bool → (B → List (List ℕ)) → (B → ℕ) → TargetValue B → Question → TargetAnswer → TargetValue B → Type 0
+LeadsOn claims contents failures old (serve unit asked bytes) answer new = IsAnsweredBy claims contents failures old unit asked bytes answer new

@@ -1,62 +1,129 @@
 //! The target of a session that alone has a unit.
-ghost use Rattle.std.specs.Prelude.{◌≡◌, Some};
+ghost use Rattle.std.specs.Prelude.{◌≡◌, IfOk};
+ghost use Rattle.arrayd.specs.Once.{IsBegun};
 
 use block_file::Blocks;
-use scsi_types::{Asked, Group, Reply, Sense};
-use session::{Served, Target};
+use identity::absent;
+use scsi_types::{Asked, Command, Group, NoMemory, Place, PortName};
+use session::{Target, TargetAnswer};
 use std::alloc::Global;
+use std::marker::Model;
 use unit_state::{SessionId, StepEnd, Unit};
 
 /// The place of the unit.
 const UNIT: u8 = 0;
 
-/// One unit, and the session that is attached to it.
+/// The initiator of the one session.
+const INITIATOR: &[u8] = b"iqn.2000-01.test:host";
+
+/// One unit, and the session that is attached to it, with its serial and the unit's owner.
 #[derive(Drop)]
 pub struct OneUnit<B: Blocks> {
-    pub alloc: Global,
-    pub unit: Unit<B>,
-    pub session: SessionId,
-    /// The serial of the session's next command.
-    pub serial: u64,
-    /// The group that is believed to own the unit.
-    pub by: Group,
+    alloc: Global,
+    unit: Unit<B>,
+    session: SessionId,
+    // The serial of the session's next command.
+    serial: u64,
+    // The group that is believed to own the unit.
+    by: Group,
+}
+
+impl<B: Blocks> Model for OneUnit<B> {
+    ghost use Rattle.std.specs.Prelude.{◌≡◌, ◌≤◌, Some};
+    ghost use Rattle.unit_state.specs.Sessions.{next_of};
+    ghost use Rattle.arrayd.specs.OneUnit.{TargetValue};
+
+    ghost Value = { TargetValue B };
+
+    ghost view = { λ t. record { unit = t.unit; session = t.session; serial = t.serial; by = t.by } };
+
+    ghost invariant = { λ t. (next_of t.unit.control.sessions t.session ≡ Some t.serial) × (t.serial ≤ t.unit.control.count) };
 }
 
 impl<B: Blocks> OneUnit<B> {
-    ghost use Rattle.arrayd.specs.OneUnit.{IsTold};
+    ghost use Rattle.arrayd.specs.OneUnit.{IsStepped, IsOwnStep};
+
+    /// A unit over these blocks, to which a session of `iqn.2000-01.test:host` with ISID 0 through the first group is
+    /// attached, which was told of the power on. Refused, it drops the blocks.
+    pub fn over(alloc: Global, blocks: B) -> Result<OneUnit<B>, NoMemory>
+        ensures { IfOk result (IsBegun B.size blocks) }
+    {
+        let place = Place {
+            unit: UNIT,
+            units: 1,
+            array: 1,
+        };
+        let name = INITIATOR.to_vec(alloc)?;
+        let mut unit = Unit::open(alloc, place, blocks)?;
+        let Ok(session) = unit.attach(PortName::new(name, 0), Group::One) else {
+            unreachable!()
+        };
+        let by = Group::One;
+        // Takes the attention that the unit was powered on.
+        match unit.step(alloc, session, 1, by, Ok(Command::TestUnitReady), &[]) {
+            StepEnd::Reply(_) => Ok(OneUnit {
+                alloc,
+                unit,
+                session,
+                serial: 2,
+                by,
+            }),
+            _ => unreachable!(),
+        }
+    }
+
+    /// Hands the device back.
+    pub fn close(self) -> B
+        ensures { result ≡ self.unit.device }
+    {
+        self.unit.close()
+    }
 
     // One step of the unit, by the group that is believed to own it.
     fn step(&mut self, asked: Asked, bytes: &[u8]) -> StepEnd
-        ensures { IsTold B.claims B.contents self.old.unit self.old.session asked bytes.now result self.new.unit self.new.session }
+        ensures { IsStepped B.claims B.contents B.failures self.old asked bytes.now result self.new }
     {
-        let end = self.unit.step(self.alloc, self.session, self.serial, self.by, asked, bytes);
-        match &end {
-            StepEnd::Reply(_) => self.serial = self.serial.saturating_add(1),
-            StepEnd::Moved(owner) => self.by = *owner,
-            StepEnd::Gone | StepEnd::NoMemory => {}
+        match self.unit.step(self.alloc, self.session, self.serial, self.by, asked, bytes) {
+            StepEnd::Reply(reply) => {
+                self.serial += 1;
+                StepEnd::Reply(reply)
+            }
+            StepEnd::Moved(owner) => {
+                self.by = owner;
+                StepEnd::Moved(owner)
+            }
+            end => end,
         }
-        end
+    }
+
+    // One step of the unit, by its owner: a command that came by another group is submitted once more.
+    fn step_by_owner(&mut self, asked: Asked, bytes: &[u8]) -> StepEnd
+        ensures { IsOwnStep B.claims B.contents B.failures self.old asked bytes.now result self.new }
+    {
+        match self.step(asked, bytes) {
+            StepEnd::Moved(_) => self.step(asked, bytes),
+            end => end,
+        }
     }
 }
 
 impl<B: Blocks> Target for OneUnit<B> {
-    ghost use Rattle.arrayd.specs.Leads.{IsAnswered};
+    ghost use Rattle.arrayd.specs.OneUnit.{LeadsOn};
 
-    ghost leads = { IsAnswered B.claims B.contents };
+    ghost leads = { LeadsOn B.claims B.contents B.failures };
 
-    // A command that came by another group than the owner is submitted once more, to the owner.
-    fn serve(&mut self, unit: Option<u8>, asked: Asked, bytes: &[u8]) -> Served {
+    fn serve(&mut self, unit: Option<u8>, asked: Asked, bytes: &[u8]) -> TargetAnswer {
         if unit != Some(UNIT) {
-            return Served::Outside(Reply::check(self.alloc, Sense::new(0x05, 0x25, 0x00)));
+            return match absent(self.alloc, &asked) {
+                Ok(reply) => TargetAnswer::Outside(reply),
+                Err(NoMemory) => TargetAnswer::Busy,
+            };
         }
-        let end = match self.step(asked, bytes) {
-            StepEnd::Moved(_) => self.step(asked, bytes),
-            end => end,
-        };
-        match end {
-            StepEnd::Reply(reply) => Served::Replied(reply),
-            StepEnd::Gone => Served::Gone,
-            StepEnd::Moved(_) | StepEnd::NoMemory => Served::Busy,
+        match self.step_by_owner(asked, bytes) {
+            StepEnd::Reply(reply) => TargetAnswer::Replied(reply),
+            StepEnd::Gone => TargetAnswer::Gone,
+            StepEnd::NoMemory => TargetAnswer::Busy,
+            StepEnd::Moved(_) => unreachable!(),
         }
     }
 }

@@ -1,7 +1,5 @@
 mod command_line;
-mod device_failures;
 mod examples;
-mod fakes;
-mod pdus;
-mod refusals;
-mod residuals;
+mod first_questions;
+mod medium;
+mod run;

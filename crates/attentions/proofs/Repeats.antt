@@ -34,7 +34,9 @@ once code [] h = omega arith
 once code (x ∷ xs) h = grind (arith, once code xs, absent x xs, same_is code x)
 
 -- each condition is one of the five
-by_kind : (xs : List UnitAttention) → length xs ≡ times PowerOn xs + times ReservationsPreempted xs + times ReservationsReleased xs + times RegistrationsPreempted xs + times AccessStateChanged xs
+by_kind : (xs : List UnitAttention)
+    → length xs ≡ times PowerOn xs + times ReservationsPreempted xs + times ReservationsReleased xs
+    + times RegistrationsPreempted xs + times AccessStateChanged xs
 by_kind [] = refl
 by_kind (PowerOn ∷ xs) = omega (arith, by_kind xs)
 by_kind (ReservationsPreempted ∷ xs) = omega (arith, by_kind xs)
@@ -51,8 +53,10 @@ at_most_five xs h =
     let e = once AccessStateChanged xs h in
     omega (arith, by_kind xs)
 
-room_of : (code : UnitAttention) (xs : List UnitAttention) → times code xs ≡ 0 → times PowerOn xs ≤ 1 → times ReservationsPreempted xs ≤ 1
-    → times ReservationsReleased xs ≤ 1 → times RegistrationsPreempted xs ≤ 1 → times AccessStateChanged xs ≤ 1 → length xs < 5
+room_of : (code : UnitAttention) (xs : List UnitAttention) → times code xs ≡ 0 → times PowerOn xs ≤ 1
+    → times ReservationsPreempted xs ≤ 1
+    → times ReservationsReleased xs ≤ 1 → times RegistrationsPreempted xs ≤ 1 → times AccessStateChanged xs ≤ 1
+    → length xs < 5
 room_of PowerOn xs z a b c d e = omega (arith, by_kind xs)
 room_of ReservationsPreempted xs z a b c d e = omega (arith, by_kind xs)
 room_of ReservationsReleased xs z a b c d e = omega (arith, by_kind xs)
@@ -60,7 +64,8 @@ room_of RegistrationsPreempted xs z a b c d e = omega (arith, by_kind xs)
 room_of AccessStateChanged xs z a b c d e = omega (arith, by_kind xs)
 
 -- a condition that does not wait has room
-pub room : (code : UnitAttention) (xs : List UnitAttention) → without_repeats xs ≡ true → is_pending xs code ≡ false → length xs < 5
+pub room : (code : UnitAttention) (xs : List UnitAttention) → without_repeats xs ≡ true → is_pending xs code ≡ false
+    → length xs < 5
 room code xs h fresh =
     room_of code xs (absent code xs fresh) (once PowerOn xs h) (once ReservationsPreempted xs h)
     (once ReservationsReleased xs h) (once RegistrationsPreempted xs h) (once AccessStateChanged xs h)
@@ -73,28 +78,33 @@ same_either_way RegistrationsPreempted RegistrationsPreempted h = h
 same_either_way AccessStateChanged AccessStateChanged h = h
 same_either_way a b h = refl
 
-not_behind : (x code : UnitAttention) (xs : List UnitAttention) → is_pending xs x ≡ false → same_attention x code ≡ false → is_pending (xs ++ code ∷ []) x ≡ false
+not_behind : (x code : UnitAttention) (xs : List UnitAttention) → is_pending xs x ≡ false → same_attention x code ≡ false
+    → is_pending (xs ++ code ∷ []) x ≡ false
 not_behind x code [] h k = grind (arith, k)
 not_behind x code (y ∷ ys) h k = grind (arith, not_behind x code ys, k)
 
 -- one more at the end
-pub one_more : (code : UnitAttention) (xs : List UnitAttention) → without_repeats xs ≡ true → is_pending xs code ≡ false → without_repeats (xs ++ code ∷ []) ≡ true
+pub one_more : (code : UnitAttention) (xs : List UnitAttention) → without_repeats xs ≡ true
+    → is_pending xs code ≡ false → without_repeats (xs ++ code ∷ []) ≡ true
 one_more code [] h fresh = refl
 one_more code (x ∷ xs) h fresh = grind (arith, one_more code xs, not_behind x code xs, same_either_way code x)
 
-pub kept : (xs : List UnitAttention) (code : UnitAttention) → without_repeats xs ≡ true → without_repeats (established xs code) ≡ true
+pub kept : (xs : List UnitAttention) (code : UnitAttention) → without_repeats xs ≡ true
+    → without_repeats (established xs code) ≡ true
 kept xs code h = grind (arith, one_more code xs)
 
 -- the first goes
 pub rest : (x : UnitAttention) (xs : List UnitAttention) → without_repeats (x ∷ xs) ≡ true → without_repeats xs ≡ true
 rest x xs h = grind arith
 
-not_there : (x : UnitAttention) (xs : List UnitAttention) (k : ℕ) (d : UnitAttention) → is_pending xs x ≡ false → k < length xs → x ≡ get_or xs k d → ⊥
+not_there : (x : UnitAttention) (xs : List UnitAttention) (k : ℕ) (d : UnitAttention) → is_pending xs x ≡ false
+    → k < length xs → x ≡ get_or xs k d → ⊥
 not_there x [] k d h lt e = absurd (omega arith)
 not_there x (y ∷ ys) zero d h lt e = grind (arith, same_self x)
 not_there x (y ∷ ys) (suc k) d h lt e = not_there x ys k d (grind arith) (omega arith) e
 
-pub apart : (xs : List UnitAttention) → without_repeats xs ≡ true → (i j : ℕ) (d : UnitAttention) → i < j → j < length xs → get_or xs i d ≡ get_or xs j d → ⊥
+pub apart : (xs : List UnitAttention) → without_repeats xs ≡ true → (i j : ℕ) (d : UnitAttention) → i < j
+    → j < length xs → get_or xs i d ≡ get_or xs j d → ⊥
 apart [] h i j d lt lj e = absurd (omega arith)
 apart (x ∷ xs) h i zero d lt lj e = absurd (omega arith)
 apart (x ∷ xs) h zero (suc j) d lt lj e = not_there x xs j d (grind arith) (omega arith) e

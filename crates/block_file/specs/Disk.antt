@@ -1,4 +1,5 @@
--- A disk as a list of blocks: what a write changes of it, and what a crash may leave (SBC-3, logical blocks and caches).
+-- A disk as a list of blocks: what a write changes of it, and what a crash may leave (SBC-3, logical blocks and
+-- caches).
 use Rattle.std.specs.Prelude.{◌≡◌, ◌⊎◌, ◌↔◌, ℕ, ◌+◌, ◌-◌, ◌<◌, ◌≤◌, List, [], ◌++◌, length, take, drop, flat_map, slice_index_or}
 
 -- the block at a place
@@ -24,16 +25,22 @@ pub record Between (old : List (List ℕ)) (first : ℕ) (blocks after : List (L
   pub as_long : length after ≡ length old
   pub each : (k : ℕ) → (block_at after k ≡ block_at old k) ⊎ IsNewAt first blocks k (block_at after k)
 
--- What a block may hold after a crash: just what it did; no more; that, or what is written; the contents alone.
+-- What a block may hold after a crash, before a call and after it. Just what it did:
 abbrev pub HoldsTheSame : (ℕ → List ℕ → Type 0) → (ℕ → List ℕ → Type 0) → Type 0
 HoldsTheSame old new = (k : ℕ) (value : List ℕ) → new k value ↔ old k value
 
+-- no more than it did:
 abbrev pub NoMore : (ℕ → List ℕ → Type 0) → (ℕ → List ℕ → Type 0) → Type 0
 NoMore old new = (k : ℕ) (value : List ℕ) → new k value → old k value
 
-abbrev pub Adds : ℕ → List (List ℕ) → (ℕ → List ℕ → Type 0) → (ℕ → List ℕ → Type 0) → Type 0
-Adds first blocks old new = (k : ℕ) (value : List ℕ) → new k value → old k value ⊎ IsNewAt first blocks k value
+-- no more than it did, or the block that is written there:
+abbrev pub or_new : ℕ → List (List ℕ) → (ℕ → List ℕ → Type 0) → ℕ → List ℕ → Type 0
+or_new first blocks may_hold k value = may_hold k value ⊎ IsNewAt first blocks k value
 
+abbrev pub Adds : ℕ → List (List ℕ) → (ℕ → List ℕ → Type 0) → (ℕ → List ℕ → Type 0) → Type 0
+Adds first blocks old new = NoMore (or_new first blocks old) new
+
+-- what is there alone:
 abbrev pub Only : List (List ℕ) → (ℕ → List ℕ → Type 0) → Type 0
 Only disk may_hold = (k : ℕ) (value : List ℕ) → may_hold k value → value ≡ block_at disk k
 

@@ -3,7 +3,8 @@ use Rattle.std.specs.Prelude.{◌≡◌, ℕ, ◌+◌, ◌<◌, List, [], ◌∷
 use Rattle.block_file.specs.Disk.{written}
 use Rattle.block_file.specs.Failures.{Counts, last_count}
 
--- the device, how many calls are yet to be passed on, whether a write that fails has been written, and how many calls the fuse failed
+-- the device, how many calls are yet to be passed on, whether a write that fails has been written, and how many
+-- calls the fuse failed
 pub record Fuse (B : Type 0) : Type 0 where
   pub inner : B
   pub left : ℕ
@@ -34,4 +35,5 @@ pub record Fails {B T E : Type 0} (old new : Fuse B) (result : Result T E) : Typ
 
 -- the block is written, unless the device failed
 abbrev pub Lands : {B : Type 0} → (B → ℕ) → (B → List (List ℕ)) → B → B → ℕ → List ℕ → Type 0
-Lands failures contents old new index block = failures old < last_count → failures new ≡ failures old → contents new ≡ written (contents old) index (block ∷ [])
+Lands failures contents old new index block =
+    failures old < last_count → failures new ≡ failures old → contents new ≡ written (contents old) index (block ∷ [])

@@ -5,5 +5,6 @@ pub mod FailureLaws
 pub mod Failures
 pub mod Fuse
 pub mod Moment
+pub mod MomentLaws
 pub mod OpenFuse
 pub mod ReadBack

@@ -17,7 +17,8 @@ abbrev pub all_opens_failed : {O : Type 0} → (O → ℕ) → OpenFuse O → �
 all_opens_failed opens_failed fuse = min (opens_failed fuse.inner + fuse.failed) last_count
 
 -- an open that is passed on: it is one of those left, and fails where the opener fails
-pub record PassesOpen {O T E : Type 0} (opens_failed : O → ℕ) (old new : OpenFuse O) (result : Result T E) : Type 0 where
+pub record PassesOpen {O T E : Type 0} (opens_failed : O → ℕ) (old new : OpenFuse O)
+    (result : Result T E) : Type 0 where
   pub left : new.left + 1 ≡ old.left
   pub failed : new.failed ≡ old.failed
   pub counts : Counts (opens_failed old.inner) (opens_failed new.inner) result

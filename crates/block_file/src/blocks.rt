@@ -61,7 +61,8 @@ pub trait Blocks: Drop {
     fn write(&mut self, index: u32, block: &[u8; 512]) -> Result<(), DeviceFailed>
         requires { index < size self.old }
         ensures size { size self.new ≡ size self.old }
-        ensures written { IsTrue claims → OnOk result (contents self.new ≡ written (contents self.old) index (block.now ∷ [])) }
+        ensures written { IsTrue claims
+            → OnOk result (contents self.new ≡ written (contents self.old) index (block.now ∷ [])) }
         ensures torn { IsTrue claims → Between (contents self.old) index (block.now ∷ []) (contents self.new) }
         ensures crash { IsTrue claims → Adds index (block.now ∷ []) (may_hold self.old) (may_hold self.new) }
         ensures time { IsTrue claims_moments → TimePasses moment left_since size may_hold self.old self.new }

@@ -100,7 +100,8 @@ impl<B: Blocks> Blocks for FusedBlocks<B> {
         ensures read { IsTrue B.claims → OnOk result (block.new ≡ block_at (B.contents self.old.inner) index) }
         ensures contents { IsTrue B.claims → B.contents self.new.inner ≡ B.contents self.old.inner }
         ensures crash { IsTrue B.claims → NoMore (B.may_hold self.old.inner) (B.may_hold self.new.inner) }
-        ensures time { IsTrue B.claims_moments → TimePasses B.moment B.left_since B.size B.may_hold self.old.inner self.new.inner }
+        ensures time { IsTrue B.claims_moments
+            → TimePasses B.moment B.left_since B.size B.may_hold self.old.inner self.new.inner }
         ensures failures { Counts (all_failures B.failures self.old) (all_failures B.failures self.new) result }
         ensures passed { 0 < self.old.left → Passes B.failures self.old self.new result }
         ensures failed { self.old.left ≡ 0 → Fails self.old self.new result }
@@ -118,9 +119,12 @@ impl<B: Blocks> Blocks for FusedBlocks<B> {
         ensures size { B.size self.new.inner ≡ B.size self.old.inner }
         ensures written { IsTrue B.claims → OnOk result
             (B.contents self.new.inner ≡ written (B.contents self.old.inner) index (block.now ∷ [])) }
-        ensures torn { IsTrue B.claims → Between (B.contents self.old.inner) index (block.now ∷ []) (B.contents self.new.inner) }
-        ensures crash { IsTrue B.claims → Adds index (block.now ∷ []) (B.may_hold self.old.inner) (B.may_hold self.new.inner) }
-        ensures time { IsTrue B.claims_moments → TimePasses B.moment B.left_since B.size B.may_hold self.old.inner self.new.inner }
+        ensures torn { IsTrue B.claims
+            → Between (B.contents self.old.inner) index (block.now ∷ []) (B.contents self.new.inner) }
+        ensures crash { IsTrue B.claims
+            → Adds index (block.now ∷ []) (B.may_hold self.old.inner) (B.may_hold self.new.inner) }
+        ensures time { IsTrue B.claims_moments
+            → TimePasses B.moment B.left_since B.size B.may_hold self.old.inner self.new.inner }
         ensures failures { Counts (all_failures B.failures self.old) (all_failures B.failures self.new) result }
         ensures passed { 0 < self.old.left → Passes B.failures self.old self.new result }
         ensures failed { self.old.left ≡ 0 → Fails self.old self.new result }
@@ -143,7 +147,8 @@ impl<B: Blocks> Blocks for FusedBlocks<B> {
         ensures contents { IsTrue B.claims → B.contents self.new.inner ≡ B.contents self.old.inner }
         ensures durable { IsTrue B.claims → OnOk result (Only (B.contents self.old.inner) (B.may_hold self.new.inner)) }
         ensures crash { IsTrue B.claims → NoMore (B.may_hold self.old.inner) (B.may_hold self.new.inner) }
-        ensures time { IsTrue B.claims_moments → TimePasses B.moment B.left_since B.size B.may_hold self.old.inner self.new.inner }
+        ensures time { IsTrue B.claims_moments
+            → TimePasses B.moment B.left_since B.size B.may_hold self.old.inner self.new.inner }
         ensures failures { Counts (all_failures B.failures self.old) (all_failures B.failures self.new) result }
         ensures passed { 0 < self.old.left → Passes B.failures self.old self.new result }
         ensures failed { self.old.left ≡ 0 → Fails self.old self.new result }

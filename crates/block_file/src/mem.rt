@@ -21,7 +21,8 @@ impl MemBlocks {
     /// So many blocks of zeros.
     pub fn new(alloc: Global, count: u32) -> Result<MemBlocks, AllocError>
         ensures size { IfOk result (λ d. ⟦<MemBlocks as Blocks>⟧.size d ≡ count) }
-        ensures zeros { IfOk result (λ d. ⟦<MemBlocks as Blocks>⟧.contents d ≡ replicate count (replicate BLOCK_LENGTH 0)) }
+        ensures zeros { IfOk result (λ d.
+            ⟦<MemBlocks as Blocks>⟧.contents d ≡ replicate count (replicate BLOCK_LENGTH 0)) }
     {
         let bytes = vec![in alloc; 0u8; BLOCK_LENGTH * count as usize]?;
         Ok(MemBlocks { bytes, count })

@@ -98,7 +98,8 @@ impl<B: Blocks, O: Opener<B>> Opener<B> for FusedOpener<O> {
         ensures moment { IsTrue O.claims → B.moment device.new ≡ B.moment device.old }
         ensures time { IsTrue O.claims → LeavesTheSame (B.left_since device.old) (B.left_since device.new) }
         ensures err { OnErr result (device.new ≡ device.old) }
-        ensures failures { Counts (all_opens_failed O.opens_failed self.old) (all_opens_failed O.opens_failed self.new) result }
+        ensures failures { Counts
+            (all_opens_failed O.opens_failed self.old) (all_opens_failed O.opens_failed self.new) result }
         ensures passed { 0 < self.old.left → PassesOpen O.opens_failed self.old self.new result }
         ensures failed { self.old.left ≡ 0 → FailsOpen self.old self.new result }
     {

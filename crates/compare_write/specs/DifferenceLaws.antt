@@ -5,16 +5,19 @@ use Rattle.std.proofs.lemmas.Grind.{common_steps}
 use Rattle.compare_write.specs.Difference.{first_difference}
 
 -- one more byte in front of both
-behind_equal : (x y : ℕ) (xs ys : List ℕ) (at : ℕ) → x ≡ y → first_difference xs ys ≡ Some at → first_difference (x ∷ xs) (y ∷ ys) ≡ Some (suc at)
+behind_equal : (x y : ℕ) (xs ys : List ℕ) (at : ℕ) → x ≡ y → first_difference xs ys ≡ Some at
+    → first_difference (x ∷ xs) (y ∷ ys) ≡ Some (suc at)
 behind_equal x y xs ys at e h = grind (arith, common_steps, nat_tests)
 
 at_once : (x y : ℕ) (xs ys : List ℕ) → x ≢ y → first_difference (x ∷ xs) (y ∷ ys) ≡ Some 0
 at_once x y xs ys ne = grind (arith, common_steps, nat_tests)
 
-none_behind : (x y : ℕ) (xs ys : List ℕ) → first_difference (x ∷ xs) (y ∷ ys) ≡ None → (x ≡ y) × (first_difference xs ys ≡ None)
+none_behind : (x y : ℕ) (xs ys : List ℕ) → first_difference (x ∷ xs) (y ∷ ys) ≡ None
+    → (x ≡ y) × (first_difference xs ys ≡ None)
 none_behind x y xs ys h = (grind (arith, common_steps, nat_tests), grind (arith, common_steps, nat_tests))
 
-some_behind : (x y : ℕ) (xs ys : List ℕ) (at : ℕ) → x ≡ y → first_difference (x ∷ xs) (y ∷ ys) ≡ Some at → (at ≡ suc (at - 1)) × (first_difference xs ys ≡ Some (at - 1))
+some_behind : (x y : ℕ) (xs ys : List ℕ) (at : ℕ) → x ≡ y → first_difference (x ∷ xs) (y ∷ ys) ≡ Some at
+    → (at ≡ suc (at - 1)) × (first_difference xs ys ≡ Some (at - 1))
 some_behind x y xs ys at e h = (grind (arith, common_steps, nat_tests), grind (arith, common_steps, nat_tests))
 
 some_at_once : (x y : ℕ) (xs ys : List ℕ) (at : ℕ) → x ≢ y → first_difference (x ∷ xs) (y ∷ ys) ≡ Some at → at ≡ 0
@@ -25,23 +28,29 @@ none_of_empty [] at h = absurd (cc)
 none_of_empty (x ∷ xs) at h = absurd (cc)
 
 -- equal bytes in front of both
-pub first_difference-append : (front xs ys : List ℕ) (at : ℕ) → first_difference xs ys ≡ Some at → first_difference (front ++ xs) (front ++ ys) ≡ Some (length front + at)
-first_difference-append [] xs ys at h = let e : at ≡ 0 + at = omega arith in h ∙ ap (λ (n : ℕ). let o : Option ℕ = Some n in o) e
+pub first_difference-append : (front xs ys : List ℕ) (at : ℕ) → first_difference xs ys ≡ Some at
+    → first_difference (front ++ xs) (front ++ ys) ≡ Some (length front + at)
+first_difference-append [] xs ys at h = let e : at ≡ 0 + at = omega arith in h
+    ∙ ap (λ (n : ℕ). let o : Option ℕ = Some n in o) e
 first_difference-append (x ∷ front) xs ys at h =
     let e : suc (length front + at) ≡ suc (length front) + at = omega arith in
-    behind_equal x x (front ++ xs) (front ++ ys) (length front + at) refl (first_difference-append front xs ys at h) ∙ ap (λ (n : ℕ). let o : Option ℕ = Some n in o) e
+    behind_equal x x (front ++ xs) (front ++ ys) (length front + at) refl (first_difference-append front xs ys at h)
+    ∙ ap (λ (n : ℕ). let o : Option ℕ = Some n in o) e
 
 -- what stands behind the difference does not matter
-pub difference_in_front : (xs ys rest more : List ℕ) (at : ℕ) → first_difference xs ys ≡ Some at → first_difference (xs ++ rest) (ys ++ more) ≡ Some at
+pub difference_in_front : (xs ys rest more : List ℕ) (at : ℕ) → first_difference xs ys ≡ Some at
+    → first_difference (xs ++ rest) (ys ++ more) ≡ Some at
 difference_in_front [] ys rest more at h = absurd (cc)
 difference_in_front (x ∷ xs) [] rest more at h = absurd (cc)
 difference_in_front (x ∷ xs) (y ∷ ys) rest more at h =
     ⊎_elim
     (λ (t : (nat_eq x y ≡ true) × (x ≡ y)).
     let back = some_behind x y xs ys at t.1 h in
-    behind_equal x y (xs ++ rest) (ys ++ more) (at - 1) t.1 (difference_in_front xs ys rest more (at - 1) back.1) ∙ ap (λ (n : ℕ). let o : Option ℕ = Some n in o) (sym back.0))
+    behind_equal x y (xs ++ rest) (ys ++ more) (at - 1) t.1 (difference_in_front xs ys rest more (at - 1) back.1)
+    ∙ ap (λ (n : ℕ). let o : Option ℕ = Some n in o) (sym back.0))
     (λ (f : (nat_eq x y ≡ false) × (x ≢ y)).
-    at_once x y (xs ++ rest) (ys ++ more) f.1 ∙ ap (λ (n : ℕ). let o : Option ℕ = Some n in o) (sym (some_at_once x y xs ys at f.1 h)))
+    at_once x y (xs ++ rest) (ys ++ more) f.1
+    ∙ ap (λ (n : ℕ). let o : Option ℕ = Some n in o) (sym (some_at_once x y xs ys at f.1 h)))
     (eqb_tells x y)
 
 -- runs of one length that differ nowhere are equal
@@ -61,7 +70,8 @@ differs_nowhere [] = refl
 differs_nowhere (x ∷ xs) = let rest = differs_nowhere xs in grind (arith, common_steps, nat_tests)
 
 -- what a search for the first difference tells of runs of one length
-pub as_found : (xs ys : List ℕ) (found : Option ℕ) → length xs ≡ length ys → found ≡ first_difference xs ys → MatchOption found (xs ≡ ys) (λ at. first_difference xs ys ≡ Some at)
+pub as_found : (xs ys : List ℕ) (found : Option ℕ) → length xs ≡ length ys → found ≡ first_difference xs ys
+    → MatchOption found (xs ≡ ys) (λ at. first_difference xs ys ≡ Some at)
 as_found xs ys None long is = none_differs xs ys long (sym is)
 as_found xs ys (Some at) long is = sym is
 
@@ -87,7 +97,8 @@ differs_at (x ∷ xs) (y ∷ ys) at h =
     (λ (f : (nat_eq x y ≡ false) × (x ≢ y)). let here = some_at_once x y xs ys at f.1 h in rw here f.1)
     (eqb_tells x y)
 
-pub agrees_before : (xs ys : List ℕ) (at : ℕ) → first_difference xs ys ≡ Some at → (k : ℕ) → k < at → get_or xs k 0 ≡ get_or ys k 0
+pub agrees_before : (xs ys : List ℕ) (at : ℕ) → first_difference xs ys ≡ Some at → (k : ℕ) → k < at
+    → get_or xs k 0 ≡ get_or ys k 0
 agrees_before [] ys at h k lt = absurd (cc)
 agrees_before (x ∷ xs) [] at h k lt = absurd (cc)
 agrees_before (x ∷ xs) (y ∷ ys) at h zero lt =
@@ -97,6 +108,7 @@ agrees_before (x ∷ xs) (y ∷ ys) at h zero lt =
 agrees_before (x ∷ xs) (y ∷ ys) at h (suc k) lt =
     ⊎_elim
     (λ (t : (nat_eq x y ≡ true) × (x ≡ y)).
-    let back = some_behind x y xs ys at t.1 h in let one = back.0 in agrees_before xs ys (at - 1) back.1 k (omega arith))
+    let back =
+    some_behind x y xs ys at t.1 h in let one = back.0 in agrees_before xs ys (at - 1) back.1 k (omega arith))
     (λ (f : (nat_eq x y ≡ false) × (x ≢ y)). let here = some_at_once x y xs ys at f.1 h in absurd (omega arith))
     (eqb_tells x y)

@@ -1,6 +1,7 @@
 //! COMPARE AND WRITE.
 ghost use Rattle.std.specs.Prelude.{◌≡◌, ◌+◌, ◌*◌, ◌<◌, ◌≤◌, Option, Some, IsTrue, IfOk, IfSome, MatchOption, length};
-ghost use Rattle.block_file.specs.Disk.{block_at, written, range_bytes, Between, NoMore, Adds};
+ghost use Rattle.block_file.specs.Disk.{block_at, written, range_bytes, or_new, Between, NoMore, Adds};
+ghost use Rattle.block_file.specs.Moment.{StopsAmong, TimePasses};
 ghost use Rattle.block_file.specs.Failures.{Counts, Tells};
 ghost use Rattle.compare_write.specs.Difference.{first_difference};
 ghost use Rattle.compare_write.specs.Ends.{IsUnfailed, IsCompareEnd, OnDone, OnMiscompare, OnUnwritten, OnWriting};
@@ -32,12 +33,20 @@ pub fn compare_and_write<B: Blocks>(
     ensures equal { IsTrue B.claims → OnWriting result
         (range_bytes (B.contents device.old) lba blocks ≡ compare_instance blocks bytes.now) }
     ensures differs { IsTrue B.claims → OnMiscompare result (λ at.
-        first_difference (range_bytes (B.contents device.old) lba blocks) (compare_instance blocks bytes.now) ≡ Some at) }
+        first_difference (range_bytes (B.contents device.old) lba blocks) (compare_instance blocks bytes.now)
+        ≡ Some at) }
     ensures unwritten { IsTrue B.claims → OnUnwritten result (B.contents device.new ≡ B.contents device.old) }
+    ensures untouched { IsTrue B.claims → OnUnwritten result (NoMore (B.may_hold device.old) (B.may_hold device.new)) }
     ensures written { IsTrue B.claims → OnDone result
         (B.contents device.new ≡ written (B.contents device.old) lba (write_instance blocks bytes.now)) }
-    ensures torn { IsTrue B.claims → Between (B.contents device.old) lba (write_instance blocks bytes.now) (B.contents device.new) }
-    ensures crash { IsTrue B.claims → Adds lba (write_instance blocks bytes.now) (B.may_hold device.old) (B.may_hold device.new) }
+    ensures torn { IsTrue B.claims
+        → Between (B.contents device.old) lba (write_instance blocks bytes.now) (B.contents device.new) }
+    ensures crash { IsTrue B.claims
+        → Adds lba (write_instance blocks bytes.now) (B.may_hold device.old) (B.may_hold device.new) }
+    ensures stop { IsTrue B.claims → IsTrue B.claims_moments → StopsAmong B.moment B.left_since B.size
+        (or_new lba (write_instance blocks bytes.now) (B.may_hold device.old)) device.old device.new }
+    ensures stop_unwritten { IsTrue B.claims → IsTrue B.claims_moments → OnUnwritten result
+        (StopsAmong B.moment B.left_since B.size (B.may_hold device.old) device.old device.new) }
 {
     let half = BLOCK_LENGTH * usize::from(blocks);
     let Ok(found) = find_difference(device, lba, blocks, &bytes[..half]) else {
@@ -66,6 +75,8 @@ fn find_difference<B: Blocks>(
         (λ at. first_difference (range_bytes (B.contents device.old) lba blocks) given.now ≡ Some at)) }
     ensures contents { IsTrue B.claims → B.contents device.new ≡ B.contents device.old }
     ensures crash { IsTrue B.claims → NoMore (B.may_hold device.old) (B.may_hold device.new) }
+    ensures stop { IsTrue B.claims → IsTrue B.claims_moments
+        → StopsAmong B.moment B.left_since B.size (B.may_hold device.old) device.old device.new }
 {
     for k in 0..blocks {
         let at = BLOCK_LENGTH * usize::from(k);
@@ -96,6 +107,7 @@ fn compare_block<B: Blocks>(
         (λ at. first_difference (block_at (B.contents device.old) index) given.now ≡ Some at)) }
     ensures contents { IsTrue B.claims → B.contents device.new ≡ B.contents device.old }
     ensures crash { IsTrue B.claims → NoMore (B.may_hold device.old) (B.may_hold device.new) }
+    ensures time { IsTrue B.claims_moments → TimePasses B.moment B.left_since B.size B.may_hold device.old device.new }
 {
     let mut block = [0; 512];
     let Ok(()) = device.read(index, &mut block) else {

@@ -5,9 +5,11 @@ ghost use Rattle.compare_write.specs.Difference.{first_difference};
 /// The first difference is the least: the bytes differ there, and agree at each place before it. There is none
 /// just where runs of one length are equal.
 pub fn the_first_difference_is_the_least()
-    ensures differs { (xs ys : List ℕ) (at : ℕ) → first_difference xs ys ≡ Some at → slice_index xs at ≢ slice_index ys at }
+    ensures differs { (xs ys : List ℕ) (at : ℕ) → first_difference xs ys ≡ Some at
+        → slice_index xs at ≢ slice_index ys at }
     ensures before { (xs ys : List ℕ) (at : ℕ) → first_difference xs ys ≡ Some at → (k : ℕ) → k < at
         → slice_index xs k ≡ slice_index ys k }
-    ensures within { (xs ys : List ℕ) (at : ℕ) → first_difference xs ys ≡ Some at → (at < length xs) × (at < length ys) }
+    ensures within { (xs ys : List ℕ) (at : ℕ) → first_difference xs ys ≡ Some at
+        → (at < length xs) × (at < length ys) }
     ensures none { (xs ys : List ℕ) → length xs ≡ length ys → (first_difference xs ys ≡ None) ↔ (xs ≡ ys) }
 {}

@@ -1,7 +1,8 @@
 //! READ, WRITE and SYNCHRONIZE CACHE.
 ghost use Rattle.std.specs.Prelude.{◌≡◌, ◌+◌, ◌*◌, ◌<◌, ◌≤◌, length, IsTrue, OnOk};
 ghost use Rattle.block_file.specs.Cut.{cut};
-ghost use Rattle.block_file.specs.Disk.{block_at, written, range_bytes, Between, NoMore, Adds, Only};
+ghost use Rattle.block_file.specs.Disk.{block_at, written, range_bytes, or_new, Between, NoMore, Adds, Only};
+ghost use Rattle.block_file.specs.Moment.{StopsAmong, TimePasses};
 ghost use Rattle.block_file.specs.Failures.{Counts, Tells};
 ghost use Rattle.compare_write.specs.Ends.{IsUnfailed, IsReadEnd, IsWriteEnd, IsSyncEnd, OnDone};
 
@@ -20,6 +21,8 @@ pub fn read_range<B: Blocks>(device: &mut B, lba: u32, blocks: u16, out: &mut [u
     ensures read { IsTrue B.claims → OnDone result (out.new ≡ range_bytes (B.contents device.old) lba blocks) }
     ensures contents { IsTrue B.claims → B.contents device.new ≡ B.contents device.old }
     ensures crash { IsTrue B.claims → NoMore (B.may_hold device.old) (B.may_hold device.new) }
+    ensures stop { IsTrue B.claims → IsTrue B.claims_moments
+        → StopsAmong B.moment B.left_since B.size (B.may_hold device.old) device.old device.new }
 {
     for k in 0..blocks {
         let at = BLOCK_LENGTH * usize::from(k);
@@ -39,6 +42,7 @@ fn read_block<B: Blocks>(device: &mut B, index: u32, place: &mut [u8]) -> Result
     ensures read { IsTrue B.claims → OnOk result (place.new ≡ block_at (B.contents device.old) index) }
     ensures contents { IsTrue B.claims → B.contents device.new ≡ B.contents device.old }
     ensures crash { IsTrue B.claims → NoMore (B.may_hold device.old) (B.may_hold device.new) }
+    ensures time { IsTrue B.claims_moments → TimePasses B.moment B.left_since B.size B.may_hold device.old device.new }
 {
     let Some(block) = place.as_mut_array::<512>() else {
         unreachable!()
@@ -55,9 +59,14 @@ pub fn write_range<B: Blocks>(device: &mut B, lba: u32, blocks: u16, bytes: &[u8
     ensures size { B.size device.new ≡ B.size device.old }
     ensures ends { IsWriteEnd result }
     ensures failures { Tells (B.failures device.old) (B.failures device.new) (IsUnfailed result) }
-    ensures written { IsTrue B.claims → OnDone result (B.contents device.new ≡ written (B.contents device.old) lba (cut blocks bytes.now)) }
-    ensures torn { IsTrue B.claims → Between (B.contents device.old) lba (cut blocks bytes.now) (B.contents device.new) }
+    ensures written { IsTrue B.claims → OnDone result
+        (B.contents device.new ≡ written (B.contents device.old) lba (cut blocks bytes.now)) }
+    ensures torn { IsTrue B.claims
+        → Between (B.contents device.old) lba (cut blocks bytes.now) (B.contents device.new) }
     ensures crash { IsTrue B.claims → Adds lba (cut blocks bytes.now) (B.may_hold device.old) (B.may_hold device.new) }
+    ensures stop { IsTrue B.claims → IsTrue B.claims_moments
+        → StopsAmong B.moment B.left_since B.size (or_new lba (cut blocks bytes.now) (B.may_hold device.old))
+        device.old device.new }
 {
     for k in 0..blocks {
         let at = BLOCK_LENGTH * usize::from(k);
@@ -81,6 +90,8 @@ pub fn sync<B: Blocks>(device: &mut B) -> MediumEnd
     ensures contents { IsTrue B.claims → B.contents device.new ≡ B.contents device.old }
     ensures durable { IsTrue B.claims → OnDone result (Only (B.contents device.old) (B.may_hold device.new)) }
     ensures crash { IsTrue B.claims → NoMore (B.may_hold device.old) (B.may_hold device.new) }
+    ensures stop { IsTrue B.claims → IsTrue B.claims_moments
+        → StopsAmong B.moment B.left_since B.size (B.may_hold device.old) device.old device.new }
 {
     match device.flush() {
         Ok(()) => MediumEnd::Done,

@@ -11,7 +11,8 @@ pub serials_differ : (place other : Place) → place.array < 2 ^ 32 → other.ar
     → other.unit < 100 → spell (serial_number place) ≡ spell (serial_number other)
     → (place.array ≡ other.array) × (place.unit ≡ other.unit)
 serials_differ place other fits fits' below below' e =
-    let same : (k : ℕ) → get_or (spell (serial_number place)) k 0 ≡ get_or (spell (serial_number other)) k 0 = λ k. ap (λ s. get_or s k 0) e in
+    let same : (k : ℕ) → get_or (spell (serial_number place)) k 0 ≡ get_or (spell (serial_number other)) k 0 =
+    λ k. ap (λ s. get_or s k 0) e in
     let a : ℕ = place.array in
     let b : ℕ = other.array in
     let d7 : a / 268435456 % 16 ≡ b / 268435456 % 16 = digit_is _ _ (omega arith) (omega arith) (same 4) in

@@ -46,7 +46,8 @@ control_page =
     Shared (bits "TST" 3 0 ∷ flag "TMF_ONLY" 0 ∷ flag "DPICZ" 0 ∷ flag "D_SENSE" 0 ∷ flag "GLTSD" 0 ∷ flag "RLEC" 0 ∷ [])
     ∷ Shared (bits "QUEUE ALGORITHM MODIFIER" 4 1 ∷ flag "NUAR" 0 ∷ bits "QERR" 2 0 ∷ flag "Obsolete" 0 ∷ [])
     ∷ Shared (flag "VS" 0 ∷ flag "RAC" 0 ∷ bits "UA_INTLCK_CTRL" 2 0 ∷ flag "SWP" 0 ∷ bits "Obsolete" 3 0 ∷ [])
-    ∷ Shared (flag "ATO" 0 ∷ flag "TAS" 0 ∷ flag "ATMPE" 0 ∷ flag "RWWP" 0 ∷ flag "Reserved" 0 ∷ bits "AUTOLOAD MODE" 3 0 ∷ [])
+    ∷ Shared (flag "ATO" 0 ∷ flag "TAS" 0 ∷ flag "ATMPE" 0 ∷ flag "RWWP" 0
+    ∷ flag "Reserved" 0 ∷ bits "AUTOLOAD MODE" 3 0 ∷ [])
     ∷ Number "Obsolete" 2 0
     ∷ Number "BUSY TIMEOUT PERIOD" 2 0
     ∷ Number "EXTENDED SELF-TEST COMPLETION TIME" 2 0

@@ -62,7 +62,8 @@ fn asked_pages(control: PageControl, page: ModePage) -> &'static [u8]
 // The pages behind the header of MODE SENSE (6).
 fn with_header_6(alloc: Global, pages: &[u8], allocation: u16) -> Result<Vec<u8>, NoMemory>
     requires { length pages.now ≤ 32 }
-    ensures { IfOk result (λ v. v.items ≡ cut allocation (spell (mode_header ModeHeader.Six (length pages.now)) ++ pages.now)) }
+    ensures { IfOk result (λ v. v.items
+        ≡ cut allocation (spell (mode_header ModeHeader.Six (length pages.now)) ++ pages.now)) }
 {
     let length = pages.len();
     let mut list = [0; 36];
@@ -75,7 +76,8 @@ fn with_header_6(alloc: Global, pages: &[u8], allocation: u16) -> Result<Vec<u8>
 // The pages behind the header of MODE SENSE (10).
 fn with_header_10(alloc: Global, pages: &[u8], allocation: u16) -> Result<Vec<u8>, NoMemory>
     requires { length pages.now ≤ 32 }
-    ensures { IfOk result (λ v. v.items ≡ cut allocation (spell (mode_header ModeHeader.Ten (length pages.now)) ++ pages.now)) }
+    ensures { IfOk result (λ v. v.items
+        ≡ cut allocation (spell (mode_header ModeHeader.Ten (length pages.now)) ++ pages.now)) }
 {
     let length = pages.len();
     let mut list = [0; 40];

@@ -1,6 +1,7 @@
 //! What is answered for a unit that is not there.
-ghost use Rattle.std.specs.Prelude.{◌≡◌, IfOk};
+ghost use Rattle.std.specs.Prelude.{◌≡◌, IfOk, OnErr};
 ghost use Rattle.scsi_types.specs.ReplyValue.{good};
+ghost use Rattle.scsi_types.specs.declared.status.Status.TheVariants.{Good};
 ghost use Rattle.scsi_types.specs.Sense.{sense_bytes, logical_unit_not_supported};
 ghost use Rattle.identity.specs.Table.{cut, spell};
 ghost use Rattle.identity.specs.Inquiry.{nothing, standard_inquiry};
@@ -18,7 +19,8 @@ const NOTHING: u8 = 0x7F;
 /// and any other command is LOGICAL UNIT NOT SUPPORTED; a bad field of these two, or a page of vital product data, is
 /// INVALID FIELD IN CDB (SPC-4, 6.6.1 and 6.39).
 pub fn absent(alloc: Global, asked: &Asked) -> Result<Reply, NoMemory>
-    ensures { IfOk result (λ reply. reply ≡ absent_reply asked.now) }
+    ensures reply { IfOk result (λ reply. reply ≡ absent_reply asked.now) }
+    ensures memory { OnErr result ((absent_reply asked.now).status ≡ Good) }
 {
     match asked {
         Ok(

@@ -1,17 +1,21 @@
 -- The header at the front of the bytes, and what faults stand behind it.
-use Rattle.std.proofs.Common.{◌≡◌, ℕ, ◌+◌, ◌-◌, ◌/◌, ◌%◌, ◌<◌, ◌≤◌, List, length, take, drop, sym, ap, subst, ◌∙◌, arith, length-drop, length-take-le, inl, inr}
+use Rattle.std.proofs.Common.{◌≡◌, ℕ, ◌+◌, ◌-◌, ◌%◌, ◌<◌, ◌≤◌, List, length, take, drop, sym, ap, subst, ◌∙◌}
+use Rattle.std.proofs.Common.{arith, length-drop, length-take-le}
 use Rattle.std.proofs.lemmas.List.{get_or-take, take-take, drop-take}
-use Rattle.std.specs.Prelude.{slice_index, slice_range, ◌≢◌, ◌⊎◌}
+use Rattle.std.specs.Prelude.{slice_index, slice_range}
 use Rattle.iscsi_pdu.specs.declared.fault.PduFault.{PduFault}
-use Rattle.iscsi_pdu.specs.declared.fault.PduFault.TheVariants.{UnknownOpcode, HasAhs, TooLong, BadFlags, BadReserved, NonZeroPad}
+use Rattle.iscsi_pdu.specs.declared.fault.PduFault.TheVariants.{UnknownOpcode, HasAhs, TooLong, BadFlags}
+use Rattle.iscsi_pdu.specs.declared.fault.PduFault.TheVariants.{BadReserved, NonZeroPad}
 use Rattle.iscsi_pdu.specs.declared.header.Header.{Header}
-use Rattle.iscsi_pdu.specs.declared.header.Header.TheVariants.{ScsiCommand, ScsiResponse, DataIn, Reject}
+use Rattle.iscsi_pdu.specs.declared.header.Header.TheVariants.{Initiator, Target}
+use Rattle.iscsi_pdu.specs.declared.header.InitiatorHeader.{InitiatorHeader}
 use Rattle.iscsi_pdu.specs.Number.{three_at}
-use Rattle.iscsi_pdu.specs.Spelling.{header_bytes, padded, zeros}
-use Rattle.iscsi_pdu.specs.declared.header.ScsiCommand.{ScsiCommand as CommandHeader}
-use Rattle.iscsi_pdu.specs.Pdu.{opcode_of, IsTarget, IsScsiCommand, HasFields, IsPdu}
-use Rattle.iscsi_pdu.specs.Fault.{IsTargetOpcode, HasBadFlags, HasBadReserved, HasBadPadding, HasHeader, Stands}
-use Rattle.iscsi_pdu.specs.Laws.{three-take, header-fields, opcode-header}
+use Rattle.iscsi_pdu.specs.Spelling.{padded, zeros}
+use Rattle.iscsi_pdu.specs.Fields.{opcode_of, HasBadFlags}
+use Rattle.iscsi_pdu.specs.Pdu.{IsTarget, HasFields, IsPdu}
+use Rattle.iscsi_pdu.specs.Fault.{IsInitiatorOpcode, IsTargetOpcode, HasBadReserved, HasBadPadding, HasBhs, Stands}
+use Rattle.iscsi_pdu.proofs.Grammar.{three-take}
+use Rattle.iscsi_pdu.proofs.OneHeader.{initiator-opcode, target-opcode}
 
 pub index-take : (b : List ℕ) (n k : ℕ) → k < n → slice_index (take n b) k ≡ slice_index b k
 index-take b n k h = get_or-take n b k 0 h
@@ -19,57 +23,45 @@ index-take b n k h = get_or-take n b k 0 h
 opcode-take : (b : List ℕ) → opcode_of (take 48 b) ≡ opcode_of b
 opcode-take b = ap (λ (x : ℕ). x % 64) (index-take b 48 0 (omega arith))
 
-three-48 : (b : List ℕ) → three_at (take 48 b) 5 ≡ three_at b 5
-three-48 b = three-take b 48 5 (omega arith)
+-- a fault of the front is one of the whole, and the other way round
+pub flags-front : (b : List ℕ) → HasBadFlags b → HasBadFlags (take 48 b)
+flags-front b bad = rw (index-take b 48 0 (omega arith), index-take b 48 1 (omega arith)) bad
 
--- a fault of the front is one of the whole
-pub bad-reserved-stands : (b : List ℕ) (f : PduFault) → HasHeader b → (f ≡ BadReserved) × HasBadReserved (take 48 b) → Stands b f
+pub bad-flags-stands : (b : List ℕ) → HasBhs b → HasBadFlags (take 48 b) → Stands b BadFlags
+bad-flags-stands b front bad = (front, rw (index-take b 48 0 (omega arith), index-take b 48 1 (omega arith)) at bad)
+
+pub bad-reserved-stands : (b : List ℕ) (f : PduFault) → HasBhs b → (f ≡ BadReserved) × HasBadReserved (take 48 b)
+    → Stands b f
 bad-reserved-stands b f front (is, (target, none)) =
     subst (Stands b) (sym is) (
       front,
       (
         subst IsTargetOpcode (opcode-take b) target,
-        λ h t e. none h t (take-take 48 48 b (omega arith) ∙ e ∙ ap (header_bytes h) (sym (three-48 b))),
+        λ h e. none h
+            (subst (λ (x : List ℕ). HasFields x (Target h)) (sym (take-take 48 48 b (omega arith))) e),
       ),
     )
 
--- the fields are read, so neither fault of a header stands
+-- the fields are read, so neither fault of a BHS stands
 pub opcode-target : (h : Header) (b : List ℕ) → IsTarget h → HasFields (take 48 b) h → IsTargetOpcode (opcode_of b)
-opcode-target h b t fields =
-    subst IsTargetOpcode (ap opcode_of (sym (header-fields h (take 48 b) t fields)) ∙ opcode-take b) (opcode-header h (three_at (take 48 b) 5) t)
+opcode-target (Initiator h) b t fields = absurd t
+opcode-target (Target h) b t fields = subst IsTargetOpcode (opcode-take b) (target-opcode (take 48 b) h fields.0)
 
-good-reserved-target : (h : Header) (b : List ℕ) → IsTarget h → HasFields (take 48 b) h → HasBadReserved b → ⊥
-good-reserved-target h b t fields bad = bad.1 h t (header-fields h (take 48 b) t fields ∙ ap (header_bytes h) (three-48 b))
-
-command-opcode : (b : List ℕ) (p : CommandHeader) → IsScsiCommand (take 48 b) p → opcode_of b ≡ 1
-command-opcode b p r = sym (opcode-take b) ∙ r.opcode
+opcode-initiator : (h : InitiatorHeader) (b : List ℕ) → HasFields (take 48 b) (Initiator h)
+    → IsInitiatorOpcode (opcode_of b)
+opcode-initiator h b fields = subst IsInitiatorOpcode (opcode-take b) (initiator-opcode (take 48 b) h fields.0)
 
 pub good-reserved : (h : Header) (b : List ℕ) → HasFields (take 48 b) h → HasBadReserved b → ⊥
-good-reserved (ScsiCommand p) b fields bad = let op = command-opcode b p fields in omega (arith, op, bad.0)
-good-reserved (ScsiResponse p) b fields bad = good-reserved-target (ScsiResponse p) b tt fields bad
-good-reserved (DataIn p) b fields bad = good-reserved-target (DataIn p) b tt fields bad
-good-reserved (Reject p) b fields bad = good-reserved-target (Reject p) b tt fields bad
-
-not-command : (h : Header) (b : List ℕ) → IsTarget h → HasFields (take 48 b) h → HasBadFlags b → ⊥
-not-command h b t fields bad = let op = opcode-target h b t fields in omega (arith, op, bad.0)
-
-one-way : (b : List ℕ) (p : CommandHeader) → IsScsiCommand (take 48 b) p → (slice_index b 1 / 64 % 2 ≡ 1) → (slice_index b 1 / 32 % 2 ≡ 1) → ⊥
-one-way b p r x y =
-    let e = index-take b 48 1 (omega arith) in
-    r.one_way (r.read.1 (ap (λ (n : ℕ). n / 64 % 2) e ∙ x)) (r.write.1 (ap (λ (n : ℕ). n / 32 % 2) e ∙ y))
-
-command-flags : (b : List ℕ) (p : CommandHeader) → IsScsiCommand (take 48 b) p → (slice_index b 1 / 128 ≢ 1) ⊎ ((slice_index b 1 / 64 % 2 ≡ 1) × (slice_index b 1 / 32 % 2 ≡ 1)) → ⊥
-command-flags b p r (inl x) = x (ap (λ (n : ℕ). n / 128) (sym (index-take b 48 1 (omega arith))) ∙ r.last)
-command-flags b p r (inr y) = one-way b p r y.0 y.1
+good-reserved (Initiator h) b fields bad = let op = opcode-initiator h b fields in omega (arith, op, bad.0)
+good-reserved (Target h) b fields bad = bad.1 h fields
 
 pub good-flags : (h : Header) (b : List ℕ) → HasFields (take 48 b) h → HasBadFlags b → ⊥
-good-flags (ScsiCommand p) b fields bad = command-flags b p fields bad.1
-good-flags (ScsiResponse p) b fields bad = not-command (ScsiResponse p) b tt fields bad
-good-flags (DataIn p) b fields bad = not-command (DataIn p) b tt fields bad
-good-flags (Reject p) b fields bad = not-command (Reject p) b tt fields bad
+good-flags (Initiator h) b fields bad = fields.1 (flags-front b bad)
+good-flags (Target h) b fields bad = let op = opcode-target (Target h) b tt fields in omega (arith, op, bad.0)
 
 -- where the fields are read, nothing but the padding can be wrong
-pub none-behind : (b : List ℕ) (h : Header) → HasHeader b → HasFields (take 48 b) h → (HasBadPadding b → ⊥) → (f : PduFault) → Stands b f → ⊥
+pub none-behind : (b : List ℕ) (h : Header) → HasBhs b → HasFields (take 48 b) h → (HasBadPadding b → ⊥)
+    → (f : PduFault) → Stands b f → ⊥
 none-behind b h front fields pad UnknownOpcode s = s.1 front.known
 none-behind b h front fields pad HasAhs s = s.2 front.no_ahs
 none-behind b h front fields pad TooLong s = omega (arith, s.3, front.limit)
@@ -78,7 +70,8 @@ none-behind b h front fields pad BadReserved s = good-reserved h b fields s.1
 none-behind b h front fields pad NonZeroPad s = pad s.2
 
 -- a PDU is as long as its header says
-pub none-whole : (b : List ℕ) (n : ℕ) (h : Header) (d : List ℕ) → length b < 48 + padded (three_at b 5) → IsPdu (take n b) h d → n ≤ length b → ⊥
+pub none-whole : (b : List ℕ) (n : ℕ) (h : Header) (d : List ℕ) → length b < 48 + padded (three_at b 5)
+    → IsPdu (take n b) h d → n ≤ length b → ⊥
 none-whole b n h d short p within =
     let long : length (take n b) ≡ n = length-take-le n b within in
     let same = three-take b n 5 (omega (arith, p.long, long)) in
@@ -98,10 +91,11 @@ data-is b len =
 pub padding-is : (b : List ℕ) (len : ℕ) → drop (48 + len) (take (48 + padded len) b) ≡ slice_range b (48 + len) (48 + padded len)
 padding-is b len =
     let le = le-padded len in
-    ap (λ (k : ℕ). drop (48 + len) (take k b)) (omega arith) ∙ drop-take (48 + len) (padded len - len) b ∙ ap (λ (k : ℕ). take k (drop (48 + len) b)) (omega arith)
+    ap (λ (k : ℕ). drop (48 + len) (take k b)) (omega arith) ∙ drop-take (48 + len) (padded len - len) b
+    ∙ ap (λ (k : ℕ). take k (drop (48 + len) b)) (omega arith)
 
 -- A PDU with this header stands at the front, where its padding is right.
-pub whole : (b : List ℕ) (h : Header) → HasHeader b → HasFields (take 48 b) h → 48 + padded (three_at b 5) ≤ length b
+pub whole : (b : List ℕ) (h : Header) → HasBhs b → HasFields (take 48 b) h → 48 + padded (three_at b 5) ≤ length b
     → (IsTarget h → slice_range b (48 + three_at b 5) (48 + padded (three_at b 5)) ≡ zeros (padded (three_at b 5) - three_at b 5))
     → IsPdu (take (48 + padded (three_at b 5)) b) h (take (48 + three_at b 5 - 48) (drop 48 b))
 whole b h front fields fits pad =
@@ -115,31 +109,36 @@ whole b h front fields fits pad =
       size = length-take-le size b fits ∙ ap (λ (k : ℕ). 48 + padded k) (sym same);
       fields = subst (λ (z : List ℕ). HasFields z h) (sym (take-take 48 size b (omega arith))) fields;
       same_data = data-is b len ∙ ap (λ (k : ℕ). slice_range (take size b) 48 (48 + k)) (sym same);
-      padding = λ t. ap (λ (k : ℕ). drop (48 + k) (take size b)) same ∙ padding-is b len ∙ pad t ∙ ap (λ (k : ℕ). zeros (padded k - k)) (sym same);
+      padding = λ t. ap (λ (k : ℕ). drop (48 + k) (take size b)) same ∙ padding-is b len ∙ pad t
+          ∙ ap (λ (k : ℕ). zeros (padded k - k)) (sym same);
     }
 
-pad-length : (b : List ℕ) (n : ℕ) → 48 + padded n ≤ length b → length (slice_range b (48 + n) (48 + padded n)) ≡ padded n - n
+pad-length : (b : List ℕ) (n : ℕ) → 48 + padded n ≤ length b
+    → length (slice_range b (48 + n) (48 + padded n)) ≡ padded n - n
 pad-length b n fits =
     let le = le-padded n in
     length-take-le (48 + padded n - (48 + n)) (drop (48 + n) b) (omega (arith, length-drop (48 + n) b)) ∙ omega arith
 
 -- the test on the padding, at the numbers that the code has for its ends
 pub pad-from : (b : List ℕ) (n x y : ℕ) → x ≡ n → y ≡ padded n → 48 + padded n ≤ length b
-    → slice_range b (48 + x) (48 + y) ≡ zeros (length (slice_range b (48 + x) (48 + y))) → slice_range b (48 + n) (48 + padded n) ≡ zeros (padded n - n)
+    → slice_range b (48 + x) (48 + y) ≡ zeros (length (slice_range b (48 + x) (48 + y)))
+    → slice_range b (48 + n) (48 + padded n) ≡ zeros (padded n - n)
 pad-from b n x y ex ey fits e =
     let p = λ (i j : ℕ). slice_range b (48 + i) (48 + j) in
-    ap (λ (i : ℕ). p i (padded n)) (sym ex) ∙ ap (p x) (sym ey) ∙ e ∙ ap (λ (j : ℕ). zeros (length (p x j))) ey ∙ ap (λ (i : ℕ). zeros (length (p i (padded n)))) ex ∙ ap zeros (pad-length b n fits)
+    ap (λ (i : ℕ). p i (padded n)) (sym ex) ∙ ap (p x) (sym ey) ∙ e ∙ ap (λ (j : ℕ). zeros (length (p x j))) ey
+    ∙ ap (λ (i : ℕ). zeros (length (p i (padded n)))) ex ∙ ap zeros (pad-length b n fits)
 
 pub pad-to : (b : List ℕ) (n x y : ℕ) → x ≡ n → y ≡ padded n → 48 + padded n ≤ length b
-    → slice_range b (48 + n) (48 + padded n) ≡ zeros (padded n - n) → slice_range b (48 + x) (48 + y) ≡ zeros (length (slice_range b (48 + x) (48 + y)))
+    → slice_range b (48 + n) (48 + padded n) ≡ zeros (padded n - n)
+    → slice_range b (48 + x) (48 + y) ≡ zeros (length (slice_range b (48 + x) (48 + y)))
 pad-to b n x y ex ey fits e =
     let p = λ (i j : ℕ). slice_range b (48 + i) (48 + j) in
-    ap (p x) ey ∙ ap (λ (i : ℕ). p i (padded n)) ex ∙ e ∙ sym (ap (λ (j : ℕ). zeros (length (p x j))) ey ∙ ap (λ (i : ℕ). zeros (length (p i (padded n)))) ex ∙ ap zeros (pad-length b n fits))
+    ap (p x) ey ∙ ap (λ (i : ℕ). p i (padded n)) ex ∙ e
+    ∙ sym (ap (λ (j : ℕ). zeros (length (p x j))) ey ∙ ap (λ (i : ℕ). zeros (length (p i (padded n)))) ex
+    ∙ ap zeros (pad-length b n fits))
 
 -- padding that is right where the header is a target's is not wrong
 pub bad-padding : (b : List ℕ) (h : Header) → HasFields (take 48 b) h → HasBadPadding b
     → (IsTarget h → slice_range b (48 + three_at b 5) (48 + padded (three_at b 5)) ≡ zeros (padded (three_at b 5) - three_at b 5)) → ⊥
-bad-padding b (ScsiCommand p) fields bad right = let op = command-opcode b p fields in omega (arith, op, bad.0)
-bad-padding b (ScsiResponse p) fields bad right = bad.2 (right tt)
-bad-padding b (DataIn p) fields bad right = bad.2 (right tt)
-bad-padding b (Reject p) fields bad right = bad.2 (right tt)
+bad-padding b (Initiator h) fields bad right = let op = opcode-initiator h b fields in omega (arith, op, bad.0)
+bad-padding b (Target h) fields bad right = bad.2 (right tt)

@@ -1,3 +1,8 @@
-pub mod Again
+pub mod Back
+pub mod Cells
 pub mod Fronts
-pub mod Words
+pub mod InitiatorSays
+pub mod Grammar
+pub mod OneHeader
+pub mod Parts
+pub mod TargetSays

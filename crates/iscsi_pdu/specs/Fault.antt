@@ -1,44 +1,56 @@
 -- Why bytes spell no PDU: each fault stands only where none before it does.
-use Rattle.std.specs.Prelude.{◌≡◌, ◌≢◌, ◌⊎◌, ℕ, ◌+◌, ◌-◌, ◌/◌, ◌%◌, ◌<◌, ◌≤◌, List, length, take, slice_index, slice_range}
+use Rattle.std.specs.Prelude.{◌≡◌, ◌≢◌, ◌⊎◌, ℕ, ◌+◌, ◌-◌, ◌<◌, ◌≤◌, List, length, take, slice_index, slice_range}
 use Rattle.iscsi_pdu.specs.declared.fault.PduFault.{PduFault}
-use Rattle.iscsi_pdu.specs.declared.fault.PduFault.TheVariants.{UnknownOpcode, HasAhs, TooLong, BadFlags, BadReserved, NonZeroPad}
-use Rattle.iscsi_pdu.specs.declared.header.Header.{Header}
+use Rattle.iscsi_pdu.specs.declared.fault.PduFault.TheVariants.{
+  UnknownOpcode,
+  HasAhs,
+  TooLong,
+  BadFlags,
+  BadReserved,
+  NonZeroPad,
+}
+use Rattle.iscsi_pdu.specs.declared.header.TargetHeader.{TargetHeader}
+use Rattle.iscsi_pdu.specs.declared.header.Header.TheVariants.{Target}
+use Rattle.iscsi_pdu.specs.declared.TheConstants.{BHS_LENGTH, MAX_DATA_SEGMENT_LENGTH}
 use Rattle.iscsi_pdu.specs.Number.{three_at}
-use Rattle.iscsi_pdu.specs.Spelling.{header_bytes, padded, zeros}
-use Rattle.iscsi_pdu.specs.Pdu.{opcode_of, IsTarget}
+use Rattle.iscsi_pdu.specs.Spelling.{padded, pdu_length, zeros}
+use Rattle.iscsi_pdu.specs.Fields.{opcode_of, HasBadFlags}
+use Rattle.iscsi_pdu.specs.Pdu.{HasFields}
 
--- an opcode of a SCSI Response, a Data-In or a Reject
+-- the opcodes of an initiator's PDUs without SNACK, and of a target's without Asynchronous Message (11.2.1.2)
+abbrev pub IsInitiatorOpcode : ℕ → Type 0
+IsInitiatorOpcode n = n ≤ 0x06
+
 abbrev pub IsTargetOpcode : ℕ → Type 0
-IsTargetOpcode n = (n ≡ 0x21) ⊎ (n ≡ 0x25) ⊎ (n ≡ 0x3F)
+IsTargetOpcode n = ((0x20 ≤ n) × (n ≤ 0x26)) ⊎ (n ≡ 0x31) ⊎ (n ≡ 0x3F)
 
 abbrev pub IsKnown : ℕ → Type 0
-IsKnown n = (n ≡ 0x01) ⊎ IsTargetOpcode n
+IsKnown n = IsInitiatorOpcode n ⊎ IsTargetOpcode n
 
--- without F, or with R and W
-abbrev pub HasBadFlags : List ℕ → Type 0
-HasBadFlags b = (opcode_of b ≡ 0x01) × ((slice_index b 1 / 128 ≢ 1) ⊎ ((slice_index b 1 / 64 % 2 ≡ 1) × (slice_index b 1 / 32 % 2 ≡ 1)))
-
--- a target's header that no header of a target is spelled by
+-- a target's BHS that says no header
 abbrev pub HasBadReserved : List ℕ → Type 0
-HasBadReserved b = IsTargetOpcode (opcode_of b) × ((h : Header) → IsTarget h → take 48 b ≡ header_bytes h (three_at b 5) → ⊥)
+HasBadReserved b = IsTargetOpcode (opcode_of b)
+    × ((h : TargetHeader) → HasFields (take BHS_LENGTH b) (Target h) → ⊥)
 
--- the whole header is there, and has an opcode that is known, no additional segment, a length within the limit
-pub record HasHeader (b : List ℕ) : Type 0 where
-  pub long : 48 ≤ length b
+-- the whole BHS is there, and has an opcode that is known, no additional segment, a length within the limit
+pub record HasBhs (b : List ℕ) : Type 0 where
+  pub long : BHS_LENGTH ≤ length b
   pub known : IsKnown (opcode_of b)
   pub no_ahs : slice_index b 4 ≡ 0
-  pub limit : three_at b 5 ≤ 65536
+  pub limit : three_at b 5 ≤ MAX_DATA_SEGMENT_LENGTH
 
 -- the whole of a target's PDU is there, and its padding is not zeros
 abbrev pub HasBadPadding : List ℕ → Type 0
-HasBadPadding b = IsTargetOpcode (opcode_of b) × (48 + padded (three_at b 5) ≤ length b)
-    × (slice_range b (48 + three_at b 5) (48 + padded (three_at b 5)) ≢ zeros (padded (three_at b 5) - three_at b 5))
+HasBadPadding b = IsTargetOpcode (opcode_of b) × (pdu_length (three_at b 5) ≤ length b)
+    × (slice_range b (BHS_LENGTH + three_at b 5) (pdu_length (three_at b 5))
+    ≢ zeros (padded (three_at b 5) - three_at b 5))
 
 -- this fault stands at the front of the bytes
 abbrev pub Stands : List ℕ → PduFault → Type 0
 Stands b UnknownOpcode = (1 ≤ length b) × (IsKnown (opcode_of b) → ⊥)
-Stands b HasAhs = (48 ≤ length b) × IsKnown (opcode_of b) × (slice_index b 4 ≢ 0)
-Stands b TooLong = (48 ≤ length b) × IsKnown (opcode_of b) × (slice_index b 4 ≡ 0) × (65536 < three_at b 5)
-Stands b BadFlags = HasHeader b × HasBadFlags b
-Stands b BadReserved = HasHeader b × HasBadReserved b
-Stands b NonZeroPad = HasHeader b × (HasBadReserved b → ⊥) × HasBadPadding b
+Stands b HasAhs = (BHS_LENGTH ≤ length b) × IsKnown (opcode_of b) × (slice_index b 4 ≢ 0)
+Stands b TooLong = (BHS_LENGTH ≤ length b) × IsKnown (opcode_of b) × (slice_index b 4 ≡ 0)
+    × (MAX_DATA_SEGMENT_LENGTH < three_at b 5)
+Stands b BadFlags = HasBhs b × HasBadFlags b
+Stands b BadReserved = HasBhs b × HasBadReserved b
+Stands b NonZeroPad = HasBhs b × (HasBadReserved b → ⊥) × HasBadPadding b

@@ -1,6 +1,6 @@
 pub mod Fault
 pub mod Fields
-pub mod Laws
 pub mod Number
 pub mod Pdu
+pub mod Range
 pub mod Spelling

@@ -1,9 +1,31 @@
-ghost use Rattle.std.specs.Prelude.{◌≡◌, ◌+◌, ◌≤◌, ◌<◌, ◌^◌, ◌++◌, length, take, drop};
-ghost use Rattle.byteorder.specs.Endian.{big_bytes};
-ghost use Rattle.iscsi_pdu.specs.Number.{three_at, word_at};
-ghost use Rattle.iscsi_pdu.specs.Spelling.{flag, padded};
+//! Bits and numbers at their places in a basic header segment.
 
+ghost use Rattle.std.specs.Prelude.{◌≡◌, ◌+◌, ◌≤◌, ◌<◌, length, slice_range};
+ghost use Rattle.iscsi_pdu.specs.Number.{bit, half_at, three_at, word_at};
+ghost use Rattle.iscsi_pdu.specs.Fields.{command_numbers_at, numbers_at};
+ghost use Rattle.iscsi_pdu.specs.Spelling.{padded};
+
+use crate::header::{CommandNumbers, Numbers};
+use crate::{BHS_LENGTH, MAX_DATA_SEGMENT_LENGTH};
 use byteorder::{BigEndian, ByteOrder};
+
+/// Whether the bit of this value is set in the byte at a place.
+pub fn has_bit(bytes: &[u8], at: usize, value: u8) -> bool
+    requires place { at < length bytes.now }
+    requires bit { 0 < value }
+    ensures { result ≡ bit bytes.now at value }
+{
+    bytes[at] / value % 2 == 1
+}
+
+/// The number in two bytes from a place on.
+#[tactic(auto, unfolding(crate::specs::Number::half_at))]
+pub fn half(bytes: &[u8], at: usize) -> u16
+    requires { at + 2 ≤ length bytes.now }
+    ensures { result ≡ half_at bytes.now at }
+{
+    BigEndian::read_u16(&bytes[at..])
+}
 
 /// The number in three bytes from a place on.
 #[tactic(auto, unfolding(crate::specs::Number::three_at))]
@@ -23,32 +45,62 @@ pub fn word(bytes: &[u8], at: usize) -> u32
     BigEndian::read_u32(&bytes[at..])
 }
 
-/// Writes the DataSegmentLength of a header, in its bytes 5 to 7.
-pub fn put_length(header: &mut [u8; 48], n: u32)
-    requires { n < 2 ^ 24 }
-    ensures { header.new ≡ take 5 header.old ++ big_bytes 3 n ++ drop 8 header.old }
+/// The LUN's eight bytes.
+pub fn lun(bhs: &[u8]) -> [u8; 8]
+    requires { length bhs.now ≡ BHS_LENGTH }
+    ensures { result ≡ slice_range bhs.now 8 16 }
 {
-    BigEndian::write_u24(&mut header[5..8], n);
+    let mut lun = [0; 8];
+    lun.copy_from_slice(&bhs[8..16]);
+    lun
 }
 
-/// Writes a number into the four bytes of a header from a place on.
-pub fn put_word(header: &mut [u8; 48], at: usize, n: u32)
-    requires { at + 4 ≤ 48 }
-    ensures { header.new ≡ take at header.old ++ big_bytes 4 n ++ drop (at + 4) header.old }
+/// The ISID's six bytes.
+pub fn isid(bhs: &[u8]) -> [u8; 6]
+    requires { length bhs.now ≡ BHS_LENGTH }
+    ensures { result ≡ slice_range bhs.now 8 14 }
 {
-    BigEndian::write_u32(&mut header[at..at + 4], n);
+    let mut isid = [0; 6];
+    isid.copy_from_slice(&bhs[8..14]);
+    isid
 }
 
-/// A flag's value in its byte.
-pub fn flag_value(set: bool, value: u8) -> u8
-    ensures { result ≡ flag set value }
+/// The CDB's sixteen bytes.
+pub fn cdb(bhs: &[u8]) -> [u8; 16]
+    requires { length bhs.now ≡ BHS_LENGTH }
+    ensures { result ≡ slice_range bhs.now 32 48 }
 {
-    if set { value } else { 0 }
+    let mut cdb = [0; 16];
+    cdb.copy_from_slice(&bhs[32..48]);
+    cdb
+}
+
+/// CmdSN and ExpStatSN.
+pub fn command_numbers(bhs: &[u8]) -> CommandNumbers
+    requires { length bhs.now ≡ BHS_LENGTH }
+    ensures { result ≡ command_numbers_at bhs.now }
+{
+    CommandNumbers {
+        cmd_sn: word(bhs, 24),
+        exp_stat_sn: word(bhs, 28),
+    }
+}
+
+/// StatSN, ExpCmdSN and MaxCmdSN.
+pub fn numbers(bhs: &[u8]) -> Numbers
+    requires { length bhs.now ≡ BHS_LENGTH }
+    ensures { result ≡ numbers_at bhs.now }
+{
+    Numbers {
+        stat_sn: word(bhs, 24),
+        exp_cmd_sn: word(bhs, 28),
+        max_cmd_sn: word(bhs, 32),
+    }
 }
 
 /// The length of a data segment with its padding (RFC 7143, 11.1).
 pub fn padded_length(n: usize) -> usize
-    requires { n ≤ 65536 }
+    requires { n ≤ MAX_DATA_SEGMENT_LENGTH }
     ensures { result ≡ padded n }
 {
     (n + 3) / 4 * 4

@@ -1,28 +1,50 @@
-ghost use Rattle.std.specs.Prelude.{◌≡◌, ◌≢◌, ◌++◌, ℕ, ◌+◌, ◌<◌, ◌≤◌, ◌↔◌, List, length, take, IfOk, IfErr, MatchOption, IfNone, IsTrue, true, false};
+//! Bytes as PDUs (RFC 7143, section 11).
+
+ghost use Rattle.std.specs.Prelude.{◌≡◌, ◌≢◌, ◌++◌, ℕ, ◌+◌, ◌<◌, ◌≤◌, ◌↔◌, List, length, take};
+ghost use Rattle.std.specs.Prelude.{IfOk, IfErr, MatchOption, IfNone, IsTrue, true, false};
 ghost use Rattle.iscsi_pdu.specs.declared.header.Header.{Header};
+ghost use Rattle.iscsi_pdu.specs.declared.header.Header.TheVariants.{Target};
 ghost use Rattle.iscsi_pdu.specs.declared.fault.PduFault.{PduFault};
 ghost use Rattle.iscsi_pdu.specs.declared.fault.PduFault.TheVariants.{BadReserved};
 ghost use Rattle.iscsi_pdu.specs.Number.{three_at};
-ghost use Rattle.iscsi_pdu.specs.Spelling.{zeros, header_bytes as header_spelling};
-ghost use Rattle.iscsi_pdu.specs.Pdu.{opcode_of, IsPdu, IsTarget, HasFields};
-ghost use Rattle.iscsi_pdu.specs.Fault.{IsKnown, IsTargetOpcode, HasHeader, HasBadReserved, Stands};
+ghost use Rattle.iscsi_pdu.specs.Spelling.{zeros};
+ghost use Rattle.iscsi_pdu.specs.Fields.{opcode_of, HasBadFlags};
+ghost use Rattle.iscsi_pdu.specs.Pdu.{IsPdu, IsTarget, HasFields};
+ghost use Rattle.iscsi_pdu.specs.Fault.{IsInitiatorOpcode, IsTargetOpcode, HasBhs, HasBadReserved, Stands};
 
 use crate::fault::PduFault;
-use crate::fields::{data_in, reject, scsi_command, scsi_response};
-use crate::header::{Header, Pdu};
-use crate::numbers::{padded_length, three};
-use crate::spelling::header_bytes;
+use crate::header::{Header, Pdu, TargetHeader};
+use crate::initiator_fields::initiator_fields;
+use crate::numbers::{has_bit, padded_length, three};
+use crate::target_fields::target_fields;
+use crate::target_spelling::spell_target;
+use crate::{BHS_LENGTH, LONGEST_PDU, MAX_DATA_SEGMENT_LENGTH};
 
-fn is_known(opcode: u8) -> bool
-    ensures { IsTrue result ↔ IsKnown opcode }
+fn is_initiators(opcode: u8) -> bool
+    ensures { IsTrue result ↔ IsInitiatorOpcode opcode }
 {
-    matches!(opcode, 0x01 | 0x21 | 0x25 | 0x3F)
+    opcode <= 0x06
+}
+
+fn is_targets(opcode: u8) -> bool
+    ensures { IsTrue result ↔ IsTargetOpcode opcode }
+{
+    matches!(opcode, 0x20..=0x26 | 0x31 | 0x3F)
+}
+
+/// Whether this is a SCSI Command without F, or with both R and W.
+fn has_bad_flags(bhs: &[u8]) -> bool
+    requires { length bhs.now ≡ BHS_LENGTH }
+    ensures { IsTrue result ↔ HasBadFlags bhs.now }
+{
+    bhs[0] % 64 == 0x01
+        && (!has_bit(bhs, 1, 0x80) || (has_bit(bhs, 1, 0x40) && has_bit(bhs, 1, 0x20)))
 }
 
 fn is_target(header: &Header) -> bool
     ensures { IsTrue result ↔ IsTarget header.now }
 {
-    !matches!(header, Header::ScsiCommand(_))
+    matches!(header, Header::Target(_))
 }
 
 fn is_zeros(b: &[u8]) -> bool
@@ -45,31 +67,17 @@ fn is_same(a: &[u8], b: &[u8]) -> bool
     a == b
 }
 
-/// The fields of a target's header. Where any header is spelled so, the one of these fields is.
-fn target_fields(b: &[u8]) -> Header
-    requires long { length b.now ≡ 48 }
-    requires opcode { IsTargetOpcode (opcode_of b.now) }
-    ensures target { IsTarget result }
-    ensures again { (h : Header) (n : ℕ) → IsTarget h → b.now ≡ header_spelling h n → b.now ≡ header_spelling result n }
-{
-    match b[0] % 64 {
-        0x21 => Header::ScsiResponse(scsi_response(b)),
-        0x25 => Header::DataIn(data_in(b)),
-        _ => Header::Reject(reject(b)),
-    }
-}
-
-/// A target's header, where these 48 bytes are its spelling.
-fn target_header(b: &[u8], len: u32) -> Result<Header, PduFault>
-    requires long { length b.now ≡ 48 }
+/// A target's header, where this is its BHS.
+fn target_header(b: &[u8], len: u32) -> Result<TargetHeader, PduFault>
+    requires long { length b.now ≡ BHS_LENGTH }
     requires opcode { IsTargetOpcode (opcode_of b.now) }
     requires same_length { len ≡ three_at b.now 5 }
-    requires limit { len ≤ 65536 }
-    ensures found { IfOk result (HasFields b.now) }
+    requires limit { len ≤ MAX_DATA_SEGMENT_LENGTH }
+    ensures found { IfOk result (λ h. HasFields b.now (Target h)) }
     ensures fault { IfErr result (λ f. (f ≡ BadReserved) × HasBadReserved b.now) }
 {
     let header = target_fields(b);
-    if is_same(b, &header_bytes(&header, len)) {
+    if is_same(b, &spell_target(&header, len)) {
         Ok(header)
     } else {
         Err(PduFault::BadReserved)
@@ -78,17 +86,22 @@ fn target_header(b: &[u8], len: u32) -> Result<Header, PduFault>
 
 /// The header at the front, which has an opcode that is known and this length of its data segment.
 fn header_of(bytes: &[u8], len: u32) -> Result<Header, PduFault>
-    requires header { HasHeader bytes.now }
+    requires bhs { HasBhs bytes.now }
     requires same_length { len ≡ three_at bytes.now 5 }
-    ensures found { IfOk result (HasFields (take 48 bytes.now)) }
+    ensures found { IfOk result (HasFields (take BHS_LENGTH bytes.now)) }
     ensures fault { IfErr result (Stands bytes.now) }
 {
-    let front = &bytes[..48];
-    if front[0] % 64 == 0x01 {
-        let header = scsi_command(front)?;
-        return Ok(Header::ScsiCommand(header));
+    let bhs = &bytes[..BHS_LENGTH];
+    if is_initiators(bhs[0] % 64) {
+        if has_bad_flags(bhs) {
+            return Err(PduFault::BadFlags);
+        }
+        return Ok(Header::Initiator(initiator_fields(bhs)));
     }
-    target_header(front, len)
+    match target_header(bhs, len) {
+        Ok(header) => Ok(Header::Target(header)),
+        Err(fault) => Err(fault),
+    }
 }
 
 /// The PDU at the front of the bytes and how many bytes it takes, or its first fault. `None` where more
@@ -99,33 +112,33 @@ pub fn decode(bytes: &[u8]) -> Result<Option<(Pdu<'_>, usize)>, PduFault>
         (λ p. (p.1 ≤ length bytes.now) × IsPdu (take p.1 bytes.now) p.0.header p.0.data.now)) }
     ensures sound { IfOk result (λ o. (f : PduFault) → Stands bytes.now f → ⊥) }
     ensures fault { IfErr result (Stands bytes.now) }
-    ensures short { IfOk result (λ o. IfNone o (length bytes.now < 65584)) }
+    ensures short { IfOk result (λ o. IfNone o (length bytes.now < LONGEST_PDU)) }
 {
     if bytes.is_empty() {
         return Ok(None);
     }
-    if !is_known(bytes[0] % 64) {
+    if !is_initiators(bytes[0] % 64) && !is_targets(bytes[0] % 64) {
         return Err(PduFault::UnknownOpcode);
     }
-    if bytes.len() < 48 {
+    if bytes.len() < BHS_LENGTH {
         return Ok(None);
     }
     if bytes[4] != 0 {
         return Err(PduFault::HasAhs);
     }
     let len = three(bytes, 5);
-    if len > 65536 {
+    if len > MAX_DATA_SEGMENT_LENGTH as u32 {
         return Err(PduFault::TooLong);
     }
     let header = header_of(bytes, len)?;
     let len = len as usize;
-    let end = 48 + padded_length(len);
+    let end = BHS_LENGTH + padded_length(len);
     if bytes.len() < end {
         return Ok(None);
     }
-    if !is_padding(&header, &bytes[48 + len..end]) {
+    if !is_padding(&header, &bytes[BHS_LENGTH + len..end]) {
         return Err(PduFault::NonZeroPad);
     }
-    let data = &bytes[48..48 + len];
+    let data = &bytes[BHS_LENGTH..BHS_LENGTH + len];
     Ok(Some((Pdu { header, data }, end)))
 }

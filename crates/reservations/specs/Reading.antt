@@ -66,7 +66,8 @@ transport_id p = 0x45 ∷ 0x00 ∷ big_bytes 2 (length (padded (port_text p))) +
 -- ADDITIONAL DESCRIPTOR LENGTH and the TransportID
 unfoldable pub descriptor_bytes : ℕ → ℕ → ℕ → ℕ → List ℕ → List ℕ
 descriptor_bytes key r_holder scope_and_type relative_port id =
-    big_bytes 8 key ++ 0 ∷ 0 ∷ 0 ∷ 0 ∷ r_holder ∷ scope_and_type ∷ 0 ∷ 0 ∷ 0 ∷ 0 ∷ big_bytes 2 relative_port ++ big_bytes 4 (length id) ++ id
+    big_bytes 8 key ++ 0 ∷ 0 ∷ 0 ∷ 0 ∷ r_holder ∷ scope_and_type ∷ 0 ∷ 0 ∷ 0 ∷ 0 ∷ big_bytes 2 relative_port
+    ++ big_bytes 4 (length id) ++ id
 
 -- a controller's relative target port is the number of its group
 abbrev pub relative_port : Group → ℕ
@@ -82,7 +83,8 @@ holding_or value r x = if is_held_by r.reservation r.registrants x.nexus then va
 
 abbrev pub descriptor_of : RegistryValue → Registrant → List ℕ
 descriptor_of r x =
-    descriptor_bytes x.key (holding_or 1 r x) (holding_or (held_type r.reservation) r x) (relative_port x.nexus.group) (transport_id x.nexus.port)
+    descriptor_bytes x.key (holding_or 1 r x) (holding_or (held_type r.reservation) r x) (relative_port x.nexus.group)
+    (transport_id x.nexus.port)
 
 abbrev pub full_status_bytes : RegistryValue → List ℕ
 full_status_bytes r = counted_bytes r.generation (flat_map (descriptor_of r) r.registrants)

@@ -178,37 +178,33 @@ Fits OtherUnregisters r n q =
 Fits Reserves r n q = Passes r n q × (q.action ≡ Reserve) × IsFalse (is_some r.reservation)
 -- a holder reserves with the same type
 Fits ReservesAgain r n q =
-    Passes r n q × (q.action ≡ Reserve) × IsTrue (is_some r.reservation)
-    × IsTrue (holds_its_type r n q)
+    Passes r n q × (q.action ≡ Reserve) × IsTrue (is_some r.reservation) × IsTrue (holds_its_type r n q)
 -- another holds, or the type is another
 Fits ReservesBesideAnother r n q =
-    Passes r n q × (q.action ≡ Reserve) × IsTrue (is_some r.reservation)
-    × IsFalse (holds_its_type r n q)
+    Passes r n q × (q.action ≡ Reserve) × IsTrue (is_some r.reservation) × IsFalse (holds_its_type r n q)
 -- there is no reservation, or another holds it
 Fits ReleasesNothing r n q = Passes r n q × (q.action ≡ Release) × IsFalse (holds r n)
 -- a holder names another scope or type
 Fits ReleasesAnotherType r n q =
-    Passes r n q × (q.action ≡ Release) × IsTrue (holds r n)
-    × IsFalse (names_it r q)
+    Passes r n q × (q.action ≡ Release) × IsTrue (holds r n) × IsFalse (names_it r q)
 -- a holder names the reservation's type
 Fits Releases r n q =
-    Passes r n q × (q.action ≡ Release) × IsTrue (holds r n)
-    × IsTrue (names_it r q)
+    Passes r n q × (q.action ≡ Release) × IsTrue (holds r n) × IsTrue (names_it r q)
 -- a registered nexus clears
 Fits Clears r n q = Passes r n q × (q.action ≡ Clear)
 -- the reservation is preempted with a scope or type that it may not have
 Fits PreemptField r n q =
     Passes r n q × IsPreempting q.action × IsTrue (is_preempting_reservation r q) × IsFalse (names_type q)
 -- the key is that of the only holder
-Fits PreemptsHolder r n q = Passes r n q × IsPreempting q.action × IsTrue (is_preempting_holder r q) × IsTrue (names_type q)
+Fits PreemptsHolder r n q =
+    Passes r n q × IsPreempting q.action × IsTrue (is_preempting_holder r q) × IsTrue (names_type q)
 -- the key is 0, and all registrants hold
 Fits PreemptsAll r n q =
     Passes r n q × IsPreempting q.action × IsFalse (is_preempting_holder r q) × IsTrue (is_preempting_all r q)
     × IsTrue (names_type q)
 -- the key is 0 otherwise
 Fits PreemptsKeyZero r n q =
-    Passes r n q × IsPreempting q.action × IsFalse (is_preempting_reservation r q)
-    × IsTrue (nat_eq q.sakey 0)
+    Passes r n q × IsPreempting q.action × IsFalse (is_preempting_reservation r q) × IsTrue (nat_eq q.sakey 0)
 -- nobody is registered with the key
 Fits PreemptsNobody r n q =
     Passes r n q × IsPreempting q.action × IsFalse (is_preempting_reservation r q)

@@ -34,7 +34,8 @@ fn lets_read(kind: ReservationType) -> bool
 impl Table {
     /// Whether a nexus may use the medium so.
     pub fn allows(&self, port: &PortName, group: Group, access: Access) -> bool
-        ensures { result ≡ is_let_through self.now.reservation (party_of (value_of self.now) (through port.now group)) access }
+        ensures { result ≡ is_let_through self.now.reservation
+            (party_of (value_of self.now) (through port.now group)) access }
     {
         let Some(held) = &self.reservation else {
             return true;

@@ -18,7 +18,8 @@ pub fn one_row_fits()
 /// A registry stays sound: its registrants in order, at most 64 and with keys, its reservation held by a registrant.
 pub fn soundness_stays()
     ensures { (r : RegistryValue) (n : Nexus) (q : PrOut) (new : RegistryValue) (told : List Told)
-        → effect_of r n q ≡ Done new told → IsSound r.registrants r.reservation → IsSound new.registrants new.reservation }
+        → effect_of r n q ≡ Done new told → IsSound r.registrants r.reservation
+        → IsSound new.registrants new.reservation }
 {}
 
 /// The sender is never told of what it did.

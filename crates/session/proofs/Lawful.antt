@@ -1,20 +1,23 @@
 -- One turn more keeps a transcript lawful.
 use Rattle.std.proofs.Common.{◌≡◌, ◌⊎◌, ℕ, zero, suc, ◌+◌, ◌<◌, Bool, true, false, List, [], ◌∷◌, ◌++◌, Some, length, refl, sym, ap, subst, ◌∙◌, inl, inr, arith, length-append, cond}
 use Rattle.std.specs.Prelude.{slice_get}
-use Rattle.std.specs.List.{AllByRecursion, count_by}
+use Rattle.std.specs.List.{count_by}
 use Rattle.std.proofs.lemmas.List.{append-nil}
 use Rattle.std.proofs.lemmas.List.Sums.{sum_by-append}
 use Rattle.std.proofs.lemmas.List.Elements.{filter_map-append}
 use Rattle.std.proofs.lemmas.Grind.{flat_map-append}
 use Rattle.std.proofs.Math.Nat.{mod-add-mod}
 use Rattle.session.specs.Turn.{Incoming, Out, Turn, sent}
-use Rattle.session.specs.Window.{wrap, takes_number, expected_after, IsJudged}
-use Rattle.session.specs.Legal.{AtEach, status_number, status_numbers, HasWindow, Lawful}
-use Rattle.session.specs.Machine.{Counters, IsMade, IsMadeBy}
+use Rattle.session.specs.Window.{wrap, takes_number, exp_cmd_sn_after}
+use Rattle.session.specs.Verdict.{IsJudged}
+use Rattle.session.specs.Legal.{AtEach, status_number, status_numbers, HaveWindow, Lawful}
+use Rattle.session.specs.Counters.{Counters}
+use Rattle.session.specs.MachineTurn.{TurnOf, TurnOnVerdict}
 use Rattle.session.proofs.Facts.{TurnFacts, made_facts}
 
 -- where a list is cut, and one is put together of a front and one element more
-split_one : (ts : List Turn) (t : Turn) (before : List Turn) (u : Turn) (behind : List Turn) → ts ++ t ∷ [] ≡ before ++ (u ∷ behind)
+split_one : (ts : List Turn) (t : Turn) (before : List Turn) (u : Turn) (behind : List Turn)
+    → ts ++ t ∷ [] ≡ before ++ (u ∷ behind)
     → ((rest : List Turn) × (ts ≡ before ++ (u ∷ rest))) ⊎ ((before ≡ ts) × (u ≡ t))
 split_one [] t [] u behind e = inr (refl, let same : u ≡ t = cc in same)
 split_one [] t (x ∷ []) u behind e = absurd (cc)
@@ -28,7 +31,8 @@ split_one (x ∷ ts) t (y ∷ before) u behind e =
       | inr w ↦ inr (let front : y ∷ before ≡ x ∷ ts = cc in front, w.1)
     ]
 
-pub at_each_more : (P : List Turn → Turn → Type 0) (ts : List Turn) (t : Turn) → AtEach P ts → P ts t → AtEach P (ts ++ t ∷ [])
+pub at_each_more : (P : List Turn → Turn → Type 0) (ts : List Turn) (t : Turn) → AtEach P ts → P ts t
+    → AtEach P (ts ++ t ∷ [])
 at_each_more P ts t each here before u behind e = elim (split_one ts t before u behind e) [
   | inl w ↦ each before u w.0 w.1
   | inr w ↦ rw (w.0, w.1) here
@@ -40,20 +44,22 @@ at_each_none P (x ∷ before) u behind e = absurd (cc)
 
 -- the counters are those of the transcript
 pub record IsTied (first_cmd first_stat : ℕ) (ts : List Turn) (s : Counters) : Type 0 where
-  pub command : s.exp_cmd_sn ≡ expected_after first_cmd ts
+  pub command : s.exp_cmd_sn ≡ exp_cmd_sn_after first_cmd ts
   pub status : s.stat_sn ≡ wrap (first_stat + length (status_numbers (sent ts)))
 
 abbrev numbered : Turn → Bool
 numbered t = takes_number t.verdict t.came
 
-count_more : (ts : List Turn) (t : Turn) → count_by numbered (ts ++ t ∷ []) ≡ count_by numbered ts + (0 + cond (numbered t) 1 0)
+count_more : (ts : List Turn) (t : Turn)
+    → count_by numbered (ts ++ t ∷ []) ≡ count_by numbered ts + (0 + cond (numbered t) 1 0)
 count_more ts t = sum_by-append (λ u. cond (numbered u) 1 0) ts (t ∷ [])
 
 wrap_wrap : (n : ℕ) → wrap (wrap n) ≡ wrap n
 wrap_wrap n = omega arith
 
-command_more : (first : ℕ) (ts : List Turn) (t : Turn) (s s' : Counters) → s.exp_cmd_sn ≡ expected_after first ts
-    → ((s'.exp_cmd_sn ≡ s.exp_cmd_sn) × (numbered t ≡ false)) ⊎ ((s'.exp_cmd_sn ≡ wrap (s.exp_cmd_sn + 1)) × (numbered t ≡ true)) → s'.exp_cmd_sn ≡ expected_after first (ts ++ t ∷ [])
+command_more : (first : ℕ) (ts : List Turn) (t : Turn) (s s' : Counters) → s.exp_cmd_sn ≡ exp_cmd_sn_after first ts
+    → ((s'.exp_cmd_sn ≡ s.exp_cmd_sn) × (numbered t ≡ false)) ⊎ ((s'.exp_cmd_sn ≡ wrap (s.exp_cmd_sn + 1)) × (numbered t ≡ true))
+    → s'.exp_cmd_sn ≡ exp_cmd_sn_after first (ts ++ t ∷ [])
 command_more first ts t s s' tied (inl w) =
     let n : ℕ = count_by numbered ts in
     let same : count_by numbered (ts ++ t ∷ []) ≡ n = count_more ts t ∙ ap (λ (b : Bool). n + (0 + cond b 1 0)) w.1 ∙ (let e : n + (0 + 0) ≡ n = omega arith in e) in
@@ -66,16 +72,19 @@ command_more first ts t s s' tied (inr w) =
 sent_more : (ts : List Turn) (t : Turn) → sent (ts ++ t ∷ []) ≡ sent ts ++ t.sent
 sent_more ts t = flat_map-append (λ u. u.sent) ts (t ∷ []) ∙ ap (λ (o : List Out). sent ts ++ o) (append-nil t.sent)
 
-pub statuses_more : (ts : List Turn) (t : Turn) → status_numbers (sent (ts ++ t ∷ [])) ≡ status_numbers (sent ts) ++ status_numbers t.sent
+pub statuses_more : (ts : List Turn) (t : Turn)
+    → status_numbers (sent (ts ++ t ∷ [])) ≡ status_numbers (sent ts) ++ status_numbers t.sent
 statuses_more ts t = ap status_numbers (sent_more ts t) ∙ filter_map-append (λ o. status_number o.header) (sent ts) t.sent
 
-get_more : (xs : List ℕ) (y k n : ℕ) → slice_get (xs ++ y ∷ []) k ≡ Some n → (slice_get xs k ≡ Some n) ⊎ ((k ≡ length xs) × (n ≡ y))
+get_more : (xs : List ℕ) (y k n : ℕ) → slice_get (xs ++ y ∷ []) k ≡ Some n
+    → (slice_get xs k ≡ Some n) ⊎ ((k ≡ length xs) × (n ≡ y))
 get_more [] y zero n e = inr (refl, cc)
 get_more [] y (suc k) n e = absurd (cc)
 get_more (x ∷ xs) y zero n e = inl e
 get_more (x ∷ xs) y (suc k) n e = elim (get_more xs y k n e) [ inl w ↦ inl w | inr w ↦ inr (ap suc w.0, w.1) ]
 
-module _ (first : ℕ) (ts : List Turn) (t : Turn) (s s' : Counters) (tied : s.stat_sn ≡ wrap (first + length (status_numbers (sent ts)))) where
+module _ (first : ℕ) (ts : List Turn) (t : Turn) (s s' : Counters)
+    (tied : s.stat_sn ≡ wrap (first + length (status_numbers (sent ts)))) where
   status_more : ((s'.stat_sn ≡ s.stat_sn) × (status_numbers t.sent ≡ [])) ⊎ ((s'.stat_sn ≡ wrap (s.stat_sn + 1)) × (status_numbers t.sent ≡ s.stat_sn ∷ []))
       → s'.stat_sn ≡ wrap (first + length (status_numbers (sent (ts ++ t ∷ []))))
   status_more (inl w) =
@@ -105,22 +114,24 @@ pub record Stands (first_cmd first_stat : ℕ) (ts : List Turn) (s : Counters) :
   pub lawful : Lawful first_cmd first_stat ts
   pub tied : IsTied first_cmd first_stat ts s
 
-facts_of : (s s' : Counters) (came : Incoming) (t : Turn) → IsMade s came t s' → TurnFacts s s' t.came t.verdict t.call t.sent
+facts_of : (s s' : Counters) (came : Incoming) (t : Turn) → TurnOf s came t s'
+    → TurnFacts s s' t.came t.verdict t.call t.sent
 facts_of s s' came t m = made_facts s s' t.came t.verdict t.call t.sent
     (subst (λ (c : Incoming). IsJudged s.exp_cmd_sn c t.verdict) (sym m.came_is) m.judged)
-    (subst (λ (c : Incoming). IsMadeBy t.verdict s c t.call t.sent s') (sym m.came_is) m.made)
+    (subst (λ (c : Incoming). TurnOnVerdict t.verdict s c t.call t.sent s') (sym m.came_is) m.made)
 
-pub stands_more : (first_cmd first_stat : ℕ) (ts : List Turn) (t : Turn) (came : Incoming) (s s' : Counters) → Stands first_cmd first_stat ts s → IsMade s came t s' → Stands first_cmd first_stat (ts ++ t ∷ []) s'
+pub stands_more : (first_cmd first_stat : ℕ) (ts : List Turn) (t : Turn) (came : Incoming) (s s' : Counters)
+    → Stands first_cmd first_stat ts s → TurnOf s came t s' → Stands first_cmd first_stat (ts ++ t ∷ []) s'
 stands_more first_cmd first_stat ts t came s s' k m =
     let f = facts_of s s' came t m in
     let command = command_more first_cmd ts t s s' k.tied.command f.commands in
     let old = k.lawful in
     record {
       lawful = record {
-        judged = at_each_more (λ before u. IsJudged (expected_after first_cmd before) u.came u.verdict) ts t old.judged (subst (λ (e : ℕ). IsJudged e t.came t.verdict) k.tied.command f.judged);
+        judged = at_each_more (λ before u. IsJudged (exp_cmd_sn_after first_cmd before) u.came u.verdict) ts t old.judged (subst (λ (e : ℕ). IsJudged e t.came t.verdict) k.tied.command f.judged);
         numbered = numbered_more first_stat ts t s s' k.tied.status old.numbered f.statuses;
-        windows = at_each_more (λ before u. AllByRecursion (λ o. HasWindow (expected_after first_cmd (before ++ u ∷ [])) o.header) u.sent) ts t old.windows
-            (subst (λ (e : ℕ). AllByRecursion (λ o. HasWindow e o.header) t.sent) command f.windows);
+        windows = at_each_more (λ before u. HaveWindow (exp_cmd_sn_after first_cmd (before ++ u ∷ [])) u.sent) ts t old.windows
+            (subst (λ (e : ℕ). HaveWindow e t.sent) command f.windows);
         called = at_each_more _ ts t old.called f.called;
         answered = at_each_more _ ts t old.answered f.answered;
         tiled = at_each_more _ ts t old.tiled f.tiled;

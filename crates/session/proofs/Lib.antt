@@ -4,3 +4,4 @@ pub mod Lawful
 pub mod Lists
 pub mod Running
 pub mod Turns
+pub mod Unserved

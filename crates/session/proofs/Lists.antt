@@ -6,13 +6,16 @@ use Rattle.std.proofs.lemmas.List.Edits.{take-paste}
 use Rattle.std.proofs.Math.Seq.{take-append-add}
 
 -- moved to the front, the waiting bytes are the same
-pub moved_front : (xs : List ℕ) (start filled : ℕ) → start ≤ filled → filled ≤ length xs → take (0 + (filled - start)) (copy_within xs start filled 0) ≡ drop start (take filled xs)
+pub moved_front : (xs : List ℕ) (start filled : ℕ) → start ≤ filled → filled ≤ length xs
+    → take (0 + (filled - start)) (copy_within xs start filled 0) ≡ drop start (take filled xs)
 moved_front xs start filled h k =
     let e : start + (filled - start) ≡ filled = omega arith in
     take-paste xs 0 (drop start xs) (filled - start) (omega arith) (omega (arith, length-drop start xs)) ∙ sym (drop-take start (filled - start) xs) ∙ ap (λ (m : ℕ). drop start (take m xs)) e
 
 -- n bytes of the part behind `filled` come behind the waiting bytes
-pub grown_behind : (xs part rest : List ℕ) (start filled n : ℕ) → start ≤ filled → filled ≤ length xs → n ≤ length part → drop start (take (filled + n) (take filled xs ++ (part ++ rest))) ≡ drop start (take filled xs) ++ take n part
+pub grown_behind : (xs part rest : List ℕ) (start filled n : ℕ) → start ≤ filled → filled ≤ length xs
+    → n ≤ length part
+    → drop start (take (filled + n) (take filled xs ++ (part ++ rest))) ≡ drop start (take filled xs) ++ take n part
 grown_behind xs part rest start filled n order within h =
     let e : length (take filled xs) ≡ filled = length-take-le filled xs within in
     let front : take (filled + n) (take filled xs ++ (part ++ rest)) ≡ take filled xs ++ take n part =

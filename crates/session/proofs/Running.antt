@@ -9,34 +9,42 @@ use Rattle.iscsi_pdu.specs.Pdu.{IsPdu}
 use Rattle.iscsi_pdu.specs.Fault.{Stands as FaultStands}
 use Rattle.iscsi_pdu.specs.Spelling.{spelling}
 use Rattle.iscsi_pdu.specs.declared.header.Header.{Header}
+use Rattle.iscsi_pdu.specs.declared.header.Header.TheVariants.{Target}
 use Rattle.iscsi_pdu.specs.declared.fault.PduFault.{PduFault}
 use Rattle.session.specs.declared.end.End.{End}
 use Rattle.session.specs.declared.end.End.TheVariants.{EndOfInput, InputFailed, OutputFailed, Protocol, Reinstated}
-use Rattle.session.specs.declared.target.Served.{Served}
-use Rattle.session.specs.declared.target.Served.TheVariants.{Replied, Outside, Busy, Gone, Halted}
+use Rattle.session.specs.declared.target.TargetAnswer.{TargetAnswer}
+use Rattle.session.specs.declared.target.TargetAnswer.TheVariants.{Replied, Outside, Busy, Gone, Halted}
 use Rattle.session.specs.declared.verdict.Verdict.{Verdict}
 use Rattle.session.specs.declared.verdict.Verdict.TheVariants.{Accepted, Ignored, Gap, Refused}
 use Rattle.session.specs.Question.{Question}
 use Rattle.session.specs.Source.{AppendsFront}
 use Rattle.session.specs.Inbox.{Filled}
 use Rattle.session.specs.Turn.{Incoming, pdu, faulty, Out, Asking, Turn, calls, sent, bytes_of, Spells, Leads}
+use Rattle.iscsi_pdu.specs.declared.TheConstants.{BHS_LENGTH}
 use Rattle.session.specs.Legal.{end_by, end_after, GoesOn, NoneWhole, StandsBehind, EndsWith, most_bytes, EndsBy}
-use Rattle.session.specs.Machine.{Counters}
-use Rattle.session.specs.Stream.{IsSentOut, IsLed, IsTurned}
+use Rattle.session.specs.Counters.{Counters}
+use Rattle.session.specs.Stream.{IsSentOut, IsLed, MakesTurn, StreamTurn}
 use Rattle.session.specs.Transcript.{IsCut, Written, IsTranscribed, IsFailureOf}
+use Rattle.session.proofs.Turns.{written}
 use Rattle.session.proofs.Lawful.{at_each_more, at_each_none, Stands, stands_more, stands_none}
 
 -- ---- what was read
 
-spells_more : (is : List Incoming) (b header_bytes front : List ℕ) (h : Header) (d : List ℕ) → Spells is b → IsPdu front h d → take 48 front ≡ header_bytes → Spells (is ++ pdu header_bytes h d ∷ []) (b ++ front)
-spells_more [] b hb front h d k p e = (front, [], ap (λ (z : List ℕ). z ++ front) k ∙ sym (append-nil front), p, e, refl)
-spells_more (pdu hb' h' d' ∷ is) b hb front h d k p e = (k.0, k.1 ++ front, ap (λ (z : List ℕ). z ++ front) k.2 ∙ append_assoc k.0 k.1 front, k.3, k.4, spells_more is k.1 hb front h d k.5 p e)
-spells_more (faulty f hb' ∷ is) b hb front h d k p e = spells_more is b hb front h d k p e
+spells_more : (is : List Incoming) (b bhs front : List ℕ) (h : Header) (d : List ℕ) → Spells is b → IsPdu front h d
+    → take BHS_LENGTH front ≡ bhs → Spells (is ++ pdu bhs h d ∷ []) (b ++ front)
+spells_more [] b bhs front h d k p e = ([], record { front = front; cut = ap (λ (z : List ℕ). z ++ front) k ∙ sym (append-nil front); is_pdu = p; bhs_is = e }, refl)
+spells_more (pdu bhs' h' d' ∷ is) b bhs front h d k p e = (
+  k.0 ++ front,
+  record { front = k.1.front; cut = ap (λ (z : List ℕ). z ++ front) k.1.cut ∙ append_assoc k.1.front k.0 front; is_pdu = k.1.is_pdu; bhs_is = k.1.bhs_is },
+  spells_more is k.0 bhs front h d k.2 p e,
+)
+spells_more (faulty f bhs' ∷ is) b bhs front h d k p e = spells_more is b bhs front h d k p e
 
-spells_fault : (is : List Incoming) (b header_bytes : List ℕ) (f : PduFault) → Spells is b → Spells (is ++ faulty f header_bytes ∷ []) b
-spells_fault [] b hb f k = k
-spells_fault (pdu hb' h' d' ∷ is) b hb f k = (k.0, k.1, k.2, k.3, k.4, spells_fault is k.1 hb f k.5)
-spells_fault (faulty g hb' ∷ is) b hb f k = spells_fault is b hb f k
+spells_fault : (is : List Incoming) (b bhs : List ℕ) (f : PduFault) → Spells is b → Spells (is ++ faulty f bhs ∷ []) b
+spells_fault [] b bhs f k = k
+spells_fault (pdu bhs' h' d' ∷ is) b bhs f k = (k.0, k.1, spells_fault is k.0 bhs f k.2)
+spells_fault (faulty g bhs' ∷ is) b bhs f k = spells_fault is b bhs f k
 
 regroup : (a w : List ℕ) (n : ℕ) → a ++ w ≡ (a ++ take n w) ++ drop n w
 regroup a w n = ap (λ (z : List ℕ). a ++ z) (sym (take-append-drop n w)) ∙ sym (append_assoc a (take n w) (drop n w))
@@ -46,16 +54,18 @@ regroup a w n = ap (λ (z : List ℕ). a ++ z) (sym (take-append-drop n w)) ∙ 
 bytes_more : (ts : List Turn) (t : Turn) → bytes_of (sent (ts ++ t ∷ [])) ≡ bytes_of (sent ts) ++ bytes_of t.sent
 bytes_more ts t =
     ap bytes_of (flat_map-append (λ u. u.sent) ts (t ∷ []) ∙ ap (λ (o : List Out). sent ts ++ o) (append-nil t.sent))
-    ∙ flat_map-append (λ o. spelling o.header o.bytes) (sent ts) t.sent
+    ∙ flat_map-append (λ o. spelling (Target o.header) o.bytes) (sent ts) t.sent
 
 -- ---- what the target was asked
 
-module _ {T : Type 0} (leads : T → Question → Served → T → Type 0) where
-  leads_more : (cs : List Asking) (x m y : T) (c : Asking) → Leads leads cs x m → leads m c.question c.answer y → Leads leads (cs ++ c ∷ []) x y
+module _ {T : Type 0} (leads : T → Question → TargetAnswer → T → Type 0) where
+  leads_more : (cs : List Asking) (x m y : T) (c : Asking) → Leads leads cs x m → leads m c.question c.answer y
+      → Leads leads (cs ++ c ∷ []) x y
   leads_more [] x m y c k l = (y, subst (λ (z : T). leads z c.question c.answer y) k l, refl)
   leads_more (b ∷ cs) x m y c k l = (k.0, k.1, leads_more cs k.0 m y c k.2 l)
 
-  led_by : (ts : List Turn) (x m y : T) (came : Incoming) (v : Verdict) (call : Option Asking) (outs : List Out) → Leads leads (calls ts) x m → IsLed leads call m y
+  led_by : (ts : List Turn) (x m y : T) (came : Incoming) (v : Verdict) (call : Option Asking) (outs : List Out)
+      → Leads leads (calls ts) x m → IsLed leads call m y
       → Leads leads (calls (ts ++ record { came = came; verdict = v; call = call; sent = outs } ∷ [])) x y
   led_by ts x m y came v None outs k l =
       let same : calls (ts ++ record { came = came; verdict = v; call = None; sent = outs } ∷ []) ≡ calls ts = filter_map-append (λ (t : Turn). t.call) ts (record { came = came; verdict = v; call = None; sent = outs } ∷ []) ∙ append-nil (calls ts) in
@@ -64,12 +74,15 @@ module _ {T : Type 0} (leads : T → Question → Served → T → Type 0) where
       let more : calls (ts ++ record { came = came; verdict = v; call = Some c; sent = outs } ∷ []) ≡ calls ts ++ c ∷ [] = filter_map-append (λ (t : Turn). t.call) ts (record { came = came; verdict = v; call = Some c; sent = outs } ∷ []) in
       subst (λ (cs : List Asking). Leads leads cs x y) (sym more) (leads_more (calls ts) x m y c k l)
 
-  led_more : (ts : List Turn) (x m y : T) (t : Turn) → Leads leads (calls ts) x m → IsLed leads t.call m y → Leads leads (calls (ts ++ t ∷ [])) x y
+  led_more : (ts : List Turn) (x m y : T) (t : Turn) → Leads leads (calls ts) x m → IsLed leads t.call m y
+      → Leads leads (calls (ts ++ t ∷ [])) x y
   led_more ts x m y t k l = led_by ts x m y t.came t.verdict t.call t.sent k l
 
 -- ---- between two turns
 
-pub record Running {T : Type 0} (leads : T → Question → Served → T → Type 0) (first_cmd first_stat : ℕ) (left left' held held' : Option (List ℕ)) (target target' : T) (s : Counters) (waiting : List ℕ) (reads : ℕ) : Type 0 where
+pub record Running {T : Type 0} (leads : T → Question → TargetAnswer → T → Type 0) (first_cmd first_stat : ℕ)
+    (left left' held held' : Option (List ℕ)) (target target' : T) (s : Counters) (waiting : List ℕ)
+    (reads : ℕ) : Type 0 where
   pub transcript : List Turn
   pub spelled : List ℕ
   pub stands : Stands first_cmd first_stat transcript s
@@ -85,14 +98,15 @@ nil_of [] e = refl
 nil_of (x ∷ xs) e = absurd (omega arith)
 
 -- the end that a turn calls for is one of two
-ends_by_answer : (end : End) (a : Served) → Some end ≡ end_by a → (end ≡ Protocol) ⊎ (end ≡ Reinstated)
+ends_by_answer : (end : End) (a : TargetAnswer) → Some end ≡ end_by a → (end ≡ Protocol) ⊎ (end ≡ Reinstated)
 ends_by_answer end (Replied r) e = absurd (cc)
 ends_by_answer end (Outside r) e = absurd (cc)
 ends_by_answer end Busy e = absurd (cc)
 ends_by_answer end Gone e = inr cc
 ends_by_answer end Halted e = absurd (cc)
 
-pub ends_so : (end : End) (v : Verdict) (call : Option Asking) → Some end ≡ end_after v call → (end ≡ Protocol) ⊎ (end ≡ Reinstated)
+pub ends_so : (end : End) (v : Verdict) (call : Option Asking) → Some end ≡ end_after v call
+    → (end ≡ Protocol) ⊎ (end ≡ Reinstated)
 ends_so end Accepted None e = absurd (cc)
 ends_so end Accepted (Some c) e = ends_by_answer end c.answer e
 ends_so end Ignored call e = absurd (cc)
@@ -100,13 +114,17 @@ ends_so end Gap call e = inl cc
 ends_so end (Refused reason) call e = inl cc
 
 -- a turn whose bytes went out and that calls for no end, or one that ends the session
-pub went_on : (held held' : Option (List ℕ)) (before now : ℕ) (bytes : List ℕ) (wanted : Option End) → IsSentOut held held' before now bytes wanted None → (wanted ≡ None) × Appends held held' bytes × (now ≡ before)
+pub went_on : (held held' : Option (List ℕ)) (before now : ℕ) (bytes : List ℕ) (wanted : Option End)
+    → IsSentOut held held' before now bytes wanted None → (wanted ≡ None) × Appends held held' bytes × (now ≡ before)
 went_on held held' before now bytes wanted (inl w) = (sym w.0, w.1, w.2)
 went_on held held' before now bytes wanted (inr w) = absurd (let e : None ≡ Some OutputFailed = w.0 in cc)
 
-module _ {T : Type 0} (leads : T → Question → Served → T → Type 0) (first_cmd first_stat : ℕ) (left left' held held' : Option (List ℕ)) (x x' : T) (s : Counters) (waiting : List ℕ) (reads : ℕ) (r : Running leads first_cmd first_stat left left' held held' x x' s waiting reads) where
+module _ {T : Type 0} (leads : T → Question → TargetAnswer → T → Type 0) (first_cmd first_stat : ℕ)
+    (left left' held held' : Option (List ℕ)) (x x' : T) (s : Counters) (waiting : List ℕ) (reads : ℕ)
+    (r : Running leads first_cmd first_stat left left' held held' x x' s waiting reads) where
   -- what the whole is with one turn more, where these bytes of what waits spell its PDU
-  module _ (s' : Counters) (x'' : T) (held'' : Option (List ℕ)) (before now : ℕ) (came : Incoming) (result : Option End) (turned : IsTurned leads s s' x' x'' held' held'' before now came result) where
+  module _ (s' : Counters) (x'' : T) (held'' : Option (List ℕ)) (before now : ℕ) (came : Incoming)
+      (result : Option End) (turned : StreamTurn leads s s' x' x'' held' held'' before now came result) where
     stands_now : Stands first_cmd first_stat (r.transcript ++ turned.turn ∷ []) s'
     stands_now = stands_more first_cmd first_stat r.transcript turned.turn came s s' r.stands turned.made
 
@@ -116,14 +134,18 @@ module _ {T : Type 0} (leads : T → Question → Served → T → Type 0) (firs
     came_now : map (λ (t : Turn). t.came) (r.transcript ++ turned.turn ∷ []) ≡ map (λ (t : Turn). t.came) r.transcript ++ came ∷ []
     came_now = map-append (λ (t : Turn). t.came) r.transcript (turned.turn ∷ []) ∙ ap (λ (c : Incoming). map (λ (t : Turn). t.came) r.transcript ++ c ∷ []) turned.made.came_is
 
-    all_out : Appends held' held'' (bytes_of turned.turn.sent) → Appends held held'' (bytes_of (sent (r.transcript ++ turned.turn ∷ [])))
+    all_out : Appends held' held'' (bytes_of turned.turn.sent)
+        → Appends held held'' (bytes_of (sent (r.transcript ++ turned.turn ∷ [])))
     all_out out = subst (Appends held held'') (sym (bytes_more r.transcript turned.turn)) (Appends-trans _ _ _ _ _ r.written out)
 
-    some_out : AppendsFront held' held'' (bytes_of turned.turn.sent) → IsCut held held'' (r.transcript ++ turned.turn ∷ [])
+    some_out : AppendsFront held' held'' (bytes_of turned.turn.sent)
+        → IsCut held held'' (r.transcript ++ turned.turn ∷ [])
     some_out out = record { front = r.transcript; last = turned.turn; whole = refl; part = out.0; out = Appends-trans _ _ _ _ _ r.written out.1 }
 
     -- the last turn
-    last_turn : (rest : List ℕ) (wanted : Option End) → StandsBehind came rest → end_after turned.turn.verdict turned.turn.call ≡ wanted → EndsWith (r.transcript ++ turned.turn ∷ []) rest wanted
+    last_turn : (rest : List ℕ) (wanted : Option End) → StandsBehind came rest
+        → end_after turned.turn.verdict turned.turn.call ≡ wanted
+        → EndsWith (r.transcript ++ turned.turn ∷ []) rest wanted
     last_turn rest wanted stands ends = record {
       front = r.transcript;
       last = turned.turn;
@@ -134,8 +156,11 @@ module _ {T : Type 0} (leads : T → Question → Served → T → Type 0) (firs
     }
 
     -- the session ends with it
-    module _ (spelled rest : List ℕ) (spells : Spells (map (λ (t : Turn). t.came) r.transcript ++ came ∷ []) spelled) (read : Consumes left left' (spelled ++ rest)) (stands : StandsBehind came rest) where
-      ended : (end : End) → EndsBy (r.transcript ++ turned.turn ∷ []) rest (length spelled + length rest) (IsAtEnd left') end → Written end held held'' (r.transcript ++ turned.turn ∷ [])
+    module _ (spelled rest : List ℕ) (spells : Spells (map (λ (t : Turn). t.came) r.transcript ++ came ∷ []) spelled)
+        (read : Consumes left left' (spelled ++ rest)) (stands : StandsBehind came rest) where
+      ended : (end : End)
+          → EndsBy (r.transcript ++ turned.turn ∷ []) rest (length spelled + length rest) (IsAtEnd left') end
+          → Written end held held'' (r.transcript ++ turned.turn ∷ [])
           → IsTranscribed leads first_cmd first_stat left left' held held'' x x'' end
       ended end ends written = record {
         transcript = r.transcript ++ turned.turn ∷ [];
@@ -149,7 +174,8 @@ module _ {T : Type 0} (leads : T → Question → Served → T → Type 0) (firs
         led = led_now;
       }
 
-      ends_now : (end : End) → result ≡ Some end → IsSentOut held' held'' before now (bytes_of turned.turn.sent) (end_after turned.turn.verdict turned.turn.call) result
+      ends_now : (end : End) → result ≡ Some end
+          → IsSentOut held' held'' before now (bytes_of turned.turn.sent) (end_after turned.turn.verdict turned.turn.call) result
           → IsTranscribed leads first_cmd first_stat left left' held held'' x x'' end × IsFailureOf OutputFailed before now end
       ends_now end e (inl w) =
           let wanted : Some end ≡ end_after turned.turn.verdict turned.turn.call = sym e ∙ w.0 in
@@ -170,12 +196,14 @@ module _ {T : Type 0} (leads : T → Question → Served → T → Type 0) (firs
           )
 
   -- a PDU comes, and the session goes on, or ends
-  header_front : (n : ℕ) (header : List ℕ) (h : Header) (d : List ℕ) → header ≡ take 48 waiting → n ≤ length waiting → IsPdu (take n waiting) h d → take 48 (take n waiting) ≡ header
-  header_front n header h d e within p = take-take 48 n waiting (omega (arith, p.long, length-take-le n waiting within)) ∙ sym e
+  bhs_front : (n : ℕ) (bhs : List ℕ) (h : Header) (d : List ℕ) → bhs ≡ take BHS_LENGTH waiting → n ≤ length waiting
+      → IsPdu (take n waiting) h d → take BHS_LENGTH (take n waiting) ≡ bhs
+  bhs_front n bhs h d e within p = take-take BHS_LENGTH n waiting (omega (arith, p.long, length-take-le n waiting within)) ∙ sym e
 
-  spells_now : (n : ℕ) (header : List ℕ) (h : Header) (d : List ℕ) → header ≡ take 48 waiting → n ≤ length waiting → IsPdu (take n waiting) h d
-      → Spells (map (λ (t : Turn). t.came) r.transcript ++ pdu header h d ∷ []) (r.spelled ++ take n waiting)
-  spells_now n header h d e within p = spells_more (map (λ (t : Turn). t.came) r.transcript) r.spelled header (take n waiting) h d r.spells p (header_front n header h d e within p)
+  spells_now : (n : ℕ) (bhs : List ℕ) (h : Header) (d : List ℕ) → bhs ≡ take BHS_LENGTH waiting → n ≤ length waiting
+      → IsPdu (take n waiting) h d
+      → Spells (map (λ (t : Turn). t.came) r.transcript ++ pdu bhs h d ∷ []) (r.spelled ++ take n waiting)
+  spells_now n bhs h d e within p = spells_more (map (λ (t : Turn). t.came) r.transcript) r.spelled bhs (take n waiting) h d r.spells p (bhs_front n bhs h d e within p)
 
   read_now : (n : ℕ) → Consumes left left' ((r.spelled ++ take n waiting) ++ drop n waiting)
   read_now n = subst (Consumes left left') (regroup r.spelled waiting n) r.read
@@ -183,36 +211,53 @@ module _ {T : Type 0} (leads : T → Question → Served → T → Type 0) (firs
   many_now : (n : ℕ) → reads ≤ length (r.spelled ++ take n waiting) + length (drop n waiting)
   many_now n = omega (arith, r.many, length-append r.spelled (take n waiting), ap length (take-append-drop n waiting), length-append (take n waiting) (drop n waiting))
 
-  module _ (s' : Counters) (x'' : T) (held'' : Option (List ℕ)) (before now : ℕ) (header : List ℕ) (h : Header) (d : List ℕ) (n : ℕ) (header_is : header ≡ take 48 waiting) (within : n ≤ length waiting) (spelled : IsPdu (take n waiting) h d) where
-    pub pdu_goes_on : IsTurned leads s s' x' x'' held' held'' before now (pdu header h d) None → Running leads first_cmd first_stat left left' held held'' x x'' s' (drop n waiting) reads × (now ≡ before)
-    pdu_goes_on t =
+  module _ (s' : Counters) (x'' : T) (held'' : Option (List ℕ)) (before now : ℕ) (bhs : List ℕ) (h : Header)
+      (d : List ℕ) (n : ℕ) (bhs_is : bhs ≡ take BHS_LENGTH waiting) (within : n ≤ length waiting)
+      (spelled : IsPdu (take n waiting) h d) where
+    goes_on_behind : StreamTurn leads s s' x' x'' held' held'' before now (pdu bhs h d) None
+        → Running leads first_cmd first_stat left left' held held'' x x'' s' (drop n waiting) reads × (now ≡ before)
+    goes_on_behind t =
         let w = went_on held' held'' before now (bytes_of t.turn.sent) (end_after t.turn.verdict t.turn.call) t.out in (
           record {
             transcript = r.transcript ++ t.turn ∷ [];
             spelled = r.spelled ++ take n waiting;
-            stands = stands_now s' x'' held'' before now (pdu header h d) None t;
+            stands = stands_now s' x'' held'' before now (pdu bhs h d) None t;
             goes_on = at_each_more (λ _ u. end_after u.verdict u.call ≡ None) r.transcript t.turn r.goes_on w.0;
-            spells = subst (λ (is : List Incoming). Spells is (r.spelled ++ take n waiting)) (sym (came_now s' x'' held'' before now (pdu header h d) None t)) (spells_now n header h d header_is within spelled);
+            spells = subst (λ (is : List Incoming). Spells is (r.spelled ++ take n waiting)) (sym (came_now s' x'' held'' before now (pdu bhs h d) None t)) (spells_now n bhs h d bhs_is within spelled);
             read = read_now n;
-            written = all_out s' x'' held'' before now (pdu header h d) None t w.1;
-            led = led_now s' x'' held'' before now (pdu header h d) None t;
+            written = all_out s' x'' held'' before now (pdu bhs h d) None t w.1;
+            led = led_now s' x'' held'' before now (pdu bhs h d) None t;
             many = many_now n;
           },
           w.2,
         )
 
-    pub pdu_ends : (end : End) → IsTurned leads s s' x' x'' held' held'' before now (pdu header h d) (Some end) → IsTranscribed leads first_cmd first_stat left left' held held'' x x'' end × IsFailureOf OutputFailed before now end
-    pdu_ends end t =
-        ends_now s' x'' held'' before now (pdu header h d) (Some end) t (r.spelled ++ take n waiting) (drop n waiting) (spells_now n header h d header_is within spelled) (read_now n) tt end refl t.out
+    ends_behind : (end : End) → StreamTurn leads s s' x' x'' held' held'' before now (pdu bhs h d) (Some end)
+        → IsTranscribed leads first_cmd first_stat left left' held held'' x x'' end × IsFailureOf OutputFailed before now end
+    ends_behind end t =
+        ends_now s' x'' held'' before now (pdu bhs h d) (Some end) t (r.spelled ++ take n waiting) (drop n waiting) (spells_now n bhs h d bhs_is within spelled) (read_now n) tt end refl t.out
 
-  pub fault_ends : (s' : Counters) (held'' : Option (List ℕ)) (before now : ℕ) (header : List ℕ) (f : PduFault) (end : End) → header ≡ take 48 waiting → length header ≡ 48 → FaultStands waiting f
-      → IsTurned leads s s' x' x' held' held'' before now (faulty f header) (Some end) → IsTranscribed leads first_cmd first_stat left left' held held'' x x' end × IsFailureOf OutputFailed before now end
-  fault_ends s' held'' before now header f end header_is long stands t =
-      ends_now s' x' held'' before now (faulty f header) (Some end) t r.spelled waiting (spells_fault (map (λ (t : Turn). t.came) r.transcript) r.spelled header f r.spells) r.read
-      (stands, omega (arith, ap length header_is, long, length-take 48 waiting), header_is) end refl t.out
+    -- the turn that a PDU makes, and its write
+    module _ (bytes : List ℕ) (wanted : Option End) (t : MakesTurn leads s s' x' x'' (pdu bhs h d) bytes wanted) where
+      pub pdu_goes_on : IsSentOut held' held'' before now bytes wanted None
+          → Running leads first_cmd first_stat left left' held held'' x x'' s' (drop n waiting) reads × (now ≡ before)
+      pdu_goes_on out = goes_on_behind (written leads s s' x' x'' held' held'' before now (pdu bhs h d) bytes wanted None t out)
+
+      pub pdu_ends : (end : End) → IsSentOut held' held'' before now bytes wanted (Some end)
+          → IsTranscribed leads first_cmd first_stat left left' held held'' x x'' end × IsFailureOf OutputFailed before now end
+      pdu_ends end out = ends_behind end (written leads s s' x' x'' held' held'' before now (pdu bhs h d) bytes wanted (Some end) t out)
+
+  pub fault_ends : (s' : Counters) (held'' : Option (List ℕ)) (before now : ℕ) (bhs : List ℕ) (f : PduFault) (end : End)
+      → bhs ≡ take BHS_LENGTH waiting → length bhs ≡ BHS_LENGTH → FaultStands waiting f
+      → StreamTurn leads s s' x' x' held' held'' before now (faulty f bhs) (Some end)
+      → IsTranscribed leads first_cmd first_stat left left' held held'' x x' end × IsFailureOf OutputFailed before now end
+  fault_ends s' held'' before now bhs f end bhs_is long stands t =
+      ends_now s' x' held'' before now (faulty f bhs) (Some end) t r.spelled waiting (spells_fault (map (λ (t : Turn). t.came) r.transcript) r.spelled bhs f r.spells) r.read
+      (stands, omega (arith, ap length bhs_is, long, length-take BHS_LENGTH waiting), bhs_is) end refl t.out
 
   -- more came, or the input is at its end
-  pub more_came : (left'' : Option (List ℕ)) (waiting' : List ℕ) (n : ℕ) → Filled left' left'' waiting waiting' n → 0 < n → Running leads first_cmd first_stat left left'' held held' x x' s waiting' (reads + 1)
+  pub more_came : (left'' : Option (List ℕ)) (waiting' : List ℕ) (n : ℕ) → Filled left' left'' waiting waiting' n
+      → 0 < n → Running leads first_cmd first_stat left left'' held held' x x' s waiting' (reads + 1)
   more_came left'' waiting' n f some = record {
     transcript = r.transcript;
     spelled = r.spelled;
@@ -225,7 +270,9 @@ module _ {T : Type 0} (leads : T → Question → Served → T → Type 0) (firs
     many = omega (arith, r.many, ap length f.grown, length-append waiting f.more, f.count);
   }
 
-  stops_here : (end : End) (left'' : Option (List ℕ)) (rest : List ℕ) → Consumes left left'' (r.spelled ++ rest) → EndsBy r.transcript rest (length r.spelled + length rest) (IsAtEnd left'') end → Written end held held' r.transcript
+  stops_here : (end : End) (left'' : Option (List ℕ)) (rest : List ℕ) → Consumes left left'' (r.spelled ++ rest)
+      → EndsBy r.transcript rest (length r.spelled + length rest) (IsAtEnd left'') end
+      → Written end held held' r.transcript
       → IsTranscribed leads first_cmd first_stat left left'' held held' x x' end
   stops_here end left'' rest read ends written = record {
     transcript = r.transcript;
@@ -239,7 +286,9 @@ module _ {T : Type 0} (leads : T → Question → Served → T → Type 0) (firs
     led = r.led;
   }
 
-  pub input_ended : (left'' : Option (List ℕ)) (waiting' : List ℕ) (n : ℕ) → n ≡ 0 → Filled left' left'' waiting waiting' n → NoneWhole waiting → IsTranscribed leads first_cmd first_stat left left'' held held' x x' EndOfInput
+  pub input_ended : (left'' : Option (List ℕ)) (waiting' : List ℕ) (n : ℕ) → n ≡ 0
+      → Filled left' left'' waiting waiting' n → NoneWhole waiting
+      → IsTranscribed leads first_cmd first_stat left left'' held held' x x' EndOfInput
   input_ended left'' waiting' n nothing f none =
       let no_more : f.more ≡ [] = nil_of f.more (f.count ∙ nothing) in
       stops_here EndOfInput left'' waiting (subst (Consumes left left'') (ap (λ (z : List ℕ). r.spelled ++ z) (ap (λ (m : List ℕ). waiting ++ m) no_more ∙ append-nil waiting)) (subst (Consumes left left'') (append_assoc r.spelled waiting f.more) (Consumes-trans _ _ _ _ _ r.read f.read)))
@@ -248,11 +297,14 @@ module _ {T : Type 0} (leads : T → Question → Served → T → Type 0) (firs
   pub taken_all : most_bytes ≤ reads → IsTranscribed leads first_cmd first_stat left left' held held' x x' EndOfInput
   taken_all many = stops_here EndOfInput left' waiting r.read (r.goes_on, inr (omega (arith, many, r.many))) r.written
 
-  pub input_failed : (left'' : Option (List ℕ)) → Keeps left' left'' → NoneWhole waiting → IsTranscribed leads first_cmd first_stat left left'' held held' x x' InputFailed
+  pub input_failed : (left'' : Option (List ℕ)) → Keeps left' left'' → NoneWhole waiting
+      → IsTranscribed leads first_cmd first_stat left left'' held held' x x' InputFailed
   input_failed left'' kept none = stops_here InputFailed left'' waiting (Consumes-kept _ _ _ _ r.read kept) (r.goes_on, none) r.written
 
-pub starts : {T : Type 0} (leads : T → Question → Served → T → Type 0) (first_cmd first_stat : ℕ) (left held : Option (List ℕ)) (x : T) (s : Counters) (waiting : List ℕ) → first_cmd < 4294967296 → first_stat < 4294967296
-    → s ≡ record { stat_sn = first_stat; exp_cmd_sn = first_cmd } → waiting ≡ [] → Running leads first_cmd first_stat left left held held x x s waiting 0
+pub starts : {T : Type 0} (leads : T → Question → TargetAnswer → T → Type 0) (first_cmd first_stat : ℕ) (left held : Option (List ℕ)) (x : T) (s : Counters) (waiting : List ℕ)
+    → first_cmd < 4294967296 → first_stat < 4294967296
+    → s ≡ record { stat_sn = first_stat; exp_cmd_sn = first_cmd } → waiting ≡ []
+    → Running leads first_cmd first_stat left left held held x x s waiting 0
 starts leads first_cmd first_stat left held x s waiting cmd_fits stat_fits s_is empty = record {
   transcript = [];
   spelled = [];
@@ -266,5 +318,5 @@ starts leads first_cmd first_stat left held x s waiting cmd_fits stat_fits s_is 
 }
 
 -- fewer bytes than a header are no PDU
-pub too_short : (b : List ℕ) → length b < 48 → NoneWhole b
+pub too_short : (b : List ℕ) → length b < BHS_LENGTH → NoneWhole b
 too_short b short = record { no_pdu = λ n h d p within. absurd (omega (arith, p.long, length-take-le n b within)); no_fault = λ f stands. short }

@@ -1,106 +1,141 @@
 -- What a turn of the session is, from what its parts say.
-use Rattle.std.proofs.Common.{◌≡◌, ℕ, List, Option, Some, None, refl, ap, subst}
+use Rattle.std.proofs.Common.{◌≡◌, ℕ, List, Option, Some, None, refl, ap, subst, subst₂}
+use Rattle.std.specs.Prelude.{MatchOption}
+use Rattle.scsi_types.specs.Cdb.{need_of}
 use Rattle.iscsi_pdu.specs.declared.header.Header.{Header}
-use Rattle.iscsi_pdu.specs.declared.header.Header.TheVariants.{ScsiCommand, ScsiResponse, DataIn, Reject}
+use Rattle.iscsi_pdu.specs.declared.header.Header.TheVariants.{Initiator}
+use Rattle.iscsi_pdu.specs.declared.header.InitiatorHeader.TheVariants.{ScsiCommand}
+use Rattle.iscsi_pdu.specs.declared.header.ScsiCommand.{ScsiCommand as CommandHeader}
 use Rattle.iscsi_pdu.specs.declared.fault.PduFault.{PduFault}
 use Rattle.session.specs.declared.actions.Actions.{Actions}
 use Rattle.session.specs.declared.actions.Call.{Call}
 use Rattle.session.specs.declared.end.End.{End}
-use Rattle.session.specs.declared.target.Served.{Served}
-use Rattle.session.specs.declared.target.Served.TheVariants.{Replied, Outside, Busy, Gone, Halted}
+use Rattle.session.specs.declared.target.TargetAnswer.{TargetAnswer}
+use Rattle.session.specs.declared.target.TargetAnswer.TheVariants.{Replied, Outside, Busy, Gone, Halted}
 use Rattle.session.specs.declared.verdict.Verdict.{Verdict}
 use Rattle.session.specs.declared.verdict.Verdict.TheVariants.{Accepted, Ignored, Gap, Refused}
 use Rattle.session.specs.Question.{Question, serve}
-use Rattle.session.specs.Turn.{Incoming, pdu, faulty, bytes_of}
-use Rattle.session.specs.Window.{IsJudgedPdu, reason_of}
+use Rattle.session.specs.Turn.{Incoming, pdu, faulty, Out, command_of, bytes_of}
+use Rattle.session.specs.Verdict.{IsJudgedPdu, reason_of}
 use Rattle.session.specs.Legal.{end_after, end_by}
-use Rattle.session.specs.Machine.{Counters, IsSomeCall, IsCallOf, IsRejection, IsTakenBy, IsTaken, IsReplied, IsReplyOf, IsMade, sent_by}
-use Rattle.session.specs.Stream.{IsSentOut, IsTurned}
+use Rattle.session.specs.Counters.{Counters, after_command}
+use Rattle.session.specs.Machine.{sent_by, IsCallOf, OnAccepted, OnRefusal, OnVerdict, OnPdu, OnAnswer}
+use Rattle.session.specs.MachineTurn.{TurnOnAnswer, TurnOf}
+use Rattle.session.specs.Stream.{IsSentOut, MakesTurn, StreamTurn}
 
-module _ {T : Type 0} (leads : T → Question → Served → T → Type 0) (s s' : Counters) (x : T) (held held' : Option (List ℕ)) (before now : ℕ) (result : Option End) where
+-- a turn whose bytes are written
+pub written : {T : Type 0} (leads : T → Question → TargetAnswer → T → Type 0) (s s' : Counters) (x x' : T) (held held' : Option (List ℕ)) (before now : ℕ) (came : Incoming) (outgoing : List ℕ) (wanted result : Option End)
+    → MakesTurn leads s s' x x' came outgoing wanted → IsSentOut held held' before now outgoing wanted result
+    → StreamTurn leads s s' x x' held held' before now came result
+written leads s s' x x' held held' before now came outgoing wanted result t out = record {
+  turn = t.turn;
+  made = t.made;
+  led = t.led;
+  out = subst (λ (w : Option End). IsSentOut held held' before now (bytes_of t.turn.sent) w result) t.wanted_is (subst (λ (b : List ℕ). IsSentOut held held' before now b wanted result) t.outgoing_is out);
+}
+
+module _ {T : Type 0} (leads : T → Question → TargetAnswer → T → Type 0) (s s' : Counters) (x : T) (b : List ℕ)
+    (a : Actions) (outgoing : List ℕ) (outgoing_is : outgoing ≡ bytes_of (sent_by b a.pdus)) where
   -- a turn without a call
-  turn_alone : (b : List ℕ) (came : Incoming) (v : Verdict) (a : Actions) → IsMade s came (record { came = came; verdict = v; call = None; sent = sent_by b a.pdus }) s' → a.end ≡ end_after v None
-      → IsSentOut held held' before now (bytes_of (sent_by b a.pdus)) a.end result → IsTurned leads s s' x x held held' before now came result
-  turn_alone b came v a made ends out = record {
+  turn_alone : (came : Incoming) (v : Verdict)
+      → TurnOf s came (record { came = came; verdict = v; call = None; sent = sent_by b a.pdus }) s'
+      → a.end ≡ end_after v None → MakesTurn leads s s' x x came outgoing a.end
+  turn_alone came v made ends = record {
     turn = record { came = came; verdict = v; call = None; sent = sent_by b a.pdus };
     made = made;
     led = refl;
-    out = subst (λ (e : Option End). IsSentOut held held' before now (bytes_of (sent_by b a.pdus)) e result) ends out;
+    outgoing_is = outgoing_is;
+    wanted_is = ends;
   }
 
-  no_call : (p : _) (d : List ℕ) (call : Option Call) → call ≡ None → IsSomeCall p d call → ⊥
+  no_call : (p : CommandHeader) (d : List ℕ) (call : Option Call) → call ≡ None
+      → MatchOption call ⊥ (λ c. IsCallOf p d c) → ⊥
   no_call p d None e k = k
   no_call p d (Some c) e k = absurd (cc)
 
-  alone_by : (b : List ℕ) (v : Verdict) (h : Header) (d : List ℕ) (a : Actions) → IsJudgedPdu s.exp_cmd_sn h d v → IsTakenBy v s h d a s' → a.call ≡ None
-      → IsSentOut held held' before now (bytes_of (sent_by b a.pdus)) a.end result → IsTurned leads s s' x x held held' before now (pdu b h d) result
-  alone_by b Accepted (ScsiCommand p) d a judged k none out = absurd (no_call p d a.call none k.2)
-  alone_by b Accepted (ScsiResponse p) d a judged k none out = absurd k
-  alone_by b Accepted (DataIn p) d a judged k none out = absurd k
-  alone_by b Accepted (Reject p) d a judged k none out = absurd k
-  alone_by b Ignored h d a judged k none out = turn_alone b (pdu b h d) Ignored a (record { came_is = refl; judged = judged; made = (refl, ap (sent_by b) k.0, k.3) }) k.2 out
-  alone_by b Gap h d a judged k none out = turn_alone b (pdu b h d) Gap a (record { came_is = refl; judged = judged; made = (refl, ap (sent_by b) k.0, k.3) }) k.2 out
-  alone_by b (Refused reason) h d a judged k none out = turn_alone b (pdu b h d) (Refused reason) a (record { came_is = refl; judged = judged; made = (refl, ap (sent_by b) k.pdus_are, k.next) }) k.ends out
+  no_accepted : (d : List ℕ) (p : Option CommandHeader) → a.call ≡ None
+      → MatchOption p ⊥ (λ q. OnAccepted s q d a s') → ⊥
+  no_accepted d None e k = k
+  no_accepted d (Some p) e k = no_call p d a.call e k.call
+
+  alone_by : (v : Verdict) (h : Header) (d : List ℕ) → IsJudgedPdu s.exp_cmd_sn h d v → OnVerdict v s h d a s'
+      → a.call ≡ None → MakesTurn leads s s' x x (pdu b h d) outgoing a.end
+  alone_by Accepted h d judged k none = absurd (no_accepted d (command_of h) none k)
+  alone_by Ignored h d judged k none = turn_alone (pdu b h d) Ignored (record { came_is = refl; judged = judged; made = record { no_call = refl; outs_are = ap (sent_by b) k.0.pdus_are; next_is = k.2 } }) k.1
+  alone_by Gap h d judged k none = turn_alone (pdu b h d) Gap (record { came_is = refl; judged = judged; made = record { no_call = refl; outs_are = ap (sent_by b) k.0.pdus_are; next_is = k.2 } }) k.1
+  alone_by (Refused reason) h d judged k none = turn_alone (pdu b h d) (Refused reason) (record { came_is = refl; judged = judged; made = record { no_call = refl; outs_are = ap (sent_by b) k.pdus_are; next_is = k.next } }) k.ends
 
   -- a PDU that calls for no call
-  pub alone : (b : List ℕ) (h : Header) (d : List ℕ) (a : Actions) → IsTaken s h d a s' → a.call ≡ None
-      → IsSentOut held held' before now (bytes_of (sent_by b a.pdus)) a.end result → IsTurned leads s s' x x held held' before now (pdu b h d) result
-  alone b h d a taken none out = alone_by b taken.verdict h d a taken.judged taken.taken none out
+  pub alone : (h : Header) (d : List ℕ) → OnPdu s h d a s' → a.call ≡ None
+      → MakesTurn leads s s' x x (pdu b h d) outgoing a.end
+  alone h d on none = alone_by on.verdict h d on.judged on.made none
 
   -- a fault
-  pub fault : (b : List ℕ) (f : PduFault) (a : Actions) → IsRejection s (reason_of f) a s'
-      → IsSentOut held held' before now (bytes_of (sent_by b a.pdus)) a.end result → IsTurned leads s s' x x held held' before now (faulty f b) result
-  fault b f a k out = turn_alone b (faulty f b) (Refused (reason_of f)) a (record { came_is = refl; judged = refl; made = (refl, ap (sent_by b) k.pdus_are, k.next) }) k.ends out
+  pub fault : (f : PduFault) → OnRefusal s (reason_of f) a s' → MakesTurn leads s s' x x (faulty f b) outgoing a.end
+  fault f k = turn_alone (faulty f b) (Refused (reason_of f)) (record { came_is = refl; judged = refl; made = record { no_call = refl; outs_are = ap (sent_by b) k.pdus_are; next_is = k.next } }) k.ends
 
 -- a call of a command that was accepted, and its answer
-module _ {T : Type 0} (leads : T → Question → Served → T → Type 0) (s mid s' : Counters) (x x' : T) (held held' : Option (List ℕ)) (before now : ℕ) (result : Option End) where
-  reply_is : (b : List ℕ) (p : _) (need : ℕ) (answer : Served) (a : Actions) → IsReplied mid p need answer a s' → IsReplyOf mid p need answer (sent_by b a.pdus) s' × (a.end ≡ end_by answer)
-  reply_is b p need (Replied r) a k = ((k.pdus_are b, k.next), k.no_end)
-  reply_is b p need (Outside r) a k = ((k.pdus_are b, k.next), k.no_end)
-  reply_is b p need Busy a k = ((k.pdus_are b, k.next), k.no_end)
-  reply_is b p need Gone a k = ((ap (sent_by b) k.0, k.3), k.2)
-  reply_is b p need Halted a k = ((k.pdus_are b, k.next), k.no_end)
+module _ {T : Type 0} (leads : T → Question → TargetAnswer → T → Type 0) (s mid s' : Counters) (x x' : T) (b : List ℕ)
+    (a a' : Actions) (c : Call) (answer : TargetAnswer) (outgoing : List ℕ)
+    (outgoing_is : outgoing ≡ bytes_of (sent_by b a'.pdus)) (some : a.call ≡ Some c)
+    (led : leads x (serve c.unit c.asked c.bytes.now) answer x') where
+  reply_is : (p : CommandHeader) (need : ℕ) (answer : TargetAnswer) → OnAnswer mid p need answer a' s'
+      → TurnOnAnswer mid p need answer (sent_by b a'.pdus) s' × (a'.end ≡ end_by answer)
+  reply_is p need (Replied r) k = ((k.pdus_are b, k.next), k.no_end)
+  reply_is p need (Outside r) k = ((k.pdus_are b, k.next), k.no_end)
+  reply_is p need Busy k = ((k.pdus_are b, k.next), k.no_end)
+  reply_is p need Halted k = ((k.pdus_are b, k.next), k.no_end)
+  reply_is p need Gone k = ((ap (sent_by b) k.silent.pdus_are, k.next), k.ends)
 
-  is_call : (p : _) (d : List ℕ) (call : Option Call) (c : Call) → call ≡ Some c → IsSomeCall p d call → IsCallOf p d c
-  is_call p d None c e k = absurd k
-  is_call p d (Some k) c e is = let same : k ≡ c = cc in subst (IsCallOf p d) same is
+  is_call : (p : CommandHeader) (d : List ℕ) (call : Option Call) → call ≡ Some c
+      → MatchOption call ⊥ (λ k. IsCallOf p d k) → IsCallOf p d c
+  is_call p d None e k = absurd k
+  is_call p d (Some k) e is = let same : k ≡ c = cc in subst (IsCallOf p d) same is
 
-  no_none : {A : Type 0} (call : Option Call) (c : Call) → call ≡ None → call ≡ Some c → A
-  no_none call c e f = absurd (cc)
+  no_none : {A : Type 0} (call : Option Call) → call ≡ None → call ≡ Some c → A
+  no_none call e f = absurd (cc)
 
-  served_by : (b : List ℕ) (v : Verdict) (h : Header) (d : List ℕ) (a a' : Actions) (c : Call) (answer : Served) → IsJudgedPdu s.exp_cmd_sn h d v → IsTakenBy v s h d a mid → a.call ≡ Some c
-      → leads x (serve c.unit c.asked c.bytes.now) answer x' → IsReplied mid c.task.command c.task.need answer a' s'
-      → IsSentOut held held' before now (bytes_of (sent_by b a'.pdus)) a'.end result → IsTurned leads s s' x x' held held' before now (pdu b h d) result
-  served_by b Accepted (ScsiCommand p) d a a' c answer judged k some led replied out =
-      let is = is_call p d a.call c some k.2 in
-      let reply = reply_is b c.task.command c.task.need answer a' replied in
+  moved : (q p : CommandHeader) (n m : ℕ) (next : Counters) (outs : List Out) → q ≡ p → n ≡ m → mid ≡ next
+      → TurnOnAnswer mid q n answer outs s' → TurnOnAnswer next p m answer outs s'
+  moved q p n m next outs e f g k = subst (λ (z : Counters). TurnOnAnswer z p m answer outs s') g (subst₂ (λ (z : CommandHeader) (w : ℕ). TurnOnAnswer mid z w answer outs s') e f k)
+
+  accepted_turn : (h : Header) (d : List ℕ) → IsJudgedPdu s.exp_cmd_sn h d Accepted
+      → MatchOption (command_of h) ⊥ (λ p. OnAccepted s p d a mid)
+      → OnAnswer mid c.task.command c.task.need answer a' s' → MakesTurn leads s s' x x' (pdu b h d) outgoing a'.end
+  accepted_turn (Initiator (ScsiCommand p)) d judged k replied =
+      let is = is_call p d a.call some k.call in
+      let reply = reply_is c.task.command c.task.need answer replied in
       record {
-        turn = record { came = pdu b (ScsiCommand p) d; verdict = Accepted; call = Some (record { question = serve c.unit c.asked c.bytes.now; answer = answer }); sent = sent_by b a'.pdus };
+        turn = record { came = pdu b (Initiator (ScsiCommand p)) d; verdict = Accepted; call = Some (record { question = serve c.unit c.asked c.bytes.now; answer = answer }); sent = sent_by b a'.pdus };
         made = record {
           came_is = refl;
           judged = judged;
           made = record {
-            asked = c.asked;
-            unit = c.unit;
-            answer = answer;
-            means = is.means;
-            names = is.unit;
             within = is.within;
-            call_is = ap (λ (bytes : List ℕ). Some (record { question = serve c.unit c.asked bytes; answer = answer })) is.bytes;
-            replied = rw (← k.3) (rw (← is.command, ← is.need) reply.0);
+            asked = record {
+              asked = c.asked;
+              unit = c.unit;
+              answer = answer;
+              means = is.means;
+              names = is.unit;
+              call_is = ap (λ (bytes : List ℕ). Some (record { question = serve c.unit c.asked bytes; answer = answer })) is.bytes;
+            };
+            answered = moved c.task.command p c.task.need (need_of c.asked) (after_command p s) (sent_by b a'.pdus) is.command is.need k.next reply.0;
           };
         };
         led = led;
-        out = subst (λ (e : Option End). IsSentOut held held' before now (bytes_of (sent_by b a'.pdus)) e result) reply.1 out;
+        outgoing_is = outgoing_is;
+        wanted_is = reply.1;
       }
-  served_by b Accepted (ScsiResponse p) d a a' c answer judged k some led replied out = absurd k
-  served_by b Accepted (DataIn p) d a a' c answer judged k some led replied out = absurd k
-  served_by b Accepted (Reject p) d a a' c answer judged k some led replied out = absurd k
-  served_by b Ignored h d a a' c answer judged k some led replied out = no_none a.call c k.1 some
-  served_by b Gap h d a a' c answer judged k some led replied out = no_none a.call c k.1 some
-  served_by b (Refused reason) h d a a' c answer judged k some led replied out = no_none a.call c k.no_call some
+  accepted_turn h d judged k replied = absurd k
 
-  pub served : (b : List ℕ) (h : Header) (d : List ℕ) (a a' : Actions) (c : Call) (answer : Served) → IsTaken s h d a mid → a.call ≡ Some c
-      → leads x (serve c.unit c.asked c.bytes.now) answer x' → IsReplied mid c.task.command c.task.need answer a' s'
-      → IsSentOut held held' before now (bytes_of (sent_by b a'.pdus)) a'.end result → IsTurned leads s s' x x' held held' before now (pdu b h d) result
-  served b h d a a' c answer taken some led replied out = served_by b taken.verdict h d a a' c answer taken.judged taken.taken some led replied out
+  called_by : (v : Verdict) (h : Header) (d : List ℕ) → IsJudgedPdu s.exp_cmd_sn h d v → OnVerdict v s h d a mid
+      → OnAnswer mid c.task.command c.task.need answer a' s' → MakesTurn leads s s' x x' (pdu b h d) outgoing a'.end
+  called_by Accepted h d judged k replied = accepted_turn h d judged k replied
+  called_by Ignored h d judged k replied = no_none a.call k.0.no_call some
+  called_by Gap h d judged k replied = no_none a.call k.0.no_call some
+  called_by (Refused reason) h d judged k replied = no_none a.call k.no_call some
+
+  pub called : (h : Header) (d : List ℕ) → OnPdu s h d a mid → OnAnswer mid c.task.command c.task.need answer a' s'
+      → MakesTurn leads s s' x x' (pdu b h d) outgoing a'.end
+  called h d on replied = called_by on.verdict h d on.judged on.made replied

@@ -1,18 +1,25 @@
 -- Words for what follows of a legal transcript.
-use Rattle.std.specs.Prelude.{◌≡◌, ℕ, List}
-use Rattle.std.specs.List.{count_by}
-use Rattle.iscsi_pdu.specs.declared.header.Header.{Header}
-use Rattle.iscsi_pdu.specs.declared.header.Header.TheVariants.{ScsiCommand, ScsiResponse, DataIn, Reject}
-use Rattle.session.specs.Turn.{Turn}
-use Rattle.session.specs.Window.{takes_number}
+use Rattle.std.specs.Prelude.{◌≡◌, ℕ, List, Some}
+use Rattle.std.specs.List.{AllByRecursion, count_by}
+use Rattle.iscsi_pdu.specs.declared.header.Header.TheVariants.{Initiator}
+use Rattle.iscsi_pdu.specs.declared.header.InitiatorHeader.TheVariants.{ScsiCommand}
+use Rattle.iscsi_pdu.specs.declared.header.ScsiCommand.{ScsiCommand as CommandHeader}
+use Rattle.session.specs.declared.verdict.Verdict.TheVariants.{Accepted}
+use Rattle.session.specs.Turn.{Out, Asking, Turn, pdu}
+use Rattle.session.specs.Window.{numbers_of, takes_number}
 
 -- how many numbered PDUs were accepted: a count that does not wrap
 abbrev pub numbers_taken : List Turn → ℕ
 numbers_taken ts = count_by (λ t. takes_number t.verdict t.came) ts
 
--- MaxCmdSN of a PDU that goes out
-abbrev pub HasMaxCmdSn : ℕ → Header → Type 0
-HasMaxCmdSn n (ScsiCommand p) = ⊥
-HasMaxCmdSn n (ScsiResponse p) = p.numbers.max_cmd_sn ≡ n
-HasMaxCmdSn n (DataIn p) = p.numbers.max_cmd_sn ≡ n
-HasMaxCmdSn n (Reject p) = p.numbers.max_cmd_sn ≡ n
+-- MaxCmdSN of PDUs that go out
+abbrev pub HaveMaxCmdSn : ℕ → List Out → Type 0
+HaveMaxCmdSn n outs = AllByRecursion (λ o. (numbers_of o.header).max_cmd_sn ≡ n) outs
+
+-- the turn is that of this SCSI Command, which was accepted and called
+pub record IsCallTurn (t : Turn) (p : CommandHeader) (call : Asking) : Type 0 where
+  pub bhs : List ℕ
+  pub segment : List ℕ
+  pub came : t.came ≡ pdu bhs (Initiator (ScsiCommand p)) segment
+  pub accepted : t.verdict ≡ Accepted
+  pub called : t.call ≡ Some call

@@ -1,6 +1,7 @@
 -- What one read puts behind the bytes that wait.
 use Rattle.std.specs.Prelude.{◌≡◌, ℕ, ◌≤◌, List, ◌++◌, length, Option}
 use Rattle.std.specs.Io.KnownBytes.{Consumes, IsAtEnd}
+use Rattle.session.specs.declared.inbox.TheConstants.{INBOX_CAPACITY}
 
 -- n bytes more wait, which the source gave; none come only at its end
 pub record Filled (left left' : Option (List ℕ)) (old new : List ℕ) (n : ℕ) : Type 0 where
@@ -14,4 +15,4 @@ pub record Filled (left left' : Option (List ℕ)) (old new : List ℕ) (n : ℕ
 pub record Waits (start filled : ℕ) (memory : List ℕ) : Type 0 where
   pub order : start ≤ filled
   pub within : filled ≤ length memory
-  pub capacity : length memory ≡ 262144
+  pub capacity : length memory ≡ INBOX_CAPACITY

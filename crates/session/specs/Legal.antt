@@ -5,63 +5,89 @@ use Rattle.std.specs.List.{filter_map, AllByRecursion}
 use Rattle.iscsi_pdu.specs.Pdu.{IsPdu}
 use Rattle.iscsi_pdu.specs.Fault.{Stands}
 use Rattle.iscsi_pdu.specs.declared.header.Header.{Header}
-use Rattle.iscsi_pdu.specs.declared.header.Header.TheVariants.{ScsiCommand, ScsiResponse, DataIn, Reject}
+use Rattle.iscsi_pdu.specs.declared.header.TargetHeader.{TargetHeader}
+use Rattle.iscsi_pdu.specs.declared.header.TargetHeader.TheVariants.{ScsiResponse, DataIn, Reject}
 use Rattle.iscsi_pdu.specs.declared.header.Numbers.{Numbers}
 use Rattle.iscsi_pdu.specs.declared.fault.PduFault.{PduFault}
 use Rattle.session.specs.declared.end.End.{End}
 use Rattle.session.specs.declared.end.End.TheVariants.{EndOfInput, InputFailed, OutputFailed, Protocol, Reinstated}
-use Rattle.session.specs.declared.target.Served.{Served}
-use Rattle.session.specs.declared.target.Served.TheVariants.{Replied, Outside, Busy, Gone, Halted}
+use Rattle.session.specs.declared.target.TargetAnswer.{TargetAnswer}
+use Rattle.session.specs.declared.target.TargetAnswer.TheVariants.{Replied, Outside, Busy, Gone, Halted}
 use Rattle.session.specs.declared.verdict.Verdict.{Verdict}
 use Rattle.session.specs.declared.verdict.Verdict.TheVariants.{Accepted, Ignored, Gap, Refused}
+use Rattle.iscsi_pdu.specs.declared.TheConstants.{BHS_LENGTH}
 use Rattle.session.specs.Turn.{Incoming, pdu, faulty, Out, Asking, Turn, sent}
-use Rattle.session.specs.Window.{wrap, last_in_window, expected_of, expected_after, IsJudged}
-use Rattle.session.specs.Task.{task_of, responses, data_ins, IsCalled, IsAnsweredBy, Tiles, sent_data, reply_data, needed, IsResidual, IsTold}
+use Rattle.session.specs.Window.{wrap, numbers_of, last_in_window, exp_cmd_sn_after}
+use Rattle.session.specs.Verdict.{IsJudged}
+use Rattle.session.specs.Transfer.{expected_transfer, sent_data}
+use Rattle.session.specs.Task.{Task, task_of, IsCalled, reply_data, needed}
+use Rattle.session.specs.Response.{responses, IsAnsweredBy, IsResidual, IsTold}
+use Rattle.session.specs.DataIn.{data_ins, Tiles}
 
 -- the fact holds at each place of the transcript
 abbrev pub AtEach : (List Turn → Turn → Type 0) → List Turn → Type 0
 AtEach P ts = (before : List Turn) (t : Turn) (behind : List Turn) → ts ≡ before ++ (t ∷ behind) → P before t
 
 -- the StatSN that a PDU uses up (4.2.2.2): that of a SCSI Response or of a Reject
-abbrev pub status_number : Header → Option ℕ
-status_number (ScsiCommand p) = None
+abbrev pub status_number : TargetHeader → Option ℕ
 status_number (ScsiResponse p) = Some p.numbers.stat_sn
-status_number (DataIn p) = None
 status_number (Reject p) = Some p.numbers.stat_sn
+status_number h = None
 
 abbrev pub status_numbers : List Out → List ℕ
 status_numbers outs = filter_map (λ o. status_number o.header) outs
 
 -- ExpCmdSN and MaxCmdSN of a PDU that goes out
-pub record IsWindow (expected : ℕ) (n : Numbers) : Type 0 where
-  pub exp_cmd_sn : n.exp_cmd_sn ≡ expected
-  pub max_cmd_sn : n.max_cmd_sn ≡ last_in_window expected
+pub record IsWindow (exp_cmd_sn : ℕ) (n : Numbers) : Type 0 where
+  pub expects : n.exp_cmd_sn ≡ exp_cmd_sn
+  pub reaches : n.max_cmd_sn ≡ last_in_window exp_cmd_sn
 
-abbrev pub HasWindow : ℕ → Header → Type 0
-HasWindow expected (ScsiCommand p) = ⊥
-HasWindow expected (ScsiResponse p) = IsWindow expected p.numbers
-HasWindow expected (DataIn p) = IsWindow expected p.numbers
-HasWindow expected (Reject p) = IsWindow expected p.numbers
+abbrev pub HaveWindow : ℕ → List Out → Type 0
+HaveWindow exp_cmd_sn outs = AllByRecursion (λ o. IsWindow exp_cmd_sn (numbers_of o.header)) outs
 
--- a PDU that is rejected has a Reject with its header, and nothing else; one that is not accepted has no answer
-abbrev pub header_of : Incoming → List ℕ
-header_of (pdu b h d) = b
-header_of (faulty f b) = b
+-- what may go out for an accepted command: its Data-In and its SCSI Response, and no other kind
+abbrev pub IsOfCommand : TargetHeader → Type 0
+IsOfCommand (ScsiResponse p) = Unit {0}
+IsOfCommand (DataIn p) = Unit {0}
+IsOfCommand h = ⊥
 
-abbrev pub no_rejects : Header → Type 0
-no_rejects (ScsiCommand p) = Unit {0}
-no_rejects (ScsiResponse p) = Unit {0}
-no_rejects (DataIn p) = Unit {0}
-no_rejects (Reject p) = ⊥
+-- a PDU that is rejected has a Reject with its basic header segment, and nothing else; one that is ignored or out of
+-- order has nothing
+abbrev pub bhs_of : Incoming → List ℕ
+bhs_of (pdu bhs h d) = bhs
+bhs_of (faulty f bhs) = bhs
 
-abbrev pub IsRejected : Incoming → Verdict → List Out → Type 0
-IsRejected came Accepted outs = AllByRecursion (λ o. no_rejects o.header) outs
-IsRejected came Ignored outs = outs ≡ []
-IsRejected came Gap outs = outs ≡ []
-IsRejected came (Refused reason) outs = (n : Numbers) × (outs ≡ record { header = Reject (record { reason = reason; numbers = n }); bytes = header_of came } ∷ [])
+abbrev pub IsRejected : Verdict → Incoming → List Out → Type 0
+IsRejected Accepted came outs = AllByRecursion (λ o. IsOfCommand o.header) outs
+IsRejected Ignored came outs = outs ≡ []
+IsRejected Gap came outs = outs ≡ []
+IsRejected (Refused reason) came outs =
+    (n : Numbers)
+    × (outs ≡ record { header = Reject (record { reason = reason; numbers = n }); bytes = bhs_of came } ∷ [])
+
+-- what is judged of a turn's answer; a turn without a task has none
+abbrev pub IsAnsweredTask : Option Task → List Out → Type 0
+IsAnsweredTask task outs =
+    MatchOption task (responses outs ≡ []) (λ t. IsAnsweredBy t.command t.answer t.own)
+
+abbrev pub IsTiledTask : Option Task → List Out → Type 0
+IsTiledTask task outs =
+    MatchOption task (data_ins outs ≡ [])
+    (λ t. Tiles t.command (data_ins t.own) (sent_data t.command (reply_data t.answer)))
+
+abbrev pub IsCountedTask : Option Task → Type 0
+IsCountedTask task =
+    IfSome task (λ t. AllByRecursion (λ r. r.0.exp_data_sn ≡ length (data_ins t.own)) (responses t.own))
+
+abbrev pub HasResiduals : Option Task → Type 0
+HasResiduals task =
+    IfSome task (λ t. AllByRecursion (λ r. IsResidual (expected_transfer t.command) (needed t) r.0) (responses t.own))
+
+abbrev pub IsToldTask : Option Task → Type 0
+IsToldTask task = IfSome task (λ t. AllByRecursion (λ r. IsTold t.answer r.0 r.1) (responses t.own))
 
 -- the end that a turn calls for: a PDU that is rejected or out of order, or a session that is gone
-abbrev pub end_by : Served → Option End
+abbrev pub end_by : TargetAnswer → Option End
 end_by (Replied a) = None
 end_by (Outside a) = None
 end_by Busy = None
@@ -78,39 +104,39 @@ end_after (Refused reason) call = Some Protocol
 -- The facts of a transcript that begins with this CmdSN and this StatSN.
 pub record Lawful (first_cmd first_stat : ℕ) (ts : List Turn) : Type 0 where
   -- what becomes of each PDU is what the window and the rules say
-  pub judged : AtEach (λ before t. IsJudged (expected_after first_cmd before) t.came t.verdict) ts
+  pub judged : AtEach (λ before t. IsJudged (exp_cmd_sn_after first_cmd before) t.came t.verdict) ts
   -- the k-th PDU that uses up a StatSN has the first one + k
   pub numbered : (k n : ℕ) → slice_get (status_numbers (sent ts)) k ≡ Some n → n ≡ wrap (first_stat + k)
   -- each PDU that goes out has ExpCmdSN and MaxCmdSN as they are at the end of its turn
-  pub windows : AtEach (λ before t. AllByRecursion (λ o. HasWindow (expected_after first_cmd (before ++ t ∷ [])) o.header) t.sent) ts
+  pub windows : AtEach (λ before t. HaveWindow (exp_cmd_sn_after first_cmd (before ++ t ∷ [])) t.sent) ts
   -- each accepted command has its one Call, and nothing else has one
-  pub called : AtEach (λ before t. IsCalled t.came t.verdict t.call) ts
+  pub called : AtEach (λ before t. IsCalled t.verdict t.came t.call) ts
   -- each has its one SCSI Response, behind its data, unless its session is gone; nothing else has one
-  pub answered : AtEach (λ before t. MatchOption (task_of t) (responses t.sent ≡ []) (λ task. IsAnsweredBy task.command task.answer task.own)) ts
+  pub answered : AtEach (λ before t. IsAnsweredTask (task_of t) t.sent) ts
   -- the Data-In of a read carry just the bytes of its Call; nothing else has any
-  pub tiled : AtEach (λ before t. MatchOption (task_of t) (data_ins t.sent ≡ []) (λ task. Tiles task.command (data_ins task.own) (sent_data task.command (reply_data task.answer)))) ts
+  pub tiled : AtEach (λ before t. IsTiledTask (task_of t) t.sent) ts
   -- ExpDataSN is their number
-  pub counted : AtEach (λ before t. IfSome (task_of t) (λ task. AllByRecursion (λ r. r.0.exp_data_sn ≡ length (data_ins task.own)) (responses task.own))) ts
+  pub counted : AtEach (λ before t. IsCountedTask (task_of t)) ts
   -- the residual is what lies between what is expected and what is needed
-  pub residual : AtEach (λ before t. IfSome (task_of t) (λ task. AllByRecursion (λ r. IsResidual (expected_of task.command) (needed task) r.0) (responses task.own))) ts
+  pub residual : AtEach (λ before t. HasResiduals (task_of t)) ts
   -- status and sense are those of the Call's answer
-  pub told : AtEach (λ before t. IfSome (task_of t) (λ task. AllByRecursion (λ r. IsTold task.answer r.0 r.1) (responses task.own))) ts
-  -- what is rejected has a Reject, and nothing else has one
-  pub rejected : AtEach (λ before t. IsRejected t.came t.verdict t.sent) ts
+  pub told : AtEach (λ before t. IsToldTask (task_of t)) ts
+  -- what is rejected has a Reject, and nothing else has one; no turn has a PDU of another kind
+  pub rejected : AtEach (λ before t. IsRejected t.verdict t.came t.sent) ts
 
 -- no turn calls for an end
 abbrev pub GoesOn : List Turn → Type 0
 GoesOn ts = AtEach (λ before t. end_after t.verdict t.call ≡ None) ts
 
--- no PDU and no fault with its whole header stands at the front of these bytes
+-- no PDU and no fault with its whole header segment stands at the front of these bytes
 pub record NoneWhole (rest : List ℕ) : Type 0 where
   pub no_pdu : (n : ℕ) (h : Header) (d : List ℕ) → IsPdu (take n rest) h d → n ≤ length rest → ⊥
-  pub no_fault : (f : PduFault) → Stands rest f → length rest < 48
+  pub no_fault : (f : PduFault) → Stands rest f → length rest < BHS_LENGTH
 
 -- a fault can only be the last that comes: it stands at the front of what was read behind the PDUs
 abbrev pub StandsBehind : Incoming → List ℕ → Type 0
-StandsBehind (pdu b h d) rest = Unit {0}
-StandsBehind (faulty f b) rest = Stands rest f × (48 ≤ length rest) × (b ≡ take 48 rest)
+StandsBehind (pdu bhs h d) rest = Unit {0}
+StandsBehind (faulty f bhs) rest = Stands rest f × (BHS_LENGTH ≤ length rest) × (bhs ≡ take BHS_LENGTH rest)
 
 -- the last turn calls for this end, and none before it does
 pub record EndsWith (ts : List Turn) (rest : List ℕ) (end : Option End) : Type 0 where

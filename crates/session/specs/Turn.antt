@@ -1,28 +1,38 @@
 -- What passes in a session: a list of turns. A turn is a PDU that came, or a fault, with what it called for.
-use Rattle.std.specs.Prelude.{◌≡◌, ℕ, List, [], ◌∷◌, ◌++◌, take, Option}
+use Rattle.std.specs.Prelude.{◌≡◌, ℕ, List, [], ◌∷◌, ◌++◌, take, Option, Some, None}
 use Rattle.std.specs.List.{filter_map, flat_map}
 use Rattle.iscsi_pdu.specs.Pdu.{IsPdu}
 use Rattle.iscsi_pdu.specs.Spelling.{spelling}
 use Rattle.iscsi_pdu.specs.declared.header.Header.{Header}
+use Rattle.iscsi_pdu.specs.declared.header.Header.TheVariants.{Initiator, Target}
+use Rattle.iscsi_pdu.specs.declared.header.InitiatorHeader.TheVariants.{ScsiCommand}
+use Rattle.iscsi_pdu.specs.declared.header.TargetHeader.{TargetHeader}
+use Rattle.iscsi_pdu.specs.declared.header.ScsiCommand.{ScsiCommand as CommandHeader}
 use Rattle.iscsi_pdu.specs.declared.fault.PduFault.{PduFault}
 use Rattle.session.specs.Question.{Question}
-use Rattle.session.specs.declared.target.Served.{Served}
+use Rattle.session.specs.declared.target.TargetAnswer.{TargetAnswer}
 use Rattle.session.specs.declared.verdict.Verdict.{Verdict}
+use Rattle.iscsi_pdu.specs.declared.TheConstants.{BHS_LENGTH}
 
--- a PDU: the 48 bytes of its header, what they say, and its data; or a fault and the 48 bytes
+-- a PDU: the bytes of its basic header segment (BHS), what they say, and its data; or a fault and the BHS
 pub data Incoming : Type 0 where
   pdu : List ℕ → Header → List ℕ → Incoming
   faulty : PduFault → List ℕ → Incoming
 
+-- the SCSI Command that a header is of: the one kind of PDU that is served
+abbrev pub command_of : Header → Option CommandHeader
+command_of (Initiator (ScsiCommand p)) = Some p
+command_of h = None
+
 -- a PDU that went out
 pub record Out : Type 0 where
-  pub header : Header
+  pub header : TargetHeader
   pub bytes : List ℕ
 
 -- what the target was asked, and answered
 pub record Asking : Type 0 where
   pub question : Question
-  pub answer : Served
+  pub answer : TargetAnswer
 
 pub record Turn : Type 0 where
   pub came : Incoming
@@ -39,15 +49,22 @@ sent ts = flat_map (λ t. t.sent) ts
 
 -- the bytes of PDUs that went out
 abbrev pub bytes_of : List Out → List ℕ
-bytes_of outs = flat_map (λ o. spelling o.header o.bytes) outs
+bytes_of outs = flat_map (λ o. spelling (Target o.header) o.bytes) outs
+
+-- the first bytes of these spell a PDU with this BHS, header and data; the rest is behind it
+pub record Begins (bytes bhs : List ℕ) (h : Header) (d rest : List ℕ) : Type 0 where
+  pub front : List ℕ
+  pub cut : bytes ≡ front ++ rest
+  pub is_pdu : IsPdu front h d
+  pub bhs_is : take BHS_LENGTH front ≡ bhs
 
 -- the bytes are spellings of the PDUs that came, one after another; a fault takes none
 abbrev pub Spells : List Incoming → List ℕ → Type 0
 Spells [] bytes = bytes ≡ []
-Spells (pdu header_bytes h d ∷ is) bytes = (front : List ℕ) × (rest : List ℕ) × (bytes ≡ front ++ rest) × IsPdu front h d × (take 48 front ≡ header_bytes) × Spells is rest
-Spells (faulty f header_bytes ∷ is) bytes = Spells is bytes
+Spells (pdu bhs h d ∷ is) bytes = (rest : List ℕ) × Begins bytes bhs h d rest × Spells is rest
+Spells (faulty f bhs ∷ is) bytes = Spells is bytes
 
 -- the calls, in order, lead the target from one state to another
-abbrev pub Leads : {T : Type 0} → (T → Question → Served → T → Type 0) → List Asking → T → T → Type 0
+abbrev pub Leads : {T : Type 0} → (T → Question → TargetAnswer → T → Type 0) → List Asking → T → T → Type 0
 Leads leads [] old new = new ≡ old
 Leads {T} leads (c ∷ cs) old new = (mid : T) × leads old c.question c.answer mid × Leads leads cs mid new

@@ -7,7 +7,7 @@ use scsi_types::{Asked, Sense};
 pub struct Actions<'a> {
     /// PDUs to write first.
     pub pdus: Pdus<'a>,
-    /// A command for the target, whose answer goes to [`Session::on_reply`](crate::Session::on_reply).
+    /// A command for the target, whose answer goes to [`Session::on_answer`](crate::Session::on_answer).
     pub call: Option<Call<'a>>,
     /// Nothing is read any more once these PDUs are written.
     pub end: Option<End>,
@@ -18,10 +18,10 @@ pub struct Actions<'a> {
 pub enum Pdus<'a> {
     /// None.
     Nothing,
-    /// A Reject, whose data is the 48 bytes of the header of what is rejected (RFC 7143, 11.17).
+    /// A Reject, whose data is the basic header segment of what is rejected (RFC 7143, 11.17).
     Reject(Reject),
-    /// The data of a reply, where it has any, and its SCSI Response with its sense (RFC 7143, 11.4 and 11.7).
-    Reply {
+    /// The data of an answer, where it has any, and its SCSI Response with its sense (RFC 7143, 11.4 and 11.7).
+    Answer {
         data_in: Option<DataInPdu<'a>>,
         response: ScsiResponse,
         sense: Option<Sense>,
@@ -39,7 +39,7 @@ pub struct DataInPdu<'a> {
 #[derive(Clone, Copy, Debug)]
 pub struct Call<'a> {
     /// What the answer is given back with.
-    pub task: Task,
+    pub task: OpenTask,
     /// The unit that the LUN names, if it names one (SAM-5, 4.7).
     pub unit: Option<u8>,
     /// What the CDB asks for.
@@ -50,7 +50,7 @@ pub struct Call<'a> {
 
 /// An accepted command, until it is answered.
 #[derive(Clone, Copy, Debug)]
-pub struct Task {
+pub struct OpenTask {
     /// Its header.
     pub command: ScsiCommand,
     /// How many bytes of data it needs from its initiator.

@@ -4,15 +4,12 @@ ghost use Rattle.session.specs.Source.{Counted};
 ghost use Rattle.session.specs.Inbox.{Filled, Waits};
 
 use crate::source::{Failed, Source};
+use iscsi_pdu::LONGEST_PDU;
 use std::alloc::{AllocError, Global};
 use std::marker::Model;
 
-// The bytes of the memory.
-const CAPACITY: usize = 262144;
-
-// The bytes of the longest PDU: a basic header segment of 48 (RFC 7143, section 11.2.1) and a data segment of
-// 65536, the length that we declare in MaxRecvDataSegmentLength (section 13.12).
-const LONGEST_PDU: usize = 65584;
+/// The bytes of the memory: room for four PDUs of the longest, so that reads take much at once.
+pub const INBOX_CAPACITY: usize = 262144;
 
 /// Bytes that came and are not yet taken, in memory that was taken once.
 #[derive(Drop)]
@@ -36,7 +33,7 @@ impl Inbox {
         ensures { IfOk result (λ b. b ≡ []) }
     {
         Ok(Inbox {
-            bytes: vec![in alloc; 0; CAPACITY]?,
+            bytes: vec![in alloc; 0; INBOX_CAPACITY]?,
             start: 0,
             filled: 0,
         })
@@ -61,11 +58,11 @@ impl Inbox {
     ///
     /// There is always room for a whole PDU, so that waiting bytes move to the front but rarely.
     pub fn fill<S: Source>(&mut self, source: &mut S) -> Result<usize, Failed>
-        requires { length self.old < 65584 }
+        requires { length self.old < LONGEST_PDU }
         ensures ok { IfOk result (λ n. Filled (S.left source.old) (S.left source.new) self.old self.new n) }
         ensures err { OnErr result ((self.new ≡ self.old) × Keeps (S.left source.old) (S.left source.new)) }
         ensures failures { Counted (S.failures source.old) (S.failures source.new) result }
-        ensures bound { length self.new ≤ 262144 }
+        ensures bound { length self.new ≤ INBOX_CAPACITY }
     {
         let waiting = self.filled - self.start;
         self.start = make_room(self.bytes.as_mut_slice(), self.start, self.filled);
@@ -80,7 +77,8 @@ impl Inbox {
 fn make_room(bytes: &mut [u8], start: usize, filled: usize) -> usize
     requires { (start ≤ filled) × (filled ≤ length bytes.old) }
     ensures moved { drop result (take (result + (filled - start)) bytes.new) ≡ drop start (take filled bytes.old) }
-    ensures room { filled - start + 65584 ≤ length bytes.old → result + (filled - start) + 65584 ≤ length bytes.old }
+    ensures room { filled - start + LONGEST_PDU ≤ length bytes.old
+        → result + (filled - start) + LONGEST_PDU ≤ length bytes.old }
 {
     if start == filled {
         return 0;
@@ -101,8 +99,10 @@ fn read_behind<S: Source>(
 ) -> Result<usize, Failed>
     requires { (start ≤ filled) × (filled < length bytes.old) }
     ensures fits { IfOk result (λ n. filled + n ≤ length bytes.old) }
-    ensures ok { IfOk result (λ n. Filled (S.left source.old) (S.left source.new) (drop start (take filled bytes.old)) (drop start (take (filled + n) bytes.new)) n) }
-    ensures err { OnErr result ((drop start (take filled bytes.new) ≡ drop start (take filled bytes.old)) × Keeps (S.left source.old) (S.left source.new)) }
+    ensures ok { IfOk result (λ n. Filled (S.left source.old) (S.left source.new)
+        (drop start (take filled bytes.old)) (drop start (take (filled + n) bytes.new)) n) }
+    ensures err { OnErr result ((drop start (take filled bytes.new) ≡ drop start (take filled bytes.old))
+        × Keeps (S.left source.old) (S.left source.new)) }
     ensures failures { Counted (S.failures source.old) (S.failures source.new) result }
 {
     source.read_some(&mut bytes[filled..])

@@ -6,26 +6,31 @@
 //! bytes: what a PDU, a fault or an answer calls for. [`Watched`] makes a source or a sink of a reader or writer.
 //!
 //! The theorem stands on [`serve_stream`]: the bytes that are written spell a legal transcript of the bytes that
-//! were read, however they were cut. Of specs/, `Turn` says what a transcript is, `Window` which PDUs are accepted,
-//! `Task` how a command is called and answered, `Legal` which transcripts are legal and why one ends, and
-//! `Transcript` how it lies over the bytes. `Machine` says what `Session` does at a step, `Source` and `Inbox` how
-//! bytes come. What follows for an initiator is stated by the functions without a body, in `laws`.
+//! were read, however they were cut. Of specs/, `Turn` says what a transcript is, `Window` how numbers count, `Verdict`
+//! which PDUs are accepted, `Task` how a command is called, `Response` and `DataIn` how it is answered, `Legal` which
+//! transcripts are legal and why one ends, and `Transcript` how it lies over the bytes. `Machine` says what `Session`
+//! does at a step, `Source` and `Inbox` how bytes come. What follows for an initiator is stated by the functions
+//! without a body, in `laws`.
 #![tactic(auto)]
 
 mod actions;
+mod data_in;
 mod end;
 mod inbox;
 mod laws;
 mod outbox;
+mod response;
 mod session;
 mod source;
 mod stream;
 mod target;
+mod transfer;
 mod verdict;
 mod waiting;
 mod watched;
+mod window;
 
-pub use actions::{Actions, Call, DataInPdu, Pdus, Task};
+pub use actions::{Actions, Call, DataInPdu, OpenTask, Pdus};
 pub use end::End;
 pub use laws::{
     a_read_gets_the_data_of_its_answer, no_command_is_answered_twice,
@@ -34,9 +39,6 @@ pub use laws::{
 pub use session::{Session, Start};
 pub use source::{Failed, Sink, Source};
 pub use stream::serve_stream;
-pub use target::{Served, Target};
+pub use target::{Target, TargetAnswer};
 pub use verdict::Verdict;
 pub use watched::Watched;
-
-#[cfg(test)]
-mod tests;

@@ -1,21 +1,31 @@
 ghost use Rattle.std.specs.Prelude.{◌≡◌, ◌+◌, ◌++◌, ◌≤◌, [], length, vec_capacity, IfOk, IfSome, Some};
-ghost use Rattle.session.specs.Machine.{IsWithin, sent_by, data_in_of};
-ghost use Rattle.session.specs.Task.{sense_part};
+ghost use Rattle.session.specs.AnswerPdus.{IsWithin, data_in_of};
+ghost use Rattle.session.specs.Response.{sense_part};
+ghost use Rattle.session.specs.Machine.{sent_by};
 ghost use Rattle.session.specs.Turn.{bytes_of};
-ghost use Rattle.session.specs.Window.{most_read};
-ghost use Rattle.iscsi_pdu.specs.Pdu.{IsTarget};
 ghost use Rattle.iscsi_pdu.specs.Spelling.{padded, spelling};
 
 use crate::actions::{DataInPdu, Pdus};
-use iscsi_pdu::{Header, Pdu, ScsiResponse, encode};
+use crate::data_in::MAX_DATA_IN_LENGTH;
+use crate::verdict::MAX_READ_LENGTH;
+use iscsi_pdu::{BHS_LENGTH, Header, Pdu, ScsiResponse, TargetHeader, encode};
 use scsi_types::Sense;
 use std::alloc::{AllocError, Global};
 use std::marker::Model;
 
-/// The most bytes of one turn: a Data-In of 8192 bytes, and a SCSI Response with sense.
-const CAPACITY: usize = 48 + 8192 + 48 + 20;
+/// The bytes of sense in the fixed format (SPC-4, 4.5.3).
+pub const SENSE_LENGTH: u8 = 18;
 
-/// The bytes of the PDUs of a turn, in memory that was taken once, for one write.
+/// The data segment of a SCSI Response with sense: SenseLength, and the sense (RFC 7143, 11.4.7).
+pub const SENSE_SEGMENT_LENGTH: usize = 20;
+
+/// The most bytes of one turn: a full Data-In, and a SCSI Response with sense.
+pub const OUTBOX_CAPACITY: usize = BHS_LENGTH
+    + MAX_DATA_IN_LENGTH as usize
+    + BHS_LENGTH
+    + SENSE_SEGMENT_LENGTH;
+
+/// The bytes of a turn's PDUs until they are written, in memory that was taken once.
 #[derive(Drop)]
 pub struct Outbox {
     bytes: Vec<u8>,
@@ -23,12 +33,13 @@ pub struct Outbox {
 
 impl Model for Outbox {
     ghost use Rattle.std.specs.Prelude.{ℕ, List, ◌≤◌, vec_capacity};
+    ghost use Rattle.session.specs.declared.outbox.TheConstants.{OUTBOX_CAPACITY};
 
     ghost Value = { List ℕ };
 
     ghost view = { λ s. s.bytes.items };
 
-    ghost invariant = { λ s. 8308 ≤ vec_capacity s.bytes };
+    ghost invariant = { λ s. OUTBOX_CAPACITY ≤ vec_capacity s.bytes };
 }
 
 impl Outbox {
@@ -37,28 +48,35 @@ impl Outbox {
         ensures { IfOk result (λ b. b ≡ []) }
     {
         Ok(Outbox {
-            bytes: Vec::with_capacity(alloc, CAPACITY)?,
+            bytes: Vec::with_capacity(alloc, OUTBOX_CAPACITY)?,
         })
     }
 
-    /// The bytes of the turn's PDUs, in order.
+    /// The bytes to write, in order.
     pub fn bytes(&self) -> &[u8]
         ensures { result.now ≡ self.now }
     {
         &self.bytes
     }
 
-    /// Puts these PDUs in place of what is there; a Reject has the header's bytes as its data.
-    pub fn fill(&mut self, header: &[u8], pdus: &Pdus<'_>)
-        requires header { length header.now ≡ 48 }
-        requires within { IsWithin most_read pdus.now }
-        ensures { self.new ≡ bytes_of (sent_by header.now pdus.now) }
+    /// Nothing is left to write.
+    pub fn clear(&mut self)
+        ensures { self.new ≡ [] }
     {
         self.bytes.clear();
+    }
+
+    /// Takes the PDUs of a turn in, where none is left to write; a Reject has the header segment's bytes as its data.
+    pub fn fill(&mut self, bhs: &[u8], pdus: &Pdus<'_>)
+        requires empty { self.old ≡ [] }
+        requires bhs { length bhs.now ≡ BHS_LENGTH }
+        requires within { IsWithin MAX_READ_LENGTH pdus.now }
+        ensures { self.new ≡ bytes_of (sent_by bhs.now pdus.now) }
+    {
         match pdus {
             Pdus::Nothing => {}
-            Pdus::Reject(reject) => put(&mut self.bytes, Header::Reject(*reject), header),
-            Pdus::Reply {
+            Pdus::Reject(reject) => put(&mut self.bytes, TargetHeader::Reject(*reject), bhs),
+            Pdus::Answer {
                 data_in,
                 response,
                 sense,
@@ -71,16 +89,16 @@ impl Outbox {
 }
 
 // Appends a PDU, for which there is room.
-fn put(bytes: &mut Vec<u8>, header: Header, segment: &[u8])
-    requires target { IsTarget header }
-    requires short { length segment.now ≤ 8192 }
-    requires room { length bytes.old.items + 48 + padded (length segment.now) ≤ vec_capacity bytes.old }
-    ensures put { bytes.new.items ≡ bytes.old.items ++ spelling header segment.now }
-    ensures long { length bytes.new.items ≡ length bytes.old.items + 48 + padded (length segment.now) }
+fn put(bytes: &mut Vec<u8>, header: TargetHeader, segment: &[u8])
+    requires short { length segment.now ≤ MAX_DATA_IN_LENGTH }
+    requires room { length bytes.old.items + BHS_LENGTH + padded (length segment.now) ≤ vec_capacity bytes.old }
+    ensures put { bytes.new.items ≡ bytes.old.items
+        ++ spelling (Header.Target header) segment.now }
+    ensures long { length bytes.new.items ≡ length bytes.old.items + BHS_LENGTH + padded (length segment.now) }
     ensures kept { vec_capacity bytes.old ≤ vec_capacity bytes.new }
 {
     let pdu = Pdu {
-        header,
+        header: Header::Target(header),
         data: segment,
     };
     match encode(&pdu, bytes) {
@@ -92,24 +110,25 @@ fn put(bytes: &mut Vec<u8>, header: Header, segment: &[u8])
 // Appends a Data-In, if any.
 fn put_data_in(bytes: &mut Vec<u8>, data_in: &Option<DataInPdu<'_>>)
     requires empty { bytes.old.items ≡ [] }
-    requires within { IfSome data_in.now (λ x. length x.bytes.now ≤ 8192) }
-    requires room { 8308 ≤ vec_capacity bytes.old }
+    requires within { IfSome data_in.now (λ x. length x.bytes.now ≤ MAX_DATA_IN_LENGTH) }
+    requires room { OUTBOX_CAPACITY ≤ vec_capacity bytes.old }
     ensures put { bytes.new.items ≡ bytes_of (data_in_of data_in.now) }
-    ensures long { length bytes.new.items ≤ 8240 }
+    ensures long { length bytes.new.items ≤ BHS_LENGTH + MAX_DATA_IN_LENGTH }
     ensures kept { vec_capacity bytes.old ≤ vec_capacity bytes.new }
 {
     if let Some(x) = data_in {
-        put(bytes, Header::DataIn(x.header), x.bytes);
+        put(bytes, TargetHeader::DataIn(x.header), x.bytes);
     }
 }
 
 // Appends a SCSI Response with its sense, if any.
 fn put_response(bytes: &mut Vec<u8>, response: ScsiResponse, sense: &Option<Sense>)
-    requires room { length bytes.old.items + 68 ≤ vec_capacity bytes.old }
-    ensures put { bytes.new.items ≡ bytes.old.items ++ spelling (Header.ScsiResponse response) (sense_part sense.now) }
+    requires room { length bytes.old.items + BHS_LENGTH + SENSE_SEGMENT_LENGTH ≤ vec_capacity bytes.old }
+    ensures put { bytes.new.items ≡ bytes.old.items
+        ++ spelling (Header.Target (TargetHeader.ScsiResponse response)) (sense_part sense.now) }
     ensures kept { vec_capacity bytes.old ≤ vec_capacity bytes.new }
 {
-    let header = Header::ScsiResponse(response);
+    let header = TargetHeader::ScsiResponse(response);
     match sense {
         None => put(bytes, header, &[]),
         Some(sense) => put(bytes, header, &sense_segment(sense)),
@@ -117,11 +136,11 @@ fn put_response(bytes: &mut Vec<u8>, response: ScsiResponse, sense: &Option<Sens
 }
 
 // The data of a SCSI Response with sense: the length of the sense, and the sense.
-fn sense_segment(sense: &Sense) -> [u8; 20]
+fn sense_segment(sense: &Sense) -> [u8; SENSE_SEGMENT_LENGTH]
     ensures { result ≡ sense_part (Some sense.now) }
 {
-    let mut segment = [0; 20];
-    segment[1] = 18;
+    let mut segment = [0; SENSE_SEGMENT_LENGTH];
+    segment[1] = SENSE_LENGTH;
     segment[2..].copy_from_slice(&sense.to_bytes());
     segment
 }

@@ -1,61 +1,62 @@
-ghost use Rattle.std.specs.Prelude.{◌≡◌, length, Some, Ok, IfOk, OnErr};
-ghost use Rattle.session.specs.Turn.{pdu as came, faulty, bytes_of};
-ghost use Rattle.session.specs.Machine.{IsWithin, sent_by};
+ghost use Rattle.std.specs.Prelude.{◌≡◌, ◌<◌, ◌≤◌, [], length, Some, IfOk, OnErr};
+ghost use Rattle.std.specs.Io.KnownBytes.{Keeps};
 ghost use Rattle.session.specs.declared.end.End.TheVariants.{InputFailed, OutputFailed};
-ghost use Rattle.session.specs.Stream.{IsSentOut, IsTurned};
+ghost use Rattle.session.specs.Source.{Counted};
+ghost use Rattle.session.specs.Inbox.{Filled};
+ghost use Rattle.session.specs.Turn.{pdu as came, faulty};
+ghost use Rattle.session.specs.Stream.{IsSentOut, MakesTurn, StreamTurn};
 ghost use Rattle.session.specs.Transcript.{IsTranscribed, IsFailureOf};
-ghost use Rattle.session.specs.Window.{most_read};
 
-use crate::actions::Actions;
 use crate::end::End;
-use crate::inbox::Inbox;
+use crate::inbox::{INBOX_CAPACITY, Inbox};
 use crate::outbox::Outbox;
 use crate::session::{Session, Start};
-use crate::source::{Sink, Source};
+use crate::source::{Failed, Sink, Source};
 use crate::target::Target;
 use crate::waiting::{Front, front_of};
-use iscsi_pdu::{Pdu, PduFault};
+use iscsi_pdu::{BHS_LENGTH, LONGEST_PDU, Pdu, PduFault};
 use scsi_types::NoMemory;
 use std::alloc::Global;
 
-// Writes the PDUs that actions say to write, in one write: the end that they call for, or that the sink failed.
-fn send<K: Sink>(
-    sink: &mut K,
-    outbox: &mut Outbox,
-    header: &[u8],
-    actions: &Actions<'_>,
-) -> Option<End>
-    requires header { length header.now ≡ 48 }
-    requires within { IsWithin most_read actions.now.pdus }
-    ensures { IsSentOut (K.held sink.old) (K.held sink.new) (K.failures sink.old) (K.failures sink.new) (bytes_of (sent_by header.now actions.now.pdus)) actions.now.end result }
-{
-    outbox.fill(header, &actions.pdus);
-    match sink.write_whole(outbox.bytes()) {
-        Ok(()) => actions.end,
-        Err(_) => Some(End::OutputFailed),
-    }
-}
-
-// One turn: what a PDU calls for, with the target's answer.
-fn turn<K: Sink, T: Target>(
+// One turn: what a PDU calls for, with the target's answer, put into the outbox; the end that it calls for.
+fn turn<T: Target>(
     session: &mut Session,
     target: &mut T,
-    sink: &mut K,
     outbox: &mut Outbox,
-    header: &[u8],
+    bhs: &[u8],
     pdu: Pdu<'_>,
 ) -> Option<End>
-    requires header { length header.now ≡ 48 }
-    ensures { IsTurned T.leads session.old session.new target.old target.new (K.held sink.old) (K.held sink.new) (K.failures sink.old) (K.failures sink.new) (came header.now pdu.entry.header pdu.entry.data.now) result }
+    requires bhs { length bhs.now ≡ BHS_LENGTH }
+    requires empty { outbox.old ≡ [] }
+    ensures { MakesTurn T.leads session.old session.new target.old target.new
+        (came bhs.now pdu.entry.header pdu.entry.data.now) outbox.new result }
 {
     let actions = session.on_pdu(pdu);
     match actions.call {
-        None => send(sink, outbox, header, &actions),
-        Some(call) => {
-            let served = target.serve(call.unit, call.asked, call.bytes);
-            let replied = session.on_reply(call.task, &served);
-            send(sink, outbox, header, &replied)
+        None => {
+            outbox.fill(bhs, &actions.pdus);
+            actions.end
         }
+        Some(call) => {
+            let answer = target.serve(call.unit, call.asked, call.bytes);
+            let answered = session.on_answer(call.task, &answer);
+            outbox.fill(bhs, &answered.pdus);
+            answered.end
+        }
+    }
+}
+
+// Writes what stands in the outbox, in one write: the end that was called for, or that the sink failed.
+fn flush<K: Sink>(sink: &mut K, outbox: &mut Outbox, wanted: Option<End>) -> Option<End>
+    ensures written { IsSentOut (K.held sink.old) (K.held sink.new) (K.failures sink.old) (K.failures sink.new)
+        outbox.old wanted result }
+    ensures all_written { outbox.new ≡ [] }
+{
+    let written = sink.write_whole(outbox.bytes());
+    outbox.clear();
+    match written {
+        Ok(()) => wanted,
+        Err(_) => Some(End::OutputFailed),
     }
 }
 
@@ -65,17 +66,32 @@ fn fault_turn<K: Sink, T: Target>(
     target: &T,
     sink: &mut K,
     outbox: &mut Outbox,
-    header: &[u8],
+    bhs: &[u8],
     fault: PduFault,
 ) -> End
-    requires header { length header.now ≡ 48 }
-    ensures { IsTurned T.leads session.old session.new target.now target.now (K.held sink.old) (K.held sink.new) (K.failures sink.old) (K.failures sink.new) (faulty fault header.now) (Some result) }
+    requires bhs { length bhs.now ≡ BHS_LENGTH }
+    requires empty { outbox.old ≡ [] }
+    ensures { StreamTurn T.leads session.old session.new target.now target.now (K.held sink.old) (K.held sink.new)
+        (K.failures sink.old) (K.failures sink.new) (faulty fault bhs.now) (Some result) }
 {
     let actions = session.on_fault(fault);
-    match send(sink, outbox, header, &actions) {
+    outbox.fill(bhs, &actions.pdus);
+    match flush(sink, outbox, actions.end) {
         Some(end) => end,
         None => End::Protocol,
     }
+}
+
+// One read: how many bytes came. No answer waits meanwhile, for its initiator may send no more before it has it.
+fn read_more<S: Source>(inbox: &mut Inbox, outbox: &Outbox, source: &mut S) -> Result<usize, Failed>
+    requires all_written { outbox.now ≡ [] }
+    requires partial { length inbox.old < LONGEST_PDU }
+    ensures ok { IfOk result (λ n. Filled (S.left source.old) (S.left source.new) inbox.old inbox.new n) }
+    ensures err { OnErr result ((inbox.new ≡ inbox.old) × Keeps (S.left source.old) (S.left source.new)) }
+    ensures failures { Counted (S.failures source.old) (S.failures source.new) result }
+    ensures bound { length inbox.new ≤ INBOX_CAPACITY }
+{
+    inbox.fill(source)
 }
 
 /// Serves a session in full feature phase over a stream until its end: what is written spells a legal transcript
@@ -88,7 +104,8 @@ pub fn serve_stream<S: Source, K: Sink, T: Target>(
     target: &mut T,
     start: Start,
 ) -> Result<End, NoMemory>
-    ensures transcribed { IfOk result (IsTranscribed T.leads start.exp_cmd_sn start.stat_sn (S.left source.old) (S.left source.new) (K.held sink.old) (K.held sink.new) target.old target.new) }
+    ensures transcribed { IfOk result (IsTranscribed T.leads start.exp_cmd_sn start.stat_sn
+        (S.left source.old) (S.left source.new) (K.held sink.old) (K.held sink.new) target.old target.new) }
     ensures input_failed { IfOk result (IsFailureOf InputFailed (S.failures source.old) (S.failures source.new)) }
     ensures output_failed { IfOk result (IsFailureOf OutputFailed (K.failures sink.old) (K.failures sink.new)) }
     ensures no_memory { OnErr result ((target.new ≡ target.old) × (source.new ≡ source.old) × (sink.new ≡ sink.old)) }
@@ -99,17 +116,18 @@ pub fn serve_stream<S: Source, K: Sink, T: Target>(
     let mut reads: u64 = 0;
     while reads < u64::MAX {
         match front_of(inbox.bytes()) {
-            Front::Whole { header, pdu, taken } => {
-                match turn(&mut session, target, sink, &mut outbox, header, pdu) {
+            Front::Whole { bhs, pdu, taken } => {
+                let wanted = turn(&mut session, target, &mut outbox, bhs, pdu);
+                match flush(sink, &mut outbox, wanted) {
                     Some(end) => return Ok(end),
                     None => inbox.consume(taken),
                 }
             }
-            Front::Faulty { header, fault } => {
-                let end = fault_turn(&mut session, target, sink, &mut outbox, header, fault);
+            Front::Faulty { bhs, fault } => {
+                let end = fault_turn(&mut session, target, sink, &mut outbox, bhs, fault);
                 return Ok(end);
             }
-            Front::Partial => match inbox.fill(source) {
+            Front::Partial => match read_more(&mut inbox, &outbox, source) {
                 Ok(0) => return Ok(End::EndOfInput),
                 Ok(_) => reads += 1,
                 Err(_) => return Ok(End::InputFailed),

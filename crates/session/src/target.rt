@@ -1,11 +1,11 @@
 ghost use Rattle.session.specs.Question.{Question, serve};
-ghost use Rattle.session.specs.declared.target.Served.{Served};
+ghost use Rattle.session.specs.declared.target.TargetAnswer.{TargetAnswer};
 
 use scsi_types::{Asked, Reply};
 
 /// What a target answers to a command.
 #[derive(Debug, Drop)]
-pub enum Served {
+pub enum TargetAnswer {
     /// The unit's reply.
     Replied(Reply),
     /// The reply for a unit that is not there.
@@ -21,10 +21,10 @@ pub enum Served {
 /// What a session's commands are served by.
 pub trait Target {
     /// From the first state this question may get this answer and lead to the second.
-    ghost leads: { Self → Question → Served → Self → Type 0 };
+    ghost leads: { Self → Question → TargetAnswer → Self → Type 0 };
 
     /// Serves a command of the unit that its LUN names, with the bytes that came for it: of a write as many as it
     /// needs and the initiator expects to send, else none. `unit` is none where the LUN names no unit.
-    fn serve(&mut self, unit: Option<u8>, asked: Asked, bytes: &[u8]) -> Served
+    fn serve(&mut self, unit: Option<u8>, asked: Asked, bytes: &[u8]) -> TargetAnswer
         ensures { leads self.old (serve unit asked bytes.now) result self.new };
 }

@@ -24,66 +24,11 @@ use Rattle.unit_state.specs.State.{ControlValue}
 use Rattle.unit_state.specs.Choice.{Choice}
 use Rattle.unit_state.specs.Sessions.{session_of, sender_of, nexus_in, next_of, pending_in, pending_of, pass_one, passed, tell_one, told, ended, heard_reset, all_reset}
 use Rattle.unit_state.specs.Refusal.{Request, refusal}
-use Rattle.unit_state.specs.Entry.{IsNext, control_with, left_asked}
+use Rattle.unit_state.specs.Entry.{IsNext, control_with}
+use Rattle.unit_state.specs.CommandLaws.{next_passed, next_kept}
 use Rattle.unit_state.proofs.Places.{session_changed, session_mapped, has_id}
 
 -- ---- serials
-
-next_in : (old new : Option Attached) (serial : ℕ) → option_map (λ (a : Attached). a.next) old ≡ Some serial → new ≡ option_map pass_one old → option_map (λ (a : Attached). a.next) new ≡ Some (serial + 1)
-next_in None new serial h is = absurd (let e : None ≡ Some serial = h in cc)
-next_in (Some a) new serial h is =
-    let here : Some a.next ≡ Some serial = h in
-    let e : a.next ≡ serial = cc in
-    rw is (ap (λ (m : ℕ). let o : Option ℕ = Some (m + 1) in o) e)
-
--- one command more is one serial more
-next_passed : (sessions : List Attached) (id serial : ℕ) → next_of sessions id ≡ Some serial → next_of (passed sessions id) id ≡ Some (serial + 1)
-next_passed sessions id serial h = next_in (session_of sessions id) (session_of (passed sessions id) id) serial h (session_changed pass_one (λ a. refl) sessions id)
-
-told_in : (old new : Option Attached) → new ≡ option_map tell_one old → option_map (λ (a : Attached). a.next) new ≡ option_map (λ (a : Attached). a.next) old
-told_in None new is = rw is refl
-told_in (Some a) new is = rw is refl
-
-heard_in : (told : List Told) (old new : Option Attached) → new ≡ option_map (hear told) old → option_map (λ (a : Attached). a.next) new ≡ option_map (λ (a : Attached). a.next) old
-heard_in told None new is = rw is refl
-heard_in told (Some a) new is = rw is refl
-
-next_told : (sessions : List Attached) (id : ℕ) → next_of (told sessions id) id ≡ next_of sessions id
-next_told sessions id = told_in (session_of sessions id) (session_of (told sessions id) id) (session_changed tell_one (λ a. refl) sessions id)
-
-next_heard : (told : List Told) (sessions : List Attached) (id : ℕ) → next_of (all_heard told sessions) id ≡ next_of sessions id
-next_heard told sessions id = heard_in told (session_of sessions id) (session_of (all_heard told sessions) id) (session_mapped (hear told) (λ a. refl) sessions id)
-
-next_after : (c : ControlValue) (session : ℕ) (e : Effect) → next_of (after_effect c e).sessions session ≡ next_of c.sessions session
-next_after c session (Done new told) = next_heard told c.sessions session
-next_after c session Conflicting = refl
-next_after c session (Refused asc ascq) = refl
-next_after c session Full = refl
-
-next_left : (c : ControlValue) (session : ℕ) (asked : Result ScsiCommand CdbFault) (bytes : List ℕ) → next_of (left_asked c session asked bytes).sessions session ≡ next_of c.sessions session
-next_left c session (Err fault) bytes = refl
-next_left c session (Ok (commands.RequestSense allocation)) bytes = next_told c.sessions session
-next_left c session (Ok (commands.PersistentReserveOut action scope kind list_length)) bytes = next_after c session (effect_by c session (pr_out action scope kind bytes))
-next_left c session (Ok commands.TestUnitReady) bytes = refl
-next_left c session (Ok (commands.Inquiry page allocation)) bytes = refl
-next_left c session (Ok (commands.ModeSense header control page allocation)) bytes = refl
-next_left c session (Ok commands.ReadCapacity10) bytes = refl
-next_left c session (Ok (commands.ReadCapacity16 allocation)) bytes = refl
-next_left c session (Ok (commands.Read lba blocks fua)) bytes = refl
-next_left c session (Ok (commands.Write lba blocks fua)) bytes = refl
-next_left c session (Ok (commands.CompareAndWrite lba blocks fua)) bytes = refl
-next_left c session (Ok (commands.SynchronizeCache lba blocks)) bytes = refl
-next_left c session (Ok (commands.PersistentReserveIn action allocation)) bytes = refl
-next_left c session (Ok (commands.ReportLuns select allocation)) bytes = refl
-next_left c session (Ok (commands.ReportTargetPortGroups allocation)) bytes = refl
-next_left c session (Ok (commands.SetTargetPortGroups list_length)) bytes = refl
-
--- what a command leaves before it is counted has its serial still
-next_kept : (refused : Option Refusal) (c : ControlValue) (r : Request) (choice : Choice) → next_of (control_with refused c r choice).sessions r.session ≡ next_of c.sessions r.session
-next_kept (Some (Attention a)) c r choice = next_told c.sessions r.session
-next_kept (Some Conflict) c r choice = refl
-next_kept (Some (Check s)) c r choice = refl
-next_kept None c r choice = next_left c r.session r.asked r.bytes
 
 -- a serial that was taken is not taken again
 pub taken_once : (c : ControlValue) (r : Request) (choice : Choice) (serial : ℕ) → IsNext c r.session serial → next_of (passed (control_with (refusal c r) c r choice).sessions r.session) r.session ≡ Some serial → ⊥

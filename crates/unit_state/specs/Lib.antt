@@ -1,6 +1,8 @@
 pub mod Answer
 pub mod Choice
+pub mod CommandLaws
 pub mod Entry
+pub mod EntryLaws
 pub mod History
 pub mod HistoryLaws
 pub mod Medium

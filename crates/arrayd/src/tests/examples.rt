@@ -1,85 +1,141 @@
-use super::fakes::{FEW_BLOCKS, WHOLE, expect, keeps, serve};
-use super::pdus::{GOOD, TEST_UNIT_READY, joined};
-use block_file::MemBlocks;
+//! The worked examples of a session, with its input whole, in pieces, and ended anywhere.
+use super::run::{Row, SOUND, run, serve};
 use session::End;
-use std::alloc::Global;
 use std::test::*;
+use test_streams::{
+    CHECK_CONDITION, DATA_IN, GOOD, OVERFLOW, PduRow, READS, Segment, TEST_UNIT_READY, UNDERFLOW,
+    WHOLE, WRITES, spelled,
+};
 
-// WRITE(10) of block 5, with the tag 2, CmdSN 2 and 512 bytes of immediate data (SBC-3, WRITE (10) command).
-const WRITE_BLOCK_5: [u8; 48] = [
-    0x01, 0xA1, 0x00, 0x00, 0x00, 0x00, 0x02, 0x00, //
-    0x00, 0x00, 0x00, 0x00, 0x00, 0x00, 0x00, 0x00, //
-    0x00, 0x00, 0x00, 0x02, 0x00, 0x00, 0x02, 0x00, //
-    0x00, 0x00, 0x00, 0x02, 0x00, 0x00, 0x00, 0x02, //
-    0x2A, 0x00, 0x00, 0x00, 0x00, 0x05, 0x00, 0x00, //
-    0x01, 0x00, 0x00, 0x00, 0x00, 0x00, 0x00, 0x00,
+const BLOCK: Segment<'static> = Segment::Runs(&[(512, 0x5A)]);
+
+// TEST UNIT READY; WRITE (10) of block 5 with 512 bytes 5Ah; READ (10) of it.
+const THREE_COMMANDS: Row = Row {
+    name: "three commands",
+    fuse: SOUND,
+    input: &[
+        PduRow(&TEST_UNIT_READY, &[], Segment::None),
+        PduRow(
+            &TEST_UNIT_READY,
+            &[
+                (1, &[WRITES]),
+                (5, &[0, 2, 0]),
+                (16, &[0, 0, 0, 2, 0, 0, 2, 0, 0, 0, 0, 2, 0, 0, 0, 2]),
+                (32, &[0x2A, 0, 0, 0, 0, 5, 0, 0, 1]),
+            ],
+            BLOCK,
+        ),
+        PduRow(
+            &TEST_UNIT_READY,
+            &[
+                (1, &[READS]),
+                (16, &[0, 0, 0, 3, 0, 0, 2, 0, 0, 0, 0, 3, 0, 0, 0, 3]),
+                (32, &[0x28, 0, 0, 0, 0, 5, 0, 0, 1]),
+            ],
+            Segment::None,
+        ),
+    ],
+    output: &[
+        PduRow(&GOOD, &[], Segment::None),
+        PduRow(
+            &GOOD,
+            &[
+                (16, &[0, 0, 0, 2]),
+                (24, &[0, 0, 0, 2, 0, 0, 0, 3, 0, 0, 0, 0x22]),
+            ],
+            Segment::None,
+        ),
+        PduRow(
+            &DATA_IN,
+            &[
+                (5, &[0, 2, 0]),
+                (16, &[0, 0, 0, 3]),
+                (24, &[0, 0, 0, 0, 0, 0, 0, 4, 0, 0, 0, 0x23]),
+            ],
+            BLOCK,
+        ),
+        PduRow(
+            &GOOD,
+            &[
+                (16, &[0, 0, 0, 3]),
+                (24, &[0, 0, 0, 3, 0, 0, 0, 4, 0, 0, 0, 0x23, 0, 0, 0, 1]),
+            ],
+            Segment::None,
+        ),
+    ],
+    written: &[(5, 0x5A)],
+    small: true,
+};
+
+const ROWS: &[Row] = &[
+    Row {
+        name: "TEST UNIT READY",
+        fuse: SOUND,
+        input: &[PduRow(&TEST_UNIT_READY, &[], Segment::None)],
+        output: &[PduRow(&GOOD, &[], Segment::None)],
+        written: &[],
+        small: true,
+    },
+    THREE_COMMANDS,
+    // WRITE (10) of block 7, for which 1024 bytes are announced and 512 come: U, and 512 of them are left.
+    Row {
+        name: "more announced than needed",
+        fuse: SOUND,
+        input: &[PduRow(
+            &TEST_UNIT_READY,
+            &[
+                (1, &[WRITES]),
+                (5, &[0, 2, 0]),
+                (20, &[0, 0, 4, 0]),
+                (32, &[0x2A, 0, 0, 0, 0, 7, 0, 0, 1]),
+            ],
+            BLOCK,
+        )],
+        output: &[PduRow(
+            &GOOD,
+            &[(1, &[UNDERFLOW]), (44, &[0, 0, 2, 0])],
+            Segment::None,
+        )],
+        written: &[(7, 0x5A)],
+        small: true,
+    },
+    // The same with 256 bytes: O, INVALID FIELD IN CDB, and nothing is written.
+    Row {
+        name: "less announced than needed",
+        fuse: SOUND,
+        input: &[PduRow(
+            &TEST_UNIT_READY,
+            &[
+                (1, &[WRITES]),
+                (5, &[0, 1, 0]),
+                (20, &[0, 0, 1, 0]),
+                (32, &[0x2A, 0, 0, 0, 0, 7, 0, 0, 1]),
+            ],
+            Segment::Runs(&[(256, 0x5A)]),
+        )],
+        output: &[PduRow(
+            &CHECK_CONDITION,
+            &[(1, &[OVERFLOW]), (44, &[0, 0, 1, 0])],
+            Segment::Bytes(&[
+                0, 0x12, 0x70, 0, 5, 0, 0, 0, 0, 0x0A, 0, 0, 0, 0, 0x24, 0, 0, 0, 0, 0,
+            ]),
+        )],
+        written: &[],
+        small: true,
+    },
 ];
-
-// READ(10) of block 5, with the tag 3 and CmdSN 3 (SBC-3, READ (10) command).
-const READ_BLOCK_5: [u8; 48] = [
-    0x01, 0xC1, 0x00, 0x00, 0x00, 0x00, 0x00, 0x00, //
-    0x00, 0x00, 0x00, 0x00, 0x00, 0x00, 0x00, 0x00, //
-    0x00, 0x00, 0x00, 0x03, 0x00, 0x00, 0x02, 0x00, //
-    0x00, 0x00, 0x00, 0x03, 0x00, 0x00, 0x00, 0x03, //
-    0x28, 0x00, 0x00, 0x00, 0x00, 0x05, 0x00, 0x00, //
-    0x01, 0x00, 0x00, 0x00, 0x00, 0x00, 0x00, 0x00,
-];
-
-const WRITTEN: [u8; 48] = [
-    0x21, 0x80, 0x00, 0x00, 0x00, 0x00, 0x00, 0x00, //
-    0x00, 0x00, 0x00, 0x00, 0x00, 0x00, 0x00, 0x00, //
-    0x00, 0x00, 0x00, 0x02, 0x00, 0x00, 0x00, 0x00, //
-    0x00, 0x00, 0x00, 0x02, 0x00, 0x00, 0x00, 0x03, //
-    0x00, 0x00, 0x00, 0x22, 0x00, 0x00, 0x00, 0x00, //
-    0x00, 0x00, 0x00, 0x00, 0x00, 0x00, 0x00, 0x00,
-];
-
-const DATA_IN: [u8; 48] = [
-    0x25, 0x80, 0x00, 0x00, 0x00, 0x00, 0x02, 0x00, //
-    0x00, 0x00, 0x00, 0x00, 0x00, 0x00, 0x00, 0x00, //
-    0x00, 0x00, 0x00, 0x03, 0xFF, 0xFF, 0xFF, 0xFF, //
-    0x00, 0x00, 0x00, 0x00, 0x00, 0x00, 0x00, 0x04, //
-    0x00, 0x00, 0x00, 0x23, 0x00, 0x00, 0x00, 0x00, //
-    0x00, 0x00, 0x00, 0x00, 0x00, 0x00, 0x00, 0x00,
-];
-
-const READ: [u8; 48] = [
-    0x21, 0x80, 0x00, 0x00, 0x00, 0x00, 0x00, 0x00, //
-    0x00, 0x00, 0x00, 0x00, 0x00, 0x00, 0x00, 0x00, //
-    0x00, 0x00, 0x00, 0x03, 0x00, 0x00, 0x00, 0x00, //
-    0x00, 0x00, 0x00, 0x03, 0x00, 0x00, 0x00, 0x04, //
-    0x00, 0x00, 0x00, 0x23, 0x00, 0x00, 0x00, 0x01, //
-    0x00, 0x00, 0x00, 0x00, 0x00, 0x00, 0x00, 0x00,
-];
-
-const BLOCK: [u8; 512] = [0x5A; 512];
-
-// TEST UNIT READY, a WRITE and a READ of block 5, and their answers.
-fn three_commands(alloc: Global) -> Result<(Vec<u8>, Vec<u8>), Fail> {
-    let input = joined(
-        alloc,
-        &[&TEST_UNIT_READY, &WRITE_BLOCK_5, &BLOCK, &READ_BLOCK_5],
-    )?;
-    let output = joined(alloc, &[&GOOD, &WRITTEN, &DATA_IN, &BLOCK, &READ])?;
-    Ok((input, output))
-}
 
 #[test]
-fn test_unit_ready(rt: HostRuntime) -> Result<(), Fail> {
-    expect(&rt, rt.alloc(), &TEST_UNIT_READY, &GOOD, &[])
-}
-
-#[test]
-fn a_block_that_is_written_is_read(rt: HostRuntime) -> Result<(), Fail> {
-    let (input, output) = three_commands(rt.alloc())?;
-    expect(&rt, rt.alloc(), &input, &output, &[(5, 0x5A)])
+fn in_all_pieces(rt: HostRuntime) -> Result<(), Fail> {
+    run(&rt, rt.alloc(), ROWS)
 }
 
 // The PDUs of the input end behind its bytes 48, 608 and 656, and their answers behind 48, 96 and 704.
 #[test]
 fn an_input_that_ends_anywhere(rt: HostRuntime) -> Result<(), Fail> {
     let alloc = rt.alloc();
-    let (input, output) = three_commands(alloc)?;
+    let input = spelled(alloc, THREE_COMMANDS.input)?;
+    let output = spelled(alloc, THREE_COMMANDS.output)?;
     for came in 0..=656usize {
         let answered = match came {
             0..=47 => 0,
@@ -87,16 +143,17 @@ fn an_input_that_ends_anywhere(rt: HostRuntime) -> Result<(), Fail> {
             608..=655 => 96,
             _ => 704,
         };
-        let written: &[(u32, u8)] = if came < 608 { &[] } else { &[(5, 0x5A)] };
+        let written: &'static [(u32, u8)] = if came < 608 { &[] } else { &[(5, 0x5A)] };
+        let row = Row {
+            written,
+            ..THREE_COMMANDS
+        };
         let front = input.get(..came).ok_or("656 bytes")?;
         let want = output.get(..answered).ok_or("704 bytes")?;
-        let mut ran = serve(alloc, front, WHOLE, MemBlocks::new(alloc, FEW_BLOCKS)?)?;
-        assert_eq!(rt; ran.end, End::EndOfInput, "after {came} bytes");
-        assert_eq!(rt; ran.output.as_slice(), want, "after {came} bytes");
-        assert!(rt;
-            keeps(&mut ran.device, FEW_BLOCKS, written),
-            "after {came} bytes"
-        );
+        let (end, sent, kept) = serve(alloc, &row, front, WHOLE, 16)?;
+        assert_eq!(rt; end, End::EndOfInput, "after {came} bytes");
+        assert_eq!(rt; sent.as_slice(), want, "after {came} bytes");
+        assert!(rt; kept, "after {came} bytes");
     }
     Ok(())
 }

@@ -1,4 +1,4 @@
-use Rattle.iscsi_pdu.specs.Laws.{one_front}
+use Rattle.iscsi_pdu.proofs.Grammar.{one_front}
 use Rattle.iscsi_pdu.proofs.laws.one_front.Goals as goal
 
 pub returns : goal.returns

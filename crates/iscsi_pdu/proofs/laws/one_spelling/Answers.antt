@@ -1,4 +1,4 @@
-use Rattle.iscsi_pdu.specs.Laws.{one_spelling}
+use Rattle.iscsi_pdu.proofs.Grammar.{one_spelling}
 use Rattle.iscsi_pdu.proofs.laws.one_spelling.Goals as goal
 
 pub returns : goal.returns

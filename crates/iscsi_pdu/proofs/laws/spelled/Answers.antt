@@ -1,4 +1,4 @@
-use Rattle.iscsi_pdu.specs.Laws.{spelled}
+use Rattle.iscsi_pdu.proofs.Grammar.{spelled}
 use Rattle.iscsi_pdu.proofs.laws.spelled.Goals as goal
 
 pub returns : goal.returns

@@ -2,45 +2,62 @@ use Rattle.std.proofs.Common.{◌≡◌, ℕ, ◌+◌, ◌-◌, ◌≤◌, ◌<�
 use Rattle.iscsi_pdu.specs.Number.{three_at}
 use Rattle.iscsi_pdu.specs.Spelling.{padded}
 use Rattle.iscsi_pdu.specs.Pdu.{IsPdu}
-use Rattle.iscsi_pdu.specs.Fault.{HasHeader}
-use Rattle.iscsi_pdu.proofs.Fronts.{none-whole, none-behind, good-reserved, opcode-target, whole, pad-from, pad-to, bad-padding}
+use Rattle.iscsi_pdu.specs.Fault.{HasBhs}
+use Rattle.iscsi_pdu.proofs.Fronts.{none-whole, none-behind, good-reserved, opcode-target, whole, pad-from, pad-to}
+use Rattle.iscsi_pdu.proofs.Fronts.{bad-padding}
 use Rattle.iscsi_pdu.proofs.reading.decode.Goals as goal
 
 pub returns-then-bytes-end-clause-found : goal.returns-then-bytes-end-clause-found
 returns-then-bytes-end-clause-found c =
     let b = c.args.bytes.now in
-    let end : c.padded_length-end.result ≡ padded (three_at b 5) = c.padded_length-end.ensures ∙ ap padded c.three-len.ensures in
+    let end : c.padded_length-end.result ≡ padded (three_at b 5) = c.padded_length-end.ensures
+    ∙ ap padded c.three-len.ensures in
     λ n h d p w. none-whole b n h d (subst (λ (k : ℕ). length b < 48 + k) end c.if-bytes-end.true) p w
 
 pub returns-then-bytes-end-clause-sound : goal.returns-then-bytes-end-clause-sound
 returns-then-bytes-end-clause-sound c =
     let b = c.args.bytes.now in
-    let end : c.padded_length-end.result ≡ padded (three_at b 5) = c.padded_length-end.ensures ∙ ap padded c.three-len.ensures in
-    let front : HasHeader b = search rules in
-    λ f s. none-behind b c.in_ok-header.header front c.in_ok-header.ensures.found (λ bad. absurd (omega (arith, bad.1, end, c.if-bytes-end.true))) f s
+    let end : c.padded_length-end.result ≡ padded (three_at b 5) = c.padded_length-end.ensures
+    ∙ ap padded c.three-len.ensures in
+    let front : HasBhs b = search rules in
+    λ f s. none-behind b c.in_ok-header.header front c.in_ok-header.ensures.found
+    (λ bad. absurd (omega (arith, bad.1, end, c.if-bytes-end.true))) f s
 
 pub returns-then-not-is_padding-clause-fault : goal.returns-then-not-is_padding-clause-fault
 returns-then-not-is_padding-clause-fault c =
     let b = c.args.bytes.now in
     let h = c.in_ok-header.header in
     let fields = c.in_ok-header.ensures.found in
-    let end : c.padded_length-end.result ≡ padded (three_at b 5) = c.padded_length-end.ensures ∙ ap padded c.three-len.ensures in
+    let end : c.padded_length-end.result ≡ padded (three_at b 5) = c.padded_length-end.ensures
+    ∙ ap padded c.three-len.ensures in
     let fits : 48 + padded (three_at b 5) ≤ length b = subst (λ (k : ℕ). 48 + k ≤ length b) end c.if-bytes-end.false in
-    let front : HasHeader b = search rules in
-    let wrong = c.is_padding.ensures.wrong c.if-not-is_padding.true in
-    (front, good-reserved h b fields, (opcode-target h b wrong.0 fields, fits, λ e. wrong.1 (pad-to b (three_at b 5) c.three-len.result c.padded_length-end.result c.three-len.ensures end fits e)))
+    let front : HasBhs b = search rules in
+    let wrong = c.is_padding.ensures.wrong c.if-not-is_padding.true in (
+      front,
+      good-reserved h b fields,
+      (
+        opcode-target h b wrong.0 fields,
+        fits,
+        λ e. wrong.1
+            (pad-to b (three_at b 5) c.three-len.result c.padded_length-end.result c.three-len.ensures end fits e),
+      ),
+    )
 
 pub returns-clause-found : goal.returns-clause-found
 returns-clause-found c =
     let b = c.args.bytes.now in
     let h = c.in_ok-header.header in
-    let end : c.padded_length-end.result ≡ padded (three_at b 5) = c.padded_length-end.ensures ∙ ap padded c.three-len.ensures in
+    let end : c.padded_length-end.result ≡ padded (three_at b 5) = c.padded_length-end.ensures
+    ∙ ap padded c.three-len.ensures in
     let fits : 48 + padded (three_at b 5) ≤ length b = subst (λ (k : ℕ). 48 + k ≤ length b) end c.if-bytes-end.false in
-    let front : HasHeader b = search rules in
-    let pdu = whole b h front c.in_ok-header.ensures.found fits (λ t. pad-from b (three_at b 5) c.three-len.result c.padded_length-end.result c.three-len.ensures end fits (c.is_padding.ensures.right c.if-not-is_padding.false t)) in (
+    let front : HasBhs b = search rules in
+    let pdu = whole b h front c.in_ok-header.ensures.found fits
+    (λ t. pad-from b (three_at b 5) c.three-len.result c.padded_length-end.result c.three-len.ensures end fits
+    (c.is_padding.ensures.right c.if-not-is_padding.false t)) in (
       c.if-bytes-end.false,
       subst (λ (k : ℕ). IsPdu (take (48 + k) b) h (take (48 + c.three-len.result - 48) (drop 48 b))) (sym end)
-          (subst (λ (k : ℕ). IsPdu (take (48 + padded (three_at b 5)) b) h (take (48 + k - 48) (drop 48 b))) (sym c.three-len.ensures) pdu),
+          (subst (λ (k : ℕ). IsPdu (take (48 + padded (three_at b 5)) b) h (take (48 + k - 48) (drop 48 b)))
+          (sym c.three-len.ensures) pdu),
     )
 
 pub returns-clause-sound : goal.returns-clause-sound
@@ -48,6 +65,9 @@ returns-clause-sound c =
     let b = c.args.bytes.now in
     let h = c.in_ok-header.header in
     let fields = c.in_ok-header.ensures.found in
-    let end : c.padded_length-end.result ≡ padded (three_at b 5) = c.padded_length-end.ensures ∙ ap padded c.three-len.ensures in
-    let front : HasHeader b = search rules in
-    λ f s. none-behind b h front fields (λ bad. bad-padding b h fields bad (λ t. pad-from b (three_at b 5) c.three-len.result c.padded_length-end.result c.three-len.ensures end bad.1 (c.is_padding.ensures.right c.if-not-is_padding.false t))) f s
+    let end : c.padded_length-end.result ≡ padded (three_at b 5) = c.padded_length-end.ensures
+    ∙ ap padded c.three-len.ensures in
+    let front : HasBhs b = search rules in
+    λ f s. none-behind b h front fields (λ bad. bad-padding b h fields bad
+    (λ t. pad-from b (three_at b 5) c.three-len.result c.padded_length-end.result c.three-len.ensures end bad.1
+    (c.is_padding.ensures.right c.if-not-is_padding.false t))) f s

@@ -1,7 +1,8 @@
-use Rattle.std.proofs.Common.{◌≡◌, ℕ, ◌-◌, ◌≤◌, ◌∙◌, List, ◌++◌, length, take, ap, sym, arith, Result, Ok, Err, OnErr, OnOk, append_assoc, cond, refl, zero, suc, [], ◌∷◌}
+use Rattle.std.proofs.Common.{◌≡◌, ℕ, ◌-◌, ◌≤◌, ◌∙◌, List, ◌++◌, length, take, ap, sym, arith, Result, Ok, Err}
+use Rattle.std.proofs.Common.{OnErr, OnOk, append_assoc, cond, refl, zero, suc, [], ◌∷◌}
 use Rattle.std.specs.Result.{is_ok}
-use Rattle.iscsi_pdu.specs.Spelling.{padded, zeros, spelling, header_bytes}
-use Rattle.iscsi_pdu.specs.Laws.{length-spelling-from}
+use Rattle.iscsi_pdu.specs.Spelling.{padded, zeros, spelling, bhs}
+use Rattle.iscsi_pdu.proofs.Grammar.{length-spelling}
 use Rattle.iscsi_pdu.proofs.writing.encode.Goals as goal
 
 on-err : {T E P : Type 0} (r : Result T E) → P → OnErr r P
@@ -9,14 +10,19 @@ on-err (Ok x) p = tt
 on-err (Err e) p = p
 
 pub returns-in_err-try_reserve-clause-full : goal.returns-in_err-try_reserve-clause-full
-returns-in_err-try_reserve-clause-full c =
-    let h = c.args.pdu.now.header in
-    let d = c.args.pdu.now.data.now in
-    let wide : length (header_bytes h (length d)) ≡ 48 = ap length (sym c.header_bytes-header.ensures) ∙ omega arith in
-    let size = length-spelling-from h d wide in
-    on-err c.from_residual.result (omega (arith, size, c.in_err-try_reserve.ensures.full, c.padded_length-padded.ensures))
+returns-in_err-try_reserve-clause-full c = on-err c.from_residual.result
+    (omega (arith, c.in_err-try_reserve.ensures.full, c.padded_length-padded.ensures))
 
-on-ok-append : {T E : Type 0} (r : Result T E) (was now xs zs : List ℕ) → now ≡ cond (is_ok r) (was ++ xs) was → was ++ xs ≡ zs → OnOk r (now ≡ zs)
+pub returns-in_err-try_reserve-clause-size : goal.returns-in_err-try_reserve-clause-size
+returns-in_err-try_reserve-clause-size c = length-spelling c.args.pdu.now.header c.args.pdu.now.data.now
+    (ap length (sym c.spell_bhs-bhs.ensures) ∙ omega arith)
+
+pub returns-clause-size : goal.returns-clause-size
+returns-clause-size c = length-spelling c.args.pdu.now.header c.args.pdu.now.data.now
+    (ap length (sym c.spell_bhs-bhs.ensures) ∙ omega arith)
+
+on-ok-append : {T E : Type 0} (r : Result T E) (was now xs zs : List ℕ) → now ≡ cond (is_ok r) (was ++ xs) was
+    → was ++ xs ≡ zs → OnOk r (now ≡ zs)
 on-ok-append (Ok x) was now xs zs e h = e ∙ h
 on-ok-append (Err x) was now xs zs e h = tt
 
@@ -36,11 +42,18 @@ returns-clause-ok c =
     let o = c.args.out.now.items in
     let h = c.args.pdu.now.header in
     let d = c.args.pdu.now.data.now in
-    let w : List ℕ = header_bytes h (length d) in
+    let w : List ℕ = bhs h (length d) in
     let k : ℕ = c.padded_length-padded.result - length d in
-    let pad : take k (0 ∷ 0 ∷ 0 ∷ []) ≡ zeros (padded (length d) - length d) = take-zeros k (omega (arith, c.padded_length-padded.ensures)) ∙ ap (λ (m : ℕ). zeros (m - length d)) c.padded_length-padded.ensures in
-    let e1 : c.extend_from_slice.new.self.items ≡ o ++ w = c.in_ok-extend_from_slice.ensures.items ∙ ap (λ (x : List ℕ). x ++ c.header_bytes-header.result) c.in_ok-try_reserve.ensures.items ∙ ap (λ (x : List ℕ). o ++ x) c.header_bytes-header.ensures in
-    let e2 : c.extend_from_slice-2.new.self.items ≡ o ++ w ++ d = c.in_ok-extend_from_slice-2.ensures.items ∙ ap (λ (x : List ℕ). x ++ d) e1 in
-    let joined : c.extend_from_slice-2.new.self.items ++ take k (0 ∷ 0 ∷ 0 ∷ []) ≡ o ++ (w ++ d ++ zeros (padded (length d) - length d)) =
-    ap (λ (x : List ℕ). x ++ take k (0 ∷ 0 ∷ 0 ∷ [])) e2 ∙ ap (λ (x : List ℕ). o ++ w ++ d ++ x) pad ∙ regroup o w d (zeros (padded (length d) - length d)) in
+    let pad : take k (0 ∷ 0 ∷ 0 ∷ []) ≡ zeros (padded (length d) - length d) = take-zeros k
+    (omega (arith, c.padded_length-padded.ensures))
+    ∙ ap (λ (m : ℕ). zeros (m - length d)) c.padded_length-padded.ensures in
+    let e1 : c.extend_from_slice.new.self.items ≡ o ++ w = c.in_ok-extend_from_slice.ensures.items
+    ∙ ap (λ (x : List ℕ). x ++ c.spell_bhs-bhs.result) c.in_ok-try_reserve.ensures.items
+    ∙ ap (λ (x : List ℕ). o ++ x) c.spell_bhs-bhs.ensures in
+    let e2 : c.extend_from_slice-2.new.self.items ≡ o ++ w ++ d = c.in_ok-extend_from_slice-2.ensures.items
+    ∙ ap (λ (x : List ℕ). x ++ d) e1 in
+    let joined : c.extend_from_slice-2.new.self.items ++ take k (0 ∷ 0 ∷ 0 ∷ []) ≡ o ++
+    (w ++ d ++ zeros (padded (length d) - length d)) =
+    ap (λ (x : List ℕ). x ++ take k (0 ∷ 0 ∷ 0 ∷ [])) e2 ∙ ap (λ (x : List ℕ). o ++ w ++ d ++ x) pad
+    ∙ regroup o w d (zeros (padded (length d) - length d)) in
     on-ok-append c.extend_from_slice-3.result c.extend_from_slice-2.new.self.items c.extend_from_slice-3.new.self.items (take k (0 ∷ 0 ∷ 0 ∷ [])) (o ++ (w ++ d ++ zeros (padded (length d) - length d))) c.extend_from_slice-3.ensures.items joined

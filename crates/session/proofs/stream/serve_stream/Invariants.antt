@@ -1,13 +1,16 @@
-use Rattle.std.proofs.Common.{◌≡◌, ◌+◌, ◌-◌, ◌*◌, length}
+use Rattle.std.proofs.Common.{◌≡◌, [], ◌+◌, ◌-◌, ◌*◌, length}
+use Rattle.session.specs.declared.inbox.TheConstants.{INBOX_CAPACITY}
+use Rattle.session.specs.Legal.{most_bytes}
 use Rattle.session.proofs.Running.{Running}
 use Rattle.session.proofs.stream.serve_stream.Given as goal
 
 abbrev pub invariant-loop-reads : goal.invariant-loop-reads
 invariant-loop-reads g l = record {
   running : Running g.T.Target.leads l.fn.start.exp_cmd_sn l.fn.start.stat_sn (g.S.Source.left l.fn.source) (g.S.Source.left l.source) (g.K.Sink.held l.fn.sink) (g.K.Sink.held l.sink) l.fn.target l.target l.session l.inbox l.reads;
+  all_written : l.outbox ≡ [];
   source_served : g.S.Source.failures l.source ≡ g.S.Source.failures l.fn.source;
   sink_served : g.K.Sink.failures l.sink ≡ g.K.Sink.failures l.fn.sink;
 }
 
 abbrev pub decreases-loop-reads : goal.decreases-loop-reads
-decreases-loop-reads g l = (18446744073709551615 - l.reads) * 262145 + length l.inbox
+decreases-loop-reads g l = (most_bytes - l.reads) * (INBOX_CAPACITY + 1) + length l.inbox

@@ -1,0 +1,221 @@
+-- The calls of a session are the commands of one legal history of its unit.
+use Rattle.std.proofs.Common.{◌≡◌, ℕ, zero, suc, ◌+◌, ◌<◌, ◌≤◌, List, [], ◌∷◌, length, take, Bool, true, false, Option, Some, None, refl, sym, ap, subst, ◌∙◌, arith, cond}
+use Rattle.std.specs.Prelude.{IsTrue, slice_get, Result}
+use Rattle.std.proofs.lemmas.List.Sums.{sum_by-cons}
+use Rattle.block_file.specs.Failures.{Tells, last_count}
+use Rattle.scsi_types.specs.ReplyValue.{ReplyValue}
+use Rattle.scsi_types.specs.declared.names.Group.{Group}
+use Rattle.scsi_types.specs.declared.command.Command.{Command as ScsiCommand}
+use Rattle.scsi_types.specs.declared.command.CdbFault.{CdbFault}
+use Rattle.session.specs.Question.{Question, serve}
+use Rattle.session.specs.declared.target.TargetAnswer.{TargetAnswer}
+use Rattle.session.specs.declared.target.TargetAnswer.TheVariants.{Replied, Outside, Busy, Gone, Halted}
+use Rattle.session.specs.declared.end.End.{End}
+use Rattle.session.specs.Transcript.{IsTranscribed}
+use Rattle.session.specs.Turn.{Asking, Leads, calls}
+use Rattle.unit_state.specs.declared.control.TheConstants.{LAST_COUNT}
+use Rattle.unit_state.specs.State.{ControlValue, UnitState, UnitValue, state_of}
+use Rattle.unit_state.specs.Choice.{Choice, Fine, ReadFailed, WriteFailed, IsFine, choice_of}
+use Rattle.unit_state.specs.Entry.{Entry, Command, IsPossible, IsReplyTo, control_after, blocks_after, after}
+use Rattle.unit_state.specs.EntryLaws.{possible_over, reply_over}
+use Rattle.unit_state.specs.History.{state_after, IsLegal, IsReplyAt, has_failed, failed_entries}
+use Rattle.unit_state.specs.Step.{IsStep, entry_of}
+use Rattle.arrayd.specs.OneUnit.{TargetValue, IsCommand, IsSame, IsBusy, IsAnsweredBy, LeadsOn}
+use Rattle.arrayd.specs.Once.{RepliedCall, replied_to, replied, IsCommandOf, AreCommands, IsUnserved, AreUnserved, AreCounted, IsBegun, IsOnce, begun}
+
+-- ---- failures: one command more in front
+
+failed_more : (e : Entry) (history : List Entry) → failed_entries (e ∷ history) ≡ cond (has_failed e) 1 0 + failed_entries history
+failed_more e history = sum_by-cons (λ x. cond (has_failed x) 1 0) e history
+
+counted_more : (before mid now session serial : ℕ) (by_group : Group) (asked : Result ScsiCommand CdbFault) (bytes : List ℕ) (choice : Choice) (history : List Entry)
+    → Tells before mid (IsFine choice) → AreCounted mid now history → AreCounted before now (Command session serial by_group asked bytes choice ∷ history)
+counted_more before mid now session serial by_group asked bytes Fine history t k = record {
+  later = omega (arith, t.later, k.later);
+  at_most = λ room. let same : mid ≡ before = t.stays (omega (arith, t.later, k.later)) refl in let rest = k.at_most room in omega (arith, failed_more (Command session serial by_group asked bytes Fine) history);
+  only = λ room none. let same : mid ≡ before = t.stays (omega (arith, t.later, k.later)) refl in let rest : now ≡ mid = k.only room (omega (arith, failed_more (Command session serial by_group asked bytes Fine) history)) in omega arith;
+}
+counted_more before mid now session serial by_group asked bytes ReadFailed history t k = record {
+  later = omega (arith, t.later, k.later);
+  at_most = λ room. let up : before < mid = t.rises (omega (arith, t.later, k.later)) (λ (e : false ≡ true). cc) in let rest = k.at_most room in omega (arith, failed_more (Command session serial by_group asked bytes ReadFailed) history);
+  only = λ room none. absurd (omega (arith, failed_more (Command session serial by_group asked bytes ReadFailed) history));
+}
+counted_more before mid now session serial by_group asked bytes (WriteFailed after) history t k = record {
+  later = omega (arith, t.later, k.later);
+  at_most = λ room. let up : before < mid = t.rises (omega (arith, t.later, k.later)) (λ (e : false ≡ true). cc) in let rest = k.at_most room in omega (arith, failed_more (Command session serial by_group asked bytes (WriteFailed after)) history);
+  only = λ room none. absurd (omega (arith, failed_more (Command session serial by_group asked bytes (WriteFailed after)) history));
+}
+
+abbrev none_asked : List Asking
+none_asked = []
+
+module _ {B : Type 0} (claims : Bool) (contents : B → List (List ℕ)) (failures : B → ℕ) where
+  -- the model's state is the unit's
+  pub record Matches (s : UnitState) (x : TargetValue B) : Type 0 where
+    pub control : s.control ≡ x.unit.control
+    pub blocks : IsTrue claims → s.blocks ≡ contents x.unit.device
+
+  same_unit : (s : UnitState) (x mid : TargetValue B) → mid.unit ≡ x.unit → Matches s x → Matches s mid
+  same_unit s x mid e m = record {
+    control = m.control ∙ ap (λ (u : UnitValue B). u.control) (sym e);
+    blocks = λ h. m.blocks h ∙ ap (λ (u : UnitValue B). contents u.device) (sym e);
+  }
+
+  module _ (s : UnitState) (x mid : TargetValue B) (m : Matches s x) (e : Entry) (reply : ReplyValue) (step : IsStep claims (state_of contents x.unit) (state_of contents mid.unit) e reply) where
+    possible_here : IsPossible claims s e
+    possible_here = subst (λ (c : ControlValue). IsPossible claims (record { control = c; blocks = s.blocks }) e) (sym m.control)
+        (possible_over claims x.unit.control (contents x.unit.device) s.blocks m.blocks e step.possible)
+
+    replied_here : IsReplyTo claims s e reply
+    replied_here = subst (λ (c : ControlValue). IsReplyTo claims (record { control = c; blocks = s.blocks }) e reply) (sym m.control)
+        (reply_over claims x.unit.control (contents x.unit.device) s.blocks m.blocks e reply step.answer)
+
+    matches_after : Matches (after s e) mid
+    matches_after = record {
+      control = ap (λ (c : ControlValue). control_after c e) m.control ∙ sym step.control;
+      blocks = λ h.
+          ap (λ (c : ControlValue). blocks_after (record { control = c; blocks = s.blocks }) e) m.control
+          ∙ ap (λ (b : List (List ℕ)). blocks_after (record { control = x.unit.control; blocks = b }) e) (m.blocks h)
+          ∙ sym (step.blocks h);
+    }
+
+  -- a legal history from this state of the model, of which these calls are the commands
+  pub record Story (s : UnitState) (x x' : TargetValue B) (cs : List Asking) : Type 0 where
+    pub history : List Entry
+    pub legal : IsLegal claims s history
+    pub commands : AreCommands claims s cs history
+    pub others : AreUnserved s cs history
+    pub counted : AreCounted (failures x.unit.device) (failures x'.unit.device) history
+    pub ends : IsTrue claims → contents x'.unit.device ≡ (state_after s history).blocks
+
+  -- the first of the calls
+  first_is : (c call : Asking) (cs : List Asking) → slice_get (c ∷ cs) 0 ≡ Some call → c ≡ call
+  first_is c call cs e = cc
+
+  -- ---- a call that was replied is the next entry
+
+  module _ (s : UnitState) (cs : List Asking) (asked : Result ScsiCommand CdbFault) (bytes : List ℕ) (reply : ReplyValue) (unit : Option ℕ) (serial : ℕ) (by_group : Group) (choice : Choice) where
+    abbrev e : Entry
+    e = Command 0 serial by_group asked bytes choice
+
+    abbrev this : Asking
+    this = record { question = serve unit asked bytes; answer = Replied reply }
+
+    abbrev this_call : RepliedCall
+    this_call = record { asked = asked; bytes = bytes; reply = reply }
+
+    entry_more : (history : List Entry) → AreCommands claims (after s e) cs history → (k : ℕ) (call : RepliedCall) → slice_get (replied (this ∷ cs)) k ≡ Some call
+        → (f : Entry) × (slice_get (e ∷ history) k ≡ Some f) × IsCommandOf f call
+    entry_more history rest zero call at = let same : this_call ≡ call = cc in (e, refl, subst (IsCommandOf e) same (refl, refl, refl))
+    entry_more history rest (suc k) call at = rest.entry k call at
+
+    reply_more : (history : List Entry) → IsReplyTo claims s e reply → AreCommands claims (after s e) cs history → (k : ℕ) (call : RepliedCall) → slice_get (replied (this ∷ cs)) k ≡ Some call
+        → IsReplyAt claims s (e ∷ history) k call.reply
+    reply_more history told rest zero call at = let same : this_call ≡ call = cc in subst (λ (c : RepliedCall). IsReplyTo claims s e c.reply) same told
+    reply_more history told rest (suc k) call at = rest.reply k call at
+
+    commands_more : (history : List Entry) → IsReplyTo claims s e reply → AreCommands claims (after s e) cs history → AreCommands claims s (this ∷ cs) (e ∷ history)
+    commands_more history told rest = record { as_many = ap suc rest.as_many; entry = entry_more history rest; reply = reply_more history told rest }
+
+    others_more : (history : List Entry) → AreUnserved (after s e) cs history → AreUnserved s (this ∷ cs) (e ∷ history)
+    others_more history rest zero call at = subst (λ (c : Asking). IsUnserved s c.question c.answer) (first_is this call cs at) tt
+    others_more history rest (suc k) call at = rest k call at
+
+  -- ---- any other call is none
+
+  others_past : (s : UnitState) (c : Asking) (cs : List Asking) (history : List Entry) → replied_to c.question c.answer ≡ None → IsUnserved s c.question c.answer → AreUnserved s cs history → AreUnserved s (c ∷ cs) history
+  others_past s c cs history none here rest zero call at = subst (λ (d : Asking). IsUnserved s d.question d.answer) (first_is c call cs at) here
+  others_past s c cs history none here rest (suc k) call at = rw none (rest k call at)
+
+  -- such a call leaves all as it was
+  past : (s : UnitState) (x mid x' : TargetValue B) (cs : List Asking) (c : Asking) → replied_to c.question c.answer ≡ None → IsUnserved s c.question c.answer → replied (c ∷ cs) ≡ replied cs → IsSame x mid → Story s mid x' cs → Story s x x' (c ∷ cs)
+  past s x mid x' cs c none here same_calls same k = record {
+    history = k.history;
+    legal = k.legal;
+    commands = record {
+      as_many = rw same_calls k.commands.as_many;
+      entry = rw same_calls k.commands.entry;
+      reply = rw same_calls k.commands.reply;
+    };
+    others = others_past s c cs k.history none here k.others;
+    counted = subst (λ (u : UnitValue B). AreCounted (failures u.device) (failures x'.unit.device) k.history) same.unit k.counted;
+    ends = k.ends;
+  }
+
+  next : (unit : Option ℕ) (asked : Result ScsiCommand CdbFault) (bytes : List ℕ) (a : TargetAnswer) (cs : List Asking) (s : UnitState) (x mid x' : TargetValue B) → x.session ≡ 0 → Matches s x
+      → IsAnsweredBy claims contents failures x unit asked bytes a mid → ((s' : UnitState) → mid.session ≡ 0 → Matches s' mid → Story s' mid x' cs)
+      → Story s x x' (record { question = serve unit asked bytes; answer = a } ∷ cs)
+  next unit asked bytes (Replied reply) cs s x mid x' zero_is m led rest =
+      let by_owner : TargetValue B = led.1 in
+      let same = led.2 in
+      let done = led.3 in
+      let m' : Matches s by_owner = same_unit s x by_owner same.unit m in
+      let mine : by_owner.session ≡ 0 = same.session ∙ zero_is in
+      let choice : Choice = choice_of reply (contents mid.unit.device) in
+      let entry : Entry = Command 0 by_owner.serial by_owner.by asked bytes choice in
+      let step : IsStep claims (state_of contents by_owner.unit) (state_of contents mid.unit) entry reply =
+      subst (λ (n : ℕ). IsStep claims (state_of contents by_owner.unit) (state_of contents mid.unit) (entry_of n by_owner.serial by_owner.by asked bytes reply (state_of contents mid.unit)) reply) mine done.step in
+      let k = rest (after s entry) (done.session ∙ mine) (matches_after s by_owner mid m' entry reply step) in
+      record {
+        history = entry ∷ k.history;
+        legal = (possible_here s by_owner mid m' entry reply step, k.legal);
+        commands = commands_more s cs asked bytes reply unit by_owner.serial by_owner.by choice k.history (replied_here s by_owner mid m' entry reply step) k.commands;
+        others = others_more s cs asked bytes reply unit by_owner.serial by_owner.by choice k.history k.others;
+        counted = counted_more (failures x.unit.device) (failures mid.unit.device) (failures x'.unit.device) 0 by_owner.serial by_owner.by asked bytes choice k.history
+            (subst (λ (u : UnitValue B). Tells (failures u.device) (failures mid.unit.device) (IsFine choice)) same.unit done.fine) k.counted;
+        ends = k.ends;
+      }
+  next unit asked bytes (Outside reply) cs s x mid x' zero_is m led rest =
+      past s x mid x' cs (record { question = serve unit asked bytes; answer = Outside reply }) refl (led.0, led.1) refl led.2 (rest s (led.2.session ∙ zero_is) (same_unit s x mid led.2.unit m))
+  next unit asked bytes Busy cs s x mid x' zero_is m led rest =
+      past s x mid x' cs (record { question = serve unit asked bytes; answer = Busy }) refl
+      (subst (λ (c : ControlValue). IsBusy c 0 unit asked bytes) (sym m.control) (subst (λ (n : ℕ). IsBusy x.unit.control n unit asked bytes) zero_is led.0)) refl led.1
+      (rest s (led.1.session ∙ zero_is) (same_unit s x mid led.1.unit m))
+  next unit asked bytes Gone cs s x mid x' zero_is m led rest =
+      past s x mid x' cs (record { question = serve unit asked bytes; answer = Gone }) refl (led.0, subst (λ (c : ControlValue). LAST_COUNT ≤ c.count) (sym m.control) led.2) refl led.1
+      (rest s (led.1.session ∙ zero_is) (same_unit s x mid led.1.unit m))
+  next unit asked bytes Halted cs s x mid x' zero_is m led rest = absurd led
+
+  asked_next : (q : Question) (a : TargetAnswer) (cs : List Asking) (s : UnitState) (x mid x' : TargetValue B) → x.session ≡ 0 → Matches s x
+      → LeadsOn claims contents failures x q a mid → ((s' : UnitState) → mid.session ≡ 0 → Matches s' mid → Story s' mid x' cs) → Story s x x' (record { question = q; answer = a } ∷ cs)
+  asked_next (serve unit asked bytes) a cs s x mid x' zero_is m led rest = next unit asked bytes a cs s x mid x' zero_is m led rest
+
+  no_call : (k : ℕ) (call : Asking) → slice_get none_asked k ≡ Some call → ⊥
+  no_call zero call at = cc
+  no_call (suc k) call at = cc
+
+  none_at : (k : ℕ) (call : RepliedCall) → slice_get (replied none_asked) k ≡ Some call → ⊥
+  none_at zero call at = cc
+  none_at (suc k) call at = cc
+
+  pub story : (cs : List Asking) (s : UnitState) (x x' : TargetValue B) → x.session ≡ 0 → Matches s x → Leads (LeadsOn claims contents failures) cs x x' → Story s x x' cs
+  story [] s x x' zero_is m same = record {
+    history = [];
+    legal = tt;
+    commands = record { as_many = refl; entry = λ k call at. absurd (none_at k call at); reply = λ k call at. absurd (none_at k call at) };
+    others = λ k call at. absurd (no_call k call at);
+    counted = rw same (record { later = omega arith; at_most = λ room. omega arith; only = λ room none. refl });
+    ends = λ h. ap (λ (y : TargetValue B). contents y.unit.device) same ∙ sym (m.blocks h);
+  }
+  story (c ∷ cs) s x x' zero_is m led = asked_next c.question c.answer cs s x led.0 x' zero_is m led.1 (λ s' z m'. story cs s' led.0 x' z m' led.2)
+
+-- the whole of it
+pub is_once : {B : Type 0} (claims : Bool) (size : B → ℕ) (contents : B → List (List ℕ)) (failures : B → ℕ) (blocks device : B) (x x' : TargetValue B) (left left' held held' : Option (List ℕ)) (end : End)
+    → IsBegun size blocks x → IsTranscribed (LeadsOn claims contents failures) 1 1 left left' held held' x x' end → device ≡ x'.unit.device
+    → IsOnce claims size contents failures blocks device left left' held held' end
+is_once {B = B} claims size contents failures blocks device x x' left left' held held' end first t is_device =
+    let begun_here : Matches claims contents failures (begun size contents blocks) x = record {
+      control = sym first.control;
+      blocks = λ h. ap contents (sym first.device);
+    } in
+    let k = story claims contents failures (calls t.transcript) (begun size contents blocks) x x' first.session begun_here t.led in
+    record {
+      transcript = t.transcript;
+      served = record { spelled = t.spelled; rest = t.rest; lawful = t.lawful; ends = t.ends; spells = t.spells; read = t.read; written = t.written };
+      history = k.history;
+      legal = (record { room = omega arith; sessions = omega arith }, (record { next = record { room = omega arith; next = refl }; owner = refl; chosen = refl; torn = λ h. tt }, k.legal));
+      commands = k.commands;
+      others = k.others;
+      counted = subst (λ (d : B). AreCounted (failures d) (failures device) k.history) first.device (subst (λ (d : B). AreCounted (failures x.unit.device) (failures d) k.history) (sym is_device) k.counted);
+      blocks_after = λ h. ap contents is_device ∙ k.ends h;
+    }

@@ -1,0 +1,5 @@
+pub mod Agreed
+pub mod Cuts
+pub mod Numbers
+pub mod Once
+pub mod Spelled

@@ -1,0 +1,10 @@
+use Rattle.std.proofs.Common.{◌≡◌, ◌++◌, length}
+use Rattle.login.specs.Text.{pairs}
+use Rattle.login.specs.Answer.{answers}
+use Rattle.login.proofs.answer.put_answers.Given as goal
+
+abbrev pub invariant-loop-first : goal.invariant-loop-first
+invariant-loop-first l = l.out.items ++ answers (pairs l.rest) ≡ l.initial.out.items ++ answers (pairs l.text)
+
+abbrev pub decreases-loop-first : goal.decreases-loop-first
+decreases-loop-first l = length l.rest

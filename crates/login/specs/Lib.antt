@@ -1,0 +1,12 @@
+pub mod Answer
+pub mod Number
+pub mod Parameters
+pub mod Progress
+pub mod Refusal
+pub mod Request
+pub mod Status
+pub mod Table
+pub mod Targets
+pub mod Text
+pub mod TextEnd
+pub mod Value

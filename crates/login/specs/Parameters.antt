@@ -1,0 +1,37 @@
+-- The values in force in a session (RFC 7143, 13).
+use Rattle.std.specs.Prelude.{ℕ, Bool, false, List}
+use Rattle.login.specs.Text.{Pair}
+use Rattle.login.specs.Table.{in_force}
+use Rattle.login.specs.declared.key.Key.TheVariants as Of
+use Rattle.login.specs.declared.value.Value.{Value}
+use Rattle.login.specs.declared.value.Value.TheVariants.{Number, Flag, Word, Unset}
+use Rattle.login.specs.declared.parameters.Parameters.{Parameters}
+
+-- the number of a value, 0 where it is none; and its flag
+abbrev pub number_of : Value → ℕ
+number_of (Number n) = n
+number_of (Flag b) = 0
+number_of (Word word) = 0
+number_of Unset = 0
+
+abbrev pub flag_of : Value → Bool
+flag_of (Number n) = false
+flag_of (Flag b) = b
+flag_of (Word word) = false
+flag_of Unset = false
+
+unfoldable pub parameters_of : List Pair → Parameters
+parameters_of ps = record {
+  max_burst_length = number_of (in_force Of.MaxBurstLength ps);
+  first_burst_length = number_of (in_force Of.FirstBurstLength ps);
+  max_recv_data_segment_length = number_of (in_force Of.MaxRecvDataSegmentLength ps);
+  max_connections = number_of (in_force Of.MaxConnections ps);
+  max_outstanding_r2t = number_of (in_force Of.MaxOutstandingR2T ps);
+  default_time2wait = number_of (in_force Of.DefaultTime2Wait ps);
+  default_time2retain = number_of (in_force Of.DefaultTime2Retain ps);
+  error_recovery_level = number_of (in_force Of.ErrorRecoveryLevel ps);
+  initial_r2t = flag_of (in_force Of.InitialR2T ps);
+  immediate_data = flag_of (in_force Of.ImmediateData ps);
+  data_pdu_in_order = flag_of (in_force Of.DataPDUInOrder ps);
+  data_sequence_in_order = flag_of (in_force Of.DataSequenceInOrder ps);
+}

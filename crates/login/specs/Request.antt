@@ -1,0 +1,84 @@
+-- What a login request is answered, and how far the login has come then (RFC 7143, 6.3).
+use Rattle.std.specs.Prelude.{ℕ, Bool, not, ◌&&◌, ◌||◌, ◌==◌, codes, decimal, if◌then◌else◌, List, [], ◌++◌, Option, Some, None}
+use Rattle.login.specs.Text.{Pair, pairs, spelled}
+use Rattle.login.specs.Answer.{answers}
+use Rattle.login.specs.Progress.{Progress}
+use Rattle.login.specs.Refusal.{stop_of, kind_of}
+use Rattle.login.specs.declared.status.LoginFlags.{LoginFlags}
+use Rattle.login.specs.declared.status.Kind.{Kind}
+use Rattle.login.specs.declared.status.Kind.TheVariants.{Normal, Discovery}
+use Rattle.login.specs.declared.status.Stop.{Stop}
+use Rattle.login.specs.declared.negotiation.LoginEnd.{LoginEnd}
+use Rattle.login.specs.declared.negotiation.LoginEnd.TheVariants.{Answer, Accepted, Refused, NamesSession, NoMemory}
+use Rattle.login.specs.declared.status.Stop.TheVariants as Stops
+
+-- An answer with its text, after which the login goes on or is over; or the end of a login that is refused.
+pub data Ending : Type 0 where
+  Answered : List ℕ → Ending
+  Finished : List ℕ → Ending
+  Stopped : Stop → Ending
+
+-- the stage behind a request
+abbrev pub next_stage : LoginFlags → ℕ
+next_stage f = if f.transit then f.next_stage else f.current_stage
+
+-- the session type, as the first request said it
+abbrev pub kind_after : Option Kind → List Pair → Option Kind
+kind_after (Some kind) ps = Some kind
+kind_after None ps = kind_of ps
+
+-- TargetPortalGroupTag, in the response of a normal session to its first request
+abbrev pub group_text : ℕ → Option Kind → Option Kind → List ℕ
+group_text tag None (Some Normal) = spelled (codes "TargetPortalGroupTag") (decimal tag)
+group_text tag None (Some Discovery) = []
+group_text tag None None = []
+group_text tag (Some kind) now = []
+
+-- MaxRecvDataSegmentLength, in the first response of stage 1
+abbrev pub length_text : Bool → List ℕ
+length_text tells = if tells then spelled (codes "MaxRecvDataSegmentLength") (codes "65536") else []
+
+abbrev pub tells_length : Progress → LoginFlags → Bool
+tells_length s f = not s.declared && f.current_stage == 1
+
+-- the text of a response: what the target says by itself, then the answers
+abbrev pub response : Progress → LoginFlags → List Pair → List ℕ
+response s f ps =
+    group_text s.tag s.kind (kind_after s.kind ps) ++ length_text (tells_length s f) ++ answers ps
+
+abbrev pub answer_by : Option Stop → LoginFlags → List ℕ → Ending
+answer_by (Some stop) f text = Stopped stop
+answer_by None f text =
+    if f.continues then Answered []
+    else (if next_stage f == 3 then Finished text else Answered text)
+
+-- what a request is answered; a request with C is answered with nothing, until the last of its run
+unfoldable pub answer_to : Progress → LoginFlags → List ℕ → Ending
+answer_to s f text = let whole = s.unfinished ++ text in answer_by (stop_of s f whole) f (response s f (pairs whole))
+
+abbrev pub passed : Progress → LoginFlags → List ℕ → Progress
+passed s f whole =
+    if f.continues then record s { stage = Some f.current_stage; unfinished = whole }
+    else record s {
+      stage = Some (next_stage f);
+      kind = kind_after s.kind (pairs whole);
+      declared = s.declared || f.current_stage == 1;
+      said = s.said ++ whole;
+      unfinished = [];
+    }
+
+abbrev pub after_by : Option Stop → Progress → LoginFlags → List ℕ → Progress
+after_by (Some stop) s f whole = s
+after_by None s f whole = passed s f whole
+
+-- how far the login has come behind a request; a refusal changes nothing
+unfoldable pub after : Progress → LoginFlags → List ℕ → Progress
+after s f text = let whole = s.unfinished ++ text in after_by (stop_of s f whole) s f whole
+
+-- what the end of a request tells, unless memory was short
+abbrev pub told : LoginEnd → Option Ending
+told (Answer text) = Some (Answered text.items)
+told (Accepted text) = Some (Finished text.items)
+told (Refused status) = Some (Stopped (Stops.Refused status))
+told NamesSession = Some (Stopped Stops.NamesSession)
+told NoMemory = None

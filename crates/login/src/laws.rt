@@ -1,0 +1,53 @@
+//! What the definitions say, in the words of RFC 7143.
+ghost use Rattle.std.specs.Prelude.{◌≡◌, ◌≤◌, ◌⊎◌, ◌↔◌, ◌++◌, ℕ, List, Bool, true, false, IsTrue, Some, None, IsSome};
+ghost use Rattle.login.specs.Text.{Pair, ArePairs, is_text, pairs, text_of};
+ghost use Rattle.login.specs.Number.{number_within, flag_in};
+ghost use Rattle.login.specs.Value.{agreed};
+ghost use Rattle.login.specs.Answer.{answers};
+ghost use Rattle.login.specs.Progress.{Progress};
+ghost use Rattle.login.specs.Refusal.{stop_of};
+ghost use Rattle.login.specs.Request.{after, response, length_text, tells_length};
+ghost use Rattle.login.specs.declared.status.Kind.{Kind};
+ghost use Rattle.login.specs.declared.status.LoginFlags.{LoginFlags};
+ghost use Rattle.login.specs.declared.value.Limits.{Limits as Bounds};
+ghost use Rattle.login.specs.declared.value.Rule.TheVariants.{Least, Greatest, Either, Both};
+ghost use Rattle.login.specs.declared.value.Value.TheVariants.{Number, Flag};
+
+/// What pairs spell is a text, and is read as those pairs; and a text is what its pairs spell (RFC 7143, 6.1). So a
+/// text and its pairs tell each other.
+pub fn a_text_and_its_pairs()
+    ensures text { (ps : List Pair) → ArePairs ps → is_text (text_of ps) ≡ true }
+    ensures read { (ps : List Pair) → ArePairs ps → pairs (text_of ps) ≡ ps }
+    ensures spelled { (text : List ℕ) → is_text text ≡ true → text_of (pairs text) ≡ text }
+{}
+
+/// A number that is negotiated is one of both offers, and the lesser or the greater of them (RFC 7143, 6.2.2); an offer
+/// is taken only within the key's range.
+pub fn numbers_that_are_negotiated()
+    ensures range { (limits : Bounds) (value : List ℕ) (offer : ℕ) → number_within limits value ≡ Some offer
+        → (limits.low ≤ offer) × (offer ≤ limits.high) }
+    ensures least { (limits : Bounds) (value : List ℕ) (offer chosen : ℕ) → number_within limits value ≡ Some offer
+        → agreed (Least limits) value ≡ Some (Number chosen)
+        → (chosen ≤ offer) × (chosen ≤ limits.own) × ((chosen ≡ offer) ⊎ (chosen ≡ limits.own)) }
+    ensures greatest { (limits : Bounds) (value : List ℕ) (offer chosen : ℕ) → number_within limits value ≡ Some offer
+        → agreed (Greatest limits) value ≡ Some (Number chosen)
+        → (offer ≤ chosen) × (limits.own ≤ chosen) × ((chosen ≡ offer) ⊎ (chosen ≡ limits.own)) }
+{}
+
+/// A boolean that is negotiated is Yes where one side says Yes, or where both do, by its rule (RFC 7143, 6.2.2).
+pub fn booleans_that_are_negotiated()
+    ensures either { (own : Bool) (value : List ℕ) (offer chosen : Bool) → flag_in value ≡ Some offer
+        → agreed (Either own) value ≡ Some (Flag chosen) → IsTrue chosen ↔ (IsTrue offer ⊎ IsTrue own) }
+    ensures both { (own : Bool) (value : List ℕ) (offer chosen : Bool) → flag_in value ≡ Some offer
+        → agreed (Both own) value ≡ Some (Flag chosen) → IsTrue chosen ↔ (IsTrue offer × IsTrue own) }
+{}
+
+/// Behind the first request that is answered, C apart, the session type is known; from then on the target does not say
+/// its TargetPortalGroupTag again (RFC 7143, 13.9), and once it declared its MaxRecvDataSegmentLength, not that either.
+pub fn what_the_target_says_once()
+    ensures known { (s : Progress) (f : LoginFlags) (text : List ℕ) → stop_of s f (s.unfinished ++ text) ≡ None
+        → f.continues ≡ false → IsSome (after s f text).kind }
+    ensures tag { (s : Progress) (f : LoginFlags) (ps : List Pair) (kind : Kind) → s.kind ≡ Some kind
+        → response s f ps ≡ length_text (tells_length s f) ++ answers ps }
+    ensures length { (s : Progress) (f : LoginFlags) → s.declared ≡ true → tells_length s f ≡ false }
+{}

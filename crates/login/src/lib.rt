@@ -1,0 +1,24 @@
+//! Text and the negotiation of a login (RFC 7143, sections 6 and 13).
+#![tactic(auto)]
+
+mod answer;
+mod checks;
+mod key;
+mod laws;
+mod negotiation;
+mod parameters;
+mod status;
+mod targets;
+mod text;
+mod value;
+
+pub use key::{Key, Row};
+pub use laws::{
+    a_text_and_its_pairs, booleans_that_are_negotiated, numbers_that_are_negotiated,
+    what_the_target_says_once,
+};
+pub use negotiation::{LoginEnd, Negotiation};
+pub use parameters::{Parameters, in_force};
+pub use status::{Kind, LoginFlags, LoginStatus};
+pub use targets::{TextEnd, send_targets};
+pub use value::{Limits, Rule, Value, Word};

@@ -1,0 +1,62 @@
+-- What a session makes of a whole turn: of what came, with what its target answered.
+use Rattle.std.specs.Prelude.{◌≡◌, ℕ, ◌≤◌, List, [], ◌∷◌, Option, None, MatchOption}
+use Rattle.scsi_types.specs.Cdb.{need_of}
+use Rattle.iscsi_pdu.specs.declared.header.ScsiCommand.{ScsiCommand as CommandHeader}
+use Rattle.iscsi_pdu.specs.declared.header.Header.TheVariants.{Initiator}
+use Rattle.iscsi_pdu.specs.declared.header.InitiatorHeader.TheVariants.{ScsiCommand}
+use Rattle.iscsi_pdu.specs.declared.header.TargetHeader.TheVariants.{Reject}
+use Rattle.session.specs.declared.target.TargetAnswer.{TargetAnswer}
+use Rattle.session.specs.declared.verdict.Verdict.{Verdict}
+use Rattle.session.specs.declared.verdict.Verdict.TheVariants.{Accepted, Ignored, Gap, Refused}
+use Rattle.session.specs.declared.verdict.TheConstants.{MAX_READ_LENGTH}
+use Rattle.session.specs.Turn.{Incoming, pdu, Out, Asking, Turn}
+use Rattle.session.specs.Window.{numbers_at}
+use Rattle.session.specs.Verdict.{IsJudged}
+use Rattle.session.specs.Task.{IsAskedFor, reply_data}
+use Rattle.session.specs.Legal.{bhs_of}
+use Rattle.session.specs.Counters.{Counters, after_status, after_command}
+use Rattle.session.specs.AnswerPdus.{read_length, reply_with, completion_of}
+
+-- the PDUs and the counters behind an answer
+abbrev pub TurnOnAnswer : Counters → CommandHeader → ℕ → TargetAnswer → List Out → Counters → Type 0
+TurnOnAnswer s p need answer outs s' =
+    MatchOption (completion_of answer) ((outs ≡ []) × (s' ≡ s))
+    (λ completion. (outs ≡ reply_with s p need (reply_data answer) completion) × (s' ≡ after_status s))
+
+-- an accepted command is called, and its answer goes out
+pub record TurnOnCall (s : Counters) (p : CommandHeader) (d : List ℕ) (call : Option Asking) (outs : List Out)
+    (s' : Counters) : Type 0 where
+  pub within : read_length p ≤ MAX_READ_LENGTH
+  pub asked : IsAskedFor p d call
+  pub answered : TurnOnAnswer (after_command p s) p (need_of asked.asked) asked.answer outs s'
+
+abbrev pub TurnOnAccepted : Incoming → Counters → Option Asking → List Out → Counters → Type 0
+TurnOnAccepted (pdu b (Initiator (ScsiCommand p)) d) s call outs s' = TurnOnCall s p d call outs s'
+TurnOnAccepted came s call outs s' = ⊥
+
+-- the Reject for this reason, with the basic header segment of what came
+abbrev pub reject_out : Counters → ℕ → List ℕ → List Out
+reject_out s reason bhs = record {
+  header = Reject (record { reason = reason; numbers = numbers_at s.stat_sn s.exp_cmd_sn });
+  bytes = bhs;
+} ∷ []
+
+-- nothing is called, this goes out, and these are the counters behind it
+pub record TurnUncalled (call : Option Asking) (outs wanted : List Out) (s' next : Counters) : Type 0 where
+  pub no_call : call ≡ None
+  pub outs_are : outs ≡ wanted
+  pub next_is : s' ≡ next
+
+-- what a verdict makes of a turn
+abbrev pub TurnOnVerdict : Verdict → Counters → Incoming → Option Asking → List Out → Counters → Type 0
+TurnOnVerdict Accepted s came call outs s' = TurnOnAccepted came s call outs s'
+TurnOnVerdict Ignored s came call outs s' = TurnUncalled call outs [] s' s
+TurnOnVerdict Gap s came call outs s' = TurnUncalled call outs [] s' s
+TurnOnVerdict (Refused reason) s came call outs s' =
+    TurnUncalled call outs (reject_out s reason (bhs_of came)) s' (after_status s)
+
+-- what a session makes of what came
+pub record TurnOf (s : Counters) (came : Incoming) (t : Turn) (s' : Counters) : Type 0 where
+  pub came_is : t.came ≡ came
+  pub judged : IsJudged s.exp_cmd_sn came t.verdict
+  pub made : TurnOnVerdict t.verdict s came t.call t.sent s'

@@ -1,0 +1,76 @@
+//! The SCSI Response of a command (RFC 7143, 11.4).
+ghost use Rattle.std.specs.Prelude.{◌≡◌, None};
+ghost use Rattle.session.specs.Transfer.{transfer_of};
+ghost use Rattle.session.specs.AnswerPdus.{response_for};
+
+use crate::actions::OpenTask;
+use crate::transfer::{expected_data_length, residual};
+use iscsi_pdu::{Numbers, ScsiResponse};
+use scsi_types::{Reply, Sense, Status};
+
+/// Response codes (RFC 7143, 11.4.3): the command was completed at the target, with a status.
+pub const COMPLETED: u8 = 0x00;
+
+/// The target failed: there is no status.
+pub const TARGET_FAILURE: u8 = 0x01;
+
+/// What a SCSI Response tells of an answer.
+#[derive(Clone, Copy, Debug)]
+pub struct Completion {
+    pub response: u8,
+    pub status: Status,
+    pub sense: Option<Sense>,
+}
+
+impl Completion {
+    /// What a reply tells.
+    pub fn of(reply: &Reply) -> Completion
+        ensures { result ≡ record { response = COMPLETED; status = reply.now.status; sense = reply.now.sense } }
+    {
+        Completion {
+            response: COMPLETED,
+            status: reply.status(),
+            sense: reply.sense(),
+        }
+    }
+
+    /// A response code and a status, without sense.
+    pub fn bare(response: u8, status: Status) -> Completion
+        ensures { result ≡ record { response = response; status = status; sense = None } }
+    {
+        Completion {
+            response,
+            status,
+            sense: None,
+        }
+    }
+}
+
+/// The SCSI Response with these numbers, behind so many Data-In, where the target returned so many bytes.
+pub fn scsi_response(
+    numbers: Numbers,
+    task: &OpenTask,
+    returned: usize,
+    data_ins: u32,
+    completion: Completion,
+) -> ScsiResponse
+    ensures { result ≡ response_for numbers task.now.command
+        (transfer_of task.now.command task.now.need returned) data_ins completion }
+{
+    let expected_length = u64::from(expected_data_length(&task.command));
+    let transfer = if task.command.write {
+        u64::from(task.need)
+    } else {
+        returned as u64
+    };
+    ScsiResponse {
+        overflow: expected_length < transfer,
+        underflow: transfer < expected_length,
+        response: completion.response,
+        status: completion.status.code(),
+        task_tag: task.command.task_tag,
+        numbers,
+        exp_data_sn: data_ins,
+        residual: residual(expected_length, transfer),
+    }
+}

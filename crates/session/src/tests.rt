@@ -1,7 +1,0 @@
-mod answers;
-mod fakes;
-mod pdus;
-mod rejects;
-mod residuals;
-mod streams;
-mod window;

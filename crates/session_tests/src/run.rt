@@ -1,0 +1,141 @@
+//! The runner of the tables, and the target that it serves.
+use scsi_types::{Asked, Command, Reply, Sense};
+use session::{End, Start, Target, TargetAnswer, Watched, serve_stream};
+use std::alloc::Global;
+use std::process::Abort;
+use std::test::Fail;
+use test_streams::{
+    Calls, FakeReader, FakeWriter, GOOD, PduRow, Segment, TEST_UNIT_READY, WHOLE, pattern, spelled,
+};
+
+/// What a target answers to each command.
+#[derive(Clone, Copy, Debug)]
+pub enum Answer {
+    /// GOOD with so many bytes of the pattern.
+    Good(usize),
+    /// CHECK CONDITION with this sense key, code and qualifier, for a unit that is not there.
+    Check(u8, u8, u8),
+    Busy,
+    Gone,
+    Halted,
+}
+
+/// A target that answers each command alike, and keeps what it was asked and given.
+#[derive(Drop)]
+struct Fixed {
+    alloc: Global,
+    answer: Answer,
+    asked: Vec<(Option<u8>, Asked)>,
+    given: Vec<u8>,
+}
+
+impl Target for Fixed {
+    ghost leads = { λ old question answer new. Unit {0} };
+
+    fn serve(&mut self, unit: Option<u8>, asked: Asked, bytes: &[u8]) -> TargetAnswer {
+        if self.asked.push((unit, asked)).is_err() || self.given.extend_from_slice(bytes).is_err() {
+            return TargetAnswer::Busy;
+        }
+        match self.answer {
+            Answer::Good(len) => match pattern(self.alloc, len) {
+                Ok(bytes) => TargetAnswer::Replied(Reply::good(bytes)),
+                Err(_) => TargetAnswer::Busy,
+            },
+            Answer::Check(key, code, qualifier) => {
+                let sense = Sense::new(key, code, qualifier);
+                TargetAnswer::Outside(Reply::check(self.alloc, sense))
+            }
+            Answer::Busy => TargetAnswer::Busy,
+            Answer::Gone => TargetAnswer::Gone,
+            Answer::Halted => TargetAnswer::Halted,
+        }
+    }
+}
+
+/// How a session ended, what it wrote, and what its target was asked and given.
+#[derive(Drop)]
+pub struct Ran {
+    pub end: End,
+    pub output: Vec<u8>,
+    pub asked: Vec<(Option<u8>, Asked)>,
+    pub given: Vec<u8>,
+}
+
+/// CmdSN 1 and StatSN 1.
+pub const FROM_ONE: Start = Start {
+    exp_cmd_sn: 1,
+    stat_sn: 1,
+};
+
+/// Serves this input, read and written so.
+pub fn serve(
+    alloc: Global,
+    input: &[u8],
+    reads: Calls,
+    writes: Calls,
+    start: Start,
+    answer: Answer,
+) -> Result<Ran, Fail> {
+    let mut source = Watched::new(FakeReader::new(input, reads));
+    let mut sink = Watched::new(FakeWriter::new(alloc, writes));
+    let mut target = Fixed {
+        alloc,
+        answer,
+        asked: Vec::new(alloc),
+        given: Vec::new(alloc),
+    };
+    let end = serve_stream(alloc, &mut source, &mut sink, &mut target, start)?;
+    Ok(Ran {
+        end,
+        output: sink.into_inner().into_bytes(),
+        asked: target.asked,
+        given: target.given,
+    })
+}
+
+/// A session as a row of a table.
+#[derive(Clone, Copy, Debug)]
+pub struct Row {
+    pub name: &'static str,
+    pub start: Start,
+    /// What comes.
+    pub input: &'static [PduRow<'static>],
+    /// What the target answers.
+    pub answer: Answer,
+    /// What it is asked, and how many bytes of the pattern it is given.
+    pub asked: &'static [(Option<u8>, Asked)],
+    pub given: usize,
+    /// What goes out, and how the session ends.
+    pub output: &'static [PduRow<'static>],
+    pub end: End,
+}
+
+/// What a target is asked by a TEST UNIT READY to LUN 0.
+pub const TEST: (Option<u8>, Asked) = (Some(0), Ok(Command::TestUnitReady));
+
+/// From CmdSN 1 and StatSN 1, one TEST UNIT READY that is served, and the end of the input.
+pub const PLAIN: Row = Row {
+    name: "TEST UNIT READY",
+    start: FROM_ONE,
+    input: &[PduRow(&TEST_UNIT_READY, &[], Segment::None)],
+    answer: Answer::Good(0),
+    asked: &[TEST],
+    given: 0,
+    output: &[PduRow(&GOOD, &[], Segment::None)],
+    end: End::EndOfInput,
+};
+
+/// Serves each row, and compares.
+pub fn run(rt: &impl Abort, alloc: Global, rows: &[Row]) -> Result<(), Fail> {
+    for row in rows {
+        let input = spelled(alloc, row.input)?;
+        let output = spelled(alloc, row.output)?;
+        let given = pattern(alloc, row.given)?;
+        let ran = serve(alloc, &input, WHOLE, WHOLE, row.start, row.answer)?;
+        assert_eq!(rt; ran.end, row.end, "{}", row.name);
+        assert_eq!(rt; ran.output.as_slice(), output.as_slice(), "{}", row.name);
+        assert_eq!(rt; ran.asked.as_slice(), row.asked, "{}", row.name);
+        assert_eq!(rt; ran.given.as_slice(), given.as_slice(), "{}", row.name);
+    }
+    Ok(())
+}

@@ -1,0 +1,126 @@
+//! The command window (RFC 7143, 4.2.2.1).
+use crate::run::{PLAIN, Row, TEST, run};
+use session::{End, Start};
+use std::test::*;
+use test_streams::{GOOD, PduRow, Segment, TEST_UNIT_READY};
+
+const ROWS: &[Row] = &[
+    PLAIN,
+    Row {
+        name: "CmdSN 0 is behind the window",
+        input: &[PduRow(&TEST_UNIT_READY, &[(24, &[0, 0, 0, 0])], Segment::None)],
+        asked: &[],
+        output: &[],
+        ..PLAIN
+    },
+    Row {
+        name: "CmdSN FFFFFFFFh is behind the window",
+        input: &[PduRow(
+            &TEST_UNIT_READY,
+            &[(24, &[0xFF, 0xFF, 0xFF, 0xFF])],
+            Segment::None,
+        )],
+        asked: &[],
+        output: &[],
+        ..PLAIN
+    },
+    Row {
+        name: "CmdSN 2 leaves a gap",
+        input: &[PduRow(&TEST_UNIT_READY, &[(24, &[0, 0, 0, 2])], Segment::None)],
+        asked: &[],
+        output: &[],
+        end: End::Protocol,
+        ..PLAIN
+    },
+    Row {
+        name: "CmdSN 3 leaves a gap",
+        input: &[PduRow(&TEST_UNIT_READY, &[(24, &[0, 0, 0, 3])], Segment::None)],
+        asked: &[],
+        output: &[],
+        end: End::Protocol,
+        ..PLAIN
+    },
+    Row {
+        name: "CmdSN 32, the last of the window, leaves a gap",
+        input: &[PduRow(&TEST_UNIT_READY, &[(24, &[0, 0, 0, 32])], Segment::None)],
+        asked: &[],
+        output: &[],
+        end: End::Protocol,
+        ..PLAIN
+    },
+    Row {
+        name: "CmdSN 33 is ahead of the window",
+        input: &[PduRow(&TEST_UNIT_READY, &[(24, &[0, 0, 0, 33])], Segment::None)],
+        asked: &[],
+        output: &[],
+        ..PLAIN
+    },
+    Row {
+        name: "the command behind an ignored one is served",
+        input: &[
+            PduRow(&TEST_UNIT_READY, &[(24, &[0, 0, 0, 0])], Segment::None),
+            PduRow(&TEST_UNIT_READY, &[], Segment::None),
+        ],
+        ..PLAIN
+    },
+    // StatSN FFFFFFFFh, ExpCmdSN 0 and MaxCmdSN 31; then StatSN 0, ExpCmdSN 1 and MaxCmdSN 32.
+    Row {
+        name: "numbers wrap round",
+        start: Start {
+            exp_cmd_sn: 0xFFFF_FFFF,
+            stat_sn: 0xFFFF_FFFF,
+        },
+        input: &[
+            PduRow(
+                &TEST_UNIT_READY,
+                &[(24, &[0xFF, 0xFF, 0xFF, 0xFF])],
+                Segment::None,
+            ),
+            PduRow(&TEST_UNIT_READY, &[(24, &[0, 0, 0, 0])], Segment::None),
+        ],
+        asked: &[TEST, TEST],
+        output: &[
+            PduRow(
+                &GOOD,
+                &[(24, &[0xFF, 0xFF, 0xFF, 0xFF, 0, 0, 0, 0, 0, 0, 0, 0x1F])],
+                Segment::None,
+            ),
+            PduRow(
+                &GOOD,
+                &[(24, &[0, 0, 0, 0, 0, 0, 0, 1, 0, 0, 0, 0x20])],
+                Segment::None,
+            ),
+        ],
+        ..PLAIN
+    },
+    Row {
+        name: "an immediate command takes no number",
+        input: &[
+            PduRow(
+                &TEST_UNIT_READY,
+                &[(0, &[0x41]), (24, &[0, 0, 0, 7])],
+                Segment::None,
+            ),
+            PduRow(&TEST_UNIT_READY, &[], Segment::None),
+        ],
+        asked: &[TEST, TEST],
+        output: &[
+            PduRow(
+                &GOOD,
+                &[(24, &[0, 0, 0, 1, 0, 0, 0, 1, 0, 0, 0, 0x20])],
+                Segment::None,
+            ),
+            PduRow(
+                &GOOD,
+                &[(24, &[0, 0, 0, 2, 0, 0, 0, 2, 0, 0, 0, 0x21])],
+                Segment::None,
+            ),
+        ],
+        ..PLAIN
+    },
+];
+
+#[test]
+fn the_window(rt: HostRuntime) -> Result<(), Fail> {
+    run(&rt, rt.alloc(), ROWS)
+}

@@ -1,0 +1,13 @@
+//! What tests over streams of bytes share: a reader and a writer that do as they are told, and PDUs as rows of data.
+#![tactic(auto)]
+
+mod calls;
+mod pdus;
+mod rows;
+
+pub use calls::{Calls, FakeReader, FakeWriter, ONE_BYTE, WHOLE};
+pub use pdus::{
+    CHECK_CONDITION, DATA_IN, F_BIT, GOOD, OVERFLOW, READ_AND_WRITE, READS, REJECT,
+    TEST_UNIT_READY, UNDERFLOW, WRITES,
+};
+pub use rows::{PduRow, RowError, Segment, pattern, spelled};

@@ -1,0 +1,110 @@
+//! PDUs as data: a header segment that is known, what differs from it, and the data segment.
+ghost use Rattle.std.specs.Prelude.{◌≡◌};
+
+use std::alloc::{AllocError, Global};
+
+/// A data segment.
+#[derive(Clone, Copy, Debug)]
+pub enum Segment<'a> {
+    None,
+    Bytes(&'a [u8]),
+    /// So many of each byte, one run behind another.
+    Runs(&'a [(usize, u8)]),
+    /// So many of the bytes 0, 1, 2, .. modulo 251, which no shift of them is.
+    Pattern(usize),
+    /// The header segment of a PDU that is rejected, and what differs from it.
+    Rejected(&'a [u8; 48], &'a [(usize, &'a [u8])]),
+}
+
+/// A PDU as a row of a table: the header segment from which it starts, the bytes that stand at a place in place of
+/// others, and its data segment, without padding.
+#[derive(Clone, Copy, Debug)]
+pub struct PduRow<'a>(
+    pub &'a [u8; 48],
+    pub &'a [(usize, &'a [u8])],
+    pub Segment<'a>,
+);
+
+/// Why rows could not be spelled.
+#[derive(Debug, Drop)]
+pub enum RowError {
+    NoMemory,
+    /// A change passes the header segment's end.
+    Outside,
+}
+
+impl From<AllocError> for RowError {
+    ghost use Rattle.test_streams.specs.declared.rows.RowError.{RowError};
+
+    ghost from_gives = { λ e r. r ≡ RowError.NoMemory };
+
+    fn from(_error: AllocError) -> Self {
+        RowError::NoMemory
+    }
+}
+
+/// The bytes of these PDUs, one behind another, each with zeros up to a multiple of four.
+pub fn spelled(alloc: Global, rows: &[PduRow<'_>]) -> Result<Vec<u8>, RowError> {
+    let mut bytes = Vec::new(alloc);
+    for row in rows {
+        let bhs = changed(row.0, row.1)?;
+        bytes.extend_from_slice(&bhs)?;
+        match row.2 {
+            Segment::None => {}
+            Segment::Bytes(segment) => bytes.extend_from_slice(segment)?,
+            Segment::Runs(runs) => put_runs(&mut bytes, runs)?,
+            Segment::Pattern(len) => put_pattern(&mut bytes, len)?,
+            Segment::Rejected(bhs, changes) => {
+                let segment = changed(bhs, changes)?;
+                bytes.extend_from_slice(&segment)?;
+            }
+        }
+        put_padding(&mut bytes)?;
+    }
+    Ok(bytes)
+}
+
+// The header segment with its changes.
+fn changed(bhs: &[u8; 48], changes: &[(usize, &[u8])]) -> Result<[u8; 48], RowError> {
+    let mut new = *bhs;
+    for (at, bytes) in changes {
+        let room = new.get_mut(*at..).ok_or(RowError::Outside)?;
+        let place = room.get_mut(..bytes.len()).ok_or(RowError::Outside)?;
+        place.copy_from_slice(bytes);
+    }
+    Ok(new)
+}
+
+// Appends zeros up to a multiple of four.
+fn put_padding(bytes: &mut Vec<u8>) -> Result<(), AllocError> {
+    for _ in 0..3 {
+        if bytes.len() % 4 != 0 {
+            bytes.push(0)?;
+        }
+    }
+    Ok(())
+}
+
+// Appends so many of each byte.
+fn put_runs(bytes: &mut Vec<u8>, runs: &[(usize, u8)]) -> Result<(), AllocError> {
+    for (len, byte) in runs {
+        for _ in 0..*len {
+            bytes.push(*byte)?;
+        }
+    }
+    Ok(())
+}
+
+fn put_pattern(bytes: &mut Vec<u8>, len: usize) -> Result<(), AllocError> {
+    for i in 0..len {
+        bytes.push((i % 251) as u8)?;
+    }
+    Ok(())
+}
+
+/// So many bytes of the pattern.
+pub fn pattern(alloc: Global, len: usize) -> Result<Vec<u8>, AllocError> {
+    let mut bytes = Vec::new(alloc);
+    put_pattern(&mut bytes, len)?;
+    Ok(bytes)
+}

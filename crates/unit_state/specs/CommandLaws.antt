@@ -1,0 +1,116 @@
+-- Laws of commands, for those who serve them.
+use Rattle.std.proofs.Common.{◌≡◌, ◌≢◌, ⊎_elim, ℕ, ◌+◌, true, false, nat_eq, List, [], ◌∷◌, Option, Some, None, Result, Ok, Err, refl, ap, ◌∙◌}
+use Rattle.std.proofs.lemmas.Bool.Decides.{eqb_tells}
+use Rattle.reservations.specs.declared.request.Told.{Told}
+use Rattle.reservations.specs.Rows.{Effect, Done, Conflicting, Refused, Full}
+use Rattle.scsi_types.specs.declared.names.Group.{Group}
+use Rattle.scsi_types.specs.declared.command.Command.{Command as ScsiCommand}
+use Rattle.scsi_types.specs.declared.command.Command.TheVariants as commands
+use Rattle.scsi_types.specs.declared.command.CdbFault.{CdbFault}
+use Rattle.unit_state.specs.declared.refusal.Refusal.{Refusal}
+use Rattle.unit_state.specs.declared.refusal.Refusal.TheVariants.{Attention, Conflict, Check}
+use Rattle.unit_state.specs.declared.sessions.Attached.{Attached}
+use Rattle.unit_state.specs.State.{ControlValue}
+use Rattle.unit_state.specs.Choice.{Choice}
+use Rattle.unit_state.specs.Refusal.{Request, request, refusal}
+use Rattle.unit_state.specs.Reserve.{all_heard, after_effect, effect_by, pr_out}
+use Rattle.unit_state.specs.Sessions.{next_of, passed, told}
+use Rattle.unit_state.specs.Entry.{Command, IsNext, control_with, control_after, left_asked}
+
+-- the serial of a session that had one command more
+pub next_passed : (sessions : List Attached) (id serial : ℕ) → next_of sessions id ≡ Some serial → next_of (passed sessions id) id ≡ Some (serial + 1)
+next_passed [] id serial h = absurd (cc)
+next_passed (a ∷ rest) id serial h =
+    ⊎_elim (λ (t : (nat_eq a.id id ≡ true) × (a.id ≡ id)). let here : Some a.next ≡ Some serial = rw t.0 at h in let e : a.next ≡ serial = cc in rw t.0 (rw t.0 (ap (λ (m : ℕ). let o : Option ℕ = Some (m + 1) in o) e)))
+    (λ (f : (nat_eq a.id id ≡ false) × (a.id ≢ id)). rw f.0 (rw f.0 (next_passed rest id serial (rw f.0 at h))))
+    (eqb_tells a.id id)
+
+-- one that was told an attention keeps its own
+next_told : (sessions : List Attached) (id : ℕ) → next_of (told sessions id) id ≡ next_of sessions id
+next_told [] id = refl
+next_told (a ∷ rest) id =
+    ⊎_elim (λ (t : (nat_eq a.id id ≡ true) × (a.id ≡ id)). rw t.0 (rw t.0 refl))
+    (λ (f : (nat_eq a.id id ≡ false) × (a.id ≢ id)). rw f.0 (rw f.0 (next_told rest id)))
+    (eqb_tells a.id id)
+
+-- as does one that hears of a PERSISTENT RESERVE OUT
+next_heard : (codes : List Told) (sessions : List Attached) (id : ℕ) → next_of (all_heard codes sessions) id ≡ next_of sessions id
+next_heard codes [] id = refl
+next_heard codes (a ∷ rest) id =
+    ⊎_elim (λ (t : (nat_eq a.id id ≡ true) × (a.id ≡ id)). rw t.0 refl)
+    (λ (f : (nat_eq a.id id ≡ false) × (a.id ≢ id)). rw f.0 (next_heard codes rest id))
+    (eqb_tells a.id id)
+
+next_after_effect : (c : ControlValue) (session : ℕ) (e : Effect) → next_of (after_effect c e).sessions session ≡ next_of c.sessions session
+next_after_effect c session (Done new codes) = next_heard codes c.sessions session
+next_after_effect c session Conflicting = refl
+next_after_effect c session (Refused asc ascq) = refl
+next_after_effect c session Full = refl
+
+next_left : (c : ControlValue) (session : ℕ) (asked : Result ScsiCommand CdbFault) (bytes : List ℕ) → next_of (left_asked c session asked bytes).sessions session ≡ next_of c.sessions session
+next_left c session (Err fault) bytes = refl
+next_left c session (Ok (commands.RequestSense allocation)) bytes = next_told c.sessions session
+next_left c session (Ok (commands.PersistentReserveOut action scope kind list_length)) bytes = next_after_effect c session (effect_by c session (pr_out action scope kind bytes))
+next_left c session (Ok commands.TestUnitReady) bytes = refl
+next_left c session (Ok (commands.Inquiry page allocation)) bytes = refl
+next_left c session (Ok (commands.ModeSense header control page allocation)) bytes = refl
+next_left c session (Ok commands.ReadCapacity10) bytes = refl
+next_left c session (Ok (commands.ReadCapacity16 allocation)) bytes = refl
+next_left c session (Ok (commands.Read lba blocks fua)) bytes = refl
+next_left c session (Ok (commands.Write lba blocks fua)) bytes = refl
+next_left c session (Ok (commands.CompareAndWrite lba blocks fua)) bytes = refl
+next_left c session (Ok (commands.SynchronizeCache lba blocks)) bytes = refl
+next_left c session (Ok (commands.PersistentReserveIn action allocation)) bytes = refl
+next_left c session (Ok (commands.ReportLuns select allocation)) bytes = refl
+next_left c session (Ok (commands.ReportTargetPortGroups allocation)) bytes = refl
+next_left c session (Ok (commands.SetTargetPortGroups list_length)) bytes = refl
+
+-- what a command leaves before it is counted has its serial still
+pub next_kept : (refused : Option Refusal) (c : ControlValue) (r : Request) (choice : Choice) → next_of (control_with refused c r choice).sessions r.session ≡ next_of c.sessions r.session
+next_kept (Some (Attention a)) c r choice = next_told c.sessions r.session
+next_kept (Some Conflict) c r choice = refl
+next_kept (Some (Check s)) c r choice = refl
+next_kept None c r choice = next_left c r.session r.asked r.bytes
+
+-- and the count of entries
+count_after_effect : (c : ControlValue) (e : Effect) → (after_effect c e).count ≡ c.count
+count_after_effect c (Done new codes) = refl
+count_after_effect c Conflicting = refl
+count_after_effect c (Refused asc ascq) = refl
+count_after_effect c Full = refl
+
+count_left : (c : ControlValue) (session : ℕ) (asked : Result ScsiCommand CdbFault) (bytes : List ℕ) → (left_asked c session asked bytes).count ≡ c.count
+count_left c session (Err fault) bytes = refl
+count_left c session (Ok (commands.RequestSense allocation)) bytes = refl
+count_left c session (Ok (commands.PersistentReserveOut action scope kind list_length)) bytes = count_after_effect c (effect_by c session (pr_out action scope kind bytes))
+count_left c session (Ok commands.TestUnitReady) bytes = refl
+count_left c session (Ok (commands.Inquiry page allocation)) bytes = refl
+count_left c session (Ok (commands.ModeSense header control page allocation)) bytes = refl
+count_left c session (Ok commands.ReadCapacity10) bytes = refl
+count_left c session (Ok (commands.ReadCapacity16 allocation)) bytes = refl
+count_left c session (Ok (commands.Read lba blocks fua)) bytes = refl
+count_left c session (Ok (commands.Write lba blocks fua)) bytes = refl
+count_left c session (Ok (commands.CompareAndWrite lba blocks fua)) bytes = refl
+count_left c session (Ok (commands.SynchronizeCache lba blocks)) bytes = refl
+count_left c session (Ok (commands.PersistentReserveIn action allocation)) bytes = refl
+count_left c session (Ok (commands.ReportLuns select allocation)) bytes = refl
+count_left c session (Ok (commands.ReportTargetPortGroups allocation)) bytes = refl
+count_left c session (Ok (commands.SetTargetPortGroups list_length)) bytes = refl
+
+kept_count : (refused : Option Refusal) (c : ControlValue) (r : Request) (choice : Choice) → (control_with refused c r choice).count ≡ c.count
+kept_count (Some (Attention a)) c r choice = refl
+kept_count (Some Conflict) c r choice = refl
+kept_count (Some (Check s)) c r choice = refl
+kept_count None c r choice = count_left c r.session r.asked r.bytes
+
+module _ (c : ControlValue) (session serial : ℕ) (by_group : Group) (asked : Result ScsiCommand CdbFault) (bytes : List ℕ) (choice : Choice) where
+  abbrev r : Request
+  r = request session asked bytes
+
+  -- behind a command its session's next serial is one more
+  pub next_after : IsNext c session serial → next_of (control_after c (Command session serial by_group asked bytes choice)).sessions session ≡ Some (serial + 1)
+  next_after is = next_passed (control_with (refusal c r) c r choice).sessions session serial (next_kept (refusal c r) c r choice ∙ is.next)
+
+  -- and the history has one entry more
+  pub count_after : (control_after c (Command session serial by_group asked bytes choice)).count ≡ c.count + 1
+  count_after = ap (λ (n : ℕ). n + 1) (kept_count (refusal c r) c r choice)

@@ -1,0 +1,160 @@
+//! A unit with the sessions of a test, and its device.
+use crate::bytes::{Runs, cdb_of, spelled};
+use block_file::{Blocks, DeviceFailed, FusedBlocks, MemBlocks};
+use scsi_types::{Group, Place, PortName, decode};
+use std::alloc::{AllocError, Global};
+use std::test::Fail;
+use unit_state::{AttachFault, Gone, SessionId, StepEnd, Unit};
+
+/// How a device in memory fails.
+#[derive(Clone, Copy, Debug)]
+pub enum Fuse {
+    Never,
+    /// Behind so many calls of read, write and flush.
+    After(u64),
+    /// The same, but a write that fails has been written.
+    Landing(u64),
+}
+
+/// A call of a unit. Sessions go by the order in which they were attached: 0, 1, 2, ..
+#[derive(Clone, Copy)]
+pub enum Call {
+    /// Attaches the port of this ISID through a group.
+    Attach(u64, Group),
+    Detach(usize),
+    Reset(usize),
+    /// The next command of a session with its data, by the session's own group.
+    Send(usize, &'static str, Runs),
+    /// The same, and where the unit belongs to the other group, once more by that one.
+    Forward(usize, &'static str, Runs),
+    /// A command of the session of this id with this serial, by the first group.
+    Serial(SessionId, u64, &'static str, Runs),
+}
+
+/// What a call ended with.
+#[derive(Debug, Drop)]
+pub enum Ended {
+    Step(StepEnd),
+    Attach(Result<SessionId, AttachFault>),
+    Session(Result<(), Gone>),
+}
+
+/// A session that was attached: its id, its group, and the serial of its next command.
+#[derive(Clone, Copy)]
+struct Attached {
+    id: SessionId,
+    group: Group,
+    next: u64,
+}
+
+/// A unit over memory behind a fuse, and the sessions that were attached to it.
+#[derive(Drop)]
+pub struct Bench {
+    alloc: Global,
+    unit: Unit<FusedBlocks<MemBlocks>>,
+    sessions: Vec<Attached>,
+}
+
+impl Bench {
+    /// A unit of so many blocks of zeros.
+    pub fn open(alloc: Global, place: Place, blocks: u32, fuse: Fuse) -> Result<Bench, Fail> {
+        let memory = MemBlocks::new(alloc, blocks)?;
+        let device = match fuse {
+            Fuse::Never => FusedBlocks::new(memory, u64::MAX),
+            Fuse::After(calls) => FusedBlocks::new(memory, calls),
+            Fuse::Landing(calls) => FusedBlocks::landing(memory, calls),
+        };
+        Ok(Bench {
+            alloc,
+            unit: Unit::open(alloc, place, device)?,
+            sessions: Vec::new(alloc),
+        })
+    }
+
+    /// Makes a call.
+    pub fn call(&mut self, call: Call) -> Result<Ended, Fail> {
+        match call {
+            Call::Attach(isid, group) => Ok(Ended::Attach(self.attach(isid, group)?)),
+            Call::Detach(session) => {
+                let id = self.session(session)?.id;
+                Ok(Ended::Session(self.unit.detach(id)))
+            }
+            Call::Reset(session) => {
+                let id = self.session(session)?.id;
+                Ok(Ended::Session(self.unit.reset(id)))
+            }
+            Call::Send(session, cdb, runs) => Ok(Ended::Step(self.send(
+                session, cdb, runs, false,
+            )?)),
+            Call::Forward(session, cdb, runs) => Ok(Ended::Step(self.send(
+                session, cdb, runs, true,
+            )?)),
+            Call::Serial(id, serial, cdb, runs) => {
+                let end = self.submit(id, serial, Group::One, cdb, runs)?;
+                Ok(Ended::Step(end))
+            }
+        }
+    }
+
+    /// Hands the memory back.
+    pub fn close(self) -> MemBlocks {
+        let Bench { unit, .. } = self;
+        unit.close().into_inner()
+    }
+
+    fn session(&self, at: usize) -> Result<Attached, Fail> {
+        let session = self.sessions.get(at).ok_or("a session that was attached")?;
+        Ok(*session)
+    }
+
+    fn attach(&mut self, isid: u64, group: Group) -> Result<Result<SessionId, AttachFault>, Fail> {
+        let name = b"iqn.2026-01.example:host".to_vec(self.alloc)?;
+        let end = self.unit.attach(PortName::new(name, isid), group);
+        if let Ok(id) = end {
+            self.sessions.push(Attached { id, group, next: 1 })?;
+        }
+        Ok(end)
+    }
+
+    // A reply counts; what has none is no command of the session.
+    fn send(&mut self, at: usize, cdb: &str, runs: Runs, again: bool) -> Result<StepEnd, Fail> {
+        let Attached { id, group, next } = self.session(at)?;
+        let mut end = self.submit(id, next, group, cdb, runs)?;
+        if let StepEnd::Moved(owner) = end {
+            if again {
+                end = self.submit(id, next, owner, cdb, runs)?;
+            }
+        }
+        if let StepEnd::Reply(_) = end {
+            if let Some(session) = self.sessions.get_mut(at) {
+                session.next = next.wrapping_add(1);
+            }
+        }
+        Ok(end)
+    }
+
+    fn submit(
+        &mut self,
+        id: SessionId,
+        serial: u64,
+        by: Group,
+        cdb: &str,
+        runs: Runs,
+    ) -> Result<StepEnd, AllocError> {
+        let asked = decode(&cdb_of(self.alloc, cdb)?);
+        let bytes = spelled(self.alloc, runs)?;
+        Ok(self.unit.step(self.alloc, id, serial, by, asked, &bytes))
+    }
+}
+
+/// The byte that fills a block, where one does.
+pub fn filled_by(device: &mut MemBlocks, index: u32) -> Option<u8> {
+    if index >= device.count() {
+        return None;
+    }
+    let mut block = [0xEE; 512];
+    match device.read(index, &mut block) {
+        Ok(()) if block == [block[0]; 512] => Some(block[0]),
+        Ok(()) | Err(DeviceFailed) => None,
+    }
+}

@@ -1,0 +1,19 @@
+//! Tests of a logical unit over its public calls: each table has rows of what sessions ask, and of what is answered.
+#![tactic(auto)]
+
+#[cfg(test)]
+mod bench;
+#[cfg(test)]
+mod bytes;
+#[cfg(test)]
+mod failing;
+#[cfg(test)]
+mod identities;
+#[cfg(test)]
+mod medium;
+#[cfg(test)]
+mod run;
+#[cfg(test)]
+mod sessions;
+#[cfg(test)]
+mod unit_attentions;
