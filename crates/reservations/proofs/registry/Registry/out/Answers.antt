@@ -1,0 +1,9 @@
+use Rattle.reservations.specs.Nexus.{through}
+use Rattle.reservations.specs.Seen.{value_of}
+use Rattle.reservations.proofs.Sound.{stays_sound}
+use Rattle.reservations.proofs.registry.Registry.out.Goals as goal
+
+pub invariant_of-self : goal.invariant_of-self
+invariant_of-self c =
+    stays_sound c.out.result (value_of c.self.inside.table) (value_of c.out.new.self) (through c.args.port.now c.args.group) c.args.request
+    c.out.ensures c.self.invariant
