@@ -8,6 +8,8 @@ mod bytes;
 #[cfg(test)]
 mod failing;
 #[cfg(test)]
+mod fencing;
+#[cfg(test)]
 mod identities;
 #[cfg(test)]
 mod medium;

@@ -17,6 +17,8 @@ pub enum End {
     Check(u8, u8, u8),
     /// CHECK CONDITION with these 18 bytes of sense.
     Told(&'static str),
+    /// RESERVATION CONFLICT.
+    Conflict,
     Moved(Group),
     Gone,
     Attached(SessionId),
@@ -138,6 +140,11 @@ fn is_reply(alloc: Global, reply: &Reply, end: End) -> Result<bool, AllocError> 
             };
             Ok(is_check(reply) && sense.to_bytes().as_slice() == bytes.as_slice())
         }
+        End::Conflict => Ok(
+            reply.status() == Status::ReservationConflict
+                && reply.sense() == None
+                && reply.bytes().is_empty(),
+        ),
         _ => Ok(false),
     }
 }

@@ -1,0 +1,126 @@
+//! Persistent reservations: who registers, who is fenced, who hears of it (SPC-4, 5.13, 6.15 and 6.16).
+use crate::bench::Call::{Attach, Forward, Send};
+use crate::bench::Fuse;
+use crate::bytes::Runs;
+use crate::run::End::{Attached, Check, Conflict, Good};
+use crate::run::{FIRST, Row, Script, run, table};
+use scsi_types::Group::{One, Two};
+use std::test::Fail;
+
+const TEST: &str = "00";
+
+const READ: &str = "28 00 00000000 00 0001";
+
+const WRITE: &str = "2A 00 00000000 00 0001";
+
+const BLOCK: Runs = &[(512, "5A")];
+
+const REGISTER: &str = "5F 00 00 0000 00000018";
+
+const READ_KEYS: &str = "5E 00 0000000000 00FF";
+
+const READ_RESERVATION: &str = "5E 01 0000000000 00FF";
+
+/// Parameter lists: a reservation key and a service action reservation key.
+const REGISTER_11: Runs = &[(15, "00"), (1, "11"), (8, "00")];
+
+const REGISTER_22: Runs = &[(15, "00"), (1, "22"), (8, "00")];
+
+const REGISTER_33: Runs = &[(15, "00"), (1, "33"), (8, "00")];
+
+const KEY_11: Runs = &[(7, "00"), (1, "11"), (16, "00")];
+
+const KEY_22: Runs = &[(7, "00"), (1, "22"), (16, "00")];
+
+/// Four sessions that were told of their power on.
+const FOUR: &[Row] = table! {
+    "the first session": Attach(1, One) => Attached(0);
+    "its power on": Send(0, TEST, &[]) => Check(0x06, 0x29, 0x00);
+    "the second session": Attach(2, One) => Attached(2);
+    "its power on": Send(1, TEST, &[]) => Check(0x06, 0x29, 0x00);
+    "the third session": Attach(3, One) => Attached(4);
+    "its power on": Send(2, TEST, &[]) => Check(0x06, 0x29, 0x00);
+    "the fourth session": Attach(4, One) => Attached(6);
+    "its power on": Send(3, TEST, &[]) => Check(0x06, 0x29, 0x00);
+};
+
+/// Keys 11h, 22h, 11h and 33h; the first reserves with type 5, and the second preempts 11h with type 6.
+const PREEMPTED: &[Row] = table! {
+    "the first registers": Send(0, REGISTER, REGISTER_11) => Good(&[]);
+    "the second registers": Send(1, REGISTER, REGISTER_22) => Good(&[]);
+    "the third registers": Send(2, REGISTER, REGISTER_11) => Good(&[]);
+    "the fourth registers": Send(3, REGISTER, REGISTER_33) => Good(&[]);
+    "the first reserves": Send(0, "5F 01 05 0000 00000018", KEY_11) => Good(&[]);
+    "the second preempts":
+        Send(1, "5F 04 06 0000 00000018", &[(7, "00"), (1, "22"), (7, "00"), (1, "11"), (8, "00")]) => Good(&[]);
+    "the first lost its registration": Send(0, WRITE, BLOCK) => Check(0x06, 0x2A, 0x05);
+    "its write is fenced": Send(0, WRITE, BLOCK) => Conflict;
+    "its read is fenced": Send(0, READ, &[]) => Conflict;
+    "its wrong write is fenced": Send(0, "2A 00 00000000 00 0801", &[]) => Conflict;
+    "its flush is fenced": Send(0, "35", &[]) => Conflict;
+    "it asks who the unit is": Send(0, TEST, &[]) => Good(&[]);
+    "the third lost its registration": Send(2, TEST, &[]) => Check(0x06, 0x2A, 0x05);
+    "the fourth hears of the other type": Send(3, TEST, &[]) => Check(0x06, 0x2A, 0x04);
+    "the fourth hears nothing more": Send(3, TEST, &[]) => Good(&[]);
+    "the second hears nothing": Send(1, TEST, &[]) => Good(&[]);
+    "the keys": Send(1, READ_KEYS, &[]) =>
+        Good(&[(1, "00 00 00 05 00 00 00 10"), (7, "00"), (1, "22"), (7, "00"), (1, "33")]);
+    "the reservation": Send(0, READ_RESERVATION, &[]) =>
+        Good(&[(1, "00 00 00 05 00 00 00 10"), (7, "00"), (1, "22"), (5, "00"), (1, "06 00 00")]);
+    "a registrant writes": Send(3, "2A 00 00000001 00 0001", BLOCK) => Good(&[]);
+};
+
+const ALL_REGISTRANTS: &[Row] = table! {
+    "the first registers": Send(0, REGISTER, REGISTER_11) => Good(&[]);
+    "the second registers": Send(1, REGISTER, REGISTER_22) => Good(&[]);
+    "the first reserves": Send(0, "5F 01 07 0000 00000018", KEY_11) => Good(&[]);
+    "the third may not write": Send(2, WRITE, BLOCK) => Conflict;
+    "the first unregisters": Send(0, REGISTER, KEY_11) => Good(&[]);
+    "the second holds it still":
+        Send(1, READ_RESERVATION, &[]) => Good(&[(1, "00 00 00 03 00 00 00 10"), (13, "00"), (1, "07 00 00")]);
+    "the second unregisters": Send(1, REGISTER, KEY_22) => Good(&[]);
+    "nobody holds it": Send(1, READ_RESERVATION, &[]) => Good(&[(1, "00 00 00 04 00 00 00 00")]);
+    "the third writes": Send(2, "2A 00 00000001 00 0001", BLOCK) => Good(&[]);
+};
+
+const FIELDS: &[Row] = table! {
+    "what a fresh unit can": Send(0, "5E 02 0000000000 00FF", &[]) => Good(&[(1, "00 08 01 80 EA 01 00 00")]);
+    "no key": Send(0, READ_KEYS, &[]) => Good(&[(8, "00")]);
+    "a list of 23 bytes": Send(0, "5F 00 00 0000 00000017", &[(23, "00")]) => Check(0x05, 0x1A, 0x00);
+    "a list that came short": Send(0, REGISTER, &[(23, "00")]) => Check(0x05, 0x24, 0x00);
+    "to last": Send(0, REGISTER, &[(15, "00"), (1, "11"), (4, "00"), (1, "01"), (3, "00")]) => Check(0x05, 0x26, 0x00);
+    "for ports in the list": Send(0, REGISTER, &[(15, "00"), (1, "11"), (4, "00"), (1, "08"), (3, "00")]) => Check(0x05, 0x26, 0x00);
+    "a wrong key": Send(0, REGISTER, &[(7, "00"), (1, "11"), (7, "00"), (1, "22"), (8, "00")]) => Conflict;
+    "a RESERVE of no registrant": Send(0, "5F 01 05 0000 00000018", KEY_11) => Conflict;
+    "a RESERVE of no type": Send(0, "5F 01 02 0000 00000018", KEY_11) => Check(0x05, 0x24, 0x00);
+    "it registers": Send(0, REGISTER, REGISTER_11) => Good(&[]);
+    "it reserves": Send(0, "5F 01 05 0000 00000018", KEY_11) => Good(&[]);
+    "it releases another type": Send(0, "5F 02 06 0000 00000018", KEY_11) => Check(0x05, 0x26, 0x04);
+    "its port through the other controller": Attach(1, Two) => Attached(20);
+    "its power on": Forward(4, TEST, &[]) => Check(0x06, 0x29, 0x00);
+    "another nexus is fenced": Forward(4, WRITE, BLOCK) => Conflict;
+    "another nexus reads": Forward(4, READ, &[]) => Good(&[(512, "00")]);
+    "it registers too": Forward(4, "5F 06 00 0000 00000018", REGISTER_11) => Good(&[]);
+    "it writes": Forward(4, "2A 00 00000001 00 0001", BLOCK) => Good(&[]);
+};
+
+#[test]
+fn who_is_fenced(rt: HostRuntime) -> Result<(), Fail> {
+    let scripts: [(&str, &[Row]); 3] = [
+        ("a holder is preempted", PREEMPTED),
+        ("all registrants hold", ALL_REGISTRANTS),
+        ("fields and nexuses", FIELDS),
+    ];
+    for (name, rows) in scripts {
+        let script = Script {
+            name,
+            place: FIRST,
+            blocks: 16,
+            fuse: Fuse::Never,
+            tables: &[FOUR, rows],
+            after: &[(1, 0x5A)],
+        };
+        run(&rt, rt.alloc(), &script)?;
+    }
+    Ok(())
+}
