@@ -70,6 +70,20 @@ const PREEMPTED: &[Row] = table! {
     "a registrant writes": Send(3, "2A 00 00000001 00 0001", BLOCK) => Good(&[]);
 };
 
+/// The holder of type 5 is preempted by one that reserves with the same type, and then writes.
+const FENCED_WRITE: &[Row] = table! {
+    "the first registers": Send(0, REGISTER, REGISTER_11) => Good(&[]);
+    "the first reserves": Send(0, "5F 01 05 0000 00000018", KEY_11) => Good(&[]);
+    "its reservation": Send(0, READ_RESERVATION, &[]) =>
+        Good(&[(1, "00 00 00 01 00 00 00 10"), (7, "00"), (1, "11"), (5, "00"), (1, "05 00 00")]);
+    "the second registers": Send(1, REGISTER, REGISTER_22) => Good(&[]);
+    "the second preempts":
+        Send(1, "5F 04 05 0000 00000018", &[(7, "00"), (1, "22"), (7, "00"), (1, "11"), (8, "00")]) => Good(&[]);
+    "the first writes": Send(0, WRITE, BLOCK) => Check(0x06, 0x2A, 0x05);
+    "the first writes again": Send(0, WRITE, BLOCK) => Conflict;
+    "the second writes": Send(1, "2A 00 00000001 00 0001", BLOCK) => Good(&[]);
+};
+
 const ALL_REGISTRANTS: &[Row] = table! {
     "the first registers": Send(0, REGISTER, REGISTER_11) => Good(&[]);
     "the second registers": Send(1, REGISTER, REGISTER_22) => Good(&[]);
@@ -106,8 +120,9 @@ const FIELDS: &[Row] = table! {
 
 #[test]
 fn who_is_fenced(rt: HostRuntime) -> Result<(), Fail> {
-    let scripts: [(&str, &[Row]); 3] = [
+    let scripts: [(&str, &[Row]); 4] = [
         ("a holder is preempted", PREEMPTED),
+        ("a write is fenced", FENCED_WRITE),
         ("all registrants hold", ALL_REGISTRANTS),
         ("fields and nexuses", FIELDS),
     ];
