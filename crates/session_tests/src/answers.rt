@@ -19,7 +19,14 @@ const ROWS: &[Row] = &[
             Segment::None,
         )],
         answer: Answer::Busy,
-        asked: &[(Some(0), Ok(Command::Read { lba: 5, blocks: 1 }))],
+        asked: &[(
+            Some(0),
+            Ok(Command::Read {
+                lba: 5,
+                blocks: 1,
+                fua: false,
+            }),
+        )],
         output: &[PduRow(
             &GOOD,
             &[(1, &[0x82, 0x00, 0x08]), (44, &[0, 0, 2, 0])],

@@ -7,9 +7,23 @@ use test_streams::{
     DATA_IN, F_BIT, GOOD, OVERFLOW, PduRow, READS, Segment, TEST_UNIT_READY, UNDERFLOW, WRITES,
 };
 
-const WRITE: (Option<u8>, Asked) = (Some(0), Ok(Command::Write { lba: 5, blocks: 1 }));
+const WRITE: (Option<u8>, Asked) = (
+    Some(0),
+    Ok(Command::Write {
+        lba: 5,
+        blocks: 1,
+        fua: false,
+    }),
+);
 
-const READ: (Option<u8>, Asked) = (Some(0), Ok(Command::Read { lba: 5, blocks: 1 }));
+const READ: (Option<u8>, Asked) = (
+    Some(0),
+    Ok(Command::Read {
+        lba: 5,
+        blocks: 1,
+        fua: false,
+    }),
+);
 
 const ROWS: &[Row] = &[
     Row {
