@@ -2,6 +2,9 @@ pub mod Facts
 pub mod Following
 pub mod Lawful
 pub mod Lists
+pub mod Right
 pub mod Running
+pub mod Steps
+pub mod Tasks
 pub mod Turns
 pub mod Unserved

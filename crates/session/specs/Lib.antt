@@ -1,6 +1,8 @@
 pub mod AnswerPdus
+pub mod Collecting
 pub mod Counters
 pub mod DataIn
+pub mod Drops
 pub mod Following
 pub mod Front
 pub mod Inbox
@@ -12,6 +14,8 @@ pub mod Response
 pub mod Source
 pub mod Stream
 pub mod Task
+pub mod TaskTurn
+pub mod Tasks
 pub mod Transcript
 pub mod Transfer
 pub mod Turn
