@@ -5,6 +5,8 @@ pub mod Lists
 pub mod Right
 pub mod Running
 pub mod Steps
+pub mod Table
 pub mod Tasks
 pub mod Turns
 pub mod Unserved
+pub mod Walk

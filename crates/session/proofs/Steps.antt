@@ -18,7 +18,7 @@ use Rattle.session.specs.declared.verdict.Verdict.{Verdict}
 use Rattle.session.specs.declared.verdict.Verdict.TheVariants.{Accepted}
 use Rattle.iscsi_pdu.specs.declared.header.Header.TheVariants.{Initiator}
 use Rattle.iscsi_pdu.specs.declared.header.InitiatorHeader.TheVariants.{ScsiCommand, DataOut, TaskManagementRequest}
-use Rattle.session.specs.TaskTurn.{IsFed, filling, on, now, IsFilling, IsAskedOn, IsCalledNow}
+use Rattle.session.specs.TaskTurn.{IsOpened, asks, busy, called, IsFed, filling, on, now, IsFilling, IsAskedOn, IsCalledNow}
 use Rattle.session.specs.Turn.{Incoming, pdu, Out, Asking, Turn, sent}
 use Rattle.session.specs.Window.{wrap}
 use Rattle.session.specs.Tasks.{data_out_with, is_management, r2t_with, r2ts_of, ends, Task, has_ended, data_outs, r2ts, command_call, command_calls, gathered, is_response, is_r2t, sends_r2t, behind_last, finds_gone, Collecting, collected, collecting_of}
@@ -327,3 +327,8 @@ module _ (burst : ℕ) (some : 0 < burst) (b : List ℕ) (p : CommandHeader) (d 
         }) },
         rw e refl,
       )
+
+  pub opened : (call : Option Asking) (outs : List Out) (new : List Collecting) → IsOpened burst p asked d call outs new → Opened call outs new
+  opened call outs new (asks h w) = rw (w.no_call, w.outs_are, w.one) (opened_asked w.next h w.is_next)
+  opened call outs new (busy h w) = rw (w.no_call, w.none) (opened_busy outs h w.no_r2t w.response)
+  opened call outs new (called h w) = rw w.none (opened_served call outs new h w)
