@@ -4,6 +4,7 @@ pub mod Lawful
 pub mod Lists
 pub mod Right
 pub mod Running
+pub mod Places
 pub mod Steps
 pub mod Table
 pub mod Tasks

@@ -73,20 +73,20 @@ module _ (burst : ℕ) (p : CommandHeader) (need immediate came : ℕ) (rs : Lis
       → (i : ℕ) (r : R2tHeader) → slice_get (rs ++ n ∷ []) i ≡ Some r → IsRequest burst p need immediate came (rs ++ n ∷ []) i r
   more_asked n some all short next i r e = elim (get_more rs n i r e) [
     | inl w ↦ (
-      let q = requested i r w in
-      let same : take i (rs ++ n ∷ []) ≡ take i rs = take-append-le i rs (n ∷ []) (omega (arith, slice_get_within rs i r w)) in
-      record { number = q.number; place = q.place ∙ ap (λ (z : List R2tHeader). immediate + sizes z) (sym same); size = q.size; some = q.some; turn = q.turn; tag = q.tag; lun = q.lun })
+        let q = requested i r w in
+        let same : take i (rs ++ n ∷ []) ≡ take i rs = take-append-le i rs (n ∷ []) (omega (arith, slice_get_within rs i r w)) in
+        record { number = q.number; place = q.place ∙ ap (λ (z : List R2tHeader). immediate + sizes z) (sym same); size = q.size; some = q.some; turn = q.turn; tag = q.tag; lun = q.lun })
     | inr w ↦ (
-      let front : take i (rs ++ n ∷ []) ≡ rs = take-append-le i rs (n ∷ []) (omega (arith, w.0)) ∙ take_all i rs (omega (arith, w.0)) in
-      subst (λ (z : R2tHeader). IsRequest burst p need immediate came (rs ++ n ∷ []) i z) (sym w.1) (record {
-        number = next.number ∙ ap wrap (sym w.0);
-        place = next.place ∙ all ∙ ap (λ (z : List R2tHeader). immediate + sizes z) (sym front);
-        size = next.size ∙ ap (λ (z : ℕ). min burst (need - z)) (sym next.place);
-        some = omega (arith, next.size, short, some);
-        turn = omega (arith, next.place);
-        tag = next.tag;
-        lun = next.lun;
-      }))
+        let front : take i (rs ++ n ∷ []) ≡ rs = take-append-le i rs (n ∷ []) (omega (arith, w.0)) ∙ take_all i rs (omega (arith, w.0)) in
+        subst (λ (z : R2tHeader). IsRequest burst p need immediate came (rs ++ n ∷ []) i z) (sym w.1) (record {
+          number = next.number ∙ ap wrap (sym w.0);
+          place = next.place ∙ all ∙ ap (λ (z : List R2tHeader). immediate + sizes z) (sym front);
+          size = next.size ∙ ap (λ (z : ℕ). min burst (need - z)) (sym next.place);
+          some = omega (arith, next.size, short, some);
+          turn = omega (arith, next.place);
+          tag = next.tag;
+          lun = next.lun;
+        }))
   ]
 
   pub reaches : (n : R2tHeader) → 0 < burst → came ≡ asked_to immediate rs → came < need → IsNext burst p need came (length rs) n

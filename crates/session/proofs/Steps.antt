@@ -92,7 +92,7 @@ waiting_of p asked imm bytes rs (c ∷ (d ∷ cs)) k = absurd k
 pub open_of : (burst : ℕ) (k : Task) → has_ended k ≡ false → (right : IsRightTask burst k) → IsOpen burst k right.asked
 open_of burst k e right =
     let w = waiting_of k.command right.asked (length k.segment) (gathered k) (r2ts k.own) (command_calls k.own)
-        (subst (λ (b : Bool). HasCalls k.command right.asked (length k.segment) (gathered k) (r2ts k.own) b (command_calls k.own)) e right.right.outcome) in
+    (subst (λ (b : Bool). HasCalls k.command right.asked (length k.segment) (gathered k) (r2ts k.own) b (command_calls k.own)) e right.right.outcome) in
     record { no_calls = w.0; requested = right.right.requested; uncalled = w.1 }
 
 -- ---- the touched task with one turn more
@@ -103,7 +103,7 @@ module _ (burst : ℕ) (k : Task) (open_task : has_ended k ≡ false) (u : Turn)
 
   right_now : (asked : Result Command CdbFault) → Means k.command.cdb asked
       → IsCollected burst k.command asked (length k.segment) (gathered k ++ bytes_in) (r2ts k.own ++ r2ts_of u.sent) (ends u || false)
-          (command_calls k.own ++ cons_option (command_call u) [])
+      (command_calls k.own ++ cons_option (command_call u) [])
       → IsRightTask burst (with_turn k u)
   right_now asked means right = record {
     asked = asked;
@@ -179,14 +179,13 @@ module _ (burst : ℕ) (some : 0 < burst) (k : Task) (open_task : has_ended k �
   fed_filling : length joined < asked_to imm (r2ts k.own)
       → Step (data_turn None []) (record { command = k.command; bytes = joined; outstanding = last_or None (r2ts k.own); requests = wrap (length (r2ts k.own)); data_sn = wrap (length (data_outs (behind_last sends_r2t k.own)) + 1) } ∷ [])
   fed_filling short =
-      let t : Turn = data_turn None [] in
-      (
+      let t : Turn = data_turn None [] in (
         right_now burst k open_task t right.asked right.means (rw (append-nil (r2ts k.own), append-nil d, append-nil (command_calls k.own), known.no_calls) (record {
           requested = requested_now;
           outcome = record { collects = known.uncalled.collects; within = in_range; waits = λ e. short };
         })),
         collected_is burst k open_task t (r2ts k.own) joined (wrap (length (data_outs (behind_last sends_r2t k.own)) + 1)) (append-nil (r2ts k.own)) (ap (λ (z : List ℕ). gathered k ++ z) (append-nil d))
-        (ap (λ (us : List Turn). wrap (length (data_outs us))) (behind_more k.own t) ∙ ap (λ (z : List (DataOutHeader × List ℕ)). wrap (length z)) (data_outs_more (behind_last sends_r2t k.own) t) ∙ ap wrap (length-append (data_outs (behind_last sends_r2t k.own)) ((x, d) ∷ []))) refl,
+            (ap (λ (us : List Turn). wrap (length (data_outs us))) (behind_more k.own t) ∙ ap (λ (z : List (DataOutHeader × List ℕ)). wrap (length z)) (data_outs_more (behind_last sends_r2t k.own) t) ∙ ap wrap (length-append (data_outs (behind_last sends_r2t k.own)) ((x, d) ∷ []))) refl,
       )
 
   fed_asked : (n : R2tHeader) → length joined ≡ asked_to imm (r2ts k.own) → length joined < need
@@ -195,24 +194,22 @@ module _ (burst : ℕ) (some : 0 < burst) (k : Task) (open_task : has_ended k �
   fed_asked n all short next =
       let t : Turn = data_turn None (record { header = R2t n; bytes = [] } ∷ []) in
       let now = more_asked burst k.command need imm (length joined) (r2ts k.own) requested_now n some all short next in
-      let far = reaches burst k.command need imm (length joined) (r2ts k.own) requested_now n some all short next in
-      (
+      let far = reaches burst k.command need imm (length joined) (r2ts k.own) requested_now n some all short next in (
         right_now burst k open_task t right.asked right.means (rw (append-nil d, append-nil (command_calls k.own), known.no_calls) (record {
           requested = now;
           outcome = record { collects = known.uncalled.collects; within = omega (arith, far); waits = λ e. far };
         })),
         collected_is burst k open_task t (r2ts k.own ++ n ∷ []) joined 0 refl (ap (λ (z : List ℕ). gathered k ++ z) (append-nil d))
-        (ap (λ (us : List Turn). wrap (length (data_outs us))) (behind_more k.own t)) refl
-        ∙ ap (λ (o : Option R2tHeader). record { command = k.command; bytes = joined; outstanding = o; requests = wrap (length (r2ts k.own ++ n ∷ [])); data_sn = 0 } ∷ []) (last_push (r2ts k.own) None n)
-        ∙ ap (λ (m : ℕ). record { command = k.command; bytes = joined; outstanding = Some n; requests = wrap m; data_sn = 0 } ∷ []) (length-append (r2ts k.own) (n ∷ [])),
+            (ap (λ (us : List Turn). wrap (length (data_outs us))) (behind_more k.own t)) refl
+            ∙ ap (λ (o : Option R2tHeader). record { command = k.command; bytes = joined; outstanding = o; requests = wrap (length (r2ts k.own ++ n ∷ [])); data_sn = 0 } ∷ []) (last_push (r2ts k.own) None n)
+            ∙ ap (λ (m : ℕ). record { command = k.command; bytes = joined; outstanding = Some n; requests = wrap m; data_sn = 0 } ∷ []) (length-append (r2ts k.own) (n ∷ [])),
       )
 
   fed_served : (call : Option Asking) (outs : List Out) (new : List Collecting) → need ≤ length joined
       → IsCalledNow k.command right.asked joined call outs new → Step (data_turn call outs) []
   fed_served call outs new all s =
       let t : Turn = data_turn call outs in
-      let e : ends t ≡ true = or_true (list_any (λ o. is_response o.header) outs) (finds_gone call) s.ends in
-      (
+      let e : ends t ≡ true = or_true (list_any (λ o. is_response o.header) outs) (finds_gone call) s.ends in (
         right_now burst k open_task t right.asked right.means (rw (s.no_r2t, append-nil (r2ts k.own), append-nil d, known.no_calls, e, s.call_is) (record {
           requested = requested_now;
           outcome = record {
@@ -257,8 +254,7 @@ module _ (burst : ℕ) (k : Task) (open_task : has_ended k ≡ false) (right : I
   dropped managed no_data no_r2t =
       let o = open_of burst k open_task right in
       let e : ends drop_turn ≡ true = ap (λ (b : Bool). list_any (λ (z : Out). is_response z.header) outs || b || finds_gone call) managed ∙ any_or (list_any (λ (z : Out). is_response z.header) outs) (finds_gone call) in
-      let none : command_call drop_turn ≡ None = ap (λ (b : Bool). if b then None else call) managed in
-      (
+      let none : command_call drop_turn ≡ None = ap (λ (b : Bool). if b then None else call) managed in (
         right_now burst k open_task drop_turn right.asked right.means (rw (no_r2t, append-nil (r2ts k.own), no_data, append-nil (gathered k), none, append-nil (command_calls k.own), o.no_calls, e) (record {
           requested = o.requested;
           outcome = record { collects = o.uncalled.collects; within = o.uncalled.within; waits = λ f. absurd (let g : true ≡ false = f in cc) };
@@ -286,24 +282,30 @@ module _ (burst : ℕ) (some : 0 < burst) (b : List ℕ) (p : CommandHeader) (d 
       → Opened None (record { header = R2t n; bytes = [] } ∷ []) (record { command = p; bytes = d; outstanding = Some n; requests = 1; data_sn = 0 } ∷ [])
   opened_asked n short next =
       let all : length d ≡ asked_to (length d) [] = omega arith in
-      let far = reaches burst p (need_of asked) (length d) (length d) [] none_requested n some all short.short next in
-      (
-        record { asked = asked; means = means; right = rw (append-nil d) (record {
-          requested = more_asked burst p (need_of asked) (length d) (length d) [] none_requested n some all short.short next;
-          outcome = record { collects = short; within = omega (arith, far); waits = λ e. far };
-        }) },
+      let far = reaches burst p (need_of asked) (length d) (length d) [] none_requested n some all short.short next in (
+        record {
+          asked = asked;
+          means = means;
+          right = rw (append-nil d) (record {
+            requested = more_asked burst p (need_of asked) (length d) (length d) [] none_requested n some all short.short next;
+            outcome = record { collects = short; within = omega (arith, far); waits = λ e. far };
+          });
+        },
         rw (append-nil d) refl,
       )
 
   opened_busy : (outs : List Out) → HasToCollect p (need_of asked) (length d) → r2ts_of outs ≡ []
       → list_any (λ o. is_response o.header) outs ≡ true → Opened None outs []
   opened_busy outs short no_r2t response =
-      let e : ends (command_turn None outs) ≡ true = ap (λ (z : Bool). z || false || false) response in
-      (
-        record { asked = asked; means = means; right = rw (append-nil d, append-nil outs, no_r2t, e) (record {
-          requested = none_requested;
-          outcome = record { collects = short; within = omega arith; waits = λ f. absurd (let g : true ≡ false = f in cc) };
-        }) },
+      let e : ends (command_turn None outs) ≡ true = ap (λ (z : Bool). z || false || false) response in (
+        record {
+          asked = asked;
+          means = means;
+          right = rw (append-nil d, append-nil outs, no_r2t, e) (record {
+            requested = none_requested;
+            outcome = record { collects = short; within = omega arith; waits = λ f. absurd (let g : true ≡ false = f in cc) };
+          });
+        },
         rw e refl,
       )
 
@@ -311,20 +313,23 @@ module _ (burst : ℕ) (some : 0 < burst) (b : List ℕ) (p : CommandHeader) (d 
       → IsCalledNow p asked d call outs new → Opened call outs []
   opened_served call outs new not_short s =
       let e : ends (command_turn call outs) ≡ true = or_true (list_any (λ o. is_response o.header) outs) (finds_gone call) s.ends in
-      let enough : IsTrue p.write → need_of asked ≤ p.expected_length → need_of asked ≤ length d = λ w h. le_of_not (need_of asked) (length d) (λ short. not_short (record { writes = w; expected = h; short = short })) in
-      (
-        record { asked = asked; means = means; right = rw (append-nil d, append-nil outs, s.no_r2t, e, s.call_is) (record {
-          requested = none_requested;
-          outcome = record {
-            ends = refl;
-            unit = s.unit;
-            names = s.names;
-            question = s.question;
-            all = enough;
-            tiled = λ w h. omega (arith, enough w h);
-            unasked = λ f. refl;
-          };
-        }) },
+      let enough : IsTrue p.write → need_of asked ≤ p.expected_length → need_of asked ≤ length d = λ w h. le_of_not (need_of asked) (length d) (λ short. not_short (record { writes = w; expected = h; short = short })) in (
+        record {
+          asked = asked;
+          means = means;
+          right = rw (append-nil d, append-nil outs, s.no_r2t, e, s.call_is) (record {
+            requested = none_requested;
+            outcome = record {
+              ends = refl;
+              unit = s.unit;
+              names = s.names;
+              question = s.question;
+              all = enough;
+              tiled = λ w h. omega (arith, enough w h);
+              unasked = λ f. refl;
+            };
+          });
+        },
         rw e refl,
       )
 

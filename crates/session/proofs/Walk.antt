@@ -53,7 +53,7 @@ module _ (burst : ℕ) (u : Turn) (tag : ℕ) (by_tag : (p : CommandHeader) → 
   -- the one that has it is touched
   module _ (this : Collecting) (back new : List Collecting)
       (touch : (k : Task) → IsRightTask burst k → has_ended k ≡ false → collected k ≡ this
-          → IsRightTask burst (extended u k) × (cons_option (collecting_of (extended u k)) [] ≡ new))
+      → IsRightTask burst (extended u k) × (cons_option (collecting_of (extended u k)) [] ≡ new))
       (none_back : HasNone tag back) where
     abbrev Touched : List Task → List Collecting → Type 0
     Touched ks front =
@@ -70,7 +70,7 @@ module _ (burst : ℕ) (u : Turn) (tag : ℕ) (by_tag : (p : CommandHeader) → 
     passed k ks front front' same right rest e = (
       (subst (IsRightTask burst) (sym same) right, rest.0),
       ap (λ (z : Task). cons_option (collecting_of z) (filter_map collecting_of (map (extended u) ks))) same
-      ∙ ap (cons_option (collecting_of k)) rest.1 ∙ e,
+          ∙ ap (cons_option (collecting_of k)) rest.1 ∙ e,
     )
 
     walk_one : (k : Task) (ks : List Task) (front : List Collecting) (b : Bool) → has_ended k ≡ b → IsRightTask burst k
@@ -84,12 +84,11 @@ module _ (burst : ℕ) (u : Turn) (tag : ℕ) (by_tag : (p : CommandHeader) → 
         let one : collected k ≡ this = cc in
         let rest : filter_map collecting_of ks ≡ back = cc in
         let same : map (extended u) ks ≡ ks = stay ks (subst (HasNone tag) (sym rest) none_back) in
-        let t = touch k right e one in
-        (
+        let t = touch k right e one in (
           (t.0, subst (AllByRecursion (IsRightTask burst)) (sym same) all),
           cons_as_append (collecting_of (extended u k)) (filter_map collecting_of (map (extended u) ks))
-          ∙ ap (λ (z : List Collecting). z ++ filter_map collecting_of (map (extended u) ks)) t.1
-          ∙ ap (λ (z : List Task). new ++ filter_map collecting_of z) same ∙ ap (λ (z : List Collecting). new ++ z) rest,
+              ∙ ap (λ (z : List Collecting). z ++ filter_map collecting_of (map (extended u) ks)) t.1
+              ∙ ap (λ (z : List Task). new ++ filter_map collecting_of z) same ∙ ap (λ (z : List Collecting). new ++ z) rest,
         )
     walk_one k ks (y ∷ front) false e right all is none rec =
         let one : collected k ≡ y = cc in
@@ -108,7 +107,7 @@ module _ (burst : ℕ) (u : Turn) (tag : ℕ) (by_tag : (p : CommandHeader) → 
 -- one that drops some ends these, and leaves the others
 module _ (burst : ℕ) (u : Turn) (drops : CommandHeader → Bool) (by_test : (p : CommandHeader) → touches p u ≡ drops p)
     (end : (k : Task) → IsRightTask burst k → has_ended k ≡ false
-        → IsRightTask burst (with_turn k u) × (cons_option (collecting_of (with_turn k u)) [] ≡ [])) where
+    → IsRightTask burst (with_turn k u) × (cons_option (collecting_of (with_turn k u)) [] ≡ [])) where
   abbrev kept : Collecting → Bool
   kept c = not (drops c.command)
 
@@ -123,7 +122,7 @@ module _ (burst : ℕ) (u : Turn) (drops : CommandHeader → Bool) (by_test : (p
   drop_step k k' ks same right step rest = (
     (subst (IsRightTask burst) same right, rest.0),
     ap (λ (z : Task). cons_option (collecting_of z) (filter_map collecting_of (map (extended u) ks))) (sym same)
-    ∙ ap (cons_option (collecting_of k')) rest.1 ∙ step (filter_map collecting_of ks),
+        ∙ ap (cons_option (collecting_of k')) rest.1 ∙ step (filter_map collecting_of ks),
   )
 
   drop_one : (k : Task) (ks : List Task) (b c : Bool) → has_ended k ≡ b → drops k.command ≡ c → IsRightTask burst k
@@ -133,9 +132,9 @@ module _ (burst : ℕ) (u : Turn) (drops : CommandHeader → Bool) (by_test : (p
   drop_one k ks false true e f right rest =
       let d = end k right e in
       drop_step k (with_turn k u) ks (sym (touched_is u k e (by_test k.command ∙ f))) d.0 (λ cs. none_of (collecting_of (with_turn k u)) d.1 cs ∙ rw (e, f) refl) rest where
-    none_of : (o : Option Collecting) → cons_option o [] ≡ [] → (cs : List Collecting) → cons_option o (filter kept cs) ≡ filter kept cs
-    none_of None e cs = refl
-    none_of (Some c) e cs = absurd (cc)
+        none_of : (o : Option Collecting) → cons_option o [] ≡ [] → (cs : List Collecting) → cons_option o (filter kept cs) ≡ filter kept cs
+        none_of None e cs = refl
+        none_of (Some c) e cs = absurd (cc)
   drop_one k ks false false e f right rest =
       drop_step k k ks (sym (other_stays u k (by_test k.command ∙ f))) right (λ cs. rw (e, f) refl) rest
 

@@ -1,5 +1,5 @@
 -- How the data of a command is collected (RFC 7143, 4.2.4.2, 11.7 and 11.8): its immediate data, then by R2T.
-use Rattle.std.specs.Prelude.{◌≡◌, ℕ, ◌+◌, ◌-◌, ◌<◌, ◌≤◌, min, Bool, true, false, IsTrue, List, [], ◌∷◌, length, take, Option, Some, None, Result}
+use Rattle.std.specs.Prelude.{◌≡◌, ℕ, ◌+◌, ◌-◌, ◌<◌, ◌≤◌, min, Bool, true, false, not, IsTrue, List, [], ◌∷◌, length, take, Option, Some, None, Result}
 use Rattle.std.specs.List.{slice_get, sum_by}
 use Rattle.scsi_types.specs.Cdb.{Means, need_of}
 use Rattle.scsi_types.specs.Lun.{NamesUnit}
@@ -89,3 +89,10 @@ pub record IsNext (burst : ℕ) (p : CommandHeader) (need came i : ℕ) (r : R2t
   pub size : r.desired_length ≡ min burst (need - came)
   pub tag : r.task_tag ≡ p.task_tag
   pub lun : r.lun ≡ p.lun
+
+-- the commands that wait: immediate ones, and numbered ones, by which the window shrinks
+abbrev pub is_immediate : Collecting → Bool
+is_immediate c = c.command.immediate
+
+abbrev pub is_numbered : Collecting → Bool
+is_numbered c = not c.command.immediate

@@ -11,6 +11,7 @@ pub mod Machine
 pub mod MachineTurn
 pub mod Question
 pub mod Response
+pub mod Slots
 pub mod Source
 pub mod Stream
 pub mod Task

@@ -14,6 +14,7 @@
 #![tactic(auto)]
 
 mod actions;
+mod collecting;
 mod data_in;
 mod end;
 mod inbox;
