@@ -1,6 +1,6 @@
 -- What is judged of a turn holds of each turn that the session makes.
-use Rattle.std.proofs.Common.{◌≡◌, ◌⊎◌, ℕ, zero, suc, ◌+◌, ◌<◌, ◌≤◌, ◌↔◌, Bool, true, false, not, List, [], ◌∷◌, ◌++◌, Option, Some, None, length, length-take, refl, subst, inl, inr, arith}
-use Rattle.std.specs.Prelude.{IsTrue, slice_get, Result, nat_lt, if◌then◌else◌, take}
+use Rattle.std.proofs.Common.{◌≡◌, ◌⊎◌, ℕ, zero, suc, ◌+◌, ◌<◌, ◌≤◌, ◌↔◌, Bool, true, false, not, List, [], ◌∷◌, ◌++◌, Option, Some, None, length, length-take, refl, sym, subst, inl, inr, arith}
+use Rattle.std.specs.Prelude.{◌==◌, IsTrue, slice_get, Result, nat_lt, if◌then◌else◌, take}
 use Rattle.std.proofs.lemmas.List.{append-nil}
 use Rattle.std.proofs.lemmas.Bool.{ltb-true, lt-ltb}
 use Rattle.scsi_types.specs.Cdb.{Means, need_of}
@@ -14,8 +14,8 @@ use Rattle.iscsi_pdu.specs.declared.header.ScsiCommand.{ScsiCommand as CommandHe
 use Rattle.iscsi_pdu.specs.declared.header.ScsiResponse.{ScsiResponse as ResponseHeader}
 use Rattle.iscsi_pdu.specs.declared.header.DataIn.{DataIn as DataInHeader}
 use Rattle.iscsi_pdu.specs.declared.header.Header.TheVariants.{Initiator}
-use Rattle.iscsi_pdu.specs.declared.header.InitiatorHeader.TheVariants.{ScsiCommand}
-use Rattle.iscsi_pdu.specs.declared.header.TargetHeader.TheVariants.{ScsiResponse}
+use Rattle.iscsi_pdu.specs.declared.header.InitiatorHeader.TheVariants.{NopOut, ScsiCommand, LogoutRequest}
+use Rattle.iscsi_pdu.specs.declared.header.TargetHeader.TheVariants.{NopIn, ScsiResponse, LogoutResponse}
 use Rattle.session.specs.declared.data_in.TheConstants.{MAX_DATA_IN_LENGTH, NO_TRANSFER_TAG}
 use Rattle.session.specs.declared.response.Completion.{Completion}
 use Rattle.session.specs.declared.response.TheConstants.{COMPLETED, TARGET_FAILURE}
@@ -23,19 +23,25 @@ use Rattle.session.specs.declared.target.TargetAnswer.{TargetAnswer}
 use Rattle.session.specs.declared.target.TargetAnswer.TheVariants.{Replied, Outside, Busy, Gone, Halted}
 use Rattle.session.specs.declared.verdict.Verdict.{Verdict}
 use Rattle.session.specs.declared.verdict.Verdict.TheVariants.{Accepted, Ignored, Gap, Refused}
-use Rattle.session.specs.declared.verdict.TheConstants.{MAX_READ_LENGTH}
+use Rattle.session.specs.declared.verdict.TheConstants.{MAX_READ_LENGTH, RESERVED_TAG}
 use Rattle.session.specs.Question.{serve}
 use Rattle.session.specs.Turn.{Incoming, pdu, Out, Asking}
-use Rattle.session.specs.Window.{wrap, numbers_at, takes_number}
+use Rattle.session.specs.Window.{wrap, numbers_at, numbers_of, exp_cmd_sn_behind, takes_number}
+use Rattle.session.specs.Requests.{IsRequestAnswered}
+use Rattle.session.specs.Logout.{closes, logout_answer}
+use Rattle.session.specs.declared.nop.TheConstants.{DECLARED_LENGTH}
+use Rattle.session.specs.declared.logout.TheConstants.{CLOSED, RECOVERY_NOT_SUPPORTED, TIME_TO_WAIT, TIME_TO_RETAIN}
+use Rattle.iscsi_pdu.specs.declared.header.Numbers.{Numbers}
+use Rattle.iscsi_pdu.specs.declared.header.LogoutRequest.{LogoutRequest as LogoutHeader}
 use Rattle.session.specs.Verdict.{IsJudged}
 use Rattle.session.specs.Transfer.{expected_transfer, transfer_of, data_for, sent_data}
 use Rattle.session.specs.Task.{task_by, IsCalled, IsAskedFor, reply_data}
-use Rattle.session.specs.Response.{responses, HasOneResponse, IsAnsweredBy, IsTold, sense_part}
-use Rattle.session.specs.DataIn.{data_ins, IsSegment, Tiles}
-use Rattle.session.specs.Legal.{status_numbers, IsWindow, HaveWindow, IsRejected, IsAnsweredTask, IsTiledTask, IsCountedTask, HasResiduals, IsToldTask}
+use Rattle.session.specs.Response.{response_with, responses, HasOneResponse, IsAnsweredBy, IsTold, sense_part}
+use Rattle.session.specs.DataIn.{data_in_with, data_ins, IsSegment, Tiles}
+use Rattle.session.specs.Legal.{status_number, status_numbers, IsWindow, HaveWindow, IsRejected, IsAnsweredTask, IsTiledTask, IsCountedTask, HasResiduals, IsToldTask}
 use Rattle.std.specs.List.{AllByRecursion}
 use Rattle.session.specs.Legal.{IsOfCommand}
-use Rattle.session.specs.Counters.{Counters, after_status, after_command}
+use Rattle.session.specs.Counters.{Counters, after_status, after_number, after_command, after_answer, next_numbers}
 use Rattle.session.specs.AnswerPdus.{read_length, data_in_for, response_for}
 use Rattle.session.specs.MachineTurn.{TurnOnAnswer, TurnOnAccepted, TurnOnVerdict}
 
@@ -51,6 +57,7 @@ pub record TurnFacts (s s' : Counters) (came : Incoming) (v : Verdict) (call : O
   pub residual : HasResiduals (task_by v came call outs)
   pub told : IsToldTask (task_by v came call outs)
   pub rejected : IsRejected v came outs
+  pub requests : IsRequestAnswered v came call outs
   pub commands : ((s'.exp_cmd_sn ≡ s.exp_cmd_sn) × (takes_number v came ≡ false)) ⊎ ((s'.exp_cmd_sn ≡ wrap (s.exp_cmd_sn + 1)) × (takes_number v came ≡ true))
   pub statuses : ((s'.stat_sn ≡ s.stat_sn) × (status_numbers outs ≡ [])) ⊎ ((s'.stat_sn ≡ wrap (s.stat_sn + 1)) × (status_numbers outs ≡ s.stat_sn ∷ []))
 
@@ -208,6 +215,7 @@ module _ (s : Counters) (b : List ℕ) (p : CommandHeader) (d : List ℕ) (asked
           residual = rw responses_are (record { underflow = less transfer (expected_transfer p); overflow = less (expected_transfer p) transfer; count = refl }, tt);
           told = rw responses_are (told, tt);
           rejected = outs_rejects mid.exp_cmd_sn p the_response sense sent_bytes;
+          requests = tt;
           commands = commands_of p.immediate s.exp_cmd_sn;
           statuses = inr (refl, outs_statuses mid.exp_cmd_sn p the_response sense sent_bytes);
         }
@@ -227,6 +235,7 @@ module _ (s : Counters) (b : List ℕ) (p : CommandHeader) (d : List ℕ) (asked
     residual = tt;
     told = tt;
     rejected = tt;
+    requests = tt;
     commands = commands_of p.immediate s.exp_cmd_sn;
     statuses = inl (refl, refl);
   }
@@ -253,10 +262,85 @@ module _ (s s' : Counters) (b : List ℕ) (p : CommandHeader) (d : List ℕ) (ca
   answered_facts Halted judged within means names e r = moved e r.0 r.1 (reply_facts s b p d asked unit Halted judged means names (told TARGET_FAILURE statuses.Good None) within (λ o. o) (record { response = refl; status_is = refl; sense_is = refl }))
   answered_facts Gone judged within means names e r = moved e r.0 r.1 (gone_facts s b p d asked unit Gone judged means names refl)
 
+abbrev logout_out : Numbers → LogoutHeader → Out
+logout_out n p = record {
+  header = LogoutResponse (record { response = if closes p then CLOSED else RECOVERY_NOT_SUPPORTED; task_tag = p.task_tag; numbers = n; time_to_wait = TIME_TO_WAIT; time_to_retain = TIME_TO_RETAIN });
+  bytes = [];
+}
+
+-- ---- another request that was accepted: it is answered by no PDU, or by one that uses up a StatSN and is neither a
+-- SCSI Response nor a Data-In
+
+module _ (s : Counters) (came : Incoming) (immediate : Bool) (call : Option Asking)
+    (judged : IsJudged s.exp_cmd_sn came Accepted) (called : IsCalled Accepted came call)
+    (no_task : (own : List Out) → task_by Accepted came call own ≡ None)
+    (numbered : takes_number Accepted came ≡ not immediate)
+    (of_accepted : (outs : List Out) → IsRejected Accepted came outs) where
+  abbrev behind : Counters
+  behind = after_number immediate s
+
+  numbers_up : (e : ℕ) → ((exp_cmd_sn_behind immediate e ≡ e) × (takes_number Accepted came ≡ false))
+      ⊎ ((exp_cmd_sn_behind immediate e ≡ wrap (e + 1)) × (takes_number Accepted came ≡ true))
+  numbers_up e = subst
+      (λ (t : Bool). ((exp_cmd_sn_behind immediate e ≡ e) × (t ≡ false)) ⊎ ((exp_cmd_sn_behind immediate e ≡ wrap (e + 1)) × (t ≡ true)))
+      (sym numbered) (commands_of immediate e)
+
+  silent_facts : IsRequestAnswered Accepted came call [] → TurnFacts s behind came Accepted call []
+  silent_facts answer = record {
+    judged = judged;
+    windows = tt;
+    called = called;
+    answered = rw (no_task []) refl;
+    tiled = rw (no_task []) refl;
+    counted = rw (no_task []) tt;
+    residual = rw (no_task []) tt;
+    told = rw (no_task []) tt;
+    rejected = of_accepted [];
+    requests = answer;
+    commands = numbers_up s.exp_cmd_sn;
+    statuses = inl (refl, refl);
+  }
+
+  module _ (o : Out) (window : IsWindow behind.exp_cmd_sn (numbers_of o.header))
+      (status : status_number o.header ≡ Some s.stat_sn) (no_response : response_with o.header o.bytes ≡ None)
+      (no_data : data_in_with o.header o.bytes ≡ None) where
+    one_facts : IsRequestAnswered Accepted came call (o ∷ [])
+        → TurnFacts s (after_status behind) came Accepted call (o ∷ [])
+    one_facts answer = record {
+      judged = judged;
+      windows = (window, tt);
+      called = called;
+      answered = rw (no_task (o ∷ []), no_response) refl;
+      tiled = rw (no_task (o ∷ []), no_data) refl;
+      counted = rw (no_task (o ∷ [])) tt;
+      residual = rw (no_task (o ∷ [])) tt;
+      told = rw (no_task (o ∷ [])) tt;
+      rejected = of_accepted (o ∷ []);
+      requests = answer;
+      commands = numbers_up s.exp_cmd_sn;
+      statuses = inr (refl, rw status refl);
+    }
+
+    some_or_none : (none : Bool) → IsRequestAnswered Accepted came call (if none then [] else o ∷ [])
+        → TurnFacts s (after_answer (if none then [] else o ∷ []) behind) came Accepted call (if none then [] else o ∷ [])
+    some_or_none true answer = silent_facts answer
+    some_or_none false answer = one_facts answer
+
 accepted_facts : (came : Incoming) (s s' : Counters) (call : Option Asking) (outs : List Out)
     → IsJudged s.exp_cmd_sn came Accepted → TurnOnAccepted came s call outs s' → TurnFacts s s' came Accepted call outs
 accepted_facts (pdu b (Initiator (ScsiCommand p)) d) s s' call outs judged k =
     answered_facts s s' b p d call outs k.asked.asked k.asked.unit k.asked.answer judged k.within k.asked.means k.asked.names k.asked.call_is k.answered
+accepted_facts (pdu b (Initiator (NopOut p)) d) s s' call outs judged k =
+    let n = next_numbers (after_number p.immediate s) in
+    moved k.no_call k.outs_are k.next_is
+    (some_or_none s (pdu b (Initiator (NopOut p)) d) p.immediate None judged refl (λ own. refl) refl (λ own. tt)
+      (record { header = NopIn (record { lun = p.lun; task_tag = p.task_tag; transfer_tag = NO_TRANSFER_TAG; numbers = n }); bytes = take DECLARED_LENGTH d })
+      (record { expects = refl; reaches = refl }) refl refl refl (p.task_tag == RESERVED_TAG) (n, refl))
+accepted_facts (pdu b (Initiator (LogoutRequest p)) d) s s' call outs judged k =
+    let n = next_numbers (after_number p.immediate s) in
+    moved k.no_call k.outs_are k.next_is
+    (one_facts s (pdu b (Initiator (LogoutRequest p)) d) p.immediate None judged refl (λ own. refl) refl (λ own. tt)
+      (logout_out n p) (record { expects = refl; reaches = refl }) refl refl refl (n, refl))
 accepted_facts came s s' call outs judged k = absurd k
 
 pub made_facts : (s s' : Counters) (came : Incoming) (v : Verdict) (call : Option Asking) (outs : List Out)
@@ -272,6 +356,7 @@ made_facts s s' came Ignored call outs judged k = moved k.no_call k.outs_are k.n
   residual = tt;
   told = tt;
   rejected = refl;
+  requests = tt;
   commands = inl (refl, refl);
   statuses = inl (refl, refl);
 })
@@ -285,6 +370,7 @@ made_facts s s' came Gap call outs judged k = moved k.no_call k.outs_are k.next_
   residual = tt;
   told = tt;
   rejected = refl;
+  requests = tt;
   commands = inl (refl, refl);
   statuses = inl (refl, refl);
 })
@@ -298,6 +384,7 @@ made_facts s s' came (Refused reason) call outs judged k = moved k.no_call k.out
   residual = tt;
   told = tt;
   rejected = (numbers_at s.stat_sn s.exp_cmd_sn, refl);
+  requests = tt;
   commands = inl (refl, refl);
   statuses = inr (refl, refl);
 })

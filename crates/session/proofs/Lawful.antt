@@ -10,7 +10,7 @@ use Rattle.std.proofs.Math.Nat.{mod-add-mod}
 use Rattle.session.specs.Turn.{Incoming, Out, Turn, sent}
 use Rattle.session.specs.Window.{wrap, takes_number, exp_cmd_sn_after}
 use Rattle.session.specs.Verdict.{IsJudged}
-use Rattle.session.specs.Legal.{AtEach, status_number, status_numbers, HaveWindow, Lawful}
+use Rattle.session.specs.Legal.{AtEach, status_number, status_numbers, HaveWindow, GoesOn, Lawful}
 use Rattle.session.specs.Counters.{Counters}
 use Rattle.session.specs.MachineTurn.{TurnOf, TurnOnVerdict}
 use Rattle.session.proofs.Facts.{TurnFacts, made_facts}
@@ -121,8 +121,8 @@ facts_of s s' came t m = made_facts s s' t.came t.verdict t.call t.sent
     (subst (λ (c : Incoming). TurnOnVerdict t.verdict s c t.call t.sent s') (sym m.came_is) m.made)
 
 pub stands_more : (first_cmd first_stat : ℕ) (ts : List Turn) (t : Turn) (came : Incoming) (s s' : Counters)
-    → Stands first_cmd first_stat ts s → TurnOf s came t s' → Stands first_cmd first_stat (ts ++ t ∷ []) s'
-stands_more first_cmd first_stat ts t came s s' k m =
+    → Stands first_cmd first_stat ts s → GoesOn ts → TurnOf s came t s' → Stands first_cmd first_stat (ts ++ t ∷ []) s'
+stands_more first_cmd first_stat ts t came s s' k on m =
     let f = facts_of s s' came t m in
     let command = command_more first_cmd ts t s s' k.tied.command f.commands in
     let old = k.lawful in
@@ -139,6 +139,8 @@ stands_more first_cmd first_stat ts t came s s' k m =
         residual = at_each_more _ ts t old.residual f.residual;
         told = at_each_more _ ts t old.told f.told;
         rejected = at_each_more _ ts t old.rejected f.rejected;
+        requests = at_each_more _ ts t old.requests f.requests;
+        ends = at_each_more (λ before u. GoesOn before) ts t old.ends on;
       };
       tied = record { command = command; status = status_more first_stat ts t s s' k.tied.status f.statuses };
     }
@@ -163,6 +165,8 @@ stands_none first_cmd first_stat s cmd_fits stat_fits e = record {
     residual = at_each_none _;
     told = at_each_none _;
     rejected = at_each_none _;
+    requests = at_each_none _;
+    ends = at_each_none (λ before u. GoesOn before);
   };
   tied = record {
     command = ap (λ (r : Counters). r.exp_cmd_sn) e ∙ (let k : first_cmd ≡ wrap (first_cmd + 0) = omega arith in k);

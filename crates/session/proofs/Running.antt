@@ -1,18 +1,21 @@
 -- What is known between two turns of a session, and how a turn, a read and an end carry it on.
-use Rattle.std.proofs.Common.{◌≡◌, ◌⊎◌, ℕ, ◌+◌, ◌<◌, ◌≤◌, List, [], ◌∷◌, ◌++◌, Option, Some, None, length, map, take, drop, refl, sym, ap, subst, subst₂, ◌∙◌, arith, inl, inr, append_assoc, length-append, length-take-le, length-take}
+use Rattle.std.proofs.Common.{◌≡◌, ◌⊎◌, ℕ, ◌+◌, ◌<◌, ◌≤◌, Bool, true, false, List, [], ◌∷◌, ◌++◌, Option, Some, None, length, map, take, drop, refl, sym, ap, subst, subst₂, ◌∙◌, arith, inl, inr, append_assoc, length-append, length-take-le, length-take}
 use Rattle.std.proofs.lemmas.List.{append-nil, take-append-drop, map-append, take-take}
 use Rattle.std.proofs.lemmas.List.Elements.{filter_map-append}
 use Rattle.std.proofs.lemmas.Grind.{flat_map-append}
+use Rattle.std.specs.Prelude.{if◌then◌else◌}
 use Rattle.std.specs.Io.KnownBytes.{Keeps, Appends, Consumes, IsAtEnd}
 use Rattle.std.proofs.KnownBytes.{Appends-trans, Appends-nil, Consumes-trans, Consumes-kept, Consumes-nil}
 use Rattle.iscsi_pdu.specs.Pdu.{IsPdu}
 use Rattle.iscsi_pdu.specs.Fault.{Stands as FaultStands}
 use Rattle.iscsi_pdu.specs.Spelling.{spelling}
 use Rattle.iscsi_pdu.specs.declared.header.Header.{Header}
-use Rattle.iscsi_pdu.specs.declared.header.Header.TheVariants.{Target}
+use Rattle.iscsi_pdu.specs.declared.header.Header.TheVariants.{Initiator, Target}
+use Rattle.iscsi_pdu.specs.declared.header.InitiatorHeader.TheVariants.{LogoutRequest}
+use Rattle.session.specs.Logout.{closes}
 use Rattle.iscsi_pdu.specs.declared.fault.PduFault.{PduFault}
 use Rattle.session.specs.declared.end.End.{End}
-use Rattle.session.specs.declared.end.End.TheVariants.{EndOfInput, InputFailed, OutputFailed, Protocol, Reinstated}
+use Rattle.session.specs.declared.end.End.TheVariants.{EndOfInput, InputFailed, OutputFailed, Protocol, Reinstated, LoggedOut}
 use Rattle.session.specs.declared.target.TargetAnswer.{TargetAnswer}
 use Rattle.session.specs.declared.target.TargetAnswer.TheVariants.{Replied, Outside, Busy, Gone, Halted}
 use Rattle.session.specs.declared.verdict.Verdict.{Verdict}
@@ -22,7 +25,7 @@ use Rattle.session.specs.Source.{AppendsFront}
 use Rattle.session.specs.Inbox.{Filled}
 use Rattle.session.specs.Turn.{Incoming, pdu, faulty, Out, Asking, Turn, calls, sent, bytes_of, Spells, Leads}
 use Rattle.iscsi_pdu.specs.declared.TheConstants.{BHS_LENGTH}
-use Rattle.session.specs.Legal.{end_by, end_after, GoesOn, NoneWhole, StandsBehind, EndsWith, most_bytes, EndsBy}
+use Rattle.session.specs.Legal.{end_by, end_of_call, end_of_accepted, end_after, GoesOn, NoneWhole, StandsBehind, EndsWith, most_bytes, EndsBy}
 use Rattle.session.specs.Counters.{Counters}
 use Rattle.session.specs.Stream.{IsSentOut, IsLed, MakesTurn, StreamTurn}
 use Rattle.session.specs.Transcript.{IsCut, Written, IsTranscribed, IsFailureOf}
@@ -97,21 +100,36 @@ nil_of : (xs : List ℕ) → length xs ≡ 0 → xs ≡ []
 nil_of [] e = refl
 nil_of (x ∷ xs) e = absurd (omega arith)
 
--- the end that a turn calls for is one of two
-ends_by_answer : (end : End) (a : TargetAnswer) → Some end ≡ end_by a → (end ≡ Protocol) ⊎ (end ≡ Reinstated)
+-- the end that a turn calls for is one of three
+abbrev pub IsCalledFor : End → Type 0
+IsCalledFor end = (end ≡ Protocol) ⊎ ((end ≡ Reinstated) ⊎ (end ≡ LoggedOut))
+
+ends_by_answer : (end : End) (a : TargetAnswer) → Some end ≡ end_by a → IsCalledFor end
 ends_by_answer end (Replied r) e = absurd (cc)
 ends_by_answer end (Outside r) e = absurd (cc)
 ends_by_answer end Busy e = absurd (cc)
-ends_by_answer end Gone e = inr cc
+ends_by_answer end Gone e = inr (inl cc)
 ends_by_answer end Halted e = absurd (cc)
 
-pub ends_so : (end : End) (v : Verdict) (call : Option Asking) → Some end ≡ end_after v call
-    → (end ≡ Protocol) ⊎ (end ≡ Reinstated)
-ends_so end Accepted None e = absurd (cc)
-ends_so end Accepted (Some c) e = ends_by_answer end c.answer e
-ends_so end Ignored call e = absurd (cc)
-ends_so end Gap call e = inl cc
-ends_so end (Refused reason) call e = inl cc
+ends_by_call : (end : End) (call : Option Asking) → Some end ≡ end_of_call call → IsCalledFor end
+ends_by_call end None e = absurd (cc)
+ends_by_call end (Some c) e = ends_by_answer end c.answer e
+
+ends_by_logout : (end : End) (closes : Bool) → Some end ≡ (if closes then Some LoggedOut else None) → IsCalledFor end
+ends_by_logout end true e = inr (inr cc)
+ends_by_logout end false e = absurd (cc)
+
+ends_accepted : (end : End) (came : Incoming) (call : Option Asking) → Some end ≡ end_of_accepted came call
+    → IsCalledFor end
+ends_accepted end (pdu b (Initiator (LogoutRequest p)) d) call e = ends_by_logout end (closes p) e
+ends_accepted end came call e = ends_by_call end call e
+
+pub ends_so : (end : End) (v : Verdict) (came : Incoming) (call : Option Asking) → Some end ≡ end_after v came call
+    → IsCalledFor end
+ends_so end Accepted came call e = ends_accepted end came call e
+ends_so end Ignored came call e = absurd (cc)
+ends_so end Gap came call e = inl cc
+ends_so end (Refused reason) came call e = inl cc
 
 -- a turn whose bytes went out and that calls for no end, or one that ends the session
 pub went_on : (held held' : Option (List ℕ)) (before now : ℕ) (bytes : List ℕ) (wanted : Option End)
@@ -126,7 +144,7 @@ module _ {T : Type 0} (leads : T → Question → TargetAnswer → T → Type 0)
   module _ (s' : Counters) (x'' : T) (held'' : Option (List ℕ)) (before now : ℕ) (came : Incoming)
       (result : Option End) (turned : StreamTurn leads s s' x' x'' held' held'' before now came result) where
     stands_now : Stands first_cmd first_stat (r.transcript ++ turned.turn ∷ []) s'
-    stands_now = stands_more first_cmd first_stat r.transcript turned.turn came s s' r.stands turned.made
+    stands_now = stands_more first_cmd first_stat r.transcript turned.turn came s s' r.stands r.goes_on turned.made
 
     led_now : Leads leads (calls (r.transcript ++ turned.turn ∷ [])) x x''
     led_now = led_more leads r.transcript x x' x'' turned.turn r.led turned.led
@@ -144,7 +162,7 @@ module _ {T : Type 0} (leads : T → Question → TargetAnswer → T → Type 0)
 
     -- the last turn
     last_turn : (rest : List ℕ) (wanted : Option End) → StandsBehind came rest
-        → end_after turned.turn.verdict turned.turn.call ≡ wanted
+        → end_after turned.turn.verdict turned.turn.came turned.turn.call ≡ wanted
         → EndsWith (r.transcript ++ turned.turn ∷ []) rest wanted
     last_turn rest wanted stands ends = record {
       front = r.transcript;
@@ -175,23 +193,27 @@ module _ {T : Type 0} (leads : T → Question → TargetAnswer → T → Type 0)
       }
 
       ends_now : (end : End) → result ≡ Some end
-          → IsSentOut held' held'' before now (bytes_of turned.turn.sent) (end_after turned.turn.verdict turned.turn.call) result
+          → IsSentOut held' held'' before now (bytes_of turned.turn.sent) (end_after turned.turn.verdict turned.turn.came turned.turn.call) result
           → IsTranscribed leads first_cmd first_stat left left' held held'' x x'' end × IsFailureOf OutputFailed before now end
       ends_now end e (inl w) =
-          let wanted : Some end ≡ end_after turned.turn.verdict turned.turn.call = sym e ∙ w.0 in
-          elim (ends_so end turned.turn.verdict turned.turn.call wanted) [
-            | inl protocol ↦ (
-              subst (IsTranscribed leads first_cmd first_stat left left' held held'' x x'') (sym protocol) (ended Protocol (last_turn rest (Some Protocol) stands (sym wanted ∙ ap Some protocol)) (all_out w.1)),
-              record { rises = λ f. absurd (let g : Protocol ≡ OutputFailed = sym protocol ∙ f in cc); stays = λ _. w.2 },
-            )
-            | inr reinstated ↦ (
-              subst (IsTranscribed leads first_cmd first_stat left left' held held'' x x'') (sym reinstated) (ended Reinstated (last_turn rest (Some Reinstated) stands (sym wanted ∙ ap Some reinstated)) (all_out w.1)),
-              record { rises = λ f. absurd (let g : Reinstated ≡ OutputFailed = sym reinstated ∙ f in cc); stays = λ _. w.2 },
-            )
+          let wanted : Some end ≡ end_after turned.turn.verdict turned.turn.came turned.turn.call = sym e ∙ w.0 in
+          let called_for : (closing : End) → end ≡ closing → EndsBy (r.transcript ++ turned.turn ∷ []) rest (length spelled + length rest) (IsAtEnd left') closing
+              → Written closing held held'' (r.transcript ++ turned.turn ∷ []) → (closing ≡ OutputFailed → ⊥)
+              → IsTranscribed leads first_cmd first_stat left left' held held'' x x'' end × IsFailureOf OutputFailed before now end
+          = λ closing same ends out other. (
+            subst (IsTranscribed leads first_cmd first_stat left left' held held'' x x'') (sym same) (ended closing ends out),
+            record { rises = λ f. absurd (other (sym same ∙ f)); stays = λ _. w.2 },
+          ) in
+          elim (ends_so end turned.turn.verdict turned.turn.came turned.turn.call wanted) [
+            | inl protocol ↦ called_for Protocol protocol (last_turn rest (Some Protocol) stands (sym wanted ∙ ap Some protocol)) (all_out w.1) (λ g. cc)
+            | inr others ↦ elim others [
+              | inl reinstated ↦ called_for Reinstated reinstated (last_turn rest (Some Reinstated) stands (sym wanted ∙ ap Some reinstated)) (all_out w.1) (λ g. cc)
+              | inr logged_out ↦ called_for LoggedOut logged_out (last_turn rest (Some LoggedOut) stands (sym wanted ∙ ap Some logged_out)) (all_out w.1) (λ g. cc)
+            ]
           ]
       ends_now end e (inr w) =
           let failed : OutputFailed ≡ end = let g : Some OutputFailed ≡ Some end = sym w.0 ∙ e in cc in (
-            subst (IsTranscribed leads first_cmd first_stat left left' held held'' x x'') failed (ended OutputFailed (end_after turned.turn.verdict turned.turn.call, last_turn rest (end_after turned.turn.verdict turned.turn.call) stands refl) (some_out w.1)),
+            subst (IsTranscribed leads first_cmd first_stat left left' held held'' x x'') failed (ended OutputFailed (end_after turned.turn.verdict turned.turn.came turned.turn.call, last_turn rest (end_after turned.turn.verdict turned.turn.came turned.turn.call) stands refl) (some_out w.1)),
             record { rises = λ f. w.2; stays = λ other. absurd (other (sym failed)) },
           )
 
@@ -217,12 +239,12 @@ module _ {T : Type 0} (leads : T → Question → TargetAnswer → T → Type 0)
     goes_on_behind : StreamTurn leads s s' x' x'' held' held'' before now (pdu bhs h d) None
         → Running leads first_cmd first_stat left left' held held'' x x'' s' (drop n waiting) reads × (now ≡ before)
     goes_on_behind t =
-        let w = went_on held' held'' before now (bytes_of t.turn.sent) (end_after t.turn.verdict t.turn.call) t.out in (
+        let w = went_on held' held'' before now (bytes_of t.turn.sent) (end_after t.turn.verdict t.turn.came t.turn.call) t.out in (
           record {
             transcript = r.transcript ++ t.turn ∷ [];
             spelled = r.spelled ++ take n waiting;
             stands = stands_now s' x'' held'' before now (pdu bhs h d) None t;
-            goes_on = at_each_more (λ _ u. end_after u.verdict u.call ≡ None) r.transcript t.turn r.goes_on w.0;
+            goes_on = at_each_more (λ _ u. end_after u.verdict u.came u.call ≡ None) r.transcript t.turn r.goes_on w.0;
             spells = subst (λ (is : List Incoming). Spells is (r.spelled ++ take n waiting)) (sym (came_now s' x'' held'' before now (pdu bhs h d) None t)) (spells_now n bhs h d bhs_is within spelled);
             read = read_now n;
             written = all_out s' x'' held'' before now (pdu bhs h d) None t w.1;
@@ -309,7 +331,7 @@ starts leads first_cmd first_stat left held x s waiting cmd_fits stat_fits s_is 
   transcript = [];
   spelled = [];
   stands = stands_none first_cmd first_stat s cmd_fits stat_fits s_is;
-  goes_on = at_each_none (λ _ u. end_after u.verdict u.call ≡ None);
+  goes_on = at_each_none (λ _ u. end_after u.verdict u.came u.call ≡ None);
   spells = refl;
   read = subst (Consumes left left) (sym empty) (Consumes-nil left);
   written = Appends-nil held;

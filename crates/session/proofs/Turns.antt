@@ -1,25 +1,29 @@
 -- What a turn of the session is, from what its parts say.
-use Rattle.std.proofs.Common.{◌≡◌, ℕ, List, Option, Some, None, refl, ap, subst, subst₂}
+use Rattle.std.proofs.Common.{◌≡◌, ℕ, ◌≤◌, List, Option, Some, None, refl, sym, ap, subst, subst₂, length, arith}
 use Rattle.std.specs.Prelude.{MatchOption}
 use Rattle.scsi_types.specs.Cdb.{need_of}
 use Rattle.iscsi_pdu.specs.declared.header.Header.{Header}
 use Rattle.iscsi_pdu.specs.declared.header.Header.TheVariants.{Initiator}
-use Rattle.iscsi_pdu.specs.declared.header.InitiatorHeader.TheVariants.{ScsiCommand}
+use Rattle.iscsi_pdu.specs.declared.header.InitiatorHeader.TheVariants.{NopOut, ScsiCommand, LogoutRequest}
 use Rattle.iscsi_pdu.specs.declared.header.ScsiCommand.{ScsiCommand as CommandHeader}
 use Rattle.iscsi_pdu.specs.declared.fault.PduFault.{PduFault}
 use Rattle.session.specs.declared.actions.Actions.{Actions}
 use Rattle.session.specs.declared.actions.Call.{Call}
+use Rattle.session.specs.declared.actions.Pdus.{Pdus}
+use Rattle.session.specs.declared.actions.Pdus.TheVariants as pdus
+use Rattle.session.specs.declared.verdict.TheConstants.{MAX_READ_LENGTH}
+use Rattle.session.specs.AnswerPdus.{IsWithin, read_length}
 use Rattle.session.specs.declared.end.End.{End}
 use Rattle.session.specs.declared.target.TargetAnswer.{TargetAnswer}
 use Rattle.session.specs.declared.target.TargetAnswer.TheVariants.{Replied, Outside, Busy, Gone, Halted}
 use Rattle.session.specs.declared.verdict.Verdict.{Verdict}
 use Rattle.session.specs.declared.verdict.Verdict.TheVariants.{Accepted, Ignored, Gap, Refused}
 use Rattle.session.specs.Question.{Question, serve}
-use Rattle.session.specs.Turn.{Incoming, pdu, faulty, Out, command_of, bytes_of}
+use Rattle.session.specs.Turn.{Incoming, pdu, faulty, Out, bytes_of}
 use Rattle.session.specs.Verdict.{IsJudgedPdu, reason_of}
 use Rattle.session.specs.Legal.{end_after, end_by}
 use Rattle.session.specs.Counters.{Counters, after_command}
-use Rattle.session.specs.Machine.{sent_by, IsCallOf, OnAccepted, OnRefusal, OnVerdict, OnPdu, OnAnswer}
+use Rattle.session.specs.Machine.{sent_by, IsCallOf, OnAccepted, OnTaken, OnRefusal, OnVerdict, OnPdu, OnAnswer}
 use Rattle.session.specs.MachineTurn.{TurnOnAnswer, TurnOf}
 use Rattle.session.specs.Stream.{IsSentOut, MakesTurn, StreamTurn}
 
@@ -39,7 +43,7 @@ module _ {T : Type 0} (leads : T → Question → TargetAnswer → T → Type 0)
   -- a turn without a call
   turn_alone : (came : Incoming) (v : Verdict)
       → TurnOf s came (record { came = came; verdict = v; call = None; sent = sent_by b a.pdus }) s'
-      → a.end ≡ end_after v None → MakesTurn leads s s' x x came outgoing a.end
+      → a.end ≡ end_after v came None → MakesTurn leads s s' x x came outgoing a.end
   turn_alone came v made ends = record {
     turn = record { came = came; verdict = v; call = None; sent = sent_by b a.pdus };
     made = made;
@@ -53,14 +57,16 @@ module _ {T : Type 0} (leads : T → Question → TargetAnswer → T → Type 0)
   no_call p d None e k = k
   no_call p d (Some c) e k = absurd (cc)
 
-  no_accepted : (d : List ℕ) (p : Option CommandHeader) → a.call ≡ None
-      → MatchOption p ⊥ (λ q. OnAccepted s q d a s') → ⊥
-  no_accepted d None e k = k
-  no_accepted d (Some p) e k = no_call p d a.call e k.call
+  taken_alone : (h : Header) (d : List ℕ) → IsJudgedPdu s.exp_cmd_sn h d Accepted → OnTaken s h d a s'
+      → a.call ≡ None → MakesTurn leads s s' x x (pdu b h d) outgoing a.end
+  taken_alone (Initiator (NopOut p)) d judged k none = turn_alone (pdu b (Initiator (NopOut p)) d) Accepted (record { came_is = refl; judged = judged; made = record { no_call = refl; outs_are = k.pdus_are b; next_is = k.next } }) k.ends
+  taken_alone (Initiator (LogoutRequest p)) d judged k none = turn_alone (pdu b (Initiator (LogoutRequest p)) d) Accepted (record { came_is = refl; judged = judged; made = record { no_call = refl; outs_are = k.pdus_are b; next_is = k.next } }) k.ends
+  taken_alone (Initiator (ScsiCommand p)) d judged k none = absurd (no_call p d a.call none k.call)
+  taken_alone h d judged k none = absurd k
 
   alone_by : (v : Verdict) (h : Header) (d : List ℕ) → IsJudgedPdu s.exp_cmd_sn h d v → OnVerdict v s h d a s'
       → a.call ≡ None → MakesTurn leads s s' x x (pdu b h d) outgoing a.end
-  alone_by Accepted h d judged k none = absurd (no_accepted d (command_of h) none k)
+  alone_by Accepted h d judged k none = taken_alone h d judged k none
   alone_by Ignored h d judged k none = turn_alone (pdu b h d) Ignored (record { came_is = refl; judged = judged; made = record { no_call = refl; outs_are = ap (sent_by b) k.0.pdus_are; next_is = k.2 } }) k.1
   alone_by Gap h d judged k none = turn_alone (pdu b h d) Gap (record { came_is = refl; judged = judged; made = record { no_call = refl; outs_are = ap (sent_by b) k.0.pdus_are; next_is = k.2 } }) k.1
   alone_by (Refused reason) h d judged k none = turn_alone (pdu b h d) (Refused reason) (record { came_is = refl; judged = judged; made = record { no_call = refl; outs_are = ap (sent_by b) k.pdus_are; next_is = k.next } }) k.ends
@@ -73,6 +79,44 @@ module _ {T : Type 0} (leads : T → Question → TargetAnswer → T → Type 0)
   -- a fault
   pub fault : (f : PduFault) → OnRefusal s (reason_of f) a s' → MakesTurn leads s s' x x (faulty f b) outgoing a.end
   fault f k = turn_alone (faulty f b) (Refused (reason_of f)) (record { came_is = refl; judged = refl; made = record { no_call = refl; outs_are = ap (sent_by b) k.pdus_are; next_is = k.next } }) k.ends
+
+-- the call of an accepted command
+is_call : (c : Call) (p : CommandHeader) (d : List ℕ) (call : Option Call) → call ≡ Some c
+    → MatchOption call ⊥ (λ k. IsCallOf p d k) → IsCallOf p d c
+is_call c p d None e k = absurd k
+is_call c p d (Some k) e is = let same : k ≡ c = cc in subst (IsCallOf p d) same is
+
+no_none : {A : Type 0} (c : Call) (call : Option Call) → call ≡ None → call ≡ Some c → A
+no_none c call e f = absurd (cc)
+
+-- the data of PDUs is no longer than a greater length
+widened : (m n : ℕ) (x : Pdus) → m ≤ n → IsWithin m x → IsWithin n x
+widened m n pdus.Nothing h k = tt
+widened m n (pdus.Reject r) h k = tt
+widened m n (pdus.Response x) h k = omega arith
+widened m n (pdus.Answer None r s) h k = tt
+widened m n (pdus.Answer (Some x) r s) h k = omega arith
+
+module _ (s mid : Counters) (a : Actions) (c : Call) (some : a.call ≡ Some c) where
+  taken_within : (h : Header) (d : List ℕ) → OnTaken s h d a mid → read_length c.task.command ≤ MAX_READ_LENGTH
+  taken_within (Initiator (ScsiCommand p)) d k =
+      let is = is_call c p d a.call some k.call in
+      subst (λ (q : CommandHeader). read_length q ≤ MAX_READ_LENGTH) (sym is.command) is.within
+  taken_within (Initiator (NopOut p)) d k = no_none c a.call k.no_call some
+  taken_within (Initiator (LogoutRequest p)) d k = no_none c a.call k.no_call some
+  taken_within h d k = absurd k
+
+  verdict_within : (v : Verdict) (h : Header) (d : List ℕ) → OnVerdict v s h d a mid
+      → read_length c.task.command ≤ MAX_READ_LENGTH
+  verdict_within Accepted h d k = taken_within h d k
+  verdict_within Ignored h d k = no_none c a.call k.0.no_call some
+  verdict_within Gap h d k = no_none c a.call k.0.no_call some
+  verdict_within (Refused reason) h d k = no_none c a.call k.no_call some
+
+  -- the data of its answer fits the outbox
+  pub answer_within : (h : Header) (d : List ℕ) (x : Pdus) → OnPdu s h d a mid
+      → IsWithin (read_length c.task.command) x → IsWithin MAX_READ_LENGTH x
+  answer_within h d x on k = widened (read_length c.task.command) MAX_READ_LENGTH x (verdict_within on.verdict h d on.made) k
 
 -- a call of a command that was accepted, and its answer
 module _ {T : Type 0} (leads : T → Question → TargetAnswer → T → Type 0) (s mid s' : Counters) (x x' : T) (b : List ℕ)
@@ -87,23 +131,15 @@ module _ {T : Type 0} (leads : T → Question → TargetAnswer → T → Type 0)
   reply_is p need Halted k = ((k.pdus_are b, k.next), k.no_end)
   reply_is p need Gone k = ((ap (sent_by b) k.silent.pdus_are, k.next), k.ends)
 
-  is_call : (p : CommandHeader) (d : List ℕ) (call : Option Call) → call ≡ Some c
-      → MatchOption call ⊥ (λ k. IsCallOf p d k) → IsCallOf p d c
-  is_call p d None e k = absurd k
-  is_call p d (Some k) e is = let same : k ≡ c = cc in subst (IsCallOf p d) same is
-
-  no_none : {A : Type 0} (call : Option Call) → call ≡ None → call ≡ Some c → A
-  no_none call e f = absurd (cc)
-
   moved : (q p : CommandHeader) (n m : ℕ) (next : Counters) (outs : List Out) → q ≡ p → n ≡ m → mid ≡ next
       → TurnOnAnswer mid q n answer outs s' → TurnOnAnswer next p m answer outs s'
   moved q p n m next outs e f g k = subst (λ (z : Counters). TurnOnAnswer z p m answer outs s') g (subst₂ (λ (z : CommandHeader) (w : ℕ). TurnOnAnswer mid z w answer outs s') e f k)
 
   accepted_turn : (h : Header) (d : List ℕ) → IsJudgedPdu s.exp_cmd_sn h d Accepted
-      → MatchOption (command_of h) ⊥ (λ p. OnAccepted s p d a mid)
+      → OnTaken s h d a mid
       → OnAnswer mid c.task.command c.task.need answer a' s' → MakesTurn leads s s' x x' (pdu b h d) outgoing a'.end
   accepted_turn (Initiator (ScsiCommand p)) d judged k replied =
-      let is = is_call p d a.call some k.call in
+      let is = is_call c p d a.call some k.call in
       let reply = reply_is c.task.command c.task.need answer replied in
       record {
         turn = record { came = pdu b (Initiator (ScsiCommand p)) d; verdict = Accepted; call = Some (record { question = serve c.unit c.asked c.bytes.now; answer = answer }); sent = sent_by b a'.pdus };
@@ -127,14 +163,16 @@ module _ {T : Type 0} (leads : T → Question → TargetAnswer → T → Type 0)
         outgoing_is = outgoing_is;
         wanted_is = reply.1;
       }
+  accepted_turn (Initiator (NopOut p)) d judged k replied = no_none c a.call k.no_call some
+  accepted_turn (Initiator (LogoutRequest p)) d judged k replied = no_none c a.call k.no_call some
   accepted_turn h d judged k replied = absurd k
 
   called_by : (v : Verdict) (h : Header) (d : List ℕ) → IsJudgedPdu s.exp_cmd_sn h d v → OnVerdict v s h d a mid
       → OnAnswer mid c.task.command c.task.need answer a' s' → MakesTurn leads s s' x x' (pdu b h d) outgoing a'.end
   called_by Accepted h d judged k replied = accepted_turn h d judged k replied
-  called_by Ignored h d judged k replied = no_none a.call k.0.no_call some
-  called_by Gap h d judged k replied = no_none a.call k.0.no_call some
-  called_by (Refused reason) h d judged k replied = no_none a.call k.no_call some
+  called_by Ignored h d judged k replied = no_none c a.call k.0.no_call some
+  called_by Gap h d judged k replied = no_none c a.call k.0.no_call some
+  called_by (Refused reason) h d judged k replied = no_none c a.call k.no_call some
 
   pub called : (h : Header) (d : List ℕ) → OnPdu s h d a mid → OnAnswer mid c.task.command c.task.need answer a' s'
       → MakesTurn leads s s' x x' (pdu b h d) outgoing a'.end

@@ -28,6 +28,7 @@ read_length p = if p.read then p.expected_length else 0
 abbrev pub IsWithin : ℕ → Pdus → Type 0
 IsWithin most pdus.Nothing = Unit {0}
 IsWithin most (pdus.Reject r) = Unit {0}
+IsWithin most (pdus.Response x) = length x.bytes.now ≤ most
 IsWithin most (pdus.Answer None r s) = Unit {0}
 IsWithin most (pdus.Answer (Some x) r s) = length x.bytes.now ≤ most
 

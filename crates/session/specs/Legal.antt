@@ -1,16 +1,18 @@
 -- Which transcripts are legal (RFC 7143, sections 4 and 7). A transcript is a list of turns; each fact is judged
 -- of the turn at each place, with the turns before it, so what holds of a transcript holds of each beginning.
-use Rattle.std.specs.Prelude.{◌≡◌, ◌⊎◌, ℕ, ◌+◌, ◌<◌, ◌≤◌, List, [], ◌∷◌, ◌++◌, length, take, Option, Some, None, IfSome, MatchOption, slice_get}
+use Rattle.std.specs.Prelude.{◌≡◌, ◌⊎◌, ℕ, ◌+◌, ◌<◌, ◌≤◌, if◌then◌else◌, List, [], ◌∷◌, ◌++◌, length, take, Option, Some, None, IfSome, MatchOption, slice_get}
 use Rattle.std.specs.List.{filter_map, AllByRecursion}
 use Rattle.iscsi_pdu.specs.Pdu.{IsPdu}
 use Rattle.iscsi_pdu.specs.Fault.{Stands}
 use Rattle.iscsi_pdu.specs.declared.header.Header.{Header}
+use Rattle.iscsi_pdu.specs.declared.header.Header.TheVariants.{Initiator}
+use Rattle.iscsi_pdu.specs.declared.header.InitiatorHeader.TheVariants.{ScsiCommand, LogoutRequest}
 use Rattle.iscsi_pdu.specs.declared.header.TargetHeader.{TargetHeader}
-use Rattle.iscsi_pdu.specs.declared.header.TargetHeader.TheVariants.{ScsiResponse, DataIn, Reject}
+use Rattle.iscsi_pdu.specs.declared.header.TargetHeader.TheVariants.{NopIn, ScsiResponse, DataIn, LogoutResponse, Reject}
 use Rattle.iscsi_pdu.specs.declared.header.Numbers.{Numbers}
 use Rattle.iscsi_pdu.specs.declared.fault.PduFault.{PduFault}
 use Rattle.session.specs.declared.end.End.{End}
-use Rattle.session.specs.declared.end.End.TheVariants.{EndOfInput, InputFailed, OutputFailed, Protocol, Reinstated}
+use Rattle.session.specs.declared.end.End.TheVariants.{EndOfInput, InputFailed, OutputFailed, Protocol, Reinstated, LoggedOut}
 use Rattle.session.specs.declared.target.TargetAnswer.{TargetAnswer}
 use Rattle.session.specs.declared.target.TargetAnswer.TheVariants.{Replied, Outside, Busy, Gone, Halted}
 use Rattle.session.specs.declared.verdict.Verdict.{Verdict}
@@ -23,14 +25,18 @@ use Rattle.session.specs.Transfer.{expected_transfer, sent_data}
 use Rattle.session.specs.Task.{Task, task_of, IsCalled, reply_data, needed}
 use Rattle.session.specs.Response.{responses, IsAnsweredBy, IsResidual, IsTold}
 use Rattle.session.specs.DataIn.{data_ins, Tiles}
+use Rattle.session.specs.Logout.{closes}
+use Rattle.session.specs.Requests.{IsRequestAnswered}
 
 -- the fact holds at each place of the transcript
 abbrev pub AtEach : (List Turn → Turn → Type 0) → List Turn → Type 0
 AtEach P ts = (before : List Turn) (t : Turn) (behind : List Turn) → ts ≡ before ++ (t ∷ behind) → P before t
 
--- the StatSN that a PDU uses up (4.2.2.2): that of a SCSI Response or of a Reject
+-- the StatSN that a PDU uses up (4.2.2.2): that of a response or of a Reject
 abbrev pub status_number : TargetHeader → Option ℕ
+status_number (NopIn p) = Some p.numbers.stat_sn
 status_number (ScsiResponse p) = Some p.numbers.stat_sn
+status_number (LogoutResponse p) = Some p.numbers.stat_sn
 status_number (Reject p) = Some p.numbers.stat_sn
 status_number h = None
 
@@ -57,8 +63,12 @@ abbrev pub bhs_of : Incoming → List ℕ
 bhs_of (pdu bhs h d) = bhs
 bhs_of (faulty f bhs) = bhs
 
+abbrev pub IsOfAccepted : Incoming → List Out → Type 0
+IsOfAccepted (pdu b (Initiator (ScsiCommand p)) d) outs = AllByRecursion (λ o. IsOfCommand o.header) outs
+IsOfAccepted came outs = Unit {0}
+
 abbrev pub IsRejected : Verdict → Incoming → List Out → Type 0
-IsRejected Accepted came outs = AllByRecursion (λ o. IsOfCommand o.header) outs
+IsRejected Accepted came outs = IsOfAccepted came outs
 IsRejected Ignored came outs = outs ≡ []
 IsRejected Gap came outs = outs ≡ []
 IsRejected (Refused reason) came outs =
@@ -86,7 +96,7 @@ HasResiduals task =
 abbrev pub IsToldTask : Option Task → Type 0
 IsToldTask task = IfSome task (λ t. AllByRecursion (λ r. IsTold t.answer r.0 r.1) (responses t.own))
 
--- the end that a turn calls for: a PDU that is rejected or out of order, or a session that is gone
+-- the end that a turn calls for: a PDU that is rejected or out of order, a session that is gone, or a logout
 abbrev pub end_by : TargetAnswer → Option End
 end_by (Replied a) = None
 end_by (Outside a) = None
@@ -94,12 +104,23 @@ end_by Busy = None
 end_by Gone = Some Reinstated
 end_by Halted = None
 
-abbrev pub end_after : Verdict → Option Asking → Option End
-end_after Accepted None = None
-end_after Accepted (Some call) = end_by call.answer
-end_after Ignored call = None
-end_after Gap call = Some Protocol
-end_after (Refused reason) call = Some Protocol
+abbrev pub end_of_call : Option Asking → Option End
+end_of_call None = None
+end_of_call (Some call) = end_by call.answer
+
+abbrev pub end_of_accepted : Incoming → Option Asking → Option End
+end_of_accepted (pdu b (Initiator (LogoutRequest p)) d) call = if closes p then Some LoggedOut else None
+end_of_accepted came call = end_of_call call
+
+abbrev pub end_after : Verdict → Incoming → Option Asking → Option End
+end_after Accepted came call = end_of_accepted came call
+end_after Ignored came call = None
+end_after Gap came call = Some Protocol
+end_after (Refused reason) came call = Some Protocol
+
+-- no turn calls for an end
+abbrev pub GoesOn : List Turn → Type 0
+GoesOn ts = AtEach (λ before t. end_after t.verdict t.came t.call ≡ None) ts
 
 -- The facts of a transcript that begins with this CmdSN and this StatSN.
 pub record Lawful (first_cmd first_stat : ℕ) (ts : List Turn) : Type 0 where
@@ -123,10 +144,10 @@ pub record Lawful (first_cmd first_stat : ℕ) (ts : List Turn) : Type 0 where
   pub told : AtEach (λ before t. IsToldTask (task_of t)) ts
   -- what is rejected has a Reject, and nothing else has one; no turn has a PDU of another kind
   pub rejected : AtEach (λ before t. IsRejected t.verdict t.came t.sent) ts
-
--- no turn calls for an end
-abbrev pub GoesOn : List Turn → Type 0
-GoesOn ts = AtEach (λ before t. end_after t.verdict t.call ≡ None) ts
+  -- each other request that is accepted has its one answer, and nothing else
+  pub requests : AtEach (λ before t. IsRequestAnswered t.verdict t.came t.call t.sent) ts
+  -- nothing comes behind a turn that calls for an end
+  pub ends : AtEach (λ before t. GoesOn before) ts
 
 -- no PDU and no fault with its whole header segment stands at the front of these bytes
 pub record NoneWhole (rest : List ℕ) : Type 0 where
@@ -145,7 +166,7 @@ pub record EndsWith (ts : List Turn) (rest : List ℕ) (end : Option End) : Type
   pub whole : ts ≡ front ++ last ∷ []
   pub goes_on : GoesOn front
   pub stands : StandsBehind last.came rest
-  pub ends : end_after last.verdict last.call ≡ end
+  pub ends : end_after last.verdict last.came last.call ≡ end
 
 -- how many bytes a session takes at most
 abbrev pub most_bytes : ℕ
@@ -160,3 +181,4 @@ EndsBy ts rest taken at_end InputFailed = GoesOn ts × NoneWhole rest
 EndsBy ts rest taken at_end OutputFailed = (end : Option End) × EndsWith ts rest end
 EndsBy ts rest taken at_end Protocol = EndsWith ts rest (Some Protocol)
 EndsBy ts rest taken at_end Reinstated = EndsWith ts rest (Some Reinstated)
+EndsBy ts rest taken at_end LoggedOut = EndsWith ts rest (Some LoggedOut)

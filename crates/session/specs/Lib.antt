@@ -7,9 +7,12 @@ pub mod Following
 pub mod Front
 pub mod Inbox
 pub mod Legal
+pub mod Logout
 pub mod Machine
 pub mod MachineTurn
+pub mod Nop
 pub mod Question
+pub mod Requests
 pub mod Response
 pub mod Slots
 pub mod Source

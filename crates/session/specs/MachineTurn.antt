@@ -3,7 +3,7 @@ use Rattle.std.specs.Prelude.{◌≡◌, ℕ, ◌≤◌, List, [], ◌∷◌, Op
 use Rattle.scsi_types.specs.Cdb.{need_of}
 use Rattle.iscsi_pdu.specs.declared.header.ScsiCommand.{ScsiCommand as CommandHeader}
 use Rattle.iscsi_pdu.specs.declared.header.Header.TheVariants.{Initiator}
-use Rattle.iscsi_pdu.specs.declared.header.InitiatorHeader.TheVariants.{ScsiCommand}
+use Rattle.iscsi_pdu.specs.declared.header.InitiatorHeader.TheVariants.{NopOut, ScsiCommand, LogoutRequest}
 use Rattle.iscsi_pdu.specs.declared.header.TargetHeader.TheVariants.{Reject}
 use Rattle.session.specs.declared.target.TargetAnswer.{TargetAnswer}
 use Rattle.session.specs.declared.verdict.Verdict.{Verdict}
@@ -14,8 +14,10 @@ use Rattle.session.specs.Window.{numbers_at}
 use Rattle.session.specs.Verdict.{IsJudged}
 use Rattle.session.specs.Task.{IsAskedFor, reply_data}
 use Rattle.session.specs.Legal.{bhs_of}
-use Rattle.session.specs.Counters.{Counters, after_status, after_command}
+use Rattle.session.specs.Counters.{Counters, after_status, after_number, after_command, after_answer, next_numbers}
 use Rattle.session.specs.AnswerPdus.{read_length, reply_with, completion_of}
+use Rattle.session.specs.Nop.{nop_answer}
+use Rattle.session.specs.Logout.{logout_answer}
 
 -- the PDUs and the counters behind an answer
 abbrev pub TurnOnAnswer : Counters → CommandHeader → ℕ → TargetAnswer → List Out → Counters → Type 0
@@ -30,10 +32,6 @@ pub record TurnOnCall (s : Counters) (p : CommandHeader) (d : List ℕ) (call : 
   pub asked : IsAskedFor p d call
   pub answered : TurnOnAnswer (after_command p s) p (need_of asked.asked) asked.answer outs s'
 
-abbrev pub TurnOnAccepted : Incoming → Counters → Option Asking → List Out → Counters → Type 0
-TurnOnAccepted (pdu b (Initiator (ScsiCommand p)) d) s call outs s' = TurnOnCall s p d call outs s'
-TurnOnAccepted came s call outs s' = ⊥
-
 -- the Reject for this reason, with the basic header segment of what came
 abbrev pub reject_out : Counters → ℕ → List ℕ → List Out
 reject_out s reason bhs = record {
@@ -46,6 +44,21 @@ pub record TurnUncalled (call : Option Asking) (outs wanted : List Out) (s' next
   pub no_call : call ≡ None
   pub outs_are : outs ≡ wanted
   pub next_is : s' ≡ next
+
+-- a request is answered by these PDUs, without a call
+abbrev pub TurnAnswered : Counters → List Out → Option Asking → List Out → Counters → Type 0
+TurnAnswered s wanted call outs s' = TurnUncalled call outs wanted s' (after_answer wanted s)
+
+-- what an accepted PDU makes of a turn, by its kind
+abbrev pub TurnOnAccepted : Incoming → Counters → Option Asking → List Out → Counters → Type 0
+TurnOnAccepted (pdu b (Initiator (NopOut p)) d) s call outs s' =
+    let mid = after_number p.immediate s in
+    TurnAnswered mid (nop_answer (next_numbers mid) p d) call outs s'
+TurnOnAccepted (pdu b (Initiator (ScsiCommand p)) d) s call outs s' = TurnOnCall s p d call outs s'
+TurnOnAccepted (pdu b (Initiator (LogoutRequest p)) d) s call outs s' =
+    let mid = after_number p.immediate s in
+    TurnAnswered mid (logout_answer (next_numbers mid) p) call outs s'
+TurnOnAccepted came s call outs s' = ⊥
 
 -- what a verdict makes of a turn
 abbrev pub TurnOnVerdict : Verdict → Counters → Incoming → Option Asking → List Out → Counters → Type 0

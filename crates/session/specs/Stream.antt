@@ -31,7 +31,7 @@ pub record MakesTurn {T : Type 0} (leads : T → Question → TargetAnswer → T
   pub made : TurnOf s came turn s'
   pub led : IsLed leads turn.call target target'
   pub outgoing_is : outgoing ≡ bytes_of turn.sent
-  pub wanted_is : wanted ≡ end_after turn.verdict turn.call
+  pub wanted_is : wanted ≡ end_after turn.verdict turn.came turn.call
 
 -- a turn whose bytes were written
 pub record StreamTurn {T : Type 0} (leads : T → Question → TargetAnswer → T → Type 0)
@@ -40,4 +40,4 @@ pub record StreamTurn {T : Type 0} (leads : T → Question → TargetAnswer → 
   pub turn : Turn
   pub made : TurnOf s came turn s'
   pub led : IsLed leads turn.call target target'
-  pub out : IsSentOut held held' before now (bytes_of turn.sent) (end_after turn.verdict turn.call) result
+  pub out : IsSentOut held held' before now (bytes_of turn.sent) (end_after turn.verdict turn.came turn.call) result

@@ -6,7 +6,7 @@ use Rattle.scsi_types.specs.declared.command.Command.{Command}
 use Rattle.scsi_types.specs.declared.command.CdbFault.{CdbFault}
 use Rattle.iscsi_pdu.specs.declared.header.ScsiCommand.{ScsiCommand as CommandHeader}
 use Rattle.iscsi_pdu.specs.declared.header.Header.TheVariants.{Initiator}
-use Rattle.iscsi_pdu.specs.declared.header.InitiatorHeader.TheVariants.{ScsiCommand}
+use Rattle.iscsi_pdu.specs.declared.header.InitiatorHeader.TheVariants.{NopOut, ScsiCommand, LogoutRequest}
 use Rattle.session.specs.Question.{Question, serve}
 use Rattle.session.specs.declared.target.TargetAnswer.{TargetAnswer}
 use Rattle.session.specs.declared.target.TargetAnswer.TheVariants.{Replied, Outside, Busy, Gone, Halted}
@@ -52,6 +52,8 @@ pub record IsAskedFor (p : CommandHeader) (d : List ℕ) (call : Option Asking) 
 
 abbrev pub IsAcceptedCall : Incoming → Option Asking → Type 0
 IsAcceptedCall (pdu b (Initiator (ScsiCommand p)) d) call = IsAskedFor p d call
+IsAcceptedCall (pdu b (Initiator (NopOut p)) d) call = call ≡ None
+IsAcceptedCall (pdu b (Initiator (LogoutRequest p)) d) call = call ≡ None
 IsAcceptedCall came call = ⊥
 
 abbrev pub IsCalled : Verdict → Incoming → Option Asking → Type 0

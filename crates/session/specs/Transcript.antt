@@ -2,7 +2,7 @@
 use Rattle.std.specs.Prelude.{◌≡◌, ℕ, ◌+◌, List, [], ◌∷◌, ◌++◌, length, map, take, Option}
 use Rattle.std.specs.Io.KnownBytes.{Appends, Consumes, IsAtEnd}
 use Rattle.session.specs.declared.end.End.{End}
-use Rattle.session.specs.declared.end.End.TheVariants.{EndOfInput, InputFailed, OutputFailed, Protocol, Reinstated}
+use Rattle.session.specs.declared.end.End.TheVariants.{EndOfInput, InputFailed, OutputFailed, Protocol, Reinstated, LoggedOut}
 use Rattle.session.specs.declared.target.TargetAnswer.{TargetAnswer}
 use Rattle.session.specs.Question.{Question}
 use Rattle.session.specs.Source.{Rises}
@@ -24,6 +24,7 @@ Written InputFailed held held' ts = Appends held held' (bytes_of (sent ts))
 Written OutputFailed held held' ts = IsCut held held' ts
 Written Protocol held held' ts = Appends held held' (bytes_of (sent ts))
 Written Reinstated held held' ts = Appends held held' (bytes_of (sent ts))
+Written LoggedOut held held' ts = Appends held held' (bytes_of (sent ts))
 
 -- The bytes that were read spell the PDUs of a legal transcript, and a rest behind them; the bytes that were
 -- written spell the PDUs that it sends; its calls lead the target from its state before to that after.

@@ -1,10 +1,20 @@
 -- What becomes of a PDU: the command window, and why a PDU is rejected (RFC 7143, 4.2.2.1, 7.3 and 11.17.1).
-use Rattle.std.specs.Prelude.{◌≡◌, ℕ, ◌==◌, ◌&&◌, ◌||◌, nat_lt, nat_le, Bool, if◌then◌else◌, List, length, Result, MatchOption}
+use Rattle.std.specs.Prelude.{◌≡◌, ℕ, ◌==◌, ◌&&◌, ◌||◌, nat_lt, nat_le, Bool, if◌then◌else◌, false, List, length, Result}
 use Rattle.scsi_types.specs.Cdb.{Means, need_of}
 use Rattle.scsi_types.specs.declared.command.Command.{Command}
 use Rattle.scsi_types.specs.declared.command.CdbFault.{CdbFault}
 use Rattle.iscsi_pdu.specs.declared.header.ScsiCommand.{ScsiCommand as CommandHeader}
 use Rattle.iscsi_pdu.specs.declared.header.Header.{Header}
+use Rattle.iscsi_pdu.specs.declared.header.Header.TheVariants.{Initiator, Target}
+use Rattle.iscsi_pdu.specs.declared.header.InitiatorHeader.TheVariants.{
+  NopOut,
+  ScsiCommand,
+  TaskManagementRequest,
+  LoginRequest,
+  TextRequest,
+  DataOut,
+  LogoutRequest,
+}
 use Rattle.iscsi_pdu.specs.declared.fault.PduFault.{PduFault}
 use Rattle.iscsi_pdu.specs.declared.fault.PduFault.TheVariants.{UnknownOpcode}
 use Rattle.session.specs.declared.verdict.Verdict.{Verdict}
@@ -12,7 +22,7 @@ use Rattle.session.specs.declared.verdict.Verdict.TheVariants.{Accepted, Ignored
 use Rattle.session.specs.declared.verdict.TheConstants.{RESERVED_TAG, MAX_READ_LENGTH}
 use Rattle.session.specs.declared.verdict.TheConstants.{PROTOCOL_ERROR, COMMAND_NOT_SUPPORTED, INVALID_PDU_FIELD}
 use Rattle.session.specs.declared.window.TheConstants.{WINDOW}
-use Rattle.session.specs.Turn.{Incoming, pdu, faulty, command_of}
+use Rattle.session.specs.Turn.{Incoming, pdu, faulty}
 use Rattle.session.specs.Transfer.{expected_transfer}
 use Rattle.session.specs.Window.{ahead}
 
@@ -25,21 +35,32 @@ is_refused p d need =
     || (p.read && nat_lt MAX_READ_LENGTH p.expected_length)
     || (p.write && nat_le need p.expected_length && nat_lt (length d) need)
 
+-- What becomes of a PDU with this I bit and this CmdSN, where this CmdSN is expected: outside the window it is ignored,
+-- and inside it, but not its first, it leaves a gap; in its turn it is rejected, if there is a cause, or accepted.
+abbrev pub window_verdict : ℕ → Bool → ℕ → Bool → Verdict
+window_verdict exp_cmd_sn immediate cmd_sn refused =
+    if immediate || (ahead cmd_sn exp_cmd_sn == 0)
+    then (if refused then Refused PROTOCOL_ERROR else Accepted)
+    else (if nat_lt (ahead cmd_sn exp_cmd_sn) WINDOW then Gap else Ignored)
+
 -- what becomes of a SCSI Command that needs this much data, where this CmdSN is expected
 abbrev pub verdict_of : ℕ → CommandHeader → List ℕ → ℕ → Verdict
-verdict_of exp_cmd_sn p d need =
-    if p.immediate || (ahead p.numbers.cmd_sn exp_cmd_sn == 0)
-    then (if is_refused p d need then Refused PROTOCOL_ERROR else Accepted)
-    else (if nat_lt (ahead p.numbers.cmd_sn exp_cmd_sn) WINDOW then Gap else Ignored)
+verdict_of exp_cmd_sn p d need = window_verdict exp_cmd_sn p.immediate p.numbers.cmd_sn (is_refused p d need)
 
 abbrev pub IsJudgedCommand : ℕ → CommandHeader → List ℕ → Verdict → Type 0
 IsJudgedCommand exp_cmd_sn p d v =
     (asked : Result Command CdbFault) × Means p.cdb asked × (v ≡ verdict_of exp_cmd_sn p d (need_of asked))
 
--- what becomes of a PDU: a kind that is not served counts as an unknown opcode
+-- what becomes of a PDU: a kind that is not served, and a PDU of a target, count as an unknown opcode
 abbrev pub IsJudgedPdu : ℕ → Header → List ℕ → Verdict → Type 0
-IsJudgedPdu exp_cmd_sn h d v =
-    MatchOption (command_of h) (v ≡ Refused COMMAND_NOT_SUPPORTED) (λ p. IsJudgedCommand exp_cmd_sn p d v)
+IsJudgedPdu e (Initiator (NopOut p)) d v = v ≡ window_verdict e p.immediate p.numbers.cmd_sn false
+IsJudgedPdu e (Initiator (ScsiCommand p)) d v = IsJudgedCommand e p d v
+IsJudgedPdu e (Initiator (TaskManagementRequest p)) d v = v ≡ Refused COMMAND_NOT_SUPPORTED
+IsJudgedPdu e (Initiator (LoginRequest p)) d v = v ≡ Refused PROTOCOL_ERROR
+IsJudgedPdu e (Initiator (TextRequest p)) d v = v ≡ Refused COMMAND_NOT_SUPPORTED
+IsJudgedPdu e (Initiator (DataOut p)) d v = v ≡ Refused COMMAND_NOT_SUPPORTED
+IsJudgedPdu e (Initiator (LogoutRequest p)) d v = v ≡ window_verdict e p.immediate p.numbers.cmd_sn false
+IsJudgedPdu e (Target p) d v = v ≡ Refused COMMAND_NOT_SUPPORTED
 
 abbrev pub reason_of : PduFault → ℕ
 reason_of UnknownOpcode = COMMAND_NOT_SUPPORTED

@@ -1,9 +1,14 @@
 -- The command window and the numbers of a session (RFC 7143, 4.2.2).
 use Rattle.std.specs.Prelude.{ℕ, ◌+◌, ◌-◌, ◌%◌, Bool, false, not, if◌then◌else◌, List}
 use Rattle.std.specs.List.{count_by}
-use Rattle.iscsi_pdu.specs.declared.header.ScsiCommand.{ScsiCommand as CommandHeader}
 use Rattle.iscsi_pdu.specs.declared.header.Header.TheVariants.{Initiator}
-use Rattle.iscsi_pdu.specs.declared.header.InitiatorHeader.TheVariants.{ScsiCommand}
+use Rattle.iscsi_pdu.specs.declared.header.InitiatorHeader.TheVariants.{
+  NopOut,
+  ScsiCommand,
+  TaskManagementRequest,
+  TextRequest,
+  LogoutRequest,
+}
 use Rattle.iscsi_pdu.specs.declared.header.TargetHeader.{TargetHeader}
 use Rattle.iscsi_pdu.specs.declared.header.TargetHeader.TheVariants.{
   NopIn,
@@ -54,13 +59,17 @@ numbers_of (LogoutResponse p) = p.numbers
 numbers_of (R2t p) = p.numbers
 numbers_of (Reject p) = p.numbers
 
--- the CmdSN that is expected behind a command that was accepted
-abbrev pub exp_cmd_sn_behind : CommandHeader → ℕ → ℕ
-exp_cmd_sn_behind p exp_cmd_sn = if p.immediate then exp_cmd_sn else wrap (exp_cmd_sn + 1)
+-- the CmdSN that is expected behind a PDU with this I bit that was accepted
+abbrev pub exp_cmd_sn_behind : Bool → ℕ → ℕ
+exp_cmd_sn_behind immediate exp_cmd_sn = if immediate then exp_cmd_sn else wrap (exp_cmd_sn + 1)
 
--- a PDU that takes a CmdSN, if it is accepted
+-- a PDU that takes a CmdSN, if it is accepted: one of these kinds, without the I bit
 abbrev pub is_numbered : Incoming → Bool
+is_numbered (pdu b (Initiator (NopOut p)) d) = not p.immediate
 is_numbered (pdu b (Initiator (ScsiCommand p)) d) = not p.immediate
+is_numbered (pdu b (Initiator (TaskManagementRequest p)) d) = not p.immediate
+is_numbered (pdu b (Initiator (TextRequest p)) d) = not p.immediate
+is_numbered (pdu b (Initiator (LogoutRequest p)) d) = not p.immediate
 is_numbered i = false
 
 abbrev pub takes_number : Verdict → Incoming → Bool

@@ -1,5 +1,5 @@
 use crate::end::End;
-use iscsi_pdu::{DataIn, Reject, ScsiCommand, ScsiResponse};
+use iscsi_pdu::{DataIn, Reject, ScsiCommand, ScsiResponse, TargetHeader};
 use scsi_types::{Asked, Sense};
 
 /// What a PDU or an answer calls for: PDUs to write, then perhaps a call of the target, then perhaps the end.
@@ -20,12 +20,21 @@ pub enum Pdus<'a> {
     Nothing,
     /// A Reject, whose data is the basic header segment of what is rejected (RFC 7143, 11.17).
     Reject(Reject),
+    /// The answer to a request that is no SCSI Command.
+    Response(ResponsePdu<'a>),
     /// The data of an answer, where it has any, and its SCSI Response with its sense (RFC 7143, 11.4 and 11.7).
     Answer {
         data_in: Option<DataInPdu<'a>>,
         response: ScsiResponse,
         sense: Option<Sense>,
     },
+}
+
+/// The one PDU that answers a request, with its data.
+#[derive(Clone, Copy, Debug)]
+pub struct ResponsePdu<'a> {
+    pub header: TargetHeader,
+    pub bytes: &'a [u8],
 }
 
 /// A Data-In with its data, of 1 to 8192 bytes (RFC 7143, 11.7).

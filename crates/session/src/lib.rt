@@ -19,6 +19,8 @@ mod data_in;
 mod end;
 mod inbox;
 mod laws;
+mod logout;
+mod nop;
 mod outbox;
 mod response;
 mod session;
@@ -31,7 +33,7 @@ mod waiting;
 mod watched;
 mod window;
 
-pub use actions::{Actions, Call, DataInPdu, OpenTask, Pdus};
+pub use actions::{Actions, Call, DataInPdu, OpenTask, Pdus, ResponsePdu};
 pub use end::End;
 pub use laws::{
     a_read_gets_the_data_of_its_answer, no_command_is_answered_twice,

@@ -76,6 +76,7 @@ impl Outbox {
         match pdus {
             Pdus::Nothing => {}
             Pdus::Reject(reject) => put(&mut self.bytes, TargetHeader::Reject(*reject), bhs),
+            Pdus::Response(pdu) => put(&mut self.bytes, pdu.header, pdu.bytes),
             Pdus::Answer {
                 data_in,
                 response,

@@ -1,20 +1,28 @@
 //! A session without bytes: what it makes of PDUs and of answers.
-ghost use Rattle.std.specs.Prelude.{◌≡◌};
+ghost use Rattle.std.specs.Prelude.{◌≡◌, ℕ, List, ◌≤◌, length, IfSome, MatchOption};
 ghost use Rattle.scsi_types.specs.Cdb.{need_of};
-ghost use Rattle.session.specs.Counters.{Counters, after_command};
-ghost use Rattle.session.specs.Verdict.{reason_of};
+ghost use Rattle.session.specs.Counters.{Counters, after_number, next_numbers};
+ghost use Rattle.session.specs.declared.verdict.Verdict.TheVariants.{Accepted};
+ghost use Rattle.session.specs.declared.verdict.TheConstants.{MAX_READ_LENGTH};
+ghost use Rattle.session.specs.Verdict.{reason_of, window_verdict};
 ghost use Rattle.session.specs.AnswerPdus.{IsWithin, read_length, reply_with};
-ghost use Rattle.session.specs.Machine.{OnPdu, OnCommand, OnRefusal, OnAnswer, Sends};
+ghost use Rattle.session.specs.Machine.{OnPdu, OnCommand, OnNopOut, OnLogout, OnUnaccepted, OnRefusal, OnAnswer, Sends, Answers, out_of};
 
-use crate::actions::{Actions, Call, OpenTask, Pdus};
+use crate::actions::{Actions, Call, OpenTask, Pdus, ResponsePdu};
 use crate::data_in::data_in_pdu;
 use crate::end::End;
+use crate::logout::{logout_end, logout_response};
+use crate::nop::nop_in;
 use crate::response::{COMPLETED, Completion, TARGET_FAILURE, scsi_response};
 use crate::target::TargetAnswer;
 use crate::transfer::command_data;
-use crate::verdict::{COMMAND_NOT_SUPPORTED, Verdict, command_verdict, reject_reason};
+use crate::verdict::{
+    COMMAND_NOT_SUPPORTED, PROTOCOL_ERROR, Verdict, command_verdict, reject_reason, window_verdict,
+};
 use crate::window::{next_exp_cmd_sn, target_numbers};
-use iscsi_pdu::{Header, InitiatorHeader, Pdu, PduFault, Reject, ScsiCommand};
+use iscsi_pdu::{
+    Header, InitiatorHeader, LogoutRequest, NopOut, Numbers, Pdu, PduFault, Reject, ScsiCommand,
+};
 use scsi_types::{Asked, Lun, Status, decode, need};
 use std::marker::Model;
 
@@ -56,7 +64,8 @@ impl Session {
     /// What a PDU calls for: the window first, then the causes of a Reject (RFC 7143, 4.2.2.1 and 7.3). A command
     /// that is accepted is to be called. A PDU of a kind that is not served is rejected.
     pub fn on_pdu<'a>(&mut self, pdu: Pdu<'a>) -> Actions<'a>
-        ensures { OnPdu self.old pdu.entry.header pdu.entry.data.now result self.new }
+        ensures on { OnPdu self.old pdu.entry.header pdu.entry.data.now result self.new }
+        ensures within { IsWithin MAX_READ_LENGTH result.pdus }
     {
         match pdu.header {
             Header::Initiator(header) => self.on_initiator(header, pdu.data),
@@ -66,34 +75,133 @@ impl Session {
 
     // What an initiator's PDU calls for.
     fn on_initiator<'a>(&mut self, header: InitiatorHeader, bytes: &'a [u8]) -> Actions<'a>
-        ensures { OnPdu self.old (Header.Initiator header) bytes.now result self.new }
+        ensures on { OnPdu self.old (Header.Initiator header) bytes.now result self.new }
+        ensures within { IsWithin MAX_READ_LENGTH result.pdus }
     {
         match header {
+            InitiatorHeader::NopOut(request) => self.on_nop_out(request, bytes),
             InitiatorHeader::ScsiCommand(command) => self.on_command(command, bytes),
-            _ => self.reject(COMMAND_NOT_SUPPORTED),
+            InitiatorHeader::TaskManagementRequest(_) => self.reject(COMMAND_NOT_SUPPORTED),
+            InitiatorHeader::LoginRequest(_) => self.reject(PROTOCOL_ERROR),
+            InitiatorHeader::TextRequest(_) => self.reject(COMMAND_NOT_SUPPORTED),
+            InitiatorHeader::DataOut(_) => self.reject(COMMAND_NOT_SUPPORTED),
+            InitiatorHeader::LogoutRequest(request) => self.on_logout(request),
+        }
+    }
+
+    // What a NOP-Out calls for.
+    fn on_nop_out<'a>(&mut self, request: NopOut, bytes: &'a [u8]) -> Actions<'a>
+        ensures on { OnPdu self.old (Header.Initiator (InitiatorHeader.NopOut request)) bytes.now result self.new }
+        ensures within { IsWithin MAX_READ_LENGTH result.pdus }
+    {
+        let verdict = self.verdict(request.immediate, request.numbers.cmd_sn, false);
+        match self.turned_away(verdict) {
+            Some(actions) => actions,
+            None => self.answer_nop_out(request, bytes),
+        }
+    }
+
+    // An accepted NOP-Out.
+    fn answer_nop_out<'a>(&mut self, request: NopOut, bytes: &'a [u8]) -> Actions<'a>
+        ensures on { OnNopOut self.old request bytes.now result self.new }
+        ensures within { IsWithin MAX_READ_LENGTH result.pdus }
+    {
+        self.accept(request.immediate);
+        let pdu = nop_in(self.next_numbers(), &request, bytes);
+        self.answer(pdu, None)
+    }
+
+    // What a Logout Request calls for.
+    fn on_logout<'a>(&mut self, request: LogoutRequest) -> Actions<'a>
+        ensures on { (d : List ℕ)
+            → OnPdu self.old (Header.Initiator (InitiatorHeader.LogoutRequest request)) d result self.new }
+        ensures within { IsWithin MAX_READ_LENGTH result.pdus }
+    {
+        let verdict = self.verdict(request.immediate, request.numbers.cmd_sn, false);
+        match self.turned_away(verdict) {
+            Some(actions) => actions,
+            None => self.answer_logout(request),
+        }
+    }
+
+    // An accepted logout.
+    fn answer_logout<'a>(&mut self, request: LogoutRequest) -> Actions<'a>
+        ensures on { OnLogout self.old request result self.new }
+        ensures within { IsWithin MAX_READ_LENGTH result.pdus }
+    {
+        self.accept(request.immediate);
+        let pdu = logout_response(self.next_numbers(), &request);
+        self.answer(Some(pdu), logout_end(&request))
+    }
+
+    // What becomes of a PDU with this I bit and CmdSN, which is rejected in its turn if there is a cause.
+    fn verdict(&self, immediate: bool, cmd_sn: u32, refused: bool) -> Verdict
+        ensures { result ≡ window_verdict self.now.exp_cmd_sn immediate cmd_sn refused }
+    {
+        window_verdict(self.exp_cmd_sn, immediate, cmd_sn, refused)
+    }
+
+    // What a verdict calls for that does not accept its PDU.
+    fn turned_away<'a>(&mut self, verdict: Verdict) -> Option<Actions<'a>>
+        ensures away { MatchOption result ((verdict ≡ Accepted) × (self.new ≡ self.old))
+            (λ a. OnUnaccepted verdict self.old a self.new) }
+        ensures within { IfSome result (λ a. IsWithin MAX_READ_LENGTH a.pdus) }
+    {
+        match verdict {
+            Verdict::Accepted => None,
+            Verdict::Ignored => Some(Actions {
+                pdus: Pdus::Nothing,
+                call: None,
+                end: None,
+            }),
+            Verdict::Gap => Some(Actions {
+                pdus: Pdus::Nothing,
+                call: None,
+                end: Some(End::Protocol),
+            }),
+            Verdict::Refused(reason) => Some(self.reject(reason)),
+        }
+    }
+
+    // The numbers of the next PDU that uses up a StatSN.
+    fn next_numbers(&self) -> Numbers
+        ensures { result ≡ next_numbers self.now }
+    {
+        target_numbers(self.stat_sn, self.exp_cmd_sn)
+    }
+
+    // The answer to a request, if it asks for one, which uses up a StatSN.
+    fn answer<'a>(&mut self, pdu: Option<ResponsePdu<'a>>, end: Option<End>) -> Actions<'a>
+        requires { IfSome pdu (λ x. length x.bytes.now ≤ MAX_READ_LENGTH) }
+        ensures on { Answers self.old (out_of pdu.entry) end result self.new }
+        ensures within { IsWithin MAX_READ_LENGTH result.pdus }
+    {
+        let pdus = match pdu {
+            None => Pdus::Nothing,
+            Some(pdu) => {
+                self.stat_sn = self.stat_sn.wrapping_add(1);
+                Pdus::Response(pdu)
+            }
+        };
+        Actions {
+            pdus,
+            call: None,
+            end,
         }
     }
 
     // What a SCSI Command calls for.
     fn on_command<'a>(&mut self, command: ScsiCommand, bytes: &'a [u8]) -> Actions<'a>
-        ensures { OnCommand self.old command bytes.now result self.new }
+        ensures on { OnCommand self.old command bytes.now result self.new }
+        ensures within { IsWithin MAX_READ_LENGTH result.pdus }
     {
         let asked = decode(&command.cdb);
         let need = data_needed(&asked);
-        match command_verdict(self.exp_cmd_sn, &command, bytes, need) {
-            Verdict::Ignored => Actions {
-                pdus: Pdus::Nothing,
-                call: None,
-                end: None,
-            },
-            Verdict::Gap => Actions {
-                pdus: Pdus::Nothing,
-                call: None,
-                end: Some(End::Protocol),
-            },
-            Verdict::Refused(reason) => self.reject(reason),
-            Verdict::Accepted => {
-                self.accept(&command);
+        let verdict = command_verdict(self.exp_cmd_sn, &command, bytes, need);
+        match self.turned_away(verdict) {
+            Some(actions) => actions,
+            None => {
+                self.accept(command.immediate);
                 let call = Call {
                     task: OpenTask { command, need },
                     unit: Lun::parse(&command.lun),
@@ -109,23 +217,25 @@ impl Session {
         }
     }
 
-    // Takes the command's number, unless it is immediate.
-    fn accept(&mut self, command: &ScsiCommand)
-        ensures { self.new ≡ after_command command.now self.old }
+    // Takes the number of a PDU with this I bit, unless it is immediate.
+    fn accept(&mut self, immediate: bool)
+        ensures { self.new ≡ after_number immediate self.old }
     {
-        self.exp_cmd_sn = next_exp_cmd_sn(self.exp_cmd_sn, command);
+        self.exp_cmd_sn = next_exp_cmd_sn(self.exp_cmd_sn, immediate);
     }
 
     /// What the fault calls for that stands in place of a PDU: a Reject, and the end.
     pub fn on_fault<'a>(&mut self, fault: PduFault) -> Actions<'a>
-        ensures { OnRefusal self.old (reason_of fault) result self.new }
+        ensures on { OnRefusal self.old (reason_of fault) result self.new }
+        ensures within { IsWithin MAX_READ_LENGTH result.pdus }
     {
         self.reject(reject_reason(fault))
     }
 
     // A Reject for this reason, and the end.
     fn reject<'a>(&mut self, reason: u8) -> Actions<'a>
-        ensures { OnRefusal self.old reason result self.new }
+        ensures on { OnRefusal self.old reason result self.new }
+        ensures within { IsWithin MAX_READ_LENGTH result.pdus }
     {
         let numbers = target_numbers(self.stat_sn, self.exp_cmd_sn);
         self.stat_sn = self.stat_sn.wrapping_add(1);

@@ -35,8 +35,8 @@ pub fn returned_data<'a>(command: &ScsiCommand, bytes: &'a [u8]) -> &'a [u8]
     first_bytes(bytes, command.expected_length)
 }
 
-// The first bytes, or all where there are fewer.
-fn first_bytes(bytes: &[u8], most: u32) -> &[u8]
+/// The first bytes, or all where there are fewer.
+pub fn first_bytes(bytes: &[u8], most: u32) -> &[u8]
     ensures part { result.now ≡ take most bytes.now }
     ensures within { length result.now ≤ most }
 {

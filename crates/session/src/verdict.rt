@@ -1,6 +1,6 @@
 //! What becomes of a PDU that comes (RFC 7143, 4.2.2.1, 7.3 and 11.17).
 ghost use Rattle.std.specs.Prelude.{◌≡◌};
-ghost use Rattle.session.specs.Verdict.{verdict_of, is_refused, reason_of};
+ghost use Rattle.session.specs.Verdict.{window_verdict, verdict_of, is_refused, reason_of};
 
 use crate::data_in::MAX_DATA_IN_LENGTH;
 use crate::transfer::expected_data_length;
@@ -36,9 +36,18 @@ pub const INVALID_PDU_FIELD: u8 = 0x09;
 pub fn command_verdict(exp_cmd_sn: u32, command: &ScsiCommand, bytes: &[u8], need: u32) -> Verdict
     ensures { result ≡ verdict_of exp_cmd_sn command.now bytes.now need }
 {
-    let ahead = command.numbers.cmd_sn.wrapping_sub(exp_cmd_sn);
-    if command.immediate || ahead == 0 {
-        if has_cause_of_reject(command, bytes, need) {
+    let refused = has_cause_of_reject(command, bytes, need);
+    window_verdict(exp_cmd_sn, command.immediate, command.numbers.cmd_sn, refused)
+}
+
+/// What becomes of a PDU with this I bit and this CmdSN, where this CmdSN is expected, which is rejected in its turn if
+/// there is a cause (RFC 7143, 4.2.2.1).
+pub fn window_verdict(exp_cmd_sn: u32, immediate: bool, cmd_sn: u32, refused: bool) -> Verdict
+    ensures { result ≡ window_verdict exp_cmd_sn immediate cmd_sn refused }
+{
+    let ahead = cmd_sn.wrapping_sub(exp_cmd_sn);
+    if immediate || ahead == 0 {
+        if refused {
             Verdict::Refused(PROTOCOL_ERROR)
         } else {
             Verdict::Accepted
