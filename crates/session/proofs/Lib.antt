@@ -2,6 +2,9 @@ pub mod Facts
 pub mod Following
 pub mod Lawful
 pub mod Lists
+pub mod Queues
+pub mod Rows
 pub mod Running
+pub mod Segments
 pub mod Turns
 pub mod Unserved

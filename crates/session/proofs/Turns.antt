@@ -9,7 +9,7 @@ use Rattle.iscsi_pdu.specs.declared.header.ScsiCommand.{ScsiCommand as CommandHe
 use Rattle.iscsi_pdu.specs.declared.fault.PduFault.{PduFault}
 use Rattle.session.specs.declared.actions.Actions.{Actions}
 use Rattle.session.specs.declared.actions.Call.{Call}
-use Rattle.session.specs.declared.end.End.{End}
+use Rattle.session.specs.declared.end.End.TheVariants.{Protocol}
 use Rattle.session.specs.declared.target.TargetAnswer.{TargetAnswer}
 use Rattle.session.specs.declared.target.TargetAnswer.TheVariants.{Replied, Outside, Busy, Gone, Halted}
 use Rattle.session.specs.declared.verdict.Verdict.{Verdict}
@@ -21,30 +21,21 @@ use Rattle.session.specs.Legal.{end_after, end_by}
 use Rattle.session.specs.Counters.{Counters, after_command}
 use Rattle.session.specs.Machine.{sent_by, IsCallOf, OnAccepted, OnRefusal, OnVerdict, OnPdu, OnAnswer}
 use Rattle.session.specs.MachineTurn.{TurnOnAnswer, TurnOf}
-use Rattle.session.specs.Stream.{IsSentOut, MakesTurn, StreamTurn}
+use Rattle.session.specs.Outbox.{OutboxValue, IsQueued}
+use Rattle.session.specs.Stream.{MakesTurn}
 
--- a turn whose bytes are written
-pub written : {T : Type 0} (leads : T → Question → TargetAnswer → T → Type 0) (s s' : Counters) (x x' : T) (held held' : Option (List ℕ)) (before now : ℕ) (came : Incoming) (outgoing : List ℕ) (wanted result : Option End)
-    → MakesTurn leads s s' x x' came outgoing wanted → IsSentOut held held' before now outgoing wanted result
-    → StreamTurn leads s s' x x' held held' before now came result
-written leads s s' x x' held held' before now came outgoing wanted result t out = record {
-  turn = t.turn;
-  made = t.made;
-  led = t.led;
-  out = subst (λ (w : Option End). IsSentOut held held' before now (bytes_of t.turn.sent) w result) t.wanted_is (subst (λ (b : List ℕ). IsSentOut held held' before now b wanted result) t.outgoing_is out);
-}
-
-module _ {T : Type 0} (leads : T → Question → TargetAnswer → T → Type 0) (s s' : Counters) (x : T) (b : List ℕ)
-    (a : Actions) (outgoing : List ℕ) (outgoing_is : outgoing ≡ bytes_of (sent_by b a.pdus)) where
+module _ {T : Type 0} (leads : T → Question → TargetAnswer → T → Type 0) (s s' : Counters) (x : T)
+    (held held' : Option (List ℕ)) (before now : ℕ) (o o' : OutboxValue) (b : List ℕ)
+    (a : Actions) (queued : IsQueued held held' before now o o' (bytes_of (sent_by b a.pdus))) where
   -- a turn without a call
   turn_alone : (came : Incoming) (v : Verdict)
       → TurnOf s came (record { came = came; verdict = v; call = None; sent = sent_by b a.pdus }) s'
-      → a.end ≡ end_after v None → MakesTurn leads s s' x x came outgoing a.end
+      → a.end ≡ end_after v None → MakesTurn leads s s' x x held held' before now o o' came a.end
   turn_alone came v made ends = record {
     turn = record { came = came; verdict = v; call = None; sent = sent_by b a.pdus };
     made = made;
     led = refl;
-    outgoing_is = outgoing_is;
+    queued = queued;
     wanted_is = ends;
   }
 
@@ -58,8 +49,8 @@ module _ {T : Type 0} (leads : T → Question → TargetAnswer → T → Type 0)
   no_accepted d None e k = k
   no_accepted d (Some p) e k = no_call p d a.call e k.call
 
-  alone_by : (v : Verdict) (h : Header) (d : List ℕ) → IsJudgedPdu s.exp_cmd_sn h d v → OnVerdict v s h d a s'
-      → a.call ≡ None → MakesTurn leads s s' x x (pdu b h d) outgoing a.end
+  alone_by : (v : Verdict) (h : Header) (d : List ℕ) → IsJudgedPdu s.lengths s.exp_cmd_sn h d v → OnVerdict v s h d a s'
+      → a.call ≡ None → MakesTurn leads s s' x x held held' before now o o' (pdu b h d) a.end
   alone_by Accepted h d judged k none = absurd (no_accepted d (command_of h) none k)
   alone_by Ignored h d judged k none = turn_alone (pdu b h d) Ignored (record { came_is = refl; judged = judged; made = record { no_call = refl; outs_are = ap (sent_by b) k.0.pdus_are; next_is = k.2 } }) k.1
   alone_by Gap h d judged k none = turn_alone (pdu b h d) Gap (record { came_is = refl; judged = judged; made = record { no_call = refl; outs_are = ap (sent_by b) k.0.pdus_are; next_is = k.2 } }) k.1
@@ -67,17 +58,18 @@ module _ {T : Type 0} (leads : T → Question → TargetAnswer → T → Type 0)
 
   -- a PDU that calls for no call
   pub alone : (h : Header) (d : List ℕ) → OnPdu s h d a s' → a.call ≡ None
-      → MakesTurn leads s s' x x (pdu b h d) outgoing a.end
+      → MakesTurn leads s s' x x held held' before now o o' (pdu b h d) a.end
   alone h d on none = alone_by on.verdict h d on.judged on.made none
 
   -- a fault
-  pub fault : (f : PduFault) → OnRefusal s (reason_of f) a s' → MakesTurn leads s s' x x (faulty f b) outgoing a.end
-  fault f k = turn_alone (faulty f b) (Refused (reason_of f)) (record { came_is = refl; judged = refl; made = record { no_call = refl; outs_are = ap (sent_by b) k.pdus_are; next_is = k.next } }) k.ends
+  pub fault : (f : PduFault) → OnRefusal s (reason_of f) a s' → MakesTurn leads s s' x x held held' before now o o' (faulty f b) (Some Protocol)
+  fault f k = subst (MakesTurn leads s s' x x held held' before now o o' (faulty f b)) k.ends (turn_alone (faulty f b) (Refused (reason_of f)) (record { came_is = refl; judged = refl; made = record { no_call = refl; outs_are = ap (sent_by b) k.pdus_are; next_is = k.next } }) k.ends)
 
 -- a call of a command that was accepted, and its answer
-module _ {T : Type 0} (leads : T → Question → TargetAnswer → T → Type 0) (s mid s' : Counters) (x x' : T) (b : List ℕ)
-    (a a' : Actions) (c : Call) (answer : TargetAnswer) (outgoing : List ℕ)
-    (outgoing_is : outgoing ≡ bytes_of (sent_by b a'.pdus)) (some : a.call ≡ Some c)
+module _ {T : Type 0} (leads : T → Question → TargetAnswer → T → Type 0) (s mid s' : Counters) (x x' : T)
+    (held held' : Option (List ℕ)) (before now : ℕ) (o o' : OutboxValue) (b : List ℕ)
+    (a a' : Actions) (c : Call) (answer : TargetAnswer)
+    (queued : IsQueued held held' before now o o' (bytes_of (sent_by b a'.pdus))) (some : a.call ≡ Some c)
     (led : leads x (serve c.unit c.asked c.bytes.now) answer x') where
   reply_is : (p : CommandHeader) (need : ℕ) (answer : TargetAnswer) → OnAnswer mid p need answer a' s'
       → TurnOnAnswer mid p need answer (sent_by b a'.pdus) s' × (a'.end ≡ end_by answer)
@@ -99,9 +91,9 @@ module _ {T : Type 0} (leads : T → Question → TargetAnswer → T → Type 0)
       → TurnOnAnswer mid q n answer outs s' → TurnOnAnswer next p m answer outs s'
   moved q p n m next outs e f g k = subst (λ (z : Counters). TurnOnAnswer z p m answer outs s') g (subst₂ (λ (z : CommandHeader) (w : ℕ). TurnOnAnswer mid z w answer outs s') e f k)
 
-  accepted_turn : (h : Header) (d : List ℕ) → IsJudgedPdu s.exp_cmd_sn h d Accepted
+  accepted_turn : (h : Header) (d : List ℕ) → IsJudgedPdu s.lengths s.exp_cmd_sn h d Accepted
       → MatchOption (command_of h) ⊥ (λ p. OnAccepted s p d a mid)
-      → OnAnswer mid c.task.command c.task.need answer a' s' → MakesTurn leads s s' x x' (pdu b h d) outgoing a'.end
+      → OnAnswer mid c.task.command c.task.need answer a' s' → MakesTurn leads s s' x x' held held' before now o o' (pdu b h d) a'.end
   accepted_turn (Initiator (ScsiCommand p)) d judged k replied =
       let is = is_call p d a.call some k.call in
       let reply = reply_is c.task.command c.task.need answer replied in
@@ -111,7 +103,6 @@ module _ {T : Type 0} (leads : T → Question → TargetAnswer → T → Type 0)
           came_is = refl;
           judged = judged;
           made = record {
-            within = is.within;
             asked = record {
               asked = c.asked;
               unit = c.unit;
@@ -124,18 +115,18 @@ module _ {T : Type 0} (leads : T → Question → TargetAnswer → T → Type 0)
           };
         };
         led = led;
-        outgoing_is = outgoing_is;
+        queued = queued;
         wanted_is = reply.1;
       }
   accepted_turn h d judged k replied = absurd k
 
-  called_by : (v : Verdict) (h : Header) (d : List ℕ) → IsJudgedPdu s.exp_cmd_sn h d v → OnVerdict v s h d a mid
-      → OnAnswer mid c.task.command c.task.need answer a' s' → MakesTurn leads s s' x x' (pdu b h d) outgoing a'.end
+  called_by : (v : Verdict) (h : Header) (d : List ℕ) → IsJudgedPdu s.lengths s.exp_cmd_sn h d v → OnVerdict v s h d a mid
+      → OnAnswer mid c.task.command c.task.need answer a' s' → MakesTurn leads s s' x x' held held' before now o o' (pdu b h d) a'.end
   called_by Accepted h d judged k replied = accepted_turn h d judged k replied
   called_by Ignored h d judged k replied = no_none a.call k.0.no_call some
   called_by Gap h d judged k replied = no_none a.call k.0.no_call some
   called_by (Refused reason) h d judged k replied = no_none a.call k.no_call some
 
   pub called : (h : Header) (d : List ℕ) → OnPdu s h d a mid → OnAnswer mid c.task.command c.task.need answer a' s'
-      → MakesTurn leads s s' x x' (pdu b h d) outgoing a'.end
+      → MakesTurn leads s s' x x' held held' before now o o' (pdu b h d) a'.end
   called h d on replied = called_by on.verdict h d on.judged on.made replied

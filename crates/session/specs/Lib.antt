@@ -7,6 +7,7 @@ pub mod Inbox
 pub mod Legal
 pub mod Machine
 pub mod MachineTurn
+pub mod Outbox
 pub mod Question
 pub mod Response
 pub mod Source

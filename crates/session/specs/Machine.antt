@@ -1,5 +1,5 @@
 -- What a session makes of a PDU, of a fault and of an answer: the PDUs to write, the call, the end, its counters.
-use Rattle.std.specs.Prelude.{◌≡◌, ℕ, ◌≤◌, List, [], ◌∷◌, ◌++◌, Some, None, MatchOption}
+use Rattle.std.specs.Prelude.{◌≡◌, ℕ, List, [], ◌∷◌, ◌++◌, Some, None, MatchOption}
 use Rattle.scsi_types.specs.Cdb.{Means, need_of}
 use Rattle.scsi_types.specs.Lun.{NamesUnit}
 use Rattle.iscsi_pdu.specs.declared.header.ScsiCommand.{ScsiCommand as CommandHeader}
@@ -15,7 +15,6 @@ use Rattle.session.specs.declared.end.End.TheVariants.{Protocol, Reinstated}
 use Rattle.session.specs.declared.target.TargetAnswer.{TargetAnswer}
 use Rattle.session.specs.declared.verdict.Verdict.{Verdict}
 use Rattle.session.specs.declared.verdict.Verdict.TheVariants.{Accepted, Ignored, Gap, Refused}
-use Rattle.session.specs.declared.verdict.TheConstants.{MAX_READ_LENGTH}
 use Rattle.session.specs.Turn.{Out, command_of}
 use Rattle.session.specs.Window.{numbers_at}
 use Rattle.session.specs.Verdict.{IsJudgedPdu}
@@ -23,13 +22,13 @@ use Rattle.session.specs.Transfer.{data_for}
 use Rattle.session.specs.Task.{reply_data}
 use Rattle.session.specs.Response.{sense_part}
 use Rattle.session.specs.Counters.{Counters, after_status, after_command}
-use Rattle.session.specs.AnswerPdus.{read_length, data_in_of, reply_with, completion_of}
+use Rattle.session.specs.AnswerPdus.{data_ins_of, reply_with, completion_of}
 
 -- the PDUs that actions say to write, where the basic header segment in hand has these bytes
 abbrev pub sent_by : List ℕ → Pdus → List Out
 sent_by bhs pdus.Nothing = []
 sent_by bhs (pdus.Reject r) = record { header = Reject r; bytes = bhs } ∷ []
-sent_by bhs (pdus.Answer x r s) = data_in_of x ++ record { header = ScsiResponse r; bytes = sense_part s } ∷ []
+sent_by bhs (pdus.Answer x r s) = data_ins_of x ++ record { header = ScsiResponse r; bytes = sense_part s } ∷ []
 
 -- nothing goes out, and nothing is called
 pub record IsSilent (a : Actions) : Type 0 where
@@ -43,7 +42,6 @@ pub record IsCallOf (p : CommandHeader) (d : List ℕ) (c : Call) : Type 0 where
   pub need : c.task.need ≡ need_of c.asked
   pub unit : NamesUnit p.lun c.unit
   pub bytes : c.bytes.now ≡ data_for p (need_of c.asked) d
-  pub within : read_length p ≤ MAX_READ_LENGTH
 
 -- an accepted command is to be called, and takes its number
 pub record OnAccepted (s : Counters) (p : CommandHeader) (d : List ℕ) (a : Actions) (s' : Counters) : Type 0 where
@@ -69,7 +67,7 @@ OnVerdict (Refused reason) s h d a s' = OnRefusal s reason a s'
 -- what a session makes of a PDU, and of a SCSI Command
 pub record OnPdu (s : Counters) (h : Header) (d : List ℕ) (a : Actions) (s' : Counters) : Type 0 where
   pub verdict : Verdict
-  pub judged : IsJudgedPdu s.exp_cmd_sn h d verdict
+  pub judged : IsJudgedPdu s.lengths s.exp_cmd_sn h d verdict
   pub made : OnVerdict verdict s h d a s'
 
 abbrev pub OnCommand : Counters → CommandHeader → List ℕ → Actions → Counters → Type 0

@@ -1,30 +1,33 @@
 //! A session without bytes: what it makes of PDUs and of answers.
 ghost use Rattle.std.specs.Prelude.{◌≡◌};
 ghost use Rattle.scsi_types.specs.Cdb.{need_of};
-ghost use Rattle.session.specs.Counters.{Counters, after_command};
+ghost use Rattle.session.specs.Counters.{Counters, begun, after_command};
 ghost use Rattle.session.specs.Verdict.{reason_of};
-ghost use Rattle.session.specs.AnswerPdus.{IsWithin, read_length, reply_with};
+ghost use Rattle.session.specs.AnswerPdus.{AreInReach, reply_with};
 ghost use Rattle.session.specs.Machine.{OnPdu, OnCommand, OnRefusal, OnAnswer, Sends};
 
-use crate::actions::{Actions, Call, OpenTask, Pdus};
-use crate::data_in::data_in_pdu;
+use crate::actions::{Actions, Call, DataIns, OpenTask, Pdus};
+use crate::data_in::count;
 use crate::end::End;
+use crate::lengths::Lengths;
 use crate::response::{COMPLETED, Completion, TARGET_FAILURE, scsi_response};
 use crate::target::TargetAnswer;
-use crate::transfer::command_data;
+use crate::transfer::{command_data, returned_data};
 use crate::verdict::{COMMAND_NOT_SUPPORTED, Verdict, command_verdict, reject_reason};
 use crate::window::{next_exp_cmd_sn, target_numbers};
 use iscsi_pdu::{Header, InitiatorHeader, Pdu, PduFault, Reject, ScsiCommand};
 use scsi_types::{Asked, Lun, Status, decode, need};
 use std::marker::Model;
 
-/// The numbers with which a session begins.
+/// The numbers and the lengths with which a session begins.
 #[derive(Clone, Copy, Debug, PartialEq, Eq)]
 pub struct Start {
     /// The CmdSN that is expected first.
     pub exp_cmd_sn: u32,
     /// The first StatSN.
     pub stat_sn: u32,
+    /// The lengths in force.
+    pub lengths: Lengths,
 }
 
 /// A session in full feature phase: what it makes of PDUs and of answers. It reads and writes nothing itself.
@@ -32,6 +35,7 @@ pub struct Start {
 pub struct Session {
     stat_sn: u32,
     exp_cmd_sn: u32,
+    lengths: Lengths,
 }
 
 impl Model for Session {
@@ -39,17 +43,18 @@ impl Model for Session {
 
     ghost Value = { Counters };
 
-    ghost view = { λ s. record { stat_sn = s.stat_sn; exp_cmd_sn = s.exp_cmd_sn } };
+    ghost view = { λ s. record { stat_sn = s.stat_sn; exp_cmd_sn = s.exp_cmd_sn; lengths = s.lengths } };
 }
 
 impl Session {
-    /// A session that begins with these numbers.
+    /// A session that begins so.
     pub fn new(start: Start) -> Session
-        ensures { result ≡ record { stat_sn = start.stat_sn; exp_cmd_sn = start.exp_cmd_sn } }
+        ensures { result ≡ begun start }
     {
         Session {
             stat_sn: start.stat_sn,
             exp_cmd_sn: start.exp_cmd_sn,
+            lengths: start.lengths,
         }
     }
 
@@ -80,7 +85,7 @@ impl Session {
     {
         let asked = decode(&command.cdb);
         let need = data_needed(&asked);
-        match command_verdict(self.exp_cmd_sn, &command, bytes, need) {
+        match command_verdict(self.lengths, self.exp_cmd_sn, &command, bytes, need) {
             Verdict::Ignored => Actions {
                 pdus: Pdus::Nothing,
                 call: None,
@@ -139,7 +144,7 @@ impl Session {
     /// What the answer to a task calls for: its data and its SCSI Response, or the end where the session is gone.
     pub fn on_answer<'a>(&mut self, task: OpenTask, answer: &'a TargetAnswer) -> Actions<'a>
         ensures answered { OnAnswer self.old task.command task.need answer.now result self.new }
-        ensures within { IsWithin (read_length task.command) result.pdus }
+        ensures reach { AreInReach result.pdus }
     {
         match answer {
             TargetAnswer::Replied(reply) | TargetAnswer::Outside(reply) => {
@@ -161,7 +166,7 @@ impl Session {
         }
     }
 
-    // The Data-In, where a read returns anything, and the SCSI Response.
+    // The Data-In of what a read returns, and the SCSI Response.
     fn respond<'a>(
         &mut self,
         task: &OpenTask,
@@ -170,17 +175,21 @@ impl Session {
     ) -> Actions<'a>
         ensures sent { Sends self.old
             (reply_with self.old task.now.command task.now.need bytes.now completion) result self.new }
-        ensures within { IsWithin (read_length task.now.command) result.pdus }
+        ensures reach { AreInReach result.pdus }
     {
         // A Data-In without a status has no StatSN (RFC 7143, 11.7.3).
-        let data_in = data_in_pdu(target_numbers(0, self.exp_cmd_sn), &task.command, bytes);
+        let data_ins = DataIns {
+            task_tag: task.command.task_tag,
+            numbers: target_numbers(0, self.exp_cmd_sn),
+            lengths: self.lengths,
+            bytes: returned_data(&task.command, bytes),
+        };
         let numbers = target_numbers(self.stat_sn, self.exp_cmd_sn);
-        let data_ins = u32::from(data_in.is_some());
-        let response = scsi_response(numbers, task, bytes.len(), data_ins, completion);
+        let response = scsi_response(numbers, task, bytes.len(), count(&data_ins), completion);
         self.stat_sn = self.stat_sn.wrapping_add(1);
         Actions {
             pdus: Pdus::Answer {
-                data_in,
+                data_ins,
                 response,
                 sense: completion.sense,
             },
