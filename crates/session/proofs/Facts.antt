@@ -1,5 +1,5 @@
 -- What is judged of a turn holds of each turn that the session makes.
-use Rattle.std.proofs.Common.{◌≡◌, ◌⊎◌, ℕ, zero, suc, ◌+◌, ◌<◌, ◌≤◌, ◌↔◌, Bool, true, false, not, List, [], ◌∷◌, ◌++◌, Option, Some, None, length, length-take, refl, sym, subst, inl, inr, arith}
+use Rattle.std.proofs.Common.{min, ◌≡◌, ◌⊎◌, ℕ, zero, suc, ◌+◌, ◌<◌, ◌≤◌, ◌↔◌, Bool, true, false, not, List, [], ◌∷◌, ◌++◌, Option, Some, None, length, length-take, refl, sym, subst, inl, inr, arith}
 use Rattle.std.specs.Prelude.{◌==◌, IsTrue, slice_get, Result, nat_lt, if◌then◌else◌, take}
 use Rattle.std.proofs.lemmas.List.{append-nil}
 use Rattle.std.proofs.lemmas.Bool.{ltb-true, lt-ltb}
@@ -16,20 +16,20 @@ use Rattle.iscsi_pdu.specs.declared.header.DataIn.{DataIn as DataInHeader}
 use Rattle.iscsi_pdu.specs.declared.header.Header.TheVariants.{Initiator}
 use Rattle.iscsi_pdu.specs.declared.header.InitiatorHeader.TheVariants.{NopOut, ScsiCommand, LogoutRequest}
 use Rattle.iscsi_pdu.specs.declared.header.TargetHeader.TheVariants.{NopIn, ScsiResponse, LogoutResponse}
-use Rattle.session.specs.declared.data_in.TheConstants.{MAX_DATA_IN_LENGTH, NO_TRANSFER_TAG}
+use Rattle.iscsi_pdu.specs.declared.TheConstants.{MAX_DATA_SEGMENT_LENGTH}
+use Rattle.session.specs.declared.data_in.TheConstants.{NO_TRANSFER_TAG}
 use Rattle.session.specs.declared.response.Completion.{Completion}
 use Rattle.session.specs.declared.response.TheConstants.{COMPLETED, TARGET_FAILURE}
 use Rattle.session.specs.declared.target.TargetAnswer.{TargetAnswer}
 use Rattle.session.specs.declared.target.TargetAnswer.TheVariants.{Replied, Outside, Busy, Gone, Halted}
 use Rattle.session.specs.declared.verdict.Verdict.{Verdict}
 use Rattle.session.specs.declared.verdict.Verdict.TheVariants.{Accepted, Ignored, Gap, Refused}
-use Rattle.session.specs.declared.verdict.TheConstants.{MAX_READ_LENGTH, RESERVED_TAG}
+use Rattle.session.specs.declared.verdict.TheConstants.{RESERVED_TAG}
 use Rattle.session.specs.Question.{serve}
 use Rattle.session.specs.Turn.{Incoming, pdu, Out, Asking}
 use Rattle.session.specs.Window.{wrap, numbers_at, numbers_of, exp_cmd_sn_behind, takes_number}
 use Rattle.session.specs.Requests.{IsRequestAnswered}
 use Rattle.session.specs.Logout.{closes, logout_answer}
-use Rattle.session.specs.declared.nop.TheConstants.{DECLARED_LENGTH}
 use Rattle.session.specs.declared.logout.TheConstants.{CLOSED, RECOVERY_NOT_SUPPORTED, TIME_TO_WAIT, TIME_TO_RETAIN}
 use Rattle.iscsi_pdu.specs.declared.header.Numbers.{Numbers}
 use Rattle.iscsi_pdu.specs.declared.header.LogoutRequest.{LogoutRequest as LogoutHeader}
@@ -37,27 +37,29 @@ use Rattle.session.specs.Verdict.{IsJudged}
 use Rattle.session.specs.Transfer.{expected_transfer, transfer_of, data_for, sent_data}
 use Rattle.session.specs.Task.{task_by, IsCalled, IsAskedFor, reply_data}
 use Rattle.session.specs.Response.{response_with, responses, HasOneResponse, IsAnsweredBy, IsTold, sense_part}
-use Rattle.session.specs.DataIn.{data_in_with, data_ins, IsSegment, Tiles}
+use Rattle.session.specs.DataIn.{data_in_with, data_ins, Tiles}
 use Rattle.session.specs.Legal.{status_number, status_numbers, IsWindow, HaveWindow, IsRejected, IsAnsweredTask, IsTiledTask, IsCountedTask, HasResiduals, IsToldTask}
 use Rattle.std.specs.List.{AllByRecursion}
 use Rattle.session.specs.Legal.{IsOfCommand}
 use Rattle.session.specs.Counters.{Counters, after_status, after_number, after_command, after_answer, next_numbers}
-use Rattle.session.specs.AnswerPdus.{read_length, data_in_for, response_for}
+use Rattle.session.specs.AnswerPdus.{data_ins_for, response_for}
 use Rattle.session.specs.MachineTurn.{TurnOnAnswer, TurnOnAccepted, TurnOnVerdict}
+use Rattle.session.proofs.Segments.{outs_of, outs_windows, outs_statuses, outs_responses, outs_front, outs_count, outs_kinds, outs_tiled}
 
 -- what is judged of one turn, where the session's counters are these before and behind it
 pub record TurnFacts (s s' : Counters) (came : Incoming) (v : Verdict) (call : Option Asking)
     (outs : List Out) : Type 0 where
-  pub judged : IsJudged s.exp_cmd_sn came v
+  pub judged : IsJudged s.lengths s.exp_cmd_sn came v
   pub windows : HaveWindow s'.exp_cmd_sn outs
   pub called : IsCalled v came call
   pub answered : IsAnsweredTask (task_by v came call outs) outs
-  pub tiled : IsTiledTask (task_by v came call outs) outs
+  pub tiled : IsTiledTask s.lengths (task_by v came call outs) outs
   pub counted : IsCountedTask (task_by v came call outs)
   pub residual : HasResiduals (task_by v came call outs)
   pub told : IsToldTask (task_by v came call outs)
   pub rejected : IsRejected v came outs
-  pub requests : IsRequestAnswered v came call outs
+  pub requests : IsRequestAnswered s.lengths v came call outs
+  pub lengths_kept : s'.lengths ≡ s.lengths
   pub commands : ((s'.exp_cmd_sn ≡ s.exp_cmd_sn) × (takes_number v came ≡ false)) ⊎ ((s'.exp_cmd_sn ≡ wrap (s.exp_cmd_sn + 1)) × (takes_number v came ≡ true))
   pub statuses : ((s'.stat_sn ≡ s.stat_sn) × (status_numbers outs ≡ [])) ⊎ ((s'.stat_sn ≡ wrap (s.stat_sn + 1)) × (status_numbers outs ≡ s.stat_sn ∷ []))
 
@@ -71,84 +73,8 @@ no_segment : (k : ℕ) (x : DataInHeader × List ℕ) → slice_get no_segments 
 no_segment zero x e = absurd (cc)
 no_segment (suc k) x e = absurd (cc)
 
--- ---- the PDUs of an answer: at most one Data-In, and the response
-
-module _ (e : ℕ) (p : CommandHeader) (r : ResponseHeader) (sense : List ℕ) where
-  abbrev data_in_outs : List ℕ → List Out
-  data_in_outs sent = data_in_for (numbers_at 0 e) p sent
-
-  abbrev outs_of : List ℕ → List Out
-  outs_of sent = data_in_outs sent ++ record { header = ScsiResponse r; bytes = sense } ∷ []
-
-  outs_windows : (sent : List ℕ) → IsWindow e r.numbers → HaveWindow e (outs_of sent)
-  outs_windows [] w = (w, tt)
-  outs_windows (y ∷ ys) w = (record { expects = refl; reaches = refl }, (w, tt))
-
-  outs_statuses : (sent : List ℕ) → status_numbers (outs_of sent) ≡ r.numbers.stat_sn ∷ []
-  outs_statuses [] = refl
-  outs_statuses (y ∷ ys) = refl
-
-  outs_responses : (sent : List ℕ) → responses (outs_of sent) ≡ (r, sense) ∷ []
-  outs_responses [] = refl
-  outs_responses (y ∷ ys) = refl
-
-  outs_front : (sent : List ℕ) → responses (data_in_outs sent) ≡ []
-  outs_front [] = refl
-  outs_front (y ∷ ys) = refl
-
-  outs_count : (sent : List ℕ) → length (data_in_outs sent) ≡ length (data_ins (outs_of sent))
-  outs_count [] = refl
-  outs_count (y ∷ ys) = refl
-
-  outs_rejects : (sent : List ℕ) → AllByRecursion (λ o. IsOfCommand o.header) (outs_of sent)
-  outs_rejects [] = (tt, tt)
-  outs_rejects (y ∷ ys) = (tt, (tt, tt))
-
-  abbrev the_header : DataInHeader
-  the_header = record { last = true; task_tag = p.task_tag; transfer_tag = NO_TRANSFER_TAG; numbers = numbers_at 0 e; data_sn = 0; offset = 0 }
-
-  abbrev the_segments : List ℕ → List (DataInHeader × List ℕ)
-  the_segments bytes = (the_header, bytes) ∷ []
-
-  the_segment : (y : ℕ) (ys : List ℕ) → length (y ∷ ys) ≤ MAX_DATA_IN_LENGTH
-      → IsSegment p (the_segments (y ∷ ys)) 0 the_header (y ∷ ys)
-  the_segment y ys short = record {
-    some = omega arith;
-    within = short;
-    full = λ more. absurd (omega (arith, more));
-    number = refl;
-    place = refl;
-    last = (λ e. refl, λ e. refl);
-    tag = refl;
-    no_transfer = refl;
-    no_status = refl;
-  }
-
-  segment_at : (y : ℕ) (ys : List ℕ) → length (y ∷ ys) ≤ MAX_DATA_IN_LENGTH → (k : ℕ) (x : DataInHeader × List ℕ)
-      → slice_get (the_segments (y ∷ ys)) k ≡ Some x
-      → IsSegment p (the_segments (y ∷ ys)) k x.0 x.1
-  segment_at y ys short zero x e =
-      let only : DataInHeader × List ℕ = (the_header, y ∷ ys) in
-      let same : only ≡ x = cc in
-      subst (λ (z : DataInHeader × List ℕ). IsSegment p (the_segments (y ∷ ys)) 0 z.0 z.1) same (the_segment y ys short)
-  segment_at y ys short (suc k) x e = absurd (cc)
-
-  outs_tiled : (sent : List ℕ) → length sent ≤ MAX_DATA_IN_LENGTH → Tiles p (data_ins (outs_of sent)) sent
-  outs_tiled [] short = record { joined = refl; each = λ k h d e. absurd (no_segment k (h, d) e) }
-  outs_tiled (y ∷ ys) short = record { joined = append-nil (y ∷ ys); each = λ k h d e. segment_at y ys short k (h, d) e }
-
 less : (a b : ℕ) → IsTrue (nat_lt a b) ↔ (a < b)
 less a b = (λ e. ltb-true a b e, λ h. lt-ltb a b h)
-
--- what is sent of a read's data fits one Data-In
-cond_short : (r : Bool) (most : ℕ) (bytes : List ℕ) → (if r then most else 0) ≤ MAX_READ_LENGTH
-    → length (if r then take most bytes else none_data) ≤ MAX_DATA_IN_LENGTH
-cond_short true most bytes within = omega (arith, within, length-take most bytes)
-cond_short false most bytes within = omega arith
-
-sent_short : (p : CommandHeader) (bytes : List ℕ) → read_length p ≤ MAX_READ_LENGTH
-    → length (sent_data p bytes) ≤ MAX_DATA_IN_LENGTH
-sent_short p bytes within = cond_short p.read p.expected_length bytes within
 
 -- ---- an accepted command
 
@@ -163,7 +89,7 @@ commands_of false e = inr (refl, refl)
 
 module _ (s : Counters) (b : List ℕ) (p : CommandHeader) (d : List ℕ) (asked : Result Command CdbFault)
     (unit : Option ℕ) (answer : TargetAnswer)
-    (judged : IsJudged s.exp_cmd_sn (pdu b (Initiator (ScsiCommand p)) d) Accepted) (means : Means p.cdb asked)
+    (judged : IsJudged s.lengths s.exp_cmd_sn (pdu b (Initiator (ScsiCommand p)) d) Accepted) (means : Means p.cdb asked)
     (names : NamesUnit p.lun unit) where
   abbrev mid : Counters
   mid = after_command p s
@@ -185,42 +111,43 @@ module _ (s : Counters) (b : List ℕ) (p : CommandHeader) (d : List ℕ) (asked
     sense = sense_part completion.sense
 
     abbrev the_response : ResponseHeader
-    the_response = response_for (numbers_at mid.stat_sn mid.exp_cmd_sn) p transfer (length (data_in_for (numbers_at 0 mid.exp_cmd_sn) p sent_bytes)) completion
+    the_response = response_for (numbers_at mid.stat_sn mid.exp_cmd_sn) p transfer (length (data_ins_for (numbers_at 0 mid.exp_cmd_sn) p.task_tag s.lengths sent_bytes)) completion
 
     abbrev the_outs : List Out
-    the_outs = outs_of mid.exp_cmd_sn p the_response sense sent_bytes
+    the_outs = outs_of mid.exp_cmd_sn p.task_tag s.lengths sent_bytes the_response sense (length sent_bytes) 0 0
 
     one_response : HasOneResponse p the_outs
     one_response = record {
-      front = data_in_for (numbers_at 0 mid.exp_cmd_sn) p sent_bytes;
+      front = data_ins_for (numbers_at 0 mid.exp_cmd_sn) p.task_tag s.lengths sent_bytes;
       last = the_response;
       segment = sense;
       own_is = refl;
-      no_other = outs_front mid.exp_cmd_sn p the_response sense sent_bytes;
+      no_other = outs_front mid.exp_cmd_sn p.task_tag s.lengths sent_bytes the_response sense (length sent_bytes) 0 0;
       tag = refl;
     }
 
-    reply_facts : read_length p ≤ MAX_READ_LENGTH → (HasOneResponse p the_outs → IsAnsweredBy p answer the_outs)
+    reply_facts : (HasOneResponse p the_outs → IsAnsweredBy p answer the_outs)
         → IsTold answer the_response sense
         → TurnFacts s (after_status mid) (pdu b (Initiator (ScsiCommand p)) d) Accepted (Some asking) the_outs
-    reply_facts within answered told =
-        let responses_are = outs_responses mid.exp_cmd_sn p the_response sense sent_bytes in
+    reply_facts answered told =
+        let responses_are = outs_responses mid.exp_cmd_sn p.task_tag s.lengths sent_bytes the_response sense (length sent_bytes) 0 0 in
         record {
           judged = judged;
-          windows = outs_windows mid.exp_cmd_sn p the_response sense sent_bytes (record { expects = refl; reaches = refl });
+          windows = outs_windows mid.exp_cmd_sn p.task_tag s.lengths sent_bytes the_response sense (length sent_bytes) 0 0 (record { expects = refl; reaches = refl });
           called = asked_for;
           answered = answered one_response;
-          tiled = outs_tiled mid.exp_cmd_sn p the_response sense sent_bytes (sent_short p (reply_data answer) within);
-          counted = rw responses_are (outs_count mid.exp_cmd_sn p the_response sense sent_bytes, tt);
+          tiled = outs_tiled mid.exp_cmd_sn p.task_tag s.lengths sent_bytes the_response sense p refl;
+          counted = rw responses_are (outs_count mid.exp_cmd_sn p.task_tag s.lengths sent_bytes the_response sense (length sent_bytes) 0 0, tt);
           residual = rw responses_are (record { underflow = less transfer (expected_transfer p); overflow = less (expected_transfer p) transfer; count = refl }, tt);
           told = rw responses_are (told, tt);
-          rejected = outs_rejects mid.exp_cmd_sn p the_response sense sent_bytes;
+          rejected = outs_kinds mid.exp_cmd_sn p.task_tag s.lengths sent_bytes the_response sense (length sent_bytes) 0 0;
           requests = tt;
+          lengths_kept = refl;
           commands = commands_of p.immediate s.exp_cmd_sn;
-          statuses = inr (refl, outs_statuses mid.exp_cmd_sn p the_response sense sent_bytes);
+          statuses = inr (refl, outs_statuses mid.exp_cmd_sn p.task_tag s.lengths sent_bytes the_response sense (length sent_bytes) 0 0);
         }
 
-  gone_tiles : (r : Bool) → Tiles p [] (if r then take p.expected_length none_data else none_data)
+  gone_tiles : (r : Bool) → Tiles s.lengths p [] (if r then take p.expected_length none_data else none_data)
   gone_tiles true = rw (take_none p.expected_length) (record { joined = refl; each = λ k h e f. absurd (no_segment k (h, e) f) })
   gone_tiles false = record { joined = refl; each = λ k h e f. absurd (no_segment k (h, e) f) }
 
@@ -236,6 +163,7 @@ module _ (s : Counters) (b : List ℕ) (p : CommandHeader) (d : List ℕ) (asked
     told = tt;
     rejected = tt;
     requests = tt;
+    lengths_kept = refl;
     commands = commands_of p.immediate s.exp_cmd_sn;
     statuses = inl (refl, refl);
   }
@@ -251,16 +179,16 @@ moved e f g k = rw (e, f, g) k
 
 module _ (s s' : Counters) (b : List ℕ) (p : CommandHeader) (d : List ℕ) (call : Option Asking) (outs : List Out)
     (asked : Result Command CdbFault) (unit : Option ℕ) where
-  answered_facts : (answer : TargetAnswer) → IsJudged s.exp_cmd_sn (pdu b (Initiator (ScsiCommand p)) d) Accepted
-      → read_length p ≤ MAX_READ_LENGTH → Means p.cdb asked → NamesUnit p.lun unit
+  answered_facts : (answer : TargetAnswer) → IsJudged s.lengths s.exp_cmd_sn (pdu b (Initiator (ScsiCommand p)) d) Accepted
+      → Means p.cdb asked → NamesUnit p.lun unit
       → call ≡ Some (record { question = serve unit asked (data_for p (need_of asked) d); answer = answer })
       → TurnOnAnswer (after_command p s) p (need_of asked) answer outs s'
       → TurnFacts s s' (pdu b (Initiator (ScsiCommand p)) d) Accepted call outs
-  answered_facts (Replied a) judged within means names e r = moved e r.0 r.1 (reply_facts s b p d asked unit (Replied a) judged means names (told COMPLETED a.status a.sense) within (λ o. o) (record { response = refl; status_is = refl; sense_is = refl }))
-  answered_facts (Outside a) judged within means names e r = moved e r.0 r.1 (reply_facts s b p d asked unit (Outside a) judged means names (told COMPLETED a.status a.sense) within (λ o. o) (record { response = refl; status_is = refl; sense_is = refl }))
-  answered_facts Busy judged within means names e r = moved e r.0 r.1 (reply_facts s b p d asked unit Busy judged means names (told COMPLETED statuses.Busy None) within (λ o. o) (record { response = refl; status_is = refl; sense_is = refl }))
-  answered_facts Halted judged within means names e r = moved e r.0 r.1 (reply_facts s b p d asked unit Halted judged means names (told TARGET_FAILURE statuses.Good None) within (λ o. o) (record { response = refl; status_is = refl; sense_is = refl }))
-  answered_facts Gone judged within means names e r = moved e r.0 r.1 (gone_facts s b p d asked unit Gone judged means names refl)
+  answered_facts (Replied a) judged means names e r = moved e r.0 r.1 (reply_facts s b p d asked unit (Replied a) judged means names (told COMPLETED a.status a.sense) (λ o. o) (record { response = refl; status_is = refl; sense_is = refl }))
+  answered_facts (Outside a) judged means names e r = moved e r.0 r.1 (reply_facts s b p d asked unit (Outside a) judged means names (told COMPLETED a.status a.sense) (λ o. o) (record { response = refl; status_is = refl; sense_is = refl }))
+  answered_facts Busy judged means names e r = moved e r.0 r.1 (reply_facts s b p d asked unit Busy judged means names (told COMPLETED statuses.Busy None) (λ o. o) (record { response = refl; status_is = refl; sense_is = refl }))
+  answered_facts Halted judged means names e r = moved e r.0 r.1 (reply_facts s b p d asked unit Halted judged means names (told TARGET_FAILURE statuses.Good None) (λ o. o) (record { response = refl; status_is = refl; sense_is = refl }))
+  answered_facts Gone judged means names e r = moved e r.0 r.1 (gone_facts s b p d asked unit Gone judged means names refl)
 
 abbrev logout_out : Numbers → LogoutHeader → Out
 logout_out n p = record {
@@ -272,7 +200,7 @@ logout_out n p = record {
 -- SCSI Response nor a Data-In
 
 module _ (s : Counters) (came : Incoming) (immediate : Bool) (call : Option Asking)
-    (judged : IsJudged s.exp_cmd_sn came Accepted) (called : IsCalled Accepted came call)
+    (judged : IsJudged s.lengths s.exp_cmd_sn came Accepted) (called : IsCalled Accepted came call)
     (no_task : (own : List Out) → task_by Accepted came call own ≡ None)
     (numbered : takes_number Accepted came ≡ not immediate)
     (of_accepted : (outs : List Out) → IsRejected Accepted came outs) where
@@ -285,7 +213,7 @@ module _ (s : Counters) (came : Incoming) (immediate : Bool) (call : Option Aski
       (λ (t : Bool). ((exp_cmd_sn_behind immediate e ≡ e) × (t ≡ false)) ⊎ ((exp_cmd_sn_behind immediate e ≡ wrap (e + 1)) × (t ≡ true)))
       (sym numbered) (commands_of immediate e)
 
-  silent_facts : IsRequestAnswered Accepted came call [] → TurnFacts s behind came Accepted call []
+  silent_facts : IsRequestAnswered s.lengths Accepted came call [] → TurnFacts s behind came Accepted call []
   silent_facts answer = record {
     judged = judged;
     windows = tt;
@@ -297,6 +225,7 @@ module _ (s : Counters) (came : Incoming) (immediate : Bool) (call : Option Aski
     told = rw (no_task []) tt;
     rejected = of_accepted [];
     requests = answer;
+    lengths_kept = refl;
     commands = numbers_up s.exp_cmd_sn;
     statuses = inl (refl, refl);
   }
@@ -304,7 +233,7 @@ module _ (s : Counters) (came : Incoming) (immediate : Bool) (call : Option Aski
   module _ (o : Out) (window : IsWindow behind.exp_cmd_sn (numbers_of o.header))
       (status : status_number o.header ≡ Some s.stat_sn) (no_response : response_with o.header o.bytes ≡ None)
       (no_data : data_in_with o.header o.bytes ≡ None) where
-    one_facts : IsRequestAnswered Accepted came call (o ∷ [])
+    one_facts : IsRequestAnswered s.lengths Accepted came call (o ∷ [])
         → TurnFacts s (after_status behind) came Accepted call (o ∷ [])
     one_facts answer = record {
       judged = judged;
@@ -317,24 +246,25 @@ module _ (s : Counters) (came : Incoming) (immediate : Bool) (call : Option Aski
       told = rw (no_task (o ∷ [])) tt;
       rejected = of_accepted (o ∷ []);
       requests = answer;
+      lengths_kept = refl;
       commands = numbers_up s.exp_cmd_sn;
       statuses = inr (refl, rw status refl);
     }
 
-    some_or_none : (none : Bool) → IsRequestAnswered Accepted came call (if none then [] else o ∷ [])
+    some_or_none : (none : Bool) → IsRequestAnswered s.lengths Accepted came call (if none then [] else o ∷ [])
         → TurnFacts s (after_answer (if none then [] else o ∷ []) behind) came Accepted call (if none then [] else o ∷ [])
     some_or_none true answer = silent_facts answer
     some_or_none false answer = one_facts answer
 
 accepted_facts : (came : Incoming) (s s' : Counters) (call : Option Asking) (outs : List Out)
-    → IsJudged s.exp_cmd_sn came Accepted → TurnOnAccepted came s call outs s' → TurnFacts s s' came Accepted call outs
+    → IsJudged s.lengths s.exp_cmd_sn came Accepted → TurnOnAccepted came s call outs s' → TurnFacts s s' came Accepted call outs
 accepted_facts (pdu b (Initiator (ScsiCommand p)) d) s s' call outs judged k =
-    answered_facts s s' b p d call outs k.asked.asked k.asked.unit k.asked.answer judged k.within k.asked.means k.asked.names k.asked.call_is k.answered
+    answered_facts s s' b p d call outs k.asked.asked k.asked.unit k.asked.answer judged k.asked.means k.asked.names k.asked.call_is k.answered
 accepted_facts (pdu b (Initiator (NopOut p)) d) s s' call outs judged k =
     let n = next_numbers (after_number p.immediate s) in
     moved k.no_call k.outs_are k.next_is
     (some_or_none s (pdu b (Initiator (NopOut p)) d) p.immediate None judged refl (λ own. refl) refl (λ own. tt)
-      (record { header = NopIn (record { lun = p.lun; task_tag = p.task_tag; transfer_tag = NO_TRANSFER_TAG; numbers = n }); bytes = take DECLARED_LENGTH d })
+      (record { header = NopIn (record { lun = p.lun; task_tag = p.task_tag; transfer_tag = NO_TRANSFER_TAG; numbers = n }); bytes = take (min s.lengths.data_segment MAX_DATA_SEGMENT_LENGTH) d })
       (record { expects = refl; reaches = refl }) refl refl refl (p.task_tag == RESERVED_TAG) (n, refl))
 accepted_facts (pdu b (Initiator (LogoutRequest p)) d) s s' call outs judged k =
     let n = next_numbers (after_number p.immediate s) in
@@ -344,7 +274,7 @@ accepted_facts (pdu b (Initiator (LogoutRequest p)) d) s s' call outs judged k =
 accepted_facts came s s' call outs judged k = absurd k
 
 pub made_facts : (s s' : Counters) (came : Incoming) (v : Verdict) (call : Option Asking) (outs : List Out)
-    → IsJudged s.exp_cmd_sn came v → TurnOnVerdict v s came call outs s' → TurnFacts s s' came v call outs
+    → IsJudged s.lengths s.exp_cmd_sn came v → TurnOnVerdict v s came call outs s' → TurnFacts s s' came v call outs
 made_facts s s' came Accepted call outs judged k = accepted_facts came s s' call outs judged k
 made_facts s s' came Ignored call outs judged k = moved k.no_call k.outs_are k.next_is (record {
   judged = judged;
@@ -357,6 +287,7 @@ made_facts s s' came Ignored call outs judged k = moved k.no_call k.outs_are k.n
   told = tt;
   rejected = refl;
   requests = tt;
+  lengths_kept = refl;
   commands = inl (refl, refl);
   statuses = inl (refl, refl);
 })
@@ -371,6 +302,7 @@ made_facts s s' came Gap call outs judged k = moved k.no_call k.outs_are k.next_
   told = tt;
   rejected = refl;
   requests = tt;
+  lengths_kept = refl;
   commands = inl (refl, refl);
   statuses = inl (refl, refl);
 })
@@ -385,6 +317,7 @@ made_facts s s' came (Refused reason) call outs judged k = moved k.no_call k.out
   told = tt;
   rejected = (numbers_at s.stat_sn s.exp_cmd_sn, refl);
   requests = tt;
+  lengths_kept = refl;
   commands = inl (refl, refl);
   statuses = inr (refl, refl);
 })

@@ -10,6 +10,8 @@ use Rattle.iscsi_pdu.specs.declared.header.Header.TheVariants.{Initiator}
 use Rattle.iscsi_pdu.specs.declared.header.InitiatorHeader.TheVariants.{ScsiCommand}
 use Rattle.iscsi_pdu.specs.declared.header.TargetHeader.TheVariants.{ScsiResponse}
 use Rattle.iscsi_pdu.specs.declared.header.ScsiCommand.{ScsiCommand as CommandHeader}
+use Rattle.session.specs.declared.lengths.Lengths.{Lengths}
+use Rattle.session.specs.declared.session.Start.{Start}
 use Rattle.session.specs.declared.target.TargetAnswer.{TargetAnswer}
 use Rattle.session.specs.declared.target.TargetAnswer.TheVariants.{Replied, Outside, Busy, Gone, Halted}
 use Rattle.session.specs.declared.verdict.Verdict.{Verdict}
@@ -23,12 +25,12 @@ use Rattle.session.specs.DataIn.{data_ins, joined_data}
 use Rattle.session.specs.Legal.{AtEach, HaveWindow, Lawful, status_numbers, IsAnsweredTask, IsTiledTask}
 use Rattle.session.specs.Following.{HaveMaxCmdSn, IsCallTurn, numbers_taken}
 
-pub consecutive : (first_cmd first_stat : ℕ) (ts : List Turn) (k n next : ℕ) → Lawful first_cmd first_stat ts
+pub consecutive : (start : Start) (ts : List Turn) (k n next : ℕ) → Lawful start ts
     → slice_get (status_numbers (sent ts)) k ≡ Some n → slice_get (status_numbers (sent ts)) (k + 1) ≡ Some next
     → next ≡ wrap (n + 1)
-consecutive first_cmd first_stat ts k n next l here there =
-    let one : n ≡ wrap (first_stat + k) = l.numbered k n here in
-    let two : next ≡ wrap (first_stat + (k + 1)) = l.numbered (k + 1) next there in
+consecutive start ts k n next l here there =
+    let one : n ≡ wrap (start.stat_sn + k) = l.numbered k n here in
+    let two : next ≡ wrap (start.stat_sn + (k + 1)) = l.numbered (k + 1) next there in
     omega (arith, one, two)
 
 -- ---- one response at most
@@ -71,9 +73,9 @@ count_fits : (call : Option Asking) → count_of call ≤ 1
 count_fits None = omega arith
 count_fits (Some call) = omega arith
 
-pub answered_once : (first_cmd first_stat : ℕ) (ts : List Turn) → Lawful first_cmd first_stat ts
+pub answered_once : (start : Start) (ts : List Turn) → Lawful start ts
     → AtEach (λ before t. length (responses t.sent) ≤ 1) ts
-answered_once first_cmd first_stat ts l before t behind e = omega (arith, turn_count t.verdict t.came t.call t.sent (l.answered before t behind e), count_fits t.call)
+answered_once start ts l before t behind e = omega (arith, turn_count t.verdict t.came t.call t.sent (l.answered before t behind e), count_fits t.call)
 
 turn_unaccepted : (v : Verdict) (came : Incoming) (call : Option Asking) (own : List Out)
     → IsAnsweredTask (task_by v came call own) own → (v ≡ Accepted → ⊥) → responses own ≡ []
@@ -82,9 +84,9 @@ turn_unaccepted Ignored came call own k never = k
 turn_unaccepted Gap came call own k never = k
 turn_unaccepted (Refused reason) came call own k never = k
 
-pub unaccepted : (first_cmd first_stat : ℕ) (ts : List Turn) → Lawful first_cmd first_stat ts
+pub unaccepted : (start : Start) (ts : List Turn) → Lawful start ts
     → AtEach (λ before t. (t.verdict ≡ Accepted → ⊥) → responses t.sent ≡ []) ts
-unaccepted first_cmd first_stat ts l before t behind e never = turn_unaccepted t.verdict t.came t.call t.sent (l.answered before t behind e) never
+unaccepted start ts l before t behind e never = turn_unaccepted t.verdict t.came t.call t.sent (l.answered before t behind e) never
 
 one_call_more : (call : Option Asking) (cs : List Asking) → length (cons_option call cs) ≡ count_of call + length cs
 one_call_more None cs = omega arith
@@ -104,30 +106,30 @@ asked_of_each (t ∷ ts) each =
     let rest : length (responses (sent ts)) ≤ length (calls ts) = asked_of_each ts (λ before u behind e. each (t ∷ before) u behind (ap (λ (us : List Turn). t ∷ us) e)) in
     omega (arith, responses_more t ts, calls_more t ts, each [] t ts refl, rest)
 
-pub asked_enough : (first_cmd first_stat : ℕ) (ts : List Turn) → Lawful first_cmd first_stat ts
+pub asked_enough : (start : Start) (ts : List Turn) → Lawful start ts
     → length (responses (sent ts)) ≤ length (calls ts)
-asked_enough first_cmd first_stat ts l = asked_of_each ts (λ before t behind e. turn_count t.verdict t.came t.call t.sent (l.answered before t behind e))
+asked_enough start ts l = asked_of_each ts (λ before t behind e. turn_count t.verdict t.came t.call t.sent (l.answered before t behind e))
 
 -- ---- the data of a read
 
 sent_to_a_read : (p : CommandHeader) (bytes : List ℕ) → IsTrue p.read → sent_data p bytes ≡ take p.expected_length bytes
 sent_to_a_read p bytes e = ap (λ (r : Bool). if r then take p.expected_length bytes else []) e
 
-turn_data : (v : Verdict) (came : Incoming) (asked : Option Asking) (own : List Out) (b : List ℕ) (p : CommandHeader) (d : List ℕ) (call : Asking)
+turn_data : (l : Lengths) (v : Verdict) (came : Incoming) (asked : Option Asking) (own : List Out) (b : List ℕ) (p : CommandHeader) (d : List ℕ) (call : Asking)
     → v ≡ Accepted → came ≡ pdu b (Initiator (ScsiCommand p)) d → asked ≡ Some call → IsTrue p.read
-    → IsTiledTask (task_by v came asked own) own
+    → IsTiledTask l (task_by v came asked own) own
     → joined_data (data_ins own) ≡ take p.expected_length (reply_data call.answer)
-turn_data v came asked own b p d call e f g r = rw (e, f, g) (λ k. k.joined ∙ sent_to_a_read p (reply_data call.answer) r)
+turn_data l v came asked own b p d call e f g r = rw (e, f, g) (λ k. k.joined ∙ sent_to_a_read p (reply_data call.answer) r)
 
-pub read_data : (first_cmd first_stat : ℕ) (ts : List Turn) → Lawful first_cmd first_stat ts
+pub read_data : (start : Start) (ts : List Turn) → Lawful start ts
     → AtEach (λ before t. (p : CommandHeader) (call : Asking) → IsCallTurn t p call → IsTrue p.read → joined_data (data_ins t.sent) ≡ take p.expected_length (reply_data call.answer)) ts
-read_data first_cmd first_stat ts l before t behind e p call is reads =
-    turn_data t.verdict t.came t.call t.sent is.bhs p is.segment call is.accepted is.came is.called reads (l.tiled before t behind e)
+read_data start ts l before t behind e p call is reads =
+    turn_data start.lengths t.verdict t.came t.call t.sent is.bhs p is.segment call is.accepted is.came is.called reads (l.tiled before t behind e)
 
-pub read_size : (first_cmd first_stat : ℕ) (ts : List Turn) → Lawful first_cmd first_stat ts
+pub read_size : (start : Start) (ts : List Turn) → Lawful start ts
     → AtEach (λ before t. (p : CommandHeader) (call : Asking) → IsCallTurn t p call → IsTrue p.read → length (joined_data (data_ins t.sent)) ≡ min p.expected_length (length (reply_data call.answer))) ts
-read_size first_cmd first_stat ts l before t behind e p call is reads =
-    ap length (read_data first_cmd first_stat ts l before t behind e p call is reads) ∙ length-take p.expected_length (reply_data call.answer)
+read_size start ts l before t behind e p call is reads =
+    ap length (read_data start ts l before t behind e p call is reads) ∙ length-take p.expected_length (reply_data call.answer)
 
 -- ---- the window
 
@@ -141,9 +143,9 @@ window_ends : (e : ℕ) (outs : List Out) → HaveWindow e outs → HaveMaxCmdSn
 window_ends e [] k = tt
 window_ends e (o ∷ outs) k = (k.0.reaches, window_ends e outs k.1)
 
-pub max_counted : (first_cmd first_stat : ℕ) (ts : List Turn) → Lawful first_cmd first_stat ts
-    → AtEach (λ before t. HaveMaxCmdSn (wrap (first_cmd + numbers_taken (before ++ t ∷ []) + 31)) t.sent) ts
-max_counted first_cmd first_stat ts l before t behind e =
+pub max_counted : (start : Start) (ts : List Turn) → Lawful start ts
+    → AtEach (λ before t. HaveMaxCmdSn (wrap (start.exp_cmd_sn + numbers_taken (before ++ t ∷ []) + 31)) t.sent) ts
+max_counted start ts l before t behind e =
     let count : ℕ = numbers_taken (before ++ t ∷ []) in
-    subst (λ (n : ℕ). HaveMaxCmdSn n t.sent) (mod-add-mod (first_cmd + count) 4294967296 31)
-    (window_ends (exp_cmd_sn_after first_cmd (before ++ t ∷ [])) t.sent (l.windows before t behind e))
+    subst (λ (n : ℕ). HaveMaxCmdSn n t.sent) (mod-add-mod (start.exp_cmd_sn + count) 4294967296 31)
+    (window_ends (exp_cmd_sn_after start.exp_cmd_sn (before ++ t ∷ [])) t.sent (l.windows before t behind e))

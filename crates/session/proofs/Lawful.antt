@@ -1,5 +1,5 @@
 -- One turn more keeps a transcript lawful.
-use Rattle.std.proofs.Common.{◌≡◌, ◌⊎◌, ℕ, zero, suc, ◌+◌, ◌<◌, Bool, true, false, List, [], ◌∷◌, ◌++◌, Some, length, refl, sym, ap, subst, ◌∙◌, inl, inr, arith, length-append, cond}
+use Rattle.std.proofs.Common.{◌≡◌, ◌⊎◌, ℕ, zero, suc, ◌+◌, ◌<◌, Bool, true, false, List, [], ◌∷◌, ◌++◌, Some, length, refl, sym, ap, subst, subst₂, ◌∙◌, inl, inr, arith, length-append, cond}
 use Rattle.std.specs.Prelude.{slice_get}
 use Rattle.std.specs.List.{count_by}
 use Rattle.std.proofs.lemmas.List.{append-nil}
@@ -7,11 +7,15 @@ use Rattle.std.proofs.lemmas.List.Sums.{sum_by-append}
 use Rattle.std.proofs.lemmas.List.Elements.{filter_map-append}
 use Rattle.std.proofs.lemmas.Grind.{flat_map-append}
 use Rattle.std.proofs.Math.Nat.{mod-add-mod}
+use Rattle.session.specs.declared.lengths.Lengths.{Lengths}
+use Rattle.session.specs.declared.session.Start.{Start}
 use Rattle.session.specs.Turn.{Incoming, Out, Turn, sent}
 use Rattle.session.specs.Window.{wrap, takes_number, exp_cmd_sn_after}
 use Rattle.session.specs.Verdict.{IsJudged}
-use Rattle.session.specs.Legal.{AtEach, status_number, status_numbers, HaveWindow, GoesOn, Lawful}
-use Rattle.session.specs.Counters.{Counters}
+use Rattle.session.specs.Requests.{IsRequestAnswered}
+use Rattle.session.specs.Task.{task_of}
+use Rattle.session.specs.Legal.{AtEach, status_number, status_numbers, HaveWindow, IsTiledTask, GoesOn, Lawful}
+use Rattle.session.specs.Counters.{Counters, begun}
 use Rattle.session.specs.MachineTurn.{TurnOf, TurnOnVerdict}
 use Rattle.session.proofs.Facts.{TurnFacts, made_facts}
 
@@ -43,9 +47,10 @@ at_each_none P [] u behind e = absurd (cc)
 at_each_none P (x ∷ before) u behind e = absurd (cc)
 
 -- the counters are those of the transcript
-pub record IsTied (first_cmd first_stat : ℕ) (ts : List Turn) (s : Counters) : Type 0 where
-  pub command : s.exp_cmd_sn ≡ exp_cmd_sn_after first_cmd ts
-  pub status : s.stat_sn ≡ wrap (first_stat + length (status_numbers (sent ts)))
+pub record IsTied (start : Start) (ts : List Turn) (s : Counters) : Type 0 where
+  pub command : s.exp_cmd_sn ≡ exp_cmd_sn_after start.exp_cmd_sn ts
+  pub status : s.stat_sn ≡ wrap (start.stat_sn + length (status_numbers (sent ts)))
+  pub lengths : s.lengths ≡ start.lengths
 
 abbrev numbered : Turn → Bool
 numbered t = takes_number t.verdict t.came
@@ -110,39 +115,42 @@ module _ (first : ℕ) (ts : List Turn) (t : Turn) (s s' : Counters)
       ]
 
 -- what a transcript and its counters are, between two turns
-pub record Stands (first_cmd first_stat : ℕ) (ts : List Turn) (s : Counters) : Type 0 where
-  pub lawful : Lawful first_cmd first_stat ts
-  pub tied : IsTied first_cmd first_stat ts s
+pub record Stands (start : Start) (ts : List Turn) (s : Counters) : Type 0 where
+  pub lawful : Lawful start ts
+  pub tied : IsTied start ts s
 
 facts_of : (s s' : Counters) (came : Incoming) (t : Turn) → TurnOf s came t s'
     → TurnFacts s s' t.came t.verdict t.call t.sent
 facts_of s s' came t m = made_facts s s' t.came t.verdict t.call t.sent
-    (subst (λ (c : Incoming). IsJudged s.exp_cmd_sn c t.verdict) (sym m.came_is) m.judged)
+    (subst (λ (c : Incoming). IsJudged s.lengths s.exp_cmd_sn c t.verdict) (sym m.came_is) m.judged)
     (subst (λ (c : Incoming). TurnOnVerdict t.verdict s c t.call t.sent s') (sym m.came_is) m.made)
 
-pub stands_more : (first_cmd first_stat : ℕ) (ts : List Turn) (t : Turn) (came : Incoming) (s s' : Counters)
-    → Stands first_cmd first_stat ts s → GoesOn ts → TurnOf s came t s' → Stands first_cmd first_stat (ts ++ t ∷ []) s'
-stands_more first_cmd first_stat ts t came s s' k on m =
+pub stands_more : (start : Start) (ts : List Turn) (t : Turn) (came : Incoming) (s s' : Counters)
+    → Stands start ts s → GoesOn ts → TurnOf s came t s' → Stands start (ts ++ t ∷ []) s'
+stands_more start ts t came s s' k on m =
     let f = facts_of s s' came t m in
-    let command = command_more first_cmd ts t s s' k.tied.command f.commands in
+    let command = command_more start.exp_cmd_sn ts t s s' k.tied.command f.commands in
     let old = k.lawful in
     record {
       lawful = record {
-        judged = at_each_more (λ before u. IsJudged (exp_cmd_sn_after first_cmd before) u.came u.verdict) ts t old.judged (subst (λ (e : ℕ). IsJudged e t.came t.verdict) k.tied.command f.judged);
-        numbered = numbered_more first_stat ts t s s' k.tied.status old.numbered f.statuses;
-        windows = at_each_more (λ before u. HaveWindow (exp_cmd_sn_after first_cmd (before ++ u ∷ [])) u.sent) ts t old.windows
+        judged = at_each_more (λ before u. IsJudged start.lengths (exp_cmd_sn_after start.exp_cmd_sn before) u.came u.verdict) ts t old.judged
+            (subst₂ (λ (l : Lengths) (e : ℕ). IsJudged l e t.came t.verdict) k.tied.lengths k.tied.command f.judged);
+        numbered = numbered_more start.stat_sn ts t s s' k.tied.status old.numbered f.statuses;
+        windows = at_each_more (λ before u. HaveWindow (exp_cmd_sn_after start.exp_cmd_sn (before ++ u ∷ [])) u.sent) ts t old.windows
             (subst (λ (e : ℕ). HaveWindow e t.sent) command f.windows);
         called = at_each_more _ ts t old.called f.called;
         answered = at_each_more _ ts t old.answered f.answered;
-        tiled = at_each_more _ ts t old.tiled f.tiled;
+        tiled = at_each_more (λ before u. IsTiledTask start.lengths (task_of u) u.sent) ts t old.tiled
+            (subst (λ (l : Lengths). IsTiledTask l (task_of t) t.sent) k.tied.lengths f.tiled);
         counted = at_each_more _ ts t old.counted f.counted;
         residual = at_each_more _ ts t old.residual f.residual;
         told = at_each_more _ ts t old.told f.told;
         rejected = at_each_more _ ts t old.rejected f.rejected;
-        requests = at_each_more _ ts t old.requests f.requests;
+        requests = at_each_more (λ before u. IsRequestAnswered start.lengths u.verdict u.came u.call u.sent) ts t old.requests
+            (subst (λ (l : Lengths). IsRequestAnswered l t.verdict t.came t.call t.sent) k.tied.lengths f.requests);
         ends = at_each_more (λ before u. GoesOn before) ts t old.ends on;
       };
-      tied = record { command = command; status = status_more first_stat ts t s s' k.tied.status f.statuses };
+      tied = record { command = command; status = status_more start.stat_sn ts t s s' k.tied.status f.statuses; lengths = f.lengths_kept ∙ k.tied.lengths };
     }
 
 no_status : (k n : ℕ) (none : List ℕ) → none ≡ [] → slice_get none k ≡ Some n → ⊥
@@ -152,8 +160,8 @@ no_status k n [] e f = absurd (no_status_nil k f) where
   no_status_nil (suc k) f = cc
 no_status k n (x ∷ xs) e f = absurd (cc)
 
-pub stands_none : (first_cmd first_stat : ℕ) (s : Counters) → first_cmd < 4294967296 → first_stat < 4294967296 → s ≡ record { stat_sn = first_stat; exp_cmd_sn = first_cmd } → Stands first_cmd first_stat [] s
-stands_none first_cmd first_stat s cmd_fits stat_fits e = record {
+pub stands_none : (start : Start) (s : Counters) → start.exp_cmd_sn < 4294967296 → start.stat_sn < 4294967296 → s ≡ begun start → Stands start [] s
+stands_none start s cmd_fits stat_fits e = record {
   lawful = record {
     judged = at_each_none _;
     numbered = λ k n f. absurd (no_status k n [] refl f);
@@ -169,7 +177,8 @@ stands_none first_cmd first_stat s cmd_fits stat_fits e = record {
     ends = at_each_none (λ before u. GoesOn before);
   };
   tied = record {
-    command = ap (λ (r : Counters). r.exp_cmd_sn) e ∙ (let k : first_cmd ≡ wrap (first_cmd + 0) = omega arith in k);
-    status = ap (λ (r : Counters). r.stat_sn) e ∙ (let k : first_stat ≡ wrap (first_stat + 0) = omega arith in k);
+    command = ap (λ (r : Counters). r.exp_cmd_sn) e ∙ (let k : start.exp_cmd_sn ≡ wrap (start.exp_cmd_sn + 0) = omega arith in k);
+    status = ap (λ (r : Counters). r.stat_sn) e ∙ (let k : start.stat_sn ≡ wrap (start.stat_sn + 0) = omega arith in k);
+    lengths = ap (λ (r : Counters). r.lengths) e;
   };
 }

@@ -2,9 +2,12 @@ pub mod Facts
 pub mod Following
 pub mod Lawful
 pub mod Lists
-pub mod Right
-pub mod Running
 pub mod Places
+pub mod Queues
+pub mod Right
+pub mod Rows
+pub mod Running
+pub mod Segments
 pub mod Steps
 pub mod Table
 pub mod Tasks

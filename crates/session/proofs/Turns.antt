@@ -9,11 +9,8 @@ use Rattle.iscsi_pdu.specs.declared.header.ScsiCommand.{ScsiCommand as CommandHe
 use Rattle.iscsi_pdu.specs.declared.fault.PduFault.{PduFault}
 use Rattle.session.specs.declared.actions.Actions.{Actions}
 use Rattle.session.specs.declared.actions.Call.{Call}
-use Rattle.session.specs.declared.actions.Pdus.{Pdus}
-use Rattle.session.specs.declared.actions.Pdus.TheVariants as pdus
-use Rattle.session.specs.declared.verdict.TheConstants.{MAX_READ_LENGTH}
-use Rattle.session.specs.AnswerPdus.{IsWithin, read_length}
 use Rattle.session.specs.declared.end.End.{End}
+use Rattle.session.specs.declared.end.End.TheVariants.{Protocol}
 use Rattle.session.specs.declared.target.TargetAnswer.{TargetAnswer}
 use Rattle.session.specs.declared.target.TargetAnswer.TheVariants.{Replied, Outside, Busy, Gone, Halted}
 use Rattle.session.specs.declared.verdict.Verdict.{Verdict}
@@ -25,30 +22,21 @@ use Rattle.session.specs.Legal.{end_after, end_by}
 use Rattle.session.specs.Counters.{Counters, after_command}
 use Rattle.session.specs.Machine.{sent_by, IsCallOf, OnAccepted, OnTaken, OnRefusal, OnVerdict, OnPdu, OnAnswer}
 use Rattle.session.specs.MachineTurn.{TurnOnAnswer, TurnOf}
-use Rattle.session.specs.Stream.{IsSentOut, MakesTurn, StreamTurn}
+use Rattle.session.specs.Outbox.{OutboxValue, IsQueued}
+use Rattle.session.specs.Stream.{MakesTurn}
 
--- a turn whose bytes are written
-pub written : {T : Type 0} (leads : T → Question → TargetAnswer → T → Type 0) (s s' : Counters) (x x' : T) (held held' : Option (List ℕ)) (before now : ℕ) (came : Incoming) (outgoing : List ℕ) (wanted result : Option End)
-    → MakesTurn leads s s' x x' came outgoing wanted → IsSentOut held held' before now outgoing wanted result
-    → StreamTurn leads s s' x x' held held' before now came result
-written leads s s' x x' held held' before now came outgoing wanted result t out = record {
-  turn = t.turn;
-  made = t.made;
-  led = t.led;
-  out = subst (λ (w : Option End). IsSentOut held held' before now (bytes_of t.turn.sent) w result) t.wanted_is (subst (λ (b : List ℕ). IsSentOut held held' before now b wanted result) t.outgoing_is out);
-}
-
-module _ {T : Type 0} (leads : T → Question → TargetAnswer → T → Type 0) (s s' : Counters) (x : T) (b : List ℕ)
-    (a : Actions) (outgoing : List ℕ) (outgoing_is : outgoing ≡ bytes_of (sent_by b a.pdus)) where
+module _ {T : Type 0} (leads : T → Question → TargetAnswer → T → Type 0) (s s' : Counters) (x : T)
+    (held held' : Option (List ℕ)) (before now : ℕ) (o o' : OutboxValue) (b : List ℕ)
+    (a : Actions) (queued : IsQueued held held' before now o o' (bytes_of (sent_by b a.pdus))) where
   -- a turn without a call
   turn_alone : (came : Incoming) (v : Verdict)
       → TurnOf s came (record { came = came; verdict = v; call = None; sent = sent_by b a.pdus }) s'
-      → a.end ≡ end_after v came None → MakesTurn leads s s' x x came outgoing a.end
+      → a.end ≡ end_after v came None → MakesTurn leads s s' x x held held' before now o o' came a.end
   turn_alone came v made ends = record {
     turn = record { came = came; verdict = v; call = None; sent = sent_by b a.pdus };
     made = made;
     led = refl;
-    outgoing_is = outgoing_is;
+    queued = queued;
     wanted_is = ends;
   }
 
@@ -57,15 +45,15 @@ module _ {T : Type 0} (leads : T → Question → TargetAnswer → T → Type 0)
   no_call p d None e k = k
   no_call p d (Some c) e k = absurd (cc)
 
-  taken_alone : (h : Header) (d : List ℕ) → IsJudgedPdu s.exp_cmd_sn h d Accepted → OnTaken s h d a s'
-      → a.call ≡ None → MakesTurn leads s s' x x (pdu b h d) outgoing a.end
+  taken_alone : (h : Header) (d : List ℕ) → IsJudgedPdu s.lengths s.exp_cmd_sn h d Accepted → OnTaken s h d a s'
+      → a.call ≡ None → MakesTurn leads s s' x x held held' before now o o' (pdu b h d) a.end
   taken_alone (Initiator (NopOut p)) d judged k none = turn_alone (pdu b (Initiator (NopOut p)) d) Accepted (record { came_is = refl; judged = judged; made = record { no_call = refl; outs_are = k.pdus_are b; next_is = k.next } }) k.ends
   taken_alone (Initiator (LogoutRequest p)) d judged k none = turn_alone (pdu b (Initiator (LogoutRequest p)) d) Accepted (record { came_is = refl; judged = judged; made = record { no_call = refl; outs_are = k.pdus_are b; next_is = k.next } }) k.ends
   taken_alone (Initiator (ScsiCommand p)) d judged k none = absurd (no_call p d a.call none k.call)
   taken_alone h d judged k none = absurd k
 
-  alone_by : (v : Verdict) (h : Header) (d : List ℕ) → IsJudgedPdu s.exp_cmd_sn h d v → OnVerdict v s h d a s'
-      → a.call ≡ None → MakesTurn leads s s' x x (pdu b h d) outgoing a.end
+  alone_by : (v : Verdict) (h : Header) (d : List ℕ) → IsJudgedPdu s.lengths s.exp_cmd_sn h d v → OnVerdict v s h d a s'
+      → a.call ≡ None → MakesTurn leads s s' x x held held' before now o o' (pdu b h d) a.end
   alone_by Accepted h d judged k none = taken_alone h d judged k none
   alone_by Ignored h d judged k none = turn_alone (pdu b h d) Ignored (record { came_is = refl; judged = judged; made = record { no_call = refl; outs_are = ap (sent_by b) k.0.pdus_are; next_is = k.2 } }) k.1
   alone_by Gap h d judged k none = turn_alone (pdu b h d) Gap (record { came_is = refl; judged = judged; made = record { no_call = refl; outs_are = ap (sent_by b) k.0.pdus_are; next_is = k.2 } }) k.1
@@ -73,12 +61,12 @@ module _ {T : Type 0} (leads : T → Question → TargetAnswer → T → Type 0)
 
   -- a PDU that calls for no call
   pub alone : (h : Header) (d : List ℕ) → OnPdu s h d a s' → a.call ≡ None
-      → MakesTurn leads s s' x x (pdu b h d) outgoing a.end
+      → MakesTurn leads s s' x x held held' before now o o' (pdu b h d) a.end
   alone h d on none = alone_by on.verdict h d on.judged on.made none
 
   -- a fault
-  pub fault : (f : PduFault) → OnRefusal s (reason_of f) a s' → MakesTurn leads s s' x x (faulty f b) outgoing a.end
-  fault f k = turn_alone (faulty f b) (Refused (reason_of f)) (record { came_is = refl; judged = refl; made = record { no_call = refl; outs_are = ap (sent_by b) k.pdus_are; next_is = k.next } }) k.ends
+  pub fault : (f : PduFault) → OnRefusal s (reason_of f) a s' → MakesTurn leads s s' x x held held' before now o o' (faulty f b) (Some Protocol)
+  fault f k = subst (MakesTurn leads s s' x x held held' before now o o' (faulty f b)) k.ends (turn_alone (faulty f b) (Refused (reason_of f)) (record { came_is = refl; judged = refl; made = record { no_call = refl; outs_are = ap (sent_by b) k.pdus_are; next_is = k.next } }) k.ends)
 
 -- the call of an accepted command
 is_call : (c : Call) (p : CommandHeader) (d : List ℕ) (call : Option Call) → call ≡ Some c
@@ -89,39 +77,11 @@ is_call c p d (Some k) e is = let same : k ≡ c = cc in subst (IsCallOf p d) sa
 no_none : {A : Type 0} (c : Call) (call : Option Call) → call ≡ None → call ≡ Some c → A
 no_none c call e f = absurd (cc)
 
--- the data of PDUs is no longer than a greater length
-widened : (m n : ℕ) (x : Pdus) → m ≤ n → IsWithin m x → IsWithin n x
-widened m n pdus.Nothing h k = tt
-widened m n (pdus.Reject r) h k = tt
-widened m n (pdus.Response x) h k = omega arith
-widened m n (pdus.Answer None r s) h k = tt
-widened m n (pdus.Answer (Some x) r s) h k = omega arith
-
-module _ (s mid : Counters) (a : Actions) (c : Call) (some : a.call ≡ Some c) where
-  taken_within : (h : Header) (d : List ℕ) → OnTaken s h d a mid → read_length c.task.command ≤ MAX_READ_LENGTH
-  taken_within (Initiator (ScsiCommand p)) d k =
-      let is = is_call c p d a.call some k.call in
-      subst (λ (q : CommandHeader). read_length q ≤ MAX_READ_LENGTH) (sym is.command) is.within
-  taken_within (Initiator (NopOut p)) d k = no_none c a.call k.no_call some
-  taken_within (Initiator (LogoutRequest p)) d k = no_none c a.call k.no_call some
-  taken_within h d k = absurd k
-
-  verdict_within : (v : Verdict) (h : Header) (d : List ℕ) → OnVerdict v s h d a mid
-      → read_length c.task.command ≤ MAX_READ_LENGTH
-  verdict_within Accepted h d k = taken_within h d k
-  verdict_within Ignored h d k = no_none c a.call k.0.no_call some
-  verdict_within Gap h d k = no_none c a.call k.0.no_call some
-  verdict_within (Refused reason) h d k = no_none c a.call k.no_call some
-
-  -- the data of its answer fits the outbox
-  pub answer_within : (h : Header) (d : List ℕ) (x : Pdus) → OnPdu s h d a mid
-      → IsWithin (read_length c.task.command) x → IsWithin MAX_READ_LENGTH x
-  answer_within h d x on k = widened (read_length c.task.command) MAX_READ_LENGTH x (verdict_within on.verdict h d on.made) k
-
 -- a call of a command that was accepted, and its answer
-module _ {T : Type 0} (leads : T → Question → TargetAnswer → T → Type 0) (s mid s' : Counters) (x x' : T) (b : List ℕ)
-    (a a' : Actions) (c : Call) (answer : TargetAnswer) (outgoing : List ℕ)
-    (outgoing_is : outgoing ≡ bytes_of (sent_by b a'.pdus)) (some : a.call ≡ Some c)
+module _ {T : Type 0} (leads : T → Question → TargetAnswer → T → Type 0) (s mid s' : Counters) (x x' : T)
+    (held held' : Option (List ℕ)) (before now : ℕ) (o o' : OutboxValue) (b : List ℕ)
+    (a a' : Actions) (c : Call) (answer : TargetAnswer)
+    (queued : IsQueued held held' before now o o' (bytes_of (sent_by b a'.pdus))) (some : a.call ≡ Some c)
     (led : leads x (serve c.unit c.asked c.bytes.now) answer x') where
   reply_is : (p : CommandHeader) (need : ℕ) (answer : TargetAnswer) → OnAnswer mid p need answer a' s'
       → TurnOnAnswer mid p need answer (sent_by b a'.pdus) s' × (a'.end ≡ end_by answer)
@@ -135,9 +95,9 @@ module _ {T : Type 0} (leads : T → Question → TargetAnswer → T → Type 0)
       → TurnOnAnswer mid q n answer outs s' → TurnOnAnswer next p m answer outs s'
   moved q p n m next outs e f g k = subst (λ (z : Counters). TurnOnAnswer z p m answer outs s') g (subst₂ (λ (z : CommandHeader) (w : ℕ). TurnOnAnswer mid z w answer outs s') e f k)
 
-  accepted_turn : (h : Header) (d : List ℕ) → IsJudgedPdu s.exp_cmd_sn h d Accepted
+  accepted_turn : (h : Header) (d : List ℕ) → IsJudgedPdu s.lengths s.exp_cmd_sn h d Accepted
       → OnTaken s h d a mid
-      → OnAnswer mid c.task.command c.task.need answer a' s' → MakesTurn leads s s' x x' (pdu b h d) outgoing a'.end
+      → OnAnswer mid c.task.command c.task.need answer a' s' → MakesTurn leads s s' x x' held held' before now o o' (pdu b h d) a'.end
   accepted_turn (Initiator (ScsiCommand p)) d judged k replied =
       let is = is_call c p d a.call some k.call in
       let reply = reply_is c.task.command c.task.need answer replied in
@@ -147,7 +107,6 @@ module _ {T : Type 0} (leads : T → Question → TargetAnswer → T → Type 0)
           came_is = refl;
           judged = judged;
           made = record {
-            within = is.within;
             asked = record {
               asked = c.asked;
               unit = c.unit;
@@ -160,20 +119,20 @@ module _ {T : Type 0} (leads : T → Question → TargetAnswer → T → Type 0)
           };
         };
         led = led;
-        outgoing_is = outgoing_is;
+        queued = queued;
         wanted_is = reply.1;
       }
   accepted_turn (Initiator (NopOut p)) d judged k replied = no_none c a.call k.no_call some
   accepted_turn (Initiator (LogoutRequest p)) d judged k replied = no_none c a.call k.no_call some
   accepted_turn h d judged k replied = absurd k
 
-  called_by : (v : Verdict) (h : Header) (d : List ℕ) → IsJudgedPdu s.exp_cmd_sn h d v → OnVerdict v s h d a mid
-      → OnAnswer mid c.task.command c.task.need answer a' s' → MakesTurn leads s s' x x' (pdu b h d) outgoing a'.end
+  called_by : (v : Verdict) (h : Header) (d : List ℕ) → IsJudgedPdu s.lengths s.exp_cmd_sn h d v → OnVerdict v s h d a mid
+      → OnAnswer mid c.task.command c.task.need answer a' s' → MakesTurn leads s s' x x' held held' before now o o' (pdu b h d) a'.end
   called_by Accepted h d judged k replied = accepted_turn h d judged k replied
   called_by Ignored h d judged k replied = no_none c a.call k.0.no_call some
   called_by Gap h d judged k replied = no_none c a.call k.0.no_call some
   called_by (Refused reason) h d judged k replied = no_none c a.call k.no_call some
 
   pub called : (h : Header) (d : List ℕ) → OnPdu s h d a mid → OnAnswer mid c.task.command c.task.need answer a' s'
-      → MakesTurn leads s s' x x' (pdu b h d) outgoing a'.end
+      → MakesTurn leads s s' x x' held held' before now o o' (pdu b h d) a'.end
   called h d on replied = called_by on.verdict h d on.judged on.made replied

@@ -13,6 +13,8 @@ use Rattle.iscsi_pdu.specs.declared.header.Numbers.{Numbers}
 use Rattle.iscsi_pdu.specs.declared.fault.PduFault.{PduFault}
 use Rattle.session.specs.declared.end.End.{End}
 use Rattle.session.specs.declared.end.End.TheVariants.{EndOfInput, InputFailed, OutputFailed, Protocol, Reinstated, LoggedOut}
+use Rattle.session.specs.declared.lengths.Lengths.{Lengths}
+use Rattle.session.specs.declared.session.Start.{Start}
 use Rattle.session.specs.declared.target.TargetAnswer.{TargetAnswer}
 use Rattle.session.specs.declared.target.TargetAnswer.TheVariants.{Replied, Outside, Busy, Gone, Halted}
 use Rattle.session.specs.declared.verdict.Verdict.{Verdict}
@@ -80,10 +82,10 @@ abbrev pub IsAnsweredTask : Option Task → List Out → Type 0
 IsAnsweredTask task outs =
     MatchOption task (responses outs ≡ []) (λ t. IsAnsweredBy t.command t.answer t.own)
 
-abbrev pub IsTiledTask : Option Task → List Out → Type 0
-IsTiledTask task outs =
+abbrev pub IsTiledTask : Lengths → Option Task → List Out → Type 0
+IsTiledTask l task outs =
     MatchOption task (data_ins outs ≡ [])
-    (λ t. Tiles t.command (data_ins t.own) (sent_data t.command (reply_data t.answer)))
+    (λ t. Tiles l t.command (data_ins t.own) (sent_data t.command (reply_data t.answer)))
 
 abbrev pub IsCountedTask : Option Task → Type 0
 IsCountedTask task =
@@ -122,20 +124,20 @@ end_after (Refused reason) came call = Some Protocol
 abbrev pub GoesOn : List Turn → Type 0
 GoesOn ts = AtEach (λ before t. end_after t.verdict t.came t.call ≡ None) ts
 
--- The facts of a transcript that begins with this CmdSN and this StatSN.
-pub record Lawful (first_cmd first_stat : ℕ) (ts : List Turn) : Type 0 where
+-- The facts of a transcript of a session that begins so.
+pub record Lawful (start : Start) (ts : List Turn) : Type 0 where
   -- what becomes of each PDU is what the window and the rules say
-  pub judged : AtEach (λ before t. IsJudged (exp_cmd_sn_after first_cmd before) t.came t.verdict) ts
+  pub judged : AtEach (λ before t. IsJudged start.lengths (exp_cmd_sn_after start.exp_cmd_sn before) t.came t.verdict) ts
   -- the k-th PDU that uses up a StatSN has the first one + k
-  pub numbered : (k n : ℕ) → slice_get (status_numbers (sent ts)) k ≡ Some n → n ≡ wrap (first_stat + k)
+  pub numbered : (k n : ℕ) → slice_get (status_numbers (sent ts)) k ≡ Some n → n ≡ wrap (start.stat_sn + k)
   -- each PDU that goes out has ExpCmdSN and MaxCmdSN as they are at the end of its turn
-  pub windows : AtEach (λ before t. HaveWindow (exp_cmd_sn_after first_cmd (before ++ t ∷ [])) t.sent) ts
+  pub windows : AtEach (λ before t. HaveWindow (exp_cmd_sn_after start.exp_cmd_sn (before ++ t ∷ [])) t.sent) ts
   -- each accepted command has its one Call, and nothing else has one
   pub called : AtEach (λ before t. IsCalled t.verdict t.came t.call) ts
   -- each has its one SCSI Response, behind its data, unless its session is gone; nothing else has one
   pub answered : AtEach (λ before t. IsAnsweredTask (task_of t) t.sent) ts
-  -- the Data-In of a read carry just the bytes of its Call; nothing else has any
-  pub tiled : AtEach (λ before t. IsTiledTask (task_of t) t.sent) ts
+  -- the Data-In of a read tile the bytes of its Call in runs of MaxBurstLength; nothing else has any
+  pub tiled : AtEach (λ before t. IsTiledTask start.lengths (task_of t) t.sent) ts
   -- ExpDataSN is their number
   pub counted : AtEach (λ before t. IsCountedTask (task_of t)) ts
   -- the residual is what lies between what is expected and what is needed
@@ -145,7 +147,7 @@ pub record Lawful (first_cmd first_stat : ℕ) (ts : List Turn) : Type 0 where
   -- what is rejected has a Reject, and nothing else has one; no turn has a PDU of another kind
   pub rejected : AtEach (λ before t. IsRejected t.verdict t.came t.sent) ts
   -- each other request that is accepted has its one answer, and nothing else
-  pub requests : AtEach (λ before t. IsRequestAnswered t.verdict t.came t.call t.sent) ts
+  pub requests : AtEach (λ before t. IsRequestAnswered start.lengths t.verdict t.came t.call t.sent) ts
   -- nothing comes behind a turn that calls for an end
   pub ends : AtEach (λ before t. GoesOn before) ts
 
@@ -174,11 +176,11 @@ most_bytes = 18446744073709551615
 
 -- why the session ended so, where these bytes were read behind the PDUs and this many in all: the input is at
 -- its end with no whole PDU left, or as many bytes came as a session takes; the reader failed with no whole PDU
--- left; or the last turn calls for it, or its bytes did not all go out
+-- left; or the last turn calls for it; or the writer failed, behind any turn
 abbrev pub EndsBy : List Turn → List ℕ → ℕ → Type 0 → End → Type 0
 EndsBy ts rest taken at_end EndOfInput = GoesOn ts × ((at_end × NoneWhole rest) ⊎ (most_bytes ≤ taken))
 EndsBy ts rest taken at_end InputFailed = GoesOn ts × NoneWhole rest
-EndsBy ts rest taken at_end OutputFailed = (end : Option End) × EndsWith ts rest end
+EndsBy ts rest taken at_end OutputFailed = GoesOn ts ⊎ ((end : Option End) × EndsWith ts rest end)
 EndsBy ts rest taken at_end Protocol = EndsWith ts rest (Some Protocol)
 EndsBy ts rest taken at_end Reinstated = EndsWith ts rest (Some Reinstated)
 EndsBy ts rest taken at_end LoggedOut = EndsWith ts rest (Some LoggedOut)

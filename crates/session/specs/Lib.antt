@@ -11,6 +11,7 @@ pub mod Logout
 pub mod Machine
 pub mod MachineTurn
 pub mod Nop
+pub mod Outbox
 pub mod Question
 pub mod Requests
 pub mod Response

@@ -19,7 +19,6 @@ use Rattle.session.specs.declared.end.End.TheVariants.{Protocol, Reinstated, Log
 use Rattle.session.specs.declared.target.TargetAnswer.{TargetAnswer}
 use Rattle.session.specs.declared.verdict.Verdict.{Verdict}
 use Rattle.session.specs.declared.verdict.Verdict.TheVariants.{Accepted, Ignored, Gap, Refused}
-use Rattle.session.specs.declared.verdict.TheConstants.{MAX_READ_LENGTH}
 use Rattle.session.specs.Turn.{Out}
 use Rattle.session.specs.Window.{numbers_at}
 use Rattle.session.specs.Verdict.{IsJudgedPdu}
@@ -27,7 +26,7 @@ use Rattle.session.specs.Transfer.{data_for}
 use Rattle.session.specs.Task.{reply_data}
 use Rattle.session.specs.Response.{sense_part}
 use Rattle.session.specs.Counters.{Counters, after_status, after_number, after_command, after_answer, next_numbers}
-use Rattle.session.specs.AnswerPdus.{read_length, data_in_of, reply_with, completion_of}
+use Rattle.session.specs.AnswerPdus.{data_ins_of, reply_with, completion_of}
 use Rattle.session.specs.Nop.{nop_answer}
 use Rattle.session.specs.Logout.{closes, logout_answer}
 
@@ -41,7 +40,7 @@ abbrev pub sent_by : List ℕ → Pdus → List Out
 sent_by bhs pdus.Nothing = []
 sent_by bhs (pdus.Reject r) = record { header = Reject r; bytes = bhs } ∷ []
 sent_by bhs (pdus.Response x) = out_of (Some x)
-sent_by bhs (pdus.Answer x r s) = data_in_of x ++ record { header = ScsiResponse r; bytes = sense_part s } ∷ []
+sent_by bhs (pdus.Answer x r s) = data_ins_of x ++ record { header = ScsiResponse r; bytes = sense_part s } ∷ []
 
 -- nothing goes out, and nothing is called
 pub record IsSilent (a : Actions) : Type 0 where
@@ -55,7 +54,6 @@ pub record IsCallOf (p : CommandHeader) (d : List ℕ) (c : Call) : Type 0 where
   pub need : c.task.need ≡ need_of c.asked
   pub unit : NamesUnit p.lun c.unit
   pub bytes : c.bytes.now ≡ data_for p (need_of c.asked) d
-  pub within : read_length p ≤ MAX_READ_LENGTH
 
 -- an accepted command is to be called, and takes its number
 pub record OnAccepted (s : Counters) (p : CommandHeader) (d : List ℕ) (a : Actions) (s' : Counters) : Type 0 where
@@ -81,7 +79,7 @@ pub record Answers (s : Counters) (outs : List Out) (end : Option End) (a : Acti
 abbrev pub OnNopOut : Counters → NopOutHeader → List ℕ → Actions → Counters → Type 0
 OnNopOut s p d a s' =
     let mid = after_number p.immediate s in
-    Answers mid (nop_answer (next_numbers mid) p d) None a s'
+    Answers mid (nop_answer (next_numbers mid) s.lengths p d) None a s'
 
 abbrev pub OnLogout : Counters → LogoutHeader → Actions → Counters → Type 0
 OnLogout s p a s' =
@@ -112,7 +110,7 @@ OnVerdict (Refused reason) s h d a s' = OnUnaccepted (Refused reason) s a s'
 -- what a session makes of a PDU, and of a SCSI Command
 pub record OnPdu (s : Counters) (h : Header) (d : List ℕ) (a : Actions) (s' : Counters) : Type 0 where
   pub verdict : Verdict
-  pub judged : IsJudgedPdu s.exp_cmd_sn h d verdict
+  pub judged : IsJudgedPdu s.lengths s.exp_cmd_sn h d verdict
   pub made : OnVerdict verdict s h d a s'
 
 abbrev pub OnCommand : Counters → CommandHeader → List ℕ → Actions → Counters → Type 0

@@ -1,5 +1,5 @@
 -- What a session makes of a whole turn: of what came, with what its target answered.
-use Rattle.std.specs.Prelude.{◌≡◌, ℕ, ◌≤◌, List, [], ◌∷◌, Option, None, MatchOption}
+use Rattle.std.specs.Prelude.{◌≡◌, ℕ, List, [], ◌∷◌, Option, None, MatchOption}
 use Rattle.scsi_types.specs.Cdb.{need_of}
 use Rattle.iscsi_pdu.specs.declared.header.ScsiCommand.{ScsiCommand as CommandHeader}
 use Rattle.iscsi_pdu.specs.declared.header.Header.TheVariants.{Initiator}
@@ -8,14 +8,13 @@ use Rattle.iscsi_pdu.specs.declared.header.TargetHeader.TheVariants.{Reject}
 use Rattle.session.specs.declared.target.TargetAnswer.{TargetAnswer}
 use Rattle.session.specs.declared.verdict.Verdict.{Verdict}
 use Rattle.session.specs.declared.verdict.Verdict.TheVariants.{Accepted, Ignored, Gap, Refused}
-use Rattle.session.specs.declared.verdict.TheConstants.{MAX_READ_LENGTH}
 use Rattle.session.specs.Turn.{Incoming, pdu, Out, Asking, Turn}
 use Rattle.session.specs.Window.{numbers_at}
 use Rattle.session.specs.Verdict.{IsJudged}
 use Rattle.session.specs.Task.{IsAskedFor, reply_data}
 use Rattle.session.specs.Legal.{bhs_of}
 use Rattle.session.specs.Counters.{Counters, after_status, after_number, after_command, after_answer, next_numbers}
-use Rattle.session.specs.AnswerPdus.{read_length, reply_with, completion_of}
+use Rattle.session.specs.AnswerPdus.{reply_with, completion_of}
 use Rattle.session.specs.Nop.{nop_answer}
 use Rattle.session.specs.Logout.{logout_answer}
 
@@ -28,7 +27,6 @@ TurnOnAnswer s p need answer outs s' =
 -- an accepted command is called, and its answer goes out
 pub record TurnOnCall (s : Counters) (p : CommandHeader) (d : List ℕ) (call : Option Asking) (outs : List Out)
     (s' : Counters) : Type 0 where
-  pub within : read_length p ≤ MAX_READ_LENGTH
   pub asked : IsAskedFor p d call
   pub answered : TurnOnAnswer (after_command p s) p (need_of asked.asked) asked.answer outs s'
 
@@ -53,7 +51,7 @@ TurnAnswered s wanted call outs s' = TurnUncalled call outs wanted s' (after_ans
 abbrev pub TurnOnAccepted : Incoming → Counters → Option Asking → List Out → Counters → Type 0
 TurnOnAccepted (pdu b (Initiator (NopOut p)) d) s call outs s' =
     let mid = after_number p.immediate s in
-    TurnAnswered mid (nop_answer (next_numbers mid) p d) call outs s'
+    TurnAnswered mid (nop_answer (next_numbers mid) s.lengths p d) call outs s'
 TurnOnAccepted (pdu b (Initiator (ScsiCommand p)) d) s call outs s' = TurnOnCall s p d call outs s'
 TurnOnAccepted (pdu b (Initiator (LogoutRequest p)) d) s call outs s' =
     let mid = after_number p.immediate s in
@@ -71,5 +69,5 @@ TurnOnVerdict (Refused reason) s came call outs s' =
 -- what a session makes of what came
 pub record TurnOf (s : Counters) (came : Incoming) (t : Turn) (s' : Counters) : Type 0 where
   pub came_is : t.came ≡ came
-  pub judged : IsJudged s.exp_cmd_sn came t.verdict
+  pub judged : IsJudged s.lengths s.exp_cmd_sn came t.verdict
   pub made : TurnOnVerdict t.verdict s came t.call t.sent s'

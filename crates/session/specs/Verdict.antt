@@ -19,20 +19,25 @@ use Rattle.iscsi_pdu.specs.declared.fault.PduFault.{PduFault}
 use Rattle.iscsi_pdu.specs.declared.fault.PduFault.TheVariants.{UnknownOpcode}
 use Rattle.session.specs.declared.verdict.Verdict.{Verdict}
 use Rattle.session.specs.declared.verdict.Verdict.TheVariants.{Accepted, Ignored, Gap, Refused}
-use Rattle.session.specs.declared.verdict.TheConstants.{RESERVED_TAG, MAX_READ_LENGTH}
+use Rattle.session.specs.declared.verdict.TheConstants.{RESERVED_TAG}
 use Rattle.session.specs.declared.verdict.TheConstants.{PROTOCOL_ERROR, COMMAND_NOT_SUPPORTED, INVALID_PDU_FIELD}
 use Rattle.session.specs.declared.window.TheConstants.{WINDOW}
+use Rattle.session.specs.declared.lengths.Lengths.{Lengths}
 use Rattle.session.specs.Turn.{Incoming, pdu, faulty}
 use Rattle.session.specs.Transfer.{expected_transfer}
 use Rattle.session.specs.Window.{ahead}
 
--- a SCSI Command with the reserved tag, with more immediate data than the length that it expects, a read of more
--- than one Data-In takes, or a write whose data did not all come with it
-abbrev pub is_refused : CommandHeader → List ℕ → ℕ → Bool
-is_refused p d need =
+-- how much data may come with a command: FirstBurstLength, and none where ImmediateData is No (13.11 and 13.14)
+abbrev pub most_immediate : Lengths → ℕ
+most_immediate l = if l.immediate_data then l.first_burst else 0
+
+-- a SCSI Command with the reserved tag, with more immediate data than the length that it expects or than may come with
+-- a command, or a write whose data did not all come with it
+abbrev pub is_refused : Lengths → CommandHeader → List ℕ → ℕ → Bool
+is_refused l p d need =
     (p.task_tag == RESERVED_TAG)
     || nat_lt (expected_transfer p) (length d)
-    || (p.read && nat_lt MAX_READ_LENGTH p.expected_length)
+    || nat_lt (most_immediate l) (length d)
     || (p.write && nat_le need p.expected_length && nat_lt (length d) need)
 
 -- What becomes of a PDU with this I bit and this CmdSN, where this CmdSN is expected: outside the window it is ignored,
@@ -43,29 +48,30 @@ window_verdict exp_cmd_sn immediate cmd_sn refused =
     then (if refused then Refused PROTOCOL_ERROR else Accepted)
     else (if nat_lt (ahead cmd_sn exp_cmd_sn) WINDOW then Gap else Ignored)
 
--- what becomes of a SCSI Command that needs this much data, where this CmdSN is expected
-abbrev pub verdict_of : ℕ → CommandHeader → List ℕ → ℕ → Verdict
-verdict_of exp_cmd_sn p d need = window_verdict exp_cmd_sn p.immediate p.numbers.cmd_sn (is_refused p d need)
+-- what becomes of a SCSI Command that needs this much data, where these lengths are in force and this CmdSN is
+-- expected
+abbrev pub verdict_of : Lengths → ℕ → CommandHeader → List ℕ → ℕ → Verdict
+verdict_of l exp_cmd_sn p d need = window_verdict exp_cmd_sn p.immediate p.numbers.cmd_sn (is_refused l p d need)
 
-abbrev pub IsJudgedCommand : ℕ → CommandHeader → List ℕ → Verdict → Type 0
-IsJudgedCommand exp_cmd_sn p d v =
-    (asked : Result Command CdbFault) × Means p.cdb asked × (v ≡ verdict_of exp_cmd_sn p d (need_of asked))
+abbrev pub IsJudgedCommand : Lengths → ℕ → CommandHeader → List ℕ → Verdict → Type 0
+IsJudgedCommand l exp_cmd_sn p d v =
+    (asked : Result Command CdbFault) × Means p.cdb asked × (v ≡ verdict_of l exp_cmd_sn p d (need_of asked))
 
 -- what becomes of a PDU: a kind that is not served, and a PDU of a target, count as an unknown opcode
-abbrev pub IsJudgedPdu : ℕ → Header → List ℕ → Verdict → Type 0
-IsJudgedPdu e (Initiator (NopOut p)) d v = v ≡ window_verdict e p.immediate p.numbers.cmd_sn false
-IsJudgedPdu e (Initiator (ScsiCommand p)) d v = IsJudgedCommand e p d v
-IsJudgedPdu e (Initiator (TaskManagementRequest p)) d v = v ≡ Refused COMMAND_NOT_SUPPORTED
-IsJudgedPdu e (Initiator (LoginRequest p)) d v = v ≡ Refused PROTOCOL_ERROR
-IsJudgedPdu e (Initiator (TextRequest p)) d v = v ≡ Refused COMMAND_NOT_SUPPORTED
-IsJudgedPdu e (Initiator (DataOut p)) d v = v ≡ Refused COMMAND_NOT_SUPPORTED
-IsJudgedPdu e (Initiator (LogoutRequest p)) d v = v ≡ window_verdict e p.immediate p.numbers.cmd_sn false
-IsJudgedPdu e (Target p) d v = v ≡ Refused COMMAND_NOT_SUPPORTED
+abbrev pub IsJudgedPdu : Lengths → ℕ → Header → List ℕ → Verdict → Type 0
+IsJudgedPdu l e (Initiator (NopOut p)) d v = v ≡ window_verdict e p.immediate p.numbers.cmd_sn false
+IsJudgedPdu l e (Initiator (ScsiCommand p)) d v = IsJudgedCommand l e p d v
+IsJudgedPdu l e (Initiator (TaskManagementRequest p)) d v = v ≡ Refused COMMAND_NOT_SUPPORTED
+IsJudgedPdu l e (Initiator (LoginRequest p)) d v = v ≡ Refused PROTOCOL_ERROR
+IsJudgedPdu l e (Initiator (TextRequest p)) d v = v ≡ Refused COMMAND_NOT_SUPPORTED
+IsJudgedPdu l e (Initiator (DataOut p)) d v = v ≡ Refused COMMAND_NOT_SUPPORTED
+IsJudgedPdu l e (Initiator (LogoutRequest p)) d v = v ≡ window_verdict e p.immediate p.numbers.cmd_sn false
+IsJudgedPdu l e (Target p) d v = v ≡ Refused COMMAND_NOT_SUPPORTED
 
 abbrev pub reason_of : PduFault → ℕ
 reason_of UnknownOpcode = COMMAND_NOT_SUPPORTED
 reason_of f = INVALID_PDU_FIELD
 
-abbrev pub IsJudged : ℕ → Incoming → Verdict → Type 0
-IsJudged exp_cmd_sn (pdu b h d) v = IsJudgedPdu exp_cmd_sn h d v
-IsJudged exp_cmd_sn (faulty f b) v = v ≡ Refused (reason_of f)
+abbrev pub IsJudged : Lengths → ℕ → Incoming → Verdict → Type 0
+IsJudged l exp_cmd_sn (pdu b h d) v = IsJudgedPdu l exp_cmd_sn h d v
+IsJudged l exp_cmd_sn (faulty f b) v = v ≡ Refused (reason_of f)

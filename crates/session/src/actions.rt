@@ -1,5 +1,6 @@
 use crate::end::End;
-use iscsi_pdu::{DataIn, Reject, ScsiCommand, ScsiResponse, TargetHeader};
+use crate::lengths::Lengths;
+use iscsi_pdu::{DataIn, Numbers, Reject, ScsiCommand, ScsiResponse, TargetHeader};
 use scsi_types::{Asked, Sense};
 
 /// What a PDU or an answer calls for: PDUs to write, then perhaps a call of the target, then perhaps the end.
@@ -24,20 +25,32 @@ pub enum Pdus<'a> {
     Response(ResponsePdu<'a>),
     /// The data of an answer, where it has any, and its SCSI Response with its sense (RFC 7143, 11.4 and 11.7).
     Answer {
-        data_in: Option<DataInPdu<'a>>,
+        data_ins: DataIns<'a>,
         response: ScsiResponse,
         sense: Option<Sense>,
     },
 }
 
-/// The one PDU that answers a request, with its data.
+/// The one PDU that answers a request, with its data, of at most 65536 bytes.
 #[derive(Clone, Copy, Debug)]
 pub struct ResponsePdu<'a> {
     pub header: TargetHeader,
     pub bytes: &'a [u8],
 }
 
-/// A Data-In with its data, of 1 to 8192 bytes (RFC 7143, 11.7).
+/// The Data-In of a read: its data, which goes out in runs of MaxBurstLength, each cut into Data-In as long as the
+/// initiator takes (RFC 7143, 11.7). There are none where there is no data.
+#[derive(Clone, Copy, Debug)]
+pub struct DataIns<'a> {
+    pub task_tag: u32,
+    /// The numbers of each.
+    pub numbers: Numbers,
+    pub lengths: Lengths,
+    /// The data: less than 4 GiB, as offsets have 32 bits.
+    pub bytes: &'a [u8],
+}
+
+/// A Data-In with its data, of 1 to 65536 bytes (RFC 7143, 11.7).
 #[derive(Clone, Copy, Debug)]
 pub struct DataInPdu<'a> {
     pub header: DataIn,

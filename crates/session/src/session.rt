@@ -1,21 +1,23 @@
 //! A session without bytes: what it makes of PDUs and of answers.
 ghost use Rattle.std.specs.Prelude.{◌≡◌, ℕ, List, ◌≤◌, length, IfSome, MatchOption};
 ghost use Rattle.scsi_types.specs.Cdb.{need_of};
-ghost use Rattle.session.specs.Counters.{Counters, after_number, next_numbers};
+ghost use Rattle.session.specs.Counters.{Counters, begun, after_number, next_numbers};
 ghost use Rattle.session.specs.declared.verdict.Verdict.TheVariants.{Accepted};
-ghost use Rattle.session.specs.declared.verdict.TheConstants.{MAX_READ_LENGTH};
+ghost use Rattle.iscsi_pdu.specs.declared.TheConstants.{MAX_DATA_SEGMENT_LENGTH};
 ghost use Rattle.session.specs.Verdict.{reason_of, window_verdict};
-ghost use Rattle.session.specs.AnswerPdus.{IsWithin, read_length, reply_with};
-ghost use Rattle.session.specs.Machine.{OnPdu, OnCommand, OnNopOut, OnLogout, OnUnaccepted, OnRefusal, OnAnswer, Sends, Answers, out_of};
+ghost use Rattle.session.specs.AnswerPdus.{AreInReach, reply_with};
+ghost use Rattle.session.specs.Machine.{
+    OnPdu, OnCommand, OnNopOut, OnLogout, OnUnaccepted, OnRefusal, OnAnswer, Sends, Answers, out_of};
 
-use crate::actions::{Actions, Call, OpenTask, Pdus, ResponsePdu};
-use crate::data_in::data_in_pdu;
+use crate::actions::{Actions, Call, DataIns, OpenTask, Pdus, ResponsePdu};
+use crate::data_in::count;
 use crate::end::End;
+use crate::lengths::Lengths;
 use crate::logout::{logout_end, logout_response};
 use crate::nop::nop_in;
 use crate::response::{COMPLETED, Completion, TARGET_FAILURE, scsi_response};
 use crate::target::TargetAnswer;
-use crate::transfer::command_data;
+use crate::transfer::{command_data, returned_data};
 use crate::verdict::{
     COMMAND_NOT_SUPPORTED, PROTOCOL_ERROR, Verdict, command_verdict, reject_reason, window_verdict,
 };
@@ -26,13 +28,15 @@ use iscsi_pdu::{
 use scsi_types::{Asked, Lun, Status, decode, need};
 use std::marker::Model;
 
-/// The numbers with which a session begins.
+/// The numbers and the lengths with which a session begins.
 #[derive(Clone, Copy, Debug, PartialEq, Eq)]
 pub struct Start {
     /// The CmdSN that is expected first.
     pub exp_cmd_sn: u32,
     /// The first StatSN.
     pub stat_sn: u32,
+    /// The lengths in force.
+    pub lengths: Lengths,
 }
 
 /// A session in full feature phase: what it makes of PDUs and of answers. It reads and writes nothing itself.
@@ -40,6 +44,7 @@ pub struct Start {
 pub struct Session {
     stat_sn: u32,
     exp_cmd_sn: u32,
+    lengths: Lengths,
 }
 
 impl Model for Session {
@@ -47,17 +52,18 @@ impl Model for Session {
 
     ghost Value = { Counters };
 
-    ghost view = { λ s. record { stat_sn = s.stat_sn; exp_cmd_sn = s.exp_cmd_sn } };
+    ghost view = { λ s. record { stat_sn = s.stat_sn; exp_cmd_sn = s.exp_cmd_sn; lengths = s.lengths } };
 }
 
 impl Session {
-    /// A session that begins with these numbers.
+    /// A session that begins so.
     pub fn new(start: Start) -> Session
-        ensures { result ≡ record { stat_sn = start.stat_sn; exp_cmd_sn = start.exp_cmd_sn } }
+        ensures { result ≡ begun start }
     {
         Session {
             stat_sn: start.stat_sn,
             exp_cmd_sn: start.exp_cmd_sn,
+            lengths: start.lengths,
         }
     }
 
@@ -65,7 +71,7 @@ impl Session {
     /// that is accepted is to be called. A PDU of a kind that is not served is rejected.
     pub fn on_pdu<'a>(&mut self, pdu: Pdu<'a>) -> Actions<'a>
         ensures on { OnPdu self.old pdu.entry.header pdu.entry.data.now result self.new }
-        ensures within { IsWithin MAX_READ_LENGTH result.pdus }
+        ensures within { AreInReach result.pdus }
     {
         match pdu.header {
             Header::Initiator(header) => self.on_initiator(header, pdu.data),
@@ -76,7 +82,7 @@ impl Session {
     // What an initiator's PDU calls for.
     fn on_initiator<'a>(&mut self, header: InitiatorHeader, bytes: &'a [u8]) -> Actions<'a>
         ensures on { OnPdu self.old (Header.Initiator header) bytes.now result self.new }
-        ensures within { IsWithin MAX_READ_LENGTH result.pdus }
+        ensures within { AreInReach result.pdus }
     {
         match header {
             InitiatorHeader::NopOut(request) => self.on_nop_out(request, bytes),
@@ -92,7 +98,7 @@ impl Session {
     // What a NOP-Out calls for.
     fn on_nop_out<'a>(&mut self, request: NopOut, bytes: &'a [u8]) -> Actions<'a>
         ensures on { OnPdu self.old (Header.Initiator (InitiatorHeader.NopOut request)) bytes.now result self.new }
-        ensures within { IsWithin MAX_READ_LENGTH result.pdus }
+        ensures within { AreInReach result.pdus }
     {
         let verdict = self.verdict(request.immediate, request.numbers.cmd_sn, false);
         match self.turned_away(verdict) {
@@ -104,10 +110,10 @@ impl Session {
     // An accepted NOP-Out.
     fn answer_nop_out<'a>(&mut self, request: NopOut, bytes: &'a [u8]) -> Actions<'a>
         ensures on { OnNopOut self.old request bytes.now result self.new }
-        ensures within { IsWithin MAX_READ_LENGTH result.pdus }
+        ensures within { AreInReach result.pdus }
     {
         self.accept(request.immediate);
-        let pdu = nop_in(self.next_numbers(), &request, bytes);
+        let pdu = nop_in(self.next_numbers(), self.lengths, &request, bytes);
         self.answer(pdu, None)
     }
 
@@ -115,7 +121,7 @@ impl Session {
     fn on_logout<'a>(&mut self, request: LogoutRequest) -> Actions<'a>
         ensures on { (d : List ℕ)
             → OnPdu self.old (Header.Initiator (InitiatorHeader.LogoutRequest request)) d result self.new }
-        ensures within { IsWithin MAX_READ_LENGTH result.pdus }
+        ensures within { AreInReach result.pdus }
     {
         let verdict = self.verdict(request.immediate, request.numbers.cmd_sn, false);
         match self.turned_away(verdict) {
@@ -127,7 +133,7 @@ impl Session {
     // An accepted logout.
     fn answer_logout<'a>(&mut self, request: LogoutRequest) -> Actions<'a>
         ensures on { OnLogout self.old request result self.new }
-        ensures within { IsWithin MAX_READ_LENGTH result.pdus }
+        ensures within { AreInReach result.pdus }
     {
         self.accept(request.immediate);
         let pdu = logout_response(self.next_numbers(), &request);
@@ -145,7 +151,7 @@ impl Session {
     fn turned_away<'a>(&mut self, verdict: Verdict) -> Option<Actions<'a>>
         ensures away { MatchOption result ((verdict ≡ Accepted) × (self.new ≡ self.old))
             (λ a. OnUnaccepted verdict self.old a self.new) }
-        ensures within { IfSome result (λ a. IsWithin MAX_READ_LENGTH a.pdus) }
+        ensures within { IfSome result (λ a. AreInReach a.pdus) }
     {
         match verdict {
             Verdict::Accepted => None,
@@ -172,9 +178,9 @@ impl Session {
 
     // The answer to a request, if it asks for one, which uses up a StatSN.
     fn answer<'a>(&mut self, pdu: Option<ResponsePdu<'a>>, end: Option<End>) -> Actions<'a>
-        requires { IfSome pdu (λ x. length x.bytes.now ≤ MAX_READ_LENGTH) }
+        requires { IfSome pdu (λ x. length x.bytes.now ≤ MAX_DATA_SEGMENT_LENGTH) }
         ensures on { Answers self.old (out_of pdu.entry) end result self.new }
-        ensures within { IsWithin MAX_READ_LENGTH result.pdus }
+        ensures within { AreInReach result.pdus }
     {
         let pdus = match pdu {
             None => Pdus::Nothing,
@@ -193,11 +199,11 @@ impl Session {
     // What a SCSI Command calls for.
     fn on_command<'a>(&mut self, command: ScsiCommand, bytes: &'a [u8]) -> Actions<'a>
         ensures on { OnCommand self.old command bytes.now result self.new }
-        ensures within { IsWithin MAX_READ_LENGTH result.pdus }
+        ensures within { AreInReach result.pdus }
     {
         let asked = decode(&command.cdb);
         let need = data_needed(&asked);
-        let verdict = command_verdict(self.exp_cmd_sn, &command, bytes, need);
+        let verdict = command_verdict(self.lengths, self.exp_cmd_sn, &command, bytes, need);
         match self.turned_away(verdict) {
             Some(actions) => actions,
             None => {
@@ -227,7 +233,7 @@ impl Session {
     /// What the fault calls for that stands in place of a PDU: a Reject, and the end.
     pub fn on_fault<'a>(&mut self, fault: PduFault) -> Actions<'a>
         ensures on { OnRefusal self.old (reason_of fault) result self.new }
-        ensures within { IsWithin MAX_READ_LENGTH result.pdus }
+        ensures within { AreInReach result.pdus }
     {
         self.reject(reject_reason(fault))
     }
@@ -235,7 +241,7 @@ impl Session {
     // A Reject for this reason, and the end.
     fn reject<'a>(&mut self, reason: u8) -> Actions<'a>
         ensures on { OnRefusal self.old reason result self.new }
-        ensures within { IsWithin MAX_READ_LENGTH result.pdus }
+        ensures within { AreInReach result.pdus }
     {
         let numbers = target_numbers(self.stat_sn, self.exp_cmd_sn);
         self.stat_sn = self.stat_sn.wrapping_add(1);
@@ -249,7 +255,7 @@ impl Session {
     /// What the answer to a task calls for: its data and its SCSI Response, or the end where the session is gone.
     pub fn on_answer<'a>(&mut self, task: OpenTask, answer: &'a TargetAnswer) -> Actions<'a>
         ensures answered { OnAnswer self.old task.command task.need answer.now result self.new }
-        ensures within { IsWithin (read_length task.command) result.pdus }
+        ensures reach { AreInReach result.pdus }
     {
         match answer {
             TargetAnswer::Replied(reply) | TargetAnswer::Outside(reply) => {
@@ -271,7 +277,7 @@ impl Session {
         }
     }
 
-    // The Data-In, where a read returns anything, and the SCSI Response.
+    // The Data-In of what a read returns, and the SCSI Response.
     fn respond<'a>(
         &mut self,
         task: &OpenTask,
@@ -280,17 +286,21 @@ impl Session {
     ) -> Actions<'a>
         ensures sent { Sends self.old
             (reply_with self.old task.now.command task.now.need bytes.now completion) result self.new }
-        ensures within { IsWithin (read_length task.now.command) result.pdus }
+        ensures reach { AreInReach result.pdus }
     {
         // A Data-In without a status has no StatSN (RFC 7143, 11.7.3).
-        let data_in = data_in_pdu(target_numbers(0, self.exp_cmd_sn), &task.command, bytes);
+        let data_ins = DataIns {
+            task_tag: task.command.task_tag,
+            numbers: target_numbers(0, self.exp_cmd_sn),
+            lengths: self.lengths,
+            bytes: returned_data(&task.command, bytes),
+        };
         let numbers = target_numbers(self.stat_sn, self.exp_cmd_sn);
-        let data_ins = u32::from(data_in.is_some());
-        let response = scsi_response(numbers, task, bytes.len(), data_ins, completion);
+        let response = scsi_response(numbers, task, bytes.len(), count(&data_ins), completion);
         self.stat_sn = self.stat_sn.wrapping_add(1);
         Actions {
             pdus: Pdus::Answer {
-                data_in,
+                data_ins,
                 response,
                 sense: completion.sense,
             },

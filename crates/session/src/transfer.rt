@@ -27,7 +27,8 @@ pub fn command_data<'a>(command: &ScsiCommand, need: u32, bytes: &'a [u8]) -> &'
 
 /// What goes out of the data of an answer: a read's, as much as is expected.
 pub fn returned_data<'a>(command: &ScsiCommand, bytes: &'a [u8]) -> &'a [u8]
-    ensures { result.now ≡ sent_data command.now bytes.now }
+    ensures sent { result.now ≡ sent_data command.now bytes.now }
+    ensures reach { length result.now ≤ 4294967295 }
 {
     if !command.read {
         return &[];

@@ -1,8 +1,8 @@
 //! What becomes of a PDU that comes (RFC 7143, 4.2.2.1, 7.3 and 11.17).
 ghost use Rattle.std.specs.Prelude.{◌≡◌};
-ghost use Rattle.session.specs.Verdict.{window_verdict, verdict_of, is_refused, reason_of};
+ghost use Rattle.session.specs.Verdict.{window_verdict, verdict_of, is_refused, most_immediate, reason_of};
 
-use crate::data_in::MAX_DATA_IN_LENGTH;
+use crate::lengths::Lengths;
 use crate::transfer::expected_data_length;
 use crate::window::WINDOW;
 use iscsi_pdu::{PduFault, ScsiCommand};
@@ -22,9 +22,6 @@ pub enum Verdict {
 /// The Initiator Task Tag that no task has (RFC 7143, 11.2.1.8).
 pub const RESERVED_TAG: u32 = 0xFFFF_FFFF;
 
-/// The most bytes that a read may expect, which one Data-In takes.
-pub const MAX_READ_LENGTH: u32 = MAX_DATA_IN_LENGTH;
-
 /// Reasons of a Reject (RFC 7143, 11.17.1).
 pub const PROTOCOL_ERROR: u8 = 0x04;
 
@@ -32,11 +29,17 @@ pub const COMMAND_NOT_SUPPORTED: u8 = 0x05;
 
 pub const INVALID_PDU_FIELD: u8 = 0x09;
 
-/// What becomes of a command that needs this much data, where this CmdSN is expected.
-pub fn command_verdict(exp_cmd_sn: u32, command: &ScsiCommand, bytes: &[u8], need: u32) -> Verdict
-    ensures { result ≡ verdict_of exp_cmd_sn command.now bytes.now need }
+/// What becomes of a command that needs this much data, where these lengths are in force and this CmdSN is expected.
+pub fn command_verdict(
+    lengths: Lengths,
+    exp_cmd_sn: u32,
+    command: &ScsiCommand,
+    bytes: &[u8],
+    need: u32,
+) -> Verdict
+    ensures { result ≡ verdict_of lengths exp_cmd_sn command.now bytes.now need }
 {
-    let refused = has_cause_of_reject(command, bytes, need);
+    let refused = has_cause_of_reject(lengths, command, bytes, need);
     window_verdict(exp_cmd_sn, command.immediate, command.numbers.cmd_sn, refused)
 }
 
@@ -60,13 +63,24 @@ pub fn window_verdict(exp_cmd_sn: u32, immediate: bool, cmd_sn: u32, refused: bo
 }
 
 // Whether a command that has its turn is one against the protocol.
-fn has_cause_of_reject(command: &ScsiCommand, bytes: &[u8], need: u32) -> bool
-    ensures { result ≡ is_refused command.now bytes.now need }
+fn has_cause_of_reject(lengths: Lengths, command: &ScsiCommand, bytes: &[u8], need: u32) -> bool
+    ensures { result ≡ is_refused lengths command.now bytes.now need }
 {
     command.task_tag == RESERVED_TAG
         || (expected_data_length(command) as usize) < bytes.len()
-        || (command.read && MAX_READ_LENGTH < command.expected_length)
+        || (immediate_limit(lengths) as usize) < bytes.len()
         || (command.write && need <= command.expected_length && bytes.len() < need as usize)
+}
+
+// How much data may come with a command.
+fn immediate_limit(lengths: Lengths) -> u32
+    ensures { result ≡ most_immediate lengths }
+{
+    if lengths.immediate_data {
+        lengths.first_burst
+    } else {
+        0
+    }
 }
 
 /// Why a fault is rejected that stands in place of a PDU.
