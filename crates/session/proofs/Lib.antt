@@ -1,5 +1,6 @@
 pub mod Facts
 pub mod Following
+pub mod Gathering
 pub mod Lawful
 pub mod Lists
 pub mod Places
@@ -14,3 +15,4 @@ pub mod Tasks
 pub mod Turns
 pub mod Unserved
 pub mod Walk
+pub mod WindowEnds

@@ -20,7 +20,7 @@ use Rattle.session.specs.declared.session.Start.{Start}
 use Rattle.session.specs.declared.target.TargetAnswer.{TargetAnswer}
 use Rattle.session.specs.declared.target.TargetAnswer.TheVariants.{Replied, Outside, Busy, Gone, Halted}
 use Rattle.session.specs.declared.verdict.Verdict.{Verdict}
-use Rattle.session.specs.declared.verdict.Verdict.TheVariants.{Accepted, Ignored, Gap, Refused}
+use Rattle.session.specs.declared.verdict.Verdict.TheVariants.{Accepted, Full, Ignored, Gap, Refused}
 use Rattle.session.specs.Question.{Question}
 use Rattle.session.specs.Source.{AppendsFront, Rises}
 use Rattle.session.specs.Inbox.{Filled}
@@ -129,6 +129,7 @@ ends_accepted end came call e = ends_by_call end call e
 pub ends_so : (end : End) (v : Verdict) (came : Incoming) (call : Option Asking) → Some end ≡ end_after v came call
     → IsCalledFor end
 ends_so end Accepted came call e = ends_accepted end came call e
+ends_so end Full came call e = absurd (cc)
 ends_so end Ignored came call e = absurd (cc)
 ends_so end Gap came call e = inl cc
 ends_so end (Refused reason) came call e = inl cc

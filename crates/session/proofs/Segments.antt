@@ -13,7 +13,9 @@ use Rattle.iscsi_pdu.specs.declared.header.TargetHeader.TheVariants.{ScsiRespons
 use Rattle.session.specs.declared.data_in.TheConstants.{NO_TRANSFER_TAG}
 use Rattle.session.specs.declared.lengths.Lengths.{Lengths}
 use Rattle.session.specs.Turn.{Out, bytes_of}
-use Rattle.session.specs.Window.{numbers_at}
+use Rattle.session.specs.Standing.{Standing, numbers_at}
+use Rattle.session.specs.Tasks.{r2ts_of, is_response}
+use Rattle.std.specs.List.{list_any}
 use Rattle.session.specs.Response.{responses}
 use Rattle.session.specs.DataIn.{data_ins, joined_data, left_of_run, segment_size, IsSegment, Tiles}
 use Rattle.session.specs.Legal.{status_numbers, IsWindow, HaveWindow, IsOfCommand}
@@ -68,7 +70,7 @@ module _ (numbers : Numbers) (tag : ℕ) (l : Lengths) (bytes : List ℕ) where
   no_next (suc most) k offset none =
       ap (λ (t : Bool). cons_if t (data_in_at numbers tag l k offset bytes) (from most (k + 1) (offset + size offset))) (not_less (nat_lt offset (length bytes)) offset (length bytes) refl none)
 
-module _ (e : ℕ) (tag : ℕ) (l : Lengths) (bytes : List ℕ) (r : ResponseHeader) (sense : List ℕ) where
+module _ (e : Standing) (tag : ℕ) (l : Lengths) (bytes : List ℕ) (r : ResponseHeader) (sense : List ℕ) where
   abbrev some_of : ℕ → ℕ → ℕ → List Out
   some_of most k offset = data_ins_from (numbers_at 0 e) tag l bytes most k offset
 
@@ -130,6 +132,22 @@ module _ (e : ℕ) (tag : ℕ) (l : Lengths) (bytes : List ℕ) (r : ResponseHea
   outs_kinds zero k offset = (tt, tt)
   outs_kinds (suc most) k offset = kinds_if (nat_lt offset (length bytes)) k offset _ (outs_kinds most (k + 1) (offset + segment_size l offset (length bytes)))
 
+  r2ts_if : (t : Bool) (k offset : ℕ) (xs : List Out) → r2ts_of (xs ++ last_of ∷ []) ≡ [] → r2ts_of (cons_if t (at k offset) xs ++ last_of ∷ []) ≡ []
+  r2ts_if true k offset xs rest = rest
+  r2ts_if false k offset xs rest = refl
+
+  pub outs_r2ts : (most k offset : ℕ) → r2ts_of (outs_of most k offset) ≡ []
+  outs_r2ts zero k offset = refl
+  outs_r2ts (suc most) k offset = r2ts_if (nat_lt offset (length bytes)) k offset _ (outs_r2ts most (k + 1) (offset + segment_size l offset (length bytes)))
+
+  ended_if : (t : Bool) (k offset : ℕ) (xs : List Out) → list_any (λ o. is_response o.header) (xs ++ last_of ∷ []) ≡ true → list_any (λ o. is_response o.header) (cons_if t (at k offset) xs ++ last_of ∷ []) ≡ true
+  ended_if true k offset xs rest = rest
+  ended_if false k offset xs rest = refl
+
+  pub outs_ended : (most k offset : ℕ) → list_any (λ o. is_response o.header) (outs_of most k offset) ≡ true
+  outs_ended zero k offset = refl
+  outs_ended (suc most) k offset = ended_if (nat_lt offset (length bytes)) k offset _ (outs_ended most (k + 1) (offset + segment_size l offset (length bytes)))
+
 -- ---- they tile the data
 
 abbrev Segment : Type 0
@@ -164,7 +182,7 @@ drop_all zero (x ∷ xs) h = absurd (omega (arith, h))
 drop_all (suc n) [] h = refl
 drop_all (suc n) (x ∷ xs) h = drop_all n xs (omega (arith, h))
 
-module _ (e : ℕ) (tag : ℕ) (l : Lengths) (bytes : List ℕ) (r : ResponseHeader) (sense : List ℕ) where
+module _ (e : Standing) (tag : ℕ) (l : Lengths) (bytes : List ℕ) (r : ResponseHeader) (sense : List ℕ) where
   abbrev head : ℕ → ℕ → Segment
   head k offset = ((record { last = segment_size l offset (length bytes) == left_of_run l offset (length bytes); task_tag = tag; transfer_tag = NO_TRANSFER_TAG; numbers = numbers_at 0 e; data_sn = k; offset = offset }), take (segment_size l offset (length bytes)) (drop offset bytes))
 

@@ -21,13 +21,14 @@ use Rattle.session.specs.Turn.{Out}
 use Rattle.session.specs.Transfer.{expected_transfer, sent_data, transfer_of, residual_count}
 use Rattle.session.specs.Response.{sense_part}
 use Rattle.session.specs.DataIn.{left_of_run, segment_size}
-use Rattle.session.specs.Window.{numbers_at}
+use Rattle.session.specs.Standing.{numbers_at}
 use Rattle.session.specs.Counters.{Counters}
 
 -- the data of an answer to a request fits a data segment; the offsets of Data-In fit 32 bits
 abbrev pub AreInReach : Pdus → Type 0
 AreInReach pdus.Nothing = Unit {0}
 AreInReach (pdus.Reject r) = Unit {0}
+AreInReach (pdus.R2t r) = Unit {0}
 AreInReach (pdus.Response x) = length x.bytes.now ≤ MAX_DATA_SEGMENT_LENGTH
 AreInReach (pdus.Answer x r s) = length x.bytes.now ≤ 4294967295
 
@@ -84,9 +85,9 @@ response_for numbers p transfer data_ins completion = record {
 -- the PDUs of an answer with this data
 abbrev pub reply_with : Counters → CommandHeader → ℕ → List ℕ → Completion → List Out
 reply_with s p need bytes completion =
-    let segments = data_ins_for (numbers_at 0 s.exp_cmd_sn) p.task_tag s.lengths (sent_data p bytes) in
+    let segments = data_ins_for (numbers_at 0 s.standing) p.task_tag s.lengths (sent_data p bytes) in
     let transfer = transfer_of p need (length bytes) in
-    let response = response_for (numbers_at s.stat_sn s.exp_cmd_sn) p transfer (length segments) completion in
+    let response = response_for (numbers_at s.stat_sn s.standing) p transfer (length segments) completion in
     segments ++ record { header = ScsiResponse response; bytes = sense_part completion.sense } ∷ []
 
 -- what a SCSI Response tells of an answer; there is none where the session is gone
@@ -96,3 +97,10 @@ completion_of (Outside a) = Some (record { response = COMPLETED; status = a.stat
 completion_of Busy = Some (record { response = COMPLETED; status = statuses.Busy; sense = None })
 completion_of Halted = Some (record { response = TARGET_FAILURE; status = statuses.Good; sense = None })
 completion_of Gone = None
+
+-- and of a command for whose data there is no buffer, or that finds the task set full
+abbrev pub busy : Completion
+busy = record { response = COMPLETED; status = statuses.Busy; sense = None }
+
+abbrev pub task_set_full : Completion
+task_set_full = record { response = COMPLETED; status = statuses.TaskSetFull; sense = None }

@@ -94,5 +94,5 @@ pub record IsNext (burst : ℕ) (p : CommandHeader) (need came i : ℕ) (r : R2t
 abbrev pub is_immediate : Collecting → Bool
 is_immediate c = c.command.immediate
 
-abbrev pub is_numbered : Collecting → Bool
-is_numbered c = not c.command.immediate
+abbrev pub shrinks_window : Collecting → Bool
+shrinks_window c = not c.command.immediate

@@ -1,4 +1,5 @@
 pub mod AnswerPdus
+pub mod Answered
 pub mod Collecting
 pub mod Counters
 pub mod DataIn
@@ -17,8 +18,8 @@ pub mod Requests
 pub mod Response
 pub mod Slots
 pub mod Source
+pub mod Standing
 pub mod Stream
-pub mod Task
 pub mod TaskTurn
 pub mod Tasks
 pub mod Transcript

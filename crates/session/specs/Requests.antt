@@ -4,7 +4,7 @@ use Rattle.iscsi_pdu.specs.declared.header.Header.TheVariants.{Initiator}
 use Rattle.iscsi_pdu.specs.declared.header.InitiatorHeader.TheVariants.{NopOut, LogoutRequest}
 use Rattle.iscsi_pdu.specs.declared.header.Numbers.{Numbers}
 use Rattle.session.specs.declared.verdict.Verdict.{Verdict}
-use Rattle.session.specs.declared.verdict.Verdict.TheVariants.{Accepted, Ignored, Gap, Refused}
+use Rattle.session.specs.declared.verdict.Verdict.TheVariants.{Accepted, Full, Ignored, Gap, Refused}
 use Rattle.session.specs.declared.lengths.Lengths.{Lengths}
 use Rattle.session.specs.Turn.{Incoming, pdu, Out, Asking}
 use Rattle.session.specs.Nop.{nop_answer}
@@ -18,6 +18,7 @@ HasItsAnswer l came call outs = Unit {0}
 
 abbrev pub IsRequestAnswered : Lengths → Verdict → Incoming → Option Asking → List Out → Type 0
 IsRequestAnswered l Accepted came call outs = HasItsAnswer l came call outs
+IsRequestAnswered l Full came call outs = Unit {0}
 IsRequestAnswered l Ignored came call outs = Unit {0}
 IsRequestAnswered l Gap came call outs = Unit {0}
 IsRequestAnswered l (Refused reason) came call outs = Unit {0}

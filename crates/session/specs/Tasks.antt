@@ -12,7 +12,7 @@ use Rattle.iscsi_pdu.specs.declared.header.TargetHeader.TheVariants.{ScsiRespons
 use Rattle.session.specs.declared.target.TargetAnswer.{TargetAnswer}
 use Rattle.session.specs.declared.target.TargetAnswer.TheVariants.{Replied, Outside, Busy, Gone, Halted}
 use Rattle.session.specs.declared.verdict.Verdict.{Verdict}
-use Rattle.session.specs.declared.verdict.Verdict.TheVariants.{Accepted, Ignored, Gap, Refused}
+use Rattle.session.specs.declared.verdict.Verdict.TheVariants.{Accepted, Full, Ignored, Gap, Refused}
 use Rattle.session.specs.Turn.{Incoming, pdu, Out, Asking, Turn, sent}
 use Rattle.session.specs.Window.{wrap}
 use Rattle.session.specs.Drops.{drops}
@@ -21,6 +21,7 @@ use Rattle.session.specs.Drops.{drops}
 
 abbrev pub is_accepted : Verdict → Bool
 is_accepted Accepted = true
+is_accepted Full = false
 is_accepted Ignored = false
 is_accepted Gap = false
 is_accepted (Refused reason) = false

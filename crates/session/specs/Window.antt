@@ -23,8 +23,7 @@ use Rattle.iscsi_pdu.specs.declared.header.TargetHeader.TheVariants.{
 }
 use Rattle.iscsi_pdu.specs.declared.header.Numbers.{Numbers}
 use Rattle.session.specs.declared.verdict.Verdict.{Verdict}
-use Rattle.session.specs.declared.verdict.Verdict.TheVariants.{Accepted, Ignored, Gap, Refused}
-use Rattle.session.specs.declared.window.TheConstants.{WINDOW}
+use Rattle.session.specs.declared.verdict.Verdict.TheVariants.{Accepted, Full, Ignored, Gap, Refused}
 use Rattle.session.specs.Turn.{Incoming, pdu, Turn}
 
 -- numbers count modulo 2^32 (RFC 1982)
@@ -34,18 +33,6 @@ wrap n = n % 4294967296
 -- how far a CmdSN lies ahead of the one that is expected
 abbrev pub ahead : ℕ → ℕ → ℕ
 ahead cmd_sn exp_cmd_sn = wrap (cmd_sn + (4294967296 - exp_cmd_sn))
-
--- the window: ExpCmdSN to ExpCmdSN + 31
-abbrev pub last_in_window : ℕ → ℕ
-last_in_window exp_cmd_sn = wrap (exp_cmd_sn + (WINDOW - 1))
-
--- the numbers of a PDU that goes out with this StatSN, where this CmdSN is expected
-abbrev pub numbers_at : ℕ → ℕ → Numbers
-numbers_at stat_sn exp_cmd_sn = record {
-  stat_sn = stat_sn;
-  exp_cmd_sn = exp_cmd_sn;
-  max_cmd_sn = last_in_window exp_cmd_sn;
-}
 
 -- the numbers that a PDU goes out with
 abbrev pub numbers_of : TargetHeader → Numbers
@@ -74,6 +61,7 @@ is_numbered i = false
 
 abbrev pub takes_number : Verdict → Incoming → Bool
 takes_number Accepted came = is_numbered came
+takes_number Full came = false
 takes_number Ignored came = false
 takes_number Gap came = false
 takes_number (Refused reason) came = false

@@ -1,10 +1,13 @@
+ghost use Rattle.std.specs.Prelude.{◌≡◌};
+ghost use Rattle.session.specs.Machine.{call_data};
+
 use crate::end::End;
 use crate::lengths::Lengths;
-use iscsi_pdu::{DataIn, Numbers, Reject, ScsiCommand, ScsiResponse, TargetHeader};
+use iscsi_pdu::{DataIn, Numbers, R2t, Reject, ScsiCommand, ScsiResponse, TargetHeader};
 use scsi_types::{Asked, Sense};
 
 /// What a PDU or an answer calls for: PDUs to write, then perhaps a call of the target, then perhaps the end.
-#[derive(Clone, Copy, Debug)]
+#[derive(Debug, Drop)]
 pub struct Actions<'a> {
     /// PDUs to write first.
     pub pdus: Pdus<'a>,
@@ -21,6 +24,8 @@ pub enum Pdus<'a> {
     Nothing,
     /// A Reject, whose data is the basic header segment of what is rejected (RFC 7143, 11.17).
     Reject(Reject),
+    /// The next R2T of a write (RFC 7143, 11.8).
+    R2t(R2t),
     /// The answer to a request that is no SCSI Command.
     Response(ResponsePdu<'a>),
     /// The data of an answer, where it has any, and its SCSI Response with its sense (RFC 7143, 11.4 and 11.7).
@@ -58,7 +63,7 @@ pub struct DataInPdu<'a> {
 }
 
 /// A command that the target is to serve, as [`Target::serve`](crate::Target::serve) takes it.
-#[derive(Clone, Copy, Debug)]
+#[derive(Debug, Drop)]
 pub struct Call<'a> {
     /// What the answer is given back with.
     pub task: OpenTask,
@@ -67,7 +72,28 @@ pub struct Call<'a> {
     /// What the CDB asks for.
     pub asked: Asked,
     /// The data of a write: as many bytes as it needs and the initiator expects to send.
-    pub bytes: &'a [u8],
+    pub bytes: CommandData<'a>,
+}
+
+/// The data of a write.
+#[derive(Debug, Drop)]
+pub enum CommandData<'a> {
+    /// It came with the command.
+    Came(&'a [u8]),
+    /// It was gathered from several PDUs.
+    Gathered(Vec<u8>),
+}
+
+impl CommandData<'_> {
+    /// The bytes.
+    pub fn bytes(&self) -> &[u8]
+        ensures { result.now ≡ call_data self.now }
+    {
+        match self {
+            CommandData::Came(bytes) => bytes,
+            CommandData::Gathered(bytes) => bytes,
+        }
+    }
 }
 
 /// An accepted command, until it is answered.

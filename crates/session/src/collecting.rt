@@ -1,12 +1,12 @@
 //! The commands that wait for their data (RFC 7143, 11.7 and 11.8).
-ghost use Rattle.std.specs.Prelude.{◌≡◌, ◌<◌, ◌≤◌, ◌++◌, ◌∷◌, ◌↔◌, List, [], length, take, drop, nat_le, nat_lt, false, IsTrue, IfOk, MatchOption, Result, Some};
+ghost use Rattle.std.specs.Prelude.{◌≡◌, ◌<◌, ◌≤◌, ◌+◌, ◌++◌, ℕ, ◌∷◌, ◌↔◌, List, [], length, take, drop, nat_le, nat_lt, false, IsTrue, IfOk, IfSome, MatchOption, Result, Some, None};
 ghost use Rattle.scsi_types.specs.Cdb.{Means, need_of};
 ghost use Rattle.scsi_types.specs.declared.command.Command.{Command};
 ghost use Rattle.scsi_types.specs.declared.command.CdbFault.{CdbFault};
-ghost use Rattle.std.specs.List.{list_any, count_by};
+ghost use Rattle.std.specs.List.{list_any, count_by, find};
 ghost use Rattle.session.specs.Tasks.{Collecting, has_tag};
-ghost use Rattle.session.specs.Collecting.{Continues, is_immediate, is_numbered};
-ghost use Rattle.session.specs.Slots.{StandsAt, IsRemoved, IsAskedBy, IsFinished, begun, fed, asked_on, r2t_for};
+ghost use Rattle.session.specs.Collecting.{Continues, HasToCollect, is_immediate, shrinks_window};
+ghost use Rattle.session.specs.Slots.{StandsAt, IsRemoved, IsAskedBy, IsFinished, NeedIs, begun, fed, asked_on, r2t_for};
 
 use iscsi_pdu::{DataOut, Numbers, R2t, ScsiCommand};
 use scsi_types::{Asked, NoMemory};
@@ -53,7 +53,7 @@ pub struct WaitingCommand {
 }
 
 impl Model for WaitingCommand {
-    ghost use Rattle.std.specs.Prelude.{Some, vec_capacity};
+    ghost use Rattle.std.specs.Prelude.{Some, length, vec_capacity};
     ghost use Rattle.session.specs.Tasks.{Collecting};
     ghost use Rattle.session.specs.Slots.{IsSlot};
 
@@ -61,11 +61,12 @@ impl Model for WaitingCommand {
 
     ghost view = { λ s. record { command = s.command; bytes = s.bytes.items; outstanding = Some s.request; requests = s.requests; data_sn = s.data_sn } };
 
-    ghost invariant = { λ s. IsSlot s.command s.asked s.need (vec_capacity s.bytes) s.request };
+    ghost invariant = { λ s. IsSlot s.command s.asked s.need (length s.bytes.items) (vec_capacity s.bytes) s.request };
 }
 
 impl WaitingCommand {
-    /// A command that needs so many bytes, with its immediate data and its first R2T. Takes the buffer of its data.
+    /// A command that has to collect so many bytes, with its immediate data and its first R2T. Takes the buffer of its
+    /// data.
     pub fn begin(
         alloc: Global,
         command: ScsiCommand,
@@ -76,7 +77,7 @@ impl WaitingCommand {
     ) -> Result<WaitingCommand, NoMemory>
         requires asked { IsAskedBy command asked }
         requires need { need ≡ need_of asked }
-        requires short { length immediate.now < need }
+        requires collects { HasToCollect command need (length immediate.now) }
         ensures { IfOk result (λ w. w ≡ begun command need immediate.now with) }
     {
         let mut bytes = Vec::with_capacity(alloc, need as usize)?;
@@ -94,6 +95,20 @@ impl WaitingCommand {
             requests: 1,
             data_sn: 0,
         })
+    }
+
+    /// What its CDB asks for.
+    pub fn asked(&self) -> Asked
+        ensures { IsAskedBy self.now.command result }
+    {
+        self.asked
+    }
+
+    /// How many bytes it needs.
+    pub fn need(&self) -> u32
+        ensures { NeedIs self.now.command result }
+    {
+        self.need
     }
 
     /// The R2T that is outstanding.
@@ -126,20 +141,26 @@ impl WaitingCommand {
         self.data_sn = self.data_sn.wrapping_add(1);
     }
 
-    /// Whether all has come that the command needs.
-    pub fn is_complete(&self) -> bool
-        ensures { (asked : Result Command CdbFault) → Means self.now.command.cdb asked
-            → result ≡ nat_le (need_of asked) (length self.now.bytes) }
+    /// How many bytes have come.
+    pub fn len(&self) -> usize
+        ensures { result ≡ length self.now.bytes }
     {
-        self.need as usize <= self.bytes.len()
+        self.bytes.len()
+    }
+
+    /// Whether all has come that the R2T asks for.
+    pub fn is_filled(&self) -> bool
+        ensures { IfSome self.now.outstanding
+            (λ r. result ≡ nat_le (r.offset + r.desired_length) (length self.now.bytes)) }
+    {
+        let end = u64::from(self.request.offset) + u64::from(self.request.desired_length);
+        end <= self.bytes.len() as u64
     }
 
     /// Asks for more by the next R2T.
     pub fn ask(&mut self, with: R2tWith)
-        requires { (asked : Result Command CdbFault) → Means self.old.command.cdb asked
-            → length self.old.bytes < need_of asked }
-        ensures { (asked : Result Command CdbFault) → Means self.old.command.cdb asked
-            → self.new ≡ asked_on self.old (need_of asked) with }
+        requires { (need : ℕ) × NeedIs self.old.command need × (length self.old.bytes < need) }
+        ensures { (need : ℕ) → NeedIs self.old.command need → self.new ≡ asked_on self.old need with }
     {
         self.request = r2t(
             &self.command,
@@ -218,7 +239,8 @@ impl WaitingCommands {
 
     /// How many numbered ones wait.
     pub fn numbered(&self) -> u32
-        ensures { result ≡ count_by is_numbered self.now }
+        ensures count { result ≡ count_by shrinks_window self.now }
+        ensures most { result ≤ length self.now }
     {
         let mut count = 0;
         for i in 0..self.slots.len() {
@@ -229,10 +251,17 @@ impl WaitingCommands {
         count
     }
 
-    /// Where the one with this Initiator Task Tag stands.
+    /// Whether one with this Initiator Task Tag waits.
+    pub fn has(&self, tag: u32) -> bool
+        ensures { result ≡ list_any (has_tag tag) self.now }
+    {
+        self.slots.iter().any(|slot| slot.command.task_tag == tag)
+    }
+
+    /// Where the first with this Initiator Task Tag stands.
     pub fn position(&self, tag: u32) -> Option<usize>
-        ensures { MatchOption result (list_any (has_tag tag) self.now ≡ false)
-            (λ i. (this : Collecting) × StandsAt self.now i this × (this.command.task_tag ≡ tag)) }
+        ensures { MatchOption result (find (has_tag tag) self.now ≡ None)
+            (λ i. (this : Collecting) × StandsAt self.now i this × (find (has_tag tag) self.now ≡ Some this)) }
     {
         for i in 0..self.slots.len() {
             if self.slots[i].command.task_tag == tag {
@@ -272,7 +301,8 @@ impl WaitingCommands {
     /// Puts one in its place again.
     pub fn insert(&mut self, at: usize, command: WaitingCommand)
         requires { (at ≤ length self.old) × (length self.old < MOST_WAITING) }
-        ensures { self.new ≡ take at self.old ++ (command ∷ drop at self.old) }
+        ensures { (front back : List Collecting) → self.old ≡ front ++ back → length front ≡ at
+            → self.new ≡ front ++ (command ∷ back) }
     {
         match self.slots.insert(at, command) {
             Ok(()) => {}

@@ -35,7 +35,7 @@ mod waiting;
 mod watched;
 mod window;
 
-pub use actions::{Actions, Call, DataInPdu, DataIns, OpenTask, Pdus, ResponsePdu};
+pub use actions::{Actions, Call, CommandData, DataInPdu, DataIns, OpenTask, Pdus, ResponsePdu};
 pub use end::End;
 pub use laws::{
     a_read_gets_the_data_of_its_answer, no_command_is_answered_twice,

@@ -88,6 +88,7 @@ impl Outbox {
         match pdus {
             Pdus::Nothing => {}
             Pdus::Reject(reject) => self.put(sink, TargetHeader::Reject(*reject), bhs),
+            Pdus::R2t(r2t) => self.put(sink, TargetHeader::R2t(*r2t), &[]),
             Pdus::Response(pdu) => self.put(sink, pdu.header, pdu.bytes),
             Pdus::Answer {
                 data_ins,

@@ -40,7 +40,7 @@ fn turn<K: Sink, T: Target>(
             actions.end
         }
         Some(call) => {
-            let answer = target.serve(call.unit, call.asked, call.bytes);
+            let answer = target.serve(call.unit, call.asked, call.bytes.bytes());
             let answered = session.on_answer(call.task, &answer);
             outbox.fill(sink, bhs, &answered.pdus);
             answered.end
@@ -109,7 +109,7 @@ pub fn serve_stream<S: Source, K: Sink, T: Target>(
 {
     let mut inbox = Inbox::new(alloc)?;
     let mut outbox = Outbox::new(alloc)?;
-    let mut session = Session::new(start);
+    let mut session = Session::new(alloc, start)?;
     let mut reads: u64 = 0;
     while reads < u64::MAX {
         match front_of(inbox.bytes()) {

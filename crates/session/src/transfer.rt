@@ -1,5 +1,6 @@
 //! How much data a command moves, and which (RFC 7143, 11.3.4 and 11.4.5).
-ghost use Rattle.std.specs.Prelude.{◌≡◌, ◌≤◌, length, take};
+ghost use Rattle.std.specs.Prelude.{◌≡◌, ◌↔◌, IsTrue, ◌≤◌, length, take};
+ghost use Rattle.session.specs.Collecting.{HasToCollect};
 ghost use Rattle.session.specs.Transfer.{expected_transfer, data_for, sent_data, residual_count};
 
 use iscsi_pdu::ScsiCommand;
@@ -23,6 +24,14 @@ pub fn command_data<'a>(command: &ScsiCommand, need: u32, bytes: &'a [u8]) -> &'
         return &[];
     }
     first_bytes(bytes, command.expected_length.min(need))
+}
+
+/// Whether a command that needs so many bytes has to collect them: a write that expects to send them, and of which so
+/// many came with it.
+pub fn has_to_collect(command: &ScsiCommand, need: u32, immediate: usize) -> bool
+    ensures { IsTrue result ↔ HasToCollect command.now need immediate }
+{
+    command.write && need <= command.expected_length && immediate < need as usize
 }
 
 /// What goes out of the data of an answer: a read's, as much as is expected.
