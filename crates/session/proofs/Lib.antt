@@ -5,6 +5,7 @@ pub mod Lawful
 pub mod Lists
 pub mod Places
 pub mod Queues
+pub mod Receiving
 pub mod Right
 pub mod Rows
 pub mod Running

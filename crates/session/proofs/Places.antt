@@ -3,7 +3,7 @@ use Rattle.std.proofs.Common.{◌≡◌, ℕ, zero, suc, ◌+◌, ◌<◌, ◌�
 use Rattle.std.specs.Prelude.{◌||◌, if◌then◌else◌}
 use Rattle.std.specs.List.{list_any, count_by, find}
 use Rattle.std.proofs.lemmas.Bool.{eq-eqb}
-use Rattle.std.proofs.lemmas.List.{take_all, take-append-drop, length-take-le, drop_more, take_more}
+use Rattle.std.proofs.lemmas.List.{take_all, take-append-drop, length-take-le, drop_more, take_more, get_or_at}
 use Rattle.std.proofs.lemmas.List.Folds.{list_any-append}
 use Rattle.std.proofs.lemmas.List.Sums.{sum_by-append}
 use Rattle.session.specs.Tasks.{Collecting, has_tag}
@@ -72,3 +72,8 @@ none_there tag (c ∷ cs) e = one (has_tag tag c) e (none_there tag cs) where
 
 pub none_of_all : (tag : ℕ) (cs : List Collecting) (n : ℕ) → length cs ≤ n → list_any (has_tag tag) (take n cs) ≡ false → find (has_tag tag) cs ≡ None
 none_of_all tag cs n all none = none_there tag cs (ap (list_any (has_tag tag)) (sym (take_all n cs all)) ∙ none)
+
+-- two that stand at one place are one
+pub stands_one : (cs : List Collecting) (i : ℕ) (x y : Collecting) → StandsAt cs i x → StandsAt cs i y → x ≡ y
+stands_one cs i x y a b =
+    sym (get_or_at a.front x a.back x i a.place) ∙ ap (λ (z : List Collecting). get_or z i x) (sym a.whole ∙ b.whole) ∙ get_or_at b.front y b.back x i b.place

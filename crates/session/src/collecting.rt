@@ -132,7 +132,8 @@ impl WaitingCommand {
     /// One Data-Out more.
     pub fn feed(&mut self, header: &DataOut, bytes: &[u8])
         requires { Continues self.old header.now bytes.now }
-        ensures { self.new ≡ fed self.old bytes.now }
+        ensures fed { self.new ≡ fed self.old bytes.now }
+        ensures asked { (asked : Result Command CdbFault) × IsAskedBy self.old.command asked }
     {
         match self.bytes.extend_from_slice(bytes) {
             Ok(()) => {}
@@ -160,7 +161,8 @@ impl WaitingCommand {
     /// Asks for more by the next R2T.
     pub fn ask(&mut self, with: R2tWith)
         requires { (need : ℕ) × NeedIs self.old.command need × (length self.old.bytes < need) }
-        ensures { (need : ℕ) → NeedIs self.old.command need → self.new ≡ asked_on self.old need with }
+        ensures asked { (need : ℕ) → NeedIs self.old.command need → self.new ≡ asked_on self.old need with }
+        ensures fits { self.old.requests < 4294967296 }
     {
         self.request = r2t(
             &self.command,
@@ -293,7 +295,8 @@ impl WaitingCommands {
     /// Takes the one that stands there away.
     pub fn remove(&mut self, at: usize) -> WaitingCommand
         requires { at < length self.old }
-        ensures { IsRemoved self.old self.new at result }
+        ensures removed { IsRemoved self.old self.new at result }
+        ensures room { length self.new < MOST_WAITING }
     {
         self.slots.remove(at)
     }

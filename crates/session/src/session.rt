@@ -178,13 +178,15 @@ impl Session {
 
     // What a verdict calls for that does not accept its PDU.
     fn turned_away<'a>(&mut self, verdict: Verdict) -> Option<Actions<'a>>
+        requires { verdict ≡ Full → ⊥ }
         ensures away { MatchOption result ((verdict ≡ Accepted) × (self.new ≡ self.old))
             (λ a. OnUnaccepted verdict self.old a self.new) }
         ensures within { IfSome result (λ a. AreInReach a.pdus) }
     {
         match verdict {
             Verdict::Accepted => None,
-            Verdict::Full | Verdict::Ignored => Some(silence()),
+            Verdict::Full => unreachable!(),
+            Verdict::Ignored => Some(silence()),
             Verdict::Gap => Some(Actions {
                 pdus: Pdus::Nothing,
                 call: None,

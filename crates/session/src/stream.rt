@@ -34,7 +34,7 @@ fn turn<K: Sink, T: Target>(
         (came bhs.now pdu.entry.header pdu.entry.data.now) result }
 {
     let actions = session.on_pdu(pdu);
-    match actions.call {
+    match &actions.call {
         None => {
             outbox.fill(sink, bhs, &actions.pdus);
             actions.end

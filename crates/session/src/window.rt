@@ -29,10 +29,9 @@ pub fn target_numbers(stat_sn: u32, exp_cmd_sn: u32, waiting: u32) -> Numbers
 
 /// The Target Transfer Tag behind this one: they count, and leave out FFFFFFFFh (RFC 7143, 11.8.5).
 pub fn next_transfer_tag(tag: u32) -> u32
-    requires { tag < 4294967295 }
     ensures { result ≡ (tag + 1) % 4294967295 }
 {
-    (tag + 1) % u32::MAX
+    ((u64::from(tag) + 1) % u64::from(u32::MAX)) as u32
 }
 
 /// The CmdSN that is expected once a PDU with this I bit was accepted, which takes one unless it is immediate.

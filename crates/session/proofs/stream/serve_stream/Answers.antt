@@ -6,7 +6,7 @@ use Rattle.session.proofs.stream.serve_stream.Goals as goal
 
 pub loop-reads-init : goal.loop-reads-init
 loop-reads-init g c = record {
-  running = starts g.T.Target.leads c.args.start _ _ _ _ _ _ _ (omega arith) (omega arith) c.new-session.ensures c.in_ok-outbox.ensures c.in_ok-inbox.ensures;
+  running = starts g.T.Target.leads c.args.start _ _ _ _ _ _ _ (omega arith) (omega arith) c.in_ok-session.ensures c.in_ok-outbox.ensures c.in_ok-inbox.ensures;
   source_served = search rules;
 }
 

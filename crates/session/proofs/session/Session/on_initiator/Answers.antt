@@ -16,9 +16,5 @@ pub returns-in-TextRequest-clause-on : goal.returns-in-TextRequest-clause-on
 returns-in-TextRequest-clause-on c =
     refused _ _ (Initiator c.args.header) c.args.bytes.now c.reject-in-TextRequest.result COMMAND_NOT_SUPPORTED (rw c.in-TextRequest.is refl) c.reject-in-TextRequest.ensures.on
 
-pub returns-in-DataOut-clause-on : goal.returns-in-DataOut-clause-on
-returns-in-DataOut-clause-on c =
-    refused _ _ (Initiator c.args.header) c.args.bytes.now c.reject-in-DataOut.result COMMAND_NOT_SUPPORTED (rw c.in-DataOut.is refl) c.reject-in-DataOut.ensures.on
-
 pub returns-in-LogoutRequest-clause-on : goal.returns-in-LogoutRequest-clause-on
 returns-in-LogoutRequest-clause-on c = rw c.in-LogoutRequest.is (c.on_logout.ensures.on c.args.bytes.now)
