@@ -5,6 +5,7 @@ pub mod Following
 pub mod Front
 pub mod Inbox
 pub mod Legal
+pub mod Lengths
 pub mod Machine
 pub mod MachineTurn
 pub mod Outbox
