@@ -1,7 +1,6 @@
 -- What is judged of a turn holds of each turn that the session makes.
-use Rattle.std.proofs.Common.{◌≡◌, ◌⊎◌, ℕ, zero, suc, ◌+◌, ◌<◌, ◌≤◌, ◌↔◌, Bool, true, false, not, List, [], ◌∷◌, ◌++◌, Option, Some, None, length, length-take, refl, subst, inl, inr, arith}
+use Rattle.std.proofs.Common.{◌≡◌, ◌⊎◌, ℕ, zero, suc, ◌+◌, ◌<◌, ◌↔◌, Bool, true, false, not, List, [], ◌∷◌, Option, Some, None, length, refl, inl, inr}
 use Rattle.std.specs.Prelude.{IsTrue, slice_get, Result, nat_lt, if◌then◌else◌, take}
-use Rattle.std.proofs.lemmas.List.{append-nil}
 use Rattle.std.proofs.lemmas.Bool.{ltb-true, lt-ltb}
 use Rattle.scsi_types.specs.Cdb.{Means, need_of}
 use Rattle.scsi_types.specs.Lun.{NamesUnit}
@@ -15,7 +14,6 @@ use Rattle.iscsi_pdu.specs.declared.header.ScsiResponse.{ScsiResponse as Respons
 use Rattle.iscsi_pdu.specs.declared.header.DataIn.{DataIn as DataInHeader}
 use Rattle.iscsi_pdu.specs.declared.header.Header.TheVariants.{Initiator}
 use Rattle.iscsi_pdu.specs.declared.header.InitiatorHeader.TheVariants.{ScsiCommand}
-use Rattle.iscsi_pdu.specs.declared.header.TargetHeader.TheVariants.{ScsiResponse}
 use Rattle.session.specs.declared.response.Completion.{Completion}
 use Rattle.session.specs.declared.response.TheConstants.{COMPLETED, TARGET_FAILURE}
 use Rattle.session.specs.declared.target.TargetAnswer.{TargetAnswer}
@@ -28,11 +26,9 @@ use Rattle.session.specs.Window.{wrap, numbers_at, takes_number}
 use Rattle.session.specs.Verdict.{IsJudged}
 use Rattle.session.specs.Transfer.{expected_transfer, transfer_of, data_for, sent_data}
 use Rattle.session.specs.Task.{task_by, IsCalled, IsAskedFor, reply_data}
-use Rattle.session.specs.Response.{responses, HasOneResponse, IsAnsweredBy, IsTold, sense_part}
-use Rattle.session.specs.DataIn.{data_ins, Tiles}
-use Rattle.session.specs.Legal.{status_numbers, IsWindow, HaveWindow, IsRejected, IsAnsweredTask, IsTiledTask, IsCountedTask, HasResiduals, IsToldTask}
-use Rattle.std.specs.List.{AllByRecursion}
-use Rattle.session.specs.Legal.{IsOfCommand}
+use Rattle.session.specs.Response.{HasOneResponse, IsAnsweredBy, IsTold, sense_part}
+use Rattle.session.specs.DataIn.{Tiles}
+use Rattle.session.specs.Legal.{status_numbers, HaveWindow, IsRejected, IsAnsweredTask, IsTiledTask, IsCountedTask, HasResiduals, IsToldTask}
 use Rattle.session.specs.Counters.{Counters, after_status, after_command}
 use Rattle.session.specs.AnswerPdus.{data_ins_for, response_for}
 use Rattle.session.specs.MachineTurn.{TurnOnAnswer, TurnOnAccepted, TurnOnVerdict}
