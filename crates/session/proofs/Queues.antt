@@ -1,13 +1,10 @@
 -- What waiting and writing do to the bytes that are to go out.
-use Rattle.std.proofs.Common.{◌≡◌, ℕ, zero, suc, Bool, true, false, List, [], ◌∷◌, ◌++◌, Option, length, take, refl, sym, ap, subst, subst₂, ◌∙◌, inl, inr, append_assoc}
-use Rattle.std.specs.Prelude.{Result, Ok, Err, OnOk, OnErr}
+use Rattle.std.proofs.Common.{◌≡◌, ℕ, zero, suc, Bool, true, false, List, [], ◌∷◌, ◌++◌, Option, take, refl, sym, ap, subst, ◌∙◌, append_assoc}
 use Rattle.std.proofs.lemmas.List.{append-nil}
 use Rattle.std.specs.Io.KnownBytes.{Appends}
 use Rattle.std.proofs.KnownBytes.{Appends-trans}
-use Rattle.session.specs.declared.end.End.{End}
-use Rattle.session.specs.declared.end.End.TheVariants.{OutputFailed}
-use Rattle.session.specs.Source.{Counted, AppendsFront, Rises}
-use Rattle.session.specs.Outbox.{OutboxValue, IsOutBy, IsOut, IsQueued, IsClosed}
+use Rattle.session.specs.Source.{AppendsFront, Rises}
+use Rattle.session.specs.Outbox.{OutboxValue, IsOutBy, IsOut, IsQueued}
 
 -- a beginning of bytes is one of more bytes
 front_in : (n : ℕ) (all more : List ℕ) → (m : ℕ) × (take m (all ++ more) ≡ take n all)

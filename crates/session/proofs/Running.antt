@@ -1,11 +1,11 @@
 -- What is known between two turns of a session, and how a turn, a read and an end carry it on.
-use Rattle.std.proofs.Common.{◌≡◌, ◌⊎◌, ℕ, ◌+◌, ◌<◌, ◌≤◌, Bool, true, false, List, [], ◌∷◌, ◌++◌, Option, Some, None, length, map, take, drop, refl, sym, ap, subst, subst₂, ◌∙◌, arith, inl, inr, append_assoc, length-append, length-take-le, length-take}
+use Rattle.std.proofs.Common.{Bool, true, false, ◌≡◌, ◌⊎◌, ℕ, ◌+◌, ◌<◌, ◌≤◌, true, false, List, [], ◌∷◌, ◌++◌, Option, Some, None, length, map, take, drop, refl, sym, ap, subst, subst₂, ◌∙◌, arith, inl, inr, append_assoc, length-append, length-take-le, length-take}
 use Rattle.std.proofs.lemmas.List.{append-nil, take-append-drop, map-append, take-take}
 use Rattle.std.proofs.lemmas.List.Elements.{filter_map-append}
 use Rattle.std.proofs.lemmas.Grind.{flat_map-append}
 use Rattle.std.specs.Prelude.{if◌then◌else◌}
 use Rattle.std.specs.Io.KnownBytes.{Keeps, Appends, Consumes, IsAtEnd}
-use Rattle.std.proofs.KnownBytes.{Appends-trans, Appends-nil, Consumes-trans, Consumes-kept, Consumes-nil}
+use Rattle.std.proofs.KnownBytes.{Appends-nil, Consumes-trans, Consumes-kept, Consumes-nil}
 use Rattle.iscsi_pdu.specs.Pdu.{IsPdu}
 use Rattle.iscsi_pdu.specs.Fault.{Stands as FaultStands}
 use Rattle.iscsi_pdu.specs.Spelling.{spelling}
@@ -22,7 +22,7 @@ use Rattle.session.specs.declared.target.TargetAnswer.TheVariants.{Replied, Outs
 use Rattle.session.specs.declared.verdict.Verdict.{Verdict}
 use Rattle.session.specs.declared.verdict.Verdict.TheVariants.{Accepted, Full, Ignored, Gap, Refused}
 use Rattle.session.specs.Question.{Question}
-use Rattle.session.specs.Source.{AppendsFront, Rises}
+use Rattle.session.specs.Source.{AppendsFront}
 use Rattle.session.specs.Inbox.{Filled}
 use Rattle.session.specs.Turn.{Incoming, pdu, faulty, Out, Asking, Turn, calls, sent, bytes_of, Spells, Leads}
 use Rattle.iscsi_pdu.specs.declared.TheConstants.{BHS_LENGTH}
@@ -30,7 +30,7 @@ use Rattle.session.specs.Legal.{end_by, end_of_call, end_of_accepted, end_after,
 use Rattle.session.specs.Counters.{Counters, begun}
 use Rattle.session.specs.Outbox.{OutboxValue, IsOut, IsWritten, IsClosed, IsClosedAs}
 use Rattle.session.specs.Stream.{IsLed, MakesTurn}
-use Rattle.session.specs.Transcript.{IsCut, Written, IsTranscribed, IsFailureOf}
+use Rattle.session.specs.Transcript.{Written, IsTranscribed, IsFailureOf}
 use Rattle.session.proofs.Queues.{all_out_at_last, broke}
 use Rattle.session.proofs.Lawful.{at_each_more, at_each_none, Stands, stands_more, stands_none}
 

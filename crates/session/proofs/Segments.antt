@@ -1,23 +1,23 @@
 -- The Data-In of a read, from the first on.
-use Rattle.std.proofs.Common.{◌≡◌, ℕ, zero, suc, ◌+◌, ◌-◌, ◌%◌, ◌<◌, ◌≤◌, ◌↔◌, min, Bool, true, false, List, [], ◌∷◌, ◌++◌, Option, Some, None, length, take, drop, refl, sym, ap, subst, ◌∙◌, arith, length-append, length-take-le, length-take, length-drop}
+use Rattle.std.proofs.Common.{◌≡◌, ℕ, zero, suc, ◌+◌, ◌-◌, ◌<◌, ◌≤◌, ◌↔◌, Bool, true, false, List, [], ◌∷◌, ◌++◌, Some, length, take, drop, refl, sym, ap, subst, ◌∙◌, arith, length-append, length-take-le, length-drop}
 use Rattle.std.specs.Prelude.{IsTrue, ◌==◌, nat_lt, slice_get}
 use Rattle.std.specs.List.{AllByRecursion}
-use Rattle.std.proofs.lemmas.List.{append-nil, take-append-drop, drop-drop}
+use Rattle.std.proofs.lemmas.List.{take-append-drop, drop-drop}
 use Rattle.std.proofs.lemmas.Bool.{ltb-true, lt-ltb, eqb-true, eq-eqb}
 use Rattle.std.proofs.Math.Nat.{mod-lt}
 use Rattle.iscsi_pdu.specs.declared.header.ScsiCommand.{ScsiCommand as CommandHeader}
 use Rattle.iscsi_pdu.specs.declared.header.ScsiResponse.{ScsiResponse as ResponseHeader}
 use Rattle.iscsi_pdu.specs.declared.header.DataIn.{DataIn as DataInHeader}
 use Rattle.iscsi_pdu.specs.declared.header.Numbers.{Numbers}
-use Rattle.iscsi_pdu.specs.declared.header.TargetHeader.TheVariants.{ScsiResponse, DataIn}
+use Rattle.iscsi_pdu.specs.declared.header.TargetHeader.TheVariants.{ScsiResponse}
 use Rattle.session.specs.declared.data_in.TheConstants.{NO_TRANSFER_TAG}
 use Rattle.session.specs.declared.lengths.Lengths.{Lengths}
-use Rattle.session.specs.Turn.{Out, bytes_of}
+use Rattle.session.specs.Turn.{Out}
 use Rattle.session.specs.Standing.{Standing, numbers_at}
 use Rattle.session.specs.Tasks.{r2ts_of, is_response}
 use Rattle.std.specs.List.{list_any}
 use Rattle.session.specs.Response.{responses}
-use Rattle.session.specs.DataIn.{data_ins, joined_data, left_of_run, segment_size, IsSegment, Tiles}
+use Rattle.session.specs.DataIn.{data_ins, joined_data, left_of_run, segment_size, Tiles}
 use Rattle.session.specs.Legal.{status_numbers, IsWindow, HaveWindow, IsOfCommand}
 use Rattle.session.specs.AnswerPdus.{data_in_at, cons_if, data_ins_from}
 

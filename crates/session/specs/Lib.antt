@@ -8,6 +8,7 @@ pub mod Following
 pub mod Front
 pub mod Inbox
 pub mod Legal
+pub mod Lengths
 pub mod Logout
 pub mod Machine
 pub mod MachineTurn

@@ -1,7 +1,7 @@
-use Rattle.std.proofs.Common.{◌≡◌, ◌∙◌, ℕ, List, arith, rules, subst, sym}
+use Rattle.std.proofs.Common.{◌∙◌, ℕ, List, arith, rules, subst, sym}
 use Rattle.session.specs.Front.{IsWhole, IsFaulty}
 use Rattle.session.specs.Legal.{NoneWhole}
-use Rattle.session.proofs.Running.{starts, pdu_goes_on, pdu_ends, fault_ends, sink_failed, flushed, more_came, input_ended, input_failed, taken_all}
+use Rattle.session.proofs.Running.{starts, pdu_goes_on, pdu_ends, fault_ends, sink_failed, flushed, more_came, input_ended}
 use Rattle.session.proofs.stream.serve_stream.Goals as goal
 
 pub loop-reads-init : goal.loop-reads-init

@@ -1,4 +1,4 @@
-use Rattle.std.proofs.Common.{◌+◌, ap, refl, arith, length}
+use Rattle.std.proofs.Common.{◌+◌, ap, refl, arith}
 use Rattle.session.specs.AnswerPdus.{data_in_out}
 use Rattle.session.proofs.Rows.{queues_none, queues_on, queues_all}
 use Rattle.session.proofs.outbox.Outbox.put_data_ins.Goals as goal
