@@ -14,8 +14,8 @@ use Rattle.iscsi_pdu.specs.declared.header.ScsiCommand.{ScsiCommand as CommandHe
 use Rattle.iscsi_pdu.specs.declared.header.ScsiResponse.{ScsiResponse as ResponseHeader}
 use Rattle.iscsi_pdu.specs.declared.header.DataIn.{DataIn as DataInHeader}
 use Rattle.iscsi_pdu.specs.declared.header.Header.TheVariants.{Initiator}
-use Rattle.iscsi_pdu.specs.declared.header.InitiatorHeader.TheVariants.{NopOut, ScsiCommand, LogoutRequest}
-use Rattle.iscsi_pdu.specs.declared.header.TargetHeader.TheVariants.{NopIn, ScsiResponse, LogoutResponse}
+use Rattle.iscsi_pdu.specs.declared.header.InitiatorHeader.TheVariants.{NopOut, ScsiCommand, TaskManagementRequest, LogoutRequest}
+use Rattle.iscsi_pdu.specs.declared.header.TargetHeader.TheVariants.{NopIn, ScsiResponse, TaskManagementResponse, LogoutResponse}
 use Rattle.session.specs.declared.data_in.TheConstants.{MAX_DATA_IN_LENGTH, NO_TRANSFER_TAG}
 use Rattle.session.specs.declared.response.Completion.{Completion}
 use Rattle.session.specs.declared.response.TheConstants.{COMPLETED, TARGET_FAILURE}
@@ -24,8 +24,11 @@ use Rattle.session.specs.declared.target.TargetAnswer.TheVariants.{Replied, Outs
 use Rattle.session.specs.declared.verdict.Verdict.{Verdict}
 use Rattle.session.specs.declared.verdict.Verdict.TheVariants.{Accepted, Ignored, Gap, Refused}
 use Rattle.session.specs.declared.verdict.TheConstants.{MAX_READ_LENGTH, RESERVED_TAG}
-use Rattle.session.specs.Question.{serve}
-use Rattle.session.specs.Turn.{Incoming, pdu, Out, Asking}
+use Rattle.session.specs.Asking.{Asking, served}
+use Rattle.session.specs.Setting.{Setting}
+use Rattle.session.specs.TaskManagement.{IsManaged, management_answer}
+use Rattle.iscsi_pdu.specs.declared.header.TaskManagementRequest.{TaskManagementRequest as ManagementHeader}
+use Rattle.session.specs.Turn.{Incoming, pdu, Out}
 use Rattle.session.specs.Window.{wrap, numbers_at, numbers_of, exp_cmd_sn_behind, takes_number}
 use Rattle.session.specs.Requests.{IsRequestAnswered}
 use Rattle.session.specs.Logout.{closes, logout_answer}
@@ -48,16 +51,17 @@ use Rattle.session.specs.MachineTurn.{TurnOnAnswer, TurnOnAccepted, TurnOnVerdic
 -- what is judged of one turn, where the session's counters are these before and behind it
 pub record TurnFacts (s s' : Counters) (came : Incoming) (v : Verdict) (call : Option Asking)
     (outs : List Out) : Type 0 where
+  pub setting_is : s'.setting ≡ s.setting
   pub judged : IsJudged s.exp_cmd_sn came v
   pub windows : HaveWindow s'.exp_cmd_sn outs
-  pub called : IsCalled v came call
+  pub called : IsCalled s.setting v came call
   pub answered : IsAnsweredTask (task_by v came call outs) outs
   pub tiled : IsTiledTask (task_by v came call outs) outs
   pub counted : IsCountedTask (task_by v came call outs)
   pub residual : HasResiduals (task_by v came call outs)
   pub told : IsToldTask (task_by v came call outs)
   pub rejected : IsRejected v came outs
-  pub requests : IsRequestAnswered v came call outs
+  pub requests : IsRequestAnswered s.setting v came call outs
   pub commands : ((s'.exp_cmd_sn ≡ s.exp_cmd_sn) × (takes_number v came ≡ false)) ⊎ ((s'.exp_cmd_sn ≡ wrap (s.exp_cmd_sn + 1)) × (takes_number v came ≡ true))
   pub statuses : ((s'.stat_sn ≡ s.stat_sn) × (status_numbers outs ≡ [])) ⊎ ((s'.stat_sn ≡ wrap (s.stat_sn + 1)) × (status_numbers outs ≡ s.stat_sn ∷ []))
 
@@ -169,7 +173,7 @@ module _ (s : Counters) (b : List ℕ) (p : CommandHeader) (d : List ℕ) (asked
   mid = after_command p s
 
   abbrev asking : Asking
-  asking = record { question = serve unit asked (data_for p (need_of asked) d); answer = answer }
+  asking = served unit asked (data_for p (need_of asked) d) answer
 
   asked_for : IsAskedFor p d (Some asking)
   asked_for = record { asked = asked; unit = unit; answer = answer; means = means; names = names; call_is = refl }
@@ -206,6 +210,7 @@ module _ (s : Counters) (b : List ℕ) (p : CommandHeader) (d : List ℕ) (asked
     reply_facts within answered told =
         let responses_are = outs_responses mid.exp_cmd_sn p the_response sense sent_bytes in
         record {
+          setting_is = refl;
           judged = judged;
           windows = outs_windows mid.exp_cmd_sn p the_response sense sent_bytes (record { expects = refl; reaches = refl });
           called = asked_for;
@@ -226,6 +231,7 @@ module _ (s : Counters) (b : List ℕ) (p : CommandHeader) (d : List ℕ) (asked
 
   gone_facts : answer ≡ Gone → TurnFacts s mid (pdu b (Initiator (ScsiCommand p)) d) Accepted (Some asking) []
   gone_facts gone = record {
+    setting_is = refl;
     judged = judged;
     windows = tt;
     called = asked_for;
@@ -253,7 +259,7 @@ module _ (s s' : Counters) (b : List ℕ) (p : CommandHeader) (d : List ℕ) (ca
     (asked : Result Command CdbFault) (unit : Option ℕ) where
   answered_facts : (answer : TargetAnswer) → IsJudged s.exp_cmd_sn (pdu b (Initiator (ScsiCommand p)) d) Accepted
       → read_length p ≤ MAX_READ_LENGTH → Means p.cdb asked → NamesUnit p.lun unit
-      → call ≡ Some (record { question = serve unit asked (data_for p (need_of asked) d); answer = answer })
+      → call ≡ Some (served unit asked (data_for p (need_of asked) d) answer)
       → TurnOnAnswer (after_command p s) p (need_of asked) answer outs s'
       → TurnFacts s s' (pdu b (Initiator (ScsiCommand p)) d) Accepted call outs
   answered_facts (Replied a) judged within means names e r = moved e r.0 r.1 (reply_facts s b p d asked unit (Replied a) judged means names (told COMPLETED a.status a.sense) within (λ o. o) (record { response = refl; status_is = refl; sense_is = refl }))
@@ -272,7 +278,7 @@ logout_out n p = record {
 -- SCSI Response nor a Data-In
 
 module _ (s : Counters) (came : Incoming) (immediate : Bool) (call : Option Asking)
-    (judged : IsJudged s.exp_cmd_sn came Accepted) (called : IsCalled Accepted came call)
+    (judged : IsJudged s.exp_cmd_sn came Accepted) (called : IsCalled s.setting Accepted came call)
     (no_task : (own : List Out) → task_by Accepted came call own ≡ None)
     (numbered : takes_number Accepted came ≡ not immediate)
     (of_accepted : (outs : List Out) → IsRejected Accepted came outs) where
@@ -285,8 +291,9 @@ module _ (s : Counters) (came : Incoming) (immediate : Bool) (call : Option Aski
       (λ (t : Bool). ((exp_cmd_sn_behind immediate e ≡ e) × (t ≡ false)) ⊎ ((exp_cmd_sn_behind immediate e ≡ wrap (e + 1)) × (t ≡ true)))
       (sym numbered) (commands_of immediate e)
 
-  silent_facts : IsRequestAnswered Accepted came call [] → TurnFacts s behind came Accepted call []
+  silent_facts : IsRequestAnswered s.setting Accepted came call [] → TurnFacts s behind came Accepted call []
   silent_facts answer = record {
+    setting_is = refl;
     judged = judged;
     windows = tt;
     called = called;
@@ -304,9 +311,10 @@ module _ (s : Counters) (came : Incoming) (immediate : Bool) (call : Option Aski
   module _ (o : Out) (window : IsWindow behind.exp_cmd_sn (numbers_of o.header))
       (status : status_number o.header ≡ Some s.stat_sn) (no_response : response_with o.header o.bytes ≡ None)
       (no_data : data_in_with o.header o.bytes ≡ None) where
-    one_facts : IsRequestAnswered Accepted came call (o ∷ [])
+    one_facts : IsRequestAnswered s.setting Accepted came call (o ∷ [])
         → TurnFacts s (after_status behind) came Accepted call (o ∷ [])
     one_facts answer = record {
+      setting_is = refl;
       judged = judged;
       windows = (window, tt);
       called = called;
@@ -321,10 +329,26 @@ module _ (s : Counters) (came : Incoming) (immediate : Bool) (call : Option Aski
       statuses = inr (refl, rw status refl);
     }
 
-    some_or_none : (none : Bool) → IsRequestAnswered Accepted came call (if none then [] else o ∷ [])
+    some_or_none : (none : Bool) → IsRequestAnswered s.setting Accepted came call (if none then [] else o ∷ [])
         → TurnFacts s (after_answer (if none then [] else o ∷ []) behind) came Accepted call (if none then [] else o ∷ [])
     some_or_none true answer = silent_facts answer
     some_or_none false answer = one_facts answer
+
+module _ (s : Counters) (b : List ℕ) (p : ManagementHeader) (d : List ℕ) (call : Option Asking)
+    (judged : IsJudged s.exp_cmd_sn (pdu b (Initiator (TaskManagementRequest p)) d) Accepted) where
+  abbrev told_by : Option ℕ → List Out
+  told_by response = management_answer (next_numbers (after_number p.immediate s)) p response
+
+  management_facts : (response : Option ℕ) → IsManaged s.setting.units p call response
+      → TurnFacts s (after_answer (told_by response) (after_number p.immediate s))
+      (pdu b (Initiator (TaskManagementRequest p)) d) Accepted call (told_by response)
+  management_facts None k =
+      silent_facts s (pdu b (Initiator (TaskManagementRequest p)) d) p.immediate call judged (None, k) (λ own. refl) refl (λ own. tt)
+      (next_numbers (after_number p.immediate s), None, k, refl)
+  management_facts (Some response) k =
+      one_facts s (pdu b (Initiator (TaskManagementRequest p)) d) p.immediate call judged (Some response, k) (λ own. refl) refl (λ own. tt)
+      (record { header = TaskManagementResponse (record { response = response; task_tag = p.task_tag; numbers = next_numbers (after_number p.immediate s) }); bytes = [] })
+      (record { expects = refl; reaches = refl }) refl refl refl (next_numbers (after_number p.immediate s), Some response, k, refl)
 
 accepted_facts : (came : Incoming) (s s' : Counters) (call : Option Asking) (outs : List Out)
     → IsJudged s.exp_cmd_sn came Accepted → TurnOnAccepted came s call outs s' → TurnFacts s s' came Accepted call outs
@@ -336,6 +360,8 @@ accepted_facts (pdu b (Initiator (NopOut p)) d) s s' call outs judged k =
     (some_or_none s (pdu b (Initiator (NopOut p)) d) p.immediate None judged refl (λ own. refl) refl (λ own. tt)
       (record { header = NopIn (record { lun = p.lun; task_tag = p.task_tag; transfer_tag = NO_TRANSFER_TAG; numbers = n }); bytes = take DECLARED_LENGTH d })
       (record { expects = refl; reaches = refl }) refl refl refl (p.task_tag == RESERVED_TAG) (n, refl))
+accepted_facts (pdu b (Initiator (TaskManagementRequest p)) d) s s' call outs judged k =
+    moved refl k.outs_are k.next_is (management_facts s b p d call judged k.response k.managed)
 accepted_facts (pdu b (Initiator (LogoutRequest p)) d) s s' call outs judged k =
     let n = next_numbers (after_number p.immediate s) in
     moved k.no_call k.outs_are k.next_is
@@ -347,6 +373,7 @@ pub made_facts : (s s' : Counters) (came : Incoming) (v : Verdict) (call : Optio
     → IsJudged s.exp_cmd_sn came v → TurnOnVerdict v s came call outs s' → TurnFacts s s' came v call outs
 made_facts s s' came Accepted call outs judged k = accepted_facts came s s' call outs judged k
 made_facts s s' came Ignored call outs judged k = moved k.no_call k.outs_are k.next_is (record {
+  setting_is = refl;
   judged = judged;
   windows = tt;
   called = refl;
@@ -361,6 +388,7 @@ made_facts s s' came Ignored call outs judged k = moved k.no_call k.outs_are k.n
   statuses = inl (refl, refl);
 })
 made_facts s s' came Gap call outs judged k = moved k.no_call k.outs_are k.next_is (record {
+  setting_is = refl;
   judged = judged;
   windows = tt;
   called = refl;
@@ -375,6 +403,7 @@ made_facts s s' came Gap call outs judged k = moved k.no_call k.outs_are k.next_
   statuses = inl (refl, refl);
 })
 made_facts s s' came (Refused reason) call outs judged k = moved k.no_call k.outs_are k.next_is (record {
+  setting_is = refl;
   judged = judged;
   windows = (record { expects = refl; reaches = refl }, tt);
   called = refl;

@@ -11,7 +11,10 @@ use Rattle.session.specs.Turn.{Incoming, Out, Turn, sent}
 use Rattle.session.specs.Window.{wrap, takes_number, exp_cmd_sn_after}
 use Rattle.session.specs.Verdict.{IsJudged}
 use Rattle.session.specs.Legal.{AtEach, status_number, status_numbers, HaveWindow, GoesOn, Lawful}
-use Rattle.session.specs.Counters.{Counters}
+use Rattle.session.specs.Counters.{Counters, begun}
+use Rattle.session.specs.Setting.{Setting}
+use Rattle.session.specs.Task.{IsCalled}
+use Rattle.session.specs.Requests.{IsRequestAnswered}
 use Rattle.session.specs.MachineTurn.{TurnOf, TurnOnVerdict}
 use Rattle.session.proofs.Facts.{TurnFacts, made_facts}
 
@@ -43,7 +46,8 @@ at_each_none P [] u behind e = absurd (cc)
 at_each_none P (x ∷ before) u behind e = absurd (cc)
 
 -- the counters are those of the transcript
-pub record IsTied (first_cmd first_stat : ℕ) (ts : List Turn) (s : Counters) : Type 0 where
+pub record IsTied (m : Setting) (first_cmd first_stat : ℕ) (ts : List Turn) (s : Counters) : Type 0 where
+  pub setting_is : s.setting ≡ m
   pub command : s.exp_cmd_sn ≡ exp_cmd_sn_after first_cmd ts
   pub status : s.stat_sn ≡ wrap (first_stat + length (status_numbers (sent ts)))
 
@@ -110,9 +114,9 @@ module _ (first : ℕ) (ts : List Turn) (t : Turn) (s s' : Counters)
       ]
 
 -- what a transcript and its counters are, between two turns
-pub record Stands (first_cmd first_stat : ℕ) (ts : List Turn) (s : Counters) : Type 0 where
-  pub lawful : Lawful first_cmd first_stat ts
-  pub tied : IsTied first_cmd first_stat ts s
+pub record Stands (m : Setting) (first_cmd first_stat : ℕ) (ts : List Turn) (s : Counters) : Type 0 where
+  pub lawful : Lawful m first_cmd first_stat ts
+  pub tied : IsTied m first_cmd first_stat ts s
 
 facts_of : (s s' : Counters) (came : Incoming) (t : Turn) → TurnOf s came t s'
     → TurnFacts s s' t.came t.verdict t.call t.sent
@@ -120,10 +124,10 @@ facts_of s s' came t m = made_facts s s' t.came t.verdict t.call t.sent
     (subst (λ (c : Incoming). IsJudged s.exp_cmd_sn c t.verdict) (sym m.came_is) m.judged)
     (subst (λ (c : Incoming). TurnOnVerdict t.verdict s c t.call t.sent s') (sym m.came_is) m.made)
 
-pub stands_more : (first_cmd first_stat : ℕ) (ts : List Turn) (t : Turn) (came : Incoming) (s s' : Counters)
-    → Stands first_cmd first_stat ts s → GoesOn ts → TurnOf s came t s' → Stands first_cmd first_stat (ts ++ t ∷ []) s'
-stands_more first_cmd first_stat ts t came s s' k on m =
-    let f = facts_of s s' came t m in
+pub stands_more : (m : Setting) (first_cmd first_stat : ℕ) (ts : List Turn) (t : Turn) (came : Incoming) (s s' : Counters)
+    → Stands m first_cmd first_stat ts s → GoesOn ts → TurnOf s came t s' → Stands m first_cmd first_stat (ts ++ t ∷ []) s'
+stands_more m first_cmd first_stat ts t came s s' k on made =
+    let f = facts_of s s' came t made in
     let command = command_more first_cmd ts t s s' k.tied.command f.commands in
     let old = k.lawful in
     record {
@@ -132,17 +136,17 @@ stands_more first_cmd first_stat ts t came s s' k on m =
         numbered = numbered_more first_stat ts t s s' k.tied.status old.numbered f.statuses;
         windows = at_each_more (λ before u. HaveWindow (exp_cmd_sn_after first_cmd (before ++ u ∷ [])) u.sent) ts t old.windows
             (subst (λ (e : ℕ). HaveWindow e t.sent) command f.windows);
-        called = at_each_more _ ts t old.called f.called;
+        called = at_each_more _ ts t old.called (subst (λ (n : Setting). IsCalled n t.verdict t.came t.call) k.tied.setting_is f.called);
         answered = at_each_more _ ts t old.answered f.answered;
         tiled = at_each_more _ ts t old.tiled f.tiled;
         counted = at_each_more _ ts t old.counted f.counted;
         residual = at_each_more _ ts t old.residual f.residual;
         told = at_each_more _ ts t old.told f.told;
         rejected = at_each_more _ ts t old.rejected f.rejected;
-        requests = at_each_more _ ts t old.requests f.requests;
+        requests = at_each_more _ ts t old.requests (subst (λ (n : Setting). IsRequestAnswered n t.verdict t.came t.call t.sent) k.tied.setting_is f.requests);
         ends = at_each_more (λ before u. GoesOn before) ts t old.ends on;
       };
-      tied = record { command = command; status = status_more first_stat ts t s s' k.tied.status f.statuses };
+      tied = record { setting_is = f.setting_is ∙ k.tied.setting_is; command = command; status = status_more first_stat ts t s s' k.tied.status f.statuses };
     }
 
 no_status : (k n : ℕ) (none : List ℕ) → none ≡ [] → slice_get none k ≡ Some n → ⊥
@@ -152,8 +156,8 @@ no_status k n [] e f = absurd (no_status_nil k f) where
   no_status_nil (suc k) f = cc
 no_status k n (x ∷ xs) e f = absurd (cc)
 
-pub stands_none : (first_cmd first_stat : ℕ) (s : Counters) → first_cmd < 4294967296 → first_stat < 4294967296 → s ≡ record { stat_sn = first_stat; exp_cmd_sn = first_cmd } → Stands first_cmd first_stat [] s
-stands_none first_cmd first_stat s cmd_fits stat_fits e = record {
+pub stands_none : (m : Setting) (first_cmd first_stat : ℕ) (s : Counters) → first_cmd < 4294967296 → first_stat < 4294967296 → s ≡ begun m first_cmd first_stat → Stands m first_cmd first_stat [] s
+stands_none m first_cmd first_stat s cmd_fits stat_fits e = record {
   lawful = record {
     judged = at_each_none _;
     numbered = λ k n f. absurd (no_status k n [] refl f);
@@ -169,6 +173,7 @@ stands_none first_cmd first_stat s cmd_fits stat_fits e = record {
     ends = at_each_none (λ before u. GoesOn before);
   };
   tied = record {
+    setting_is = ap (λ (r : Counters). r.setting) e;
     command = ap (λ (r : Counters). r.exp_cmd_sn) e ∙ (let k : first_cmd ≡ wrap (first_cmd + 0) = omega arith in k);
     status = ap (λ (r : Counters). r.stat_sn) e ∙ (let k : first_stat ≡ wrap (first_stat + 0) = omega arith in k);
   };

@@ -18,15 +18,18 @@ use Rattle.session.specs.declared.end.End.{End}
 use Rattle.session.specs.declared.end.End.TheVariants.{EndOfInput, InputFailed, OutputFailed, Protocol, Reinstated, LoggedOut}
 use Rattle.session.specs.declared.target.TargetAnswer.{TargetAnswer}
 use Rattle.session.specs.declared.target.TargetAnswer.TheVariants.{Replied, Outside, Busy, Gone, Halted}
+use Rattle.session.specs.declared.target.ResetAnswer.{ResetAnswer}
+use Rattle.session.specs.declared.target.ResetAnswer.TheVariants as resets
 use Rattle.session.specs.declared.verdict.Verdict.{Verdict}
 use Rattle.session.specs.declared.verdict.Verdict.TheVariants.{Accepted, Ignored, Gap, Refused}
-use Rattle.session.specs.Question.{Question}
+use Rattle.session.specs.Asking.{Asking, served, reset}
+use Rattle.session.specs.Setting.{Setting}
 use Rattle.session.specs.Source.{AppendsFront}
 use Rattle.session.specs.Inbox.{Filled}
-use Rattle.session.specs.Turn.{Incoming, pdu, faulty, Out, Asking, Turn, calls, sent, bytes_of, Spells, Leads}
+use Rattle.session.specs.Turn.{Incoming, pdu, faulty, Out, Turn, calls, sent, bytes_of, Spells, Leads}
 use Rattle.iscsi_pdu.specs.declared.TheConstants.{BHS_LENGTH}
-use Rattle.session.specs.Legal.{end_by, end_of_call, end_of_accepted, end_after, GoesOn, NoneWhole, StandsBehind, EndsWith, most_bytes, EndsBy}
-use Rattle.session.specs.Counters.{Counters}
+use Rattle.session.specs.Legal.{end_by, end_by_reset, end_of_call, end_of_accepted, end_after, GoesOn, NoneWhole, StandsBehind, EndsWith, most_bytes, EndsBy}
+use Rattle.session.specs.Counters.{Counters, begun}
 use Rattle.session.specs.Stream.{IsSentOut, IsLed, MakesTurn, StreamTurn}
 use Rattle.session.specs.Transcript.{IsCut, Written, IsTranscribed, IsFailureOf}
 use Rattle.session.proofs.Turns.{written}
@@ -61,10 +64,10 @@ bytes_more ts t =
 
 -- ---- what the target was asked
 
-module _ {T : Type 0} (leads : T → Question → TargetAnswer → T → Type 0) where
-  leads_more : (cs : List Asking) (x m y : T) (c : Asking) → Leads leads cs x m → leads m c.question c.answer y
+module _ {T : Type 0} (leads : T → Asking → T → Type 0) where
+  leads_more : (cs : List Asking) (x m y : T) (c : Asking) → Leads leads cs x m → leads m c y
       → Leads leads (cs ++ c ∷ []) x y
-  leads_more [] x m y c k l = (y, subst (λ (z : T). leads z c.question c.answer y) k l, refl)
+  leads_more [] x m y c k l = (y, subst (λ (z : T). leads z c y) k l, refl)
   leads_more (b ∷ cs) x m y c k l = (k.0, k.1, leads_more cs k.0 m y c k.2 l)
 
   led_by : (ts : List Turn) (x m y : T) (came : Incoming) (v : Verdict) (call : Option Asking) (outs : List Out)
@@ -83,12 +86,12 @@ module _ {T : Type 0} (leads : T → Question → TargetAnswer → T → Type 0)
 
 -- ---- between two turns
 
-pub record Running {T : Type 0} (leads : T → Question → TargetAnswer → T → Type 0) (first_cmd first_stat : ℕ)
+pub record Running {T : Type 0} (leads : T → Asking → T → Type 0) (setting : Setting) (first_cmd first_stat : ℕ)
     (left left' held held' : Option (List ℕ)) (target target' : T) (s : Counters) (waiting : List ℕ)
     (reads : ℕ) : Type 0 where
   pub transcript : List Turn
   pub spelled : List ℕ
-  pub stands : Stands first_cmd first_stat transcript s
+  pub stands : Stands setting first_cmd first_stat transcript s
   pub goes_on : GoesOn transcript
   pub spells : Spells (map (λ t. t.came) transcript) spelled
   pub read : Consumes left left' (spelled ++ waiting)
@@ -111,9 +114,15 @@ ends_by_answer end Busy e = absurd (cc)
 ends_by_answer end Gone e = inr (inl cc)
 ends_by_answer end Halted e = absurd (cc)
 
+ends_by_reset : (end : End) (a : ResetAnswer) → Some end ≡ end_by_reset a → IsCalledFor end
+ends_by_reset end resets.Done e = absurd (cc)
+ends_by_reset end resets.Gone e = inr (inl cc)
+ends_by_reset end resets.Failed e = absurd (cc)
+
 ends_by_call : (end : End) (call : Option Asking) → Some end ≡ end_of_call call → IsCalledFor end
 ends_by_call end None e = absurd (cc)
-ends_by_call end (Some c) e = ends_by_answer end c.answer e
+ends_by_call end (Some (served unit asked bytes answer)) e = ends_by_answer end answer e
+ends_by_call end (Some (reset unit answer)) e = ends_by_reset end answer e
 
 ends_by_logout : (end : End) (closes : Bool) → Some end ≡ (if closes then Some LoggedOut else None) → IsCalledFor end
 ends_by_logout end true e = inr (inr cc)
@@ -137,14 +146,14 @@ pub went_on : (held held' : Option (List ℕ)) (before now : ℕ) (bytes : List 
 went_on held held' before now bytes wanted (inl w) = (sym w.0, w.1, w.2)
 went_on held held' before now bytes wanted (inr w) = absurd (let e : None ≡ Some OutputFailed = w.0 in cc)
 
-module _ {T : Type 0} (leads : T → Question → TargetAnswer → T → Type 0) (first_cmd first_stat : ℕ)
+module _ {T : Type 0} (leads : T → Asking → T → Type 0) (setting : Setting) (first_cmd first_stat : ℕ)
     (left left' held held' : Option (List ℕ)) (x x' : T) (s : Counters) (waiting : List ℕ) (reads : ℕ)
-    (r : Running leads first_cmd first_stat left left' held held' x x' s waiting reads) where
+    (r : Running leads setting first_cmd first_stat left left' held held' x x' s waiting reads) where
   -- what the whole is with one turn more, where these bytes of what waits spell its PDU
   module _ (s' : Counters) (x'' : T) (held'' : Option (List ℕ)) (before now : ℕ) (came : Incoming)
       (result : Option End) (turned : StreamTurn leads s s' x' x'' held' held'' before now came result) where
-    stands_now : Stands first_cmd first_stat (r.transcript ++ turned.turn ∷ []) s'
-    stands_now = stands_more first_cmd first_stat r.transcript turned.turn came s s' r.stands r.goes_on turned.made
+    stands_now : Stands setting first_cmd first_stat (r.transcript ++ turned.turn ∷ []) s'
+    stands_now = stands_more setting first_cmd first_stat r.transcript turned.turn came s s' r.stands r.goes_on turned.made
 
     led_now : Leads leads (calls (r.transcript ++ turned.turn ∷ [])) x x''
     led_now = led_more leads r.transcript x x' x'' turned.turn r.led turned.led
@@ -179,7 +188,7 @@ module _ {T : Type 0} (leads : T → Question → TargetAnswer → T → Type 0)
       ended : (end : End)
           → EndsBy (r.transcript ++ turned.turn ∷ []) rest (length spelled + length rest) (IsAtEnd left') end
           → Written end held held'' (r.transcript ++ turned.turn ∷ [])
-          → IsTranscribed leads first_cmd first_stat left left' held held'' x x'' end
+          → IsTranscribed leads setting first_cmd first_stat left left' held held'' x x'' end
       ended end ends written = record {
         transcript = r.transcript ++ turned.turn ∷ [];
         spelled = spelled;
@@ -194,14 +203,14 @@ module _ {T : Type 0} (leads : T → Question → TargetAnswer → T → Type 0)
 
       ends_now : (end : End) → result ≡ Some end
           → IsSentOut held' held'' before now (bytes_of turned.turn.sent) (end_after turned.turn.verdict turned.turn.came turned.turn.call) result
-          → IsTranscribed leads first_cmd first_stat left left' held held'' x x'' end × IsFailureOf OutputFailed before now end
+          → IsTranscribed leads setting first_cmd first_stat left left' held held'' x x'' end × IsFailureOf OutputFailed before now end
       ends_now end e (inl w) =
           let wanted : Some end ≡ end_after turned.turn.verdict turned.turn.came turned.turn.call = sym e ∙ w.0 in
           let called_for : (closing : End) → end ≡ closing → EndsBy (r.transcript ++ turned.turn ∷ []) rest (length spelled + length rest) (IsAtEnd left') closing
               → Written closing held held'' (r.transcript ++ turned.turn ∷ []) → (closing ≡ OutputFailed → ⊥)
-              → IsTranscribed leads first_cmd first_stat left left' held held'' x x'' end × IsFailureOf OutputFailed before now end
+              → IsTranscribed leads setting first_cmd first_stat left left' held held'' x x'' end × IsFailureOf OutputFailed before now end
           = λ closing same ends out other. (
-            subst (IsTranscribed leads first_cmd first_stat left left' held held'' x x'') (sym same) (ended closing ends out),
+            subst (IsTranscribed leads setting first_cmd first_stat left left' held held'' x x'') (sym same) (ended closing ends out),
             record { rises = λ f. absurd (other (sym same ∙ f)); stays = λ _. w.2 },
           ) in
           elim (ends_so end turned.turn.verdict turned.turn.came turned.turn.call wanted) [
@@ -213,7 +222,7 @@ module _ {T : Type 0} (leads : T → Question → TargetAnswer → T → Type 0)
           ]
       ends_now end e (inr w) =
           let failed : OutputFailed ≡ end = let g : Some OutputFailed ≡ Some end = sym w.0 ∙ e in cc in (
-            subst (IsTranscribed leads first_cmd first_stat left left' held held'' x x'') failed (ended OutputFailed (end_after turned.turn.verdict turned.turn.came turned.turn.call, last_turn rest (end_after turned.turn.verdict turned.turn.came turned.turn.call) stands refl) (some_out w.1)),
+            subst (IsTranscribed leads setting first_cmd first_stat left left' held held'' x x'') failed (ended OutputFailed (end_after turned.turn.verdict turned.turn.came turned.turn.call, last_turn rest (end_after turned.turn.verdict turned.turn.came turned.turn.call) stands refl) (some_out w.1)),
             record { rises = λ f. w.2; stays = λ other. absurd (other (sym failed)) },
           )
 
@@ -237,7 +246,7 @@ module _ {T : Type 0} (leads : T → Question → TargetAnswer → T → Type 0)
       (d : List ℕ) (n : ℕ) (bhs_is : bhs ≡ take BHS_LENGTH waiting) (within : n ≤ length waiting)
       (spelled : IsPdu (take n waiting) h d) where
     goes_on_behind : StreamTurn leads s s' x' x'' held' held'' before now (pdu bhs h d) None
-        → Running leads first_cmd first_stat left left' held held'' x x'' s' (drop n waiting) reads × (now ≡ before)
+        → Running leads setting first_cmd first_stat left left' held held'' x x'' s' (drop n waiting) reads × (now ≡ before)
     goes_on_behind t =
         let w = went_on held' held'' before now (bytes_of t.turn.sent) (end_after t.turn.verdict t.turn.came t.turn.call) t.out in (
           record {
@@ -255,31 +264,31 @@ module _ {T : Type 0} (leads : T → Question → TargetAnswer → T → Type 0)
         )
 
     ends_behind : (end : End) → StreamTurn leads s s' x' x'' held' held'' before now (pdu bhs h d) (Some end)
-        → IsTranscribed leads first_cmd first_stat left left' held held'' x x'' end × IsFailureOf OutputFailed before now end
+        → IsTranscribed leads setting first_cmd first_stat left left' held held'' x x'' end × IsFailureOf OutputFailed before now end
     ends_behind end t =
         ends_now s' x'' held'' before now (pdu bhs h d) (Some end) t (r.spelled ++ take n waiting) (drop n waiting) (spells_now n bhs h d bhs_is within spelled) (read_now n) tt end refl t.out
 
     -- the turn that a PDU makes, and its write
     module _ (bytes : List ℕ) (wanted : Option End) (t : MakesTurn leads s s' x' x'' (pdu bhs h d) bytes wanted) where
       pub pdu_goes_on : IsSentOut held' held'' before now bytes wanted None
-          → Running leads first_cmd first_stat left left' held held'' x x'' s' (drop n waiting) reads × (now ≡ before)
+          → Running leads setting first_cmd first_stat left left' held held'' x x'' s' (drop n waiting) reads × (now ≡ before)
       pdu_goes_on out = goes_on_behind (written leads s s' x' x'' held' held'' before now (pdu bhs h d) bytes wanted None t out)
 
       pub pdu_ends : (end : End) → IsSentOut held' held'' before now bytes wanted (Some end)
-          → IsTranscribed leads first_cmd first_stat left left' held held'' x x'' end × IsFailureOf OutputFailed before now end
+          → IsTranscribed leads setting first_cmd first_stat left left' held held'' x x'' end × IsFailureOf OutputFailed before now end
       pdu_ends end out = ends_behind end (written leads s s' x' x'' held' held'' before now (pdu bhs h d) bytes wanted (Some end) t out)
 
   pub fault_ends : (s' : Counters) (held'' : Option (List ℕ)) (before now : ℕ) (bhs : List ℕ) (f : PduFault) (end : End)
       → bhs ≡ take BHS_LENGTH waiting → length bhs ≡ BHS_LENGTH → FaultStands waiting f
       → StreamTurn leads s s' x' x' held' held'' before now (faulty f bhs) (Some end)
-      → IsTranscribed leads first_cmd first_stat left left' held held'' x x' end × IsFailureOf OutputFailed before now end
+      → IsTranscribed leads setting first_cmd first_stat left left' held held'' x x' end × IsFailureOf OutputFailed before now end
   fault_ends s' held'' before now bhs f end bhs_is long stands t =
       ends_now s' x' held'' before now (faulty f bhs) (Some end) t r.spelled waiting (spells_fault (map (λ (t : Turn). t.came) r.transcript) r.spelled bhs f r.spells) r.read
       (stands, omega (arith, ap length bhs_is, long, length-take BHS_LENGTH waiting), bhs_is) end refl t.out
 
   -- more came, or the input is at its end
   pub more_came : (left'' : Option (List ℕ)) (waiting' : List ℕ) (n : ℕ) → Filled left' left'' waiting waiting' n
-      → 0 < n → Running leads first_cmd first_stat left left'' held held' x x' s waiting' (reads + 1)
+      → 0 < n → Running leads setting first_cmd first_stat left left'' held held' x x' s waiting' (reads + 1)
   more_came left'' waiting' n f some = record {
     transcript = r.transcript;
     spelled = r.spelled;
@@ -295,7 +304,7 @@ module _ {T : Type 0} (leads : T → Question → TargetAnswer → T → Type 0)
   stops_here : (end : End) (left'' : Option (List ℕ)) (rest : List ℕ) → Consumes left left'' (r.spelled ++ rest)
       → EndsBy r.transcript rest (length r.spelled + length rest) (IsAtEnd left'') end
       → Written end held held' r.transcript
-      → IsTranscribed leads first_cmd first_stat left left'' held held' x x' end
+      → IsTranscribed leads setting first_cmd first_stat left left'' held held' x x' end
   stops_here end left'' rest read ends written = record {
     transcript = r.transcript;
     spelled = r.spelled;
@@ -310,27 +319,27 @@ module _ {T : Type 0} (leads : T → Question → TargetAnswer → T → Type 0)
 
   pub input_ended : (left'' : Option (List ℕ)) (waiting' : List ℕ) (n : ℕ) → n ≡ 0
       → Filled left' left'' waiting waiting' n → NoneWhole waiting
-      → IsTranscribed leads first_cmd first_stat left left'' held held' x x' EndOfInput
+      → IsTranscribed leads setting first_cmd first_stat left left'' held held' x x' EndOfInput
   input_ended left'' waiting' n nothing f none =
       let no_more : f.more ≡ [] = nil_of f.more (f.count ∙ nothing) in
       stops_here EndOfInput left'' waiting (subst (Consumes left left'') (ap (λ (z : List ℕ). r.spelled ++ z) (ap (λ (m : List ℕ). waiting ++ m) no_more ∙ append-nil waiting)) (subst (Consumes left left'') (append_assoc r.spelled waiting f.more) (Consumes-trans _ _ _ _ _ r.read f.read)))
       (r.goes_on, inl (f.end nothing, none)) r.written
 
-  pub taken_all : most_bytes ≤ reads → IsTranscribed leads first_cmd first_stat left left' held held' x x' EndOfInput
+  pub taken_all : most_bytes ≤ reads → IsTranscribed leads setting first_cmd first_stat left left' held held' x x' EndOfInput
   taken_all many = stops_here EndOfInput left' waiting r.read (r.goes_on, inr (omega (arith, many, r.many))) r.written
 
   pub input_failed : (left'' : Option (List ℕ)) → Keeps left' left'' → NoneWhole waiting
-      → IsTranscribed leads first_cmd first_stat left left'' held held' x x' InputFailed
+      → IsTranscribed leads setting first_cmd first_stat left left'' held held' x x' InputFailed
   input_failed left'' kept none = stops_here InputFailed left'' waiting (Consumes-kept _ _ _ _ r.read kept) (r.goes_on, none) r.written
 
-pub starts : {T : Type 0} (leads : T → Question → TargetAnswer → T → Type 0) (first_cmd first_stat : ℕ) (left held : Option (List ℕ)) (x : T) (s : Counters) (waiting : List ℕ)
+pub starts : {T : Type 0} (leads : T → Asking → T → Type 0) (setting : Setting) (first_cmd first_stat : ℕ) (left held : Option (List ℕ)) (x : T) (s : Counters) (waiting : List ℕ)
     → first_cmd < 4294967296 → first_stat < 4294967296
-    → s ≡ record { stat_sn = first_stat; exp_cmd_sn = first_cmd } → waiting ≡ []
-    → Running leads first_cmd first_stat left left held held x x s waiting 0
-starts leads first_cmd first_stat left held x s waiting cmd_fits stat_fits s_is empty = record {
+    → s ≡ begun setting first_cmd first_stat → waiting ≡ []
+    → Running leads setting first_cmd first_stat left left held held x x s waiting 0
+starts leads setting first_cmd first_stat left held x s waiting cmd_fits stat_fits s_is empty = record {
   transcript = [];
   spelled = [];
-  stands = stands_none first_cmd first_stat s cmd_fits stat_fits s_is;
+  stands = stands_none setting first_cmd first_stat s cmd_fits stat_fits s_is;
   goes_on = at_each_none (λ _ u. end_after u.verdict u.came u.call ≡ None);
   spells = refl;
   read = subst (Consumes left left) (sym empty) (Consumes-nil left);

@@ -8,17 +8,21 @@ use Rattle.iscsi_pdu.specs.declared.header.Header.{Header}
 use Rattle.iscsi_pdu.specs.declared.header.Header.TheVariants.{Initiator}
 use Rattle.iscsi_pdu.specs.declared.header.InitiatorHeader.TheVariants.{ScsiCommand, LogoutRequest}
 use Rattle.iscsi_pdu.specs.declared.header.TargetHeader.{TargetHeader}
-use Rattle.iscsi_pdu.specs.declared.header.TargetHeader.TheVariants.{NopIn, ScsiResponse, DataIn, LogoutResponse, Reject}
+use Rattle.iscsi_pdu.specs.declared.header.TargetHeader.TheVariants.{NopIn, ScsiResponse, TaskManagementResponse, DataIn, LogoutResponse, Reject}
 use Rattle.iscsi_pdu.specs.declared.header.Numbers.{Numbers}
 use Rattle.iscsi_pdu.specs.declared.fault.PduFault.{PduFault}
 use Rattle.session.specs.declared.end.End.{End}
 use Rattle.session.specs.declared.end.End.TheVariants.{EndOfInput, InputFailed, OutputFailed, Protocol, Reinstated, LoggedOut}
 use Rattle.session.specs.declared.target.TargetAnswer.{TargetAnswer}
 use Rattle.session.specs.declared.target.TargetAnswer.TheVariants.{Replied, Outside, Busy, Gone, Halted}
+use Rattle.session.specs.declared.target.ResetAnswer.{ResetAnswer}
+use Rattle.session.specs.declared.target.ResetAnswer.TheVariants as resets
 use Rattle.session.specs.declared.verdict.Verdict.{Verdict}
 use Rattle.session.specs.declared.verdict.Verdict.TheVariants.{Accepted, Ignored, Gap, Refused}
 use Rattle.iscsi_pdu.specs.declared.TheConstants.{BHS_LENGTH}
-use Rattle.session.specs.Turn.{Incoming, pdu, faulty, Out, Asking, Turn, sent}
+use Rattle.session.specs.Asking.{Asking, served, reset}
+use Rattle.session.specs.Setting.{Setting}
+use Rattle.session.specs.Turn.{Incoming, pdu, faulty, Out, Turn, sent}
 use Rattle.session.specs.Window.{wrap, numbers_of, last_in_window, exp_cmd_sn_after}
 use Rattle.session.specs.Verdict.{IsJudged}
 use Rattle.session.specs.Transfer.{expected_transfer, sent_data}
@@ -36,6 +40,7 @@ AtEach P ts = (before : List Turn) (t : Turn) (behind : List Turn) → ts ≡ be
 abbrev pub status_number : TargetHeader → Option ℕ
 status_number (NopIn p) = Some p.numbers.stat_sn
 status_number (ScsiResponse p) = Some p.numbers.stat_sn
+status_number (TaskManagementResponse p) = Some p.numbers.stat_sn
 status_number (LogoutResponse p) = Some p.numbers.stat_sn
 status_number (Reject p) = Some p.numbers.stat_sn
 status_number h = None
@@ -104,9 +109,15 @@ end_by Busy = None
 end_by Gone = Some Reinstated
 end_by Halted = None
 
+abbrev pub end_by_reset : ResetAnswer → Option End
+end_by_reset resets.Done = None
+end_by_reset resets.Gone = Some Reinstated
+end_by_reset resets.Failed = None
+
 abbrev pub end_of_call : Option Asking → Option End
 end_of_call None = None
-end_of_call (Some call) = end_by call.answer
+end_of_call (Some (served unit asked bytes answer)) = end_by answer
+end_of_call (Some (reset unit answer)) = end_by_reset answer
 
 abbrev pub end_of_accepted : Incoming → Option Asking → Option End
 end_of_accepted (pdu b (Initiator (LogoutRequest p)) d) call = if closes p then Some LoggedOut else None
@@ -122,16 +133,16 @@ end_after (Refused reason) came call = Some Protocol
 abbrev pub GoesOn : List Turn → Type 0
 GoesOn ts = AtEach (λ before t. end_after t.verdict t.came t.call ≡ None) ts
 
--- The facts of a transcript that begins with this CmdSN and this StatSN.
-pub record Lawful (first_cmd first_stat : ℕ) (ts : List Turn) : Type 0 where
+-- The facts of a transcript of a session with this setting that begins with this CmdSN and this StatSN.
+pub record Lawful (m : Setting) (first_cmd first_stat : ℕ) (ts : List Turn) : Type 0 where
   -- what becomes of each PDU is what the window and the rules say
   pub judged : AtEach (λ before t. IsJudged (exp_cmd_sn_after first_cmd before) t.came t.verdict) ts
   -- the k-th PDU that uses up a StatSN has the first one + k
   pub numbered : (k n : ℕ) → slice_get (status_numbers (sent ts)) k ≡ Some n → n ≡ wrap (first_stat + k)
   -- each PDU that goes out has ExpCmdSN and MaxCmdSN as they are at the end of its turn
   pub windows : AtEach (λ before t. HaveWindow (exp_cmd_sn_after first_cmd (before ++ t ∷ [])) t.sent) ts
-  -- each accepted command has its one Call, and nothing else has one
-  pub called : AtEach (λ before t. IsCalled t.verdict t.came t.call) ts
+  -- each accepted command has its one Call, each reset of a unit that is there its one Reset, and nothing else has any
+  pub called : AtEach (λ before t. IsCalled m t.verdict t.came t.call) ts
   -- each has its one SCSI Response, behind its data, unless its session is gone; nothing else has one
   pub answered : AtEach (λ before t. IsAnsweredTask (task_of t) t.sent) ts
   -- the Data-In of a read carry just the bytes of its Call; nothing else has any
@@ -145,7 +156,7 @@ pub record Lawful (first_cmd first_stat : ℕ) (ts : List Turn) : Type 0 where
   -- what is rejected has a Reject, and nothing else has one; no turn has a PDU of another kind
   pub rejected : AtEach (λ before t. IsRejected t.verdict t.came t.sent) ts
   -- each other request that is accepted has its one answer, and nothing else
-  pub requests : AtEach (λ before t. IsRequestAnswered t.verdict t.came t.call t.sent) ts
+  pub requests : AtEach (λ before t. IsRequestAnswered m t.verdict t.came t.call t.sent) ts
   -- nothing comes behind a turn that calls for an end
   pub ends : AtEach (λ before t. GoesOn before) ts
 

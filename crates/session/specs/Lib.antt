@@ -1,4 +1,5 @@
 pub mod AnswerPdus
+pub mod Asking
 pub mod Counters
 pub mod DataIn
 pub mod Following
@@ -9,12 +10,13 @@ pub mod Logout
 pub mod Machine
 pub mod MachineTurn
 pub mod Nop
-pub mod Question
 pub mod Requests
 pub mod Response
+pub mod Setting
 pub mod Source
 pub mod Stream
 pub mod Task
+pub mod TaskManagement
 pub mod Transcript
 pub mod Transfer
 pub mod Turn

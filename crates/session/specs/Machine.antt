@@ -4,19 +4,26 @@ use Rattle.scsi_types.specs.Cdb.{Means, need_of}
 use Rattle.scsi_types.specs.Lun.{NamesUnit}
 use Rattle.iscsi_pdu.specs.declared.header.ScsiCommand.{ScsiCommand as CommandHeader}
 use Rattle.iscsi_pdu.specs.declared.header.NopOut.{NopOut as NopOutHeader}
+use Rattle.iscsi_pdu.specs.declared.header.TaskManagementRequest.{TaskManagementRequest as ManagementHeader}
 use Rattle.iscsi_pdu.specs.declared.header.LogoutRequest.{LogoutRequest as LogoutHeader}
 use Rattle.iscsi_pdu.specs.declared.header.Header.{Header}
 use Rattle.iscsi_pdu.specs.declared.header.Header.TheVariants.{Initiator}
-use Rattle.iscsi_pdu.specs.declared.header.InitiatorHeader.TheVariants.{NopOut, ScsiCommand, LogoutRequest}
+use Rattle.iscsi_pdu.specs.declared.header.InitiatorHeader.TheVariants.{NopOut, ScsiCommand, TaskManagementRequest, LogoutRequest}
 use Rattle.iscsi_pdu.specs.declared.header.TargetHeader.TheVariants.{ScsiResponse, Reject}
 use Rattle.session.specs.declared.actions.Actions.{Actions}
 use Rattle.session.specs.declared.actions.Call.{Call}
+use Rattle.session.specs.declared.actions.Call.TheVariants as kinds
+use Rattle.session.specs.declared.actions.ServeCall.{ServeCall}
+use Rattle.session.specs.declared.actions.ResetCall.{ResetCall}
 use Rattle.session.specs.declared.actions.ResponsePdu.{ResponsePdu}
 use Rattle.session.specs.declared.actions.Pdus.{Pdus}
 use Rattle.session.specs.declared.actions.Pdus.TheVariants as pdus
 use Rattle.session.specs.declared.end.End.{End}
 use Rattle.session.specs.declared.end.End.TheVariants.{Protocol, Reinstated, LoggedOut}
 use Rattle.session.specs.declared.target.TargetAnswer.{TargetAnswer}
+use Rattle.session.specs.declared.target.ResetAnswer.{ResetAnswer}
+use Rattle.session.specs.declared.task_management.Management.{Management}
+use Rattle.session.specs.declared.task_management.Management.TheVariants.{Respond, Reset}
 use Rattle.session.specs.declared.verdict.Verdict.{Verdict}
 use Rattle.session.specs.declared.verdict.Verdict.TheVariants.{Accepted, Ignored, Gap, Refused}
 use Rattle.session.specs.declared.verdict.TheConstants.{MAX_READ_LENGTH}
@@ -29,6 +36,8 @@ use Rattle.session.specs.Response.{sense_part}
 use Rattle.session.specs.Counters.{Counters, after_status, after_number, after_command, after_answer, next_numbers}
 use Rattle.session.specs.AnswerPdus.{read_length, data_in_of, reply_with, completion_of}
 use Rattle.session.specs.Nop.{nop_answer}
+use Rattle.session.specs.Legal.{end_by_reset}
+use Rattle.session.specs.TaskManagement.{IsManagement, reset_response, management_answer}
 use Rattle.session.specs.Logout.{closes, logout_answer}
 
 -- the one PDU that answers a request, if any
@@ -49,13 +58,17 @@ pub record IsSilent (a : Actions) : Type 0 where
   pub no_call : a.call ≡ None
 
 -- the call of an accepted command
-pub record IsCallOf (p : CommandHeader) (d : List ℕ) (c : Call) : Type 0 where
+pub record IsServeOf (p : CommandHeader) (d : List ℕ) (c : ServeCall) : Type 0 where
   pub command : c.task.command ≡ p
   pub means : Means p.cdb c.asked
   pub need : c.task.need ≡ need_of c.asked
   pub unit : NamesUnit p.lun c.unit
   pub bytes : c.bytes.now ≡ data_for p (need_of c.asked) d
   pub within : read_length p ≤ MAX_READ_LENGTH
+
+abbrev pub IsCallOf : CommandHeader → List ℕ → Call → Type 0
+IsCallOf p d (kinds.Serve c) = IsServeOf p d c
+IsCallOf p d (kinds.Reset c) = ⊥
 
 -- an accepted command is to be called, and takes its number
 pub record OnAccepted (s : Counters) (p : CommandHeader) (d : List ℕ) (a : Actions) (s' : Counters) : Type 0 where
@@ -88,10 +101,32 @@ OnLogout s p a s' =
     let mid = after_number p.immediate s in
     Answers mid (logout_answer (next_numbers mid) p) (if closes p then Some LoggedOut else None) a s'
 
+-- a unit is to be reset
+pub record OnReset (s : Counters) (p : ManagementHeader) (unit : ℕ) (a : Actions) (s' : Counters) : Type 0 where
+  pub pdus_are : a.pdus ≡ pdus.Nothing
+  pub call : a.call ≡ Some (kinds.Reset (record { request = p; unit = unit }))
+  pub no_end : a.end ≡ None
+  pub next : s' ≡ s
+
+abbrev pub OnManagedBy : Management → Counters → ManagementHeader → Actions → Counters → Type 0
+OnManagedBy (Respond response) s p a s' = Answers s (management_answer (next_numbers s) p (Some response)) None a s'
+OnManagedBy (Reset unit) s p a s' = OnReset s p unit a s'
+
+pub record OnManagement (s : Counters) (p : ManagementHeader) (a : Actions) (s' : Counters) : Type 0 where
+  pub management : Management
+  pub comes_to : IsManagement s.setting.units p management
+  pub managed : OnManagedBy management (after_number p.immediate s) p a s'
+
+-- what a session makes of the answer to a reset
+abbrev pub OnResetAnswer : Counters → ManagementHeader → ResetAnswer → Actions → Counters → Type 0
+OnResetAnswer s p answer a s' =
+    Answers s (management_answer (next_numbers s) p (reset_response answer)) (end_by_reset answer) a s'
+
 -- an accepted PDU, by its kind
 abbrev pub OnTaken : Counters → Header → List ℕ → Actions → Counters → Type 0
 OnTaken s (Initiator (NopOut p)) d a s' = OnNopOut s p d a s'
 OnTaken s (Initiator (ScsiCommand p)) d a s' = OnAccepted s p d a s'
+OnTaken s (Initiator (TaskManagementRequest p)) d a s' = OnManagement s p a s'
 OnTaken s (Initiator (LogoutRequest p)) d a s' = OnLogout s p a s'
 OnTaken s h d a s' = ⊥
 

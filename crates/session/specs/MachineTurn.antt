@@ -2,14 +2,16 @@
 use Rattle.std.specs.Prelude.{◌≡◌, ℕ, ◌≤◌, List, [], ◌∷◌, Option, None, MatchOption}
 use Rattle.scsi_types.specs.Cdb.{need_of}
 use Rattle.iscsi_pdu.specs.declared.header.ScsiCommand.{ScsiCommand as CommandHeader}
+use Rattle.iscsi_pdu.specs.declared.header.TaskManagementRequest.{TaskManagementRequest as ManagementHeader}
 use Rattle.iscsi_pdu.specs.declared.header.Header.TheVariants.{Initiator}
-use Rattle.iscsi_pdu.specs.declared.header.InitiatorHeader.TheVariants.{NopOut, ScsiCommand, LogoutRequest}
+use Rattle.iscsi_pdu.specs.declared.header.InitiatorHeader.TheVariants.{NopOut, ScsiCommand, TaskManagementRequest, LogoutRequest}
 use Rattle.iscsi_pdu.specs.declared.header.TargetHeader.TheVariants.{Reject}
 use Rattle.session.specs.declared.target.TargetAnswer.{TargetAnswer}
 use Rattle.session.specs.declared.verdict.Verdict.{Verdict}
 use Rattle.session.specs.declared.verdict.Verdict.TheVariants.{Accepted, Ignored, Gap, Refused}
 use Rattle.session.specs.declared.verdict.TheConstants.{MAX_READ_LENGTH}
-use Rattle.session.specs.Turn.{Incoming, pdu, Out, Asking, Turn}
+use Rattle.session.specs.Asking.{Asking}
+use Rattle.session.specs.Turn.{Incoming, pdu, Out, Turn}
 use Rattle.session.specs.Window.{numbers_at}
 use Rattle.session.specs.Verdict.{IsJudged}
 use Rattle.session.specs.Task.{IsAskedFor, reply_data}
@@ -17,6 +19,7 @@ use Rattle.session.specs.Legal.{bhs_of}
 use Rattle.session.specs.Counters.{Counters, after_status, after_number, after_command, after_answer, next_numbers}
 use Rattle.session.specs.AnswerPdus.{read_length, reply_with, completion_of}
 use Rattle.session.specs.Nop.{nop_answer}
+use Rattle.session.specs.TaskManagement.{IsManaged, management_answer}
 use Rattle.session.specs.Logout.{logout_answer}
 
 -- the PDUs and the counters behind an answer
@@ -49,12 +52,22 @@ pub record TurnUncalled (call : Option Asking) (outs wanted : List Out) (s' next
 abbrev pub TurnAnswered : Counters → List Out → Option Asking → List Out → Counters → Type 0
 TurnAnswered s wanted call outs s' = TurnUncalled call outs wanted s' (after_answer wanted s)
 
+-- a request for task management is answered so, with the reset that it comes to
+pub record TurnManaged (s : Counters) (p : ManagementHeader) (call : Option Asking) (outs : List Out)
+    (s' : Counters) : Type 0 where
+  pub response : Option ℕ
+  pub managed : IsManaged s.setting.units p call response
+  pub outs_are : outs ≡ management_answer (next_numbers s) p response
+  pub next_is : s' ≡ after_answer (management_answer (next_numbers s) p response) s
+
 -- what an accepted PDU makes of a turn, by its kind
 abbrev pub TurnOnAccepted : Incoming → Counters → Option Asking → List Out → Counters → Type 0
 TurnOnAccepted (pdu b (Initiator (NopOut p)) d) s call outs s' =
     let mid = after_number p.immediate s in
     TurnAnswered mid (nop_answer (next_numbers mid) p d) call outs s'
 TurnOnAccepted (pdu b (Initiator (ScsiCommand p)) d) s call outs s' = TurnOnCall s p d call outs s'
+TurnOnAccepted (pdu b (Initiator (TaskManagementRequest p)) d) s call outs s' =
+    TurnManaged (after_number p.immediate s) p call outs s'
 TurnOnAccepted (pdu b (Initiator (LogoutRequest p)) d) s call outs s' =
     let mid = after_number p.immediate s in
     TurnAnswered mid (logout_answer (next_numbers mid) p) call outs s'

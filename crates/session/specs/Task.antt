@@ -6,13 +6,15 @@ use Rattle.scsi_types.specs.declared.command.Command.{Command}
 use Rattle.scsi_types.specs.declared.command.CdbFault.{CdbFault}
 use Rattle.iscsi_pdu.specs.declared.header.ScsiCommand.{ScsiCommand as CommandHeader}
 use Rattle.iscsi_pdu.specs.declared.header.Header.TheVariants.{Initiator}
-use Rattle.iscsi_pdu.specs.declared.header.InitiatorHeader.TheVariants.{NopOut, ScsiCommand, LogoutRequest}
-use Rattle.session.specs.Question.{Question, serve}
+use Rattle.iscsi_pdu.specs.declared.header.InitiatorHeader.TheVariants.{NopOut, ScsiCommand, TaskManagementRequest, LogoutRequest}
+use Rattle.session.specs.Asking.{Asking, served, reset}
+use Rattle.session.specs.Setting.{Setting}
+use Rattle.session.specs.TaskManagement.{IsManaged}
 use Rattle.session.specs.declared.target.TargetAnswer.{TargetAnswer}
 use Rattle.session.specs.declared.target.TargetAnswer.TheVariants.{Replied, Outside, Busy, Gone, Halted}
 use Rattle.session.specs.declared.verdict.Verdict.{Verdict}
 use Rattle.session.specs.declared.verdict.Verdict.TheVariants.{Accepted, Ignored, Gap, Refused}
-use Rattle.session.specs.Turn.{Incoming, pdu, Out, Asking, Turn}
+use Rattle.session.specs.Turn.{Incoming, pdu, Out, Turn}
 use Rattle.session.specs.Transfer.{data_for, transfer_of}
 
 -- A command, what its CDB asks for, what the target answered, and the PDUs of its own that went out: those of
@@ -24,12 +26,9 @@ pub record Task : Type 0 where
   pub own : List Out
 
 -- the task of a turn: that of an accepted command
-abbrev pub asked_in : Question → Result Command CdbFault
-asked_in (serve unit asked bytes) = asked
-
 abbrev pub accepted_task : Incoming → Option Asking → List Out → Option Task
-accepted_task (pdu b (Initiator (ScsiCommand p)) d) (Some call) own =
-    Some (record { command = p; asked = asked_in call.question; answer = call.answer; own = own })
+accepted_task (pdu b (Initiator (ScsiCommand p)) d) (Some (served unit asked bytes answer)) own =
+    Some (record { command = p; asked = asked; answer = answer; own = own })
 accepted_task came call own = None
 
 abbrev pub task_by : Verdict → Incoming → Option Asking → List Out → Option Task
@@ -48,19 +47,21 @@ pub record IsAskedFor (p : CommandHeader) (d : List ℕ) (call : Option Asking) 
   pub answer : TargetAnswer
   pub means : Means p.cdb asked
   pub names : NamesUnit p.lun unit
-  pub call_is : call ≡ Some (record { question = serve unit asked (data_for p (need_of asked) d); answer = answer })
+  pub call_is : call ≡ Some (served unit asked (data_for p (need_of asked) d) answer)
 
-abbrev pub IsAcceptedCall : Incoming → Option Asking → Type 0
-IsAcceptedCall (pdu b (Initiator (ScsiCommand p)) d) call = IsAskedFor p d call
-IsAcceptedCall (pdu b (Initiator (NopOut p)) d) call = call ≡ None
-IsAcceptedCall (pdu b (Initiator (LogoutRequest p)) d) call = call ≡ None
-IsAcceptedCall came call = ⊥
+-- of the other requests a LOGICAL UNIT RESET of a unit that is there has its one Reset
+abbrev pub IsAcceptedCall : Setting → Incoming → Option Asking → Type 0
+IsAcceptedCall m (pdu b (Initiator (NopOut p)) d) call = call ≡ None
+IsAcceptedCall m (pdu b (Initiator (ScsiCommand p)) d) call = IsAskedFor p d call
+IsAcceptedCall m (pdu b (Initiator (TaskManagementRequest p)) d) call = (response : Option ℕ) × IsManaged m.units p call response
+IsAcceptedCall m (pdu b (Initiator (LogoutRequest p)) d) call = call ≡ None
+IsAcceptedCall m came call = ⊥
 
-abbrev pub IsCalled : Verdict → Incoming → Option Asking → Type 0
-IsCalled Accepted came call = IsAcceptedCall came call
-IsCalled Ignored came call = call ≡ None
-IsCalled Gap came call = call ≡ None
-IsCalled (Refused reason) came call = call ≡ None
+abbrev pub IsCalled : Setting → Verdict → Incoming → Option Asking → Type 0
+IsCalled m Accepted came call = IsAcceptedCall m came call
+IsCalled m Ignored came call = call ≡ None
+IsCalled m Gap came call = call ≡ None
+IsCalled m (Refused reason) came call = call ≡ None
 
 -- the data of an answer
 abbrev pub reply_data : TargetAnswer → List ℕ

@@ -55,7 +55,7 @@ IsJudgedCommand exp_cmd_sn p d v =
 abbrev pub IsJudgedPdu : ℕ → Header → List ℕ → Verdict → Type 0
 IsJudgedPdu e (Initiator (NopOut p)) d v = v ≡ window_verdict e p.immediate p.numbers.cmd_sn false
 IsJudgedPdu e (Initiator (ScsiCommand p)) d v = IsJudgedCommand e p d v
-IsJudgedPdu e (Initiator (TaskManagementRequest p)) d v = v ≡ Refused COMMAND_NOT_SUPPORTED
+IsJudgedPdu e (Initiator (TaskManagementRequest p)) d v = v ≡ window_verdict e p.immediate p.numbers.cmd_sn false
 IsJudgedPdu e (Initiator (LoginRequest p)) d v = v ≡ Refused PROTOCOL_ERROR
 IsJudgedPdu e (Initiator (TextRequest p)) d v = v ≡ Refused COMMAND_NOT_SUPPORTED
 IsJudgedPdu e (Initiator (DataOut p)) d v = v ≡ Refused COMMAND_NOT_SUPPORTED

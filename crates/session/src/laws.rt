@@ -2,7 +2,9 @@
 ghost use Rattle.std.specs.Prelude.{◌≡◌, ◌+◌, ◌≤◌, ℕ, List, [], ◌∷◌, ◌++◌, IsTrue, Some, length, min, slice_get, take};
 ghost use Rattle.iscsi_pdu.specs.declared.header.ScsiCommand.{ScsiCommand as CommandHeader};
 ghost use Rattle.session.specs.declared.verdict.Verdict.TheVariants.{Accepted};
-ghost use Rattle.session.specs.Turn.{Asking, Turn, calls, sent};
+ghost use Rattle.session.specs.declared.target.TargetAnswer.{TargetAnswer};
+ghost use Rattle.session.specs.Setting.{Setting};
+ghost use Rattle.session.specs.Turn.{Turn, calls, sent};
 ghost use Rattle.session.specs.Window.{wrap};
 ghost use Rattle.session.specs.Task.{reply_data};
 ghost use Rattle.session.specs.Response.{responses};
@@ -13,7 +15,7 @@ ghost use Rattle.session.specs.Following.{HaveMaxCmdSn, IsCallTurn, numbers_take
 /// Of two PDUs that go out one behind the other, among those that use up a StatSN, the second has the next one
 /// (RFC 7143, 4.2.2.2). So none has a StatSN that was used, until 2^32 of them went out.
 pub fn status_numbers_are_consecutive()
-    ensures { (first_cmd first_stat : ℕ) (ts : List Turn) (k n next : ℕ) → Lawful first_cmd first_stat ts
+    ensures { (m : Setting) (first_cmd first_stat : ℕ) (ts : List Turn) (k n next : ℕ) → Lawful m first_cmd first_stat ts
         → slice_get (status_numbers (sent ts)) k ≡ Some n → slice_get (status_numbers (sent ts)) (k + 1) ≡ Some next
         → next ≡ wrap (n + 1) }
 {}
@@ -21,29 +23,29 @@ pub fn status_numbers_are_consecutive()
 /// No command is answered twice: a turn, which has one PDU that came, has at most one SCSI Response, and none
 /// where no command is accepted; a transcript has no more of them than its target was asked (RFC 7143, 11.4).
 pub fn no_command_is_answered_twice()
-    ensures once { (first_cmd first_stat : ℕ) (ts : List Turn) → Lawful first_cmd first_stat ts
+    ensures once { (m : Setting) (first_cmd first_stat : ℕ) (ts : List Turn) → Lawful m first_cmd first_stat ts
         → AtEach (λ before t. length (responses t.sent) ≤ 1) ts }
-    ensures accepted { (first_cmd first_stat : ℕ) (ts : List Turn) → Lawful first_cmd first_stat ts
+    ensures accepted { (m : Setting) (first_cmd first_stat : ℕ) (ts : List Turn) → Lawful m first_cmd first_stat ts
         → AtEach (λ before t. (t.verdict ≡ Accepted → ⊥) → responses t.sent ≡ []) ts }
-    ensures asked { (first_cmd first_stat : ℕ) (ts : List Turn) → Lawful first_cmd first_stat ts
+    ensures asked { (m : Setting) (first_cmd first_stat : ℕ) (ts : List Turn) → Lawful m first_cmd first_stat ts
         → length (responses (sent ts)) ≤ length (calls ts) }
 {}
 
 /// The Data-In PDUs of an accepted command with the R bit carry the beginning of the data of its one answer, as
 /// much as the command expects, and nothing else (RFC 7143, 11.7).
 pub fn a_read_gets_the_data_of_its_answer()
-    ensures bytes { (first_cmd first_stat : ℕ) (ts : List Turn) → Lawful first_cmd first_stat ts
-        → AtEach (λ before t. (p : CommandHeader) (call : Asking) → IsCallTurn t p call → IsTrue p.read
-        → joined_data (data_ins t.sent) ≡ take p.expected_length (reply_data call.answer)) ts }
-    ensures size { (first_cmd first_stat : ℕ) (ts : List Turn) → Lawful first_cmd first_stat ts
-        → AtEach (λ before t. (p : CommandHeader) (call : Asking) → IsCallTurn t p call → IsTrue p.read
-        → length (joined_data (data_ins t.sent)) ≡ min p.expected_length (length (reply_data call.answer))) ts }
+    ensures bytes { (m : Setting) (first_cmd first_stat : ℕ) (ts : List Turn) → Lawful m first_cmd first_stat ts
+        → AtEach (λ before t. (p : CommandHeader) (answer : TargetAnswer) → IsCallTurn t p answer → IsTrue p.read
+        → joined_data (data_ins t.sent) ≡ take p.expected_length (reply_data answer)) ts }
+    ensures size { (m : Setting) (first_cmd first_stat : ℕ) (ts : List Turn) → Lawful m first_cmd first_stat ts
+        → AtEach (λ before t. (p : CommandHeader) (answer : TargetAnswer) → IsCallTurn t p answer → IsTrue p.read
+        → length (joined_data (data_ins t.sent)) ≡ min p.expected_length (length (reply_data answer))) ts }
 {}
 
 /// MaxCmdSN lies 31 ahead of the first CmdSN and the numbered PDUs that were accepted, whose number never falls: what
 /// an initiator was told that it may send, it may send for good (RFC 7143, 4.2.2.1).
 pub fn the_window_never_falls()
-    ensures counted { (first_cmd first_stat : ℕ) (ts : List Turn) → Lawful first_cmd first_stat ts
+    ensures counted { (m : Setting) (first_cmd first_stat : ℕ) (ts : List Turn) → Lawful m first_cmd first_stat ts
         → AtEach (λ before t. HaveMaxCmdSn (wrap (first_cmd + numbers_taken (before ++ t ∷ []) + 31)) t.sent) ts }
     ensures grows { (before behind : List Turn) → numbers_taken before ≤ numbers_taken (before ++ behind) }
 {}

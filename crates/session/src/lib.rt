@@ -26,13 +26,14 @@ mod session;
 mod source;
 mod stream;
 mod target;
+mod task_management;
 mod transfer;
 mod verdict;
 mod waiting;
 mod watched;
 mod window;
 
-pub use actions::{Actions, Call, DataInPdu, OpenTask, Pdus, ResponsePdu};
+pub use actions::{Actions, Call, DataInPdu, OpenTask, Pdus, ResetCall, ResponsePdu, ServeCall};
 pub use end::End;
 pub use laws::{
     a_read_gets_the_data_of_its_answer, no_command_is_answered_twice,
@@ -41,6 +42,6 @@ pub use laws::{
 pub use session::{Session, Start};
 pub use source::{Failed, Sink, Source};
 pub use stream::serve_stream;
-pub use target::{Target, TargetAnswer};
+pub use target::{ResetAnswer, Target, TargetAnswer};
 pub use verdict::Verdict;
 pub use watched::Watched;

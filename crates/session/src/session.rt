@@ -1,20 +1,24 @@
 //! A session without bytes: what it makes of PDUs and of answers.
 ghost use Rattle.std.specs.Prelude.{◌≡◌, ℕ, List, ◌≤◌, length, IfSome, MatchOption};
 ghost use Rattle.scsi_types.specs.Cdb.{need_of};
-ghost use Rattle.session.specs.Counters.{Counters, after_number, next_numbers};
+ghost use Rattle.session.specs.Counters.{Counters, begun, after_number, next_numbers};
+ghost use Rattle.session.specs.TaskManagement.{management_answer};
 ghost use Rattle.session.specs.declared.verdict.Verdict.TheVariants.{Accepted};
 ghost use Rattle.session.specs.declared.verdict.TheConstants.{MAX_READ_LENGTH};
 ghost use Rattle.session.specs.Verdict.{reason_of, window_verdict};
 ghost use Rattle.session.specs.AnswerPdus.{IsWithin, read_length, reply_with};
-ghost use Rattle.session.specs.Machine.{OnPdu, OnCommand, OnNopOut, OnLogout, OnUnaccepted, OnRefusal, OnAnswer, Sends, Answers, out_of};
+ghost use Rattle.session.specs.Machine.{OnPdu, OnCommand, OnNopOut, OnLogout, OnManagement, OnResetAnswer, OnUnaccepted, OnRefusal, OnAnswer, Sends, Answers, out_of};
 
-use crate::actions::{Actions, Call, OpenTask, Pdus, ResponsePdu};
+use crate::actions::{Actions, Call, OpenTask, Pdus, ResetCall, ResponsePdu, ServeCall};
 use crate::data_in::data_in_pdu;
 use crate::end::End;
 use crate::logout::{logout_end, logout_response};
 use crate::nop::nop_in;
 use crate::response::{COMPLETED, Completion, TARGET_FAILURE, scsi_response};
-use crate::target::TargetAnswer;
+use crate::target::{ResetAnswer, TargetAnswer};
+use crate::task_management::{
+    Management, management_for, management_response, reset_end, reset_response,
+};
 use crate::transfer::command_data;
 use crate::verdict::{
     COMMAND_NOT_SUPPORTED, PROTOCOL_ERROR, Verdict, command_verdict, reject_reason, window_verdict,
@@ -22,6 +26,7 @@ use crate::verdict::{
 use crate::window::{next_exp_cmd_sn, target_numbers};
 use iscsi_pdu::{
     Header, InitiatorHeader, LogoutRequest, NopOut, Numbers, Pdu, PduFault, Reject, ScsiCommand,
+    TaskManagementRequest,
 };
 use scsi_types::{Asked, Lun, Status, decode, need};
 use std::marker::Model;
@@ -40,6 +45,8 @@ pub struct Start {
 pub struct Session {
     stat_sn: u32,
     exp_cmd_sn: u32,
+    // How many units the target has.
+    units: u16,
 }
 
 impl Model for Session {
@@ -47,17 +54,22 @@ impl Model for Session {
 
     ghost Value = { Counters };
 
-    ghost view = { λ s. record { stat_sn = s.stat_sn; exp_cmd_sn = s.exp_cmd_sn } };
+    ghost view = { λ s. record {
+        setting = record { units = s.units };
+        stat_sn = s.stat_sn;
+        exp_cmd_sn = s.exp_cmd_sn;
+    } };
 }
 
 impl Session {
-    /// A session that begins with these numbers.
-    pub fn new(start: Start) -> Session
-        ensures { result ≡ record { stat_sn = start.stat_sn; exp_cmd_sn = start.exp_cmd_sn } }
+    /// A session that begins with these numbers, with a target that has so many units.
+    pub fn new(start: Start, units: u16) -> Session
+        ensures { result ≡ begun (record { units = units }) start.exp_cmd_sn start.stat_sn }
     {
         Session {
             stat_sn: start.stat_sn,
             exp_cmd_sn: start.exp_cmd_sn,
+            units,
         }
     }
 
@@ -81,7 +93,7 @@ impl Session {
         match header {
             InitiatorHeader::NopOut(request) => self.on_nop_out(request, bytes),
             InitiatorHeader::ScsiCommand(command) => self.on_command(command, bytes),
-            InitiatorHeader::TaskManagementRequest(_) => self.reject(COMMAND_NOT_SUPPORTED),
+            InitiatorHeader::TaskManagementRequest(request) => self.on_task_management(request),
             InitiatorHeader::LoginRequest(_) => self.reject(PROTOCOL_ERROR),
             InitiatorHeader::TextRequest(_) => self.reject(COMMAND_NOT_SUPPORTED),
             InitiatorHeader::DataOut(_) => self.reject(COMMAND_NOT_SUPPORTED),
@@ -109,6 +121,57 @@ impl Session {
         self.accept(request.immediate);
         let pdu = nop_in(self.next_numbers(), &request, bytes);
         self.answer(pdu, None)
+    }
+
+    // What a request for task management calls for.
+    fn on_task_management<'a>(&mut self, request: TaskManagementRequest) -> Actions<'a>
+        ensures on { (d : List ℕ)
+            → OnPdu self.old (Header.Initiator (InitiatorHeader.TaskManagementRequest request)) d result self.new }
+        ensures within { IsWithin MAX_READ_LENGTH result.pdus }
+    {
+        let verdict = self.verdict(request.immediate, request.numbers.cmd_sn, false);
+        match self.turned_away(verdict) {
+            Some(actions) => actions,
+            None => self.manage(request),
+        }
+    }
+
+    // An accepted request for task management: its response, or the reset of a unit that is there.
+    fn manage<'a>(&mut self, request: TaskManagementRequest) -> Actions<'a>
+        ensures on { OnManagement self.old request result self.new }
+        ensures within { IsWithin MAX_READ_LENGTH result.pdus }
+    {
+        self.accept(request.immediate);
+        match management_for(&request, self.units) {
+            Management::Respond(response) => self.respond_to_management(&request, Some(response), None),
+            Management::Reset(unit) => Actions {
+                pdus: Pdus::Nothing,
+                call: Some(Call::Reset(ResetCall { request, unit })),
+                end: None,
+            },
+        }
+    }
+
+    /// What the answer to a reset calls for: the response, or the end where the session is gone.
+    pub fn on_reset<'a>(&mut self, request: TaskManagementRequest, answer: ResetAnswer) -> Actions<'a>
+        ensures on { OnResetAnswer self.old request answer result self.new }
+        ensures within { IsWithin MAX_READ_LENGTH result.pdus }
+    {
+        self.respond_to_management(&request, reset_response(answer), reset_end(answer))
+    }
+
+    // The response to a request for task management, if there is one.
+    fn respond_to_management<'a>(
+        &mut self,
+        request: &TaskManagementRequest,
+        response: Option<u8>,
+        end: Option<End>,
+    ) -> Actions<'a>
+        ensures on { Answers self.old (management_answer (next_numbers self.old) request.now response) end result self.new }
+        ensures within { IsWithin MAX_READ_LENGTH result.pdus }
+    {
+        let pdu = management_response(self.next_numbers(), request, response);
+        self.answer(pdu, end)
     }
 
     // What a Logout Request calls for.
@@ -202,7 +265,7 @@ impl Session {
             Some(actions) => actions,
             None => {
                 self.accept(command.immediate);
-                let call = Call {
+                let call = ServeCall {
                     task: OpenTask { command, need },
                     unit: Lun::parse(&command.lun),
                     asked,
@@ -210,7 +273,7 @@ impl Session {
                 };
                 Actions {
                     pdus: Pdus::Nothing,
-                    call: Some(call),
+                    call: Some(Call::Serve(call)),
                     end: None,
                 }
             }

@@ -7,6 +7,7 @@ ghost use Rattle.session.specs.Turn.{pdu as came, faulty};
 ghost use Rattle.session.specs.Stream.{IsSentOut, MakesTurn, StreamTurn};
 ghost use Rattle.session.specs.Transcript.{IsTranscribed, IsFailureOf};
 
+use crate::actions::Call;
 use crate::end::End;
 use crate::inbox::{INBOX_CAPACITY, Inbox};
 use crate::outbox::Outbox;
@@ -37,12 +38,20 @@ fn turn<T: Target>(
             outbox.fill(bhs, &actions.pdus);
             actions.end
         }
-        Some(call) => {
-            let answer = target.serve(call.unit, call.asked, call.bytes);
-            let answered = session.on_answer(call.task, &answer);
-            outbox.fill(bhs, &answered.pdus);
-            answered.end
-        }
+        Some(call) => match call {
+            Call::Serve(call) => {
+                let answer = target.serve(call.unit, call.asked, call.bytes);
+                let answered = session.on_answer(call.task, &answer);
+                outbox.fill(bhs, &answered.pdus);
+                answered.end
+            }
+            Call::Reset(call) => {
+                let answer = target.reset(call.unit);
+                let answered = session.on_reset(call.request, answer);
+                outbox.fill(bhs, &answered.pdus);
+                answered.end
+            }
+        },
     }
 }
 
@@ -104,7 +113,7 @@ pub fn serve_stream<S: Source, K: Sink, T: Target>(
     target: &mut T,
     start: Start,
 ) -> Result<End, NoMemory>
-    ensures transcribed { IfOk result (IsTranscribed T.leads start.exp_cmd_sn start.stat_sn
+    ensures transcribed { IfOk result (IsTranscribed T.leads (record { units = T.unit_count target.old }) start.exp_cmd_sn start.stat_sn
         (S.left source.old) (S.left source.new) (K.held sink.old) (K.held sink.new) target.old target.new) }
     ensures input_failed { IfOk result (IsFailureOf InputFailed (S.failures source.old) (S.failures source.new)) }
     ensures output_failed { IfOk result (IsFailureOf OutputFailed (K.failures sink.old) (K.failures sink.new)) }
@@ -112,7 +121,7 @@ pub fn serve_stream<S: Source, K: Sink, T: Target>(
 {
     let mut inbox = Inbox::new(alloc)?;
     let mut outbox = Outbox::new(alloc)?;
-    let mut session = Session::new(start);
+    let mut session = Session::new(start, target.units());
     let mut reads: u64 = 0;
     while reads < u64::MAX {
         match front_of(inbox.bytes()) {

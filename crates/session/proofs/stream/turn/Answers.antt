@@ -1,14 +1,24 @@
-use Rattle.session.proofs.Turns.{alone, answer_within, called}
+use Rattle.std.proofs.Common.{Some, ap, ◌∙◌}
+use Rattle.session.specs.declared.actions.Call.{Call}
+use Rattle.session.proofs.Turns.{alone, answer_within, called, was_reset}
 use Rattle.session.proofs.stream.turn.Goals as goal
 
 pub returns-in-None : goal.returns-in-None
 returns-in-None g c = alone g.T.Target.leads _ _ _ c.args.bhs.now c.on_pdu-actions.result _ c.fill.ensures c.args.pdu.header c.args.pdu.data.now c.on_pdu-actions.ensures.on c.in-None.is
 
-pub returns-in-Some : goal.returns-in-Some
-returns-in-Some g c =
-    called g.T.Target.leads _ _ _ _ _ c.args.bhs.now c.on_pdu-actions.result c.on_answer-answered.result c.in-Some.call c.serve-answer.result _ c.fill-in-Some.ensures c.in-Some.is c.serve-answer.ensures
+pub returns-in-Serve : goal.returns-in-Serve
+returns-in-Serve g c =
+    called g.T.Target.leads _ _ _ _ _ c.args.bhs.now c.on_pdu-actions.result c.on_answer-answered.result c.in-Serve.call c.serve-answer.result _ c.fill-in-Serve.ensures
+    (c.in-Some.is ∙ ap (λ (k : Call). Some k) c.in-Serve.is) c.serve-answer.ensures
     c.args.pdu.header c.args.pdu.data.now c.on_pdu-actions.ensures.on c.on_answer-answered.ensures.answered
 
-pub fill-requires-in-Some-clause-within : goal.fill-requires-in-Some-clause-within
-fill-requires-in-Some-clause-within g c =
-    answer_within _ _ c.on_pdu-actions.result c.in-Some.call c.in-Some.is c.args.pdu.header c.args.pdu.data.now c.on_answer-answered.result.pdus c.on_pdu-actions.ensures.on c.on_answer-answered.ensures.within
+pub fill-requires-in-Serve-clause-within : goal.fill-requires-in-Serve-clause-within
+fill-requires-in-Serve-clause-within g c =
+    answer_within _ _ c.on_pdu-actions.result c.in-Serve.call (c.in-Some.is ∙ ap (λ (k : Call). Some k) c.in-Serve.is)
+    c.args.pdu.header c.args.pdu.data.now c.on_answer-answered.result.pdus c.on_pdu-actions.ensures.on c.on_answer-answered.ensures.within
+
+pub returns-in-Reset : goal.returns-in-Reset
+returns-in-Reset g c =
+    was_reset g.T.Target.leads _ _ _ _ _ c.args.bhs.now c.on_pdu-actions.result c.on_reset-answered.result c.in-Reset.call c.reset-answer.result _ c.fill-in-Reset.ensures
+    (c.in-Some.is ∙ ap (λ (k : Call). Some k) c.in-Reset.is) c.reset-answer.ensures c.on_reset-answered.ensures.on
+    c.args.pdu.header c.args.pdu.data.now c.on_pdu-actions.ensures.on
