@@ -4,6 +4,10 @@
 #[cfg(test)]
 mod answers;
 #[cfg(test)]
+mod logout;
+#[cfg(test)]
+mod nop;
+#[cfg(test)]
 mod rejects;
 #[cfg(test)]
 mod residuals;
@@ -11,5 +15,7 @@ mod residuals;
 mod run;
 #[cfg(test)]
 mod streams;
+#[cfg(test)]
+mod task_management;
 #[cfg(test)]
 mod window;

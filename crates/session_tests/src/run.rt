@@ -1,6 +1,6 @@
 //! The runner of the tables, and the target that it serves.
 use scsi_types::{Asked, Command, Reply, Sense};
-use session::{End, Start, Target, TargetAnswer, Watched, serve_stream};
+use session::{End, ResetAnswer, Start, Target, TargetAnswer, Watched, serve_stream};
 use std::alloc::Global;
 use std::process::Abort;
 use std::test::Fail;
@@ -20,17 +20,32 @@ pub enum Answer {
     Halted,
 }
 
-/// A target that answers each command alike, and keeps what it was asked and given.
+/// A target of one unit that answers each command and each reset alike, and keeps what it was asked and given.
 #[derive(Drop)]
 struct Fixed {
     alloc: Global,
     answer: Answer,
+    reset: ResetAnswer,
+    resets: Vec<u8>,
     asked: Vec<(Option<u8>, Asked)>,
     given: Vec<u8>,
 }
 
 impl Target for Fixed {
-    ghost leads = { λ old question answer new. Unit {0} };
+    ghost leads = { λ old asking new. Unit {0} };
+
+    ghost unit_count = { λ t. 1 };
+
+    fn units(&self) -> u16 {
+        1
+    }
+
+    fn reset(&mut self, unit: u8) -> ResetAnswer {
+        match self.resets.push(unit) {
+            Ok(()) => self.reset,
+            Err(_) => ResetAnswer::Failed,
+        }
+    }
 
     fn serve(&mut self, unit: Option<u8>, asked: Asked, bytes: &[u8]) -> TargetAnswer {
         if self.asked.push((unit, asked)).is_err() || self.given.extend_from_slice(bytes).is_err() {
@@ -59,6 +74,7 @@ pub struct Ran {
     pub output: Vec<u8>,
     pub asked: Vec<(Option<u8>, Asked)>,
     pub given: Vec<u8>,
+    pub resets: Vec<u8>,
 }
 
 /// CmdSN 1 and StatSN 1.
@@ -75,12 +91,15 @@ pub fn serve(
     writes: Calls,
     start: Start,
     answer: Answer,
+    reset: ResetAnswer,
 ) -> Result<Ran, Fail> {
     let mut source = Watched::new(FakeReader::new(input, reads));
     let mut sink = Watched::new(FakeWriter::new(alloc, writes));
     let mut target = Fixed {
         alloc,
         answer,
+        reset,
+        resets: Vec::new(alloc),
         asked: Vec::new(alloc),
         given: Vec::new(alloc),
     };
@@ -90,6 +109,7 @@ pub fn serve(
         output: sink.into_inner().into_bytes(),
         asked: target.asked,
         given: target.given,
+        resets: target.resets,
     })
 }
 
@@ -105,6 +125,9 @@ pub struct Row {
     /// What it is asked, and how many bytes of the pattern it is given.
     pub asked: &'static [(Option<u8>, Asked)],
     pub given: usize,
+    /// What it answers to a reset, and which units it is to reset.
+    pub reset: ResetAnswer,
+    pub resets: &'static [u8],
     /// What goes out, and how the session ends.
     pub output: &'static [PduRow<'static>],
     pub end: End,
@@ -121,6 +144,8 @@ pub const PLAIN: Row = Row {
     answer: Answer::Good(0),
     asked: &[TEST],
     given: 0,
+    reset: ResetAnswer::Done,
+    resets: &[],
     output: &[PduRow(&GOOD, &[], Segment::None)],
     end: End::EndOfInput,
 };
@@ -131,11 +156,14 @@ pub fn run(rt: &impl Abort, alloc: Global, rows: &[Row]) -> Result<(), Fail> {
         let input = spelled(alloc, row.input)?;
         let output = spelled(alloc, row.output)?;
         let given = pattern(alloc, row.given)?;
-        let ran = serve(alloc, &input, WHOLE, WHOLE, row.start, row.answer)?;
+        let ran = serve(
+            alloc, &input, WHOLE, WHOLE, row.start, row.answer, row.reset,
+        )?;
         assert_eq!(rt; ran.end, row.end, "{}", row.name);
         assert_eq!(rt; ran.output.as_slice(), output.as_slice(), "{}", row.name);
         assert_eq!(rt; ran.asked.as_slice(), row.asked, "{}", row.name);
         assert_eq!(rt; ran.given.as_slice(), given.as_slice(), "{}", row.name);
+        assert_eq!(rt; ran.resets.as_slice(), row.resets, "{}", row.name);
     }
     Ok(())
 }
