@@ -13,6 +13,7 @@ use Rattle.session.specs.declared.target.ResetAnswer.TheVariants as resets
 use Rattle.session.specs.declared.target.TargetAnswer.{TargetAnswer}
 use Rattle.session.specs.declared.target.TargetAnswer.TheVariants.{Replied, Outside, Busy, Gone, Halted}
 use Rattle.session.specs.declared.end.End.{End}
+use Rattle.session.specs.Setting.{Setting}
 use Rattle.session.specs.Transcript.{IsTranscribed}
 use Rattle.session.specs.Turn.{Leads, calls}
 use Rattle.unit_state.specs.declared.control.TheConstants.{LAST_COUNT}
@@ -23,7 +24,7 @@ use Rattle.unit_state.specs.EntryLaws.{possible_over, reply_over}
 use Rattle.unit_state.specs.History.{state_after, IsLegal, IsReplyAt, has_failed, failed_entries}
 use Rattle.unit_state.specs.Step.{IsStep, entry_of}
 use Rattle.arrayd.specs.OneUnit.{TargetValue, IsCommand, IsSame, IsBusy, IsAnsweredBy, IsReset, IsResetBy, LeadsOn}
-use Rattle.arrayd.specs.Once.{RepliedCall, EnteredCall, replied, was_reset, entered_by, entered, IsEntryOf, setting, AreCommands, IsUnserved, AreUnserved, AreCounted, IsBegun, IsOnce, begun}
+use Rattle.arrayd.specs.Once.{RepliedCall, EnteredCall, replied, was_reset, entered_by, entered, IsEntryOf, AreCommands, IsUnserved, AreUnserved, AreCounted, IsBegun, IsOnce, begun}
 
 -- ---- failures: one command more in front
 
@@ -232,10 +233,10 @@ module _ {B : Type 0} (claims : Bool) (contents : B → List (List ℕ)) (failur
   story (c ∷ cs) s x x' zero_is m led = asked_next c cs s x led.0 x' zero_is m led.1 (λ s' z m'. story cs s' led.0 x' z m' led.2)
 
 -- the whole of it
-pub is_once : {B : Type 0} (claims : Bool) (size : B → ℕ) (contents : B → List (List ℕ)) (failures : B → ℕ) (blocks device : B) (x x' : TargetValue B) (left left' held held' : Option (List ℕ)) (end : End)
-    → IsBegun size blocks x → IsTranscribed (LeadsOn claims contents failures) setting 1 1 left left' held held' x x' end → device ≡ x'.unit.device
-    → IsOnce claims size contents failures blocks device left left' held held' end
-is_once {B = B} claims size contents failures blocks device x x' left left' held held' end first t is_device =
+pub is_once : {B : Type 0} (m : Setting) (claims : Bool) (size : B → ℕ) (contents : B → List (List ℕ)) (failures : B → ℕ) (blocks device : B) (x x' : TargetValue B) (left left' held held' : Option (List ℕ)) (end : End)
+    → IsBegun size blocks x → IsTranscribed (LeadsOn claims contents failures) m 1 1 left left' held held' x x' end → device ≡ x'.unit.device
+    → IsOnce m claims size contents failures blocks device left left' held held' end
+is_once {B = B} m claims size contents failures blocks device x x' left left' held held' end first t is_device =
     let begun_here : Matches claims contents failures (begun size contents blocks) x = record {
       control = sym first.control;
       blocks = λ h. ap contents (sym first.device);

@@ -49,10 +49,6 @@ pub record IsBegun {B : Type 0} (size : B → ℕ) (blocks : B) (target : Target
   pub device : target.unit.device ≡ blocks
   pub control : target.unit.control ≡ (begun size (λ b. []) blocks).control
 
--- what stays the same over its session: the target has the one unit
-abbrev pub setting : Setting
-setting = record { units = 1 }
-
 -- ---- the calls that the unit replied to, and its resets, are the entries of its history
 
 -- what was asked, the data that came, and the reply
@@ -123,10 +119,10 @@ pub record AreCounted (before now : ℕ) (history : List Entry) : Type 0 where
 
 -- The bytes that were read spell the PDUs of a legal transcript, and the bytes written those that it sends: of every
 -- device.
-pub record IsServed (ts : List Turn) (left left' held held' : Option (List ℕ)) (end : End) : Type 0 where
+pub record IsServed (m : Setting) (ts : List Turn) (left left' held held' : Option (List ℕ)) (end : End) : Type 0 where
   pub spelled : List ℕ
   pub rest : List ℕ
-  pub lawful : Lawful setting 1 1 ts
+  pub lawful : Lawful m 1 1 ts
   pub ends : EndsBy ts rest (length spelled + length rest) (IsAtEnd left') end
   pub spells : Spells (map (λ t. t.came) ts) spelled
   pub read : Consumes left left' (spelled ++ rest)
@@ -134,10 +130,10 @@ pub record IsServed (ts : List Turn) (left left' held held' : Option (List ℕ))
 
 -- Its calls are the commands of one legal history of the unit; the failures that this tells are those of the device;
 -- and where the device's type claims its contents, it has the blocks after that history.
-pub record IsOnce {B : Type 0} (claims : Bool) (size : B → ℕ) (contents : B → List (List ℕ)) (failures : B → ℕ)
+pub record IsOnce {B : Type 0} (m : Setting) (claims : Bool) (size : B → ℕ) (contents : B → List (List ℕ)) (failures : B → ℕ)
     (blocks device : B) (left left' held held' : Option (List ℕ)) (end : End) : Type 0 where
   pub transcript : List Turn
-  pub served : IsServed transcript left left' held held' end
+  pub served : IsServed m transcript left left' held held' end
   pub history : List Entry
   pub legal : IsLegal claims (opening place (size blocks) (contents blocks)) (first_entries ++ history)
   pub commands : AreCommands claims (begun size contents blocks) (calls transcript) history

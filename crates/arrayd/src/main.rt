@@ -6,16 +6,28 @@ mod target;
 mod words;
 
 use block_file::MemBlocks;
+use login::Kind;
 use scsi_types::NoMemory;
-use session::{End, Watched};
+use session::{End, Identity, Watched};
 use std::alloc::Global;
 use std::env::Env;
+use std::net::{Ipv4Addr, SocketAddrV4};
 use std::process::ExitCode;
 use std::{env, io};
 use words::{Plan, WordsFault};
 
 /// How many blocks the unit of `--once` has.
 const BLOCKS: u32 = 2048;
+
+/// What the target of `--once` tells of itself.
+const IDENTITY: Identity<'static> = Identity {
+    kind: Kind::Normal,
+    target_name: b"iqn.2000-01.test:array",
+    first: &[SocketAddrV4::new(LOOPBACK, 3260)],
+    second: &[SocketAddrV4::new(LOOPBACK, 3264)],
+};
+
+const LOOPBACK: Ipv4Addr = Ipv4Addr::new(127, 0, 0, 1);
 
 /// Why the program ends without having served.
 #[derive(Clone, Copy, Debug, PartialEq, Eq)]
@@ -81,7 +93,7 @@ fn serve_once<R: Input + Print>(rt: &R, alloc: Global) -> Result<(), Fault> {
     let blocks = MemBlocks::new(alloc, BLOCKS)?;
     let mut source = Watched::new(rt.reader());
     let mut sink = Watched::new(io::writer(rt));
-    let (_end, _blocks): (End, MemBlocks) = once::once(alloc, &mut source, &mut sink, blocks)?;
+    let (_end, _blocks): (End, MemBlocks) = once::once(alloc, &mut source, &mut sink, blocks, &IDENTITY)?;
     Ok(())
 }
 

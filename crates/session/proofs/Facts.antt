@@ -14,8 +14,8 @@ use Rattle.iscsi_pdu.specs.declared.header.ScsiCommand.{ScsiCommand as CommandHe
 use Rattle.iscsi_pdu.specs.declared.header.ScsiResponse.{ScsiResponse as ResponseHeader}
 use Rattle.iscsi_pdu.specs.declared.header.DataIn.{DataIn as DataInHeader}
 use Rattle.iscsi_pdu.specs.declared.header.Header.TheVariants.{Initiator}
-use Rattle.iscsi_pdu.specs.declared.header.InitiatorHeader.TheVariants.{NopOut, ScsiCommand, TaskManagementRequest, LogoutRequest}
-use Rattle.iscsi_pdu.specs.declared.header.TargetHeader.TheVariants.{NopIn, ScsiResponse, TaskManagementResponse, LogoutResponse}
+use Rattle.iscsi_pdu.specs.declared.header.InitiatorHeader.TheVariants.{NopOut, ScsiCommand, TaskManagementRequest, TextRequest, LogoutRequest}
+use Rattle.iscsi_pdu.specs.declared.header.TargetHeader.TheVariants.{NopIn, ScsiResponse, TaskManagementResponse, TextResponse, LogoutResponse}
 use Rattle.session.specs.declared.data_in.TheConstants.{MAX_DATA_IN_LENGTH, NO_TRANSFER_TAG}
 use Rattle.session.specs.declared.response.Completion.{Completion}
 use Rattle.session.specs.declared.response.TheConstants.{COMPLETED, TARGET_FAILURE}
@@ -32,6 +32,7 @@ use Rattle.session.specs.Turn.{Incoming, pdu, Out}
 use Rattle.session.specs.Window.{wrap, numbers_at, numbers_of, exp_cmd_sn_behind, takes_number}
 use Rattle.session.specs.Requests.{IsRequestAnswered}
 use Rattle.session.specs.Logout.{closes, logout_answer}
+use Rattle.session.specs.Text.{text_answer}
 use Rattle.session.specs.declared.nop.TheConstants.{DECLARED_LENGTH}
 use Rattle.session.specs.declared.logout.TheConstants.{CLOSED, RECOVERY_NOT_SUPPORTED, TIME_TO_WAIT, TIME_TO_RETAIN}
 use Rattle.iscsi_pdu.specs.declared.header.Numbers.{Numbers}
@@ -52,7 +53,7 @@ use Rattle.session.specs.MachineTurn.{TurnOnAnswer, TurnOnAccepted, TurnOnVerdic
 pub record TurnFacts (s s' : Counters) (came : Incoming) (v : Verdict) (call : Option Asking)
     (outs : List Out) : Type 0 where
   pub setting_is : s'.setting ≡ s.setting
-  pub judged : IsJudged s.exp_cmd_sn came v
+  pub judged : IsJudged s.setting s.exp_cmd_sn came v
   pub windows : HaveWindow s'.exp_cmd_sn outs
   pub called : IsCalled s.setting v came call
   pub answered : IsAnsweredTask (task_by v came call outs) outs
@@ -167,7 +168,7 @@ commands_of false e = inr (refl, refl)
 
 module _ (s : Counters) (b : List ℕ) (p : CommandHeader) (d : List ℕ) (asked : Result Command CdbFault)
     (unit : Option ℕ) (answer : TargetAnswer)
-    (judged : IsJudged s.exp_cmd_sn (pdu b (Initiator (ScsiCommand p)) d) Accepted) (means : Means p.cdb asked)
+    (judged : IsJudged s.setting s.exp_cmd_sn (pdu b (Initiator (ScsiCommand p)) d) Accepted) (means : Means p.cdb asked)
     (names : NamesUnit p.lun unit) where
   abbrev mid : Counters
   mid = after_command p s
@@ -257,7 +258,7 @@ moved e f g k = rw (e, f, g) k
 
 module _ (s s' : Counters) (b : List ℕ) (p : CommandHeader) (d : List ℕ) (call : Option Asking) (outs : List Out)
     (asked : Result Command CdbFault) (unit : Option ℕ) where
-  answered_facts : (answer : TargetAnswer) → IsJudged s.exp_cmd_sn (pdu b (Initiator (ScsiCommand p)) d) Accepted
+  answered_facts : (answer : TargetAnswer) → IsJudged s.setting s.exp_cmd_sn (pdu b (Initiator (ScsiCommand p)) d) Accepted
       → read_length p ≤ MAX_READ_LENGTH → Means p.cdb asked → NamesUnit p.lun unit
       → call ≡ Some (served unit asked (data_for p (need_of asked) d) answer)
       → TurnOnAnswer (after_command p s) p (need_of asked) answer outs s'
@@ -278,7 +279,7 @@ logout_out n p = record {
 -- SCSI Response nor a Data-In
 
 module _ (s : Counters) (came : Incoming) (immediate : Bool) (call : Option Asking)
-    (judged : IsJudged s.exp_cmd_sn came Accepted) (called : IsCalled s.setting Accepted came call)
+    (judged : IsJudged s.setting s.exp_cmd_sn came Accepted) (called : IsCalled s.setting Accepted came call)
     (no_task : (own : List Out) → task_by Accepted came call own ≡ None)
     (numbered : takes_number Accepted came ≡ not immediate)
     (of_accepted : (outs : List Out) → IsRejected Accepted came outs) where
@@ -335,7 +336,7 @@ module _ (s : Counters) (came : Incoming) (immediate : Bool) (call : Option Aski
     some_or_none false answer = one_facts answer
 
 module _ (s : Counters) (b : List ℕ) (p : ManagementHeader) (d : List ℕ) (call : Option Asking)
-    (judged : IsJudged s.exp_cmd_sn (pdu b (Initiator (TaskManagementRequest p)) d) Accepted) where
+    (judged : IsJudged s.setting s.exp_cmd_sn (pdu b (Initiator (TaskManagementRequest p)) d) Accepted) where
   abbrev told_by : Option ℕ → List Out
   told_by response = management_answer (next_numbers (after_number p.immediate s)) p response
 
@@ -351,7 +352,7 @@ module _ (s : Counters) (b : List ℕ) (p : ManagementHeader) (d : List ℕ) (ca
       (record { expects = refl; reaches = refl }) refl refl refl (next_numbers (after_number p.immediate s), Some response, k, refl)
 
 accepted_facts : (came : Incoming) (s s' : Counters) (call : Option Asking) (outs : List Out)
-    → IsJudged s.exp_cmd_sn came Accepted → TurnOnAccepted came s call outs s' → TurnFacts s s' came Accepted call outs
+    → IsJudged s.setting s.exp_cmd_sn came Accepted → TurnOnAccepted came s call outs s' → TurnFacts s s' came Accepted call outs
 accepted_facts (pdu b (Initiator (ScsiCommand p)) d) s s' call outs judged k =
     answered_facts s s' b p d call outs k.asked.asked k.asked.unit k.asked.answer judged k.within k.asked.means k.asked.names k.asked.call_is k.answered
 accepted_facts (pdu b (Initiator (NopOut p)) d) s s' call outs judged k =
@@ -362,6 +363,12 @@ accepted_facts (pdu b (Initiator (NopOut p)) d) s s' call outs judged k =
       (record { expects = refl; reaches = refl }) refl refl refl (p.task_tag == RESERVED_TAG) (n, refl))
 accepted_facts (pdu b (Initiator (TaskManagementRequest p)) d) s s' call outs judged k =
     moved refl k.outs_are k.next_is (management_facts s b p d call judged k.response k.managed)
+accepted_facts (pdu b (Initiator (TextRequest p)) d) s s' call outs judged k =
+    let n = next_numbers (after_number p.immediate s) in
+    moved k.no_call k.outs_are k.next_is
+    (one_facts s (pdu b (Initiator (TextRequest p)) d) p.immediate None judged refl (λ own. refl) refl (λ own. tt)
+      (record { header = TextResponse (record { task_tag = p.task_tag; transfer_tag = NO_TRANSFER_TAG; numbers = n }); bytes = text_answer s.setting d })
+      (record { expects = refl; reaches = refl }) refl refl refl (n, refl))
 accepted_facts (pdu b (Initiator (LogoutRequest p)) d) s s' call outs judged k =
     let n = next_numbers (after_number p.immediate s) in
     moved k.no_call k.outs_are k.next_is
@@ -370,7 +377,7 @@ accepted_facts (pdu b (Initiator (LogoutRequest p)) d) s s' call outs judged k =
 accepted_facts came s s' call outs judged k = absurd k
 
 pub made_facts : (s s' : Counters) (came : Incoming) (v : Verdict) (call : Option Asking) (outs : List Out)
-    → IsJudged s.exp_cmd_sn came v → TurnOnVerdict v s came call outs s' → TurnFacts s s' came v call outs
+    → IsJudged s.setting s.exp_cmd_sn came v → TurnOnVerdict v s came call outs s' → TurnFacts s s' came v call outs
 made_facts s s' came Accepted call outs judged k = accepted_facts came s s' call outs judged k
 made_facts s s' came Ignored call outs judged k = moved k.no_call k.outs_are k.next_is (record {
   setting_is = refl;

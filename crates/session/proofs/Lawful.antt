@@ -121,7 +121,7 @@ pub record Stands (m : Setting) (first_cmd first_stat : ℕ) (ts : List Turn) (s
 facts_of : (s s' : Counters) (came : Incoming) (t : Turn) → TurnOf s came t s'
     → TurnFacts s s' t.came t.verdict t.call t.sent
 facts_of s s' came t m = made_facts s s' t.came t.verdict t.call t.sent
-    (subst (λ (c : Incoming). IsJudged s.exp_cmd_sn c t.verdict) (sym m.came_is) m.judged)
+    (subst (λ (c : Incoming). IsJudged s.setting s.exp_cmd_sn c t.verdict) (sym m.came_is) m.judged)
     (subst (λ (c : Incoming). TurnOnVerdict t.verdict s c t.call t.sent s') (sym m.came_is) m.made)
 
 pub stands_more : (m : Setting) (first_cmd first_stat : ℕ) (ts : List Turn) (t : Turn) (came : Incoming) (s s' : Counters)
@@ -132,7 +132,7 @@ stands_more m first_cmd first_stat ts t came s s' k on made =
     let old = k.lawful in
     record {
       lawful = record {
-        judged = at_each_more (λ before u. IsJudged (exp_cmd_sn_after first_cmd before) u.came u.verdict) ts t old.judged (subst (λ (e : ℕ). IsJudged e t.came t.verdict) k.tied.command f.judged);
+        judged = at_each_more (λ before u. IsJudged m (exp_cmd_sn_after first_cmd before) u.came u.verdict) ts t old.judged (subst (λ (e : ℕ). IsJudged m e t.came t.verdict) k.tied.command (subst (λ (n : Setting). IsJudged n s.exp_cmd_sn t.came t.verdict) k.tied.setting_is f.judged));
         numbered = numbered_more first_stat ts t s s' k.tied.status old.numbered f.statuses;
         windows = at_each_more (λ before u. HaveWindow (exp_cmd_sn_after first_cmd (before ++ u ∷ [])) u.sent) ts t old.windows
             (subst (λ (e : ℕ). HaveWindow e t.sent) command f.windows);

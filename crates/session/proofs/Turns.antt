@@ -4,7 +4,7 @@ use Rattle.std.specs.Prelude.{MatchOption}
 use Rattle.scsi_types.specs.Cdb.{need_of}
 use Rattle.iscsi_pdu.specs.declared.header.Header.{Header}
 use Rattle.iscsi_pdu.specs.declared.header.Header.TheVariants.{Initiator}
-use Rattle.iscsi_pdu.specs.declared.header.InitiatorHeader.TheVariants.{NopOut, ScsiCommand, TaskManagementRequest, LogoutRequest}
+use Rattle.iscsi_pdu.specs.declared.header.InitiatorHeader.TheVariants.{NopOut, ScsiCommand, TaskManagementRequest, TextRequest, LogoutRequest}
 use Rattle.iscsi_pdu.specs.declared.header.ScsiCommand.{ScsiCommand as CommandHeader}
 use Rattle.iscsi_pdu.specs.declared.header.TaskManagementRequest.{TaskManagementRequest as ManagementHeader}
 use Rattle.iscsi_pdu.specs.declared.fault.PduFault.{PduFault}
@@ -66,7 +66,7 @@ module _ {T : Type 0} (leads : T → Asking → T → Type 0) (s s' : Counters) 
   no_call p d (Some c) e k = absurd (cc)
 
   managed_alone : (p : ManagementHeader) (d : List ℕ) (m : Management)
-      → IsJudgedPdu s.exp_cmd_sn (Initiator (TaskManagementRequest p)) d Accepted → IsManagement s.setting.units p m
+      → IsJudgedPdu s.setting s.exp_cmd_sn (Initiator (TaskManagementRequest p)) d Accepted → IsManagement s.setting.units p m
       → OnManagedBy m (after_number p.immediate s) p a s' → a.call ≡ None
       → MakesTurn leads s s' x x (pdu b (Initiator (TaskManagementRequest p)) d) outgoing a.end
   managed_alone p d (Respond response) judged comes_to k none = turn_alone (pdu b (Initiator (TaskManagementRequest p)) d) Accepted
@@ -82,15 +82,16 @@ module _ {T : Type 0} (leads : T → Asking → T → Type 0) (s s' : Counters) 
       }) k.ends
   managed_alone p d (Reset unit) judged comes_to k none = absurd (let e : None ≡ Some (kinds.Reset (record { request = p; unit = unit })) = sym none ∙ k.call in cc)
 
-  taken_alone : (h : Header) (d : List ℕ) → IsJudgedPdu s.exp_cmd_sn h d Accepted → OnTaken s h d a s'
+  taken_alone : (h : Header) (d : List ℕ) → IsJudgedPdu s.setting s.exp_cmd_sn h d Accepted → OnTaken s h d a s'
       → a.call ≡ None → MakesTurn leads s s' x x (pdu b h d) outgoing a.end
   taken_alone (Initiator (NopOut p)) d judged k none = turn_alone (pdu b (Initiator (NopOut p)) d) Accepted (record { came_is = refl; judged = judged; made = record { no_call = refl; outs_are = k.pdus_are b; next_is = k.next } }) k.ends
+  taken_alone (Initiator (TextRequest p)) d judged k none = turn_alone (pdu b (Initiator (TextRequest p)) d) Accepted (record { came_is = refl; judged = judged; made = record { no_call = refl; outs_are = k.pdus_are b; next_is = k.next } }) k.ends
   taken_alone (Initiator (LogoutRequest p)) d judged k none = turn_alone (pdu b (Initiator (LogoutRequest p)) d) Accepted (record { came_is = refl; judged = judged; made = record { no_call = refl; outs_are = k.pdus_are b; next_is = k.next } }) k.ends
   taken_alone (Initiator (TaskManagementRequest p)) d judged k none = managed_alone p d k.management judged k.comes_to k.managed none
   taken_alone (Initiator (ScsiCommand p)) d judged k none = absurd (no_call p d a.call none k.call)
   taken_alone h d judged k none = absurd k
 
-  alone_by : (v : Verdict) (h : Header) (d : List ℕ) → IsJudgedPdu s.exp_cmd_sn h d v → OnVerdict v s h d a s'
+  alone_by : (v : Verdict) (h : Header) (d : List ℕ) → IsJudgedPdu s.setting s.exp_cmd_sn h d v → OnVerdict v s h d a s'
       → a.call ≡ None → MakesTurn leads s s' x x (pdu b h d) outgoing a.end
   alone_by Accepted h d judged k none = taken_alone h d judged k none
   alone_by Ignored h d judged k none = turn_alone (pdu b h d) Ignored (record { came_is = refl; judged = judged; made = record { no_call = refl; outs_are = ap (sent_by b) k.0.pdus_are; next_is = k.2 } }) k.1
@@ -137,6 +138,7 @@ module _ (s mid : Counters) (a : Actions) (c : ServeCall) (some : a.call ≡ Som
       subst (λ (q : CommandHeader). read_length q ≤ MAX_READ_LENGTH) (sym is.command) is.within
   taken_within (Initiator (NopOut p)) d k = no_none (kinds.Serve c) a.call k.no_call some
   taken_within (Initiator (TaskManagementRequest p)) d k = managed_else (after_number p.immediate s) mid p a c k.management k.managed some
+  taken_within (Initiator (TextRequest p)) d k = no_none (kinds.Serve c) a.call k.no_call some
   taken_within (Initiator (LogoutRequest p)) d k = no_none (kinds.Serve c) a.call k.no_call some
   taken_within h d k = absurd k
 
@@ -169,7 +171,7 @@ module _ {T : Type 0} (leads : T → Asking → T → Type 0) (s mid s' : Counte
       → TurnOnAnswer mid q n answer outs s' → TurnOnAnswer next p m answer outs s'
   moved q p n m next outs e f g k = subst (λ (z : Counters). TurnOnAnswer z p m answer outs s') g (subst₂ (λ (z : CommandHeader) (w : ℕ). TurnOnAnswer mid z w answer outs s') e f k)
 
-  accepted_turn : (h : Header) (d : List ℕ) → IsJudgedPdu s.exp_cmd_sn h d Accepted
+  accepted_turn : (h : Header) (d : List ℕ) → IsJudgedPdu s.setting s.exp_cmd_sn h d Accepted
       → OnTaken s h d a mid
       → OnAnswer mid c.task.command c.task.need answer a' s' → MakesTurn leads s s' x x' (pdu b h d) outgoing a'.end
   accepted_turn (Initiator (ScsiCommand p)) d judged k replied =
@@ -199,10 +201,11 @@ module _ {T : Type 0} (leads : T → Asking → T → Type 0) (s mid s' : Counte
       }
   accepted_turn (Initiator (NopOut p)) d judged k replied = no_none (kinds.Serve c) a.call k.no_call some
   accepted_turn (Initiator (TaskManagementRequest p)) d judged k replied = managed_else (after_number p.immediate s) mid p a c k.management k.managed some
+  accepted_turn (Initiator (TextRequest p)) d judged k replied = no_none (kinds.Serve c) a.call k.no_call some
   accepted_turn (Initiator (LogoutRequest p)) d judged k replied = no_none (kinds.Serve c) a.call k.no_call some
   accepted_turn h d judged k replied = absurd k
 
-  called_by : (v : Verdict) (h : Header) (d : List ℕ) → IsJudgedPdu s.exp_cmd_sn h d v → OnVerdict v s h d a mid
+  called_by : (v : Verdict) (h : Header) (d : List ℕ) → IsJudgedPdu s.setting s.exp_cmd_sn h d v → OnVerdict v s h d a mid
       → OnAnswer mid c.task.command c.task.need answer a' s' → MakesTurn leads s s' x x' (pdu b h d) outgoing a'.end
   called_by Accepted h d judged k replied = accepted_turn h d judged k replied
   called_by Ignored h d judged k replied = no_none (kinds.Serve c) a.call k.0.no_call some
@@ -225,7 +228,7 @@ module _ {T : Type 0} (leads : T → Asking → T → Type 0) (s mid s' : Counte
   reset_call p d (Some (kinds.Reset k)) e is = is
 
   managed_turn : (p : ManagementHeader) (d : List ℕ) (m : Management)
-      → IsJudgedPdu s.exp_cmd_sn (Initiator (TaskManagementRequest p)) d Accepted → IsManagement s.setting.units p m
+      → IsJudgedPdu s.setting s.exp_cmd_sn (Initiator (TaskManagementRequest p)) d Accepted → IsManagement s.setting.units p m
       → OnManagedBy m (after_number p.immediate s) p a mid
       → MakesTurn leads s s' x x' (pdu b (Initiator (TaskManagementRequest p)) d) outgoing a'.end
   managed_turn p d (Respond response) judged comes_to k = no_none (kinds.Reset c) a.call k.no_call some
@@ -251,15 +254,16 @@ module _ {T : Type 0} (leads : T → Asking → T → Type 0) (s mid s' : Counte
         wanted_is = reply.ends;
       }
 
-  taken_turn : (h : Header) (d : List ℕ) → IsJudgedPdu s.exp_cmd_sn h d Accepted → OnTaken s h d a mid
+  taken_turn : (h : Header) (d : List ℕ) → IsJudgedPdu s.setting s.exp_cmd_sn h d Accepted → OnTaken s h d a mid
       → MakesTurn leads s s' x x' (pdu b h d) outgoing a'.end
   taken_turn (Initiator (TaskManagementRequest p)) d judged k = managed_turn p d k.management judged k.comes_to k.managed
   taken_turn (Initiator (ScsiCommand p)) d judged k = absurd (reset_call p d a.call some k.call)
   taken_turn (Initiator (NopOut p)) d judged k = no_none (kinds.Reset c) a.call k.no_call some
+  taken_turn (Initiator (TextRequest p)) d judged k = no_none (kinds.Reset c) a.call k.no_call some
   taken_turn (Initiator (LogoutRequest p)) d judged k = no_none (kinds.Reset c) a.call k.no_call some
   taken_turn h d judged k = absurd k
 
-  reset_by : (v : Verdict) (h : Header) (d : List ℕ) → IsJudgedPdu s.exp_cmd_sn h d v → OnVerdict v s h d a mid
+  reset_by : (v : Verdict) (h : Header) (d : List ℕ) → IsJudgedPdu s.setting s.exp_cmd_sn h d v → OnVerdict v s h d a mid
       → MakesTurn leads s s' x x' (pdu b h d) outgoing a'.end
   reset_by Accepted h d judged k = taken_turn h d judged k
   reset_by Ignored h d judged k = no_none (kinds.Reset c) a.call k.0.no_call some

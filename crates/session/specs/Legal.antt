@@ -8,7 +8,7 @@ use Rattle.iscsi_pdu.specs.declared.header.Header.{Header}
 use Rattle.iscsi_pdu.specs.declared.header.Header.TheVariants.{Initiator}
 use Rattle.iscsi_pdu.specs.declared.header.InitiatorHeader.TheVariants.{ScsiCommand, LogoutRequest}
 use Rattle.iscsi_pdu.specs.declared.header.TargetHeader.{TargetHeader}
-use Rattle.iscsi_pdu.specs.declared.header.TargetHeader.TheVariants.{NopIn, ScsiResponse, TaskManagementResponse, DataIn, LogoutResponse, Reject}
+use Rattle.iscsi_pdu.specs.declared.header.TargetHeader.TheVariants.{NopIn, ScsiResponse, TaskManagementResponse, TextResponse, DataIn, LogoutResponse, Reject}
 use Rattle.iscsi_pdu.specs.declared.header.Numbers.{Numbers}
 use Rattle.iscsi_pdu.specs.declared.fault.PduFault.{PduFault}
 use Rattle.session.specs.declared.end.End.{End}
@@ -41,6 +41,7 @@ abbrev pub status_number : TargetHeader → Option ℕ
 status_number (NopIn p) = Some p.numbers.stat_sn
 status_number (ScsiResponse p) = Some p.numbers.stat_sn
 status_number (TaskManagementResponse p) = Some p.numbers.stat_sn
+status_number (TextResponse p) = Some p.numbers.stat_sn
 status_number (LogoutResponse p) = Some p.numbers.stat_sn
 status_number (Reject p) = Some p.numbers.stat_sn
 status_number h = None
@@ -136,7 +137,7 @@ GoesOn ts = AtEach (λ before t. end_after t.verdict t.came t.call ≡ None) ts
 -- The facts of a transcript of a session with this setting that begins with this CmdSN and this StatSN.
 pub record Lawful (m : Setting) (first_cmd first_stat : ℕ) (ts : List Turn) : Type 0 where
   -- what becomes of each PDU is what the window and the rules say
-  pub judged : AtEach (λ before t. IsJudged (exp_cmd_sn_after first_cmd before) t.came t.verdict) ts
+  pub judged : AtEach (λ before t. IsJudged m (exp_cmd_sn_after first_cmd before) t.came t.verdict) ts
   -- the k-th PDU that uses up a StatSN has the first one + k
   pub numbered : (k n : ℕ) → slice_get (status_numbers (sent ts)) k ≡ Some n → n ≡ wrap (first_stat + k)
   -- each PDU that goes out has ExpCmdSN and MaxCmdSN as they are at the end of its turn

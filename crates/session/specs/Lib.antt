@@ -17,6 +17,7 @@ pub mod Source
 pub mod Stream
 pub mod Task
 pub mod TaskManagement
+pub mod Text
 pub mod Transcript
 pub mod Transfer
 pub mod Turn

@@ -5,10 +5,11 @@ use Rattle.scsi_types.specs.Lun.{NamesUnit}
 use Rattle.iscsi_pdu.specs.declared.header.ScsiCommand.{ScsiCommand as CommandHeader}
 use Rattle.iscsi_pdu.specs.declared.header.NopOut.{NopOut as NopOutHeader}
 use Rattle.iscsi_pdu.specs.declared.header.TaskManagementRequest.{TaskManagementRequest as ManagementHeader}
+use Rattle.iscsi_pdu.specs.declared.header.TextRequest.{TextRequest as TextHeader}
 use Rattle.iscsi_pdu.specs.declared.header.LogoutRequest.{LogoutRequest as LogoutHeader}
 use Rattle.iscsi_pdu.specs.declared.header.Header.{Header}
 use Rattle.iscsi_pdu.specs.declared.header.Header.TheVariants.{Initiator}
-use Rattle.iscsi_pdu.specs.declared.header.InitiatorHeader.TheVariants.{NopOut, ScsiCommand, TaskManagementRequest, LogoutRequest}
+use Rattle.iscsi_pdu.specs.declared.header.InitiatorHeader.TheVariants.{NopOut, ScsiCommand, TaskManagementRequest, TextRequest, LogoutRequest}
 use Rattle.iscsi_pdu.specs.declared.header.TargetHeader.TheVariants.{ScsiResponse, Reject}
 use Rattle.session.specs.declared.actions.Actions.{Actions}
 use Rattle.session.specs.declared.actions.Call.{Call}
@@ -36,6 +37,7 @@ use Rattle.session.specs.Response.{sense_part}
 use Rattle.session.specs.Counters.{Counters, after_status, after_number, after_command, after_answer, next_numbers}
 use Rattle.session.specs.AnswerPdus.{read_length, data_in_of, reply_with, completion_of}
 use Rattle.session.specs.Nop.{nop_answer}
+use Rattle.session.specs.Text.{text_outs}
 use Rattle.session.specs.Legal.{end_by_reset}
 use Rattle.session.specs.TaskManagement.{IsManagement, reset_response, management_answer}
 use Rattle.session.specs.Logout.{closes, logout_answer}
@@ -96,6 +98,11 @@ OnNopOut s p d a s' =
     let mid = after_number p.immediate s in
     Answers mid (nop_answer (next_numbers mid) p d) None a s'
 
+abbrev pub OnText : Counters → TextHeader → List ℕ → Actions → Counters → Type 0
+OnText s p d a s' =
+    let mid = after_number p.immediate s in
+    Answers mid (text_outs (next_numbers mid) s.setting p d) None a s'
+
 abbrev pub OnLogout : Counters → LogoutHeader → Actions → Counters → Type 0
 OnLogout s p a s' =
     let mid = after_number p.immediate s in
@@ -127,6 +134,7 @@ abbrev pub OnTaken : Counters → Header → List ℕ → Actions → Counters �
 OnTaken s (Initiator (NopOut p)) d a s' = OnNopOut s p d a s'
 OnTaken s (Initiator (ScsiCommand p)) d a s' = OnAccepted s p d a s'
 OnTaken s (Initiator (TaskManagementRequest p)) d a s' = OnManagement s p a s'
+OnTaken s (Initiator (TextRequest p)) d a s' = OnText s p d a s'
 OnTaken s (Initiator (LogoutRequest p)) d a s' = OnLogout s p a s'
 OnTaken s h d a s' = ⊥
 
@@ -147,7 +155,7 @@ OnVerdict (Refused reason) s h d a s' = OnUnaccepted (Refused reason) s a s'
 -- what a session makes of a PDU, and of a SCSI Command
 pub record OnPdu (s : Counters) (h : Header) (d : List ℕ) (a : Actions) (s' : Counters) : Type 0 where
   pub verdict : Verdict
-  pub judged : IsJudgedPdu s.exp_cmd_sn h d verdict
+  pub judged : IsJudgedPdu s.setting s.exp_cmd_sn h d verdict
   pub made : OnVerdict verdict s h d a s'
 
 abbrev pub OnCommand : Counters → CommandHeader → List ℕ → Actions → Counters → Type 0

@@ -4,7 +4,7 @@ use Rattle.scsi_types.specs.Cdb.{need_of}
 use Rattle.iscsi_pdu.specs.declared.header.ScsiCommand.{ScsiCommand as CommandHeader}
 use Rattle.iscsi_pdu.specs.declared.header.TaskManagementRequest.{TaskManagementRequest as ManagementHeader}
 use Rattle.iscsi_pdu.specs.declared.header.Header.TheVariants.{Initiator}
-use Rattle.iscsi_pdu.specs.declared.header.InitiatorHeader.TheVariants.{NopOut, ScsiCommand, TaskManagementRequest, LogoutRequest}
+use Rattle.iscsi_pdu.specs.declared.header.InitiatorHeader.TheVariants.{NopOut, ScsiCommand, TaskManagementRequest, TextRequest, LogoutRequest}
 use Rattle.iscsi_pdu.specs.declared.header.TargetHeader.TheVariants.{Reject}
 use Rattle.session.specs.declared.target.TargetAnswer.{TargetAnswer}
 use Rattle.session.specs.declared.verdict.Verdict.{Verdict}
@@ -19,6 +19,7 @@ use Rattle.session.specs.Legal.{bhs_of}
 use Rattle.session.specs.Counters.{Counters, after_status, after_number, after_command, after_answer, next_numbers}
 use Rattle.session.specs.AnswerPdus.{read_length, reply_with, completion_of}
 use Rattle.session.specs.Nop.{nop_answer}
+use Rattle.session.specs.Text.{text_outs}
 use Rattle.session.specs.TaskManagement.{IsManaged, management_answer}
 use Rattle.session.specs.Logout.{logout_answer}
 
@@ -68,6 +69,9 @@ TurnOnAccepted (pdu b (Initiator (NopOut p)) d) s call outs s' =
 TurnOnAccepted (pdu b (Initiator (ScsiCommand p)) d) s call outs s' = TurnOnCall s p d call outs s'
 TurnOnAccepted (pdu b (Initiator (TaskManagementRequest p)) d) s call outs s' =
     TurnManaged (after_number p.immediate s) p call outs s'
+TurnOnAccepted (pdu b (Initiator (TextRequest p)) d) s call outs s' =
+    let mid = after_number p.immediate s in
+    TurnAnswered mid (text_outs (next_numbers mid) s.setting p d) call outs s'
 TurnOnAccepted (pdu b (Initiator (LogoutRequest p)) d) s call outs s' =
     let mid = after_number p.immediate s in
     TurnAnswered mid (logout_answer (next_numbers mid) p) call outs s'
@@ -84,5 +88,5 @@ TurnOnVerdict (Refused reason) s came call outs s' =
 -- what a session makes of what came
 pub record TurnOf (s : Counters) (came : Incoming) (t : Turn) (s' : Counters) : Type 0 where
   pub came_is : t.came ≡ came
-  pub judged : IsJudged s.exp_cmd_sn came t.verdict
+  pub judged : IsJudged s.setting s.exp_cmd_sn came t.verdict
   pub made : TurnOnVerdict t.verdict s came t.call t.sent s'

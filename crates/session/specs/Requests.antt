@@ -1,7 +1,7 @@
 -- What answers a request that is no SCSI Command, and is accepted: a line for each kind.
 use Rattle.std.specs.Prelude.{◌≡◌, ℕ, List, Option}
 use Rattle.iscsi_pdu.specs.declared.header.Header.TheVariants.{Initiator}
-use Rattle.iscsi_pdu.specs.declared.header.InitiatorHeader.TheVariants.{NopOut, TaskManagementRequest, LogoutRequest}
+use Rattle.iscsi_pdu.specs.declared.header.InitiatorHeader.TheVariants.{NopOut, TaskManagementRequest, TextRequest, LogoutRequest}
 use Rattle.iscsi_pdu.specs.declared.header.Numbers.{Numbers}
 use Rattle.session.specs.declared.verdict.Verdict.{Verdict}
 use Rattle.session.specs.declared.verdict.Verdict.TheVariants.{Accepted, Ignored, Gap, Refused}
@@ -9,6 +9,7 @@ use Rattle.session.specs.Asking.{Asking}
 use Rattle.session.specs.Setting.{Setting}
 use Rattle.session.specs.Turn.{Incoming, pdu, Out}
 use Rattle.session.specs.Nop.{nop_answer}
+use Rattle.session.specs.Text.{text_outs}
 use Rattle.session.specs.Logout.{logout_answer}
 use Rattle.session.specs.TaskManagement.{IsManaged, management_answer}
 
@@ -17,6 +18,7 @@ abbrev pub HasItsAnswer : Setting → Incoming → Option Asking → List Out �
 HasItsAnswer m (pdu b (Initiator (NopOut p)) d) call outs = (n : Numbers) × (outs ≡ nop_answer n p d)
 HasItsAnswer m (pdu b (Initiator (TaskManagementRequest p)) d) call outs =
     (n : Numbers) × (response : Option ℕ) × IsManaged m.units p call response × (outs ≡ management_answer n p response)
+HasItsAnswer m (pdu b (Initiator (TextRequest p)) d) call outs = (n : Numbers) × (outs ≡ text_outs n m p d)
 HasItsAnswer m (pdu b (Initiator (LogoutRequest p)) d) call outs = (n : Numbers) × (outs ≡ logout_answer n p)
 HasItsAnswer m came call outs = Unit {0}
 

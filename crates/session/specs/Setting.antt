@@ -1,6 +1,27 @@
 -- What stays the same over a session.
-use Rattle.std.specs.Prelude.{ℕ}
+use Rattle.std.specs.Prelude.{ℕ, Bool, true, false, List}
+use Rattle.login.specs.Targets.{target_text}
+use Rattle.login.specs.declared.status.Kind.{Kind}
+use Rattle.login.specs.declared.status.Kind.TheVariants.{Normal, Discovery}
+use Rattle.session.specs.declared.identity.Identity.{Identity}
 
--- how many units the target has, from unit 0 on
+-- how many units the target has, from unit 0 on; the kind of the session; the target's name, and what it tells of itself
 pub record Setting : Type 0 where
   pub units : ℕ
+  pub kind : Kind
+  pub target_name : List ℕ
+  pub told : List ℕ
+
+-- the setting of a session with a target of this identity that has so many units
+abbrev pub setting_of : ℕ → Identity → Setting
+setting_of units me = record {
+  units = units;
+  kind = me.kind;
+  target_name = me.target_name.now;
+  told = target_text me.target_name.now me.first.now me.second.now;
+}
+
+-- a discovery session serves no command (RFC 7143, 4.3)
+abbrev pub discovers : Kind → Bool
+discovers Normal = false
+discovers Discovery = true

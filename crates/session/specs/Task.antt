@@ -6,7 +6,7 @@ use Rattle.scsi_types.specs.declared.command.Command.{Command}
 use Rattle.scsi_types.specs.declared.command.CdbFault.{CdbFault}
 use Rattle.iscsi_pdu.specs.declared.header.ScsiCommand.{ScsiCommand as CommandHeader}
 use Rattle.iscsi_pdu.specs.declared.header.Header.TheVariants.{Initiator}
-use Rattle.iscsi_pdu.specs.declared.header.InitiatorHeader.TheVariants.{NopOut, ScsiCommand, TaskManagementRequest, LogoutRequest}
+use Rattle.iscsi_pdu.specs.declared.header.InitiatorHeader.TheVariants.{NopOut, ScsiCommand, TaskManagementRequest, TextRequest, LogoutRequest}
 use Rattle.session.specs.Asking.{Asking, served, reset}
 use Rattle.session.specs.Setting.{Setting}
 use Rattle.session.specs.TaskManagement.{IsManaged}
@@ -54,6 +54,7 @@ abbrev pub IsAcceptedCall : Setting → Incoming → Option Asking → Type 0
 IsAcceptedCall m (pdu b (Initiator (NopOut p)) d) call = call ≡ None
 IsAcceptedCall m (pdu b (Initiator (ScsiCommand p)) d) call = IsAskedFor p d call
 IsAcceptedCall m (pdu b (Initiator (TaskManagementRequest p)) d) call = (response : Option ℕ) × IsManaged m.units p call response
+IsAcceptedCall m (pdu b (Initiator (TextRequest p)) d) call = call ≡ None
 IsAcceptedCall m (pdu b (Initiator (LogoutRequest p)) d) call = call ≡ None
 IsAcceptedCall m came call = ⊥
 

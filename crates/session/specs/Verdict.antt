@@ -24,6 +24,8 @@ use Rattle.session.specs.declared.verdict.TheConstants.{PROTOCOL_ERROR, COMMAND_
 use Rattle.session.specs.declared.window.TheConstants.{WINDOW}
 use Rattle.session.specs.Turn.{Incoming, pdu, faulty}
 use Rattle.session.specs.Transfer.{expected_transfer}
+use Rattle.session.specs.Setting.{Setting, discovers}
+use Rattle.session.specs.Text.{is_text_refused}
 use Rattle.session.specs.Window.{ahead}
 
 -- a SCSI Command with the reserved tag, with more immediate data than the length that it expects, a read of more
@@ -44,28 +46,31 @@ window_verdict exp_cmd_sn immediate cmd_sn refused =
     else (if nat_lt (ahead cmd_sn exp_cmd_sn) WINDOW then Gap else Ignored)
 
 -- what becomes of a SCSI Command that needs this much data, where this CmdSN is expected
-abbrev pub verdict_of : ℕ → CommandHeader → List ℕ → ℕ → Verdict
-verdict_of exp_cmd_sn p d need = window_verdict exp_cmd_sn p.immediate p.numbers.cmd_sn (is_refused p d need)
+abbrev pub verdict_of : Setting → ℕ → CommandHeader → List ℕ → ℕ → Verdict
+verdict_of m exp_cmd_sn p d need =
+    window_verdict exp_cmd_sn p.immediate p.numbers.cmd_sn (discovers m.kind || is_refused p d need)
 
-abbrev pub IsJudgedCommand : ℕ → CommandHeader → List ℕ → Verdict → Type 0
-IsJudgedCommand exp_cmd_sn p d v =
-    (asked : Result Command CdbFault) × Means p.cdb asked × (v ≡ verdict_of exp_cmd_sn p d (need_of asked))
+abbrev pub IsJudgedCommand : Setting → ℕ → CommandHeader → List ℕ → Verdict → Type 0
+IsJudgedCommand m exp_cmd_sn p d v =
+    (asked : Result Command CdbFault) × Means p.cdb asked × (v ≡ verdict_of m exp_cmd_sn p d (need_of asked))
 
 -- what becomes of a PDU: a kind that is not served, and a PDU of a target, count as an unknown opcode
-abbrev pub IsJudgedPdu : ℕ → Header → List ℕ → Verdict → Type 0
-IsJudgedPdu e (Initiator (NopOut p)) d v = v ≡ window_verdict e p.immediate p.numbers.cmd_sn false
-IsJudgedPdu e (Initiator (ScsiCommand p)) d v = IsJudgedCommand e p d v
-IsJudgedPdu e (Initiator (TaskManagementRequest p)) d v = v ≡ window_verdict e p.immediate p.numbers.cmd_sn false
-IsJudgedPdu e (Initiator (LoginRequest p)) d v = v ≡ Refused PROTOCOL_ERROR
-IsJudgedPdu e (Initiator (TextRequest p)) d v = v ≡ Refused COMMAND_NOT_SUPPORTED
-IsJudgedPdu e (Initiator (DataOut p)) d v = v ≡ Refused COMMAND_NOT_SUPPORTED
-IsJudgedPdu e (Initiator (LogoutRequest p)) d v = v ≡ window_verdict e p.immediate p.numbers.cmd_sn false
-IsJudgedPdu e (Target p) d v = v ≡ Refused COMMAND_NOT_SUPPORTED
+abbrev pub IsJudgedPdu : Setting → ℕ → Header → List ℕ → Verdict → Type 0
+IsJudgedPdu m e (Initiator (NopOut p)) d v = v ≡ window_verdict e p.immediate p.numbers.cmd_sn false
+IsJudgedPdu m e (Initiator (ScsiCommand p)) d v = IsJudgedCommand m e p d v
+IsJudgedPdu m e (Initiator (TaskManagementRequest p)) d v =
+    v ≡ window_verdict e p.immediate p.numbers.cmd_sn (discovers m.kind)
+IsJudgedPdu m e (Initiator (LoginRequest p)) d v = v ≡ Refused PROTOCOL_ERROR
+IsJudgedPdu m e (Initiator (TextRequest p)) d v =
+    v ≡ window_verdict e p.immediate p.numbers.cmd_sn (is_text_refused m p d)
+IsJudgedPdu m e (Initiator (DataOut p)) d v = v ≡ Refused COMMAND_NOT_SUPPORTED
+IsJudgedPdu m e (Initiator (LogoutRequest p)) d v = v ≡ window_verdict e p.immediate p.numbers.cmd_sn false
+IsJudgedPdu m e (Target p) d v = v ≡ Refused COMMAND_NOT_SUPPORTED
 
 abbrev pub reason_of : PduFault → ℕ
 reason_of UnknownOpcode = COMMAND_NOT_SUPPORTED
 reason_of f = INVALID_PDU_FIELD
 
-abbrev pub IsJudged : ℕ → Incoming → Verdict → Type 0
-IsJudged exp_cmd_sn (pdu b h d) v = IsJudgedPdu exp_cmd_sn h d v
-IsJudged exp_cmd_sn (faulty f b) v = v ≡ Refused (reason_of f)
+abbrev pub IsJudged : Setting → ℕ → Incoming → Verdict → Type 0
+IsJudged m exp_cmd_sn (pdu b h d) v = IsJudgedPdu m exp_cmd_sn h d v
+IsJudged m exp_cmd_sn (faulty f b) v = v ≡ Refused (reason_of f)

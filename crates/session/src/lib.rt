@@ -16,6 +16,7 @@
 mod actions;
 mod data_in;
 mod end;
+mod identity;
 mod inbox;
 mod laws;
 mod logout;
@@ -27,6 +28,7 @@ mod source;
 mod stream;
 mod target;
 mod task_management;
+mod text;
 mod transfer;
 mod verdict;
 mod waiting;
@@ -35,6 +37,7 @@ mod window;
 
 pub use actions::{Actions, Call, DataInPdu, OpenTask, Pdus, ResetCall, ResponsePdu, ServeCall};
 pub use end::End;
+pub use identity::Identity;
 pub use laws::{
     a_read_gets_the_data_of_its_answer, no_command_is_answered_twice,
     status_numbers_are_consecutive, the_window_never_falls,
@@ -43,5 +46,6 @@ pub use session::{Session, Start};
 pub use source::{Failed, Sink, Source};
 pub use stream::serve_stream;
 pub use target::{ResetAnswer, Target, TargetAnswer};
+pub use text::MadeText;
 pub use verdict::Verdict;
 pub use watched::Watched;

@@ -1,34 +1,42 @@
 //! A session without bytes: what it makes of PDUs and of answers.
-ghost use Rattle.std.specs.Prelude.{◌≡◌, ℕ, List, ◌≤◌, length, IfSome, MatchOption};
+ghost use Rattle.std.specs.Prelude.{◌≡◌, ℕ, List, ◌≤◌, length, vec_capacity, IfOk, IfSome, MatchOption};
 ghost use Rattle.scsi_types.specs.Cdb.{need_of};
 ghost use Rattle.session.specs.Counters.{Counters, begun, after_number, next_numbers};
 ghost use Rattle.session.specs.TaskManagement.{management_answer};
+ghost use Rattle.session.specs.declared.text.MadeText.{MadeText};
+ghost use Rattle.session.specs.Setting.{setting_of};
+ghost use Rattle.session.specs.Text.{IsAnswerOf, IsMadeOf, IsMade};
 ghost use Rattle.session.specs.declared.verdict.Verdict.TheVariants.{Accepted};
 ghost use Rattle.session.specs.declared.verdict.TheConstants.{MAX_READ_LENGTH};
 ghost use Rattle.session.specs.Verdict.{reason_of, window_verdict};
 ghost use Rattle.session.specs.AnswerPdus.{IsWithin, read_length, reply_with};
-ghost use Rattle.session.specs.Machine.{OnPdu, OnCommand, OnNopOut, OnLogout, OnManagement, OnResetAnswer, OnUnaccepted, OnRefusal, OnAnswer, Sends, Answers, out_of};
+ghost use Rattle.session.specs.Machine.{OnPdu, OnCommand, OnNopOut, OnText, OnLogout, OnManagement, OnResetAnswer, OnUnaccepted, OnRefusal, OnAnswer, Sends, Answers, out_of};
 
 use crate::actions::{Actions, Call, OpenTask, Pdus, ResetCall, ResponsePdu, ServeCall};
 use crate::data_in::data_in_pdu;
 use crate::end::End;
 use crate::logout::{logout_end, logout_response};
-use crate::nop::nop_in;
+use crate::identity::Identity;
+use crate::nop::{DECLARED_LENGTH, nop_in};
 use crate::response::{COMPLETED, Completion, TARGET_FAILURE, scsi_response};
 use crate::target::{ResetAnswer, TargetAnswer};
 use crate::task_management::{
     Management, management_for, management_response, reset_end, reset_response,
 };
+use crate::text::{MadeText, discovers, is_part, text_response};
 use crate::transfer::command_data;
 use crate::verdict::{
-    COMMAND_NOT_SUPPORTED, PROTOCOL_ERROR, Verdict, command_verdict, reject_reason, window_verdict,
+    COMMAND_NOT_SUPPORTED, PROTOCOL_ERROR, Verdict, has_cause_of_reject, reject_reason,
+    window_verdict,
 };
 use crate::window::{next_exp_cmd_sn, target_numbers};
 use iscsi_pdu::{
     Header, InitiatorHeader, LogoutRequest, NopOut, Numbers, Pdu, PduFault, Reject, ScsiCommand,
-    TaskManagementRequest,
+    TaskManagementRequest, TextRequest,
 };
+use login::{Kind, TextAnswer, answer_within, target_text};
 use scsi_types::{Asked, Lun, Status, decode, need};
+use std::alloc::{AllocError, Global};
 use std::marker::Model;
 
 /// The numbers with which a session begins.
@@ -47,6 +55,10 @@ pub struct Session {
     exp_cmd_sn: u32,
     // How many units the target has.
     units: u16,
+    kind: Kind,
+    target_name: Vec<u8>,
+    // What the target tells of itself.
+    told: Vec<u8>,
 }
 
 impl Model for Session {
@@ -55,38 +67,87 @@ impl Model for Session {
     ghost Value = { Counters };
 
     ghost view = { λ s. record {
-        setting = record { units = s.units };
+        setting = record {
+            units = s.units;
+            kind = s.kind;
+            target_name = s.target_name.items;
+            told = s.told.items;
+        };
         stat_sn = s.stat_sn;
         exp_cmd_sn = s.exp_cmd_sn;
     } };
 }
 
 impl Session {
-    /// A session that begins with these numbers, with a target that has so many units.
-    pub fn new(start: Start, units: u16) -> Session
-        ensures { result ≡ begun (record { units = units }) start.exp_cmd_sn start.stat_sn }
+    /// A session that begins with these numbers, with a target of this identity that has so many units.
+    pub fn new(
+        alloc: Global,
+        start: Start,
+        units: u16,
+        me: &Identity<'_>,
+    ) -> Result<Session, AllocError>
+        ensures { IfOk result (λ s. s ≡ begun (setting_of units me.now) start.exp_cmd_sn start.stat_sn) }
     {
-        Session {
+        Ok(Session {
             stat_sn: start.stat_sn,
             exp_cmd_sn: start.exp_cmd_sn,
             units,
+            kind: me.kind,
+            target_name: me.target_name.to_vec(alloc)?,
+            told: target_text(alloc, me.target_name, me.first, me.second)?,
+        })
+    }
+
+    /// Answers the text of a PDU, where it is a Text Request, in memory with room for the most bytes that the initiator
+    /// takes: whether it has an answer of no more.
+    pub fn make_text(&self, room: &mut Vec<u8>, pdu: &Pdu<'_>) -> bool
+        requires room { DECLARED_LENGTH ≤ vec_capacity room.old }
+        ensures made { (text : MadeText) → text.answered ≡ result → text.bytes.now ≡ room.new.items
+            → IsMade self.now.setting pdu.now.header pdu.now.data.now text }
+        ensures kept { DECLARED_LENGTH ≤ vec_capacity room.new }
+    {
+        match pdu.header {
+            Header::Initiator(InitiatorHeader::TextRequest(_)) => self.answer_in(room, pdu.data),
+            _ => false,
+        }
+    }
+
+    // Answers a text, where it has an answer that the initiator takes.
+    fn answer_in(&self, room: &mut Vec<u8>, bytes: &[u8]) -> bool
+        requires room { DECLARED_LENGTH ≤ vec_capacity room.old }
+        ensures made { IsMadeOf result self.now.setting bytes.now room.new.items }
+        ensures kept { DECLARED_LENGTH ≤ vec_capacity room.new }
+    {
+        let most = DECLARED_LENGTH as usize;
+        match answer_within(room, most, &self.target_name, self.kind, &self.told, bytes) {
+            TextAnswer::Answered => true,
+            TextAnswer::Fault => false,
+            TextAnswer::TooLong => false,
         }
     }
 
     /// What a PDU calls for: the window first, then the causes of a Reject (RFC 7143, 4.2.2.1 and 7.3). A command
-    /// that is accepted is to be called. A PDU of a kind that is not served is rejected.
-    pub fn on_pdu<'a>(&mut self, pdu: Pdu<'a>) -> Actions<'a>
+    /// that is accepted is to be called. A PDU of a kind that is not served is rejected. `text` is what
+    /// [`make_text`](Session::make_text) made of the PDU.
+    pub fn on_pdu<'a>(&mut self, pdu: Pdu<'a>, text: MadeText<'a>) -> Actions<'a>
+        requires made { IsMade self.old.setting pdu.header pdu.data.now text }
         ensures on { OnPdu self.old pdu.entry.header pdu.entry.data.now result self.new }
         ensures within { IsWithin MAX_READ_LENGTH result.pdus }
     {
         match pdu.header {
-            Header::Initiator(header) => self.on_initiator(header, pdu.data),
+            Header::Initiator(header) => self.on_initiator(header, pdu.data, text),
             Header::Target(_) => self.reject(COMMAND_NOT_SUPPORTED),
         }
     }
 
     // What an initiator's PDU calls for.
-    fn on_initiator<'a>(&mut self, header: InitiatorHeader, bytes: &'a [u8]) -> Actions<'a>
+    fn on_initiator<'a>(
+        &mut self,
+        header: InitiatorHeader,
+        bytes: &'a [u8],
+        text: MadeText<'a>,
+    ) -> Actions<'a>
+        requires made { IsMade self.old.setting (Header.Initiator header) bytes.now text }
         ensures on { OnPdu self.old (Header.Initiator header) bytes.now result self.new }
         ensures within { IsWithin MAX_READ_LENGTH result.pdus }
     {
@@ -95,7 +156,7 @@ impl Session {
             InitiatorHeader::ScsiCommand(command) => self.on_command(command, bytes),
             InitiatorHeader::TaskManagementRequest(request) => self.on_task_management(request),
             InitiatorHeader::LoginRequest(_) => self.reject(PROTOCOL_ERROR),
-            InitiatorHeader::TextRequest(_) => self.reject(COMMAND_NOT_SUPPORTED),
+            InitiatorHeader::TextRequest(request) => self.on_text(request, bytes, text),
             InitiatorHeader::DataOut(_) => self.reject(COMMAND_NOT_SUPPORTED),
             InitiatorHeader::LogoutRequest(request) => self.on_logout(request),
         }
@@ -123,13 +184,49 @@ impl Session {
         self.answer(pdu, None)
     }
 
+    // What a Text Request calls for.
+    fn on_text<'a>(
+        &mut self,
+        request: TextRequest,
+        bytes: &'a [u8],
+        text: MadeText<'a>,
+    ) -> Actions<'a>
+        requires made { IsMadeOf text.answered self.old.setting bytes.now text.bytes.now }
+        ensures on { OnPdu self.old (Header.Initiator (InitiatorHeader.TextRequest request)) bytes.now result self.new }
+        ensures within { IsWithin MAX_READ_LENGTH result.pdus }
+    {
+        let refused = is_part(&request) || !text.answered;
+        let verdict = self.verdict(request.immediate, request.numbers.cmd_sn, refused);
+        match self.turned_away(verdict) {
+            Some(actions) => actions,
+            None => self.answer_text(request, bytes, text.bytes),
+        }
+    }
+
+    // An accepted Text Request, whose text has this answer.
+    fn answer_text<'a>(
+        &mut self,
+        request: TextRequest,
+        bytes: &'a [u8],
+        answer: &'a [u8],
+    ) -> Actions<'a>
+        requires made { IsAnswerOf self.old.setting bytes.now answer.now }
+        ensures on { OnText self.old request bytes.now result self.new }
+        ensures within { IsWithin MAX_READ_LENGTH result.pdus }
+    {
+        self.accept(request.immediate);
+        let pdu = text_response(self.next_numbers(), &request, answer);
+        self.answer(Some(pdu), None)
+    }
+
     // What a request for task management calls for.
     fn on_task_management<'a>(&mut self, request: TaskManagementRequest) -> Actions<'a>
         ensures on { (d : List ℕ)
             → OnPdu self.old (Header.Initiator (InitiatorHeader.TaskManagementRequest request)) d result self.new }
         ensures within { IsWithin MAX_READ_LENGTH result.pdus }
     {
-        let verdict = self.verdict(request.immediate, request.numbers.cmd_sn, false);
+        let refused = discovers(self.kind);
+        let verdict = self.verdict(request.immediate, request.numbers.cmd_sn, refused);
         match self.turned_away(verdict) {
             Some(actions) => actions,
             None => self.manage(request),
@@ -260,7 +357,8 @@ impl Session {
     {
         let asked = decode(&command.cdb);
         let need = data_needed(&asked);
-        let verdict = command_verdict(self.exp_cmd_sn, &command, bytes, need);
+        let refused = discovers(self.kind) || has_cause_of_reject(&command, bytes, need);
+        let verdict = self.verdict(command.immediate, command.numbers.cmd_sn, refused);
         match self.turned_away(verdict) {
             Some(actions) => actions,
             None => {

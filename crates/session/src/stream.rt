@@ -1,19 +1,23 @@
-ghost use Rattle.std.specs.Prelude.{◌≡◌, ◌<◌, ◌≤◌, [], length, Some, IfOk, OnErr};
+ghost use Rattle.std.specs.Prelude.{◌≡◌, ◌<◌, ◌≤◌, [], length, vec_capacity, Some, IfOk, OnErr};
 ghost use Rattle.std.specs.Io.KnownBytes.{Keeps};
 ghost use Rattle.session.specs.declared.end.End.TheVariants.{InputFailed, OutputFailed};
 ghost use Rattle.session.specs.Source.{Counted};
 ghost use Rattle.session.specs.Inbox.{Filled};
 ghost use Rattle.session.specs.Turn.{pdu as came, faulty};
 ghost use Rattle.session.specs.Stream.{IsSentOut, MakesTurn, StreamTurn};
+ghost use Rattle.session.specs.Setting.{setting_of};
 ghost use Rattle.session.specs.Transcript.{IsTranscribed, IsFailureOf};
 
 use crate::actions::Call;
 use crate::end::End;
+use crate::identity::Identity;
 use crate::inbox::{INBOX_CAPACITY, Inbox};
+use crate::nop::DECLARED_LENGTH;
 use crate::outbox::Outbox;
 use crate::session::{Session, Start};
 use crate::source::{Failed, Sink, Source};
 use crate::target::Target;
+use crate::text::MadeText;
 use crate::waiting::{Front, front_of};
 use iscsi_pdu::{BHS_LENGTH, LONGEST_PDU, Pdu, PduFault};
 use scsi_types::NoMemory;
@@ -24,15 +28,23 @@ fn turn<T: Target>(
     session: &mut Session,
     target: &mut T,
     outbox: &mut Outbox,
+    room: &mut Vec<u8>,
     bhs: &[u8],
     pdu: Pdu<'_>,
 ) -> Option<End>
+    requires room { DECLARED_LENGTH ≤ vec_capacity room.old }
     requires bhs { length bhs.now ≡ BHS_LENGTH }
     requires empty { outbox.old ≡ [] }
-    ensures { MakesTurn T.leads session.old session.new target.old target.new
+    ensures kept { DECLARED_LENGTH ≤ vec_capacity room.new }
+    ensures turn { MakesTurn T.leads session.old session.new target.old target.new
         (came bhs.now pdu.entry.header pdu.entry.data.now) outbox.new result }
 {
-    let actions = session.on_pdu(pdu);
+    let answered = session.make_text(room, &pdu);
+    let text = MadeText {
+        answered,
+        bytes: room.as_slice(),
+    };
+    let actions = session.on_pdu(pdu, text);
     match actions.call {
         None => {
             outbox.fill(bhs, &actions.pdus);
@@ -112,8 +124,9 @@ pub fn serve_stream<S: Source, K: Sink, T: Target>(
     sink: &mut K,
     target: &mut T,
     start: Start,
+    me: &Identity<'_>,
 ) -> Result<End, NoMemory>
-    ensures transcribed { IfOk result (IsTranscribed T.leads (record { units = T.unit_count target.old }) start.exp_cmd_sn start.stat_sn
+    ensures transcribed { IfOk result (IsTranscribed T.leads (setting_of (T.unit_count target.old) me.now) start.exp_cmd_sn start.stat_sn
         (S.left source.old) (S.left source.new) (K.held sink.old) (K.held sink.new) target.old target.new) }
     ensures input_failed { IfOk result (IsFailureOf InputFailed (S.failures source.old) (S.failures source.new)) }
     ensures output_failed { IfOk result (IsFailureOf OutputFailed (K.failures sink.old) (K.failures sink.new)) }
@@ -121,12 +134,13 @@ pub fn serve_stream<S: Source, K: Sink, T: Target>(
 {
     let mut inbox = Inbox::new(alloc)?;
     let mut outbox = Outbox::new(alloc)?;
-    let mut session = Session::new(start, target.units());
+    let mut session = Session::new(alloc, start, target.units(), me)?;
+    let mut room = Vec::with_capacity(alloc, DECLARED_LENGTH as usize)?;
     let mut reads: u64 = 0;
     while reads < u64::MAX {
         match front_of(inbox.bytes()) {
             Front::Whole { bhs, pdu, taken } => {
-                let wanted = turn(&mut session, target, &mut outbox, bhs, pdu);
+                let wanted = turn(&mut session, target, &mut outbox, &mut room, bhs, pdu);
                 match flush(sink, &mut outbox, wanted) {
                     Some(end) => return Ok(end),
                     None => inbox.consume(taken),

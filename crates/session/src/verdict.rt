@@ -1,6 +1,6 @@
 //! What becomes of a PDU that comes (RFC 7143, 4.2.2.1, 7.3 and 11.17).
 ghost use Rattle.std.specs.Prelude.{◌≡◌};
-ghost use Rattle.session.specs.Verdict.{window_verdict, verdict_of, is_refused, reason_of};
+ghost use Rattle.session.specs.Verdict.{window_verdict, is_refused, reason_of};
 
 use crate::data_in::MAX_DATA_IN_LENGTH;
 use crate::transfer::expected_data_length;
@@ -32,14 +32,6 @@ pub const COMMAND_NOT_SUPPORTED: u8 = 0x05;
 
 pub const INVALID_PDU_FIELD: u8 = 0x09;
 
-/// What becomes of a command that needs this much data, where this CmdSN is expected.
-pub fn command_verdict(exp_cmd_sn: u32, command: &ScsiCommand, bytes: &[u8], need: u32) -> Verdict
-    ensures { result ≡ verdict_of exp_cmd_sn command.now bytes.now need }
-{
-    let refused = has_cause_of_reject(command, bytes, need);
-    window_verdict(exp_cmd_sn, command.immediate, command.numbers.cmd_sn, refused)
-}
-
 /// What becomes of a PDU with this I bit and this CmdSN, where this CmdSN is expected, which is rejected in its turn if
 /// there is a cause (RFC 7143, 4.2.2.1).
 pub fn window_verdict(exp_cmd_sn: u32, immediate: bool, cmd_sn: u32, refused: bool) -> Verdict
@@ -59,8 +51,8 @@ pub fn window_verdict(exp_cmd_sn: u32, immediate: bool, cmd_sn: u32, refused: bo
     }
 }
 
-// Whether a command that has its turn is one against the protocol.
-fn has_cause_of_reject(command: &ScsiCommand, bytes: &[u8], need: u32) -> bool
+/// Whether a command that has its turn and needs this much data is one against the protocol.
+pub fn has_cause_of_reject(command: &ScsiCommand, bytes: &[u8], need: u32) -> bool
     ensures { result ≡ is_refused command.now bytes.now need }
 {
     command.task_tag == RESERVED_TAG

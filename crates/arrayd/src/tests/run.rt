@@ -90,7 +90,7 @@ pub fn serve(
     };
     let mut source = Watched::new(FakeReader::new(input, reads));
     let mut sink = Watched::new(FakeWriter::new(alloc, WHOLE));
-    let (end, device) = once(alloc, &mut source, &mut sink, fused)?;
+    let (end, device) = once(alloc, &mut source, &mut sink, fused, &crate::IDENTITY)?;
     let kept = keeps(&mut device.into_inner(), count, row.written);
     Ok((end, sink.into_inner().into_bytes(), kept))
 }

@@ -8,10 +8,6 @@ pub returns-in-LoginRequest-clause-on : goal.returns-in-LoginRequest-clause-on
 returns-in-LoginRequest-clause-on c =
     refused _ _ (Initiator c.args.header) c.args.bytes.now c.reject.result PROTOCOL_ERROR (rw c.in-LoginRequest.is refl) c.reject.ensures.on
 
-pub returns-in-TextRequest-clause-on : goal.returns-in-TextRequest-clause-on
-returns-in-TextRequest-clause-on c =
-    refused _ _ (Initiator c.args.header) c.args.bytes.now c.reject-in-TextRequest.result COMMAND_NOT_SUPPORTED (rw c.in-TextRequest.is refl) c.reject-in-TextRequest.ensures.on
-
 pub returns-in-DataOut-clause-on : goal.returns-in-DataOut-clause-on
 returns-in-DataOut-clause-on c =
     refused _ _ (Initiator c.args.header) c.args.bytes.now c.reject-in-DataOut.result COMMAND_NOT_SUPPORTED (rw c.in-DataOut.is refl) c.reject-in-DataOut.ensures.on
