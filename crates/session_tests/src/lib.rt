@@ -18,4 +18,6 @@ mod streams;
 #[cfg(test)]
 mod task_management;
 #[cfg(test)]
+mod text;
+#[cfg(test)]
 mod window;

@@ -1,7 +1,9 @@
 //! The runner of the tables, and the target that it serves.
+use login::Kind;
 use scsi_types::{Asked, Command, Reply, Sense};
-use session::{End, ResetAnswer, Start, Target, TargetAnswer, Watched, serve_stream};
+use session::{End, Identity, ResetAnswer, Start, Target, TargetAnswer, Watched, serve_stream};
 use std::alloc::Global;
+use std::net::{Ipv4Addr, SocketAddrV4};
 use std::process::Abort;
 use std::test::Fail;
 use test_streams::{
@@ -83,16 +85,27 @@ pub const FROM_ONE: Start = Start {
     stat_sn: 1,
 };
 
-/// Serves this input, read and written so.
+// A portal at this port of the host itself.
+fn portal(port: u16) -> [SocketAddrV4; 1] {
+    [SocketAddrV4::new(Ipv4Addr::new(127, 0, 0, 1), port)]
+}
+
+/// Serves this input, read and written so, with a target that has a portal of each controller.
 pub fn serve(
     alloc: Global,
     input: &[u8],
     reads: Calls,
     writes: Calls,
-    start: Start,
+    (kind, start): (Kind, Start),
     answer: Answer,
     reset: ResetAnswer,
 ) -> Result<Ran, Fail> {
+    let me = Identity {
+        kind,
+        target_name: b"iqn.2000-01.test:array",
+        first: &portal(3260),
+        second: &portal(3264),
+    };
     let mut source = Watched::new(FakeReader::new(input, reads));
     let mut sink = Watched::new(FakeWriter::new(alloc, writes));
     let mut target = Fixed {
@@ -103,7 +116,7 @@ pub fn serve(
         asked: Vec::new(alloc),
         given: Vec::new(alloc),
     };
-    let end = serve_stream(alloc, &mut source, &mut sink, &mut target, start)?;
+    let end = serve_stream(alloc, &mut source, &mut sink, &mut target, start, &me)?;
     Ok(Ran {
         end,
         output: sink.into_inner().into_bytes(),
@@ -117,6 +130,7 @@ pub fn serve(
 #[derive(Clone, Copy, Debug)]
 pub struct Row {
     pub name: &'static str,
+    pub kind: Kind,
     pub start: Start,
     /// What comes.
     pub input: &'static [PduRow<'static>],
@@ -139,6 +153,7 @@ pub const TEST: (Option<u8>, Asked) = (Some(0), Ok(Command::TestUnitReady));
 /// From CmdSN 1 and StatSN 1, one TEST UNIT READY that is served, and the end of the input.
 pub const PLAIN: Row = Row {
     name: "TEST UNIT READY",
+    kind: Kind::Normal,
     start: FROM_ONE,
     input: &[PduRow(&TEST_UNIT_READY, &[], Segment::None)],
     answer: Answer::Good(0),
@@ -157,7 +172,13 @@ pub fn run(rt: &impl Abort, alloc: Global, rows: &[Row]) -> Result<(), Fail> {
         let output = spelled(alloc, row.output)?;
         let given = pattern(alloc, row.given)?;
         let ran = serve(
-            alloc, &input, WHOLE, WHOLE, row.start, row.answer, row.reset,
+            alloc,
+            &input,
+            WHOLE,
+            WHOLE,
+            (row.kind, row.start),
+            row.answer,
+            row.reset,
         )?;
         assert_eq!(rt; ran.end, row.end, "{}", row.name);
         assert_eq!(rt; ran.output.as_slice(), output.as_slice(), "{}", row.name);

@@ -1,5 +1,6 @@
 //! Sources and sinks that cut the bytes anywhere, and fail at each call in turn.
 use crate::run::{Answer, FROM_ONE, serve};
+use login::Kind;
 use session::{End, ResetAnswer};
 use std::alloc::Global;
 use std::io::ErrorKind;
@@ -49,7 +50,7 @@ fn expect(
         front,
         reads,
         writes,
-        FROM_ONE,
+        (Kind::Normal, FROM_ONE),
         Answer::Good(0),
         ResetAnswer::Done,
     )?;
