@@ -35,9 +35,9 @@ next_reset : (sessions : List Attached) (by_session session : ℕ) → next_of (
 next_reset [] by_session session = refl
 next_reset (a ∷ rest) by_session session =
     ⊎_elim (λ (own : (nat_eq a.id by_session ≡ true) × (a.id ≡ by_session)). rw own.0
-      (⊎_elim (λ (t : (nat_eq a.id session ≡ true) × (a.id ≡ session)). rw t.0 refl) (λ (f : (nat_eq a.id session ≡ false) × (a.id ≢ session)). rw f.0 (next_reset rest by_session session)) (eqb_tells a.id session)))
+    (⊎_elim (λ (t : (nat_eq a.id session ≡ true) × (a.id ≡ session)). rw t.0 refl) (λ (f : (nat_eq a.id session ≡ false) × (a.id ≢ session)). rw f.0 (next_reset rest by_session session)) (eqb_tells a.id session)))
     (λ (other : (nat_eq a.id by_session ≡ false) × (a.id ≢ by_session)). rw other.0
-      (⊎_elim (λ (t : (nat_eq a.id session ≡ true) × (a.id ≡ session)). rw t.0 refl) (λ (f : (nat_eq a.id session ≡ false) × (a.id ≢ session)). rw f.0 (next_reset rest by_session session)) (eqb_tells a.id session)))
+    (⊎_elim (λ (t : (nat_eq a.id session ≡ true) × (a.id ≡ session)). rw t.0 refl) (λ (f : (nat_eq a.id session ≡ false) × (a.id ≢ session)). rw f.0 (next_reset rest by_session session)) (eqb_tells a.id session)))
     (eqb_tells a.id by_session)
 
 pub ready_reset : (c new : ControlValue) (session serial : ℕ) → next_of c.sessions session ≡ Some serial → new ≡ control_after c (Reset session) → next_of new.sessions session ≡ Some serial

@@ -97,8 +97,7 @@ fn serve_once<R: Input + Print>(rt: &R, alloc: Global) -> Result<(), Fault> {
         first: &portal(3260),
         second: &portal(3264),
     };
-    let (_end, _blocks): (End, MemBlocks) =
-        once::once(alloc, &mut source, &mut sink, blocks, &me)?;
+    let (_end, _blocks): (End, MemBlocks) = once::once(alloc, &mut source, &mut sink, blocks, &me)?;
     Ok(())
 }
 
