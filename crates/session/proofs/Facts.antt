@@ -48,23 +48,7 @@ use Rattle.session.specs.Legal.{IsOfCommand}
 use Rattle.session.specs.Counters.{Counters, after_status, after_number, after_command, after_answer, next_numbers}
 use Rattle.session.specs.AnswerPdus.{read_length, data_in_for, response_for}
 use Rattle.session.specs.MachineTurn.{TurnOnAnswer, TurnOnAccepted, TurnOnVerdict}
-
--- what is judged of one turn, where the session's counters are these before and behind it
-pub record TurnFacts (s s' : Counters) (came : Incoming) (v : Verdict) (call : Option Asking)
-    (outs : List Out) : Type 0 where
-  pub setting_is : s'.setting ≡ s.setting
-  pub judged : IsJudged s.setting s.exp_cmd_sn came v
-  pub windows : HaveWindow s'.exp_cmd_sn outs
-  pub called : IsCalled s.setting v came call
-  pub answered : IsAnsweredTask (task_by v came call outs) outs
-  pub tiled : IsTiledTask (task_by v came call outs) outs
-  pub counted : IsCountedTask (task_by v came call outs)
-  pub residual : HasResiduals (task_by v came call outs)
-  pub told : IsToldTask (task_by v came call outs)
-  pub rejected : IsRejected v came outs
-  pub requests : IsRequestAnswered s.setting v came call outs
-  pub commands : ((s'.exp_cmd_sn ≡ s.exp_cmd_sn) × (takes_number v came ≡ false)) ⊎ ((s'.exp_cmd_sn ≡ wrap (s.exp_cmd_sn + 1)) × (takes_number v came ≡ true))
-  pub statuses : ((s'.stat_sn ≡ s.stat_sn) × (status_numbers outs ≡ [])) ⊎ ((s'.stat_sn ≡ wrap (s.stat_sn + 1)) × (status_numbers outs ≡ s.stat_sn ∷ []))
+use Rattle.session.proofs.RequestFacts.{TurnFacts, commands_of, moved, nop_facts, managed_facts, text_facts, logout_facts}
 
 abbrev none_data : List ℕ
 none_data = []
@@ -161,11 +145,6 @@ take_none : (n : ℕ) → take n none_data ≡ none_data
 take_none zero = refl
 take_none (suc n) = refl
 
-commands_of : (i : Bool) (e : ℕ)
-    → (((if i then e else wrap (e + 1)) ≡ e) × (not i ≡ false)) ⊎ (((if i then e else wrap (e + 1)) ≡ wrap (e + 1)) × (not i ≡ true))
-commands_of true e = inl (refl, refl)
-commands_of false e = inr (refl, refl)
-
 module _ (s : Counters) (b : List ℕ) (p : CommandHeader) (d : List ℕ) (asked : Result Command CdbFault)
     (unit : Option ℕ) (answer : TargetAnswer)
     (judged : IsJudged s.setting s.exp_cmd_sn (pdu b (Initiator (ScsiCommand p)) d) Accepted) (means : Means p.cdb asked)
@@ -252,10 +231,6 @@ module _ (s : Counters) (b : List ℕ) (p : CommandHeader) (d : List ℕ) (asked
 abbrev told : ℕ → Status → Option Sense → Completion
 told response status sense = record { response = response; status = status; sense = sense }
 
-moved : {s s1 s2 : Counters} {came : Incoming} {v : Verdict} {call call' : Option Asking} {outs outs' : List Out}
-    → call' ≡ call → outs' ≡ outs → s2 ≡ s1 → TurnFacts s s1 came v call outs → TurnFacts s s2 came v call' outs'
-moved e f g k = rw (e, f, g) k
-
 module _ (s s' : Counters) (b : List ℕ) (p : CommandHeader) (d : List ℕ) (call : Option Asking) (outs : List Out)
     (asked : Result Command CdbFault) (unit : Option ℕ) where
   answered_facts : (answer : TargetAnswer) → IsJudged s.setting s.exp_cmd_sn (pdu b (Initiator (ScsiCommand p)) d) Accepted
@@ -269,111 +244,14 @@ module _ (s s' : Counters) (b : List ℕ) (p : CommandHeader) (d : List ℕ) (ca
   answered_facts Halted judged within means names e r = moved e r.0 r.1 (reply_facts s b p d asked unit Halted judged means names (told TARGET_FAILURE statuses.Good None) within (λ o. o) (record { response = refl; status_is = refl; sense_is = refl }))
   answered_facts Gone judged within means names e r = moved e r.0 r.1 (gone_facts s b p d asked unit Gone judged means names refl)
 
-abbrev logout_out : Numbers → LogoutHeader → Out
-logout_out n p = record {
-  header = LogoutResponse (record { response = if closes p then CLOSED else RECOVERY_NOT_SUPPORTED; task_tag = p.task_tag; numbers = n; time_to_wait = TIME_TO_WAIT; time_to_retain = TIME_TO_RETAIN });
-  bytes = [];
-}
-
--- ---- another request that was accepted: it is answered by no PDU, or by one that uses up a StatSN and is neither a
--- SCSI Response nor a Data-In
-
-module _ (s : Counters) (came : Incoming) (immediate : Bool) (call : Option Asking)
-    (judged : IsJudged s.setting s.exp_cmd_sn came Accepted) (called : IsCalled s.setting Accepted came call)
-    (no_task : (own : List Out) → task_by Accepted came call own ≡ None)
-    (numbered : takes_number Accepted came ≡ not immediate)
-    (of_accepted : (outs : List Out) → IsRejected Accepted came outs) where
-  abbrev behind : Counters
-  behind = after_number immediate s
-
-  numbers_up : (e : ℕ) → ((exp_cmd_sn_behind immediate e ≡ e) × (takes_number Accepted came ≡ false))
-      ⊎ ((exp_cmd_sn_behind immediate e ≡ wrap (e + 1)) × (takes_number Accepted came ≡ true))
-  numbers_up e = subst
-      (λ (t : Bool). ((exp_cmd_sn_behind immediate e ≡ e) × (t ≡ false)) ⊎ ((exp_cmd_sn_behind immediate e ≡ wrap (e + 1)) × (t ≡ true)))
-      (sym numbered) (commands_of immediate e)
-
-  silent_facts : IsRequestAnswered s.setting Accepted came call [] → TurnFacts s behind came Accepted call []
-  silent_facts answer = record {
-    setting_is = refl;
-    judged = judged;
-    windows = tt;
-    called = called;
-    answered = rw (no_task []) refl;
-    tiled = rw (no_task []) refl;
-    counted = rw (no_task []) tt;
-    residual = rw (no_task []) tt;
-    told = rw (no_task []) tt;
-    rejected = of_accepted [];
-    requests = answer;
-    commands = numbers_up s.exp_cmd_sn;
-    statuses = inl (refl, refl);
-  }
-
-  module _ (o : Out) (window : IsWindow behind.exp_cmd_sn (numbers_of o.header))
-      (status : status_number o.header ≡ Some s.stat_sn) (no_response : response_with o.header o.bytes ≡ None)
-      (no_data : data_in_with o.header o.bytes ≡ None) where
-    one_facts : IsRequestAnswered s.setting Accepted came call (o ∷ [])
-        → TurnFacts s (after_status behind) came Accepted call (o ∷ [])
-    one_facts answer = record {
-      setting_is = refl;
-      judged = judged;
-      windows = (window, tt);
-      called = called;
-      answered = rw (no_task (o ∷ []), no_response) refl;
-      tiled = rw (no_task (o ∷ []), no_data) refl;
-      counted = rw (no_task (o ∷ [])) tt;
-      residual = rw (no_task (o ∷ [])) tt;
-      told = rw (no_task (o ∷ [])) tt;
-      rejected = of_accepted (o ∷ []);
-      requests = answer;
-      commands = numbers_up s.exp_cmd_sn;
-      statuses = inr (refl, rw status refl);
-    }
-
-    some_or_none : (none : Bool) → IsRequestAnswered s.setting Accepted came call (if none then [] else o ∷ [])
-        → TurnFacts s (after_answer (if none then [] else o ∷ []) behind) came Accepted call (if none then [] else o ∷ [])
-    some_or_none true answer = silent_facts answer
-    some_or_none false answer = one_facts answer
-
-module _ (s : Counters) (b : List ℕ) (p : ManagementHeader) (d : List ℕ) (call : Option Asking)
-    (judged : IsJudged s.setting s.exp_cmd_sn (pdu b (Initiator (TaskManagementRequest p)) d) Accepted) where
-  abbrev told_by : Option ℕ → List Out
-  told_by response = management_answer (next_numbers (after_number p.immediate s)) p response
-
-  management_facts : (response : Option ℕ) → IsManaged s.setting.units p call response
-      → TurnFacts s (after_answer (told_by response) (after_number p.immediate s))
-      (pdu b (Initiator (TaskManagementRequest p)) d) Accepted call (told_by response)
-  management_facts None k =
-      silent_facts s (pdu b (Initiator (TaskManagementRequest p)) d) p.immediate call judged (None, k) (λ own. refl) refl (λ own. tt)
-      (next_numbers (after_number p.immediate s), None, k, refl)
-  management_facts (Some response) k =
-      one_facts s (pdu b (Initiator (TaskManagementRequest p)) d) p.immediate call judged (Some response, k) (λ own. refl) refl (λ own. tt)
-      (record { header = TaskManagementResponse (record { response = response; task_tag = p.task_tag; numbers = next_numbers (after_number p.immediate s) }); bytes = [] })
-      (record { expects = refl; reaches = refl }) refl refl refl (next_numbers (after_number p.immediate s), Some response, k, refl)
-
 accepted_facts : (came : Incoming) (s s' : Counters) (call : Option Asking) (outs : List Out)
     → IsJudged s.setting s.exp_cmd_sn came Accepted → TurnOnAccepted came s call outs s' → TurnFacts s s' came Accepted call outs
 accepted_facts (pdu b (Initiator (ScsiCommand p)) d) s s' call outs judged k =
     answered_facts s s' b p d call outs k.asked.asked k.asked.unit k.asked.answer judged k.within k.asked.means k.asked.names k.asked.call_is k.answered
-accepted_facts (pdu b (Initiator (NopOut p)) d) s s' call outs judged k =
-    let n = next_numbers (after_number p.immediate s) in
-    moved k.no_call k.outs_are k.next_is
-    (some_or_none s (pdu b (Initiator (NopOut p)) d) p.immediate None judged refl (λ own. refl) refl (λ own. tt)
-      (record { header = NopIn (record { lun = p.lun; task_tag = p.task_tag; transfer_tag = NO_TRANSFER_TAG; numbers = n }); bytes = take DECLARED_LENGTH d })
-      (record { expects = refl; reaches = refl }) refl refl refl (p.task_tag == RESERVED_TAG) (n, refl))
-accepted_facts (pdu b (Initiator (TaskManagementRequest p)) d) s s' call outs judged k =
-    moved refl k.outs_are k.next_is (management_facts s b p d call judged k.response k.managed)
-accepted_facts (pdu b (Initiator (TextRequest p)) d) s s' call outs judged k =
-    let n = next_numbers (after_number p.immediate s) in
-    moved k.no_call k.outs_are k.next_is
-    (one_facts s (pdu b (Initiator (TextRequest p)) d) p.immediate None judged refl (λ own. refl) refl (λ own. tt)
-      (record { header = TextResponse (record { task_tag = p.task_tag; transfer_tag = NO_TRANSFER_TAG; numbers = n }); bytes = text_answer s.setting d })
-      (record { expects = refl; reaches = refl }) refl refl refl (n, refl))
-accepted_facts (pdu b (Initiator (LogoutRequest p)) d) s s' call outs judged k =
-    let n = next_numbers (after_number p.immediate s) in
-    moved k.no_call k.outs_are k.next_is
-    (one_facts s (pdu b (Initiator (LogoutRequest p)) d) p.immediate None judged refl (λ own. refl) refl (λ own. tt)
-      (logout_out n p) (record { expects = refl; reaches = refl }) refl refl refl (n, refl))
+accepted_facts (pdu b (Initiator (NopOut p)) d) s s' call outs judged k = nop_facts b p d s s' call outs judged k
+accepted_facts (pdu b (Initiator (TaskManagementRequest p)) d) s s' call outs judged k = managed_facts b p d s s' call outs judged k
+accepted_facts (pdu b (Initiator (TextRequest p)) d) s s' call outs judged k = text_facts b p d s s' call outs judged k
+accepted_facts (pdu b (Initiator (LogoutRequest p)) d) s s' call outs judged k = logout_facts b p d s s' call outs judged k
 accepted_facts came s s' call outs judged k = absurd k
 
 pub made_facts : (s s' : Counters) (came : Incoming) (v : Verdict) (call : Option Asking) (outs : List Out)

@@ -16,7 +16,8 @@ use Rattle.session.specs.Setting.{Setting}
 use Rattle.session.specs.Task.{IsCalled}
 use Rattle.session.specs.Requests.{IsRequestAnswered}
 use Rattle.session.specs.MachineTurn.{TurnOf, TurnOnVerdict}
-use Rattle.session.proofs.Facts.{TurnFacts, made_facts}
+use Rattle.session.proofs.RequestFacts.{TurnFacts}
+use Rattle.session.proofs.Facts.{made_facts}
 
 -- where a list is cut, and one is put together of a front and one element more
 split_one : (ts : List Turn) (t : Turn) (before : List Turn) (u : Turn) (behind : List Turn)

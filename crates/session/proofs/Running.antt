@@ -207,8 +207,8 @@ module _ {T : Type 0} (leads : T → Asking → T → Type 0) (setting : Setting
       ends_now end e (inl w) =
           let wanted : Some end ≡ end_after turned.turn.verdict turned.turn.came turned.turn.call = sym e ∙ w.0 in
           let called_for : (closing : End) → end ≡ closing → EndsBy (r.transcript ++ turned.turn ∷ []) rest (length spelled + length rest) (IsAtEnd left') closing
-              → Written closing held held'' (r.transcript ++ turned.turn ∷ []) → (closing ≡ OutputFailed → ⊥)
-              → IsTranscribed leads setting first_cmd first_stat left left' held held'' x x'' end × IsFailureOf OutputFailed before now end
+          → Written closing held held'' (r.transcript ++ turned.turn ∷ []) → (closing ≡ OutputFailed → ⊥)
+          → IsTranscribed leads setting first_cmd first_stat left left' held held'' x x'' end × IsFailureOf OutputFailed before now end
           = λ closing same ends out other. (
             subst (IsTranscribed leads setting first_cmd first_stat left left' held held'' x x'') (sym same) (ended closing ends out),
             record { rises = λ f. absurd (other (sym same ∙ f)); stays = λ _. w.2 },

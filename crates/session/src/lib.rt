@@ -22,6 +22,7 @@ mod laws;
 mod logout;
 mod nop;
 mod outbox;
+mod requests;
 mod response;
 mod session;
 mod source;

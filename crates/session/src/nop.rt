@@ -13,11 +13,7 @@ use iscsi_pdu::{NopIn, NopOut, Numbers, TargetHeader};
 pub const DECLARED_LENGTH: u32 = 8192;
 
 /// The NOP-In that a NOP-Out asks for, with these numbers and its data; none where it has the reserved tag.
-pub fn nop_in<'a>(
-    numbers: Numbers,
-    request: &NopOut,
-    bytes: &'a [u8],
-) -> Option<ResponsePdu<'a>>
+pub fn nop_in<'a>(numbers: Numbers, request: &NopOut, bytes: &'a [u8]) -> Option<ResponsePdu<'a>>
     ensures pdu { out_of result ≡ nop_answer numbers request.now bytes.now }
     ensures within { IfSome result (λ x. length x.bytes.now ≤ DECLARED_LENGTH) }
 {

@@ -2,38 +2,30 @@
 ghost use Rattle.std.specs.Prelude.{◌≡◌, ℕ, List, ◌≤◌, length, vec_capacity, IfOk, IfSome, MatchOption};
 ghost use Rattle.scsi_types.specs.Cdb.{need_of};
 ghost use Rattle.session.specs.Counters.{Counters, begun, after_number, next_numbers};
-ghost use Rattle.session.specs.TaskManagement.{management_answer};
 ghost use Rattle.session.specs.declared.text.MadeText.{MadeText};
-ghost use Rattle.session.specs.Setting.{setting_of};
-ghost use Rattle.session.specs.Text.{IsAnswerOf, IsMadeOf, IsMade};
+ghost use Rattle.session.specs.Setting.{setting_of, discovers};
+ghost use Rattle.session.specs.Text.{IsMadeOf, IsMade};
 ghost use Rattle.session.specs.declared.verdict.Verdict.TheVariants.{Accepted};
 ghost use Rattle.session.specs.declared.verdict.TheConstants.{MAX_READ_LENGTH};
 ghost use Rattle.session.specs.Verdict.{reason_of, window_verdict};
 ghost use Rattle.session.specs.AnswerPdus.{IsWithin, read_length, reply_with};
-ghost use Rattle.session.specs.Machine.{OnPdu, OnCommand, OnNopOut, OnText, OnLogout, OnManagement, OnResetAnswer, OnUnaccepted, OnRefusal, OnAnswer, Sends, Answers, out_of};
+ghost use Rattle.session.specs.Machine.{OnPdu, OnCommand, OnUnaccepted, OnRefusal, OnAnswer, Sends, Answers, out_of};
 
-use crate::actions::{Actions, Call, OpenTask, Pdus, ResetCall, ResponsePdu, ServeCall};
+use crate::actions::{Actions, Call, OpenTask, Pdus, ResponsePdu, ServeCall};
 use crate::data_in::data_in_pdu;
 use crate::end::End;
-use crate::logout::{logout_end, logout_response};
 use crate::identity::Identity;
-use crate::nop::{DECLARED_LENGTH, nop_in};
+use crate::nop::DECLARED_LENGTH;
 use crate::response::{COMPLETED, Completion, TARGET_FAILURE, scsi_response};
-use crate::target::{ResetAnswer, TargetAnswer};
-use crate::task_management::{
-    Management, management_for, management_response, reset_end, reset_response,
-};
-use crate::text::{MadeText, discovers, is_part, text_response};
+use crate::target::TargetAnswer;
+use crate::text::{MadeText, discovers};
 use crate::transfer::command_data;
 use crate::verdict::{
     COMMAND_NOT_SUPPORTED, PROTOCOL_ERROR, Verdict, has_cause_of_reject, reject_reason,
     window_verdict,
 };
 use crate::window::{next_exp_cmd_sn, target_numbers};
-use iscsi_pdu::{
-    Header, InitiatorHeader, LogoutRequest, NopOut, Numbers, Pdu, PduFault, Reject, ScsiCommand,
-    TaskManagementRequest, TextRequest,
-};
+use iscsi_pdu::{Header, InitiatorHeader, Numbers, Pdu, PduFault, Reject, ScsiCommand};
 use login::{Kind, TextAnswer, answer_within, target_text};
 use scsi_types::{Asked, Lun, Status, decode, need};
 use std::alloc::{AllocError, Global};
@@ -67,14 +59,14 @@ impl Model for Session {
     ghost Value = { Counters };
 
     ghost view = { λ s. record {
-        setting = record {
-            units = s.units;
-            kind = s.kind;
-            target_name = s.target_name.items;
-            told = s.told.items;
-        };
-        stat_sn = s.stat_sn;
-        exp_cmd_sn = s.exp_cmd_sn;
+      setting = record {
+        units = s.units;
+        kind = s.kind;
+        target_name = s.target_name.items;
+        told = s.told.items;
+      };
+      stat_sn = s.stat_sn;
+      exp_cmd_sn = s.exp_cmd_sn;
     } };
 }
 
@@ -162,147 +154,29 @@ impl Session {
         }
     }
 
-    // What a NOP-Out calls for.
-    fn on_nop_out<'a>(&mut self, request: NopOut, bytes: &'a [u8]) -> Actions<'a>
-        ensures on { OnPdu self.old (Header.Initiator (InitiatorHeader.NopOut request)) bytes.now result self.new }
-        ensures within { IsWithin MAX_READ_LENGTH result.pdus }
+    /// How many units the target has.
+    pub(crate) fn units(&self) -> u16
+        ensures { result ≡ self.now.setting.units }
     {
-        let verdict = self.verdict(request.immediate, request.numbers.cmd_sn, false);
-        match self.turned_away(verdict) {
-            Some(actions) => actions,
-            None => self.answer_nop_out(request, bytes),
-        }
+        self.units
     }
 
-    // An accepted NOP-Out.
-    fn answer_nop_out<'a>(&mut self, request: NopOut, bytes: &'a [u8]) -> Actions<'a>
-        ensures on { OnNopOut self.old request bytes.now result self.new }
-        ensures within { IsWithin MAX_READ_LENGTH result.pdus }
+    /// Whether it is a discovery session.
+    pub(crate) fn discovers(&self) -> bool
+        ensures { result ≡ discovers self.now.setting.kind }
     {
-        self.accept(request.immediate);
-        let pdu = nop_in(self.next_numbers(), &request, bytes);
-        self.answer(pdu, None)
+        discovers(self.kind)
     }
 
-    // What a Text Request calls for.
-    fn on_text<'a>(
-        &mut self,
-        request: TextRequest,
-        bytes: &'a [u8],
-        text: MadeText<'a>,
-    ) -> Actions<'a>
-        requires made { IsMadeOf text.answered self.old.setting bytes.now text.bytes.now }
-        ensures on { OnPdu self.old (Header.Initiator (InitiatorHeader.TextRequest request)) bytes.now result self.new }
-        ensures within { IsWithin MAX_READ_LENGTH result.pdus }
-    {
-        let refused = is_part(&request) || !text.answered;
-        let verdict = self.verdict(request.immediate, request.numbers.cmd_sn, refused);
-        match self.turned_away(verdict) {
-            Some(actions) => actions,
-            None => self.answer_text(request, bytes, text.bytes),
-        }
-    }
-
-    // An accepted Text Request, whose text has this answer.
-    fn answer_text<'a>(
-        &mut self,
-        request: TextRequest,
-        bytes: &'a [u8],
-        answer: &'a [u8],
-    ) -> Actions<'a>
-        requires made { IsAnswerOf self.old.setting bytes.now answer.now }
-        ensures on { OnText self.old request bytes.now result self.new }
-        ensures within { IsWithin MAX_READ_LENGTH result.pdus }
-    {
-        self.accept(request.immediate);
-        let pdu = text_response(self.next_numbers(), &request, answer);
-        self.answer(Some(pdu), None)
-    }
-
-    // What a request for task management calls for.
-    fn on_task_management<'a>(&mut self, request: TaskManagementRequest) -> Actions<'a>
-        ensures on { (d : List ℕ)
-            → OnPdu self.old (Header.Initiator (InitiatorHeader.TaskManagementRequest request)) d result self.new }
-        ensures within { IsWithin MAX_READ_LENGTH result.pdus }
-    {
-        let refused = discovers(self.kind);
-        let verdict = self.verdict(request.immediate, request.numbers.cmd_sn, refused);
-        match self.turned_away(verdict) {
-            Some(actions) => actions,
-            None => self.manage(request),
-        }
-    }
-
-    // An accepted request for task management: its response, or the reset of a unit that is there.
-    fn manage<'a>(&mut self, request: TaskManagementRequest) -> Actions<'a>
-        ensures on { OnManagement self.old request result self.new }
-        ensures within { IsWithin MAX_READ_LENGTH result.pdus }
-    {
-        self.accept(request.immediate);
-        match management_for(&request, self.units) {
-            Management::Respond(response) => self.respond_to_management(&request, Some(response), None),
-            Management::Reset(unit) => Actions {
-                pdus: Pdus::Nothing,
-                call: Some(Call::Reset(ResetCall { request, unit })),
-                end: None,
-            },
-        }
-    }
-
-    /// What the answer to a reset calls for: the response, or the end where the session is gone.
-    pub fn on_reset<'a>(&mut self, request: TaskManagementRequest, answer: ResetAnswer) -> Actions<'a>
-        ensures on { OnResetAnswer self.old request answer result self.new }
-        ensures within { IsWithin MAX_READ_LENGTH result.pdus }
-    {
-        self.respond_to_management(&request, reset_response(answer), reset_end(answer))
-    }
-
-    // The response to a request for task management, if there is one.
-    fn respond_to_management<'a>(
-        &mut self,
-        request: &TaskManagementRequest,
-        response: Option<u8>,
-        end: Option<End>,
-    ) -> Actions<'a>
-        ensures on { Answers self.old (management_answer (next_numbers self.old) request.now response) end result self.new }
-        ensures within { IsWithin MAX_READ_LENGTH result.pdus }
-    {
-        let pdu = management_response(self.next_numbers(), request, response);
-        self.answer(pdu, end)
-    }
-
-    // What a Logout Request calls for.
-    fn on_logout<'a>(&mut self, request: LogoutRequest) -> Actions<'a>
-        ensures on { (d : List ℕ)
-            → OnPdu self.old (Header.Initiator (InitiatorHeader.LogoutRequest request)) d result self.new }
-        ensures within { IsWithin MAX_READ_LENGTH result.pdus }
-    {
-        let verdict = self.verdict(request.immediate, request.numbers.cmd_sn, false);
-        match self.turned_away(verdict) {
-            Some(actions) => actions,
-            None => self.answer_logout(request),
-        }
-    }
-
-    // An accepted logout.
-    fn answer_logout<'a>(&mut self, request: LogoutRequest) -> Actions<'a>
-        ensures on { OnLogout self.old request result self.new }
-        ensures within { IsWithin MAX_READ_LENGTH result.pdus }
-    {
-        self.accept(request.immediate);
-        let pdu = logout_response(self.next_numbers(), &request);
-        self.answer(Some(pdu), logout_end(&request))
-    }
-
-    // What becomes of a PDU with this I bit and CmdSN, which is rejected in its turn if there is a cause.
-    fn verdict(&self, immediate: bool, cmd_sn: u32, refused: bool) -> Verdict
+    /// What becomes of a PDU with this I bit and CmdSN, which is rejected in its turn if there is a cause.
+    pub(crate) fn verdict(&self, immediate: bool, cmd_sn: u32, refused: bool) -> Verdict
         ensures { result ≡ window_verdict self.now.exp_cmd_sn immediate cmd_sn refused }
     {
         window_verdict(self.exp_cmd_sn, immediate, cmd_sn, refused)
     }
 
-    // What a verdict calls for that does not accept its PDU.
-    fn turned_away<'a>(&mut self, verdict: Verdict) -> Option<Actions<'a>>
+    /// What a verdict calls for that does not accept its PDU.
+    pub(crate) fn turned_away<'a>(&mut self, verdict: Verdict) -> Option<Actions<'a>>
         ensures away { MatchOption result ((verdict ≡ Accepted) × (self.new ≡ self.old))
             (λ a. OnUnaccepted verdict self.old a self.new) }
         ensures within { IfSome result (λ a. IsWithin MAX_READ_LENGTH a.pdus) }
@@ -323,15 +197,15 @@ impl Session {
         }
     }
 
-    // The numbers of the next PDU that uses up a StatSN.
-    fn next_numbers(&self) -> Numbers
+    /// The numbers of the next PDU that uses up a StatSN.
+    pub(crate) fn next_numbers(&self) -> Numbers
         ensures { result ≡ next_numbers self.now }
     {
         target_numbers(self.stat_sn, self.exp_cmd_sn)
     }
 
-    // The answer to a request, if it asks for one, which uses up a StatSN.
-    fn answer<'a>(&mut self, pdu: Option<ResponsePdu<'a>>, end: Option<End>) -> Actions<'a>
+    /// The answer to a request, if it asks for one, which uses up a StatSN.
+    pub(crate) fn answer<'a>(&mut self, pdu: Option<ResponsePdu<'a>>, end: Option<End>) -> Actions<'a>
         requires { IfSome pdu (λ x. length x.bytes.now ≤ MAX_READ_LENGTH) }
         ensures on { Answers self.old (out_of pdu.entry) end result self.new }
         ensures within { IsWithin MAX_READ_LENGTH result.pdus }
@@ -357,7 +231,7 @@ impl Session {
     {
         let asked = decode(&command.cdb);
         let need = data_needed(&asked);
-        let refused = discovers(self.kind) || has_cause_of_reject(&command, bytes, need);
+        let refused = self.discovers() || has_cause_of_reject(&command, bytes, need);
         let verdict = self.verdict(command.immediate, command.numbers.cmd_sn, refused);
         match self.turned_away(verdict) {
             Some(actions) => actions,
@@ -378,8 +252,8 @@ impl Session {
         }
     }
 
-    // Takes the number of a PDU with this I bit, unless it is immediate.
-    fn accept(&mut self, immediate: bool)
+    /// Takes the number of a PDU with this I bit, unless it is immediate.
+    pub(crate) fn accept(&mut self, immediate: bool)
         ensures { self.new ≡ after_number immediate self.old }
     {
         self.exp_cmd_sn = next_exp_cmd_sn(self.exp_cmd_sn, immediate);

@@ -39,9 +39,9 @@ pub fn text_response<'a>(
     answer: &'a [u8],
 ) -> ResponsePdu<'a>
     ensures header { result.header ≡ TargetHeader.TextResponse (record {
-        task_tag = request.now.task_tag;
-        transfer_tag = NO_TRANSFER_TAG;
-        numbers = numbers;
+      task_tag = request.now.task_tag;
+      transfer_tag = NO_TRANSFER_TAG;
+      numbers = numbers;
     }) }
     ensures bytes { result.bytes.now ≡ answer.now }
 {

@@ -1,0 +1,199 @@
+-- What is judged of a turn, and that it holds of each turn of a request that is no SCSI Command.
+use Rattle.std.proofs.Common.{◌≡◌, ◌⊎◌, ℕ, zero, suc, ◌+◌, ◌<◌, ◌≤◌, ◌↔◌, Bool, true, false, not, List, [], ◌∷◌, ◌++◌, Option, Some, None, length, length-take, refl, sym, subst, inl, inr, arith}
+use Rattle.std.specs.Prelude.{◌==◌, IsTrue, slice_get, Result, nat_lt, if◌then◌else◌, take}
+use Rattle.std.proofs.lemmas.List.{append-nil}
+use Rattle.std.proofs.lemmas.Bool.{ltb-true, lt-ltb}
+use Rattle.scsi_types.specs.Cdb.{Means, need_of}
+use Rattle.scsi_types.specs.Lun.{NamesUnit}
+use Rattle.scsi_types.specs.declared.command.Command.{Command}
+use Rattle.scsi_types.specs.declared.command.CdbFault.{CdbFault}
+use Rattle.scsi_types.specs.declared.sense.Sense.{Sense}
+use Rattle.scsi_types.specs.declared.status.Status.{Status}
+use Rattle.scsi_types.specs.declared.status.Status.TheVariants as statuses
+use Rattle.iscsi_pdu.specs.declared.header.ScsiCommand.{ScsiCommand as CommandHeader}
+use Rattle.iscsi_pdu.specs.declared.header.ScsiResponse.{ScsiResponse as ResponseHeader}
+use Rattle.iscsi_pdu.specs.declared.header.DataIn.{DataIn as DataInHeader}
+use Rattle.iscsi_pdu.specs.declared.header.Header.TheVariants.{Initiator}
+use Rattle.iscsi_pdu.specs.declared.header.InitiatorHeader.TheVariants.{NopOut, ScsiCommand, TaskManagementRequest, TextRequest, LogoutRequest}
+use Rattle.iscsi_pdu.specs.declared.header.TargetHeader.TheVariants.{NopIn, ScsiResponse, TaskManagementResponse, TextResponse, LogoutResponse}
+use Rattle.session.specs.declared.data_in.TheConstants.{MAX_DATA_IN_LENGTH, NO_TRANSFER_TAG}
+use Rattle.session.specs.declared.response.Completion.{Completion}
+use Rattle.session.specs.declared.response.TheConstants.{COMPLETED, TARGET_FAILURE}
+use Rattle.session.specs.declared.target.TargetAnswer.{TargetAnswer}
+use Rattle.session.specs.declared.target.TargetAnswer.TheVariants.{Replied, Outside, Busy, Gone, Halted}
+use Rattle.session.specs.declared.verdict.Verdict.{Verdict}
+use Rattle.session.specs.declared.verdict.Verdict.TheVariants.{Accepted, Ignored, Gap, Refused}
+use Rattle.session.specs.declared.verdict.TheConstants.{MAX_READ_LENGTH, RESERVED_TAG}
+use Rattle.session.specs.Asking.{Asking, served}
+use Rattle.session.specs.Setting.{Setting}
+use Rattle.session.specs.TaskManagement.{IsManaged, management_answer}
+use Rattle.iscsi_pdu.specs.declared.header.TaskManagementRequest.{TaskManagementRequest as ManagementHeader}
+use Rattle.session.specs.Turn.{Incoming, pdu, Out}
+use Rattle.session.specs.Window.{wrap, numbers_at, numbers_of, exp_cmd_sn_behind, takes_number}
+use Rattle.session.specs.Requests.{IsRequestAnswered}
+use Rattle.session.specs.Logout.{closes, logout_answer}
+use Rattle.session.specs.Text.{text_answer}
+use Rattle.session.specs.declared.nop.TheConstants.{DECLARED_LENGTH}
+use Rattle.session.specs.declared.logout.TheConstants.{CLOSED, RECOVERY_NOT_SUPPORTED, TIME_TO_WAIT, TIME_TO_RETAIN}
+use Rattle.iscsi_pdu.specs.declared.header.Numbers.{Numbers}
+use Rattle.iscsi_pdu.specs.declared.header.LogoutRequest.{LogoutRequest as LogoutHeader}
+use Rattle.session.specs.Verdict.{IsJudged}
+use Rattle.session.specs.Transfer.{expected_transfer, transfer_of, data_for, sent_data}
+use Rattle.session.specs.Task.{task_by, IsCalled, IsAskedFor, reply_data}
+use Rattle.session.specs.Response.{response_with, responses, HasOneResponse, IsAnsweredBy, IsTold, sense_part}
+use Rattle.session.specs.DataIn.{data_in_with, data_ins, IsSegment, Tiles}
+use Rattle.session.specs.Legal.{status_number, status_numbers, IsWindow, HaveWindow, IsRejected, IsAnsweredTask, IsTiledTask, IsCountedTask, HasResiduals, IsToldTask}
+use Rattle.std.specs.List.{AllByRecursion}
+use Rattle.session.specs.Legal.{IsOfCommand}
+use Rattle.session.specs.Counters.{Counters, after_status, after_number, after_command, after_answer, next_numbers}
+use Rattle.session.specs.AnswerPdus.{read_length, data_in_for, response_for}
+use Rattle.session.specs.MachineTurn.{TurnOnAnswer, TurnOnAccepted, TurnOnVerdict}
+use Rattle.iscsi_pdu.specs.declared.header.NopOut.{NopOut as NopOutHeader}
+use Rattle.iscsi_pdu.specs.declared.header.TextRequest.{TextRequest as TextHeader}
+
+-- what is judged of one turn, where the session's counters are these before and behind it
+pub record TurnFacts (s s' : Counters) (came : Incoming) (v : Verdict) (call : Option Asking)
+    (outs : List Out) : Type 0 where
+  pub setting_is : s'.setting ≡ s.setting
+  pub judged : IsJudged s.setting s.exp_cmd_sn came v
+  pub windows : HaveWindow s'.exp_cmd_sn outs
+  pub called : IsCalled s.setting v came call
+  pub answered : IsAnsweredTask (task_by v came call outs) outs
+  pub tiled : IsTiledTask (task_by v came call outs) outs
+  pub counted : IsCountedTask (task_by v came call outs)
+  pub residual : HasResiduals (task_by v came call outs)
+  pub told : IsToldTask (task_by v came call outs)
+  pub rejected : IsRejected v came outs
+  pub requests : IsRequestAnswered s.setting v came call outs
+  pub commands : ((s'.exp_cmd_sn ≡ s.exp_cmd_sn) × (takes_number v came ≡ false)) ⊎ ((s'.exp_cmd_sn ≡ wrap (s.exp_cmd_sn + 1)) × (takes_number v came ≡ true))
+  pub statuses : ((s'.stat_sn ≡ s.stat_sn) × (status_numbers outs ≡ [])) ⊎ ((s'.stat_sn ≡ wrap (s.stat_sn + 1)) × (status_numbers outs ≡ s.stat_sn ∷ []))
+
+pub commands_of : (i : Bool) (e : ℕ)
+    → (((if i then e else wrap (e + 1)) ≡ e) × (not i ≡ false)) ⊎ (((if i then e else wrap (e + 1)) ≡ wrap (e + 1)) × (not i ≡ true))
+commands_of true e = inl (refl, refl)
+commands_of false e = inr (refl, refl)
+
+pub moved : {s s1 s2 : Counters} {came : Incoming} {v : Verdict} {call call' : Option Asking} {outs outs' : List Out}
+    → call' ≡ call → outs' ≡ outs → s2 ≡ s1 → TurnFacts s s1 came v call outs → TurnFacts s s2 came v call' outs'
+moved e f g k = rw (e, f, g) k
+
+abbrev logout_out : Numbers → LogoutHeader → Out
+logout_out n p = record {
+  header = LogoutResponse (record { response = if closes p then CLOSED else RECOVERY_NOT_SUPPORTED; task_tag = p.task_tag; numbers = n; time_to_wait = TIME_TO_WAIT; time_to_retain = TIME_TO_RETAIN });
+  bytes = [];
+}
+
+-- ---- another request that was accepted: it is answered by no PDU, or by one that uses up a StatSN and is neither a
+-- SCSI Response nor a Data-In
+
+module _ (s : Counters) (came : Incoming) (immediate : Bool) (call : Option Asking)
+    (judged : IsJudged s.setting s.exp_cmd_sn came Accepted) (called : IsCalled s.setting Accepted came call)
+    (no_task : (own : List Out) → task_by Accepted came call own ≡ None)
+    (numbered : takes_number Accepted came ≡ not immediate)
+    (of_accepted : (outs : List Out) → IsRejected Accepted came outs) where
+  abbrev behind : Counters
+  behind = after_number immediate s
+
+  numbers_up : (e : ℕ) → ((exp_cmd_sn_behind immediate e ≡ e) × (takes_number Accepted came ≡ false))
+      ⊎ ((exp_cmd_sn_behind immediate e ≡ wrap (e + 1)) × (takes_number Accepted came ≡ true))
+  numbers_up e = subst
+      (λ (t : Bool). ((exp_cmd_sn_behind immediate e ≡ e) × (t ≡ false)) ⊎ ((exp_cmd_sn_behind immediate e ≡ wrap (e + 1)) × (t ≡ true)))
+      (sym numbered) (commands_of immediate e)
+
+  silent_facts : IsRequestAnswered s.setting Accepted came call [] → TurnFacts s behind came Accepted call []
+  silent_facts answer = record {
+    setting_is = refl;
+    judged = judged;
+    windows = tt;
+    called = called;
+    answered = rw (no_task []) refl;
+    tiled = rw (no_task []) refl;
+    counted = rw (no_task []) tt;
+    residual = rw (no_task []) tt;
+    told = rw (no_task []) tt;
+    rejected = of_accepted [];
+    requests = answer;
+    commands = numbers_up s.exp_cmd_sn;
+    statuses = inl (refl, refl);
+  }
+
+  module _ (o : Out) (window : IsWindow behind.exp_cmd_sn (numbers_of o.header))
+      (status : status_number o.header ≡ Some s.stat_sn) (no_response : response_with o.header o.bytes ≡ None)
+      (no_data : data_in_with o.header o.bytes ≡ None) where
+    one_facts : IsRequestAnswered s.setting Accepted came call (o ∷ [])
+        → TurnFacts s (after_status behind) came Accepted call (o ∷ [])
+    one_facts answer = record {
+      setting_is = refl;
+      judged = judged;
+      windows = (window, tt);
+      called = called;
+      answered = rw (no_task (o ∷ []), no_response) refl;
+      tiled = rw (no_task (o ∷ []), no_data) refl;
+      counted = rw (no_task (o ∷ [])) tt;
+      residual = rw (no_task (o ∷ [])) tt;
+      told = rw (no_task (o ∷ [])) tt;
+      rejected = of_accepted (o ∷ []);
+      requests = answer;
+      commands = numbers_up s.exp_cmd_sn;
+      statuses = inr (refl, rw status refl);
+    }
+
+    some_or_none : (none : Bool) → IsRequestAnswered s.setting Accepted came call (if none then [] else o ∷ [])
+        → TurnFacts s (after_answer (if none then [] else o ∷ []) behind) came Accepted call (if none then [] else o ∷ [])
+    some_or_none true answer = silent_facts answer
+    some_or_none false answer = one_facts answer
+
+module _ (s : Counters) (b : List ℕ) (p : ManagementHeader) (d : List ℕ) (call : Option Asking)
+    (judged : IsJudged s.setting s.exp_cmd_sn (pdu b (Initiator (TaskManagementRequest p)) d) Accepted) where
+  abbrev told_by : Option ℕ → List Out
+  told_by response = management_answer (next_numbers (after_number p.immediate s)) p response
+
+  management_facts : (response : Option ℕ) → IsManaged s.setting.units p call response
+      → TurnFacts s (after_answer (told_by response) (after_number p.immediate s))
+      (pdu b (Initiator (TaskManagementRequest p)) d) Accepted call (told_by response)
+  management_facts None k =
+      silent_facts s (pdu b (Initiator (TaskManagementRequest p)) d) p.immediate call judged (None, k) (λ own. refl) refl (λ own. tt)
+      (next_numbers (after_number p.immediate s), None, k, refl)
+  management_facts (Some response) k =
+      one_facts s (pdu b (Initiator (TaskManagementRequest p)) d) p.immediate call judged (Some response, k) (λ own. refl) refl (λ own. tt)
+      (record { header = TaskManagementResponse (record { response = response; task_tag = p.task_tag; numbers = next_numbers (after_number p.immediate s) }); bytes = [] })
+      (record { expects = refl; reaches = refl }) refl refl refl (next_numbers (after_number p.immediate s), Some response, k, refl)
+
+pub nop_facts : (b : List ℕ) (p : NopOutHeader) (d : List ℕ) (s s' : Counters) (call : Option Asking) (outs : List Out)
+    → IsJudged s.setting s.exp_cmd_sn (pdu b (Initiator (NopOut p)) d) Accepted
+    → TurnOnAccepted (pdu b (Initiator (NopOut p)) d) s call outs s'
+    → TurnFacts s s' (pdu b (Initiator (NopOut p)) d) Accepted call outs
+nop_facts b p d s s' call outs judged k =
+    let n = next_numbers (after_number p.immediate s) in
+    moved k.no_call k.outs_are k.next_is
+    (some_or_none s (pdu b (Initiator (NopOut p)) d) p.immediate None judged refl (λ own. refl) refl (λ own. tt)
+    (record { header = NopIn (record { lun = p.lun; task_tag = p.task_tag; transfer_tag = NO_TRANSFER_TAG; numbers = n }); bytes = take DECLARED_LENGTH d })
+    (record { expects = refl; reaches = refl }) refl refl refl (p.task_tag == RESERVED_TAG) (n, refl))
+
+pub managed_facts : (b : List ℕ) (p : ManagementHeader) (d : List ℕ) (s s' : Counters) (call : Option Asking) (outs : List Out)
+    → IsJudged s.setting s.exp_cmd_sn (pdu b (Initiator (TaskManagementRequest p)) d) Accepted
+    → TurnOnAccepted (pdu b (Initiator (TaskManagementRequest p)) d) s call outs s'
+    → TurnFacts s s' (pdu b (Initiator (TaskManagementRequest p)) d) Accepted call outs
+managed_facts b p d s s' call outs judged k =
+    moved refl k.outs_are k.next_is (management_facts s b p d call judged k.response k.managed)
+
+pub text_facts : (b : List ℕ) (p : TextHeader) (d : List ℕ) (s s' : Counters) (call : Option Asking) (outs : List Out)
+    → IsJudged s.setting s.exp_cmd_sn (pdu b (Initiator (TextRequest p)) d) Accepted
+    → TurnOnAccepted (pdu b (Initiator (TextRequest p)) d) s call outs s'
+    → TurnFacts s s' (pdu b (Initiator (TextRequest p)) d) Accepted call outs
+text_facts b p d s s' call outs judged k =
+    let n = next_numbers (after_number p.immediate s) in
+    moved k.no_call k.outs_are k.next_is
+    (one_facts s (pdu b (Initiator (TextRequest p)) d) p.immediate None judged refl (λ own. refl) refl (λ own. tt)
+    (record { header = TextResponse (record { task_tag = p.task_tag; transfer_tag = NO_TRANSFER_TAG; numbers = n }); bytes = text_answer s.setting d })
+    (record { expects = refl; reaches = refl }) refl refl refl (n, refl))
+
+pub logout_facts : (b : List ℕ) (p : LogoutHeader) (d : List ℕ) (s s' : Counters) (call : Option Asking) (outs : List Out)
+    → IsJudged s.setting s.exp_cmd_sn (pdu b (Initiator (LogoutRequest p)) d) Accepted
+    → TurnOnAccepted (pdu b (Initiator (LogoutRequest p)) d) s call outs s'
+    → TurnFacts s s' (pdu b (Initiator (LogoutRequest p)) d) Accepted call outs
+logout_facts b p d s s' call outs judged k =
+    let n = next_numbers (after_number p.immediate s) in
+    moved k.no_call k.outs_are k.next_is
+    (one_facts s (pdu b (Initiator (LogoutRequest p)) d) p.immediate None judged refl (λ own. refl) refl (λ own. tt)
+    (logout_out n p) (record { expects = refl; reaches = refl }) refl refl refl (n, refl))
