@@ -1,6 +1,6 @@
 -- What is judged of a turn holds of each turn that the session makes.
-use Rattle.std.proofs.Common.{◌≡◌, ◌⊎◌, ℕ, zero, suc, ◌+◌, ◌<◌, ◌≤◌, ◌↔◌, Bool, true, false, not, List, [], ◌∷◌, ◌++◌, Option, Some, None, length, length-take, refl, sym, subst, inl, inr, arith}
-use Rattle.std.specs.Prelude.{◌==◌, IsTrue, slice_get, Result, nat_lt, if◌then◌else◌, take}
+use Rattle.std.proofs.Common.{◌≡◌, ℕ, zero, suc, ◌<◌, ◌≤◌, ◌↔◌, Bool, true, false, List, [], ◌∷◌, ◌++◌, Option, Some, None, length, length-take, refl, subst, inl, inr, arith}
+use Rattle.std.specs.Prelude.{IsTrue, slice_get, Result, nat_lt, if◌then◌else◌, take}
 use Rattle.std.proofs.lemmas.List.{append-nil}
 use Rattle.std.proofs.lemmas.Bool.{ltb-true, lt-ltb}
 use Rattle.scsi_types.specs.Cdb.{Means, need_of}
@@ -15,7 +15,7 @@ use Rattle.iscsi_pdu.specs.declared.header.ScsiResponse.{ScsiResponse as Respons
 use Rattle.iscsi_pdu.specs.declared.header.DataIn.{DataIn as DataInHeader}
 use Rattle.iscsi_pdu.specs.declared.header.Header.TheVariants.{Initiator}
 use Rattle.iscsi_pdu.specs.declared.header.InitiatorHeader.TheVariants.{NopOut, ScsiCommand, TaskManagementRequest, TextRequest, LogoutRequest}
-use Rattle.iscsi_pdu.specs.declared.header.TargetHeader.TheVariants.{NopIn, ScsiResponse, TaskManagementResponse, TextResponse, LogoutResponse}
+use Rattle.iscsi_pdu.specs.declared.header.TargetHeader.TheVariants.{ScsiResponse}
 use Rattle.session.specs.declared.data_in.TheConstants.{MAX_DATA_IN_LENGTH, NO_TRANSFER_TAG}
 use Rattle.session.specs.declared.response.Completion.{Completion}
 use Rattle.session.specs.declared.response.TheConstants.{COMPLETED, TARGET_FAILURE}
@@ -23,29 +23,19 @@ use Rattle.session.specs.declared.target.TargetAnswer.{TargetAnswer}
 use Rattle.session.specs.declared.target.TargetAnswer.TheVariants.{Replied, Outside, Busy, Gone, Halted}
 use Rattle.session.specs.declared.verdict.Verdict.{Verdict}
 use Rattle.session.specs.declared.verdict.Verdict.TheVariants.{Accepted, Ignored, Gap, Refused}
-use Rattle.session.specs.declared.verdict.TheConstants.{MAX_READ_LENGTH, RESERVED_TAG}
+use Rattle.session.specs.declared.verdict.TheConstants.{MAX_READ_LENGTH}
 use Rattle.session.specs.Asking.{Asking, served}
-use Rattle.session.specs.Setting.{Setting}
-use Rattle.session.specs.TaskManagement.{IsManaged, management_answer}
-use Rattle.iscsi_pdu.specs.declared.header.TaskManagementRequest.{TaskManagementRequest as ManagementHeader}
 use Rattle.session.specs.Turn.{Incoming, pdu, Out}
-use Rattle.session.specs.Window.{wrap, numbers_at, numbers_of, exp_cmd_sn_behind, takes_number}
-use Rattle.session.specs.Requests.{IsRequestAnswered}
-use Rattle.session.specs.Logout.{closes, logout_answer}
-use Rattle.session.specs.Text.{text_answer}
-use Rattle.session.specs.declared.nop.TheConstants.{DECLARED_LENGTH}
-use Rattle.session.specs.declared.logout.TheConstants.{CLOSED, RECOVERY_NOT_SUPPORTED, TIME_TO_WAIT, TIME_TO_RETAIN}
-use Rattle.iscsi_pdu.specs.declared.header.Numbers.{Numbers}
-use Rattle.iscsi_pdu.specs.declared.header.LogoutRequest.{LogoutRequest as LogoutHeader}
+use Rattle.session.specs.Window.{numbers_at}
 use Rattle.session.specs.Verdict.{IsJudged}
 use Rattle.session.specs.Transfer.{expected_transfer, transfer_of, data_for, sent_data}
-use Rattle.session.specs.Task.{task_by, IsCalled, IsAskedFor, reply_data}
-use Rattle.session.specs.Response.{response_with, responses, HasOneResponse, IsAnsweredBy, IsTold, sense_part}
-use Rattle.session.specs.DataIn.{data_in_with, data_ins, IsSegment, Tiles}
-use Rattle.session.specs.Legal.{status_number, status_numbers, IsWindow, HaveWindow, IsRejected, IsAnsweredTask, IsTiledTask, IsCountedTask, HasResiduals, IsToldTask}
+use Rattle.session.specs.Task.{IsAskedFor, reply_data}
+use Rattle.session.specs.Response.{responses, HasOneResponse, IsAnsweredBy, IsTold, sense_part}
+use Rattle.session.specs.DataIn.{data_ins, IsSegment, Tiles}
+use Rattle.session.specs.Legal.{status_numbers, IsWindow, HaveWindow}
 use Rattle.std.specs.List.{AllByRecursion}
 use Rattle.session.specs.Legal.{IsOfCommand}
-use Rattle.session.specs.Counters.{Counters, after_status, after_number, after_command, after_answer, next_numbers}
+use Rattle.session.specs.Counters.{Counters, after_status, after_command}
 use Rattle.session.specs.AnswerPdus.{read_length, data_in_for, response_for}
 use Rattle.session.specs.MachineTurn.{TurnOnAnswer, TurnOnAccepted, TurnOnVerdict}
 use Rattle.session.proofs.RequestFacts.{TurnFacts, commands_of, moved, nop_facts, managed_facts, text_facts, logout_facts}

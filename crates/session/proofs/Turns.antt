@@ -1,5 +1,5 @@
 -- What a turn of the session is, from what its parts say.
-use Rattle.std.proofs.Common.{◌≡◌, ℕ, ◌≤◌, List, Option, Some, None, refl, sym, ap, subst, subst₂, ◌∙◌, length, arith}
+use Rattle.std.proofs.Common.{◌≡◌, ℕ, ◌≤◌, List, Option, Some, None, refl, sym, ap, subst, subst₂, ◌∙◌, arith}
 use Rattle.std.specs.Prelude.{MatchOption}
 use Rattle.scsi_types.specs.Cdb.{need_of}
 use Rattle.iscsi_pdu.specs.declared.header.Header.{Header}
@@ -31,7 +31,7 @@ use Rattle.session.specs.Turn.{Incoming, pdu, faulty, Out, bytes_of}
 use Rattle.session.specs.Verdict.{IsJudgedPdu, reason_of}
 use Rattle.session.specs.Legal.{end_after, end_by}
 use Rattle.session.specs.Counters.{Counters, after_number, after_command}
-use Rattle.session.specs.Machine.{sent_by, IsCallOf, IsServeOf, OnAccepted, OnReset, OnManagedBy, OnManagement, OnResetAnswer, OnTaken, OnRefusal, OnVerdict, OnPdu, OnAnswer}
+use Rattle.session.specs.Machine.{sent_by, IsCallOf, IsServeOf, OnManagedBy, OnResetAnswer, OnTaken, OnRefusal, OnVerdict, OnPdu, OnAnswer}
 use Rattle.session.specs.MachineTurn.{TurnOnAnswer, TurnOf}
 use Rattle.session.specs.Stream.{IsSentOut, MakesTurn, StreamTurn}
 

@@ -9,13 +9,13 @@ use Rattle.iscsi_pdu.specs.declared.header.TextRequest.{TextRequest as TextHeade
 use Rattle.iscsi_pdu.specs.declared.header.LogoutRequest.{LogoutRequest as LogoutHeader}
 use Rattle.iscsi_pdu.specs.declared.header.Header.{Header}
 use Rattle.iscsi_pdu.specs.declared.header.Header.TheVariants.{Initiator}
-use Rattle.iscsi_pdu.specs.declared.header.InitiatorHeader.TheVariants.{NopOut, ScsiCommand, TaskManagementRequest, TextRequest, LogoutRequest}
+use Rattle.iscsi_pdu.specs.declared.header.InitiatorHeader.TheVariants.{NopOut, ScsiCommand}
+use Rattle.iscsi_pdu.specs.declared.header.InitiatorHeader.TheVariants.{TaskManagementRequest, TextRequest, LogoutRequest}
 use Rattle.iscsi_pdu.specs.declared.header.TargetHeader.TheVariants.{ScsiResponse, Reject}
 use Rattle.session.specs.declared.actions.Actions.{Actions}
 use Rattle.session.specs.declared.actions.Call.{Call}
 use Rattle.session.specs.declared.actions.Call.TheVariants as kinds
 use Rattle.session.specs.declared.actions.ServeCall.{ServeCall}
-use Rattle.session.specs.declared.actions.ResetCall.{ResetCall}
 use Rattle.session.specs.declared.actions.ResponsePdu.{ResponsePdu}
 use Rattle.session.specs.declared.actions.Pdus.{Pdus}
 use Rattle.session.specs.declared.actions.Pdus.TheVariants as pdus

@@ -17,7 +17,9 @@ use crate::task_management::{
     Management, management_for, management_response, reset_end, reset_response,
 };
 use crate::text::{MadeText, is_part, text_response};
-use iscsi_pdu::{Header, InitiatorHeader, LogoutRequest, NopOut, TaskManagementRequest, TextRequest};
+use iscsi_pdu::{
+    Header, InitiatorHeader, LogoutRequest, NopOut, TaskManagementRequest, TextRequest,
+};
 
 impl Session {
     /// What a NOP-Out calls for.

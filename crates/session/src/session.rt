@@ -205,7 +205,11 @@ impl Session {
     }
 
     /// The answer to a request, if it asks for one, which uses up a StatSN.
-    pub(crate) fn answer<'a>(&mut self, pdu: Option<ResponsePdu<'a>>, end: Option<End>) -> Actions<'a>
+    pub(crate) fn answer<'a>(
+        &mut self,
+        pdu: Option<ResponsePdu<'a>>,
+        end: Option<End>,
+    ) -> Actions<'a>
         requires { IfSome pdu (λ x. length x.bytes.now ≤ MAX_READ_LENGTH) }
         ensures on { Answers self.old (out_of pdu.entry) end result self.new }
         ensures within { IsWithin MAX_READ_LENGTH result.pdus }
