@@ -86,25 +86,27 @@ pub const FROM_ONE: Start = Start {
 };
 
 // A portal at this port of the host itself.
-fn portal(port: u16) -> [SocketAddrV4; 1] {
-    [SocketAddrV4::new(Ipv4Addr::new(127, 0, 0, 1), port)]
+fn portal(port: u16) -> SocketAddrV4 {
+    SocketAddrV4::new(Ipv4Addr::new(127, 0, 0, 1), port)
 }
 
-/// Serves this input, read and written so, with a target that has a portal of each controller.
+/// Serves this input, read and written so, with a target that has one portal of the first controller
+/// and so many of the second.
 pub fn serve(
     alloc: Global,
     input: &[u8],
     reads: Calls,
     writes: Calls,
-    (kind, start): (Kind, Start),
+    (kind, portals, start): (Kind, usize, Start),
     answer: Answer,
     reset: ResetAnswer,
 ) -> Result<Ran, Fail> {
+    let second = [portal(3264), portal(3265), portal(3266)];
     let me = Identity {
         kind,
         target_name: b"iqn.2000-01.test:array",
-        first: &portal(3260),
-        second: &portal(3264),
+        first: &[portal(3260)],
+        second: second.get(..portals).ok_or("three portals at most")?,
     };
     let mut source = Watched::new(FakeReader::new(input, reads));
     let mut sink = Watched::new(FakeWriter::new(alloc, writes));
@@ -131,6 +133,8 @@ pub fn serve(
 pub struct Row {
     pub name: &'static str,
     pub kind: Kind,
+    /// How many portals the second controller has.
+    pub portals: usize,
     pub start: Start,
     /// What comes.
     pub input: &'static [PduRow<'static>],
@@ -154,6 +158,7 @@ pub const TEST: (Option<u8>, Asked) = (Some(0), Ok(Command::TestUnitReady));
 pub const PLAIN: Row = Row {
     name: "TEST UNIT READY",
     kind: Kind::Normal,
+    portals: 1,
     start: FROM_ONE,
     input: &[PduRow(&TEST_UNIT_READY, &[], Segment::None)],
     answer: Answer::Good(0),
@@ -176,7 +181,7 @@ pub fn run(rt: &impl Abort, alloc: Global, rows: &[Row]) -> Result<(), Fail> {
             &input,
             WHOLE,
             WHOLE,
-            (row.kind, row.start),
+            (row.kind, row.portals, row.start),
             row.answer,
             row.reset,
         )?;

@@ -50,7 +50,7 @@ fn expect(
         front,
         reads,
         writes,
-        (Kind::Normal, FROM_ONE),
+        (Kind::Normal, 1, FROM_ONE),
         Answer::Good(0),
         ResetAnswer::Done,
     )?;

@@ -163,6 +163,37 @@ const ROWS: &[Row] = &[
         ..PLAIN
     },
     Row {
+        name: "a command in a discovery session, outside the window",
+        kind: Kind::Discovery,
+        input: &[PduRow(&TEST_UNIT_READY, &[(24, &[0, 0, 0, 0])], Segment::None)],
+        asked: &[],
+        output: &[],
+        ..PLAIN
+    },
+    Row {
+        name: "64 pairs",
+        input: &[PduRow(
+            &REQUEST,
+            &[(7, &[192])],
+            Segment::Bytes(
+                b"a=\0a=\0a=\0a=\0a=\0a=\0a=\0a=\0a=\0a=\0a=\0a=\0a=\0a=\0a=\0a=\0a=\0a=\0a=\0a=\0a=\0a=\0a=\0a=\0a=\0a=\0a=\0a=\0a=\0a=\0a=\0a=\0a=\0a=\0a=\0a=\0a=\0a=\0a=\0a=\0a=\0a=\0a=\0a=\0a=\0a=\0a=\0a=\0a=\0a=\0a=\0a=\0a=\0a=\0a=\0a=\0a=\0a=\0a=\0a=\0a=\0a=\0a=\0a=\0",
+            ),
+        )],
+        asked: &[],
+        output: &[PduRow(
+            &RESPONSE,
+            &[(6, &[4, 0])],
+            Segment::Bytes(
+                b"a=NotUnderstood\0a=NotUnderstood\0a=NotUnderstood\0a=NotUnderstood\0a=NotUnderstood\0a=NotUnderstood\0a=NotUnderstood\0a=NotUnderstood\0a=NotUnderstood\0a=NotUnderstood\0a=NotUnderstood\0a=NotUnderstood\0a=NotUnderstood\0a=NotUnderstood\0a=NotUnderstood\0a=NotUnderstood\0a=NotUnderstood\0a=NotUnderstood\0a=NotUnderstood\0a=NotUnderstood\0a=NotUnderstood\0a=NotUnderstood\0a=NotUnderstood\0a=NotUnderstood\0a=NotUnderstood\0a=NotUnderstood\0a=NotUnderstood\0a=NotUnderstood\0a=NotUnderstood\0a=NotUnderstood\0a=NotUnderstood\0a=NotUnderstood\0a=NotUnderstood\0a=NotUnderstood\0a=NotUnderstood\0a=NotUnderstood\0a=NotUnderstood\0a=NotUnderstood\0a=NotUnderstood\0a=NotUnderstood\0a=NotUnderstood\0a=NotUnderstood\0a=NotUnderstood\0a=NotUnderstood\0a=NotUnderstood\0a=NotUnderstood\0a=NotUnderstood\0a=NotUnderstood\0a=NotUnderstood\0a=NotUnderstood\0a=NotUnderstood\0a=NotUnderstood\0a=NotUnderstood\0a=NotUnderstood\0a=NotUnderstood\0a=NotUnderstood\0a=NotUnderstood\0a=NotUnderstood\0a=NotUnderstood\0a=NotUnderstood\0a=NotUnderstood\0a=NotUnderstood\0a=NotUnderstood\0a=NotUnderstood\0",
+            ),
+        )],
+        ..PLAIN
+    },
+];
+
+// Each is rejected with its header segment, and ends the session.
+const REFUSED: &[Row] = &[
+    Row {
         name: "without F",
         kind: Kind::Normal,
         input: &[
@@ -281,33 +312,6 @@ const ROWS: &[Row] = &[
         ..PLAIN
     },
     Row {
-        name: "a command in a discovery session, outside the window",
-        kind: Kind::Discovery,
-        input: &[PduRow(&TEST_UNIT_READY, &[(24, &[0, 0, 0, 0])], Segment::None)],
-        asked: &[],
-        output: &[],
-        ..PLAIN
-    },
-    Row {
-        name: "64 pairs",
-        input: &[PduRow(
-            &REQUEST,
-            &[(7, &[192])],
-            Segment::Bytes(
-                b"a=\0a=\0a=\0a=\0a=\0a=\0a=\0a=\0a=\0a=\0a=\0a=\0a=\0a=\0a=\0a=\0a=\0a=\0a=\0a=\0a=\0a=\0a=\0a=\0a=\0a=\0a=\0a=\0a=\0a=\0a=\0a=\0a=\0a=\0a=\0a=\0a=\0a=\0a=\0a=\0a=\0a=\0a=\0a=\0a=\0a=\0a=\0a=\0a=\0a=\0a=\0a=\0a=\0a=\0a=\0a=\0a=\0a=\0a=\0a=\0a=\0a=\0a=\0a=\0",
-            ),
-        )],
-        asked: &[],
-        output: &[PduRow(
-            &RESPONSE,
-            &[(6, &[4, 0])],
-            Segment::Bytes(
-                b"a=NotUnderstood\0a=NotUnderstood\0a=NotUnderstood\0a=NotUnderstood\0a=NotUnderstood\0a=NotUnderstood\0a=NotUnderstood\0a=NotUnderstood\0a=NotUnderstood\0a=NotUnderstood\0a=NotUnderstood\0a=NotUnderstood\0a=NotUnderstood\0a=NotUnderstood\0a=NotUnderstood\0a=NotUnderstood\0a=NotUnderstood\0a=NotUnderstood\0a=NotUnderstood\0a=NotUnderstood\0a=NotUnderstood\0a=NotUnderstood\0a=NotUnderstood\0a=NotUnderstood\0a=NotUnderstood\0a=NotUnderstood\0a=NotUnderstood\0a=NotUnderstood\0a=NotUnderstood\0a=NotUnderstood\0a=NotUnderstood\0a=NotUnderstood\0a=NotUnderstood\0a=NotUnderstood\0a=NotUnderstood\0a=NotUnderstood\0a=NotUnderstood\0a=NotUnderstood\0a=NotUnderstood\0a=NotUnderstood\0a=NotUnderstood\0a=NotUnderstood\0a=NotUnderstood\0a=NotUnderstood\0a=NotUnderstood\0a=NotUnderstood\0a=NotUnderstood\0a=NotUnderstood\0a=NotUnderstood\0a=NotUnderstood\0a=NotUnderstood\0a=NotUnderstood\0a=NotUnderstood\0a=NotUnderstood\0a=NotUnderstood\0a=NotUnderstood\0a=NotUnderstood\0a=NotUnderstood\0a=NotUnderstood\0a=NotUnderstood\0a=NotUnderstood\0a=NotUnderstood\0a=NotUnderstood\0a=NotUnderstood\0",
-            ),
-        )],
-        ..PLAIN
-    },
-    Row {
         name: "65 pairs",
         kind: Kind::Normal,
         input: &[
@@ -329,9 +333,34 @@ const ROWS: &[Row] = &[
         end: End::Protocol,
         ..PLAIN
     },
+    // One answer has 158 bytes.
+    Row {
+        name: "an answer of 8216 bytes",
+        portals: 3,
+        input: &[PduRow(
+            &REQUEST,
+            &[(6, &[2, 164])],
+            Segment::Bytes(
+                b"SendTargets=\0SendTargets=\0SendTargets=\0SendTargets=\0SendTargets=\0SendTargets=\0SendTargets=\0SendTargets=\0SendTargets=\0SendTargets=\0SendTargets=\0SendTargets=\0SendTargets=\0SendTargets=\0SendTargets=\0SendTargets=\0SendTargets=\0SendTargets=\0SendTargets=\0SendTargets=\0SendTargets=\0SendTargets=\0SendTargets=\0SendTargets=\0SendTargets=\0SendTargets=\0SendTargets=\0SendTargets=\0SendTargets=\0SendTargets=\0SendTargets=\0SendTargets=\0SendTargets=\0SendTargets=\0SendTargets=\0SendTargets=\0SendTargets=\0SendTargets=\0SendTargets=\0SendTargets=\0SendTargets=\0SendTargets=\0SendTargets=\0SendTargets=\0SendTargets=\0SendTargets=\0SendTargets=\0SendTargets=\0SendTargets=\0SendTargets=\0SendTargets=\0SendTargets=\0",
+            ),
+        )],
+        asked: &[],
+        output: &[PduRow(
+            &REJECT,
+            &[(2, &[4])],
+            Segment::Rejected(&REQUEST, &[(6, &[2, 164])]),
+        )],
+        end: End::Protocol,
+        ..PLAIN
+    },
 ];
 
 #[test]
 fn text(rt: HostRuntime) -> Result<(), Fail> {
     run(&rt, rt.alloc(), ROWS)
+}
+
+#[test]
+fn refused_in_text_and_discovery(rt: HostRuntime) -> Result<(), Fail> {
+    run(&rt, rt.alloc(), REFUSED)
 }
