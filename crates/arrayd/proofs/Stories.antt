@@ -7,21 +7,24 @@ use Rattle.scsi_types.specs.ReplyValue.{ReplyValue}
 use Rattle.scsi_types.specs.declared.names.Group.{Group}
 use Rattle.scsi_types.specs.declared.command.Command.{Command as ScsiCommand}
 use Rattle.scsi_types.specs.declared.command.CdbFault.{CdbFault}
-use Rattle.session.specs.Question.{Question, serve}
+use Rattle.session.specs.Asking.{Asking, served, reset}
+use Rattle.session.specs.declared.target.ResetAnswer.{ResetAnswer}
+use Rattle.session.specs.declared.target.ResetAnswer.TheVariants as resets
 use Rattle.session.specs.declared.target.TargetAnswer.{TargetAnswer}
 use Rattle.session.specs.declared.target.TargetAnswer.TheVariants.{Replied, Outside, Busy, Gone, Halted}
 use Rattle.session.specs.declared.end.End.{End}
+use Rattle.session.specs.Setting.{Setting}
 use Rattle.session.specs.Transcript.{IsTranscribed}
-use Rattle.session.specs.Turn.{Asking, Leads, calls}
+use Rattle.session.specs.Turn.{Leads, calls}
 use Rattle.unit_state.specs.declared.control.TheConstants.{LAST_COUNT}
 use Rattle.unit_state.specs.State.{ControlValue, UnitState, UnitValue, state_of}
 use Rattle.unit_state.specs.Choice.{Choice, Fine, ReadFailed, WriteFailed, IsFine, choice_of}
-use Rattle.unit_state.specs.Entry.{Entry, Command, IsPossible, IsReplyTo, control_after, blocks_after, after}
+use Rattle.unit_state.specs.Entry.{Entry, Reset, Command, IsAttached, IsPossible, IsReplyTo, control_after, blocks_after, after}
 use Rattle.unit_state.specs.EntryLaws.{possible_over, reply_over}
 use Rattle.unit_state.specs.History.{state_after, IsLegal, IsReplyAt, has_failed, failed_entries}
 use Rattle.unit_state.specs.Step.{IsStep, entry_of}
-use Rattle.arrayd.specs.OneUnit.{TargetValue, IsCommand, IsSame, IsBusy, IsAnsweredBy, LeadsOn}
-use Rattle.arrayd.specs.Once.{RepliedCall, replied_to, replied, IsCommandOf, AreCommands, IsUnserved, AreUnserved, AreCounted, IsBegun, IsOnce, begun, from_one}
+use Rattle.arrayd.specs.OneUnit.{TargetValue, IsCommand, IsSame, IsBusy, IsAnsweredBy, IsReset, IsResetBy, LeadsOn}
+use Rattle.arrayd.specs.Once.{RepliedCall, EnteredCall, replied, was_reset, entered_by, entered, IsEntryOf, AreCommands, IsUnserved, AreUnserved, AreCounted, IsBegun, IsOnce, begun}
 
 -- ---- failures: one command more in front
 
@@ -94,41 +97,37 @@ module _ {B : Type 0} (claims : Bool) (contents : B → List (List ℕ)) (failur
 
   -- ---- a call that was replied is the next entry
 
-  module _ (s : UnitState) (cs : List Asking) (asked : Result ScsiCommand CdbFault) (bytes : List ℕ) (reply : ReplyValue) (unit : Option ℕ) (serial : ℕ) (by_group : Group) (choice : Choice) where
-    abbrev e : Entry
-    e = Command 0 serial by_group asked bytes choice
+  module _ (s : UnitState) (cs : List Asking) (e : Entry) (this : Asking) (this_call : EnteredCall) (mine : IsEntryOf e this_call)
+      (told : (c : RepliedCall) → this_call ≡ replied c → IsReplyTo claims s e c.reply) (same : entered (this ∷ cs) ≡ this_call ∷ entered cs) where
+    entry_here : (history : List Entry) → AreCommands claims (after s e) cs history → (k : ℕ) (call : EnteredCall) → slice_get (this_call ∷ entered cs) k ≡ Some call
+        → (f : Entry) × (slice_get (e ∷ history) k ≡ Some f) × IsEntryOf f call
+    entry_here history rest zero call at = let eq : this_call ≡ call = cc in (e, refl, subst (IsEntryOf e) eq mine)
+    entry_here history rest (suc k) call at = rest.entry k call at
 
-    abbrev this : Asking
-    this = record { question = serve unit asked bytes; answer = Replied reply }
-
-    abbrev this_call : RepliedCall
-    this_call = record { asked = asked; bytes = bytes; reply = reply }
-
-    entry_more : (history : List Entry) → AreCommands claims (after s e) cs history → (k : ℕ) (call : RepliedCall) → slice_get (replied (this ∷ cs)) k ≡ Some call
-        → (f : Entry) × (slice_get (e ∷ history) k ≡ Some f) × IsCommandOf f call
-    entry_more history rest zero call at = let same : this_call ≡ call = cc in (e, refl, subst (IsCommandOf e) same (refl, refl, refl))
-    entry_more history rest (suc k) call at = rest.entry k call at
-
-    reply_more : (history : List Entry) → IsReplyTo claims s e reply → AreCommands claims (after s e) cs history → (k : ℕ) (call : RepliedCall) → slice_get (replied (this ∷ cs)) k ≡ Some call
+    reply_here : (history : List Entry) → AreCommands claims (after s e) cs history → (k : ℕ) (call : RepliedCall) → slice_get (this_call ∷ entered cs) k ≡ Some (replied call)
         → IsReplyAt claims s (e ∷ history) k call.reply
-    reply_more history told rest zero call at = let same : this_call ≡ call = cc in subst (λ (c : RepliedCall). IsReplyTo claims s e c.reply) same told
-    reply_more history told rest (suc k) call at = rest.reply k call at
+    reply_here history rest zero call at = let eq : this_call ≡ replied call = cc in told call eq
+    reply_here history rest (suc k) call at = rest.reply k call at
 
-    commands_more : (history : List Entry) → IsReplyTo claims s e reply → AreCommands claims (after s e) cs history → AreCommands claims s (this ∷ cs) (e ∷ history)
-    commands_more history told rest = record { as_many = ap suc rest.as_many; entry = entry_more history rest; reply = reply_more history told rest }
+    commands_more : (history : List Entry) → AreCommands claims (after s e) cs history → AreCommands claims s (this ∷ cs) (e ∷ history)
+    commands_more history rest = record {
+      as_many = ap suc rest.as_many ∙ sym (ap length same);
+      entry = λ k call at. entry_here history rest k call (subst (λ (xs : List EnteredCall). slice_get xs k ≡ Some call) same at);
+      reply = λ k call at. reply_here history rest k call (subst (λ (xs : List EnteredCall). slice_get xs k ≡ Some (replied call)) same at);
+    }
 
-    others_more : (history : List Entry) → AreUnserved (after s e) cs history → AreUnserved s (this ∷ cs) (e ∷ history)
-    others_more history rest zero call at = subst (λ (c : Asking). IsUnserved s c.question c.answer) (first_is this call cs at) tt
-    others_more history rest (suc k) call at = rest k call at
+  entered_more : (e : Entry) (s : UnitState) (c : Asking) (cs : List Asking) (history : List Entry) (call : EnteredCall) → entered_by c ≡ Some call → IsUnserved s c → AreUnserved (after s e) cs history → AreUnserved s (c ∷ cs) (e ∷ history)
+  entered_more e s c cs history call some here rest zero call' at = subst (λ (d : Asking). IsUnserved s d) (first_is c call' cs at) here
+  entered_more e s c cs history call some here rest (suc k) call' at = rw some (rest k call' at)
 
   -- ---- any other call is none
 
-  others_past : (s : UnitState) (c : Asking) (cs : List Asking) (history : List Entry) → replied_to c.question c.answer ≡ None → IsUnserved s c.question c.answer → AreUnserved s cs history → AreUnserved s (c ∷ cs) history
-  others_past s c cs history none here rest zero call at = subst (λ (d : Asking). IsUnserved s d.question d.answer) (first_is c call cs at) here
+  others_past : (s : UnitState) (c : Asking) (cs : List Asking) (history : List Entry) → entered_by c ≡ None → IsUnserved s c → AreUnserved s cs history → AreUnserved s (c ∷ cs) history
+  others_past s c cs history none here rest zero call at = subst (λ (d : Asking). IsUnserved s d) (first_is c call cs at) here
   others_past s c cs history none here rest (suc k) call at = rw none (rest k call at)
 
   -- such a call leaves all as it was
-  past : (s : UnitState) (x mid x' : TargetValue B) (cs : List Asking) (c : Asking) → replied_to c.question c.answer ≡ None → IsUnserved s c.question c.answer → replied (c ∷ cs) ≡ replied cs → IsSame x mid → Story s mid x' cs → Story s x x' (c ∷ cs)
+  past : (s : UnitState) (x mid x' : TargetValue B) (cs : List Asking) (c : Asking) → entered_by c ≡ None → IsUnserved s c → entered (c ∷ cs) ≡ entered cs → IsSame x mid → Story s mid x' cs → Story s x x' (c ∷ cs)
   past s x mid x' cs c none here same_calls same k = record {
     history = k.history;
     legal = k.legal;
@@ -144,7 +143,7 @@ module _ {B : Type 0} (claims : Bool) (contents : B → List (List ℕ)) (failur
 
   next : (unit : Option ℕ) (asked : Result ScsiCommand CdbFault) (bytes : List ℕ) (a : TargetAnswer) (cs : List Asking) (s : UnitState) (x mid x' : TargetValue B) → x.session ≡ 0 → Matches s x
       → IsAnsweredBy claims contents failures x unit asked bytes a mid → ((s' : UnitState) → mid.session ≡ 0 → Matches s' mid → Story s' mid x' cs)
-      → Story s x x' (record { question = serve unit asked bytes; answer = a } ∷ cs)
+      → Story s x x' (served unit asked bytes a ∷ cs)
   next unit asked bytes (Replied reply) cs s x mid x' zero_is m led rest =
       let by_owner : TargetValue B = led.1 in
       let same = led.2 in
@@ -155,36 +154,70 @@ module _ {B : Type 0} (claims : Bool) (contents : B → List (List ℕ)) (failur
       let entry : Entry = Command 0 by_owner.serial by_owner.by asked bytes choice in
       let step : IsStep claims (state_of contents by_owner.unit) (state_of contents mid.unit) entry reply =
       subst (λ (n : ℕ). IsStep claims (state_of contents by_owner.unit) (state_of contents mid.unit) (entry_of n by_owner.serial by_owner.by asked bytes reply (state_of contents mid.unit)) reply) mine done.step in
+      let call : RepliedCall = record { asked = asked; bytes = bytes; reply = reply } in
       let k = rest (after s entry) (done.session ∙ mine) (matches_after s by_owner mid m' entry reply step) in
       record {
         history = entry ∷ k.history;
         legal = (possible_here s by_owner mid m' entry reply step, k.legal);
-        commands = commands_more s cs asked bytes reply unit by_owner.serial by_owner.by choice k.history (replied_here s by_owner mid m' entry reply step) k.commands;
-        others = others_more s cs asked bytes reply unit by_owner.serial by_owner.by choice k.history k.others;
+        commands = commands_more s cs entry (served unit asked bytes (Replied reply)) (replied call) (refl, refl, refl)
+            (λ c same_call. let same_one : call ≡ c = cc in subst (λ (z : RepliedCall). IsReplyTo claims s entry z.reply) same_one (replied_here s by_owner mid m' entry reply step)) refl k.history k.commands;
+        others = entered_more entry s (served unit asked bytes (Replied reply)) cs k.history (replied call) refl tt k.others;
         counted = counted_more (failures x.unit.device) (failures mid.unit.device) (failures x'.unit.device) 0 by_owner.serial by_owner.by asked bytes choice k.history
             (subst (λ (u : UnitValue B). Tells (failures u.device) (failures mid.unit.device) (IsFine choice)) same.unit done.fine) k.counted;
         ends = k.ends;
       }
   next unit asked bytes (Outside reply) cs s x mid x' zero_is m led rest =
-      past s x mid x' cs (record { question = serve unit asked bytes; answer = Outside reply }) refl (led.0, led.1) refl led.2 (rest s (led.2.session ∙ zero_is) (same_unit s x mid led.2.unit m))
+      past s x mid x' cs (served unit asked bytes (Outside reply)) refl (led.0, led.1) refl led.2 (rest s (led.2.session ∙ zero_is) (same_unit s x mid led.2.unit m))
   next unit asked bytes Busy cs s x mid x' zero_is m led rest =
-      past s x mid x' cs (record { question = serve unit asked bytes; answer = Busy }) refl
+      past s x mid x' cs (served unit asked bytes Busy) refl
       (subst (λ (c : ControlValue). IsBusy c 0 unit asked bytes) (sym m.control) (subst (λ (n : ℕ). IsBusy x.unit.control n unit asked bytes) zero_is led.0)) refl led.1
       (rest s (led.1.session ∙ zero_is) (same_unit s x mid led.1.unit m))
   next unit asked bytes Gone cs s x mid x' zero_is m led rest =
-      past s x mid x' cs (record { question = serve unit asked bytes; answer = Gone }) refl (led.0, subst (λ (c : ControlValue). LAST_COUNT ≤ c.count) (sym m.control) led.2) refl led.1
+      past s x mid x' cs (served unit asked bytes Gone) refl (led.0, subst (λ (c : ControlValue). LAST_COUNT ≤ c.count) (sym m.control) led.2) refl led.1
       (rest s (led.1.session ∙ zero_is) (same_unit s x mid led.1.unit m))
   next unit asked bytes Halted cs s x mid x' zero_is m led rest = absurd led
 
-  asked_next : (q : Question) (a : TargetAnswer) (cs : List Asking) (s : UnitState) (x mid x' : TargetValue B) → x.session ≡ 0 → Matches s x
-      → LeadsOn claims contents failures x q a mid → ((s' : UnitState) → mid.session ≡ 0 → Matches s' mid → Story s' mid x' cs) → Story s x x' (record { question = q; answer = a } ∷ cs)
-  asked_next (serve unit asked bytes) a cs s x mid x' zero_is m led rest = next unit asked bytes a cs s x mid x' zero_is m led rest
+  -- ---- a reset is the next entry
+
+  counted_reset : (session before now : ℕ) (history : List Entry) → AreCounted before now history → AreCounted before now (Reset session ∷ history)
+  counted_reset session before now history k = record {
+    later = k.later;
+    at_most = λ room. let rest = k.at_most room in omega (arith, failed_more (Reset session) history);
+    only = λ room none. k.only room (omega (arith, failed_more (Reset session) history));
+  }
+
+  reset_next : (unit : ℕ) (a : ResetAnswer) (cs : List Asking) (s : UnitState) (x mid x' : TargetValue B) → x.session ≡ 0 → Matches s x
+      → IsResetBy x unit a mid → ((s' : UnitState) → mid.session ≡ 0 → Matches s' mid → Story s' mid x' cs) → Story s x x' (reset unit a ∷ cs)
+  reset_next unit resets.Done cs s x mid x' zero_is m led rest =
+      let done = led.1 in
+      let control : s.control ≡ x.unit.control = m.control in
+      let here : (after s (Reset 0)).control ≡ mid.unit.control =
+      ap (λ (c : ControlValue). control_after c (Reset 0)) control ∙ ap (λ (n : ℕ). control_after x.unit.control (Reset n)) (sym zero_is) ∙ sym done.control in
+      let k = rest (after s (Reset 0)) (done.session ∙ zero_is) (record { control = here; blocks = λ h. m.blocks h ∙ ap contents (sym done.device) }) in
+      record {
+        history = Reset 0 ∷ k.history;
+        legal = (subst (λ (c : ControlValue). IsAttached c 0) (sym control) (subst (λ (n : ℕ). IsAttached x.unit.control n) zero_is done.possible), k.legal);
+        commands = commands_more s cs (Reset 0) (reset unit resets.Done) was_reset refl (λ c same_call. absurd (cc)) refl k.history k.commands;
+        others = entered_more (Reset 0) s (reset unit resets.Done) cs k.history was_reset refl tt k.others;
+        counted = counted_reset 0 (failures x.unit.device) (failures x'.unit.device) k.history (subst (λ (d : B). AreCounted (failures d) (failures x'.unit.device) k.history) done.device k.counted);
+        ends = k.ends;
+      }
+  reset_next unit resets.Gone cs s x mid x' zero_is m led rest =
+      past s x mid x' cs (reset unit resets.Gone) refl (led.0, subst (λ (c : ControlValue). LAST_COUNT ≤ c.count) (sym m.control) led.2) refl led.1
+      (rest s (led.1.session ∙ zero_is) (same_unit s x mid led.1.unit m))
+  reset_next unit resets.Failed cs s x mid x' zero_is m led rest =
+      past s x mid x' cs (reset unit resets.Failed) refl led.0 refl led.1 (rest s (led.1.session ∙ zero_is) (same_unit s x mid led.1.unit m))
+
+  asked_next : (c : Asking) (cs : List Asking) (s : UnitState) (x mid x' : TargetValue B) → x.session ≡ 0 → Matches s x
+      → LeadsOn claims contents failures x c mid → ((s' : UnitState) → mid.session ≡ 0 → Matches s' mid → Story s' mid x' cs) → Story s x x' (c ∷ cs)
+  asked_next (served unit asked bytes a) cs s x mid x' zero_is m led rest = next unit asked bytes a cs s x mid x' zero_is m led rest
+  asked_next (reset unit a) cs s x mid x' zero_is m led rest = reset_next unit a cs s x mid x' zero_is m led rest
 
   no_call : (k : ℕ) (call : Asking) → slice_get none_asked k ≡ Some call → ⊥
   no_call zero call at = cc
   no_call (suc k) call at = cc
 
-  none_at : (k : ℕ) (call : RepliedCall) → slice_get (replied none_asked) k ≡ Some call → ⊥
+  none_at : (k : ℕ) (call : EnteredCall) → slice_get (entered none_asked) k ≡ Some call → ⊥
   none_at zero call at = cc
   none_at (suc k) call at = cc
 
@@ -192,18 +225,18 @@ module _ {B : Type 0} (claims : Bool) (contents : B → List (List ℕ)) (failur
   story [] s x x' zero_is m same = record {
     history = [];
     legal = tt;
-    commands = record { as_many = refl; entry = λ k call at. absurd (none_at k call at); reply = λ k call at. absurd (none_at k call at) };
+    commands = record { as_many = refl; entry = λ k call at. absurd (none_at k call at); reply = λ k call at. absurd (none_at k (replied call) at) };
     others = λ k call at. absurd (no_call k call at);
     counted = rw same (record { later = omega arith; at_most = λ room. omega arith; only = λ room none. refl });
     ends = λ h. ap (λ (y : TargetValue B). contents y.unit.device) same ∙ sym (m.blocks h);
   }
-  story (c ∷ cs) s x x' zero_is m led = asked_next c.question c.answer cs s x led.0 x' zero_is m led.1 (λ s' z m'. story cs s' led.0 x' z m' led.2)
+  story (c ∷ cs) s x x' zero_is m led = asked_next c cs s x led.0 x' zero_is m led.1 (λ s' z m'. story cs s' led.0 x' z m' led.2)
 
 -- the whole of it
-pub is_once : {B : Type 0} (claims : Bool) (size : B → ℕ) (contents : B → List (List ℕ)) (failures : B → ℕ) (blocks device : B) (x x' : TargetValue B) (left left' held held' : Option (List ℕ)) (end : End)
-    → IsBegun size blocks x → IsTranscribed (LeadsOn claims contents failures) from_one left left' held held' x x' end → device ≡ x'.unit.device
-    → IsOnce claims size contents failures blocks device left left' held held' end
-is_once {B = B} claims size contents failures blocks device x x' left left' held held' end first t is_device =
+pub is_once : {B : Type 0} (m : Setting) (claims : Bool) (size : B → ℕ) (contents : B → List (List ℕ)) (failures : B → ℕ) (blocks device : B) (x x' : TargetValue B) (left left' held held' : Option (List ℕ)) (end : End)
+    → IsBegun size blocks x → IsTranscribed (LeadsOn claims contents failures) m 1 1 left left' held held' x x' end → device ≡ x'.unit.device
+    → IsOnce m claims size contents failures blocks device left left' held held' end
+is_once {B = B} m claims size contents failures blocks device x x' left left' held held' end first t is_device =
     let begun_here : Matches claims contents failures (begun size contents blocks) x = record {
       control = sym first.control;
       blocks = λ h. ap contents (sym first.device);

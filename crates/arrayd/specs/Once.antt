@@ -1,5 +1,6 @@
 -- What one session over one unit is, from bytes to bytes and from blocks to blocks.
-use Rattle.std.specs.Prelude.{◌≡◌, ◌≢◌, ℕ, ◌+◌, ◌<◌, ◌≤◌, Bool, IsTrue, List, [], ◌∷◌, ◌++◌, length, map, take, codes, Option, Some, None, Result, Ok, slice_get}
+use Rattle.std.specs.Prelude.{◌≡◌, ◌≢◌, ℕ, ◌+◌, ◌<◌, ◌≤◌, Bool, IsTrue, List, [], ◌∷◌}
+use Rattle.std.specs.Prelude.{◌++◌, length, map, take, codes, Option, Some, None, Result, Ok, slice_get}
 use Rattle.std.specs.List.{filter_map}
 use Rattle.std.specs.Io.KnownBytes.{Consumes, IsAtEnd}
 use Rattle.block_file.specs.Failures.{last_count}
@@ -11,29 +12,24 @@ use Rattle.scsi_types.specs.declared.names.Place.{Place}
 use Rattle.scsi_types.specs.declared.command.Command.{Command as ScsiCommand}
 use Rattle.scsi_types.specs.declared.command.Command.TheVariants as commands
 use Rattle.scsi_types.specs.declared.command.CdbFault.{CdbFault}
-use Rattle.session.specs.Question.{Question, serve}
+use Rattle.session.specs.Asking.{Asking, served, reset}
+use Rattle.session.specs.Setting.{Setting}
 use Rattle.session.specs.declared.end.End.{End}
-use Rattle.session.specs.declared.session.Start.{Start}
-use Rattle.session.specs.declared.target.TargetAnswer.{TargetAnswer}
 use Rattle.session.specs.declared.target.TargetAnswer.TheVariants.{Replied, Outside, Busy, Gone, Halted}
-use Rattle.session.specs.Turn.{Asking, Turn, calls, Spells}
+use Rattle.session.specs.declared.target.ResetAnswer.TheVariants as resets
+use Rattle.session.specs.Turn.{Turn, calls, Spells}
 use Rattle.session.specs.Legal.{Lawful, EndsBy}
-use Rattle.session.specs.Lengths.{default_lengths}
 use Rattle.session.specs.Transcript.{Written}
 use Rattle.unit_state.specs.declared.control.TheConstants.{LAST_COUNT}
 use Rattle.unit_state.specs.State.{UnitState, opening}
 use Rattle.unit_state.specs.Choice.{Fine}
-use Rattle.unit_state.specs.Entry.{Entry, Attach, Command}
+use Rattle.unit_state.specs.Entry.{Entry, Attach, Reset, Command}
 use Rattle.unit_state.specs.History.{state_after, IsLegal, IsReplyAt, failed_entries}
 use Rattle.arrayd.specs.OneUnit.{TargetValue, IsBusy}
 
 -- the nexus of the one session
 abbrev pub host : Nexus
 host = record { port = record { name = codes "iqn.2000-01.test:host"; isid = 0 }; group = One }
-
--- with what the session begins: CmdSN 1, StatSN 1, and the lengths where none are negotiated
-abbrev pub from_one : Start
-from_one = record { exp_cmd_sn = 1; stat_sn = 1; lengths = default_lengths }
 
 -- the unit's place: the only one of array 1
 abbrev pub place : Place
@@ -54,7 +50,7 @@ pub record IsBegun {B : Type 0} (size : B → ℕ) (blocks : B) (target : Target
   pub device : target.unit.device ≡ blocks
   pub control : target.unit.control ≡ (begun size (λ b. []) blocks).control
 
--- ---- the calls that the unit replied to are the commands of its history
+-- ---- the calls that the unit replied to, and its resets, are the entries of its history
 
 -- what was asked, the data that came, and the reply
 pub record RepliedCall : Type 0 where
@@ -62,42 +58,54 @@ pub record RepliedCall : Type 0 where
   pub bytes : List ℕ
   pub reply : ReplyValue
 
-abbrev pub replied_to : Question → TargetAnswer → Option RepliedCall
-replied_to (serve unit asked bytes) (Replied reply) = Some (record { asked = asked; bytes = bytes; reply = reply })
-replied_to question (Outside reply) = None
-replied_to question Busy = None
-replied_to question Gone = None
-replied_to question Halted = None
+-- a call that the unit entered: one that it replied to, or a reset that was done
+pub data EnteredCall : Type 0 where
+  replied : RepliedCall → EnteredCall
+  was_reset : EnteredCall
 
-abbrev pub replied : List Asking → List RepliedCall
-replied cs = filter_map (λ c. replied_to c.question c.answer) cs
+abbrev pub entered_by : Asking → Option EnteredCall
+entered_by (served unit asked bytes (Replied reply)) = Some (replied (record { asked = asked; bytes = bytes; reply = reply }))
+entered_by (served unit asked bytes (Outside reply)) = None
+entered_by (served unit asked bytes Busy) = None
+entered_by (served unit asked bytes Gone) = None
+entered_by (served unit asked bytes Halted) = None
+entered_by (reset unit resets.Done) = Some was_reset
+entered_by (reset unit resets.Gone) = None
+entered_by (reset unit resets.Failed) = None
 
--- the entry is the session's command that asks this, with this data
-abbrev pub IsCommandOf : Entry → RepliedCall → Type 0
-IsCommandOf (Command session serial by_group asked bytes choice) call = (session ≡ 0) × (asked ≡ call.asked) × (bytes ≡ call.bytes)
-IsCommandOf entry call = ⊥
+abbrev pub entered : List Asking → List EnteredCall
+entered cs = filter_map entered_by cs
 
--- The replied calls are the commands of this history, in order, and the model gives each its reply.
+-- the entry is the session's command that asks this, with this data; or its reset
+abbrev pub IsEntryOf : Entry → EnteredCall → Type 0
+IsEntryOf (Command session serial by_group asked bytes choice) (replied call) = (session ≡ 0) × (asked ≡ call.asked) × (bytes ≡ call.bytes)
+IsEntryOf (Reset session) was_reset = session ≡ 0
+IsEntryOf entry call = ⊥
+
+-- The entered calls are the entries of this history, in order, and the model gives each command its reply.
 pub record AreCommands (claims : Bool) (s : UnitState) (cs : List Asking) (history : List Entry) : Type 0 where
-  pub as_many : length history ≡ length (replied cs)
-  pub entry : (k : ℕ) (call : RepliedCall) → slice_get (replied cs) k ≡ Some call → (e : Entry) × (slice_get history k ≡ Some e) × IsCommandOf e call
-  pub reply : (k : ℕ) (call : RepliedCall) → slice_get (replied cs) k ≡ Some call → IsReplyAt claims s history k call.reply
+  pub as_many : length history ≡ length (entered cs)
+  pub entry : (k : ℕ) (call : EnteredCall) → slice_get (entered cs) k ≡ Some call → (e : Entry) × (slice_get history k ≡ Some e) × IsEntryOf e call
+  pub reply : (k : ℕ) (call : RepliedCall) → slice_get (entered cs) k ≡ Some (replied call) → IsReplyAt claims s history k call.reply
 
 -- ---- the calls that were answered otherwise
 
 -- In this state of the unit a call may be answered so without a step: a unit that is not there; no memory for the data
 -- of a reply; a history of the last length. The unit serves on for good.
-abbrev pub IsUnserved : UnitState → Question → TargetAnswer → Type 0
-IsUnserved s question (Replied reply) = Unit {0}
-IsUnserved s (serve unit asked bytes) (Outside reply) = (unit ≢ Some 0) × (reply ≡ absent_reply asked)
-IsUnserved s (serve unit asked bytes) Busy = IsBusy s.control 0 unit asked bytes
-IsUnserved s (serve unit asked bytes) Gone = (unit ≡ Some 0) × (LAST_COUNT ≤ s.control.count)
-IsUnserved s question Halted = ⊥
+abbrev pub IsUnserved : UnitState → Asking → Type 0
+IsUnserved s (served unit asked bytes (Replied reply)) = Unit {0}
+IsUnserved s (served unit asked bytes (Outside reply)) = (unit ≢ Some 0) × (reply ≡ absent_reply asked)
+IsUnserved s (served unit asked bytes Busy) = IsBusy s.control 0 unit asked bytes
+IsUnserved s (served unit asked bytes Gone) = (unit ≡ Some 0) × (LAST_COUNT ≤ s.control.count)
+IsUnserved s (served unit asked bytes Halted) = ⊥
+IsUnserved s (reset unit resets.Done) = Unit {0}
+IsUnserved s (reset unit resets.Gone) = (unit ≡ 0) × (LAST_COUNT ≤ s.control.count)
+IsUnserved s (reset unit resets.Failed) = unit ≢ 0
 
--- each call that was answered otherwise, in the state behind the commands before it
+-- each call that was answered otherwise, in the state behind the entries before it
 abbrev pub AreUnserved : UnitState → List Asking → List Entry → Type 0
 AreUnserved s cs history = (k : ℕ) (call : Asking) → slice_get cs k ≡ Some call
-    → IsUnserved (state_after s (take (length (replied (take k cs))) history)) call.question call.answer
+    → IsUnserved (state_after s (take (length (entered (take k cs))) history)) call
 
 -- ---- failures
 
@@ -112,10 +120,10 @@ pub record AreCounted (before now : ℕ) (history : List Entry) : Type 0 where
 
 -- The bytes that were read spell the PDUs of a legal transcript, and the bytes written those that it sends: of every
 -- device.
-pub record IsServed (ts : List Turn) (left left' held held' : Option (List ℕ)) (end : End) : Type 0 where
+pub record IsServed (m : Setting) (ts : List Turn) (left left' held held' : Option (List ℕ)) (end : End) : Type 0 where
   pub spelled : List ℕ
   pub rest : List ℕ
-  pub lawful : Lawful from_one ts
+  pub lawful : Lawful m 1 1 ts
   pub ends : EndsBy ts rest (length spelled + length rest) (IsAtEnd left') end
   pub spells : Spells (map (λ t. t.came) ts) spelled
   pub read : Consumes left left' (spelled ++ rest)
@@ -123,10 +131,10 @@ pub record IsServed (ts : List Turn) (left left' held held' : Option (List ℕ))
 
 -- Its calls are the commands of one legal history of the unit; the failures that this tells are those of the device;
 -- and where the device's type claims its contents, it has the blocks after that history.
-pub record IsOnce {B : Type 0} (claims : Bool) (size : B → ℕ) (contents : B → List (List ℕ)) (failures : B → ℕ)
+pub record IsOnce {B : Type 0} (m : Setting) (claims : Bool) (size : B → ℕ) (contents : B → List (List ℕ)) (failures : B → ℕ)
     (blocks device : B) (left left' held held' : Option (List ℕ)) (end : End) : Type 0 where
   pub transcript : List Turn
-  pub served : IsServed transcript left left' held held' end
+  pub served : IsServed m transcript left left' held held' end
   pub history : List Entry
   pub legal : IsLegal claims (opening place (size blocks) (contents blocks)) (first_entries ++ history)
   pub commands : AreCommands claims (begun size contents blocks) (calls transcript) history

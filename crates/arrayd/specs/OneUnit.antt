@@ -7,12 +7,15 @@ use Rattle.scsi_types.specs.declared.names.Group.{Group}
 use Rattle.scsi_types.specs.declared.status.Status.TheVariants.{Good}
 use Rattle.scsi_types.specs.declared.command.Command.{Command as ScsiCommand}
 use Rattle.scsi_types.specs.declared.command.CdbFault.{CdbFault}
-use Rattle.session.specs.Question.{Question, serve}
+use Rattle.session.specs.Asking.{Asking, served, reset}
 use Rattle.session.specs.declared.target.TargetAnswer.{TargetAnswer}
 use Rattle.session.specs.declared.target.TargetAnswer.TheVariants.{Replied, Outside, Busy, Gone, Halted}
+use Rattle.session.specs.declared.target.ResetAnswer.{ResetAnswer}
+use Rattle.session.specs.declared.target.ResetAnswer.TheVariants as resets
 use Rattle.unit_state.specs.declared.control.TheConstants.{LAST_COUNT}
 use Rattle.unit_state.specs.State.{ControlValue, UnitValue, state_of, failures_of}
 use Rattle.unit_state.specs.Choice.{IsFine, choice_of}
+use Rattle.unit_state.specs.Entry.{Reset, IsAttached, control_after}
 use Rattle.unit_state.specs.Refusal.{request}
 use Rattle.unit_state.specs.Step.{IsStep, TakesMemory, entry_of}
 use Rattle.unit_state.specs.declared.unit.StepEnd.{StepEnd}
@@ -71,6 +74,21 @@ IsAnsweredBy claims contents failures old unit asked bytes Busy new = IsBusy old
 IsAnsweredBy claims contents failures old unit asked bytes Gone new = (unit ≡ Some 0) × IsSame old new × (LAST_COUNT ≤ old.unit.control.count)
 IsAnsweredBy claims contents failures old unit asked bytes Halted new = ⊥
 
+-- the session reset the unit, which its other sessions are to be told
+pub record IsReset {B : Type 0} (old new : TargetValue B) : Type 0 where
+  pub session : new.session ≡ old.session
+  pub possible : IsAttached old.unit.control old.session
+  pub control : new.unit.control ≡ control_after old.unit.control (Reset old.session)
+  pub device : new.unit.device ≡ old.unit.device
+
+-- What the target answers to a reset: its unit was reset; its session is gone, and nothing happened; of another unit
+-- that it failed.
+abbrev pub IsResetBy : {B : Type 0} → TargetValue B → ℕ → ResetAnswer → TargetValue B → Type 0
+IsResetBy old unit resets.Done new = (unit ≡ 0) × IsReset old new
+IsResetBy old unit resets.Gone new = (unit ≡ 0) × IsSame old new × (LAST_COUNT ≤ old.unit.control.count)
+IsResetBy old unit resets.Failed new = (unit ≢ 0) × IsSame old new
+
 -- where a question with its answer leads the target
-abbrev pub LeadsOn : {B : Type 0} → Bool → (B → List (List ℕ)) → (B → ℕ) → TargetValue B → Question → TargetAnswer → TargetValue B → Type 0
-LeadsOn claims contents failures old (serve unit asked bytes) answer new = IsAnsweredBy claims contents failures old unit asked bytes answer new
+abbrev pub LeadsOn : {B : Type 0} → Bool → (B → List (List ℕ)) → (B → ℕ) → TargetValue B → Asking → TargetValue B → Type 0
+LeadsOn claims contents failures old (served unit asked bytes answer) new = IsAnsweredBy claims contents failures old unit asked bytes answer new
+LeadsOn claims contents failures old (reset unit answer) new = IsResetBy old unit answer new

@@ -6,16 +6,21 @@ mod target;
 mod words;
 
 use block_file::MemBlocks;
+use login::Kind;
 use scsi_types::NoMemory;
-use session::{End, Watched};
+use session::{End, Identity, Watched};
 use std::alloc::Global;
 use std::env::Env;
+use std::net::{Ipv4Addr, SocketAddrV4};
 use std::process::ExitCode;
 use std::{env, io};
 use words::{Plan, WordsFault};
 
 /// How many blocks the unit of `--once` has.
 const BLOCKS: u32 = 2048;
+
+/// The name of the target of `--once`.
+const TARGET_NAME: &[u8] = b"iqn.2000-01.test:array";
 
 /// Why the program ends without having served.
 #[derive(Clone, Copy, Debug, PartialEq, Eq)]
@@ -76,12 +81,23 @@ fn run<R: Input + Print + Env + AllocGlobal>(rt: &R, alloc: Global) -> Result<()
     }
 }
 
+// The one portal of a controller, at this port of the host itself.
+fn portal(port: u16) -> [SocketAddrV4; 1] {
+    [SocketAddrV4::new(Ipv4Addr::new(127, 0, 0, 1), port)]
+}
+
 // Serves standard input to standard output over one unit in memory.
 fn serve_once<R: Input + Print>(rt: &R, alloc: Global) -> Result<(), Fault> {
     let blocks = MemBlocks::new(alloc, BLOCKS)?;
     let mut source = Watched::new(rt.reader());
     let mut sink = Watched::new(io::writer(rt));
-    let (_end, _blocks): (End, MemBlocks) = once::once(alloc, &mut source, &mut sink, blocks)?;
+    let me = Identity {
+        kind: Kind::Normal,
+        target_name: TARGET_NAME,
+        first: &portal(3260),
+        second: &portal(3264),
+    };
+    let (_end, _blocks): (End, MemBlocks) = once::once(alloc, &mut source, &mut sink, blocks, &me)?;
     Ok(())
 }
 

@@ -5,7 +5,7 @@ ghost use Rattle.arrayd.specs.Once.{IsBegun};
 use block_file::Blocks;
 use identity::absent;
 use scsi_types::{Asked, Command, Group, NoMemory, Place, PortName};
-use session::{Target, TargetAnswer};
+use session::{ResetAnswer, Target, TargetAnswer};
 use std::alloc::Global;
 use std::marker::Model;
 use unit_state::{SessionId, StepEnd, Unit};
@@ -112,6 +112,12 @@ impl<B: Blocks> Target for OneUnit<B> {
 
     ghost leads = { LeadsOn B.claims B.contents B.failures };
 
+    ghost unit_count = { λ t. 1 };
+
+    fn units(&self) -> u16 {
+        1
+    }
+
     fn serve(&mut self, unit: Option<u8>, asked: Asked, bytes: &[u8]) -> TargetAnswer {
         if unit != Some(UNIT) {
             return match absent(self.alloc, &asked) {
@@ -124,6 +130,16 @@ impl<B: Blocks> Target for OneUnit<B> {
             StepEnd::Gone => TargetAnswer::Gone,
             StepEnd::NoMemory => TargetAnswer::Busy,
             StepEnd::Moved(_) => unreachable!(),
+        }
+    }
+
+    fn reset(&mut self, unit: u8) -> ResetAnswer {
+        if unit != UNIT {
+            return ResetAnswer::Failed;
+        }
+        match self.unit.reset(self.session) {
+            Ok(()) => ResetAnswer::Done,
+            Err(_) => ResetAnswer::Gone,
         }
     }
 }

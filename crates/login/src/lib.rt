@@ -11,6 +11,7 @@ mod status;
 mod targets;
 mod text;
 mod value;
+mod within;
 
 pub use key::{Key, Row};
 pub use laws::{
@@ -20,5 +21,6 @@ pub use laws::{
 pub use negotiation::{LoginEnd, Negotiation};
 pub use parameters::{Parameters, in_force};
 pub use status::{Kind, LoginFlags, LoginStatus};
-pub use targets::{TextEnd, send_targets};
+pub use targets::{TextEnd, send_targets, target_text};
 pub use value::{Limits, Rule, Value, Word};
+pub use within::{TextAnswer, answer_within};

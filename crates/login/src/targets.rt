@@ -38,7 +38,7 @@ pub fn send_targets(
     if !is_text(text) || count_of_pairs(text) > MOST_PAIRS {
         return TextEnd::Fault;
     }
-    let Ok(told) = told(alloc, target, first, second) else {
+    let Ok(told) = target_text(alloc, target, first, second) else {
         return TextEnd::NoMemory;
     };
     match answered(alloc, target, kind, &told, text) {
@@ -47,8 +47,9 @@ pub fn send_targets(
     }
 }
 
-/// What the target tells of itself.
-fn told(
+/// What a target tells of itself: its name, and the addresses of the portals of the first controller in order, then of
+/// the second.
+pub fn target_text(
     alloc: Global,
     target: &[u8],
     first: &[SocketAddrV4],

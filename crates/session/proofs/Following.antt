@@ -1,6 +1,6 @@
 -- What follows of a legal transcript.
 use Rattle.std.proofs.Common.{◌≡◌, ℕ, ◌+◌, ◌≤◌, min, Bool, true, false, List, [], ◌∷◌, ◌++◌, Option, Some, None, length, take, refl, ap, ◌∙◌, arith, length-append}
-use Rattle.std.specs.Prelude.{◌||◌, IsTrue, slice_get, if◌then◌else◌}
+use Rattle.std.specs.Prelude.{◌||◌, IsTrue, Result, slice_get, if◌then◌else◌}
 use Rattle.std.specs.List.{AllByRecursion, filter, cons_option, list_any}
 use Rattle.std.proofs.lemmas.List.Elements.{filter_map-append}
 use Rattle.std.proofs.lemmas.List.{length-take}
@@ -10,12 +10,15 @@ use Rattle.iscsi_pdu.specs.declared.header.TargetHeader.{TargetHeader}
 use Rattle.iscsi_pdu.specs.declared.header.TargetHeader.TheVariants.{NopIn, ScsiResponse, TaskManagementResponse, LoginResponse, TextResponse, DataIn, LogoutResponse, R2t, Reject}
 use Rattle.iscsi_pdu.specs.declared.header.ScsiCommand.{ScsiCommand as CommandHeader}
 use Rattle.session.specs.declared.lengths.Lengths.{Lengths}
-use Rattle.session.specs.declared.session.Start.{Start}
+use Rattle.session.specs.Setting.{Setting}
 use Rattle.session.specs.declared.target.TargetAnswer.{TargetAnswer}
 use Rattle.session.specs.declared.target.TargetAnswer.TheVariants.{Replied, Outside, Busy, Gone, Halted}
 use Rattle.session.specs.declared.verdict.Verdict.{Verdict}
 use Rattle.session.specs.declared.verdict.Verdict.TheVariants.{Accepted, Full, Ignored, Gap, Refused}
-use Rattle.session.specs.Turn.{Incoming, pdu, Out, Asking, Turn, sent}
+use Rattle.scsi_types.specs.declared.command.Command.{Command}
+use Rattle.scsi_types.specs.declared.command.CdbFault.{CdbFault}
+use Rattle.session.specs.Asking.{Asking, served}
+use Rattle.session.specs.Turn.{Incoming, pdu, Out, Turn, sent}
 use Rattle.session.specs.Window.{wrap}
 use Rattle.session.specs.Tasks.{is_response, is_management, finds_gone, touches, ends, through, Task, accepted_command, begun_by, tasks}
 use Rattle.session.specs.Standing.{Standing, standing}
@@ -26,12 +29,12 @@ use Rattle.session.specs.DataIn.{data_ins, joined_data}
 use Rattle.session.specs.Legal.{AtEach, Lawful, status_numbers, IsAnsweredTask, IsTiledTask}
 use Rattle.session.specs.Following.{IsCallTurn}
 
-pub consecutive : (start : Start) (ts : List Turn) (k n next : ℕ) → Lawful start ts
+pub consecutive : (setting : Setting) (ts : List Turn) (k n next : ℕ) → Lawful setting ts
     → slice_get (status_numbers (sent ts)) k ≡ Some n → slice_get (status_numbers (sent ts)) (k + 1) ≡ Some next
     → next ≡ wrap (n + 1)
-consecutive start ts k n next l here there =
-    let one : n ≡ wrap (start.stat_sn + k) = l.numbered k n here in
-    let two : next ≡ wrap (start.stat_sn + (k + 1)) = l.numbered (k + 1) next there in
+consecutive setting ts k n next l here there =
+    let one : n ≡ wrap (setting.start.stat_sn + k) = l.numbered k n here in
+    let two : next ≡ wrap (setting.start.stat_sn + (k + 1)) = l.numbered (k + 1) next there in
     omega (arith, one, two)
 
 -- ---- one response at most
@@ -64,10 +67,10 @@ turn_count None p own k = none_length own 1 k
 turn_count (Some outcome) None own k = none_length own 1 k
 turn_count (Some outcome) (Some p) own k = outcome_length p outcome own k
 
-pub answered_once : (start : Start) (ts : List Turn) → Lawful start ts
+pub answered_once : (setting : Setting) (ts : List Turn) → Lawful setting ts
     → AtEach (λ before t. length (responses t.sent) ≤ 1) ts
-answered_once start ts l before t behind e =
-    turn_count (outcome_of t.verdict t.call t.sent) (command_at (standing start before) t.came) t.sent (l.answered before t behind e)
+answered_once setting ts l before t behind e =
+    turn_count (outcome_of t.verdict t.call t.sent) (command_at (standing setting.start before) t.came) t.sent (l.answered before t behind e)
 
 turn_unaccepted : (v : Verdict) (call : Option Asking) (p : Option CommandHeader) (own : List Out)
     → IsAnsweredTask (answered_by (outcome_of v call own) p own) own → (v ≡ Accepted → ⊥) → (v ≡ Full → ⊥) → responses own ≡ []
@@ -77,10 +80,10 @@ turn_unaccepted Ignored call p own k never full = k
 turn_unaccepted Gap call p own k never full = k
 turn_unaccepted (Refused reason) call p own k never full = k
 
-pub unaccepted : (start : Start) (ts : List Turn) → Lawful start ts
+pub unaccepted : (setting : Setting) (ts : List Turn) → Lawful setting ts
     → AtEach (λ before t. (t.verdict ≡ Accepted → ⊥) → (t.verdict ≡ Full → ⊥) → responses t.sent ≡ []) ts
-unaccepted start ts l before t behind e never full =
-    turn_unaccepted t.verdict t.call (command_at (standing start before) t.came) t.sent (l.answered before t behind e) never full
+unaccepted setting ts l before t behind e never full =
+    turn_unaccepted t.verdict t.call (command_at (standing setting.start before) t.came) t.sent (l.answered before t behind e) never full
 
 -- ---- one response at most in all turns of a command
 
@@ -145,27 +148,28 @@ each_of_all : (ts : List Turn) → AtEach (λ before t. HasOneAtMost t) ts → A
 each_of_all [] each = tt
 each_of_all (t ∷ ts) each = (each [] t ts refl, each_of_all ts (λ before u behind e. each (t ∷ before) u behind (ap (λ (us : List Turn). t ∷ us) e)))
 
-pub command_once : (start : Start) (ts : List Turn) → Lawful start ts
+pub command_once : (setting : Setting) (ts : List Turn) → Lawful setting ts
     → AllByRecursion (λ k. length (responses (sent k.own)) ≤ 1) (tasks ts)
-command_once start ts l = tasks_once ts (each_of_all ts (answered_once start ts l))
+command_once setting ts l = tasks_once ts (each_of_all ts (answered_once setting ts l))
 
 -- ---- the data of a read
 
 sent_to_a_read : (p : CommandHeader) (bytes : List ℕ) → IsTrue p.read → sent_data p bytes ≡ take p.expected_length bytes
 sent_to_a_read p bytes e = ap (λ (r : Bool). if r then take p.expected_length bytes else []) e
 
-turn_data : (l : Lengths) (st : Standing) (v : Verdict) (came : Incoming) (asked : Option Asking) (own : List Out) (b : List ℕ) (p : CommandHeader) (d : List ℕ) (call : Asking)
-    → v ≡ Accepted → came ≡ pdu b (Initiator (ScsiCommand p)) d → asked ≡ Some call → IsTrue p.read
+turn_data : (l : Lengths) (st : Standing) (v : Verdict) (came : Incoming) (asked : Option Asking) (own : List Out) (b : List ℕ) (p : CommandHeader) (d : List ℕ)
+    (unit : Option ℕ) (means : Result Command CdbFault) (bytes : List ℕ) (answer : TargetAnswer)
+    → v ≡ Accepted → came ≡ pdu b (Initiator (ScsiCommand p)) d → asked ≡ Some (served unit means bytes answer) → IsTrue p.read
     → IsTiledTask l (answered_in st came v asked own) own
-    → joined_data (data_ins own) ≡ take p.expected_length (reply_data call.answer)
-turn_data l st v came asked own b p d call e f g r = rw (e, f, g) (λ k. k.joined ∙ sent_to_a_read p (reply_data call.answer) r)
+    → joined_data (data_ins own) ≡ take p.expected_length (reply_data answer)
+turn_data l st v came asked own b p d unit means bytes answer e f g r = rw (e, f, g) (λ k. k.joined ∙ sent_to_a_read p (reply_data answer) r)
 
-pub read_data : (start : Start) (ts : List Turn) → Lawful start ts
-    → AtEach (λ before t. (p : CommandHeader) (call : Asking) → IsCallTurn t p call → IsTrue p.read → joined_data (data_ins t.sent) ≡ take p.expected_length (reply_data call.answer)) ts
-read_data start ts l before t behind e p call is reads =
-    turn_data start.lengths (standing start before) t.verdict t.came t.call t.sent is.bhs p is.segment call is.accepted is.came is.called reads (l.tiled before t behind e)
+pub read_data : (setting : Setting) (ts : List Turn) → Lawful setting ts
+    → AtEach (λ before t. (p : CommandHeader) (answer : TargetAnswer) → IsCallTurn t p answer → IsTrue p.read → joined_data (data_ins t.sent) ≡ take p.expected_length (reply_data answer)) ts
+read_data setting ts l before t behind e p answer is reads =
+    turn_data setting.start.lengths (standing setting.start before) t.verdict t.came t.call t.sent is.bhs p is.segment is.unit is.asked is.bytes answer is.accepted is.came is.called reads (l.tiled before t behind e)
 
-pub read_size : (start : Start) (ts : List Turn) → Lawful start ts
-    → AtEach (λ before t. (p : CommandHeader) (call : Asking) → IsCallTurn t p call → IsTrue p.read → length (joined_data (data_ins t.sent)) ≡ min p.expected_length (length (reply_data call.answer))) ts
-read_size start ts l before t behind e p call is reads =
-    ap length (read_data start ts l before t behind e p call is reads) ∙ length-take p.expected_length (reply_data call.answer)
+pub read_size : (setting : Setting) (ts : List Turn) → Lawful setting ts
+    → AtEach (λ before t. (p : CommandHeader) (answer : TargetAnswer) → IsCallTurn t p answer → IsTrue p.read → length (joined_data (data_ins t.sent)) ≡ min p.expected_length (length (reply_data answer))) ts
+read_size setting ts l before t behind e p answer is reads =
+    ap length (read_data setting ts l before t behind e p answer is reads) ∙ length-take p.expected_length (reply_data answer)

@@ -1,7 +1,7 @@
 -- What a turn makes of the tasks: as the session made it.
 use Rattle.std.proofs.Common.{◌≡◌, ◌⊎◌, ℕ, ◌+◌, ◌<◌, ◌≤◌, Bool, true, false, List, [], ◌∷◌, ◌++◌, Option, Some, None, map, length, refl, sym, ap, subst, subst₂, ◌∙◌, inl, inr}
 use Rattle.std.specs.Prelude.{◌==◌, ◌||◌, ◌&&◌, if◌then◌else◌, Result, nat_lt}
-use Rattle.std.specs.List.{list_any, find}
+use Rattle.std.specs.List.{filter, list_any, find}
 use Rattle.std.specs.Option.{option_to_list}
 use Rattle.std.proofs.lemmas.Bool.{eqb-true}
 use Rattle.std.proofs.lemmas.List.{append-nil}
@@ -12,18 +12,21 @@ use Rattle.iscsi_pdu.specs.declared.header.ScsiCommand.{ScsiCommand as CommandHe
 use Rattle.iscsi_pdu.specs.declared.header.DataOut.{DataOut as DataOutHeader}
 use Rattle.iscsi_pdu.specs.declared.header.Header.{Header}
 use Rattle.iscsi_pdu.specs.declared.header.Header.TheVariants.{Initiator}
-use Rattle.iscsi_pdu.specs.declared.header.InitiatorHeader.TheVariants.{NopOut, ScsiCommand, DataOut, LogoutRequest}
+use Rattle.iscsi_pdu.specs.declared.header.InitiatorHeader.TheVariants.{NopOut, ScsiCommand, DataOut}
+use Rattle.iscsi_pdu.specs.declared.header.InitiatorHeader.TheVariants.{TaskManagementRequest, TextRequest, LogoutRequest}
 use Rattle.session.specs.declared.lengths.Lengths.{Lengths}
 use Rattle.session.specs.declared.target.TargetAnswer.{TargetAnswer}
 use Rattle.session.specs.declared.target.TargetAnswer.TheVariants.{Replied, Outside, Busy, Gone, Halted}
 use Rattle.session.specs.declared.verdict.Verdict.{Verdict}
 use Rattle.session.specs.declared.verdict.Verdict.TheVariants.{Accepted, Full, Ignored, Gap, Refused}
 use Rattle.session.specs.declared.verdict.TheConstants.{RESERVED_TAG}
-use Rattle.session.specs.Turn.{Incoming, pdu, faulty, Out, Asking, Turn}
+use Rattle.session.specs.Asking.{Asking, served}
+use Rattle.session.specs.Turn.{Incoming, pdu, faulty, Out, Turn}
 use Rattle.session.specs.Tasks.{is_accepted, is_response, r2ts_of, finds_gone, touches, has_tag, ends, Task, Collecting, accepted_command, begun_by, tasks}
 use Rattle.session.specs.Collecting.{HasToCollect}
-use Rattle.session.specs.TaskTurn.{IsCalledNow, IsOpened, IsFed, IsTakenData}
+use Rattle.session.specs.TaskTurn.{keeps, IsCalledNow, IsOpened, IsFed, IsTakenData}
 use Rattle.session.specs.TaskTurn as task
+use Rattle.session.specs.Setting.{Setting, discovers}
 use Rattle.session.specs.Standing.{Standing}
 use Rattle.session.specs.Transfer.{sent_data, expected_transfer}
 use Rattle.session.specs.Verdict.{IsJudged, is_refused, window_verdict, unless_full, verdict_of, has_its_turn, most_immediate}
@@ -35,20 +38,23 @@ use Rattle.session.specs.declared.response.TheConstants.{TARGET_FAILURE}
 use Rattle.scsi_types.specs.declared.status.Status.TheVariants as statuses
 use Rattle.session.specs.Counters.{Counters, after_number, after_command, after_collecting, after_answer, next_numbers}
 use Rattle.session.specs.Nop.{nop_answer}
+use Rattle.session.specs.Text.{text_outs}
+use Rattle.session.specs.TaskManagement.{management_answer}
 use Rattle.session.specs.Logout.{logout_answer}
 use Rattle.session.specs.MachineTurn.{TurnOnAnswer, TurnOnCall, TurnOpened, calls, asks, turns_away, TurnFed, fills, asks_on, calls_now, TurnOnAccepted, TurnOnFullPdu, TurnOnVerdict, TurnOf}
 use Rattle.session.proofs.Segments.{outs_r2ts, outs_ended}
 use Rattle.session.proofs.Tasks.{no_more, extended, tasks_more}
-use Rattle.session.proofs.Table.{IsKept, nothing_comes, command_comes, data_comes}
+use Rattle.session.proofs.Table.{IsKept, nothing_comes, command_comes, data_comes, management_comes}
+use Rattle.session.proofs.Dropping.{kept_is, no_r2t_managed}
 
 -- ---- what an answer has: no R2T, and an end of its task
 
 module _ (m : Counters) (p : CommandHeader) (need : ℕ) (bytes : List ℕ) (completion : Completion) where
   no_r2ts : r2ts_of (reply_with m p need bytes completion) ≡ []
-  no_r2ts = outs_r2ts m.standing p.task_tag m.lengths (sent_data p bytes) _ (sense_part completion.sense) (length (sent_data p bytes)) 0 0
+  no_r2ts = outs_r2ts m.standing p.task_tag m.setting.start.lengths (sent_data p bytes) _ (sense_part completion.sense) (length (sent_data p bytes)) 0 0
 
   is_ended : list_any (λ o. is_response o.header) (reply_with m p need bytes completion) ≡ true
-  is_ended = outs_ended m.standing p.task_tag m.lengths (sent_data p bytes) _ (sense_part completion.sense) (length (sent_data p bytes)) 0 0
+  is_ended = outs_ended m.standing p.task_tag m.setting.start.lengths (sent_data p bytes) _ (sense_part completion.sense) (length (sent_data p bytes)) 0 0
 
 abbrev Ends : Option Asking → List Out → Type 0
 Ends call outs = (r2ts_of outs ≡ []) × ((list_any (λ o. is_response o.header) outs ≡ true) ⊎ (finds_gone call ≡ true))
@@ -56,13 +62,13 @@ Ends call outs = (r2ts_of outs ≡ []) × ((list_any (λ o. is_response o.header
 abbrev halted : Completion
 halted = record { response = TARGET_FAILURE; status = statuses.Good; sense = None }
 
-answered_ends : (m : Counters) (p : CommandHeader) (need : ℕ) (answer : TargetAnswer) (call : Option Asking) (asking : Asking) (outs : List Out)
-    (s' : Counters) → call ≡ Some asking → asking.answer ≡ answer → TurnOnAnswer m p need answer outs s' → Ends call outs
-answered_ends m p need (Replied a) call asking outs s' e f k = rw k.0 (no_r2ts m p need a.bytes _, inl (is_ended m p need a.bytes _))
-answered_ends m p need (Outside a) call asking outs s' e f k = rw k.0 (no_r2ts m p need a.bytes _, inl (is_ended m p need a.bytes _))
-answered_ends m p need Busy call asking outs s' e f k = rw k.0 (no_r2ts m p need [] busy, inl (is_ended m p need [] busy))
-answered_ends m p need Halted call asking outs s' e f k = rw k.0 (no_r2ts m p need [] halted, inl (is_ended m p need [] halted))
-answered_ends m p need Gone call asking outs s' e f k = rw k.0 (refl, inr (rw (e, f) refl))
+answered_ends : (m : Counters) (p : CommandHeader) (need : ℕ) (answer : TargetAnswer) (call : Option Asking) (unit : Option ℕ) (wants : Result Command CdbFault)
+    (bytes : List ℕ) (outs : List Out) (s' : Counters) → call ≡ Some (served unit wants bytes answer) → TurnOnAnswer m p need answer outs s' → Ends call outs
+answered_ends m p need (Replied a) call unit wants bytes outs s' e k = rw k.0 (no_r2ts m p need a.bytes _, inl (is_ended m p need a.bytes _))
+answered_ends m p need (Outside a) call unit wants bytes outs s' e k = rw k.0 (no_r2ts m p need a.bytes _, inl (is_ended m p need a.bytes _))
+answered_ends m p need Busy call unit wants bytes outs s' e k = rw k.0 (no_r2ts m p need [] busy, inl (is_ended m p need [] busy))
+answered_ends m p need Halted call unit wants bytes outs s' e k = rw k.0 (no_r2ts m p need [] halted, inl (is_ended m p need [] halted))
+answered_ends m p need Gone call unit wants bytes outs s' e k = rw k.0 (refl, inr (rw e refl))
 
 keeps_waiting : (m : Counters) (p : CommandHeader) (need : ℕ) (answer : TargetAnswer) (outs : List Out) (s' : Counters)
     → TurnOnAnswer m p need answer outs s' → s'.standing.collecting ≡ m.standing.collecting
@@ -75,14 +81,14 @@ keeps_waiting m p need Gone outs s' r = ap (λ (z : Counters). z.standing.collec
 called_now : (m : Counters) (p : CommandHeader) (asked : Result Command CdbFault) (bytes : List ℕ) (call : Option Asking) (outs : List Out) (s' : Counters)
     → TurnOnCall m p asked bytes call outs s' → IsCalledNow p asked bytes call outs []
 called_now m p asked bytes call outs s' k =
-    let e = answered_ends m p (need_of asked) k.answer call _ outs s' k.call_is refl k.answered in
-    record { unit = k.unit; names = k.names; asking = _; call_is = k.call_is; question = refl; no_r2t = e.0; ends = e.1; none = refl }
+    let e = answered_ends m p (need_of asked) k.answer call _ _ _ outs s' k.call_is k.answered in
+    record { unit = k.unit; names = k.names; answer = k.answer; call_is = k.call_is; no_r2t = e.0; ends = e.1; none = refl }
 
 -- ---- a command
 
 opened_now : (s s' : Counters) (p : CommandHeader) (asked : Result Command CdbFault) (d : List ℕ) (call : Option Asking) (outs : List Out)
     → TurnOpened s p asked d call outs s'
-    → (new : List Collecting) × IsOpened s.lengths.burst p asked d call outs new × (s'.standing.collecting ≡ s.standing.collecting ++ new)
+    → (new : List Collecting) × IsOpened s.setting.start.lengths.burst p asked d call outs new × (s'.standing.collecting ≡ s.standing.collecting ++ new)
 opened_now s s' p asked d call outs (calls h k) =
     ([], task.called h (called_now (after_command p s) p asked d call outs s' k), keeps_waiting (after_command p s) p (need_of asked) k.answer outs s' k.answered ∙ sym (append-nil s.standing.collecting))
 opened_now s s' p asked d call outs (asks h next k after) = (
@@ -116,16 +122,21 @@ tag_of_four true b c d e = absurd (let f : true ≡ false = e in cc)
 tag_of_four false true c d e = absurd (let f : true ≡ false = e in cc)
 tag_of_four false false c d e = refl
 
-pub fresh_tag : (l : Lengths) (s : Standing) (p : CommandHeader) (d : List ℕ) → Accepted ≡ verdict_of l s p d → list_any (has_tag p.task_tag) s.collecting ≡ false
-fresh_tag l s p d e =
-    let refused : is_refused l s p d ≡ false = not_refused _ _ (is_refused l s p d) (not_full _ _ (sym e)) in
+tag_of_refused : (discovery refused : Bool) → (discovery || refused) ≡ false → refused ≡ false
+tag_of_refused true refused e = absurd (cc)
+tag_of_refused false refused e = e
+
+pub fresh_tag : (m : Setting) (s : Standing) (p : CommandHeader) (d : List ℕ) → Accepted ≡ verdict_of m s p d → list_any (has_tag p.task_tag) s.collecting ≡ false
+fresh_tag m s p d e =
+    let l : Lengths = m.start.lengths in
+    let refused : is_refused l s p d ≡ false = tag_of_refused (discovers m.kind) (is_refused l s p d) (not_refused _ _ (discovers m.kind || is_refused l s p d) (not_full _ _ (sym e))) in
     tag_of_four (p.task_tag == RESERVED_TAG) (list_any (has_tag p.task_tag) s.collecting) (nat_lt (expected_transfer p) (length d)) (nat_lt (most_immediate l) (length d)) refused
 
 -- ---- a Data-Out
 
 fed_now : (s s' : Counters) (front : List Collecting) (this : Collecting) (back : List Collecting) (asked : Result Command CdbFault) (d : List ℕ) (end : ℕ)
     (call : Option Asking) (outs : List Out) → TurnFed s front this back asked d end call outs s'
-    → (new : List Collecting) × IsFed s.lengths.burst this asked (this.bytes ++ d) end call outs new × (s'.standing.collecting ≡ front ++ (new ++ back))
+    → (new : List Collecting) × IsFed s.setting.start.lengths.burst this asked (this.bytes ++ d) end call outs new × (s'.standing.collecting ≡ front ++ (new ++ back))
 fed_now s s' front this back asked d end call outs (fills h k) = (
   _,
   task.filling (record { short = h; no_call = k.no_call; outs_are = k.outs_are; one = refl }),
@@ -154,34 +165,34 @@ answer_keeps : (outs : List Out) (m : Counters) → (after_answer outs m).standi
 answer_keeps [] m = refl
 answer_keeps (o ∷ outs) m = refl
 
-module _ (s s' : Counters) (some : 0 < s.lengths.burst) (ks : List Task) (kept : IsKept s.lengths.burst ks s.standing.collecting) where
+module _ (s s' : Counters) (some : 0 < s.setting.start.lengths.burst) (ks : List Task) (kept : IsKept s.setting.start.lengths.burst ks s.standing.collecting) where
   abbrev Keeps : Incoming → Verdict → Option Asking → List Out → Type 0
   Keeps came v call outs =
       let t : Turn = record { came = came; verdict = v; call = call; sent = outs } in
-      IsKept s.lengths.burst (map (extended t) ks ++ option_to_list (begun_by (accepted_command v came) t [])) s'.standing.collecting
+      IsKept s.setting.start.lengths.burst (map (extended t) ks ++ option_to_list (begun_by (accepted_command v came) t [])) s'.standing.collecting
 
   quiet : (came : Incoming) (v : Verdict) (call : Option Asking) (outs : List Out) → accepted_command v came ≡ None
       → ((p : CommandHeader) → touches p (record { came = came; verdict = v; call = call; sent = outs }) ≡ false) → s'.standing.collecting ≡ s.standing.collecting
       → Keeps came v call outs
   quiet came v call outs none untouched same =
       let t : Turn = record { came = came; verdict = v; call = call; sent = outs } in
-      subst₂ (λ (o : Option (CommandHeader × List ℕ)) (cs : List Collecting). IsKept s.lengths.burst (map (extended t) ks ++ option_to_list (begun_by o t [])) cs) (sym none) (sym same)
-      (subst (λ (z : List Task). IsKept s.lengths.burst z s.standing.collecting) (sym (append-nil (map (extended t) ks))) (nothing_comes s.lengths.burst some ks s.standing.collecting kept t untouched))
+      subst₂ (λ (o : Option (CommandHeader × List ℕ)) (cs : List Collecting). IsKept s.setting.start.lengths.burst (map (extended t) ks ++ option_to_list (begun_by o t [])) cs) (sym none) (sym same)
+      (subst (λ (z : List Task). IsKept s.setting.start.lengths.burst z s.standing.collecting) (sym (append-nil (map (extended t) ks))) (nothing_comes s.setting.start.lengths.burst some ks s.standing.collecting kept t untouched))
 
-  accepted_keeps : (came : Incoming) (call : Option Asking) (outs : List Out) → IsJudged s.lengths s.standing came Accepted
+  accepted_keeps : (came : Incoming) (call : Option Asking) (outs : List Out) → IsJudged s.setting s.standing came Accepted
       → TurnOnAccepted came s call outs s' → Keeps came Accepted call outs
   accepted_keeps (pdu b (Initiator (ScsiCommand p)) d) call outs judged k =
       let t : Turn = record { came = pdu b (Initiator (ScsiCommand p)) d; verdict = Accepted; call = call; sent = outs } in
       let o = opened_now s s' p k.asked d call outs k.by in
-      subst (λ (cs : List Collecting). IsKept s.lengths.burst (map (extended t) ks ++ option_to_list (begun_by (Some (p, d)) t [])) cs) (sym o.2)
-      (subst (λ (own : List Turn). IsKept s.lengths.burst (map (extended t) ks ++ record { command = p; segment = d; own = own } ∷ []) (s.standing.collecting ++ o.0))
+      subst (λ (cs : List Collecting). IsKept s.setting.start.lengths.burst (map (extended t) ks ++ option_to_list (begun_by (Some (p, d)) t [])) cs) (sym o.2)
+      (subst (λ (own : List Turn). IsKept s.setting.start.lengths.burst (map (extended t) ks ++ record { command = p; segment = d; own = own } ∷ []) (s.standing.collecting ++ o.0))
       (sym (no_more ends t (ends t)))
-      (command_comes s.lengths.burst some ks s.standing.collecting kept b p d k.asked k.asked_by.means call outs o.0 (fresh_tag s.lengths s.standing p d judged) o.1))
+      (command_comes s.setting.start.lengths.burst some ks s.standing.collecting kept b p d k.asked k.asked_by.means call outs o.0 (fresh_tag s.setting s.standing p d judged) o.1))
   accepted_keeps (pdu b (Initiator (DataOut x)) d) call outs judged k =
       let t : Turn = record { came = pdu b (Initiator (DataOut x)) d; verdict = Accepted; call = call; sent = outs } in
       let o = fed_now s s' k.front k.this k.back k.asked d _ call outs k.by in
-      subst (λ (z : List Task). IsKept s.lengths.burst z s'.standing.collecting) (sym (append-nil (map (extended t) ks)))
-      (data_comes s.lengths.burst some ks s.standing.collecting kept b x d call outs s'.standing.collecting (record {
+      subst (λ (z : List Task). IsKept s.setting.start.lengths.burst z s'.standing.collecting) (sym (append-nil (map (extended t) ks)))
+      (data_comes s.setting.start.lengths.burst some ks s.standing.collecting kept b x d call outs s'.standing.collecting (record {
         front = k.front;
         this = k.this;
         back = k.back;
@@ -195,15 +206,24 @@ module _ (s s' : Counters) (some : 0 < s.lengths.burst) (ks : List Task) (kept :
         fed = o.1;
         after = o.2;
       }))
-  accepted_keeps (pdu b (Initiator (NopOut p)) d) call outs judged k = quiet (pdu b (Initiator (NopOut p)) d) Accepted call outs refl (λ q. refl) (ap (λ (z : Counters). z.standing.collecting) k.next_is ∙ answer_keeps (nop_answer (next_numbers (after_number p.immediate s)) s.lengths p d) (after_number p.immediate s))
+  accepted_keeps (pdu b (Initiator (NopOut p)) d) call outs judged k = quiet (pdu b (Initiator (NopOut p)) d) Accepted call outs refl (λ q. refl) (ap (λ (z : Counters). z.standing.collecting) k.next_is ∙ answer_keeps (nop_answer (next_numbers (after_number p.immediate s)) s.setting.start.lengths p d) (after_number p.immediate s))
   accepted_keeps (pdu b (Initiator (LogoutRequest p)) d) call outs judged k = quiet (pdu b (Initiator (LogoutRequest p)) d) Accepted call outs refl (λ q. refl) (ap (λ (z : Counters). z.standing.collecting) k.next_is ∙ answer_keeps (logout_answer (next_numbers (after_number p.immediate s)) p) (after_number p.immediate s))
+  accepted_keeps (pdu b (Initiator (TextRequest p)) d) call outs judged k = quiet (pdu b (Initiator (TextRequest p)) d) Accepted call outs refl (λ q. refl) (ap (λ (z : Counters). z.standing.collecting) k.next_is ∙ answer_keeps (text_outs (next_numbers (after_number p.immediate s)) s.setting p d) (after_number p.immediate s))
+  accepted_keeps (pdu b (Initiator (TaskManagementRequest x)) d) call outs judged k =
+      let t : Turn = record { came = pdu b (Initiator (TaskManagementRequest x)) d; verdict = Accepted; call = call; sent = outs } in
+      let mid : Counters = after_collecting k.kept (after_number x.immediate s) in
+      let waiting : s'.standing.collecting ≡ k.kept = ap (λ (z : Counters). z.standing.collecting) k.turned.next_is ∙ answer_keeps (management_answer (next_numbers mid) x k.response) mid in
+      let dropped : filter (keeps x outs) s.standing.collecting ≡ k.kept = ap (λ (z : List Out). filter (keeps x z) s.standing.collecting) k.turned.outs_are ∙ kept_is s.setting.units s.standing.collecting x call k.response k.kept (next_numbers mid) k.managed in
+      subst (λ (z : List Task). IsKept s.setting.start.lengths.burst z s'.standing.collecting) (sym (append-nil (map (extended t) ks)))
+      (subst (λ (cs : List Collecting). IsKept s.setting.start.lengths.burst (map (extended t) ks) cs) (dropped ∙ sym waiting)
+      (management_comes s.setting.start.lengths.burst some ks s.standing.collecting kept b x d call outs (subst (λ (z : List Out). r2ts_of z ≡ []) (sym k.turned.outs_are) (no_r2t_managed (next_numbers mid) x k.response))))
   accepted_keeps came call outs judged k = absurd k
 
   full_keeps : (came : Incoming) (call : Option Asking) (outs : List Out) → TurnOnFullPdu came s call outs s' → Keeps came Full call outs
   full_keeps (pdu b (Initiator (ScsiCommand p)) d) call outs k = quiet (pdu b (Initiator (ScsiCommand p)) d) Full call outs refl (λ q. refl) (ap (λ (z : Counters). z.standing.collecting) k.turned.next_is)
   full_keeps came call outs k = absurd k
 
-  turn_keeps : (v : Verdict) (came : Incoming) (call : Option Asking) (outs : List Out) → IsJudged s.lengths s.standing came v
+  turn_keeps : (v : Verdict) (came : Incoming) (call : Option Asking) (outs : List Out) → IsJudged s.setting s.standing came v
       → TurnOnVerdict v s came call outs s' → Keeps came v call outs
   turn_keeps Accepted came call outs judged k = accepted_keeps came call outs judged k
   turn_keeps Full came call outs judged k = full_keeps came call outs k
@@ -212,8 +232,8 @@ module _ (s s' : Counters) (some : 0 < s.lengths.burst) (ks : List Task) (kept :
   turn_keeps (Refused reason) came call outs judged k = quiet came (Refused reason) call outs refl (λ q. refl) (ap (λ (z : Counters). z.standing.collecting) k.next_is)
 
 -- the tasks behind a turn more, and those that wait
-pub kept_more : (s s' : Counters) (some : 0 < s.lengths.burst) (ts : List Turn) (t : Turn) → IsKept s.lengths.burst (tasks ts) s.standing.collecting
-    → IsJudged s.lengths s.standing t.came t.verdict → TurnOnVerdict t.verdict s t.came t.call t.sent s'
-    → IsKept s.lengths.burst (tasks (ts ++ t ∷ [])) s'.standing.collecting
+pub kept_more : (s s' : Counters) (some : 0 < s.setting.start.lengths.burst) (ts : List Turn) (t : Turn) → IsKept s.setting.start.lengths.burst (tasks ts) s.standing.collecting
+    → IsJudged s.setting s.standing t.came t.verdict → TurnOnVerdict t.verdict s t.came t.call t.sent s'
+    → IsKept s.setting.start.lengths.burst (tasks (ts ++ t ∷ [])) s'.standing.collecting
 kept_more s s' some ts t kept judged made =
-    subst (λ (z : List Task). IsKept s.lengths.burst z s'.standing.collecting) (sym (tasks_more ts t)) (turn_keeps s s' some (tasks ts) kept t.verdict t.came t.call t.sent judged made)
+    subst (λ (z : List Task). IsKept s.setting.start.lengths.burst z s'.standing.collecting) (sym (tasks_more ts t)) (turn_keeps s s' some (tasks ts) kept t.verdict t.came t.call t.sent judged made)

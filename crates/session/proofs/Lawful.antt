@@ -8,7 +8,7 @@ use Rattle.std.proofs.lemmas.List.Elements.{filter_map-append}
 use Rattle.std.proofs.lemmas.Grind.{flat_map-append}
 use Rattle.std.proofs.Math.Nat.{mod-add-mod}
 use Rattle.session.specs.declared.lengths.Lengths.{Lengths}
-use Rattle.session.specs.declared.session.Start.{Start}
+use Rattle.session.specs.Setting.{Setting}
 use Rattle.session.specs.Turn.{Incoming, Out, Turn, sent}
 use Rattle.session.specs.Window.{wrap, takes_number, exp_cmd_sn_after}
 use Rattle.session.specs.Verdict.{IsJudged}
@@ -21,10 +21,11 @@ use Rattle.std.specs.List.{AllByRecursion}
 use Rattle.session.proofs.Table.{IsKept}
 use Rattle.session.proofs.Gathering.{kept_more}
 use Rattle.session.specs.Legal.{AtEach, status_number, status_numbers, HaveWindow, HaveNextR2t, IsAnsweredTask, IsTiledTask, IsCountedTask, HasResiduals, IsToldTask, answer_at, GoesOn, Lawful}
-use Rattle.session.specs.Answered.{answered_in}
+use Rattle.session.specs.Answered.{answered_in, IsCalled}
 use Rattle.session.specs.Counters.{Counters, begun}
 use Rattle.session.specs.MachineTurn.{TurnOf, TurnOnVerdict}
-use Rattle.session.proofs.Facts.{TurnFacts, made_facts}
+use Rattle.session.proofs.RequestFacts.{TurnFacts}
+use Rattle.session.proofs.Facts.{made_facts}
 
 -- where a list is cut, and one is put together of a front and one element more
 split_one : (ts : List Turn) (t : Turn) (before : List Turn) (u : Turn) (behind : List Turn)
@@ -54,10 +55,10 @@ at_each_none P [] u behind e = absurd (cc)
 at_each_none P (x ∷ before) u behind e = absurd (cc)
 
 -- the counters are those of the transcript
-pub record IsTied (start : Start) (ts : List Turn) (s : Counters) : Type 0 where
-  pub standing_is : s.standing ≡ standing start ts
-  pub status : s.stat_sn ≡ wrap (start.stat_sn + length (status_numbers (sent ts)))
-  pub lengths : s.lengths ≡ start.lengths
+pub record IsTied (setting : Setting) (ts : List Turn) (s : Counters) : Type 0 where
+  pub standing_is : s.standing ≡ standing setting.start ts
+  pub status : s.stat_sn ≡ wrap (setting.start.stat_sn + length (status_numbers (sent ts)))
+  pub setting_is : s.setting ≡ setting
 
 abbrev numbered : Turn → Bool
 numbered t = takes_number t.verdict t.came
@@ -149,13 +150,13 @@ same_standing : (a b : Standing) → a.exp_cmd_sn ≡ b.exp_cmd_sn → a.collect
 same_standing a b e f g = same_parts a.exp_cmd_sn b.exp_cmd_sn a.collecting b.collecting a.transfer_tag b.transfer_tag e f g
 
 -- what a transcript and its counters are, between two turns: each task is right, and the session keeps those that wait
-pub record Stands (start : Start) (ts : List Turn) (s : Counters) : Type 0 where
-  pub lawful : Lawful start ts
-  pub tied : IsTied start ts s
-  pub kept : IsKept start.lengths.burst (tasks ts) s.standing.collecting
+pub record Stands (setting : Setting) (ts : List Turn) (s : Counters) : Type 0 where
+  pub lawful : Lawful setting ts
+  pub tied : IsTied setting ts s
+  pub kept : IsKept setting.start.lengths.burst (tasks ts) s.standing.collecting
 
-judged_of : (s s' : Counters) (came : Incoming) (t : Turn) → TurnOf s came t s' → IsJudged s.lengths s.standing t.came t.verdict
-judged_of s s' came t m = subst (λ (c : Incoming). IsJudged s.lengths s.standing c t.verdict) (sym m.came_is) m.judged
+judged_of : (s s' : Counters) (came : Incoming) (t : Turn) → TurnOf s came t s' → IsJudged s.setting s.standing t.came t.verdict
+judged_of s s' came t m = subst (λ (c : Incoming). IsJudged s.setting s.standing c t.verdict) (sym m.came_is) m.judged
 
 made_of : (s s' : Counters) (came : Incoming) (t : Turn) → TurnOf s came t s' → TurnOnVerdict t.verdict s t.came t.call t.sent s'
 made_of s s' came t m = subst (λ (c : Incoming). TurnOnVerdict t.verdict s c t.call t.sent s') (sym m.came_is) m.made
@@ -164,51 +165,52 @@ facts_of : (s s' : Counters) (came : Incoming) (t : Turn) → TurnOf s came t s'
     → TurnFacts s s' t.came t.verdict t.call t.sent
 facts_of s s' came t m = made_facts s s' t.came t.verdict t.call t.sent (judged_of s s' came t m) (made_of s s' came t m)
 
-kept_of : (start : Start) (ts : List Turn) (t : Turn) (came : Incoming) (s s' : Counters) → s.lengths ≡ start.lengths
-    → IsKept start.lengths.burst (tasks ts) s.standing.collecting → TurnOf s came t s'
-    → IsKept start.lengths.burst (tasks (ts ++ t ∷ [])) s'.standing.collecting
-kept_of start ts t came s s' e kept m =
-    let some : 0 < s.lengths.burst = omega (arith, s.lengths.bursts) in
-    subst (λ (l : Lengths). IsKept l.burst (tasks (ts ++ t ∷ [])) s'.standing.collecting) e
-    (kept_more s s' some ts t (subst (λ (l : Lengths). IsKept l.burst (tasks ts) s.standing.collecting) (sym e) kept) (judged_of s s' came t m) (made_of s s' came t m))
+kept_of : (setting : Setting) (ts : List Turn) (t : Turn) (came : Incoming) (s s' : Counters) → s.setting ≡ setting
+    → IsKept setting.start.lengths.burst (tasks ts) s.standing.collecting → TurnOf s came t s'
+    → IsKept setting.start.lengths.burst (tasks (ts ++ t ∷ [])) s'.standing.collecting
+kept_of setting ts t came s s' e kept m =
+    let some : 0 < s.setting.start.lengths.burst = omega (arith, s.setting.start.lengths.bursts) in
+    subst (λ (n : Setting). IsKept n.start.lengths.burst (tasks (ts ++ t ∷ [])) s'.standing.collecting) e
+    (kept_more s s' some ts t (subst (λ (n : Setting). IsKept n.start.lengths.burst (tasks ts) s.standing.collecting) (sym e) kept) (judged_of s s' came t m) (made_of s s' came t m))
 
-pub stands_more : (start : Start) (ts : List Turn) (t : Turn) (came : Incoming) (s s' : Counters)
-    → Stands start ts s → GoesOn ts → TurnOf s came t s' → Stands start (ts ++ t ∷ []) s'
-stands_more start ts t came s s' k on m =
+pub stands_more : (setting : Setting) (ts : List Turn) (t : Turn) (came : Incoming) (s s' : Counters)
+    → Stands setting ts s → GoesOn ts → TurnOf s came t s' → Stands setting (ts ++ t ∷ []) s'
+stands_more setting ts t came s s' k on m =
     let f = facts_of s s' came t m in
     let here = k.tied.standing_is in
-    let kept = kept_of start ts t came s s' k.tied.lengths k.kept m in
-    let command = command_more start.exp_cmd_sn ts t s s' (ap (λ (z : Standing). z.exp_cmd_sn) here) f.commands in
+    let kept = kept_of setting ts t came s s' k.tied.setting_is k.kept m in
+    let command = command_more setting.start.exp_cmd_sn ts t s s' (ap (λ (z : Standing). z.exp_cmd_sn) here) f.commands in
     let tag = tag_more ts t s.standing.transfer_tag s'.standing.transfer_tag (ap (λ (z : Standing). z.transfer_tag) here) f.tags in
-    let there : s'.standing ≡ standing start (ts ++ t ∷ []) = same_standing s'.standing (standing start (ts ++ t ∷ [])) command (sym kept.tied) tag in
+    let there : s'.standing ≡ standing setting.start (ts ++ t ∷ []) = same_standing s'.standing (standing setting.start (ts ++ t ∷ [])) command (sym kept.tied) tag in
     let old = k.lawful in
     record {
       lawful = record {
-        judged = at_each_more (λ before u. IsJudged start.lengths (standing start before) u.came u.verdict) ts t old.judged
-            (subst₂ (λ (l : Lengths) (e : Standing). IsJudged l e t.came t.verdict) k.tied.lengths here f.judged);
-        numbered = numbered_more start.stat_sn ts t s s' k.tied.status old.numbered f.statuses;
-        windows = at_each_more (λ before u. HaveWindow (standing start (before ++ u ∷ [])) u.sent) ts t old.windows
+        judged = at_each_more (λ before u. IsJudged setting (standing setting.start before) u.came u.verdict) ts t old.judged
+            (subst₂ (λ (n : Setting) (e : Standing). IsJudged n e t.came t.verdict) k.tied.setting_is here f.judged);
+        numbered = numbered_more setting.start.stat_sn ts t s s' k.tied.status old.numbered f.statuses;
+        windows = at_each_more (λ before u. HaveWindow (standing setting.start (before ++ u ∷ [])) u.sent) ts t old.windows
             (subst (λ (e : Standing). HaveWindow e t.sent) there f.windows);
-        transfers = at_each_more (λ before u. HaveNextR2t (standing start before) (wrap (start.stat_sn + length (status_numbers (sent before)))) u.sent) ts t old.transfers
+        transfers = at_each_more (λ before u. HaveNextR2t (standing setting.start before) (wrap (setting.start.stat_sn + length (status_numbers (sent before)))) u.sent) ts t old.transfers
             (subst₂ (λ (e : Standing) (n : ℕ). HaveNextR2t e n t.sent) here k.tied.status f.transfers);
-        collected = at_each_more (λ before u. AllByRecursion (IsRightTask start.lengths.burst) (tasks (before ++ u ∷ []))) ts t old.collected kept.right;
-        called = at_each_more _ ts t old.called f.called;
-        answered = at_each_more (λ before u. IsAnsweredTask (answer_at start before u) u.sent) ts t old.answered
+        collected = at_each_more (λ before u. AllByRecursion (IsRightTask setting.start.lengths.burst) (tasks (before ++ u ∷ []))) ts t old.collected kept.right;
+        called = at_each_more (λ before u. IsCalled setting (standing setting.start before) u.verdict u.came u.call) ts t old.called
+            (subst₂ (λ (n : Setting) (e : Standing). IsCalled n e t.verdict t.came t.call) k.tied.setting_is here f.called);
+        answered = at_each_more (λ before u. IsAnsweredTask (answer_at setting.start before u) u.sent) ts t old.answered
             (subst (λ (e : Standing). IsAnsweredTask (answered_in e t.came t.verdict t.call t.sent) t.sent) here f.answered);
-        tiled = at_each_more (λ before u. IsTiledTask start.lengths (answer_at start before u) u.sent) ts t old.tiled
-            (subst₂ (λ (l : Lengths) (e : Standing). IsTiledTask l (answered_in e t.came t.verdict t.call t.sent) t.sent) k.tied.lengths here f.tiled);
-        counted = at_each_more (λ before u. IsCountedTask (answer_at start before u)) ts t old.counted
+        tiled = at_each_more (λ before u. IsTiledTask setting.start.lengths (answer_at setting.start before u) u.sent) ts t old.tiled
+            (subst₂ (λ (n : Setting) (e : Standing). IsTiledTask n.start.lengths (answered_in e t.came t.verdict t.call t.sent) t.sent) k.tied.setting_is here f.tiled);
+        counted = at_each_more (λ before u. IsCountedTask (answer_at setting.start before u)) ts t old.counted
             (subst (λ (e : Standing). IsCountedTask (answered_in e t.came t.verdict t.call t.sent)) here f.counted);
-        residual = at_each_more (λ before u. HasResiduals (answer_at start before u)) ts t old.residual
+        residual = at_each_more (λ before u. HasResiduals (answer_at setting.start before u)) ts t old.residual
             (subst (λ (e : Standing). HasResiduals (answered_in e t.came t.verdict t.call t.sent)) here f.residual);
-        told = at_each_more (λ before u. IsToldTask (answer_at start before u)) ts t old.told
+        told = at_each_more (λ before u. IsToldTask (answer_at setting.start before u)) ts t old.told
             (subst (λ (e : Standing). IsToldTask (answered_in e t.came t.verdict t.call t.sent)) here f.told);
         rejected = at_each_more _ ts t old.rejected f.rejected;
-        requests = at_each_more (λ before u. IsRequestAnswered start.lengths u.verdict u.came u.call u.sent) ts t old.requests
-            (subst (λ (l : Lengths). IsRequestAnswered l t.verdict t.came t.call t.sent) k.tied.lengths f.requests);
+        requests = at_each_more (λ before u. IsRequestAnswered setting (standing setting.start before) u.verdict u.came u.call u.sent) ts t old.requests
+            (subst₂ (λ (n : Setting) (e : Standing). IsRequestAnswered n e t.verdict t.came t.call t.sent) k.tied.setting_is here f.requests);
         ends = at_each_more (λ before u. GoesOn before) ts t old.ends on;
       };
-      tied = record { standing_is = there; status = status_more start.stat_sn ts t s s' k.tied.status f.statuses; lengths = f.lengths_kept ∙ k.tied.lengths };
+      tied = record { standing_is = there; status = status_more setting.start.stat_sn ts t s s' k.tied.status f.statuses; setting_is = f.setting_is ∙ k.tied.setting_is };
       kept = kept;
     }
 
@@ -219,14 +221,14 @@ no_status k n [] e f = absurd (no_status_nil k f) where
   no_status_nil (suc k) f = cc
 no_status k n (x ∷ xs) e f = absurd (cc)
 
-pub stands_none : (start : Start) (s : Counters) → start.exp_cmd_sn < 4294967296 → start.stat_sn < 4294967296 → s ≡ begun start → Stands start [] s
-stands_none start s cmd_fits stat_fits e = record {
+pub stands_none : (setting : Setting) (s : Counters) → setting.start.exp_cmd_sn < 4294967296 → setting.start.stat_sn < 4294967296 → s ≡ begun setting → Stands setting [] s
+stands_none setting s cmd_fits stat_fits e = record {
   lawful = record {
     judged = at_each_none _;
     numbered = λ k n f. absurd (no_status k n [] refl f);
     windows = at_each_none _;
     transfers = at_each_none _;
-    collected = at_each_none (λ before u. AllByRecursion (IsRightTask start.lengths.burst) (tasks (before ++ u ∷ [])));
+    collected = at_each_none (λ before u. AllByRecursion (IsRightTask setting.start.lengths.burst) (tasks (before ++ u ∷ [])));
     called = at_each_none _;
     answered = at_each_none _;
     tiled = at_each_none _;
@@ -239,9 +241,9 @@ stands_none start s cmd_fits stat_fits e = record {
   };
   tied = record {
     standing_is = ap (λ (r : Counters). r.standing) e
-        ∙ same_standing (begun start).standing (standing start []) (let k : start.exp_cmd_sn ≡ wrap (start.exp_cmd_sn + 0) = omega arith in k) refl refl;
-    status = ap (λ (r : Counters). r.stat_sn) e ∙ (let k : start.stat_sn ≡ wrap (start.stat_sn + 0) = omega arith in k);
-    lengths = ap (λ (r : Counters). r.lengths) e;
+        ∙ same_standing (begun setting).standing (standing setting.start []) (let k : setting.start.exp_cmd_sn ≡ wrap (setting.start.exp_cmd_sn + 0) = omega arith in k) refl refl;
+    status = ap (λ (r : Counters). r.stat_sn) e ∙ (let k : setting.start.stat_sn ≡ wrap (setting.start.stat_sn + 0) = omega arith in k);
+    setting_is = ap (λ (r : Counters). r.setting) e;
   };
   kept = rw e (record { right = tt; tied = refl; unique = tt });
 }

@@ -1,3 +1,4 @@
+pub mod Dropping
 pub mod Facts
 pub mod Following
 pub mod Gathering
@@ -6,6 +7,7 @@ pub mod Lists
 pub mod Places
 pub mod Queues
 pub mod Receiving
+pub mod RequestFacts
 pub mod Right
 pub mod Rows
 pub mod Running

@@ -13,7 +13,7 @@ use Rattle.session.specs.declared.actions.Actions.{Actions}
 use Rattle.session.specs.declared.actions.Pdus.TheVariants as pdus
 use Rattle.session.specs.declared.actions.CommandData.{CommandData}
 use Rattle.session.specs.declared.collecting.Collected.{Collected}
-use Rattle.session.specs.declared.lengths.Lengths.{Lengths}
+use Rattle.session.specs.Setting.{Setting}
 use Rattle.session.specs.Transfer.{data_for}
 use Rattle.session.specs.declared.collecting.R2tWith.{R2tWith}
 use Rattle.session.specs.Window.{wrap}
@@ -55,8 +55,8 @@ asked_on_by this f d asked e k = subst (λ (c : Collecting). IsAskedBy c.command
 pub still_asked : (this f : Collecting) (d : List ℕ) (asked : Result Command CdbFault) → f ≡ fed this d → IsAskedBy this.command asked → IsAskedBy f.command asked
 still_asked this f d asked e k = subst (λ (c : Collecting). IsAskedBy c.command asked) (sym e) k
 
-abbrev pub view_of : ℕ → Lengths → ℕ → List Collecting → ℕ → Counters
-view_of stat_sn lengths exp_cmd_sn cs tag = record { stat_sn = stat_sn; lengths = lengths; standing = record { exp_cmd_sn = exp_cmd_sn; collecting = cs; transfer_tag = tag } }
+abbrev pub view_of : ℕ → Setting → ℕ → List Collecting → ℕ → Counters
+view_of stat_sn setting exp_cmd_sn cs tag = record { setting = setting; stat_sn = stat_sn; standing = record { exp_cmd_sn = exp_cmd_sn; collecting = cs; transfer_tag = tag } }
 
 -- what the one thing that the CDB asks for needs
 pub need_is_of : (p : CommandHeader) (asked : Result Command CdbFault) → IsAskedBy p asked → NeedIs p (need_of asked)
@@ -148,7 +148,7 @@ module _ (s : Counters) (at : ℕ) (x : DataOutHeader) (d : List ℕ) (can : Can
         let count_is : waiting ≡ count_by shrinks_window cs = counted ∙ ap (count_by shrinks_window) here ∙ count_same (waits this.command joined next (wrap (this.requests + 1))) refl in
         let full : length joined ≡ continues.request.offset + continues.request.desired_length = omega (arith, is_filled this f d continues.request b continues.outstanding fed_is told full_of, continues.place, continues.within, length-append this.bytes d) in
         on_data asked asked_by a s' (asks_on full (omega (arith, short, ap (λ (c : Collecting). length c.bytes) fed_is)) next (record {
-          is_next = subst (λ (q : R2tHeader). IsNext s.lengths.burst this.command (need_of asked) (length joined) this.requests q) next_is (record { number = unwrapped this.requests fits; place = refl; size = refl; tag = refl; lun = refl });
+          is_next = subst (λ (q : R2tHeader). IsNext s.setting.start.lengths.burst this.command (need_of asked) (length joined) this.requests q) next_is (record { number = unwrapped this.requests fits; place = refl; size = refl; tag = refl; lun = refl });
           transfer = ap (λ (q : R2tHeader). q.transfer_tag) (sym next_is);
           numbers = ap (λ (q : R2tHeader). q.numbers) (sym next_is) ∙ ap (λ (n : ℕ). numbers_for s.stat_sn s.standing.exp_cmd_sn n) count_is;
           pdus_are = pdus_are;
@@ -186,7 +186,7 @@ begins s mid s' p asked need d next a asked_by need_is collects mid_is k pdus_ar
   asked = asked;
   asked_by = asked_by;
   by = asks (subst (λ (n : ℕ). HasToCollect p n (length d)) need_is collects) next (record {
-    is_next = subst₂ (λ (c : Counters) (n : ℕ). IsNext c.lengths.burst p n (length d) 0 next) mid_is need_is k.is_next;
+    is_next = subst₂ (λ (c : Counters) (n : ℕ). IsNext c.setting.start.lengths.burst p n (length d) 0 next) mid_is need_is k.is_next;
     transfer = k.transfer ∙ ap (λ (c : Counters). c.standing.transfer_tag) mid_is;
     numbers = k.numbers ∙ ap (λ (c : Counters). next_numbers (after_collecting (c.standing.collecting ++ waits p d next 1 ∷ []) c)) mid_is;
     pdus_are = pdus_are;

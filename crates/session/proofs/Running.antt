@@ -16,17 +16,19 @@ use Rattle.session.specs.Logout.{closes}
 use Rattle.iscsi_pdu.specs.declared.fault.PduFault.{PduFault}
 use Rattle.session.specs.declared.end.End.{End}
 use Rattle.session.specs.declared.end.End.TheVariants.{EndOfInput, InputFailed, OutputFailed, Protocol, Reinstated, LoggedOut}
-use Rattle.session.specs.declared.session.Start.{Start}
+use Rattle.session.specs.Setting.{Setting}
 use Rattle.session.specs.declared.target.TargetAnswer.{TargetAnswer}
 use Rattle.session.specs.declared.target.TargetAnswer.TheVariants.{Replied, Outside, Busy, Gone, Halted}
 use Rattle.session.specs.declared.verdict.Verdict.{Verdict}
 use Rattle.session.specs.declared.verdict.Verdict.TheVariants.{Accepted, Full, Ignored, Gap, Refused}
-use Rattle.session.specs.Question.{Question}
+use Rattle.session.specs.declared.target.ResetAnswer.{ResetAnswer}
+use Rattle.session.specs.declared.target.ResetAnswer.TheVariants as resets
+use Rattle.session.specs.Asking.{Asking, served, reset}
 use Rattle.session.specs.Source.{AppendsFront}
 use Rattle.session.specs.Inbox.{Filled}
-use Rattle.session.specs.Turn.{Incoming, pdu, faulty, Out, Asking, Turn, calls, sent, bytes_of, Spells, Leads}
+use Rattle.session.specs.Turn.{Incoming, pdu, faulty, Out, Turn, calls, sent, bytes_of, Spells, Leads}
 use Rattle.iscsi_pdu.specs.declared.TheConstants.{BHS_LENGTH}
-use Rattle.session.specs.Legal.{end_by, end_of_call, end_of_accepted, end_after, GoesOn, NoneWhole, StandsBehind, EndsWith, most_bytes, EndsBy}
+use Rattle.session.specs.Legal.{end_by, end_by_reset, end_of_call, end_of_accepted, end_after, GoesOn, NoneWhole, StandsBehind, EndsWith, most_bytes, EndsBy}
 use Rattle.session.specs.Counters.{Counters, begun}
 use Rattle.session.specs.Outbox.{OutboxValue, IsOut, IsWritten, IsClosed, IsClosedAs}
 use Rattle.session.specs.Stream.{IsLed, MakesTurn}
@@ -63,10 +65,10 @@ bytes_more ts t =
 
 -- ---- what the target was asked
 
-module _ {T : Type 0} (leads : T → Question → TargetAnswer → T → Type 0) where
-  leads_more : (cs : List Asking) (x m y : T) (c : Asking) → Leads leads cs x m → leads m c.question c.answer y
+module _ {T : Type 0} (leads : T → Asking → T → Type 0) where
+  leads_more : (cs : List Asking) (x m y : T) (c : Asking) → Leads leads cs x m → leads m c y
       → Leads leads (cs ++ c ∷ []) x y
-  leads_more [] x m y c k l = (y, subst (λ (z : T). leads z c.question c.answer y) k l, refl)
+  leads_more [] x m y c k l = (y, subst (λ (z : T). leads z c y) k l, refl)
   leads_more (b ∷ cs) x m y c k l = (k.0, k.1, leads_more cs k.0 m y c k.2 l)
 
   led_by : (ts : List Turn) (x m y : T) (came : Incoming) (v : Verdict) (call : Option Asking) (outs : List Out)
@@ -85,12 +87,12 @@ module _ {T : Type 0} (leads : T → Question → TargetAnswer → T → Type 0)
 
 -- ---- between two turns
 
-pub record Running {T : Type 0} (leads : T → Question → TargetAnswer → T → Type 0) (start : Start)
+pub record Running {T : Type 0} (leads : T → Asking → T → Type 0) (setting : Setting)
     (left left' held held' : Option (List ℕ)) (before now : ℕ) (o : OutboxValue) (target target' : T) (s : Counters)
     (waiting : List ℕ) (reads : ℕ) : Type 0 where
   pub transcript : List Turn
   pub spelled : List ℕ
-  pub stands : Stands start transcript s
+  pub stands : Stands setting transcript s
   pub goes_on : GoesOn transcript
   pub spells : Spells (map (λ t. t.came) transcript) spelled
   pub read : Consumes left left' (spelled ++ waiting)
@@ -113,9 +115,15 @@ ends_by_answer end Busy e = absurd (cc)
 ends_by_answer end Gone e = inr (inl cc)
 ends_by_answer end Halted e = absurd (cc)
 
+ends_by_reset : (end : End) (a : ResetAnswer) → Some end ≡ end_by_reset a → IsCalledFor end
+ends_by_reset end resets.Done e = absurd (cc)
+ends_by_reset end resets.Gone e = inr (inl cc)
+ends_by_reset end resets.Failed e = absurd (cc)
+
 ends_by_call : (end : End) (call : Option Asking) → Some end ≡ end_of_call call → IsCalledFor end
 ends_by_call end None e = absurd (cc)
-ends_by_call end (Some c) e = ends_by_answer end c.answer e
+ends_by_call end (Some (served unit asked bytes answer)) e = ends_by_answer end answer e
+ends_by_call end (Some (reset unit answer)) e = ends_by_reset end answer e
 
 ends_by_logout : (end : End) (closes : Bool) → Some end ≡ (if closes then Some LoggedOut else None) → IsCalledFor end
 ends_by_logout end true e = inr (inr cc)
@@ -133,6 +141,11 @@ ends_so end Full came call e = absurd (cc)
 ends_so end Ignored came call e = absurd (cc)
 ends_so end Gap came call e = inl cc
 ends_so end (Refused reason) came call e = inl cc
+
+not_input : (end : End) → IsCalledFor end → end ≡ InputFailed → ⊥
+not_input end (inl e) f = let g : Protocol ≡ InputFailed = sym e ∙ f in cc
+not_input end (inr (inl e)) f = let g : Reinstated ≡ InputFailed = sym e ∙ f in cc
+not_input end (inr (inr e)) f = let g : LoggedOut ≡ InputFailed = sym e ∙ f in cc
 
 not_output : (end : End) → IsCalledFor end → end ≡ OutputFailed → ⊥
 not_output end (inl e) f = let g : Protocol ≡ OutputFailed = sym e ∙ f in cc
@@ -153,29 +166,29 @@ written_all end held held' ts (inr (inl e)) k = subst (λ (z : End). Written z h
 written_all end held held' ts (inr (inr e)) k = subst (λ (z : End). Written z held held' ts) (sym e) k
 
 -- an end where all was written, or the sink failed
-module _ {T : Type 0} (leads : T → Question → TargetAnswer → T → Type 0) (start : Start)
+module _ {T : Type 0} (leads : T → Asking → T → Type 0) (setting : Setting)
     (left left' held held' : Option (List ℕ)) (before now : ℕ) (x x' : T) where
   abbrev Ended : End → Type 0
-  Ended end = IsTranscribed leads start left left' held held' x x' end × IsFailureOf OutputFailed before now end
+  Ended end = IsTranscribed leads setting left left' held held' x x' end × IsFailureOf OutputFailed before now end
 
   closed : (bytes : List ℕ) (wanted end : End) → (wanted ≡ OutputFailed → ⊥)
-      → (Appends held held' bytes → IsTranscribed leads start left left' held held' x x' wanted)
-      → (AppendsFront held held' bytes → IsTranscribed leads start left left' held held' x x' OutputFailed)
+      → (Appends held held' bytes → IsTranscribed leads setting left left' held held' x x' wanted)
+      → (AppendsFront held held' bytes → IsTranscribed leads setting left left' held held' x x' OutputFailed)
       → IsClosed held held' before now bytes wanted end → Ended end
   closed bytes wanted end other all cut (inl w) =
-      (subst (IsTranscribed leads start left left' held held' x x') (sym w.0) (all w.1), record { rises = λ f. absurd (other (sym w.0 ∙ f)); stays = λ _. w.2 })
+      (subst (IsTranscribed leads setting left left' held held' x x') (sym w.0) (all w.1), record { rises = λ f. absurd (other (sym w.0 ∙ f)); stays = λ _. w.2 })
   closed bytes wanted end other all cut (inr w) =
-      (subst (IsTranscribed leads start left left' held held' x x') (sym w.0) (cut w.1), record { rises = λ f. w.2; stays = λ o. absurd (o w.0) })
+      (subst (IsTranscribed leads setting left left' held held' x x') (sym w.0) (cut w.1), record { rises = λ f. w.2; stays = λ o. absurd (o w.0) })
 
-module _ {T : Type 0} (leads : T → Question → TargetAnswer → T → Type 0) (start : Start)
+module _ {T : Type 0} (leads : T → Asking → T → Type 0) (setting : Setting)
     (left left' held held' : Option (List ℕ)) (before now : ℕ) (o : OutboxValue) (x x' : T) (s : Counters)
     (waiting : List ℕ) (reads : ℕ)
-    (r : Running leads start left left' held held' before now o x x' s waiting reads) where
+    (r : Running leads setting left left' held held' before now o x x' s waiting reads) where
   -- what the whole is with one turn more, where these bytes of what waits spell its PDU
   module _ (s' : Counters) (x'' : T) (held'' : Option (List ℕ)) (now' : ℕ) (o' : OutboxValue) (came : Incoming)
       (wanted : Option End) (turned : MakesTurn leads s s' x' x'' held' held'' now now' o o' came wanted) where
-    stands_now : Stands start (r.transcript ++ turned.turn ∷ []) s'
-    stands_now = stands_more start r.transcript turned.turn came s s' r.stands r.goes_on turned.made
+    stands_now : Stands setting (r.transcript ++ turned.turn ∷ []) s'
+    stands_now = stands_more setting r.transcript turned.turn came s s' r.stands r.goes_on turned.made
 
     led_now : Leads leads (calls (r.transcript ++ turned.turn ∷ [])) x x''
     led_now = led_more leads r.transcript x x' x'' turned.turn r.led turned.led
@@ -185,6 +198,14 @@ module _ {T : Type 0} (leads : T → Question → TargetAnswer → T → Type 0)
 
     out_now : IsOut held held'' before now' o' (bytes_of (sent (r.transcript ++ turned.turn ∷ [])))
     out_now = subst (IsOut held held'' before now' o') (sym (bytes_more r.transcript turned.turn)) (turned.queued held before (bytes_of (sent r.transcript)) r.written)
+
+    -- the reader did not fail
+    input_stays : (held3 : Option (List ℕ)) (now3 : ℕ) (end result : End) → IsCalledFor end → IsClosedAs held'' held3 now' now3 o' end result
+        → result ≡ InputFailed → ⊥
+    input_stays held3 now3 end result one close e = elim (close held before (bytes_of (sent (r.transcript ++ turned.turn ∷ []))) out_now) [
+      | inl w ↦ not_input end one (sym w.0 ∙ e)
+      | inr w ↦ let g : OutputFailed ≡ InputFailed = sym w.0 ∙ e in cc
+    ]
 
     -- the last turn
     last_turn : (rest : List ℕ) → StandsBehind came rest → EndsWith (r.transcript ++ turned.turn ∷ []) rest wanted
@@ -203,7 +224,7 @@ module _ {T : Type 0} (leads : T → Question → TargetAnswer → T → Type 0)
       ended : (end : End)
           → EndsBy (r.transcript ++ turned.turn ∷ []) rest (length spelled + length rest) (IsAtEnd left') end
           → Written end held held3 (r.transcript ++ turned.turn ∷ [])
-          → IsTranscribed leads start left left' held held3 x x'' end
+          → IsTranscribed leads setting left left' held held3 x x'' end
       ended end ends written = record {
         transcript = r.transcript ++ turned.turn ∷ [];
         spelled = spelled;
@@ -218,9 +239,9 @@ module _ {T : Type 0} (leads : T → Question → TargetAnswer → T → Type 0)
 
       ends_now : (end result : End) → wanted ≡ Some end → IsCalledFor end
           → IsClosedAs held'' held3 now' now3 o' end result
-          → Ended leads start left left' held held3 before now3 x x'' result
+          → Ended leads setting left left' held held3 before now3 x x'' result
       ends_now end result e one close =
-          closed leads start left left' held held3 before now3 x x'' (bytes_of (sent (r.transcript ++ turned.turn ∷ []))) end result (not_output end one)
+          closed leads setting left left' held held3 before now3 x x'' (bytes_of (sent (r.transcript ++ turned.turn ∷ []))) end result (not_output end one)
           (λ all. ended end (ends_by end (r.transcript ++ turned.turn ∷ []) rest (length spelled + length rest) (IsAtEnd left') one (subst (EndsWith (r.transcript ++ turned.turn ∷ []) rest) e (last_turn rest stands))) (written_all end held held3 (r.transcript ++ turned.turn ∷ []) one all))
           (λ cut. ended OutputFailed (inr (wanted, last_turn rest stands)) cut)
           (close held before (bytes_of (sent (r.transcript ++ turned.turn ∷ []))) out_now)
@@ -245,7 +266,7 @@ module _ {T : Type 0} (leads : T → Question → TargetAnswer → T → Type 0)
       (d : List ℕ) (n : ℕ) (bhs_is : bhs ≡ take BHS_LENGTH waiting) (within : n ≤ length waiting)
       (spelled : IsPdu (take n waiting) h d) where
     pub pdu_goes_on : MakesTurn leads s s' x' x'' held' held'' now now' o o' (pdu bhs h d) None
-        → Running leads start left left' held held'' before now' o' x x'' s' (drop n waiting) reads
+        → Running leads setting left left' held held'' before now' o' x x'' s' (drop n waiting) reads
     pdu_goes_on t = record {
       transcript = r.transcript ++ t.turn ∷ [];
       spelled = r.spelled ++ take n waiting;
@@ -260,23 +281,28 @@ module _ {T : Type 0} (leads : T → Question → TargetAnswer → T → Type 0)
 
     pub pdu_ends : (held3 : Option (List ℕ)) (now3 : ℕ) (end result : End) → MakesTurn leads s s' x' x'' held' held'' now now' o o' (pdu bhs h d) (Some end)
         → IsClosedAs held'' held3 now' now3 o' end result
-        → Ended leads start left left' held held3 before now3 x x'' result
+        → Ended leads setting left left' held held3 before now3 x x'' result
     pdu_ends held3 now3 end result t close =
         ends_now s' x'' held'' now' o' (pdu bhs h d) (Some end) t (r.spelled ++ take n waiting) (drop n waiting) (spells_now n bhs h d bhs_is within spelled) (read_now n) tt held3 now3
         end result refl (ends_so end t.turn.verdict t.turn.came t.turn.call t.wanted_is) close
+
+    pub pdu_ends_not_by_input : (held3 : Option (List ℕ)) (now3 : ℕ) (end result : End) → MakesTurn leads s s' x' x'' held' held'' now now' o o' (pdu bhs h d) (Some end)
+        → IsClosedAs held'' held3 now' now3 o' end result → result ≡ InputFailed → ⊥
+    pdu_ends_not_by_input held3 now3 end result t close =
+        input_stays s' x'' held'' now' o' (pdu bhs h d) (Some end) t held3 now3 end result (ends_so end t.turn.verdict t.turn.came t.turn.call t.wanted_is) close
 
   pub fault_ends : (s' : Counters) (held'' held3 : Option (List ℕ)) (now' now3 : ℕ) (o' : OutboxValue) (bhs : List ℕ) (f : PduFault) (result : End)
       → bhs ≡ take BHS_LENGTH waiting → length bhs ≡ BHS_LENGTH → FaultStands waiting f
       → MakesTurn leads s s' x' x' held' held'' now now' o o' (faulty f bhs) (Some Protocol)
       → IsClosedAs held'' held3 now' now3 o' Protocol result
-      → Ended leads start left left' held held3 before now3 x x' result
+      → Ended leads setting left left' held held3 before now3 x x' result
   fault_ends s' held'' held3 now' now3 o' bhs f result bhs_is long stands t close =
       ends_now s' x' held'' now' o' (faulty f bhs) (Some Protocol) t r.spelled waiting (spells_fault (map (λ (t : Turn). t.came) r.transcript) r.spelled bhs f r.spells) r.read
       (stands, omega (arith, ap length bhs_is, long, length-take BHS_LENGTH waiting), bhs_is) held3 now3 Protocol result refl (inl refl) close
 
   -- what waits to go out is written
   pub flushed : (held'' : Option (List ℕ)) (now' : ℕ) (o' : OutboxValue) → IsWritten held' held'' now now' o o'
-      → Running leads start left left' held held'' before now' o' x x' s waiting reads
+      → Running leads setting left left' held held'' before now' o' x x' s waiting reads
   flushed held'' now' o' w = record {
     transcript = r.transcript;
     spelled = r.spelled;
@@ -291,7 +317,7 @@ module _ {T : Type 0} (leads : T → Question → TargetAnswer → T → Type 0)
 
   -- more came, or the input is at its end
   pub more_came : (left'' : Option (List ℕ)) (waiting' : List ℕ) (n : ℕ) → Filled left' left'' waiting waiting' n
-      → 0 < n → Running leads start left left'' held held' before now o x x' s waiting' (reads + 1)
+      → 0 < n → Running leads setting left left'' held held' before now o x x' s waiting' (reads + 1)
   more_came left'' waiting' n f some = record {
     transcript = r.transcript;
     spelled = r.spelled;
@@ -307,7 +333,7 @@ module _ {T : Type 0} (leads : T → Question → TargetAnswer → T → Type 0)
   stops_here : (end : End) (left'' held'' : Option (List ℕ)) (rest : List ℕ) → Consumes left left'' (r.spelled ++ rest)
       → EndsBy r.transcript rest (length r.spelled + length rest) (IsAtEnd left'') end
       → Written end held held'' r.transcript
-      → IsTranscribed leads start left left'' held held'' x x' end
+      → IsTranscribed leads setting left left'' held held'' x x' end
   stops_here end left'' held'' rest read ends written = record {
     transcript = r.transcript;
     spelled = r.spelled;
@@ -320,7 +346,7 @@ module _ {T : Type 0} (leads : T → Question → TargetAnswer → T → Type 0)
     led = r.led;
   }
 
-  pub sink_failed : o.failed ≡ true → Ended leads start left left' held held' before now x x' OutputFailed
+  pub sink_failed : o.failed ≡ true → Ended leads setting left left' held held' before now x x' OutputFailed
   sink_failed failed =
       let b = broke o.failed held held' before now o.waiting (bytes_of (sent r.transcript)) failed r.written in
       (stops_here OutputFailed left' held' waiting r.read (inl r.goes_on) b.0, record { rises = λ _. b.1; stays = λ other. absurd (other refl) })
@@ -331,7 +357,7 @@ module _ {T : Type 0} (leads : T → Question → TargetAnswer → T → Type 0)
 
     pub input_ended : (left'' : Option (List ℕ)) (waiting' : List ℕ) (n : ℕ) → n ≡ 0
         → Filled left' left'' waiting waiting' n → NoneWhole waiting
-        → Ended leads start left left'' held held' before now x x' EndOfInput
+        → Ended leads setting left left'' held held' before now x x' EndOfInput
     input_ended left'' waiting' n nothing f none =
         let no_more : f.more ≡ [] = nil_of f.more (f.count ∙ nothing) in (
           stops_here EndOfInput left'' held' waiting (subst (Consumes left left'') (ap (λ (z : List ℕ). r.spelled ++ z) (ap (λ (m : List ℕ). waiting ++ m) no_more ∙ append-nil waiting)) (subst (Consumes left left'') (append_assoc r.spelled waiting f.more) (Consumes-trans _ _ _ _ _ r.read f.read)))
@@ -340,28 +366,28 @@ module _ {T : Type 0} (leads : T → Question → TargetAnswer → T → Type 0)
         )
 
     pub input_failed : (left'' : Option (List ℕ)) → Keeps left' left'' → NoneWhole waiting
-        → Ended leads start left left'' held held' before now x x' InputFailed
+        → Ended leads setting left left'' held held' before now x x' InputFailed
     input_failed left'' kept none = (
       stops_here InputFailed left'' held' waiting (Consumes-kept _ _ _ _ r.read kept) (r.goes_on, none) all_out.0,
       record { rises = λ (e : InputFailed ≡ OutputFailed). absurd (cc); stays = λ _. all_out.1 },
     )
 
   pub taken_all : (held'' : Option (List ℕ)) (now' : ℕ) (result : End) → most_bytes ≤ reads → IsClosedAs held' held'' now now' o EndOfInput result
-      → Ended leads start left left' held held'' before now' x x' result
+      → Ended leads setting left left' held held'' before now' x x' result
   taken_all held'' now' result many close =
-      closed leads start left left' held held'' before now' x x' (bytes_of (sent r.transcript)) EndOfInput result (λ (e : EndOfInput ≡ OutputFailed). let never : ⊥ = cc in never)
+      closed leads setting left left' held held'' before now' x x' (bytes_of (sent r.transcript)) EndOfInput result (λ (e : EndOfInput ≡ OutputFailed). let never : ⊥ = cc in never)
       (λ all. stops_here EndOfInput left' held'' waiting r.read (r.goes_on, inr (omega (arith, many, r.many))) all)
       (λ cut. stops_here OutputFailed left' held'' waiting r.read (inl r.goes_on) cut)
       (close held before (bytes_of (sent r.transcript)) r.written)
 
-pub starts : {T : Type 0} (leads : T → Question → TargetAnswer → T → Type 0) (start : Start) (left held : Option (List ℕ)) (n : ℕ) (o : OutboxValue) (x : T) (s : Counters) (waiting : List ℕ)
-    → start.exp_cmd_sn < 4294967296 → start.stat_sn < 4294967296
-    → s ≡ begun start → o ≡ record { waiting = []; failed = false } → waiting ≡ []
-    → Running leads start left left held held n n o x x s waiting 0
-starts leads start left held n o x s waiting cmd_fits stat_fits s_is o_is empty = record {
+pub starts : {T : Type 0} (leads : T → Asking → T → Type 0) (setting : Setting) (left held : Option (List ℕ)) (n : ℕ) (o : OutboxValue) (x : T) (s : Counters) (waiting : List ℕ)
+    → setting.start.exp_cmd_sn < 4294967296 → setting.start.stat_sn < 4294967296
+    → s ≡ begun setting → o ≡ record { waiting = []; failed = false } → waiting ≡ []
+    → Running leads setting left left held held n n o x x s waiting 0
+starts leads setting left held n o x s waiting cmd_fits stat_fits s_is o_is empty = record {
   transcript = [];
   spelled = [];
-  stands = stands_none start s cmd_fits stat_fits s_is;
+  stands = stands_none setting s cmd_fits stat_fits s_is;
   goes_on = at_each_none (λ _ u. end_after u.verdict u.came u.call ≡ None);
   spells = refl;
   read = subst (Consumes left left) (sym empty) (Consumes-nil left);

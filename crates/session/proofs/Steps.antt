@@ -19,7 +19,8 @@ use Rattle.session.specs.declared.verdict.Verdict.TheVariants.{Accepted}
 use Rattle.iscsi_pdu.specs.declared.header.Header.TheVariants.{Initiator}
 use Rattle.iscsi_pdu.specs.declared.header.InitiatorHeader.TheVariants.{ScsiCommand, DataOut, TaskManagementRequest}
 use Rattle.session.specs.TaskTurn.{IsOpened, asks, busy, called, IsFed, filling, on, now, IsFilling, IsAskedOn, IsCalledNow}
-use Rattle.session.specs.Turn.{Incoming, pdu, Out, Asking, Turn, sent}
+use Rattle.session.specs.Asking.{Asking}
+use Rattle.session.specs.Turn.{Incoming, pdu, Out, Turn, sent}
 use Rattle.session.specs.Window.{wrap}
 use Rattle.session.specs.Tasks.{data_out_with, is_management, r2t_with, r2ts_of, ends, Task, has_ended, data_outs, r2ts, command_call, command_calls, gathered, is_response, is_r2t, sends_r2t, behind_last, finds_gone, Collecting, collected, collecting_of}
 use Rattle.session.specs.Collecting.{asked_to, IsRequest, IsCalledFor, IsUncalled, HasCalls, IsCollected, IsRightTask, IsNext, Continues, HasToCollect}
@@ -216,7 +217,8 @@ module _ (burst : ℕ) (some : 0 < burst) (k : Task) (open_task : has_ended k �
             ends = refl;
             unit = s.unit;
             names = s.names;
-            question = s.question;
+            answer = s.answer;
+            call_is = refl;
             all = λ w h. all;
             tiled = λ w h. omega (arith, known.uncalled.collects.short, in_range, all, within_need burst k.command need imm (length joined) (r2ts k.own) requested_now continues.request continues.outstanding);
             unasked = λ not_short. absurd (not_short known.uncalled.collects);
@@ -323,7 +325,8 @@ module _ (burst : ℕ) (some : 0 < burst) (b : List ℕ) (p : CommandHeader) (d 
               ends = refl;
               unit = s.unit;
               names = s.names;
-              question = s.question;
+              answer = s.answer;
+            call_is = refl;
               all = enough;
               tiled = λ w h. omega (arith, enough w h);
               unasked = λ f. refl;

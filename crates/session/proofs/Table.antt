@@ -16,8 +16,9 @@ use Rattle.iscsi_pdu.specs.declared.header.Header.TheVariants.{Initiator}
 use Rattle.iscsi_pdu.specs.declared.header.InitiatorHeader.TheVariants.{ScsiCommand, DataOut, TaskManagementRequest}
 use Rattle.session.specs.declared.verdict.Verdict.{Verdict}
 use Rattle.session.specs.declared.verdict.Verdict.TheVariants.{Accepted}
-use Rattle.session.specs.Turn.{Incoming, pdu, Out, Asking, Turn}
-use Rattle.session.specs.Drops.{drops}
+use Rattle.session.specs.Asking.{Asking}
+use Rattle.session.specs.Turn.{Incoming, pdu, Out, Turn}
+use Rattle.session.specs.Drops.{drops, found_unit}
 use Rattle.session.specs.Tasks.{ends, r2ts_of, Task, accepted_command, begun_by, tasks, has_ended, Collecting, collected, collecting_of, collecting, has_tag}
 use Rattle.session.specs.Collecting.{IsRightTask, Continues}
 use Rattle.session.specs.TaskTurn.{IsOpened, asks, busy, called, IsFed, filling, on, now, IsTakenData, keeps}
@@ -167,8 +168,8 @@ module _ (burst : ℕ) (some : 0 < burst) (ks : List Task) (cs : List Collecting
 
   pub management_comes : (b : List ℕ) (x : ManagementHeader) (d : List ℕ) (call : Option Asking) (outs : List Out) → r2ts_of outs ≡ []
       → IsKept burst (map (extended (record { came = pdu b (Initiator (TaskManagementRequest x)) d; verdict = Accepted; call = call; sent = outs })) ks)
-      (filter (keeps x) cs)
+      (filter (keeps x outs) cs)
   management_comes b x d call outs no_r2t =
       let u : Turn = record { came = pdu b (Initiator (TaskManagementRequest x)) d; verdict = Accepted; call = call; sent = outs } in
-      let w = drop_all burst u (drops x) (λ p. refl) (λ k right open_task. dropped burst k open_task right Accepted (pdu b (Initiator (TaskManagementRequest x)) d) call outs refl refl no_r2t) ks kept.right in
-      record { right = w.0; tied = w.1 ∙ ap (filter (keeps x)) kept.tied; unique = unique_kept (keeps x) cs kept.unique }
+      let w = drop_all burst u (λ p. drops x p && found_unit outs) (λ p. refl) (λ k right open_task. dropped burst k open_task right Accepted (pdu b (Initiator (TaskManagementRequest x)) d) call outs refl refl no_r2t) ks kept.right in
+      record { right = w.0; tied = w.1 ∙ ap (filter (keeps x outs)) kept.tied; unique = unique_kept (keeps x outs) cs kept.unique }

@@ -1,6 +1,6 @@
 -- The end of the window never falls.
 use Rattle.std.proofs.Common.{◌≡◌, ℕ, ◌+◌, ◌-◌, ◌<◌, ◌≤◌, Bool, true, false, not, List, [], ◌∷◌, ◌++◌, Option, Some, None, map, refl, ap, ◌∙◌, subst, sym, append_assoc, arith, cond}
-use Rattle.std.specs.Prelude.{◌==◌, ◌&&◌, nat_lt, if◌then◌else◌}
+use Rattle.std.specs.Prelude.{◌==◌, ◌&&◌, ◌||◌, nat_lt, if◌then◌else◌}
 use Rattle.std.specs.List.{AllByRecursion, filter, filter_map, cons_option, count_by, list_any}
 use Rattle.std.specs.Option.{option_to_list}
 use Rattle.std.proofs.lemmas.List.{append-nil}
@@ -9,7 +9,8 @@ use Rattle.std.proofs.lemmas.List.Elements.{filter_map-append}
 use Rattle.iscsi_pdu.specs.declared.header.ScsiCommand.{ScsiCommand as CommandHeader}
 use Rattle.iscsi_pdu.specs.declared.header.Header.TheVariants.{Initiator}
 use Rattle.iscsi_pdu.specs.declared.header.InitiatorHeader.TheVariants.{NopOut, ScsiCommand, TaskManagementRequest, TextRequest, LogoutRequest}
-use Rattle.session.specs.declared.session.Start.{Start}
+use Rattle.session.specs.Setting.{Setting, discovers}
+use Rattle.session.specs.Text.{is_text_refused}
 use Rattle.session.specs.declared.verdict.Verdict.{Verdict}
 use Rattle.session.specs.declared.verdict.Verdict.TheVariants.{Accepted, Full, Ignored, Gap, Refused}
 use Rattle.session.specs.Turn.{Incoming, pdu, faulty, Out, Turn}
@@ -18,7 +19,6 @@ use Rattle.session.specs.Tasks.{touches, ends, through, Task, accepted_command, 
 use Rattle.session.specs.Collecting.{shrinks_window, is_immediate}
 use Rattle.session.specs.Standing.{Standing, standing, numbered_waiting, window_size, last_in_window}
 use Rattle.session.specs.Verdict.{IsJudged, window_verdict, is_refused}
-use Rattle.session.specs.declared.lengths.Lengths.{Lengths}
 use Rattle.std.proofs.lemmas.Bool.{ltb-true}
 use Rattle.session.proofs.Gathering.{not_full}
 use Rattle.session.specs.Legal.{AtEach, HaveWindow, Lawful}
@@ -136,39 +136,39 @@ window_room s false cmd_sn refused e f = by_turn (ahead cmd_sn s.exp_cmd_sn == 0
   by_turn false free g true h = absurd (let k : Accepted ≡ Gap = h in cc)
   by_turn false free g false h = absurd (let k : Accepted ≡ Ignored = h in cc)
 
-accepted_room : (l : Lengths) (s : Standing) (came : Incoming) → IsJudged l s came Accepted → takes_number Accepted came ≡ true
+accepted_room : (m : Setting) (s : Standing) (came : Incoming) → IsJudged m s came Accepted → takes_number Accepted came ≡ true
     → numbered_waiting s < 32
-accepted_room l s (pdu b (Initiator (NopOut p)) d) judged e = window_room s p.immediate p.numbers.cmd_sn false judged e
-accepted_room l s (pdu b (Initiator (ScsiCommand p)) d) judged e =
-    window_room s p.immediate p.numbers.cmd_sn (is_refused l s p d) (sym (not_full (p.immediate && list_any is_immediate s.collecting) (window_verdict s p.immediate p.numbers.cmd_sn (is_refused l s p d)) (sym judged))) e
-accepted_room l s (pdu b (Initiator (LogoutRequest p)) d) judged e = window_room s p.immediate p.numbers.cmd_sn false judged e
-accepted_room l s (pdu b (Initiator (TaskManagementRequest p)) d) judged e = absurd (cc)
-accepted_room l s (pdu b (Initiator (TextRequest p)) d) judged e = absurd (cc)
-accepted_room l s came judged e = absurd (cc)
+accepted_room m s (pdu b (Initiator (NopOut p)) d) judged e = window_room s p.immediate p.numbers.cmd_sn false judged e
+accepted_room m s (pdu b (Initiator (ScsiCommand p)) d) judged e =
+    window_room s p.immediate p.numbers.cmd_sn (discovers m.kind || is_refused m.start.lengths s p d) (sym (not_full (p.immediate && list_any is_immediate s.collecting) (window_verdict s p.immediate p.numbers.cmd_sn (discovers m.kind || is_refused m.start.lengths s p d)) (sym judged))) e
+accepted_room m s (pdu b (Initiator (LogoutRequest p)) d) judged e = window_room s p.immediate p.numbers.cmd_sn false judged e
+accepted_room m s (pdu b (Initiator (TaskManagementRequest p)) d) judged e = window_room s p.immediate p.numbers.cmd_sn (discovers m.kind) judged e
+accepted_room m s (pdu b (Initiator (TextRequest p)) d) judged e = window_room s p.immediate p.numbers.cmd_sn (is_text_refused m p d) judged e
+accepted_room m s came judged e = absurd (cc)
 
-room_of : (l : Lengths) (s : Standing) (v : Verdict) (came : Incoming) → IsJudged l s came v → takes_number v came ≡ true
+room_of : (m : Setting) (s : Standing) (v : Verdict) (came : Incoming) → IsJudged m s came v → takes_number v came ≡ true
     → numbered_waiting s < 32
-room_of l s Accepted came judged e = accepted_room l s came judged e
-room_of l s Full came judged e = absurd (cc)
-room_of l s Ignored came judged e = absurd (cc)
-room_of l s Gap came judged e = absurd (cc)
-room_of l s (Refused reason) came judged e = absurd (cc)
+room_of m s Accepted came judged e = accepted_room m s came judged e
+room_of m s Full came judged e = absurd (cc)
+room_of m s Ignored came judged e = absurd (cc)
+room_of m s Gap came judged e = absurd (cc)
+room_of m s (Refused reason) came judged e = absurd (cc)
 
-few_step : (start : Start) (ts : List Turn) (u : Turn) → waiting_in ts ≤ 32 → IsJudged start.lengths (standing start ts) u.came u.verdict
+few_step : (m : Setting) (ts : List Turn) (u : Turn) → waiting_in ts ≤ 32 → IsJudged m (standing m.start ts) u.came u.verdict
     → waiting_in (ts ++ u ∷ []) ≤ 32
-few_step start ts u few judged = by_number (takes_number u.verdict u.came) refl where
+few_step m ts u few judged = by_number (takes_number u.verdict u.came) refl where
   by_number : (b : Bool) → takes_number u.verdict u.came ≡ b → waiting_in (ts ++ u ∷ []) ≤ 32
-  by_number true e = omega (arith, waiting_grows ts u, ap {B = ℕ} (λ (b : Bool). cond b 1 0) e, room_of start.lengths (standing start ts) u.verdict u.came judged e)
+  by_number true e = omega (arith, waiting_grows ts u, ap {B = ℕ} (λ (b : Bool). cond b 1 0) e, room_of m (standing m.start ts) u.verdict u.came judged e)
   by_number false e = omega (arith, waiting_grows ts u, ap {B = ℕ} (λ (b : Bool). cond b 1 0) e, few)
 
-few_wait : (start : Start) (before ts : List Turn) → waiting_in before ≤ 32
-    → ((front : List Turn) (t : Turn) (behind : List Turn) → before ++ ts ≡ front ++ (t ∷ behind) → IsJudged start.lengths (standing start front) t.came t.verdict)
+few_wait : (m : Setting) (before ts : List Turn) → waiting_in before ≤ 32
+    → ((front : List Turn) (t : Turn) (behind : List Turn) → before ++ ts ≡ front ++ (t ∷ behind) → IsJudged m (standing m.start front) t.came t.verdict)
     → waiting_in (before ++ ts) ≤ 32
-few_wait start before [] few each = omega (arith, few, ap waiting_in (append-nil before))
-few_wait start before (u ∷ ts) few each =
+few_wait m before [] few each = omega (arith, few, ap waiting_in (append-nil before))
+few_wait m before (u ∷ ts) few each =
     let whole : (before ++ u ∷ []) ++ ts ≡ before ++ (u ∷ ts) = append_assoc before (u ∷ []) ts in
     subst (λ (z : List Turn). waiting_in z ≤ 32) whole
-    (few_wait start (before ++ u ∷ []) ts (few_step start before u few (each before u ts refl)) (λ front t behind e. each front t behind (sym whole ∙ e)))
+    (few_wait m (before ++ u ∷ []) ts (few_step m before u few (each before u ts refl)) (λ front t behind e. each front t behind (sym whole ∙ e)))
 
 -- ---- and MaxCmdSN tells it
 
@@ -180,12 +180,12 @@ last_is : (first taken waiting : ℕ) → waiting ≤ taken → waiting ≤ 4294
     → wrap (wrap (first + taken) + 31 + (4294967296 - waiting)) ≡ wrap (first + (taken - waiting) + 31)
 last_is first taken waiting h k = omega (arith, h, k)
 
-pub max_counted : (start : Start) (ts : List Turn) → Lawful start ts
-    → AtEach (λ before t. HaveMaxCmdSn (wrap (start.exp_cmd_sn + window_end (before ++ t ∷ []) + 31)) t.sent) ts
-max_counted start ts l before t behind e =
+pub max_counted : (m : Setting) (ts : List Turn) → Lawful m ts
+    → AtEach (λ before t. HaveMaxCmdSn (wrap (m.start.exp_cmd_sn + window_end (before ++ t ∷ []) + 31)) t.sent) ts
+max_counted m ts l before t behind e =
     let now : List Turn = before ++ t ∷ [] in
-    let few_now : waiting_in now ≤ 32 = few_wait start [] now (omega arith) (λ front u rest f. l.judged front u (rest ++ behind) (whole front u rest f)) in
-    subst (λ (n : ℕ). HaveMaxCmdSn n t.sent) (last_is start.exp_cmd_sn (numbers_taken now) (waiting_in now) (waiting_fits now) (omega (arith, few_now)))
-    (window_ends (standing start now) t.sent (l.windows before t behind e)) where
+    let few_now : waiting_in now ≤ 32 = few_wait m [] now (omega arith) (λ front u rest f. l.judged front u (rest ++ behind) (whole front u rest f)) in
+    subst (λ (n : ℕ). HaveMaxCmdSn n t.sent) (last_is m.start.exp_cmd_sn (numbers_taken now) (waiting_in now) (waiting_fits now) (omega (arith, few_now)))
+    (window_ends (standing m.start now) t.sent (l.windows before t behind e)) where
   whole : (front : List Turn) (u : Turn) (rest : List Turn) → before ++ t ∷ [] ≡ front ++ (u ∷ rest) → ts ≡ front ++ (u ∷ (rest ++ behind))
   whole front u rest f = e ∙ sym (append_assoc before (t ∷ []) behind) ∙ ap (λ (z : List Turn). z ++ behind) f ∙ append_assoc front (u ∷ rest) behind

@@ -85,7 +85,7 @@ response_for numbers p transfer data_ins completion = record {
 -- the PDUs of an answer with this data
 abbrev pub reply_with : Counters → CommandHeader → ℕ → List ℕ → Completion → List Out
 reply_with s p need bytes completion =
-    let segments = data_ins_for (numbers_at 0 s.standing) p.task_tag s.lengths (sent_data p bytes) in
+    let segments = data_ins_for (numbers_at 0 s.standing) p.task_tag s.setting.start.lengths (sent_data p bytes) in
     let transfer = transfer_of p need (length bytes) in
     let response = response_for (numbers_at s.stat_sn s.standing) p transfer (length segments) completion in
     segments ++ record { header = ScsiResponse response; bytes = sense_part completion.sense } ∷ []

@@ -7,14 +7,18 @@ use Rattle.scsi_types.specs.declared.command.Command.{Command}
 use Rattle.scsi_types.specs.declared.command.CdbFault.{CdbFault}
 use Rattle.iscsi_pdu.specs.declared.header.ScsiCommand.{ScsiCommand as CommandHeader}
 use Rattle.iscsi_pdu.specs.declared.header.Header.TheVariants.{Initiator}
-use Rattle.iscsi_pdu.specs.declared.header.InitiatorHeader.TheVariants.{NopOut, ScsiCommand, DataOut, LogoutRequest}
+use Rattle.iscsi_pdu.specs.declared.header.InitiatorHeader.TheVariants.{NopOut, ScsiCommand, DataOut}
+use Rattle.iscsi_pdu.specs.declared.header.InitiatorHeader.TheVariants.{TaskManagementRequest, TextRequest, LogoutRequest}
 use Rattle.session.specs.declared.target.TargetAnswer.{TargetAnswer}
 use Rattle.session.specs.declared.target.TargetAnswer.TheVariants.{Replied, Outside, Busy, Gone, Halted}
 use Rattle.session.specs.declared.verdict.Verdict.{Verdict}
 use Rattle.session.specs.declared.verdict.Verdict.TheVariants.{Accepted, Full, Ignored, Gap, Refused}
-use Rattle.session.specs.Turn.{Incoming, pdu, Out, Asking}
+use Rattle.session.specs.Asking.{Asking, served, reset}
+use Rattle.session.specs.Setting.{Setting}
+use Rattle.session.specs.TaskManagement.{IsManaged}
+use Rattle.session.specs.Turn.{Incoming, pdu, Out}
 use Rattle.session.specs.Transfer.{transfer_of}
-use Rattle.session.specs.Tasks.{is_response, has_tag}
+use Rattle.session.specs.Tasks.{Collecting, is_response, has_tag}
 use Rattle.session.specs.Standing.{Standing}
 
 -- How a command is answered: by the target; or there was no buffer for its data; or another immediate command waits for
@@ -25,7 +29,8 @@ pub data Outcome : Type 0 where
   set_full : Outcome
 
 abbrev pub outcome_of : Verdict → Option Asking → List Out → Option Outcome
-outcome_of Accepted (Some call) outs = Some (by_target call.answer)
+outcome_of Accepted (Some (served unit asked bytes answer)) outs = Some (by_target answer)
+outcome_of Accepted (Some (reset unit answer)) outs = None
 outcome_of Accepted None outs = if list_any (λ o. is_response o.header) outs then Some no_buffer else None
 outcome_of Full call outs = Some set_full
 outcome_of Ignored call outs = None
@@ -53,20 +58,29 @@ answered_by None p own = None
 abbrev pub answered_in : Standing → Incoming → Verdict → Option Asking → List Out → Option Answered
 answered_in s came v call outs = answered_by (outcome_of v call outs) (command_at s came) outs
 
--- nothing is called but for a command: in its own turn, or in that of a Data-Out
-abbrev pub IsAcceptedCall : Incoming → Option Asking → Type 0
-IsAcceptedCall (pdu b (Initiator (ScsiCommand p)) d) call = Unit {0}
-IsAcceptedCall (pdu b (Initiator (DataOut x)) d) call = Unit {0}
-IsAcceptedCall (pdu b (Initiator (NopOut p)) d) call = call ≡ None
-IsAcceptedCall (pdu b (Initiator (LogoutRequest p)) d) call = call ≡ None
-IsAcceptedCall came call = ⊥
+-- the target serves nothing but a command, in its own turn or in that of a Data-Out
+abbrev pub IsServed : Option Asking → Type 0
+IsServed None = Unit {0}
+IsServed (Some (served unit asked bytes answer)) = Unit {0}
+IsServed (Some (reset unit answer)) = ⊥
 
-abbrev pub IsCalled : Verdict → Incoming → Option Asking → Type 0
-IsCalled Accepted came call = IsAcceptedCall came call
-IsCalled Full came call = call ≡ None
-IsCalled Ignored came call = call ≡ None
-IsCalled Gap came call = call ≡ None
-IsCalled (Refused reason) came call = call ≡ None
+-- of the other requests a LOGICAL UNIT RESET of a unit that is there has its one Reset
+abbrev pub IsAcceptedCall : Setting → Standing → Incoming → Option Asking → Type 0
+IsAcceptedCall m s (pdu b (Initiator (ScsiCommand p)) d) call = IsServed call
+IsAcceptedCall m s (pdu b (Initiator (DataOut x)) d) call = IsServed call
+IsAcceptedCall m s (pdu b (Initiator (NopOut p)) d) call = call ≡ None
+IsAcceptedCall m s (pdu b (Initiator (TaskManagementRequest p)) d) call =
+    (response : Option ℕ) × (kept : List Collecting) × IsManaged m.units s.collecting p call response kept
+IsAcceptedCall m s (pdu b (Initiator (TextRequest p)) d) call = call ≡ None
+IsAcceptedCall m s (pdu b (Initiator (LogoutRequest p)) d) call = call ≡ None
+IsAcceptedCall m s came call = ⊥
+
+abbrev pub IsCalled : Setting → Standing → Verdict → Incoming → Option Asking → Type 0
+IsCalled m s Accepted came call = IsAcceptedCall m s came call
+IsCalled m s Full came call = call ≡ None
+IsCalled m s Ignored came call = call ≡ None
+IsCalled m s Gap came call = call ≡ None
+IsCalled m s (Refused reason) came call = call ≡ None
 
 -- the data of an answer
 abbrev pub reply_data : TargetAnswer → List ℕ

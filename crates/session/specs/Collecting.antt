@@ -8,8 +8,8 @@ use Rattle.scsi_types.specs.declared.command.CdbFault.{CdbFault}
 use Rattle.iscsi_pdu.specs.declared.header.ScsiCommand.{ScsiCommand as CommandHeader}
 use Rattle.iscsi_pdu.specs.declared.header.DataOut.{DataOut as DataOutHeader}
 use Rattle.iscsi_pdu.specs.declared.header.R2t.{R2t as R2tHeader}
-use Rattle.session.specs.Question.{serve}
-use Rattle.session.specs.Turn.{Asking}
+use Rattle.session.specs.declared.target.TargetAnswer.{TargetAnswer}
+use Rattle.session.specs.Asking.{Asking, served}
 use Rattle.session.specs.Transfer.{data_for}
 use Rattle.session.specs.Window.{wrap}
 use Rattle.session.specs.Tasks.{Task, Collecting, has_ended, gathered, r2ts, command_calls}
@@ -44,7 +44,8 @@ pub record IsCalledFor (p : CommandHeader) (asked : Result Command CdbFault) (im
   pub ends : ended ≡ true
   pub unit : Option ℕ
   pub names : NamesUnit p.lun unit
-  pub question : c.question ≡ serve unit asked (data_for p (need_of asked) bytes)
+  pub answer : TargetAnswer
+  pub call_is : c ≡ served unit asked (data_for p (need_of asked) bytes) answer
   pub all : IsTrue p.write → need_of asked ≤ p.expected_length → need_of asked ≤ length bytes
   pub tiled : IsTrue p.write → need_of asked ≤ p.expected_length → min immediate (need_of asked) + sizes rs ≡ need_of asked
   pub unasked : (HasToCollect p (need_of asked) immediate → ⊥) → rs ≡ []

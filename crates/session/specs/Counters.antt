@@ -2,25 +2,24 @@
 use Rattle.std.specs.Prelude.{ℕ, ◌+◌, ◌%◌, Bool, List, [], ◌∷◌}
 use Rattle.iscsi_pdu.specs.declared.header.ScsiCommand.{ScsiCommand as CommandHeader}
 use Rattle.iscsi_pdu.specs.declared.header.Numbers.{Numbers}
-use Rattle.session.specs.declared.lengths.Lengths.{Lengths}
-use Rattle.session.specs.declared.session.Start.{Start}
+use Rattle.session.specs.Setting.{Setting}
 use Rattle.session.specs.Turn.{Out}
 use Rattle.session.specs.Window.{wrap, exp_cmd_sn_behind}
 use Rattle.session.specs.Tasks.{Collecting}
 use Rattle.session.specs.Standing.{Standing, numbers_at}
 
--- the next StatSN, the lengths in force, and what stands behind the turns so far
+-- what stays the same, the next StatSN, and what stands behind the turns so far
 pub record Counters : Type 0 where
+  pub setting : Setting
   pub stat_sn : ℕ
-  pub lengths : Lengths
   pub standing : Standing
 
 -- a session begins
-abbrev pub begun : Start → Counters
-begun start = record {
-  stat_sn = start.stat_sn;
-  lengths = start.lengths;
-  standing = record { exp_cmd_sn = start.exp_cmd_sn; collecting = []; transfer_tag = 0 };
+abbrev pub begun : Setting → Counters
+begun setting = record {
+  setting = setting;
+  stat_sn = setting.start.stat_sn;
+  standing = record { exp_cmd_sn = setting.start.exp_cmd_sn; collecting = []; transfer_tag = 0 };
 }
 
 -- a StatSN is used up, and a CmdSN is accepted

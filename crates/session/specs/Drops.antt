@@ -1,8 +1,49 @@
 -- Which tasks a task management function drops (RFC 7143, 11.5.1).
-use Rattle.std.specs.Prelude.{ℕ, ◌==◌, ◌&&◌, ◌||◌, Bool, true, false, if◌then◌else◌, List, [], ◌∷◌}
+use Rattle.std.specs.Prelude.{ℕ, ◌==◌, ◌&&◌, ◌||◌, not, bytes_eq, drop, slice_index, Bool, true, false, if◌then◌else◌, List}
+use Rattle.std.specs.List.{list_any}
 use Rattle.iscsi_pdu.specs.declared.header.ScsiCommand.{ScsiCommand as CommandHeader}
 use Rattle.iscsi_pdu.specs.declared.header.TaskManagementRequest.{TaskManagementRequest as ManagementHeader}
+use Rattle.iscsi_pdu.specs.declared.header.TargetHeader.{TargetHeader}
+use Rattle.iscsi_pdu.specs.declared.header.TargetHeader.TheVariants.{TaskManagementResponse}
+use Rattle.session.specs.declared.task_management.TaskFunction.{TaskFunction}
+use Rattle.session.specs.declared.task_management.TaskFunction.TheVariants.{
+  AbortTask,
+  AbortTaskSet,
+  LogicalUnitReset,
+  TaskReassign,
+  Unserved,
+}
+use Rattle.session.specs.declared.task_management.TheConstants.{LUN_DOES_NOT_EXIST}
+use Rattle.session.specs.Turn.{Out}
 
--- none yet
+-- the functions by their numbers (11.5.1)
+abbrev pub function_of : ℕ → TaskFunction
+function_of n =
+    if n == 1 then AbortTask
+    else (if n == 2 then AbortTaskSet
+    else (if n == 5 then LogicalUnitReset
+    else (if n == 8 then TaskReassign else Unserved)))
+
+-- the second LUN names the unit that the first one names, by peripheral or flat addressing (SAM-5, 4.7.5 to 4.7.7)
+abbrev pub is_same_unit : List ℕ → List ℕ → Bool
+is_same_unit a b = (slice_index b 0 == 0x00 || slice_index b 0 == 0x40) && bytes_eq (drop 1 a) (drop 1 b)
+
+-- Of the tasks that collect their data ABORT TASK drops that of its referenced tag; ABORT TASK SET and LOGICAL UNIT RESET
+-- drop those of the unit.
+abbrev pub drops_by : TaskFunction → ManagementHeader → CommandHeader → Bool
+drops_by AbortTask x p = x.referenced_tag == p.task_tag
+drops_by AbortTaskSet x p = is_same_unit x.lun p.lun
+drops_by LogicalUnitReset x p = is_same_unit x.lun p.lun
+drops_by TaskReassign x p = false
+drops_by Unserved x p = false
+
 abbrev pub drops : ManagementHeader → CommandHeader → Bool
-drops x p = false
+drops x p = drops_by (function_of x.function) x p
+
+-- a request whose unit is not there is answered so, and drops none
+abbrev pub tells_of_no_unit : TargetHeader → Bool
+tells_of_no_unit (TaskManagementResponse p) = p.response == LUN_DOES_NOT_EXIST
+tells_of_no_unit h = false
+
+abbrev pub found_unit : List Out → Bool
+found_unit outs = not (list_any (λ o. tells_of_no_unit o.header) outs)

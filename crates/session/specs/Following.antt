@@ -5,7 +5,12 @@ use Rattle.iscsi_pdu.specs.declared.header.Header.TheVariants.{Initiator}
 use Rattle.iscsi_pdu.specs.declared.header.InitiatorHeader.TheVariants.{ScsiCommand}
 use Rattle.iscsi_pdu.specs.declared.header.ScsiCommand.{ScsiCommand as CommandHeader}
 use Rattle.session.specs.declared.verdict.Verdict.TheVariants.{Accepted}
-use Rattle.session.specs.Turn.{Out, Asking, Turn, pdu}
+use Rattle.std.specs.Prelude.{Option, Result}
+use Rattle.scsi_types.specs.declared.command.Command.{Command}
+use Rattle.scsi_types.specs.declared.command.CdbFault.{CdbFault}
+use Rattle.session.specs.declared.target.TargetAnswer.{TargetAnswer}
+use Rattle.session.specs.Asking.{served}
+use Rattle.session.specs.Turn.{Out, Turn, pdu}
 use Rattle.session.specs.Tasks.{collecting}
 use Rattle.session.specs.Collecting.{shrinks_window}
 use Rattle.session.specs.Window.{numbers_of, takes_number}
@@ -26,10 +31,13 @@ window_end ts = numbers_taken ts - waiting_in ts
 abbrev pub HaveMaxCmdSn : ℕ → List Out → Type 0
 HaveMaxCmdSn n outs = AllByRecursion (λ o. (numbers_of o.header).max_cmd_sn ≡ n) outs
 
--- the turn is that of this SCSI Command, which was accepted and called
-pub record IsCallTurn (t : Turn) (p : CommandHeader) (call : Asking) : Type 0 where
+-- the turn is that of this SCSI Command, which was accepted and called, and answered so
+pub record IsCallTurn (t : Turn) (p : CommandHeader) (answer : TargetAnswer) : Type 0 where
   pub bhs : List ℕ
   pub segment : List ℕ
   pub came : t.came ≡ pdu bhs (Initiator (ScsiCommand p)) segment
   pub accepted : t.verdict ≡ Accepted
-  pub called : t.call ≡ Some call
+  pub unit : Option ℕ
+  pub asked : Result Command CdbFault
+  pub bytes : List ℕ
+  pub called : t.call ≡ Some (served unit asked bytes answer)

@@ -1,6 +1,7 @@
 -- Which transcripts are legal (RFC 7143, sections 4 and 7). A transcript is a list of turns; each fact is judged
 -- of the turn at each place, with the turns before it, so what holds of a transcript holds of each beginning.
-use Rattle.std.specs.Prelude.{◌≡◌, ◌⊎◌, ℕ, ◌+◌, ◌<◌, ◌≤◌, if◌then◌else◌, List, [], ◌∷◌, ◌++◌, length, take, Option, Some, None, Result, IfSome, MatchOption, slice_get}
+use Rattle.std.specs.Prelude.{◌≡◌, ◌⊎◌, ℕ, ◌+◌, ◌<◌, ◌≤◌, if◌then◌else◌, List, [], ◌∷◌, ◌++◌, length, take}
+use Rattle.std.specs.Prelude.{Option, Some, None, Result, IfSome, MatchOption, slice_get}
 use Rattle.std.specs.List.{filter_map, AllByRecursion}
 use Rattle.scsi_types.specs.Cdb.{Means}
 use Rattle.scsi_types.specs.declared.command.Command.{Command}
@@ -11,7 +12,8 @@ use Rattle.iscsi_pdu.specs.declared.header.Header.{Header}
 use Rattle.iscsi_pdu.specs.declared.header.Header.TheVariants.{Initiator}
 use Rattle.iscsi_pdu.specs.declared.header.InitiatorHeader.TheVariants.{ScsiCommand, DataOut, LogoutRequest}
 use Rattle.iscsi_pdu.specs.declared.header.TargetHeader.{TargetHeader}
-use Rattle.iscsi_pdu.specs.declared.header.TargetHeader.TheVariants.{NopIn, ScsiResponse, DataIn, LogoutResponse, R2t, Reject}
+use Rattle.iscsi_pdu.specs.declared.header.TargetHeader.TheVariants.{NopIn, ScsiResponse, TaskManagementResponse}
+use Rattle.iscsi_pdu.specs.declared.header.TargetHeader.TheVariants.{TextResponse, DataIn, LogoutResponse, R2t, Reject}
 use Rattle.iscsi_pdu.specs.declared.header.R2t.{R2t as R2tHeader}
 use Rattle.iscsi_pdu.specs.declared.header.Numbers.{Numbers}
 use Rattle.iscsi_pdu.specs.declared.fault.PduFault.{PduFault}
@@ -21,10 +23,14 @@ use Rattle.session.specs.declared.lengths.Lengths.{Lengths}
 use Rattle.session.specs.declared.session.Start.{Start}
 use Rattle.session.specs.declared.target.TargetAnswer.{TargetAnswer}
 use Rattle.session.specs.declared.target.TargetAnswer.TheVariants.{Replied, Outside, Busy, Gone, Halted}
+use Rattle.session.specs.declared.target.ResetAnswer.{ResetAnswer}
+use Rattle.session.specs.declared.target.ResetAnswer.TheVariants as resets
 use Rattle.session.specs.declared.verdict.Verdict.{Verdict}
 use Rattle.session.specs.declared.verdict.Verdict.TheVariants.{Accepted, Full, Ignored, Gap, Refused}
 use Rattle.iscsi_pdu.specs.declared.TheConstants.{BHS_LENGTH}
-use Rattle.session.specs.Turn.{Incoming, pdu, faulty, Out, Asking, Turn, sent}
+use Rattle.session.specs.Asking.{Asking, served, reset}
+use Rattle.session.specs.Setting.{Setting}
+use Rattle.session.specs.Turn.{Incoming, pdu, faulty, Out, Turn, sent}
 use Rattle.session.specs.Window.{wrap, numbers_of}
 use Rattle.session.specs.Tasks.{tasks, r2ts_of}
 use Rattle.session.specs.Collecting.{IsRightTask}
@@ -45,6 +51,8 @@ AtEach P ts = (before : List Turn) (t : Turn) (behind : List Turn) → ts ≡ be
 abbrev pub status_number : TargetHeader → Option ℕ
 status_number (NopIn p) = Some p.numbers.stat_sn
 status_number (ScsiResponse p) = Some p.numbers.stat_sn
+status_number (TaskManagementResponse p) = Some p.numbers.stat_sn
+status_number (TextResponse p) = Some p.numbers.stat_sn
 status_number (LogoutResponse p) = Some p.numbers.stat_sn
 status_number (Reject p) = Some p.numbers.stat_sn
 status_number h = None
@@ -129,9 +137,15 @@ end_by Busy = None
 end_by Gone = Some Reinstated
 end_by Halted = None
 
+abbrev pub end_by_reset : ResetAnswer → Option End
+end_by_reset resets.Done = None
+end_by_reset resets.Gone = Some Reinstated
+end_by_reset resets.Failed = None
+
 abbrev pub end_of_call : Option Asking → Option End
 end_of_call None = None
-end_of_call (Some call) = end_by call.answer
+end_of_call (Some (served unit asked bytes answer)) = end_by answer
+end_of_call (Some (reset unit answer)) = end_by_reset answer
 
 abbrev pub end_of_accepted : Incoming → Option Asking → Option End
 end_of_accepted (pdu b (Initiator (LogoutRequest p)) d) call = if closes p then Some LoggedOut else None
@@ -148,37 +162,38 @@ end_after (Refused reason) came call = Some Protocol
 abbrev pub GoesOn : List Turn → Type 0
 GoesOn ts = AtEach (λ before t. end_after t.verdict t.came t.call ≡ None) ts
 
--- The facts of a transcript of a session that begins so.
-pub record Lawful (start : Start) (ts : List Turn) : Type 0 where
+-- The facts of a transcript of a session with this setting.
+pub record Lawful (m : Setting) (ts : List Turn) : Type 0 where
   -- what becomes of each PDU is what stands before it, and the rules, say
-  pub judged : AtEach (λ before t. IsJudged start.lengths (standing start before) t.came t.verdict) ts
+  pub judged : AtEach (λ before t. IsJudged m (standing m.start before) t.came t.verdict) ts
   -- the k-th PDU that uses up a StatSN has the first one + k
-  pub numbered : (k n : ℕ) → slice_get (status_numbers (sent ts)) k ≡ Some n → n ≡ wrap (start.stat_sn + k)
+  pub numbered : (k n : ℕ) → slice_get (status_numbers (sent ts)) k ≡ Some n → n ≡ wrap (m.start.stat_sn + k)
   -- each PDU that goes out has ExpCmdSN and MaxCmdSN as they are at the end of its turn
-  pub windows : AtEach (λ before t. HaveWindow (standing start (before ++ t ∷ [])) t.sent) ts
+  pub windows : AtEach (λ before t. HaveWindow (standing m.start (before ++ t ∷ [])) t.sent) ts
   -- each R2T has the next transfer tag, and uses up no StatSN
   pub transfers : AtEach (λ before t.
-      HaveNextR2t (standing start before) (wrap (start.stat_sn + length (status_numbers (sent before)))) t.sent) ts
+      HaveNextR2t (standing m.start before) (wrap (m.start.stat_sn + length (status_numbers (sent before)))) t.sent) ts
   -- at the end of each turn each command so far is right: its R2Ts tile what it has to collect, and it is called once,
   -- with its data
-  pub collected : AtEach (λ before t. AllByRecursion (IsRightTask start.lengths.burst) (tasks (before ++ t ∷ []))) ts
-  -- nothing else is called
-  pub called : AtEach (λ before t. IsCalled t.verdict t.came t.call) ts
+  pub collected : AtEach (λ before t. AllByRecursion (IsRightTask m.start.lengths.burst) (tasks (before ++ t ∷ []))) ts
+  -- the target serves nothing else; each reset of a unit that is there has its one Reset, and nothing else has any
+  pub called : AtEach (λ before t. IsCalled m (standing m.start before) t.verdict t.came t.call) ts
   -- each command that is answered has its one SCSI Response, behind its data, unless its session is gone; nothing else
   -- has one
-  pub answered : AtEach (λ before t. IsAnsweredTask (answer_at start before t) t.sent) ts
+  pub answered : AtEach (λ before t. IsAnsweredTask (answer_at m.start before t) t.sent) ts
   -- the Data-In of a read tile the bytes of its Call in runs of MaxBurstLength; nothing else has any
-  pub tiled : AtEach (λ before t. IsTiledTask start.lengths (answer_at start before t) t.sent) ts
+  pub tiled : AtEach (λ before t. IsTiledTask m.start.lengths (answer_at m.start before t) t.sent) ts
   -- ExpDataSN is their number
-  pub counted : AtEach (λ before t. IsCountedTask (answer_at start before t)) ts
+  pub counted : AtEach (λ before t. IsCountedTask (answer_at m.start before t)) ts
   -- the residual is what lies between what is expected and what is needed
-  pub residual : AtEach (λ before t. HasResiduals (answer_at start before t)) ts
+  pub residual : AtEach (λ before t. HasResiduals (answer_at m.start before t)) ts
   -- status and sense are those of the Call's answer; without one, BUSY or TASK SET FULL
-  pub told : AtEach (λ before t. IsToldTask (answer_at start before t)) ts
+  pub told : AtEach (λ before t. IsToldTask (answer_at m.start before t)) ts
   -- what is rejected has a Reject, and nothing else has one; no turn has a PDU of another kind
   pub rejected : AtEach (λ before t. IsRejected t.verdict t.came t.sent) ts
   -- each other request that is accepted has its one answer, and nothing else
-  pub requests : AtEach (λ before t. IsRequestAnswered start.lengths t.verdict t.came t.call t.sent) ts
+  pub requests : AtEach (λ before t.
+      IsRequestAnswered m (standing m.start before) t.verdict t.came t.call t.sent) ts
   -- nothing comes behind a turn that calls for an end
   pub ends : AtEach (λ before t. GoesOn before) ts
 

@@ -1,5 +1,6 @@
 pub mod AnswerPdus
 pub mod Answered
+pub mod Asking
 pub mod Collecting
 pub mod Counters
 pub mod DataIn
@@ -14,15 +15,17 @@ pub mod Machine
 pub mod MachineTurn
 pub mod Nop
 pub mod Outbox
-pub mod Question
 pub mod Requests
 pub mod Response
+pub mod Setting
 pub mod Slots
 pub mod Source
 pub mod Standing
 pub mod Stream
+pub mod TaskManagement
 pub mod TaskTurn
 pub mod Tasks
+pub mod Text
 pub mod Transcript
 pub mod Transfer
 pub mod Turn

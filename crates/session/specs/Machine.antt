@@ -9,13 +9,18 @@ use Rattle.iscsi_pdu.specs.declared.header.ScsiCommand.{ScsiCommand as CommandHe
 use Rattle.iscsi_pdu.specs.declared.header.NopOut.{NopOut as NopOutHeader}
 use Rattle.iscsi_pdu.specs.declared.header.DataOut.{DataOut as DataOutHeader}
 use Rattle.iscsi_pdu.specs.declared.header.R2t.{R2t as R2tHeader}
+use Rattle.iscsi_pdu.specs.declared.header.TaskManagementRequest.{TaskManagementRequest as ManagementHeader}
+use Rattle.iscsi_pdu.specs.declared.header.TextRequest.{TextRequest as TextHeader}
 use Rattle.iscsi_pdu.specs.declared.header.LogoutRequest.{LogoutRequest as LogoutHeader}
 use Rattle.iscsi_pdu.specs.declared.header.Header.{Header}
 use Rattle.iscsi_pdu.specs.declared.header.Header.TheVariants.{Initiator}
-use Rattle.iscsi_pdu.specs.declared.header.InitiatorHeader.TheVariants.{NopOut, ScsiCommand, DataOut, LogoutRequest}
+use Rattle.iscsi_pdu.specs.declared.header.InitiatorHeader.TheVariants.{NopOut, ScsiCommand, DataOut}
+use Rattle.iscsi_pdu.specs.declared.header.InitiatorHeader.TheVariants.{TaskManagementRequest, TextRequest, LogoutRequest}
 use Rattle.iscsi_pdu.specs.declared.header.TargetHeader.TheVariants.{ScsiResponse, R2t, Reject}
 use Rattle.session.specs.declared.actions.Actions.{Actions}
 use Rattle.session.specs.declared.actions.Call.{Call}
+use Rattle.session.specs.declared.actions.Call.TheVariants as kinds
+use Rattle.session.specs.declared.actions.ServeCall.{ServeCall}
 use Rattle.session.specs.declared.actions.CommandData.{CommandData}
 use Rattle.session.specs.declared.actions.CommandData.TheVariants.{Came, Gathered}
 use Rattle.session.specs.declared.actions.ResponsePdu.{ResponsePdu}
@@ -24,6 +29,9 @@ use Rattle.session.specs.declared.actions.Pdus.TheVariants as pdus
 use Rattle.session.specs.declared.end.End.{End}
 use Rattle.session.specs.declared.end.End.TheVariants.{Protocol, Reinstated, LoggedOut}
 use Rattle.session.specs.declared.target.TargetAnswer.{TargetAnswer}
+use Rattle.session.specs.declared.target.ResetAnswer.{ResetAnswer}
+use Rattle.session.specs.declared.task_management.Management.{Management}
+use Rattle.session.specs.declared.task_management.Management.TheVariants.{Respond, Reset}
 use Rattle.session.specs.declared.verdict.Verdict.{Verdict}
 use Rattle.session.specs.declared.verdict.Verdict.TheVariants.{Accepted, Full, Ignored, Gap, Refused}
 use Rattle.session.specs.Turn.{Out}
@@ -40,6 +48,9 @@ use Rattle.session.specs.Response.{sense_part}
 use Rattle.session.specs.Counters.{Counters, after_status, after_number, after_command, after_collecting, after_r2t, after_answer, next_numbers}
 use Rattle.session.specs.AnswerPdus.{data_ins_of, reply_with, completion_of, busy, task_set_full}
 use Rattle.session.specs.Nop.{nop_answer}
+use Rattle.session.specs.Text.{text_outs}
+use Rattle.session.specs.Legal.{end_by_reset}
+use Rattle.session.specs.TaskManagement.{IsManagement, reset_response, management_answer}
 use Rattle.session.specs.Logout.{closes, logout_answer}
 
 -- the one PDU that answers a request, if any
@@ -73,12 +84,16 @@ call_data (Came bytes) = bytes.now
 call_data (Gathered bytes) = bytes.items
 
 -- the call of a command, for what its CDB asks, where its data so far are these
-pub record IsCallOf (p : CommandHeader) (asked : Result Command CdbFault) (bytes : List ℕ) (c : Call) : Type 0 where
+pub record IsServeOf (p : CommandHeader) (asked : Result Command CdbFault) (bytes : List ℕ) (c : ServeCall) : Type 0 where
   pub command : c.task.command ≡ p
   pub asked_is : c.asked ≡ asked
   pub need : c.task.need ≡ need_of asked
   pub unit : NamesUnit p.lun c.unit
   pub bytes_are : call_data c.bytes ≡ data_for p (need_of asked) bytes
+
+abbrev pub IsCallOf : CommandHeader → Result Command CdbFault → List ℕ → Call → Type 0
+IsCallOf p asked bytes (kinds.Serve c) = IsServeOf p asked bytes c
+IsCallOf p asked bytes (kinds.Reset c) = ⊥
 
 pub record Calls (p : CommandHeader) (asked : Result Command CdbFault) (bytes : List ℕ) (a : Actions) : Type 0 where
   pub pdus_are : a.pdus ≡ pdus.Nothing
@@ -87,7 +102,7 @@ pub record Calls (p : CommandHeader) (asked : Result Command CdbFault) (bytes : 
 
 -- the next R2T of a command goes out, where so much of its data has come and these are the counters
 pub record Asks (s : Counters) (p : CommandHeader) (need came requests : ℕ) (next : R2tHeader) (a : Actions) : Type 0 where
-  pub is_next : IsNext s.lengths.burst p need came requests next
+  pub is_next : IsNext s.setting.start.lengths.burst p need came requests next
   pub transfer : next.transfer_tag ≡ s.standing.transfer_tag
   pub numbers : next.numbers ≡ next_numbers s
   pub pdus_are : a.pdus ≡ pdus.R2t next
@@ -114,13 +129,13 @@ abbrev pub r2t_with_for : Counters → ℕ → R2tWith
 r2t_with_for s waiting = record {
   numbers = numbers_for s.stat_sn s.standing.exp_cmd_sn waiting;
   transfer_tag = s.standing.transfer_tag;
-  burst = s.lengths.burst;
+  burst = s.setting.start.lengths.burst;
 }
 
 -- a command begins to wait, and its first R2T goes out
 pub record BeginsToWait (s : Counters) (p : CommandHeader) (need : ℕ) (d : List ℕ) (next : R2tHeader)
     (s' : Counters) : Type 0 where
-  pub is_next : IsNext s.lengths.burst p need (length d) 0 next
+  pub is_next : IsNext s.setting.start.lengths.burst p need (length d) 0 next
   pub transfer : next.transfer_tag ≡ s.standing.transfer_tag
   pub numbers : next.numbers
       ≡ next_numbers (after_collecting (s.standing.collecting ++ waits p d next 1 ∷ []) s)
@@ -180,7 +195,12 @@ pub record Answers (s : Counters) (outs : List Out) (end : Option End) (a : Acti
 abbrev pub OnNopOut : Counters → NopOutHeader → List ℕ → Actions → Counters → Type 0
 OnNopOut s p d a s' =
     let mid = after_number p.immediate s in
-    Answers mid (nop_answer (next_numbers mid) s.lengths p d) None a s'
+    Answers mid (nop_answer (next_numbers mid) s.setting.start.lengths p d) None a s'
+
+abbrev pub OnText : Counters → TextHeader → List ℕ → Actions → Counters → Type 0
+OnText s p d a s' =
+    let mid = after_number p.immediate s in
+    Answers mid (text_outs (next_numbers mid) s.setting p d) None a s'
 
 abbrev pub OnLogout : Counters → LogoutHeader → Actions → Counters → Type 0
 OnLogout s p a s' =
@@ -193,11 +213,35 @@ pub record OnFull (s : Counters) (p : CommandHeader) (a : Actions) (s' : Counter
   pub means : Means p.cdb asked
   pub sends : Sends s (reply_with s p (need_of asked) [] task_set_full) a s'
 
+-- a unit is to be reset
+pub record OnReset (s : Counters) (p : ManagementHeader) (unit : ℕ) (a : Actions) (s' : Counters) : Type 0 where
+  pub pdus_are : a.pdus ≡ pdus.Nothing
+  pub call : a.call ≡ Some (kinds.Reset (record { request = p; unit = unit }))
+  pub no_end : a.end ≡ None
+  pub next : s' ≡ s
+
+abbrev pub OnManagedBy : Management → Counters → ManagementHeader → Actions → Counters → Type 0
+OnManagedBy (Respond response) s p a s' = Answers s (management_answer (next_numbers s) p (Some response)) None a s'
+OnManagedBy (Reset unit) s p a s' = OnReset s p unit a s'
+
+pub record OnManagement (s : Counters) (p : ManagementHeader) (a : Actions) (s' : Counters) : Type 0 where
+  pub management : Management
+  pub kept : List Collecting
+  pub comes_to : IsManagement s.setting.units s.standing.collecting p management kept
+  pub managed : OnManagedBy management (after_collecting kept (after_number p.immediate s)) p a s'
+
+-- what a session makes of the answer to a reset
+abbrev pub OnResetAnswer : Counters → ManagementHeader → ResetAnswer → Actions → Counters → Type 0
+OnResetAnswer s p answer a s' =
+    Answers s (management_answer (next_numbers s) p (reset_response answer)) (end_by_reset answer) a s'
+
 -- an accepted PDU, by its kind
 abbrev pub OnTaken : Counters → Header → List ℕ → Actions → Counters → Type 0
 OnTaken s (Initiator (NopOut p)) d a s' = OnNopOut s p d a s'
 OnTaken s (Initiator (ScsiCommand p)) d a s' = OnAccepted s p d a s'
 OnTaken s (Initiator (DataOut x)) d a s' = OnData s x d a s'
+OnTaken s (Initiator (TaskManagementRequest p)) d a s' = OnManagement s p a s'
+OnTaken s (Initiator (TextRequest p)) d a s' = OnText s p d a s'
 OnTaken s (Initiator (LogoutRequest p)) d a s' = OnLogout s p a s'
 OnTaken s h d a s' = ⊥
 
@@ -224,7 +268,7 @@ OnVerdict (Refused reason) s h d a s' = OnUnaccepted (Refused reason) s a s'
 -- what a session makes of a PDU, and of a SCSI Command
 pub record OnPdu (s : Counters) (h : Header) (d : List ℕ) (a : Actions) (s' : Counters) : Type 0 where
   pub verdict : Verdict
-  pub judged : IsJudgedPdu s.lengths s.standing h d verdict
+  pub judged : IsJudgedPdu s.setting s.standing h d verdict
   pub made : OnVerdict verdict s h d a s'
 
 abbrev pub OnCommand : Counters → CommandHeader → List ℕ → Actions → Counters → Type 0

@@ -8,14 +8,16 @@ use Rattle.scsi_types.specs.declared.command.CdbFault.{CdbFault}
 use Rattle.iscsi_pdu.specs.declared.header.DataOut.{DataOut as DataOutHeader}
 use Rattle.iscsi_pdu.specs.declared.header.R2t.{R2t as R2tHeader}
 use Rattle.iscsi_pdu.specs.declared.header.ScsiCommand.{ScsiCommand as CommandHeader}
+use Rattle.iscsi_pdu.specs.declared.header.TaskManagementRequest.{TaskManagementRequest as ManagementHeader}
 use Rattle.iscsi_pdu.specs.declared.header.Header.TheVariants.{Initiator}
-use Rattle.iscsi_pdu.specs.declared.header.InitiatorHeader.TheVariants.{NopOut, ScsiCommand, DataOut, LogoutRequest}
+use Rattle.iscsi_pdu.specs.declared.header.InitiatorHeader.TheVariants.{NopOut, ScsiCommand, DataOut}
+use Rattle.iscsi_pdu.specs.declared.header.InitiatorHeader.TheVariants.{TaskManagementRequest, TextRequest, LogoutRequest}
 use Rattle.iscsi_pdu.specs.declared.header.TargetHeader.TheVariants.{R2t, Reject}
 use Rattle.session.specs.declared.target.TargetAnswer.{TargetAnswer}
 use Rattle.session.specs.declared.verdict.Verdict.{Verdict}
 use Rattle.session.specs.declared.verdict.Verdict.TheVariants.{Accepted, Full, Ignored, Gap, Refused}
-use Rattle.session.specs.Turn.{Incoming, pdu, Out, Asking, Turn}
-use Rattle.session.specs.Question.{serve}
+use Rattle.session.specs.Asking.{Asking, served}
+use Rattle.session.specs.Turn.{Incoming, pdu, Out, Turn}
 use Rattle.session.specs.Window.{wrap}
 use Rattle.session.specs.Transfer.{data_for}
 use Rattle.session.specs.Tasks.{Collecting, has_tag}
@@ -27,6 +29,8 @@ use Rattle.session.specs.Legal.{bhs_of}
 use Rattle.session.specs.Counters.{Counters, after_status, after_number, after_command, after_collecting, after_r2t, after_answer, next_numbers}
 use Rattle.session.specs.AnswerPdus.{reply_with, completion_of, busy, task_set_full}
 use Rattle.session.specs.Nop.{nop_answer}
+use Rattle.session.specs.Text.{text_outs}
+use Rattle.session.specs.TaskManagement.{IsManaged, management_answer}
 use Rattle.session.specs.Logout.{logout_answer}
 
 -- the PDUs and the counters behind an answer
@@ -41,7 +45,7 @@ pub record TurnOnCall (s : Counters) (p : CommandHeader) (asked : Result Command
   pub unit : Option ℕ
   pub names : NamesUnit p.lun unit
   pub answer : TargetAnswer
-  pub call_is : call ≡ Some (record { question = serve unit asked (data_for p (need_of asked) bytes); answer = answer })
+  pub call_is : call ≡ Some (served unit asked (data_for p (need_of asked) bytes) answer)
   pub answered : TurnOnAnswer s p (need_of asked) answer outs s'
 
 -- the Reject for this reason, with the basic header segment of what came
@@ -60,7 +64,7 @@ pub record TurnUncalled (call : Option Asking) (outs wanted : List Out) (s' next
 -- the next R2T of a command goes out
 pub record TurnAsks (s : Counters) (p : CommandHeader) (need came requests : ℕ) (next : R2tHeader) (call : Option Asking)
     (outs : List Out) : Type 0 where
-  pub is_next : IsNext s.lengths.burst p need came requests next
+  pub is_next : IsNext s.setting.start.lengths.burst p need came requests next
   pub transfer : next.transfer_tag ≡ s.standing.transfer_tag
   pub numbers : next.numbers ≡ next_numbers s
   pub no_call : call ≡ None
@@ -130,13 +134,30 @@ TurnOnFullPdu came s call outs s' = ⊥
 abbrev pub TurnAnswered : Counters → List Out → Option Asking → List Out → Counters → Type 0
 TurnAnswered s wanted call outs s' = TurnUncalled call outs wanted s' (after_answer wanted s)
 
+-- a request for task management has this response
+pub record TurnAnswers (s : Counters) (p : ManagementHeader) (response : Option ℕ) (outs : List Out) (s' : Counters) : Type 0 where
+  pub outs_are : outs ≡ management_answer (next_numbers s) p response
+  pub next_is : s' ≡ after_answer (management_answer (next_numbers s) p response) s
+
+-- a request for task management is answered so, with the reset that it comes to, behind the commands that it drops
+pub record TurnManaged (s : Counters) (p : ManagementHeader) (call : Option Asking) (outs : List Out)
+    (s' : Counters) : Type 0 where
+  pub response : Option ℕ
+  pub kept : List Collecting
+  pub managed : IsManaged s.setting.units s.standing.collecting p call response kept
+  pub turned : TurnAnswers (after_collecting kept (after_number p.immediate s)) p response outs s'
+
 -- what an accepted PDU makes of a turn, by its kind
 abbrev pub TurnOnAccepted : Incoming → Counters → Option Asking → List Out → Counters → Type 0
 TurnOnAccepted (pdu b (Initiator (NopOut p)) d) s call outs s' =
     let mid = after_number p.immediate s in
-    TurnAnswered mid (nop_answer (next_numbers mid) s.lengths p d) call outs s'
+    TurnAnswered mid (nop_answer (next_numbers mid) s.setting.start.lengths p d) call outs s'
 TurnOnAccepted (pdu b (Initiator (ScsiCommand p)) d) s call outs s' = TurnOnCommand s p d call outs s'
 TurnOnAccepted (pdu b (Initiator (DataOut x)) d) s call outs s' = TurnOnData s x d call outs s'
+TurnOnAccepted (pdu b (Initiator (TaskManagementRequest p)) d) s call outs s' = TurnManaged s p call outs s'
+TurnOnAccepted (pdu b (Initiator (TextRequest p)) d) s call outs s' =
+    let mid = after_number p.immediate s in
+    TurnAnswered mid (text_outs (next_numbers mid) s.setting p d) call outs s'
 TurnOnAccepted (pdu b (Initiator (LogoutRequest p)) d) s call outs s' =
     let mid = after_number p.immediate s in
     TurnAnswered mid (logout_answer (next_numbers mid) p) call outs s'
@@ -154,5 +175,5 @@ TurnOnVerdict (Refused reason) s came call outs s' =
 -- what a session makes of what came
 pub record TurnOf (s : Counters) (came : Incoming) (t : Turn) (s' : Counters) : Type 0 where
   pub came_is : t.came ≡ came
-  pub judged : IsJudged s.lengths s.standing came t.verdict
+  pub judged : IsJudged s.setting s.standing came t.verdict
   pub made : TurnOnVerdict t.verdict s came t.call t.sent s'

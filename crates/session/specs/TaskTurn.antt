@@ -1,5 +1,5 @@
 -- What a session makes of the task that a turn concerns.
-use Rattle.std.specs.Prelude.{◌≡◌, ◌⊎◌, ℕ, ◌+◌, ◌<◌, ◌≤◌, List, [], ◌∷◌, ◌++◌, length, Option, Some, None, Result, Bool, true, not}
+use Rattle.std.specs.Prelude.{◌≡◌, ◌⊎◌, ℕ, ◌+◌, ◌<◌, ◌≤◌, List, [], ◌∷◌, ◌++◌, length, Option, Some, None, Result, Bool, true, not, ◌&&◌}
 use Rattle.std.specs.List.{list_any}
 use Rattle.scsi_types.specs.Cdb.{Means, need_of}
 use Rattle.scsi_types.specs.Lun.{NamesUnit}
@@ -10,11 +10,12 @@ use Rattle.iscsi_pdu.specs.declared.header.R2t.{R2t as R2tHeader}
 use Rattle.iscsi_pdu.specs.declared.header.DataOut.{DataOut as DataOutHeader}
 use Rattle.iscsi_pdu.specs.declared.header.TaskManagementRequest.{TaskManagementRequest as ManagementHeader}
 use Rattle.iscsi_pdu.specs.declared.header.TargetHeader.TheVariants.{R2t}
-use Rattle.session.specs.Question.{serve}
-use Rattle.session.specs.Turn.{Out, Asking}
+use Rattle.session.specs.declared.target.TargetAnswer.{TargetAnswer}
+use Rattle.session.specs.Asking.{Asking, served}
+use Rattle.session.specs.Turn.{Out}
 use Rattle.session.specs.Transfer.{data_for}
 use Rattle.session.specs.Window.{wrap}
-use Rattle.session.specs.Drops.{drops}
+use Rattle.session.specs.Drops.{drops, found_unit}
 use Rattle.session.specs.Tasks.{Collecting, r2ts_of, is_response, finds_gone}
 use Rattle.session.specs.Collecting.{IsNext, HasToCollect, Continues}
 
@@ -48,9 +49,8 @@ pub record IsCalledNow (p : CommandHeader) (asked : Result Command CdbFault) (by
     (outs : List Out) (new : List Collecting) : Type 0 where
   pub unit : Option ℕ
   pub names : NamesUnit p.lun unit
-  pub asking : Asking
-  pub call_is : call ≡ Some asking
-  pub question : asking.question ≡ serve unit asked (data_for p (need_of asked) bytes)
+  pub answer : TargetAnswer
+  pub call_is : call ≡ Some (served unit asked (data_for p (need_of asked) bytes) answer)
   pub no_r2t : r2ts_of outs ≡ []
   pub ends : (list_any (λ o. is_response o.header) outs ≡ true) ⊎ (finds_gone call ≡ true)
   pub none : new ≡ []
@@ -93,6 +93,6 @@ pub record IsTakenData (burst : ℕ) (cs : List Collecting) (x : DataOutHeader) 
   pub fed : IsFed burst this asked (this.bytes ++ d) (continues.request.offset + continues.request.desired_length) call outs new
   pub after : cs' ≡ front ++ (new ++ back)
 
--- the tasks that a request does not drop
-abbrev pub keeps : ManagementHeader → Collecting → Bool
-keeps x c = not (drops x c.command)
+-- the tasks that a request does not drop, which is answered so
+abbrev pub keeps : ManagementHeader → List Out → Collecting → Bool
+keeps x outs c = not (drops x c.command && found_unit outs)

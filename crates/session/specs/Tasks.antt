@@ -13,9 +13,12 @@ use Rattle.session.specs.declared.target.TargetAnswer.{TargetAnswer}
 use Rattle.session.specs.declared.target.TargetAnswer.TheVariants.{Replied, Outside, Busy, Gone, Halted}
 use Rattle.session.specs.declared.verdict.Verdict.{Verdict}
 use Rattle.session.specs.declared.verdict.Verdict.TheVariants.{Accepted, Full, Ignored, Gap, Refused}
-use Rattle.session.specs.Turn.{Incoming, pdu, Out, Asking, Turn, sent}
+use Rattle.session.specs.declared.target.ResetAnswer.{ResetAnswer}
+use Rattle.session.specs.declared.target.ResetAnswer.TheVariants as resets
+use Rattle.session.specs.Asking.{Asking, served, reset}
+use Rattle.session.specs.Turn.{Incoming, pdu, Out, Turn, sent}
 use Rattle.session.specs.Window.{wrap}
-use Rattle.session.specs.Drops.{drops}
+use Rattle.session.specs.Drops.{drops, found_unit}
 
 -- ---- what of a turn concerns a task
 
@@ -40,14 +43,15 @@ abbrev pub is_management : Incoming → Bool
 is_management (pdu b (Initiator (TaskManagementRequest x)) d) = true
 is_management came = false
 
--- what concerns a command behind its own turn: a Data-Out with its tag, and a request that drops it
-abbrev pub concerns : CommandHeader → Incoming → Bool
-concerns p (pdu b (Initiator (DataOut x)) d) = p.task_tag == x.task_tag
-concerns p (pdu b (Initiator (TaskManagementRequest x)) d) = drops x p
-concerns p came = false
+-- what concerns a command behind its own turn: a Data-Out with its tag, and a request that drops it, of a unit that is
+-- there
+abbrev pub concerns : CommandHeader → Incoming → List Out → Bool
+concerns p (pdu b (Initiator (DataOut x)) d) outs = p.task_tag == x.task_tag
+concerns p (pdu b (Initiator (TaskManagementRequest x)) d) outs = drops x p && found_unit outs
+concerns p came outs = false
 
 abbrev pub touches : CommandHeader → Turn → Bool
-touches p t = is_accepted t.verdict && concerns p t.came
+touches p t = is_accepted t.verdict && concerns p t.came t.sent
 
 -- the R2Ts and SCSI Responses among what went out
 abbrev pub r2t_with : TargetHeader → Option R2tHeader
@@ -72,9 +76,15 @@ is_gone Busy = false
 is_gone Gone = true
 is_gone Halted = false
 
+abbrev pub is_gone_by_reset : ResetAnswer → Bool
+is_gone_by_reset resets.Done = false
+is_gone_by_reset resets.Gone = true
+is_gone_by_reset resets.Failed = false
+
 abbrev pub finds_gone : Option Asking → Bool
 finds_gone None = false
-finds_gone (Some c) = is_gone c.answer
+finds_gone (Some (served unit asked bytes answer)) = is_gone answer
+finds_gone (Some (reset unit answer)) = is_gone_by_reset answer
 
 -- a turn of a task that ends it: its SCSI Response goes out, it is dropped, or the session is gone
 abbrev pub ends : Turn → Bool

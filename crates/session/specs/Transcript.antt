@@ -3,9 +3,8 @@ use Rattle.std.specs.Prelude.{◌≡◌, ℕ, ◌+◌, List, ◌++◌, length, m
 use Rattle.std.specs.Io.KnownBytes.{Appends, Consumes, IsAtEnd}
 use Rattle.session.specs.declared.end.End.{End}
 use Rattle.session.specs.declared.end.End.TheVariants.{EndOfInput, InputFailed, OutputFailed, Protocol, Reinstated, LoggedOut}
-use Rattle.session.specs.declared.session.Start.{Start}
-use Rattle.session.specs.declared.target.TargetAnswer.{TargetAnswer}
-use Rattle.session.specs.Question.{Question}
+use Rattle.session.specs.Asking.{Asking}
+use Rattle.session.specs.Setting.{Setting}
 use Rattle.session.specs.Source.{AppendsFront, Rises}
 use Rattle.session.specs.Turn.{Turn, calls, sent, bytes_of, Spells, Leads}
 use Rattle.session.specs.Legal.{Lawful, EndsBy}
@@ -25,12 +24,12 @@ Written LoggedOut held held' ts = Appends held held' (bytes_of (sent ts))
 
 -- The bytes that were read spell the PDUs of a legal transcript, and a rest behind them; the bytes that were
 -- written spell the PDUs that it sends; its calls lead the target from its state before to that after.
-pub record IsTranscribed {T : Type 0} (leads : T → Question → TargetAnswer → T → Type 0)
-    (start : Start) (left left' held held' : Option (List ℕ)) (target target' : T) (end : End) : Type 0 where
+pub record IsTranscribed {T : Type 0} (leads : T → Asking → T → Type 0) (setting : Setting)
+    (left left' held held' : Option (List ℕ)) (target target' : T) (end : End) : Type 0 where
   pub transcript : List Turn
   pub spelled : List ℕ
   pub rest : List ℕ
-  pub lawful : Lawful start transcript
+  pub lawful : Lawful setting transcript
   pub ends : EndsBy transcript rest (length spelled + length rest) (IsAtEnd left') end
   pub spells : Spells (map (λ t. t.came) transcript) spelled
   pub read : Consumes left left' (spelled ++ rest)

@@ -1,16 +1,13 @@
 -- What passes in a session: a list of turns. A turn is a PDU that came, or a fault, with what it called for.
-use Rattle.std.specs.Prelude.{◌≡◌, ℕ, List, [], ◌∷◌, ◌++◌, take, Option, Some, None}
+use Rattle.std.specs.Prelude.{◌≡◌, ℕ, List, [], ◌∷◌, ◌++◌, take, Option}
 use Rattle.std.specs.List.{filter_map, flat_map}
 use Rattle.iscsi_pdu.specs.Pdu.{IsPdu}
 use Rattle.iscsi_pdu.specs.Spelling.{spelling}
 use Rattle.iscsi_pdu.specs.declared.header.Header.{Header}
-use Rattle.iscsi_pdu.specs.declared.header.Header.TheVariants.{Initiator, Target}
-use Rattle.iscsi_pdu.specs.declared.header.InitiatorHeader.TheVariants.{ScsiCommand}
+use Rattle.iscsi_pdu.specs.declared.header.Header.TheVariants.{Target}
 use Rattle.iscsi_pdu.specs.declared.header.TargetHeader.{TargetHeader}
-use Rattle.iscsi_pdu.specs.declared.header.ScsiCommand.{ScsiCommand as CommandHeader}
 use Rattle.iscsi_pdu.specs.declared.fault.PduFault.{PduFault}
-use Rattle.session.specs.Question.{Question}
-use Rattle.session.specs.declared.target.TargetAnswer.{TargetAnswer}
+use Rattle.session.specs.Asking.{Asking}
 use Rattle.session.specs.declared.verdict.Verdict.{Verdict}
 use Rattle.iscsi_pdu.specs.declared.TheConstants.{BHS_LENGTH}
 
@@ -19,20 +16,10 @@ pub data Incoming : Type 0 where
   pdu : List ℕ → Header → List ℕ → Incoming
   faulty : PduFault → List ℕ → Incoming
 
--- the SCSI Command that a header is of: the one kind of PDU that is served
-abbrev pub command_of : Header → Option CommandHeader
-command_of (Initiator (ScsiCommand p)) = Some p
-command_of h = None
-
 -- a PDU that went out
 pub record Out : Type 0 where
   pub header : TargetHeader
   pub bytes : List ℕ
-
--- what the target was asked, and answered
-pub record Asking : Type 0 where
-  pub question : Question
-  pub answer : TargetAnswer
 
 pub record Turn : Type 0 where
   pub came : Incoming
@@ -65,6 +52,6 @@ Spells (pdu bhs h d ∷ is) bytes = (rest : List ℕ) × Begins bytes bhs h d re
 Spells (faulty f bhs ∷ is) bytes = Spells is bytes
 
 -- the calls, in order, lead the target from one state to another
-abbrev pub Leads : {T : Type 0} → (T → Question → TargetAnswer → T → Type 0) → List Asking → T → T → Type 0
+abbrev pub Leads : {T : Type 0} → (T → Asking → T → Type 0) → List Asking → T → T → Type 0
 Leads leads [] old new = new ≡ old
-Leads {T} leads (c ∷ cs) old new = (mid : T) × leads old c.question c.answer mid × Leads leads cs mid new
+Leads {T} leads (c ∷ cs) old new = (mid : T) × leads old c mid × Leads leads cs mid new

@@ -23,6 +23,8 @@ use Rattle.session.specs.declared.verdict.TheConstants.{PROTOCOL_ERROR, COMMAND_
 use Rattle.session.specs.declared.lengths.Lengths.{Lengths}
 use Rattle.session.specs.Turn.{Incoming, pdu, faulty}
 use Rattle.session.specs.Transfer.{expected_transfer}
+use Rattle.session.specs.Setting.{Setting, discovers}
+use Rattle.session.specs.Text.{is_text_refused}
 use Rattle.session.specs.Window.{ahead}
 use Rattle.session.specs.Tasks.{has_tag}
 use Rattle.session.specs.Collecting.{Continues, is_immediate}
@@ -58,11 +60,11 @@ abbrev pub unless_full : Bool → Verdict → Verdict
 unless_full true Accepted = Full
 unless_full full v = v
 
--- what becomes of a SCSI Command, where these lengths are in force
-abbrev pub verdict_of : Lengths → Standing → CommandHeader → List ℕ → Verdict
-verdict_of l s p d =
+-- what becomes of a SCSI Command, in a session of this kind
+abbrev pub verdict_of : Setting → Standing → CommandHeader → List ℕ → Verdict
+verdict_of m s p d =
     unless_full (p.immediate && list_any is_immediate s.collecting)
-    (window_verdict s p.immediate p.numbers.cmd_sn (is_refused l s p d))
+    (window_verdict s p.immediate p.numbers.cmd_sn (discovers m.kind || is_refused m.start.lengths s p d))
 
 -- What becomes of a Data-Out: where no command with its tag waits for data it is passed over, else it is accepted where
 -- it continues the R2T that is outstanding, and rejected where not.
@@ -72,20 +74,22 @@ IsJudgedData s x d v =
     (λ c. (Continues c x d × (v ≡ Accepted)) ⊎ ((Continues c x d → ⊥) × (v ≡ Refused PROTOCOL_ERROR)))
 
 -- what becomes of a PDU: a kind that is not served, and a PDU of a target, count as an unknown opcode
-abbrev pub IsJudgedPdu : Lengths → Standing → Header → List ℕ → Verdict → Type 0
-IsJudgedPdu l s (Initiator (NopOut p)) d v = v ≡ window_verdict s p.immediate p.numbers.cmd_sn false
-IsJudgedPdu l s (Initiator (ScsiCommand p)) d v = v ≡ verdict_of l s p d
-IsJudgedPdu l s (Initiator (TaskManagementRequest p)) d v = v ≡ Refused COMMAND_NOT_SUPPORTED
-IsJudgedPdu l s (Initiator (LoginRequest p)) d v = v ≡ Refused PROTOCOL_ERROR
-IsJudgedPdu l s (Initiator (TextRequest p)) d v = v ≡ Refused COMMAND_NOT_SUPPORTED
-IsJudgedPdu l s (Initiator (DataOut p)) d v = IsJudgedData s p d v
-IsJudgedPdu l s (Initiator (LogoutRequest p)) d v = v ≡ window_verdict s p.immediate p.numbers.cmd_sn false
-IsJudgedPdu l s (Target p) d v = v ≡ Refused COMMAND_NOT_SUPPORTED
+abbrev pub IsJudgedPdu : Setting → Standing → Header → List ℕ → Verdict → Type 0
+IsJudgedPdu m s (Initiator (NopOut p)) d v = v ≡ window_verdict s p.immediate p.numbers.cmd_sn false
+IsJudgedPdu m s (Initiator (ScsiCommand p)) d v = v ≡ verdict_of m s p d
+IsJudgedPdu m s (Initiator (TaskManagementRequest p)) d v =
+    v ≡ window_verdict s p.immediate p.numbers.cmd_sn (discovers m.kind)
+IsJudgedPdu m s (Initiator (LoginRequest p)) d v = v ≡ Refused PROTOCOL_ERROR
+IsJudgedPdu m s (Initiator (TextRequest p)) d v =
+    v ≡ window_verdict s p.immediate p.numbers.cmd_sn (is_text_refused m p d)
+IsJudgedPdu m s (Initiator (DataOut p)) d v = IsJudgedData s p d v
+IsJudgedPdu m s (Initiator (LogoutRequest p)) d v = v ≡ window_verdict s p.immediate p.numbers.cmd_sn false
+IsJudgedPdu m s (Target p) d v = v ≡ Refused COMMAND_NOT_SUPPORTED
 
 abbrev pub reason_of : PduFault → ℕ
 reason_of UnknownOpcode = COMMAND_NOT_SUPPORTED
 reason_of f = INVALID_PDU_FIELD
 
-abbrev pub IsJudged : Lengths → Standing → Incoming → Verdict → Type 0
-IsJudged l s (pdu b h d) v = IsJudgedPdu l s h d v
-IsJudged l s (faulty f b) v = v ≡ Refused (reason_of f)
+abbrev pub IsJudged : Setting → Standing → Incoming → Verdict → Type 0
+IsJudged m s (pdu b h d) v = IsJudgedPdu m s h d v
+IsJudged m s (faulty f b) v = v ≡ Refused (reason_of f)

@@ -3,7 +3,9 @@ ghost use Rattle.session.specs.Machine.{call_data};
 
 use crate::end::End;
 use crate::lengths::Lengths;
-use iscsi_pdu::{DataIn, Numbers, R2t, Reject, ScsiCommand, ScsiResponse, TargetHeader};
+use iscsi_pdu::{
+    DataIn, Numbers, R2t, Reject, ScsiCommand, ScsiResponse, TargetHeader, TaskManagementRequest,
+};
 use scsi_types::{Asked, Sense};
 
 /// What a PDU or an answer calls for: PDUs to write, then perhaps a call of the target, then perhaps the end.
@@ -11,7 +13,7 @@ use scsi_types::{Asked, Sense};
 pub struct Actions<'a> {
     /// PDUs to write first.
     pub pdus: Pdus<'a>,
-    /// A command for the target, whose answer goes to [`Session::on_answer`](crate::Session::on_answer).
+    /// What the target is asked.
     pub call: Option<Call<'a>>,
     /// Nothing is read any more once these PDUs are written.
     pub end: Option<End>,
@@ -62,9 +64,25 @@ pub struct DataInPdu<'a> {
     pub bytes: &'a [u8],
 }
 
+/// What the target is asked.
+#[derive(Debug, Drop)]
+pub enum Call<'a> {
+    /// To serve a command; the answer goes to [`Session::on_answer`](crate::Session::on_answer).
+    Serve(ServeCall<'a>),
+    /// To reset a unit; the answer goes to [`Session::on_reset`](crate::Session::on_reset).
+    Reset(ResetCall),
+}
+
+/// A unit that is there and that the target is to reset, and the request for it.
+#[derive(Clone, Copy, Debug)]
+pub struct ResetCall {
+    pub request: TaskManagementRequest,
+    pub unit: u8,
+}
+
 /// A command that the target is to serve, as [`Target::serve`](crate::Target::serve) takes it.
 #[derive(Debug, Drop)]
-pub struct Call<'a> {
+pub struct ServeCall<'a> {
     /// What the answer is given back with.
     pub task: OpenTask,
     /// The unit that the LUN names, if it names one (SAM-5, 4.7).

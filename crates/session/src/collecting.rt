@@ -1,14 +1,17 @@
 //! The commands that wait for their data (RFC 7143, 11.7 and 11.8).
-ghost use Rattle.std.specs.Prelude.{◌≡◌, ◌<◌, ◌≤◌, ◌+◌, ◌++◌, ℕ, ◌∷◌, ◌↔◌, List, [], length, take, drop, nat_le, nat_lt, false, IsTrue, IfOk, IfSome, MatchOption, Result, Some, None};
+ghost use Rattle.std.specs.Prelude.{◌≡◌, ◌<◌, ◌≤◌, ◌+◌, ◌++◌, ℕ, ◌∷◌, ◌↔◌, List, [], length, take, drop, nat_le, nat_lt, not, false, IsTrue, IfOk, IfSome, MatchOption, Result, Some, None};
 ghost use Rattle.scsi_types.specs.Cdb.{Means, need_of};
 ghost use Rattle.scsi_types.specs.declared.command.Command.{Command};
 ghost use Rattle.scsi_types.specs.declared.command.CdbFault.{CdbFault};
-ghost use Rattle.std.specs.List.{list_any, count_by, find};
+ghost use Rattle.std.specs.List.{list_any, count_by, filter, find};
 ghost use Rattle.session.specs.Tasks.{Collecting, has_tag};
+ghost use Rattle.session.specs.Drops.{drops};
+ghost use Rattle.session.specs.TaskManagement.{drops_one};
 ghost use Rattle.session.specs.Collecting.{Continues, HasToCollect, is_immediate, shrinks_window};
 ghost use Rattle.session.specs.Slots.{StandsAt, IsRemoved, IsAskedBy, IsFinished, NeedIs, begun, fed, asked_on, r2t_for};
 
-use iscsi_pdu::{DataOut, Numbers, R2t, ScsiCommand};
+use crate::task_management::drops;
+use iscsi_pdu::{DataOut, Numbers, R2t, ScsiCommand, TaskManagementRequest};
 use scsi_types::{Asked, NoMemory};
 use std::alloc::Global;
 use std::marker::Model;
@@ -271,6 +274,16 @@ impl WaitingCommands {
             }
         }
         None
+    }
+
+    /// Drops those that a request for task management drops: whether there are any.
+    pub fn drop_by(&mut self, request: &TaskManagementRequest) -> bool
+        ensures any { result ≡ drops_one request.now self.old }
+        ensures kept { self.new ≡ filter (λ c. not (drops request.now c.command)) self.old }
+    {
+        let any = self.slots.iter().any(|slot| drops(request, &slot.command));
+        self.slots.retain(|slot| !drops(request, &slot.command));
+        any
     }
 
     /// One more, behind the others.

@@ -18,25 +18,33 @@ mod actions;
 mod collecting;
 mod data_in;
 mod end;
+mod identity;
 mod inbox;
 mod laws;
 mod lengths;
 mod logout;
 mod nop;
 mod outbox;
+mod requests;
 mod response;
 mod session;
 mod source;
 mod stream;
 mod target;
+mod task_management;
+mod text;
 mod transfer;
 mod verdict;
 mod waiting;
 mod watched;
 mod window;
 
-pub use actions::{Actions, Call, CommandData, DataInPdu, DataIns, OpenTask, Pdus, ResponsePdu};
+pub use actions::{
+    Actions, Call, CommandData, DataInPdu, DataIns, OpenTask, Pdus, ResetCall, ResponsePdu,
+    ServeCall,
+};
 pub use end::End;
+pub use identity::Identity;
 pub use laws::{
     a_read_gets_the_data_of_its_answer, no_command_is_answered_twice,
     status_numbers_are_consecutive, the_window_never_falls,
@@ -45,6 +53,7 @@ pub use lengths::Lengths;
 pub use session::{Session, Start};
 pub use source::{Failed, Sink, Source};
 pub use stream::serve_stream;
-pub use target::{Target, TargetAnswer};
+pub use target::{ResetAnswer, Target, TargetAnswer};
+pub use text::MadeText;
 pub use verdict::Verdict;
 pub use watched::Watched;

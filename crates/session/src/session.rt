@@ -1,37 +1,44 @@
 //! A session without bytes: what it makes of PDUs and of answers.
-ghost use Rattle.std.specs.Prelude.{◌≡◌, ℕ, List, ◌≤◌, Some, None, length, IfOk, IfSome, MatchOption};
+ghost use Rattle.std.specs.Prelude.{◌≡◌, ℕ, List, ◌≤◌, Some, None, length, vec_capacity, IfOk, IfSome, MatchOption};
 ghost use Rattle.scsi_types.specs.Cdb.{need_of};
 ghost use Rattle.iscsi_pdu.specs.declared.TheConstants.{MAX_DATA_SEGMENT_LENGTH};
+ghost use Rattle.session.specs.declared.text.MadeText.{MadeText};
 ghost use Rattle.session.specs.declared.verdict.Verdict.TheVariants.{Accepted, Full};
+ghost use Rattle.session.specs.Setting.{setting_of, discovers};
+ghost use Rattle.session.specs.Text.{IsMadeOf, IsMade};
 ghost use Rattle.session.specs.Transfer.{data_for};
 ghost use Rattle.session.specs.Collecting.{HasToCollect};
 ghost use Rattle.session.specs.Slots.{IsAskedBy};
+ghost use Rattle.session.specs.Tasks.{Collecting};
 ghost use Rattle.session.specs.Standing.{window_of};
-ghost use Rattle.session.specs.Counters.{Counters, begun, after_number, next_numbers};
+ghost use Rattle.session.specs.Counters.{Counters, begun, after_number, after_collecting, next_numbers};
+ghost use Rattle.session.specs.TaskManagement.{IsManagement};
 ghost use Rattle.session.specs.Verdict.{reason_of, window_verdict};
 ghost use Rattle.session.specs.AnswerPdus.{AreInReach, reply_with};
-ghost use Rattle.session.specs.Machine.{OnPdu, OnCommand, OnNopOut, OnLogout, OnUnaccepted, OnRefusal, OnAnswer};
+ghost use Rattle.session.specs.Machine.{OnPdu, OnCommand, OnUnaccepted, OnRefusal, OnAnswer};
 ghost use Rattle.session.specs.Machine.{Sends, Answers, IsSilent, Calls, OnAccepted, OnFull, OnData};
 ghost use Rattle.session.specs.Machine.{out_of, call_data, r2t_with_for, BeginsToWait, CanTake};
 
-use crate::actions::{Actions, Call, CommandData, DataIns, OpenTask, Pdus, ResponsePdu};
+use crate::actions::{Actions, Call, CommandData, DataIns, OpenTask, Pdus, ResponsePdu, ServeCall};
 use crate::collecting::{R2tWith, WaitingCommand, WaitingCommands};
 use crate::data_in::count;
 use crate::end::End;
+use crate::identity::Identity;
 use crate::lengths::Lengths;
-use crate::logout::{logout_end, logout_response};
-use crate::nop::nop_in;
 use crate::response::{COMPLETED, Completion, TARGET_FAILURE, scsi_response};
 use crate::target::TargetAnswer;
+use crate::task_management::{Management, management_for};
+use crate::text::{LONGEST_TEXT, MadeText, discovers};
 use crate::transfer::{command_data, has_to_collect, returned_data};
 use crate::verdict::{
     COMMAND_NOT_SUPPORTED, PROTOCOL_ERROR, Verdict, command_verdict, reject_reason, window_verdict,
 };
 use crate::window::{WINDOW, Window, next_exp_cmd_sn, next_transfer_tag, target_numbers};
 use iscsi_pdu::{
-    DataOut, Header, InitiatorHeader, LogoutRequest, NopOut, Numbers, Pdu, PduFault, R2t, Reject,
-    ScsiCommand,
+    DataOut, Header, InitiatorHeader, Numbers, Pdu, PduFault, R2t, Reject, ScsiCommand,
+    TaskManagementRequest,
 };
+use login::{Kind, TextAnswer, answer_within, target_text};
 use scsi_types::{Asked, Lun, NoMemory, Status, decode, need};
 use std::alloc::Global;
 use std::marker::Model;
@@ -52,10 +59,16 @@ pub struct Start {
 pub struct Session {
     alloc: Global,
     stat_sn: u32,
-    lengths: Lengths,
     exp_cmd_sn: u32,
     waiting: WaitingCommands,
     transfer_tag: u32,
+    // How many units the target has.
+    units: u16,
+    kind: Kind,
+    target_name: Vec<u8>,
+    // What the target tells of itself.
+    told: Vec<u8>,
+    start: Start,
 }
 
 impl Model for Session {
@@ -64,99 +77,127 @@ impl Model for Session {
     ghost Value = { Counters };
 
     ghost view = { λ s. record {
+        setting = record {
+            units = s.units;
+            kind = s.kind;
+            target_name = s.target_name.items;
+            told = s.told.items;
+            start = s.start;
+        };
         stat_sn = s.stat_sn;
-        lengths = s.lengths;
         standing = record { exp_cmd_sn = s.exp_cmd_sn; collecting = s.waiting; transfer_tag = s.transfer_tag };
     } };
 }
 
 impl Session {
-    /// A session that begins so. Takes the memory for the commands that wait for their data; later only the data itself
-    /// takes memory.
-    pub fn new(alloc: Global, start: Start) -> Result<Session, NoMemory>
-        ensures { IfOk result (λ s. s ≡ begun start) }
+    /// A session that begins so, with a target of this identity that has so many units. Takes the memory for the commands
+    /// that wait for their data; later only the data itself takes memory.
+    pub fn new(
+        alloc: Global,
+        start: Start,
+        units: u16,
+        me: &Identity<'_>,
+    ) -> Result<Session, NoMemory>
+        ensures { IfOk result (λ s. s ≡ begun (setting_of units me.now start)) }
     {
         Ok(Session {
             alloc,
             stat_sn: start.stat_sn,
-            lengths: start.lengths,
             exp_cmd_sn: start.exp_cmd_sn,
             waiting: WaitingCommands::new(alloc)?,
             transfer_tag: 0,
+            units,
+            kind: me.kind,
+            target_name: me.target_name.to_vec(alloc)?,
+            told: target_text(alloc, me.target_name, me.first, me.second)?,
+            start,
         })
     }
 
+    /// Answers the text of a PDU, where it is a Text Request, in memory with room for the longest answer: whether it has
+    /// one that the initiator takes.
+    pub fn make_text(&self, room: &mut Vec<u8>, pdu: &Pdu<'_>) -> bool
+        requires room { LONGEST_TEXT ≤ vec_capacity room.old }
+        ensures made { (text : MadeText) → text.answered ≡ result → text.bytes.now ≡ room.new.items
+            → IsMade self.now.setting pdu.now.header pdu.now.data.now text }
+        ensures kept { LONGEST_TEXT ≤ vec_capacity room.new }
+    {
+        match pdu.header {
+            Header::Initiator(InitiatorHeader::TextRequest(_)) => self.answer_in(room, pdu.data),
+            _ => false,
+        }
+    }
+
+    // Answers a text, where it has an answer that the initiator takes.
+    fn answer_in(&self, room: &mut Vec<u8>, bytes: &[u8]) -> bool
+        requires room { LONGEST_TEXT ≤ vec_capacity room.old }
+        ensures made { IsMadeOf result self.now.setting bytes.now room.new.items }
+        ensures kept { LONGEST_TEXT ≤ vec_capacity room.new }
+    {
+        let most = self.start.lengths.data_segment.min(LONGEST_TEXT) as usize;
+        match answer_within(room, most, &self.target_name, self.kind, &self.told, bytes) {
+            TextAnswer::Answered => true,
+            TextAnswer::Fault => false,
+            TextAnswer::TooLong => false,
+        }
+    }
+
     /// What a PDU calls for: the window first, then the causes of a Reject (RFC 7143, 4.2.2.1 and 7.3). A command
-    /// that is accepted is to be called. A PDU of a kind that is not served is rejected.
-    pub fn on_pdu<'a>(&mut self, pdu: Pdu<'a>) -> Actions<'a>
+    /// that is accepted is to be called. A PDU of a kind that is not served is rejected. `text` is what
+    /// [`make_text`](Session::make_text) made of the PDU.
+    pub fn on_pdu<'a>(&mut self, pdu: Pdu<'a>, text: MadeText<'a>) -> Actions<'a>
+        requires made { IsMade self.old.setting pdu.header pdu.data.now text }
         ensures on { OnPdu self.old pdu.entry.header pdu.entry.data.now result self.new }
         ensures within { AreInReach result.pdus }
     {
         match pdu.header {
-            Header::Initiator(header) => self.on_initiator(header, pdu.data),
+            Header::Initiator(header) => self.on_initiator(header, pdu.data, text),
             Header::Target(_) => self.reject(COMMAND_NOT_SUPPORTED),
         }
     }
 
     // What an initiator's PDU calls for.
-    fn on_initiator<'a>(&mut self, header: InitiatorHeader, bytes: &'a [u8]) -> Actions<'a>
+    fn on_initiator<'a>(
+        &mut self,
+        header: InitiatorHeader,
+        bytes: &'a [u8],
+        text: MadeText<'a>,
+    ) -> Actions<'a>
+        requires made { IsMade self.old.setting (Header.Initiator header) bytes.now text }
         ensures on { OnPdu self.old (Header.Initiator header) bytes.now result self.new }
         ensures within { AreInReach result.pdus }
     {
         match header {
             InitiatorHeader::NopOut(request) => self.on_nop_out(request, bytes),
             InitiatorHeader::ScsiCommand(command) => self.on_command(command, bytes),
-            InitiatorHeader::TaskManagementRequest(_) => self.reject(COMMAND_NOT_SUPPORTED),
+            InitiatorHeader::TaskManagementRequest(request) => self.on_task_management(request),
             InitiatorHeader::LoginRequest(_) => self.reject(PROTOCOL_ERROR),
-            InitiatorHeader::TextRequest(_) => self.reject(COMMAND_NOT_SUPPORTED),
+            InitiatorHeader::TextRequest(request) => self.on_text(request, bytes, text),
             InitiatorHeader::DataOut(header) => self.on_data_out(header, bytes),
             InitiatorHeader::LogoutRequest(request) => self.on_logout(request),
         }
     }
 
-    // What a NOP-Out calls for.
-    fn on_nop_out<'a>(&mut self, request: NopOut, bytes: &'a [u8]) -> Actions<'a>
-        ensures on { OnPdu self.old (Header.Initiator (InitiatorHeader.NopOut request)) bytes.now result self.new }
-        ensures within { AreInReach result.pdus }
+    /// The lengths in force.
+    pub(crate) fn lengths(&self) -> Lengths
+        ensures { result ≡ self.now.setting.start.lengths }
     {
-        let verdict = self.verdict(request.immediate, request.numbers.cmd_sn, false);
-        match self.turned_away(verdict) {
-            Some(actions) => actions,
-            None => self.answer_nop_out(request, bytes),
-        }
+        self.start.lengths
     }
 
-    // An accepted NOP-Out.
-    fn answer_nop_out<'a>(&mut self, request: NopOut, bytes: &'a [u8]) -> Actions<'a>
-        ensures on { OnNopOut self.old request bytes.now result self.new }
-        ensures within { AreInReach result.pdus }
+    /// Whether it is a discovery session.
+    pub(crate) fn discovers(&self) -> bool
+        ensures { result ≡ discovers self.now.setting.kind }
     {
-        self.accept(request.immediate);
-        let pdu = nop_in(self.next_numbers(), self.lengths, &request, bytes);
-        self.answer(pdu, None)
+        discovers(self.kind)
     }
 
-    // What a Logout Request calls for.
-    fn on_logout<'a>(&mut self, request: LogoutRequest) -> Actions<'a>
-        ensures on { (d : List ℕ)
-            → OnPdu self.old (Header.Initiator (InitiatorHeader.LogoutRequest request)) d result self.new }
-        ensures within { AreInReach result.pdus }
+    /// What a request for task management comes to. The commands that it drops wait for their data no more.
+    pub(crate) fn drop_tasks(&mut self, request: &TaskManagementRequest) -> Management
+        ensures { (kept : List Collecting) × IsManagement self.old.setting.units self.old.standing.collecting request.now result kept
+            × (self.new ≡ after_collecting kept self.old) }
     {
-        let verdict = self.verdict(request.immediate, request.numbers.cmd_sn, false);
-        match self.turned_away(verdict) {
-            Some(actions) => actions,
-            None => self.answer_logout(request),
-        }
-    }
-
-    // An accepted logout.
-    fn answer_logout<'a>(&mut self, request: LogoutRequest) -> Actions<'a>
-        ensures on { OnLogout self.old request result self.new }
-        ensures within { AreInReach result.pdus }
-    {
-        self.accept(request.immediate);
-        let pdu = logout_response(self.next_numbers(), &request);
-        self.answer(Some(pdu), logout_end(&request))
+        management_for(request, self.units, &mut self.waiting)
     }
 
     // The command window.
@@ -169,15 +210,15 @@ impl Session {
         }
     }
 
-    // What becomes of a PDU with this I bit and CmdSN, which is rejected in its turn if there is a cause.
-    fn verdict(&self, immediate: bool, cmd_sn: u32, refused: bool) -> Verdict
+    /// What becomes of a PDU with this I bit and CmdSN, which is rejected in its turn if there is a cause.
+    pub(crate) fn verdict(&self, immediate: bool, cmd_sn: u32, refused: bool) -> Verdict
         ensures { result ≡ window_verdict self.now.standing immediate cmd_sn refused }
     {
         window_verdict(self.window(), immediate, cmd_sn, refused)
     }
 
-    // What a verdict calls for that does not accept its PDU.
-    fn turned_away<'a>(&mut self, verdict: Verdict) -> Option<Actions<'a>>
+    /// What a verdict calls for that does not accept its PDU.
+    pub(crate) fn turned_away<'a>(&mut self, verdict: Verdict) -> Option<Actions<'a>>
         requires { verdict ≡ Full → ⊥ }
         ensures away { MatchOption result ((verdict ≡ Accepted) × (self.new ≡ self.old))
             (λ a. OnUnaccepted verdict self.old a self.new) }
@@ -196,15 +237,19 @@ impl Session {
         }
     }
 
-    // The numbers of the next PDU that uses up a StatSN.
-    fn next_numbers(&self) -> Numbers
+    /// The numbers of the next PDU that uses up a StatSN.
+    pub(crate) fn next_numbers(&self) -> Numbers
         ensures { result ≡ next_numbers self.now }
     {
         target_numbers(self.stat_sn, self.exp_cmd_sn, self.waiting.numbered())
     }
 
-    // The answer to a request, if it asks for one, which uses up a StatSN.
-    fn answer<'a>(&mut self, pdu: Option<ResponsePdu<'a>>, end: Option<End>) -> Actions<'a>
+    /// The answer to a request, if it asks for one, which uses up a StatSN.
+    pub(crate) fn answer<'a>(
+        &mut self,
+        pdu: Option<ResponsePdu<'a>>,
+        end: Option<End>,
+    ) -> Actions<'a>
         requires { IfSome pdu (λ x. length x.bytes.now ≤ MAX_DATA_SEGMENT_LENGTH) }
         ensures on { Answers self.old (out_of pdu.entry) end result self.new }
         ensures within { AreInReach result.pdus }
@@ -229,7 +274,8 @@ impl Session {
         ensures within { AreInReach result.pdus }
     {
         let verdict = command_verdict(
-            self.lengths,
+            self.kind,
+            self.start.lengths,
             self.window(),
             &self.waiting,
             &command,
@@ -316,7 +362,7 @@ impl Session {
         R2tWith {
             numbers: target_numbers(self.stat_sn, self.exp_cmd_sn, waiting),
             transfer_tag: self.transfer_tag,
-            burst: self.lengths.burst,
+            burst: self.start.lengths.burst,
         }
     }
 
@@ -366,8 +412,8 @@ impl Session {
         }
     }
 
-    // Takes the number of a PDU with this I bit, unless it is immediate.
-    fn accept(&mut self, immediate: bool)
+    /// Takes the number of a PDU with this I bit, unless it is immediate.
+    pub(crate) fn accept(&mut self, immediate: bool)
         ensures { self.new ≡ after_number immediate self.old }
     {
         self.exp_cmd_sn = next_exp_cmd_sn(self.exp_cmd_sn, immediate);
@@ -435,7 +481,7 @@ impl Session {
         let data_ins = DataIns {
             task_tag: task.command.task_tag,
             numbers: target_numbers(0, self.exp_cmd_sn, self.waiting.numbered()),
-            lengths: self.lengths,
+            lengths: self.start.lengths,
             bytes: returned_data(&task.command, bytes),
         };
         let numbers = self.next_numbers();
@@ -480,12 +526,12 @@ fn call<'a>(
 {
     Actions {
         pdus: Pdus::Nothing,
-        call: Some(Call {
+        call: Some(Call::Serve(ServeCall {
             task: OpenTask { command, need },
             unit: Lun::parse(&command.lun),
             asked,
             bytes,
-        }),
+        })),
         end: None,
     }
 }

@@ -1,19 +1,23 @@
-ghost use Rattle.std.specs.Prelude.{◌≡◌, ◌<◌, ◌≤◌, [], length, Some, IfOk, OnErr};
+ghost use Rattle.std.specs.Prelude.{◌≡◌, ◌<◌, ◌≤◌, [], length, vec_capacity, Some, IfOk, OnErr};
 ghost use Rattle.std.specs.Io.KnownBytes.{Keeps};
 ghost use Rattle.session.specs.declared.end.End.TheVariants.{InputFailed, OutputFailed, Protocol};
 ghost use Rattle.session.specs.Source.{Counted};
 ghost use Rattle.session.specs.Inbox.{Filled};
 ghost use Rattle.session.specs.Outbox.{IsClosedAs};
 ghost use Rattle.session.specs.Turn.{pdu as came, faulty};
+ghost use Rattle.session.specs.Setting.{setting_of};
 ghost use Rattle.session.specs.Stream.{MakesTurn};
 ghost use Rattle.session.specs.Transcript.{IsTranscribed, IsFailureOf};
 
+use crate::actions::Call;
 use crate::end::End;
+use crate::identity::Identity;
 use crate::inbox::{INBOX_CAPACITY, Inbox};
 use crate::outbox::Outbox;
 use crate::session::{Session, Start};
 use crate::source::{Failed, Sink, Source};
 use crate::target::Target;
+use crate::text::{LONGEST_TEXT, MadeText};
 use crate::waiting::{Front, front_of};
 use iscsi_pdu::{BHS_LENGTH, LONGEST_PDU, Pdu, PduFault};
 use scsi_types::NoMemory;
@@ -25,26 +29,42 @@ fn turn<K: Sink, T: Target>(
     target: &mut T,
     sink: &mut K,
     outbox: &mut Outbox,
+    room: &mut Vec<u8>,
     bhs: &[u8],
     pdu: Pdu<'_>,
 ) -> Option<End>
+    requires room { LONGEST_TEXT ≤ vec_capacity room.old }
     requires bhs { length bhs.now ≡ BHS_LENGTH }
-    ensures { MakesTurn T.leads session.old session.new target.old target.new (K.held sink.old) (K.held sink.new)
+    ensures kept { LONGEST_TEXT ≤ vec_capacity room.new }
+    ensures turn { MakesTurn T.leads session.old session.new target.old target.new (K.held sink.old) (K.held sink.new)
         (K.failures sink.old) (K.failures sink.new) outbox.old outbox.new
         (came bhs.now pdu.entry.header pdu.entry.data.now) result }
 {
-    let actions = session.on_pdu(pdu);
+    let answered = session.make_text(room, &pdu);
+    let text = MadeText {
+        answered,
+        bytes: room.as_slice(),
+    };
+    let actions = session.on_pdu(pdu, text);
     match &actions.call {
         None => {
             outbox.fill(sink, bhs, &actions.pdus);
             actions.end
         }
-        Some(call) => {
-            let answer = target.serve(call.unit, call.asked, call.bytes.bytes());
-            let answered = session.on_answer(call.task, &answer);
-            outbox.fill(sink, bhs, &answered.pdus);
-            answered.end
-        }
+        Some(call) => match call {
+            Call::Serve(call) => {
+                let answer = target.serve(call.unit, call.asked, call.bytes.bytes());
+                let answered = session.on_answer(call.task, &answer);
+                outbox.fill(sink, bhs, &answered.pdus);
+                answered.end
+            }
+            Call::Reset(call) => {
+                let answer = target.reset(call.unit);
+                let answered = session.on_reset(call.request, answer);
+                outbox.fill(sink, bhs, &answered.pdus);
+                answered.end
+            }
+        },
     }
 }
 
@@ -100,8 +120,9 @@ pub fn serve_stream<S: Source, K: Sink, T: Target>(
     sink: &mut K,
     target: &mut T,
     start: Start,
+    me: &Identity<'_>,
 ) -> Result<End, NoMemory>
-    ensures transcribed { IfOk result (IsTranscribed T.leads start
+    ensures transcribed { IfOk result (IsTranscribed T.leads (setting_of (T.unit_count target.old) me.now start)
         (S.left source.old) (S.left source.new) (K.held sink.old) (K.held sink.new) target.old target.new) }
     ensures input_failed { IfOk result (IsFailureOf InputFailed (S.failures source.old) (S.failures source.new)) }
     ensures output_failed { IfOk result (IsFailureOf OutputFailed (K.failures sink.old) (K.failures sink.new)) }
@@ -109,12 +130,13 @@ pub fn serve_stream<S: Source, K: Sink, T: Target>(
 {
     let mut inbox = Inbox::new(alloc)?;
     let mut outbox = Outbox::new(alloc)?;
-    let mut session = Session::new(alloc, start)?;
+    let mut session = Session::new(alloc, start, target.units(), me)?;
+    let mut room = Vec::with_capacity(alloc, LONGEST_TEXT as usize)?;
     let mut reads: u64 = 0;
     while reads < u64::MAX {
         match front_of(inbox.bytes()) {
             Front::Whole { bhs, pdu, taken } => {
-                match turn(&mut session, target, sink, &mut outbox, bhs, pdu) {
+                match turn(&mut session, target, sink, &mut outbox, &mut room, bhs, pdu) {
                     Some(end) => return Ok(finish(sink, &mut outbox, end)),
                     None => inbox.consume(taken),
                 }

@@ -1,5 +1,5 @@
-ghost use Rattle.session.specs.Question.{Question, serve};
-ghost use Rattle.session.specs.declared.target.TargetAnswer.{TargetAnswer};
+ghost use Rattle.std.specs.Prelude.{◌≡◌, ℕ};
+ghost use Rattle.session.specs.Asking.{Asking, served, reset};
 
 use scsi_types::{Asked, Reply};
 
@@ -18,13 +18,35 @@ pub enum TargetAnswer {
     Halted,
 }
 
+/// What a target answers to a LOGICAL UNIT RESET (SAM-5, 7.7).
+#[derive(Clone, Copy, Debug, PartialEq, Eq)]
+pub enum ResetAnswer {
+    /// The unit is reset.
+    Done,
+    /// The session is attached no more: nothing happened.
+    Gone,
+    /// The unit could not be reset: nothing happened.
+    Failed,
+}
+
 /// What a session's commands are served by.
 pub trait Target {
-    /// From the first state this question may get this answer and lead to the second.
-    ghost leads: { Self → Question → TargetAnswer → Self → Type 0 };
+    /// From the first state this may be asked, with this answer, and lead to the second.
+    ghost leads: { Self → Asking → Self → Type 0 };
+
+    /// How many units there are.
+    ghost unit_count: { Self → ℕ };
+
+    /// How many units there are, from unit 0 on: a session asks once, before anything else.
+    fn units(&self) -> u16
+        ensures { result ≡ unit_count self.now };
 
     /// Serves a command of the unit that its LUN names, with the bytes that came for it: of a write as many as it
     /// needs and the initiator expects to send, else none. `unit` is none where the LUN names no unit.
     fn serve(&mut self, unit: Option<u8>, asked: Asked, bytes: &[u8]) -> TargetAnswer
-        ensures { leads self.old (serve unit asked bytes.now) result self.new };
+        ensures { leads self.old (served unit asked bytes.now result) self.new };
+
+    /// Resets a unit: its other sessions are told so (SAM-5, 7.7).
+    fn reset(&mut self, unit: u8) -> ResetAnswer
+        ensures { leads self.old (reset unit result) self.new };
 }

@@ -1,13 +1,16 @@
 //! What becomes of a PDU that comes (RFC 7143, 4.2.2.1, 7.3 and 11.17).
 ghost use Rattle.std.specs.Prelude.{◌≡◌};
+ghost use Rattle.session.specs.Setting.{Setting};
 ghost use Rattle.session.specs.Standing.{Standing, window_of};
 ghost use Rattle.session.specs.Verdict.{window_verdict, verdict_of, is_refused, most_immediate, reason_of};
 
 use crate::collecting::WaitingCommands;
 use crate::lengths::Lengths;
+use crate::text::discovers;
 use crate::transfer::expected_data_length;
 use crate::window::Window;
 use iscsi_pdu::{PduFault, ScsiCommand};
+use login::Kind;
 
 /// What becomes of a PDU that comes.
 #[derive(Clone, Copy, Debug, PartialEq, Eq)]
@@ -33,18 +36,20 @@ pub const COMMAND_NOT_SUPPORTED: u8 = 0x05;
 
 pub const INVALID_PDU_FIELD: u8 = 0x09;
 
-/// What becomes of a SCSI Command, where these lengths are in force and this stands behind what came.
+/// What becomes of a SCSI Command in a session of this kind, where these lengths are in force and this stands behind what
+/// came.
 pub fn command_verdict(
+    kind: Kind,
     lengths: Lengths,
     window: Window,
     waiting: &WaitingCommands,
     command: &ScsiCommand,
     bytes: &[u8],
 ) -> Verdict
-    ensures { (s : Standing) → window ≡ window_of s → s.collecting ≡ waiting.now
-        → result ≡ verdict_of lengths s command.now bytes.now }
+    ensures { (m : Setting) (s : Standing) → m.kind ≡ kind → m.start.lengths ≡ lengths → window ≡ window_of s
+        → s.collecting ≡ waiting.now → result ≡ verdict_of m s command.now bytes.now }
 {
-    let refused = has_cause_of_reject(lengths, waiting, command, bytes);
+    let refused = discovers(kind) || has_cause_of_reject(lengths, waiting, command, bytes);
     let verdict = window_verdict(window, command.immediate, command.numbers.cmd_sn, refused);
     if verdict == Verdict::Accepted && command.immediate && waiting.has_immediate() {
         Verdict::Full

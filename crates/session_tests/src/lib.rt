@@ -4,9 +4,9 @@
 #[cfg(test)]
 mod answers;
 #[cfg(test)]
-mod batches;
+mod logout;
 #[cfg(test)]
-mod reads;
+mod nop;
 #[cfg(test)]
 mod rejects;
 #[cfg(test)]
@@ -14,8 +14,10 @@ mod residuals;
 #[cfg(test)]
 mod run;
 #[cfg(test)]
-mod runs;
-#[cfg(test)]
 mod streams;
+#[cfg(test)]
+mod task_management;
+#[cfg(test)]
+mod text;
 #[cfg(test)]
 mod window;

@@ -22,16 +22,16 @@ const ROWS: &[Row] = &[
         ..PLAIN
     },
     Row {
-        name: "a NOP-Out, which is not served",
+        name: "a Login request, behind the login",
         input: &[
-            PduRow(&TEST_UNIT_READY, &[(0, &[0x40, 0x80])], Segment::None),
+            PduRow(&TEST_UNIT_READY, &[(0, &[0x43, 0x87])], Segment::None),
             PduRow(&TEST_UNIT_READY, &[], Segment::None),
         ],
         asked: &[],
         output: &[PduRow(
             &REJECT,
-            &[(2, &[5])],
-            Segment::Rejected(&TEST_UNIT_READY, &[(0, &[0x40, 0x80])]),
+            &[(2, &[4])],
+            Segment::Rejected(&TEST_UNIT_READY, &[(0, &[0x43, 0x87])]),
         )],
         end: End::Protocol,
         ..PLAIN

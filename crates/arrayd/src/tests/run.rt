@@ -1,7 +1,9 @@
 //! The runner of the tables.
 use crate::once::once;
+use crate::{TARGET_NAME, portal};
 use block_file::{Blocks, DeviceFailed, FusedBlocks, MemBlocks};
-use session::{End, Watched};
+use login::Kind;
+use session::{End, Identity, Watched};
 use std::alloc::Global;
 use std::process::Abort;
 use std::test::Fail;
@@ -90,7 +92,13 @@ pub fn serve(
     };
     let mut source = Watched::new(FakeReader::new(input, reads));
     let mut sink = Watched::new(FakeWriter::new(alloc, WHOLE));
-    let (end, device) = once(alloc, &mut source, &mut sink, fused)?;
+    let me = Identity {
+        kind: Kind::Normal,
+        target_name: TARGET_NAME,
+        first: &portal(3260),
+        second: &portal(3264),
+    };
+    let (end, device) = once(alloc, &mut source, &mut sink, fused, &me)?;
     let kept = keeps(&mut device.into_inner(), count, row.written);
     Ok((end, sink.into_inner().into_bytes(), kept))
 }

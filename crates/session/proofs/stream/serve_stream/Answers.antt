@@ -1,24 +1,33 @@
-use Rattle.std.proofs.Common.{◌∙◌, ℕ, List, arith, rules, subst, sym}
+use Rattle.session.specs.Counters.{begun}
+use Rattle.session.specs.Setting.{setting_of}
+use Rattle.std.proofs.Common.{◌≡◌, ◌∙◌, ℕ, List, arith, rules, subst, sym}
 use Rattle.session.specs.Front.{IsWhole, IsFaulty}
 use Rattle.session.specs.Legal.{NoneWhole}
-use Rattle.session.proofs.Running.{starts, pdu_goes_on, pdu_ends, fault_ends, sink_failed, flushed, more_came, input_ended}
+use Rattle.session.proofs.Running.{starts, pdu_goes_on, pdu_ends, pdu_ends_not_by_input, fault_ends, sink_failed, flushed, more_came, input_ended}
 use Rattle.session.proofs.stream.serve_stream.Goals as goal
 
 pub loop-reads-init : goal.loop-reads-init
 loop-reads-init g c = record {
-  running = starts g.T.Target.leads c.args.start _ _ _ _ _ _ _ (omega arith) (omega arith) c.in_ok-session.ensures c.in_ok-outbox.ensures c.in_ok-inbox.ensures;
+  running = starts g.T.Target.leads (setting_of (g.T.Target.unit_count c.args.target.now) c.args.me.now c.args.start) _ _ _ _ _ _ _ (omega arith) (omega arith) (subst (λ (n : ℕ). c.in_ok-session.session ≡ begun (setting_of n c.args.me.now c.args.start)) c.units.ensures c.in_ok-session.ensures) c.in_ok-outbox.ensures c.in_ok-inbox.ensures;
+  room = search rules;
   source_served = search rules;
 }
 
 pub returns-in-Some-clause-transcribed : goal.returns-in-Some-clause-transcribed
 returns-in-Some-clause-transcribed g c =
     let w = subst (λ (b : List ℕ). IsWhole b c.in-Whole.bhs.now c.in-Whole.pdu c.in-Whole.taken) c.bytes.ensures c.in-Whole.ensures in
-    (pdu_ends g.T.Target.leads _ _ _ _ _ _ _ _ _ _ _ _ _ c.loop-reads.invariant.running c.turn.new.session c.turn.new.target _ _ _ c.in-Whole.bhs.now _ _ c.in-Whole.taken w.bhs_is w.within w.spelled _ _ c.in-Some.end c.finish.result c.in-Some.ensures c.finish.ensures).0
+    (pdu_ends g.T.Target.leads _ _ _ _ _ _ _ _ _ _ _ _ _ c.loop-reads.invariant.running c.turn.new.session c.turn.new.target _ _ _ c.in-Whole.bhs.now _ _ c.in-Whole.taken w.bhs_is w.within w.spelled _ _ c.in-Some.end c.finish.result c.in-Some.ensures.turn c.finish.ensures).0
+
+pub returns-in-Some-clause-input_failed : goal.returns-in-Some-clause-input_failed
+returns-in-Some-clause-input_failed g c =
+    let w = subst (λ (b : List ℕ). IsWhole b c.in-Whole.bhs.now c.in-Whole.pdu c.in-Whole.taken) c.bytes.ensures c.in-Whole.ensures in
+    let other = pdu_ends_not_by_input g.T.Target.leads _ _ _ _ _ _ _ _ _ _ _ _ _ c.loop-reads.invariant.running c.turn.new.session c.turn.new.target _ _ _ c.in-Whole.bhs.now _ _ c.in-Whole.taken w.bhs_is w.within w.spelled _ _ c.in-Some.end c.finish.result c.in-Some.ensures.turn c.finish.ensures in
+    record { rises = λ e. absurd (other e); stays = λ _. c.loop-reads.invariant.source_served }
 
 pub returns-in-Some-clause-output_failed : goal.returns-in-Some-clause-output_failed
 returns-in-Some-clause-output_failed g c =
     let w = subst (λ (b : List ℕ). IsWhole b c.in-Whole.bhs.now c.in-Whole.pdu c.in-Whole.taken) c.bytes.ensures c.in-Whole.ensures in
-    (pdu_ends g.T.Target.leads _ _ _ _ _ _ _ _ _ _ _ _ _ c.loop-reads.invariant.running c.turn.new.session c.turn.new.target _ _ _ c.in-Whole.bhs.now _ _ c.in-Whole.taken w.bhs_is w.within w.spelled _ _ c.in-Some.end c.finish.result c.in-Some.ensures c.finish.ensures).1
+    (pdu_ends g.T.Target.leads _ _ _ _ _ _ _ _ _ _ _ _ _ c.loop-reads.invariant.running c.turn.new.session c.turn.new.target _ _ _ c.in-Whole.bhs.now _ _ c.in-Whole.taken w.bhs_is w.within w.spelled _ _ c.in-Some.end c.finish.result c.in-Some.ensures.turn c.finish.ensures).1
 
 pub returns-in-Faulty-clause-transcribed : goal.returns-in-Faulty-clause-transcribed
 returns-in-Faulty-clause-transcribed g c =
@@ -29,14 +38,15 @@ pub returns-then-has_failed-clause-transcribed : goal.returns-then-has_failed-cl
 returns-then-has_failed-clause-transcribed g c =
     let w = subst (λ (b : List ℕ). IsWhole b c.in-Whole.bhs.now c.in-Whole.pdu c.in-Whole.taken) c.bytes.ensures c.in-Whole.ensures in
     (sink_failed g.T.Target.leads _ _ _ _ _ _ _ _ _ _ _ _ _
-    (pdu_goes_on g.T.Target.leads _ _ _ _ _ _ _ _ _ _ _ _ _ c.loop-reads.invariant.running c.turn.new.session c.turn.new.target _ _ _ c.in-Whole.bhs.now _ _ c.in-Whole.taken w.bhs_is w.within w.spelled c.in-None.ensures)
+    (pdu_goes_on g.T.Target.leads _ _ _ _ _ _ _ _ _ _ _ _ _ c.loop-reads.invariant.running c.turn.new.session c.turn.new.target _ _ _ c.in-Whole.bhs.now _ _ c.in-Whole.taken w.bhs_is w.within w.spelled c.in-None.ensures.turn)
     (sym c.has_failed.ensures ∙ c.if-has_failed.true)).0
 
 pub loop-reads-preserved-else-has_failed : goal.loop-reads-preserved-else-has_failed
 loop-reads-preserved-else-has_failed g c =
     let w = subst (λ (b : List ℕ). IsWhole b c.in-Whole.bhs.now c.in-Whole.pdu c.in-Whole.taken) c.bytes.ensures c.in-Whole.ensures in
     record {
-      running = rw c.consume.ensures (pdu_goes_on g.T.Target.leads _ _ _ _ _ _ _ _ _ _ _ _ _ c.loop-reads.invariant.running c.turn.new.session c.turn.new.target _ _ _ c.in-Whole.bhs.now _ _ c.in-Whole.taken w.bhs_is w.within w.spelled c.in-None.ensures);
+      running = rw c.consume.ensures (pdu_goes_on g.T.Target.leads _ _ _ _ _ _ _ _ _ _ _ _ _ c.loop-reads.invariant.running c.turn.new.session c.turn.new.target _ _ _ c.in-Whole.bhs.now _ _ c.in-Whole.taken w.bhs_is w.within w.spelled c.in-None.ensures.turn);
+      room = c.in-None.ensures.kept;
       source_served = c.loop-reads.invariant.source_served;
     }
 
@@ -52,5 +62,6 @@ loop-reads-preserved g c = record {
   running = more_came g.T.Target.leads _ _ _ _ _ _ _ _ _ _ _ _ _
       (flushed g.T.Target.leads _ _ _ _ _ _ _ _ _ _ _ _ _ c.loop-reads.invariant.running _ _ _ c.flush.ensures.written)
       _ _ c.in-Ok.field-0 c.in-Ok.ensures.ok (omega (arith, c.in-Ok.field-0-test));
+  room = c.loop-reads.invariant.room;
   source_served = c.in-Ok.ensures.failures ∙ c.loop-reads.invariant.source_served;
 }

@@ -1,4 +1,6 @@
-use Rattle.std.proofs.Common.{◌≡◌, ◌+◌, ◌-◌, ◌*◌, length}
+use Rattle.std.proofs.Common.{◌≡◌, ◌+◌, ◌-◌, ◌*◌, ◌≤◌, vec_capacity, length}
+use Rattle.session.specs.declared.text.TheConstants.{LONGEST_TEXT}
+use Rattle.session.specs.Setting.{setting_of}
 use Rattle.session.specs.declared.inbox.TheConstants.{INBOX_CAPACITY}
 use Rattle.session.specs.Legal.{most_bytes}
 use Rattle.session.proofs.Running.{Running}
@@ -6,8 +8,9 @@ use Rattle.session.proofs.stream.serve_stream.Given as goal
 
 abbrev pub invariant-loop-reads : goal.invariant-loop-reads
 invariant-loop-reads g l = record {
-  running : Running g.T.Target.leads l.fn.start (g.S.Source.left l.fn.source) (g.S.Source.left l.source) (g.K.Sink.held l.fn.sink) (g.K.Sink.held l.sink)
+  running : Running g.T.Target.leads (setting_of (g.T.Target.unit_count l.fn.target) l.fn.me l.fn.start) (g.S.Source.left l.fn.source) (g.S.Source.left l.source) (g.K.Sink.held l.fn.sink) (g.K.Sink.held l.sink)
       (g.K.Sink.failures l.fn.sink) (g.K.Sink.failures l.sink) l.outbox l.fn.target l.target l.session l.inbox l.reads;
+  room : LONGEST_TEXT ≤ vec_capacity l.room;
   source_served : g.S.Source.failures l.source ≡ g.S.Source.failures l.fn.source;
 }
 

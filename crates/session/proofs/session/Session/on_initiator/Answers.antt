@@ -4,17 +4,12 @@ use Rattle.session.specs.declared.verdict.TheConstants.{COMMAND_NOT_SUPPORTED, P
 use Rattle.session.proofs.Unserved.{refused}
 use Rattle.session.proofs.session.Session.on_initiator.Goals as goal
 
-pub returns-in-TaskManagementRequest-clause-on : goal.returns-in-TaskManagementRequest-clause-on
-returns-in-TaskManagementRequest-clause-on c =
-    refused _ _ (Initiator c.args.header) c.args.bytes.now c.reject.result COMMAND_NOT_SUPPORTED (rw c.in-TaskManagementRequest.is refl) c.reject.ensures.on
-
 pub returns-in-LoginRequest-clause-on : goal.returns-in-LoginRequest-clause-on
 returns-in-LoginRequest-clause-on c =
-    refused _ _ (Initiator c.args.header) c.args.bytes.now c.reject-in-LoginRequest.result PROTOCOL_ERROR (rw c.in-LoginRequest.is refl) c.reject-in-LoginRequest.ensures.on
-
-pub returns-in-TextRequest-clause-on : goal.returns-in-TextRequest-clause-on
-returns-in-TextRequest-clause-on c =
-    refused _ _ (Initiator c.args.header) c.args.bytes.now c.reject-in-TextRequest.result COMMAND_NOT_SUPPORTED (rw c.in-TextRequest.is refl) c.reject-in-TextRequest.ensures.on
+    refused _ _ (Initiator c.args.header) c.args.bytes.now c.reject.result PROTOCOL_ERROR (rw c.in-LoginRequest.is refl) c.reject.ensures.on
 
 pub returns-in-LogoutRequest-clause-on : goal.returns-in-LogoutRequest-clause-on
 returns-in-LogoutRequest-clause-on c = rw c.in-LogoutRequest.is (c.on_logout.ensures.on c.args.bytes.now)
+
+pub returns-in-TaskManagementRequest-clause-on : goal.returns-in-TaskManagementRequest-clause-on
+returns-in-TaskManagementRequest-clause-on c = rw c.in-TaskManagementRequest.is (c.on_task_management.ensures.on c.args.bytes.now)

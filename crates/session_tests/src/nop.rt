@@ -1,0 +1,134 @@
+//! NOP-Out and NOP-In (RFC 7143, 11.18 and 11.19).
+use crate::run::{PLAIN, Row, run};
+use session::End;
+use std::test::*;
+use test_streams::{GOOD, PduRow, Segment, TEST_UNIT_READY};
+
+// A NOP-Out to LUN 0 with the tag 1 and CmdSN 1.
+const NOP_OUT: [u8; 48] = [
+    0x00, 0x80, 0x00, 0x00, 0x00, 0x00, 0x00, 0x00, // no data
+    0x00, 0x00, 0x00, 0x00, 0x00, 0x00, 0x00, 0x00, // LUN
+    0x00, 0x00, 0x00, 0x01, 0xFF, 0xFF, 0xFF, 0xFF, // tag, Target Transfer Tag
+    0x00, 0x00, 0x00, 0x01, 0x00, 0x00, 0x00, 0x01, // CmdSN, ExpStatSN
+    0x00, 0x00, 0x00, 0x00, 0x00, 0x00, 0x00, 0x00, //
+    0x00, 0x00, 0x00, 0x00, 0x00, 0x00, 0x00, 0x00,
+];
+
+// Its answer, with StatSN 1, ExpCmdSN 2 and MaxCmdSN 33.
+const NOP_IN: [u8; 48] = [
+    0x20, 0x80, 0x00, 0x00, 0x00, 0x00, 0x00, 0x00, // no data
+    0x00, 0x00, 0x00, 0x00, 0x00, 0x00, 0x00, 0x00, // LUN
+    0x00, 0x00, 0x00, 0x01, 0xFF, 0xFF, 0xFF, 0xFF, // tag, Target Transfer Tag
+    0x00, 0x00, 0x00, 0x01, 0x00, 0x00, 0x00, 0x02, // StatSN, ExpCmdSN
+    0x00, 0x00, 0x00, 0x21, 0x00, 0x00, 0x00, 0x00, // MaxCmdSN
+    0x00, 0x00, 0x00, 0x00, 0x00, 0x00, 0x00, 0x00,
+];
+
+const RESERVED: &[u8] = &[0xFF, 0xFF, 0xFF, 0xFF];
+
+const ROWS: &[Row] = &[
+    Row {
+        name: "its data comes back, with its LUN and its tag",
+        input: &[PduRow(
+            &NOP_OUT,
+            &[
+                (7, &[5]),
+                (8, &[0x40, 0x07]),
+                (16, &[1, 2, 3, 4]),
+                (20, &[9, 9, 9, 9]),
+            ],
+            Segment::Pattern(5),
+        )],
+        asked: &[],
+        output: &[PduRow(
+            &NOP_IN,
+            &[(7, &[5]), (8, &[0x40, 0x07]), (16, &[1, 2, 3, 4])],
+            Segment::Pattern(5),
+        )],
+        ..PLAIN
+    },
+    Row {
+        name: "of 8196 bytes 8192 come back",
+        input: &[PduRow(&NOP_OUT, &[(6, &[0x20, 4])], Segment::Pattern(8196))],
+        asked: &[],
+        output: &[PduRow(&NOP_IN, &[(6, &[0x20, 0])], Segment::Pattern(8192))],
+        ..PLAIN
+    },
+    Row {
+        name: "an immediate one takes no number, and a StatSN",
+        input: &[
+            PduRow(&NOP_OUT, &[(0, &[0x40])], Segment::None),
+            PduRow(&TEST_UNIT_READY, &[], Segment::None),
+        ],
+        output: &[
+            PduRow(
+                &NOP_IN,
+                &[(24, &[0, 0, 0, 1, 0, 0, 0, 1, 0, 0, 0, 0x20])],
+                Segment::None,
+            ),
+            PduRow(&GOOD, &[(24, &[0, 0, 0, 2])], Segment::None),
+        ],
+        ..PLAIN
+    },
+    Row {
+        name: "a numbered one takes its number",
+        input: &[
+            PduRow(&NOP_OUT, &[], Segment::None),
+            PduRow(&TEST_UNIT_READY, &[(24, &[0, 0, 0, 2])], Segment::None),
+        ],
+        output: &[
+            PduRow(&NOP_IN, &[], Segment::None),
+            PduRow(
+                &GOOD,
+                &[(24, &[0, 0, 0, 2, 0, 0, 0, 3, 0, 0, 0, 0x22])],
+                Segment::None,
+            ),
+        ],
+        ..PLAIN
+    },
+    Row {
+        name: "with the reserved tag there is no answer, and no StatSN is used",
+        input: &[
+            PduRow(&NOP_OUT, &[(0, &[0x40]), (16, RESERVED)], Segment::None),
+            PduRow(&TEST_UNIT_READY, &[], Segment::None),
+        ],
+        ..PLAIN
+    },
+    Row {
+        name: "with the reserved tag, but numbered, it takes its number",
+        input: &[
+            PduRow(&NOP_OUT, &[(16, RESERVED)], Segment::None),
+            PduRow(&TEST_UNIT_READY, &[(24, &[0, 0, 0, 2])], Segment::None),
+        ],
+        output: &[PduRow(
+            &GOOD,
+            &[(24, &[0, 0, 0, 1, 0, 0, 0, 3, 0, 0, 0, 0x22])],
+            Segment::None,
+        )],
+        ..PLAIN
+    },
+    Row {
+        name: "outside the window it is ignored",
+        input: &[
+            PduRow(&NOP_OUT, &[(24, &[0, 0, 0, 33])], Segment::None),
+            PduRow(&TEST_UNIT_READY, &[], Segment::None),
+        ],
+        ..PLAIN
+    },
+    Row {
+        name: "inside the window, but not the next, it leaves a gap",
+        input: &[
+            PduRow(&NOP_OUT, &[(24, &[0, 0, 0, 2])], Segment::None),
+            PduRow(&TEST_UNIT_READY, &[], Segment::None),
+        ],
+        asked: &[],
+        output: &[],
+        end: End::Protocol,
+        ..PLAIN
+    },
+];
+
+#[test]
+fn nop_out(rt: HostRuntime) -> Result<(), Fail> {
+    run(&rt, rt.alloc(), ROWS)
+}
