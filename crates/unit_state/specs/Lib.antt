@@ -3,9 +3,11 @@ pub mod Choice
 pub mod CommandLaws
 pub mod Entry
 pub mod EntryLaws
+pub mod Groups
 pub mod History
 pub mod HistoryLaws
 pub mod Medium
+pub mod Moves
 pub mod Ops
 pub mod Places
 pub mod Refusal

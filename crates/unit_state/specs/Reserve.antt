@@ -14,12 +14,13 @@ use Rattle.scsi_types.specs.ReplyValue.{ReplyValue, good, check, conflict}
 use Rattle.scsi_types.specs.Sense.{sense, insufficient_registration_resources}
 use Rattle.scsi_types.specs.declared.attention.UnitAttention.{UnitAttention}
 use Rattle.scsi_types.specs.declared.command.Command.{Command}
-use Rattle.scsi_types.specs.declared.command.Command.TheVariants.{PersistentReserveOut}
+use Rattle.scsi_types.specs.declared.command.Command.TheVariants.{PersistentReserveOut, SetTargetPortGroups}
 use Rattle.scsi_types.specs.declared.reservation.PrInAction.{PrInAction}
 use Rattle.scsi_types.specs.declared.reservation.PrInAction.TheVariants.{ReadKeys, ReadReservation, ReportCapabilities, ReadFullStatus}
 use Rattle.scsi_types.specs.declared.reservation.PrOutAction.{PrOutAction}
 use Rattle.unit_state.specs.declared.reserve.TheConstants.{ALL_TG_PT, APTPL, LIST_LENGTH, SPEC_I_PT}
 use Rattle.unit_state.specs.declared.sessions.Attached.{Attached}
+use Rattle.unit_state.specs.Groups.{IsTaken, set_by}
 use Rattle.unit_state.specs.State.{ControlValue}
 use Rattle.unit_state.specs.Sessions.{nexus_of, sender_of}
 
@@ -34,10 +35,11 @@ abbrev pub pr_out : PrOutAction → ℕ → ℕ → List ℕ → PrOut
 pr_out action scope kind list =
     record { action = action; scope = scope; kind = kind; key = big_number 8 list; sakey = big_number 8 (drop 8 list); spec_i_pt = flag_of SPEC_I_PT list; all_tg_pt = flag_of ALL_TG_PT list; aptpl = flag_of APTPL list }
 
--- the list of the command came whole
-abbrev pub HasList : Command → List ℕ → Type 0
-HasList (PersistentReserveOut action scope kind list_length) bytes = LIST_LENGTH ≤ length bytes
-HasList command bytes = Unit {0}
+-- the list of the command came whole, and is one that is taken
+abbrev pub HasList : ControlValue → Command → List ℕ → Type 0
+HasList c (PersistentReserveOut action scope kind list_length) bytes = LIST_LENGTH ≤ length bytes
+HasList c (SetTargetPortGroups list_length) bytes = IsTaken (set_by c list_length bytes)
+HasList c command bytes = Unit {0}
 
 -- ---- what it does
 

@@ -1,5 +1,5 @@
 //! What a command is answered.
-ghost use Rattle.std.specs.Prelude.{◌≡◌, ℕ, List, [], true, Bool, IsTrue, IfOk, OnErr, Ok, length};
+ghost use Rattle.std.specs.Prelude.{◌≡◌, ◌+◌, ◌&&◌, ℕ, List, [], false, true, Bool, IsTrue, IfOk, OnErr, Ok, length};
 ghost use Rattle.block_file.specs.Failures.{Tells};
 ghost use Rattle.unit_state.specs.Answer.{IsAnswer, IsServed, Lasts};
 ghost use Rattle.unit_state.specs.Choice.{IsFine, choice_of};
@@ -8,21 +8,24 @@ ghost use Rattle.identity.specs.SenseData.{told_sense};
 ghost use Rattle.identity.specs.Table.{cut};
 ghost use Rattle.scsi_types.specs.Sense.{sense_bytes};
 ghost use Rattle.unit_state.specs.Entry.{described};
+ghost use Rattle.unit_state.specs.Groups.{is_opening};
+ghost use Rattle.scsi_types.specs.declared.command.Command.TheVariants.{SetTargetPortGroups};
 ghost use Rattle.unit_state.specs.Reserve.{HasList};
 ghost use Rattle.unit_state.specs.Sessions.{first_pending};
 ghost use Rattle.unit_state.specs.Places.{IsPlaceOf, Stays};
 ghost use Rattle.unit_state.specs.Refusal.{refusal, refusal_control, request, tell};
 ghost use Rattle.unit_state.specs.State.{unit_of};
-ghost use Rattle.unit_state.specs.Step.{MayTake, OnRefusal, is_describing, TakesMemory};
+ghost use Rattle.unit_state.specs.Step.{MayTake, OnRefusal, asks_opener, is_describing, TakesMemory};
 ghost use Rattle.unit_state.specs.Worked.{finding_at};
 
 use crate::control::Control;
+use crate::groups::set_groups;
 use crate::medium::{compare, flush, read, write};
 use crate::refusal::Refusal;
 use crate::reserve::{pr_out, reservation_data};
 use crate::rules::admit;
 use crate::sessions::Sender;
-use block_file::{BLOCK_LENGTH, Blocks};
+use block_file::{BLOCK_LENGTH, Blocks, Opener};
 use compare_write::MediumEnd;
 use identity::{
     inquiry, mode_sense, read_capacity_10, read_capacity_16, report_luns, request_sense,
@@ -32,8 +35,9 @@ use std::alloc::Global;
 
 /// Answers a command: the refusal of the first rule that applies, else what the command returns. Memory is taken for
 /// the data of a reply and for a PERSISTENT RESERVE OUT alone, before anything changes.
-pub fn answer<B: Blocks>(
+pub fn answer<B: Blocks, O: Opener<B>>(
     device: &mut B,
+    opener: &mut O,
     control: &mut Control,
     alloc: Global,
     sender: Sender,
@@ -44,14 +48,16 @@ pub fn answer<B: Blocks>(
     requires place { IsPlaceOf control.old.sessions sender.session sender.at }
     ensures size { B.size device.new ≡ B.size device.old }
     ensures stays { Stays control.old control.new sender.session sender.at }
-    ensures err { OnErr result ((device.new ≡ device.old) × (control.new ≡ control.old)) }
+    ensures err { OnErr result ((device.new ≡ device.old) × (opener.new ≡ opener.old) × (control.new ≡ control.old)) }
     ensures memory { OnErr result (TakesMemory control.old (request sender.session asked bytes.now)) }
-    ensures answered { IfOk result (IsAnswer B.claims (unit_of control.old (B.contents device.old))
+    ensures answered { IfOk result (IsAnswer (O.claims && B.claims) (unit_of control.old (B.contents device.old))
         (unit_of control.new (B.contents device.new))
         (request sender.session asked bytes.now)) }
     ensures unreached { OnRefusal (refusal control.old (request sender.session asked bytes.now))
         (device.new ≡ device.old) }
-    ensures fine { IfOk result (λ reply. Tells (B.failures device.old) (B.failures device.new)
+    ensures unopened { asks_opener control.old (request sender.session asked bytes.now) ≡ false → opener.new ≡ opener.old }
+    ensures fine { IfOk result (λ reply. Tells (B.failures device.old + O.opens_failed opener.old)
+        (B.failures device.new + O.opens_failed opener.new)
         (IsFine (choice_of reply (B.contents device.new)))) }
     ensures lasts { IsTrue B.claims → IfOk result (Lasts (B.contents device.new) (B.may_hold device.new)
         (work_asked asked bytes.now)) }
@@ -63,7 +69,7 @@ pub fn answer<B: Blocks>(
             return Ok(refusal.reply(alloc));
         }
     };
-    serve(device, control, alloc, sender, command, bytes)
+    serve(device, opener, control, alloc, sender, command, bytes)
 }
 
 /// What telling a refusal changes.
@@ -79,7 +85,47 @@ fn refuse(control: &mut Control, sender: Sender, refusal: Refusal)
 }
 
 /// Serves a command that no rule refuses.
-fn serve<B: Blocks>(
+fn serve<B: Blocks, O: Opener<B>>(
+    device: &mut B,
+    opener: &mut O,
+    control: &mut Control,
+    alloc: Global,
+    sender: Sender,
+    command: Command,
+    bytes: &[u8],
+) -> Result<Reply, NoMemory>
+    requires fits { Fits (B.size device.old) (work_of command bytes.now) }
+    requires list { HasList control.old command bytes.now }
+    requires place { IsPlaceOf control.old.sessions sender.session sender.at }
+    ensures size { B.size device.new ≡ B.size device.old }
+    ensures stays { Stays control.old control.new sender.session sender.at }
+    ensures err { OnErr result ((device.new ≡ device.old) × (opener.new ≡ opener.old) × (control.new ≡ control.old)) }
+    ensures memory { OnErr result (MayTake (Ok command)) }
+    ensures served { IfOk result (IsServed (O.claims && B.claims) (unit_of control.old (B.contents device.old))
+        (unit_of control.new (B.contents device.new)) sender.session command bytes.now) }
+    ensures unopened { is_opening control.old (Ok command) bytes.now ≡ false → opener.new ≡ opener.old }
+    ensures fine { IfOk result (λ reply. Tells (B.failures device.old + O.opens_failed opener.old)
+        (B.failures device.new + O.opens_failed opener.new)
+        (IsFine (choice_of reply (B.contents device.new)))) }
+    ensures lasts { IsTrue B.claims → IfOk result (Lasts (B.contents device.new) (B.may_hold device.new)
+        (work_of command bytes.now)) }
+{
+    match command {
+        Command::SetTargetPortGroups { list_length } => Ok(set_groups(
+            device,
+            opener,
+            control,
+            alloc,
+            sender,
+            list_length,
+            bytes,
+        )),
+        other => perform(device, control, alloc, sender, other, bytes),
+    }
+}
+
+/// Serves a command that asks for nothing to be opened.
+fn perform<B: Blocks>(
     device: &mut B,
     control: &mut Control,
     alloc: Global,
@@ -88,7 +134,8 @@ fn serve<B: Blocks>(
     bytes: &[u8],
 ) -> Result<Reply, NoMemory>
     requires fits { Fits (B.size device.old) (work_of command bytes.now) }
-    requires list { HasList command bytes.now }
+    requires list { HasList control.old command bytes.now }
+    requires no_change { (list_length : ℕ) → command ≡ SetTargetPortGroups list_length → ⊥ }
     requires place { IsPlaceOf control.old.sessions sender.session sender.at }
     ensures size { B.size device.new ≡ B.size device.old }
     ensures stays { Stays control.old control.new sender.session sender.at }
@@ -155,7 +202,7 @@ fn sense(
     Ok(sense)
 }
 
-/// The data of a command that asks what the unit is, or who is registered with it.
+/// The data of a command that asks what the unit is, who is registered with it, or what state each group is in.
 fn describe(
     control: &Control,
     alloc: Global,
@@ -187,6 +234,11 @@ fn describe(
         }
         Command::PersistentReserveIn { action, allocation } => {
             reservation_data(control.registry(), action, allocation)
+        }
+        Command::ReportTargetPortGroups { allocation } => {
+            control
+                .access()
+                .report(alloc, control.preferred(), allocation)
         }
         Command::ReadCapacity10 => read_capacity_10(alloc, control.total()),
         Command::ReadCapacity16 { allocation } => {

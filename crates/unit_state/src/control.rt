@@ -1,12 +1,13 @@
-//! All of a unit but its device.
-ghost use Rattle.std.specs.Prelude.{◌≡◌, ◌+◌, ℕ, ◌<◌, ◌≤◌, ◌↔◌, length, IfOk, OnErr, IsErr};
+//! All of a unit but its devices.
+ghost use Rattle.std.specs.Prelude.{◌≡◌, ◌+◌, ℕ, ◌<◌, ◌≤◌, ◌↔◌, length, IfOk, OnErr, IsErr, IsTrue};
 ghost use Rattle.unit_state.specs.Places.{IsPlaceOf};
 ghost use Rattle.unit_state.specs.State.{preferred};
 
 use crate::sessions::{
-    Attached, MOST_SESSIONS, Sender, SessionId, end, hear_all, pass_at, place_of, replace, reset,
-    staying, tell_at,
+    Attached, MOST_SESSIONS, Sender, SessionId, end, hear_all, hear_change_all, pass_at, place_of,
+    replace, reset, staying, tell_at,
 };
+use access_states::AccessMap;
 use attentions::Pending;
 use reservations::{Access, PrEnd, PrOut, Registry};
 use scsi_types::{Group, NoMemory, Place, PortName, Reply, Sense, UnitAttention};
@@ -41,12 +42,13 @@ pub enum Route {
     At(usize),
 }
 
-/// All of a unit but its device: who is attached and what each is to be told, who is registered, and who owns it.
+/// All of a unit but its devices: who is attached and what each is to be told, who is registered, and what state each
+/// target port group is in.
 #[derive(Drop)]
 pub struct Control {
     place: Place,
     total: u32,
-    owner: Group,
+    access: AccessMap,
     registry: Registry,
     sessions: Vec<Attached>,
     count: u64,
@@ -58,7 +60,7 @@ impl Model for Control {
 
     ghost Value = { ControlValue };
 
-    ghost view = { λ u. record { place = u.place; total = u.total; owner = u.owner; registry = u.registry; sessions = u.sessions.items; count = u.count } };
+    ghost view = { λ u. record { place = u.place; total = u.total; access = u.access; registry = u.registry; sessions = u.sessions.items; count = u.count } };
 
     ghost invariant = { λ u. All (λ a. a.next ≤ u.count) u.sessions.items × (64 ≤ vec_capacity u.sessions) };
 }
@@ -66,8 +68,9 @@ impl Model for Control {
 impl Control {
     ghost use Rattle.scsi_types.specs.Nexus.{Port, Nexus};
     ghost use Rattle.unit_state.specs.State.{opening_control};
-    ghost use Rattle.unit_state.specs.Entry.{Attach, Detach, Reset, HasRoom, IsAttached, control_after, pass};
-    ghost use Rattle.unit_state.specs.Places.{Stays};
+    ghost use Rattle.unit_state.specs.Entry.{Attach, Detach, Reset, HasRoom, IsAttached, control_after, count_one, pass};
+    ghost use Rattle.unit_state.specs.Groups.{with_access};
+    ghost use Rattle.unit_state.specs.Places.{Stays, StaysAll};
     ghost use Rattle.unit_state.specs.Refusal.{is_let, tell};
     ghost use Rattle.unit_state.specs.Reserve.{after_effect, effect_by, effect_reply};
     ghost use Rattle.unit_state.specs.Route.{IsRouteOf};
@@ -82,7 +85,7 @@ impl Control {
         Ok(Control {
             place,
             total,
-            owner: preferred(place.unit),
+            access: AccessMap::opening(preferred(place.unit)),
             registry,
             sessions,
             count: 0,
@@ -169,8 +172,9 @@ impl Control {
         if self.sessions[at].next != serial {
             return Route::Gone;
         }
-        if by != self.owner {
-            return Route::Moved(self.owner);
+        let owner = self.access.owner();
+        if by != owner {
+            return Route::Moved(owner);
         }
         Route::At(at)
     }
@@ -187,6 +191,27 @@ impl Control {
         ensures { result ≡ self.now.total }
     {
         self.total
+    }
+
+    /// Whether the history has its last length.
+    pub fn is_full(&self) -> bool
+        ensures { IsTrue result ↔ (LAST_COUNT ≤ self.now.count) }
+    {
+        self.count == LAST_COUNT
+    }
+
+    /// The access state of each group.
+    pub fn access(&self) -> &AccessMap
+        ensures { result.now ≡ self.now.access }
+    {
+        &self.access
+    }
+
+    /// The group that the unit prefers.
+    pub fn preferred(&self) -> Group
+        ensures { result ≡ preferred self.now.place.unit }
+    {
+        preferred(self.place.unit)
     }
 
     /// The group by which a session's commands come.
@@ -256,6 +281,28 @@ impl Control {
             PrEnd::TableFull => Ok(Reply::check(alloc, Sense::INSUFFICIENT_REGISTRATION_RESOURCES)),
             PrEnd::NoMemory => Err(NoMemory),
         }
+    }
+
+    /// Puts these access states in the place of those that are there. Where the state of a group is another, every session
+    /// hears of it but the one that asked for it.
+    pub fn set_access(&mut self, by: Option<SessionId>, access: AccessMap)
+        ensures changed { self.new ≡ with_access self.old by access }
+        ensures stays { StaysAll self.old self.new }
+    {
+        let change = self.access.change_to(&access);
+        self.access = access;
+        if change.changed[0] || change.changed[1] {
+            hear_change_all(&mut self.sessions, by);
+        }
+    }
+
+    /// Counts an entry that is no command.
+    pub fn count_one(&mut self)
+        requires { self.old.count < LAST_COUNT }
+        ensures counted { self.new ≡ count_one self.old }
+        ensures total { self.new.total ≡ self.old.total }
+    {
+        self.count += 1;
     }
 
     /// Counts one command more of a session.

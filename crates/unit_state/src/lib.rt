@@ -3,6 +3,7 @@
 
 mod commands;
 mod control;
+mod groups;
 pub mod laws;
 mod medium;
 mod ops;
@@ -14,4 +15,4 @@ mod unit;
 
 pub use control::{AttachFault, Gone};
 pub use sessions::SessionId;
-pub use unit::{StepEnd, Unit};
+pub use unit::{MoveFault, StepEnd, Unit};
