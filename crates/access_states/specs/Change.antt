@@ -48,7 +48,7 @@ after_asked cause old (Ok asked) = with_one_owner (map_after cause old asked)
 after_asked cause old (Err fault) = Err fault
 
 -- the access states after a list, or why it is refused
-abbrev pub access_after : Cause → AccessMapValue → List ℕ → Result AccessMapValue AsetFault
+unfoldable pub access_after : Cause → AccessMapValue → List ℕ → Result AccessMapValue AsetFault
 access_after cause old bytes = after_asked cause old (asked_by bytes)
 
 -- how a SET TARGET PORT GROUPS is refused for its list

@@ -31,5 +31,5 @@ abbrev pub group_descriptors : Group → AccessMapValue → List ℕ
 group_descriptors preferred map = group_descriptor preferred One map.one ++ group_descriptor preferred Two map.two
 
 -- RETURN DATA LENGTH, and the descriptor of each group
-abbrev pub report_bytes : Group → AccessMapValue → List ℕ
+unfoldable pub report_bytes : Group → AccessMapValue → List ℕ
 report_bytes preferred map = big_bytes 4 (length (group_descriptors preferred map)) ++ group_descriptors preferred map
