@@ -1,5 +1,5 @@
 -- The place of a session among those that are attached.
-use Rattle.std.proofs.Common.{◌≡◌, ◌≢◌, ⊎_elim, ℕ, zero, suc, ◌+◌, ◌<◌, ◌≤◌, true, false, not, List, [], ◌∷◌, ◌++◌, length, length-set, get_or, set, take, drop, map, refl, sym, ◌∙◌, ap, arith, add-one, Some, None, Option, IfSome, IsSome, All, nat_eq, eq-eqb, slice_get}
+use Rattle.std.proofs.Common.{◌≡◌, ◌≢◌, ⊎_elim, ℕ, zero, suc, ◌+◌, ◌<◌, ◌≤◌, Bool, true, false, not, List, [], ◌∷◌, ◌++◌, length, length-set, get_or, set, take, drop, map, refl, sym, ◌∙◌, ap, arith, add-one, Some, None, Option, IfSome, IsSome, All, nat_eq, eq-eqb, slice_get}
 use Rattle.std.specs.Option.{option_map}
 use Rattle.std.proofs.lemmas.Bool.Decides.{eqb_tells}
 use Rattle.std.proofs.lemmas.Grind.{common_steps}
@@ -11,6 +11,8 @@ use Rattle.scsi_types.specs.Nexus.{Nexus}
 use Rattle.unit_state.specs.declared.sessions.Attached.{Attached}
 use Rattle.unit_state.specs.Sessions.{is_of, nexus_in, nexus_of, sender_of, session_of, changed, ended, heard_reset, all_reset, without}
 use Rattle.reservations.specs.declared.request.Told.{Told}
+use Rattle.unit_state.specs.CommandLaws.{change_keeps}
+use Rattle.unit_state.specs.Groups.{change_heard, hear_change}
 use Rattle.unit_state.specs.Reserve.{all_heard, hear}
 use Rattle.unit_state.specs.Places.{IsChangedAt, IsPlaceOf}
 
@@ -154,6 +156,15 @@ next_reset id a =
 
 pub serials_fit_heard : (told : List Told) (sessions : List Attached) (count : ℕ) → All (λ a. a.next ≤ count) sessions → All (λ a. a.next ≤ count) (all_heard told sessions)
 serials_fit_heard told sessions count fit = All-map (λ (a : Attached). a.next ≤ count) (hear told) sessions (λ k d lt. fit k d lt)
+
+pub serials_fit_changed : (by_session : Option ℕ) (sessions : List Attached) (count : ℕ) → All (λ a. a.next ≤ count) sessions → All (λ a. a.next ≤ count) (map (hear_change by_session) sessions)
+serials_fit_changed by_session sessions count fit =
+    All-map (λ (a : Attached). a.next ≤ count) (hear_change by_session) sessions (λ k d lt. let h = fit k d lt in let e = (change_keeps by_session (get_or sessions k d)).1 in omega arith)
+
+-- a session stays at its place where a change of access states is told
+pub place_told : (is : Bool) (by_session : Option ℕ) (sessions : List Attached) (id k : ℕ) → IsPlaceOf sessions id k → IsPlaceOf (change_heard is by_session sessions) id k
+place_told true by_session sessions id k place = place_mapped (hear_change by_session) (λ a. (change_keeps by_session a).0) sessions id k place
+place_told false by_session sessions id k place = place
 
 pub serials_fit_reset : (id : ℕ) (sessions : List Attached) (count : ℕ) → All (λ a. a.next ≤ count) sessions → All (λ a. a.next ≤ count + 1) (all_reset sessions id)
 serials_fit_reset id sessions count fit =

@@ -7,7 +7,7 @@ use Rattle.block_file.specs.Disk.{written, range_bytes, Between}
 use Rattle.compare_write.specs.Difference.{first_difference}
 use Rattle.compare_write.specs.Instances.{compare_instance, write_instance}
 use Rattle.scsi_types.specs.ReplyValue.{ReplyValue, good, check}
-use Rattle.scsi_types.specs.Sense.{unrecovered_read_error, write_error, miscompare}
+use Rattle.scsi_types.specs.Sense.{set_target_port_groups_command_failed, unrecovered_read_error, write_error, miscompare}
 use Rattle.scsi_types.specs.declared.command.Command.{Command}
 use Rattle.scsi_types.specs.declared.command.Command.TheVariants as commands
 use Rattle.scsi_types.specs.declared.command.CdbFault.{CdbFault}

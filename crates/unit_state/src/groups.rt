@@ -26,7 +26,7 @@ pub fn states_asked(
     if !is_group_list(list_length) {
         return Err(AsetFault::Length);
     }
-    let end = bytes.len().min(list_length as usize);
+    let end = (list_length as usize).min(bytes.len());
     control.access().after(Cause::Explicit, &bytes[..end])
 }
 

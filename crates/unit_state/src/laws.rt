@@ -12,7 +12,9 @@ ghost use Rattle.scsi_types.specs.declared.attention.UnitAttention.TheVariants.{
 ghost use Rattle.attentions.specs.Queue.{is_pending, without_repeats};
 ghost use Rattle.unit_state.specs.Ops.{kind_asked, passes_attention};
 ghost use Rattle.reservations.specs.declared.request.PrOut.{PrOut};
-ghost use Rattle.unit_state.specs.Refusal.{IsKeptOut};
+ghost use Rattle.scsi_types.specs.declared.command.Op.{Op};
+ghost use Rattle.scsi_types.specs.declared.sense.Sense.{Sense};
+ghost use Rattle.unit_state.specs.Refusal.{IsKeptOut, IsUnserved};
 ghost use Rattle.unit_state.specs.Reserve.{after_effect, effect_by};
 ghost use Rattle.unit_state.specs.Sessions.{session_of, first_pending, pending_of};
 ghost use Rattle.unit_state.specs.State.{ControlValue, UnitState};
@@ -87,18 +89,37 @@ pub fn an_attention_is_told_once()
         → is_pending (pending_of (after s (Command session serial by asked bytes Fine)).control.sessions session) attention ≡ false }
 {}
 
+/// A command of a kind that the ports of its group do not serve in the state of that group is refused for that and does
+/// nothing, whatever its fields and whatever the reservation: where nothing is to be told first (SPC-4, 5.15.2.4).
+pub fn a_group_serves_what_its_state_lets()
+    ensures reply { (s : UnitState) (session serial : ℕ) (by : Group) (asked : Result ScsiCommand CdbFault)
+        (bytes : List ℕ) (op : Op) (sense : Sense)
+        → IsUnserved s.control session asked op sense
+        → reply_to s (Command session serial by asked bytes Fine) ≡ Some (check sense) }
+    ensures blocks { (s : UnitState) (session serial : ℕ) (by : Group) (asked : Result ScsiCommand CdbFault)
+        (bytes : List ℕ) (op : Op) (sense : Sense)
+        → IsUnserved s.control session asked op sense
+        → blocks_after s (Command session serial by asked bytes Fine) ≡ s.blocks }
+    ensures control { (s : UnitState) (session serial : ℕ) (by : Group) (asked : Result ScsiCommand CdbFault)
+        (bytes : List ℕ) (op : Op) (sense : Sense)
+        → IsUnserved s.control session asked op sense
+        → control_after s.control (Command session serial by asked bytes Fine) ≡ pass s.control session }
+{}
+
 /// A command that the reservation does not let its nexus do is RESERVATION CONFLICT and does nothing: where nothing is to be
-/// told first, it is judged when it is served (SPC-4, 5.13.2).
+/// told first and the group serves it, it is judged when it is served (SPC-4, 5.13.2).
 pub fn a_reservation_keeps_others_out()
     ensures reply { (s : UnitState) (session serial : ℕ) (by : Group) (asked : Result ScsiCommand CdbFault)
-        (bytes : List ℕ)
-        → IsKeptOut s.control session asked → reply_to s (Command session serial by asked bytes Fine) ≡ Some conflict }
+        (bytes : List ℕ) (op : Op)
+        → IsKeptOut s.control session asked op
+        → reply_to s (Command session serial by asked bytes Fine) ≡ Some conflict }
     ensures blocks { (s : UnitState) (session serial : ℕ) (by : Group) (asked : Result ScsiCommand CdbFault)
-        (bytes : List ℕ)
-        → IsKeptOut s.control session asked → blocks_after s (Command session serial by asked bytes Fine) ≡ s.blocks }
+        (bytes : List ℕ) (op : Op)
+        → IsKeptOut s.control session asked op
+        → blocks_after s (Command session serial by asked bytes Fine) ≡ s.blocks }
     ensures control { (s : UnitState) (session serial : ℕ) (by : Group) (asked : Result ScsiCommand CdbFault)
-        (bytes : List ℕ)
-        → IsKeptOut s.control session asked
+        (bytes : List ℕ) (op : Op)
+        → IsKeptOut s.control session asked op
         → control_after s.control (Command session serial by asked bytes Fine) ≡ pass s.control session }
 {}
 

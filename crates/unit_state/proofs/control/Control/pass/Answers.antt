@@ -11,4 +11,4 @@ returns-clause-passed c =
     let place : IsPlaceOf c.self.inside.sessions.items c.args.sender.session c.args.sender.at = rw (← c.self.view_is) at c.requires.place in
     let is : c.pass_at.new.sessions.items ≡ passed c.self.inside.sessions.items c.args.sender.session = changed_at pass_one _ _ _ _ place c.pass_at.ensures.passed in
     rw (← c.self.view_is)
-    (ap (λ (ss : List Attached). let v : ControlValue = record { place = c.self.inside.place; total = c.self.inside.total; owner = c.self.inside.owner; registry = c.self.inside.registry; sessions = ss; count = c.self.inside.count + 1 } in v) is)
+    (ap (λ (ss : List Attached). let v : ControlValue = record { place = c.self.inside.place; total = c.self.inside.total; access = c.self.inside.access; registry = c.self.inside.registry; sessions = ss; count = c.self.inside.count + 1 } in v) is)

@@ -32,7 +32,7 @@ returns-in-Good-clause-after c =
     rw (← c.self.view_is) (ap (λ (n : Nexus). effect_of c.self.inside.registry n c.args.asked) (sender_at _ _ _ _ place c.index-attached.ensures) ∙ c.in-Good.ensures) in
     rw does
     (rw (← c.self.view_is)
-    (ap (λ (ss : List Attached). let v : ControlValue = record { place = c.self.inside.place; total = c.self.inside.total; owner = c.self.inside.owner; registry = c.out.new.self; sessions = ss; count = c.self.inside.count } in v)
+    (ap (λ (ss : List Attached). let v : ControlValue = record { place = c.self.inside.place; total = c.self.inside.total; access = c.self.inside.access; registry = c.out.new.self; sessions = ss; count = c.self.inside.count } in v)
     (c.hear_all.ensures.items ∙ ap (λ (t : List Told). all_heard t c.self.inside.sessions.items) c.deref.ensures.value)))
 
 pub returns-in-Conflict-clause-reply : goal.returns-in-Conflict-clause-reply
