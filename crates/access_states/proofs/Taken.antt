@@ -108,3 +108,85 @@ kept_as cause old asked Two h = kept cause old.two (left_with old.two.state aske
 pub nothing_asked : (cause : Cause) (old : AccessMapValue) → IsTrue (has_one_owner old)
     → with_one_owner (map_after cause old (record { one = None; two = None })) ≡ Ok old
 nothing_asked cause old h = grind (arith, common_steps, unmoved cause old.one, unmoved cause old.two, h)
+
+was_not : (old : AccessState) (asked : Option AccessState) → becomes_optimized old asked ≡ true → is_optimized old ≡ false
+was_not old None h = absurd (grind arith)
+was_not old (Some state) h = grind (arith, common_steps)
+
+-- one that is not named and owned the unit, where the other becomes active/optimized
+owned_one : (old : AccessMapValue) (t : Option AccessState) → IsTrue (has_one_owner old) → becomes_optimized old.two.state t ≡ true
+    → owner_of old ≡ One
+owned_one old t one h = grind (arith, common_steps, one, was_not old.two.state t h)
+
+owned_two : (old : AccessMapValue) (t : Option AccessState) → IsTrue (has_one_owner old) → becomes_optimized old.one.state t ≡ true
+    → owner_of old ≡ Two
+owned_two old t one h = grind (arith, common_steps, one, was_not old.one.state t h)
+
+lost_one : (cause : Cause) (old : AccessMapValue) (t : Option AccessState) → becomes_optimized old.two.state t ≡ true
+    → (map_after cause old (record { one = None; two = t })).one.state ≡ ActiveNonOptimized
+lost_one cause old t h =
+    altered_state cause old.one (left_with old.one.state None old.two.state t) ∙ ap (λ b. if b then ActiveNonOptimized else old.one.state) h
+
+lost_two : (cause : Cause) (old : AccessMapValue) (t : Option AccessState) → becomes_optimized old.one.state t ≡ true
+    → (map_after cause old (record { one = t; two = None })).two.state ≡ ActiveNonOptimized
+lost_two cause old t h =
+    altered_state cause old.two (left_with old.two.state None old.one.state t) ∙ ap (λ b. if b then ActiveNonOptimized else old.two.state) h
+
+-- what stays and what gives way, where a group is not named
+abbrev pub Stays : AccessMapValue → AccessMapValue → Group → Type 0
+Stays old new g = (owner_of old ≡ g → owner_of new ≡ g) → access_of new g ≡ access_of old g
+
+abbrev pub GivesWay : AccessMapValue → AccessMapValue → Group → Type 0
+GivesWay old new g = owner_of old ≡ g → owner_of new ≢ g → (access_of new g).state ≡ ActiveNonOptimized
+
+unnamed_one : (cause : Cause) (old : AccessMapValue) (t : Option AccessState) → IsTrue (has_one_owner old)
+    → has_one_owner (map_after cause old (record { one = None; two = t })) ≡ true
+    → Stays old (map_after cause old (record { one = None; two = t })) One × GivesWay old (map_after cause old (record { one = None; two = t })) One
+unnamed_one cause old t was is =
+    let new : AccessMapValue = map_after cause old (record { one = None; two = t }) in
+    elim (becomes_optimized old.two.state t) as (λ b. becomes_optimized old.two.state t ≡ b → Stays old new One × GivesWay old new One) [
+      | true ↦ λ e. (
+        λ owner. absurd (grind (arith, common_steps, owner (owned_one old t was e), lost_one cause old t e, is)),
+        λ owned other. lost_one cause old t e,
+      )
+      | false ↦ λ e. let same_access : new.one ≡ old.one = ap (λ b. altered_to cause old.one (if b then ActiveNonOptimized else old.one.state)) e ∙ unmoved cause old.one in (
+        λ owner. same_access,
+        λ owned other. absurd (other (grind (arith, common_steps, ap (λ (a : GroupAccess). is_optimized a.state) same_access, owned, was, is))),
+      )
+    ] refl
+
+unnamed_two : (cause : Cause) (old : AccessMapValue) (t : Option AccessState) → IsTrue (has_one_owner old)
+    → has_one_owner (map_after cause old (record { one = t; two = None })) ≡ true
+    → Stays old (map_after cause old (record { one = t; two = None })) Two × GivesWay old (map_after cause old (record { one = t; two = None })) Two
+unnamed_two cause old t was is =
+    let new : AccessMapValue = map_after cause old (record { one = t; two = None }) in
+    elim (becomes_optimized old.one.state t) as (λ b. becomes_optimized old.one.state t ≡ b → Stays old new Two × GivesWay old new Two) [
+      | true ↦ λ e. (
+        λ owner. absurd (grind (arith, common_steps, owner (owned_two old t was e), lost_two cause old t e, is)),
+        λ owned other. lost_two cause old t e,
+      )
+      | false ↦ λ e. let same_access : new.two ≡ old.two = ap (λ b. altered_to cause old.two (if b then ActiveNonOptimized else old.two.state)) e ∙ unmoved cause old.two in (
+        λ owner. same_access,
+        λ owned other. absurd (other (grind (arith, common_steps, ap (λ (a : GroupAccess). is_optimized a.state) same_access, owned, was, is))),
+      )
+    ] refl
+
+pub unnamed : (cause : Cause) (old : AccessMapValue) (asked : Asked) (g : Group) → IsTrue (has_one_owner old)
+    → has_one_owner (map_after cause old asked) ≡ true → asked_for asked g ≡ None
+    → Stays old (map_after cause old asked) g × GivesWay old (map_after cause old asked) g
+unnamed cause old asked One was is h =
+    subst (λ a. let new : AccessMapValue = map_after cause old (record { one = a; two = asked.two }) in
+    has_one_owner new ≡ true → Stays old new One × GivesWay old new One) (sym h)
+    (unnamed_one cause old asked.two was) is
+unnamed cause old asked Two was is h =
+    subst (λ a. let new : AccessMapValue = map_after cause old (record { one = asked.one; two = a }) in
+    has_one_owner new ≡ true → Stays old new Two × GivesWay old new Two) (sym h)
+    (unnamed_two cause old asked.one was) is
+
+pub unnamed_of : (cause : Cause) (old new : AccessMapValue) (list : List ℕ) (asked : Asked) (g : Group) → IsTrue (has_one_owner old)
+    → Leads cause old list asked new → asked_for asked g ≡ None → Stays old new g × GivesWay old new g
+unnamed_of cause old new list asked g was l h =
+    let e = leads cause old new list asked l in
+    let is = (is_new (map_after cause old asked) new (taken cause old new list asked l.reads l.taken)).0 in
+    subst (λ (m : AccessMapValue). has_one_owner m ≡ true → Stays old m g × GivesWay old m g) e
+    (λ one. unnamed cause old asked g was one h) is
