@@ -1,5 +1,5 @@
 -- What is known of access states that a list has led to.
-use Rattle.std.proofs.Common.{◌≡◌, ◌≢◌, ℕ, ◌⊎◌, Bool, true, false, not, ◌&&◌, nat_eq, if◌then◌else◌, List, IsTrue, Option, Some, None, Result, Ok, Err, refl, sym, ◌∙◌, ap, subst, arith}
+use Rattle.std.proofs.Common.{◌≡◌, ◌≢◌, ℕ, ◌⊎◌, Bool, true, false, not, ◌&&◌, nat_eq, if◌then◌else◌, List, IsTrue, IsOkAnd, Option, Some, None, Result, Ok, Err, refl, sym, ◌∙◌, ap, subst, arith}
 use Rattle.std.proofs.lemmas.Grind.{common_steps}
 use Rattle.scsi_types.specs.declared.names.Group.{Group}
 use Rattle.scsi_types.specs.declared.names.Group.TheVariants.{One, Two}
@@ -190,3 +190,58 @@ unnamed_of cause old new list asked g was l h =
     let is = (is_new (map_after cause old asked) new (taken cause old new list asked l.reads l.taken)).0 in
     subst (λ (m : AccessMapValue). has_one_owner m ≡ true → Stays old m g × GivesWay old m g) e
     (λ one. unnamed cause old asked g was one h) is
+
+-- ---- moves
+
+one_owns : (new : AccessMapValue) → new.one.state ≡ ActiveOptimized → is_optimized new.two.state ≡ false
+    → IsOkAnd (with_one_owner new) (λ m. owner_of m ≡ One)
+one_owns new one two = grind (arith, common_steps)
+
+two_owns : (new : AccessMapValue) → new.two.state ≡ ActiveOptimized → is_optimized new.one.state ≡ false
+    → IsOkAnd (with_one_owner new) (λ m. owner_of m ≡ Two)
+two_owns new two one = grind (arith, common_steps)
+
+one_down : (new : AccessMapValue) → new.one.state ≡ Unavailable → new.two.state ≡ ActiveOptimized
+    → IsOkAnd (with_one_owner new) (λ m. (owner_of m ≡ Two) × (m.one.state ≡ Unavailable))
+one_down new one two = grind (arith, common_steps)
+
+two_down : (new : AccessMapValue) → new.one.state ≡ ActiveOptimized → new.two.state ≡ Unavailable
+    → IsOkAnd (with_one_owner new) (λ m. (owner_of m ≡ One) × (m.two.state ≡ Unavailable))
+two_down new one two = grind (arith, common_steps)
+
+-- the other of a group that becomes active/optimized is not
+given_way : (old : AccessMapValue) → IsTrue (has_one_owner old)
+    → is_optimized (left_with old.two.state None old.one.state (Some ActiveOptimized)) ≡ false
+given_way old was = grind (arith, common_steps, was)
+
+given_way_two : (old : AccessMapValue) → IsTrue (has_one_owner old)
+    → is_optimized (left_with old.one.state None old.two.state (Some ActiveOptimized)) ≡ false
+given_way_two old was = grind (arith, common_steps, was)
+
+pub to_one : (cause : Cause) (old : AccessMapValue) → IsTrue (has_one_owner old)
+    → IsOkAnd (with_one_owner (map_after cause old (record { one = Some ActiveOptimized; two = None }))) (λ m. owner_of m ≡ One)
+to_one cause old was =
+    let other : AccessState = left_with old.two.state None old.one.state (Some ActiveOptimized) in
+    one_owns (map_after cause old (record { one = Some ActiveOptimized; two = None })) (altered_state cause old.one ActiveOptimized)
+    (ap is_optimized (altered_state cause old.two other) ∙ given_way old was)
+
+pub to_two : (cause : Cause) (old : AccessMapValue) → IsTrue (has_one_owner old)
+    → IsOkAnd (with_one_owner (map_after cause old (record { one = None; two = Some ActiveOptimized }))) (λ m. owner_of m ≡ Two)
+to_two cause old was =
+    let other : AccessState = left_with old.one.state None old.two.state (Some ActiveOptimized) in
+    two_owns (map_after cause old (record { one = None; two = Some ActiveOptimized })) (altered_state cause old.two ActiveOptimized)
+    (ap is_optimized (altered_state cause old.one other) ∙ given_way_two old was)
+
+pub takes_down_one : (cause : Cause) (old : AccessMapValue)
+    → IsOkAnd (with_one_owner (map_after cause old (record { one = Some Unavailable; two = Some ActiveOptimized })))
+    (λ m. (owner_of m ≡ Two) × (m.one.state ≡ Unavailable))
+takes_down_one cause old =
+    one_down (map_after cause old (record { one = Some Unavailable; two = Some ActiveOptimized }))
+    (altered_state cause old.one Unavailable) (altered_state cause old.two ActiveOptimized)
+
+pub takes_down_two : (cause : Cause) (old : AccessMapValue)
+    → IsOkAnd (with_one_owner (map_after cause old (record { one = Some ActiveOptimized; two = Some Unavailable })))
+    (λ m. (owner_of m ≡ One) × (m.two.state ≡ Unavailable))
+takes_down_two cause old =
+    two_down (map_after cause old (record { one = Some ActiveOptimized; two = Some Unavailable }))
+    (altered_state cause old.one ActiveOptimized) (altered_state cause old.two Unavailable)
