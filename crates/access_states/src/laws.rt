@@ -1,5 +1,5 @@
 //! What the definitions say, in other words: each function's contract is a law over them, and its body is empty.
-ghost use Rattle.std.specs.Prelude.{◌≡◌, ◌≢◌, ◌≤◌, [], ◌∷◌, List, length, ℕ, IsTrue, IsFalse, Some, None, Ok, Err};
+ghost use Rattle.std.specs.Prelude.{◌≡◌, ◌≢◌, [], ◌∷◌, List, ℕ, IsOkAnd, IsTrue, Some, None, Ok};
 ghost use Rattle.scsi_types.specs.declared.names.Group.{Group};
 ghost use Rattle.scsi_types.specs.declared.names.Group.TheVariants.{One, Two};
 ghost use Rattle.access_states.specs.declared.list.Asked.{Asked};
@@ -56,6 +56,20 @@ pub fn an_empty_list_changes_nothing()
         access_after cause map [] ≡ Ok map }
     ensures reserved { (cause : Cause) (map : AccessMapValue) (a b c d : ℕ) → IsTrue (has_one_owner map) →
         access_after cause map (a ∷ b ∷ c ∷ d ∷ []) ≡ Ok map }
+{}
+
+/// Whatever the states are, either group can be made the owner, and either taken down with the other as the owner.
+pub fn a_move_is_always_taken()
+    ensures to_one { (cause : Cause) (old : AccessMapValue) → IsTrue (has_one_owner old) →
+        IsOkAnd (access_after cause old (0 ∷ 0 ∷ 0 ∷ 0 ∷ 0 ∷ 0 ∷ 0 ∷ 1 ∷ [])) (λ new. owner_of new ≡ One) }
+    ensures to_two { (cause : Cause) (old : AccessMapValue) → IsTrue (has_one_owner old) →
+        IsOkAnd (access_after cause old (0 ∷ 0 ∷ 0 ∷ 0 ∷ 0 ∷ 0 ∷ 0 ∷ 2 ∷ [])) (λ new. owner_of new ≡ Two) }
+    ensures one_down { (cause : Cause) (old : AccessMapValue) →
+        IsOkAnd (access_after cause old (0 ∷ 0 ∷ 0 ∷ 0 ∷ 0 ∷ 0 ∷ 0 ∷ 2 ∷ 3 ∷ 0 ∷ 0 ∷ 1 ∷ [])) (λ new.
+        (owner_of new ≡ Two) × (new.one.state ≡ Unavailable)) }
+    ensures two_down { (cause : Cause) (old : AccessMapValue) →
+        IsOkAnd (access_after cause old (0 ∷ 0 ∷ 0 ∷ 0 ∷ 0 ∷ 0 ∷ 0 ∷ 1 ∷ 3 ∷ 0 ∷ 0 ∷ 2 ∷ [])) (λ new.
+        (owner_of new ≡ One) × (new.two.state ≡ Unavailable)) }
 {}
 
 /// What an unavailable group serves, every group serves; REPORT and SET TARGET PORT GROUPS are among it, so that a group
