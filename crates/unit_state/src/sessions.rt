@@ -108,7 +108,9 @@ fn hear_change(attached: &mut Attached, by: Option<SessionId>)
     ensures { attached.new ≡ hear_change by attached.old }
 {
     if by != Some(attached.id) {
-        attached.pending.establish(UnitAttention::AccessStateChanged);
+        attached
+            .pending
+            .establish(UnitAttention::AccessStateChanged);
     }
 }
 

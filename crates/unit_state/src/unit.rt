@@ -191,7 +191,13 @@ impl<B: Blocks, O: Opener<B>> Unit<B, O> {
             Err(fault) => return Err(MoveFault::List(fault)),
         };
         let moved = self.control.access().change_to(&access);
-        match change(&mut self.device, &mut self.opener, &mut self.control, None, access) {
+        match change(
+            &mut self.device,
+            &mut self.opener,
+            &mut self.control,
+            None,
+            access,
+        ) {
             Ok(()) => {}
             Err(DeviceFailed) => return Err(MoveFault::OpenFailed),
         }

@@ -96,9 +96,7 @@ impl Bench {
                 let id = self.session(session)?.id;
                 Ok(Ended::Session(self.unit.reset(id)))
             }
-            Call::Move(runs) => Ok(Ended::Move(self.unit.move_to(&spelled(
-                self.alloc, runs,
-            )?))),
+            Call::Move(runs) => Ok(Ended::Move(self.unit.move_to(&spelled(self.alloc, runs)?))),
             Call::Flush => Ok(Ended::Flush(self.unit.flush())),
             Call::Send(session, cdb, runs) => Ok(Ended::Step(self.send(
                 session, cdb, runs, false,

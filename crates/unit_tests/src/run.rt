@@ -82,7 +82,13 @@ pub const ONE_SESSION: &[Row] = table! {
 
 /// Makes the calls of each table in turn, and looks at all blocks afterwards.
 pub fn run(rt: &impl Abort, alloc: Global, script: &Script) -> Result<(), Fail> {
-    let mut bench = Bench::open(alloc, script.place, script.blocks, script.fuse, script.opens)?;
+    let mut bench = Bench::open(
+        alloc,
+        script.place,
+        script.blocks,
+        script.fuse,
+        script.opens,
+    )?;
     for table in script.tables {
         for (name, call, end) in *table {
             let ended = bench.call(*call)?;
