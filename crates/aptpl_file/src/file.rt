@@ -1,0 +1,89 @@
+//! The registration file.
+ghost use Rattle.std.specs.Prelude.{◌≡◌, ◌≤◌, List, [], ◌∷◌, IfOk, IfErr, OnOk, IsTrue, false, None};
+ghost use Rattle.block_file.specs.Failures.{Counts, Tells};
+ghost use Rattle.reservations.specs.Registry.{RecordValue};
+ghost use Rattle.aptpl_file.specs.declared.spelling.TheConstants.{FILE_BLOCKS};
+
+use crate::{OpenFault, SaveFault, Slot};
+use block_file::Blocks;
+use reservations::Record;
+use std::alloc::Global;
+use std::marker::Model;
+
+/// A registration file on a device: a root and two slots, one of which the root names. The other is written by the next
+/// save.
+#[derive(Drop)]
+pub struct RegFile<B: Blocks> {
+    device: B,
+    slot: Slot,
+    undecided: bool,
+}
+
+impl<B: Blocks> Model for RegFile<B> {
+    ghost use Rattle.std.specs.Prelude.{◌≤◌};
+    ghost use Rattle.aptpl_file.specs.declared.spelling.TheConstants.{FILE_BLOCKS};
+    ghost use Rattle.aptpl_file.specs.Lasts.{FileValue};
+
+    ghost Value = { FileValue B };
+
+    ghost view = { λ f. record { device = f.device; slot = f.slot; undecided = f.undecided } };
+
+    ghost invariant = { λ f. FILE_BLOCKS ≤ B.size f.device };
+}
+
+impl<B: Blocks> RegFile<B> {
+    ghost use Rattle.aptpl_file.specs.Holds.{Holds, IsRefusal};
+    ghost use Rattle.aptpl_file.specs.Lasts.{LastsAmong, StopsAt, left_by};
+
+    /// Makes a registration file of nothing on a device of at least 67 blocks. Refused, it drops the device.
+    pub fn format(device: B) -> Result<RegFile<B>, SaveFault>
+        requires { FILE_BLOCKS ≤ B.size device }
+        ensures size { IfOk result (λ file. B.size file.device ≡ B.size device) }
+        ensures lasts { IsTrue B.claims → IfOk result (λ file. LastsAmong B.size B.may_hold file
+            (record { aptpl = false; registrants = []; reservation = None } ∷ [])) }
+        ensures failures { IfOk result (λ file. Tells (B.failures device) (B.failures file.device) (Unit {0})) }
+    {
+        Err(SaveFault::OldRoot)
+    }
+
+    /// Opens a registration file, and gives the record that it holds, which a crash leaves from then on. Refused, it
+    /// drops the device.
+    pub fn open(alloc: Global, device: B) -> Result<(RegFile<B>, Record), OpenFault>
+        ensures size { IfOk result (λ found. B.size found.0.device ≡ B.size device) }
+        ensures holds { IsTrue B.claims → IfOk result (λ found. Holds (B.contents device) found.1) }
+        ensures contents { IsTrue B.claims → IfOk result (λ found.
+            B.contents found.0.device ≡ B.contents device) }
+        ensures lasts { IsTrue B.claims → IfOk result (λ found.
+            LastsAmong B.size B.may_hold found.0 (found.1 ∷ [])) }
+        ensures refused { IsTrue B.claims → IfErr result (IsRefusal (B.contents device)) }
+        ensures failures { IfOk result (λ found. Tells (B.failures device) (B.failures found.0.device) (Unit {0})) }
+    {
+        Err(OpenFault::DeviceFailed)
+    }
+
+    /// Makes a record last. Takes no memory.
+    ///
+    /// Done, a crash leaves this record alone. Failed, a crash leaves one that it might have left before, or this one;
+    /// and so does a stop at any moment of the call.
+    pub fn save(&mut self, saved: &Record) -> Result<(), SaveFault>
+        ensures size { B.size self.new.device ≡ B.size self.old.device }
+        ensures saved { IsTrue B.claims → OnOk result (LastsAmong B.size B.may_hold self.new (saved.now ∷ [])) }
+        ensures failed { IsTrue B.claims → IfErr result (λ fault. (records : List RecordValue)
+            → LastsAmong B.size B.may_hold self.old records
+            → LastsAmong B.size B.may_hold self.new (left_by fault records saved.now)) }
+        ensures stop { IsTrue B.claims → IsTrue B.claims_moments → (records : List RecordValue)
+            → LastsAmong B.size B.may_hold self.old records
+            → StopsAt B.moment B.left_since (saved.now ∷ records) self.old.device self.new.device }
+        ensures failures { Counts (B.failures self.old.device) (B.failures self.new.device) result }
+    {
+        let _ = saved;
+        Err(SaveFault::OldRoot)
+    }
+
+    /// Hands the device back.
+    pub fn close(self) -> B
+        ensures { result ≡ self.device }
+    {
+        self.device
+    }
+}
