@@ -1,3 +1,4 @@
 pub mod Format
 pub mod Holds
 pub mod Lasts
+pub mod Writes

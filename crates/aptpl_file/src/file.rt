@@ -1,11 +1,14 @@
 //! The registration file.
-ghost use Rattle.std.specs.Prelude.{◌≡◌, ◌≤◌, List, [], ◌∷◌, IfOk, IfErr, OnOk, IsTrue, false, None};
+ghost use Rattle.std.specs.Prelude.{◌≡◌, ◌≤◌, List, [], ◌∷◌, IfOk, IfErr, OnOk, OnErr, IsTrue, true, false, None};
+ghost use Rattle.block_file.specs.Disk.{or_new, Adds};
+ghost use Rattle.block_file.specs.Moment.{StopsAmong};
 ghost use Rattle.block_file.specs.Failures.{Counts, Tells};
 ghost use Rattle.reservations.specs.Registry.{RecordValue};
 ghost use Rattle.aptpl_file.specs.declared.spelling.TheConstants.{FILE_BLOCKS};
 
+use crate::writing::{save_root, save_slot};
 use crate::{OpenFault, SaveFault, Slot};
-use block_file::Blocks;
+use block_file::{Blocks, DeviceFailed};
 use reservations::Record;
 use std::alloc::Global;
 use std::marker::Model;
@@ -33,7 +36,8 @@ impl<B: Blocks> Model for RegFile<B> {
 
 impl<B: Blocks> RegFile<B> {
     ghost use Rattle.aptpl_file.specs.Holds.{Holds, IsRefusal};
-    ghost use Rattle.aptpl_file.specs.Lasts.{LastsAmong, StopsAt, left_by};
+    ghost use Rattle.aptpl_file.specs.Format.{root_block};
+    ghost use Rattle.aptpl_file.specs.Lasts.{LastsAmong, RootLasts, StopsAt, left_by};
 
     /// Makes a registration file of nothing on a device of at least 67 blocks. Refused, it drops the device.
     pub fn format(device: B) -> Result<RegFile<B>, SaveFault>
@@ -76,8 +80,50 @@ impl<B: Blocks> RegFile<B> {
             → StopsAt B.moment B.left_since (saved.now ∷ records) self.old.device self.new.device }
         ensures failures { Counts (B.failures self.old.device) (B.failures self.new.device) result }
     {
-        let _ = saved;
-        Err(SaveFault::OldRoot)
+        let aptpl = saved.aptpl();
+        let Ok(()) = self.decide() else {
+            return Err(SaveFault::OldRoot);
+        };
+        let idle = self.slot.other();
+        let Ok(()) = save_slot(
+            &mut self.device,
+            idle,
+            aptpl,
+            saved.registrants(),
+            saved.reservation(),
+        ) else {
+            return Err(SaveFault::IdleSlot);
+        };
+        let Ok(()) = save_root(&mut self.device, idle) else {
+            self.undecided = true;
+            return Err(SaveFault::NewRoot);
+        };
+        self.slot = idle;
+        Ok(())
+    }
+
+    // Writes the old root again where a save left it undecided.
+    fn decide(&mut self) -> Result<(), DeviceFailed>
+        ensures size { B.size self.new.device ≡ B.size self.old.device }
+        ensures slot { self.new.slot ≡ self.old.slot }
+        ensures decided { OnOk result (self.new.undecided ≡ false) }
+        ensures root { IsTrue B.claims → self.old.undecided ≡ true
+            → OnOk result (RootLasts (B.may_hold self.new.device) self.old.slot) }
+        ensures same { self.old.undecided ≡ false → self.new ≡ self.old }
+        ensures failed { OnErr result (self.new.undecided ≡ self.old.undecided) }
+        ensures crash { IsTrue B.claims → Adds 0 (root_block self.old.slot ∷ []) (B.may_hold self.old.device)
+            (B.may_hold self.new.device) }
+        ensures stop { IsTrue B.claims → IsTrue B.claims_moments → StopsAmong B.moment B.left_since B.size
+            (or_new 0 (root_block self.old.slot ∷ []) (B.may_hold self.old.device)) self.old.device self.new.device }
+        ensures failures { Counts (B.failures self.old.device) (B.failures self.new.device) result }
+    {
+        if self.undecided {
+            let Ok(()) = save_root(&mut self.device, self.slot) else {
+                return Err(DeviceFailed);
+            };
+            self.undecided = false;
+        }
+        Ok(())
     }
 
     /// Hands the device back.

@@ -1,5 +1,6 @@
 //! The blocks that spell a record.
-ghost use Rattle.std.specs.Prelude.{◌≡◌, ◌+◌, ◌≤◌, ◌<◌, Some, [], ◌∷◌, ◌++◌, length, take, drop};
+ghost use Rattle.std.specs.Prelude.{◌≡◌, ◌+◌, ◌^◌, ◌≤◌, ◌<◌, Some, [], ◌∷◌, ◌++◌, IfSome, length, position, take, drop};
+ghost use Rattle.reservations.specs.Nexus.{same_nexus, through};
 ghost use Rattle.byteorder.specs.Endian.{big_bytes};
 ghost use Rattle.block_file.specs.declared.blocks.TheConstants.{BLOCK_LENGTH};
 ghost use Rattle.aptpl_file.specs.Format.{group_number, entries_block, entry_at, entry_bytes, header_block, padded, place_byte, place_of, root_block, slot_block, type_byte};
@@ -8,7 +9,7 @@ use crate::Slot;
 use block_file::BLOCK_LENGTH;
 use byteorder::{BigEndian, ByteOrder};
 use reservations::{Nexus, Registrant, Reservation};
-use scsi_types::Group;
+use scsi_types::{Group, PortName};
 
 /// How many blocks a registration file takes.
 pub const FILE_BLOCKS: u32 = 67;
@@ -67,15 +68,19 @@ fn type_byte(reservation: &Option<Reservation>) -> u8
     }
 }
 
+fn position_of(registrants: &[Registrant], port: &PortName, group: Group) -> Option<usize>
+    ensures is { result ≡ position (λ x. same_nexus x.nexus (through port.now group)) registrants.now }
+    ensures within { IfSome result (λ place. place < length registrants.now) }
+{
+    registrants.iter().position(|x| x.nexus.is(port, group))
+}
+
 // The place of a nexus among at most 64 registrants.
 fn place_of(holder: &Nexus, registrants: &[Registrant]) -> u8
     requires { length registrants.now ≤ 64 }
     ensures { result ≡ place_of (Some holder.now) registrants.now }
 {
-    let found = registrants
-        .iter()
-        .position(|x| x.nexus.is(holder.port(), holder.group()));
-    match found {
+    match position_of(registrants, holder.port(), holder.group()) {
         Some(place) => place as u8,
         None => NO_HOLDER,
     }
@@ -125,6 +130,7 @@ fn group_number(group: Group) -> u16
 
 // An entry up to the name.
 fn entry_head(key: u64, group: Group, isid: u64, length_of_name: u8) -> [u8; 17]
+    requires { isid < 2 ^ 48 }
     ensures { result ≡ big_bytes 8 key ++ big_bytes 2 (group_number group) ++ big_bytes 6 isid ++ length_of_name ∷ [] }
 {
     let mut head = [0; 17];
