@@ -1,2 +1,3 @@
 pub mod Padding
 pub mod SlotWrites
+pub mod Stops

@@ -9,11 +9,6 @@ use Rattle.aptpl_file.specs.declared.slot.Slot.TheVariants.{First, Second}
 use Rattle.aptpl_file.specs.Format.{first_block, slot_block}
 use Rattle.aptpl_file.specs.Writes.{IsInSlot, beside_slot}
 
--- a slot lies in the file
-pub slot_within : (slot : Slot) (k : ℕ) → k < 33 → first_block slot + k < 67
-slot_within First k lt = omega arith
-slot_within Second k lt = omega arith
-
 -- the blocks that were written so far, and one more
 pub slot_more : (old new : List (List ℕ)) (slot : Slot) (r : RecordValue) (k at : ℕ) (block : List ℕ)
     → at ≡ first_block slot + k → at < length old → block ≡ slot_block r k → new ≡ written old at (block ∷ [])

@@ -1,4 +1,5 @@
 pub mod Format
 pub mod Holds
 pub mod Lasts
+pub mod LastsLaws
 pub mod Writes

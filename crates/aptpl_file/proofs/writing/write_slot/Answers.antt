@@ -4,7 +4,8 @@ use Rattle.block_file.specs.MomentLaws.{stops_on}
 use Rattle.reservations.specs.Registry.{RecordValue}
 use Rattle.aptpl_file.specs.Format.{first_block}
 use Rattle.aptpl_file.specs.Writes.{beside_slot}
-use Rattle.aptpl_file.proofs.SlotWrites.{slot_within, slot_more, beside_more}
+use Rattle.aptpl_file.specs.LastsLaws.{slot_within}
+use Rattle.aptpl_file.proofs.SlotWrites.{slot_more, beside_more}
 use Rattle.aptpl_file.proofs.writing.write_slot.Goals as goal
 
 pub write-requires : goal.write-requires
