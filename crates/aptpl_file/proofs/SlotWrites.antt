@@ -20,10 +20,10 @@ slot_more old new slot r k at block is lt spelled step so_far j below =
     ∙ ⊎_elim
     (λ (before : j < k). written_before old (block ∷ []) at fits (first_block slot + j) (omega arith) ∙ so_far j before)
     (λ (here : k ≤ j).
-      let same : first_block slot + j - at ≡ 0 = omega arith in
-      let e : k ≡ j = omega arith in
-      written_inside old (block ∷ []) at fits (first_block slot + j) (omega arith) (omega arith)
-      ∙ ap (block_at (block ∷ [])) same ∙ spelled ∙ ap (slot_block r) e)
+    let same : first_block slot + j - at ≡ 0 = omega arith in
+    let e : k ≡ j = omega arith in
+    written_inside old (block ∷ []) at fits (first_block slot + j) (omega arith) (omega arith)
+    ∙ ap (block_at (block ∷ [])) same ∙ spelled ∙ ap (slot_block r) e)
     (cases_lt j k)
 
 -- what a crash may leave beside the slot
@@ -33,5 +33,5 @@ pub beside_more : (slot : Slot) (k at : ℕ) (block : List ℕ) (old mid new : �
 beside_more slot k at block old mid new is lt so_far step j value may =
     ⊎_elim (so_far j value)
     (λ (n : IsNewAt at (block ∷ []) j value).
-      let b = n.below in let f = n.from in inr (record { from = omega arith; below = omega arith }))
+    let b = n.below in let f = n.from in inr (record { from = omega arith; below = omega arith }))
     (step j value may)

@@ -18,7 +18,7 @@ slot_beside : (may : ℕ → List ℕ → Type 0) (root : List ℕ) (slot : Slot
 slot_beside may root slot r spelled k value lt held = ⊎_elim
     (λ m. spelled k value lt m)
     (λ (n : IsNewAt 0 (root ∷ []) (first_block slot + k) value).
-      let b = n.below in let p : 0 < first_block slot = behind_root slot in absurd (omega arith))
+    let b = n.below in let p : 0 < first_block slot = behind_root slot in absurd (omega arith))
     held
 
 -- and of the root that root alone besides
@@ -29,18 +29,24 @@ root_new root value n = n.is
 pub root_again : (may : ℕ → List ℕ → Type 0) (slot : Slot) (undecided : Bool) (records : List RecordValue)
     → IsAmong may slot undecided records → IsAmong (or_new 0 (root_block slot ∷ []) may) slot undecided records
 root_again may slot undecided [] among = absurd among
-root_again may slot undecided (r ∷ []) among = (among.0, record {
-  root = λ value held. ⊎_elim (λ m. among.1.root value m) (λ n. root_new (root_block slot) value n) held;
-  spelled = slot_beside may (root_block slot) slot r among.1.spelled;
-  lasting = among.1.lasting;
-})
-root_again may slot undecided (r ∷ landed ∷ []) among = (among.0, record {
-  root = λ value held. ⊎_elim (λ m. among.1.root value m) (λ n. inl (root_new (root_block slot) value n)) held;
-  spelled = slot_beside may (root_block slot) slot r among.1.spelled;
-  lasting = among.1.lasting;
-  other_spelled = slot_beside may (root_block slot) (other_slot slot) landed among.1.other_spelled;
-  other_lasting = among.1.other_lasting;
-})
+root_again may slot undecided (r ∷ []) among = (
+  among.0,
+  record {
+    root = λ value held. ⊎_elim (λ m. among.1.root value m) (λ n. root_new (root_block slot) value n) held;
+    spelled = slot_beside may (root_block slot) slot r among.1.spelled;
+    lasting = among.1.lasting;
+  },
+)
+root_again may slot undecided (r ∷ landed ∷ []) among = (
+  among.0,
+  record {
+    root = λ value held. ⊎_elim (λ m. among.1.root value m) (λ n. inl (root_new (root_block slot) value n)) held;
+    spelled = slot_beside may (root_block slot) slot r among.1.spelled;
+    lasting = among.1.lasting;
+    other_spelled = slot_beside may (root_block slot) (other_slot slot) landed among.1.other_spelled;
+    other_lasting = among.1.other_lasting;
+  },
+)
 root_again may slot undecided (r ∷ landed ∷ x ∷ xs) among = absurd among
 
 -- once the root is decided, the first record is left
@@ -49,19 +55,23 @@ pub decided_now : (may mid : ℕ → List ℕ → Type 0) (slot : Slot) (undecid
     → (undecided ≡ true → RootLasts mid slot) → IsAmong mid slot false (first_of records)
 decided_now may mid slot undecided [] among within root = absurd among
 decided_now may mid slot undecided (r ∷ []) among within root =
-    let again = root_again may slot undecided (r ∷ []) among in
-    (refl, record {
-      root = λ value held. again.1.root value (within 0 value held);
-      spelled = λ k value lt held. again.1.spelled k value lt (within (first_block slot + k) value held);
-      lasting = among.1.lasting;
-    })
+    let again = root_again may slot undecided (r ∷ []) among in (
+      refl,
+      record {
+        root = λ value held. again.1.root value (within 0 value held);
+        spelled = λ k value lt held. again.1.spelled k value lt (within (first_block slot + k) value held);
+        lasting = among.1.lasting;
+      },
+    )
 decided_now may mid slot undecided (r ∷ landed ∷ []) among within root =
-    let again = root_again may slot undecided (r ∷ landed ∷ []) among in
-    (refl, record {
-      root = root among.0;
-      spelled = λ k value lt held. again.1.spelled k value lt (within (first_block slot + k) value held);
-      lasting = among.1.lasting;
-    })
+    let again = root_again may slot undecided (r ∷ landed ∷ []) among in (
+      refl,
+      record {
+        root = root among.0;
+        spelled = λ k value lt held. again.1.spelled k value lt (within (first_block slot + k) value held);
+        lasting = among.1.lasting;
+      },
+    )
 decided_now may mid slot undecided (r ∷ landed ∷ x ∷ xs) among within root = absurd among
 
 -- the other slot may hold anything
@@ -76,37 +86,45 @@ root_apart Second i = let f = i.from in omega arith
 pub slot_free : (may : ℕ → List ℕ → Type 0) (slot : Slot) (records : List RecordValue)
     → IsAmong may slot false (first_of records) → IsAmong (beside_slot (other_slot slot) may) slot false (first_of records)
 slot_free may slot [] among = absurd among
-slot_free may slot (r ∷ rs) among = (refl, record {
-  root = λ value held. ⊎_elim (λ m. among.1.root value m) (λ i. absurd (root_apart (other_slot slot) i)) held;
-  spelled = λ k value lt held. ⊎_elim (λ m. among.1.spelled k value lt m) (λ i. absurd (apart slot k lt i)) held;
-  lasting = among.1.lasting;
-})
+slot_free may slot (r ∷ rs) among = (
+  refl,
+  record {
+    root = λ value held. ⊎_elim (λ m. among.1.root value m) (λ i. absurd (root_apart (other_slot slot) i)) held;
+    spelled = λ k value lt held. ⊎_elim (λ m. among.1.spelled k value lt m) (λ i. absurd (apart slot k lt i)) held;
+    lasting = among.1.lasting;
+  },
+)
 
 pub within_slot : (may mid : ℕ → List ℕ → Type 0) (slot : Slot) (records : List RecordValue)
     → IsAmong may slot false (first_of records) → NoMore (beside_slot (other_slot slot) may) mid
     → IsAmong mid slot false (first_of records)
 within_slot may mid slot [] among within = absurd among
 within_slot may mid slot (r ∷ rs) among within =
-    let free = slot_free may slot (r ∷ rs) among in
-    (refl, record {
-      root = λ value held. free.1.root value (within 0 value held);
-      spelled = λ k value lt held. free.1.spelled k value lt (within (first_block slot + k) value held);
-      lasting = among.1.lasting;
-    })
+    let free = slot_free may slot (r ∷ rs) among in (
+      refl,
+      record {
+        root = λ value held. free.1.root value (within 0 value held);
+        spelled = λ k value lt held. free.1.spelled k value lt (within (first_block slot + k) value held);
+        lasting = among.1.lasting;
+      },
+    )
 
 -- the other slot is named, or is not yet
 pub either_root : (may : ℕ → List ℕ → Type 0) (slot : Slot) (r saved : RecordValue)
     → IsAmong may slot false (r ∷ []) → SlotLasts may (other_slot slot) saved
     → IsRecord saved.aptpl saved.registrants saved.reservation
     → IsAmong (or_new 0 (root_block (other_slot slot) ∷ []) may) slot true (r ∷ saved ∷ [])
-either_root may slot r saved among spelled lasting = (refl, record {
-  root = λ value held. ⊎_elim (λ m. inl (among.1.root value m))
-      (λ n. inr (root_new (root_block (other_slot slot)) value n)) held;
-  spelled = slot_beside may (root_block (other_slot slot)) slot r among.1.spelled;
-  lasting = among.1.lasting;
-  other_spelled = slot_beside may (root_block (other_slot slot)) (other_slot slot) saved spelled;
-  other_lasting = lasting;
-})
+either_root may slot r saved among spelled lasting = (
+  refl,
+  record {
+    root = λ value held. ⊎_elim (λ m. inl (among.1.root value m))
+        (λ n. inr (root_new (root_block (other_slot slot)) value n)) held;
+    spelled = slot_beside may (root_block (other_slot slot)) slot r among.1.spelled;
+    lasting = among.1.lasting;
+    other_spelled = slot_beside may (root_block (other_slot slot)) (other_slot slot) saved spelled;
+    other_lasting = lasting;
+  },
+)
 
 first_is_one : (records : List RecordValue) (disk : List (List ℕ)) → HoldsOneOf (first_of records) disk
     → HoldsOneOf records disk
@@ -138,8 +156,8 @@ module _ {D : Type 0} (moment : D → ℕ) (left_since : D → ℕ → List (Lis
       then_elapses (moment old) (moment mid) (moment new) (left_since old) (left_since mid) (left_since new)
       (HoldsOneOf (saved ∷ records)) (MayLeave (size mid) (beside_slot (other_slot slot) (may_hold mid))) so_far stop
       (λ disk left. inr (first_is_one records disk
-        (among_holds (size mid) (beside_slot (other_slot slot) (may_hold mid)) disk room left slot false
-        (first_of records) (slot_free (may_hold mid) slot records among))))
+      (among_holds (size mid) (beside_slot (other_slot slot) (may_hold mid)) disk room left slot false
+      (first_of records) (slot_free (may_hold mid) slot records among))))
 
   -- while the root that names it is written
   pub stop_new_root : (old mid new : D) → 67 ≤ size mid → StopsAt moment left_since (saved ∷ records) old mid
