@@ -2,4 +2,5 @@ pub mod Format
 pub mod Holds
 pub mod Lasts
 pub mod LastsLaws
+pub mod Reads
 pub mod Writes

@@ -4,6 +4,7 @@
 
 mod fault;
 mod file;
+mod parsing;
 mod slot;
 mod spelling;
 mod writing;
