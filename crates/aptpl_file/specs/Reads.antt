@@ -35,50 +35,50 @@ pub record AreEntries (xs : List Registrant) : Type 0 where
 -- these registrants, so many in all, begin with those, and the entry behind them is this one
 pub record HasEntry (count place : ℕ) (xs : List Registrant) (entry : List ℕ) (rs : List Registrant) : Type 0 where
   pub entries : AreEntries rs
-  pub count : length rs ≡ count
+  pub long : length rs ≡ count
   pub front : take place rs ≡ xs
-  pub entry : entry ≡ entry_at rs place
+  pub spelled : entry ≡ entry_at rs place
 
 -- an entry was read: it is that of the registrants behind those before, and of no others
 pub record TakesEntry (count place : ℕ) (entry : List ℕ) (old new : List Registrant) : Type 0 where
   pub entries : AreEntries new
   pub long : length new ≡ min (place + 1) count
   pub front : take place new ≡ old
-  pub entry : entry ≡ entry_at new place
+  pub spelled : entry ≡ entry_at new place
   pub only : (rs : List Registrant) → HasEntry count place old entry rs → take (place + 1) rs ≡ new
 
 -- the same of a block of two entries
 pub record HasBlock (count k : ℕ) (xs : List Registrant) (block : List ℕ) (rs : List Registrant) : Type 0 where
   pub entries : AreEntries rs
-  pub count : length rs ≡ count
+  pub long : length rs ≡ count
   pub front : take (2 * k) rs ≡ xs
-  pub block : block ≡ entries_block rs k
+  pub spelled : block ≡ entries_block rs k
 
 pub record TakesBlock (count k : ℕ) (block : List ℕ) (old new : List Registrant) : Type 0 where
   pub entries : AreEntries new
   pub long : length new ≡ min (2 * (k + 1)) count
   pub front : take (2 * k) new ≡ old
-  pub block : block ≡ entries_block new k
+  pub spelled : block ≡ entries_block new k
   pub only : (rs : List Registrant) → HasBlock count k old block rs → take (2 * (k + 1)) rs ≡ new
 
 -- the blocks of a slot behind the first spell these registrants, so many in all
 pub record HasEntries (disk : List (List ℕ)) (slot : Slot) (count : ℕ) (rs : List Registrant) : Type 0 where
   pub entries : AreEntries rs
-  pub count : length rs ≡ count
+  pub long : length rs ≡ count
   pub blocks : (k : ℕ) → k < 32 → block_at disk (first_block slot + 1 + k) ≡ entries_block rs k
 
 -- a record of these registrants whose reservation is spelled so
 pub record HasReservation (code place : ℕ) (xs : List Registrant) (r : RecordValue) : Type 0 where
   pub lasting : IsRecord r.aptpl r.registrants r.reservation
   pub registrants : r.registrants ≡ xs
-  pub code : code ≡ type_byte r.reservation
-  pub place : place ≡ place_byte r.reservation r.registrants
+  pub is_code : code ≡ type_byte r.reservation
+  pub is_place : place ≡ place_byte r.reservation r.registrants
 
 -- a slot's first block spells a record of these registrants
 pub record HasHeader (header : List ℕ) (xs : List Registrant) (r : RecordValue) : Type 0 where
   pub lasting : IsRecord r.aptpl r.registrants r.reservation
   pub registrants : r.registrants ≡ xs
-  pub header : header ≡ header_block r
+  pub spelled : header ≡ header_block r
 
 -- a slot spells a record
 pub record HasSlot (disk : List (List ℕ)) (slot : Slot) (r : RecordValue) : Type 0 where

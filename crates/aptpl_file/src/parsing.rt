@@ -2,12 +2,12 @@
 ghost use Rattle.std.specs.Prelude.{◌≡◌, ◌↔◌, ◌≤◌, ◌+◌, ◌*◌, ◌<◌, ℕ, List, min, not, nat_eq, length, IfErr, IfNone, IfOk, IfSome, IsTrue};
 ghost use Rattle.std.specs.List.{AllByRecursion};
 ghost use Rattle.std.specs.declared.cmp.Ordering.TheVariants.{Less};
-ghost use Rattle.scsi_types.specs.Nexus.{Nexus};
+ghost use Rattle.scsi_types.specs.declared.names.Group.{Group};
 ghost use Rattle.reservations.specs.declared.registrant.Registrant.{Registrant};
 ghost use Rattle.reservations.specs.Nexus.{nexus_cmp};
-ghost use Rattle.reservations.specs.Registry.{IsListed, RecordValue, is_sound_hold};
+ghost use Rattle.reservations.specs.Registry.{IsListed, RecordValue, is_lasting, is_sound_hold};
 ghost use Rattle.aptpl_file.specs.declared.spelling.TheConstants.{ENTRY_LENGTH};
-ghost use Rattle.aptpl_file.specs.Format.{entry_bytes, root_block};
+ghost use Rattle.aptpl_file.specs.Format.{entry_bytes, group_number, root_block};
 ghost use Rattle.aptpl_file.specs.Reads.{AreEntries, HasBlock, HasEntry, HasHeader, HasReservation, IsRefusalOf, IsRootRefusal, TakesBlock, TakesEntry};
 
 use crate::spelling::{ROOT_MAGIC, entry_bytes, header_block, root_block};
@@ -43,6 +43,17 @@ pub fn named_slot(root: &[u8; 512]) -> Result<Slot, OpenFault>
 
 // ---- entries
 
+fn group_of_number(number: u8) -> Option<Group>
+    ensures some { IfSome result (λ group. number ≡ group_number group) }
+    ensures none { IfNone result ((group : Group) → number ≡ group_number group → ⊥) }
+{
+    match number {
+        1 => Some(Group::One),
+        2 => Some(Group::Two),
+        _ => None,
+    }
+}
+
 // The registrant of an entry; none where it spells none.
 fn registrant_in(alloc: Global, entry: &[u8]) -> Result<Option<Registrant>, NoMemory>
     requires { length entry.now ≡ ENTRY_LENGTH }
@@ -51,22 +62,24 @@ fn registrant_in(alloc: Global, entry: &[u8]) -> Result<Option<Registrant>, NoMe
     ensures none { IfOk result (λ found. IfNone found ((x : Registrant) → IsListed x
         → IsTrue (not (nat_eq x.key 0)) → entry.now ≡ entry_bytes x → ⊥)) }
 {
-    let long = usize::from(entry[16]);
-    let group = match entry[9] {
-        1 => Group::One,
-        2 => Group::Two,
-        _ => return Ok(None),
+    let Some(group) = group_of_number(entry[9]) else {
+        return Ok(None);
     };
+    let long = usize::from(entry[16]);
+    if long == 0 {
+        return Ok(None);
+    }
+    if long > 223 {
+        return Ok(None);
+    }
     let key = BigEndian::read_u64(entry);
-    if long == 0 || long > 223 || key == 0 {
+    if key == 0 {
         return Ok(None);
     }
     let name = Vec::from_slice(alloc, &entry[17..17 + long])?;
-    let port = PortName::new(name, BigEndian::read_u48(&entry[10..]));
-    let x = Registrant {
-        nexus: Nexus::new(port, group),
-        key,
-    };
+    let isid = BigEndian::read_u48(&entry[10..]);
+    let nexus = Nexus::new(PortName::new(name, isid), group);
+    let x = Registrant { nexus, key };
     if entry_bytes(&x).as_slice() != entry {
         return Ok(None);
     }
@@ -135,7 +148,9 @@ pub fn take_block(
     ensures refused { IfErr result (λ fault. IsRefusalOf fault
         ((rs : List Registrant) → HasBlock count k registrants.old.items block.now rs → ⊥)) }
 {
-    take_entry(registrants, alloc, count, 2 * k, &block[..256])?;
+    if let Err(fault) = take_entry(registrants, alloc, count, 2 * k, &block[..256]) {
+        return Err(fault);
+    }
     take_entry(registrants, alloc, count, 2 * k + 1, &block[256..])
 }
 
@@ -175,6 +190,17 @@ fn reservation_in(
     }))
 }
 
+// Whether a record may be so: without aptpl there is nothing.
+fn is_lasting(
+    aptpl: bool,
+    registrants: &[Registrant],
+    reservation: &Option<Reservation>,
+) -> bool
+    ensures { result ≡ is_lasting aptpl registrants.now reservation.now }
+{
+    aptpl || registrants.is_empty() && reservation.is_none()
+}
+
 /// The record of a slot's first block and of its registrants.
 pub fn record_in(
     alloc: Global,
@@ -189,9 +215,11 @@ pub fn record_in(
         ((r : RecordValue) → HasHeader header.now registrants.items r → ⊥)) }
 {
     let aptpl = header[8] == 1;
-    let reservation = reservation_in(alloc, header[10], header[11], &registrants)?;
-    let is_empty = registrants.is_empty() && reservation.is_none();
-    if !aptpl && !is_empty {
+    let reservation = match reservation_in(alloc, header[10], header[11], &registrants) {
+        Ok(reservation) => reservation,
+        Err(fault) => return Err(fault),
+    };
+    if !is_lasting(aptpl, &registrants, &reservation) {
         return Err(OpenFault::NotARegFile);
     }
     if *header != header_block(aptpl, &registrants, &reservation) {
