@@ -1,0 +1,5 @@
+pub mod Padding
+pub mod SlotWrites
+pub mod Spelled
+pub mod Stops
+pub mod Taken
