@@ -1,5 +1,5 @@
 -- Rules that refuse a command, or do not.
-use Rattle.std.proofs.Common.{◌≡◌, ℕ, ◌+◌, ◌≤◌, Bool, true, false, ◌&&◌, nat_lt, nat_eq, if◌then◌else◌, List, length, Option, Some, None, Result, Ok, Err, refl, sym, arith}
+use Rattle.std.proofs.Common.{◌≡◌, ℕ, ◌+◌, ◌≤◌, Bool, true, false, nat_lt, nat_eq, if◌then◌else◌, List, length, Option, Some, None, Result, Ok, Err, refl, sym, arith}
 use Rattle.std.specs.Option.{option_map, option_or}
 use Rattle.std.proofs.lemmas.Bool.Decides.{nat_tests}
 use Rattle.access_states.specs.AccessMap.{AccessMapValue}
@@ -8,12 +8,12 @@ use Rattle.access_states.specs.declared.list.AsetFault.{AsetFault}
 use Rattle.access_states.specs.declared.list.AsetFault.TheVariants.{Length, BadList}
 use Rattle.access_states.specs.declared.state.AccessState.{AccessState}
 use Rattle.access_states.specs.declared.state.AccessState.TheVariants.{ActiveOptimized, ActiveNonOptimized, Standby, Unavailable}
-use Rattle.reservations.specs.Rows.{is_registering}
+use Rattle.reservations.specs.Registry.{RecordValue}
 use Rattle.scsi_types.specs.declared.command.Op.{Op}
 use Rattle.scsi_types.specs.Attention.{attention_sense}
 use Rattle.scsi_types.specs.Cdb.{need_of}
 use Rattle.scsi_types.specs.ReplyValue.{check}
-use Rattle.scsi_types.specs.Sense.{parameter_list_length_error, invalid_field_in_parameter_list}
+use Rattle.scsi_types.specs.Sense.{parameter_list_length_error}
 use Rattle.scsi_types.specs.declared.attention.UnitAttention.{UnitAttention}
 use Rattle.scsi_types.specs.declared.attention.UnitAttention.TheVariants.{PowerOn, ReservationsPreempted, ReservationsReleased, RegistrationsPreempted, AccessStateChanged}
 use Rattle.scsi_types.specs.declared.command.Command.{Command as ScsiCommand}
@@ -27,20 +27,20 @@ use Rattle.unit_state.specs.Choice.{Fine, choice_of}
 use Rattle.unit_state.specs.Medium.{Range, Fits, range_of, work_of, work_asked}
 use Rattle.unit_state.specs.Groups.{IsTaken, set_by}
 use Rattle.unit_state.specs.Ops.{kind_asked}
-use Rattle.unit_state.specs.Reserve.{HasList, flag_of}
+use Rattle.unit_state.specs.Reserve.{HasList}
 use Rattle.unit_state.specs.Refusal.{Request, request, refusal, refusal_reply, attention_by, attention_rule, conflict_by, conflict_rule, opcode_by, opcode_rule, access_by, access_rule, state_for, field_by, field_rule, saved_rule, range_rule, range_by, outside, asks_saved, groups_list_by, list_by, list_rule}
 use Rattle.unit_state.specs.Route.{IsAdmitted, IsRefused}
 
 -- ---- no refusal tells of a failure
 
 abbrev IsQuiet : Option Refusal → Type 0
-IsQuiet o = (refused : Refusal) → o ≡ Some refused → (after : List (List ℕ)) → choice_of (refusal_reply refused) after ≡ Fine
+IsQuiet o = (refused : Refusal) → o ≡ Some refused → (after : List (List ℕ)) (lasting : List RecordValue) → choice_of (refusal_reply refused) after lasting ≡ Fine
 
 quiet_none : IsQuiet None
-quiet_none refused is after = absurd (cc)
+quiet_none refused is after lasting = absurd (cc)
 
-quiet_some : (a : Refusal) → ((after : List (List ℕ)) → choice_of (refusal_reply a) after ≡ Fine) → IsQuiet (Some a)
-quiet_some a quiet refused is after = let e : refused ≡ a = cc in rw e (quiet after)
+quiet_some : (a : Refusal) → ((after : List (List ℕ)) (lasting : List RecordValue) → choice_of (refusal_reply a) after lasting ≡ Fine) → IsQuiet (Some a)
+quiet_some a quiet refused is after lasting = let e : refused ≡ a = cc in rw e (quiet after lasting)
 
 quiet_or : (a b : Option Refusal) → IsQuiet a → IsQuiet b → IsQuiet (option_or a b)
 quiet_or None b qa qb = qb
@@ -54,12 +54,12 @@ quiet_if : (test : Bool) (a : Refusal) → IsQuiet (Some a) → IsQuiet (if test
 quiet_if true a q = q
 quiet_if false a q = quiet_none
 
-attention_is_fine : (attention : UnitAttention) (after : List (List ℕ)) → choice_of (check (attention_sense attention)) after ≡ Fine
-attention_is_fine PowerOn after = refl
-attention_is_fine ReservationsPreempted after = refl
-attention_is_fine ReservationsReleased after = refl
-attention_is_fine RegistrationsPreempted after = refl
-attention_is_fine AccessStateChanged after = refl
+attention_is_fine : (attention : UnitAttention) (after : List (List ℕ)) (lasting : List RecordValue) → choice_of (check (attention_sense attention)) after lasting ≡ Fine
+attention_is_fine PowerOn after lasting = refl
+attention_is_fine ReservationsPreempted after lasting = refl
+attention_is_fine ReservationsReleased after lasting = refl
+attention_is_fine RegistrationsPreempted after lasting = refl
+attention_is_fine AccessStateChanged after lasting = refl
 
 quiet_attention : (first : Option UnitAttention) (passes : Bool) → IsQuiet (attention_by first passes)
 quiet_attention None passes = quiet_none
@@ -68,40 +68,36 @@ quiet_attention (Some attention) false = quiet_some (Attention attention) (atten
 
 quiet_conflict : (lets : Bool) → IsQuiet (conflict_by lets)
 quiet_conflict true = quiet_none
-quiet_conflict false = quiet_some Conflict (λ after. refl)
+quiet_conflict false = quiet_some Conflict (λ after lasting. refl)
 
 quiet_field : (asked : Result ScsiCommand CdbFault) (bytes : List ℕ) → IsQuiet (field_by asked bytes)
-quiet_field (Ok command) bytes = quiet_if (nat_lt (length bytes) (need_of (Ok command))) _ (quiet_some _ (λ after. refl))
-quiet_field (Err (BadField op)) bytes = quiet_some _ (λ after. refl)
+quiet_field (Ok command) bytes = quiet_if (nat_lt (length bytes) (need_of (Ok command))) _ (quiet_some _ (λ after lasting. refl))
+quiet_field (Err (BadField op)) bytes = quiet_some _ (λ after lasting. refl)
 quiet_field (Err UnknownOpcode) bytes = quiet_none
 
 quiet_range : (total : ℕ) (range : Option Range) → IsQuiet (range_by total range)
 quiet_range total None = quiet_none
-quiet_range total (Some r) = quiet_unless _ _ (quiet_some _ (λ after. refl))
+quiet_range total (Some r) = quiet_unless _ _ (quiet_some _ (λ after lasting. refl))
 
 quiet_opcode : (kind : Option Op) → IsQuiet (opcode_by kind)
-quiet_opcode None = quiet_some _ (λ after. refl)
+quiet_opcode None = quiet_some _ (λ after lasting. refl)
 quiet_opcode (Some op) = quiet_none
 
 quiet_states : (served : Bool) (state : AccessState) → IsQuiet (option_map Check (if served then None else not_accessible state))
 quiet_states true state = quiet_none
 quiet_states false ActiveOptimized = quiet_none
 quiet_states false ActiveNonOptimized = quiet_none
-quiet_states false Standby = quiet_some _ (λ after. refl)
-quiet_states false Unavailable = quiet_some _ (λ after. refl)
+quiet_states false Standby = quiet_some _ (λ after lasting. refl)
+quiet_states false Unavailable = quiet_some _ (λ after lasting. refl)
 
 quiet_access : (state : AccessState) (kind : Option Op) → IsQuiet (access_by state kind)
 quiet_access state None = quiet_none
 quiet_access state (Some op) = quiet_states (is_served state op) state
 
-quiet_list_of : (long lasts : Bool) → IsQuiet (if long then (if lasts then Some (Check invalid_field_in_parameter_list) else None) else Some (Check parameter_list_length_error))
-quiet_list_of true lasts = quiet_if lasts _ (quiet_some _ (λ after. refl))
-quiet_list_of false lasts = quiet_some _ (λ after. refl)
-
 quiet_groups : (r : Result AccessMapValue AsetFault) → IsQuiet (groups_list_by r)
 quiet_groups (Ok new) = quiet_none
-quiet_groups (Err Length) = quiet_some _ (λ after. refl)
-quiet_groups (Err BadList) = quiet_some _ (λ after. refl)
+quiet_groups (Err Length) = quiet_some _ (λ after lasting. refl)
+quiet_groups (Err BadList) = quiet_some _ (λ after lasting. refl)
 
 quiet_list : (c : ControlValue) (asked : Result ScsiCommand CdbFault) (bytes : List ℕ) → IsQuiet (list_by c asked bytes)
 quiet_list c (Err fault) bytes = quiet_none
@@ -116,7 +112,7 @@ quiet_list c (Ok (commands.Write lba n fua)) bytes = quiet_none
 quiet_list c (Ok (commands.CompareAndWrite lba n fua)) bytes = quiet_none
 quiet_list c (Ok (commands.SynchronizeCache lba n)) bytes = quiet_none
 quiet_list c (Ok (commands.PersistentReserveIn action n)) bytes = quiet_none
-quiet_list c (Ok (commands.PersistentReserveOut action scope kind n)) bytes = quiet_list_of (nat_eq n 24) (is_registering action && flag_of 1 bytes)
+quiet_list c (Ok (commands.PersistentReserveOut action scope kind n)) bytes = quiet_unless (nat_eq n 24) _ (quiet_some _ (λ after lasting. refl))
 quiet_list c (Ok (commands.ReportLuns select n)) bytes = quiet_none
 quiet_list c (Ok (commands.ReportTargetPortGroups n)) bytes = quiet_none
 quiet_list c (Ok (commands.SetTargetPortGroups n)) bytes = quiet_groups (set_by c n bytes)
@@ -128,7 +124,7 @@ quiet_rules c r =
     (quiet_or (access_rule c r) _ (quiet_access (state_for c r.session) (kind_asked r.asked))
     (quiet_or (conflict_rule c r) _ (quiet_conflict _)
     (quiet_or (field_rule c r) _ (quiet_field r.asked r.bytes)
-    (quiet_or (saved_rule c r) _ (quiet_if (asks_saved r.asked) _ (quiet_some _ (λ after. refl)))
+    (quiet_or (saved_rule c r) _ (quiet_if (asks_saved r.asked) _ (quiet_some _ (λ after lasting. refl)))
     (quiet_or (range_rule c r) _ (quiet_range c.total (range_of (work_asked r.asked r.bytes)))
     (quiet_or (list_rule c r) None (quiet_list c r.asked r.bytes) quiet_none)))))))
 

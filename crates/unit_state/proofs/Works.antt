@@ -1,5 +1,5 @@
 -- Works that were done, and their replies.
-use Rattle.std.proofs.Common.{◌≡◌, ℕ, ◌*◌, ◌<◌, Bool, true, List, [], Option, Some, None, Ok, refl, sym, ◌∙◌, ap, subst, inl, inr, arith}
+use Rattle.std.proofs.Common.{◌≡◌, ℕ, ◌*◌, ◌<◌, Bool, true, List, [], Option, Some, None, Ok, refl, sym, ◌∙◌, ap, subst, inl, inr, ⊎_elim, arith}
 use Rattle.std.specs.Prelude.{IsTrue}
 use Rattle.block_file.specs.Disk.{written, range_bytes, Between}
 use Rattle.block_file.specs.Failures.{Tells}
@@ -12,25 +12,28 @@ use Rattle.compare_write.specs.Instances.{compare_instance, write_instance}
 use Rattle.reservations.specs.declared.request.PrOut.{PrOut}
 use Rattle.reservations.specs.Rows.{Effect, Done as Reserved, Conflicting, Refused, Full}
 use Rattle.scsi_types.specs.declared.reservation.PrOutAction.{PrOutAction}
-use Rattle.unit_state.specs.Reserve.{after_effect, effect_by, effect_reply, pr_out}
-use Rattle.scsi_types.specs.ReplyValue.{ReplyValue, good}
+use Rattle.reservations.specs.Registry.{RecordValue}
+use Rattle.unit_state.specs.Reserve.{MayFailToSave, after_effect, effect_by, effect_reply, pr_out}
+use Rattle.unit_state.specs.Saving.{IsReserved, with_doubt}
+use Rattle.scsi_types.specs.ReplyValue.{ReplyValue, good, check}
+use Rattle.scsi_types.specs.Sense.{internal_target_failure}
 use Rattle.scsi_types.specs.declared.command.Command.{Command}
 use Rattle.scsi_types.specs.declared.command.Command.TheVariants as commands
 use Rattle.unit_state.specs.Answer.{IsServed}
 use Rattle.unit_state.specs.State.{ControlValue, unit_of}
-use Rattle.unit_state.specs.Choice.{Choice, Fine, ReadFailed, WriteFailed, OpenFailed, IsFine, choice_of}
+use Rattle.unit_state.specs.Choice.{Choice, Fine, ReadFailed, WriteFailed, OpenFailed, SaveFailed, IsFine, choice_of}
 use Rattle.unit_state.specs.Entry.{MayCome, described, left_by, returned_by}
 use Rattle.unit_state.specs.Step.{is_describing, MayTake}
-use Rattle.unit_state.specs.Medium.{Work, MayChoose, Range, Nothing, Reads, Writes, Compares, Flushes, Finding, Done, WriteError, compared_by, found_by, reply_by, work_of}
+use Rattle.unit_state.specs.Medium.{Work, MayChoose, Range, Nothing, Reads, Writes, Compares, Flushes, Finding, Done, WriteError, SaveError, compared_by, found_by, reply_by, work_of}
 use Rattle.unit_state.specs.Worked.{IsWorked, choice_at, finding_at}
 
 -- the reply of a medium command tells its choice
-pub told_choice : (end : MediumEnd) (bytes : List ℕ) (new : List (List ℕ)) → choice_of (reply_by (finding_at end bytes)) new ≡ choice_at end new
-told_choice ends.Done bytes new = refl
-told_choice (ends.Miscompare at) bytes new = refl
-told_choice ends.ReadFailed bytes new = refl
-told_choice ends.WriteFailed bytes new = refl
-told_choice ends.FlushFailed bytes new = refl
+pub told_choice : (end : MediumEnd) (bytes : List ℕ) (new : List (List ℕ)) (lasting : List RecordValue) → choice_of (reply_by (finding_at end bytes)) new lasting ≡ choice_at end new
+told_choice ends.Done bytes new lasting = refl
+told_choice (ends.Miscompare at) bytes new lasting = refl
+told_choice ends.ReadFailed bytes new lasting = refl
+told_choice ends.WriteFailed bytes new lasting = refl
+told_choice ends.FlushFailed bytes new lasting = refl
 
 -- which is fine just where no call failed
 pub fine_end : (end : MediumEnd) (new : List (List ℕ)) (before now : ℕ) → Tells before now (IsUnfailed end) → Tells before now (IsFine (choice_at end new))
@@ -122,29 +125,37 @@ no_open (Writes r bytes flushed) may = may
 no_open (Compares r bytes flushed) may = may
 no_open (Flushes r) may = may
 
+no_save : (work : Work) (records : List RecordValue) → MayChoose work (SaveFailed records) → ⊥
+no_save Nothing records may = may
+no_save (Reads r flushed) records may = may
+no_save (Writes r bytes flushed) records may = may
+no_save (Compares r bytes flushed) records may = may
+no_save (Flushes r) records may = may
+
 -- what the medium may come to a command may
-may_come : (c : ControlValue) (command : Command) (bytes : List ℕ) (choice : Choice) → MayChoose (work_of command bytes) choice → MayCome c (Ok command) bytes choice
-may_come c command bytes Fine may = tt
-may_come c command bytes ReadFailed may = may
-may_come c command bytes (WriteFailed after) may = may
-may_come c command bytes OpenFailed may = absurd (no_open (work_of command bytes) may)
+may_come : (c : ControlValue) (session : ℕ) (command : Command) (bytes : List ℕ) (choice : Choice) → MayChoose (work_of command bytes) choice → MayCome c session (Ok command) bytes choice
+may_come c session command bytes Fine may = tt
+may_come c session command bytes ReadFailed may = may
+may_come c session command bytes (WriteFailed blocks) may = may
+may_come c session command bytes OpenFailed may = absurd (no_open (work_of command bytes) may)
+may_come c session command bytes (SaveFailed records) may = absurd (no_save (work_of command bytes) records may)
 
 -- one that the medium answers
 pub medium_served : (claims : Bool) (c now : ControlValue) (old new : List (List ℕ)) (session : ℕ) (command : Command) (bytes read kept : List ℕ) (end : MediumEnd) (reply : ReplyValue)
     → ((finding : Finding) → returned_by c session command bytes finding ≡ reply_by finding) → ((choice : Choice) → left_by c session command bytes choice ≡ c) → now ≡ c → IsWorked claims old new (work_of command bytes) end read → kept ≡ read → reply ≡ reply_by (finding_at end kept) → IsServed claims (unit_of c old) (unit_of now new) session command bytes reply
-medium_served claims c now old new session command bytes read kept end reply medium leaves same_control worked same is = rw (is, same) (record {
+medium_served claims c now old new session command bytes read kept end reply medium leaves same_control worked same is = rw (is, same, same_control) (record {
   finding = finding_at end read;
-  chosen = rw (told_choice end read new) (may_come c command bytes (choice_at end new) worked.chosen);
-  may = rw (told_choice end read new) worked.may;
-  torn = rw (told_choice end read new) worked.torn;
-  told = rw (told_choice end read new) worked.told;
-  leaves = rw (told_choice end read new) worked.leaves;
-  control = same_control ∙ sym (leaves (choice_of (reply_by (finding_at end read)) new));
+  chosen = rw (told_choice end read new c.lasting) (may_come c session command bytes (choice_at end new) worked.chosen);
+  may = rw (told_choice end read new c.lasting) worked.may;
+  torn = rw (told_choice end read new c.lasting) worked.torn;
+  told = rw (told_choice end read new c.lasting) worked.told;
+  leaves = rw (told_choice end read new c.lasting) worked.leaves;
+  control = sym (leaves (choice_of (reply_by (finding_at end read)) new c.lasting));
   answers = sym (medium (finding_at end read));
 })
 
 -- one that does nothing on the medium
-pub other_served : (claims : Bool) (c now : ControlValue) (blocks : List (List ℕ)) (session : ℕ) (command : Command) (bytes : List ℕ) (reply : ReplyValue) → work_of command bytes ≡ Nothing → choice_of reply blocks ≡ Fine → now ≡ left_by c session command bytes Fine
+pub other_served : (claims : Bool) (c now : ControlValue) (blocks : List (List ℕ)) (session : ℕ) (command : Command) (bytes : List ℕ) (reply : ReplyValue) → work_of command bytes ≡ Nothing → choice_of reply blocks now.lasting ≡ Fine → now ≡ left_by c session command bytes Fine
     → reply ≡ returned_by c session command bytes (Done []) → IsServed claims (unit_of c blocks) (unit_of now blocks) session command bytes reply
 other_served claims c now blocks session command bytes reply nothing fine leaves is = rw fine (record {
   finding = Done [];
@@ -164,24 +175,45 @@ good_served claims c now blocks session command bytes told reply nothing returns
 
 -- ---- PERSISTENT RESERVE OUT
 
-pub effect_is_fine : (e : Effect) (blocks : List (List ℕ)) → choice_of (effect_reply e) blocks ≡ Fine
-effect_is_fine (Reserved new told) blocks = refl
-effect_is_fine Conflicting blocks = refl
-effect_is_fine (Refused asc ascq) blocks = refl
-effect_is_fine Full blocks = refl
+pub effect_is_fine : (e : Effect) (blocks : List (List ℕ)) (lasting : List RecordValue) → choice_of (effect_reply e) blocks lasting ≡ Fine
+effect_is_fine (Reserved new told) blocks lasting = refl
+effect_is_fine Conflicting blocks lasting = refl
+effect_is_fine (Refused asc ascq) blocks lasting = refl
+effect_is_fine Full blocks lasting = refl
 
-pub fine_reply : (reply : ReplyValue) (e : Effect) (blocks : List (List ℕ)) → reply ≡ effect_reply e → choice_of reply blocks ≡ Fine
-fine_reply reply e blocks is = rw is (effect_is_fine e blocks)
+module _ (claims : Bool) (c now : ControlValue) (blocks : List (List ℕ)) (session : ℕ) (action : PrOutAction) (scope kind n : ℕ) (bytes : List ℕ) where
+  abbrev effect : Effect
+  effect = effect_by c session (pr_out action scope kind bytes)
 
-pub reserved_served : (claims : Bool) (c now : ControlValue) (blocks : List (List ℕ)) (session : ℕ) (action : PrOutAction) (scope kind n : ℕ) (bytes : List ℕ) (asked : PrOut) (reply : ReplyValue) → asked ≡ pr_out action scope kind bytes
-    → reply ≡ effect_reply (effect_by c session asked) → now ≡ after_effect c (effect_by c session asked) → IsServed claims (unit_of c blocks) (unit_of now blocks) session (commands.PersistentReserveOut action scope kind n) bytes reply
-reserved_served claims c now blocks session action scope kind n bytes asked reply same is leaves =
-    other_served claims c now blocks session (commands.PersistentReserveOut action scope kind n) bytes reply refl (fine_reply reply (effect_by c session asked) blocks is)
-    (leaves ∙ ap (λ (q : PrOut). after_effect c (effect_by c session q)) same) (is ∙ ap (λ (q : PrOut). effect_reply (effect_by c session q)) same)
+  reserved : (reply : ReplyValue) → now ≡ after_effect c effect → reply ≡ effect_reply effect
+      → IsServed claims (unit_of c blocks) (unit_of now blocks) session (commands.PersistentReserveOut action scope kind n) bytes reply
+  reserved reply leaves is =
+      other_served claims c now blocks session (commands.PersistentReserveOut action scope kind n) bytes reply refl
+      (rw is (effect_is_fine effect blocks now.lasting)) leaves is
+
+  unsaved : (reply : ReplyValue) → MayFailToSave c effect now.lasting → now ≡ with_doubt c now.lasting → reply ≡ check internal_target_failure
+      → IsServed claims (unit_of c blocks) (unit_of now blocks) session (commands.PersistentReserveOut action scope kind n) bytes reply
+  unsaved reply may leaves is = rw is (record {
+    finding = SaveError;
+    chosen = may;
+    may = refl;
+    torn = λ h. tt;
+    told = λ h. refl;
+    leaves = λ h. refl;
+    control = leaves;
+    answers = refl;
+  })
+
+  pub reserved_served : (reply : ReplyValue) → IsReserved c effect now reply
+      → IsServed claims (unit_of c blocks) (unit_of now blocks) session (commands.PersistentReserveOut action scope kind n) bytes reply
+  reserved_served reply is = ⊎_elim
+      (λ (done : (now ≡ after_effect c effect) × (reply ≡ effect_reply effect)). reserved reply done.0 done.1)
+      (λ (lost : MayFailToSave c effect now.lasting × (now ≡ with_doubt c now.lasting) × (reply ≡ check internal_target_failure)). unsaved reply lost.0 lost.1 lost.2)
+      is
 
 -- a reply that tells of no failure, where none was
-pub unfailed : (reply : ReplyValue) (blocks : List (List ℕ)) (count : ℕ) → choice_of reply blocks ≡ Fine → Tells count count (IsFine (choice_of reply blocks))
-unfailed reply blocks count fine = rw fine (record { later = omega arith; stays = λ r d. refl; rises = λ r f. absurd (f refl) })
+pub unfailed : (reply : ReplyValue) (blocks : List (List ℕ)) (lasting : List RecordValue) (count : ℕ) → choice_of reply blocks lasting ≡ Fine → Tells count count (IsFine (choice_of reply blocks lasting))
+unfailed reply blocks lasting count fine = rw fine (record { later = omega arith; stays = λ r d. refl; rises = λ r f. absurd (f refl) })
 
 -- ---- commands of which the unit only tells
 

@@ -13,10 +13,10 @@ use Rattle.unit_state.specs.declared.refusal.Refusal.{Refusal}
 use Rattle.unit_state.specs.declared.refusal.Refusal.TheVariants.{Attention, Conflict, Check}
 use Rattle.unit_state.specs.declared.sessions.Attached.{Attached}
 use Rattle.unit_state.specs.State.{ControlValue}
-use Rattle.unit_state.specs.Choice.{Choice, Fine, ReadFailed, WriteFailed, OpenFailed}
+use Rattle.unit_state.specs.Choice.{Choice, Fine, ReadFailed, WriteFailed, OpenFailed, SaveFailed}
 use Rattle.unit_state.specs.Groups.{after_change, change_heard, hear_change, is_any_changed, set_by}
 use Rattle.unit_state.specs.Refusal.{Request, request, refusal}
-use Rattle.unit_state.specs.Reserve.{all_heard, after_effect, effect_by, pr_out}
+use Rattle.unit_state.specs.Reserve.{all_heard, after_effect, after_saved, effect_by, pr_out}
 use Rattle.unit_state.specs.Sessions.{next_of, passed, told}
 use Rattle.unit_state.specs.Entry.{Command, IsNext, control_with, control_after, left_asked, left_groups}
 
@@ -76,6 +76,7 @@ next_groups c session list_length bytes OpenFailed = refl
 next_groups c session list_length bytes Fine = next_after_change c (Some session) (set_by c list_length bytes) session
 next_groups c session list_length bytes ReadFailed = next_after_change c (Some session) (set_by c list_length bytes) session
 next_groups c session list_length bytes (WriteFailed after) = next_after_change c (Some session) (set_by c list_length bytes) session
+next_groups c session list_length bytes (SaveFailed after) = next_after_change c (Some session) (set_by c list_length bytes) session
 
 next_after_effect : (c : ControlValue) (session : ℕ) (e : Effect) → next_of (after_effect c e).sessions session ≡ next_of c.sessions session
 next_after_effect c session (Done new codes) = next_heard codes c.sessions session
@@ -83,10 +84,17 @@ next_after_effect c session Conflicting = refl
 next_after_effect c session (Refused asc ascq) = refl
 next_after_effect c session Full = refl
 
+next_saved : (c : ControlValue) (session : ℕ) (e : Effect) (choice : Choice) → next_of (after_saved c e choice).sessions session ≡ next_of c.sessions session
+next_saved c session e Fine = next_after_effect c session e
+next_saved c session e ReadFailed = next_after_effect c session e
+next_saved c session e (WriteFailed after) = next_after_effect c session e
+next_saved c session e OpenFailed = next_after_effect c session e
+next_saved c session e (SaveFailed after) = refl
+
 next_left : (c : ControlValue) (session : ℕ) (asked : Result ScsiCommand CdbFault) (bytes : List ℕ) (choice : Choice) → next_of (left_asked c session asked bytes choice).sessions session ≡ next_of c.sessions session
 next_left c session (Err fault) bytes choice = refl
 next_left c session (Ok (commands.RequestSense allocation)) bytes choice = next_told c.sessions session
-next_left c session (Ok (commands.PersistentReserveOut action scope kind list_length)) bytes choice = next_after_effect c session (effect_by c session (pr_out action scope kind bytes))
+next_left c session (Ok (commands.PersistentReserveOut action scope kind list_length)) bytes choice = next_saved c session (effect_by c session (pr_out action scope kind bytes)) choice
 next_left c session (Ok commands.TestUnitReady) bytes choice = refl
 next_left c session (Ok (commands.Inquiry page allocation)) bytes choice = refl
 next_left c session (Ok (commands.ModeSense header control page allocation)) bytes choice = refl
@@ -124,11 +132,19 @@ count_groups c session list_length bytes OpenFailed = refl
 count_groups c session list_length bytes Fine = count_after_change c (Some session) (set_by c list_length bytes)
 count_groups c session list_length bytes ReadFailed = count_after_change c (Some session) (set_by c list_length bytes)
 count_groups c session list_length bytes (WriteFailed after) = count_after_change c (Some session) (set_by c list_length bytes)
+count_groups c session list_length bytes (SaveFailed after) = count_after_change c (Some session) (set_by c list_length bytes)
+
+count_saved : (c : ControlValue) (e : Effect) (choice : Choice) → (after_saved c e choice).count ≡ c.count
+count_saved c e Fine = count_after_effect c e
+count_saved c e ReadFailed = count_after_effect c e
+count_saved c e (WriteFailed after) = count_after_effect c e
+count_saved c e OpenFailed = count_after_effect c e
+count_saved c e (SaveFailed after) = refl
 
 count_left : (c : ControlValue) (session : ℕ) (asked : Result ScsiCommand CdbFault) (bytes : List ℕ) (choice : Choice) → (left_asked c session asked bytes choice).count ≡ c.count
 count_left c session (Err fault) bytes choice = refl
 count_left c session (Ok (commands.RequestSense allocation)) bytes choice = refl
-count_left c session (Ok (commands.PersistentReserveOut action scope kind list_length)) bytes choice = count_after_effect c (effect_by c session (pr_out action scope kind bytes))
+count_left c session (Ok (commands.PersistentReserveOut action scope kind list_length)) bytes choice = count_saved c (effect_by c session (pr_out action scope kind bytes)) choice
 count_left c session (Ok commands.TestUnitReady) bytes choice = refl
 count_left c session (Ok (commands.Inquiry page allocation)) bytes choice = refl
 count_left c session (Ok (commands.ModeSense header control page allocation)) bytes choice = refl

@@ -8,6 +8,7 @@ use Rattle.identity.specs.Luns.{lun_list}
 use Rattle.identity.specs.Mode.{mode_data}
 use Rattle.identity.specs.SenseData.{told_sense}
 use Rattle.identity.specs.Table.{cut, spell}
+use Rattle.reservations.specs.Registry.{RecordValue}
 use Rattle.scsi_types.specs.ReplyValue.{ReplyValue, good}
 use Rattle.scsi_types.specs.Sense.{sense_bytes}
 use Rattle.scsi_types.specs.Nexus.{Nexus}
@@ -21,8 +22,8 @@ use Rattle.unit_state.specs.declared.sessions.TheConstants.{MOST_SESSIONS}
 use Rattle.unit_state.specs.State.{ControlValue, UnitState}
 use Rattle.unit_state.specs.Sessions.{attached, session_of, next_of, sender_of, first_pending, passed, ended, all_reset, without}
 use Rattle.unit_state.specs.Groups.{IsTaken, set_by, move_by, is_opening, after_change, report_by}
-use Rattle.unit_state.specs.Reserve.{pr_out, effect_by, effect_reply, after_effect, in_data}
-use Rattle.unit_state.specs.Choice.{Choice, Fine, ReadFailed, WriteFailed, OpenFailed}
+use Rattle.unit_state.specs.Reserve.{MayFailToSave, pr_out, effect_by, after_saved, saved_reply, in_data}
+use Rattle.unit_state.specs.Choice.{Choice, Fine, ReadFailed, WriteFailed, OpenFailed, SaveFailed}
 use Rattle.unit_state.specs.Medium.{Work, Finding, work_asked, MayChoose, MayFind, IsTorn, found, left, reply_by}
 use Rattle.unit_state.specs.Refusal.{Request, request, refusal, refusal_reply, refusal_control, tell}
 
@@ -60,18 +61,25 @@ pub record CanMove (c : ControlValue) (list : List ℕ) (choice : Choice) : Type
   pub taken : IsTaken (move_by c list)
   pub fine : choice ≡ Fine
 
--- What a command may come to, of every device: a failure of the medium where its work meets it, and an open that fails
--- where the command changes the owner.
-abbrev pub MayCome : ControlValue → Result ScsiCommand CdbFault → List ℕ → Choice → Type 0
-MayCome c asked bytes Fine = Unit {0}
-MayCome c asked bytes ReadFailed = MayChoose (work_asked asked bytes) ReadFailed
-MayCome c asked bytes (WriteFailed after) = MayChoose (work_asked asked bytes) (WriteFailed after)
-MayCome c asked bytes OpenFailed = is_opening c asked bytes ≡ true
+-- a PERSISTENT RESERVE OUT may fail to save what is to last
+abbrev pub MayLose : ControlValue → ℕ → Result ScsiCommand CdbFault → List ℕ → List RecordValue → Type 0
+MayLose c session (Ok (commands.PersistentReserveOut action scope kind list_length)) bytes after =
+    MayFailToSave c (effect_by c session (pr_out action scope kind bytes)) after
+MayLose c session asked bytes after = ⊥
+
+-- What a command may come to, of every device: a failure of the medium where its work meets it, an open that fails where
+-- the command changes the owner, and a save that fails where it is asked for.
+abbrev pub MayCome : ControlValue → ℕ → Result ScsiCommand CdbFault → List ℕ → Choice → Type 0
+MayCome c session asked bytes Fine = Unit {0}
+MayCome c session asked bytes ReadFailed = MayChoose (work_asked asked bytes) ReadFailed
+MayCome c session asked bytes (WriteFailed after) = MayChoose (work_asked asked bytes) (WriteFailed after)
+MayCome c session asked bytes OpenFailed = is_opening c asked bytes ≡ true
+MayCome c session asked bytes (SaveFailed after) = MayLose c session asked bytes after
 
 -- a command that is refused leaves the devices alone
 abbrev pub CanChoose : Option Refusal → ControlValue → Request → Choice → Type 0
 CanChoose (Some refused) c r choice = choice ≡ Fine
-CanChoose None c r choice = MayCome c r.asked r.bytes choice
+CanChoose None c r choice = MayCome c r.session r.asked r.bytes choice
 
 abbrev pub CanTear : Option Refusal → List (List ℕ) → Work → Choice → Type 0
 CanTear (Some refused) blocks work choice = Unit {0}
@@ -109,13 +117,13 @@ described c session (commands.ReportTargetPortGroups allocation) = cut allocatio
 described c session command = []
 
 -- What a command returns that no rule refuses, where the devices told this: REQUEST SENSE its session's first
--- attention as data, or that there is none (SPC-4, 6.39); PERSISTENT RESERVE OUT what its row of the table says; a medium
+-- attention as data, or that there is none (SPC-4, 6.39); PERSISTENT RESERVE OUT what its row of the table says, unless its save failed; a medium
 -- command and SET TARGET PORT GROUPS answer the finding.
 abbrev pub returned_by : ControlValue → ℕ → ScsiCommand → List ℕ → Finding → ReplyValue
 returned_by c session (commands.RequestSense allocation) bytes finding =
     good (cut allocation (sense_bytes (told_sense (first_pending c.sessions session))))
 returned_by c session (commands.PersistentReserveOut action scope kind list_length) bytes finding =
-    effect_reply (effect_by c session (pr_out action scope kind bytes))
+    saved_reply (effect_by c session (pr_out action scope kind bytes)) finding
 returned_by c session (commands.Read lba blocks fua) bytes finding = reply_by finding
 returned_by c session (commands.Write lba blocks fua) bytes finding = reply_by finding
 returned_by c session (commands.CompareAndWrite lba blocks fua) bytes finding = reply_by finding
@@ -137,12 +145,12 @@ abbrev pub left_groups : ControlValue → ℕ → ℕ → List ℕ → Choice �
 left_groups c session list_length bytes OpenFailed = c
 left_groups c session list_length bytes choice = after_change c (Some session) (set_by c list_length bytes)
 
--- And what it leaves of all but the blocks: REQUEST SENSE has told an attention, PERSISTENT RESERVE OUT did its row, SET
--- TARGET PORT GROUPS its change, and any other leaves all as it was.
+-- And what it leaves of all but the blocks: REQUEST SENSE has told an attention, PERSISTENT RESERVE OUT did its row
+-- unless its save failed, SET TARGET PORT GROUPS its change unless the open failed, and any other leaves all as it was.
 abbrev pub left_by : ControlValue → ℕ → ScsiCommand → List ℕ → Choice → ControlValue
 left_by c session (commands.RequestSense allocation) bytes choice = tell c session
 left_by c session (commands.PersistentReserveOut action scope kind list_length) bytes choice =
-    after_effect c (effect_by c session (pr_out action scope kind bytes))
+    after_saved c (effect_by c session (pr_out action scope kind bytes)) choice
 left_by c session (commands.SetTargetPortGroups list_length) bytes choice = left_groups c session list_length bytes choice
 left_by c session command bytes choice = c
 

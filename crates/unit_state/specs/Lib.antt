@@ -13,6 +13,7 @@ pub mod Places
 pub mod Refusal
 pub mod Reserve
 pub mod Route
+pub mod Saving
 pub mod Sessions
 pub mod State
 pub mod Step

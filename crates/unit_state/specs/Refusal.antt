@@ -9,12 +9,11 @@ use Rattle.access_states.specs.declared.list.AsetFault.{AsetFault}
 use Rattle.access_states.specs.declared.state.AccessState.{AccessState}
 use Rattle.reservations.specs.declared.request.Access.{Access}
 use Rattle.reservations.specs.Access.{is_let_through, party_of}
-use Rattle.reservations.specs.Rows.{is_registering}
 use Rattle.scsi_types.specs.Nexus.{Nexus}
 use Rattle.scsi_types.specs.ReplyValue.{ReplyValue, check, conflict}
 use Rattle.scsi_types.specs.Cdb.{need_of}
 use Rattle.scsi_types.specs.Attention.{attention_sense}
-use Rattle.scsi_types.specs.Sense.{invalid_opcode, invalid_field_in_cdb, lba_out_of_range, saving_parameters_not_supported, parameter_list_length_error, invalid_field_in_parameter_list}
+use Rattle.scsi_types.specs.Sense.{invalid_opcode, invalid_field_in_cdb, lba_out_of_range, saving_parameters_not_supported, parameter_list_length_error}
 use Rattle.scsi_types.specs.declared.attention.UnitAttention.{UnitAttention}
 use Rattle.scsi_types.specs.declared.command.Op.{Op}
 use Rattle.scsi_types.specs.declared.command.Command.{Command}
@@ -29,8 +28,7 @@ use Rattle.unit_state.specs.State.{ControlValue}
 use Rattle.unit_state.specs.Sessions.{first_pending, sender_of, told}
 use Rattle.unit_state.specs.Groups.{set_by}
 use Rattle.unit_state.specs.Ops.{kind_asked, access_of, passes_attention}
-use Rattle.unit_state.specs.declared.reserve.TheConstants.{APTPL, LIST_LENGTH}
-use Rattle.unit_state.specs.Reserve.{flag_of}
+use Rattle.unit_state.specs.declared.reserve.TheConstants.{LIST_LENGTH}
 use Rattle.unit_state.specs.Medium.{Range, range_of, work_asked}
 
 -- a command as the rules judge it: who sent it, what it asks, and the data that came
@@ -130,12 +128,9 @@ range_by total (Some r) = outside total r
 abbrev pub range_rule : Rule
 range_rule c r = range_by c.total (range_of (work_asked r.asked r.bytes))
 
--- the parameter list of PERSISTENT RESERVE OUT has 24 bytes (SPC-4, 6.16.1); what is registered can't be made to outlast a
--- loss of power yet
-abbrev pub reserve_list_by : ℕ → Bool → Option Refusal
-reserve_list_by list_length lasts =
-    if nat_eq list_length LIST_LENGTH then (if lasts then Some (Check invalid_field_in_parameter_list) else None)
-    else Some (Check parameter_list_length_error)
+-- the parameter list of PERSISTENT RESERVE OUT has 24 bytes (SPC-4, 6.16.1)
+abbrev pub reserve_list_by : ℕ → Option Refusal
+reserve_list_by list_length = if nat_eq list_length LIST_LENGTH then None else Some (Check parameter_list_length_error)
 
 -- that of SET TARGET PORT GROUPS is one that the access states can follow (SPC-4, 6.45)
 abbrev pub groups_list_by : Result AccessMapValue AsetFault → Option Refusal
@@ -143,8 +138,7 @@ groups_list_by (Ok new) = None
 groups_list_by (Err fault) = Some (Check (fault_sense fault))
 
 abbrev pub list_by : ControlValue → Result Command CdbFault → List ℕ → Option Refusal
-list_by c (Ok (PersistentReserveOut action scope kind list_length)) bytes =
-    reserve_list_by list_length (is_registering action && flag_of APTPL bytes)
+list_by c (Ok (PersistentReserveOut action scope kind list_length)) bytes = reserve_list_by list_length
 list_by c (Ok (SetTargetPortGroups list_length)) bytes = groups_list_by (set_by c list_length bytes)
 list_by c asked bytes = None
 

@@ -1,6 +1,7 @@
 -- Where a command goes, and what lets it through.
 use Rattle.std.specs.Prelude.{◌≡◌, ◌≢◌, ℕ, List, Some, None, Ok}
 use Rattle.access_states.specs.AccessMap.{owner_of}
+use Rattle.reservations.specs.Registry.{RecordValue}
 use Rattle.scsi_types.specs.declared.names.Group.{Group}
 use Rattle.scsi_types.specs.declared.command.Command.{Command}
 use Rattle.unit_state.specs.declared.control.Route.{Route}
@@ -30,4 +31,4 @@ pub record IsAdmitted (c : ControlValue) (r : Request) (command : Command) : Typ
 -- a rule refuses it, which tells of no failure
 pub record IsRefused (c : ControlValue) (r : Request) (refused : Refusal) : Type 0 where
   pub refuses : refusal c r ≡ Some refused
-  pub fine : (after : List (List ℕ)) → choice_of (refusal_reply refused) after ≡ Fine
+  pub fine : (after : List (List ℕ)) (lasting : List RecordValue) → choice_of (refusal_reply refused) after lasting ≡ Fine

@@ -64,7 +64,7 @@ pub record TakesMemory (c : ControlValue) (r : Request) : Type 0 where
 
 -- the command's entry, whose choice its reply and the unit after it tell
 abbrev pub entry_of : ℕ → ℕ → Group → Result ScsiCommand CdbFault → List ℕ → ReplyValue → UnitState → Entry
-entry_of session serial by asked bytes reply new = Command session serial by asked bytes (choice_of reply new.blocks)
+entry_of session serial by asked bytes reply new = Command session serial by asked bytes (choice_of reply new.blocks new.control.lasting)
 
 -- The step added this entry: it was possible, and what is left and the reply are what the model gives; the blocks
 -- too, where the device's type claims them.
@@ -81,6 +81,18 @@ opens_with None c r = is_opening c r.asked r.bytes
 
 abbrev pub asks_opener : ControlValue → Request → Bool
 asks_opener c r = opens_with (refusal c r) c r
+
+-- the registration file is asked: no rule refuses the command, and it is a PERSISTENT RESERVE OUT
+abbrev pub is_reserving : Result ScsiCommand CdbFault → Bool
+is_reserving (Ok (commands.PersistentReserveOut action scope kind list_length)) = true
+is_reserving asked = false
+
+abbrev pub saves_with : Option Refusal → Request → Bool
+saves_with (Some refused) r = false
+saves_with None r = is_reserving r.asked
+
+abbrev pub asks_file : ControlValue → Request → Bool
+asks_file c r = saves_with (refusal c r) r
 
 -- a command that a rule refuses does not reach the device
 abbrev pub OnRefusal : Option Refusal → Type 0 → Type 0

@@ -43,6 +43,7 @@ pub fn change<B: Blocks, O: Opener<B>>(
     ensures device_failures { B.failures device.new ≡ B.failures device.old }
     ensures contents { IsTrue O.claims → B.contents device.new ≡ B.contents device.old }
     ensures changed { OnOk result (control.new ≡ with_access control.old by access) }
+    ensures lasting { control.new.lasting ≡ control.old.lasting }
     ensures stays { StaysAll control.old control.new }
     ensures err { OnErr result ((control.new ≡ control.old) × (device.new ≡ device.old)
         × (is_moved control.old.access access ≡ true)) }
@@ -69,6 +70,7 @@ pub fn set_groups<B: Blocks, O: Opener<B>>(
     requires place { IsPlaceOf control.old.sessions sender.session sender.at }
     requires list { IsTaken (set_by control.old list_length bytes.now) }
     ensures size { B.size device.new ≡ B.size device.old }
+    ensures lasting { control.new.lasting ≡ control.old.lasting }
     ensures stays { Stays control.old control.new sender.session sender.at }
     ensures served { IsServed (O.claims && B.claims) (unit_of control.old (B.contents device.old))
         (unit_of control.new (B.contents device.new)) sender.session (SetTargetPortGroups list_length) bytes.now result }
@@ -76,7 +78,7 @@ pub fn set_groups<B: Blocks, O: Opener<B>>(
         → opener.new ≡ opener.old }
     ensures device_failures { B.failures device.new ≡ B.failures device.old }
     ensures fine { Tells (O.opens_failed opener.old) (O.opens_failed opener.new)
-        (IsFine (choice_of result (B.contents device.new))) }
+        (IsFine (choice_of result (B.contents device.new) control.new.lasting)) }
 {
     let Ok(access) = states_asked(control, list_length, bytes) else {
         unreachable!()

@@ -7,9 +7,11 @@ mod groups;
 pub mod laws;
 mod medium;
 mod ops;
+mod records;
 mod refusal;
 mod reserve;
 mod rules;
+mod saving;
 mod sessions;
 mod unit;
 

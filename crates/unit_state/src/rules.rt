@@ -9,8 +9,6 @@ ghost use Rattle.unit_state.specs.Refusal.{access_by, attention_by, conflict_by,
 ghost use Rattle.unit_state.specs.Refusal.{asks_saved, opcode_by, outside, range_by, refusal, request, reserve_list_by};
 ghost use Rattle.unit_state.specs.Refusal.{state_for};
 ghost use Rattle.scsi_types.specs.Sense.{saving_parameters_not_supported};
-ghost use Rattle.unit_state.specs.Reserve.{flag_of};
-ghost use Rattle.reservations.specs.Rows.{is_registering};
 ghost use Rattle.unit_state.specs.Route.{IsAdmitted, IsRefused};
 ghost use Rattle.unit_state.specs.Sessions.{first_pending, sender_of};
 
@@ -18,10 +16,10 @@ use crate::control::Control;
 use crate::groups::states_asked;
 use crate::ops::{access_of, kind_asked, passes_attention};
 use crate::refusal::Refusal;
-use crate::reserve::{APTPL, LIST_LENGTH, has_flag};
+use crate::reserve::LIST_LENGTH;
 use crate::sessions::Sender;
 use access_states::permits;
-use scsi_types::{Asked, CdbFault, Command, Op, PageControl, PrOutAction, Sense, need};
+use scsi_types::{Asked, CdbFault, Command, Op, PageControl, Sense, need};
 
 /// The command, where no rule refuses it.
 pub fn admit(
@@ -163,13 +161,7 @@ fn list(control: &Control, asked: &Asked, bytes: &[u8]) -> Option<Refusal>
     ensures { result ≡ list_by control.now asked.now bytes.now }
 {
     match asked {
-        Ok(
-            Command::PersistentReserveOut {
-                action,
-                list_length,
-                ..
-            },
-        ) => reserve_list(*list_length, registers(*action) && has_flag(bytes, APTPL)),
+        Ok(Command::PersistentReserveOut { list_length, .. }) => reserve_list(*list_length),
         Ok(Command::SetTargetPortGroups { list_length }) => {
             groups_list(control, *list_length, bytes)
         }
@@ -177,17 +169,14 @@ fn list(control: &Control, asked: &Asked, bytes: &[u8]) -> Option<Refusal>
     }
 }
 
-/// A PERSISTENT RESERVE OUT with a parameter list of another length, or that is to outlast a loss of power.
-fn reserve_list(list_length: u32, lasts: bool) -> Option<Refusal>
-    ensures { result ≡ reserve_list_by list_length lasts }
+/// A PERSISTENT RESERVE OUT with a parameter list of another length.
+fn reserve_list(list_length: u32) -> Option<Refusal>
+    ensures { result ≡ reserve_list_by list_length }
 {
-    if list_length != LIST_LENGTH {
-        return Some(Refusal::Check(Sense::PARAMETER_LIST_LENGTH_ERROR));
+    if list_length == LIST_LENGTH {
+        return None;
     }
-    if lasts {
-        return Some(Refusal::Check(Sense::INVALID_FIELD_IN_PARAMETER_LIST));
-    }
-    None
+    Some(Refusal::Check(Sense::PARAMETER_LIST_LENGTH_ERROR))
 }
 
 /// A SET TARGET PORT GROUPS with a parameter list that the access states can't follow.
@@ -197,15 +186,5 @@ fn groups_list(control: &Control, list_length: u32, bytes: &[u8]) -> Option<Refu
     match states_asked(control, list_length, bytes) {
         Ok(_) => None,
         Err(fault) => Some(Refusal::Check(fault.sense())),
-    }
-}
-
-/// Whether a service action registers its nexus.
-fn registers(action: PrOutAction) -> bool
-    ensures { result ≡ is_registering action }
-{
-    match action {
-        PrOutAction::Register | PrOutAction::RegisterAndIgnoreExistingKey => true,
-        _ => false,
     }
 }

@@ -1,6 +1,8 @@
-ghost use Rattle.std.specs.Prelude.{IfSome, ◌≡◌, ◌≢◌, ◌<◌, ◌&&◌, ◌↔◌, false, Err, IfOk, OnOk, OnErr, IsErr};
+ghost use Rattle.std.specs.Prelude.{IfSome, ◌≡◌, ◌≢◌, ◌<◌, ◌&&◌, ◌↔◌, false, Err, [], ◌∷◌, IfOk, OnOk, OnErr, IsErr};
 ghost use Rattle.block_file.specs.Disk.{Only};
 ghost use Rattle.block_file.specs.Failures.{Counts, Tells};
+ghost use Rattle.aptpl_file.specs.Lasts.{EachOutcomeHolds, LastsAmong};
+ghost use Rattle.reservations.specs.Nexus.{IsPortName};
 ghost use Rattle.unit_state.specs.declared.control.TheConstants.{LAST_COUNT};
 
 use crate::commands::answer;
@@ -8,7 +10,9 @@ use crate::control::{AttachFault, Control, Gone, Route};
 use crate::groups::change;
 use crate::sessions::{Sender, SessionId};
 use access_states::{AsetFault, Cause, Change};
+use aptpl_file::RegFile;
 use block_file::{Blocks, DeviceFailed, Opener};
+use reservations::Record;
 use scsi_types::{Asked, Group, NoMemory, Place, PortName, Reply};
 use std::alloc::Global;
 use std::marker::Model;
@@ -41,26 +45,31 @@ pub enum MoveFault {
     Gone,
 }
 
-/// A logical unit over a device, with an opener that opens the device for the controller that takes it over.
+/// A logical unit over a device, with an opener that opens the device for the controller that takes it over, and a
+/// registration file on a device of its own. Of every unit it is known that a crash of that device leaves one of the
+/// records that `lasting` names, where its type claims what is said of a crash.
 #[derive(Drop)]
-pub struct Unit<B: Blocks, O: Opener<B>> {
+pub struct Unit<B: Blocks, O: Opener<B>, R: Blocks> {
     device: B,
     opener: O,
+    file: RegFile<R>,
     control: Control,
 }
 
-impl<B: Blocks, O: Opener<B>> Model for Unit<B, O> {
-    ghost use Rattle.std.specs.Prelude.{◌≡◌};
+impl<B: Blocks, O: Opener<B>, R: Blocks> Model for Unit<B, O, R> {
+    ghost use Rattle.std.specs.Prelude.{◌≡◌, IsTrue};
+    ghost use Rattle.aptpl_file.specs.Lasts.{LastsAmong};
     ghost use Rattle.unit_state.specs.State.{UnitValue};
 
-    ghost Value = { UnitValue B O };
+    ghost Value = { UnitValue B O R };
 
-    ghost view = { λ u. record { device = u.device; opener = u.opener; control = u.control } };
+    ghost view = { λ u. record { device = u.device; opener = u.opener; file = u.file; control = u.control } };
 
-    ghost invariant = { λ u. u.control.total ≡ B.size u.device };
+    ghost invariant = { λ u. (u.control.total ≡ B.size u.device)
+        × (IsTrue R.claims → LastsAmong R.size R.may_hold u.file u.control.lasting) };
 }
 
-impl<B: Blocks, O: Opener<B>> Unit<B, O> {
+impl<B: Blocks, O: Opener<B>, R: Blocks> Unit<B, O, R> {
     ghost use Rattle.scsi_types.specs.Nexus.{Port, Nexus};
     ghost use Rattle.unit_state.specs.State.{UnitState, UnitValue, opening_control, state_of, failures_of};
     ghost use Rattle.unit_state.specs.Choice.{IsFine, choice_of};
@@ -71,27 +80,40 @@ impl<B: Blocks, O: Opener<B>> Unit<B, O> {
     ghost use Rattle.unit_state.specs.Medium.{work_asked};
     ghost use Rattle.unit_state.specs.Groups.{is_moved_by, move_by};
     ghost use Rattle.unit_state.specs.Moves.{IsMove};
-    ghost use Rattle.unit_state.specs.Step.{OnReply, OnNoReply, OnRefusal, IsRouted, IsStep, TakesMemory, asks_opener, entry_of};
+    ghost use Rattle.unit_state.specs.Step.{OnReply, OnNoReply, OnRefusal, IsRouted, IsStep, TakesMemory, asks_file, asks_opener, entry_of};
 
-    /// Opens a unit over its blocks; its preferred group owns it. Refused, it drops the device and the opener.
-    pub fn open(alloc: Global, place: Place, blocks: B, opener: O) -> Result<Unit<B, O>, NoMemory>
-        ensures { IfOk result (λ u. u ≡ record { device = blocks; opener = opener; control = opening_control place (B.size blocks) }) }
+    /// Opens a unit over its blocks, with this registration file and the record that it holds; its preferred group owns it.
+    /// Refused, it drops the devices and the opener.
+    pub fn open(
+        alloc: Global,
+        place: Place,
+        blocks: B,
+        opener: O,
+        file: RegFile<R>,
+        lasted: Record,
+    ) -> Result<Unit<B, O, R>, NoMemory>
+        requires lasts { IsTrue R.claims → LastsAmong R.size R.may_hold file (lasted ∷ []) }
+        ensures { IfOk result (λ u. u ≡ record { device = blocks; opener = opener; file = file; control = opening_control place (B.size blocks) lasted }) }
     {
-        let control = Control::new(alloc, place, blocks.count())?;
+        let control = Control::new(alloc, place, blocks.count(), lasted)?;
         Ok(Unit {
             device: blocks,
             opener,
+            file,
             control,
         })
     }
 
-    /// Attaches a session of this nexus, and ends one that it had. Takes no memory.
+    /// Attaches a session of this nexus, and ends one that it had. Takes no memory. The port has a name of 1 to 223 bytes, and
+    /// its ISID fits six.
     pub fn attach(&mut self, port: PortName, group: Group) -> Result<SessionId, AttachFault>
+        requires { IsPortName port }
         ensures room { IsErr result ↔ (HasRoom self.old.control (record { port = port; group = group }) → ⊥) }
         ensures id { IfOk result (λ id. id ≡ self.old.control.count) }
         ensures control { IfOk result (λ id. self.new.control
             ≡ control_after self.old.control (Attach (record { port = port; group = group }))) }
         ensures device { self.new.device ≡ self.old.device }
+        ensures file { self.new.file ≡ self.old.file }
         ensures err { OnErr result (self.new ≡ self.old) }
     {
         self.control.attach(port, group)
@@ -102,6 +124,7 @@ impl<B: Blocks, O: Opener<B>> Unit<B, O> {
         ensures gone { IsErr result ↔ (IsAttached self.old.control session → ⊥) }
         ensures control { IfOk result (λ done. self.new.control ≡ control_after self.old.control (Detach session)) }
         ensures device { self.new.device ≡ self.old.device }
+        ensures file { self.new.file ≡ self.old.file }
         ensures err { OnErr result (self.new ≡ self.old) }
     {
         self.control.detach(session)
@@ -113,6 +136,7 @@ impl<B: Blocks, O: Opener<B>> Unit<B, O> {
         ensures gone { IsErr result ↔ (IsAttached self.old.control session → ⊥) }
         ensures control { IfOk result (λ done. self.new.control ≡ control_after self.old.control (Reset session)) }
         ensures device { self.new.device ≡ self.old.device }
+        ensures file { self.new.file ≡ self.old.file }
         ensures err { OnErr result (self.new ≡ self.old) }
     {
         self.control.reset(session)
@@ -145,10 +169,16 @@ impl<B: Blocks, O: Opener<B>> Unit<B, O> {
         // The opener is asked only by a command that changes the owner.
         ensures unopened { asks_opener self.old.control (request session asked bytes.now) ≡ false
             → self.new.opener ≡ self.old.opener }
+        // The registration file is asked only by a PERSISTENT RESERVE OUT.
+        ensures unsaved { asks_file self.old.control (request session asked bytes.now) ≡ false
+            → self.new.file ≡ self.old.file }
+        // A crash leaves one of the records that the unit then says.
+        ensures restart { IsTrue R.claims → EachOutcomeHolds (R.size self.new.file.device)
+            (R.may_hold self.new.file.device) self.new.control.lasting }
         // The choice is Fine exactly where no count of failures rose.
-        ensures fine { OnReply result (λ reply. Tells (failures_of B.failures O.opens_failed self.old)
-            (failures_of B.failures O.opens_failed self.new)
-            (IsFine (choice_of reply (B.contents self.new.device)))) }
+        ensures fine { OnReply result (λ reply. Tells (failures_of B.failures O.opens_failed R.failures self.old)
+            (failures_of B.failures O.opens_failed R.failures self.new)
+            (IsFine (choice_of reply (B.contents self.new.device) self.new.control.lasting))) }
     {
         let sender = match self.control.route(session, serial, by) {
             Route::Gone => return StepEnd::Gone,
@@ -158,6 +188,7 @@ impl<B: Blocks, O: Opener<B>> Unit<B, O> {
         let reply = match answer(
             &mut self.device,
             &mut self.opener,
+            &mut self.file,
             &mut self.control,
             alloc,
             sender,
@@ -177,11 +208,12 @@ impl<B: Blocks, O: Opener<B>> Unit<B, O> {
         ensures moved { IsMove (O.claims && B.claims) (state_of B.contents self.old) (state_of B.contents self.new)
             list.now result }
         ensures err { OnErr result ((self.new.control ≡ self.old.control) × (self.new.device ≡ self.old.device)) }
+        ensures file { self.new.file ≡ self.old.file }
         ensures unopened { is_moved_by self.old.control.access (move_by self.old.control list.now) ≡ false
             → self.new.opener ≡ self.old.opener }
         ensures unasked { self.old.control.count ≡ LAST_COUNT → self.new ≡ self.old }
-        ensures failures { Tells (failures_of B.failures O.opens_failed self.old)
-            (failures_of B.failures O.opens_failed self.new) (result ≢ Err MoveFault.OpenFailed) }
+        ensures failures { Tells (failures_of B.failures O.opens_failed R.failures self.old)
+            (failures_of B.failures O.opens_failed R.failures self.new) (result ≢ Err MoveFault.OpenFailed) }
     {
         if self.control.is_full() {
             return Err(MoveFault::Gone);
@@ -209,19 +241,22 @@ impl<B: Blocks, O: Opener<B>> Unit<B, O> {
     pub fn flush(&mut self) -> Result<(), DeviceFailed>
         ensures control { self.new.control ≡ self.old.control }
         ensures opener { self.new.opener ≡ self.old.opener }
+        ensures file { self.new.file ≡ self.old.file }
         ensures blocks { IsTrue B.claims → B.contents self.new.device ≡ B.contents self.old.device }
         ensures lasts { IsTrue B.claims → OnOk result
             (Only (B.contents self.new.device) (B.may_hold self.new.device)) }
-        ensures failures { Counts (failures_of B.failures O.opens_failed self.old)
-            (failures_of B.failures O.opens_failed self.new) result }
+        ensures failures { Counts (failures_of B.failures O.opens_failed R.failures self.old)
+            (failures_of B.failures O.opens_failed R.failures self.new) result }
     {
         self.device.flush()
     }
 
-    /// Hands the device and the opener back.
-    pub fn close(self) -> (B, O)
-        ensures { result ≡ (self.device, self.opener) }
+    /// Hands the device, the opener and the device of the registration file back. A crash of that leaves one of the records
+    /// that the unit says.
+    pub fn close(self) -> (B, O, R)
+        ensures closed { result ≡ (self.device, self.opener, self.file.device) }
+        ensures restart { IsTrue R.claims → EachOutcomeHolds (R.size result.2) (R.may_hold result.2) self.control.lasting }
     {
-        (self.device, self.opener)
+        (self.device, self.opener, self.file.close())
     }
 }

@@ -1,7 +1,7 @@
 use Rattle.std.proofs.Common.{◌≡◌, ◌∙◌, ap, length, refl, arith}
 use Rattle.std.proofs.lemmas.List.{take_at}
 use Rattle.scsi_types.specs.ReplyValue.{good}
-use Rattle.unit_state.proofs.Works.{medium_served, good_served, described_served, reserved_served, fine_reply, unfailed, told_else}
+use Rattle.unit_state.proofs.Works.{medium_served, good_served, described_served, told_else}
 use Rattle.unit_state.proofs.commands.perform.Goals as goal
 
 pub returns-in-TestUnitReady-clause-served : goal.returns-in-TestUnitReady-clause-served
@@ -34,17 +34,4 @@ returns-in_ok-sense-in-RequestSense-clause-served g c =
 pub returns-in_ok-describe-in_default-clause-served : goal.returns-in_ok-describe-in_default-clause-served
 returns-in_ok-describe-in_default-clause-served g c =
     let d = c.in_default in
-    described_served _ _ _ _ _ _ _ _ (told_else _ d.not-TestUnitReady d.not-RequestSense d.not-PersistentReserveOut d.not-Read d.not-Write d.not-CompareAndWrite d.not-SynchronizeCache c.requires.no_change) c.in_ok-describe-in_default.ensures.described c.good-in_default.ensures
-
-pub returns-in_ok-reply-in-PersistentReserveOut-clause-served : goal.returns-in_ok-reply-in-PersistentReserveOut-clause-served
-returns-in_ok-reply-in-PersistentReserveOut-clause-served g c =
-    let of = c.in-PersistentReserveOut in
-    let told = c.in_ok-reply-in-PersistentReserveOut.ensures in
-    let asked = c.pr_out.ensures in
-    rw of.is
-    (reserved_served _ _ _ _ _ _ _ _ _ _ _ _ asked told.reply told.after)
-
-pub returns-in_ok-reply-in-PersistentReserveOut-clause-fine : goal.returns-in_ok-reply-in-PersistentReserveOut-clause-fine
-returns-in_ok-reply-in-PersistentReserveOut-clause-fine g c =
-    let told = c.in_ok-reply-in-PersistentReserveOut.ensures in
-    unfailed c.in_ok-reply-in-PersistentReserveOut.reply (g.B.Blocks.contents c.args.device.now) _ (fine_reply _ _ _ told.reply)
+    described_served _ _ _ _ _ _ _ _ (told_else _ d.not-TestUnitReady d.not-RequestSense c.requires.no_save d.not-Read d.not-Write d.not-CompareAndWrite d.not-SynchronizeCache c.requires.no_change) c.in_ok-describe-in_default.ensures.described c.good-in_default.ensures
