@@ -1,3 +1,7 @@
+pub mod EntriesRead
+pub mod Halves
+pub mod Header
+pub mod Holder
 pub mod Padding
 pub mod SlotWrites
 pub mod Spelled

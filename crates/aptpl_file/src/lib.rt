@@ -5,6 +5,7 @@
 mod fault;
 mod file;
 mod parsing;
+mod reading;
 mod slot;
 mod spelling;
 mod writing;

@@ -148,10 +148,10 @@ pub fn take_block(
     ensures refused { IfErr result (λ fault. IsRefusalOf fault
         ((rs : List Registrant) → HasBlock count k registrants.old.items block.now rs → ⊥)) }
 {
-    if let Err(fault) = take_entry(registrants, alloc, count, 2 * k, &block[..256]) {
-        return Err(fault);
+    match take_entry(registrants, alloc, count, 2 * k, &block[..256]) {
+        Ok(()) => take_entry(registrants, alloc, count, 2 * k + 1, &block[256..]),
+        Err(fault) => Err(fault),
     }
-    take_entry(registrants, alloc, count, 2 * k + 1, &block[256..])
 }
 
 // ---- the first block
