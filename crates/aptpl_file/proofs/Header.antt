@@ -7,7 +7,7 @@ use Rattle.std.specs.Prelude.{Option}
 use Rattle.aptpl_file.specs.Format.{aptpl_byte, header_block, place_byte, type_byte}
 use Rattle.aptpl_file.specs.Reads.{HasHeader, HasReservation}
 
-aptpl_read : (r : RecordValue) → slice_index (header_block r) 8 ≡ aptpl_byte r.aptpl
+pub aptpl_read : (r : RecordValue) → slice_index (header_block r) 8 ≡ aptpl_byte r.aptpl
 unfolding header_block
 aptpl_read r = refl
 
@@ -15,11 +15,11 @@ pub count_read : (r : RecordValue) → slice_index (header_block r) 9 ≡ length
 unfolding header_block
 count_read r = refl
 
-type_read : (r : RecordValue) → slice_index (header_block r) 10 ≡ type_byte r.reservation
+pub type_read : (r : RecordValue) → slice_index (header_block r) 10 ≡ type_byte r.reservation
 unfolding header_block
 type_read r = refl
 
-place_read : (r : RecordValue) → slice_index (header_block r) 11 ≡ place_byte r.reservation r.registrants
+pub place_read : (r : RecordValue) → slice_index (header_block r) 11 ≡ place_byte r.reservation r.registrants
 unfolding header_block
 place_read r = refl
 
@@ -33,7 +33,7 @@ has_reservation header xs shown r same has = record {
   is_place = ap (λ (h : List ℕ). slice_index h 11) has.spelled ∙ place_read r;
 }
 
-aptpl_back : (b : Bool) → nat_eq (aptpl_byte b) 1 ≡ b
+pub aptpl_back : (b : Bool) → nat_eq (aptpl_byte b) 1 ≡ b
 aptpl_back true = refl
 aptpl_back false = refl
 

@@ -23,7 +23,7 @@ use Rattle.aptpl_file.proofs.Taken.{equal_to_itself}
 
 -- ---- one nexus
 
-both : (a b : Bool) → a && b ≡ true → (a ≡ true) × (b ≡ true)
+pub both : (a b : Bool) → a && b ≡ true → (a ≡ true) × (b ≡ true)
 both true b h = (refl, h)
 both false b h = absurd (cc)
 
@@ -101,7 +101,7 @@ stands_at xs n registered =
 
 -- ---- the reservation of a code and a place
 
-type_back : (k : ReservationType) → type_of (type_code k) ≡ Some k
+pub type_back : (k : ReservationType) → type_of (type_code k) ≡ Some k
 type_back WriteExclusive = refl
 type_back ExclusiveAccess = refl
 type_back WriteExclusiveRegistrantsOnly = refl

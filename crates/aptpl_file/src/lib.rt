@@ -4,6 +4,7 @@
 
 mod fault;
 mod file;
+pub mod laws;
 mod parsing;
 mod reading;
 mod slot;
