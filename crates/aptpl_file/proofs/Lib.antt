@@ -1,3 +1,8 @@
+pub mod EntriesRead
+pub mod Halves
+pub mod Header
+pub mod Holder
+pub mod OneRecord
 pub mod Padding
 pub mod SlotWrites
 pub mod Spelled

@@ -14,7 +14,7 @@ put_first n bytes =
 pub put_behind : (n at : ℕ) (front bytes : List ℕ) → length front ≡ at
     → take at (padded n front) ++ (bytes ++ drop (at + length bytes) (padded n front)) ≡ padded n (front ++ bytes)
 put_behind n at front bytes long =
-    let zeros = replicate (n - length front) 0 in
+    let zeros : List ℕ = replicate (n - length front) 0 in
     let e : n - length front - length bytes ≡ n - length (front ++ bytes) = omega (arith, length-append front bytes) in
     ap (λ (x : List ℕ). x ++ (bytes ++ drop (at + length bytes) (padded n front))) (take_at front zeros at long)
     ∙ ap (λ (x : List ℕ). front ++ (bytes ++ x)) (sym (drop-drop (length bytes) at (padded n front)))

@@ -1,6 +1,6 @@
 -- What is read of an entry that spells a registrant.
-use Rattle.std.proofs.Common.{◌≡◌, ℕ, ◌+◌, ◌-◌, ◌^◌, ◌%◌, ◌<◌, ◌≤◌, List, [], ◌∷◌, ◌++◌, length, take, drop, replicate, slice_index, get_or, refl, sym, ◌∙◌, ap, subst, arith, length-drop, length-take}
-use Rattle.std.proofs.lemmas.List.{take_all, take_at, get_or-drop}
+use Rattle.std.proofs.Common.{◌≡◌, ℕ, ◌+◌, ◌-◌, ◌^◌, ◌%◌, ◌<◌, ◌≤◌, List, [], ◌∷◌, ◌++◌, length, take, drop, replicate, slice_index, get_or, refl, sym, ◌∙◌, ap, subst, arith, length-append, length-drop, length-take}
+use Rattle.std.proofs.lemmas.List.{length-replicate, take_all, take_at, get_or-drop}
 use Rattle.byteorder.specs.Endian.{big_bytes, big_number}
 use Rattle.byteorder.specs.Numbers.{big_number-reads_back, big_from-lt}
 use Rattle.scsi_types.specs.declared.names.Group.{Group}
@@ -89,3 +89,12 @@ pub name_read_whole : (entry name : List ℕ) (long : ℕ) → long ≡ slice_in
 name_read_whole entry name long at is =
     let e : 17 + long - 17 ≡ slice_index entry 16 = omega (arith, at) in
     is ∙ ap (λ (m : ℕ). take m (drop 17 entry)) e
+
+-- an entry has its length
+pub length_entry : (x : Registrant) → IsListed x → length (entry_bytes x) ≡ 256
+unfolding entry_bytes
+length_entry x listed =
+    let front = big_bytes 8 x.key ++ big_bytes 2 (group_number x.nexus.group) ++ big_bytes 6 x.nexus.port.isid
+        ++ length x.nexus.port.name ∷ x.nexus.port.name in
+    let short = listed.port.short in
+    omega (arith, length-append front (replicate (256 - length front) 0), length-replicate {A = ℕ} (256 - length front) 0)

@@ -95,7 +95,7 @@ entry_past rs i past = ap entry_of (slice_get_past rs i past)
 
 -- ---- bytes that were compared
 
-equal_to_itself : (xs : List ℕ) → pointwise eqb xs xs ≡ true
+pub equal_to_itself : (xs : List ℕ) → pointwise eqb xs xs ≡ true
 equal_to_itself [] = refl
 equal_to_itself (x ∷ xs) = rw (eq-eqb x x refl) (equal_to_itself xs)
 

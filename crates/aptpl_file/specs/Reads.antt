@@ -1,5 +1,5 @@
 -- What the blocks of a registration file are read as, part by part.
-use Rattle.std.specs.Prelude.{◌≡◌, ◌<◌, ℕ, ◌+◌, ◌*◌, not, nat_eq, IsTrue, List, [], ◌∷◌, length, min, take, drop}
+use Rattle.std.specs.Prelude.{◌≡◌, ◌<◌, ℕ, ◌+◌, ◌*◌, not, nat_eq, IsTrue, List, [], ◌∷◌, length, min, take, drop, Result, Ok, Err}
 use Rattle.std.specs.List.{AllByRecursion}
 use Rattle.reservations.specs.declared.registrant.Registrant.{Registrant}
 use Rattle.reservations.specs.Registry.{RecordValue, IsAscending, IsListed, IsRecord}
@@ -84,3 +84,11 @@ pub record HasHeader (header : List ℕ) (xs : List Registrant) (r : RecordValue
 pub record HasSlot (disk : List (List ℕ)) (slot : Slot) (r : RecordValue) : Type 0 where
   pub lasting : IsRecord r.aptpl r.registrants r.reservation
   pub spelled : HoldsSlot disk slot r
+
+-- the device did not fail
+abbrev pub IsUnfailed : {T : Type 0} → Result T OpenFault → Type 0
+IsUnfailed (Ok t) = Unit {0}
+IsUnfailed (Err NotARegFile) = Unit {0}
+IsUnfailed (Err Version) = Unit {0}
+IsUnfailed (Err DeviceFailed) = ⊥
+IsUnfailed (Err NoMemory) = Unit {0}

@@ -6,6 +6,7 @@ ghost use Rattle.block_file.specs.Failures.{Counts, Tells};
 ghost use Rattle.reservations.specs.Registry.{RecordValue};
 ghost use Rattle.aptpl_file.specs.declared.spelling.TheConstants.{FILE_BLOCKS};
 
+use crate::reading::read_record;
 use crate::spelling::FILE_BLOCKS;
 use crate::writing::{save_root, save_slot};
 use crate::{OpenFault, SaveFault, Slot};
@@ -64,7 +65,7 @@ impl<B: Blocks> RegFile<B> {
 
     /// Opens a registration file, and gives the record that it holds, which a crash leaves from then on. Refused, it
     /// drops the device.
-    pub fn open(alloc: Global, device: B) -> Result<(RegFile<B>, Record), OpenFault>
+    pub fn open(alloc: Global, mut device: B) -> Result<(RegFile<B>, Record), OpenFault>
         ensures size { IfOk result (λ found. B.size found.0.device ≡ B.size device) }
         ensures holds { IsTrue B.claims → IfOk result (λ found. Holds (B.contents device) found.1) }
         ensures contents { IsTrue B.claims → IfOk result (λ found.
@@ -75,11 +76,19 @@ impl<B: Blocks> RegFile<B> {
         ensures few { B.size device < FILE_BLOCKS → IsErrOf result OpenFault.NotARegFile }
         ensures failures { IfOk result (λ found. Tells (B.failures device) (B.failures found.0.device) (Unit {0})) }
     {
-        let _ = alloc;
         if device.count() < FILE_BLOCKS {
             return Err(OpenFault::NotARegFile);
         }
-        Err(OpenFault::DeviceFailed)
+        let (slot, record) = match read_record(&mut device, alloc) {
+            Ok(found) => found,
+            Err(fault) => return Err(fault),
+        };
+        let file = RegFile {
+            device,
+            slot,
+            undecided: false,
+        };
+        Ok((file, record))
     }
 
     /// Makes a record last. Takes no memory.

@@ -4,7 +4,9 @@
 
 mod fault;
 mod file;
+pub mod laws;
 mod parsing;
+mod reading;
 mod slot;
 mod spelling;
 mod writing;

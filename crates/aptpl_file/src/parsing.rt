@@ -8,7 +8,7 @@ ghost use Rattle.reservations.specs.Nexus.{nexus_cmp};
 ghost use Rattle.reservations.specs.Registry.{IsListed, RecordValue, is_lasting, is_sound_hold};
 ghost use Rattle.aptpl_file.specs.declared.spelling.TheConstants.{ENTRY_LENGTH};
 ghost use Rattle.aptpl_file.specs.Format.{entry_bytes, group_number, root_block};
-ghost use Rattle.aptpl_file.specs.Reads.{AreEntries, HasBlock, HasEntry, HasHeader, HasReservation, IsRefusalOf, IsRootRefusal, TakesBlock, TakesEntry};
+ghost use Rattle.aptpl_file.specs.Reads.{AreEntries, HasBlock, HasEntry, HasHeader, HasReservation, IsRefusalOf, IsRootRefusal, IsUnfailed, TakesBlock, TakesEntry};
 
 use crate::spelling::{ROOT_MAGIC, entry_bytes, header_block, root_block};
 use crate::{OpenFault, Slot};
@@ -111,6 +111,7 @@ fn take_entry(
     ensures taken { IfOk result (λ done. TakesEntry count place entry.now registrants.old.items registrants.new.items) }
     ensures refused { IfErr result (λ fault. IsRefusalOf fault
         ((rs : List Registrant) → HasEntry count place registrants.old.items entry.now rs → ⊥)) }
+    ensures unfailed { IsUnfailed result }
 {
     if place >= count {
         if entry != [0; 256].as_slice() {
@@ -147,11 +148,12 @@ pub fn take_block(
     ensures taken { IfOk result (λ done. TakesBlock count k block.now registrants.old.items registrants.new.items) }
     ensures refused { IfErr result (λ fault. IsRefusalOf fault
         ((rs : List Registrant) → HasBlock count k registrants.old.items block.now rs → ⊥)) }
+    ensures unfailed { IsUnfailed result }
 {
-    if let Err(fault) = take_entry(registrants, alloc, count, 2 * k, &block[..256]) {
-        return Err(fault);
+    match take_entry(registrants, alloc, count, 2 * k, &block[..256]) {
+        Ok(()) => take_entry(registrants, alloc, count, 2 * k + 1, &block[256..]),
+        Err(fault) => Err(fault),
     }
-    take_entry(registrants, alloc, count, 2 * k + 1, &block[256..])
 }
 
 // ---- the first block
@@ -168,6 +170,7 @@ fn reservation_in(
         → r.reservation ≡ held) }
     ensures refused { IfErr result (λ fault. IsRefusalOf fault
         ((r : RecordValue) → HasReservation code place registrants.now r → ⊥)) }
+    ensures unfailed { IsUnfailed result }
 {
     let Some(kind) = ReservationType::from_code(code) else {
         return Ok(None);
@@ -213,6 +216,7 @@ pub fn record_in(
     ensures only { IfOk result (λ found. (r : RecordValue) → HasHeader header.now registrants.items r → r ≡ found) }
     ensures refused { IfErr result (λ fault. IsRefusalOf fault
         ((r : RecordValue) → HasHeader header.now registrants.items r → ⊥)) }
+    ensures unfailed { IsUnfailed result }
 {
     let aptpl = header[8] == 1;
     let reservation = match reservation_in(alloc, header[10], header[11], &registrants) {
