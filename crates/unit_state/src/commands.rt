@@ -17,7 +17,8 @@ ghost use Rattle.unit_state.specs.Sessions.{first_pending};
 ghost use Rattle.unit_state.specs.Places.{IsPlaceOf, Stays};
 ghost use Rattle.unit_state.specs.Refusal.{refusal, refusal_control, request, tell};
 ghost use Rattle.unit_state.specs.State.{unit_of};
-ghost use Rattle.unit_state.specs.Step.{MayTake, OnRefusal, asks_file, asks_opener, is_describing, is_reserving, TakesMemory};
+ghost use Rattle.unit_state.specs.Step.{MayTake, OnRefusal, asks_file, asks_opener, is_describing};
+ghost use Rattle.unit_state.specs.Step.{is_reserving, TakesMemory};
 ghost use Rattle.unit_state.specs.Worked.{finding_at};
 
 use crate::control::Control;
@@ -63,7 +64,8 @@ pub fn answer<B: Blocks, O: Opener<B>, R: Blocks>(
         (request sender.session asked bytes.now)) }
     ensures unreached { OnRefusal (refusal control.old (request sender.session asked bytes.now))
         (device.new ≡ device.old) }
-    ensures unopened { asks_opener control.old (request sender.session asked bytes.now) ≡ false → opener.new ≡ opener.old }
+    ensures unopened { asks_opener control.old (request sender.session asked bytes.now) ≡ false
+        → opener.new ≡ opener.old }
     ensures unsaved { asks_file control.old (request sender.session asked bytes.now) ≡ false → file.new ≡ file.old }
     ensures fine { IfOk result (λ reply. Tells
         (B.failures device.old + O.opens_failed opener.old + R.failures file.old.device)

@@ -1,5 +1,6 @@
 //! All of a unit but its devices.
-ghost use Rattle.std.specs.Prelude.{◌≡◌, ◌+◌, ℕ, ◌<◌, ◌≤◌, ◌↔◌, length, [], ◌∷◌, true, false, IfNone, IfOk, IfSome, OnErr, IsErr, IsTrue};
+ghost use Rattle.std.specs.Prelude.{◌≡◌, ◌+◌, ℕ, ◌<◌, ◌≤◌, ◌↔◌, length, [], ◌∷◌, true, false, IfNone, IfOk};
+ghost use Rattle.std.specs.Prelude.{IfSome, OnErr, IsErr, IsTrue};
 ghost use Rattle.unit_state.specs.Places.{IsPlaceOf};
 ghost use Rattle.unit_state.specs.State.{preferred};
 
@@ -65,7 +66,16 @@ impl Model for Control {
 
     ghost Value = { ControlValue };
 
-    ghost view = { λ u. record { place = u.place; total = u.total; access = u.access; registry = u.registry; lasting = records_left u.registry u.save; doubt = is_doubtful u.save; sessions = u.sessions.items; count = u.count } };
+    ghost view = { λ u. record {
+      place = u.place;
+      total = u.total;
+      access = u.access;
+      registry = u.registry;
+      lasting = records_left u.registry u.save;
+      doubt = is_doubtful u.save;
+      sessions = u.sessions.items;
+      count = u.count;
+    } };
 
     ghost invariant = { λ u. All (IsFit u.count) u.sessions.items × (64 ≤ vec_capacity u.sessions) };
 }
@@ -73,7 +83,8 @@ impl Model for Control {
 impl Control {
     ghost use Rattle.scsi_types.specs.Nexus.{Port, Nexus};
     ghost use Rattle.unit_state.specs.State.{opening_control};
-    ghost use Rattle.unit_state.specs.Entry.{Attach, Detach, Reset, HasRoom, IsAttached, control_after, count_one, pass};
+    ghost use Rattle.unit_state.specs.Entry.{Attach, Detach, Reset, HasRoom, IsAttached, control_after};
+    ghost use Rattle.unit_state.specs.Entry.{count_one, pass};
     ghost use Rattle.unit_state.specs.Groups.{with_access};
     ghost use Rattle.unit_state.specs.Places.{Stays, StaysAll};
     ghost use Rattle.unit_state.specs.Refusal.{is_let, tell};
@@ -105,8 +116,8 @@ impl Control {
         })
     }
 
-    /// Attaches a session of this nexus, and ends one that it had. Takes no memory. The port has a name of 1 to 223 bytes, and
-    /// its ISID fits six.
+    /// Attaches a session of this nexus, and ends one that it had. Takes no memory. The port has a name of 1 to 223
+    /// bytes, and its ISID fits six.
     pub fn attach(&mut self, port: PortName, group: Group) -> Result<SessionId, AttachFault>
         requires { IsPortName port }
         ensures room { IsErr result ↔ (HasRoom self.old (record { port = port; group = group }) → ⊥) }

@@ -47,7 +47,8 @@ pub fn change<B: Blocks, O: Opener<B>>(
     ensures stays { StaysAll control.old control.new }
     ensures err { OnErr result ((control.new ≡ control.old) × (device.new ≡ device.old)
         × (is_moved control.old.access access ≡ true)) }
-    ensures unopened { is_moved control.old.access access ≡ false → (opener.new ≡ opener.old) × (device.new ≡ device.old) }
+    ensures unopened { is_moved control.old.access access ≡ false
+        → (opener.new ≡ opener.old) × (device.new ≡ device.old) }
     ensures failures { Counts (O.opens_failed opener.old) (O.opens_failed opener.new) result }
 {
     if control.access().change_to(&access).owner.is_some() {

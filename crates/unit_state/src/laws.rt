@@ -4,7 +4,8 @@ ghost use Rattle.std.specs.Prelude.{◌++◌, length, take, Option, Some, None, 
 ghost use Rattle.scsi_types.specs.ReplyValue.{ReplyValue, check, conflict, good};
 ghost use Rattle.scsi_types.specs.declared.names.Group.{Group};
 ghost use Rattle.scsi_types.specs.declared.command.Command.{Command as ScsiCommand};
-ghost use Rattle.scsi_types.specs.declared.command.Command.TheVariants.{PersistentReserveOut, Read, SetTargetPortGroups, Write};
+ghost use Rattle.scsi_types.specs.declared.command.Command.TheVariants.{PersistentReserveOut, Read};
+ghost use Rattle.scsi_types.specs.declared.command.Command.TheVariants.{SetTargetPortGroups, Write};
 ghost use Rattle.scsi_types.specs.declared.reservation.PrOutAction.{PrOutAction};
 ghost use Rattle.scsi_types.specs.declared.command.CdbFault.{CdbFault};
 ghost use Rattle.scsi_types.specs.Attention.{attention_sense};
@@ -112,8 +113,8 @@ pub fn a_group_serves_what_its_state_lets()
         → control_after s.control (Command session serial by asked bytes Fine) ≡ pass s.control session }
 {}
 
-/// A command that the reservation does not let its nexus do is RESERVATION CONFLICT and does nothing: where nothing is to be
-/// told first and the group serves it, it is judged when it is served (SPC-4, 5.13.2).
+/// A command that the reservation does not let its nexus do is RESERVATION CONFLICT and does nothing: where nothing is to
+/// be told first and the group serves it, it is judged when it is served (SPC-4, 5.13.2).
 pub fn a_reservation_keeps_others_out()
     ensures reply { (s : UnitState) (session serial : ℕ) (by : Group) (asked : Result ScsiCommand CdbFault)
         (bytes : List ℕ) (op : Op)

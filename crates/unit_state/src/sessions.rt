@@ -1,5 +1,6 @@
 //! The sessions that are attached to a unit.
-ghost use Rattle.std.specs.Prelude.{◌≡◌, ◌<◌, ◌++◌, ◌-◌, ◌^◌, [], ◌∷◌, length, map, slice_get, None, IfSome, MatchOption};
+ghost use Rattle.std.specs.Prelude.{◌≡◌, ◌<◌, ◌++◌, ◌-◌, ◌^◌, [], ◌∷◌, length, map, slice_get, None, IfSome};
+ghost use Rattle.std.specs.Prelude.{MatchOption};
 ghost use Rattle.std.specs.Prelude.{vec_capacity};
 ghost use Rattle.unit_state.specs.Places.{IsChangedAt, IsPlaceOf};
 ghost use Rattle.unit_state.specs.Sessions.{all_reset, ended, heard_reset, is_of, nexus_of, pass_one, session_of};

@@ -80,7 +80,8 @@ impl<B: Blocks, O: Opener<B>, R: Blocks> Unit<B, O, R> {
     ghost use Rattle.unit_state.specs.Medium.{work_asked};
     ghost use Rattle.unit_state.specs.Groups.{is_moved_by, move_by};
     ghost use Rattle.unit_state.specs.Moves.{IsMove};
-    ghost use Rattle.unit_state.specs.Step.{OnReply, OnNoReply, OnRefusal, IsRouted, IsStep, TakesMemory, asks_file, asks_opener, entry_of};
+    ghost use Rattle.unit_state.specs.Step.{OnReply, OnNoReply, OnRefusal, IsRouted, IsStep, TakesMemory};
+    ghost use Rattle.unit_state.specs.Step.{asks_file, asks_opener, entry_of};
 
     /// Opens a unit over its blocks, with this registration file and the record that it holds; its preferred group owns it.
     /// Refused, it drops the devices and the opener.
@@ -93,7 +94,12 @@ impl<B: Blocks, O: Opener<B>, R: Blocks> Unit<B, O, R> {
         lasted: Record,
     ) -> Result<Unit<B, O, R>, NoMemory>
         requires lasts { IsTrue R.claims → LastsAmong R.size R.may_hold file (lasted ∷ []) }
-        ensures { IfOk result (λ u. u ≡ record { device = blocks; opener = opener; file = file; control = opening_control place (B.size blocks) lasted }) }
+        ensures { IfOk result (λ u. u ≡ record {
+          device = blocks;
+          opener = opener;
+          file = file;
+          control = opening_control place (B.size blocks) lasted;
+        }) }
     {
         let control = Control::new(alloc, place, blocks.count(), lasted)?;
         Ok(Unit {
@@ -104,8 +110,8 @@ impl<B: Blocks, O: Opener<B>, R: Blocks> Unit<B, O, R> {
         })
     }
 
-    /// Attaches a session of this nexus, and ends one that it had. Takes no memory. The port has a name of 1 to 223 bytes, and
-    /// its ISID fits six.
+    /// Attaches a session of this nexus, and ends one that it had. Takes no memory. The port has a name of 1 to 223
+    /// bytes, and its ISID fits six.
     pub fn attach(&mut self, port: PortName, group: Group) -> Result<SessionId, AttachFault>
         requires { IsPortName port }
         ensures room { IsErr result ↔ (HasRoom self.old.control (record { port = port; group = group }) → ⊥) }

@@ -22,4 +22,6 @@ mod run;
 #[cfg(test)]
 mod sessions;
 #[cfg(test)]
+mod states;
+#[cfg(test)]
 mod unit_attentions;
