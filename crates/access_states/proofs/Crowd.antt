@@ -1,11 +1,11 @@
 -- More than two descriptors name a group twice, or one that is not there.
-use Rattle.std.proofs.Common.{◌≡◌, ◌≢◌, ℕ, ◌+◌, ◌-◌, ◌*◌, ◌/◌, ◌⊎◌, ◌%◌, ◌≤◌, suc, zero, Bool, true, false, not, ◌&&◌, ◌||◌, nat_eq, nat_le, if◌then◌else◌, List, [], ◌∷◌, length, map, Result, Ok, Err, refl, ◌∙◌, ap, sym, arith}
+use Rattle.std.proofs.Common.{◌≡◌, ◌≢◌, ℕ, ◌-◌, ◌*◌, ◌/◌, ◌⊎◌, ◌%◌, ◌≤◌, suc, zero, Bool, true, false, List, ◌∷◌, length, map, Err, refl, arith}
 use Rattle.std.proofs.lemmas.Grind.{common_steps}
 use Rattle.std.specs.List.{range_with_len}
 use Rattle.scsi_types.specs.Cdb.{is_group_list}
 use Rattle.access_states.specs.declared.list.Descriptor.{Descriptor}
 use Rattle.access_states.specs.declared.list.AsetFault.TheVariants.{BadList}
-use Rattle.access_states.specs.List.{is_group, is_named, is_proper, asked_in, asked_by, descriptor_at, descriptors_of}
+use Rattle.access_states.specs.List.{is_group, is_named, is_proper, asked_by, descriptor_at, descriptors_of}
 
 not_true : (b : Bool) → (b ≡ true → ⊥) → b ≡ false
 not_true true h = absurd (h refl)

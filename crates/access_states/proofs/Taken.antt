@@ -1,20 +1,19 @@
 -- What is known of access states that a list has led to.
-use Rattle.std.proofs.Common.{◌≡◌, ◌≢◌, ℕ, ◌⊎◌, Bool, true, false, not, ◌&&◌, nat_eq, if◌then◌else◌, List, IsTrue, IsOkAnd, Option, Some, None, Result, Ok, Err, refl, sym, ◌∙◌, ap, subst, arith}
+use Rattle.std.proofs.Common.{◌≡◌, ◌≢◌, ℕ, ◌⊎◌, true, false, if◌then◌else◌, List, IsTrue, IsOkAnd, Option, Some, None, Result, Ok, Err, refl, sym, ◌∙◌, ap, subst, arith}
 use Rattle.std.proofs.lemmas.Grind.{common_steps}
 use Rattle.scsi_types.specs.declared.names.Group.{Group}
 use Rattle.scsi_types.specs.declared.names.Group.TheVariants.{One, Two}
 use Rattle.access_states.specs.declared.list.Asked.{Asked}
 use Rattle.access_states.specs.declared.list.AsetFault.{AsetFault}
-use Rattle.access_states.specs.declared.list.AsetFault.TheVariants.{Length, BadList}
 use Rattle.access_states.specs.declared.state.AccessState.{AccessState}
 use Rattle.access_states.specs.declared.state.AccessState.TheVariants.{ActiveOptimized, ActiveNonOptimized, Standby, Unavailable}
 use Rattle.access_states.specs.declared.state.Cause.{Cause}
 use Rattle.access_states.specs.declared.state.GroupAccess.{GroupAccess}
-use Rattle.access_states.specs.AccessMap.{AccessMapValue, access_of, has_one_owner, other_group, owner_of}
+use Rattle.access_states.specs.AccessMap.{AccessMapValue, access_of, has_one_owner, owner_of}
 use Rattle.access_states.specs.Change.{access_after, after_asked, altered_to, becomes_optimized, left_with, map_after, with_one_owner}
 use Rattle.access_states.specs.Laws.{Leads, asked_for}
 use Rattle.access_states.specs.List.{asked_by}
-use Rattle.access_states.specs.State.{is_optimized, same_state, state_code}
+use Rattle.access_states.specs.State.{is_optimized, same_state}
 
 same : (a b : AccessState) → same_state a b ≡ true → a ≡ b
 same ActiveOptimized ActiveOptimized h = refl

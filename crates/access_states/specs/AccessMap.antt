@@ -1,5 +1,5 @@
 -- The access states of a unit's two target port groups (SPC-4, 5.15.2).
-use Rattle.std.specs.Prelude.{Bool, not, if◌then◌else◌, Option, None}
+use Rattle.std.specs.Prelude.{Bool, not, if◌then◌else◌, None}
 use Rattle.scsi_types.specs.declared.names.Group.{Group}
 use Rattle.scsi_types.specs.declared.names.Group.TheVariants.{One, Two}
 use Rattle.access_states.specs.declared.state.AccessState.{AccessState}

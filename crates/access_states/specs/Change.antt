@@ -1,5 +1,5 @@
 -- The access change: what becomes of the access states where a list is set (SPC-4, 5.15.2.7, 5.15.2.8 and 6.45).
-use Rattle.std.specs.Prelude.{Bool, false, not, ◌&&◌, if◌then◌else◌, List, [], ◌∷◌, ℕ, Option, Some, None, unwrap_or, Result, Ok, Err}
+use Rattle.std.specs.Prelude.{Bool, false, not, ◌&&◌, if◌then◌else◌, List, [], ◌∷◌, ℕ, Option, Some, None, Result, Ok, Err}
 use Rattle.std.specs.List.{list_any}
 use Rattle.scsi_types.specs.Sense.{parameter_list_length_error, invalid_field_in_parameter_list}
 use Rattle.scsi_types.specs.declared.names.Group.{Group}
@@ -14,7 +14,7 @@ use Rattle.access_states.specs.declared.list.AsetFault.{AsetFault}
 use Rattle.access_states.specs.declared.list.AsetFault.TheVariants.{Length, BadList}
 use Rattle.access_states.specs.declared.change.Change.{Change}
 use Rattle.access_states.specs.State.{is_optimized, same_state}
-use Rattle.access_states.specs.AccessMap.{AccessMapValue, access_of, other_group, has_one_owner, owner_of}
+use Rattle.access_states.specs.AccessMap.{AccessMapValue, access_of, has_one_owner, owner_of}
 use Rattle.access_states.specs.List.{asked_by}
 
 -- the group was not active/optimized, and is asked to become so

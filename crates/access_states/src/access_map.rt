@@ -81,9 +81,9 @@ impl AccessMap {
         self.access(group).state
     }
 
-    #[tactic(auto, unfolding(crate::specs::Change::access_after))]
     /// The access states after a list of SET TARGET PORT GROUPS (SPC-4, 6.45), altered by this cause. `list` is the whole
     /// parameter list: four reserved bytes, and four for each group.
+    #[tactic(auto, unfolding(crate::specs::Change::access_after))]
     pub fn after(&self, cause: Cause, list: &[u8]) -> Result<AccessMap, AsetFault>
         ensures { result ≡ access_after cause self.now list.now }
     {

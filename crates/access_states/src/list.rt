@@ -53,8 +53,8 @@ pub struct Descriptor {
     pub group: u16,
 }
 
-#[tactic(auto, using(crate::proofs::Crowd::refused))]
 /// What a list asks of the groups.
+#[tactic(auto, using(crate::proofs::Crowd::refused))]
 pub fn asked_by(list: &[u8]) -> Result<Asked, AsetFault>
     ensures { result ≡ asked_by list.now }
 {

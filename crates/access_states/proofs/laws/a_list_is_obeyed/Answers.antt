@@ -1,4 +1,4 @@
-use Rattle.std.proofs.Common.{◌≡◌, ◌≢◌, Some, subst}
+use Rattle.std.proofs.Common.{◌≡◌, subst}
 use Rattle.access_states.specs.AccessMap.{AccessMapValue, access_of}
 use Rattle.access_states.proofs.Taken.{leads, named, unnamed_of}
 use Rattle.access_states.proofs.laws.a_list_is_obeyed.Goals as goal
