@@ -1,5 +1,6 @@
 -- More than two descriptors name a group twice, or one that is not there.
-use Rattle.std.proofs.Common.{◌≡◌, ◌≢◌, ℕ, ◌-◌, ◌*◌, ◌/◌, ◌⊎◌, ◌%◌, ◌≤◌, suc, zero, Bool, true, false, List, ◌∷◌, length, map, Err, refl, arith}
+use Rattle.std.proofs.Common.{◌≡◌, ◌≢◌, ℕ, ◌-◌, ◌*◌, ◌/◌, ◌⊎◌, ◌%◌, ◌≤◌, suc, zero, Bool, true, false}
+use Rattle.std.proofs.Common.{List, ◌∷◌, length, map, Err, refl, arith}
 use Rattle.std.proofs.lemmas.Grind.{common_steps}
 use Rattle.std.specs.List.{range_with_len}
 use Rattle.scsi_types.specs.Cdb.{is_group_list}
@@ -18,7 +19,8 @@ proper d later h = grind (arith, common_steps)
 one_of_two : (n : ℕ) → is_group n ≡ true → (n ≡ 1) ⊎ (n ≡ 2)
 one_of_two n h = grind (arith, common_steps)
 
-others : (b c : Descriptor) (rest : List Descriptor) (n : ℕ) → is_named (b ∷ c ∷ rest) n ≡ false → (b.group ≢ n) × (c.group ≢ n)
+others : (b c : Descriptor) (rest : List Descriptor) (n : ℕ) → is_named (b ∷ c ∷ rest) n ≡ false
+    → (b.group ≢ n) × (c.group ≢ n)
 others b c rest n h = grind (arith, common_steps)
 
 other : (c : Descriptor) (rest : List Descriptor) (n : ℕ) → is_named (c ∷ rest) n ≡ false → c.group ≢ n
@@ -46,7 +48,8 @@ crowd f (suc (suc zero)) h = absurd (omega arith)
 crowd f (suc (suc (suc n))) h = three (f 1) (f 2) (f 3) (map f (range_with_len 4 n))
 
 -- a list of another length than 0, 4, 8 and 12 bytes
-many : (bytes : List ℕ) → length bytes % 4 ≡ 0 → length bytes ≢ 0 → length bytes ≢ 4 → length bytes ≢ 8 → length bytes ≢ 12
+many : (bytes : List ℕ) → length bytes % 4 ≡ 0 → length bytes ≢ 0 → length bytes ≢ 4 → length bytes ≢ 8
+    → length bytes ≢ 12
     → is_proper (descriptors_of bytes) ≡ false
 many bytes whole no0 no4 no8 no12 =
     crowd (λ place. descriptor_at bytes (4 * place)) (length bytes / 4 - 1) (omega (arith, whole, no0, no4, no8, no12))
