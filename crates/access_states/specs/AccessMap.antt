@@ -12,9 +12,9 @@ pub record AccessMapValue : Type 0 where
   pub one : GroupAccess
   pub two : GroupAccess
 
-abbrev pub access_of : AccessMapValue → Group → GroupAccess
-access_of map One = map.one
-access_of map Two = map.two
+abbrev pub group_access : AccessMapValue → Group → GroupAccess
+group_access map One = map.one
+group_access map Two = map.two
 
 abbrev pub other_group : Group → Group
 other_group One = Two
