@@ -88,8 +88,8 @@ impl AccessMap {
         ensures { result ≡ access_after cause self.now list.now }
     {
         let named = named_by(list)?;
-        let one = state_after(self.one, named.one, self.two, named.two);
-        let two = state_after(self.two, named.two, self.one, named.one);
+        let one = next_state(self.one, named.one, self.two, named.two);
+        let two = next_state(self.two, named.two, self.one, named.one);
         if one.is_optimized() == two.is_optimized() {
             return Err(AsetFault::BadList);
         }
@@ -158,7 +158,7 @@ fn unaltered(state: AccessState) -> GroupAccess
 }
 
 // The next state of a group, where a list names the groups with these states.
-fn state_after(
+fn next_state(
     own: GroupAccess,
     named: Option<AccessState>,
     other: GroupAccess,
