@@ -1,27 +1,29 @@
 -- More than two descriptors name a group twice, or one that is not there.
-use Rattle.std.proofs.Common.{◌≡◌, ◌≢◌, ℕ, ◌+◌, ◌-◌, ◌*◌, ◌/◌, ◌⊎◌, ◌%◌, ◌≤◌, suc, zero, Bool, true, false, not, ◌&&◌, ◌||◌, nat_eq, nat_le, if◌then◌else◌, List, [], ◌∷◌, length, map, Result, Ok, Err, refl, ◌∙◌, ap, sym, arith}
+use Rattle.std.proofs.Common.{◌≡◌, ◌≢◌, ℕ, ◌-◌, ◌*◌, ◌/◌, ◌⊎◌, ◌%◌, ◌≤◌, suc, zero, Bool, true, false}
+use Rattle.std.proofs.Common.{List, ◌∷◌, length, map, Err, refl, arith}
 use Rattle.std.proofs.lemmas.Grind.{common_steps}
 use Rattle.std.specs.List.{range_with_len}
 use Rattle.scsi_types.specs.Cdb.{is_group_list}
 use Rattle.access_states.specs.declared.list.Descriptor.{Descriptor}
 use Rattle.access_states.specs.declared.list.AsetFault.TheVariants.{BadList}
-use Rattle.access_states.specs.List.{is_group, is_named, is_proper, asked_in, asked_by, descriptor_at, descriptors_of}
+use Rattle.access_states.specs.List.{is_group, is_repeated, is_proper, named_by, descriptor_at, descriptors_of}
 
 not_true : (b : Bool) → (b ≡ true → ⊥) → b ≡ false
 not_true true h = absurd (h refl)
 not_true false h = refl
 
 proper : (d : Descriptor) (later : List Descriptor) → is_proper (d ∷ later) ≡ true
-    → (is_group d.group ≡ true) × (is_named later d.group ≡ false) × (is_proper later ≡ true)
+    → (is_group d.group ≡ true) × (is_repeated later d.group ≡ false) × (is_proper later ≡ true)
 proper d later h = grind (arith, common_steps)
 
 one_of_two : (n : ℕ) → is_group n ≡ true → (n ≡ 1) ⊎ (n ≡ 2)
 one_of_two n h = grind (arith, common_steps)
 
-others : (b c : Descriptor) (rest : List Descriptor) (n : ℕ) → is_named (b ∷ c ∷ rest) n ≡ false → (b.group ≢ n) × (c.group ≢ n)
+others : (b c : Descriptor) (rest : List Descriptor) (n : ℕ) → is_repeated (b ∷ c ∷ rest) n ≡ false
+    → (b.group ≢ n) × (c.group ≢ n)
 others b c rest n h = grind (arith, common_steps)
 
-other : (c : Descriptor) (rest : List Descriptor) (n : ℕ) → is_named (c ∷ rest) n ≡ false → c.group ≢ n
+other : (c : Descriptor) (rest : List Descriptor) (n : ℕ) → is_repeated (c ∷ rest) n ≡ false → c.group ≢ n
 other c rest n h = grind (arith, common_steps)
 
 crowded : (a b c : ℕ) → (a ≡ 1) ⊎ (a ≡ 2) → (b ≡ 1) ⊎ (b ≡ 2) → (c ≡ 1) ⊎ (c ≡ 2) → b ≢ a → c ≢ a → c ≢ b → ⊥
@@ -46,12 +48,13 @@ crowd f (suc (suc zero)) h = absurd (omega arith)
 crowd f (suc (suc (suc n))) h = three (f 1) (f 2) (f 3) (map f (range_with_len 4 n))
 
 -- a list of another length than 0, 4, 8 and 12 bytes
-many : (bytes : List ℕ) → length bytes % 4 ≡ 0 → length bytes ≢ 0 → length bytes ≢ 4 → length bytes ≢ 8 → length bytes ≢ 12
+many : (bytes : List ℕ) → length bytes % 4 ≡ 0 → length bytes ≢ 0 → length bytes ≢ 4 → length bytes ≢ 8
+    → length bytes ≢ 12
     → is_proper (descriptors_of bytes) ≡ false
 many bytes whole no0 no4 no8 no12 =
     crowd (λ place. descriptor_at bytes (4 * place)) (length bytes / 4 - 1) (omega (arith, whole, no0, no4, no8, no12))
 
 pub refused : (bytes : List ℕ) → is_group_list (length bytes) ≡ true → length bytes ≢ 0 → length bytes ≢ 4
-    → length bytes ≢ 8 → length bytes ≢ 12 → asked_by bytes ≡ Err BadList
+    → length bytes ≢ 8 → length bytes ≢ 12 → named_by bytes ≡ Err BadList
 refused bytes whole no0 no4 no8 no12 =
     grind (arith, common_steps, many bytes (grind (arith, whole)) no0 no4 no8 no12, whole)

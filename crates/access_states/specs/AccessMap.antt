@@ -1,5 +1,5 @@
 -- The access states of a unit's two target port groups (SPC-4, 5.15.2).
-use Rattle.std.specs.Prelude.{Bool, not, if◌then◌else◌, Option, None}
+use Rattle.std.specs.Prelude.{Bool, not, if◌then◌else◌, None}
 use Rattle.scsi_types.specs.declared.names.Group.{Group}
 use Rattle.scsi_types.specs.declared.names.Group.TheVariants.{One, Two}
 use Rattle.access_states.specs.declared.state.AccessState.{AccessState}
@@ -12,9 +12,9 @@ pub record AccessMapValue : Type 0 where
   pub one : GroupAccess
   pub two : GroupAccess
 
-abbrev pub access_of : AccessMapValue → Group → GroupAccess
-access_of map One = map.one
-access_of map Two = map.two
+abbrev pub group_access : AccessMapValue → Group → GroupAccess
+group_access map One = map.one
+group_access map Two = map.two
 
 abbrev pub other_group : Group → Group
 other_group One = Two

@@ -1,5 +1,5 @@
 -- The access change: what becomes of the access states where a list is set (SPC-4, 5.15.2.7, 5.15.2.8 and 6.45).
-use Rattle.std.specs.Prelude.{Bool, false, not, ◌&&◌, if◌then◌else◌, List, [], ◌∷◌, ℕ, Option, Some, None, unwrap_or, Result, Ok, Err}
+use Rattle.std.specs.Prelude.{Bool, false, not, ◌&&◌, if◌then◌else◌, List, [], ◌∷◌, ℕ, Option, Some, None, Result, Ok, Err}
 use Rattle.std.specs.List.{list_any}
 use Rattle.scsi_types.specs.Sense.{parameter_list_length_error, invalid_field_in_parameter_list}
 use Rattle.scsi_types.specs.declared.names.Group.{Group}
@@ -9,47 +9,47 @@ use Rattle.access_states.specs.declared.state.AccessState.{AccessState}
 use Rattle.access_states.specs.declared.state.AccessState.TheVariants.{ActiveNonOptimized}
 use Rattle.access_states.specs.declared.state.Cause.{Cause}
 use Rattle.access_states.specs.declared.state.GroupAccess.{GroupAccess}
-use Rattle.access_states.specs.declared.list.Asked.{Asked}
+use Rattle.access_states.specs.declared.list.Named.{Named}
 use Rattle.access_states.specs.declared.list.AsetFault.{AsetFault}
 use Rattle.access_states.specs.declared.list.AsetFault.TheVariants.{Length, BadList}
 use Rattle.access_states.specs.declared.change.Change.{Change}
 use Rattle.access_states.specs.State.{is_optimized, same_state}
-use Rattle.access_states.specs.AccessMap.{AccessMapValue, access_of, other_group, has_one_owner, owner_of}
-use Rattle.access_states.specs.List.{asked_by}
+use Rattle.access_states.specs.AccessMap.{AccessMapValue, group_access, has_one_owner, owner_of}
+use Rattle.access_states.specs.List.{named_by}
 
--- the group was not active/optimized, and is asked to become so
+-- the group was not active/optimized, and is named as that
 abbrev pub becomes_optimized : AccessState → Option AccessState → Bool
 becomes_optimized old None = false
 becomes_optimized old (Some state) = is_optimized state && not (is_optimized old)
 
--- the state of a group, by its own and the other's: a group that is named gets the state that is asked for; one that is
--- not named keeps its own, unless the other becomes active/optimized: then it turns to active/non-optimized
-abbrev pub left_with : AccessState → Option AccessState → AccessState → Option AccessState → AccessState
-left_with own (Some state) other asked_of_other = state
-left_with own None other asked_of_other = if becomes_optimized other asked_of_other then ActiveNonOptimized else own
+-- the next state of a group, by its own and the other's: a group that is named gets the state with which it is named; one
+-- that is not named keeps its own, unless the other becomes active/optimized: then it turns to active/non-optimized
+abbrev pub next_state : AccessState → Option AccessState → AccessState → Option AccessState → AccessState
+next_state own (Some state) other named_other = state
+next_state own None other named_other = if becomes_optimized other named_other then ActiveNonOptimized else own
 
 -- a group whose state changes has been altered by this cause; one whose state stays is as it was
 abbrev pub altered_to : Cause → GroupAccess → AccessState → GroupAccess
 altered_to cause old state = if same_state state old.state then old else record { state = state; altered = Some cause }
 
-abbrev pub map_after : Cause → AccessMapValue → Asked → AccessMapValue
-map_after cause old asked =
+abbrev pub map_after : Cause → AccessMapValue → Named → AccessMapValue
+map_after cause old named =
     record {
-      one = altered_to cause old.one (left_with old.one.state asked.one old.two.state asked.two);
-      two = altered_to cause old.two (left_with old.two.state asked.two old.one.state asked.one);
+      one = altered_to cause old.one (next_state old.one.state named.one old.two.state named.two);
+      two = altered_to cause old.two (next_state old.two.state named.two old.one.state named.one);
     }
 
 -- just one group is left active/optimized, or the list is refused
 abbrev pub with_one_owner : AccessMapValue → Result AccessMapValue AsetFault
 with_one_owner map = if has_one_owner map then Ok map else Err BadList
 
-abbrev pub after_asked : Cause → AccessMapValue → Result Asked AsetFault → Result AccessMapValue AsetFault
-after_asked cause old (Ok asked) = with_one_owner (map_after cause old asked)
-after_asked cause old (Err fault) = Err fault
+abbrev pub after_named : Cause → AccessMapValue → Result Named AsetFault → Result AccessMapValue AsetFault
+after_named cause old (Ok named) = with_one_owner (map_after cause old named)
+after_named cause old (Err fault) = Err fault
 
 -- the access states after a list, or why it is refused
 unfoldable pub access_after : Cause → AccessMapValue → List ℕ → Result AccessMapValue AsetFault
-access_after cause old bytes = after_asked cause old (asked_by bytes)
+access_after cause old bytes = after_named cause old (named_by bytes)
 
 -- how a SET TARGET PORT GROUPS is refused for its list
 abbrev pub fault_sense : AsetFault → Sense
@@ -58,7 +58,7 @@ fault_sense BadList = invalid_field_in_parameter_list
 
 -- which groups' states changed, group 1 first, and the new owner, where another group owns the unit now
 abbrev pub is_changed : AccessMapValue → AccessMapValue → Group → Bool
-is_changed old new group = not (same_state (access_of old group).state (access_of new group).state)
+is_changed old new group = not (same_state (group_access old group).state (group_access new group).state)
 
 abbrev pub new_owner : Group → Group → Option Group
 new_owner One One = None

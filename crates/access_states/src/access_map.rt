@@ -1,10 +1,10 @@
 //! The access states of a unit.
 ghost use Rattle.std.specs.Prelude.{◌≡◌, IsTrue, IfOk, IfErr, Ok, Err, take};
-ghost use Rattle.access_states.specs.AccessMap.{access_of, has_one_owner, opening_access, owner_of};
-ghost use Rattle.access_states.specs.Change.{access_after, altered_to, becomes_optimized, change_between, left_with};
+ghost use Rattle.access_states.specs.AccessMap.{group_access, has_one_owner, opening_access, owner_of};
+ghost use Rattle.access_states.specs.Change.{access_after, altered_to, becomes_optimized, change_between, next_state};
 ghost use Rattle.access_states.specs.Report.{report_bytes};
 
-use crate::list::asked_by;
+use crate::list::named_by;
 use crate::report::report_bytes;
 use crate::{AccessState, AsetFault, Cause, Change, GroupAccess};
 use scsi_types::{Group, NoMemory};
@@ -66,7 +66,7 @@ impl AccessMap {
 
     /// The access state of a group, and what altered it last.
     pub fn access(&self, group: Group) -> GroupAccess
-        ensures { result ≡ access_of self.now group }
+        ensures { result ≡ group_access self.now group }
     {
         match group {
             Group::One => self.one,
@@ -76,20 +76,20 @@ impl AccessMap {
 
     /// The access state of a group.
     pub fn state(&self, group: Group) -> AccessState
-        ensures { result ≡ (access_of self.now group).state }
+        ensures { result ≡ (group_access self.now group).state }
     {
         self.access(group).state
     }
 
-    #[tactic(auto, unfolding(crate::specs::Change::access_after))]
     /// The access states after a list of SET TARGET PORT GROUPS (SPC-4, 6.45), altered by this cause. `list` is the whole
     /// parameter list: four reserved bytes, and four for each group.
+    #[tactic(auto, unfolding(crate::specs::Change::access_after))]
     pub fn after(&self, cause: Cause, list: &[u8]) -> Result<AccessMap, AsetFault>
         ensures { result ≡ access_after cause self.now list.now }
     {
-        let asked = asked_by(list)?;
-        let one = state_after(self.one, asked.one, self.two, asked.two);
-        let two = state_after(self.two, asked.two, self.one, asked.one);
+        let named = named_by(list)?;
+        let one = next_state(self.one, named.one, self.two, named.two);
+        let two = next_state(self.two, named.two, self.one, named.one);
         if one.is_optimized() == two.is_optimized() {
             return Err(AsetFault::BadList);
         }
@@ -157,27 +157,27 @@ fn unaltered(state: AccessState) -> GroupAccess
     }
 }
 
-// The state of a group after a list that asks this of it, and that of the other.
-fn state_after(
+// The next state of a group, where a list names the groups with these states.
+fn next_state(
     own: GroupAccess,
-    asked: Option<AccessState>,
+    named: Option<AccessState>,
     other: GroupAccess,
-    asked_of_other: Option<AccessState>,
+    named_other: Option<AccessState>,
 ) -> AccessState
-    ensures { result ≡ left_with own.state asked other.state asked_of_other }
+    ensures { result ≡ next_state own.state named other.state named_other }
 {
-    match asked {
+    match named {
         Some(state) => state,
-        None if becomes_optimized(other, asked_of_other) => AccessState::ActiveNonOptimized,
+        None if becomes_optimized(other, named_other) => AccessState::ActiveNonOptimized,
         None => own.state,
     }
 }
 
 // Whether a group becomes active/optimized that was not.
-fn becomes_optimized(old: GroupAccess, asked: Option<AccessState>) -> bool
-    ensures { result ≡ becomes_optimized old.state asked }
+fn becomes_optimized(old: GroupAccess, named: Option<AccessState>) -> bool
+    ensures { result ≡ becomes_optimized old.state named }
 {
-    match asked {
+    match named {
         Some(state) => state.is_optimized() && !old.state.is_optimized(),
         None => false,
     }

@@ -2,16 +2,16 @@
 ghost use Rattle.std.specs.Prelude.{◌≡◌, ◌≢◌, [], ◌∷◌, List, ℕ, IsOkAnd, IsTrue, Some, None, Ok};
 ghost use Rattle.scsi_types.specs.declared.names.Group.{Group};
 ghost use Rattle.scsi_types.specs.declared.names.Group.TheVariants.{One, Two};
-ghost use Rattle.access_states.specs.declared.list.Asked.{Asked};
+ghost use Rattle.access_states.specs.declared.list.Named.{Named};
 ghost use Rattle.access_states.specs.declared.state.AccessState.{AccessState};
 ghost use Rattle.access_states.specs.declared.state.AccessState.TheVariants.{ActiveOptimized, ActiveNonOptimized, Unavailable};
 ghost use Rattle.scsi_types.specs.declared.command.Op.{Op};
 ghost use Rattle.scsi_types.specs.declared.command.Op.TheVariants.{ReportTargetPortGroups, SetTargetPortGroups};
 ghost use Rattle.access_states.specs.State.{is_served, refusal_in};
 ghost use Rattle.access_states.specs.declared.state.Cause.{Cause};
-ghost use Rattle.access_states.specs.AccessMap.{AccessMapValue, access_of, has_one_owner, opening_access, other_group, owner_of};
+ghost use Rattle.access_states.specs.AccessMap.{AccessMapValue, group_access, has_one_owner, opening_access, other_group, owner_of};
 ghost use Rattle.access_states.specs.Change.{access_after};
-ghost use Rattle.access_states.specs.Laws.{Leads, asked_for};
+ghost use Rattle.access_states.specs.Laws.{IsTaken, named_for};
 ghost use Rattle.access_states.specs.Report.{report_bytes};
 
 /// Just one group is active/optimized: as a unit opens, and after each list that is taken.
@@ -21,33 +21,33 @@ pub fn one_group_is_optimized()
     ensures kept { (cause : Cause) (old new : AccessMapValue) (list : List ℕ) → access_after cause old list ≡ Ok new →
         IsTrue (has_one_owner new) }
     ensures owner { (map : AccessMapValue) → IsTrue (has_one_owner map) →
-        (access_of map (owner_of map)).state ≡ ActiveOptimized }
+        (group_access map (owner_of map)).state ≡ ActiveOptimized }
     ensures other { (map : AccessMapValue) → IsTrue (has_one_owner map) →
-        (access_of map (other_group (owner_of map))).state ≢ ActiveOptimized }
+        (group_access map (other_group (owner_of map))).state ≢ ActiveOptimized }
 {}
 
-/// A list that is taken does what it asks: a group that it names has the state that it asks for. One that it does not name
-/// stays as it was, unless it owned the unit and another does: then it is active/non-optimized.
+/// A list that is taken is obeyed: a group that it names has the state with which it is named. One that it does not name
+/// stays as it was, unless it owned the unit and the other does now: then it is active/non-optimized.
 pub fn a_list_is_obeyed()
-    ensures named { (cause : Cause) (old new : AccessMapValue) (list : List ℕ) (asked : Asked) (g : Group)
-        (state : AccessState) → Leads cause old list asked new → asked_for asked g ≡ Some state →
-        (access_of new g).state ≡ state }
-    ensures stays { (cause : Cause) (old new : AccessMapValue) (list : List ℕ) (asked : Asked) (g : Group) →
-        IsTrue (has_one_owner old) → Leads cause old list asked new → asked_for asked g ≡ None →
-        (owner_of old ≡ g → owner_of new ≡ g) → access_of new g ≡ access_of old g }
-    ensures gives_way { (cause : Cause) (old new : AccessMapValue) (list : List ℕ) (asked : Asked) (g : Group) →
-        IsTrue (has_one_owner old) → Leads cause old list asked new → asked_for asked g ≡ None → owner_of old ≡ g →
-        owner_of new ≢ g → (access_of new g).state ≡ ActiveNonOptimized }
+    ensures named { (cause : Cause) (old new : AccessMapValue) (list : List ℕ) (named : Named) (g : Group)
+        (state : AccessState) → IsTaken cause old list named new → named_for named g ≡ Some state →
+        (group_access new g).state ≡ state }
+    ensures stays { (cause : Cause) (old new : AccessMapValue) (list : List ℕ) (named : Named) (g : Group) →
+        IsTrue (has_one_owner old) → IsTaken cause old list named new → named_for named g ≡ None →
+        (owner_of old ≡ g → owner_of new ≡ g) → group_access new g ≡ group_access old g }
+    ensures gives_way { (cause : Cause) (old new : AccessMapValue) (list : List ℕ) (named : Named) (g : Group) →
+        IsTrue (has_one_owner old) → IsTaken cause old list named new → named_for named g ≡ None → owner_of old ≡ g →
+        owner_of new ≢ g → (group_access new g).state ≡ ActiveNonOptimized }
 {}
 
 /// The status code of a group tells what altered its state last; where the state stays, so does the code.
 pub fn a_status_code_tells_the_cause()
     ensures altered { (cause : Cause) (old new : AccessMapValue) (list : List ℕ) (g : Group) →
-        access_after cause old list ≡ Ok new → (access_of new g).state ≢ (access_of old g).state →
-        (access_of new g).altered ≡ Some cause }
+        access_after cause old list ≡ Ok new → (group_access new g).state ≢ (group_access old g).state →
+        (group_access new g).altered ≡ Some cause }
     ensures stays { (cause : Cause) (old new : AccessMapValue) (list : List ℕ) (g : Group) →
-        access_after cause old list ≡ Ok new → (access_of new g).state ≡ (access_of old g).state →
-        access_of new g ≡ access_of old g }
+        access_after cause old list ≡ Ok new → (group_access new g).state ≡ (group_access old g).state →
+        group_access new g ≡ group_access old g }
 {}
 
 /// A list that names no group changes nothing.

@@ -2,7 +2,7 @@
 ghost use Rattle.std.specs.Prelude.{◌≡◌, ◌≤◌, ◌+◌, [], ◌∷◌, length};
 ghost use Rattle.scsi_types.specs.Cdb.{is_group_list};
 ghost use Rattle.access_states.specs.Change.{fault_sense};
-ghost use Rattle.access_states.specs.List.{asked_by, asked_in, descriptor_at};
+ghost use Rattle.access_states.specs.List.{named_by, named_in, descriptor_at};
 
 use crate::AccessState;
 use byteorder::{BigEndian, ByteOrder};
@@ -33,15 +33,15 @@ impl AsetFault {
     }
 }
 
-/// What a list asks of the groups: a state for each that it names.
+/// The states with which a list names the groups; none for one that it does not name.
 #[derive(Clone, Copy, Debug, PartialEq, Eq)]
-pub struct Asked {
+pub struct Named {
     pub one: Option<AccessState>,
     pub two: Option<AccessState>,
 }
 
 /// A list that names no group.
-const NOTHING: Asked = Asked {
+const NOTHING: Named = Named {
     one: None,
     two: None,
 };
@@ -53,10 +53,10 @@ pub struct Descriptor {
     pub group: u16,
 }
 
+/// The states with which a list names the groups, or why it is refused.
 #[tactic(auto, using(crate::proofs::Crowd::refused))]
-/// What a list asks of the groups.
-pub fn asked_by(list: &[u8]) -> Result<Asked, AsetFault>
-    ensures { result ≡ asked_by list.now }
+pub fn named_by(list: &[u8]) -> Result<Named, AsetFault>
+    ensures { result ≡ named_by list.now }
 {
     if !is_list_length(list.len()) {
         return Err(AsetFault::Length);
@@ -91,19 +91,19 @@ fn descriptor_at(list: &[u8], at: usize) -> Descriptor
     }
 }
 
-// What a list of one descriptor asks.
-fn one_named(only: Descriptor) -> Result<Asked, AsetFault>
-    ensures { result ≡ asked_in (only ∷ []) }
+// What one descriptor names.
+fn one_named(only: Descriptor) -> Result<Named, AsetFault>
+    ensures { result ≡ named_in (only ∷ []) }
 {
     let Some(state) = AccessState::from_code(only.state) else {
         return Err(AsetFault::BadList);
     };
     match only.group {
-        1 => Ok(Asked {
+        1 => Ok(Named {
             one: Some(state),
             two: None,
         }),
-        2 => Ok(Asked {
+        2 => Ok(Named {
             one: None,
             two: Some(state),
         }),
@@ -111,9 +111,9 @@ fn one_named(only: Descriptor) -> Result<Asked, AsetFault>
     }
 }
 
-// What a list of two descriptors asks.
-fn two_named(first: Descriptor, second: Descriptor) -> Result<Asked, AsetFault>
-    ensures { result ≡ asked_in (first ∷ second ∷ []) }
+// What two descriptors name.
+fn two_named(first: Descriptor, second: Descriptor) -> Result<Named, AsetFault>
+    ensures { result ≡ named_in (first ∷ second ∷ []) }
 {
     let Some(state) = AccessState::from_code(first.state) else {
         return Err(AsetFault::BadList);
@@ -122,11 +122,11 @@ fn two_named(first: Descriptor, second: Descriptor) -> Result<Asked, AsetFault>
         return Err(AsetFault::BadList);
     };
     match (first.group, second.group) {
-        (1, 2) => Ok(Asked {
+        (1, 2) => Ok(Named {
             one: Some(state),
             two: Some(other),
         }),
-        (2, 1) => Ok(Asked {
+        (2, 1) => Ok(Named {
             one: Some(other),
             two: Some(state),
         }),

@@ -9,8 +9,8 @@ use scsi_types::Group;
 /// U_SUP, S_SUP, AN_SUP and AO_SUP: the states that are supported.
 const SUPPORTED_STATES: u8 = 0x0F;
 
-#[tactic(auto, unfolding(crate::specs::Report::report_bytes))]
 /// The whole data, of a unit that prefers this group and whose groups have this access.
+#[tactic(auto, unfolding(crate::specs::Report::report_bytes))]
 pub fn report_bytes(preferred: Group, one: GroupAccess, two: GroupAccess) -> [u8; 28]
     ensures { result ≡ report_bytes preferred (record { one = one; two = two }) }
 {

@@ -1,4 +1,3 @@
-use Rattle.std.proofs.Common.{IsTrue}
 use Rattle.access_states.proofs.Taken.{from_list}
 use Rattle.access_states.proofs.laws.one_group_is_optimized.Goals as goal
 
