@@ -34,9 +34,9 @@ module _ (disk : List (List ℕ)) (slot : Slot) (count k : ℕ) (block : List �
   read_more so_far j below = ⊎_elim
       (λ (before : j < k). so_far j before ∙ entries_kept old new k j takes.front before)
       (λ (here : k ≤ j).
-        let e : j ≡ k = omega arith in
-        ap (λ (i : ℕ). block_at disk (first_block slot + 1 + i)) e ∙ sym read ∙ takes.spelled
-        ∙ ap (entries_block new) (sym e))
+      let e : j ≡ k = omega arith in
+      ap (λ (i : ℕ). block_at disk (first_block slot + 1 + i)) e ∙ sym read ∙ takes.spelled
+      ∙ ap (entries_block new) (sym e))
       (cases_lt j k)
 
 -- registrants that the blocks spell go on with those of the next one
@@ -135,9 +135,10 @@ slot_held disk slot r root held = record {
 -- a slot that spells nothing is no registration file
 pub slot_refused : (disk : List (List ℕ)) (slot : Slot) (fault : OpenFault) → block_at disk 0 ≡ root_block slot
     → IsRefusalOf fault ((r : RecordValue) → HasSlot disk slot r → ⊥) → IsRefusal disk fault
-slot_refused disk slot NotARegFile root none =
-    (λ r held. none r (slot_held disk slot r root held),
-    λ named. ap (λ (b : List ℕ). take 2 (drop 8 b)) root ∙ root_version slot)
+slot_refused disk slot NotARegFile root none = (
+  λ r held. none r (slot_held disk slot r root held),
+  λ named. ap (λ (b : List ℕ). take 2 (drop 8 b)) root ∙ root_version slot,
+)
 slot_refused disk slot Version root none = absurd none
 slot_refused disk slot DeviceFailed root none = tt
 slot_refused disk slot NoMemory root none = tt

@@ -95,6 +95,6 @@ pub length_entry : (x : Registrant) → IsListed x → length (entry_bytes x) �
 unfolding entry_bytes
 length_entry x listed =
     let front = big_bytes 8 x.key ++ big_bytes 2 (group_number x.nexus.group) ++ big_bytes 6 x.nexus.port.isid
-        ++ length x.nexus.port.name ∷ x.nexus.port.name in
+    ++ length x.nexus.port.name ∷ x.nexus.port.name in
     let short = listed.port.short in
     omega (arith, length-append front (replicate (256 - length front) 0), length-replicate {A = ℕ} (256 - length front) 0)
