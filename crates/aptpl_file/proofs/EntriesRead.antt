@@ -1,17 +1,16 @@
 -- The entries of a slot, block by block.
-use Rattle.std.proofs.Common.{◌≡◌, ◌⊎◌, ⊎_elim, ℕ, zero, suc, ◌+◌, ◌*◌, ◌<◌, ◌≤◌, List, ◌++◌, length, drop, take, min, slice_index, refl, sym, ◌∙◌, ap, subst, arith}
+use Rattle.std.proofs.Common.{◌≡◌, ⊎_elim, ℕ, zero, suc, ◌+◌, ◌*◌, ◌<◌, ◌≤◌, List, ◌++◌, length, drop, take, slice_index, refl, sym, ◌∙◌, ap, subst, arith}
 use Rattle.std.proofs.lemmas.Bool.{cases_lt}
-use Rattle.std.proofs.lemmas.List.{take_all}
 use Rattle.reservations.specs.declared.registrant.Registrant.{Registrant}
 use Rattle.block_file.specs.Disk.{block_at}
-use Rattle.reservations.specs.Registry.{RecordValue, IsRecord}
+use Rattle.reservations.specs.Registry.{RecordValue}
 use Rattle.aptpl_file.specs.declared.slot.Slot.{Slot}
-use Rattle.aptpl_file.specs.Format.{entries_block, entry_at, entry_of, first_block, header_block, root_block, slot_block}
+use Rattle.aptpl_file.specs.Format.{entries_block, entry_at, entry_of, first_block, root_block}
 use Rattle.aptpl_file.specs.declared.slot.Slot.TheVariants.{First, Second}
 use Rattle.aptpl_file.specs.declared.fault.OpenFault.{OpenFault}
 use Rattle.aptpl_file.specs.declared.fault.OpenFault.TheVariants.{NotARegFile, Version, DeviceFailed, NoMemory}
 use Rattle.aptpl_file.specs.Holds.{Holds, HoldsSlot, IsRefusal}
-use Rattle.aptpl_file.specs.Reads.{AreEntries, HasBlock, TakesBlock, HasEntries, HasHeader, HasSlot, IsRefusalOf}
+use Rattle.aptpl_file.specs.Reads.{HasBlock, TakesBlock, HasEntries, HasHeader, HasSlot, IsRefusalOf}
 use Rattle.aptpl_file.proofs.Halves.{slice_get_take}
 use Rattle.aptpl_file.proofs.Header.{count_read}
 use Rattle.aptpl_file.proofs.Spelled.{root_slot, root_version}
@@ -34,9 +33,9 @@ module _ (disk : List (List ℕ)) (slot : Slot) (count k : ℕ) (block : List �
   read_more so_far j below = ⊎_elim
       (λ (before : j < k). so_far j before ∙ entries_kept old new k j takes.front before)
       (λ (here : k ≤ j).
-        let e : j ≡ k = omega arith in
-        ap (λ (i : ℕ). block_at disk (first_block slot + 1 + i)) e ∙ sym read ∙ takes.spelled
-        ∙ ap (entries_block new) (sym e))
+      let e : j ≡ k = omega arith in
+      ap (λ (i : ℕ). block_at disk (first_block slot + 1 + i)) e ∙ sym read ∙ takes.spelled
+      ∙ ap (entries_block new) (sym e))
       (cases_lt j k)
 
 -- registrants that the blocks spell go on with those of the next one
@@ -135,9 +134,10 @@ slot_held disk slot r root held = record {
 -- a slot that spells nothing is no registration file
 pub slot_refused : (disk : List (List ℕ)) (slot : Slot) (fault : OpenFault) → block_at disk 0 ≡ root_block slot
     → IsRefusalOf fault ((r : RecordValue) → HasSlot disk slot r → ⊥) → IsRefusal disk fault
-slot_refused disk slot NotARegFile root none =
-    (λ r held. none r (slot_held disk slot r root held),
-    λ named. ap (λ (b : List ℕ). take 2 (drop 8 b)) root ∙ root_version slot)
+slot_refused disk slot NotARegFile root none = (
+  λ r held. none r (slot_held disk slot r root held),
+  λ named. ap (λ (b : List ℕ). take 2 (drop 8 b)) root ∙ root_version slot,
+)
 slot_refused disk slot Version root none = absurd none
 slot_refused disk slot DeviceFailed root none = tt
 slot_refused disk slot NoMemory root none = tt

@@ -194,11 +194,7 @@ fn reservation_in(
 }
 
 // Whether a record may be so: without aptpl there is nothing.
-fn is_lasting(
-    aptpl: bool,
-    registrants: &[Registrant],
-    reservation: &Option<Reservation>,
-) -> bool
+fn is_lasting(aptpl: bool, registrants: &[Registrant], reservation: &Option<Reservation>) -> bool
     ensures { result ≡ is_lasting aptpl registrants.now reservation.now }
 {
     aptpl || registrants.is_empty() && reservation.is_none()

@@ -69,11 +69,7 @@ fn read_entries<B: Blocks>(
 }
 
 // The record of a slot.
-fn read_slot<B: Blocks>(
-    device: &mut B,
-    alloc: Global,
-    slot: Slot,
-) -> Result<Record, OpenFault>
+fn read_slot<B: Blocks>(device: &mut B, alloc: Global, slot: Slot) -> Result<Record, OpenFault>
     requires { FILE_BLOCKS ≤ B.size device.old }
     ensures size { B.size device.new ≡ B.size device.old }
     ensures read { IsTrue B.claims → IfOk result (HasSlot (B.contents device.old) slot) }
@@ -97,10 +93,7 @@ fn read_slot<B: Blocks>(
 }
 
 /// The slot that the root names and its record, which last from then on.
-pub fn read_record<B: Blocks>(
-    device: &mut B,
-    alloc: Global,
-) -> Result<(Slot, Record), OpenFault>
+pub fn read_record<B: Blocks>(device: &mut B, alloc: Global) -> Result<(Slot, Record), OpenFault>
     requires { FILE_BLOCKS ≤ B.size device.old }
     ensures size { B.size device.new ≡ B.size device.old }
     ensures holds { IsTrue B.claims → IfOk result (λ found. Holds (B.contents device.old) found.1) }

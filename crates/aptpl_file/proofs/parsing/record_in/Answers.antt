@@ -7,7 +7,7 @@ use Rattle.aptpl_file.proofs.parsing.record_in.Goals as goal
 pub returns-in-Err-clause-refused : goal.returns-in-Err-clause-refused
 returns-in-Err-clause-refused c =
     refused_too c.in-Err.fault _ _ (λ none r has. none r
-      (has_reservation c.args.header.now c.args.registrants.items c.deref.result.now r c.deref.ensures.value has))
+    (has_reservation c.args.header.now c.args.registrants.items c.deref.result.now r c.deref.ensures.value has))
     c.in-Err.ensures.refused
 
 pub returns-then-not-is_lasting-clause-refused : goal.returns-then-not-is_lasting-clause-refused
@@ -15,7 +15,7 @@ returns-then-not-is_lasting-clause-refused c = λ r has.
     let is =
     header_is c.args.header.now c.args.registrants.items (nat_eq (slice_index c.args.header.now 8) 1)
     c.in-Ok.reservation r has refl (c.in-Ok.ensures.read r
-      (has_reservation c.args.header.now c.args.registrants.items c.deref.result.now r c.deref.ensures.value has)) in
+    (has_reservation c.args.header.now c.args.registrants.items c.deref.result.now r c.deref.ensures.value has)) in
     let so =
     lasting_is c.args.header.now c.args.registrants.items c.deref-2.result.now
     (nat_eq (slice_index c.args.header.now 8) 1) c.in-Ok.reservation r c.deref-2.ensures.value has is in
@@ -28,7 +28,7 @@ returns-then-ne-clause-refused c = λ r has.
     let is =
     header_is c.args.header.now c.args.registrants.items (nat_eq (slice_index c.args.header.now 8) 1)
     c.in-Ok.reservation r has refl (c.in-Ok.ensures.read r
-      (has_reservation c.args.header.now c.args.registrants.items c.deref.result.now r c.deref.ensures.value has)) in
+    (has_reservation c.args.header.now c.args.registrants.items c.deref.result.now r c.deref.ensures.value has)) in
     differ c.args.header.now c.header_block.result c.ne.result c.ne.ensures c.if-ne.true
     (header_spelled c.args.header.now c.header_block.result c.args.registrants.items c.deref-3.result.now
     (nat_eq (slice_index c.args.header.now 8) 1) c.in-Ok.reservation r c.deref-3.ensures.value has is
@@ -38,5 +38,5 @@ pub returns-clause-only : goal.returns-clause-only
 returns-clause-only c = λ r has.
     header_is c.args.header.now c.args.registrants.items (nat_eq (slice_index c.args.header.now 8) 1)
     c.in-Ok.reservation r has refl (c.in-Ok.ensures.read r
-      (has_reservation c.args.header.now c.args.registrants.items c.deref.result.now r c.deref.ensures.value has))
+    (has_reservation c.args.header.now c.args.registrants.items c.deref.result.now r c.deref.ensures.value has))
     ∙ sym c.new.ensures

@@ -7,12 +7,12 @@ use Rattle.aptpl_file.proofs.reading.read_entries.Goals as goal
 pub returns-in-Err-clause-refused : goal.returns-in-Err-clause-refused
 returns-in-Err-clause-refused g c = λ h.
     refused_too c.in-Err.fault _ _ (λ none rs has. none rs
-      (has_block (g.B.Blocks.contents c.args.device.now) c.args.slot c.args.count c.loop-k.k c.in-Ok.block
-      c.loop-k.registrants.items rs (omega arith)
-      (c.in-Ok.ensures.read h
-      ∙ ap (λ (d : List (List ℕ)). block_at d (c.first_block.result + 1 + c.loop-k.k)) (c.loop-k.invariant.contents h)
-      ∙ ap (λ (n : ℕ). block_at (g.B.Blocks.contents c.args.device.now) (n + 1 + c.loop-k.k)) c.first_block.ensures)
-      has (c.loop-k.invariant.only h rs has)))
+    (has_block (g.B.Blocks.contents c.args.device.now) c.args.slot c.args.count c.loop-k.k c.in-Ok.block
+    c.loop-k.registrants.items rs (omega arith)
+    (c.in-Ok.ensures.read h
+    ∙ ap (λ (d : List (List ℕ)). block_at d (c.first_block.result + 1 + c.loop-k.k)) (c.loop-k.invariant.contents h)
+    ∙ ap (λ (n : ℕ). block_at (g.B.Blocks.contents c.args.device.now) (n + 1 + c.loop-k.k)) c.first_block.ensures)
+    has (c.loop-k.invariant.only h rs has)))
     c.in-Err.ensures.refused
 
 pub loop-k-preserved : goal.loop-k-preserved
