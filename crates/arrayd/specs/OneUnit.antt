@@ -1,6 +1,8 @@
 -- What the target of one unit answers.
 use Rattle.std.specs.Prelude.{◌≡◌, ◌≢◌, ◌⊎◌, ℕ, ◌≤◌, Bool, List, Option, Some, Result}
+use Rattle.access_states.specs.AccessMap.{owner_of}
 use Rattle.block_file.specs.Failures.{Tells}
+use Rattle.block_file.specs.declared.opener.KeepOpener.{KeepOpener}
 use Rattle.identity.specs.Absent.{absent_reply}
 use Rattle.scsi_types.specs.ReplyValue.{ReplyValue}
 use Rattle.scsi_types.specs.declared.names.Group.{Group}
@@ -21,10 +23,14 @@ use Rattle.unit_state.specs.declared.unit.StepEnd.TheVariants as ends
 -- What contracts see of the target: its unit, the session that is attached to it, the serial of the session's next
 -- command, and the group that is believed to own the unit.
 pub record TargetValue (B : Type 0) : Type 0 where
-  pub unit : UnitValue B
+  pub unit : UnitValue B KeepOpener
   pub session : ℕ
   pub serial : ℕ
   pub by : Group
+
+-- both controllers reach the one device, which is never opened anew and so never fails to be
+abbrev pub never : KeepOpener → ℕ
+never opener = 0
 
 -- a command of the session was one step of the unit, which tells the truth of failures
 pub record IsCommand {B : Type 0} (claims : Bool) (contents : B → List (List ℕ)) (failures : B → ℕ) (old new : TargetValue B)
@@ -32,7 +38,7 @@ pub record IsCommand {B : Type 0} (claims : Bool) (contents : B → List (List �
   pub session : new.session ≡ old.session
   pub step : IsStep claims (state_of contents old.unit) (state_of contents new.unit)
       (entry_of old.session old.serial old.by asked bytes reply (state_of contents new.unit)) reply
-  pub fine : Tells (failures_of failures old.unit) (failures_of failures new.unit) (IsFine (choice_of reply (contents new.unit.device)))
+  pub fine : Tells (failures_of failures never old.unit) (failures_of failures never new.unit) (IsFine (choice_of reply (contents new.unit.device)))
 
 -- nothing happened to the unit
 pub record IsSame {B : Type 0} (old new : TargetValue B) : Type 0 where
@@ -45,7 +51,7 @@ abbrev pub IsStepped : {B : Type 0} → Bool → (B → List (List ℕ)) → (B 
 IsStepped claims contents failures old asked bytes (ends.Reply reply) new = IsCommand claims contents failures old new asked bytes reply
 IsStepped claims contents failures old asked bytes ends.Gone new = IsSame old new × (LAST_COUNT ≤ old.unit.control.count)
 IsStepped claims contents failures old asked bytes (ends.Moved owner) new =
-    IsSame old new × (old.by ≢ old.unit.control.owner) × (new.by ≡ new.unit.control.owner)
+    IsSame old new × (old.by ≢ owner_of old.unit.control.access) × (new.by ≡ owner_of new.unit.control.access)
 IsStepped claims contents failures old asked bytes ends.NoMemory new = IsSame old new × TakesMemory old.unit.control (request old.session asked bytes)
 
 -- What such a step leaves that is made once more by the owner where it came by another group.

@@ -2,7 +2,7 @@
 ghost use Rattle.std.specs.Prelude.{◌≡◌, IfOk};
 ghost use Rattle.arrayd.specs.Once.{IsBegun};
 
-use block_file::Blocks;
+use block_file::{Blocks, KeepOpener};
 use identity::absent;
 use scsi_types::{Asked, Command, Group, NoMemory, Place, PortName};
 use session::{Target, TargetAnswer};
@@ -20,7 +20,7 @@ const INITIATOR: &[u8] = b"iqn.2000-01.test:host";
 #[derive(Drop)]
 pub struct OneUnit<B: Blocks> {
     alloc: Global,
-    unit: Unit<B>,
+    unit: Unit<B, KeepOpener>,
     session: SessionId,
     // The serial of the session's next command.
     serial: u64,
@@ -54,7 +54,7 @@ impl<B: Blocks> OneUnit<B> {
             array: 1,
         };
         let name = INITIATOR.to_vec(alloc)?;
-        let mut unit = Unit::open(alloc, place, blocks)?;
+        let mut unit = Unit::open(alloc, place, blocks, KeepOpener)?;
         let Ok(session) = unit.attach(PortName::new(name, 0), Group::One) else {
             unreachable!()
         };
@@ -76,7 +76,8 @@ impl<B: Blocks> OneUnit<B> {
     pub fn close(self) -> B
         ensures { result ≡ self.unit.device }
     {
-        self.unit.close()
+        let (blocks, KeepOpener) = self.unit.close();
+        blocks
     }
 
     // One step of the unit, by the group that is believed to own it.

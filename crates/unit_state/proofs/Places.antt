@@ -1,5 +1,5 @@
 -- The place of a session among those that are attached.
-use Rattle.std.proofs.Common.{◌≡◌, ◌≢◌, ⊎_elim, ℕ, zero, suc, ◌+◌, ◌<◌, ◌≤◌, true, false, not, List, [], ◌∷◌, ◌++◌, length, length-set, get_or, set, take, drop, map, refl, sym, ◌∙◌, ap, arith, add-one, Some, None, Option, IfSome, IsSome, All, nat_eq, eq-eqb, slice_get}
+use Rattle.std.proofs.Common.{◌≡◌, ◌≢◌, ⊎_elim, ℕ, zero, suc, ◌+◌, ◌<◌, ◌≤◌, Bool, true, false, not, List, [], ◌∷◌, ◌++◌, length, length-set, get_or, set, take, drop, map, refl, sym, ◌∙◌, ap, arith, add-one, Some, None, Option, IfSome, IsSome, All, nat_eq, eq-eqb, slice_get}
 use Rattle.std.specs.Option.{option_map}
 use Rattle.std.proofs.lemmas.Bool.Decides.{eqb_tells}
 use Rattle.std.proofs.lemmas.Grind.{common_steps}
@@ -9,8 +9,11 @@ use Rattle.std.proofs.lemmas.List.Elements.{All-filter, All-map, All-push}
 use Rattle.std.proofs.lemmas.List.Filters.{length-filter_both}
 use Rattle.scsi_types.specs.Nexus.{Nexus}
 use Rattle.unit_state.specs.declared.sessions.Attached.{Attached}
-use Rattle.unit_state.specs.Sessions.{is_of, nexus_in, nexus_of, sender_of, session_of, changed, ended, heard_reset, all_reset, without}
+use Rattle.reservations.specs.Nexus.{IsPortName}
+use Rattle.unit_state.specs.Sessions.{IsFit, is_of, nexus_in, nexus_of, sender_of, session_of, changed, ended, heard_reset, all_reset, without}
 use Rattle.reservations.specs.declared.request.Told.{Told}
+use Rattle.unit_state.specs.CommandLaws.{change_keeps}
+use Rattle.unit_state.specs.Groups.{change_heard, hear_change}
 use Rattle.unit_state.specs.Reserve.{all_heard, hear}
 use Rattle.unit_state.specs.Places.{IsChangedAt, IsPlaceOf}
 
@@ -138,26 +141,45 @@ place_mapped f keeps sessions id k place = mapped_with f keeps sessions id k (sl
 pub fewer : (nexus : Nexus) (sessions : List Attached) → length (without nexus sessions) ≤ length sessions
 fewer nexus sessions = omega (arith, length-filter_both (λ a. not (is_of nexus a)) (λ a. not (not (is_of nexus a))) (λ a. refl) sessions)
 
--- no serial passes the count
-pub serials_fit : (nexus : Nexus) (sessions : List Attached) (count : ℕ) (new : Attached) → new.next ≡ 1 → All (λ a. a.next ≤ count) sessions → All (λ a. a.next ≤ count + 1) (without nexus sessions ++ new ∷ [])
-serials_fit nexus sessions count new first fit =
-    All-push (λ a. a.next ≤ count + 1) (without nexus sessions) new
-    (All-filter (λ a. not (is_of nexus a)) (λ a. a.next ≤ count + 1) sessions (λ k d lt. let h = fit k d lt in omega arith)) (omega arith)
+-- no serial passes the count, and each port has a name
+fit_later : (count : ℕ) (a : Attached) → IsFit count a → IsFit (count + 1) a
+fit_later count a h = let le : a.next ≤ count = h.next in record { next = omega arith; port = h.port }
 
-pub serials_fit_ended : (id : ℕ) (sessions : List Attached) (count : ℕ) → All (λ a. a.next ≤ count) sessions → All (λ a. a.next ≤ count + 1) (ended sessions id)
+pub serials_fit : (nexus : Nexus) (sessions : List Attached) (count : ℕ) (new : Attached) → new.next ≡ 1 → IsPortName new.port → All (IsFit count) sessions → All (IsFit (count + 1)) (without nexus sessions ++ new ∷ [])
+serials_fit nexus sessions count new first named fit =
+    All-push (IsFit (count + 1)) (without nexus sessions) new
+    (All-filter (λ a. not (is_of nexus a)) (IsFit (count + 1)) sessions (λ k d lt. fit_later count (get_or sessions k d) (fit k d lt)))
+    (record { next = omega arith; port = named })
+
+pub serials_fit_ended : (id : ℕ) (sessions : List Attached) (count : ℕ) → All (IsFit count) sessions → All (IsFit (count + 1)) (ended sessions id)
 serials_fit_ended id sessions count fit =
-    All-filter (λ a. not (nat_eq a.id id)) (λ a. a.next ≤ count + 1) sessions (λ k d lt. let h = fit k d lt in omega arith)
+    All-filter (λ a. not (nat_eq a.id id)) (IsFit (count + 1)) sessions (λ k d lt. fit_later count (get_or sessions k d) (fit k d lt))
 
-next_reset : (id : ℕ) (a : Attached) → (heard_reset id a).next ≡ a.next
-next_reset id a =
-    ⊎_elim (λ (t : (nat_eq a.id id ≡ true) × (a.id ≡ id)). rw t.0 refl) (λ (n : (nat_eq a.id id ≡ false) × (a.id ≢ id)). rw n.0 refl) (eqb_tells a.id id)
+reset_keeps_fit : (id count : ℕ) (a : Attached) → IsFit count a → IsFit (count + 1) (heard_reset id a)
+reset_keeps_fit id count a h =
+    let later = fit_later count a h in
+    ⊎_elim (λ (t : (nat_eq a.id id ≡ true) × (a.id ≡ id)). rw t.0 later) (λ (n : (nat_eq a.id id ≡ false) × (a.id ≢ id)). rw n.0 (record { next = later.next; port = later.port })) (eqb_tells a.id id)
 
-pub serials_fit_heard : (told : List Told) (sessions : List Attached) (count : ℕ) → All (λ a. a.next ≤ count) sessions → All (λ a. a.next ≤ count) (all_heard told sessions)
-serials_fit_heard told sessions count fit = All-map (λ (a : Attached). a.next ≤ count) (hear told) sessions (λ k d lt. fit k d lt)
+pub serials_fit_heard : (told : List Told) (sessions : List Attached) (count : ℕ) → All (IsFit count) sessions → All (IsFit count) (all_heard told sessions)
+serials_fit_heard told sessions count fit = All-map (IsFit count) (hear told) sessions (λ k d lt. let h = fit k d lt in record { next = h.next; port = h.port })
 
-pub serials_fit_reset : (id : ℕ) (sessions : List Attached) (count : ℕ) → All (λ a. a.next ≤ count) sessions → All (λ a. a.next ≤ count + 1) (all_reset sessions id)
+change_keeps_fit : (by_session : Option ℕ) (count : ℕ) (a : Attached) → IsFit count a → IsFit count (hear_change by_session a)
+change_keeps_fit None count a h = record { next = h.next; port = h.port }
+change_keeps_fit (Some id) count a h =
+    ⊎_elim (λ (t : (nat_eq a.id id ≡ true) × (a.id ≡ id)). rw t.0 h) (λ (n : (nat_eq a.id id ≡ false) × (a.id ≢ id)). rw n.0 (record { next = h.next; port = h.port })) (eqb_tells a.id id)
+
+pub serials_fit_changed : (by_session : Option ℕ) (sessions : List Attached) (count : ℕ) → All (IsFit count) sessions → All (IsFit count) (map (hear_change by_session) sessions)
+serials_fit_changed by_session sessions count fit =
+    All-map (IsFit count) (hear_change by_session) sessions (λ k d lt. change_keeps_fit by_session count (get_or sessions k d) (fit k d lt))
+
+-- a session stays at its place where a change of access states is told
+pub place_told : (is : Bool) (by_session : Option ℕ) (sessions : List Attached) (id k : ℕ) → IsPlaceOf sessions id k → IsPlaceOf (change_heard is by_session sessions) id k
+place_told true by_session sessions id k place = place_mapped (hear_change by_session) (λ a. (change_keeps by_session a).0) sessions id k place
+place_told false by_session sessions id k place = place
+
+pub serials_fit_reset : (id : ℕ) (sessions : List Attached) (count : ℕ) → All (IsFit count) sessions → All (IsFit (count + 1)) (all_reset sessions id)
 serials_fit_reset id sessions count fit =
-    All-map (λ (a : Attached). a.next ≤ count + 1) (heard_reset id) sessions (λ k d lt. let h = fit k d lt in let e = next_reset id (get_or sessions k d) in omega arith)
+    All-map (IsFit (count + 1)) (heard_reset id) sessions (λ k d lt. reset_keeps_fit id count (get_or sessions k d) (fit k d lt))
 
 -- ---- a change of all, one by one
 

@@ -1,9 +1,9 @@
 -- What commands, resets and ends leave of a session: its serial, and what is pending for it.
-use Rattle.std.proofs.Common.{◌≡◌, ◌≢◌, ⊎_elim, ℕ, ◌+◌, true, false, nat_eq, eq-eqb, List, [], ◌∷◌, drop, Option, Some, None, IsSome, Result, Ok, Err, refl, sym, ◌∙◌, ap, arith, slice_get}
+use Rattle.std.proofs.Common.{◌≡◌, ◌≢◌, ⊎_elim, ℕ, ◌+◌, Bool, true, false, nat_eq, eq-eqb, List, [], ◌∷◌, drop, Option, Some, None, IsSome, Result, Ok, Err, refl, sym, ◌∙◌, ap, arith, slice_get}
 use Rattle.std.specs.Prelude.{IsTrue}
 use Rattle.std.specs.Option.{option_map}
 use Rattle.std.proofs.lemmas.Bool.Decides.{eqb_tells}
-use Rattle.attentions.specs.Queue.{is_pending, without_repeats}
+use Rattle.attentions.specs.Queue.{established, is_pending, without_repeats}
 use Rattle.reservations.specs.declared.request.Told.{Told}
 use Rattle.reservations.specs.declared.request.PrOut.{PrOut}
 use Rattle.reservations.specs.Notice.{code_told}
@@ -13,7 +13,7 @@ use Rattle.scsi_types.specs.Nexus.{Nexus}
 use Rattle.reservations.specs.Rows.{Effect, Done, Conflicting, Refused, Full}
 use Rattle.unit_state.specs.Reserve.{all_heard, hear, after_effect, effect_by, pr_out}
 use Rattle.scsi_types.specs.declared.attention.UnitAttention.{UnitAttention}
-use Rattle.scsi_types.specs.declared.attention.UnitAttention.TheVariants.{PowerOn}
+use Rattle.scsi_types.specs.declared.attention.UnitAttention.TheVariants.{AccessStateChanged, PowerOn}
 use Rattle.scsi_types.specs.declared.command.Command.{Command as ScsiCommand}
 use Rattle.scsi_types.specs.declared.command.Command.TheVariants as commands
 use Rattle.scsi_types.specs.declared.command.CdbFault.{CdbFault}
@@ -25,7 +25,8 @@ use Rattle.unit_state.specs.Choice.{Choice}
 use Rattle.unit_state.specs.Sessions.{session_of, sender_of, nexus_in, next_of, pending_in, pending_of, pass_one, passed, tell_one, told, ended, heard_reset, all_reset}
 use Rattle.unit_state.specs.Refusal.{Request, refusal}
 use Rattle.unit_state.specs.Entry.{IsNext, control_with}
-use Rattle.unit_state.specs.CommandLaws.{next_passed, next_kept}
+use Rattle.unit_state.specs.CommandLaws.{change_keeps, next_passed, next_kept}
+use Rattle.unit_state.specs.Groups.{change_heard, hear_change}
 use Rattle.unit_state.proofs.Places.{session_changed, session_mapped, has_id}
 
 -- ---- serials
@@ -101,6 +102,42 @@ reset_other_in sessions id other (Some a) apart h there = rw (other_id a id othe
 pub reset_other : (sessions : List Attached) (id other : ℕ) → other ≢ id → IsSome (session_of sessions other) → pending_of (all_reset sessions id) other ≡ PowerOn ∷ []
 reset_other sessions id other apart there =
     ap pending_in (session_mapped (heard_reset id) (reset_keeps id) sessions other) ∙ reset_other_in sessions id other (session_of sessions other) apart refl there
+
+-- ---- changes of access states
+
+hears_id : (by_session : Option ℕ) (a : Attached) → (hear_change by_session a).id ≡ a.id
+hears_id by_session a = (change_keeps by_session a).0
+
+own_change_in : (sessions : List Attached) (id : ℕ) (o : Option Attached) → session_of sessions id ≡ o → pending_in (option_map (hear_change (Some id)) o) ≡ pending_in o
+own_change_in sessions id None h = refl
+own_change_in sessions id (Some a) h = rw (same_id sessions id a h) refl
+
+-- who asks for a change is told what it was to be told
+pub change_own : (is : Bool) (sessions : List Attached) (id : ℕ) → pending_of (change_heard is (Some id) sessions) id ≡ pending_of sessions id
+change_own true sessions id = ap pending_in (session_mapped (hear_change (Some id)) (hears_id (Some id)) sessions id) ∙ own_change_in sessions id (session_of sessions id) refl
+change_own false sessions id = refl
+
+other_change_in : (sessions : List Attached) (id other : ℕ) (o : Option Attached) → other ≢ id → session_of sessions other ≡ o → IsSome o
+    → pending_in (option_map (hear_change (Some id)) o) ≡ established (pending_in o) AccessStateChanged
+other_change_in sessions id other None apart h there = absurd (cc)
+other_change_in sessions id other (Some a) apart h there = rw (other_id a id other apart (same_id sessions other a h)) refl
+
+-- every other session is told of it
+pub change_other : (is : Bool) (sessions : List Attached) (id other : ℕ) → other ≢ id → is ≡ true → IsSome (session_of sessions other)
+    → pending_of (change_heard is (Some id) sessions) other ≡ established (pending_of sessions other) AccessStateChanged
+change_other true sessions id other apart is_any there =
+    ap pending_in (session_mapped (hear_change (Some id)) (hears_id (Some id)) sessions other) ∙ other_change_in sessions id other (session_of sessions other) apart refl there
+change_other false sessions id other apart is_any there = absurd (cc)
+
+moved_in : (o : Option Attached) → IsSome o → pending_in (option_map (hear_change None) o) ≡ established (pending_in o) AccessStateChanged
+moved_in None there = absurd (cc)
+moved_in (Some a) there = refl
+
+-- and every session where nobody asked for it
+pub change_moved : (is : Bool) (sessions : List Attached) (other : ℕ) → is ≡ true → IsSome (session_of sessions other)
+    → pending_of (change_heard is None sessions) other ≡ established (pending_of sessions other) AccessStateChanged
+change_moved true sessions other is_any there = ap pending_in (session_mapped (hear_change None) (hears_id None) sessions other) ∙ moved_in (session_of sessions other) there
+change_moved false sessions other is_any there = absurd (cc)
 
 -- a session that ended is not attached
 pub ended_gone : (sessions : List Attached) (id : ℕ) → session_of (ended sessions id) id ≡ None

@@ -6,7 +6,7 @@ use Rattle.unit_state.specs.State.{UnitState}
 use Rattle.unit_state.specs.Choice.{Choice}
 use Rattle.unit_state.specs.Medium.{found, work_asked}
 use Rattle.unit_state.specs.Refusal.{Request, request, refusal}
-use Rattle.unit_state.specs.Entry.{Entry, Attach, Detach, Reset, Command, IsPossible, IsReplyTo, IsReplyWith, after, reply_to, reply_with, returned}
+use Rattle.unit_state.specs.Entry.{Entry, Attach, Detach, Reset, Move, Command, IsPossible, IsReplyTo, IsReplyWith, after, reply_to, reply_with, returned}
 use Rattle.unit_state.specs.History.{state_after, IsLegal, reply_at, IsReplyAt}
 
 -- its state is that after the last entry
@@ -43,6 +43,7 @@ decided_by : (s : UnitState) (entry : Entry) (reply : ReplyValue) → IsReplyTo 
 decided_by s (Attach nexus) reply is = absurd is
 decided_by s (Detach session) reply is = absurd is
 decided_by s (Reset session) reply is = absurd is
+decided_by s (Move list choice) reply is = absurd is
 decided_by s (Command session serial by_group asked bytes choice) reply is =
     let r = request session asked bytes in
     ap (λ (a : ReplyValue). let o : Option ReplyValue = Some a in o) (decided_with (refusal s.control r) s r choice reply is)

@@ -1,10 +1,11 @@
 //! A unit with the sessions of a test, and its device.
 use crate::bytes::{Runs, cdb_of, spelled};
-use block_file::{Blocks, DeviceFailed, FusedBlocks, MemBlocks};
+use access_states::Change;
+use block_file::{Blocks, DeviceFailed, FusedBlocks, FusedOpener, KeepOpener, MemBlocks};
 use scsi_types::{Group, Place, PortName, decode};
 use std::alloc::{AllocError, Global};
 use std::test::Fail;
-use unit_state::{AttachFault, Gone, SessionId, StepEnd, Unit};
+use unit_state::{AttachFault, Gone, MoveFault, SessionId, StepEnd, Unit};
 
 /// How a device in memory fails.
 #[derive(Clone, Copy, Debug)]
@@ -23,6 +24,10 @@ pub enum Call {
     Attach(u64, Group),
     Detach(usize),
     Reset(usize),
+    /// Moves the unit as a list says.
+    Move(Runs),
+    /// Flushes the unit.
+    Flush,
     /// The next command of a session with its data, by the session's own group.
     Send(usize, &'static str, Runs),
     /// The same, and where the unit belongs to the other group, once more by that one.
@@ -37,6 +42,8 @@ pub enum Ended {
     Step(StepEnd),
     Attach(Result<SessionId, AttachFault>),
     Session(Result<(), Gone>),
+    Move(Result<Change, MoveFault>),
+    Flush(Result<(), DeviceFailed>),
 }
 
 /// A session that was attached: its id, its group, and the serial of its next command.
@@ -47,17 +54,23 @@ struct Attached {
     next: u64,
 }
 
-/// A unit over memory behind a fuse, and the sessions that were attached to it.
+/// A unit over memory behind a fuse, with an opener behind a fuse, and the sessions that were attached to it.
 #[derive(Drop)]
 pub struct Bench {
     alloc: Global,
-    unit: Unit<FusedBlocks<MemBlocks>>,
+    unit: Unit<FusedBlocks<MemBlocks>, FusedOpener<KeepOpener>>,
     sessions: Vec<Attached>,
 }
 
 impl Bench {
-    /// A unit of so many blocks of zeros.
-    pub fn open(alloc: Global, place: Place, blocks: u32, fuse: Fuse) -> Result<Bench, Fail> {
+    /// A unit of so many blocks of zeros, which are opened for another controller so often before an open fails.
+    pub fn open(
+        alloc: Global,
+        place: Place,
+        blocks: u32,
+        fuse: Fuse,
+        opens: u64,
+    ) -> Result<Bench, Fail> {
         let memory = MemBlocks::new(alloc, blocks)?;
         let device = match fuse {
             Fuse::Never => FusedBlocks::new(memory, u64::MAX),
@@ -66,7 +79,7 @@ impl Bench {
         };
         Ok(Bench {
             alloc,
-            unit: Unit::open(alloc, place, device)?,
+            unit: Unit::open(alloc, place, device, FusedOpener::new(KeepOpener, opens))?,
             sessions: Vec::new(alloc),
         })
     }
@@ -83,6 +96,8 @@ impl Bench {
                 let id = self.session(session)?.id;
                 Ok(Ended::Session(self.unit.reset(id)))
             }
+            Call::Move(runs) => Ok(Ended::Move(self.unit.move_to(&spelled(self.alloc, runs)?))),
+            Call::Flush => Ok(Ended::Flush(self.unit.flush())),
             Call::Send(session, cdb, runs) => Ok(Ended::Step(self.send(
                 session, cdb, runs, false,
             )?)),
@@ -99,7 +114,8 @@ impl Bench {
     /// Hands the memory back.
     pub fn close(self) -> MemBlocks {
         let Bench { unit, .. } = self;
-        unit.close().into_inner()
+        let (device, _opener) = unit.close();
+        device.into_inner()
     }
 
     fn session(&self, at: usize) -> Result<Attached, Fail> {

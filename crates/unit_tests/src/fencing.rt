@@ -3,7 +3,7 @@ use crate::bench::Call::{Attach, Forward, Send};
 use crate::bench::Fuse;
 use crate::bytes::Runs;
 use crate::run::End::{Attached, Check, Conflict, Good};
-use crate::run::{FIRST, Row, Script, run, table};
+use crate::run::{ALWAYS, FIRST, Row, Script, run, table};
 use scsi_types::Group::{One, Two};
 use std::test::Fail;
 
@@ -132,6 +132,7 @@ fn who_is_fenced(rt: HostRuntime) -> Result<(), Fail> {
             place: FIRST,
             blocks: 16,
             fuse: Fuse::Never,
+            opens: ALWAYS,
             tables: &[FOUR, rows],
             after: &[(1, 0x5A)],
         };
