@@ -1,6 +1,7 @@
 -- A command that came by another group is submitted once more, to the owner.
 use Rattle.std.proofs.Common.{◌≡◌, ℕ, ◌≤◌, Bool, List, Result, refl, subst, ◌∙◌}
 use Rattle.access_states.specs.AccessMap.{owner_of}
+use Rattle.block_file.specs.declared.mem.MemBlocks.{MemBlocks}
 use Rattle.block_file.specs.declared.opener.KeepOpener.{KeepOpener}
 use Rattle.scsi_types.specs.declared.names.Group.{Group}
 use Rattle.scsi_types.specs.declared.command.Command.{Command as ScsiCommand}
@@ -19,10 +20,10 @@ module _ {B : Type 0} (claims : Bool) (contents : B → List (List ℕ)) (failur
 
   pub twice : (end : StepEnd) → IsSame old mid → mid.by ≡ owner_of mid.unit.control.access → IsStepped claims contents failures mid asked bytes end new → IsOwnStep claims contents failures old asked bytes end new
   twice (Reply reply) same owner k = (mid, same, k)
-  twice Gone same owner k = (joined same k.0, subst (λ (u : UnitValue B KeepOpener). LAST_COUNT ≤ u.control.count) same.unit k.1)
+  twice Gone same owner k = (joined same k.0, subst (λ (u : UnitValue B KeepOpener MemBlocks). LAST_COUNT ≤ u.control.count) same.unit k.1)
   twice (Moved to) same owner k = absurd (k.1 owner)
   twice NoMemory same owner k =
-      (joined same k.0, subst (λ (u : UnitValue B KeepOpener). TakesMemory u.control (request old.session asked bytes)) same.unit (subst (λ (n : ℕ). TakesMemory mid.unit.control (request n asked bytes)) same.session k.1))
+      (joined same k.0, subst (λ (u : UnitValue B KeepOpener MemBlocks). TakesMemory u.control (request old.session asked bytes)) same.unit (subst (λ (n : ℕ). TakesMemory mid.unit.control (request n asked bytes)) same.session k.1))
 
   pub at_once : (end : StepEnd) → ((to : Group) → end ≡ Moved to → ⊥) → IsStepped claims contents failures old asked bytes end new → IsOwnStep claims contents failures old asked bytes end new
   at_once (Reply reply) stays k = (old, record { session = refl; unit = refl }, k)

@@ -2,6 +2,7 @@
 use Rattle.std.specs.Prelude.{◌≡◌, ◌≢◌, ◌⊎◌, ℕ, ◌≤◌, Bool, List, Option, Some, Result}
 use Rattle.access_states.specs.AccessMap.{owner_of}
 use Rattle.block_file.specs.Failures.{Tells}
+use Rattle.block_file.specs.declared.mem.MemBlocks.{MemBlocks}
 use Rattle.block_file.specs.declared.opener.KeepOpener.{KeepOpener}
 use Rattle.identity.specs.Absent.{absent_reply}
 use Rattle.scsi_types.specs.ReplyValue.{ReplyValue}
@@ -23,14 +24,18 @@ use Rattle.unit_state.specs.declared.unit.StepEnd.TheVariants as ends
 -- What contracts see of the target: its unit, the session that is attached to it, the serial of the session's next
 -- command, and the group that is believed to own the unit.
 pub record TargetValue (B : Type 0) : Type 0 where
-  pub unit : UnitValue B KeepOpener
+  pub unit : UnitValue B KeepOpener MemBlocks
   pub session : ℕ
   pub serial : ℕ
   pub by : Group
 
--- both controllers reach the one device, which is never opened anew and so never fails to be
-abbrev pub never : KeepOpener → ℕ
-never opener = 0
+-- Both controllers reach the one device, which is never opened anew, and the registration file is in memory: neither
+-- ever fails.
+abbrev pub never_unopened : KeepOpener → ℕ
+never_unopened opener = 0
+
+abbrev pub never_unsaved : MemBlocks → ℕ
+never_unsaved device = 0
 
 -- a command of the session was one step of the unit, which tells the truth of failures
 pub record IsCommand {B : Type 0} (claims : Bool) (contents : B → List (List ℕ)) (failures : B → ℕ) (old new : TargetValue B)
@@ -38,7 +43,7 @@ pub record IsCommand {B : Type 0} (claims : Bool) (contents : B → List (List �
   pub session : new.session ≡ old.session
   pub step : IsStep claims (state_of contents old.unit) (state_of contents new.unit)
       (entry_of old.session old.serial old.by asked bytes reply (state_of contents new.unit)) reply
-  pub fine : Tells (failures_of failures never old.unit) (failures_of failures never new.unit) (IsFine (choice_of reply (contents new.unit.device)))
+  pub fine : Tells (failures_of failures never_unopened never_unsaved old.unit) (failures_of failures never_unopened never_unsaved new.unit) (IsFine (choice_of reply (contents new.unit.device) new.unit.control.lasting))
 
 -- nothing happened to the unit
 pub record IsSame {B : Type 0} (old new : TargetValue B) : Type 0 where

@@ -5,7 +5,7 @@ use crate::bytes::Runs;
 use crate::run::End::{
     Attached, Check, Conflict, Done, Good, Moved, MovedTo, NotFlushed, NotMoved, Told,
 };
-use crate::run::{ALWAYS, End, FIRST, Row, SECOND, Script, run, table};
+use crate::run::{ALWAYS, End, FIRST, Row, SECOND, Script, UNSAVED, run, table};
 use access_states::AsetFault;
 use scsi_types::Group::{One, Two};
 use std::test::Fail;
@@ -218,6 +218,7 @@ fn access_states_change(rt: HostRuntime) -> Result<(), Fail> {
                 blocks: 16,
                 fuse: Fuse::Never,
                 opens,
+                saves: UNSAVED,
                 tables: &[TWO_SESSIONS, rows],
                 after: &[(1, 0x5A)],
             },
@@ -232,6 +233,7 @@ fn access_states_change(rt: HostRuntime) -> Result<(), Fail> {
             blocks: 16,
             fuse: Fuse::Never,
             opens: 0,
+            saves: UNSAVED,
             tables: &[PREFERRED],
             after: &[(1, 0x5A)],
         },
@@ -434,6 +436,7 @@ fn each_state_serves_its_commands(rt: HostRuntime) -> Result<(), Fail> {
                 blocks: 512,
                 fuse: Fuse::Never,
                 opens: ALWAYS,
+                saves: UNSAVED,
                 tables: &[&rows],
                 after: &[],
             };
@@ -459,6 +462,7 @@ fn a_flush_can_fail(rt: HostRuntime) -> Result<(), Fail> {
             blocks: 16,
             fuse: Fuse::After(0),
             opens: ALWAYS,
+            saves: UNSAVED,
             tables: &[TWO_SESSIONS, FLUSH_FAILS],
             after: &[],
         },

@@ -1,7 +1,9 @@
 //! A unit with the sessions of a test, and its device.
 use crate::bytes::{Runs, cdb_of, spelled};
 use access_states::Change;
+use aptpl_file::{FILE_BLOCKS, RegFile};
 use block_file::{Blocks, DeviceFailed, FusedBlocks, FusedOpener, KeepOpener, MemBlocks};
+use reservations::Record;
 use scsi_types::{Group, Place, PortName, decode};
 use std::alloc::{AllocError, Global};
 use std::test::Fail;
@@ -28,6 +30,8 @@ pub enum Call {
     Move(Runs),
     /// Flushes the unit.
     Flush,
+    /// Not a call: the power is lost, and the unit opens again.
+    Restart,
     /// The next command of a session with its data, by the session's own group.
     Send(usize, &'static str, Runs),
     /// The same, and where the unit belongs to the other group, once more by that one.
@@ -54,23 +58,33 @@ struct Attached {
     next: u64,
 }
 
-/// A unit over memory behind a fuse, with an opener behind a fuse, and the sessions that were attached to it.
+/// The calls of the registration file's device in which it is formatted: the 33 blocks of a slot, a flush, the root, and a
+/// flush. A save makes as many.
+pub const SAVE: u64 = 36;
+
+/// A unit over memory behind a fuse, with an opener and a registration file behind a fuse each, and the sessions that were
+/// attached to it.
 #[derive(Drop)]
 pub struct Bench {
     alloc: Global,
-    unit: Unit<FusedBlocks<MemBlocks>, FusedOpener<KeepOpener>>,
+    unit: Unit<FusedBlocks<MemBlocks>, FusedOpener<KeepOpener>, FusedBlocks<MemBlocks>>,
     sessions: Vec<Attached>,
 }
 
 impl Bench {
-    /// A unit of so many blocks of zeros, which are opened for another controller so often before an open fails.
+    /// A unit of so many blocks of zeros, which are opened for another controller so often before an open fails, and with a
+    /// registration file of nothing, whose device makes so many calls before one fails.
     pub fn open(
         alloc: Global,
         place: Place,
         blocks: u32,
         fuse: Fuse,
         opens: u64,
+        saves: u64,
     ) -> Result<Bench, Fail> {
+        let registrations = MemBlocks::new(alloc, FILE_BLOCKS)?;
+        let fused = FusedBlocks::new(registrations, saves.saturating_add(SAVE));
+        let file = RegFile::format(fused).ok().ok_or("a registration file")?;
         let memory = MemBlocks::new(alloc, blocks)?;
         let device = match fuse {
             Fuse::Never => FusedBlocks::new(memory, u64::MAX),
@@ -79,7 +93,14 @@ impl Bench {
         };
         Ok(Bench {
             alloc,
-            unit: Unit::open(alloc, place, device, FusedOpener::new(KeepOpener, opens))?,
+            unit: Unit::open(
+                alloc,
+                place,
+                device,
+                FusedOpener::new(KeepOpener, opens),
+                file,
+                Record::empty(alloc),
+            )?,
             sessions: Vec::new(alloc),
         })
     }
@@ -97,6 +118,7 @@ impl Bench {
                 Ok(Ended::Session(self.unit.reset(id)))
             }
             Call::Move(runs) => Ok(Ended::Move(self.unit.move_to(&spelled(self.alloc, runs)?))),
+            Call::Restart => Err(Fail::from("a call of the unit")),
             Call::Flush => Ok(Ended::Flush(self.unit.flush())),
             Call::Send(session, cdb, runs) => Ok(Ended::Step(self.send(
                 session, cdb, runs, false,
@@ -111,10 +133,32 @@ impl Bench {
         }
     }
 
+    /// The unit as it opens after a power loss: with the blocks and the registration file that were left. No call fails.
+    pub fn restart(self, place: Place) -> Result<Bench, Fail> {
+        let Bench { alloc, unit, .. } = self;
+        let (device, _opener, registrations) = unit.close();
+        let fused = FusedBlocks::new(registrations.into_inner(), u64::MAX);
+        let (file, lasted) = RegFile::open(alloc, fused)
+            .ok()
+            .ok_or("a record that lasted")?;
+        Ok(Bench {
+            alloc,
+            unit: Unit::open(
+                alloc,
+                place,
+                FusedBlocks::new(device.into_inner(), u64::MAX),
+                FusedOpener::new(KeepOpener, u64::MAX),
+                file,
+                lasted,
+            )?,
+            sessions: Vec::new(alloc),
+        })
+    }
+
     /// Hands the memory back.
     pub fn close(self) -> MemBlocks {
         let Bench { unit, .. } = self;
-        let (device, _opener) = unit.close();
+        let (device, _opener, _registrations) = unit.close();
         device.into_inner()
     }
 
@@ -125,6 +169,9 @@ impl Bench {
 
     fn attach(&mut self, isid: u64, group: Group) -> Result<Result<SessionId, AttachFault>, Fail> {
         let name = b"iqn.2026-01.example:host".to_vec(self.alloc)?;
+        if isid >= 0x1_0000_0000_0000 {
+            return Err(Fail::from("an ISID of six bytes"));
+        }
         let end = self.unit.attach(PortName::new(name, isid), group);
         if let Ok(id) = end {
             self.sessions.push(Attached { id, group, next: 1 })?;

@@ -14,6 +14,8 @@ mod fencing;
 #[cfg(test)]
 mod identities;
 #[cfg(test)]
+mod lasting;
+#[cfg(test)]
 mod medium;
 #[cfg(test)]
 mod run;

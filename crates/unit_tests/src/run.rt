@@ -53,6 +53,8 @@ pub struct Script<'a> {
     pub fuse: Fuse,
     /// How often the blocks are opened for another controller before an open fails.
     pub opens: u64,
+    /// How many calls the registration file's device makes before one fails.
+    pub saves: u64,
     pub tables: &'a [&'a [Row]],
     pub after: &'a [(u32, u8)],
 }
@@ -80,6 +82,9 @@ pub const ONE_SESSION: &[Row] = table! {
     "the power on": Call::Send(0, "00", &[]) => End::Check(0x06, 0x29, 0x00);
 };
 
+/// No call of the registration file's device.
+pub const UNSAVED: u64 = 0;
+
 /// Makes the calls of each table in turn, and looks at all blocks afterwards.
 pub fn run(rt: &impl Abort, alloc: Global, script: &Script) -> Result<(), Fail> {
     let mut bench = Bench::open(
@@ -88,9 +93,14 @@ pub fn run(rt: &impl Abort, alloc: Global, script: &Script) -> Result<(), Fail> 
         script.blocks,
         script.fuse,
         script.opens,
+        script.saves,
     )?;
     for table in script.tables {
         for (name, call, end) in *table {
+            if let Call::Restart = call {
+                bench = bench.restart(script.place)?;
+                continue;
+            }
             let ended = bench.call(*call)?;
             assert!(rt;
                 is_met(alloc, &ended, *end)?,

@@ -2,7 +2,7 @@
 use crate::bench::Call::{Attach, Detach, Forward, Send, Serial};
 use crate::bench::Fuse;
 use crate::run::End::{Attached, Check, Done, Good, Moved, TooMany};
-use crate::run::{ALWAYS, End, FIRST, ONE_SESSION, Row, SECOND, Script, run, table};
+use crate::run::{ALWAYS, End, FIRST, ONE_SESSION, Row, SECOND, Script, UNSAVED, run, table};
 use scsi_types::Group::{One, Two};
 use std::test::Fail;
 use unit_state::{AttachFault, Gone, laws};
@@ -85,6 +85,7 @@ const SMALL: Script = Script {
     blocks: 16,
     fuse: Fuse::Never,
     opens: ALWAYS,
+    saves: UNSAVED,
     tables: &[],
     after: &[(5, 0x11)],
 };
