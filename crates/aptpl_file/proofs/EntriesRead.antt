@@ -1,17 +1,16 @@
 -- The entries of a slot, block by block.
-use Rattle.std.proofs.Common.{◌≡◌, ◌⊎◌, ⊎_elim, ℕ, zero, suc, ◌+◌, ◌*◌, ◌<◌, ◌≤◌, List, ◌++◌, length, drop, take, min, slice_index, refl, sym, ◌∙◌, ap, subst, arith}
+use Rattle.std.proofs.Common.{◌≡◌, ⊎_elim, ℕ, zero, suc, ◌+◌, ◌*◌, ◌<◌, ◌≤◌, List, ◌++◌, length, drop, take, slice_index, refl, sym, ◌∙◌, ap, subst, arith}
 use Rattle.std.proofs.lemmas.Bool.{cases_lt}
-use Rattle.std.proofs.lemmas.List.{take_all}
 use Rattle.reservations.specs.declared.registrant.Registrant.{Registrant}
 use Rattle.block_file.specs.Disk.{block_at}
-use Rattle.reservations.specs.Registry.{RecordValue, IsRecord}
+use Rattle.reservations.specs.Registry.{RecordValue}
 use Rattle.aptpl_file.specs.declared.slot.Slot.{Slot}
-use Rattle.aptpl_file.specs.Format.{entries_block, entry_at, entry_of, first_block, header_block, root_block, slot_block}
+use Rattle.aptpl_file.specs.Format.{entries_block, entry_at, entry_of, first_block, root_block}
 use Rattle.aptpl_file.specs.declared.slot.Slot.TheVariants.{First, Second}
 use Rattle.aptpl_file.specs.declared.fault.OpenFault.{OpenFault}
 use Rattle.aptpl_file.specs.declared.fault.OpenFault.TheVariants.{NotARegFile, Version, DeviceFailed, NoMemory}
 use Rattle.aptpl_file.specs.Holds.{Holds, HoldsSlot, IsRefusal}
-use Rattle.aptpl_file.specs.Reads.{AreEntries, HasBlock, TakesBlock, HasEntries, HasHeader, HasSlot, IsRefusalOf}
+use Rattle.aptpl_file.specs.Reads.{HasBlock, TakesBlock, HasEntries, HasHeader, HasSlot, IsRefusalOf}
 use Rattle.aptpl_file.proofs.Halves.{slice_get_take}
 use Rattle.aptpl_file.proofs.Header.{count_read}
 use Rattle.aptpl_file.proofs.Spelled.{root_slot, root_version}

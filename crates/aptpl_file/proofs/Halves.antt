@@ -1,14 +1,14 @@
 -- Two entries of a block.
-use Rattle.std.proofs.Common.{◌≡◌, ℕ, zero, suc, ◌+◌, ◌-◌, ◌*◌, ◌<◌, ◌≤◌, List, [], ◌∷◌, ◌++◌, length, take, drop, get_or, min, replicate, Option, Some, None, Result, Ok, Err, refl, sym, ◌∙◌, ap, subst, arith}
+use Rattle.std.proofs.Common.{◌≡◌, ℕ, zero, suc, ◌+◌, ◌*◌, ◌<◌, List, [], ◌∷◌, ◌++◌, length, take, drop, min, Option, Some, None, Result, Ok, Err, refl, sym, ◌∙◌, ap, subst, arith}
 use Rattle.std.specs.Result.{IfOk, IfErr}
-use Rattle.std.proofs.lemmas.List.{take_at, drop_at, take-append-drop, take-take, take_all}
+use Rattle.std.proofs.lemmas.List.{take_at, drop_at, take-append-drop, take-take}
 use Rattle.std.specs.List.{AllByRecursion, slice_get}
 use Rattle.reservations.specs.declared.registrant.Registrant.{Registrant}
 use Rattle.reservations.specs.Registry.{IsListed}
 use Rattle.aptpl_file.specs.declared.fault.OpenFault.{OpenFault}
 use Rattle.aptpl_file.specs.declared.fault.OpenFault.TheVariants.{NotARegFile, Version, DeviceFailed, NoMemory}
-use Rattle.aptpl_file.specs.Format.{entries_block, entry_at, entry_bytes, entry_of, padded}
-use Rattle.aptpl_file.specs.Reads.{AreEntries, HasEntry, TakesEntry, HasBlock, TakesBlock, IsRefusalOf}
+use Rattle.aptpl_file.specs.Format.{entry_at, entry_of}
+use Rattle.aptpl_file.specs.Reads.{HasEntry, TakesEntry, HasBlock, TakesBlock, IsRefusalOf}
 use Rattle.aptpl_file.proofs.Spelled.{length_entry}
 
 -- what is refused for want of one thing is refused for want of another that asks for it

@@ -1,6 +1,5 @@
 -- Two records that the same blocks hold are one.
-use Rattle.std.proofs.Common.{◌≡◌, ◌⊎◌, inl, inr, ⊎_elim, ℕ, zero, suc, ◌+◌, ◌*◌, ◌<◌, ◌≤◌, Bool, true, false, not, ◌&&◌, nat_eq, List, [], ◌∷◌, ◌++◌, length, take, drop, slice_index, Option, Some, None, refl, sym, ◌∙◌, ap, subst, arith}
-use Rattle.std.proofs.lemmas.Bool.{cases_lt}
+use Rattle.std.proofs.Common.{◌≡◌, ◌⊎◌, inl, inr, ⊎_elim, ℕ, zero, suc, ◌+◌, ◌*◌, ◌<◌, ◌≤◌, true, not, nat_eq, List, [], ◌∷◌, length, take, drop, slice_index, Option, Some, None, refl, sym, ◌∙◌, ap, arith}
 use Rattle.std.proofs.lemmas.List.{take_at, drop_at}
 use Rattle.std.specs.List.{AllByRecursion, slice_get}
 use Rattle.scsi_types.specs.Nexus.{Nexus}
@@ -9,16 +8,15 @@ use Rattle.reservations.specs.declared.registrant.Registrant.{Registrant}
 use Rattle.reservations.specs.declared.registrant.Reservation.{Reservation}
 use Rattle.reservations.specs.Kind.{is_of_all_registrants, type_code, type_of}
 use Rattle.reservations.specs.Registry.{RecordValue, IsListed, is_any, is_registered, is_rightly_held, is_sound_hold}
-use Rattle.block_file.specs.Disk.{block_at}
-use Rattle.aptpl_file.specs.Format.{entries_block, entry_at, first_block, header_block, place_byte, place_of, slot_block, type_byte}
+use Rattle.aptpl_file.specs.Format.{entries_block, entry_at, header_block, place_byte, place_of, type_byte}
 use Rattle.aptpl_file.specs.declared.slot.Slot.{Slot}
-use Rattle.aptpl_file.specs.Holds.{Holds, HoldsSlot}
+use Rattle.aptpl_file.specs.Holds.{Holds}
 use Rattle.aptpl_file.specs.Reads.{HasSlot}
 use Rattle.aptpl_file.proofs.EntriesRead.{slot_held}
 use Rattle.aptpl_file.proofs.Halves.{length_entry_at}
 use Rattle.aptpl_file.proofs.Header.{aptpl_read, count_read, type_read, place_read, aptpl_back}
 use Rattle.aptpl_file.proofs.Holder.{both, stands_at, type_back}
-use Rattle.aptpl_file.proofs.Taken.{one_registrant, entry_past}
+use Rattle.aptpl_file.proofs.Taken.{one_registrant}
 
 -- ---- the registrants
 

@@ -1,13 +1,12 @@
 -- The writes of a slot, one block after another.
-use Rattle.std.proofs.Common.{◌≡◌, ◌≢◌, ◌⊎◌, inl, inr, ⊎_elim, ℕ, ◌+◌, ◌-◌, ◌<◌, ◌≤◌, List, [], ◌∷◌, length, refl, sym, ◌∙◌, ap, subst, arith}
+use Rattle.std.proofs.Common.{◌≡◌, inr, ⊎_elim, ℕ, ◌+◌, ◌-◌, ◌<◌, ◌≤◌, List, [], ◌∷◌, length, ◌∙◌, ap, arith}
 use Rattle.std.proofs.lemmas.Bool.{cases_lt}
 use Rattle.reservations.specs.Registry.{RecordValue}
 use Rattle.block_file.specs.Disk.{block_at, written, IsNewAt, Adds, NoMore}
-use Rattle.block_file.specs.DiskLaws.{written_before, written_inside, written_behind}
+use Rattle.block_file.specs.DiskLaws.{written_before, written_inside}
 use Rattle.aptpl_file.specs.declared.slot.Slot.{Slot}
-use Rattle.aptpl_file.specs.declared.slot.Slot.TheVariants.{First, Second}
 use Rattle.aptpl_file.specs.Format.{first_block, slot_block}
-use Rattle.aptpl_file.specs.Writes.{IsInSlot, beside_slot}
+use Rattle.aptpl_file.specs.Writes.{beside_slot}
 
 -- the blocks that were written so far, and one more
 pub slot_more : (old new : List (List ℕ)) (slot : Slot) (r : RecordValue) (k at : ℕ) (block : List ℕ)

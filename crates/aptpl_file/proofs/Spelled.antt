@@ -10,7 +10,7 @@ use Rattle.reservations.specs.Registry.{IsListed}
 use Rattle.aptpl_file.specs.declared.slot.Slot.{Slot}
 use Rattle.aptpl_file.specs.declared.slot.Slot.TheVariants.{First, Second}
 use Rattle.aptpl_file.specs.declared.spelling.TheConstants.{ROOT_MAGIC}
-use Rattle.aptpl_file.specs.Format.{entry_bytes, group_number, padded, root_block, slot_number}
+use Rattle.aptpl_file.specs.Format.{entry_bytes, group_number, root_block, slot_number}
 
 -- a root's name and version
 pub root_magic : (slot : Slot) → take 8 (root_block slot) ≡ ROOT_MAGIC
@@ -28,14 +28,21 @@ unfolding root_block
 root_slot First = refl
 root_slot Second = refl
 
+-- an entry up to its zeros, and from the length of the name on
+abbrev front_of : Registrant → List ℕ
+front_of x =
+    big_bytes 8 x.key ++ big_bytes 2 (group_number x.nexus.group) ++ big_bytes 6 x.nexus.port.isid
+    ++ length x.nexus.port.name ∷ x.nexus.port.name
+
+abbrev rest_of : Registrant → List ℕ
+rest_of x = length x.nexus.port.name ∷ x.nexus.port.name ++ replicate (256 - length (front_of x)) 0
+
 -- the parts of an entry
 pub key_read : (x : Registrant) → IsListed x → big_number 8 (entry_bytes x) ≡ x.key
 unfolding entry_bytes
 key_read x listed =
     big_number-reads_back 8 x.key
-    (big_bytes 2 (group_number x.nexus.group) ++ (big_bytes 6 x.nexus.port.isid ++ (length x.nexus.port.name ∷ x.nexus.port.name
-    ++ replicate (256 - length (big_bytes 8 x.key ++ big_bytes 2 (group_number x.nexus.group) ++ big_bytes 6 x.nexus.port.isid ++ length x.nexus.port.name ∷ x.nexus.port.name)) 0)))
-    listed.key
+    (big_bytes 2 (group_number x.nexus.group) ++ (big_bytes 6 x.nexus.port.isid ++ rest_of x)) listed.key
 
 pub group_read : (x : Registrant) → slice_index (entry_bytes x) 9 ≡ group_number x.nexus.group
 unfolding entry_bytes
@@ -47,11 +54,7 @@ group_read x = of x.nexus.group
 
 pub isid_read : (x : Registrant) → IsListed x → big_number 6 (drop 10 (entry_bytes x)) ≡ x.nexus.port.isid
 unfolding entry_bytes
-isid_read x listed =
-    big_number-reads_back 6 x.nexus.port.isid
-    (length x.nexus.port.name ∷ x.nexus.port.name
-    ++ replicate (256 - length (big_bytes 8 x.key ++ big_bytes 2 (group_number x.nexus.group) ++ big_bytes 6 x.nexus.port.isid ++ length x.nexus.port.name ∷ x.nexus.port.name)) 0)
-    listed.port.isid
+isid_read x listed = big_number-reads_back 6 x.nexus.port.isid (rest_of x) listed.port.isid
 
 pub length_read : (x : Registrant) → slice_index (entry_bytes x) 16 ≡ length x.nexus.port.name
 unfolding entry_bytes
@@ -94,7 +97,9 @@ name_read_whole entry name long at is =
 pub length_entry : (x : Registrant) → IsListed x → length (entry_bytes x) ≡ 256
 unfolding entry_bytes
 length_entry x listed =
-    let front = big_bytes 8 x.key ++ big_bytes 2 (group_number x.nexus.group) ++ big_bytes 6 x.nexus.port.isid
-    ++ length x.nexus.port.name ∷ x.nexus.port.name in
     let short = listed.port.short in
-    omega (arith, length-append front (replicate (256 - length front) 0), length-replicate {A = ℕ} (256 - length front) 0)
+    omega (
+      arith,
+      length-append (front_of x) (replicate (256 - length (front_of x)) 0),
+      length-replicate {A = ℕ} (256 - length (front_of x)) 0,
+    )

@@ -1,14 +1,14 @@
 -- A stop inside a save.
-use Rattle.std.proofs.Common.{◌≡◌, ◌⊎◌, inl, inr, ⊎_elim, ℕ, ◌+◌, ◌-◌, ◌<◌, ◌≤◌, Bool, true, false, List, [], ◌∷◌, length, refl, ◌∙◌, subst, arith}
+use Rattle.std.proofs.Common.{◌≡◌, inl, inr, ⊎_elim, ℕ, ◌+◌, ◌<◌, ◌≤◌, Bool, true, false, List, [], ◌∷◌, refl, subst, arith}
 use Rattle.reservations.specs.Registry.{RecordValue, IsRecord}
-use Rattle.block_file.specs.Disk.{block_at, or_new, IsNewAt, MayLeave, NoMore}
-use Rattle.block_file.specs.Moment.{Elapses, StopsAmong}
+use Rattle.block_file.specs.Disk.{or_new, IsNewAt, MayLeave, NoMore}
+use Rattle.block_file.specs.Moment.{StopsAmong}
 use Rattle.block_file.specs.MomentLaws.{then_elapses}
 use Rattle.aptpl_file.specs.declared.slot.Slot.{Slot}
 use Rattle.aptpl_file.specs.declared.slot.Slot.TheVariants.{First, Second}
-use Rattle.aptpl_file.specs.Format.{first_block, other_slot, root_block, slot_block}
-use Rattle.aptpl_file.specs.Holds.{Holds, HoldsOneOf}
-use Rattle.aptpl_file.specs.Lasts.{RootLasts, SlotLasts, IsDecided, IsUndecided, IsAmong, StopsAt, first_of}
+use Rattle.aptpl_file.specs.Format.{first_block, other_slot, root_block}
+use Rattle.aptpl_file.specs.Holds.{HoldsOneOf}
+use Rattle.aptpl_file.specs.Lasts.{RootLasts, SlotLasts, IsAmong, StopsAt, first_of}
 use Rattle.aptpl_file.specs.LastsLaws.{behind_root, among_holds}
 use Rattle.aptpl_file.specs.Writes.{IsInSlot, beside_slot}
 

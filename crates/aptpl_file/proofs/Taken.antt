@@ -1,13 +1,12 @@
 -- Entries that are taken one behind the other.
-use Rattle.std.proofs.Common.{◌≡◌, ◌⊎◌, inl, inr, ⊎_elim, ℕ, zero, suc, ◌+◌, ◌-◌, ◌*◌, ◌<◌, ◌≤◌, Bool, true, false, not, nat_eq, IsTrue, List, [], ◌∷◌, ◌++◌, length, take, drop, get_or, slice_index, min, replicate, Option, Some, None, refl, sym, ◌∙◌, ap, subst, arith, append_assoc, length-append, length-take, drop-cons}
+use Rattle.std.proofs.Common.{◌≡◌, ℕ, zero, suc, ◌+◌, ◌<◌, ◌≤◌, Bool, true, not, nat_eq, IsTrue, List, [], ◌∷◌, ◌++◌, length, take, drop, get_or, slice_index, min, replicate, refl, sym, ◌∙◌, ap, subst, arith, length-append, drop-cons}
 use Rattle.std.proofs.lemmas.Bool.{eq-eqb}
 use Rattle.std.proofs.Math.Dec.{eqb}
 use lib.Pointwise.{pointwise}
-use Rattle.std.proofs.lemmas.List.{append-nil, take_all, take_at, take-append-drop, take_more, take-take}
+use Rattle.std.proofs.lemmas.List.{take_all, take_at, take-append-drop, take_more}
 use Rattle.std.proofs.lemmas.Option.{slice_get_past, slice_get-get_or}
-use Rattle.std.specs.List.{AllByRecursion, slice_get}
+use Rattle.std.specs.List.{AllByRecursion}
 use Rattle.std.specs.declared.cmp.Ordering.TheVariants.{Less}
-use Rattle.scsi_types.specs.Nexus.{Nexus, Port}
 use Rattle.scsi_types.specs.declared.names.Group.{Group}
 use Rattle.scsi_types.specs.declared.names.Group.TheVariants.{One, Two}
 use Rattle.reservations.specs.declared.registrant.Registrant.{Registrant}

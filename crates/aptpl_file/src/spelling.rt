@@ -107,7 +107,8 @@ pub fn header_block(
     reservation: &Option<Reservation>,
 ) -> [u8; 512]
     requires { length registrants.now ≤ 64 }
-    ensures { result ≡ header_block (record { aptpl = aptpl; registrants = registrants.now; reservation = reservation.now }) }
+    ensures { result ≡ header_block
+        (record { aptpl = aptpl; registrants = registrants.now; reservation = reservation.now }) }
 {
     let [a, b, c, d, e, f, g, h] = SLOT_MAGIC;
     let aptpl = u8::from(aptpl);
@@ -184,7 +185,8 @@ pub fn slot_block(
 ) -> [u8; 512]
     requires few { length registrants.now ≤ 64 }
     requires block { block < SLOT_BLOCKS }
-    ensures { result ≡ slot_block (record { aptpl = aptpl; registrants = registrants.now; reservation = reservation.now }) block }
+    ensures { result ≡ slot_block
+        (record { aptpl = aptpl; registrants = registrants.now; reservation = reservation.now }) block }
 {
     if block == 0 {
         return header_block(aptpl, registrants, reservation);

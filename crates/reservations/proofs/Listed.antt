@@ -36,18 +36,18 @@ length_filter p (x ∷ xs) =
     ⊎_elim (λ (t : p x ≡ true). rw t (omega arith)) (λ (f : p x ≡ false). rw f (omega arith)) (cases_Bool (p x))
 
 -- what is true of the registrants whoever holds
-pub record IsListed (xs : List Registrant) : Type 0 where
+pub record AreRegistrants (xs : List Registrant) : Type 0 where
   pub ascending : IsAscending xs
   pub few : length xs ≤ MOST_REGISTRANTS
   pub keys : AllByRecursion (λ (x : Registrant). IsTrue (not (nat_eq x.key 0))) xs
 
-pub listed_of : (xs : List Registrant) (res : Option Reservation) → IsSound xs res → IsListed xs
+pub listed_of : (xs : List Registrant) (res : Option Reservation) → IsSound xs res → AreRegistrants xs
 listed_of xs res s = record { ascending = s.ascending; few = s.few; keys = s.keys }
 
-pub sound_of : (xs : List Registrant) (res : Option Reservation) → IsListed xs → is_sound_hold res xs ≡ true → IsSound xs res
+pub sound_of : (xs : List Registrant) (res : Option Reservation) → AreRegistrants xs → is_sound_hold res xs ≡ true → IsSound xs res
 sound_of xs res l held = record { ascending = l.ascending; few = l.few; keys = l.keys; held = held }
 
-pub listed_filter : (p : Registrant → Bool) (xs : List Registrant) → IsListed xs → IsListed (filter p xs)
+pub listed_filter : (p : Registrant → Bool) (xs : List Registrant) → AreRegistrants xs → AreRegistrants (filter p xs)
 listed_filter p xs l =
     let short = length_filter p xs in
     record {
@@ -83,7 +83,7 @@ ascending_joined n key [] a out = (tt, tt)
 ascending_joined n key (x ∷ xs) a out =
     ascending_by n key x xs (nexus_cmp x.nexus n) refl a out (ascending_joined n key xs a.1 (out_of_rest n xs x out))
 
-pub listed_joined : (n : Nexus) (key : ℕ) (xs : List Registrant) → IsListed xs → is_registered xs n ≡ false → nat_eq key 0 ≡ false → nat_lt (length xs) MOST_REGISTRANTS ≡ true → IsListed (joined_by n key xs)
+pub listed_joined : (n : Nexus) (key : ℕ) (xs : List Registrant) → AreRegistrants xs → is_registered xs n ≡ false → nat_eq key 0 ≡ false → nat_lt (length xs) MOST_REGISTRANTS ≡ true → AreRegistrants (joined_by n key xs)
 listed_joined n key xs l out nonzero room =
     let P : Registrant → Type 0 = λ (x : Registrant). IsTrue (not (nat_eq x.key 0)) in
     let it : Registrant = record { nexus = n; key = key } in
@@ -124,7 +124,7 @@ length_rekeyed : (n : Nexus) (key : ℕ) (xs : List Registrant) → length (with
 length_rekeyed n key [] = refl
 length_rekeyed n key (x ∷ xs) = ap suc (length_rekeyed n key xs)
 
-pub listed_rekeyed : (n : Nexus) (key : ℕ) (xs : List Registrant) → IsListed xs → nat_eq key 0 ≡ false → IsListed (with_key_of n key xs)
+pub listed_rekeyed : (n : Nexus) (key : ℕ) (xs : List Registrant) → AreRegistrants xs → nat_eq key 0 ≡ false → AreRegistrants (with_key_of n key xs)
 listed_rekeyed n key xs l nonzero =
     record {
       ascending = ascending_rekeyed n key xs l.ascending;

@@ -15,7 +15,7 @@ use Rattle.reservations.specs.Registry.{RegistryValue, IsSound, key_of, is_key_o
 use Rattle.reservations.specs.Rows.{PrRow, ReserveField, ParameterField, KeyConflict, RegistersNothing, RegistersNobodyMore, Registers, ChangesKey, HolderUnregisters, OtherUnregisters, Reserves, ReservesAgain, ReservesBesideAnother, ReleasesNothing, ReleasesAnotherType, Releases, Clears, PreemptField, PreemptsHolder, PreemptsAll, PreemptsKeyZero, PreemptsNobody, PreemptsRegistrants, Done, Fits, IsPreempting, effect, shows_key, is_preempting_holder, is_preempting_all}
 use Rattle.reservations.specs.Table.{IsAnswer, effect_of, row_of}
 use Rattle.reservations.proofs.Held.{hold_kept, left_held, made_held, registered_joined, registered_only, registered_others, registered_preempting, registered_rekeyed, registered_without_key}
-use Rattle.reservations.proofs.Listed.{IsListed, listed_filter, listed_joined, listed_of, listed_rekeyed, sound_of}
+use Rattle.reservations.proofs.Listed.{AreRegistrants, listed_filter, listed_joined, listed_of, listed_rekeyed, sound_of}
 use Rattle.reservations.proofs.Rows.{row_fits}
 
 -- ---- what the conditions of a row say
@@ -77,7 +77,7 @@ Sound r = IsSound r.registrants r.reservation
 done_with : (a b : RegistryValue) (s t : List Told) → Done a s ≡ Done b t → Sound a → Sound b
 done_with a b s t is sound = let same : a ≡ b = cc in subst Sound same sound
 
-nothing_listed : IsListed []
+nothing_listed : AreRegistrants []
 nothing_listed = record { ascending = tt; few = omega arith; keys = tt }
 
 pub row_sound : (row : PrRow) (r : RegistryValue) (n : Nexus) (q : PrOut) (new : RegistryValue) (told : List Told) → Fits row r n q → effect row r n q ≡ Done new told → Sound r → Sound new

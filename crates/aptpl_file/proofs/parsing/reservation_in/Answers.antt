@@ -1,9 +1,8 @@
-use Rattle.std.proofs.Common.{◌≡◌, ◌<◌, ◌∙◌, sym, ap, arith, refl, length, Option, Some}
+use Rattle.std.proofs.Common.{◌≡◌, ◌<◌, ◌∙◌, sym, ap, arith, refl, length, Some}
 use Rattle.std.proofs.lemmas.Option.{slice_get_read, slice_get_within}
 use Rattle.std.specs.List.{slice_get}
 use Rattle.scsi_types.specs.Nexus.{Nexus}
 use Rattle.reservations.specs.declared.registrant.Registrant.{Registrant}
-use Rattle.reservations.specs.declared.registrant.Reservation.{Reservation}
 use Rattle.aptpl_file.proofs.Holder.{reservation_at, registered_at}
 use Rattle.aptpl_file.proofs.parsing.reservation_in.Goals as goal
 

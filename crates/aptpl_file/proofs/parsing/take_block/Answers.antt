@@ -1,4 +1,4 @@
-use Rattle.std.proofs.Common.{◌≡◌, ◌*◌, ◌+◌, ◌-◌, List, ℕ, take, drop, arith, refl, length, length-drop}
+use Rattle.std.proofs.Common.{◌≡◌, take, drop, arith, refl, length-drop}
 use Rattle.std.proofs.lemmas.List.{take_all}
 use Rattle.aptpl_file.proofs.Halves.{refused_too, has_first, has_second, both_taken, if_ok_too, if_err_too}
 use Rattle.aptpl_file.proofs.parsing.take_block.Goals as goal

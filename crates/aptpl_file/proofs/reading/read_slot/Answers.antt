@@ -1,4 +1,4 @@
-use Rattle.std.proofs.Common.{◌≡◌, ◌∙◌, ℕ, ap, arith, length, slice_index}
+use Rattle.std.proofs.Common.{◌≡◌, ◌∙◌, ap, arith, length, slice_index}
 use Rattle.block_file.specs.Disk.{block_at}
 use Rattle.aptpl_file.proofs.EntriesRead.{entries_of, header_count, header_of, slot_header}
 use Rattle.aptpl_file.proofs.Halves.{if_err_too, refused_too}

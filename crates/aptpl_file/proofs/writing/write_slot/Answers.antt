@@ -1,8 +1,6 @@
 use Rattle.std.proofs.Common.{◌+◌, rules, arith}
-use Rattle.block_file.specs.FailureLaws.{then_tells, tells_of}
 use Rattle.block_file.specs.MomentLaws.{stops_on}
 use Rattle.reservations.specs.Registry.{RecordValue}
-use Rattle.aptpl_file.specs.Format.{first_block}
 use Rattle.aptpl_file.specs.Writes.{beside_slot}
 use Rattle.aptpl_file.specs.LastsLaws.{slot_within}
 use Rattle.aptpl_file.proofs.SlotWrites.{slot_more, beside_more}
