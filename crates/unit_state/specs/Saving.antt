@@ -32,3 +32,8 @@ abbrev pub IsReserved : ControlValue → Effect → ControlValue → ReplyValue 
 IsReserved c effect new reply =
     ((new ≡ after_effect c effect) × (reply ≡ effect_reply effect))
     ⊎ (MayFailToSave c effect new.lasting × (new ≡ with_doubt c new.lasting) × (reply ≡ check internal_target_failure))
+
+-- a crash leaves just the record to last of what is registered, and the last save did not fail
+pub record LastsAlone (c : ControlValue) : Type 0 where
+  pub lasting : c.lasting ≡ to_last c.registry ∷ []
+  pub sure : c.doubt ≡ false

@@ -4,12 +4,15 @@ ghost use Rattle.std.specs.Prelude.{◌++◌, length, take, Option, Some, None, 
 ghost use Rattle.scsi_types.specs.ReplyValue.{ReplyValue, check, conflict, good};
 ghost use Rattle.scsi_types.specs.declared.names.Group.{Group};
 ghost use Rattle.scsi_types.specs.declared.command.Command.{Command as ScsiCommand};
-ghost use Rattle.scsi_types.specs.declared.command.Command.TheVariants.{Read, SetTargetPortGroups, Write};
+ghost use Rattle.scsi_types.specs.declared.command.Command.TheVariants.{PersistentReserveOut, Read, SetTargetPortGroups, Write};
+ghost use Rattle.scsi_types.specs.declared.reservation.PrOutAction.{PrOutAction};
 ghost use Rattle.scsi_types.specs.declared.command.CdbFault.{CdbFault};
 ghost use Rattle.scsi_types.specs.Attention.{attention_sense};
 ghost use Rattle.scsi_types.specs.declared.attention.UnitAttention.{UnitAttention as Condition};
 ghost use Rattle.scsi_types.specs.declared.attention.UnitAttention.TheVariants.{AccessStateChanged, PowerOn};
-ghost use Rattle.scsi_types.specs.Sense.{set_target_port_groups_command_failed};
+ghost use Rattle.scsi_types.specs.Sense.{internal_target_failure, set_target_port_groups_command_failed};
+ghost use Rattle.reservations.specs.Registry.{RecordValue};
+ghost use Rattle.unit_state.specs.Saving.{LastsAlone, with_doubt};
 ghost use Rattle.access_states.specs.AccessMap.{AccessMapValue};
 ghost use Rattle.attentions.specs.Queue.{established, is_pending, without_repeats};
 ghost use Rattle.unit_state.specs.Ops.{kind_asked, passes_attention};
@@ -20,7 +23,7 @@ ghost use Rattle.unit_state.specs.Refusal.{IsKeptOut, IsUnserved};
 ghost use Rattle.unit_state.specs.Reserve.{after_effect, effect_by};
 ghost use Rattle.unit_state.specs.Sessions.{session_of, first_pending, pending_of};
 ghost use Rattle.unit_state.specs.State.{ControlValue, UnitState};
-ghost use Rattle.unit_state.specs.Choice.{Choice, Fine, OpenFailed};
+ghost use Rattle.unit_state.specs.Choice.{Choice, Fine, OpenFailed, SaveFailed};
 ghost use Rattle.unit_state.specs.Groups.{is_any_changed, with_access};
 ghost use Rattle.unit_state.specs.Refusal.{refusal, request};
 ghost use Rattle.unit_state.specs.Entry.{Entry, Command, Detach, Reset, IsPossible, IsNext, after, blocks_after};
@@ -167,6 +170,31 @@ pub fn a_failed_open_changes_nothing()
         → refusal s.control (request session (Ok (SetTargetPortGroups list_length)) bytes) ≡ None
         → reply_to s (Command session serial by (Ok (SetTargetPortGroups list_length)) bytes OpenFailed)
         ≡ Some (check set_target_port_groups_command_failed) }
+{}
+
+/// Where a PERSISTENT RESERVE OUT is GOOD a restart finds just what is to last of the registrations that are there then,
+/// and there is no doubt (SPC-4, 5.13.5).
+pub fn good_tells_that_it_lasts()
+    ensures { (s : UnitState) (session serial : ℕ) (by : Group) (action : PrOutAction)
+        (scope kind list_length : ℕ) (bytes : List ℕ) (choice : Choice)
+        → reply_to s (Command session serial by (Ok (PersistentReserveOut action scope kind list_length)) bytes choice)
+        ≡ Some (good [])
+        → LastsAlone (control_after s.control
+        (Command session serial by (Ok (PersistentReserveOut action scope kind list_length)) bytes choice)) }
+{}
+
+/// A PERSISTENT RESERVE OUT that can't be saved is told so, and changes nothing but what a restart may find.
+pub fn a_failed_save_changes_nothing_else()
+    ensures control { (c : ControlValue) (session serial : ℕ) (by : Group) (action : PrOutAction)
+        (scope kind list_length : ℕ) (bytes : List ℕ) (after : List RecordValue)
+        → refusal c (request session (Ok (PersistentReserveOut action scope kind list_length)) bytes) ≡ None
+        → control_after c (Command session serial by (Ok (PersistentReserveOut action scope kind list_length)) bytes
+        (SaveFailed after)) ≡ pass (with_doubt c after) session }
+    ensures reply { (s : UnitState) (session serial : ℕ) (by : Group) (action : PrOutAction)
+        (scope kind list_length : ℕ) (bytes : List ℕ) (after : List RecordValue)
+        → refusal s.control (request session (Ok (PersistentReserveOut action scope kind list_length)) bytes) ≡ None
+        → reply_to s (Command session serial by (Ok (PersistentReserveOut action scope kind list_length)) bytes
+        (SaveFailed after)) ≡ Some (check internal_target_failure) }
 {}
 
 /// A session that ended is not attached.

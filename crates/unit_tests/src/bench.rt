@@ -84,7 +84,9 @@ impl Bench {
     ) -> Result<Bench, Fail> {
         let registrations = MemBlocks::new(alloc, FILE_BLOCKS)?;
         let fused = FusedBlocks::new(registrations, saves.saturating_add(SAVE));
-        let file = RegFile::format(fused).ok().ok_or("a registration file")?;
+        let Ok(file) = RegFile::format(fused) else {
+            return Err(Fail::from("a registration file"));
+        };
         let memory = MemBlocks::new(alloc, blocks)?;
         let device = match fuse {
             Fuse::Never => FusedBlocks::new(memory, u64::MAX),
@@ -138,9 +140,9 @@ impl Bench {
         let Bench { alloc, unit, .. } = self;
         let (device, _opener, registrations) = unit.close();
         let fused = FusedBlocks::new(registrations.into_inner(), u64::MAX);
-        let (file, lasted) = RegFile::open(alloc, fused)
-            .ok()
-            .ok_or("a record that lasted")?;
+        let Ok((file, lasted)) = RegFile::open(alloc, fused) else {
+            return Err(Fail::from("a record that lasted"));
+        };
         Ok(Bench {
             alloc,
             unit: Unit::open(

@@ -158,6 +158,8 @@ fn the_laws_can_be_called() {
     laws::a_group_serves_what_its_state_lets();
     laws::a_change_is_told_to_the_others();
     laws::a_failed_open_changes_nothing();
+    laws::good_tells_that_it_lasts();
+    laws::a_failed_save_changes_nothing_else();
     laws::a_reservation_keeps_others_out();
     laws::a_sender_hears_nothing_of_its_own();
     laws::a_reset_is_told_to_the_others();
