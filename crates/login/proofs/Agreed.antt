@@ -20,7 +20,7 @@ pub least : (limits : Limits) (value : List ℕ) (offer chosen : ℕ) → number
     → (chosen ≤ offer) × (chosen ≤ limits.own) × ((chosen ≡ offer) ⊎ (chosen ≡ limits.own))
 least limits value offer chosen o a =
     let e : Some (Number (min offer limits.own)) ≡ Some (Number chosen) =
-        sym (ap (option_map (λ (n : ℕ). Number (min n limits.own))) o) ∙ a in
+    sym (ap (option_map (λ (n : ℕ). Number (min n limits.own))) o) ∙ a in
     let same : min offer limits.own ≡ chosen = cc in
     subst (λ (c : ℕ). (c ≤ offer) × (c ≤ limits.own) × ((c ≡ offer) ⊎ (c ≡ limits.own))) same (lesser offer limits.own)
 
@@ -29,7 +29,7 @@ pub greatest : (limits : Limits) (value : List ℕ) (offer chosen : ℕ) → num
     → (offer ≤ chosen) × (limits.own ≤ chosen) × ((chosen ≡ offer) ⊎ (chosen ≡ limits.own))
 greatest limits value offer chosen o a =
     let e : Some (Number (max offer limits.own)) ≡ Some (Number chosen) =
-        sym (ap (option_map (λ (n : ℕ). Number (max n limits.own))) o) ∙ a in
+    sym (ap (option_map (λ (n : ℕ). Number (max n limits.own))) o) ∙ a in
     let same : max offer limits.own ≡ chosen = cc in
     subst (λ (c : ℕ). (offer ≤ c) × (limits.own ≤ c) × ((c ≡ offer) ⊎ (c ≡ limits.own))) same (greater offer limits.own)
 

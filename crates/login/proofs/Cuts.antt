@@ -40,7 +40,7 @@ unfolding pairs
 pairs_first text part rest key value some p r k v =
     let first : pair_of part ≡ record { key = key; value = value } = rw (k, v) refl in
     let cut : slice_split (is_byte 0) text ≡ part ∷ slice_split (is_byte 0) rest =
-        slice_split_first (is_byte 0) text 0 some ∙ rw (p, r) refl in
+    slice_split_first (is_byte 0) text 0 some ∙ rw (p, r) refl in
     ap pairs_of cut ∙ pairs_of_more part (slice_split (is_byte 0) rest) (some_part 0 rest)
     ∙ ap (λ (x : Pair). x ∷ pairs_of (slice_split (is_byte 0) rest)) first
 
@@ -54,7 +54,7 @@ pub is_text_first : (text part rest : List ℕ) → position_or_len (is_byte 0) 
 unfolding is_text
 is_text_first text part rest some p r =
     let cut : slice_split (is_byte 0) text ≡ part ∷ slice_split (is_byte 0) rest =
-        slice_split_first (is_byte 0) text 0 some ∙ rw (p, r) refl in
+    slice_split_first (is_byte 0) text 0 some ∙ rw (p, r) refl in
     ap are_pairs cut ∙ are_pairs_more part (slice_split (is_byte 0) rest) (some_part 0 rest)
 
 pub is_text_none : (text : List ℕ) → position_or_len (is_byte 0) text ≡ length text
@@ -72,7 +72,7 @@ pub is_listed_first : (word list item rest : List ℕ) → position_or_len (is_b
 unfolding is_listed
 is_listed_first word list item rest some p r =
     let cut : slice_split (is_byte 44) list ≡ item ∷ slice_split (is_byte 44) rest =
-        slice_split_first (is_byte 44) list 0 some ∙ rw (p, r) refl in
+    slice_split_first (is_byte 44) list 0 some ∙ rw (p, r) refl in
     ap (list_any (λ x. bytes_eq x word)) cut
 
 pub is_listed_none : (word list : List ℕ) → position_or_len (is_byte 44) list ≡ length list

@@ -13,7 +13,7 @@ beyond base n most [] some more = grind (arith, nat_tests)
 beyond base n most (c ∷ cs) some more =
     let grown : n ≤ n * base = le-mul_of_pos_right n some in
     let go : within 0 most (read_on base (n * base + digit_value c) cs) ≡ None =
-        beyond base (n * base + digit_value c) most cs some (omega arith) in
+    beyond base (n * base + digit_value c) most cs some (omega arith) in
     elim (nat_lt (digit_value c) base) as
     (λ v. within 0 most (if v then read_on base (n * base + digit_value c) cs else None)
     ≡ None) [ true ↦ go | false ↦ refl ]
