@@ -8,6 +8,8 @@ mod files;
 #[cfg(test)]
 mod fuses;
 #[cfg(test)]
+mod glitches;
+#[cfg(test)]
 mod laws;
 #[cfg(test)]
 mod refusals;
