@@ -1,5 +1,5 @@
 -- Changes of access states.
-use Rattle.std.proofs.Common.{◌≡◌, ℕ, Bool, true, false, not, ◌&&◌, List, [], take, Option, Some, None, Result, Ok, Err, refl, sym, ap, ◌∙◌}
+use Rattle.std.proofs.Common.{◌≡◌, ℕ, Bool, true, false, ◌&&◌, List, [], take, Some, Result, Ok, refl, sym, ap, ◌∙◌}
 use Rattle.std.specs.Prelude.{IsTrue}
 use Rattle.access_states.specs.AccessMap.{AccessMapValue}
 use Rattle.access_states.specs.Change.{access_after}

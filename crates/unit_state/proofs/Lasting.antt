@@ -2,7 +2,6 @@
 use Rattle.std.proofs.Common.{◌≡◌, ℕ, List, [], Option, Some, None, Ok, refl, ap}
 use Rattle.reservations.specs.Rows.{Effect, Done, Conflicting, Refused as Illegal, Full}
 use Rattle.scsi_types.specs.ReplyValue.{ReplyValue, good}
-use Rattle.scsi_types.specs.declared.status.Status.{Status}
 use Rattle.scsi_types.specs.declared.status.Status.TheVariants.{Good}
 use Rattle.scsi_types.specs.declared.command.Command.TheVariants.{PersistentReserveOut}
 use Rattle.scsi_types.specs.declared.reservation.PrOutAction.{PrOutAction}
@@ -10,8 +9,8 @@ use Rattle.unit_state.specs.declared.refusal.Refusal.{Refusal}
 use Rattle.unit_state.specs.declared.refusal.Refusal.TheVariants.{Attention, Conflict, Check}
 use Rattle.unit_state.specs.Choice.{Choice, Fine, ReadFailed, WriteFailed, OpenFailed, SaveFailed}
 use Rattle.unit_state.specs.Entry.{control_with, pass, reply_with}
-use Rattle.unit_state.specs.Medium.{Finding, SaveError, Nothing, found}
-use Rattle.unit_state.specs.Refusal.{Request, refusal_reply, request}
+use Rattle.unit_state.specs.Medium.{Nothing, found}
+use Rattle.unit_state.specs.Refusal.{refusal_reply, request}
 use Rattle.unit_state.specs.Reserve.{after_saved, effect_by, effect_reply, pr_out, saved_reply}
 use Rattle.unit_state.specs.Saving.{LastsAlone}
 use Rattle.unit_state.specs.State.{ControlValue}

@@ -13,7 +13,6 @@ use Rattle.scsi_types.specs.declared.command.Op.{Op}
 use Rattle.scsi_types.specs.Attention.{attention_sense}
 use Rattle.scsi_types.specs.Cdb.{need_of}
 use Rattle.scsi_types.specs.ReplyValue.{check}
-use Rattle.scsi_types.specs.Sense.{parameter_list_length_error}
 use Rattle.scsi_types.specs.declared.attention.UnitAttention.{UnitAttention}
 use Rattle.scsi_types.specs.declared.attention.UnitAttention.TheVariants.{PowerOn, ReservationsPreempted, ReservationsReleased, RegistrationsPreempted, AccessStateChanged}
 use Rattle.scsi_types.specs.declared.command.Command.{Command as ScsiCommand}

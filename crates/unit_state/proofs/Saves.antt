@@ -1,8 +1,8 @@
 -- Saves that failed, and PERSISTENT RESERVE OUT with them.
-use Rattle.std.proofs.Common.{◌≡◌, ℕ, ◌+◌, ◌<◌, Bool, true, List, [], ◌∷◌, ◌++◌, length, All, Result, Ok, Err, IfOk, inr, refl, sym, ap, ◌∙◌, subst, arith}
+use Rattle.std.proofs.Common.{◌≡◌, ℕ, ◌+◌, ◌<◌, Bool, true, List, [], ◌∷◌, ◌++◌, length, All, Result, Ok, Err, IfOk, inr, sym, ap, ◌∙◌, subst, arith}
 use Rattle.std.specs.Prelude.{Contains}
 use Rattle.std.proofs.lemmas.List.Elements.{All-contains_itself, All-push, Contains-append_left, Contains-append_right}
-use Rattle.aptpl_file.specs.Lasts.{first_of, left_by}
+use Rattle.aptpl_file.specs.Lasts.{left_by}
 use Rattle.aptpl_file.specs.declared.fault.SaveFault.{SaveFault}
 use Rattle.aptpl_file.specs.declared.fault.SaveFault.TheVariants.{OldRoot, IdleSlot, NewRoot}
 use Rattle.block_file.specs.Failures.{Tells}

@@ -1,5 +1,5 @@
 -- What commands, resets and ends leave of a session: its serial, and what is pending for it.
-use Rattle.std.proofs.Common.{◌≡◌, ◌≢◌, ⊎_elim, ℕ, ◌+◌, Bool, true, false, nat_eq, eq-eqb, List, [], ◌∷◌, drop, Option, Some, None, IsSome, Result, Ok, Err, refl, sym, ◌∙◌, ap, arith, slice_get}
+use Rattle.std.proofs.Common.{◌≡◌, ◌≢◌, ⊎_elim, ℕ, ◌+◌, Bool, true, false, nat_eq, eq-eqb, List, [], ◌∷◌, drop, Option, Some, None, IsSome, refl, sym, ◌∙◌, ap, arith, slice_get}
 use Rattle.std.specs.Prelude.{IsTrue}
 use Rattle.std.specs.Option.{option_map}
 use Rattle.std.proofs.lemmas.Bool.Decides.{eqb_tells}
@@ -11,14 +11,9 @@ use Rattle.reservations.specs.Registry.{RegistryValue}
 use Rattle.reservations.specs.Table.{effect_of}
 use Rattle.scsi_types.specs.Nexus.{Nexus}
 use Rattle.reservations.specs.Rows.{Effect, Done, Conflicting, Refused, Full}
-use Rattle.unit_state.specs.Reserve.{all_heard, hear, after_effect, effect_by, pr_out}
+use Rattle.unit_state.specs.Reserve.{hear, after_effect, effect_by}
 use Rattle.scsi_types.specs.declared.attention.UnitAttention.{UnitAttention}
 use Rattle.scsi_types.specs.declared.attention.UnitAttention.TheVariants.{AccessStateChanged, PowerOn}
-use Rattle.scsi_types.specs.declared.command.Command.{Command as ScsiCommand}
-use Rattle.scsi_types.specs.declared.command.Command.TheVariants as commands
-use Rattle.scsi_types.specs.declared.command.CdbFault.{CdbFault}
-use Rattle.unit_state.specs.declared.refusal.Refusal.{Refusal}
-use Rattle.unit_state.specs.declared.refusal.Refusal.TheVariants.{Attention, Conflict, Check}
 use Rattle.unit_state.specs.declared.sessions.Attached.{Attached}
 use Rattle.unit_state.specs.State.{ControlValue}
 use Rattle.unit_state.specs.Choice.{Choice}

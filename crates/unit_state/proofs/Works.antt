@@ -1,5 +1,5 @@
 -- Works that were done, and their replies.
-use Rattle.std.proofs.Common.{◌≡◌, ℕ, ◌*◌, ◌<◌, Bool, true, List, [], Option, Some, None, Ok, refl, sym, ◌∙◌, ap, subst, inl, inr, ⊎_elim, arith}
+use Rattle.std.proofs.Common.{◌≡◌, ℕ, ◌*◌, ◌<◌, Bool, List, [], Option, Some, None, Ok, refl, sym, ◌∙◌, ap, subst, inl, inr, ⊎_elim, arith}
 use Rattle.std.specs.Prelude.{IsTrue}
 use Rattle.block_file.specs.Disk.{written, range_bytes, Between}
 use Rattle.block_file.specs.Failures.{Tells}
@@ -9,7 +9,6 @@ use Rattle.compare_write.specs.declared.end.MediumEnd.{MediumEnd}
 use Rattle.compare_write.specs.declared.end.MediumEnd.TheVariants as ends
 use Rattle.compare_write.specs.Ends.{IsUnfailed, IsCompareEnd, IsSyncEnd, OnDone, OnMiscompare, OnUnwritten, OnWriting}
 use Rattle.compare_write.specs.Instances.{compare_instance, write_instance}
-use Rattle.reservations.specs.declared.request.PrOut.{PrOut}
 use Rattle.reservations.specs.Rows.{Effect, Done as Reserved, Conflicting, Refused, Full}
 use Rattle.scsi_types.specs.declared.reservation.PrOutAction.{PrOutAction}
 use Rattle.reservations.specs.Registry.{RecordValue}

@@ -1,4 +1,4 @@
-use Rattle.std.proofs.Common.{arith, All, subst, sym, List, ◌+◌, ◌≤◌}
+use Rattle.std.proofs.Common.{arith, All, subst, sym, List, ◌+◌}
 use Rattle.unit_state.specs.Sessions.{IsFit}
 use Rattle.unit_state.specs.declared.sessions.Attached.{Attached}
 use Rattle.unit_state.proofs.Places.{serials_fit_reset}

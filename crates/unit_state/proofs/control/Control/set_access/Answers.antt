@@ -1,4 +1,4 @@
-use Rattle.std.proofs.Common.{All, List, ◌≤◌, arith, refl, subst, sym}
+use Rattle.std.proofs.Common.{All, List, arith, refl, subst, sym}
 use Rattle.unit_state.specs.CommandLaws.{change_keeps}
 use Rattle.unit_state.specs.Groups.{hear_change}
 use Rattle.unit_state.specs.Places.{IsPlaceOf}

@@ -1,9 +1,7 @@
-use Rattle.std.proofs.Common.{All, List, ap, arith, refl, subst, sym}
-use Rattle.reservations.specs.Registry.{to_last}
+use Rattle.std.proofs.Common.{All, List, arith, refl, subst, sym}
 use Rattle.unit_state.specs.Places.{IsPlaceOf}
 use Rattle.unit_state.specs.Reserve.{hear}
 use Rattle.unit_state.specs.Sessions.{IsFit}
-use Rattle.unit_state.specs.State.{ControlValue}
 use Rattle.unit_state.specs.declared.sessions.Attached.{Attached}
 use Rattle.unit_state.proofs.Places.{place_mapped, serials_fit_heard}
 use Rattle.unit_state.proofs.control.Control.settle.Goals as goal
