@@ -65,8 +65,16 @@ impl Model for Control {
 
     ghost Value = { ControlValue };
 
-    ghost view = { λ u. record { place = u.place; total = u.total; access = u.access; registry = u.registry;
-        lasting = records_left u.registry u.save; doubt = is_doubtful u.save; sessions = u.sessions.items; count = u.count } };
+    ghost view = { λ u. record {
+      place = u.place;
+      total = u.total;
+      access = u.access;
+      registry = u.registry;
+      lasting = records_left u.registry u.save;
+      doubt = is_doubtful u.save;
+      sessions = u.sessions.items;
+      count = u.count;
+    } };
 
     ghost invariant = { λ u. All (IsFit u.count) u.sessions.items × (64 ≤ vec_capacity u.sessions) };
 }

@@ -93,8 +93,12 @@ impl<B: Blocks, O: Opener<B>, R: Blocks> Unit<B, O, R> {
         lasted: Record,
     ) -> Result<Unit<B, O, R>, NoMemory>
         requires lasts { IsTrue R.claims → LastsAmong R.size R.may_hold file (lasted ∷ []) }
-        ensures { IfOk result (λ u. u ≡ record { device = blocks; opener = opener; file = file;
-            control = opening_control place (B.size blocks) lasted }) }
+        ensures { IfOk result (λ u. u ≡ record {
+          device = blocks;
+          opener = opener;
+          file = file;
+          control = opening_control place (B.size blocks) lasted;
+        }) }
     {
         let control = Control::new(alloc, place, blocks.count(), lasted)?;
         Ok(Unit {
