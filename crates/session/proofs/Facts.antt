@@ -225,7 +225,7 @@ module _ (s m : Counters) (came : Incoming) (v : Verdict) (call : Option Asking)
   no_buffer_facts accepted none outs s' is next =
       let ended : list_any (λ o. is_response o.header) (the_outs no_buffer busy) ≡ true = outs_ended m.standing p.task_tag m.lengths (sent_bytes no_buffer busy) (the_response no_buffer busy) (sense no_buffer busy) (length (sent_bytes no_buffer busy)) 0 0 in
       let outcome_is : outcome_of v call (the_outs no_buffer busy) ≡ Some no_buffer =
-          ap₂ (λ (w : Verdict) (c : Option Asking). outcome_of w c (the_outs no_buffer busy)) accepted none ∙ ap (λ (b : Bool). if b then Some no_buffer else None) ended in
+      ap₂ (λ (w : Verdict) (c : Option Asking). outcome_of w c (the_outs no_buffer busy)) accepted none ∙ ap (λ (b : Bool). if b then Some no_buffer else None) ended in
       moved refl is next (reply_facts no_buffer busy outcome_is (λ o. o) (record { response = refl; status_is = refl; sense_is = refl }))
 
   full_facts : v ≡ Full → (outs : List Out) (s' : Counters) → outs ≡ reply_with m p (need_of asked) [] task_set_full → s' ≡ after_status m
@@ -263,7 +263,7 @@ module _ (s n s' : Counters) (came : Incoming) (call : Option Asking) (p : Comma
     (no_request : (outs : List Out) → IsRequestAnswered s.lengths Accepted came call outs)
     (lengths : n.lengths ≡ s.lengths) (status : n.stat_sn ≡ s.stat_sn) (tag : n.standing.transfer_tag ≡ s.standing.transfer_tag)
     (commands : ((n.standing.exp_cmd_sn ≡ s.standing.exp_cmd_sn) × (takes_number Accepted came ≡ false))
-      ⊎ ((n.standing.exp_cmd_sn ≡ wrap (s.standing.exp_cmd_sn + 1)) × (takes_number Accepted came ≡ true))) where
+    ⊎ ((n.standing.exp_cmd_sn ≡ wrap (s.standing.exp_cmd_sn + 1)) × (takes_number Accepted came ≡ true))) where
   asks_facts : (need bytes requests : ℕ) (outs : List Out) → TurnAsks n p need bytes requests next call outs → s' ≡ after_r2t n
       → TurnFacts s s' came Accepted call outs
   asks_facts need bytes requests outs k after =
@@ -425,13 +425,13 @@ accepted_facts (pdu b (Initiator (NopOut p)) d) s s' call outs judged k =
     let n = next_numbers (after_number p.immediate s) in
     moved k.no_call k.outs_are k.next_is
     (some_or_none s (pdu b (Initiator (NopOut p)) d) p.immediate None judged refl (λ own. no_command _ own) refl (λ own. tt)
-      (record { header = NopIn (record { lun = p.lun; task_tag = p.task_tag; transfer_tag = NO_TRANSFER_TAG; numbers = n }); bytes = take (min s.lengths.data_segment MAX_DATA_SEGMENT_LENGTH) d })
-      (record { expects = refl; reaches = refl }) refl refl refl refl (p.task_tag == RESERVED_TAG) (n, refl))
+    (record { header = NopIn (record { lun = p.lun; task_tag = p.task_tag; transfer_tag = NO_TRANSFER_TAG; numbers = n }); bytes = take (min s.lengths.data_segment MAX_DATA_SEGMENT_LENGTH) d })
+    (record { expects = refl; reaches = refl }) refl refl refl refl (p.task_tag == RESERVED_TAG) (n, refl))
 accepted_facts (pdu b (Initiator (LogoutRequest p)) d) s s' call outs judged k =
     let n = next_numbers (after_number p.immediate s) in
     moved k.no_call k.outs_are k.next_is
     (one_facts s (pdu b (Initiator (LogoutRequest p)) d) p.immediate None judged refl (λ own. no_command _ own) refl (λ own. tt)
-      (logout_out n p) (record { expects = refl; reaches = refl }) refl refl refl refl (n, refl))
+    (logout_out n p) (record { expects = refl; reaches = refl }) refl refl refl refl (n, refl))
 accepted_facts came s s' call outs judged k = absurd k
 
 full_pdu_facts : (came : Incoming) (s s' : Counters) (call : Option Asking) (outs : List Out)

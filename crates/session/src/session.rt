@@ -64,9 +64,9 @@ impl Model for Session {
     ghost Value = { Counters };
 
     ghost view = { λ s. record {
-        stat_sn = s.stat_sn;
-        lengths = s.lengths;
-        standing = record { exp_cmd_sn = s.exp_cmd_sn; collecting = s.waiting; transfer_tag = s.transfer_tag };
+      stat_sn = s.stat_sn;
+      lengths = s.lengths;
+      standing = record { exp_cmd_sn = s.exp_cmd_sn; collecting = s.waiting; transfer_tag = s.transfer_tag };
     } };
 }
 
@@ -228,13 +228,7 @@ impl Session {
         ensures on { OnCommand self.old command bytes.now result self.new }
         ensures within { AreInReach result.pdus }
     {
-        let verdict = command_verdict(
-            self.lengths,
-            self.window(),
-            &self.waiting,
-            &command,
-            bytes,
-        );
+        let verdict = command_verdict(self.lengths, self.window(), &self.waiting, &command, bytes);
         if verdict == Verdict::Full {
             return self.find_full(command);
         }
@@ -280,13 +274,7 @@ impl Session {
     }
 
     // A command that has to collect its data begins to wait, if there is a buffer for it: its first R2T.
-    fn wait(
-        &mut self,
-        command: ScsiCommand,
-        asked: Asked,
-        need: u32,
-        bytes: &[u8],
-    ) -> Option<R2t>
+    fn wait(&mut self, command: ScsiCommand, asked: Asked, need: u32, bytes: &[u8]) -> Option<R2t>
         requires asked { IsAskedBy command asked }
         requires need { need ≡ need_of asked }
         requires collects { HasToCollect command need (length bytes.now) }
@@ -467,12 +455,7 @@ fn silence<'a>() -> Actions<'a>
 }
 
 // A command is to be called, for what its CDB asks, with its data.
-fn call<'a>(
-    command: ScsiCommand,
-    asked: Asked,
-    need: u32,
-    bytes: CommandData<'a>,
-) -> Actions<'a>
+fn call<'a>(command: ScsiCommand, asked: Asked, need: u32, bytes: CommandData<'a>) -> Actions<'a>
     requires need { need ≡ need_of asked }
     ensures calls { (gathered : List ℕ) → call_data bytes.entry ≡ data_for command (need_of asked) gathered
         → Calls command asked gathered result }
