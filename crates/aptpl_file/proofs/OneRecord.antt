@@ -1,5 +1,7 @@
 -- Two records that the same blocks hold are one.
-use Rattle.std.proofs.Common.{◌≡◌, ◌⊎◌, inl, inr, ⊎_elim, ℕ, zero, suc, ◌+◌, ◌*◌, ◌<◌, ◌≤◌, true, not, nat_eq, List, [], ◌∷◌, length, take, drop, slice_index, Option, Some, None, refl, sym, ◌∙◌, ap, arith}
+use Rattle.std.proofs.Common.{◌≡◌, ◌⊎◌, inl, inr, ⊎_elim, ℕ, zero, suc, ◌+◌, ◌*◌, ◌<◌, ◌≤◌, true, not, nat_eq}
+use Rattle.std.proofs.Common.{List, [], ◌∷◌, length, take, drop, slice_index, Option, Some, None, refl, sym}
+use Rattle.std.proofs.Common.{◌∙◌, ap, arith}
 use Rattle.std.proofs.lemmas.List.{take_at, drop_at}
 use Rattle.std.specs.List.{AllByRecursion, slice_get}
 use Rattle.scsi_types.specs.Nexus.{Nexus}

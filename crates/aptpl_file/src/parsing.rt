@@ -8,7 +8,8 @@ ghost use Rattle.reservations.specs.Nexus.{nexus_cmp};
 ghost use Rattle.reservations.specs.Registry.{IsListed, RecordValue, is_lasting, is_sound_hold};
 ghost use Rattle.aptpl_file.specs.declared.spelling.TheConstants.{ENTRY_LENGTH};
 ghost use Rattle.aptpl_file.specs.Format.{entry_bytes, group_number, root_block};
-ghost use Rattle.aptpl_file.specs.Reads.{AreEntries, HasBlock, HasEntry, HasHeader, HasReservation, IsRefusalOf, IsRootRefusal, IsUnfailed, TakesBlock, TakesEntry};
+ghost use Rattle.aptpl_file.specs.Reads.{AreEntries, HasBlock, HasEntry, HasHeader, HasReservation};
+ghost use Rattle.aptpl_file.specs.Reads.{IsRefusalOf, IsRootRefusal, IsUnfailed, TakesBlock, TakesEntry};
 
 use crate::spelling::{ROOT_MAGIC, entry_bytes, header_block, root_block};
 use crate::{OpenFault, Slot};

@@ -3,7 +3,8 @@ ghost use Rattle.std.specs.Prelude.{◌≡◌, ◌+◌, ◌^◌, ◌≤◌, ◌<
 ghost use Rattle.reservations.specs.Nexus.{same_nexus, through};
 ghost use Rattle.byteorder.specs.Endian.{big_bytes};
 ghost use Rattle.block_file.specs.declared.blocks.TheConstants.{BLOCK_LENGTH};
-ghost use Rattle.aptpl_file.specs.Format.{group_number, entries_block, entry_at, entry_bytes, header_block, padded, place_byte, place_of, root_block, slot_block, type_byte};
+ghost use Rattle.aptpl_file.specs.Format.{group_number, entries_block, entry_at, entry_bytes, header_block};
+ghost use Rattle.aptpl_file.specs.Format.{padded, place_byte, place_of, root_block, slot_block, type_byte};
 
 use crate::Slot;
 use block_file::BLOCK_LENGTH;

@@ -16,7 +16,6 @@ pub struct Nexus {
 
 impl Model for Nexus {
     ghost use Rattle.scsi_types.specs.Nexus.{Nexus as NexusValue};
-
     ghost use Rattle.reservations.specs.Nexus.{IsPortName};
 
     ghost Value = { NexusValue };

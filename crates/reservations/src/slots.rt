@@ -2,7 +2,8 @@
 ghost use Rattle.std.specs.Prelude.{◌≡◌, OnOk, OnErr, false, length, filter};
 ghost use Rattle.std.specs.Ordering.{is_lt};
 ghost use Rattle.reservations.specs.Nexus.{IsPortName, nexus_cmp, through};
-ghost use Rattle.reservations.specs.Registry.{IsAscending, is_registered, joined_by, only, others, with_key_of, without_key, without_others_of_key};
+ghost use Rattle.reservations.specs.Registry.{IsAscending, is_registered, joined_by, only, others};
+ghost use Rattle.reservations.specs.Registry.{with_key_of, without_key, without_others_of_key};
 
 use crate::{Nexus, Registrant};
 use scsi_types::{Group, PortName};

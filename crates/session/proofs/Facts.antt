@@ -1,58 +1,75 @@
 -- What is judged of a turn holds of each turn that the session makes.
-use Rattle.std.proofs.Common.{◌≡◌, ◌⊎◌, ℕ, zero, suc, ◌+◌, ◌<◌, ◌≤◌, ◌↔◌, Bool, true, false, not, List, [], ◌∷◌, ◌++◌, Option, Some, None, length, length-take, refl, subst, inl, inr, arith}
-use Rattle.std.specs.Prelude.{IsTrue, slice_get, Result, nat_lt, if◌then◌else◌, take}
-use Rattle.std.proofs.lemmas.List.{append-nil}
+use Rattle.std.proofs.Common.{min, ◌≡◌, ◌⊎◌, ℕ, zero, suc, ◌+◌, ◌%◌, ◌<◌, ◌≤◌, ◌↔◌, Bool, true, false, not, List, [], ◌∷◌, ◌++◌, Option, Some, None, length, refl, sym, ap, ap₂, ◌∙◌, subst, inl, inr}
+use Rattle.std.specs.Prelude.{◌==◌, IsTrue, slice_get, Result, nat_lt, if◌then◌else◌, take}
+use Rattle.std.specs.List.{AllByRecursion, list_any, find}
+use Rattle.std.specs.Option.{option_map}
 use Rattle.std.proofs.lemmas.Bool.{ltb-true, lt-ltb}
 use Rattle.scsi_types.specs.Cdb.{Means, need_of}
-use Rattle.scsi_types.specs.Lun.{NamesUnit}
 use Rattle.scsi_types.specs.declared.command.Command.{Command}
 use Rattle.scsi_types.specs.declared.command.CdbFault.{CdbFault}
 use Rattle.scsi_types.specs.declared.sense.Sense.{Sense}
 use Rattle.scsi_types.specs.declared.status.Status.{Status}
 use Rattle.scsi_types.specs.declared.status.Status.TheVariants as statuses
 use Rattle.iscsi_pdu.specs.declared.header.ScsiCommand.{ScsiCommand as CommandHeader}
+use Rattle.iscsi_pdu.specs.declared.header.DataOut.{DataOut as DataOutHeader}
+use Rattle.iscsi_pdu.specs.declared.header.R2t.{R2t as R2tHeader}
 use Rattle.iscsi_pdu.specs.declared.header.ScsiResponse.{ScsiResponse as ResponseHeader}
 use Rattle.iscsi_pdu.specs.declared.header.DataIn.{DataIn as DataInHeader}
+use Rattle.iscsi_pdu.specs.declared.header.Numbers.{Numbers}
+use Rattle.iscsi_pdu.specs.declared.header.LogoutRequest.{LogoutRequest as LogoutHeader}
 use Rattle.iscsi_pdu.specs.declared.header.Header.TheVariants.{Initiator}
-use Rattle.iscsi_pdu.specs.declared.header.InitiatorHeader.TheVariants.{ScsiCommand}
-use Rattle.iscsi_pdu.specs.declared.header.TargetHeader.TheVariants.{ScsiResponse}
-use Rattle.session.specs.declared.data_in.TheConstants.{MAX_DATA_IN_LENGTH, NO_TRANSFER_TAG}
+use Rattle.iscsi_pdu.specs.declared.header.InitiatorHeader.TheVariants.{NopOut, ScsiCommand, DataOut, LogoutRequest}
+use Rattle.iscsi_pdu.specs.declared.header.TargetHeader.TheVariants.{NopIn, ScsiResponse, LogoutResponse, R2t}
+use Rattle.iscsi_pdu.specs.declared.TheConstants.{MAX_DATA_SEGMENT_LENGTH}
+use Rattle.session.specs.declared.lengths.Lengths.{Lengths}
+use Rattle.session.specs.declared.data_in.TheConstants.{NO_TRANSFER_TAG}
+use Rattle.session.specs.declared.logout.TheConstants.{CLOSED, RECOVERY_NOT_SUPPORTED, TIME_TO_WAIT, TIME_TO_RETAIN}
 use Rattle.session.specs.declared.response.Completion.{Completion}
 use Rattle.session.specs.declared.response.TheConstants.{COMPLETED, TARGET_FAILURE}
 use Rattle.session.specs.declared.target.TargetAnswer.{TargetAnswer}
 use Rattle.session.specs.declared.target.TargetAnswer.TheVariants.{Replied, Outside, Busy, Gone, Halted}
 use Rattle.session.specs.declared.verdict.Verdict.{Verdict}
-use Rattle.session.specs.declared.verdict.Verdict.TheVariants.{Accepted, Ignored, Gap, Refused}
-use Rattle.session.specs.declared.verdict.TheConstants.{MAX_READ_LENGTH}
-use Rattle.session.specs.Question.{serve}
+use Rattle.session.specs.declared.verdict.Verdict.TheVariants.{Accepted, Full, Ignored, Gap, Refused}
+use Rattle.session.specs.declared.verdict.TheConstants.{RESERVED_TAG}
+use Rattle.session.specs.Question.{Question}
 use Rattle.session.specs.Turn.{Incoming, pdu, Out, Asking}
-use Rattle.session.specs.Window.{wrap, numbers_at, takes_number}
+use Rattle.session.specs.Window.{wrap, numbers_of, exp_cmd_sn_behind, takes_number}
+use Rattle.session.specs.Tasks.{is_response, r2t_with, r2ts_of, has_tag, Collecting}
+use Rattle.session.specs.Standing.{numbers_at}
+use Rattle.session.specs.Slots.{fed}
+use Rattle.session.specs.Requests.{IsRequestAnswered}
+use Rattle.session.specs.Logout.{closes, logout_answer}
 use Rattle.session.specs.Verdict.{IsJudged}
-use Rattle.session.specs.Transfer.{expected_transfer, transfer_of, data_for, sent_data}
-use Rattle.session.specs.Task.{task_by, IsCalled, IsAskedFor, reply_data}
-use Rattle.session.specs.Response.{responses, HasOneResponse, IsAnsweredBy, IsTold, sense_part}
-use Rattle.session.specs.DataIn.{data_ins, IsSegment, Tiles}
-use Rattle.session.specs.Legal.{status_numbers, IsWindow, HaveWindow, IsRejected, IsAnsweredTask, IsTiledTask, IsCountedTask, HasResiduals, IsToldTask}
-use Rattle.std.specs.List.{AllByRecursion}
-use Rattle.session.specs.Legal.{IsOfCommand}
-use Rattle.session.specs.Counters.{Counters, after_status, after_command}
-use Rattle.session.specs.AnswerPdus.{read_length, data_in_for, response_for}
-use Rattle.session.specs.MachineTurn.{TurnOnAnswer, TurnOnAccepted, TurnOnVerdict}
+use Rattle.session.specs.Transfer.{expected_transfer, transfer_of, sent_data}
+use Rattle.session.specs.Answered.{Outcome, by_target, no_buffer, set_full, outcome_of, command_at, Answered, answered_by, answered_in, IsCalled, outcome_data}
+use Rattle.session.specs.Response.{response_with, responses, HasOneResponse, IsAnsweredAs, IsToldAs, sense_part}
+use Rattle.session.specs.DataIn.{data_in_with, data_ins, Tiles}
+use Rattle.session.specs.Legal.{status_number, status_numbers, IsWindow, HaveWindow, HaveNextR2t, IsOfCommand, IsRejected, IsAnsweredTask, IsTiledTask, IsCountedTask, HasResiduals, IsToldTask}
+use Rattle.session.specs.Counters.{Counters, after_status, after_number, after_command, after_collecting, after_r2t, after_answer, next_numbers}
+use Rattle.session.specs.AnswerPdus.{data_ins_for, response_for, reply_with, busy, task_set_full}
+use Rattle.session.specs.MachineTurn.{TurnOnAnswer, TurnAsks, TurnOpened, calls, asks, turns_away, TurnFed, fills, asks_on, calls_now, TurnOnAccepted, TurnOnFullPdu, TurnOnVerdict}
+use Rattle.session.proofs.Segments.{outs_of, outs_windows, outs_statuses, outs_responses, outs_front, outs_count, outs_kinds, outs_r2ts, outs_ended, outs_tiled}
 
 -- what is judged of one turn, where the session's counters are these before and behind it
 pub record TurnFacts (s s' : Counters) (came : Incoming) (v : Verdict) (call : Option Asking)
     (outs : List Out) : Type 0 where
-  pub judged : IsJudged s.exp_cmd_sn came v
-  pub windows : HaveWindow s'.exp_cmd_sn outs
+  pub judged : IsJudged s.lengths s.standing came v
+  pub windows : HaveWindow s'.standing outs
+  pub transfers : HaveNextR2t s.standing s.stat_sn outs
   pub called : IsCalled v came call
-  pub answered : IsAnsweredTask (task_by v came call outs) outs
-  pub tiled : IsTiledTask (task_by v came call outs) outs
-  pub counted : IsCountedTask (task_by v came call outs)
-  pub residual : HasResiduals (task_by v came call outs)
-  pub told : IsToldTask (task_by v came call outs)
+  pub answered : IsAnsweredTask (answered_in s.standing came v call outs) outs
+  pub tiled : IsTiledTask s.lengths (answered_in s.standing came v call outs) outs
+  pub counted : IsCountedTask (answered_in s.standing came v call outs)
+  pub residual : HasResiduals (answered_in s.standing came v call outs)
+  pub told : IsToldTask (answered_in s.standing came v call outs)
   pub rejected : IsRejected v came outs
-  pub commands : ((s'.exp_cmd_sn ≡ s.exp_cmd_sn) × (takes_number v came ≡ false)) ⊎ ((s'.exp_cmd_sn ≡ wrap (s.exp_cmd_sn + 1)) × (takes_number v came ≡ true))
+  pub requests : IsRequestAnswered s.lengths v came call outs
+  pub lengths_kept : s'.lengths ≡ s.lengths
+  pub commands : ((s'.standing.exp_cmd_sn ≡ s.standing.exp_cmd_sn) × (takes_number v came ≡ false))
+      ⊎ ((s'.standing.exp_cmd_sn ≡ wrap (s.standing.exp_cmd_sn + 1)) × (takes_number v came ≡ true))
   pub statuses : ((s'.stat_sn ≡ s.stat_sn) × (status_numbers outs ≡ [])) ⊎ ((s'.stat_sn ≡ wrap (s.stat_sn + 1)) × (status_numbers outs ≡ s.stat_sn ∷ []))
+  pub tags : ((s'.standing.transfer_tag ≡ s.standing.transfer_tag) × (r2ts_of outs ≡ []))
+      ⊎ ((s'.standing.transfer_tag ≡ (s.standing.transfer_tag + 1) % 4294967295) × (r : R2tHeader) × (r2ts_of outs ≡ r ∷ []))
 
 abbrev none_data : List ℕ
 none_data = []
@@ -64,86 +81,8 @@ no_segment : (k : ℕ) (x : DataInHeader × List ℕ) → slice_get no_segments 
 no_segment zero x e = absurd (cc)
 no_segment (suc k) x e = absurd (cc)
 
--- ---- the PDUs of an answer: at most one Data-In, and the response
-
-module _ (e : ℕ) (p : CommandHeader) (r : ResponseHeader) (sense : List ℕ) where
-  abbrev data_in_outs : List ℕ → List Out
-  data_in_outs sent = data_in_for (numbers_at 0 e) p sent
-
-  abbrev outs_of : List ℕ → List Out
-  outs_of sent = data_in_outs sent ++ record { header = ScsiResponse r; bytes = sense } ∷ []
-
-  outs_windows : (sent : List ℕ) → IsWindow e r.numbers → HaveWindow e (outs_of sent)
-  outs_windows [] w = (w, tt)
-  outs_windows (y ∷ ys) w = (record { expects = refl; reaches = refl }, (w, tt))
-
-  outs_statuses : (sent : List ℕ) → status_numbers (outs_of sent) ≡ r.numbers.stat_sn ∷ []
-  outs_statuses [] = refl
-  outs_statuses (y ∷ ys) = refl
-
-  outs_responses : (sent : List ℕ) → responses (outs_of sent) ≡ (r, sense) ∷ []
-  outs_responses [] = refl
-  outs_responses (y ∷ ys) = refl
-
-  outs_front : (sent : List ℕ) → responses (data_in_outs sent) ≡ []
-  outs_front [] = refl
-  outs_front (y ∷ ys) = refl
-
-  outs_count : (sent : List ℕ) → length (data_in_outs sent) ≡ length (data_ins (outs_of sent))
-  outs_count [] = refl
-  outs_count (y ∷ ys) = refl
-
-  outs_rejects : (sent : List ℕ) → AllByRecursion (λ o. IsOfCommand o.header) (outs_of sent)
-  outs_rejects [] = (tt, tt)
-  outs_rejects (y ∷ ys) = (tt, (tt, tt))
-
-  abbrev the_header : DataInHeader
-  the_header = record { last = true; task_tag = p.task_tag; transfer_tag = NO_TRANSFER_TAG; numbers = numbers_at 0 e; data_sn = 0; offset = 0 }
-
-  abbrev the_segments : List ℕ → List (DataInHeader × List ℕ)
-  the_segments bytes = (the_header, bytes) ∷ []
-
-  the_segment : (y : ℕ) (ys : List ℕ) → length (y ∷ ys) ≤ MAX_DATA_IN_LENGTH
-      → IsSegment p (the_segments (y ∷ ys)) 0 the_header (y ∷ ys)
-  the_segment y ys short = record {
-    some = omega arith;
-    within = short;
-    full = λ more. absurd (omega (arith, more));
-    number = refl;
-    place = refl;
-    last = (λ e. refl, λ e. refl);
-    tag = refl;
-    no_transfer = refl;
-    no_status = refl;
-  }
-
-  segment_at : (y : ℕ) (ys : List ℕ) → length (y ∷ ys) ≤ MAX_DATA_IN_LENGTH → (k : ℕ) (x : DataInHeader × List ℕ)
-      → slice_get (the_segments (y ∷ ys)) k ≡ Some x
-      → IsSegment p (the_segments (y ∷ ys)) k x.0 x.1
-  segment_at y ys short zero x e =
-      let only : DataInHeader × List ℕ = (the_header, y ∷ ys) in
-      let same : only ≡ x = cc in
-      subst (λ (z : DataInHeader × List ℕ). IsSegment p (the_segments (y ∷ ys)) 0 z.0 z.1) same (the_segment y ys short)
-  segment_at y ys short (suc k) x e = absurd (cc)
-
-  outs_tiled : (sent : List ℕ) → length sent ≤ MAX_DATA_IN_LENGTH → Tiles p (data_ins (outs_of sent)) sent
-  outs_tiled [] short = record { joined = refl; each = λ k h d e. absurd (no_segment k (h, d) e) }
-  outs_tiled (y ∷ ys) short = record { joined = append-nil (y ∷ ys); each = λ k h d e. segment_at y ys short k (h, d) e }
-
 less : (a b : ℕ) → IsTrue (nat_lt a b) ↔ (a < b)
 less a b = (λ e. ltb-true a b e, λ h. lt-ltb a b h)
-
--- what is sent of a read's data fits one Data-In
-cond_short : (r : Bool) (most : ℕ) (bytes : List ℕ) → (if r then most else 0) ≤ MAX_READ_LENGTH
-    → length (if r then take most bytes else none_data) ≤ MAX_DATA_IN_LENGTH
-cond_short true most bytes within = omega (arith, within, length-take most bytes)
-cond_short false most bytes within = omega arith
-
-sent_short : (p : CommandHeader) (bytes : List ℕ) → read_length p ≤ MAX_READ_LENGTH
-    → length (sent_data p bytes) ≤ MAX_DATA_IN_LENGTH
-sent_short p bytes within = cond_short p.read p.expected_length bytes within
-
--- ---- an accepted command
 
 take_none : (n : ℕ) → take n none_data ≡ none_data
 take_none zero = refl
@@ -154,117 +93,371 @@ commands_of : (i : Bool) (e : ℕ)
 commands_of true e = inl (refl, refl)
 commands_of false e = inr (refl, refl)
 
-module _ (s : Counters) (b : List ℕ) (p : CommandHeader) (d : List ℕ) (asked : Result Command CdbFault)
-    (unit : Option ℕ) (answer : TargetAnswer)
-    (judged : IsJudged s.exp_cmd_sn (pdu b (Initiator (ScsiCommand p)) d) Accepted) (means : Means p.cdb asked)
-    (names : NamesUnit p.lun unit) where
-  abbrev mid : Counters
-  mid = after_command p s
-
-  abbrev asking : Asking
-  asking = record { question = serve unit asked (data_for p (need_of asked) d); answer = answer }
-
-  asked_for : IsAskedFor p d (Some asking)
-  asked_for = record { asked = asked; unit = unit; answer = answer; means = means; names = names; call_is = refl }
-
-  abbrev sent_bytes : List ℕ
-  sent_bytes = sent_data p (reply_data answer)
-
-  abbrev transfer : ℕ
-  transfer = transfer_of p (need_of asked) (length (reply_data answer))
-
-  module _ (completion : Completion) where
-    abbrev sense : List ℕ
-    sense = sense_part completion.sense
-
-    abbrev the_response : ResponseHeader
-    the_response = response_for (numbers_at mid.stat_sn mid.exp_cmd_sn) p transfer (length (data_in_for (numbers_at 0 mid.exp_cmd_sn) p sent_bytes)) completion
-
-    abbrev the_outs : List Out
-    the_outs = outs_of mid.exp_cmd_sn p the_response sense sent_bytes
-
-    one_response : HasOneResponse p the_outs
-    one_response = record {
-      front = data_in_for (numbers_at 0 mid.exp_cmd_sn) p sent_bytes;
-      last = the_response;
-      segment = sense;
-      own_is = refl;
-      no_other = outs_front mid.exp_cmd_sn p the_response sense sent_bytes;
-      tag = refl;
-    }
-
-    reply_facts : read_length p ≤ MAX_READ_LENGTH → (HasOneResponse p the_outs → IsAnsweredBy p answer the_outs)
-        → IsTold answer the_response sense
-        → TurnFacts s (after_status mid) (pdu b (Initiator (ScsiCommand p)) d) Accepted (Some asking) the_outs
-    reply_facts within answered told =
-        let responses_are = outs_responses mid.exp_cmd_sn p the_response sense sent_bytes in
-        record {
-          judged = judged;
-          windows = outs_windows mid.exp_cmd_sn p the_response sense sent_bytes (record { expects = refl; reaches = refl });
-          called = asked_for;
-          answered = answered one_response;
-          tiled = outs_tiled mid.exp_cmd_sn p the_response sense sent_bytes (sent_short p (reply_data answer) within);
-          counted = rw responses_are (outs_count mid.exp_cmd_sn p the_response sense sent_bytes, tt);
-          residual = rw responses_are (record { underflow = less transfer (expected_transfer p); overflow = less (expected_transfer p) transfer; count = refl }, tt);
-          told = rw responses_are (told, tt);
-          rejected = outs_rejects mid.exp_cmd_sn p the_response sense sent_bytes;
-          commands = commands_of p.immediate s.exp_cmd_sn;
-          statuses = inr (refl, outs_statuses mid.exp_cmd_sn p the_response sense sent_bytes);
-        }
-
-  gone_tiles : (r : Bool) → Tiles p [] (if r then take p.expected_length none_data else none_data)
-  gone_tiles true = rw (take_none p.expected_length) (record { joined = refl; each = λ k h e f. absurd (no_segment k (h, e) f) })
-  gone_tiles false = record { joined = refl; each = λ k h e f. absurd (no_segment k (h, e) f) }
-
-  gone_facts : answer ≡ Gone → TurnFacts s mid (pdu b (Initiator (ScsiCommand p)) d) Accepted (Some asking) []
-  gone_facts gone = record {
-    judged = judged;
-    windows = tt;
-    called = asked_for;
-    answered = rw gone refl;
-    tiled = rw gone (gone_tiles p.read);
-    counted = tt;
-    residual = tt;
-    told = tt;
-    rejected = tt;
-    commands = commands_of p.immediate s.exp_cmd_sn;
-    statuses = inl (refl, refl);
-  }
-
--- ---- each verdict
-
-abbrev told : ℕ → Status → Option Sense → Completion
-told response status sense = record { response = response; status = status; sense = sense }
-
 moved : {s s1 s2 : Counters} {came : Incoming} {v : Verdict} {call call' : Option Asking} {outs outs' : List Out}
     → call' ≡ call → outs' ≡ outs → s2 ≡ s1 → TurnFacts s s1 came v call outs → TurnFacts s s2 came v call' outs'
 moved e f g k = rw (e, f, g) k
 
-module _ (s s' : Counters) (b : List ℕ) (p : CommandHeader) (d : List ℕ) (call : Option Asking) (outs : List Out)
-    (asked : Result Command CdbFault) (unit : Option ℕ) where
-  answered_facts : (answer : TargetAnswer) → IsJudged s.exp_cmd_sn (pdu b (Initiator (ScsiCommand p)) d) Accepted
-      → read_length p ≤ MAX_READ_LENGTH → Means p.cdb asked → NamesUnit p.lun unit
-      → call ≡ Some (record { question = serve unit asked (data_for p (need_of asked) d); answer = answer })
-      → TurnOnAnswer (after_command p s) p (need_of asked) answer outs s'
-      → TurnFacts s s' (pdu b (Initiator (ScsiCommand p)) d) Accepted call outs
-  answered_facts (Replied a) judged within means names e r = moved e r.0 r.1 (reply_facts s b p d asked unit (Replied a) judged means names (told COMPLETED a.status a.sense) within (λ o. o) (record { response = refl; status_is = refl; sense_is = refl }))
-  answered_facts (Outside a) judged within means names e r = moved e r.0 r.1 (reply_facts s b p d asked unit (Outside a) judged means names (told COMPLETED a.status a.sense) within (λ o. o) (record { response = refl; status_is = refl; sense_is = refl }))
-  answered_facts Busy judged within means names e r = moved e r.0 r.1 (reply_facts s b p d asked unit Busy judged means names (told COMPLETED statuses.Busy None) within (λ o. o) (record { response = refl; status_is = refl; sense_is = refl }))
-  answered_facts Halted judged within means names e r = moved e r.0 r.1 (reply_facts s b p d asked unit Halted judged means names (told TARGET_FAILURE statuses.Good None) within (λ o. o) (record { response = refl; status_is = refl; sense_is = refl }))
-  answered_facts Gone judged within means names e r = moved e r.0 r.1 (gone_facts s b p d asked unit Gone judged means names refl)
+abbrev told : ℕ → Status → Option Sense → Completion
+told response status sense = record { response = response; status = status; sense = sense }
+
+-- ---- a command is answered: by what is known of the turn, and by the PDUs that go out
+
+-- what is known of a turn of a command, where these are its counters but for the status
+record IsTurnOf (s m : Counters) (came : Incoming) (v : Verdict) (call : Option Asking) (p : CommandHeader) : Type 0 where
+  judged : IsJudged s.lengths s.standing came v
+  who : command_at s.standing came ≡ Some p
+  called : IsCalled v came call
+  kinds : (outs : List Out) → AllByRecursion (λ o. IsOfCommand o.header) outs → r2ts_of outs ≡ [] → IsRejected v came outs
+  no_request : (outs : List Out) → IsRequestAnswered s.lengths v came call outs
+  lengths : m.lengths ≡ s.lengths
+  status : m.stat_sn ≡ s.stat_sn
+  tag : m.standing.transfer_tag ≡ s.standing.transfer_tag
+  commands : ((m.standing.exp_cmd_sn ≡ s.standing.exp_cmd_sn) × (takes_number v came ≡ false))
+      ⊎ ((m.standing.exp_cmd_sn ≡ wrap (s.standing.exp_cmd_sn + 1)) × (takes_number v came ≡ true))
+
+module _ (s m : Counters) (came : Incoming) (v : Verdict) (call : Option Asking) (p : CommandHeader)
+    (asked : Result Command CdbFault) (means : Means p.cdb asked) (t : IsTurnOf s m came v call p) where
+  module _ (outcome : Outcome) (completion : Completion) where
+    abbrev sent_bytes : List ℕ
+    sent_bytes = sent_data p (outcome_data outcome)
+
+    abbrev transfer : ℕ
+    transfer = transfer_of p (need_of asked) (length (outcome_data outcome))
+
+    abbrev sense : List ℕ
+    sense = sense_part completion.sense
+
+    abbrev the_response : ResponseHeader
+    the_response = response_for (numbers_at m.stat_sn m.standing) p transfer (length (data_ins_for (numbers_at 0 m.standing) p.task_tag m.lengths sent_bytes)) completion
+
+    abbrev the_outs : List Out
+    the_outs = outs_of m.standing p.task_tag m.lengths sent_bytes the_response sense (length sent_bytes) 0 0
+
+    one_response : HasOneResponse p the_outs
+    one_response = record {
+      front = data_ins_for (numbers_at 0 m.standing) p.task_tag m.lengths sent_bytes;
+      last = the_response;
+      segment = sense;
+      own_is = refl;
+      no_other = outs_front m.standing p.task_tag m.lengths sent_bytes the_response sense (length sent_bytes) 0 0;
+      tag = refl;
+    }
+
+    abbrev the_answered : Answered
+    the_answered = record { command = p; outcome = outcome; own = the_outs }
+
+    no_r2ts : r2ts_of the_outs ≡ []
+    no_r2ts = outs_r2ts m.standing p.task_tag m.lengths sent_bytes the_response sense (length sent_bytes) 0 0
+
+    reply_facts : outcome_of v call the_outs ≡ Some outcome → (HasOneResponse p the_outs → IsAnsweredAs p outcome the_outs)
+        → IsToldAs outcome the_response sense → TurnFacts s (after_status m) came v call the_outs
+    reply_facts outcome_is answered told =
+        let responses_are = outs_responses m.standing p.task_tag m.lengths sent_bytes the_response sense (length sent_bytes) 0 0 in
+        let who : answered_in s.standing came v call the_outs ≡ Some the_answered = ap₂ (λ (o : Option CommandHeader) (w : Option Outcome). answered_by w o the_outs) t.who outcome_is in
+        record {
+          judged = t.judged;
+          windows = outs_windows m.standing p.task_tag m.lengths sent_bytes the_response sense (length sent_bytes) 0 0 (record { expects = refl; reaches = refl });
+          transfers = rw no_r2ts tt;
+          called = t.called;
+          answered = rw who (answered one_response);
+          tiled = rw who (subst (λ (l : Lengths). Tiles l p (data_ins the_outs) sent_bytes) t.lengths (outs_tiled m.standing p.task_tag m.lengths sent_bytes the_response sense p refl));
+          counted = rw (who, responses_are) (outs_count m.standing p.task_tag m.lengths sent_bytes the_response sense (length sent_bytes) 0 0, tt);
+          residual = rw (who, responses_are) (asked, means, (record { underflow = less transfer (expected_transfer p); overflow = less (expected_transfer p) transfer; count = refl }, tt));
+          told = rw (who, responses_are) (told, tt);
+          rejected = t.kinds the_outs (outs_kinds m.standing p.task_tag m.lengths sent_bytes the_response sense (length sent_bytes) 0 0) no_r2ts;
+          requests = t.no_request the_outs;
+          lengths_kept = t.lengths;
+          commands = t.commands;
+          statuses = inr (ap (λ (n : ℕ). wrap (n + 1)) t.status, outs_statuses m.standing p.task_tag m.lengths sent_bytes the_response sense (length sent_bytes) 0 0 ∙ ap (λ (n : ℕ). n ∷ []) t.status);
+          tags = inl (t.tag, no_r2ts);
+        }
+
+  gone_tiles : (r : Bool) → Tiles s.lengths p [] (if r then take p.expected_length none_data else none_data)
+  gone_tiles true = rw (take_none p.expected_length) (record { joined = refl; each = λ k h e f. absurd (no_segment k (h, e) f) })
+  gone_tiles false = record { joined = refl; each = λ k h e f. absurd (no_segment k (h, e) f) }
+
+  abbrev gone_answered : Answered
+  gone_answered = record { command = p; outcome = by_target Gone; own = [] }
+
+  gone_facts : outcome_of v call [] ≡ Some (by_target Gone) → TurnFacts s m came v call []
+  gone_facts outcome_is =
+      let who : answered_in s.standing came v call [] ≡ Some gone_answered = ap₂ (λ (o : Option CommandHeader) (w : Option Outcome). answered_by w o []) t.who outcome_is in
+      record {
+        judged = t.judged;
+        windows = tt;
+        transfers = tt;
+        called = t.called;
+        answered = rw who refl;
+        tiled = rw who (gone_tiles p.read);
+        counted = rw who tt;
+        residual = rw who (asked, means, tt);
+        told = rw who tt;
+        rejected = t.kinds [] tt refl;
+        requests = t.no_request [];
+        lengths_kept = t.lengths;
+        commands = t.commands;
+        statuses = inl (t.status, refl);
+        tags = inl (t.tag, refl);
+      }
+
+  -- by the target's answer
+  known : v ≡ Accepted → (answer : TargetAnswer) (question : Question) → call ≡ Some (record { question = question; answer = answer })
+      → (o : List Out) → outcome_of v call o ≡ Some (by_target answer)
+  known accepted answer question is o = ap₂ (λ (w : Verdict) (c : Option Asking). outcome_of w c o) accepted is
+
+  by_target_facts : v ≡ Accepted → (answer : TargetAnswer) (question : Question)
+      → call ≡ Some (record { question = question; answer = answer })
+      → (outs : List Out) (s' : Counters) → TurnOnAnswer m p (need_of asked) answer outs s' → TurnFacts s s' came v call outs
+  by_target_facts accepted (Replied a) question is outs s' k =
+      moved refl k.0 k.1 (reply_facts (by_target (Replied a)) (told COMPLETED a.status a.sense) (known accepted (Replied a) question is _) (λ o. o) (record { response = refl; status_is = refl; sense_is = refl }))
+  by_target_facts accepted (Outside a) question is outs s' k =
+      moved refl k.0 k.1 (reply_facts (by_target (Outside a)) (told COMPLETED a.status a.sense) (known accepted (Outside a) question is _) (λ o. o) (record { response = refl; status_is = refl; sense_is = refl }))
+  by_target_facts accepted Busy question is outs s' k =
+      moved refl k.0 k.1 (reply_facts (by_target Busy) busy (known accepted Busy question is _) (λ o. o) (record { response = refl; status_is = refl; sense_is = refl }))
+  by_target_facts accepted Halted question is outs s' k =
+      moved refl k.0 k.1 (reply_facts (by_target Halted) (told TARGET_FAILURE statuses.Good None) (known accepted Halted question is _) (λ o. o) (record { response = refl; status_is = refl; sense_is = refl }))
+  by_target_facts accepted Gone question is outs s' k =
+      moved refl k.0 k.1 (gone_facts (known accepted Gone question is []))
+
+  -- without a call: there was no buffer, or the task set is full
+  no_buffer_facts : v ≡ Accepted → call ≡ None → (outs : List Out) (s' : Counters) → outs ≡ reply_with m p (need_of asked) [] busy → s' ≡ after_status m
+      → TurnFacts s s' came v call outs
+  no_buffer_facts accepted none outs s' is next =
+      let ended : list_any (λ o. is_response o.header) (the_outs no_buffer busy) ≡ true = outs_ended m.standing p.task_tag m.lengths (sent_bytes no_buffer busy) (the_response no_buffer busy) (sense no_buffer busy) (length (sent_bytes no_buffer busy)) 0 0 in
+      let outcome_is : outcome_of v call (the_outs no_buffer busy) ≡ Some no_buffer =
+      ap₂ (λ (w : Verdict) (c : Option Asking). outcome_of w c (the_outs no_buffer busy)) accepted none ∙ ap (λ (b : Bool). if b then Some no_buffer else None) ended in
+      moved refl is next (reply_facts no_buffer busy outcome_is (λ o. o) (record { response = refl; status_is = refl; sense_is = refl }))
+
+  full_facts : v ≡ Full → (outs : List Out) (s' : Counters) → outs ≡ reply_with m p (need_of asked) [] task_set_full → s' ≡ after_status m
+      → TurnFacts s s' came v call outs
+  full_facts full outs s' is next =
+      moved refl is next (reply_facts set_full task_set_full (ap (λ (w : Verdict). outcome_of w call (the_outs set_full task_set_full)) full) (λ o. o) (record { response = refl; status_is = refl; sense_is = refl }))
+
+  -- nothing, or the next R2T, goes out
+  waits_facts : (s' : Counters) → v ≡ Accepted → call ≡ None → s'.lengths ≡ s.lengths → s'.stat_sn ≡ s.stat_sn → s'.standing.exp_cmd_sn ≡ m.standing.exp_cmd_sn
+      → s'.standing.transfer_tag ≡ s.standing.transfer_tag → TurnFacts s s' came v call []
+  waits_facts s' accepted none lengths_same status_same cmd tag_same =
+      let who : answered_in s.standing came v call [] ≡ None = ap₂ (λ (o : Option CommandHeader) (w : Option Outcome). answered_by w o []) t.who (ap₂ (λ (w : Verdict) (c : Option Asking). outcome_of w c []) accepted none) in
+      record {
+        judged = t.judged;
+        windows = tt;
+        transfers = tt;
+        called = t.called;
+        answered = rw who refl;
+        tiled = rw who refl;
+        counted = rw who tt;
+        residual = rw who tt;
+        told = rw who tt;
+        rejected = t.kinds [] tt refl;
+        requests = t.no_request [];
+        lengths_kept = lengths_same;
+        commands = rw cmd t.commands;
+        statuses = inl (status_same, refl);
+        tags = inl (tag_same, refl);
+      }
+
+module _ (s n s' : Counters) (came : Incoming) (call : Option Asking) (p : CommandHeader) (next : R2tHeader)
+    (judged : IsJudged s.lengths s.standing came Accepted) (who : command_at s.standing came ≡ Some p)
+    (called : IsCalled Accepted came call) (none : call ≡ None)
+    (kinds : (outs : List Out) → AllByRecursion (λ o. IsOfCommand o.header) outs → IsRejected Accepted came outs)
+    (no_request : (outs : List Out) → IsRequestAnswered s.lengths Accepted came call outs)
+    (lengths : n.lengths ≡ s.lengths) (status : n.stat_sn ≡ s.stat_sn) (tag : n.standing.transfer_tag ≡ s.standing.transfer_tag)
+    (commands : ((n.standing.exp_cmd_sn ≡ s.standing.exp_cmd_sn) × (takes_number Accepted came ≡ false))
+    ⊎ ((n.standing.exp_cmd_sn ≡ wrap (s.standing.exp_cmd_sn + 1)) × (takes_number Accepted came ≡ true))) where
+  asks_facts : (need bytes requests : ℕ) (outs : List Out) → TurnAsks n p need bytes requests next call outs → s' ≡ after_r2t n
+      → TurnFacts s s' came Accepted call outs
+  asks_facts need bytes requests outs k after =
+      let out : Out = record { header = R2t next; bytes = [] } in
+      let nobody : answered_in s.standing came Accepted call (out ∷ []) ≡ None = ap₂ (λ (o : Option CommandHeader) (w : Option Outcome). answered_by w o (out ∷ [])) who (ap (λ (c : Option Asking). outcome_of Accepted c (out ∷ [])) none) in
+      moved refl k.outs_are after (record {
+        judged = judged;
+        windows = (rw k.numbers (record { expects = refl; reaches = refl }), tt);
+        transfers = (record { transfer = k.transfer ∙ tag; status = ap (λ (z : Numbers). z.stat_sn) k.numbers ∙ status }, tt);
+        called = called;
+        answered = rw nobody refl;
+        tiled = rw nobody refl;
+        counted = rw nobody tt;
+        residual = rw nobody tt;
+        told = rw nobody tt;
+        rejected = kinds (out ∷ []) (tt, tt);
+        requests = no_request (out ∷ []);
+        lengths_kept = lengths;
+        commands = commands;
+        statuses = inl (status, refl);
+        tags = inr (ap (λ (x : ℕ). (x + 1) % 4294967295) tag, next, refl);
+      })
+
+-- ---- a SCSI Command, and a Data-Out
+
+command_turn : (s : Counters) (b : List ℕ) (p : CommandHeader) (d : List ℕ) (call : Option Asking)
+    → IsJudged s.lengths s.standing (pdu b (Initiator (ScsiCommand p)) d) Accepted
+    → IsTurnOf s (after_command p s) (pdu b (Initiator (ScsiCommand p)) d) Accepted call p
+command_turn s b p d call judged = record {
+  judged = judged;
+  who = refl;
+  called = tt;
+  kinds = λ outs all none. all;
+  no_request = λ outs. tt;
+  lengths = refl;
+  status = refl;
+  tag = refl;
+  commands = commands_of p.immediate s.standing.exp_cmd_sn;
+}
+
+data_turn : (s : Counters) (b : List ℕ) (x : DataOutHeader) (d : List ℕ) (call : Option Asking) (this : Collecting) (cs : List Collecting)
+    → IsJudged s.lengths s.standing (pdu b (Initiator (DataOut x)) d) Accepted → find (has_tag x.task_tag) s.standing.collecting ≡ Some this
+    → IsTurnOf s (after_collecting cs s) (pdu b (Initiator (DataOut x)) d) Accepted call this.command
+data_turn s b x d call this cs judged found = record {
+  judged = judged;
+  who = ap (option_map (λ (c : Collecting). c.command)) found;
+  called = tt;
+  kinds = λ outs all none. all;
+  no_request = λ outs. tt;
+  lengths = refl;
+  status = refl;
+  tag = refl;
+  commands = inl (refl, refl);
+}
+
+opened_facts : (s s' : Counters) (b : List ℕ) (p : CommandHeader) (d : List ℕ) (call : Option Asking) (outs : List Out)
+    (asked : Result Command CdbFault) → Means p.cdb asked → IsJudged s.lengths s.standing (pdu b (Initiator (ScsiCommand p)) d) Accepted
+    → TurnOpened s p asked d call outs s' → TurnFacts s s' (pdu b (Initiator (ScsiCommand p)) d) Accepted call outs
+opened_facts s s' b p d call outs asked means judged (calls h k) =
+    by_target_facts s (after_command p s) _ Accepted call p asked means (command_turn s b p d call judged) refl k.answer _ k.call_is outs s' k.answered
+opened_facts s s' b p d call outs asked means judged (asks h next k after) =
+    asks_facts s _ s' (pdu b (Initiator (ScsiCommand p)) d) call p next judged refl tt k.no_call (λ os all. all) (λ os. tt) refl refl refl (commands_of p.immediate s.standing.exp_cmd_sn) _ _ _ outs k after
+opened_facts s s' b p d call outs asked means judged (turns_away h k) =
+    no_buffer_facts s (after_command p s) _ Accepted call p asked means (command_turn s b p d call judged) refl k.no_call outs s' k.outs_are k.next_is
+
+fed_facts : (s s' : Counters) (b : List ℕ) (x : DataOutHeader) (d : List ℕ) (call : Option Asking) (outs : List Out) (front : List Collecting) (this : Collecting) (back : List Collecting) (end : ℕ)
+    (asked : Result Command CdbFault) → Means this.command.cdb asked → IsJudged s.lengths s.standing (pdu b (Initiator (DataOut x)) d) Accepted
+    → find (has_tag x.task_tag) s.standing.collecting ≡ Some this
+    → TurnFed s front this back asked d end call outs s' → TurnFacts s s' (pdu b (Initiator (DataOut x)) d) Accepted call outs
+fed_facts s s' b x d call outs front this back end asked means judged found (fills h k) =
+    moved refl k.outs_are k.next_is
+    (waits_facts s s _ Accepted call this.command asked means (data_turn s b x d call this s.standing.collecting judged found) (after_collecting (front ++ (fed this d ∷ back)) s) refl k.no_call refl refl refl refl)
+fed_facts s s' b x d call outs front this back end asked means judged found (asks_on all short next k after) =
+    asks_facts s _ s' (pdu b (Initiator (DataOut x)) d) call this.command next judged (ap (option_map (λ (c : Collecting). c.command)) found) tt k.no_call (λ os all. all) (λ os. tt) refl refl refl (inl (refl, refl)) _ _ _ outs k after
+fed_facts s s' b x d call outs front this back end asked means judged found (calls_now h k) =
+    by_target_facts s _ _ Accepted call this.command asked means (data_turn s b x d call this (front ++ back) judged found) refl k.answer _ k.call_is outs s' k.answered
+
+abbrev logout_out : Numbers → LogoutHeader → Out
+logout_out n p = record {
+  header = LogoutResponse (record { response = if closes p then CLOSED else RECOVERY_NOT_SUPPORTED; task_tag = p.task_tag; numbers = n; time_to_wait = TIME_TO_WAIT; time_to_retain = TIME_TO_RETAIN });
+  bytes = [];
+}
+
+-- ---- another request that was accepted: it is answered by no PDU, or by one that uses up a StatSN and is neither a
+-- SCSI Response nor a Data-In
+
+module _ (s : Counters) (came : Incoming) (immediate : Bool) (call : Option Asking)
+    (judged : IsJudged s.lengths s.standing came Accepted) (called : IsCalled Accepted came call)
+    (no_task : (own : List Out) → answered_in s.standing came Accepted call own ≡ None)
+    (numbered : takes_number Accepted came ≡ not immediate)
+    (of_accepted : (outs : List Out) → IsRejected Accepted came outs) where
+  abbrev behind : Counters
+  behind = after_number immediate s
+
+  numbers_up : (e : ℕ) → ((exp_cmd_sn_behind immediate e ≡ e) × (takes_number Accepted came ≡ false))
+      ⊎ ((exp_cmd_sn_behind immediate e ≡ wrap (e + 1)) × (takes_number Accepted came ≡ true))
+  numbers_up e = subst
+      (λ (t : Bool). ((exp_cmd_sn_behind immediate e ≡ e) × (t ≡ false)) ⊎ ((exp_cmd_sn_behind immediate e ≡ wrap (e + 1)) × (t ≡ true)))
+      (sym numbered) (commands_of immediate e)
+
+  silent_facts : IsRequestAnswered s.lengths Accepted came call [] → TurnFacts s behind came Accepted call []
+  silent_facts answer = record {
+    judged = judged;
+    windows = tt;
+    transfers = tt;
+    called = called;
+    answered = rw (no_task []) refl;
+    tiled = rw (no_task []) refl;
+    counted = rw (no_task []) tt;
+    residual = rw (no_task []) tt;
+    told = rw (no_task []) tt;
+    rejected = of_accepted [];
+    requests = answer;
+    lengths_kept = refl;
+    commands = numbers_up s.standing.exp_cmd_sn;
+    statuses = inl (refl, refl);
+    tags = inl (refl, refl);
+  }
+
+  module _ (o : Out) (window : IsWindow behind.standing (numbers_of o.header))
+      (status : status_number o.header ≡ Some s.stat_sn) (no_response : response_with o.header o.bytes ≡ None)
+      (no_data : data_in_with o.header o.bytes ≡ None) (no_r2t : r2t_with o.header ≡ None) where
+    one_facts : IsRequestAnswered s.lengths Accepted came call (o ∷ [])
+        → TurnFacts s (after_status behind) came Accepted call (o ∷ [])
+    one_facts answer = record {
+      judged = judged;
+      windows = (window, tt);
+      transfers = rw no_r2t tt;
+      called = called;
+      answered = rw (no_task (o ∷ []), no_response) refl;
+      tiled = rw (no_task (o ∷ []), no_data) refl;
+      counted = rw (no_task (o ∷ [])) tt;
+      residual = rw (no_task (o ∷ [])) tt;
+      told = rw (no_task (o ∷ [])) tt;
+      rejected = of_accepted (o ∷ []);
+      requests = answer;
+      lengths_kept = refl;
+      commands = numbers_up s.standing.exp_cmd_sn;
+      statuses = inr (refl, rw status refl);
+      tags = inl (refl, rw no_r2t refl);
+    }
+
+    some_or_none : (none : Bool) → IsRequestAnswered s.lengths Accepted came call (if none then [] else o ∷ [])
+        → TurnFacts s (after_answer (if none then [] else o ∷ []) behind) came Accepted call (if none then [] else o ∷ [])
+    some_or_none true answer = silent_facts answer
+    some_or_none false answer = one_facts answer
+
+no_command : (w : Option Outcome) (own : List Out) → answered_by w None own ≡ None
+no_command None own = refl
+no_command (Some outcome) own = refl
 
 accepted_facts : (came : Incoming) (s s' : Counters) (call : Option Asking) (outs : List Out)
-    → IsJudged s.exp_cmd_sn came Accepted → TurnOnAccepted came s call outs s' → TurnFacts s s' came Accepted call outs
+    → IsJudged s.lengths s.standing came Accepted → TurnOnAccepted came s call outs s' → TurnFacts s s' came Accepted call outs
 accepted_facts (pdu b (Initiator (ScsiCommand p)) d) s s' call outs judged k =
-    answered_facts s s' b p d call outs k.asked.asked k.asked.unit k.asked.answer judged k.within k.asked.means k.asked.names k.asked.call_is k.answered
+    opened_facts s s' b p d call outs k.asked k.asked_by.means judged k.by
+accepted_facts (pdu b (Initiator (DataOut x)) d) s s' call outs judged k =
+    fed_facts s s' b x d call outs k.front k.this k.back _ k.asked k.asked_by.means judged k.found k.by
+accepted_facts (pdu b (Initiator (NopOut p)) d) s s' call outs judged k =
+    let n = next_numbers (after_number p.immediate s) in
+    moved k.no_call k.outs_are k.next_is
+    (some_or_none s (pdu b (Initiator (NopOut p)) d) p.immediate None judged refl (λ own. no_command _ own) refl (λ own. tt)
+    (record { header = NopIn (record { lun = p.lun; task_tag = p.task_tag; transfer_tag = NO_TRANSFER_TAG; numbers = n }); bytes = take (min s.lengths.data_segment MAX_DATA_SEGMENT_LENGTH) d })
+    (record { expects = refl; reaches = refl }) refl refl refl refl (p.task_tag == RESERVED_TAG) (n, refl))
+accepted_facts (pdu b (Initiator (LogoutRequest p)) d) s s' call outs judged k =
+    let n = next_numbers (after_number p.immediate s) in
+    moved k.no_call k.outs_are k.next_is
+    (one_facts s (pdu b (Initiator (LogoutRequest p)) d) p.immediate None judged refl (λ own. no_command _ own) refl (λ own. tt)
+    (logout_out n p) (record { expects = refl; reaches = refl }) refl refl refl refl (n, refl))
 accepted_facts came s s' call outs judged k = absurd k
 
+full_pdu_facts : (came : Incoming) (s s' : Counters) (call : Option Asking) (outs : List Out)
+    → IsJudged s.lengths s.standing came Full → TurnOnFullPdu came s call outs s' → TurnFacts s s' came Full call outs
+full_pdu_facts (pdu b (Initiator (ScsiCommand p)) d) s s' call outs judged k =
+    full_facts s s (pdu b (Initiator (ScsiCommand p)) d) Full call p k.asked k.means (record {
+      judged = judged;
+      who = refl;
+      called = k.turned.no_call;
+      kinds = λ os all none. (all, none);
+      no_request = λ os. tt;
+      lengths = refl;
+      status = refl;
+      tag = refl;
+      commands = inl (refl, refl);
+    }) refl outs s' k.turned.outs_are k.turned.next_is
+full_pdu_facts came s s' call outs judged k = absurd k
+
 pub made_facts : (s s' : Counters) (came : Incoming) (v : Verdict) (call : Option Asking) (outs : List Out)
-    → IsJudged s.exp_cmd_sn came v → TurnOnVerdict v s came call outs s' → TurnFacts s s' came v call outs
+    → IsJudged s.lengths s.standing came v → TurnOnVerdict v s came call outs s' → TurnFacts s s' came v call outs
 made_facts s s' came Accepted call outs judged k = accepted_facts came s s' call outs judged k
+made_facts s s' came Full call outs judged k = full_pdu_facts came s s' call outs judged k
 made_facts s s' came Ignored call outs judged k = moved k.no_call k.outs_are k.next_is (record {
   judged = judged;
   windows = tt;
+  transfers = tt;
   called = refl;
   answered = refl;
   tiled = refl;
@@ -272,12 +465,16 @@ made_facts s s' came Ignored call outs judged k = moved k.no_call k.outs_are k.n
   residual = tt;
   told = tt;
   rejected = refl;
+  requests = tt;
+  lengths_kept = refl;
   commands = inl (refl, refl);
   statuses = inl (refl, refl);
+  tags = inl (refl, refl);
 })
 made_facts s s' came Gap call outs judged k = moved k.no_call k.outs_are k.next_is (record {
   judged = judged;
   windows = tt;
+  transfers = tt;
   called = refl;
   answered = refl;
   tiled = refl;
@@ -285,19 +482,26 @@ made_facts s s' came Gap call outs judged k = moved k.no_call k.outs_are k.next_
   residual = tt;
   told = tt;
   rejected = refl;
+  requests = tt;
+  lengths_kept = refl;
   commands = inl (refl, refl);
   statuses = inl (refl, refl);
+  tags = inl (refl, refl);
 })
 made_facts s s' came (Refused reason) call outs judged k = moved k.no_call k.outs_are k.next_is (record {
   judged = judged;
   windows = (record { expects = refl; reaches = refl }, tt);
+  transfers = tt;
   called = refl;
   answered = refl;
   tiled = refl;
   counted = tt;
   residual = tt;
   told = tt;
-  rejected = (numbers_at s.stat_sn s.exp_cmd_sn, refl);
+  rejected = (next_numbers s, refl);
+  requests = tt;
+  lengths_kept = refl;
   commands = inl (refl, refl);
   statuses = inr (refl, refl);
+  tags = inl (refl, refl);
 })

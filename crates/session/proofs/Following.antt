@@ -1,34 +1,37 @@
 -- What follows of a legal transcript.
-use Rattle.std.proofs.Common.{◌≡◌, ℕ, ◌+◌, ◌≤◌, min, Bool, List, [], ◌∷◌, ◌++◌, Option, Some, None, length, take, refl, ap, subst, ◌∙◌, arith, length-append, cond}
-use Rattle.std.specs.Prelude.{IsTrue, slice_get, if◌then◌else◌}
-use Rattle.std.specs.List.{cons_option}
-use Rattle.std.proofs.lemmas.List.Sums.{sum_by-append}
+use Rattle.std.proofs.Common.{◌≡◌, ℕ, ◌+◌, ◌≤◌, min, Bool, true, false, List, [], ◌∷◌, ◌++◌, Option, Some, None, length, take, refl, ap, ◌∙◌, arith, length-append}
+use Rattle.std.specs.Prelude.{◌||◌, IsTrue, slice_get, if◌then◌else◌}
+use Rattle.std.specs.List.{AllByRecursion, filter, cons_option, list_any}
 use Rattle.std.proofs.lemmas.List.Elements.{filter_map-append}
 use Rattle.std.proofs.lemmas.List.{length-take}
-use Rattle.std.proofs.Math.Nat.{mod-add-mod}
 use Rattle.iscsi_pdu.specs.declared.header.Header.TheVariants.{Initiator}
 use Rattle.iscsi_pdu.specs.declared.header.InitiatorHeader.TheVariants.{ScsiCommand}
-use Rattle.iscsi_pdu.specs.declared.header.TargetHeader.TheVariants.{ScsiResponse}
+use Rattle.iscsi_pdu.specs.declared.header.TargetHeader.{TargetHeader}
+use Rattle.iscsi_pdu.specs.declared.header.TargetHeader.TheVariants.{NopIn, ScsiResponse, TaskManagementResponse, LoginResponse, TextResponse, DataIn, LogoutResponse, R2t, Reject}
 use Rattle.iscsi_pdu.specs.declared.header.ScsiCommand.{ScsiCommand as CommandHeader}
+use Rattle.session.specs.declared.lengths.Lengths.{Lengths}
+use Rattle.session.specs.declared.session.Start.{Start}
 use Rattle.session.specs.declared.target.TargetAnswer.{TargetAnswer}
 use Rattle.session.specs.declared.target.TargetAnswer.TheVariants.{Replied, Outside, Busy, Gone, Halted}
 use Rattle.session.specs.declared.verdict.Verdict.{Verdict}
-use Rattle.session.specs.declared.verdict.Verdict.TheVariants.{Accepted, Ignored, Gap, Refused}
-use Rattle.session.specs.Turn.{Incoming, pdu, Out, Asking, Turn, sent, calls}
-use Rattle.session.specs.Window.{wrap, takes_number, exp_cmd_sn_after}
+use Rattle.session.specs.declared.verdict.Verdict.TheVariants.{Accepted, Full, Ignored, Gap, Refused}
+use Rattle.session.specs.Turn.{Incoming, pdu, Out, Asking, Turn, sent}
+use Rattle.session.specs.Window.{wrap}
+use Rattle.session.specs.Tasks.{is_response, is_management, finds_gone, touches, ends, through, Task, accepted_command, begun_by, tasks}
+use Rattle.session.specs.Standing.{Standing, standing}
 use Rattle.session.specs.Transfer.{sent_data}
-use Rattle.session.specs.Task.{task_by, reply_data}
-use Rattle.session.specs.Response.{response_with, responses, HasOneResponse, IsAnsweredBy}
+use Rattle.session.specs.Answered.{Outcome, by_target, no_buffer, set_full, outcome_of, command_at, answered_by, answered_in, reply_data}
+use Rattle.session.specs.Response.{response_with, responses, HasOneResponse, IsAnsweredBy, IsAnsweredAs}
 use Rattle.session.specs.DataIn.{data_ins, joined_data}
-use Rattle.session.specs.Legal.{AtEach, HaveWindow, Lawful, status_numbers, IsAnsweredTask, IsTiledTask}
-use Rattle.session.specs.Following.{HaveMaxCmdSn, IsCallTurn, numbers_taken}
+use Rattle.session.specs.Legal.{AtEach, Lawful, status_numbers, IsAnsweredTask, IsTiledTask}
+use Rattle.session.specs.Following.{IsCallTurn}
 
-pub consecutive : (first_cmd first_stat : ℕ) (ts : List Turn) (k n next : ℕ) → Lawful first_cmd first_stat ts
+pub consecutive : (start : Start) (ts : List Turn) (k n next : ℕ) → Lawful start ts
     → slice_get (status_numbers (sent ts)) k ≡ Some n → slice_get (status_numbers (sent ts)) (k + 1) ≡ Some next
     → next ≡ wrap (n + 1)
-consecutive first_cmd first_stat ts k n next l here there =
-    let one : n ≡ wrap (first_stat + k) = l.numbered k n here in
-    let two : next ≡ wrap (first_stat + (k + 1)) = l.numbered (k + 1) next there in
+consecutive start ts k n next l here there =
+    let one : n ≡ wrap (start.stat_sn + k) = l.numbered k n here in
+    let two : next ≡ wrap (start.stat_sn + (k + 1)) = l.numbered (k + 1) next there in
     omega (arith, one, two)
 
 -- ---- one response at most
@@ -45,105 +48,124 @@ answered_length p (Replied r) own k = omega (arith, one_length p own k)
 answered_length p (Outside r) own k = omega (arith, one_length p own k)
 answered_length p Busy own k = omega (arith, one_length p own k)
 answered_length p Halted own k = omega (arith, one_length p own k)
-answered_length p Gone own k = omega (arith, ap (λ (o : List Out). length (responses o)) k)
+answered_length p Gone own k = omega (arith, ap length k)
 
-abbrev count_of : Option Asking → ℕ
-count_of None = 0
-count_of (Some call) = 1
+outcome_length : (p : CommandHeader) (outcome : Outcome) (own : List Out) → IsAnsweredAs p outcome own → length (responses own) ≤ 1
+outcome_length p (by_target answer) own k = answered_length p answer own k
+outcome_length p no_buffer own k = omega (arith, one_length p own k)
+outcome_length p set_full own k = omega (arith, one_length p own k)
 
 none_length : (own : List Out) (n : ℕ) → responses own ≡ [] → length (responses own) ≤ n
 none_length own n k = omega (arith, ap length k)
 
--- no more responses than calls
-accepted_count : (came : Incoming) (call : Option Asking) (own : List Out)
-    → IsAnsweredTask (task_by Accepted came call own) own → length (responses own) ≤ count_of call
-accepted_count (pdu b (Initiator (ScsiCommand p)) d) (Some call) own k = answered_length p call.answer own k
-accepted_count came call own k = none_length own (count_of call) k
+turn_count : (outcome : Option Outcome) (p : Option CommandHeader) (own : List Out)
+    → IsAnsweredTask (answered_by outcome p own) own → length (responses own) ≤ 1
+turn_count None p own k = none_length own 1 k
+turn_count (Some outcome) None own k = none_length own 1 k
+turn_count (Some outcome) (Some p) own k = outcome_length p outcome own k
 
-turn_count : (v : Verdict) (came : Incoming) (call : Option Asking) (own : List Out)
-    → IsAnsweredTask (task_by v came call own) own → length (responses own) ≤ count_of call
-turn_count Accepted came call own k = accepted_count came call own k
-turn_count Ignored came call own k = none_length own (count_of call) k
-turn_count Gap came call own k = none_length own (count_of call) k
-turn_count (Refused reason) came call own k = none_length own (count_of call) k
-
-count_fits : (call : Option Asking) → count_of call ≤ 1
-count_fits None = omega arith
-count_fits (Some call) = omega arith
-
-pub answered_once : (first_cmd first_stat : ℕ) (ts : List Turn) → Lawful first_cmd first_stat ts
+pub answered_once : (start : Start) (ts : List Turn) → Lawful start ts
     → AtEach (λ before t. length (responses t.sent) ≤ 1) ts
-answered_once first_cmd first_stat ts l before t behind e = omega (arith, turn_count t.verdict t.came t.call t.sent (l.answered before t behind e), count_fits t.call)
+answered_once start ts l before t behind e =
+    turn_count (outcome_of t.verdict t.call t.sent) (command_at (standing start before) t.came) t.sent (l.answered before t behind e)
 
-turn_unaccepted : (v : Verdict) (came : Incoming) (call : Option Asking) (own : List Out)
-    → IsAnsweredTask (task_by v came call own) own → (v ≡ Accepted → ⊥) → responses own ≡ []
-turn_unaccepted Accepted came call own k never = absurd (never refl)
-turn_unaccepted Ignored came call own k never = k
-turn_unaccepted Gap came call own k never = k
-turn_unaccepted (Refused reason) came call own k never = k
+turn_unaccepted : (v : Verdict) (call : Option Asking) (p : Option CommandHeader) (own : List Out)
+    → IsAnsweredTask (answered_by (outcome_of v call own) p own) own → (v ≡ Accepted → ⊥) → (v ≡ Full → ⊥) → responses own ≡ []
+turn_unaccepted Accepted call p own k never full = absurd (never refl)
+turn_unaccepted Full call p own k never full = absurd (full refl)
+turn_unaccepted Ignored call p own k never full = k
+turn_unaccepted Gap call p own k never full = k
+turn_unaccepted (Refused reason) call p own k never full = k
 
-pub unaccepted : (first_cmd first_stat : ℕ) (ts : List Turn) → Lawful first_cmd first_stat ts
-    → AtEach (λ before t. (t.verdict ≡ Accepted → ⊥) → responses t.sent ≡ []) ts
-unaccepted first_cmd first_stat ts l before t behind e never = turn_unaccepted t.verdict t.came t.call t.sent (l.answered before t behind e) never
+pub unaccepted : (start : Start) (ts : List Turn) → Lawful start ts
+    → AtEach (λ before t. (t.verdict ≡ Accepted → ⊥) → (t.verdict ≡ Full → ⊥) → responses t.sent ≡ []) ts
+unaccepted start ts l before t behind e never full =
+    turn_unaccepted t.verdict t.call (command_at (standing start before) t.came) t.sent (l.answered before t behind e) never full
 
-one_call_more : (call : Option Asking) (cs : List Asking) → length (cons_option call cs) ≡ count_of call + length cs
-one_call_more None cs = omega arith
-one_call_more (Some call) cs = omega arith
-
-calls_more : (t : Turn) (ts : List Turn) → length (calls (t ∷ ts)) ≡ count_of t.call + length (calls ts)
-calls_more t ts = one_call_more t.call (calls ts)
+-- ---- one response at most in all turns of a command
 
 responses_more : (t : Turn) (ts : List Turn)
     → length (responses (sent (t ∷ ts))) ≡ length (responses t.sent) + length (responses (sent ts))
 responses_more t ts = ap length (filter_map-append (λ o. response_with o.header o.bytes) t.sent (sent ts)) ∙ length-append (responses t.sent) (responses (sent ts))
 
-asked_of_each : (ts : List Turn) → AtEach (λ before t. length (responses t.sent) ≤ count_of t.call) ts
-    → length (responses (sent ts)) ≤ length (calls ts)
-asked_of_each [] each = omega arith
-asked_of_each (t ∷ ts) each =
-    let rest : length (responses (sent ts)) ≤ length (calls ts) = asked_of_each ts (λ before u behind e. each (t ∷ before) u behind (ap (λ (us : List Turn). t ∷ us) e)) in
-    omega (arith, responses_more t ts, calls_more t ts, each [] t ts refl, rest)
+no_one : (h : TargetHeader) (d : List ℕ) → is_response h ≡ false → response_with h d ≡ None
+no_one (NopIn r) d e = refl
+no_one (ScsiResponse r) d e = absurd (let f : true ≡ false = e in cc)
+no_one (TaskManagementResponse r) d e = refl
+no_one (LoginResponse r) d e = refl
+no_one (TextResponse r) d e = refl
+no_one (DataIn r) d e = refl
+no_one (LogoutResponse r) d e = refl
+no_one (R2t r) d e = refl
+no_one (Reject r) d e = refl
 
-pub asked_enough : (first_cmd first_stat : ℕ) (ts : List Turn) → Lawful first_cmd first_stat ts
-    → length (responses (sent ts)) ≤ length (calls ts)
-asked_enough first_cmd first_stat ts l = asked_of_each ts (λ before t behind e. turn_count t.verdict t.came t.call t.sent (l.answered before t behind e))
+or_left : (a b : Bool) → (a || b) ≡ false → a ≡ false
+or_left true b e = absurd (let f : true ≡ false = e in cc)
+or_left false b e = refl
+
+or_right : (a b : Bool) → (a || b) ≡ false → b ≡ false
+or_right true b e = absurd (let f : true ≡ false = e in cc)
+or_right false b e = e
+
+none_sent : (outs : List Out) → list_any (λ o. is_response o.header) outs ≡ false → responses outs ≡ []
+none_sent [] e = refl
+none_sent (o ∷ outs) e =
+    rw (no_one o.header o.bytes (or_left (is_response o.header) (list_any (λ z. is_response z.header) outs) e))
+    (none_sent outs (or_right (is_response o.header) (list_any (λ z. is_response z.header) outs) e))
+
+abbrev HasOneAtMost : Turn → Type 0
+HasOneAtMost t = length (responses t.sent) ≤ 1
+
+through_one : (us : List Turn) → AllByRecursion HasOneAtMost us → length (responses (sent (through ends us))) ≤ 1
+through_one [] all = omega arith
+through_one (t ∷ us) all = one (ends t) refl (through_one us all.1) where
+  one : (b : Bool) → ends t ≡ b → length (responses (sent (through ends us))) ≤ 1
+      → length (responses (sent (t ∷ (if b then [] else through ends us)))) ≤ 1
+  one true e rest = omega (arith, responses_more t [], all.0)
+  one false e rest = omega (arith, responses_more t (through ends us), ap length (none_sent t.sent (or_left (list_any (λ o. is_response o.header) t.sent) (is_management t.came) (or_left (list_any (λ o. is_response o.header) t.sent || is_management t.came) (finds_gone t.call) e))), rest)
+
+all_filter : (test : Turn → Bool) (us : List Turn) → AllByRecursion HasOneAtMost us → AllByRecursion HasOneAtMost (filter test us)
+all_filter test [] all = tt
+all_filter test (t ∷ us) all = one (test t) (all_filter test us all.1) where
+  one : (b : Bool) → AllByRecursion HasOneAtMost (filter test us) → AllByRecursion HasOneAtMost (if b then t ∷ filter test us else filter test us)
+  one true rest = (all.0, rest)
+  one false rest = rest
+
+begun_once : (c : Option (CommandHeader × List ℕ)) (t : Turn) (behind : List Turn) (ks : List Task) → HasOneAtMost t
+    → AllByRecursion HasOneAtMost behind → AllByRecursion (λ k. length (responses (sent k.own)) ≤ 1) ks
+    → AllByRecursion (λ k. length (responses (sent k.own)) ≤ 1) (cons_option (begun_by c t behind) ks)
+begun_once None t behind ks here all rest = rest
+begun_once (Some c) t behind ks here all rest = (through_one (t ∷ filter (touches c.0) behind) (here, all_filter (touches c.0) behind all), rest)
+
+tasks_once : (ts : List Turn) → AllByRecursion HasOneAtMost ts → AllByRecursion (λ k. length (responses (sent k.own)) ≤ 1) (tasks ts)
+tasks_once [] all = tt
+tasks_once (t ∷ behind) all = begun_once (accepted_command t.verdict t.came) t behind (tasks behind) all.0 all.1 (tasks_once behind all.1)
+
+each_of_all : (ts : List Turn) → AtEach (λ before t. HasOneAtMost t) ts → AllByRecursion HasOneAtMost ts
+each_of_all [] each = tt
+each_of_all (t ∷ ts) each = (each [] t ts refl, each_of_all ts (λ before u behind e. each (t ∷ before) u behind (ap (λ (us : List Turn). t ∷ us) e)))
+
+pub command_once : (start : Start) (ts : List Turn) → Lawful start ts
+    → AllByRecursion (λ k. length (responses (sent k.own)) ≤ 1) (tasks ts)
+command_once start ts l = tasks_once ts (each_of_all ts (answered_once start ts l))
 
 -- ---- the data of a read
 
 sent_to_a_read : (p : CommandHeader) (bytes : List ℕ) → IsTrue p.read → sent_data p bytes ≡ take p.expected_length bytes
 sent_to_a_read p bytes e = ap (λ (r : Bool). if r then take p.expected_length bytes else []) e
 
-turn_data : (v : Verdict) (came : Incoming) (asked : Option Asking) (own : List Out) (b : List ℕ) (p : CommandHeader) (d : List ℕ) (call : Asking)
+turn_data : (l : Lengths) (st : Standing) (v : Verdict) (came : Incoming) (asked : Option Asking) (own : List Out) (b : List ℕ) (p : CommandHeader) (d : List ℕ) (call : Asking)
     → v ≡ Accepted → came ≡ pdu b (Initiator (ScsiCommand p)) d → asked ≡ Some call → IsTrue p.read
-    → IsTiledTask (task_by v came asked own) own
+    → IsTiledTask l (answered_in st came v asked own) own
     → joined_data (data_ins own) ≡ take p.expected_length (reply_data call.answer)
-turn_data v came asked own b p d call e f g r = rw (e, f, g) (λ k. k.joined ∙ sent_to_a_read p (reply_data call.answer) r)
+turn_data l st v came asked own b p d call e f g r = rw (e, f, g) (λ k. k.joined ∙ sent_to_a_read p (reply_data call.answer) r)
 
-pub read_data : (first_cmd first_stat : ℕ) (ts : List Turn) → Lawful first_cmd first_stat ts
+pub read_data : (start : Start) (ts : List Turn) → Lawful start ts
     → AtEach (λ before t. (p : CommandHeader) (call : Asking) → IsCallTurn t p call → IsTrue p.read → joined_data (data_ins t.sent) ≡ take p.expected_length (reply_data call.answer)) ts
-read_data first_cmd first_stat ts l before t behind e p call is reads =
-    turn_data t.verdict t.came t.call t.sent is.bhs p is.segment call is.accepted is.came is.called reads (l.tiled before t behind e)
+read_data start ts l before t behind e p call is reads =
+    turn_data start.lengths (standing start before) t.verdict t.came t.call t.sent is.bhs p is.segment call is.accepted is.came is.called reads (l.tiled before t behind e)
 
-pub read_size : (first_cmd first_stat : ℕ) (ts : List Turn) → Lawful first_cmd first_stat ts
+pub read_size : (start : Start) (ts : List Turn) → Lawful start ts
     → AtEach (λ before t. (p : CommandHeader) (call : Asking) → IsCallTurn t p call → IsTrue p.read → length (joined_data (data_ins t.sent)) ≡ min p.expected_length (length (reply_data call.answer))) ts
-read_size first_cmd first_stat ts l before t behind e p call is reads =
-    ap length (read_data first_cmd first_stat ts l before t behind e p call is reads) ∙ length-take p.expected_length (reply_data call.answer)
-
--- ---- the window
-
-abbrev numbered : Turn → Bool
-numbered t = takes_number t.verdict t.came
-
-pub count_grows : (before behind : List Turn) → numbers_taken before ≤ numbers_taken (before ++ behind)
-count_grows before behind = omega (arith, sum_by-append (λ u. cond (numbered u) 1 0) before behind)
-
-window_ends : (e : ℕ) (outs : List Out) → HaveWindow e outs → HaveMaxCmdSn (wrap (e + 31)) outs
-window_ends e [] k = tt
-window_ends e (o ∷ outs) k = (k.0.reaches, window_ends e outs k.1)
-
-pub max_counted : (first_cmd first_stat : ℕ) (ts : List Turn) → Lawful first_cmd first_stat ts
-    → AtEach (λ before t. HaveMaxCmdSn (wrap (first_cmd + numbers_taken (before ++ t ∷ []) + 31)) t.sent) ts
-max_counted first_cmd first_stat ts l before t behind e =
-    let count : ℕ = numbers_taken (before ++ t ∷ []) in
-    subst (λ (n : ℕ). HaveMaxCmdSn n t.sent) (mod-add-mod (first_cmd + count) 4294967296 31)
-    (window_ends (exp_cmd_sn_after first_cmd (before ++ t ∷ [])) t.sent (l.windows before t behind e))
+read_size start ts l before t behind e p call is reads =
+    ap length (read_data start ts l before t behind e p call is reads) ∙ length-take p.expected_length (reply_data call.answer)

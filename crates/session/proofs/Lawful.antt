@@ -1,5 +1,5 @@
 -- One turn more keeps a transcript lawful.
-use Rattle.std.proofs.Common.{◌≡◌, ◌⊎◌, ℕ, zero, suc, ◌+◌, ◌<◌, Bool, true, false, List, [], ◌∷◌, ◌++◌, Some, length, refl, sym, ap, subst, ◌∙◌, inl, inr, arith, length-append, cond}
+use Rattle.std.proofs.Common.{◌≡◌, ◌⊎◌, ℕ, zero, suc, ◌+◌, ◌%◌, ◌<◌, Bool, true, false, List, [], ◌∷◌, ◌++◌, Some, length, refl, sym, ap, subst, subst₂, ◌∙◌, inl, inr, arith, length-append, cond}
 use Rattle.std.specs.Prelude.{slice_get}
 use Rattle.std.specs.List.{count_by}
 use Rattle.std.proofs.lemmas.List.{append-nil}
@@ -7,11 +7,22 @@ use Rattle.std.proofs.lemmas.List.Sums.{sum_by-append}
 use Rattle.std.proofs.lemmas.List.Elements.{filter_map-append}
 use Rattle.std.proofs.lemmas.Grind.{flat_map-append}
 use Rattle.std.proofs.Math.Nat.{mod-add-mod}
+use Rattle.session.specs.declared.lengths.Lengths.{Lengths}
+use Rattle.session.specs.declared.session.Start.{Start}
 use Rattle.session.specs.Turn.{Incoming, Out, Turn, sent}
 use Rattle.session.specs.Window.{wrap, takes_number, exp_cmd_sn_after}
 use Rattle.session.specs.Verdict.{IsJudged}
-use Rattle.session.specs.Legal.{AtEach, status_number, status_numbers, HaveWindow, Lawful}
-use Rattle.session.specs.Counters.{Counters}
+use Rattle.session.specs.Requests.{IsRequestAnswered}
+use Rattle.session.specs.Tasks.{r2t_with, r2ts_of, r2ts, tasks, collecting, Collecting, Task}
+use Rattle.session.specs.Standing.{Standing, transfer_at, standing}
+use Rattle.session.specs.Collecting.{IsRightTask}
+use Rattle.iscsi_pdu.specs.declared.header.R2t.{R2t as R2tHeader}
+use Rattle.std.specs.List.{AllByRecursion}
+use Rattle.session.proofs.Table.{IsKept}
+use Rattle.session.proofs.Gathering.{kept_more}
+use Rattle.session.specs.Legal.{AtEach, status_number, status_numbers, HaveWindow, HaveNextR2t, IsAnsweredTask, IsTiledTask, IsCountedTask, HasResiduals, IsToldTask, answer_at, GoesOn, Lawful}
+use Rattle.session.specs.Answered.{answered_in}
+use Rattle.session.specs.Counters.{Counters, begun}
 use Rattle.session.specs.MachineTurn.{TurnOf, TurnOnVerdict}
 use Rattle.session.proofs.Facts.{TurnFacts, made_facts}
 
@@ -43,9 +54,10 @@ at_each_none P [] u behind e = absurd (cc)
 at_each_none P (x ∷ before) u behind e = absurd (cc)
 
 -- the counters are those of the transcript
-pub record IsTied (first_cmd first_stat : ℕ) (ts : List Turn) (s : Counters) : Type 0 where
-  pub command : s.exp_cmd_sn ≡ exp_cmd_sn_after first_cmd ts
-  pub status : s.stat_sn ≡ wrap (first_stat + length (status_numbers (sent ts)))
+pub record IsTied (start : Start) (ts : List Turn) (s : Counters) : Type 0 where
+  pub standing_is : s.standing ≡ standing start ts
+  pub status : s.stat_sn ≡ wrap (start.stat_sn + length (status_numbers (sent ts)))
+  pub lengths : s.lengths ≡ start.lengths
 
 abbrev numbered : Turn → Bool
 numbered t = takes_number t.verdict t.came
@@ -57,9 +69,9 @@ count_more ts t = sum_by-append (λ u. cond (numbered u) 1 0) ts (t ∷ [])
 wrap_wrap : (n : ℕ) → wrap (wrap n) ≡ wrap n
 wrap_wrap n = omega arith
 
-command_more : (first : ℕ) (ts : List Turn) (t : Turn) (s s' : Counters) → s.exp_cmd_sn ≡ exp_cmd_sn_after first ts
-    → ((s'.exp_cmd_sn ≡ s.exp_cmd_sn) × (numbered t ≡ false)) ⊎ ((s'.exp_cmd_sn ≡ wrap (s.exp_cmd_sn + 1)) × (numbered t ≡ true))
-    → s'.exp_cmd_sn ≡ exp_cmd_sn_after first (ts ++ t ∷ [])
+command_more : (first : ℕ) (ts : List Turn) (t : Turn) (s s' : Counters) → s.standing.exp_cmd_sn ≡ exp_cmd_sn_after first ts
+    → ((s'.standing.exp_cmd_sn ≡ s.standing.exp_cmd_sn) × (numbered t ≡ false)) ⊎ ((s'.standing.exp_cmd_sn ≡ wrap (s.standing.exp_cmd_sn + 1)) × (numbered t ≡ true))
+    → s'.standing.exp_cmd_sn ≡ exp_cmd_sn_after first (ts ++ t ∷ [])
 command_more first ts t s s' tied (inl w) =
     let n : ℕ = count_by numbered ts in
     let same : count_by numbered (ts ++ t ∷ []) ≡ n = count_more ts t ∙ ap (λ (b : Bool). n + (0 + cond b 1 0)) w.1 ∙ (let e : n + (0 + 0) ≡ n = omega arith in e) in
@@ -109,38 +121,95 @@ module _ (first : ℕ) (ts : List Turn) (t : Turn) (s s' : Counters)
         | inr v ↦ v.1 ∙ tied ∙ ap (λ (m : ℕ). wrap (first + m)) (sym v.0)
       ]
 
--- what a transcript and its counters are, between two turns
-pub record Stands (first_cmd first_stat : ℕ) (ts : List Turn) (s : Counters) : Type 0 where
-  pub lawful : Lawful first_cmd first_stat ts
-  pub tied : IsTied first_cmd first_stat ts s
+-- ---- the transfer tags
+
+r2ts_more : (ts : List Turn) (t : Turn) → r2ts (ts ++ t ∷ []) ≡ r2ts ts ++ r2ts_of t.sent
+r2ts_more ts t = ap r2ts_of (sent_more ts t) ∙ filter_map-append (λ o. r2t_with o.header) (sent ts) t.sent
+
+tag_of_more : (n : ℕ) → (transfer_at n + 1) % 4294967295 ≡ transfer_at (n + 1)
+tag_of_more n = mod-add-mod n 4294967295 1
+
+tag_more : (ts : List Turn) (t : Turn) (old new : ℕ) → old ≡ transfer_at (length (r2ts ts))
+    → ((new ≡ old) × (r2ts_of t.sent ≡ [])) ⊎ ((new ≡ (old + 1) % 4294967295) × (r : R2tHeader) × (r2ts_of t.sent ≡ r ∷ []))
+    → new ≡ transfer_at (length (r2ts (ts ++ t ∷ [])))
+tag_more ts t old new tied (inl w) =
+    let same : r2ts (ts ++ t ∷ []) ≡ r2ts ts = r2ts_more ts t ∙ ap (λ (z : List R2tHeader). r2ts ts ++ z) w.1 ∙ append-nil (r2ts ts) in
+    w.0 ∙ tied ∙ ap (λ (z : List R2tHeader). transfer_at (length z)) (sym same)
+tag_more ts t old new tied (inr w) =
+    let more : length (r2ts (ts ++ t ∷ [])) ≡ length (r2ts ts) + 1 = ap length (r2ts_more ts t ∙ ap (λ (z : List R2tHeader). r2ts ts ++ z) w.2) ∙ length-append (r2ts ts) (w.1 ∷ []) in
+    w.0 ∙ ap (λ (n : ℕ). (n + 1) % 4294967295) tied ∙ tag_of_more (length (r2ts ts)) ∙ ap transfer_at (sym more)
+
+-- ---- one turn more
+
+same_parts : (x y : ℕ) (cs ds : List Collecting) (t u : ℕ) → x ≡ y → cs ≡ ds → t ≡ u
+    → Path Standing (record { exp_cmd_sn = x; collecting = cs; transfer_tag = t }) (record { exp_cmd_sn = y; collecting = ds; transfer_tag = u })
+same_parts x y cs ds t u e f g = rw (e, f, g) refl
+
+same_standing : (a b : Standing) → a.exp_cmd_sn ≡ b.exp_cmd_sn → a.collecting ≡ b.collecting → a.transfer_tag ≡ b.transfer_tag → a ≡ b
+same_standing a b e f g = same_parts a.exp_cmd_sn b.exp_cmd_sn a.collecting b.collecting a.transfer_tag b.transfer_tag e f g
+
+-- what a transcript and its counters are, between two turns: each task is right, and the session keeps those that wait
+pub record Stands (start : Start) (ts : List Turn) (s : Counters) : Type 0 where
+  pub lawful : Lawful start ts
+  pub tied : IsTied start ts s
+  pub kept : IsKept start.lengths.burst (tasks ts) s.standing.collecting
+
+judged_of : (s s' : Counters) (came : Incoming) (t : Turn) → TurnOf s came t s' → IsJudged s.lengths s.standing t.came t.verdict
+judged_of s s' came t m = subst (λ (c : Incoming). IsJudged s.lengths s.standing c t.verdict) (sym m.came_is) m.judged
+
+made_of : (s s' : Counters) (came : Incoming) (t : Turn) → TurnOf s came t s' → TurnOnVerdict t.verdict s t.came t.call t.sent s'
+made_of s s' came t m = subst (λ (c : Incoming). TurnOnVerdict t.verdict s c t.call t.sent s') (sym m.came_is) m.made
 
 facts_of : (s s' : Counters) (came : Incoming) (t : Turn) → TurnOf s came t s'
     → TurnFacts s s' t.came t.verdict t.call t.sent
-facts_of s s' came t m = made_facts s s' t.came t.verdict t.call t.sent
-    (subst (λ (c : Incoming). IsJudged s.exp_cmd_sn c t.verdict) (sym m.came_is) m.judged)
-    (subst (λ (c : Incoming). TurnOnVerdict t.verdict s c t.call t.sent s') (sym m.came_is) m.made)
+facts_of s s' came t m = made_facts s s' t.came t.verdict t.call t.sent (judged_of s s' came t m) (made_of s s' came t m)
 
-pub stands_more : (first_cmd first_stat : ℕ) (ts : List Turn) (t : Turn) (came : Incoming) (s s' : Counters)
-    → Stands first_cmd first_stat ts s → TurnOf s came t s' → Stands first_cmd first_stat (ts ++ t ∷ []) s'
-stands_more first_cmd first_stat ts t came s s' k m =
+kept_of : (start : Start) (ts : List Turn) (t : Turn) (came : Incoming) (s s' : Counters) → s.lengths ≡ start.lengths
+    → IsKept start.lengths.burst (tasks ts) s.standing.collecting → TurnOf s came t s'
+    → IsKept start.lengths.burst (tasks (ts ++ t ∷ [])) s'.standing.collecting
+kept_of start ts t came s s' e kept m =
+    let some : 0 < s.lengths.burst = omega (arith, s.lengths.bursts) in
+    subst (λ (l : Lengths). IsKept l.burst (tasks (ts ++ t ∷ [])) s'.standing.collecting) e
+    (kept_more s s' some ts t (subst (λ (l : Lengths). IsKept l.burst (tasks ts) s.standing.collecting) (sym e) kept) (judged_of s s' came t m) (made_of s s' came t m))
+
+pub stands_more : (start : Start) (ts : List Turn) (t : Turn) (came : Incoming) (s s' : Counters)
+    → Stands start ts s → GoesOn ts → TurnOf s came t s' → Stands start (ts ++ t ∷ []) s'
+stands_more start ts t came s s' k on m =
     let f = facts_of s s' came t m in
-    let command = command_more first_cmd ts t s s' k.tied.command f.commands in
+    let here = k.tied.standing_is in
+    let kept = kept_of start ts t came s s' k.tied.lengths k.kept m in
+    let command = command_more start.exp_cmd_sn ts t s s' (ap (λ (z : Standing). z.exp_cmd_sn) here) f.commands in
+    let tag = tag_more ts t s.standing.transfer_tag s'.standing.transfer_tag (ap (λ (z : Standing). z.transfer_tag) here) f.tags in
+    let there : s'.standing ≡ standing start (ts ++ t ∷ []) = same_standing s'.standing (standing start (ts ++ t ∷ [])) command (sym kept.tied) tag in
     let old = k.lawful in
     record {
       lawful = record {
-        judged = at_each_more (λ before u. IsJudged (exp_cmd_sn_after first_cmd before) u.came u.verdict) ts t old.judged (subst (λ (e : ℕ). IsJudged e t.came t.verdict) k.tied.command f.judged);
-        numbered = numbered_more first_stat ts t s s' k.tied.status old.numbered f.statuses;
-        windows = at_each_more (λ before u. HaveWindow (exp_cmd_sn_after first_cmd (before ++ u ∷ [])) u.sent) ts t old.windows
-            (subst (λ (e : ℕ). HaveWindow e t.sent) command f.windows);
+        judged = at_each_more (λ before u. IsJudged start.lengths (standing start before) u.came u.verdict) ts t old.judged
+            (subst₂ (λ (l : Lengths) (e : Standing). IsJudged l e t.came t.verdict) k.tied.lengths here f.judged);
+        numbered = numbered_more start.stat_sn ts t s s' k.tied.status old.numbered f.statuses;
+        windows = at_each_more (λ before u. HaveWindow (standing start (before ++ u ∷ [])) u.sent) ts t old.windows
+            (subst (λ (e : Standing). HaveWindow e t.sent) there f.windows);
+        transfers = at_each_more (λ before u. HaveNextR2t (standing start before) (wrap (start.stat_sn + length (status_numbers (sent before)))) u.sent) ts t old.transfers
+            (subst₂ (λ (e : Standing) (n : ℕ). HaveNextR2t e n t.sent) here k.tied.status f.transfers);
+        collected = at_each_more (λ before u. AllByRecursion (IsRightTask start.lengths.burst) (tasks (before ++ u ∷ []))) ts t old.collected kept.right;
         called = at_each_more _ ts t old.called f.called;
-        answered = at_each_more _ ts t old.answered f.answered;
-        tiled = at_each_more _ ts t old.tiled f.tiled;
-        counted = at_each_more _ ts t old.counted f.counted;
-        residual = at_each_more _ ts t old.residual f.residual;
-        told = at_each_more _ ts t old.told f.told;
+        answered = at_each_more (λ before u. IsAnsweredTask (answer_at start before u) u.sent) ts t old.answered
+            (subst (λ (e : Standing). IsAnsweredTask (answered_in e t.came t.verdict t.call t.sent) t.sent) here f.answered);
+        tiled = at_each_more (λ before u. IsTiledTask start.lengths (answer_at start before u) u.sent) ts t old.tiled
+            (subst₂ (λ (l : Lengths) (e : Standing). IsTiledTask l (answered_in e t.came t.verdict t.call t.sent) t.sent) k.tied.lengths here f.tiled);
+        counted = at_each_more (λ before u. IsCountedTask (answer_at start before u)) ts t old.counted
+            (subst (λ (e : Standing). IsCountedTask (answered_in e t.came t.verdict t.call t.sent)) here f.counted);
+        residual = at_each_more (λ before u. HasResiduals (answer_at start before u)) ts t old.residual
+            (subst (λ (e : Standing). HasResiduals (answered_in e t.came t.verdict t.call t.sent)) here f.residual);
+        told = at_each_more (λ before u. IsToldTask (answer_at start before u)) ts t old.told
+            (subst (λ (e : Standing). IsToldTask (answered_in e t.came t.verdict t.call t.sent)) here f.told);
         rejected = at_each_more _ ts t old.rejected f.rejected;
+        requests = at_each_more (λ before u. IsRequestAnswered start.lengths u.verdict u.came u.call u.sent) ts t old.requests
+            (subst (λ (l : Lengths). IsRequestAnswered l t.verdict t.came t.call t.sent) k.tied.lengths f.requests);
+        ends = at_each_more (λ before u. GoesOn before) ts t old.ends on;
       };
-      tied = record { command = command; status = status_more first_stat ts t s s' k.tied.status f.statuses };
+      tied = record { standing_is = there; status = status_more start.stat_sn ts t s s' k.tied.status f.statuses; lengths = f.lengths_kept ∙ k.tied.lengths };
+      kept = kept;
     }
 
 no_status : (k n : ℕ) (none : List ℕ) → none ≡ [] → slice_get none k ≡ Some n → ⊥
@@ -150,12 +219,14 @@ no_status k n [] e f = absurd (no_status_nil k f) where
   no_status_nil (suc k) f = cc
 no_status k n (x ∷ xs) e f = absurd (cc)
 
-pub stands_none : (first_cmd first_stat : ℕ) (s : Counters) → first_cmd < 4294967296 → first_stat < 4294967296 → s ≡ record { stat_sn = first_stat; exp_cmd_sn = first_cmd } → Stands first_cmd first_stat [] s
-stands_none first_cmd first_stat s cmd_fits stat_fits e = record {
+pub stands_none : (start : Start) (s : Counters) → start.exp_cmd_sn < 4294967296 → start.stat_sn < 4294967296 → s ≡ begun start → Stands start [] s
+stands_none start s cmd_fits stat_fits e = record {
   lawful = record {
     judged = at_each_none _;
     numbered = λ k n f. absurd (no_status k n [] refl f);
     windows = at_each_none _;
+    transfers = at_each_none _;
+    collected = at_each_none (λ before u. AllByRecursion (IsRightTask start.lengths.burst) (tasks (before ++ u ∷ [])));
     called = at_each_none _;
     answered = at_each_none _;
     tiled = at_each_none _;
@@ -163,9 +234,14 @@ stands_none first_cmd first_stat s cmd_fits stat_fits e = record {
     residual = at_each_none _;
     told = at_each_none _;
     rejected = at_each_none _;
+    requests = at_each_none _;
+    ends = at_each_none (λ before u. GoesOn before);
   };
   tied = record {
-    command = ap (λ (r : Counters). r.exp_cmd_sn) e ∙ (let k : first_cmd ≡ wrap (first_cmd + 0) = omega arith in k);
-    status = ap (λ (r : Counters). r.stat_sn) e ∙ (let k : first_stat ≡ wrap (first_stat + 0) = omega arith in k);
+    standing_is = ap (λ (r : Counters). r.standing) e
+        ∙ same_standing (begun start).standing (standing start []) (let k : start.exp_cmd_sn ≡ wrap (start.exp_cmd_sn + 0) = omega arith in k) refl refl;
+    status = ap (λ (r : Counters). r.stat_sn) e ∙ (let k : start.stat_sn ≡ wrap (start.stat_sn + 0) = omega arith in k);
+    lengths = ap (λ (r : Counters). r.lengths) e;
   };
+  kept = rw e (record { right = tt; tied = refl; unique = tt });
 }

@@ -1,32 +1,37 @@
 -- What is known between two turns of a session, and how a turn, a read and an end carry it on.
-use Rattle.std.proofs.Common.{◌≡◌, ◌⊎◌, ℕ, ◌+◌, ◌<◌, ◌≤◌, List, [], ◌∷◌, ◌++◌, Option, Some, None, length, map, take, drop, refl, sym, ap, subst, subst₂, ◌∙◌, arith, inl, inr, append_assoc, length-append, length-take-le, length-take}
+use Rattle.std.proofs.Common.{Bool, true, false, ◌≡◌, ◌⊎◌, ℕ, ◌+◌, ◌<◌, ◌≤◌, true, false, List, [], ◌∷◌, ◌++◌, Option, Some, None, length, map, take, drop, refl, sym, ap, subst, subst₂, ◌∙◌, arith, inl, inr, append_assoc, length-append, length-take-le, length-take}
 use Rattle.std.proofs.lemmas.List.{append-nil, take-append-drop, map-append, take-take}
 use Rattle.std.proofs.lemmas.List.Elements.{filter_map-append}
 use Rattle.std.proofs.lemmas.Grind.{flat_map-append}
+use Rattle.std.specs.Prelude.{if◌then◌else◌}
 use Rattle.std.specs.Io.KnownBytes.{Keeps, Appends, Consumes, IsAtEnd}
-use Rattle.std.proofs.KnownBytes.{Appends-trans, Appends-nil, Consumes-trans, Consumes-kept, Consumes-nil}
+use Rattle.std.proofs.KnownBytes.{Appends-nil, Consumes-trans, Consumes-kept, Consumes-nil}
 use Rattle.iscsi_pdu.specs.Pdu.{IsPdu}
 use Rattle.iscsi_pdu.specs.Fault.{Stands as FaultStands}
 use Rattle.iscsi_pdu.specs.Spelling.{spelling}
 use Rattle.iscsi_pdu.specs.declared.header.Header.{Header}
-use Rattle.iscsi_pdu.specs.declared.header.Header.TheVariants.{Target}
+use Rattle.iscsi_pdu.specs.declared.header.Header.TheVariants.{Initiator, Target}
+use Rattle.iscsi_pdu.specs.declared.header.InitiatorHeader.TheVariants.{LogoutRequest}
+use Rattle.session.specs.Logout.{closes}
 use Rattle.iscsi_pdu.specs.declared.fault.PduFault.{PduFault}
 use Rattle.session.specs.declared.end.End.{End}
-use Rattle.session.specs.declared.end.End.TheVariants.{EndOfInput, InputFailed, OutputFailed, Protocol, Reinstated}
+use Rattle.session.specs.declared.end.End.TheVariants.{EndOfInput, InputFailed, OutputFailed, Protocol, Reinstated, LoggedOut}
+use Rattle.session.specs.declared.session.Start.{Start}
 use Rattle.session.specs.declared.target.TargetAnswer.{TargetAnswer}
 use Rattle.session.specs.declared.target.TargetAnswer.TheVariants.{Replied, Outside, Busy, Gone, Halted}
 use Rattle.session.specs.declared.verdict.Verdict.{Verdict}
-use Rattle.session.specs.declared.verdict.Verdict.TheVariants.{Accepted, Ignored, Gap, Refused}
+use Rattle.session.specs.declared.verdict.Verdict.TheVariants.{Accepted, Full, Ignored, Gap, Refused}
 use Rattle.session.specs.Question.{Question}
 use Rattle.session.specs.Source.{AppendsFront}
 use Rattle.session.specs.Inbox.{Filled}
 use Rattle.session.specs.Turn.{Incoming, pdu, faulty, Out, Asking, Turn, calls, sent, bytes_of, Spells, Leads}
 use Rattle.iscsi_pdu.specs.declared.TheConstants.{BHS_LENGTH}
-use Rattle.session.specs.Legal.{end_by, end_after, GoesOn, NoneWhole, StandsBehind, EndsWith, most_bytes, EndsBy}
-use Rattle.session.specs.Counters.{Counters}
-use Rattle.session.specs.Stream.{IsSentOut, IsLed, MakesTurn, StreamTurn}
-use Rattle.session.specs.Transcript.{IsCut, Written, IsTranscribed, IsFailureOf}
-use Rattle.session.proofs.Turns.{written}
+use Rattle.session.specs.Legal.{end_by, end_of_call, end_of_accepted, end_after, GoesOn, NoneWhole, StandsBehind, EndsWith, most_bytes, EndsBy}
+use Rattle.session.specs.Counters.{Counters, begun}
+use Rattle.session.specs.Outbox.{OutboxValue, IsOut, IsWritten, IsClosed, IsClosedAs}
+use Rattle.session.specs.Stream.{IsLed, MakesTurn}
+use Rattle.session.specs.Transcript.{Written, IsTranscribed, IsFailureOf}
+use Rattle.session.proofs.Queues.{all_out_at_last, broke}
 use Rattle.session.proofs.Lawful.{at_each_more, at_each_none, Stands, stands_more, stands_none}
 
 -- ---- what was read
@@ -80,16 +85,16 @@ module _ {T : Type 0} (leads : T → Question → TargetAnswer → T → Type 0)
 
 -- ---- between two turns
 
-pub record Running {T : Type 0} (leads : T → Question → TargetAnswer → T → Type 0) (first_cmd first_stat : ℕ)
-    (left left' held held' : Option (List ℕ)) (target target' : T) (s : Counters) (waiting : List ℕ)
-    (reads : ℕ) : Type 0 where
+pub record Running {T : Type 0} (leads : T → Question → TargetAnswer → T → Type 0) (start : Start)
+    (left left' held held' : Option (List ℕ)) (before now : ℕ) (o : OutboxValue) (target target' : T) (s : Counters)
+    (waiting : List ℕ) (reads : ℕ) : Type 0 where
   pub transcript : List Turn
   pub spelled : List ℕ
-  pub stands : Stands first_cmd first_stat transcript s
+  pub stands : Stands start transcript s
   pub goes_on : GoesOn transcript
   pub spells : Spells (map (λ t. t.came) transcript) spelled
   pub read : Consumes left left' (spelled ++ waiting)
-  pub written : Appends held held' (bytes_of (sent transcript))
+  pub written : IsOut held held' before now o (bytes_of (sent transcript))
   pub led : Leads leads (calls transcript) target target'
   pub many : reads ≤ length spelled + length waiting
 
@@ -97,36 +102,80 @@ nil_of : (xs : List ℕ) → length xs ≡ 0 → xs ≡ []
 nil_of [] e = refl
 nil_of (x ∷ xs) e = absurd (omega arith)
 
--- the end that a turn calls for is one of two
-ends_by_answer : (end : End) (a : TargetAnswer) → Some end ≡ end_by a → (end ≡ Protocol) ⊎ (end ≡ Reinstated)
+-- the end that a turn calls for is one of three
+abbrev pub IsCalledFor : End → Type 0
+IsCalledFor end = (end ≡ Protocol) ⊎ ((end ≡ Reinstated) ⊎ (end ≡ LoggedOut))
+
+ends_by_answer : (end : End) (a : TargetAnswer) → Some end ≡ end_by a → IsCalledFor end
 ends_by_answer end (Replied r) e = absurd (cc)
 ends_by_answer end (Outside r) e = absurd (cc)
 ends_by_answer end Busy e = absurd (cc)
-ends_by_answer end Gone e = inr cc
+ends_by_answer end Gone e = inr (inl cc)
 ends_by_answer end Halted e = absurd (cc)
 
-pub ends_so : (end : End) (v : Verdict) (call : Option Asking) → Some end ≡ end_after v call
-    → (end ≡ Protocol) ⊎ (end ≡ Reinstated)
-ends_so end Accepted None e = absurd (cc)
-ends_so end Accepted (Some c) e = ends_by_answer end c.answer e
-ends_so end Ignored call e = absurd (cc)
-ends_so end Gap call e = inl cc
-ends_so end (Refused reason) call e = inl cc
+ends_by_call : (end : End) (call : Option Asking) → Some end ≡ end_of_call call → IsCalledFor end
+ends_by_call end None e = absurd (cc)
+ends_by_call end (Some c) e = ends_by_answer end c.answer e
 
--- a turn whose bytes went out and that calls for no end, or one that ends the session
-pub went_on : (held held' : Option (List ℕ)) (before now : ℕ) (bytes : List ℕ) (wanted : Option End)
-    → IsSentOut held held' before now bytes wanted None → (wanted ≡ None) × Appends held held' bytes × (now ≡ before)
-went_on held held' before now bytes wanted (inl w) = (sym w.0, w.1, w.2)
-went_on held held' before now bytes wanted (inr w) = absurd (let e : None ≡ Some OutputFailed = w.0 in cc)
+ends_by_logout : (end : End) (closes : Bool) → Some end ≡ (if closes then Some LoggedOut else None) → IsCalledFor end
+ends_by_logout end true e = inr (inr cc)
+ends_by_logout end false e = absurd (cc)
 
-module _ {T : Type 0} (leads : T → Question → TargetAnswer → T → Type 0) (first_cmd first_stat : ℕ)
-    (left left' held held' : Option (List ℕ)) (x x' : T) (s : Counters) (waiting : List ℕ) (reads : ℕ)
-    (r : Running leads first_cmd first_stat left left' held held' x x' s waiting reads) where
+ends_accepted : (end : End) (came : Incoming) (call : Option Asking) → Some end ≡ end_of_accepted came call
+    → IsCalledFor end
+ends_accepted end (pdu b (Initiator (LogoutRequest p)) d) call e = ends_by_logout end (closes p) e
+ends_accepted end came call e = ends_by_call end call e
+
+pub ends_so : (end : End) (v : Verdict) (came : Incoming) (call : Option Asking) → Some end ≡ end_after v came call
+    → IsCalledFor end
+ends_so end Accepted came call e = ends_accepted end came call e
+ends_so end Full came call e = absurd (cc)
+ends_so end Ignored came call e = absurd (cc)
+ends_so end Gap came call e = inl cc
+ends_so end (Refused reason) came call e = inl cc
+
+not_output : (end : End) → IsCalledFor end → end ≡ OutputFailed → ⊥
+not_output end (inl e) f = let g : Protocol ≡ OutputFailed = sym e ∙ f in cc
+not_output end (inr (inl e)) f = let g : Reinstated ≡ OutputFailed = sym e ∙ f in cc
+not_output end (inr (inr e)) f = let g : LoggedOut ≡ OutputFailed = sym e ∙ f in cc
+
+-- an end that a turn called for, of a transcript that ends with it
+ends_by : (end : End) (ts : List Turn) (rest : List ℕ) (taken : ℕ) (at_end : Type 0) → IsCalledFor end
+    → EndsWith ts rest (Some end) → EndsBy ts rest taken at_end end
+ends_by end ts rest taken at_end (inl e) k = subst (EndsBy ts rest taken at_end) (sym e) (subst (λ (z : End). EndsWith ts rest (Some z)) e k)
+ends_by end ts rest taken at_end (inr (inl e)) k = subst (EndsBy ts rest taken at_end) (sym e) (subst (λ (z : End). EndsWith ts rest (Some z)) e k)
+ends_by end ts rest taken at_end (inr (inr e)) k = subst (EndsBy ts rest taken at_end) (sym e) (subst (λ (z : End). EndsWith ts rest (Some z)) e k)
+
+written_all : (end : End) (held held' : Option (List ℕ)) (ts : List Turn) → IsCalledFor end
+    → Appends held held' (bytes_of (sent ts)) → Written end held held' ts
+written_all end held held' ts (inl e) k = subst (λ (z : End). Written z held held' ts) (sym e) k
+written_all end held held' ts (inr (inl e)) k = subst (λ (z : End). Written z held held' ts) (sym e) k
+written_all end held held' ts (inr (inr e)) k = subst (λ (z : End). Written z held held' ts) (sym e) k
+
+-- an end where all was written, or the sink failed
+module _ {T : Type 0} (leads : T → Question → TargetAnswer → T → Type 0) (start : Start)
+    (left left' held held' : Option (List ℕ)) (before now : ℕ) (x x' : T) where
+  abbrev Ended : End → Type 0
+  Ended end = IsTranscribed leads start left left' held held' x x' end × IsFailureOf OutputFailed before now end
+
+  closed : (bytes : List ℕ) (wanted end : End) → (wanted ≡ OutputFailed → ⊥)
+      → (Appends held held' bytes → IsTranscribed leads start left left' held held' x x' wanted)
+      → (AppendsFront held held' bytes → IsTranscribed leads start left left' held held' x x' OutputFailed)
+      → IsClosed held held' before now bytes wanted end → Ended end
+  closed bytes wanted end other all cut (inl w) =
+      (subst (IsTranscribed leads start left left' held held' x x') (sym w.0) (all w.1), record { rises = λ f. absurd (other (sym w.0 ∙ f)); stays = λ _. w.2 })
+  closed bytes wanted end other all cut (inr w) =
+      (subst (IsTranscribed leads start left left' held held' x x') (sym w.0) (cut w.1), record { rises = λ f. w.2; stays = λ o. absurd (o w.0) })
+
+module _ {T : Type 0} (leads : T → Question → TargetAnswer → T → Type 0) (start : Start)
+    (left left' held held' : Option (List ℕ)) (before now : ℕ) (o : OutboxValue) (x x' : T) (s : Counters)
+    (waiting : List ℕ) (reads : ℕ)
+    (r : Running leads start left left' held held' before now o x x' s waiting reads) where
   -- what the whole is with one turn more, where these bytes of what waits spell its PDU
-  module _ (s' : Counters) (x'' : T) (held'' : Option (List ℕ)) (before now : ℕ) (came : Incoming)
-      (result : Option End) (turned : StreamTurn leads s s' x' x'' held' held'' before now came result) where
-    stands_now : Stands first_cmd first_stat (r.transcript ++ turned.turn ∷ []) s'
-    stands_now = stands_more first_cmd first_stat r.transcript turned.turn came s s' r.stands turned.made
+  module _ (s' : Counters) (x'' : T) (held'' : Option (List ℕ)) (now' : ℕ) (o' : OutboxValue) (came : Incoming)
+      (wanted : Option End) (turned : MakesTurn leads s s' x' x'' held' held'' now now' o o' came wanted) where
+    stands_now : Stands start (r.transcript ++ turned.turn ∷ []) s'
+    stands_now = stands_more start r.transcript turned.turn came s s' r.stands r.goes_on turned.made
 
     led_now : Leads leads (calls (r.transcript ++ turned.turn ∷ [])) x x''
     led_now = led_more leads r.transcript x x' x'' turned.turn r.led turned.led
@@ -134,34 +183,27 @@ module _ {T : Type 0} (leads : T → Question → TargetAnswer → T → Type 0)
     came_now : map (λ (t : Turn). t.came) (r.transcript ++ turned.turn ∷ []) ≡ map (λ (t : Turn). t.came) r.transcript ++ came ∷ []
     came_now = map-append (λ (t : Turn). t.came) r.transcript (turned.turn ∷ []) ∙ ap (λ (c : Incoming). map (λ (t : Turn). t.came) r.transcript ++ c ∷ []) turned.made.came_is
 
-    all_out : Appends held' held'' (bytes_of turned.turn.sent)
-        → Appends held held'' (bytes_of (sent (r.transcript ++ turned.turn ∷ [])))
-    all_out out = subst (Appends held held'') (sym (bytes_more r.transcript turned.turn)) (Appends-trans _ _ _ _ _ r.written out)
-
-    some_out : AppendsFront held' held'' (bytes_of turned.turn.sent)
-        → IsCut held held'' (r.transcript ++ turned.turn ∷ [])
-    some_out out = record { front = r.transcript; last = turned.turn; whole = refl; part = out.0; out = Appends-trans _ _ _ _ _ r.written out.1 }
+    out_now : IsOut held held'' before now' o' (bytes_of (sent (r.transcript ++ turned.turn ∷ [])))
+    out_now = subst (IsOut held held'' before now' o') (sym (bytes_more r.transcript turned.turn)) (turned.queued held before (bytes_of (sent r.transcript)) r.written)
 
     -- the last turn
-    last_turn : (rest : List ℕ) (wanted : Option End) → StandsBehind came rest
-        → end_after turned.turn.verdict turned.turn.call ≡ wanted
-        → EndsWith (r.transcript ++ turned.turn ∷ []) rest wanted
-    last_turn rest wanted stands ends = record {
+    last_turn : (rest : List ℕ) → StandsBehind came rest → EndsWith (r.transcript ++ turned.turn ∷ []) rest wanted
+    last_turn rest stands = record {
       front = r.transcript;
       last = turned.turn;
       whole = refl;
       goes_on = r.goes_on;
       stands = subst (λ (c : Incoming). StandsBehind c rest) (sym turned.made.came_is) stands;
-      ends = ends;
+      ends = sym turned.wanted_is;
     }
 
     -- the session ends with it
     module _ (spelled rest : List ℕ) (spells : Spells (map (λ (t : Turn). t.came) r.transcript ++ came ∷ []) spelled)
-        (read : Consumes left left' (spelled ++ rest)) (stands : StandsBehind came rest) where
+        (read : Consumes left left' (spelled ++ rest)) (stands : StandsBehind came rest) (held3 : Option (List ℕ)) (now3 : ℕ) where
       ended : (end : End)
           → EndsBy (r.transcript ++ turned.turn ∷ []) rest (length spelled + length rest) (IsAtEnd left') end
-          → Written end held held'' (r.transcript ++ turned.turn ∷ [])
-          → IsTranscribed leads first_cmd first_stat left left' held held'' x x'' end
+          → Written end held held3 (r.transcript ++ turned.turn ∷ [])
+          → IsTranscribed leads start left left' held held3 x x'' end
       ended end ends written = record {
         transcript = r.transcript ++ turned.turn ∷ [];
         spelled = spelled;
@@ -174,26 +216,14 @@ module _ {T : Type 0} (leads : T → Question → TargetAnswer → T → Type 0)
         led = led_now;
       }
 
-      ends_now : (end : End) → result ≡ Some end
-          → IsSentOut held' held'' before now (bytes_of turned.turn.sent) (end_after turned.turn.verdict turned.turn.call) result
-          → IsTranscribed leads first_cmd first_stat left left' held held'' x x'' end × IsFailureOf OutputFailed before now end
-      ends_now end e (inl w) =
-          let wanted : Some end ≡ end_after turned.turn.verdict turned.turn.call = sym e ∙ w.0 in
-          elim (ends_so end turned.turn.verdict turned.turn.call wanted) [
-            | inl protocol ↦ (
-              subst (IsTranscribed leads first_cmd first_stat left left' held held'' x x'') (sym protocol) (ended Protocol (last_turn rest (Some Protocol) stands (sym wanted ∙ ap Some protocol)) (all_out w.1)),
-              record { rises = λ f. absurd (let g : Protocol ≡ OutputFailed = sym protocol ∙ f in cc); stays = λ _. w.2 },
-            )
-            | inr reinstated ↦ (
-              subst (IsTranscribed leads first_cmd first_stat left left' held held'' x x'') (sym reinstated) (ended Reinstated (last_turn rest (Some Reinstated) stands (sym wanted ∙ ap Some reinstated)) (all_out w.1)),
-              record { rises = λ f. absurd (let g : Reinstated ≡ OutputFailed = sym reinstated ∙ f in cc); stays = λ _. w.2 },
-            )
-          ]
-      ends_now end e (inr w) =
-          let failed : OutputFailed ≡ end = let g : Some OutputFailed ≡ Some end = sym w.0 ∙ e in cc in (
-            subst (IsTranscribed leads first_cmd first_stat left left' held held'' x x'') failed (ended OutputFailed (end_after turned.turn.verdict turned.turn.call, last_turn rest (end_after turned.turn.verdict turned.turn.call) stands refl) (some_out w.1)),
-            record { rises = λ f. w.2; stays = λ other. absurd (other (sym failed)) },
-          )
+      ends_now : (end result : End) → wanted ≡ Some end → IsCalledFor end
+          → IsClosedAs held'' held3 now' now3 o' end result
+          → Ended leads start left left' held held3 before now3 x x'' result
+      ends_now end result e one close =
+          closed leads start left left' held held3 before now3 x x'' (bytes_of (sent (r.transcript ++ turned.turn ∷ []))) end result (not_output end one)
+          (λ all. ended end (ends_by end (r.transcript ++ turned.turn ∷ []) rest (length spelled + length rest) (IsAtEnd left') one (subst (EndsWith (r.transcript ++ turned.turn ∷ []) rest) e (last_turn rest stands))) (written_all end held held3 (r.transcript ++ turned.turn ∷ []) one all))
+          (λ cut. ended OutputFailed (inr (wanted, last_turn rest stands)) cut)
+          (close held before (bytes_of (sent (r.transcript ++ turned.turn ∷ []))) out_now)
 
   -- a PDU comes, and the session goes on, or ends
   bhs_front : (n : ℕ) (bhs : List ℕ) (h : Header) (d : List ℕ) → bhs ≡ take BHS_LENGTH waiting → n ≤ length waiting
@@ -211,53 +241,57 @@ module _ {T : Type 0} (leads : T → Question → TargetAnswer → T → Type 0)
   many_now : (n : ℕ) → reads ≤ length (r.spelled ++ take n waiting) + length (drop n waiting)
   many_now n = omega (arith, r.many, length-append r.spelled (take n waiting), ap length (take-append-drop n waiting), length-append (take n waiting) (drop n waiting))
 
-  module _ (s' : Counters) (x'' : T) (held'' : Option (List ℕ)) (before now : ℕ) (bhs : List ℕ) (h : Header)
+  module _ (s' : Counters) (x'' : T) (held'' : Option (List ℕ)) (now' : ℕ) (o' : OutboxValue) (bhs : List ℕ) (h : Header)
       (d : List ℕ) (n : ℕ) (bhs_is : bhs ≡ take BHS_LENGTH waiting) (within : n ≤ length waiting)
       (spelled : IsPdu (take n waiting) h d) where
-    goes_on_behind : StreamTurn leads s s' x' x'' held' held'' before now (pdu bhs h d) None
-        → Running leads first_cmd first_stat left left' held held'' x x'' s' (drop n waiting) reads × (now ≡ before)
-    goes_on_behind t =
-        let w = went_on held' held'' before now (bytes_of t.turn.sent) (end_after t.turn.verdict t.turn.call) t.out in (
-          record {
-            transcript = r.transcript ++ t.turn ∷ [];
-            spelled = r.spelled ++ take n waiting;
-            stands = stands_now s' x'' held'' before now (pdu bhs h d) None t;
-            goes_on = at_each_more (λ _ u. end_after u.verdict u.call ≡ None) r.transcript t.turn r.goes_on w.0;
-            spells = subst (λ (is : List Incoming). Spells is (r.spelled ++ take n waiting)) (sym (came_now s' x'' held'' before now (pdu bhs h d) None t)) (spells_now n bhs h d bhs_is within spelled);
-            read = read_now n;
-            written = all_out s' x'' held'' before now (pdu bhs h d) None t w.1;
-            led = led_now s' x'' held'' before now (pdu bhs h d) None t;
-            many = many_now n;
-          },
-          w.2,
-        )
+    pub pdu_goes_on : MakesTurn leads s s' x' x'' held' held'' now now' o o' (pdu bhs h d) None
+        → Running leads start left left' held held'' before now' o' x x'' s' (drop n waiting) reads
+    pdu_goes_on t = record {
+      transcript = r.transcript ++ t.turn ∷ [];
+      spelled = r.spelled ++ take n waiting;
+      stands = stands_now s' x'' held'' now' o' (pdu bhs h d) None t;
+      goes_on = at_each_more (λ _ u. end_after u.verdict u.came u.call ≡ None) r.transcript t.turn r.goes_on (sym t.wanted_is);
+      spells = subst (λ (is : List Incoming). Spells is (r.spelled ++ take n waiting)) (sym (came_now s' x'' held'' now' o' (pdu bhs h d) None t)) (spells_now n bhs h d bhs_is within spelled);
+      read = read_now n;
+      written = out_now s' x'' held'' now' o' (pdu bhs h d) None t;
+      led = led_now s' x'' held'' now' o' (pdu bhs h d) None t;
+      many = many_now n;
+    }
 
-    ends_behind : (end : End) → StreamTurn leads s s' x' x'' held' held'' before now (pdu bhs h d) (Some end)
-        → IsTranscribed leads first_cmd first_stat left left' held held'' x x'' end × IsFailureOf OutputFailed before now end
-    ends_behind end t =
-        ends_now s' x'' held'' before now (pdu bhs h d) (Some end) t (r.spelled ++ take n waiting) (drop n waiting) (spells_now n bhs h d bhs_is within spelled) (read_now n) tt end refl t.out
+    pub pdu_ends : (held3 : Option (List ℕ)) (now3 : ℕ) (end result : End) → MakesTurn leads s s' x' x'' held' held'' now now' o o' (pdu bhs h d) (Some end)
+        → IsClosedAs held'' held3 now' now3 o' end result
+        → Ended leads start left left' held held3 before now3 x x'' result
+    pdu_ends held3 now3 end result t close =
+        ends_now s' x'' held'' now' o' (pdu bhs h d) (Some end) t (r.spelled ++ take n waiting) (drop n waiting) (spells_now n bhs h d bhs_is within spelled) (read_now n) tt held3 now3
+        end result refl (ends_so end t.turn.verdict t.turn.came t.turn.call t.wanted_is) close
 
-    -- the turn that a PDU makes, and its write
-    module _ (bytes : List ℕ) (wanted : Option End) (t : MakesTurn leads s s' x' x'' (pdu bhs h d) bytes wanted) where
-      pub pdu_goes_on : IsSentOut held' held'' before now bytes wanted None
-          → Running leads first_cmd first_stat left left' held held'' x x'' s' (drop n waiting) reads × (now ≡ before)
-      pdu_goes_on out = goes_on_behind (written leads s s' x' x'' held' held'' before now (pdu bhs h d) bytes wanted None t out)
-
-      pub pdu_ends : (end : End) → IsSentOut held' held'' before now bytes wanted (Some end)
-          → IsTranscribed leads first_cmd first_stat left left' held held'' x x'' end × IsFailureOf OutputFailed before now end
-      pdu_ends end out = ends_behind end (written leads s s' x' x'' held' held'' before now (pdu bhs h d) bytes wanted (Some end) t out)
-
-  pub fault_ends : (s' : Counters) (held'' : Option (List ℕ)) (before now : ℕ) (bhs : List ℕ) (f : PduFault) (end : End)
+  pub fault_ends : (s' : Counters) (held'' held3 : Option (List ℕ)) (now' now3 : ℕ) (o' : OutboxValue) (bhs : List ℕ) (f : PduFault) (result : End)
       → bhs ≡ take BHS_LENGTH waiting → length bhs ≡ BHS_LENGTH → FaultStands waiting f
-      → StreamTurn leads s s' x' x' held' held'' before now (faulty f bhs) (Some end)
-      → IsTranscribed leads first_cmd first_stat left left' held held'' x x' end × IsFailureOf OutputFailed before now end
-  fault_ends s' held'' before now bhs f end bhs_is long stands t =
-      ends_now s' x' held'' before now (faulty f bhs) (Some end) t r.spelled waiting (spells_fault (map (λ (t : Turn). t.came) r.transcript) r.spelled bhs f r.spells) r.read
-      (stands, omega (arith, ap length bhs_is, long, length-take BHS_LENGTH waiting), bhs_is) end refl t.out
+      → MakesTurn leads s s' x' x' held' held'' now now' o o' (faulty f bhs) (Some Protocol)
+      → IsClosedAs held'' held3 now' now3 o' Protocol result
+      → Ended leads start left left' held held3 before now3 x x' result
+  fault_ends s' held'' held3 now' now3 o' bhs f result bhs_is long stands t close =
+      ends_now s' x' held'' now' o' (faulty f bhs) (Some Protocol) t r.spelled waiting (spells_fault (map (λ (t : Turn). t.came) r.transcript) r.spelled bhs f r.spells) r.read
+      (stands, omega (arith, ap length bhs_is, long, length-take BHS_LENGTH waiting), bhs_is) held3 now3 Protocol result refl (inl refl) close
+
+  -- what waits to go out is written
+  pub flushed : (held'' : Option (List ℕ)) (now' : ℕ) (o' : OutboxValue) → IsWritten held' held'' now now' o o'
+      → Running leads start left left' held held'' before now' o' x x' s waiting reads
+  flushed held'' now' o' w = record {
+    transcript = r.transcript;
+    spelled = r.spelled;
+    stands = r.stands;
+    goes_on = r.goes_on;
+    spells = r.spells;
+    read = r.read;
+    written = w held before (bytes_of (sent r.transcript)) r.written;
+    led = r.led;
+    many = r.many;
+  }
 
   -- more came, or the input is at its end
   pub more_came : (left'' : Option (List ℕ)) (waiting' : List ℕ) (n : ℕ) → Filled left' left'' waiting waiting' n
-      → 0 < n → Running leads first_cmd first_stat left left'' held held' x x' s waiting' (reads + 1)
+      → 0 < n → Running leads start left left'' held held' before now o x x' s waiting' (reads + 1)
   more_came left'' waiting' n f some = record {
     transcript = r.transcript;
     spelled = r.spelled;
@@ -270,11 +304,11 @@ module _ {T : Type 0} (leads : T → Question → TargetAnswer → T → Type 0)
     many = omega (arith, r.many, ap length f.grown, length-append waiting f.more, f.count);
   }
 
-  stops_here : (end : End) (left'' : Option (List ℕ)) (rest : List ℕ) → Consumes left left'' (r.spelled ++ rest)
+  stops_here : (end : End) (left'' held'' : Option (List ℕ)) (rest : List ℕ) → Consumes left left'' (r.spelled ++ rest)
       → EndsBy r.transcript rest (length r.spelled + length rest) (IsAtEnd left'') end
-      → Written end held held' r.transcript
-      → IsTranscribed leads first_cmd first_stat left left'' held held' x x' end
-  stops_here end left'' rest read ends written = record {
+      → Written end held held'' r.transcript
+      → IsTranscribed leads start left left'' held held'' x x' end
+  stops_here end left'' held'' rest read ends written = record {
     transcript = r.transcript;
     spelled = r.spelled;
     rest = rest;
@@ -286,33 +320,52 @@ module _ {T : Type 0} (leads : T → Question → TargetAnswer → T → Type 0)
     led = r.led;
   }
 
-  pub input_ended : (left'' : Option (List ℕ)) (waiting' : List ℕ) (n : ℕ) → n ≡ 0
-      → Filled left' left'' waiting waiting' n → NoneWhole waiting
-      → IsTranscribed leads first_cmd first_stat left left'' held held' x x' EndOfInput
-  input_ended left'' waiting' n nothing f none =
-      let no_more : f.more ≡ [] = nil_of f.more (f.count ∙ nothing) in
-      stops_here EndOfInput left'' waiting (subst (Consumes left left'') (ap (λ (z : List ℕ). r.spelled ++ z) (ap (λ (m : List ℕ). waiting ++ m) no_more ∙ append-nil waiting)) (subst (Consumes left left'') (append_assoc r.spelled waiting f.more) (Consumes-trans _ _ _ _ _ r.read f.read)))
-      (r.goes_on, inl (f.end nothing, none)) r.written
+  pub sink_failed : o.failed ≡ true → Ended leads start left left' held held' before now x x' OutputFailed
+  sink_failed failed =
+      let b = broke o.failed held held' before now o.waiting (bytes_of (sent r.transcript)) failed r.written in
+      (stops_here OutputFailed left' held' waiting r.read (inl r.goes_on) b.0, record { rises = λ _. b.1; stays = λ other. absurd (other refl) })
 
-  pub taken_all : most_bytes ≤ reads → IsTranscribed leads first_cmd first_stat left left' held held' x x' EndOfInput
-  taken_all many = stops_here EndOfInput left' waiting r.read (r.goes_on, inr (omega (arith, many, r.many))) r.written
+  module _ (empty : o.waiting ≡ []) (serves : o.failed ≡ false) where
+    all_out : Appends held held' (bytes_of (sent r.transcript)) × (now ≡ before)
+    all_out = all_out_at_last o.failed held held' before now o.waiting (bytes_of (sent r.transcript)) empty serves r.written
 
-  pub input_failed : (left'' : Option (List ℕ)) → Keeps left' left'' → NoneWhole waiting
-      → IsTranscribed leads first_cmd first_stat left left'' held held' x x' InputFailed
-  input_failed left'' kept none = stops_here InputFailed left'' waiting (Consumes-kept _ _ _ _ r.read kept) (r.goes_on, none) r.written
+    pub input_ended : (left'' : Option (List ℕ)) (waiting' : List ℕ) (n : ℕ) → n ≡ 0
+        → Filled left' left'' waiting waiting' n → NoneWhole waiting
+        → Ended leads start left left'' held held' before now x x' EndOfInput
+    input_ended left'' waiting' n nothing f none =
+        let no_more : f.more ≡ [] = nil_of f.more (f.count ∙ nothing) in (
+          stops_here EndOfInput left'' held' waiting (subst (Consumes left left'') (ap (λ (z : List ℕ). r.spelled ++ z) (ap (λ (m : List ℕ). waiting ++ m) no_more ∙ append-nil waiting)) (subst (Consumes left left'') (append_assoc r.spelled waiting f.more) (Consumes-trans _ _ _ _ _ r.read f.read)))
+              (r.goes_on, inl (f.end nothing, none)) all_out.0,
+          record { rises = λ (e : EndOfInput ≡ OutputFailed). absurd (cc); stays = λ _. all_out.1 },
+        )
 
-pub starts : {T : Type 0} (leads : T → Question → TargetAnswer → T → Type 0) (first_cmd first_stat : ℕ) (left held : Option (List ℕ)) (x : T) (s : Counters) (waiting : List ℕ)
-    → first_cmd < 4294967296 → first_stat < 4294967296
-    → s ≡ record { stat_sn = first_stat; exp_cmd_sn = first_cmd } → waiting ≡ []
-    → Running leads first_cmd first_stat left left held held x x s waiting 0
-starts leads first_cmd first_stat left held x s waiting cmd_fits stat_fits s_is empty = record {
+    pub input_failed : (left'' : Option (List ℕ)) → Keeps left' left'' → NoneWhole waiting
+        → Ended leads start left left'' held held' before now x x' InputFailed
+    input_failed left'' kept none = (
+      stops_here InputFailed left'' held' waiting (Consumes-kept _ _ _ _ r.read kept) (r.goes_on, none) all_out.0,
+      record { rises = λ (e : InputFailed ≡ OutputFailed). absurd (cc); stays = λ _. all_out.1 },
+    )
+
+  pub taken_all : (held'' : Option (List ℕ)) (now' : ℕ) (result : End) → most_bytes ≤ reads → IsClosedAs held' held'' now now' o EndOfInput result
+      → Ended leads start left left' held held'' before now' x x' result
+  taken_all held'' now' result many close =
+      closed leads start left left' held held'' before now' x x' (bytes_of (sent r.transcript)) EndOfInput result (λ (e : EndOfInput ≡ OutputFailed). let never : ⊥ = cc in never)
+      (λ all. stops_here EndOfInput left' held'' waiting r.read (r.goes_on, inr (omega (arith, many, r.many))) all)
+      (λ cut. stops_here OutputFailed left' held'' waiting r.read (inl r.goes_on) cut)
+      (close held before (bytes_of (sent r.transcript)) r.written)
+
+pub starts : {T : Type 0} (leads : T → Question → TargetAnswer → T → Type 0) (start : Start) (left held : Option (List ℕ)) (n : ℕ) (o : OutboxValue) (x : T) (s : Counters) (waiting : List ℕ)
+    → start.exp_cmd_sn < 4294967296 → start.stat_sn < 4294967296
+    → s ≡ begun start → o ≡ record { waiting = []; failed = false } → waiting ≡ []
+    → Running leads start left left held held n n o x x s waiting 0
+starts leads start left held n o x s waiting cmd_fits stat_fits s_is o_is empty = record {
   transcript = [];
   spelled = [];
-  stands = stands_none first_cmd first_stat s cmd_fits stat_fits s_is;
-  goes_on = at_each_none (λ _ u. end_after u.verdict u.call ≡ None);
+  stands = stands_none start s cmd_fits stat_fits s_is;
+  goes_on = at_each_none (λ _ u. end_after u.verdict u.came u.call ≡ None);
   spells = refl;
   read = subst (Consumes left left) (sym empty) (Consumes-nil left);
-  written = Appends-nil held;
+  written = subst (λ (z : OutboxValue). IsOut held held n n z []) (sym o_is) (refl, [], Appends-nil held, refl);
   led = refl;
   many = omega arith;
 }

@@ -1,84 +1,123 @@
 -- What a turn of the session is, from what its parts say.
-use Rattle.std.proofs.Common.{◌≡◌, ℕ, List, Option, Some, None, refl, ap, subst, subst₂}
+use Rattle.std.proofs.Common.{◌≡◌, ℕ, ◌≤◌, List, Option, Some, None, refl, sym, ap, ap₂, subst, subst₂, length, arith, ◌+◌, ◌++◌, Result}
 use Rattle.std.specs.Prelude.{MatchOption}
 use Rattle.scsi_types.specs.Cdb.{need_of}
+use Rattle.scsi_types.specs.declared.command.Command.{Command}
+use Rattle.scsi_types.specs.declared.command.CdbFault.{CdbFault}
+use Rattle.iscsi_pdu.specs.declared.header.DataOut.{DataOut as DataOutHeader}
+use Rattle.iscsi_pdu.specs.declared.header.R2t.{R2t as R2tHeader}
 use Rattle.iscsi_pdu.specs.declared.header.Header.{Header}
 use Rattle.iscsi_pdu.specs.declared.header.Header.TheVariants.{Initiator}
-use Rattle.iscsi_pdu.specs.declared.header.InitiatorHeader.TheVariants.{ScsiCommand}
+use Rattle.iscsi_pdu.specs.declared.header.InitiatorHeader.TheVariants.{NopOut, ScsiCommand, DataOut, LogoutRequest}
 use Rattle.iscsi_pdu.specs.declared.header.ScsiCommand.{ScsiCommand as CommandHeader}
 use Rattle.iscsi_pdu.specs.declared.fault.PduFault.{PduFault}
 use Rattle.session.specs.declared.actions.Actions.{Actions}
 use Rattle.session.specs.declared.actions.Call.{Call}
 use Rattle.session.specs.declared.end.End.{End}
+use Rattle.session.specs.declared.end.End.TheVariants.{Protocol}
 use Rattle.session.specs.declared.target.TargetAnswer.{TargetAnswer}
 use Rattle.session.specs.declared.target.TargetAnswer.TheVariants.{Replied, Outside, Busy, Gone, Halted}
 use Rattle.session.specs.declared.verdict.Verdict.{Verdict}
-use Rattle.session.specs.declared.verdict.Verdict.TheVariants.{Accepted, Ignored, Gap, Refused}
+use Rattle.session.specs.declared.verdict.Verdict.TheVariants.{Accepted, Full, Ignored, Gap, Refused}
 use Rattle.session.specs.Question.{Question, serve}
-use Rattle.session.specs.Turn.{Incoming, pdu, faulty, Out, command_of, bytes_of}
+use Rattle.session.specs.Turn.{Incoming, pdu, faulty, Out, Asking, bytes_of}
+use Rattle.session.specs.Tasks.{Collecting}
 use Rattle.session.specs.Verdict.{IsJudgedPdu, reason_of}
 use Rattle.session.specs.Legal.{end_after, end_by}
-use Rattle.session.specs.Counters.{Counters, after_command}
-use Rattle.session.specs.Machine.{sent_by, IsCallOf, OnAccepted, OnRefusal, OnVerdict, OnPdu, OnAnswer}
-use Rattle.session.specs.MachineTurn.{TurnOnAnswer, TurnOf}
-use Rattle.session.specs.Stream.{IsSentOut, MakesTurn, StreamTurn}
+use Rattle.session.specs.Counters.{Counters, after_command, after_collecting}
+use Rattle.session.specs.Machine.{sent_by, call_data, IsCallOf, Calls, Asks, OnOpened, OnFed, OnAccepted, OnFullPdu, OnTaken, OnRefusal, OnVerdict, OnPdu, OnAnswer}
+use Rattle.session.specs.MachineTurn.{TurnOnAnswer, TurnOnCall, TurnAsks, TurnOpened, TurnFed, TurnOf}
+use Rattle.session.specs.Machine as on
+use Rattle.session.specs.MachineTurn as made
+use Rattle.session.specs.Outbox.{OutboxValue, IsQueued}
+use Rattle.session.specs.Stream.{MakesTurn}
 
--- a turn whose bytes are written
-pub written : {T : Type 0} (leads : T → Question → TargetAnswer → T → Type 0) (s s' : Counters) (x x' : T) (held held' : Option (List ℕ)) (before now : ℕ) (came : Incoming) (outgoing : List ℕ) (wanted result : Option End)
-    → MakesTurn leads s s' x x' came outgoing wanted → IsSentOut held held' before now outgoing wanted result
-    → StreamTurn leads s s' x x' held held' before now came result
-written leads s s' x x' held held' before now came outgoing wanted result t out = record {
-  turn = t.turn;
-  made = t.made;
-  led = t.led;
-  out = subst (λ (w : Option End). IsSentOut held held' before now (bytes_of t.turn.sent) w result) t.wanted_is (subst (λ (b : List ℕ). IsSentOut held held' before now b wanted result) t.outgoing_is out);
-}
-
-module _ {T : Type 0} (leads : T → Question → TargetAnswer → T → Type 0) (s s' : Counters) (x : T) (b : List ℕ)
-    (a : Actions) (outgoing : List ℕ) (outgoing_is : outgoing ≡ bytes_of (sent_by b a.pdus)) where
+module _ {T : Type 0} (leads : T → Question → TargetAnswer → T → Type 0) (s s' : Counters) (x : T)
+    (held held' : Option (List ℕ)) (before now : ℕ) (o o' : OutboxValue) (b : List ℕ)
+    (a : Actions) (queued : IsQueued held held' before now o o' (bytes_of (sent_by b a.pdus))) where
   -- a turn without a call
   turn_alone : (came : Incoming) (v : Verdict)
       → TurnOf s came (record { came = came; verdict = v; call = None; sent = sent_by b a.pdus }) s'
-      → a.end ≡ end_after v None → MakesTurn leads s s' x x came outgoing a.end
+      → a.end ≡ end_after v came None → MakesTurn leads s s' x x held held' before now o o' came a.end
   turn_alone came v made ends = record {
     turn = record { came = came; verdict = v; call = None; sent = sent_by b a.pdus };
     made = made;
     led = refl;
-    outgoing_is = outgoing_is;
+    queued = queued;
     wanted_is = ends;
   }
 
-  no_call : (p : CommandHeader) (d : List ℕ) (call : Option Call) → call ≡ None
-      → MatchOption call ⊥ (λ c. IsCallOf p d c) → ⊥
-  no_call p d None e k = k
-  no_call p d (Some c) e k = absurd (cc)
+  no_call : (p : CommandHeader) (asked : Result Command CdbFault) (d : List ℕ) (call : Option Call) → call ≡ None
+      → MatchOption call ⊥ (λ c. IsCallOf p asked d c) → ⊥
+  no_call p asked d None e k = k
+  no_call p asked d (Some c) e k = absurd (cc)
 
-  no_accepted : (d : List ℕ) (p : Option CommandHeader) → a.call ≡ None
-      → MatchOption p ⊥ (λ q. OnAccepted s q d a s') → ⊥
-  no_accepted d None e k = k
-  no_accepted d (Some p) e k = no_call p d a.call e k.call
+  asks_alone : (mid : Counters) (p : CommandHeader) (need came requests : ℕ) (next : R2tHeader)
+      → Asks mid p need came requests next a → TurnAsks mid p need came requests next None (sent_by b a.pdus)
+  asks_alone mid p need came requests next k = record { is_next = k.is_next; transfer = k.transfer; numbers = k.numbers; no_call = refl; outs_are = ap (sent_by b) k.pdus_are }
 
-  alone_by : (v : Verdict) (h : Header) (d : List ℕ) → IsJudgedPdu s.exp_cmd_sn h d v → OnVerdict v s h d a s'
-      → a.call ≡ None → MakesTurn leads s s' x x (pdu b h d) outgoing a.end
-  alone_by Accepted h d judged k none = absurd (no_accepted d (command_of h) none k)
+  opened_alone : (p : CommandHeader) (asked : Result Command CdbFault) (d : List ℕ) → OnOpened s p asked d a s' → a.call ≡ None
+      → TurnOpened s p asked d None (sent_by b a.pdus) s' × (a.end ≡ None)
+  opened_alone p asked d (on.calls h k next) none = absurd (no_call p asked d a.call none k.call)
+  opened_alone p asked d (on.asks h r k next) none = (made.asks h r (asks_alone _ p _ _ _ r k) next, k.no_end)
+  opened_alone p asked d (on.turns_away h k) none = (made.turns_away h (record { no_call = refl; outs_are = k.pdus_are b; next_is = k.next }), k.no_end)
+
+  fed_alone : (front : List Collecting) (this : Collecting) (back : List Collecting) (asked : Result Command CdbFault) (d : List ℕ) (end : ℕ)
+      → OnFed s front this back asked d end a s' → a.call ≡ None
+      → TurnFed s front this back asked d end None (sent_by b a.pdus) s' × (a.end ≡ None)
+  fed_alone front this back asked d end (on.fills h k e next) none = (made.fills h (record { no_call = refl; outs_are = ap (sent_by b) k.pdus_are; next_is = next }), e)
+  fed_alone front this back asked d end (on.asks_on all short r k next) none = (made.asks_on all short r (asks_alone _ this.command _ _ _ r k) next, k.no_end)
+  fed_alone front this back asked d end (on.calls_now h k next) none = absurd (no_call this.command asked _ a.call none k.call)
+
+  taken_alone : (h : Header) (d : List ℕ) → IsJudgedPdu s.lengths s.standing h d Accepted → OnTaken s h d a s'
+      → a.call ≡ None → MakesTurn leads s s' x x held held' before now o o' (pdu b h d) a.end
+  taken_alone (Initiator (NopOut p)) d judged k none = turn_alone (pdu b (Initiator (NopOut p)) d) Accepted (record { came_is = refl; judged = judged; made = record { no_call = refl; outs_are = k.pdus_are b; next_is = k.next } }) k.ends
+  taken_alone (Initiator (LogoutRequest p)) d judged k none = turn_alone (pdu b (Initiator (LogoutRequest p)) d) Accepted (record { came_is = refl; judged = judged; made = record { no_call = refl; outs_are = k.pdus_are b; next_is = k.next } }) k.ends
+  taken_alone (Initiator (ScsiCommand p)) d judged k none =
+      let w = opened_alone p k.asked d k.by none in
+      turn_alone (pdu b (Initiator (ScsiCommand p)) d) Accepted (record { came_is = refl; judged = judged; made = record { asked = k.asked; asked_by = k.asked_by; by = w.0 } }) w.1
+  taken_alone (Initiator (DataOut x)) d judged k none =
+      let w = fed_alone k.front k.this k.back k.asked d _ k.by none in
+      turn_alone (pdu b (Initiator (DataOut x)) d) Accepted (record { came_is = refl; judged = judged; made = record { front = k.front; this = k.this; back = k.back; whole = k.whole; found = k.found; continues = k.continues; asked = k.asked; asked_by = k.asked_by; by = w.0 } }) w.1
+  taken_alone h d judged k none = absurd k
+
+  full_alone : (h : Header) (d : List ℕ) → IsJudgedPdu s.lengths s.standing h d Full → OnFullPdu s h a s'
+      → MakesTurn leads s s' x x held held' before now o o' (pdu b h d) a.end
+  full_alone (Initiator (ScsiCommand p)) d judged k = turn_alone (pdu b (Initiator (ScsiCommand p)) d) Full (record { came_is = refl; judged = judged; made = record { asked = k.asked; means = k.means; turned = record { no_call = refl; outs_are = k.sends.pdus_are b; next_is = k.sends.next } } }) k.sends.no_end
+  full_alone h d judged k = absurd k
+
+  alone_by : (v : Verdict) (h : Header) (d : List ℕ) → IsJudgedPdu s.lengths s.standing h d v → OnVerdict v s h d a s'
+      → a.call ≡ None → MakesTurn leads s s' x x held held' before now o o' (pdu b h d) a.end
+  alone_by Accepted h d judged k none = taken_alone h d judged k none
+  alone_by Full h d judged k none = full_alone h d judged k
   alone_by Ignored h d judged k none = turn_alone (pdu b h d) Ignored (record { came_is = refl; judged = judged; made = record { no_call = refl; outs_are = ap (sent_by b) k.0.pdus_are; next_is = k.2 } }) k.1
   alone_by Gap h d judged k none = turn_alone (pdu b h d) Gap (record { came_is = refl; judged = judged; made = record { no_call = refl; outs_are = ap (sent_by b) k.0.pdus_are; next_is = k.2 } }) k.1
   alone_by (Refused reason) h d judged k none = turn_alone (pdu b h d) (Refused reason) (record { came_is = refl; judged = judged; made = record { no_call = refl; outs_are = ap (sent_by b) k.pdus_are; next_is = k.next } }) k.ends
 
   -- a PDU that calls for no call
   pub alone : (h : Header) (d : List ℕ) → OnPdu s h d a s' → a.call ≡ None
-      → MakesTurn leads s s' x x (pdu b h d) outgoing a.end
+      → MakesTurn leads s s' x x held held' before now o o' (pdu b h d) a.end
   alone h d on none = alone_by on.verdict h d on.judged on.made none
 
   -- a fault
-  pub fault : (f : PduFault) → OnRefusal s (reason_of f) a s' → MakesTurn leads s s' x x (faulty f b) outgoing a.end
-  fault f k = turn_alone (faulty f b) (Refused (reason_of f)) (record { came_is = refl; judged = refl; made = record { no_call = refl; outs_are = ap (sent_by b) k.pdus_are; next_is = k.next } }) k.ends
+  pub fault : (f : PduFault) → OnRefusal s (reason_of f) a s' → MakesTurn leads s s' x x held held' before now o o' (faulty f b) (Some Protocol)
+  fault f k = subst (MakesTurn leads s s' x x held held' before now o o' (faulty f b)) k.ends (turn_alone (faulty f b) (Refused (reason_of f)) (record { came_is = refl; judged = refl; made = record { no_call = refl; outs_are = ap (sent_by b) k.pdus_are; next_is = k.next } }) k.ends)
+
+-- the call of a command
+is_call : (c : Call) (p : CommandHeader) (asked : Result Command CdbFault) (d : List ℕ) (call : Option Call) → call ≡ Some c
+    → MatchOption call ⊥ (λ k. IsCallOf p asked d k) → IsCallOf p asked d c
+is_call c p asked d None e k = absurd k
+is_call c p asked d (Some k) e is = let same : k ≡ c = cc in subst (IsCallOf p asked d) same is
+
+no_none : {A : Type 0} (c : Call) (call : Option Call) → call ≡ None → call ≡ Some c → A
+no_none c call e f = absurd (cc)
 
 -- a call of a command that was accepted, and its answer
-module _ {T : Type 0} (leads : T → Question → TargetAnswer → T → Type 0) (s mid s' : Counters) (x x' : T) (b : List ℕ)
-    (a a' : Actions) (c : Call) (answer : TargetAnswer) (outgoing : List ℕ)
-    (outgoing_is : outgoing ≡ bytes_of (sent_by b a'.pdus)) (some : a.call ≡ Some c)
-    (led : leads x (serve c.unit c.asked c.bytes.now) answer x') where
+module _ {T : Type 0} (leads : T → Question → TargetAnswer → T → Type 0) (s mid s' : Counters) (x x' : T)
+    (held held' : Option (List ℕ)) (before now : ℕ) (o o' : OutboxValue) (b : List ℕ)
+    (a a' : Actions) (c : Call) (answer : TargetAnswer)
+    (queued : IsQueued held held' before now o o' (bytes_of (sent_by b a'.pdus))) (some : a.call ≡ Some c)
+    (led : leads x (serve c.unit c.asked (call_data c.bytes)) answer x') where
   reply_is : (p : CommandHeader) (need : ℕ) (answer : TargetAnswer) → OnAnswer mid p need answer a' s'
       → TurnOnAnswer mid p need answer (sent_by b a'.pdus) s' × (a'.end ≡ end_by answer)
   reply_is p need (Replied r) k = ((k.pdus_are b, k.next), k.no_end)
@@ -87,55 +126,79 @@ module _ {T : Type 0} (leads : T → Question → TargetAnswer → T → Type 0)
   reply_is p need Halted k = ((k.pdus_are b, k.next), k.no_end)
   reply_is p need Gone k = ((ap (sent_by b) k.silent.pdus_are, k.next), k.ends)
 
-  is_call : (p : CommandHeader) (d : List ℕ) (call : Option Call) → call ≡ Some c
-      → MatchOption call ⊥ (λ k. IsCallOf p d k) → IsCallOf p d c
-  is_call p d None e k = absurd k
-  is_call p d (Some k) e is = let same : k ≡ c = cc in subst (IsCallOf p d) same is
-
-  no_none : {A : Type 0} (call : Option Call) → call ≡ None → call ≡ Some c → A
-  no_none call e f = absurd (cc)
-
   moved : (q p : CommandHeader) (n m : ℕ) (next : Counters) (outs : List Out) → q ≡ p → n ≡ m → mid ≡ next
       → TurnOnAnswer mid q n answer outs s' → TurnOnAnswer next p m answer outs s'
   moved q p n m next outs e f g k = subst (λ (z : Counters). TurnOnAnswer z p m answer outs s') g (subst₂ (λ (z : CommandHeader) (w : ℕ). TurnOnAnswer mid z w answer outs s') e f k)
 
-  accepted_turn : (h : Header) (d : List ℕ) → IsJudgedPdu s.exp_cmd_sn h d Accepted
-      → MatchOption (command_of h) ⊥ (λ p. OnAccepted s p d a mid)
-      → OnAnswer mid c.task.command c.task.need answer a' s' → MakesTurn leads s s' x x' (pdu b h d) outgoing a'.end
+  abbrev call_is : Option Asking
+  call_is = Some (record { question = serve c.unit c.asked (call_data c.bytes); answer = answer })
+
+  on_call : (t : Counters) (p : CommandHeader) (asked : Result Command CdbFault) (bytes : List ℕ) → Calls p asked bytes a → mid ≡ t
+      → OnAnswer mid c.task.command c.task.need answer a' s' → TurnOnCall t p asked bytes call_is (sent_by b a'.pdus) s' × (a'.end ≡ end_by answer)
+  on_call t p asked bytes k next replied =
+      let is = is_call c p asked bytes a.call some k.call in
+      let reply = reply_is c.task.command c.task.need answer replied in (
+        record {
+          unit = c.unit;
+          names = is.unit;
+          answer = answer;
+          call_is = ap₂ (λ (z : Result Command CdbFault) (w : List ℕ). Some (record { question = serve c.unit z w; answer = answer })) is.asked_is is.bytes_are;
+          answered = moved c.task.command p c.task.need (need_of asked) t (sent_by b a'.pdus) is.command is.need next reply.0;
+        },
+        reply.1,
+      )
+
+  opened_turn : (p : CommandHeader) (asked : Result Command CdbFault) (d : List ℕ) → OnOpened s p asked d a mid
+      → OnAnswer mid c.task.command c.task.need answer a' s'
+      → TurnOpened s p asked d call_is (sent_by b a'.pdus) s' × (a'.end ≡ end_by answer)
+  opened_turn p asked d (on.calls h k next) replied = let w = on_call (after_command p s) p asked d k next replied in (made.calls h w.0, w.1)
+  opened_turn p asked d (on.asks h r k next) replied = no_none c a.call k.no_call some
+  opened_turn p asked d (on.turns_away h k) replied = no_none c a.call k.no_call some
+
+  fed_turn : (front : List Collecting) (this : Collecting) (back : List Collecting) (asked : Result Command CdbFault) (d : List ℕ) (end : ℕ)
+      → OnFed s front this back asked d end a mid → OnAnswer mid c.task.command c.task.need answer a' s'
+      → TurnFed s front this back asked d end call_is (sent_by b a'.pdus) s' × (a'.end ≡ end_by answer)
+  fed_turn front this back asked d end (on.fills h k e next) replied = no_none c a.call k.no_call some
+  fed_turn front this back asked d end (on.asks_on all short r k next) replied = no_none c a.call k.no_call some
+  fed_turn front this back asked d end (on.calls_now h k next) replied = let w = on_call _ this.command asked _ k next replied in (made.calls_now h w.0, w.1)
+
+  accepted_turn : (h : Header) (d : List ℕ) → IsJudgedPdu s.lengths s.standing h d Accepted
+      → OnTaken s h d a mid
+      → OnAnswer mid c.task.command c.task.need answer a' s' → MakesTurn leads s s' x x' held held' before now o o' (pdu b h d) a'.end
   accepted_turn (Initiator (ScsiCommand p)) d judged k replied =
-      let is = is_call p d a.call some k.call in
-      let reply = reply_is c.task.command c.task.need answer replied in
+      let w = opened_turn p k.asked d k.by replied in
       record {
-        turn = record { came = pdu b (Initiator (ScsiCommand p)) d; verdict = Accepted; call = Some (record { question = serve c.unit c.asked c.bytes.now; answer = answer }); sent = sent_by b a'.pdus };
-        made = record {
-          came_is = refl;
-          judged = judged;
-          made = record {
-            within = is.within;
-            asked = record {
-              asked = c.asked;
-              unit = c.unit;
-              answer = answer;
-              means = is.means;
-              names = is.unit;
-              call_is = ap (λ (bytes : List ℕ). Some (record { question = serve c.unit c.asked bytes; answer = answer })) is.bytes;
-            };
-            answered = moved c.task.command p c.task.need (need_of c.asked) (after_command p s) (sent_by b a'.pdus) is.command is.need k.next reply.0;
-          };
-        };
+        turn = record { came = pdu b (Initiator (ScsiCommand p)) d; verdict = Accepted; call = call_is; sent = sent_by b a'.pdus };
+        made = record { came_is = refl; judged = judged; made = record { asked = k.asked; asked_by = k.asked_by; by = w.0 } };
         led = led;
-        outgoing_is = outgoing_is;
-        wanted_is = reply.1;
+        queued = queued;
+        wanted_is = w.1;
       }
+  accepted_turn (Initiator (DataOut x)) d judged k replied =
+      let w = fed_turn k.front k.this k.back k.asked d _ k.by replied in
+      record {
+        turn = record { came = pdu b (Initiator (DataOut x)) d; verdict = Accepted; call = call_is; sent = sent_by b a'.pdus };
+        made = record { came_is = refl; judged = judged; made = record { front = k.front; this = k.this; back = k.back; whole = k.whole; found = k.found; continues = k.continues; asked = k.asked; asked_by = k.asked_by; by = w.0 } };
+        led = led;
+        queued = queued;
+        wanted_is = w.1;
+      }
+  accepted_turn (Initiator (NopOut p)) d judged k replied = no_none c a.call k.no_call some
+  accepted_turn (Initiator (LogoutRequest p)) d judged k replied = no_none c a.call k.no_call some
   accepted_turn h d judged k replied = absurd k
 
-  called_by : (v : Verdict) (h : Header) (d : List ℕ) → IsJudgedPdu s.exp_cmd_sn h d v → OnVerdict v s h d a mid
-      → OnAnswer mid c.task.command c.task.need answer a' s' → MakesTurn leads s s' x x' (pdu b h d) outgoing a'.end
+  full_turn : (h : Header) (d : List ℕ) → OnFullPdu s h a mid → MakesTurn leads s s' x x' held held' before now o o' (pdu b h d) a'.end
+  full_turn (Initiator (ScsiCommand p)) d k = no_none c a.call k.sends.no_call some
+  full_turn h d k = absurd k
+
+  called_by : (v : Verdict) (h : Header) (d : List ℕ) → IsJudgedPdu s.lengths s.standing h d v → OnVerdict v s h d a mid
+      → OnAnswer mid c.task.command c.task.need answer a' s' → MakesTurn leads s s' x x' held held' before now o o' (pdu b h d) a'.end
   called_by Accepted h d judged k replied = accepted_turn h d judged k replied
-  called_by Ignored h d judged k replied = no_none a.call k.0.no_call some
-  called_by Gap h d judged k replied = no_none a.call k.0.no_call some
-  called_by (Refused reason) h d judged k replied = no_none a.call k.no_call some
+  called_by Full h d judged k replied = full_turn h d k
+  called_by Ignored h d judged k replied = no_none c a.call k.0.no_call some
+  called_by Gap h d judged k replied = no_none c a.call k.0.no_call some
+  called_by (Refused reason) h d judged k replied = no_none c a.call k.no_call some
 
   pub called : (h : Header) (d : List ℕ) → OnPdu s h d a mid → OnAnswer mid c.task.command c.task.need answer a' s'
-      → MakesTurn leads s s' x x' (pdu b h d) outgoing a'.end
+      → MakesTurn leads s s' x x' held held' before now o o' (pdu b h d) a'.end
   called h d on replied = called_by on.verdict h d on.judged on.made replied

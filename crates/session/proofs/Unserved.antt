@@ -1,22 +1,34 @@
--- A kind of PDU that is not served is rejected.
-use Rattle.std.proofs.Common.{◌≡◌, ℕ, List, None, refl}
+-- What a PDU that is not accepted, and one that is, calls for.
+use Rattle.std.proofs.Common.{◌≡◌, ℕ, List, subst}
 use Rattle.iscsi_pdu.specs.declared.header.Header.{Header}
-use Rattle.iscsi_pdu.specs.declared.header.Header.TheVariants.{Initiator}
-use Rattle.iscsi_pdu.specs.declared.header.InitiatorHeader.{InitiatorHeader}
-use Rattle.iscsi_pdu.specs.declared.header.InitiatorHeader.TheVariants.{ScsiCommand}
-use Rattle.iscsi_pdu.specs.declared.header.ScsiCommand.{ScsiCommand as CommandHeader}
 use Rattle.session.specs.declared.actions.Actions.{Actions}
-use Rattle.session.specs.declared.verdict.TheConstants.{COMMAND_NOT_SUPPORTED}
-use Rattle.session.specs.declared.verdict.Verdict.TheVariants.{Refused}
-use Rattle.session.specs.Turn.{command_of}
+use Rattle.session.specs.declared.verdict.Verdict.{Verdict}
+use Rattle.session.specs.declared.verdict.Verdict.TheVariants.{Accepted, Full, Ignored, Gap, Refused}
+use Rattle.session.specs.Verdict.{IsJudgedPdu}
 use Rattle.session.specs.Counters.{Counters}
-use Rattle.session.specs.Machine.{OnRefusal, OnPdu}
+use Rattle.session.specs.Machine.{OnRefusal, OnUnaccepted, OnTaken, OnVerdict, OnPdu}
 
-pub not_served : (h : InitiatorHeader) → ((p : CommandHeader) → h ≡ ScsiCommand p → ⊥)
-    → command_of (Initiator h) ≡ None
-not_served (ScsiCommand p) other = absurd (other p refl)
-not_served h other = refl
+-- a PDU that is rejected whatever its number
+pub refused : (s s' : Counters) (h : Header) (d : List ℕ) (a : Actions) (reason : ℕ)
+    → IsJudgedPdu s.lengths s.standing h d (Refused reason) → OnRefusal s reason a s' → OnPdu s h d a s'
+refused s s' h d a reason judged on = record { verdict = Refused reason; judged = judged; made = on }
 
-pub refused : (s s' : Counters) (h : Header) (d : List ℕ) (a : Actions) → command_of h ≡ None
-    → OnRefusal s COMMAND_NOT_SUPPORTED a s' → OnPdu s h d a s'
-refused s s' h d a none on = record { verdict = Refused COMMAND_NOT_SUPPORTED; judged = rw none refl; made = on }
+by_verdict : (v : Verdict) (s s' : Counters) (h : Header) (d : List ℕ) (a : Actions) → OnUnaccepted v s a s'
+    → OnVerdict v s h d a s'
+by_verdict Accepted s s' h d a on = absurd on
+by_verdict Full s s' h d a on = absurd on
+by_verdict Ignored s s' h d a on = on
+by_verdict Gap s s' h d a on = on
+by_verdict (Refused reason) s s' h d a on = on
+
+pub turned_away : (v : Verdict) (s s' : Counters) (h : Header) (d : List ℕ) (a : Actions)
+    → IsJudgedPdu s.lengths s.standing h d v → OnUnaccepted v s a s' → OnPdu s h d a s'
+turned_away v s s' h d a judged on = record { verdict = v; judged = judged; made = by_verdict v s s' h d a on }
+
+pub taken : (v : Verdict) (s mid s' : Counters) (h : Header) (d : List ℕ) (a : Actions)
+    → IsJudgedPdu s.lengths s.standing h d v → v ≡ Accepted → mid ≡ s → OnTaken mid h d a s' → OnPdu s h d a s'
+taken v s mid s' h d a judged accepted same on = record {
+  verdict = Accepted;
+  judged = subst (λ (w : Verdict). IsJudgedPdu s.lengths s.standing h d w) accepted judged;
+  made = subst (λ (c : Counters). OnTaken c h d a s') same on;
+}

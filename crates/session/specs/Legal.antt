@@ -1,36 +1,51 @@
 -- Which transcripts are legal (RFC 7143, sections 4 and 7). A transcript is a list of turns; each fact is judged
 -- of the turn at each place, with the turns before it, so what holds of a transcript holds of each beginning.
-use Rattle.std.specs.Prelude.{◌≡◌, ◌⊎◌, ℕ, ◌+◌, ◌<◌, ◌≤◌, List, [], ◌∷◌, ◌++◌, length, take, Option, Some, None, IfSome, MatchOption, slice_get}
+use Rattle.std.specs.Prelude.{◌≡◌, ◌⊎◌, ℕ, ◌+◌, ◌<◌, ◌≤◌, if◌then◌else◌, List, [], ◌∷◌, ◌++◌, length, take, Option, Some, None, Result, IfSome, MatchOption, slice_get}
 use Rattle.std.specs.List.{filter_map, AllByRecursion}
+use Rattle.scsi_types.specs.Cdb.{Means}
+use Rattle.scsi_types.specs.declared.command.Command.{Command}
+use Rattle.scsi_types.specs.declared.command.CdbFault.{CdbFault}
 use Rattle.iscsi_pdu.specs.Pdu.{IsPdu}
 use Rattle.iscsi_pdu.specs.Fault.{Stands}
 use Rattle.iscsi_pdu.specs.declared.header.Header.{Header}
+use Rattle.iscsi_pdu.specs.declared.header.Header.TheVariants.{Initiator}
+use Rattle.iscsi_pdu.specs.declared.header.InitiatorHeader.TheVariants.{ScsiCommand, DataOut, LogoutRequest}
 use Rattle.iscsi_pdu.specs.declared.header.TargetHeader.{TargetHeader}
-use Rattle.iscsi_pdu.specs.declared.header.TargetHeader.TheVariants.{ScsiResponse, DataIn, Reject}
+use Rattle.iscsi_pdu.specs.declared.header.TargetHeader.TheVariants.{NopIn, ScsiResponse, DataIn, LogoutResponse, R2t, Reject}
+use Rattle.iscsi_pdu.specs.declared.header.R2t.{R2t as R2tHeader}
 use Rattle.iscsi_pdu.specs.declared.header.Numbers.{Numbers}
 use Rattle.iscsi_pdu.specs.declared.fault.PduFault.{PduFault}
 use Rattle.session.specs.declared.end.End.{End}
-use Rattle.session.specs.declared.end.End.TheVariants.{EndOfInput, InputFailed, OutputFailed, Protocol, Reinstated}
+use Rattle.session.specs.declared.end.End.TheVariants.{EndOfInput, InputFailed, OutputFailed, Protocol, Reinstated, LoggedOut}
+use Rattle.session.specs.declared.lengths.Lengths.{Lengths}
+use Rattle.session.specs.declared.session.Start.{Start}
 use Rattle.session.specs.declared.target.TargetAnswer.{TargetAnswer}
 use Rattle.session.specs.declared.target.TargetAnswer.TheVariants.{Replied, Outside, Busy, Gone, Halted}
 use Rattle.session.specs.declared.verdict.Verdict.{Verdict}
-use Rattle.session.specs.declared.verdict.Verdict.TheVariants.{Accepted, Ignored, Gap, Refused}
+use Rattle.session.specs.declared.verdict.Verdict.TheVariants.{Accepted, Full, Ignored, Gap, Refused}
 use Rattle.iscsi_pdu.specs.declared.TheConstants.{BHS_LENGTH}
 use Rattle.session.specs.Turn.{Incoming, pdu, faulty, Out, Asking, Turn, sent}
-use Rattle.session.specs.Window.{wrap, numbers_of, last_in_window, exp_cmd_sn_after}
+use Rattle.session.specs.Window.{wrap, numbers_of}
+use Rattle.session.specs.Tasks.{tasks, r2ts_of}
+use Rattle.session.specs.Collecting.{IsRightTask}
+use Rattle.session.specs.Standing.{Standing, standing, last_in_window}
 use Rattle.session.specs.Verdict.{IsJudged}
 use Rattle.session.specs.Transfer.{expected_transfer, sent_data}
-use Rattle.session.specs.Task.{Task, task_of, IsCalled, reply_data, needed}
-use Rattle.session.specs.Response.{responses, IsAnsweredBy, IsResidual, IsTold}
+use Rattle.session.specs.Answered.{Answered, answered_in, IsCalled, outcome_data, needed}
+use Rattle.session.specs.Response.{responses, IsAnsweredAs, IsResidual, IsToldAs}
 use Rattle.session.specs.DataIn.{data_ins, Tiles}
+use Rattle.session.specs.Logout.{closes}
+use Rattle.session.specs.Requests.{IsRequestAnswered}
 
 -- the fact holds at each place of the transcript
 abbrev pub AtEach : (List Turn → Turn → Type 0) → List Turn → Type 0
 AtEach P ts = (before : List Turn) (t : Turn) (behind : List Turn) → ts ≡ before ++ (t ∷ behind) → P before t
 
--- the StatSN that a PDU uses up (4.2.2.2): that of a SCSI Response or of a Reject
+-- the StatSN that a PDU uses up (4.2.2.2): that of a response or of a Reject
 abbrev pub status_number : TargetHeader → Option ℕ
+status_number (NopIn p) = Some p.numbers.stat_sn
 status_number (ScsiResponse p) = Some p.numbers.stat_sn
+status_number (LogoutResponse p) = Some p.numbers.stat_sn
 status_number (Reject p) = Some p.numbers.stat_sn
 status_number h = None
 
@@ -38,17 +53,26 @@ abbrev pub status_numbers : List Out → List ℕ
 status_numbers outs = filter_map (λ o. status_number o.header) outs
 
 -- ExpCmdSN and MaxCmdSN of a PDU that goes out
-pub record IsWindow (exp_cmd_sn : ℕ) (n : Numbers) : Type 0 where
-  pub expects : n.exp_cmd_sn ≡ exp_cmd_sn
-  pub reaches : n.max_cmd_sn ≡ last_in_window exp_cmd_sn
+pub record IsWindow (s : Standing) (n : Numbers) : Type 0 where
+  pub expects : n.exp_cmd_sn ≡ s.exp_cmd_sn
+  pub reaches : n.max_cmd_sn ≡ last_in_window s
 
-abbrev pub HaveWindow : ℕ → List Out → Type 0
-HaveWindow exp_cmd_sn outs = AllByRecursion (λ o. IsWindow exp_cmd_sn (numbers_of o.header)) outs
+abbrev pub HaveWindow : Standing → List Out → Type 0
+HaveWindow s outs = AllByRecursion (λ o. IsWindow s (numbers_of o.header)) outs
 
--- what may go out for an accepted command: its Data-In and its SCSI Response, and no other kind
+-- an R2T has the next transfer tag, and tells the next StatSN, which it does not use up
+pub record IsNextR2t (s : Standing) (stat_sn : ℕ) (r : R2tHeader) : Type 0 where
+  pub transfer : r.transfer_tag ≡ s.transfer_tag
+  pub status : r.numbers.stat_sn ≡ stat_sn
+
+abbrev pub HaveNextR2t : Standing → ℕ → List Out → Type 0
+HaveNextR2t s stat_sn outs = AllByRecursion (IsNextR2t s stat_sn) (r2ts_of outs)
+
+-- what may go out for a command: its R2Ts, its Data-In and its SCSI Response, and no other kind
 abbrev pub IsOfCommand : TargetHeader → Type 0
 IsOfCommand (ScsiResponse p) = Unit {0}
 IsOfCommand (DataIn p) = Unit {0}
+IsOfCommand (R2t p) = Unit {0}
 IsOfCommand h = ⊥
 
 -- a PDU that is rejected has a Reject with its basic header segment, and nothing else; one that is ignored or out of
@@ -57,36 +81,47 @@ abbrev pub bhs_of : Incoming → List ℕ
 bhs_of (pdu bhs h d) = bhs
 bhs_of (faulty f bhs) = bhs
 
+abbrev pub IsOfAccepted : Incoming → List Out → Type 0
+IsOfAccepted (pdu b (Initiator (ScsiCommand p)) d) outs = AllByRecursion (λ o. IsOfCommand o.header) outs
+IsOfAccepted (pdu b (Initiator (DataOut x)) d) outs = AllByRecursion (λ o. IsOfCommand o.header) outs
+IsOfAccepted came outs = Unit {0}
+
 abbrev pub IsRejected : Verdict → Incoming → List Out → Type 0
-IsRejected Accepted came outs = AllByRecursion (λ o. IsOfCommand o.header) outs
+IsRejected Accepted came outs = IsOfAccepted came outs
+IsRejected Full came outs = AllByRecursion (λ o. IsOfCommand o.header) outs × (r2ts_of outs ≡ [])
 IsRejected Ignored came outs = outs ≡ []
 IsRejected Gap came outs = outs ≡ []
 IsRejected (Refused reason) came outs =
     (n : Numbers)
     × (outs ≡ record { header = Reject (record { reason = reason; numbers = n }); bytes = bhs_of came } ∷ [])
 
--- what is judged of a turn's answer; a turn without a task has none
-abbrev pub IsAnsweredTask : Option Task → List Out → Type 0
-IsAnsweredTask task outs =
-    MatchOption task (responses outs ≡ []) (λ t. IsAnsweredBy t.command t.answer t.own)
+-- what is judged of a turn's answer to a command; a turn that answers none has no response and no data
+abbrev pub IsAnsweredTask : Option Answered → List Out → Type 0
+IsAnsweredTask answered outs =
+    MatchOption answered (responses outs ≡ []) (λ a. IsAnsweredAs a.command a.outcome a.own)
 
-abbrev pub IsTiledTask : Option Task → List Out → Type 0
-IsTiledTask task outs =
-    MatchOption task (data_ins outs ≡ [])
-    (λ t. Tiles t.command (data_ins t.own) (sent_data t.command (reply_data t.answer)))
+abbrev pub IsTiledTask : Lengths → Option Answered → List Out → Type 0
+IsTiledTask l answered outs =
+    MatchOption answered (data_ins outs ≡ [])
+    (λ a. Tiles l a.command (data_ins a.own) (sent_data a.command (outcome_data a.outcome)))
 
-abbrev pub IsCountedTask : Option Task → Type 0
-IsCountedTask task =
-    IfSome task (λ t. AllByRecursion (λ r. r.0.exp_data_sn ≡ length (data_ins t.own)) (responses t.own))
+abbrev pub IsCountedTask : Option Answered → Type 0
+IsCountedTask answered =
+    IfSome answered (λ a. AllByRecursion (λ r. r.0.exp_data_sn ≡ length (data_ins a.own)) (responses a.own))
 
-abbrev pub HasResiduals : Option Task → Type 0
-HasResiduals task =
-    IfSome task (λ t. AllByRecursion (λ r. IsResidual (expected_transfer t.command) (needed t) r.0) (responses t.own))
+abbrev pub HasResiduals : Option Answered → Type 0
+HasResiduals answered =
+    IfSome answered (λ a. (asked : Result Command CdbFault) × Means a.command.cdb asked
+    × AllByRecursion (λ r. IsResidual (expected_transfer a.command) (needed asked a) r.0) (responses a.own))
 
-abbrev pub IsToldTask : Option Task → Type 0
-IsToldTask task = IfSome task (λ t. AllByRecursion (λ r. IsTold t.answer r.0 r.1) (responses t.own))
+abbrev pub IsToldTask : Option Answered → Type 0
+IsToldTask answered = IfSome answered (λ a. AllByRecursion (λ r. IsToldAs a.outcome r.0 r.1) (responses a.own))
 
--- the end that a turn calls for: a PDU that is rejected or out of order, or a session that is gone
+-- what is judged of the answer in a turn, by what stands before it
+abbrev pub answer_at : Start → List Turn → Turn → Option Answered
+answer_at start before t = answered_in (standing start before) t.came t.verdict t.call t.sent
+
+-- the end that a turn calls for: a PDU that is rejected or out of order, a session that is gone, or a logout
 abbrev pub end_by : TargetAnswer → Option End
 end_by (Replied a) = None
 end_by (Outside a) = None
@@ -94,39 +129,58 @@ end_by Busy = None
 end_by Gone = Some Reinstated
 end_by Halted = None
 
-abbrev pub end_after : Verdict → Option Asking → Option End
-end_after Accepted None = None
-end_after Accepted (Some call) = end_by call.answer
-end_after Ignored call = None
-end_after Gap call = Some Protocol
-end_after (Refused reason) call = Some Protocol
+abbrev pub end_of_call : Option Asking → Option End
+end_of_call None = None
+end_of_call (Some call) = end_by call.answer
 
--- The facts of a transcript that begins with this CmdSN and this StatSN.
-pub record Lawful (first_cmd first_stat : ℕ) (ts : List Turn) : Type 0 where
-  -- what becomes of each PDU is what the window and the rules say
-  pub judged : AtEach (λ before t. IsJudged (exp_cmd_sn_after first_cmd before) t.came t.verdict) ts
-  -- the k-th PDU that uses up a StatSN has the first one + k
-  pub numbered : (k n : ℕ) → slice_get (status_numbers (sent ts)) k ≡ Some n → n ≡ wrap (first_stat + k)
-  -- each PDU that goes out has ExpCmdSN and MaxCmdSN as they are at the end of its turn
-  pub windows : AtEach (λ before t. HaveWindow (exp_cmd_sn_after first_cmd (before ++ t ∷ [])) t.sent) ts
-  -- each accepted command has its one Call, and nothing else has one
-  pub called : AtEach (λ before t. IsCalled t.verdict t.came t.call) ts
-  -- each has its one SCSI Response, behind its data, unless its session is gone; nothing else has one
-  pub answered : AtEach (λ before t. IsAnsweredTask (task_of t) t.sent) ts
-  -- the Data-In of a read carry just the bytes of its Call; nothing else has any
-  pub tiled : AtEach (λ before t. IsTiledTask (task_of t) t.sent) ts
-  -- ExpDataSN is their number
-  pub counted : AtEach (λ before t. IsCountedTask (task_of t)) ts
-  -- the residual is what lies between what is expected and what is needed
-  pub residual : AtEach (λ before t. HasResiduals (task_of t)) ts
-  -- status and sense are those of the Call's answer
-  pub told : AtEach (λ before t. IsToldTask (task_of t)) ts
-  -- what is rejected has a Reject, and nothing else has one; no turn has a PDU of another kind
-  pub rejected : AtEach (λ before t. IsRejected t.verdict t.came t.sent) ts
+abbrev pub end_of_accepted : Incoming → Option Asking → Option End
+end_of_accepted (pdu b (Initiator (LogoutRequest p)) d) call = if closes p then Some LoggedOut else None
+end_of_accepted came call = end_of_call call
+
+abbrev pub end_after : Verdict → Incoming → Option Asking → Option End
+end_after Accepted came call = end_of_accepted came call
+end_after Full came call = None
+end_after Ignored came call = None
+end_after Gap came call = Some Protocol
+end_after (Refused reason) came call = Some Protocol
 
 -- no turn calls for an end
 abbrev pub GoesOn : List Turn → Type 0
-GoesOn ts = AtEach (λ before t. end_after t.verdict t.call ≡ None) ts
+GoesOn ts = AtEach (λ before t. end_after t.verdict t.came t.call ≡ None) ts
+
+-- The facts of a transcript of a session that begins so.
+pub record Lawful (start : Start) (ts : List Turn) : Type 0 where
+  -- what becomes of each PDU is what stands before it, and the rules, say
+  pub judged : AtEach (λ before t. IsJudged start.lengths (standing start before) t.came t.verdict) ts
+  -- the k-th PDU that uses up a StatSN has the first one + k
+  pub numbered : (k n : ℕ) → slice_get (status_numbers (sent ts)) k ≡ Some n → n ≡ wrap (start.stat_sn + k)
+  -- each PDU that goes out has ExpCmdSN and MaxCmdSN as they are at the end of its turn
+  pub windows : AtEach (λ before t. HaveWindow (standing start (before ++ t ∷ [])) t.sent) ts
+  -- each R2T has the next transfer tag, and uses up no StatSN
+  pub transfers : AtEach (λ before t.
+      HaveNextR2t (standing start before) (wrap (start.stat_sn + length (status_numbers (sent before)))) t.sent) ts
+  -- at the end of each turn each command so far is right: its R2Ts tile what it has to collect, and it is called once,
+  -- with its data
+  pub collected : AtEach (λ before t. AllByRecursion (IsRightTask start.lengths.burst) (tasks (before ++ t ∷ []))) ts
+  -- nothing else is called
+  pub called : AtEach (λ before t. IsCalled t.verdict t.came t.call) ts
+  -- each command that is answered has its one SCSI Response, behind its data, unless its session is gone; nothing else
+  -- has one
+  pub answered : AtEach (λ before t. IsAnsweredTask (answer_at start before t) t.sent) ts
+  -- the Data-In of a read tile the bytes of its Call in runs of MaxBurstLength; nothing else has any
+  pub tiled : AtEach (λ before t. IsTiledTask start.lengths (answer_at start before t) t.sent) ts
+  -- ExpDataSN is their number
+  pub counted : AtEach (λ before t. IsCountedTask (answer_at start before t)) ts
+  -- the residual is what lies between what is expected and what is needed
+  pub residual : AtEach (λ before t. HasResiduals (answer_at start before t)) ts
+  -- status and sense are those of the Call's answer; without one, BUSY or TASK SET FULL
+  pub told : AtEach (λ before t. IsToldTask (answer_at start before t)) ts
+  -- what is rejected has a Reject, and nothing else has one; no turn has a PDU of another kind
+  pub rejected : AtEach (λ before t. IsRejected t.verdict t.came t.sent) ts
+  -- each other request that is accepted has its one answer, and nothing else
+  pub requests : AtEach (λ before t. IsRequestAnswered start.lengths t.verdict t.came t.call t.sent) ts
+  -- nothing comes behind a turn that calls for an end
+  pub ends : AtEach (λ before t. GoesOn before) ts
 
 -- no PDU and no fault with its whole header segment stands at the front of these bytes
 pub record NoneWhole (rest : List ℕ) : Type 0 where
@@ -145,7 +199,7 @@ pub record EndsWith (ts : List Turn) (rest : List ℕ) (end : Option End) : Type
   pub whole : ts ≡ front ++ last ∷ []
   pub goes_on : GoesOn front
   pub stands : StandsBehind last.came rest
-  pub ends : end_after last.verdict last.call ≡ end
+  pub ends : end_after last.verdict last.came last.call ≡ end
 
 -- how many bytes a session takes at most
 abbrev pub most_bytes : ℕ
@@ -153,10 +207,11 @@ most_bytes = 18446744073709551615
 
 -- why the session ended so, where these bytes were read behind the PDUs and this many in all: the input is at
 -- its end with no whole PDU left, or as many bytes came as a session takes; the reader failed with no whole PDU
--- left; or the last turn calls for it, or its bytes did not all go out
+-- left; or the last turn calls for it; or the writer failed, behind any turn
 abbrev pub EndsBy : List Turn → List ℕ → ℕ → Type 0 → End → Type 0
 EndsBy ts rest taken at_end EndOfInput = GoesOn ts × ((at_end × NoneWhole rest) ⊎ (most_bytes ≤ taken))
 EndsBy ts rest taken at_end InputFailed = GoesOn ts × NoneWhole rest
-EndsBy ts rest taken at_end OutputFailed = (end : Option End) × EndsWith ts rest end
+EndsBy ts rest taken at_end OutputFailed = GoesOn ts ⊎ ((end : Option End) × EndsWith ts rest end)
 EndsBy ts rest taken at_end Protocol = EndsWith ts rest (Some Protocol)
 EndsBy ts rest taken at_end Reinstated = EndsWith ts rest (Some Reinstated)
+EndsBy ts rest taken at_end LoggedOut = EndsWith ts rest (Some LoggedOut)

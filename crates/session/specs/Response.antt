@@ -15,6 +15,7 @@ use Rattle.session.specs.declared.outbox.TheConstants.{SENSE_LENGTH}
 use Rattle.session.specs.declared.response.TheConstants.{COMPLETED, TARGET_FAILURE}
 use Rattle.session.specs.Turn.{Out}
 use Rattle.session.specs.Transfer.{residual_count}
+use Rattle.session.specs.Answered.{Outcome, by_target, no_buffer, set_full}
 
 -- the SCSI Responses that went out, each with its data
 abbrev pub response_with : TargetHeader → List ℕ → Option (ResponseHeader × List ℕ)
@@ -39,7 +40,12 @@ IsAnsweredBy p (Replied a) own = HasOneResponse p own
 IsAnsweredBy p (Outside a) own = HasOneResponse p own
 IsAnsweredBy p Busy own = HasOneResponse p own
 IsAnsweredBy p Halted own = HasOneResponse p own
-IsAnsweredBy p Gone own = own ≡ []
+IsAnsweredBy p Gone own = responses own ≡ []
+
+abbrev pub IsAnsweredAs : CommandHeader → Outcome → List Out → Type 0
+IsAnsweredAs p (by_target answer) own = IsAnsweredBy p answer own
+IsAnsweredAs p no_buffer own = HasOneResponse p own
+IsAnsweredAs p set_full own = HasOneResponse p own
 
 -- the Residual Count is what lies between the two lengths, with U or O (11.4.5)
 pub record IsResidual (expected_length transfer : ℕ) (r : ResponseHeader) : Type 0 where
@@ -65,3 +71,9 @@ IsTold (Outside a) r d = IsTelling COMPLETED (status_code a.status) (sense_part 
 IsTold Busy r d = IsTelling COMPLETED (status_code statuses.Busy) [] r d
 IsTold Halted r d = IsTelling TARGET_FAILURE 0 [] r d
 IsTold Gone r d = ⊥
+
+-- and BUSY where there was no buffer, TASK SET FULL where that is so
+abbrev pub IsToldAs : Outcome → ResponseHeader → List ℕ → Type 0
+IsToldAs (by_target answer) r d = IsTold answer r d
+IsToldAs no_buffer r d = IsTelling COMPLETED (status_code statuses.Busy) [] r d
+IsToldAs set_full r d = IsTelling COMPLETED (status_code statuses.TaskSetFull) [] r d

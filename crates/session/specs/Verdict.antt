@@ -1,50 +1,91 @@
 -- What becomes of a PDU: the command window, and why a PDU is rejected (RFC 7143, 4.2.2.1, 7.3 and 11.17.1).
-use Rattle.std.specs.Prelude.{◌≡◌, ℕ, ◌==◌, ◌&&◌, ◌||◌, nat_lt, nat_le, Bool, if◌then◌else◌, List, length, Result, MatchOption}
-use Rattle.scsi_types.specs.Cdb.{Means, need_of}
-use Rattle.scsi_types.specs.declared.command.Command.{Command}
-use Rattle.scsi_types.specs.declared.command.CdbFault.{CdbFault}
+use Rattle.std.specs.Prelude.{◌≡◌, ◌⊎◌, ℕ, ◌==◌, ◌&&◌, ◌||◌, nat_lt, Bool, if◌then◌else◌, true, false, List, length, MatchOption}
+use Rattle.std.specs.List.{list_any, find}
 use Rattle.iscsi_pdu.specs.declared.header.ScsiCommand.{ScsiCommand as CommandHeader}
+use Rattle.iscsi_pdu.specs.declared.header.DataOut.{DataOut as DataOutHeader}
 use Rattle.iscsi_pdu.specs.declared.header.Header.{Header}
+use Rattle.iscsi_pdu.specs.declared.header.Header.TheVariants.{Initiator, Target}
+use Rattle.iscsi_pdu.specs.declared.header.InitiatorHeader.TheVariants.{
+  NopOut,
+  ScsiCommand,
+  TaskManagementRequest,
+  LoginRequest,
+  TextRequest,
+  DataOut,
+  LogoutRequest,
+}
 use Rattle.iscsi_pdu.specs.declared.fault.PduFault.{PduFault}
 use Rattle.iscsi_pdu.specs.declared.fault.PduFault.TheVariants.{UnknownOpcode}
 use Rattle.session.specs.declared.verdict.Verdict.{Verdict}
-use Rattle.session.specs.declared.verdict.Verdict.TheVariants.{Accepted, Ignored, Gap, Refused}
-use Rattle.session.specs.declared.verdict.TheConstants.{RESERVED_TAG, MAX_READ_LENGTH}
+use Rattle.session.specs.declared.verdict.Verdict.TheVariants.{Accepted, Full, Ignored, Gap, Refused}
+use Rattle.session.specs.declared.verdict.TheConstants.{RESERVED_TAG}
 use Rattle.session.specs.declared.verdict.TheConstants.{PROTOCOL_ERROR, COMMAND_NOT_SUPPORTED, INVALID_PDU_FIELD}
-use Rattle.session.specs.declared.window.TheConstants.{WINDOW}
-use Rattle.session.specs.Turn.{Incoming, pdu, faulty, command_of}
+use Rattle.session.specs.declared.lengths.Lengths.{Lengths}
+use Rattle.session.specs.Turn.{Incoming, pdu, faulty}
 use Rattle.session.specs.Transfer.{expected_transfer}
 use Rattle.session.specs.Window.{ahead}
+use Rattle.session.specs.Tasks.{has_tag}
+use Rattle.session.specs.Collecting.{Continues, is_immediate}
+use Rattle.session.specs.Standing.{Standing, window_size}
 
--- a SCSI Command with the reserved tag, with more immediate data than the length that it expects, a read of more
--- than one Data-In takes, or a write whose data did not all come with it
-abbrev pub is_refused : CommandHeader → List ℕ → ℕ → Bool
-is_refused p d need =
+-- how much data may come with a command: FirstBurstLength, and none where ImmediateData is No (13.11 and 13.14)
+abbrev pub most_immediate : Lengths → ℕ
+most_immediate l = if l.immediate_data then l.first_burst else 0
+
+-- a SCSI Command with the reserved tag, or with the tag of one that waits for data, or with more immediate data than the
+-- length that it expects or than may come with a command
+abbrev pub is_refused : Lengths → Standing → CommandHeader → List ℕ → Bool
+is_refused l s p d =
     (p.task_tag == RESERVED_TAG)
+    || list_any (has_tag p.task_tag) s.collecting
     || nat_lt (expected_transfer p) (length d)
-    || (p.read && nat_lt MAX_READ_LENGTH p.expected_length)
-    || (p.write && nat_le need p.expected_length && nat_lt (length d) need)
+    || nat_lt (most_immediate l) (length d)
 
--- what becomes of a SCSI Command that needs this much data, where this CmdSN is expected
-abbrev pub verdict_of : ℕ → CommandHeader → List ℕ → ℕ → Verdict
-verdict_of exp_cmd_sn p d need =
-    if p.immediate || (ahead p.numbers.cmd_sn exp_cmd_sn == 0)
-    then (if is_refused p d need then Refused PROTOCOL_ERROR else Accepted)
-    else (if nat_lt (ahead p.numbers.cmd_sn exp_cmd_sn) WINDOW then Gap else Ignored)
+-- What becomes of a PDU with this I bit and this CmdSN: outside the window it is ignored, and inside it, but not its
+-- first, it leaves a gap; in its turn it is rejected, if there is a cause, or accepted.
+abbrev pub has_its_turn : Standing → Bool → ℕ → Bool
+has_its_turn s immediate cmd_sn =
+    immediate || ((ahead cmd_sn s.exp_cmd_sn == 0) && nat_lt 0 (window_size s))
 
-abbrev pub IsJudgedCommand : ℕ → CommandHeader → List ℕ → Verdict → Type 0
-IsJudgedCommand exp_cmd_sn p d v =
-    (asked : Result Command CdbFault) × Means p.cdb asked × (v ≡ verdict_of exp_cmd_sn p d (need_of asked))
+abbrev pub window_verdict : Standing → Bool → ℕ → Bool → Verdict
+window_verdict s immediate cmd_sn refused =
+    if has_its_turn s immediate cmd_sn
+    then (if refused then Refused PROTOCOL_ERROR else Accepted)
+    else (if nat_lt (ahead cmd_sn s.exp_cmd_sn) (window_size s) then Gap else Ignored)
 
--- what becomes of a PDU: a kind that is not served counts as an unknown opcode
-abbrev pub IsJudgedPdu : ℕ → Header → List ℕ → Verdict → Type 0
-IsJudgedPdu exp_cmd_sn h d v =
-    MatchOption (command_of h) (v ≡ Refused COMMAND_NOT_SUPPORTED) (λ p. IsJudgedCommand exp_cmd_sn p d v)
+-- an immediate command that would be accepted finds the task set full, where another one waits for data
+abbrev pub unless_full : Bool → Verdict → Verdict
+unless_full true Accepted = Full
+unless_full full v = v
+
+-- what becomes of a SCSI Command, where these lengths are in force
+abbrev pub verdict_of : Lengths → Standing → CommandHeader → List ℕ → Verdict
+verdict_of l s p d =
+    unless_full (p.immediate && list_any is_immediate s.collecting)
+    (window_verdict s p.immediate p.numbers.cmd_sn (is_refused l s p d))
+
+-- What becomes of a Data-Out: where no command with its tag waits for data it is passed over, else it is accepted where
+-- it continues the R2T that is outstanding, and rejected where not.
+abbrev pub IsJudgedData : Standing → DataOutHeader → List ℕ → Verdict → Type 0
+IsJudgedData s x d v =
+    MatchOption (find (has_tag x.task_tag) s.collecting) (v ≡ Ignored)
+    (λ c. (Continues c x d × (v ≡ Accepted)) ⊎ ((Continues c x d → ⊥) × (v ≡ Refused PROTOCOL_ERROR)))
+
+-- what becomes of a PDU: a kind that is not served, and a PDU of a target, count as an unknown opcode
+abbrev pub IsJudgedPdu : Lengths → Standing → Header → List ℕ → Verdict → Type 0
+IsJudgedPdu l s (Initiator (NopOut p)) d v = v ≡ window_verdict s p.immediate p.numbers.cmd_sn false
+IsJudgedPdu l s (Initiator (ScsiCommand p)) d v = v ≡ verdict_of l s p d
+IsJudgedPdu l s (Initiator (TaskManagementRequest p)) d v = v ≡ Refused COMMAND_NOT_SUPPORTED
+IsJudgedPdu l s (Initiator (LoginRequest p)) d v = v ≡ Refused PROTOCOL_ERROR
+IsJudgedPdu l s (Initiator (TextRequest p)) d v = v ≡ Refused COMMAND_NOT_SUPPORTED
+IsJudgedPdu l s (Initiator (DataOut p)) d v = IsJudgedData s p d v
+IsJudgedPdu l s (Initiator (LogoutRequest p)) d v = v ≡ window_verdict s p.immediate p.numbers.cmd_sn false
+IsJudgedPdu l s (Target p) d v = v ≡ Refused COMMAND_NOT_SUPPORTED
 
 abbrev pub reason_of : PduFault → ℕ
 reason_of UnknownOpcode = COMMAND_NOT_SUPPORTED
 reason_of f = INVALID_PDU_FIELD
 
-abbrev pub IsJudged : ℕ → Incoming → Verdict → Type 0
-IsJudged exp_cmd_sn (pdu b h d) v = IsJudgedPdu exp_cmd_sn h d v
-IsJudged exp_cmd_sn (faulty f b) v = v ≡ Refused (reason_of f)
+abbrev pub IsJudged : Lengths → Standing → Incoming → Verdict → Type 0
+IsJudged l s (pdu b h d) v = IsJudgedPdu l s h d v
+IsJudged l s (faulty f b) v = v ≡ Refused (reason_of f)

@@ -1,9 +1,14 @@
 -- The command window and the numbers of a session (RFC 7143, 4.2.2).
 use Rattle.std.specs.Prelude.{ℕ, ◌+◌, ◌-◌, ◌%◌, Bool, false, not, if◌then◌else◌, List}
 use Rattle.std.specs.List.{count_by}
-use Rattle.iscsi_pdu.specs.declared.header.ScsiCommand.{ScsiCommand as CommandHeader}
 use Rattle.iscsi_pdu.specs.declared.header.Header.TheVariants.{Initiator}
-use Rattle.iscsi_pdu.specs.declared.header.InitiatorHeader.TheVariants.{ScsiCommand}
+use Rattle.iscsi_pdu.specs.declared.header.InitiatorHeader.TheVariants.{
+  NopOut,
+  ScsiCommand,
+  TaskManagementRequest,
+  TextRequest,
+  LogoutRequest,
+}
 use Rattle.iscsi_pdu.specs.declared.header.TargetHeader.{TargetHeader}
 use Rattle.iscsi_pdu.specs.declared.header.TargetHeader.TheVariants.{
   NopIn,
@@ -18,8 +23,7 @@ use Rattle.iscsi_pdu.specs.declared.header.TargetHeader.TheVariants.{
 }
 use Rattle.iscsi_pdu.specs.declared.header.Numbers.{Numbers}
 use Rattle.session.specs.declared.verdict.Verdict.{Verdict}
-use Rattle.session.specs.declared.verdict.Verdict.TheVariants.{Accepted, Ignored, Gap, Refused}
-use Rattle.session.specs.declared.window.TheConstants.{WINDOW}
+use Rattle.session.specs.declared.verdict.Verdict.TheVariants.{Accepted, Full, Ignored, Gap, Refused}
 use Rattle.session.specs.Turn.{Incoming, pdu, Turn}
 
 -- numbers count modulo 2^32 (RFC 1982)
@@ -29,18 +33,6 @@ wrap n = n % 4294967296
 -- how far a CmdSN lies ahead of the one that is expected
 abbrev pub ahead : ℕ → ℕ → ℕ
 ahead cmd_sn exp_cmd_sn = wrap (cmd_sn + (4294967296 - exp_cmd_sn))
-
--- the window: ExpCmdSN to ExpCmdSN + 31
-abbrev pub last_in_window : ℕ → ℕ
-last_in_window exp_cmd_sn = wrap (exp_cmd_sn + (WINDOW - 1))
-
--- the numbers of a PDU that goes out with this StatSN, where this CmdSN is expected
-abbrev pub numbers_at : ℕ → ℕ → Numbers
-numbers_at stat_sn exp_cmd_sn = record {
-  stat_sn = stat_sn;
-  exp_cmd_sn = exp_cmd_sn;
-  max_cmd_sn = last_in_window exp_cmd_sn;
-}
 
 -- the numbers that a PDU goes out with
 abbrev pub numbers_of : TargetHeader → Numbers
@@ -54,17 +46,22 @@ numbers_of (LogoutResponse p) = p.numbers
 numbers_of (R2t p) = p.numbers
 numbers_of (Reject p) = p.numbers
 
--- the CmdSN that is expected behind a command that was accepted
-abbrev pub exp_cmd_sn_behind : CommandHeader → ℕ → ℕ
-exp_cmd_sn_behind p exp_cmd_sn = if p.immediate then exp_cmd_sn else wrap (exp_cmd_sn + 1)
+-- the CmdSN that is expected behind a PDU with this I bit that was accepted
+abbrev pub exp_cmd_sn_behind : Bool → ℕ → ℕ
+exp_cmd_sn_behind immediate exp_cmd_sn = if immediate then exp_cmd_sn else wrap (exp_cmd_sn + 1)
 
--- a PDU that takes a CmdSN, if it is accepted
+-- a PDU that takes a CmdSN, if it is accepted: one of these kinds, without the I bit
 abbrev pub is_numbered : Incoming → Bool
+is_numbered (pdu b (Initiator (NopOut p)) d) = not p.immediate
 is_numbered (pdu b (Initiator (ScsiCommand p)) d) = not p.immediate
+is_numbered (pdu b (Initiator (TaskManagementRequest p)) d) = not p.immediate
+is_numbered (pdu b (Initiator (TextRequest p)) d) = not p.immediate
+is_numbered (pdu b (Initiator (LogoutRequest p)) d) = not p.immediate
 is_numbered i = false
 
 abbrev pub takes_number : Verdict → Incoming → Bool
 takes_number Accepted came = is_numbered came
+takes_number Full came = false
 takes_number Ignored came = false
 takes_number Gap came = false
 takes_number (Refused reason) came = false

@@ -1,38 +1,67 @@
 //! The Data-In of a read (RFC 7143, 11.7).
-ghost use Rattle.std.specs.Prelude.{◌≡◌, ◌≤◌, length, IfSome};
-ghost use Rattle.session.specs.Transfer.{sent_data};
-ghost use Rattle.session.specs.AnswerPdus.{data_in_of, data_in_for, read_length};
+ghost use Rattle.std.specs.Prelude.{◌≡◌, ◌+◌, ◌<◌, ◌≤◌, length};
+ghost use Rattle.session.specs.DataIn.{left_of_run, segment_size};
+ghost use Rattle.session.specs.AnswerPdus.{data_ins_of, data_in_at, data_in_out};
 
-use crate::actions::DataInPdu;
-use crate::transfer::returned_data;
-use iscsi_pdu::{DataIn, Numbers, ScsiCommand};
-
-/// The most bytes of a Data-In: the MaxRecvDataSegmentLength of an initiator that declares none (RFC 7143, 13.12).
-pub const MAX_DATA_IN_LENGTH: u32 = 8192;
+use crate::actions::{DataInPdu, DataIns};
+use crate::lengths::Lengths;
+use iscsi_pdu::{DataIn, MAX_DATA_SEGMENT_LENGTH};
 
 /// The Target Transfer Tag of a Data-In that asks for no acknowledgement (RFC 7143, 11.7.4).
 pub const NO_TRANSFER_TAG: u32 = 0xFFFF_FFFF;
 
-/// The one Data-In of a read's data, as much as is expected; none where there is nothing to send.
-pub fn data_in_pdu<'a>(
-    numbers: Numbers,
-    command: &ScsiCommand,
-    bytes: &'a [u8],
-) -> Option<DataInPdu<'a>>
-    ensures pdu { data_in_of result ≡ data_in_for numbers command.now (sent_data command.now bytes.now) }
-    ensures within { IfSome result (λ x. length x.bytes.now ≤ read_length command.now) }
+// What is left behind this offset of its run of MaxBurstLength, and of so many bytes.
+fn what_is_left(lengths: Lengths, offset: u32, total: u32) -> u32
+    requires { offset < total }
+    ensures left { result ≡ left_of_run lengths offset total }
+    ensures some { 0 < result }
+    ensures within { offset + result ≤ total }
 {
-    let bytes = returned_data(command, bytes);
-    if bytes.is_empty() {
-        return None;
-    }
+    (lengths.burst - offset % lengths.burst).min(total - offset)
+}
+
+/// The Data-In at this offset, with this DataSN.
+pub fn segment_at<'a>(data_ins: &DataIns<'a>, data_sn: u32, offset: u32) -> DataInPdu<'a>
+    requires reach { length data_ins.now.bytes.now ≤ 4294967295 }
+    requires more { offset < length data_ins.now.bytes.now }
+    ensures pdu { data_in_out result ≡ data_in_at data_ins.now.numbers data_ins.now.task_tag data_ins.now.lengths
+        data_sn offset data_ins.now.bytes.now }
+    ensures size { length result.bytes.now
+        ≡ segment_size data_ins.now.lengths offset (length data_ins.now.bytes.now) }
+    ensures some { 0 < length result.bytes.now }
+    ensures within { offset + length result.bytes.now ≤ length data_ins.now.bytes.now }
+    ensures short { length result.bytes.now ≤ MAX_DATA_SEGMENT_LENGTH }
+{
+    let left = what_is_left(data_ins.lengths, offset, data_ins.bytes.len() as u32);
+    let size = left
+        .min(data_ins.lengths.data_segment)
+        .min(MAX_DATA_SEGMENT_LENGTH as u32);
     let header = DataIn {
-        last: true,
-        task_tag: command.task_tag,
+        last: size == left,
+        task_tag: data_ins.task_tag,
         transfer_tag: NO_TRANSFER_TAG,
-        numbers,
-        data_sn: 0,
-        offset: 0,
+        numbers: data_ins.numbers,
+        data_sn,
+        offset,
     };
-    Some(DataInPdu { header, bytes })
+    let start = offset as usize;
+    DataInPdu {
+        header,
+        bytes: &data_ins.bytes[start..start + size as usize],
+    }
+}
+
+/// How many Data-In there are.
+pub fn count(data_ins: &DataIns<'_>) -> u32
+    requires reach { length data_ins.now.bytes.now ≤ 4294967295 }
+    ensures { result ≡ length (data_ins_of data_ins.now) }
+{
+    let mut data_sn = 0;
+    let mut offset = 0;
+    while (offset as usize) < data_ins.bytes.len() {
+        let pdu = segment_at(data_ins, data_sn, offset);
+        offset += pdu.bytes.len() as u32;
+        data_sn += 1;
+    }
+    data_sn
 }

@@ -11,4 +11,6 @@ pub enum End {
     Protocol,
     /// The session is attached no more: another one took its nexus (RFC 7143, 6.3.5).
     Reinstated,
+    /// The initiator logged out (RFC 7143, 11.14).
+    LoggedOut,
 }

@@ -1,49 +1,54 @@
 //! What follows of a legal transcript, in the words of the protocol (RFC 7143).
 ghost use Rattle.std.specs.Prelude.{◌≡◌, ◌+◌, ◌≤◌, ℕ, List, [], ◌∷◌, ◌++◌, IsTrue, Some, length, min, slice_get, take};
 ghost use Rattle.iscsi_pdu.specs.declared.header.ScsiCommand.{ScsiCommand as CommandHeader};
-ghost use Rattle.session.specs.declared.verdict.Verdict.TheVariants.{Accepted};
-ghost use Rattle.session.specs.Turn.{Asking, Turn, calls, sent};
+ghost use Rattle.session.specs.declared.session.Start.{Start};
+ghost use Rattle.session.specs.declared.verdict.Verdict.TheVariants.{Accepted, Full};
+ghost use Rattle.std.specs.List.{AllByRecursion};
+ghost use Rattle.session.specs.Turn.{Asking, Turn, sent};
+ghost use Rattle.session.specs.Tasks.{tasks};
 ghost use Rattle.session.specs.Window.{wrap};
-ghost use Rattle.session.specs.Task.{reply_data};
+ghost use Rattle.session.specs.Answered.{reply_data};
 ghost use Rattle.session.specs.Response.{responses};
 ghost use Rattle.session.specs.DataIn.{data_ins, joined_data};
 ghost use Rattle.session.specs.Legal.{AtEach, Lawful, status_numbers};
-ghost use Rattle.session.specs.Following.{HaveMaxCmdSn, IsCallTurn, numbers_taken};
+ghost use Rattle.session.specs.Following.{HaveMaxCmdSn, IsCallTurn, window_end};
 
 /// Of two PDUs that go out one behind the other, among those that use up a StatSN, the second has the next one
 /// (RFC 7143, 4.2.2.2). So none has a StatSN that was used, until 2^32 of them went out.
 pub fn status_numbers_are_consecutive()
-    ensures { (first_cmd first_stat : ℕ) (ts : List Turn) (k n next : ℕ) → Lawful first_cmd first_stat ts
+    ensures { (start : Start) (ts : List Turn) (k n next : ℕ) → Lawful start ts
         → slice_get (status_numbers (sent ts)) k ≡ Some n → slice_get (status_numbers (sent ts)) (k + 1) ≡ Some next
         → next ≡ wrap (n + 1) }
 {}
 
-/// No command is answered twice: a turn, which has one PDU that came, has at most one SCSI Response, and none
-/// where no command is accepted; a transcript has no more of them than its target was asked (RFC 7143, 11.4).
+/// No command is answered twice: a turn, which has one PDU that came, has at most one SCSI Response, and none where
+/// what came was not accepted and did not find the task set full; and a command that was accepted has at most one in all
+/// its turns (RFC 7143, 11.4).
 pub fn no_command_is_answered_twice()
-    ensures once { (first_cmd first_stat : ℕ) (ts : List Turn) → Lawful first_cmd first_stat ts
+    ensures once { (start : Start) (ts : List Turn) → Lawful start ts
         → AtEach (λ before t. length (responses t.sent) ≤ 1) ts }
-    ensures accepted { (first_cmd first_stat : ℕ) (ts : List Turn) → Lawful first_cmd first_stat ts
-        → AtEach (λ before t. (t.verdict ≡ Accepted → ⊥) → responses t.sent ≡ []) ts }
-    ensures asked { (first_cmd first_stat : ℕ) (ts : List Turn) → Lawful first_cmd first_stat ts
-        → length (responses (sent ts)) ≤ length (calls ts) }
+    ensures accepted { (start : Start) (ts : List Turn) → Lawful start ts
+        → AtEach (λ before t. (t.verdict ≡ Accepted → ⊥) → (t.verdict ≡ Full → ⊥) → responses t.sent ≡ []) ts }
+    ensures command { (start : Start) (ts : List Turn) → Lawful start ts
+        → AllByRecursion (λ k. length (responses (sent k.own)) ≤ 1) (tasks ts) }
 {}
 
 /// The Data-In PDUs of an accepted command with the R bit carry the beginning of the data of its one answer, as
 /// much as the command expects, and nothing else (RFC 7143, 11.7).
 pub fn a_read_gets_the_data_of_its_answer()
-    ensures bytes { (first_cmd first_stat : ℕ) (ts : List Turn) → Lawful first_cmd first_stat ts
+    ensures bytes { (start : Start) (ts : List Turn) → Lawful start ts
         → AtEach (λ before t. (p : CommandHeader) (call : Asking) → IsCallTurn t p call → IsTrue p.read
         → joined_data (data_ins t.sent) ≡ take p.expected_length (reply_data call.answer)) ts }
-    ensures size { (first_cmd first_stat : ℕ) (ts : List Turn) → Lawful first_cmd first_stat ts
+    ensures size { (start : Start) (ts : List Turn) → Lawful start ts
         → AtEach (λ before t. (p : CommandHeader) (call : Asking) → IsCallTurn t p call → IsTrue p.read
         → length (joined_data (data_ins t.sent)) ≡ min p.expected_length (length (reply_data call.answer))) ts }
 {}
 
-/// MaxCmdSN lies 31 ahead of the first CmdSN and the numbered PDUs that were accepted, whose number never falls: what
-/// an initiator was told that it may send, it may send for good (RFC 7143, 4.2.2.1).
+/// MaxCmdSN lies 31 ahead of the first CmdSN and the numbered PDUs that were accepted, less the numbered commands that wait
+/// for their data. This end of the window never falls: what an initiator was told that it may send, it may send for good
+/// (RFC 7143, 4.2.2.1).
 pub fn the_window_never_falls()
-    ensures counted { (first_cmd first_stat : ℕ) (ts : List Turn) → Lawful first_cmd first_stat ts
-        → AtEach (λ before t. HaveMaxCmdSn (wrap (first_cmd + numbers_taken (before ++ t ∷ []) + 31)) t.sent) ts }
-    ensures grows { (before behind : List Turn) → numbers_taken before ≤ numbers_taken (before ++ behind) }
+    ensures counted { (start : Start) (ts : List Turn) → Lawful start ts
+        → AtEach (λ before t. HaveMaxCmdSn (wrap (start.exp_cmd_sn + window_end (before ++ t ∷ []) + 31)) t.sent) ts }
+    ensures grows { (before behind : List Turn) → window_end before ≤ window_end (before ++ behind) }
 {}

@@ -1,14 +1,17 @@
-ghost use Rattle.std.specs.Prelude.{◌≡◌, ◌+◌, ◌++◌, ◌≤◌, [], length, vec_capacity, IfOk, IfSome, Some};
-ghost use Rattle.session.specs.AnswerPdus.{IsWithin, data_in_of};
+ghost use Rattle.std.specs.Prelude.{◌≡◌, ◌+◌, ◌++◌, ◌≤◌, [], false, length, vec_capacity, IfOk, Some};
+ghost use Rattle.session.specs.AnswerPdus.{AreInReach, data_ins_of};
+ghost use Rattle.session.specs.Outbox.{OutboxValue, IsQueued, IsWritten};
 ghost use Rattle.session.specs.Response.{sense_part};
 ghost use Rattle.session.specs.Machine.{sent_by};
 ghost use Rattle.session.specs.Turn.{bytes_of};
-ghost use Rattle.iscsi_pdu.specs.Spelling.{padded, spelling};
+ghost use Rattle.iscsi_pdu.specs.Spelling.{pdu_length, spelling};
 
-use crate::actions::{DataInPdu, Pdus};
-use crate::data_in::MAX_DATA_IN_LENGTH;
-use crate::verdict::MAX_READ_LENGTH;
-use iscsi_pdu::{BHS_LENGTH, Header, Pdu, ScsiResponse, TargetHeader, encode};
+use crate::actions::{DataIns, Pdus};
+use crate::data_in::segment_at;
+use crate::source::Sink;
+use iscsi_pdu::{
+    BHS_LENGTH, Header, MAX_DATA_SEGMENT_LENGTH, Pdu, ScsiResponse, TargetHeader, encode,
+};
 use scsi_types::Sense;
 use std::alloc::{AllocError, Global};
 use std::marker::Model;
@@ -19,82 +22,156 @@ pub const SENSE_LENGTH: u8 = 18;
 /// The data segment of a SCSI Response with sense: SenseLength, and the sense (RFC 7143, 11.4.7).
 pub const SENSE_SEGMENT_LENGTH: usize = 20;
 
-/// The most bytes of one turn: a full Data-In, and a SCSI Response with sense.
-pub const OUTBOX_CAPACITY: usize = BHS_LENGTH
-    + MAX_DATA_IN_LENGTH as usize
-    + BHS_LENGTH
-    + SENSE_SEGMENT_LENGTH;
+/// The bytes of the memory: room for a read of 256 KiB in Data-In of 8192, so that it leaves in one write.
+pub const OUTBOX_CAPACITY: usize = 270336;
 
-/// The bytes of a turn's PDUs until they are written, in memory that was taken once.
+/// The most bytes that pad a data segment.
+const MOST_PADDING: usize = 3;
+
+/// The bytes of PDUs until they are written, in memory that was taken once.
+///
+/// They leave together: before the session waits for its peer, where there is no room for more, and at its end.
+/// Once the sink failed, nothing more is written.
 #[derive(Drop)]
 pub struct Outbox {
     bytes: Vec<u8>,
+    failed: bool,
 }
 
 impl Model for Outbox {
-    ghost use Rattle.std.specs.Prelude.{ℕ, List, ◌≤◌, vec_capacity};
+    ghost use Rattle.std.specs.Prelude.{◌≤◌, length, vec_capacity};
+    ghost use Rattle.session.specs.Outbox.{OutboxValue};
     ghost use Rattle.session.specs.declared.outbox.TheConstants.{OUTBOX_CAPACITY};
 
-    ghost Value = { List ℕ };
+    ghost Value = { OutboxValue };
 
-    ghost view = { λ s. s.bytes.items };
+    ghost view = { λ s. record { waiting = s.bytes.items; failed = s.failed } };
 
-    ghost invariant = { λ s. OUTBOX_CAPACITY ≤ vec_capacity s.bytes };
+    ghost invariant = { λ s. (length s.bytes.items ≤ OUTBOX_CAPACITY) × (OUTBOX_CAPACITY ≤ vec_capacity s.bytes) };
 }
 
 impl Outbox {
     /// An empty outbox, with all its memory.
     pub fn new(alloc: Global) -> Result<Outbox, AllocError>
-        ensures { IfOk result (λ b. b ≡ []) }
+        ensures { IfOk result (λ b. b ≡ record { waiting = []; failed = false }) }
     {
         Ok(Outbox {
             bytes: Vec::with_capacity(alloc, OUTBOX_CAPACITY)?,
+            failed: false,
         })
     }
 
-    /// The bytes to write, in order.
-    pub fn bytes(&self) -> &[u8]
-        ensures { result.now ≡ self.now }
+    /// Whether the sink failed.
+    pub fn has_failed(&self) -> bool
+        ensures { result ≡ self.now.failed }
     {
-        &self.bytes
+        self.failed
     }
 
-    /// Nothing is left to write.
-    pub fn clear(&mut self)
-        ensures { self.new ≡ [] }
+    /// Writes what waits, in one write.
+    pub fn flush<K: Sink>(&mut self, sink: &mut K)
+        ensures written { IsWritten (K.held sink.old) (K.held sink.new) (K.failures sink.old) (K.failures sink.new)
+            self.old self.new }
+        ensures all_written { self.new.waiting ≡ [] }
     {
+        self.failed = write_out(sink, &self.bytes, self.failed);
         self.bytes.clear();
     }
 
-    /// Takes the PDUs of a turn in, where none is left to write; a Reject has the header segment's bytes as its data.
-    pub fn fill(&mut self, bhs: &[u8], pdus: &Pdus<'_>)
-        requires empty { self.old ≡ [] }
+    /// Takes the PDUs of a turn in; a Reject has the header segment's bytes as its data.
+    pub fn fill<K: Sink>(&mut self, sink: &mut K, bhs: &[u8], pdus: &Pdus<'_>)
         requires bhs { length bhs.now ≡ BHS_LENGTH }
-        requires within { IsWithin MAX_READ_LENGTH pdus.now }
-        ensures { self.new ≡ bytes_of (sent_by bhs.now pdus.now) }
+        requires reach { AreInReach pdus.now }
+        ensures { IsQueued (K.held sink.old) (K.held sink.new) (K.failures sink.old) (K.failures sink.new)
+            self.old self.new (bytes_of (sent_by bhs.now pdus.now)) }
     {
         match pdus {
             Pdus::Nothing => {}
-            Pdus::Reject(reject) => put(&mut self.bytes, TargetHeader::Reject(*reject), bhs),
+            Pdus::Reject(reject) => self.put(sink, TargetHeader::Reject(*reject), bhs),
+            Pdus::R2t(r2t) => self.put(sink, TargetHeader::R2t(*r2t), &[]),
+            Pdus::Response(pdu) => self.put(sink, pdu.header, pdu.bytes),
             Pdus::Answer {
-                data_in,
+                data_ins,
                 response,
                 sense,
             } => {
-                put_data_in(&mut self.bytes, data_in);
-                put_response(&mut self.bytes, *response, sense);
+                self.put_data_ins(sink, data_ins);
+                self.put_response(sink, *response, sense);
             }
+        }
+    }
+
+    // Writes what waits, where there is no room for so many bytes behind it.
+    fn make_room<K: Sink>(&mut self, sink: &mut K, n: usize)
+        requires { n ≤ OUTBOX_CAPACITY }
+        ensures written { IsWritten (K.held sink.old) (K.held sink.new) (K.failures sink.old) (K.failures sink.new)
+            self.old self.new }
+        ensures room { length self.new.waiting + n ≤ OUTBOX_CAPACITY }
+    {
+        if OUTBOX_CAPACITY - self.bytes.len() < n {
+            self.flush(sink);
+        }
+    }
+
+    // Takes a PDU in.
+    fn put<K: Sink>(&mut self, sink: &mut K, header: TargetHeader, segment: &[u8])
+        requires short { length segment.now ≤ MAX_DATA_SEGMENT_LENGTH }
+        ensures { IsQueued (K.held sink.old) (K.held sink.new) (K.failures sink.old) (K.failures sink.new)
+            self.old self.new (spelling (Header.Target header) segment.now) }
+    {
+        self.make_room(sink, BHS_LENGTH + segment.len() + MOST_PADDING);
+        append(&mut self.bytes, header, segment);
+    }
+
+    // Takes the Data-In of a read in, one behind the other.
+    fn put_data_ins<K: Sink>(&mut self, sink: &mut K, data_ins: &DataIns<'_>)
+        requires reach { length data_ins.now.bytes.now ≤ 4294967295 }
+        ensures { IsQueued (K.held sink.old) (K.held sink.new) (K.failures sink.old) (K.failures sink.new)
+            self.old self.new (bytes_of (data_ins_of data_ins.now)) }
+    {
+        let mut data_sn = 0;
+        let mut offset = 0;
+        while (offset as usize) < data_ins.bytes.len() {
+            let pdu = segment_at(data_ins, data_sn, offset);
+            self.put(sink, TargetHeader::DataIn(pdu.header), pdu.bytes);
+            offset += pdu.bytes.len() as u32;
+            data_sn += 1;
+        }
+    }
+
+    // Takes a SCSI Response in, with its sense, if any.
+    fn put_response<K: Sink>(&mut self, sink: &mut K, response: ScsiResponse, sense: &Option<Sense>)
+        ensures { IsQueued (K.held sink.old) (K.held sink.new) (K.failures sink.old) (K.failures sink.new)
+            self.old self.new (spelling (Header.Target (TargetHeader.ScsiResponse response)) (sense_part sense.now)) }
+    {
+        let header = TargetHeader::ScsiResponse(response);
+        match sense {
+            None => self.put(sink, header, &[]),
+            Some(sense) => self.put(sink, header, &sense_segment(sense)),
         }
     }
 }
 
+// Writes these bytes, unless the sink failed before or there are none: whether it failed.
+fn write_out<K: Sink>(sink: &mut K, bytes: &[u8], failed: bool) -> bool
+    ensures { IsWritten (K.held sink.old) (K.held sink.new) (K.failures sink.old) (K.failures sink.new)
+        (record { waiting = bytes.now; failed = failed }) (record { waiting = []; failed = result }) }
+{
+    if failed || bytes.is_empty() {
+        return failed;
+    }
+    match sink.write_whole(bytes) {
+        Ok(()) => false,
+        Err(_) => true,
+    }
+}
+
 // Appends a PDU, for which there is room.
-fn put(bytes: &mut Vec<u8>, header: TargetHeader, segment: &[u8])
-    requires short { length segment.now ≤ MAX_DATA_IN_LENGTH }
-    requires room { length bytes.old.items + BHS_LENGTH + padded (length segment.now) ≤ vec_capacity bytes.old }
-    ensures put { bytes.new.items ≡ bytes.old.items
-        ++ spelling (Header.Target header) segment.now }
-    ensures long { length bytes.new.items ≡ length bytes.old.items + BHS_LENGTH + padded (length segment.now) }
+fn append(bytes: &mut Vec<u8>, header: TargetHeader, segment: &[u8])
+    requires short { length segment.now ≤ MAX_DATA_SEGMENT_LENGTH }
+    requires room { length bytes.old.items + BHS_LENGTH + length segment.now + MOST_PADDING ≤ vec_capacity bytes.old }
+    ensures put { bytes.new.items ≡ bytes.old.items ++ spelling (Header.Target header) segment.now }
+    ensures long { length bytes.new.items ≤ length bytes.old.items + BHS_LENGTH + length segment.now + MOST_PADDING }
     ensures kept { vec_capacity bytes.old ≤ vec_capacity bytes.new }
 {
     let pdu = Pdu {
@@ -104,34 +181,6 @@ fn put(bytes: &mut Vec<u8>, header: TargetHeader, segment: &[u8])
     match encode(&pdu, bytes) {
         Ok(()) => {}
         Err(_) => unreachable!(),
-    }
-}
-
-// Appends a Data-In, if any.
-fn put_data_in(bytes: &mut Vec<u8>, data_in: &Option<DataInPdu<'_>>)
-    requires empty { bytes.old.items ≡ [] }
-    requires within { IfSome data_in.now (λ x. length x.bytes.now ≤ MAX_DATA_IN_LENGTH) }
-    requires room { OUTBOX_CAPACITY ≤ vec_capacity bytes.old }
-    ensures put { bytes.new.items ≡ bytes_of (data_in_of data_in.now) }
-    ensures long { length bytes.new.items ≤ BHS_LENGTH + MAX_DATA_IN_LENGTH }
-    ensures kept { vec_capacity bytes.old ≤ vec_capacity bytes.new }
-{
-    if let Some(x) = data_in {
-        put(bytes, TargetHeader::DataIn(x.header), x.bytes);
-    }
-}
-
-// Appends a SCSI Response with its sense, if any.
-fn put_response(bytes: &mut Vec<u8>, response: ScsiResponse, sense: &Option<Sense>)
-    requires room { length bytes.old.items + BHS_LENGTH + SENSE_SEGMENT_LENGTH ≤ vec_capacity bytes.old }
-    ensures put { bytes.new.items ≡ bytes.old.items
-        ++ spelling (Header.Target (TargetHeader.ScsiResponse response)) (sense_part sense.now) }
-    ensures kept { vec_capacity bytes.old ≤ vec_capacity bytes.new }
-{
-    let header = TargetHeader::ScsiResponse(response);
-    match sense {
-        None => put(bytes, header, &[]),
-        Some(sense) => put(bytes, header, &sense_segment(sense)),
     }
 }
 

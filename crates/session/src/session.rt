@@ -1,37 +1,61 @@
 //! A session without bytes: what it makes of PDUs and of answers.
-ghost use Rattle.std.specs.Prelude.{◌≡◌};
+ghost use Rattle.std.specs.Prelude.{◌≡◌, ℕ, List, ◌≤◌, Some, None, length, IfOk, IfSome, MatchOption};
 ghost use Rattle.scsi_types.specs.Cdb.{need_of};
-ghost use Rattle.session.specs.Counters.{Counters, after_command};
-ghost use Rattle.session.specs.Verdict.{reason_of};
-ghost use Rattle.session.specs.AnswerPdus.{IsWithin, read_length, reply_with};
-ghost use Rattle.session.specs.Machine.{OnPdu, OnCommand, OnRefusal, OnAnswer, Sends};
+ghost use Rattle.iscsi_pdu.specs.declared.TheConstants.{MAX_DATA_SEGMENT_LENGTH};
+ghost use Rattle.session.specs.declared.verdict.Verdict.TheVariants.{Accepted, Full};
+ghost use Rattle.session.specs.Transfer.{data_for};
+ghost use Rattle.session.specs.Collecting.{HasToCollect};
+ghost use Rattle.session.specs.Slots.{IsAskedBy};
+ghost use Rattle.session.specs.Standing.{window_of};
+ghost use Rattle.session.specs.Counters.{Counters, begun, after_number, next_numbers};
+ghost use Rattle.session.specs.Verdict.{reason_of, window_verdict};
+ghost use Rattle.session.specs.AnswerPdus.{AreInReach, reply_with};
+ghost use Rattle.session.specs.Machine.{OnPdu, OnCommand, OnNopOut, OnLogout, OnUnaccepted, OnRefusal, OnAnswer};
+ghost use Rattle.session.specs.Machine.{Sends, Answers, IsSilent, Calls, OnAccepted, OnFull, OnData};
+ghost use Rattle.session.specs.Machine.{out_of, call_data, r2t_with_for, BeginsToWait, CanTake};
 
-use crate::actions::{Actions, Call, OpenTask, Pdus};
-use crate::data_in::data_in_pdu;
+use crate::actions::{Actions, Call, CommandData, DataIns, OpenTask, Pdus, ResponsePdu};
+use crate::collecting::{R2tWith, WaitingCommand, WaitingCommands};
+use crate::data_in::count;
 use crate::end::End;
+use crate::lengths::Lengths;
+use crate::logout::{logout_end, logout_response};
+use crate::nop::nop_in;
 use crate::response::{COMPLETED, Completion, TARGET_FAILURE, scsi_response};
 use crate::target::TargetAnswer;
-use crate::transfer::command_data;
-use crate::verdict::{COMMAND_NOT_SUPPORTED, Verdict, command_verdict, reject_reason};
-use crate::window::{next_exp_cmd_sn, target_numbers};
-use iscsi_pdu::{Header, InitiatorHeader, Pdu, PduFault, Reject, ScsiCommand};
-use scsi_types::{Asked, Lun, Status, decode, need};
+use crate::transfer::{command_data, has_to_collect, returned_data};
+use crate::verdict::{
+    COMMAND_NOT_SUPPORTED, PROTOCOL_ERROR, Verdict, command_verdict, reject_reason, window_verdict,
+};
+use crate::window::{WINDOW, Window, next_exp_cmd_sn, next_transfer_tag, target_numbers};
+use iscsi_pdu::{
+    DataOut, Header, InitiatorHeader, LogoutRequest, NopOut, Numbers, Pdu, PduFault, R2t, Reject,
+    ScsiCommand,
+};
+use scsi_types::{Asked, Lun, NoMemory, Status, decode, need};
+use std::alloc::Global;
 use std::marker::Model;
 
-/// The numbers with which a session begins.
+/// The numbers and the lengths with which a session begins.
 #[derive(Clone, Copy, Debug, PartialEq, Eq)]
 pub struct Start {
     /// The CmdSN that is expected first.
     pub exp_cmd_sn: u32,
     /// The first StatSN.
     pub stat_sn: u32,
+    /// The lengths in force.
+    pub lengths: Lengths,
 }
 
 /// A session in full feature phase: what it makes of PDUs and of answers. It reads and writes nothing itself.
-#[derive(Debug, Drop)]
+#[derive(Drop)]
 pub struct Session {
+    alloc: Global,
     stat_sn: u32,
+    lengths: Lengths,
     exp_cmd_sn: u32,
+    waiting: WaitingCommands,
+    transfer_tag: u32,
 }
 
 impl Model for Session {
@@ -39,24 +63,34 @@ impl Model for Session {
 
     ghost Value = { Counters };
 
-    ghost view = { λ s. record { stat_sn = s.stat_sn; exp_cmd_sn = s.exp_cmd_sn } };
+    ghost view = { λ s. record {
+      stat_sn = s.stat_sn;
+      lengths = s.lengths;
+      standing = record { exp_cmd_sn = s.exp_cmd_sn; collecting = s.waiting; transfer_tag = s.transfer_tag };
+    } };
 }
 
 impl Session {
-    /// A session that begins with these numbers.
-    pub fn new(start: Start) -> Session
-        ensures { result ≡ record { stat_sn = start.stat_sn; exp_cmd_sn = start.exp_cmd_sn } }
+    /// A session that begins so. Takes the memory for the commands that wait for their data; later only the data itself
+    /// takes memory.
+    pub fn new(alloc: Global, start: Start) -> Result<Session, NoMemory>
+        ensures { IfOk result (λ s. s ≡ begun start) }
     {
-        Session {
+        Ok(Session {
+            alloc,
             stat_sn: start.stat_sn,
+            lengths: start.lengths,
             exp_cmd_sn: start.exp_cmd_sn,
-        }
+            waiting: WaitingCommands::new(alloc)?,
+            transfer_tag: 0,
+        })
     }
 
     /// What a PDU calls for: the window first, then the causes of a Reject (RFC 7143, 4.2.2.1 and 7.3). A command
     /// that is accepted is to be called. A PDU of a kind that is not served is rejected.
     pub fn on_pdu<'a>(&mut self, pdu: Pdu<'a>) -> Actions<'a>
-        ensures { OnPdu self.old pdu.entry.header pdu.entry.data.now result self.new }
+        ensures on { OnPdu self.old pdu.entry.header pdu.entry.data.now result self.new }
+        ensures within { AreInReach result.pdus }
     {
         match pdu.header {
             Header::Initiator(header) => self.on_initiator(header, pdu.data),
@@ -66,68 +100,281 @@ impl Session {
 
     // What an initiator's PDU calls for.
     fn on_initiator<'a>(&mut self, header: InitiatorHeader, bytes: &'a [u8]) -> Actions<'a>
-        ensures { OnPdu self.old (Header.Initiator header) bytes.now result self.new }
+        ensures on { OnPdu self.old (Header.Initiator header) bytes.now result self.new }
+        ensures within { AreInReach result.pdus }
     {
         match header {
+            InitiatorHeader::NopOut(request) => self.on_nop_out(request, bytes),
             InitiatorHeader::ScsiCommand(command) => self.on_command(command, bytes),
-            _ => self.reject(COMMAND_NOT_SUPPORTED),
+            InitiatorHeader::TaskManagementRequest(_) => self.reject(COMMAND_NOT_SUPPORTED),
+            InitiatorHeader::LoginRequest(_) => self.reject(PROTOCOL_ERROR),
+            InitiatorHeader::TextRequest(_) => self.reject(COMMAND_NOT_SUPPORTED),
+            InitiatorHeader::DataOut(header) => self.on_data_out(header, bytes),
+            InitiatorHeader::LogoutRequest(request) => self.on_logout(request),
+        }
+    }
+
+    // What a NOP-Out calls for.
+    fn on_nop_out<'a>(&mut self, request: NopOut, bytes: &'a [u8]) -> Actions<'a>
+        ensures on { OnPdu self.old (Header.Initiator (InitiatorHeader.NopOut request)) bytes.now result self.new }
+        ensures within { AreInReach result.pdus }
+    {
+        let verdict = self.verdict(request.immediate, request.numbers.cmd_sn, false);
+        match self.turned_away(verdict) {
+            Some(actions) => actions,
+            None => self.answer_nop_out(request, bytes),
+        }
+    }
+
+    // An accepted NOP-Out.
+    fn answer_nop_out<'a>(&mut self, request: NopOut, bytes: &'a [u8]) -> Actions<'a>
+        ensures on { OnNopOut self.old request bytes.now result self.new }
+        ensures within { AreInReach result.pdus }
+    {
+        self.accept(request.immediate);
+        let pdu = nop_in(self.next_numbers(), self.lengths, &request, bytes);
+        self.answer(pdu, None)
+    }
+
+    // What a Logout Request calls for.
+    fn on_logout<'a>(&mut self, request: LogoutRequest) -> Actions<'a>
+        ensures on { (d : List ℕ)
+            → OnPdu self.old (Header.Initiator (InitiatorHeader.LogoutRequest request)) d result self.new }
+        ensures within { AreInReach result.pdus }
+    {
+        let verdict = self.verdict(request.immediate, request.numbers.cmd_sn, false);
+        match self.turned_away(verdict) {
+            Some(actions) => actions,
+            None => self.answer_logout(request),
+        }
+    }
+
+    // An accepted logout.
+    fn answer_logout<'a>(&mut self, request: LogoutRequest) -> Actions<'a>
+        ensures on { OnLogout self.old request result self.new }
+        ensures within { AreInReach result.pdus }
+    {
+        self.accept(request.immediate);
+        let pdu = logout_response(self.next_numbers(), &request);
+        self.answer(Some(pdu), logout_end(&request))
+    }
+
+    // The command window.
+    fn window(&self) -> Window
+        ensures { result ≡ window_of self.now.standing }
+    {
+        Window {
+            exp_cmd_sn: self.exp_cmd_sn,
+            size: WINDOW.saturating_sub(self.waiting.numbered()),
+        }
+    }
+
+    // What becomes of a PDU with this I bit and CmdSN, which is rejected in its turn if there is a cause.
+    fn verdict(&self, immediate: bool, cmd_sn: u32, refused: bool) -> Verdict
+        ensures { result ≡ window_verdict self.now.standing immediate cmd_sn refused }
+    {
+        window_verdict(self.window(), immediate, cmd_sn, refused)
+    }
+
+    // What a verdict calls for that does not accept its PDU.
+    fn turned_away<'a>(&mut self, verdict: Verdict) -> Option<Actions<'a>>
+        requires { verdict ≡ Full → ⊥ }
+        ensures away { MatchOption result ((verdict ≡ Accepted) × (self.new ≡ self.old))
+            (λ a. OnUnaccepted verdict self.old a self.new) }
+        ensures within { IfSome result (λ a. AreInReach a.pdus) }
+    {
+        match verdict {
+            Verdict::Accepted => None,
+            Verdict::Full => unreachable!(),
+            Verdict::Ignored => Some(silence()),
+            Verdict::Gap => Some(Actions {
+                pdus: Pdus::Nothing,
+                call: None,
+                end: Some(End::Protocol),
+            }),
+            Verdict::Refused(reason) => Some(self.reject(reason)),
+        }
+    }
+
+    // The numbers of the next PDU that uses up a StatSN.
+    fn next_numbers(&self) -> Numbers
+        ensures { result ≡ next_numbers self.now }
+    {
+        target_numbers(self.stat_sn, self.exp_cmd_sn, self.waiting.numbered())
+    }
+
+    // The answer to a request, if it asks for one, which uses up a StatSN.
+    fn answer<'a>(&mut self, pdu: Option<ResponsePdu<'a>>, end: Option<End>) -> Actions<'a>
+        requires { IfSome pdu (λ x. length x.bytes.now ≤ MAX_DATA_SEGMENT_LENGTH) }
+        ensures on { Answers self.old (out_of pdu.entry) end result self.new }
+        ensures within { AreInReach result.pdus }
+    {
+        let pdus = match pdu {
+            None => Pdus::Nothing,
+            Some(pdu) => {
+                self.stat_sn = self.stat_sn.wrapping_add(1);
+                Pdus::Response(pdu)
+            }
+        };
+        Actions {
+            pdus,
+            call: None,
+            end,
         }
     }
 
     // What a SCSI Command calls for.
     fn on_command<'a>(&mut self, command: ScsiCommand, bytes: &'a [u8]) -> Actions<'a>
-        ensures { OnCommand self.old command bytes.now result self.new }
+        ensures on { OnCommand self.old command bytes.now result self.new }
+        ensures within { AreInReach result.pdus }
+    {
+        let verdict = command_verdict(self.lengths, self.window(), &self.waiting, &command, bytes);
+        if verdict == Verdict::Full {
+            return self.find_full(command);
+        }
+        match self.turned_away(verdict) {
+            Some(actions) => actions,
+            None => self.take_command(command, bytes),
+        }
+    }
+
+    // An immediate command that finds the task set full.
+    fn find_full<'a>(&mut self, command: ScsiCommand) -> Actions<'a>
+        ensures on { OnFull self.old command result self.new }
+        ensures within { AreInReach result.pdus }
+    {
+        let need = data_needed(&decode(&command.cdb));
+        let full = Completion::bare(COMPLETED, Status::TaskSetFull);
+        self.respond(&OpenTask { command, need }, &[], full)
+    }
+
+    // A command that is accepted: it is to be called, or waits for its data.
+    fn take_command<'a>(&mut self, command: ScsiCommand, bytes: &'a [u8]) -> Actions<'a>
+        ensures on { OnAccepted self.old command bytes.now result self.new }
+        ensures within { AreInReach result.pdus }
     {
         let asked = decode(&command.cdb);
         let need = data_needed(&asked);
-        match command_verdict(self.exp_cmd_sn, &command, bytes, need) {
-            Verdict::Ignored => Actions {
-                pdus: Pdus::Nothing,
+        self.accept(command.immediate);
+        if !has_to_collect(&command, need, bytes.len()) {
+            let data = CommandData::Came(command_data(&command, need, bytes));
+            return call(command, asked, need, data);
+        }
+        match self.wait(command, asked, need, bytes) {
+            Some(r2t) => Actions {
+                pdus: Pdus::R2t(r2t),
                 call: None,
                 end: None,
             },
-            Verdict::Gap => Actions {
-                pdus: Pdus::Nothing,
-                call: None,
-                end: Some(End::Protocol),
-            },
-            Verdict::Refused(reason) => self.reject(reason),
-            Verdict::Accepted => {
-                self.accept(&command);
-                let call = Call {
-                    task: OpenTask { command, need },
-                    unit: Lun::parse(&command.lun),
-                    asked,
-                    bytes: command_data(&command, need, bytes),
-                };
-                Actions {
-                    pdus: Pdus::Nothing,
-                    call: Some(call),
-                    end: None,
+            None => {
+                let busy = Completion::bare(COMPLETED, Status::Busy);
+                self.respond(&OpenTask { command, need }, &[], busy)
+            }
+        }
+    }
+
+    // A command that has to collect its data begins to wait, if there is a buffer for it: its first R2T.
+    fn wait(&mut self, command: ScsiCommand, asked: Asked, need: u32, bytes: &[u8]) -> Option<R2t>
+        requires asked { IsAskedBy command asked }
+        requires need { need ≡ need_of asked }
+        requires collects { HasToCollect command need (length bytes.now) }
+        ensures { MatchOption result (self.new ≡ self.old)
+            (λ next. BeginsToWait self.old command need bytes.now next self.new) }
+    {
+        if !self.waiting.has_room() {
+            return None;
+        }
+        let waiting = self.waiting.numbered() + u32::from(!command.immediate);
+        let with = self.r2t_with(waiting);
+        match WaitingCommand::begin(self.alloc, command, asked, need, bytes, with) {
+            Ok(waiting) => {
+                let r2t = waiting.request();
+                self.waiting.push(waiting);
+                self.transfer_tag = next_transfer_tag(self.transfer_tag);
+                Some(r2t)
+            }
+            Err(NoMemory) => None,
+        }
+    }
+
+    // What the next R2T is sent with, where so many numbered commands wait.
+    fn r2t_with(&self, waiting: u32) -> R2tWith
+        ensures { result ≡ r2t_with_for self.now waiting }
+    {
+        R2tWith {
+            numbers: target_numbers(self.stat_sn, self.exp_cmd_sn, waiting),
+            transfer_tag: self.transfer_tag,
+            burst: self.lengths.burst,
+        }
+    }
+
+    // What a Data-Out calls for.
+    fn on_data_out<'a>(&mut self, header: DataOut, bytes: &[u8]) -> Actions<'a>
+        ensures on { OnPdu self.old (Header.Initiator (InitiatorHeader.DataOut header)) bytes.now result self.new }
+        ensures within { AreInReach result.pdus }
+    {
+        match self.waiting.position(header.task_tag) {
+            None => silence(),
+            Some(at) => {
+                if self.waiting.at(at).continues(&header, bytes) {
+                    self.take_data(at, header, bytes)
+                } else {
+                    self.reject(PROTOCOL_ERROR)
                 }
             }
         }
     }
 
-    // Takes the command's number, unless it is immediate.
-    fn accept(&mut self, command: &ScsiCommand)
-        ensures { self.new ≡ after_command command.now self.old }
+    // A Data-Out of the command that stands there among those that wait.
+    fn take_data<'a>(&mut self, at: usize, header: DataOut, bytes: &[u8]) -> Actions<'a>
+        requires { CanTake self.old at header bytes.now }
+        ensures on { OnData self.old header bytes.now result self.new }
+        ensures within { AreInReach result.pdus }
     {
-        self.exp_cmd_sn = next_exp_cmd_sn(self.exp_cmd_sn, command);
+        let waiting = self.waiting.numbered();
+        let mut command = self.waiting.remove(at);
+        command.feed(&header, bytes);
+        if !command.is_filled() {
+            self.waiting.insert(at, command);
+            return silence();
+        }
+        if command.len() >= command.need() as usize {
+            let done = command.finish();
+            let data = CommandData::Gathered(done.bytes);
+            return call(done.command, done.asked, done.need, data);
+        }
+        command.ask(self.r2t_with(waiting));
+        let r2t = command.request();
+        self.waiting.insert(at, command);
+        self.transfer_tag = next_transfer_tag(self.transfer_tag);
+        Actions {
+            pdus: Pdus::R2t(r2t),
+            call: None,
+            end: None,
+        }
+    }
+
+    // Takes the number of a PDU with this I bit, unless it is immediate.
+    fn accept(&mut self, immediate: bool)
+        ensures { self.new ≡ after_number immediate self.old }
+    {
+        self.exp_cmd_sn = next_exp_cmd_sn(self.exp_cmd_sn, immediate);
     }
 
     /// What the fault calls for that stands in place of a PDU: a Reject, and the end.
     pub fn on_fault<'a>(&mut self, fault: PduFault) -> Actions<'a>
-        ensures { OnRefusal self.old (reason_of fault) result self.new }
+        ensures on { OnRefusal self.old (reason_of fault) result self.new }
+        ensures within { AreInReach result.pdus }
     {
         self.reject(reject_reason(fault))
     }
 
     // A Reject for this reason, and the end.
     fn reject<'a>(&mut self, reason: u8) -> Actions<'a>
-        ensures { OnRefusal self.old reason result self.new }
+        ensures on { OnRefusal self.old reason result self.new }
+        ensures within { AreInReach result.pdus }
     {
-        let numbers = target_numbers(self.stat_sn, self.exp_cmd_sn);
+        let numbers = self.next_numbers();
         self.stat_sn = self.stat_sn.wrapping_add(1);
         Actions {
             pdus: Pdus::Reject(Reject { reason, numbers }),
@@ -139,7 +386,7 @@ impl Session {
     /// What the answer to a task calls for: its data and its SCSI Response, or the end where the session is gone.
     pub fn on_answer<'a>(&mut self, task: OpenTask, answer: &'a TargetAnswer) -> Actions<'a>
         ensures answered { OnAnswer self.old task.command task.need answer.now result self.new }
-        ensures within { IsWithin (read_length task.command) result.pdus }
+        ensures reach { AreInReach result.pdus }
     {
         match answer {
             TargetAnswer::Replied(reply) | TargetAnswer::Outside(reply) => {
@@ -161,7 +408,7 @@ impl Session {
         }
     }
 
-    // The Data-In, where a read returns anything, and the SCSI Response.
+    // The Data-In of what a read returns, and the SCSI Response.
     fn respond<'a>(
         &mut self,
         task: &OpenTask,
@@ -170,23 +417,59 @@ impl Session {
     ) -> Actions<'a>
         ensures sent { Sends self.old
             (reply_with self.old task.now.command task.now.need bytes.now completion) result self.new }
-        ensures within { IsWithin (read_length task.now.command) result.pdus }
+        ensures reach { AreInReach result.pdus }
     {
         // A Data-In without a status has no StatSN (RFC 7143, 11.7.3).
-        let data_in = data_in_pdu(target_numbers(0, self.exp_cmd_sn), &task.command, bytes);
-        let numbers = target_numbers(self.stat_sn, self.exp_cmd_sn);
-        let data_ins = u32::from(data_in.is_some());
-        let response = scsi_response(numbers, task, bytes.len(), data_ins, completion);
+        let data_ins = DataIns {
+            task_tag: task.command.task_tag,
+            numbers: target_numbers(0, self.exp_cmd_sn, self.waiting.numbered()),
+            lengths: self.lengths,
+            bytes: returned_data(&task.command, bytes),
+        };
+        let numbers = self.next_numbers();
+        let response = scsi_response(numbers, task, bytes.len(), count(&data_ins), completion);
         self.stat_sn = self.stat_sn.wrapping_add(1);
         Actions {
             pdus: Pdus::Answer {
-                data_in,
+                data_ins,
                 response,
                 sense: completion.sense,
             },
             call: None,
             end: None,
         }
+    }
+}
+
+// Nothing goes out, and nothing is called.
+fn silence<'a>() -> Actions<'a>
+    ensures silent { IsSilent result }
+    ensures no_end { result.end ≡ None }
+    ensures within { AreInReach result.pdus }
+{
+    Actions {
+        pdus: Pdus::Nothing,
+        call: None,
+        end: None,
+    }
+}
+
+// A command is to be called, for what its CDB asks, with its data.
+fn call<'a>(command: ScsiCommand, asked: Asked, need: u32, bytes: CommandData<'a>) -> Actions<'a>
+    requires need { need ≡ need_of asked }
+    ensures calls { (gathered : List ℕ) → call_data bytes.entry ≡ data_for command (need_of asked) gathered
+        → Calls command asked gathered result }
+    ensures within { AreInReach result.pdus }
+{
+    Actions {
+        pdus: Pdus::Nothing,
+        call: Some(Call {
+            task: OpenTask { command, need },
+            unit: Lun::parse(&command.lun),
+            asked,
+            bytes,
+        }),
+        end: None,
     }
 }
 

@@ -1,10 +1,11 @@
 ghost use Rattle.std.specs.Prelude.{◌≡◌, ◌<◌, ◌≤◌, [], length, Some, IfOk, OnErr};
 ghost use Rattle.std.specs.Io.KnownBytes.{Keeps};
-ghost use Rattle.session.specs.declared.end.End.TheVariants.{InputFailed, OutputFailed};
+ghost use Rattle.session.specs.declared.end.End.TheVariants.{InputFailed, OutputFailed, Protocol};
 ghost use Rattle.session.specs.Source.{Counted};
 ghost use Rattle.session.specs.Inbox.{Filled};
+ghost use Rattle.session.specs.Outbox.{IsClosedAs};
 ghost use Rattle.session.specs.Turn.{pdu as came, faulty};
-ghost use Rattle.session.specs.Stream.{IsSentOut, MakesTurn, StreamTurn};
+ghost use Rattle.session.specs.Stream.{MakesTurn};
 ghost use Rattle.session.specs.Transcript.{IsTranscribed, IsFailureOf};
 
 use crate::end::End;
@@ -19,44 +20,31 @@ use scsi_types::NoMemory;
 use std::alloc::Global;
 
 // One turn: what a PDU calls for, with the target's answer, put into the outbox; the end that it calls for.
-fn turn<T: Target>(
+fn turn<K: Sink, T: Target>(
     session: &mut Session,
     target: &mut T,
+    sink: &mut K,
     outbox: &mut Outbox,
     bhs: &[u8],
     pdu: Pdu<'_>,
 ) -> Option<End>
     requires bhs { length bhs.now ≡ BHS_LENGTH }
-    requires empty { outbox.old ≡ [] }
-    ensures { MakesTurn T.leads session.old session.new target.old target.new
-        (came bhs.now pdu.entry.header pdu.entry.data.now) outbox.new result }
+    ensures { MakesTurn T.leads session.old session.new target.old target.new (K.held sink.old) (K.held sink.new)
+        (K.failures sink.old) (K.failures sink.new) outbox.old outbox.new
+        (came bhs.now pdu.entry.header pdu.entry.data.now) result }
 {
     let actions = session.on_pdu(pdu);
-    match actions.call {
+    match &actions.call {
         None => {
-            outbox.fill(bhs, &actions.pdus);
+            outbox.fill(sink, bhs, &actions.pdus);
             actions.end
         }
         Some(call) => {
-            let answer = target.serve(call.unit, call.asked, call.bytes);
+            let answer = target.serve(call.unit, call.asked, call.bytes.bytes());
             let answered = session.on_answer(call.task, &answer);
-            outbox.fill(bhs, &answered.pdus);
+            outbox.fill(sink, bhs, &answered.pdus);
             answered.end
         }
-    }
-}
-
-// Writes what stands in the outbox, in one write: the end that was called for, or that the sink failed.
-fn flush<K: Sink>(sink: &mut K, outbox: &mut Outbox, wanted: Option<End>) -> Option<End>
-    ensures written { IsSentOut (K.held sink.old) (K.held sink.new) (K.failures sink.old) (K.failures sink.new)
-        outbox.old wanted result }
-    ensures all_written { outbox.new ≡ [] }
-{
-    let written = sink.write_whole(outbox.bytes());
-    outbox.clear();
-    match written {
-        Ok(()) => wanted,
-        Err(_) => Some(End::OutputFailed),
     }
 }
 
@@ -68,23 +56,31 @@ fn fault_turn<K: Sink, T: Target>(
     outbox: &mut Outbox,
     bhs: &[u8],
     fault: PduFault,
-) -> End
+)
     requires bhs { length bhs.now ≡ BHS_LENGTH }
-    requires empty { outbox.old ≡ [] }
-    ensures { StreamTurn T.leads session.old session.new target.now target.now (K.held sink.old) (K.held sink.new)
-        (K.failures sink.old) (K.failures sink.new) (faulty fault bhs.now) (Some result) }
+    ensures { MakesTurn T.leads session.old session.new target.now target.now (K.held sink.old) (K.held sink.new)
+        (K.failures sink.old) (K.failures sink.new) outbox.old outbox.new (faulty fault bhs.now) (Some Protocol) }
 {
     let actions = session.on_fault(fault);
-    outbox.fill(bhs, &actions.pdus);
-    match flush(sink, outbox, actions.end) {
-        Some(end) => end,
-        None => End::Protocol,
+    outbox.fill(sink, bhs, &actions.pdus);
+}
+
+// Writes what waits at the session's end: this end, or that the sink failed.
+fn finish<K: Sink>(sink: &mut K, outbox: &mut Outbox, end: End) -> End
+    ensures { IsClosedAs (K.held sink.old) (K.held sink.new) (K.failures sink.old) (K.failures sink.new)
+        outbox.old end result }
+{
+    outbox.flush(sink);
+    if outbox.has_failed() {
+        End::OutputFailed
+    } else {
+        end
     }
 }
 
 // One read: how many bytes came. No answer waits meanwhile, for its initiator may send no more before it has it.
 fn read_more<S: Source>(inbox: &mut Inbox, outbox: &Outbox, source: &mut S) -> Result<usize, Failed>
-    requires all_written { outbox.now ≡ [] }
+    requires all_written { outbox.now.waiting ≡ [] }
     requires partial { length inbox.old < LONGEST_PDU }
     ensures ok { IfOk result (λ n. Filled (S.left source.old) (S.left source.new) inbox.old inbox.new n) }
     ensures err { OnErr result ((inbox.new ≡ inbox.old) × Keeps (S.left source.old) (S.left source.new)) }
@@ -95,7 +91,8 @@ fn read_more<S: Source>(inbox: &mut Inbox, outbox: &Outbox, source: &mut S) -> R
 }
 
 /// Serves a session in full feature phase over a stream until its end: what is written spells a legal transcript
-/// of what is read, whose calls the target answers. All memory is taken before the first read; refused, nothing
+/// of what is read, whose calls the target answers. Answers wait in the outbox and leave together, before each
+/// read, where they fill it, and at the end. All memory is taken before the first read; refused, nothing
 /// was read, written or asked.
 pub fn serve_stream<S: Source, K: Sink, T: Target>(
     alloc: Global,
@@ -104,7 +101,7 @@ pub fn serve_stream<S: Source, K: Sink, T: Target>(
     target: &mut T,
     start: Start,
 ) -> Result<End, NoMemory>
-    ensures transcribed { IfOk result (IsTranscribed T.leads start.exp_cmd_sn start.stat_sn
+    ensures transcribed { IfOk result (IsTranscribed T.leads start
         (S.left source.old) (S.left source.new) (K.held sink.old) (K.held sink.new) target.old target.new) }
     ensures input_failed { IfOk result (IsFailureOf InputFailed (S.failures source.old) (S.failures source.new)) }
     ensures output_failed { IfOk result (IsFailureOf OutputFailed (K.failures sink.old) (K.failures sink.new)) }
@@ -112,27 +109,35 @@ pub fn serve_stream<S: Source, K: Sink, T: Target>(
 {
     let mut inbox = Inbox::new(alloc)?;
     let mut outbox = Outbox::new(alloc)?;
-    let mut session = Session::new(start);
+    let mut session = Session::new(alloc, start)?;
     let mut reads: u64 = 0;
     while reads < u64::MAX {
         match front_of(inbox.bytes()) {
             Front::Whole { bhs, pdu, taken } => {
-                let wanted = turn(&mut session, target, &mut outbox, bhs, pdu);
-                match flush(sink, &mut outbox, wanted) {
-                    Some(end) => return Ok(end),
+                match turn(&mut session, target, sink, &mut outbox, bhs, pdu) {
+                    Some(end) => return Ok(finish(sink, &mut outbox, end)),
                     None => inbox.consume(taken),
+                }
+                if outbox.has_failed() {
+                    return Ok(End::OutputFailed);
                 }
             }
             Front::Faulty { bhs, fault } => {
-                let end = fault_turn(&mut session, target, sink, &mut outbox, bhs, fault);
-                return Ok(end);
+                fault_turn(&mut session, target, sink, &mut outbox, bhs, fault);
+                return Ok(finish(sink, &mut outbox, End::Protocol));
             }
-            Front::Partial => match read_more(&mut inbox, &outbox, source) {
-                Ok(0) => return Ok(End::EndOfInput),
-                Ok(_) => reads += 1,
-                Err(_) => return Ok(End::InputFailed),
-            },
+            Front::Partial => {
+                outbox.flush(sink);
+                if outbox.has_failed() {
+                    return Ok(End::OutputFailed);
+                }
+                match read_more(&mut inbox, &outbox, source) {
+                    Ok(0) => return Ok(End::EndOfInput),
+                    Ok(_) => reads += 1,
+                    Err(_) => return Ok(End::InputFailed),
+                }
+            }
         }
     }
-    Ok(End::EndOfInput)
+    Ok(finish(sink, &mut outbox, End::EndOfInput))
 }

@@ -1,5 +1,6 @@
 //! How much data a command moves, and which (RFC 7143, 11.3.4 and 11.4.5).
-ghost use Rattle.std.specs.Prelude.{◌≡◌, ◌≤◌, length, take};
+ghost use Rattle.std.specs.Prelude.{◌≡◌, ◌↔◌, IsTrue, ◌≤◌, length, take};
+ghost use Rattle.session.specs.Collecting.{HasToCollect};
 ghost use Rattle.session.specs.Transfer.{expected_transfer, data_for, sent_data, residual_count};
 
 use iscsi_pdu::ScsiCommand;
@@ -25,9 +26,18 @@ pub fn command_data<'a>(command: &ScsiCommand, need: u32, bytes: &'a [u8]) -> &'
     first_bytes(bytes, command.expected_length.min(need))
 }
 
+/// Whether a command that needs so many bytes has to collect them: a write that expects to send them, and of which so
+/// many came with it.
+pub fn has_to_collect(command: &ScsiCommand, need: u32, immediate: usize) -> bool
+    ensures { IsTrue result ↔ HasToCollect command.now need immediate }
+{
+    command.write && need <= command.expected_length && immediate < need as usize
+}
+
 /// What goes out of the data of an answer: a read's, as much as is expected.
 pub fn returned_data<'a>(command: &ScsiCommand, bytes: &'a [u8]) -> &'a [u8]
-    ensures { result.now ≡ sent_data command.now bytes.now }
+    ensures sent { result.now ≡ sent_data command.now bytes.now }
+    ensures reach { length result.now ≤ 4294967295 }
 {
     if !command.read {
         return &[];
@@ -35,8 +45,8 @@ pub fn returned_data<'a>(command: &ScsiCommand, bytes: &'a [u8]) -> &'a [u8]
     first_bytes(bytes, command.expected_length)
 }
 
-// The first bytes, or all where there are fewer.
-fn first_bytes(bytes: &[u8], most: u32) -> &[u8]
+/// The first bytes, or all where there are fewer.
+pub fn first_bytes(bytes: &[u8], most: u32) -> &[u8]
     ensures part { result.now ≡ take most bytes.now }
     ensures within { length result.now ≤ most }
 {

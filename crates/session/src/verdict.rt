@@ -1,16 +1,20 @@
 //! What becomes of a PDU that comes (RFC 7143, 4.2.2.1, 7.3 and 11.17).
 ghost use Rattle.std.specs.Prelude.{◌≡◌};
-ghost use Rattle.session.specs.Verdict.{verdict_of, is_refused, reason_of};
+ghost use Rattle.session.specs.Standing.{Standing, window_of};
+ghost use Rattle.session.specs.Verdict.{window_verdict, verdict_of, is_refused, most_immediate, reason_of};
 
-use crate::data_in::MAX_DATA_IN_LENGTH;
+use crate::collecting::WaitingCommands;
+use crate::lengths::Lengths;
 use crate::transfer::expected_data_length;
-use crate::window::WINDOW;
+use crate::window::Window;
 use iscsi_pdu::{PduFault, ScsiCommand};
 
 /// What becomes of a PDU that comes.
 #[derive(Clone, Copy, Debug, PartialEq, Eq)]
 pub enum Verdict {
     Accepted,
+    /// An immediate SCSI Command, while another one waits for its data: the task set is full (SAM-5, 5.3.1).
+    Full,
     /// Passed over: it lies outside the command window.
     Ignored,
     /// Out of order: commands before it are missing.
@@ -22,9 +26,6 @@ pub enum Verdict {
 /// The Initiator Task Tag that no task has (RFC 7143, 11.2.1.8).
 pub const RESERVED_TAG: u32 = 0xFFFF_FFFF;
 
-/// The most bytes that a read may expect, which one Data-In takes.
-pub const MAX_READ_LENGTH: u32 = MAX_DATA_IN_LENGTH;
-
 /// Reasons of a Reject (RFC 7143, 11.17.1).
 pub const PROTOCOL_ERROR: u8 = 0x04;
 
@@ -32,18 +33,39 @@ pub const COMMAND_NOT_SUPPORTED: u8 = 0x05;
 
 pub const INVALID_PDU_FIELD: u8 = 0x09;
 
-/// What becomes of a command that needs this much data, where this CmdSN is expected.
-pub fn command_verdict(exp_cmd_sn: u32, command: &ScsiCommand, bytes: &[u8], need: u32) -> Verdict
-    ensures { result ≡ verdict_of exp_cmd_sn command.now bytes.now need }
+/// What becomes of a SCSI Command, where these lengths are in force and this stands behind what came.
+pub fn command_verdict(
+    lengths: Lengths,
+    window: Window,
+    waiting: &WaitingCommands,
+    command: &ScsiCommand,
+    bytes: &[u8],
+) -> Verdict
+    ensures { (s : Standing) → window ≡ window_of s → s.collecting ≡ waiting.now
+        → result ≡ verdict_of lengths s command.now bytes.now }
 {
-    let ahead = command.numbers.cmd_sn.wrapping_sub(exp_cmd_sn);
-    if command.immediate || ahead == 0 {
-        if has_cause_of_reject(command, bytes, need) {
+    let refused = has_cause_of_reject(lengths, waiting, command, bytes);
+    let verdict = window_verdict(window, command.immediate, command.numbers.cmd_sn, refused);
+    if verdict == Verdict::Accepted && command.immediate && waiting.has_immediate() {
+        Verdict::Full
+    } else {
+        verdict
+    }
+}
+
+/// What becomes of a PDU with this I bit and this CmdSN, which is rejected in its turn if there is a cause (RFC 7143,
+/// 4.2.2.1).
+pub fn window_verdict(window: Window, immediate: bool, cmd_sn: u32, refused: bool) -> Verdict
+    ensures { (s : Standing) → window ≡ window_of s → result ≡ window_verdict s immediate cmd_sn refused }
+{
+    let ahead = cmd_sn.wrapping_sub(window.exp_cmd_sn);
+    if immediate || (ahead == 0 && 0 < window.size) {
+        if refused {
             Verdict::Refused(PROTOCOL_ERROR)
         } else {
             Verdict::Accepted
         }
-    } else if ahead < WINDOW {
+    } else if ahead < window.size {
         Verdict::Gap
     } else {
         Verdict::Ignored
@@ -51,13 +73,30 @@ pub fn command_verdict(exp_cmd_sn: u32, command: &ScsiCommand, bytes: &[u8], nee
 }
 
 // Whether a command that has its turn is one against the protocol.
-fn has_cause_of_reject(command: &ScsiCommand, bytes: &[u8], need: u32) -> bool
-    ensures { result ≡ is_refused command.now bytes.now need }
+fn has_cause_of_reject(
+    lengths: Lengths,
+    waiting: &WaitingCommands,
+    command: &ScsiCommand,
+    bytes: &[u8],
+) -> bool
+    ensures { (s : Standing) → s.collecting ≡ waiting.now
+        → result ≡ is_refused lengths s command.now bytes.now }
 {
     command.task_tag == RESERVED_TAG
+        || waiting.has(command.task_tag)
         || (expected_data_length(command) as usize) < bytes.len()
-        || (command.read && MAX_READ_LENGTH < command.expected_length)
-        || (command.write && need <= command.expected_length && bytes.len() < need as usize)
+        || (most_immediate(lengths) as usize) < bytes.len()
+}
+
+// How much data may come with a command.
+fn most_immediate(lengths: Lengths) -> u32
+    ensures { result ≡ most_immediate lengths }
+{
+    if lengths.immediate_data {
+        lengths.first_burst
+    } else {
+        0
+    }
 }
 
 /// Why a fault is rejected that stands in place of a PDU.

@@ -13,7 +13,8 @@ use Rattle.unit_state.specs.Groups.{after_change, set_by, with_access}
 use Rattle.unit_state.specs.Medium.{Done}
 use Rattle.unit_state.specs.State.{ControlValue, unit_of}
 
-pub set_is : (c : ControlValue) (n : ℕ) (bytes : List ℕ) (r : Result AccessMapValue AsetFault) → is_group_list n ≡ true → r ≡ access_after Explicit c.access (take n bytes) → r ≡ set_by c n bytes
+pub set_is : (c : ControlValue) (n : ℕ) (bytes : List ℕ) (r : Result AccessMapValue AsetFault) → is_group_list n ≡ true
+    → r ≡ access_after Explicit c.access (take n bytes) → r ≡ set_by c n bytes
 set_is c n bytes r fits is = rw fits is
 
 -- the devices claim what each of them claims
@@ -26,8 +27,11 @@ second_claims true b h = h
 second_claims false b h = absurd (cc)
 
 -- a SET TARGET PORT GROUPS that did its change
-pub set_served : (claims : Bool) (c now : ControlValue) (old new : List (List ℕ)) (session n : ℕ) (bytes : List ℕ) (access : AccessMapValue) (reply : ReplyValue) → set_by c n bytes ≡ Ok access → now ≡ with_access c (Some session) access
-    → (IsTrue claims → new ≡ old) → reply ≡ good [] → IsServed claims (unit_of c old) (unit_of now new) session (SetTargetPortGroups n) bytes reply
+pub set_served : (claims : Bool) (c now : ControlValue) (old new : List (List ℕ)) (session n : ℕ) (bytes : List ℕ)
+    (access : AccessMapValue) (reply : ReplyValue) → set_by c n bytes ≡ Ok access → now ≡ with_access c
+    (Some session) access
+    → (IsTrue claims → new ≡ old) → reply ≡ good []
+    → IsServed claims (unit_of c old) (unit_of now new) session (SetTargetPortGroups n) bytes reply
 set_served claims c now old new session n bytes access reply set is same said = rw said (record {
   finding = Done [];
   chosen = tt;

@@ -1,5 +1,6 @@
 -- Rules that refuse a command, or do not.
-use Rattle.std.proofs.Common.{◌≡◌, ℕ, ◌+◌, ◌≤◌, Bool, true, false, nat_lt, nat_eq, if◌then◌else◌, List, length, Option, Some, None, Result, Ok, Err, refl, sym, arith}
+use Rattle.std.proofs.Common.{◌≡◌, ℕ, ◌+◌, ◌≤◌, Bool, true, false, nat_lt, nat_eq, if◌then◌else◌, List}
+use Rattle.std.proofs.Common.{length, Option, Some, None, Result, Ok, Err, refl, sym, arith}
 use Rattle.std.specs.Option.{option_map, option_or}
 use Rattle.std.proofs.lemmas.Bool.Decides.{nat_tests}
 use Rattle.access_states.specs.AccessMap.{AccessMapValue}
@@ -14,7 +15,10 @@ use Rattle.scsi_types.specs.Attention.{attention_sense}
 use Rattle.scsi_types.specs.Cdb.{need_of}
 use Rattle.scsi_types.specs.ReplyValue.{check}
 use Rattle.scsi_types.specs.declared.attention.UnitAttention.{UnitAttention}
-use Rattle.scsi_types.specs.declared.attention.UnitAttention.TheVariants.{PowerOn, ReservationsPreempted, ReservationsReleased, RegistrationsPreempted, AccessStateChanged}
+use Rattle.scsi_types.specs.declared.attention.UnitAttention.TheVariants.{PowerOn, ReservationsPreempted}
+use Rattle.scsi_types.specs.declared.attention.UnitAttention.TheVariants.{ReservationsReleased}
+use Rattle.scsi_types.specs.declared.attention.UnitAttention.TheVariants.{RegistrationsPreempted}
+use Rattle.scsi_types.specs.declared.attention.UnitAttention.TheVariants.{AccessStateChanged}
 use Rattle.scsi_types.specs.declared.command.Command.{Command as ScsiCommand}
 use Rattle.scsi_types.specs.declared.command.Command.TheVariants as commands
 use Rattle.scsi_types.specs.declared.command.CdbFault.{CdbFault}
@@ -27,18 +31,25 @@ use Rattle.unit_state.specs.Medium.{Range, Fits, range_of, work_of, work_asked}
 use Rattle.unit_state.specs.Groups.{IsTaken, set_by}
 use Rattle.unit_state.specs.Ops.{kind_asked}
 use Rattle.unit_state.specs.Reserve.{HasList}
-use Rattle.unit_state.specs.Refusal.{Request, request, refusal, refusal_reply, attention_by, attention_rule, conflict_by, conflict_rule, opcode_by, opcode_rule, access_by, access_rule, state_for, field_by, field_rule, saved_rule, range_rule, range_by, outside, asks_saved, groups_list_by, list_by, list_rule}
+use Rattle.unit_state.specs.Refusal.{Request, request, refusal, refusal_reply, attention_by, attention_rule}
+use Rattle.unit_state.specs.Refusal.{conflict_by, conflict_rule, opcode_by, opcode_rule, access_by}
+use Rattle.unit_state.specs.Refusal.{access_rule, state_for, field_by, field_rule, saved_rule, range_rule}
+use Rattle.unit_state.specs.Refusal.{range_by, outside, asks_saved, groups_list_by, list_by, list_rule}
 use Rattle.unit_state.specs.Route.{IsAdmitted, IsRefused}
 
 -- ---- no refusal tells of a failure
 
 abbrev IsQuiet : Option Refusal → Type 0
-IsQuiet o = (refused : Refusal) → o ≡ Some refused → (after : List (List ℕ)) (lasting : List RecordValue) → choice_of (refusal_reply refused) after lasting ≡ Fine
+IsQuiet o =
+    (refused : Refusal) → o ≡ Some refused → (after : List (List ℕ)) (lasting : List RecordValue)
+    → choice_of (refusal_reply refused) after lasting ≡ Fine
 
 quiet_none : IsQuiet None
 quiet_none refused is after lasting = absurd (cc)
 
-quiet_some : (a : Refusal) → ((after : List (List ℕ)) (lasting : List RecordValue) → choice_of (refusal_reply a) after lasting ≡ Fine) → IsQuiet (Some a)
+quiet_some : (a : Refusal)
+    → ((after : List (List ℕ)) (lasting : List RecordValue) → choice_of (refusal_reply a) after lasting ≡ Fine)
+    → IsQuiet (Some a)
 quiet_some a quiet refused is after lasting = let e : refused ≡ a = cc in rw e (quiet after lasting)
 
 quiet_or : (a b : Option Refusal) → IsQuiet a → IsQuiet b → IsQuiet (option_or a b)
@@ -53,7 +64,8 @@ quiet_if : (test : Bool) (a : Refusal) → IsQuiet (Some a) → IsQuiet (if test
 quiet_if true a q = q
 quiet_if false a q = quiet_none
 
-attention_is_fine : (attention : UnitAttention) (after : List (List ℕ)) (lasting : List RecordValue) → choice_of (check (attention_sense attention)) after lasting ≡ Fine
+attention_is_fine : (attention : UnitAttention) (after : List (List ℕ)) (lasting : List RecordValue)
+    → choice_of (check (attention_sense attention)) after lasting ≡ Fine
 attention_is_fine PowerOn after lasting = refl
 attention_is_fine ReservationsPreempted after lasting = refl
 attention_is_fine ReservationsReleased after lasting = refl
@@ -111,7 +123,8 @@ quiet_list c (Ok (commands.Write lba n fua)) bytes = quiet_none
 quiet_list c (Ok (commands.CompareAndWrite lba n fua)) bytes = quiet_none
 quiet_list c (Ok (commands.SynchronizeCache lba n)) bytes = quiet_none
 quiet_list c (Ok (commands.PersistentReserveIn action n)) bytes = quiet_none
-quiet_list c (Ok (commands.PersistentReserveOut action scope kind n)) bytes = quiet_unless (nat_eq n 24) _ (quiet_some _ (λ after lasting. refl))
+quiet_list c (Ok (commands.PersistentReserveOut action scope kind n)) bytes =
+    quiet_unless (nat_eq n 24) _ (quiet_some _ (λ after lasting. refl))
 quiet_list c (Ok (commands.ReportLuns select n)) bytes = quiet_none
 quiet_list c (Ok (commands.ReportTargetPortGroups n)) bytes = quiet_none
 quiet_list c (Ok (commands.SetTargetPortGroups n)) bytes = quiet_groups (set_by c n bytes)
@@ -154,7 +167,8 @@ module _ (c : ControlValue) (r : Request) (none : refusal c r ≡ None) where
   behind_opcode = none_right (opcode_rule c r) of_access (none_right (attention_rule c r) (option_or (opcode_rule c r) of_access) none)
 
   behind_kind : of_field ≡ None
-  behind_kind = none_right (conflict_rule c r) of_field (none_right (access_rule c r) (option_or (conflict_rule c r) of_field) behind_opcode)
+  behind_kind =
+      none_right (conflict_rule c r) of_field (none_right (access_rule c r) (option_or (conflict_rule c r) of_field) behind_opcode)
 
   behind_saved : of_range ≡ None
   behind_saved = none_right (saved_rule c r) of_range (none_right (field_rule c r) (option_or (saved_rule c r) of_range) behind_kind)
@@ -176,7 +190,8 @@ known_fault : (fault : CdbFault) (bytes : List ℕ) → opcode_by (kind_asked (E
 known_fault UnknownOpcode bytes known whole = cc
 known_fault (BadField op) bytes known whole = cc
 
-pub asks_something : (c : ControlValue) (session : ℕ) (asked : Result ScsiCommand CdbFault) (bytes : List ℕ) (fault : CdbFault) → None ≡ refusal c (request session asked bytes) → asked ≡ Err fault → ⊥
+pub asks_something : (c : ControlValue) (session : ℕ) (asked : Result ScsiCommand CdbFault) (bytes : List ℕ)
+    (fault : CdbFault) → None ≡ refusal c (request session asked bytes) → asked ≡ Err fault → ⊥
 asks_something c session asked bytes fault none is =
     let nothing : refusal c (request session (Err fault) bytes) ≡ None = rw is at (sym none) in
     known_fault fault bytes (known c (request session (Err fault) bytes) nothing) (whole c (request session (Err fault) bytes) nothing)
@@ -199,7 +214,8 @@ enough command bytes h =
     let not_short : nat_lt (length bytes) (need_of (Ok command)) ≡ false = not_if _ _ h in
     grind (arith, nat_tests)
 
-fitting : (total : ℕ) (command : ScsiCommand) (bytes : List ℕ) → need_of (Ok command) ≤ length bytes → range_by total (range_of (work_of command bytes)) ≡ None → Fits total (work_of command bytes)
+fitting : (total : ℕ) (command : ScsiCommand) (bytes : List ℕ) → need_of (Ok command) ≤ length bytes
+    → range_by total (range_of (work_of command bytes)) ≡ None → Fits total (work_of command bytes)
 fitting total commands.TestUnitReady bytes le h = tt
 fitting total (commands.RequestSense n) bytes le h = tt
 fitting total (commands.Inquiry page n) bytes le h = tt
@@ -220,7 +236,8 @@ taken : (r : Result AccessMapValue AsetFault) → groups_list_by r ≡ None → 
 taken (Ok new) h = tt
 taken (Err fault) h = absurd (cc)
 
-listing : (c : ControlValue) (command : ScsiCommand) (bytes : List ℕ) → need_of (Ok command) ≤ length bytes → list_by c (Ok command) bytes ≡ None → HasList c command bytes
+listing : (c : ControlValue) (command : ScsiCommand) (bytes : List ℕ) → need_of (Ok command) ≤ length bytes
+    → list_by c (Ok command) bytes ≡ None → HasList c command bytes
 listing c commands.TestUnitReady bytes le h = tt
 listing c (commands.RequestSense n) bytes le h = tt
 listing c (commands.Inquiry page n) bytes le h = tt
@@ -239,12 +256,19 @@ listing c (commands.ReportLuns select n) bytes le h = tt
 listing c (commands.ReportTargetPortGroups n) bytes le h = tt
 listing c (commands.SetTargetPortGroups n) bytes le h = taken (set_by c n bytes) h
 
-pub admitted : (c : ControlValue) (session : ℕ) (asked : Result ScsiCommand CdbFault) (bytes : List ℕ) (command : ScsiCommand) → None ≡ refusal c (request session asked bytes) → asked ≡ Ok command → IsAdmitted c (request session asked bytes) command
+pub admitted : (c : ControlValue) (session : ℕ) (asked : Result ScsiCommand CdbFault) (bytes : List ℕ)
+    (command : ScsiCommand) → None ≡ refusal c (request session asked bytes) → asked ≡ Ok command → IsAdmitted c
+    (request session asked bytes) command
 admitted c session asked bytes command none is =
     let nothing : refusal c (request session (Ok command) bytes) ≡ None = rw is at (sym none) in
     let r : Request = request session (Ok command) bytes in
     let le : need_of (Ok command) ≤ length bytes = enough command bytes (whole c r nothing) in
-    record { asks = is; unrefused = sym none; fits = fitting c.total command bytes le (ranged c r nothing); list = listing c command bytes le (listed c r nothing) }
+    record {
+      asks = is;
+      unrefused = sym none;
+      fits = fitting c.total command bytes le (ranged c r nothing);
+      list = listing c command bytes le (listed c r nothing);
+    }
 
 -- ---- the rules one after the other
 

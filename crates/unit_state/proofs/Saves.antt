@@ -1,5 +1,6 @@
 -- Saves that failed, and PERSISTENT RESERVE OUT with them.
-use Rattle.std.proofs.Common.{◌≡◌, ℕ, ◌+◌, ◌<◌, Bool, true, List, [], ◌∷◌, ◌++◌, length, All, Result, Ok, Err, IfOk, inr, sym, ap, ◌∙◌, subst, arith}
+use Rattle.std.proofs.Common.{◌≡◌, ℕ, ◌+◌, ◌<◌, Bool, true, List, [], ◌∷◌, ◌++◌, length, All, Result, Ok, Err}
+use Rattle.std.proofs.Common.{IfOk, inr, sym, ap, ◌∙◌, subst, arith}
 use Rattle.std.specs.Prelude.{Contains}
 use Rattle.std.proofs.lemmas.List.Elements.{All-contains_itself, All-push, Contains-append_left, Contains-append_right}
 use Rattle.aptpl_file.specs.Lasts.{left_by}
@@ -27,7 +28,8 @@ use Rattle.unit_state.proofs.Works.{reserved_served}
 none_of : {X : Type 0} (P : X → Type 0) → All P []
 none_of P k d lt = absurd (omega arith)
 
-pub some_left : (fault : SaveFault) (records : List RecordValue) (saved : RecordValue) → 0 < length records → 0 < length (left_by fault records saved)
+pub some_left : (fault : SaveFault) (records : List RecordValue) (saved : RecordValue) → 0 < length records
+    → 0 < length (left_by fault records saved)
 some_left OldRoot records saved some = some
 some_left IdleSlot [] saved some = absurd (omega arith)
 some_left IdleSlot (r ∷ rs) saved some = omega arith
@@ -50,7 +52,8 @@ module _ (r : RecordValue) (rs : List RecordValue) (saved : RecordValue) where
   two_among : All (Contains ever) (r ∷ saved ∷ [])
   two_among = All-push (Contains ever) (r ∷ []) saved one_among saved_among
 
-pub among_left : (fault : SaveFault) (records : List RecordValue) (saved : RecordValue) → 0 < length records → All (Contains (records ++ saved ∷ [])) (left_by fault records saved)
+pub among_left : (fault : SaveFault) (records : List RecordValue) (saved : RecordValue) → 0 < length records
+    → All (Contains (records ++ saved ∷ [])) (left_by fault records saved)
 among_left OldRoot records saved some = λ k d lt. Contains-append_left records (saved ∷ []) _ (All-contains_itself records k d lt)
 among_left IdleSlot [] saved some = absurd (omega arith)
 among_left IdleSlot (r ∷ rs) saved some = one_among r rs saved
@@ -58,13 +61,22 @@ among_left NewRoot [] saved some = absurd (omega arith)
 among_left NewRoot (r ∷ rs) saved some = two_among r rs saved
 
 -- it could not be saved
-pub lost : (c now : ControlValue) (e : Effect) (registry : RegistryValue) (told : List Told) (saved : RecordValue) (fault : SaveFault) (reply : ReplyValue) → e ≡ Done registry told → saved ≡ to_last registry
-    → (c.lasting ≡ saved ∷ [] → c.doubt ≡ true) → 0 < length c.lasting → now ≡ with_doubt c (left_by fault c.lasting saved) → reply ≡ check internal_target_failure → IsReserved c e now reply
+pub lost : (c now : ControlValue) (e : Effect) (registry : RegistryValue) (told : List Told) (saved : RecordValue)
+    (fault : SaveFault) (reply : ReplyValue) → e ≡ Done registry told → saved ≡ to_last registry
+    → (c.lasting ≡ saved ∷ [] → c.doubt ≡ true) → 0 < length c.lasting
+    → now ≡ with_doubt c (left_by fault c.lasting saved) → reply ≡ check internal_target_failure
+    → IsReserved c e now reply
 lost c now e registry told saved fault reply does is needed some leaves says =
     let after : now.lasting ≡ left_by fault c.lasting saved = ap (λ (d : ControlValue). d.lasting) leaves in
     let may : MayFailToSave c (Done registry told) (left_by fault c.lasting (to_last registry)) =
     subst (λ (s : RecordValue). MayFailToSave c (Done registry told) (left_by fault c.lasting s)) is
-    (record { needed = λ h. needed (h ∙ ap (λ (s : RecordValue). s ∷ []) (sym is)); some = some_left fault c.lasting saved some; among = subst (λ (s : RecordValue). All (Contains (c.lasting ++ s ∷ [])) (left_by fault c.lasting saved)) is (among_left fault c.lasting saved some) }) in
+    (record {
+      needed = λ h. needed (h ∙ ap (λ (s : RecordValue). s ∷ []) (sym is));
+      some = some_left fault c.lasting saved some;
+      among = subst
+          (λ (s : RecordValue). All (Contains (c.lasting ++ s ∷ [])) (left_by fault c.lasting saved)) is
+          (among_left fault c.lasting saved some);
+    }) in
     let here : MayFailToSave c e now.lasting =
     subst (λ (f : Effect). MayFailToSave c f now.lasting) (sym does)
     (subst (MayFailToSave c (Done registry told)) (sym (after ∙ ap (left_by fault c.lasting) is)) may) in
@@ -72,14 +84,19 @@ lost c now e registry told saved fault reply does is needed some leaves says =
 
 -- ---- as it is served
 
-pub reserved_ok : {E : Type 0} (claims : Bool) (c now : ControlValue) (blocks : List (List ℕ)) (session : ℕ) (command : Command) (action : PrOutAction) (scope kind n : ℕ) (bytes : List ℕ) (asked : PrOut) (result : Result ReplyValue E) → command ≡ PersistentReserveOut action scope kind n
-    → asked ≡ pr_out action scope kind bytes → IfOk result (IsReserved c (effect_by c session asked) now) → IfOk result (IsServed claims (unit_of c blocks) (unit_of now blocks) session command bytes)
+pub reserved_ok : {E : Type 0} (claims : Bool) (c now : ControlValue) (blocks : List (List ℕ)) (session : ℕ)
+    (command : Command) (action : PrOutAction) (scope kind n : ℕ) (bytes : List ℕ) (asked : PrOut)
+    (result : Result ReplyValue E) → command ≡ PersistentReserveOut action scope kind n
+    → asked ≡ pr_out action scope kind bytes → IfOk result (IsReserved c (effect_by c session asked) now)
+    → IfOk result (IsServed claims (unit_of c blocks) (unit_of now blocks) session command bytes)
 reserved_ok claims c now blocks session command action scope kind n bytes asked (Err e) is same ends = tt
 reserved_ok claims c now blocks session command action scope kind n bytes asked (Ok reply) is same ends =
-    rw is (reserved_served claims c now blocks session action scope kind n bytes reply (subst (λ (q : PrOut). IsReserved c (effect_by c session q) now reply) same ends))
+    rw is (reserved_served claims c now blocks session action scope kind n bytes reply
+    (subst (λ (q : PrOut). IsReserved c (effect_by c session q) now reply) same ends))
 
 -- the other counts stay
-pub counts_beside : {E : Type 0} (others before after : ℕ) (blocks : List (List ℕ)) (lasting : List RecordValue) (result : Result ReplyValue E) → IfOk result (λ reply. Tells before after (IsFine (choice_of reply blocks lasting)))
+pub counts_beside : {E : Type 0} (others before after : ℕ) (blocks : List (List ℕ)) (lasting : List RecordValue)
+    (result : Result ReplyValue E) → IfOk result (λ reply. Tells before after (IsFine (choice_of reply blocks lasting)))
     → IfOk result (λ reply. Tells (others + before) (others + after) (IsFine (choice_of reply blocks lasting)))
 counts_beside others before after blocks lasting (Err e) t = tt
 counts_beside others before after blocks lasting (Ok reply) t = record {

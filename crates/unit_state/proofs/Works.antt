@@ -23,11 +23,14 @@ use Rattle.unit_state.specs.State.{ControlValue, unit_of}
 use Rattle.unit_state.specs.Choice.{Choice, Fine, ReadFailed, WriteFailed, OpenFailed, SaveFailed, IsFine, choice_of}
 use Rattle.unit_state.specs.Entry.{MayCome, described, left_by, returned_by}
 use Rattle.unit_state.specs.Step.{is_describing, MayTake}
-use Rattle.unit_state.specs.Medium.{Work, MayChoose, Range, Nothing, Reads, Writes, Compares, Flushes, Finding, Done, WriteError, SaveError, compared_by, found_by, reply_by, work_of}
+use Rattle.unit_state.specs.Medium.{Work, MayChoose, Range, Nothing, Reads, Writes, Compares, Flushes}
+use Rattle.unit_state.specs.Medium.{Finding, Done, WriteError, SaveError, compared_by, found_by, reply_by}
+use Rattle.unit_state.specs.Medium.{work_of}
 use Rattle.unit_state.specs.Worked.{IsWorked, choice_at, finding_at}
 
 -- the reply of a medium command tells its choice
-pub told_choice : (end : MediumEnd) (bytes : List ℕ) (new : List (List ℕ)) (lasting : List RecordValue) → choice_of (reply_by (finding_at end bytes)) new lasting ≡ choice_at end new
+pub told_choice : (end : MediumEnd) (bytes : List ℕ) (new : List (List ℕ)) (lasting : List RecordValue)
+    → choice_of (reply_by (finding_at end bytes)) new lasting ≡ choice_at end new
 told_choice ends.Done bytes new lasting = refl
 told_choice (ends.Miscompare at) bytes new lasting = refl
 told_choice ends.ReadFailed bytes new lasting = refl
@@ -35,7 +38,8 @@ told_choice ends.WriteFailed bytes new lasting = refl
 told_choice ends.FlushFailed bytes new lasting = refl
 
 -- which is fine just where no call failed
-pub fine_end : (end : MediumEnd) (new : List (List ℕ)) (before now : ℕ) → Tells before now (IsUnfailed end) → Tells before now (IsFine (choice_at end new))
+pub fine_end : (end : MediumEnd) (new : List (List ℕ)) (before now : ℕ) → Tells before now (IsUnfailed end)
+    → Tells before now (IsFine (choice_at end new))
 fine_end ends.Done new before now t = record { later = t.later; stays = λ r d. t.stays r tt; rises = λ r f. absurd (f refl) }
 fine_end (ends.Miscompare at) new before now t = record { later = t.later; stays = λ r d. t.stays r tt; rises = λ r f. absurd (f refl) }
 fine_end ends.ReadFailed new before now t = record { later = t.later; stays = λ r d. absurd (cc); rises = λ r f. t.rises r (λ d. d) }
@@ -57,7 +61,8 @@ module _ (claims : Bool) (old : List (List ℕ)) (r : Range) (bytes : List ℕ) 
   no_difference : held ≡ given → first_difference held given ≡ None
   no_difference same = ap (λ (h : List ℕ). first_difference h given) same ∙ differs_nowhere given
 
-  equal_done : (new : List (List ℕ)) → (IsTrue claims → held ≡ given) → (IsTrue claims → new ≡ after) → IsWorked claims old new (Compares r bytes fua) ends.Done []
+  equal_done : (new : List (List ℕ)) → (IsTrue claims → held ≡ given) → (IsTrue claims → new ≡ after)
+      → IsWorked claims old new (Compares r bytes fua) ends.Done []
   equal_done new same wrote = record {
     chosen = tt;
     may = inl refl;
@@ -66,7 +71,10 @@ module _ (claims : Bool) (old : List (List ℕ)) (r : Range) (bytes : List ℕ) 
     leaves = λ h. wrote h ∙ ap (λ (o : Option ℕ). compared_by o old after) (sym (no_difference (same h)));
   }
 
-  torn_write : (end : MediumEnd) (new : List (List ℕ)) → choice_at end new ≡ WriteFailed new → finding_at end [] ≡ WriteError → (IsTrue claims → held ≡ given) → (IsTrue claims → Between old r.lba (write_instance r.blocks bytes) new) → IsWorked claims old new (Compares r bytes fua) end []
+  torn_write : (end : MediumEnd) (new : List (List ℕ)) → choice_at end new ≡ WriteFailed new
+      → finding_at end [] ≡ WriteError → (IsTrue claims → held ≡ given)
+      → (IsTrue claims → Between old r.lba (write_instance r.blocks bytes) new)
+      → IsWorked claims old new (Compares r bytes fua) end []
   torn_write end new failed tells same between = rw (failed, tells) (record {
     chosen = tt;
     may = refl;
@@ -76,8 +84,10 @@ module _ (claims : Bool) (old : List (List ℕ)) (r : Range) (bytes : List ℕ) 
   })
 
   -- without a flush
-  pub compare_worked : (end : MediumEnd) (new : List (List ℕ)) → IsCompareEnd end → OnMiscompare end (λ at. at < 512 * r.blocks) → (IsTrue claims → OnWriting end (held ≡ given))
-      → (IsTrue claims → OnMiscompare end (λ at. first_difference held given ≡ Some at)) → (IsTrue claims → OnUnwritten end (new ≡ old)) → (IsTrue claims → OnDone end (new ≡ after))
+  pub compare_worked : (end : MediumEnd) (new : List (List ℕ)) → IsCompareEnd end
+      → OnMiscompare end (λ at. at < 512 * r.blocks) → (IsTrue claims → OnWriting end (held ≡ given))
+      → (IsTrue claims → OnMiscompare end (λ at. first_difference held given ≡ Some at))
+      → (IsTrue claims → OnUnwritten end (new ≡ old)) → (IsTrue claims → OnDone end (new ≡ after))
       → (IsTrue claims → Between old r.lba (write_instance r.blocks bytes) new) → IsWorked claims old new (Compares r bytes fua) end []
   compare_worked ends.Done new is within same differs unwritten wrote between = equal_done new same wrote
   compare_worked (ends.Miscompare at) new is within same differs unwritten wrote between = record {
@@ -94,23 +104,29 @@ module _ (claims : Bool) (old : List (List ℕ)) (r : Range) (bytes : List ℕ) 
     told = λ h. refl;
     leaves = unwritten;
   }
-  compare_worked ends.WriteFailed new is within same differs unwritten wrote between = torn_write ends.WriteFailed new refl refl same between
+  compare_worked ends.WriteFailed new is within same differs unwritten wrote between =
+      torn_write ends.WriteFailed new refl refl same between
   compare_worked ends.FlushFailed new is within same differs unwritten wrote between = absurd is
 
   -- the flush behind it
-  pub compare_flushed : (end : MediumEnd) (mid new : List (List ℕ)) → IsSyncEnd end → (IsTrue claims → held ≡ given) → (IsTrue claims → mid ≡ after) → (IsTrue claims → Between old r.lba (write_instance r.blocks bytes) mid) → (IsTrue claims → new ≡ mid)
+  pub compare_flushed : (end : MediumEnd) (mid new : List (List ℕ)) → IsSyncEnd end → (IsTrue claims → held ≡ given)
+      → (IsTrue claims → mid ≡ after) → (IsTrue claims → Between old r.lba (write_instance r.blocks bytes) mid)
+      → (IsTrue claims → new ≡ mid)
       → IsWorked claims old new (Compares r bytes fua) end []
   compare_flushed ends.Done mid new is same wrote between kept = equal_done new same (λ h. kept h ∙ wrote h)
   compare_flushed ends.FlushFailed mid new is same wrote between kept =
-      torn_write ends.FlushFailed new refl refl same (λ h. subst (Between old r.lba (write_instance r.blocks bytes)) (sym (kept h)) (between h))
+      torn_write ends.FlushFailed new refl refl same
+      (λ h. subst (Between old r.lba (write_instance r.blocks bytes)) (sym (kept h)) (between h))
   compare_flushed (ends.Miscompare at) mid new is same wrote between kept = absurd is
   compare_flushed ends.ReadFailed mid new is same wrote between kept = absurd is
   compare_flushed ends.WriteFailed mid new is same wrote between kept = absurd is
 
 -- a flush alone
-pub sync_worked : (claims : Bool) (old new : List (List ℕ)) (r : Range) (end : MediumEnd) → IsSyncEnd end → (IsTrue claims → new ≡ old) → IsWorked claims old new (Flushes r) end []
+pub sync_worked : (claims : Bool) (old new : List (List ℕ)) (r : Range) (end : MediumEnd) → IsSyncEnd end
+    → (IsTrue claims → new ≡ old) → IsWorked claims old new (Flushes r) end []
 sync_worked claims old new r ends.Done is kept = record { chosen = tt; may = refl; torn = λ h. tt; told = λ h. refl; leaves = kept }
-sync_worked claims old new r ends.FlushFailed is kept = record { chosen = tt; may = refl; torn = kept; told = λ h. refl; leaves = λ h. refl }
+sync_worked claims old new r ends.FlushFailed is kept =
+    record { chosen = tt; may = refl; torn = kept; told = λ h. refl; leaves = λ h. refl }
 sync_worked claims old new r (ends.Miscompare at) is kept = absurd is
 sync_worked claims old new r ends.ReadFailed is kept = absurd is
 sync_worked claims old new r ends.WriteFailed is kept = absurd is
@@ -132,7 +148,8 @@ no_save (Compares r bytes flushed) records may = may
 no_save (Flushes r) records may = may
 
 -- what the medium may come to a command may
-may_come : (c : ControlValue) (session : ℕ) (command : Command) (bytes : List ℕ) (choice : Choice) → MayChoose (work_of command bytes) choice → MayCome c session (Ok command) bytes choice
+may_come : (c : ControlValue) (session : ℕ) (command : Command) (bytes : List ℕ) (choice : Choice)
+    → MayChoose (work_of command bytes) choice → MayCome c session (Ok command) bytes choice
 may_come c session command bytes Fine may = tt
 may_come c session command bytes ReadFailed may = may
 may_come c session command bytes (WriteFailed blocks) may = may
@@ -140,22 +157,30 @@ may_come c session command bytes OpenFailed may = absurd (no_open (work_of comma
 may_come c session command bytes (SaveFailed records) may = absurd (no_save (work_of command bytes) records may)
 
 -- one that the medium answers
-pub medium_served : (claims : Bool) (c now : ControlValue) (old new : List (List ℕ)) (session : ℕ) (command : Command) (bytes read kept : List ℕ) (end : MediumEnd) (reply : ReplyValue)
-    → ((finding : Finding) → returned_by c session command bytes finding ≡ reply_by finding) → ((choice : Choice) → left_by c session command bytes choice ≡ c) → now ≡ c → IsWorked claims old new (work_of command bytes) end read → kept ≡ read → reply ≡ reply_by (finding_at end kept) → IsServed claims (unit_of c old) (unit_of now new) session command bytes reply
-medium_served claims c now old new session command bytes read kept end reply medium leaves same_control worked same is = rw (is, same, same_control) (record {
-  finding = finding_at end read;
-  chosen = rw (told_choice end read new c.lasting) (may_come c session command bytes (choice_at end new) worked.chosen);
-  may = rw (told_choice end read new c.lasting) worked.may;
-  torn = rw (told_choice end read new c.lasting) worked.torn;
-  told = rw (told_choice end read new c.lasting) worked.told;
-  leaves = rw (told_choice end read new c.lasting) worked.leaves;
-  control = sym (leaves (choice_of (reply_by (finding_at end read)) new c.lasting));
-  answers = sym (medium (finding_at end read));
-})
+pub medium_served : (claims : Bool) (c now : ControlValue) (old new : List (List ℕ)) (session : ℕ) (command : Command)
+    (bytes read kept : List ℕ) (end : MediumEnd) (reply : ReplyValue)
+    → ((finding : Finding) → returned_by c session command bytes finding ≡ reply_by finding)
+    → ((choice : Choice) → left_by c session command bytes choice ≡ c) → now ≡ c
+    → IsWorked claims old new (work_of command bytes) end read → kept ≡ read → reply ≡ reply_by (finding_at end kept)
+    → IsServed claims (unit_of c old) (unit_of now new) session command bytes reply
+medium_served claims c now old new session command bytes read kept end reply medium leaves same_control worked same is =
+    rw (is, same, same_control) (record {
+      finding = finding_at end read;
+      chosen = rw (told_choice end read new c.lasting) (may_come c session command bytes (choice_at end new) worked.chosen);
+      may = rw (told_choice end read new c.lasting) worked.may;
+      torn = rw (told_choice end read new c.lasting) worked.torn;
+      told = rw (told_choice end read new c.lasting) worked.told;
+      leaves = rw (told_choice end read new c.lasting) worked.leaves;
+      control = sym (leaves (choice_of (reply_by (finding_at end read)) new c.lasting));
+      answers = sym (medium (finding_at end read));
+    })
 
 -- one that does nothing on the medium
-pub other_served : (claims : Bool) (c now : ControlValue) (blocks : List (List ℕ)) (session : ℕ) (command : Command) (bytes : List ℕ) (reply : ReplyValue) → work_of command bytes ≡ Nothing → choice_of reply blocks now.lasting ≡ Fine → now ≡ left_by c session command bytes Fine
-    → reply ≡ returned_by c session command bytes (Done []) → IsServed claims (unit_of c blocks) (unit_of now blocks) session command bytes reply
+pub other_served : (claims : Bool) (c now : ControlValue) (blocks : List (List ℕ)) (session : ℕ) (command : Command)
+    (bytes : List ℕ) (reply : ReplyValue) → work_of command bytes ≡ Nothing → choice_of reply blocks now.lasting ≡ Fine
+    → now ≡ left_by c session command bytes Fine
+    → reply ≡ returned_by c session command bytes (Done [])
+    → IsServed claims (unit_of c blocks) (unit_of now blocks) session command bytes reply
 other_served claims c now blocks session command bytes reply nothing fine leaves is = rw fine (record {
   finding = Done [];
   chosen = tt;
@@ -167,7 +192,9 @@ other_served claims c now blocks session command bytes reply nothing fine leaves
   answers = is;
 })
 
-pub good_served : (claims : Bool) (c now : ControlValue) (blocks : List (List ℕ)) (session : ℕ) (command : Command) (bytes told : List ℕ) (reply : ReplyValue) → work_of command bytes ≡ Nothing → returned_by c session command bytes (Done []) ≡ good told → now ≡ left_by c session command bytes Fine → reply ≡ good told
+pub good_served : (claims : Bool) (c now : ControlValue) (blocks : List (List ℕ)) (session : ℕ) (command : Command)
+    (bytes told : List ℕ) (reply : ReplyValue) → work_of command bytes ≡ Nothing → returned_by c session command bytes
+    (Done []) ≡ good told → now ≡ left_by c session command bytes Fine → reply ≡ good told
     → IsServed claims (unit_of c blocks) (unit_of now blocks) session command bytes reply
 good_served claims c now blocks session command bytes told reply nothing returns leaves is =
     rw is (other_served claims c now blocks session command bytes (good told) nothing refl leaves (sym returns))
@@ -180,7 +207,8 @@ effect_is_fine Conflicting blocks lasting = refl
 effect_is_fine (Refused asc ascq) blocks lasting = refl
 effect_is_fine Full blocks lasting = refl
 
-module _ (claims : Bool) (c now : ControlValue) (blocks : List (List ℕ)) (session : ℕ) (action : PrOutAction) (scope kind n : ℕ) (bytes : List ℕ) where
+module _ (claims : Bool) (c now : ControlValue) (blocks : List (List ℕ)) (session : ℕ) (action : PrOutAction)
+    (scope kind n : ℕ) (bytes : List ℕ) where
   abbrev effect : Effect
   effect = effect_by c session (pr_out action scope kind bytes)
 
@@ -190,7 +218,8 @@ module _ (claims : Bool) (c now : ControlValue) (blocks : List (List ℕ)) (sess
       other_served claims c now blocks session (commands.PersistentReserveOut action scope kind n) bytes reply refl
       (rw is (effect_is_fine effect blocks now.lasting)) leaves is
 
-  unsaved : (reply : ReplyValue) → MayFailToSave c effect now.lasting → now ≡ with_doubt c now.lasting → reply ≡ check internal_target_failure
+  unsaved : (reply : ReplyValue) → MayFailToSave c effect now.lasting → now ≡ with_doubt c now.lasting
+      → reply ≡ check internal_target_failure
       → IsServed claims (unit_of c blocks) (unit_of now blocks) session (commands.PersistentReserveOut action scope kind n) bytes reply
   unsaved reply may leaves is = rw is (record {
     finding = SaveError;
@@ -207,24 +236,35 @@ module _ (claims : Bool) (c now : ControlValue) (blocks : List (List ℕ)) (sess
       → IsServed claims (unit_of c blocks) (unit_of now blocks) session (commands.PersistentReserveOut action scope kind n) bytes reply
   reserved_served reply is = ⊎_elim
       (λ (done : (now ≡ after_effect c effect) × (reply ≡ effect_reply effect)). reserved reply done.0 done.1)
-      (λ (lost : MayFailToSave c effect now.lasting × (now ≡ with_doubt c now.lasting) × (reply ≡ check internal_target_failure)). unsaved reply lost.0 lost.1 lost.2)
+      (λ (lost : MayFailToSave c effect now.lasting × (now ≡ with_doubt c now.lasting)
+      × (reply ≡ check internal_target_failure)). unsaved reply lost.0 lost.1 lost.2)
       is
 
 -- a reply that tells of no failure, where none was
-pub unfailed : (reply : ReplyValue) (blocks : List (List ℕ)) (lasting : List RecordValue) (count : ℕ) → choice_of reply blocks lasting ≡ Fine → Tells count count (IsFine (choice_of reply blocks lasting))
+pub unfailed : (reply : ReplyValue) (blocks : List (List ℕ)) (lasting : List RecordValue) (count : ℕ)
+    → choice_of reply blocks lasting ≡ Fine → Tells count count (IsFine (choice_of reply blocks lasting))
 unfailed reply blocks lasting count fine = rw fine (record { later = omega arith; stays = λ r d. refl; rises = λ r f. absurd (f refl) })
 
 -- ---- commands of which the unit only tells
 
-pub described_served : (claims : Bool) (c : ControlValue) (blocks : List (List ℕ)) (session : ℕ) (command : Command) (bytes told : List ℕ) (reply : ReplyValue) → IsTrue (is_describing command) → told ≡ described c session command → reply ≡ good told
+pub described_served : (claims : Bool) (c : ControlValue) (blocks : List (List ℕ)) (session : ℕ) (command : Command)
+    (bytes told : List ℕ) (reply : ReplyValue) → IsTrue (is_describing command) → told ≡ described c session command
+    → reply ≡ good told
     → IsServed claims (unit_of c blocks) (unit_of c blocks) session command bytes reply
-described_served claims c blocks session (commands.Inquiry page n) bytes told reply d is said = good_served claims c c blocks session _ bytes told reply refl (ap good (sym is)) refl said
-described_served claims c blocks session (commands.ModeSense header control page n) bytes told reply d is said = good_served claims c c blocks session _ bytes told reply refl (ap good (sym is)) refl said
-described_served claims c blocks session (commands.ReportLuns select n) bytes told reply d is said = good_served claims c c blocks session _ bytes told reply refl (ap good (sym is)) refl said
-described_served claims c blocks session commands.ReadCapacity10 bytes told reply d is said = good_served claims c c blocks session _ bytes told reply refl (ap good (sym is)) refl said
-described_served claims c blocks session (commands.ReadCapacity16 n) bytes told reply d is said = good_served claims c c blocks session _ bytes told reply refl (ap good (sym is)) refl said
-described_served claims c blocks session (commands.PersistentReserveIn action n) bytes told reply d is said = good_served claims c c blocks session _ bytes told reply refl (ap good (sym is)) refl said
-described_served claims c blocks session (commands.ReportTargetPortGroups n) bytes told reply d is said = good_served claims c c blocks session _ bytes told reply refl (ap good (sym is)) refl said
+described_served claims c blocks session (commands.Inquiry page n) bytes told reply d is said =
+    good_served claims c c blocks session _ bytes told reply refl (ap good (sym is)) refl said
+described_served claims c blocks session (commands.ModeSense header control page n) bytes told reply d is said =
+    good_served claims c c blocks session _ bytes told reply refl (ap good (sym is)) refl said
+described_served claims c blocks session (commands.ReportLuns select n) bytes told reply d is said =
+    good_served claims c c blocks session _ bytes told reply refl (ap good (sym is)) refl said
+described_served claims c blocks session commands.ReadCapacity10 bytes told reply d is said =
+    good_served claims c c blocks session _ bytes told reply refl (ap good (sym is)) refl said
+described_served claims c blocks session (commands.ReadCapacity16 n) bytes told reply d is said =
+    good_served claims c c blocks session _ bytes told reply refl (ap good (sym is)) refl said
+described_served claims c blocks session (commands.PersistentReserveIn action n) bytes told reply d is said =
+    good_served claims c c blocks session _ bytes told reply refl (ap good (sym is)) refl said
+described_served claims c blocks session (commands.ReportTargetPortGroups n) bytes told reply d is said =
+    good_served claims c c blocks session _ bytes told reply refl (ap good (sym is)) refl said
 described_served claims c blocks session (commands.SetTargetPortGroups n) bytes told reply d is said = absurd (cc)
 described_served claims c blocks session commands.TestUnitReady bytes told reply d is said = absurd (cc)
 described_served claims c blocks session (commands.RequestSense n) bytes told reply d is said = absurd (cc)
@@ -235,13 +275,18 @@ described_served claims c blocks session (commands.CompareAndWrite lba n fua) by
 described_served claims c blocks session (commands.SynchronizeCache lba n) bytes told reply d is said = absurd (cc)
 
 -- which is any command but these
-pub told_else : (command : Command) → (command ≡ commands.TestUnitReady → ⊥) → ((n : ℕ) → command ≡ commands.RequestSense n → ⊥) → ((action : PrOutAction) (scope kind n : ℕ) → command ≡ commands.PersistentReserveOut action scope kind n → ⊥)
-    → ((lba n : ℕ) (fua : Bool) → command ≡ commands.Read lba n fua → ⊥) → ((lba n : ℕ) (fua : Bool) → command ≡ commands.Write lba n fua → ⊥)
-    → ((lba n : ℕ) (fua : Bool) → command ≡ commands.CompareAndWrite lba n fua → ⊥) → ((lba n : ℕ) → command ≡ commands.SynchronizeCache lba n → ⊥)
+pub told_else : (command : Command) → (command ≡ commands.TestUnitReady → ⊥)
+    → ((n : ℕ) → command ≡ commands.RequestSense n → ⊥)
+    → ((action : PrOutAction) (scope kind n : ℕ) → command ≡ commands.PersistentReserveOut action scope kind n → ⊥)
+    → ((lba n : ℕ) (fua : Bool) → command ≡ commands.Read lba n fua → ⊥)
+    → ((lba n : ℕ) (fua : Bool) → command ≡ commands.Write lba n fua → ⊥)
+    → ((lba n : ℕ) (fua : Bool) → command ≡ commands.CompareAndWrite lba n fua → ⊥)
+    → ((lba n : ℕ) → command ≡ commands.SynchronizeCache lba n → ⊥)
     → ((n : ℕ) → command ≡ commands.SetTargetPortGroups n → ⊥) → IsTrue (is_describing command)
 told_else commands.TestUnitReady ready sense reserve read write compare sync groups = absurd (ready refl)
 told_else (commands.RequestSense n) ready sense reserve read write compare sync groups = absurd (sense n refl)
-told_else (commands.PersistentReserveOut action scope kind n) ready sense reserve read write compare sync groups = absurd (reserve action scope kind n refl)
+told_else (commands.PersistentReserveOut action scope kind n) ready sense reserve read write compare sync groups =
+    absurd (reserve action scope kind n refl)
 told_else (commands.Inquiry page n) ready sense reserve read write compare sync groups = refl
 told_else (commands.ModeSense header control page n) ready sense reserve read write compare sync groups = refl
 told_else commands.ReadCapacity10 ready sense reserve read write compare sync groups = refl

@@ -12,7 +12,8 @@ use Rattle.unit_state.specs.Refusal.{Request, refusal}
 use Rattle.unit_state.specs.Entry.{CanChoose, CanTear, MayCome, IsReplyWith, control_with, blocks_with, left_by, returned_by}
 
 -- what a command with this refusal, if any, is answered, and what it then leaves
-pub record IsAnswerWith (claims : Bool) (old new : UnitState) (r : Request) (refused : Option Refusal) (choice : Choice) (reply : ReplyValue) : Type 0 where
+pub record IsAnswerWith (claims : Bool) (old new : UnitState) (r : Request) (refused : Option Refusal) (choice : Choice)
+    (reply : ReplyValue) : Type 0 where
   pub chosen : CanChoose refused old.control r choice
   pub torn : IsTrue claims → CanTear refused old.blocks (work_asked r.asked r.bytes) choice
   pub control : new.control ≡ control_with refused old.control r choice
@@ -20,10 +21,12 @@ pub record IsAnswerWith (claims : Bool) (old new : UnitState) (r : Request) (ref
   pub answer : IsReplyWith refused claims old r choice reply
 
 abbrev pub IsAnswer : Bool → UnitState → UnitState → Request → ReplyValue → Type 0
-IsAnswer claims old new r reply = IsAnswerWith claims old new r (refusal old.control r) (choice_of reply new.blocks new.control.lasting) reply
+IsAnswer claims old new r reply =
+    IsAnswerWith claims old new r (refusal old.control r) (choice_of reply new.blocks new.control.lasting) reply
 
 -- a command that no rule refuses did what it asks, came to this choice, and is answered so
-pub record IsServedSo (claims : Bool) (old new : UnitState) (session : ℕ) (command : Command) (bytes : List ℕ) (choice : Choice) (reply : ReplyValue) : Type 0 where
+pub record IsServedSo (claims : Bool) (old new : UnitState) (session : ℕ) (command : Command) (bytes : List ℕ)
+    (choice : Choice) (reply : ReplyValue) : Type 0 where
   pub finding : Finding
   pub chosen : MayCome old.control session (Ok command) bytes choice
   pub may : MayFind (work_of command bytes) choice finding
@@ -34,7 +37,8 @@ pub record IsServedSo (claims : Bool) (old new : UnitState) (session : ℕ) (com
   pub answers : reply ≡ returned_by old.control session command bytes finding
 
 abbrev pub IsServed : Bool → UnitState → UnitState → ℕ → Command → List ℕ → ReplyValue → Type 0
-IsServed claims old new session command bytes reply = IsServedSo claims old new session command bytes (choice_of reply new.blocks new.control.lasting) reply
+IsServed claims old new session command bytes reply =
+    IsServedSo claims old new session command bytes (choice_of reply new.blocks new.control.lasting) reply
 
 -- after GOOD of a work with a flush, a crash leaves the blocks that the unit holds
 abbrev pub Lasts : List (List ℕ) → (ℕ → List ℕ → Type 0) → Work → ReplyValue → Type 0

@@ -1,5 +1,6 @@
 -- Laws of commands, for those who serve them.
-use Rattle.std.proofs.Common.{◌≡◌, ◌≢◌, ⊎_elim, ℕ, ◌+◌, Bool, true, false, nat_eq, map, List, [], ◌∷◌, Option, Some, None, Result, Ok, Err, refl, ap, ◌∙◌}
+use Rattle.std.proofs.Common.{◌≡◌, ◌≢◌, ⊎_elim, ℕ, ◌+◌, Bool, true, false, nat_eq, map, List, [], ◌∷◌, Option}
+use Rattle.std.proofs.Common.{Some, None, Result, Ok, Err, refl, ap, ◌∙◌}
 use Rattle.std.proofs.lemmas.Bool.Decides.{eqb_tells}
 use Rattle.access_states.specs.AccessMap.{AccessMapValue}
 use Rattle.access_states.specs.declared.list.AsetFault.{AsetFault}
@@ -21,10 +22,15 @@ use Rattle.unit_state.specs.Sessions.{next_of, passed, told}
 use Rattle.unit_state.specs.Entry.{Command, IsNext, control_with, control_after, left_asked, left_groups}
 
 -- the serial of a session that had one command more
-pub next_passed : (sessions : List Attached) (id serial : ℕ) → next_of sessions id ≡ Some serial → next_of (passed sessions id) id ≡ Some (serial + 1)
+pub next_passed : (sessions : List Attached) (id serial : ℕ) → next_of sessions id ≡ Some serial
+    → next_of (passed sessions id) id ≡ Some (serial + 1)
 next_passed [] id serial h = absurd (cc)
 next_passed (a ∷ rest) id serial h =
-    ⊎_elim (λ (t : (nat_eq a.id id ≡ true) × (a.id ≡ id)). let here : Some a.next ≡ Some serial = rw t.0 at h in let e : a.next ≡ serial = cc in rw t.0 (rw t.0 (ap (λ (m : ℕ). let o : Option ℕ = Some (m + 1) in o) e)))
+    ⊎_elim
+    (λ (t : (nat_eq a.id id ≡ true) × (a.id ≡ id)).
+    let here : Some a.next ≡ Some serial = rw t.0 at h in
+    let e : a.next ≡ serial = cc in
+    rw t.0 (rw t.0 (ap (λ (m : ℕ). let o : Option ℕ = Some (m + 1) in o) e)))
     (λ (f : (nat_eq a.id id ≡ false) × (a.id ≢ id)). rw f.0 (rw f.0 (next_passed rest id serial (rw f.0 at h))))
     (eqb_tells a.id id)
 
@@ -45,7 +51,8 @@ next_heard codes (a ∷ rest) id =
     (eqb_tells a.id id)
 
 -- as does every session where all keep their ids and serials
-next_mapped : (f : Attached → Attached) → ((a : Attached) → ((f a).id ≡ a.id) × ((f a).next ≡ a.next)) → (sessions : List Attached) (id : ℕ) → next_of (map f sessions) id ≡ next_of sessions id
+next_mapped : (f : Attached → Attached) → ((a : Attached) → ((f a).id ≡ a.id) × ((f a).next ≡ a.next))
+    → (sessions : List Attached) (id : ℕ) → next_of (map f sessions) id ≡ next_of sessions id
 next_mapped f keeps [] id = refl
 next_mapped f keeps (a ∷ rest) id =
     ⊎_elim
@@ -58,20 +65,27 @@ next_mapped f keeps (a ∷ rest) id =
     (eqb_tells a.id id)
 
 -- one that hears of a change of access states does
-pub change_keeps : (by_session : Option ℕ) (a : Attached) → ((hear_change by_session a).id ≡ a.id) × ((hear_change by_session a).next ≡ a.next)
+pub change_keeps : (by_session : Option ℕ) (a : Attached)
+    → ((hear_change by_session a).id ≡ a.id) × ((hear_change by_session a).next ≡ a.next)
 change_keeps None a = (refl, refl)
 change_keeps (Some id) a =
-    ⊎_elim (λ (t : (nat_eq a.id id ≡ true) × (a.id ≡ id)). rw t.0 (refl, refl)) (λ (f : (nat_eq a.id id ≡ false) × (a.id ≢ id)). rw f.0 (refl, refl)) (eqb_tells a.id id)
+    ⊎_elim
+    (λ (t : (nat_eq a.id id ≡ true) × (a.id ≡ id)). rw t.0 (refl, refl))
+    (λ (f : (nat_eq a.id id ≡ false) × (a.id ≢ id)). rw f.0 (refl, refl))
+    (eqb_tells a.id id)
 
-next_changed : (is : Bool) (by_session : Option ℕ) (sessions : List Attached) (id : ℕ) → next_of (change_heard is by_session sessions) id ≡ next_of sessions id
+next_changed : (is : Bool) (by_session : Option ℕ) (sessions : List Attached) (id : ℕ)
+    → next_of (change_heard is by_session sessions) id ≡ next_of sessions id
 next_changed true by_session sessions id = next_mapped (hear_change by_session) (change_keeps by_session) sessions id
 next_changed false by_session sessions id = refl
 
-next_after_change : (c : ControlValue) (by_session : Option ℕ) (r : Result AccessMapValue AsetFault) (session : ℕ) → next_of (after_change c by_session r).sessions session ≡ next_of c.sessions session
+next_after_change : (c : ControlValue) (by_session : Option ℕ) (r : Result AccessMapValue AsetFault) (session : ℕ)
+    → next_of (after_change c by_session r).sessions session ≡ next_of c.sessions session
 next_after_change c by_session (Ok new) session = next_changed (is_any_changed c.access new) by_session c.sessions session
 next_after_change c by_session (Err fault) session = refl
 
-next_groups : (c : ControlValue) (session list_length : ℕ) (bytes : List ℕ) (choice : Choice) → next_of (left_groups c session list_length bytes choice).sessions session ≡ next_of c.sessions session
+next_groups : (c : ControlValue) (session list_length : ℕ) (bytes : List ℕ) (choice : Choice)
+    → next_of (left_groups c session list_length bytes choice).sessions session ≡ next_of c.sessions session
 next_groups c session list_length bytes OpenFailed = refl
 next_groups c session list_length bytes Fine = next_after_change c (Some session) (set_by c list_length bytes) session
 next_groups c session list_length bytes ReadFailed = next_after_change c (Some session) (set_by c list_length bytes) session
@@ -84,17 +98,20 @@ next_after_effect c session Conflicting = refl
 next_after_effect c session (Refused asc ascq) = refl
 next_after_effect c session Full = refl
 
-next_saved : (c : ControlValue) (session : ℕ) (e : Effect) (choice : Choice) → next_of (after_saved c e choice).sessions session ≡ next_of c.sessions session
+next_saved : (c : ControlValue) (session : ℕ) (e : Effect) (choice : Choice)
+    → next_of (after_saved c e choice).sessions session ≡ next_of c.sessions session
 next_saved c session e Fine = next_after_effect c session e
 next_saved c session e ReadFailed = next_after_effect c session e
 next_saved c session e (WriteFailed after) = next_after_effect c session e
 next_saved c session e OpenFailed = next_after_effect c session e
 next_saved c session e (SaveFailed after) = refl
 
-next_left : (c : ControlValue) (session : ℕ) (asked : Result ScsiCommand CdbFault) (bytes : List ℕ) (choice : Choice) → next_of (left_asked c session asked bytes choice).sessions session ≡ next_of c.sessions session
+next_left : (c : ControlValue) (session : ℕ) (asked : Result ScsiCommand CdbFault) (bytes : List ℕ) (choice : Choice)
+    → next_of (left_asked c session asked bytes choice).sessions session ≡ next_of c.sessions session
 next_left c session (Err fault) bytes choice = refl
 next_left c session (Ok (commands.RequestSense allocation)) bytes choice = next_told c.sessions session
-next_left c session (Ok (commands.PersistentReserveOut action scope kind list_length)) bytes choice = next_saved c session (effect_by c session (pr_out action scope kind bytes)) choice
+next_left c session (Ok (commands.PersistentReserveOut action scope kind list_length)) bytes choice =
+    next_saved c session (effect_by c session (pr_out action scope kind bytes)) choice
 next_left c session (Ok commands.TestUnitReady) bytes choice = refl
 next_left c session (Ok (commands.Inquiry page allocation)) bytes choice = refl
 next_left c session (Ok (commands.ModeSense header control page allocation)) bytes choice = refl
@@ -110,7 +127,8 @@ next_left c session (Ok (commands.ReportTargetPortGroups allocation)) bytes choi
 next_left c session (Ok (commands.SetTargetPortGroups list_length)) bytes choice = next_groups c session list_length bytes choice
 
 -- what a command leaves before it is counted has its serial still
-pub next_kept : (refused : Option Refusal) (c : ControlValue) (r : Request) (choice : Choice) → next_of (control_with refused c r choice).sessions r.session ≡ next_of c.sessions r.session
+pub next_kept : (refused : Option Refusal) (c : ControlValue) (r : Request) (choice : Choice)
+    → next_of (control_with refused c r choice).sessions r.session ≡ next_of c.sessions r.session
 next_kept (Some (Attention a)) c r choice = next_told c.sessions r.session
 next_kept (Some Conflict) c r choice = refl
 next_kept (Some (Check s)) c r choice = refl
@@ -123,11 +141,13 @@ count_after_effect c Conflicting = refl
 count_after_effect c (Refused asc ascq) = refl
 count_after_effect c Full = refl
 
-count_after_change : (c : ControlValue) (by_session : Option ℕ) (r : Result AccessMapValue AsetFault) → (after_change c by_session r).count ≡ c.count
+count_after_change : (c : ControlValue) (by_session : Option ℕ) (r : Result AccessMapValue AsetFault)
+    → (after_change c by_session r).count ≡ c.count
 count_after_change c by_session (Ok new) = refl
 count_after_change c by_session (Err fault) = refl
 
-count_groups : (c : ControlValue) (session list_length : ℕ) (bytes : List ℕ) (choice : Choice) → (left_groups c session list_length bytes choice).count ≡ c.count
+count_groups : (c : ControlValue) (session list_length : ℕ) (bytes : List ℕ) (choice : Choice)
+    → (left_groups c session list_length bytes choice).count ≡ c.count
 count_groups c session list_length bytes OpenFailed = refl
 count_groups c session list_length bytes Fine = count_after_change c (Some session) (set_by c list_length bytes)
 count_groups c session list_length bytes ReadFailed = count_after_change c (Some session) (set_by c list_length bytes)
@@ -141,10 +161,12 @@ count_saved c e (WriteFailed after) = count_after_effect c e
 count_saved c e OpenFailed = count_after_effect c e
 count_saved c e (SaveFailed after) = refl
 
-count_left : (c : ControlValue) (session : ℕ) (asked : Result ScsiCommand CdbFault) (bytes : List ℕ) (choice : Choice) → (left_asked c session asked bytes choice).count ≡ c.count
+count_left : (c : ControlValue) (session : ℕ) (asked : Result ScsiCommand CdbFault) (bytes : List ℕ) (choice : Choice)
+    → (left_asked c session asked bytes choice).count ≡ c.count
 count_left c session (Err fault) bytes choice = refl
 count_left c session (Ok (commands.RequestSense allocation)) bytes choice = refl
-count_left c session (Ok (commands.PersistentReserveOut action scope kind list_length)) bytes choice = count_saved c (effect_by c session (pr_out action scope kind bytes)) choice
+count_left c session (Ok (commands.PersistentReserveOut action scope kind list_length)) bytes choice =
+    count_saved c (effect_by c session (pr_out action scope kind bytes)) choice
 count_left c session (Ok commands.TestUnitReady) bytes choice = refl
 count_left c session (Ok (commands.Inquiry page allocation)) bytes choice = refl
 count_left c session (Ok (commands.ModeSense header control page allocation)) bytes choice = refl
@@ -159,18 +181,21 @@ count_left c session (Ok (commands.ReportLuns select allocation)) bytes choice =
 count_left c session (Ok (commands.ReportTargetPortGroups allocation)) bytes choice = refl
 count_left c session (Ok (commands.SetTargetPortGroups list_length)) bytes choice = count_groups c session list_length bytes choice
 
-kept_count : (refused : Option Refusal) (c : ControlValue) (r : Request) (choice : Choice) → (control_with refused c r choice).count ≡ c.count
+kept_count : (refused : Option Refusal) (c : ControlValue) (r : Request) (choice : Choice)
+    → (control_with refused c r choice).count ≡ c.count
 kept_count (Some (Attention a)) c r choice = refl
 kept_count (Some Conflict) c r choice = refl
 kept_count (Some (Check s)) c r choice = refl
 kept_count None c r choice = count_left c r.session r.asked r.bytes choice
 
-module _ (c : ControlValue) (session serial : ℕ) (by_group : Group) (asked : Result ScsiCommand CdbFault) (bytes : List ℕ) (choice : Choice) where
+module _ (c : ControlValue) (session serial : ℕ) (by_group : Group) (asked : Result ScsiCommand CdbFault)
+    (bytes : List ℕ) (choice : Choice) where
   abbrev r : Request
   r = request session asked bytes
 
   -- behind a command its session's next serial is one more
-  pub next_after : IsNext c session serial → next_of (control_after c (Command session serial by_group asked bytes choice)).sessions session ≡ Some (serial + 1)
+  pub next_after : IsNext c session serial
+      → next_of (control_after c (Command session serial by_group asked bytes choice)).sessions session ≡ Some (serial + 1)
   next_after is = next_passed (control_with (refusal c r) c r choice).sessions session serial (next_kept (refusal c r) c r choice ∙ is.next)
 
   -- and the history has one entry more

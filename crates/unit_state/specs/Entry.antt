@@ -1,6 +1,7 @@
 -- The entries of a unit's history: what is possible, what is after one, and what it is answered. What is said of the
 -- medium stands under the claim of the device's type.
-use Rattle.std.specs.Prelude.{◌≡◌, ℕ, ◌+◌, ◌<◌, Bool, true, IsTrue, List, [], ◌∷◌, ◌++◌, length, Option, Some, None, IsSome, Result, Ok, Err}
+use Rattle.std.specs.Prelude.{◌≡◌, ℕ, ◌+◌, ◌<◌, Bool, true, IsTrue, List, [], ◌∷◌, ◌++◌, length, Option, Some}
+use Rattle.std.specs.Prelude.{None, IsSome, Result, Ok, Err}
 use Rattle.access_states.specs.AccessMap.{owner_of}
 use Rattle.identity.specs.Capacity.{capacity_10, capacity_16}
 use Rattle.identity.specs.InquiryData.{inquiry_data}
@@ -117,8 +118,8 @@ described c session (commands.ReportTargetPortGroups allocation) = cut allocatio
 described c session command = []
 
 -- What a command returns that no rule refuses, where the devices told this: REQUEST SENSE its session's first
--- attention as data, or that there is none (SPC-4, 6.39); PERSISTENT RESERVE OUT what its row of the table says, unless its save failed; a medium
--- command and SET TARGET PORT GROUPS answer the finding.
+-- attention as data, or that there is none (SPC-4, 6.39); PERSISTENT RESERVE OUT what its row of the table says, unless
+-- its save failed; a medium command and SET TARGET PORT GROUPS answer the finding.
 abbrev pub returned_by : ControlValue → ℕ → ScsiCommand → List ℕ → Finding → ReplyValue
 returned_by c session (commands.RequestSense allocation) bytes finding =
     good (cut allocation (sense_bytes (told_sense (first_pending c.sessions session))))

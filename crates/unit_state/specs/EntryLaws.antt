@@ -27,7 +27,8 @@ module _ (claims : Bool) (c : ControlValue) (old new : List (List ℕ)) (same : 
         torn = λ h. subst (λ (b : List (List ℕ)). CanTear (refusal c r) b (work_asked asked bytes) choice) (sym (same h)) (is.torn h);
       }
 
-  reply_with_over : (refused : Option Refusal) (r : Request) (choice : Choice) (reply : ReplyValue) → IsReplyWith refused claims (at old) r choice reply → IsReplyWith refused claims (at new) r choice reply
+  reply_with_over : (refused : Option Refusal) (r : Request) (choice : Choice) (reply : ReplyValue)
+      → IsReplyWith refused claims (at old) r choice reply → IsReplyWith refused claims (at new) r choice reply
   reply_with_over (Some a) r choice reply is = is
   reply_with_over None r choice reply is = record {
     finding = is.finding;

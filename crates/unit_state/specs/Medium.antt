@@ -1,13 +1,15 @@
 -- What a command is to the medium, and what that finds and leaves (SBC-3, READ, WRITE, COMPARE AND WRITE and SYNCHRONIZE
 -- CACHE commands).
-use Rattle.std.specs.Prelude.{◌≡◌, ◌⊎◌, ℕ, ◌+◌, ◌*◌, ◌<◌, ◌≤◌, Bool, false, true, IsTrue, List, [], length, Option, Some, None, Result, Ok, Err}
+use Rattle.std.specs.Prelude.{◌≡◌, ◌⊎◌, ℕ, ◌+◌, ◌*◌, ◌<◌, ◌≤◌, Bool, false, true, IsTrue, List, [], length}
+use Rattle.std.specs.Prelude.{Option, Some, None, Result, Ok, Err}
 use Rattle.block_file.specs.declared.blocks.TheConstants.{BLOCK_LENGTH}
 use Rattle.block_file.specs.Cut.{cut}
 use Rattle.block_file.specs.Disk.{written, range_bytes, Between}
 use Rattle.compare_write.specs.Difference.{first_difference}
 use Rattle.compare_write.specs.Instances.{compare_instance, write_instance}
 use Rattle.scsi_types.specs.ReplyValue.{ReplyValue, good, check}
-use Rattle.scsi_types.specs.Sense.{internal_target_failure, set_target_port_groups_command_failed, unrecovered_read_error, write_error, miscompare}
+use Rattle.scsi_types.specs.Sense.{internal_target_failure, set_target_port_groups_command_failed}
+use Rattle.scsi_types.specs.Sense.{unrecovered_read_error, write_error, miscompare}
 use Rattle.scsi_types.specs.declared.command.Command.{Command}
 use Rattle.scsi_types.specs.declared.command.Command.TheVariants as commands
 use Rattle.scsi_types.specs.declared.command.CdbFault.{CdbFault}
@@ -143,7 +145,8 @@ abbrev pub left : List (List ℕ) → Work → Choice → List (List ℕ)
 left blocks Nothing Fine = blocks
 left blocks (Reads r flushed) Fine = blocks
 left blocks (Writes r bytes flushed) Fine = written blocks r.lba (cut r.blocks bytes)
-left blocks (Compares r bytes flushed) Fine = compared_by (difference_in blocks r bytes) blocks (written blocks r.lba (write_instance r.blocks bytes))
+left blocks (Compares r bytes flushed) Fine =
+    compared_by (difference_in blocks r bytes) blocks (written blocks r.lba (write_instance r.blocks bytes))
 left blocks (Flushes r) Fine = blocks
 left blocks work ReadFailed = blocks
 left blocks work (WriteFailed after) = after

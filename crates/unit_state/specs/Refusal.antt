@@ -1,8 +1,9 @@
 -- Why a command is refused: rules in order, of which the first that applies decides. They look at what does not rest
 -- on the medium, and at the request.
-use Rattle.std.specs.Prelude.{◌≡◌, ℕ, ◌+◌, ◌&&◌, Bool, nat_eq, true, false, nat_lt, nat_le, if◌then◌else◌, List, [], ◌∷◌, length, Option, Some, None, Result, Ok, Err}
+use Rattle.std.specs.Prelude.{◌≡◌, ℕ, ◌+◌, ◌&&◌, Bool, nat_eq, true, false, nat_lt, nat_le, if◌then◌else◌}
+use Rattle.std.specs.Prelude.{List, [], ◌∷◌, length, Option, Some, None, Result, Ok, Err}
 use Rattle.std.specs.Option.{option_map, option_or}
-use Rattle.access_states.specs.AccessMap.{AccessMapValue, access_of as group_access}
+use Rattle.access_states.specs.AccessMap.{AccessMapValue, group_access}
 use Rattle.access_states.specs.Change.{fault_sense}
 use Rattle.access_states.specs.State.{refusal_in}
 use Rattle.access_states.specs.declared.list.AsetFault.{AsetFault}
@@ -13,7 +14,8 @@ use Rattle.scsi_types.specs.Nexus.{Nexus}
 use Rattle.scsi_types.specs.ReplyValue.{ReplyValue, check, conflict}
 use Rattle.scsi_types.specs.Cdb.{need_of}
 use Rattle.scsi_types.specs.Attention.{attention_sense}
-use Rattle.scsi_types.specs.Sense.{invalid_opcode, invalid_field_in_cdb, lba_out_of_range, saving_parameters_not_supported, parameter_list_length_error}
+use Rattle.scsi_types.specs.Sense.{invalid_opcode, invalid_field_in_cdb, lba_out_of_range}
+use Rattle.scsi_types.specs.Sense.{saving_parameters_not_supported, parameter_list_length_error}
 use Rattle.scsi_types.specs.declared.attention.UnitAttention.{UnitAttention}
 use Rattle.scsi_types.specs.declared.command.Op.{Op}
 use Rattle.scsi_types.specs.declared.command.Command.{Command}

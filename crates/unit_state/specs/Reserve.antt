@@ -1,6 +1,7 @@
 -- PERSISTENT RESERVE IN and OUT as a unit serves them (SPC-4, 5.13, 6.15 and 6.16): the parameter list, the data, and
 -- what the table of service actions in `reservations` makes of the unit.
-use Rattle.std.specs.Prelude.{◌≡◌, ℕ, ◌/◌, ◌%◌, ◌==◌, ◌<◌, ◌≤◌, Bool, false, true, List, [], ◌∷◌, ◌++◌, drop, map, length, slice_index, All, Contains, Option, Some, None}
+use Rattle.std.specs.Prelude.{◌≡◌, ℕ, ◌/◌, ◌%◌, ◌==◌, ◌<◌, ◌≤◌, Bool, false, true, List, [], ◌∷◌, ◌++◌, drop}
+use Rattle.std.specs.Prelude.{map, length, slice_index, All, Contains, Option, Some, None}
 use Rattle.byteorder.specs.Endian.{big_number}
 use Rattle.attentions.specs.Queue.{established}
 use Rattle.reservations.specs.declared.request.PrOut.{PrOut}
@@ -35,7 +36,16 @@ flag_of value list = slice_index list 20 / value % 2 == 1
 -- RESERVATION KEY, SERVICE ACTION RESERVATION KEY, and the flags, with the fields of the CDB
 abbrev pub pr_out : PrOutAction → ℕ → ℕ → List ℕ → PrOut
 pr_out action scope kind list =
-    record { action = action; scope = scope; kind = kind; key = big_number 8 list; sakey = big_number 8 (drop 8 list); spec_i_pt = flag_of SPEC_I_PT list; all_tg_pt = flag_of ALL_TG_PT list; aptpl = flag_of APTPL list }
+    record {
+      action = action;
+      scope = scope;
+      kind = kind;
+      key = big_number 8 list;
+      sakey = big_number 8 (drop 8 list);
+      spec_i_pt = flag_of SPEC_I_PT list;
+      all_tg_pt = flag_of ALL_TG_PT list;
+      aptpl = flag_of APTPL list;
+    }
 
 -- the list of the command came whole, and is one that is taken
 abbrev pub HasList : ControlValue → Command → List ℕ → Type 0

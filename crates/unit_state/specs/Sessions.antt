@@ -1,6 +1,7 @@
 -- The sessions that are attached to a unit: a map from a session's id to its nexus, its next serial, and the unit
 -- attention conditions that wait to be told to it (SAM-5, 5.14).
-use Rattle.std.specs.Prelude.{ℕ, ◌+◌, ◌≤◌, Bool, not, nat_eq, if◌then◌else◌, List, [], ◌∷◌, drop, filter, map, slice_get, Option, Some, None}
+use Rattle.std.specs.Prelude.{ℕ, ◌+◌, ◌≤◌, Bool, not, nat_eq, if◌then◌else◌, List, [], ◌∷◌, drop, filter, map}
+use Rattle.std.specs.Prelude.{slice_get, Option, Some, None}
 use Rattle.std.specs.Option.{option_map}
 use Rattle.reservations.specs.Nexus.{IsPortName, same_nexus}
 use Rattle.scsi_types.specs.Nexus.{Nexus}

@@ -42,7 +42,16 @@ preferred unit = if nat_eq (unit % 2) 0 then One else Two
 -- a unit at this place with so many blocks, as it opens where this record had lasted
 abbrev pub opening_control : Place → ℕ → RecordValue → ControlValue
 opening_control place total lasted =
-    record { place = place; total = total; access = opening_access (preferred place.unit); registry = powered_on lasted; lasting = lasted ∷ []; doubt = false; sessions = []; count = 0 }
+    record {
+      place = place;
+      total = total;
+      access = opening_access (preferred place.unit);
+      registry = powered_on lasted;
+      lasting = lasted ∷ [];
+      doubt = false;
+      sessions = [];
+      count = 0;
+    }
 
 abbrev pub opening : Place → ℕ → List (List ℕ) → RecordValue → UnitState
 opening place total blocks lasted = record { control = opening_control place total lasted; blocks = blocks }

@@ -1,5 +1,5 @@
-use Rattle.session.proofs.Following.{max_counted, count_grows}
+use Rattle.session.proofs.WindowEnds.{max_counted, never_falls}
 use Rattle.session.proofs.laws.the_window_never_falls.Goals as goal
 
 pub returns : goal.returns
-returns c = record { counted = max_counted; grows = count_grows }
+returns c = record { counted = max_counted; grows = never_falls }

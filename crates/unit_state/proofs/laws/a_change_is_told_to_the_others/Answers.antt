@@ -6,7 +6,10 @@ pub returns-clause-own : goal.returns-clause-own
 returns-clause-own c = λ control session new. change_own (is_any_changed control.access new) control.sessions session
 
 pub returns-clause-others : goal.returns-clause-others
-returns-clause-others c = λ control session other new apart changed there. change_other (is_any_changed control.access new) control.sessions session other apart changed there
+returns-clause-others c =
+    λ control session other new apart changed there. change_other
+    (is_any_changed control.access new) control.sessions session other apart changed there
 
 pub returns-clause-moved : goal.returns-clause-moved
-returns-clause-moved c = λ control other new changed there. change_moved (is_any_changed control.access new) control.sessions other changed there
+returns-clause-moved c =
+    λ control other new changed there. change_moved (is_any_changed control.access new) control.sessions other changed there

@@ -6,4 +6,5 @@ use Rattle.unit_state.proofs.laws.good_tells_that_it_lasts.Goals as goal
 
 pub returns : goal.returns
 returns c = λ s session serial by action scope kind list_length bytes choice good.
-    good_lasts s.control session action scope kind list_length bytes choice s.blocks (refusal s.control (request session (Ok (PersistentReserveOut action scope kind list_length)) bytes)) good
+    good_lasts s.control session action scope kind list_length bytes choice s.blocks
+    (refusal s.control (request session (Ok (PersistentReserveOut action scope kind list_length)) bytes)) good

@@ -10,4 +10,5 @@ returns c = admitted _ _ _ _ _ (sym c.in_default.is ∙ c.first_refusal.ensures)
 
 pub unreachable-requires : goal.unreachable-requires
 unreachable-requires c =
-    asks_something c.args.control.now c.args.sender.session c.args.asked c.args.bytes.now c.in-Err.field-0 (sym c.in_default.is ∙ c.first_refusal.ensures) c.in-Err.is
+    asks_something c.args.control.now c.args.sender.session c.args.asked c.args.bytes.now c.in-Err.field-0
+    (sym c.in_default.is ∙ c.first_refusal.ensures) c.in-Err.is

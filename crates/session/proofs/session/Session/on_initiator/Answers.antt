@@ -1,7 +1,20 @@
+use Rattle.std.proofs.Common.{refl}
 use Rattle.iscsi_pdu.specs.declared.header.Header.TheVariants.{Initiator}
-use Rattle.session.proofs.Unserved.{not_served, refused}
+use Rattle.session.specs.declared.verdict.TheConstants.{COMMAND_NOT_SUPPORTED, PROTOCOL_ERROR}
+use Rattle.session.proofs.Unserved.{refused}
 use Rattle.session.proofs.session.Session.on_initiator.Goals as goal
 
-pub returns-in_default : goal.returns-in_default
-returns-in_default c =
-    refused _ _ (Initiator c.args.header) c.args.bytes.now c.reject.result (not_served c.args.header (λ p e. c.in_default.not-ScsiCommand p e)) c.reject.ensures
+pub returns-in-TaskManagementRequest-clause-on : goal.returns-in-TaskManagementRequest-clause-on
+returns-in-TaskManagementRequest-clause-on c =
+    refused _ _ (Initiator c.args.header) c.args.bytes.now c.reject.result COMMAND_NOT_SUPPORTED (rw c.in-TaskManagementRequest.is refl) c.reject.ensures.on
+
+pub returns-in-LoginRequest-clause-on : goal.returns-in-LoginRequest-clause-on
+returns-in-LoginRequest-clause-on c =
+    refused _ _ (Initiator c.args.header) c.args.bytes.now c.reject-in-LoginRequest.result PROTOCOL_ERROR (rw c.in-LoginRequest.is refl) c.reject-in-LoginRequest.ensures.on
+
+pub returns-in-TextRequest-clause-on : goal.returns-in-TextRequest-clause-on
+returns-in-TextRequest-clause-on c =
+    refused _ _ (Initiator c.args.header) c.args.bytes.now c.reject-in-TextRequest.result COMMAND_NOT_SUPPORTED (rw c.in-TextRequest.is refl) c.reject-in-TextRequest.ensures.on
+
+pub returns-in-LogoutRequest-clause-on : goal.returns-in-LogoutRequest-clause-on
+returns-in-LogoutRequest-clause-on c = rw c.in-LogoutRequest.is (c.on_logout.ensures.on c.args.bytes.now)

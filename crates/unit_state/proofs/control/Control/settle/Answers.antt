@@ -20,5 +20,6 @@ returns-clause-stays c =
       total = refl;
       count = refl;
       place = λ session at place.
-          subst (λ (ss : List Attached). IsPlaceOf ss session at) (sym c.hear_all.ensures.items) (place_mapped (hear c.args.told.now) (λ a. refl) _ _ _ place);
+          subst (λ (ss : List Attached). IsPlaceOf ss session at) (sym c.hear_all.ensures.items)
+          (place_mapped (hear c.args.told.now) (λ a. refl) _ _ _ place);
     })

@@ -21,7 +21,9 @@ pub returns-in-Moved-clause-restart : goal.returns-in-Moved-clause-restart
 returns-in-Moved-clause-restart g c = restart_seen _ g.R.Blocks.size g.R.Blocks.may_hold _ _ c.self.view_is c.self.invariant.1
 
 pub returns-in-Err-clause-restart : goal.returns-in-Err-clause-restart
-returns-in-Err-clause-restart g c = λ h. each_outcome_holds g.R.Blocks.size g.R.Blocks.may_hold _ _ (c.in-Err.ensures.kept h (c.self.invariant.1 h))
+returns-in-Err-clause-restart g c =
+    λ h. each_outcome_holds g.R.Blocks.size g.R.Blocks.may_hold _ _ (c.in-Err.ensures.kept h (c.self.invariant.1 h))
 
 pub returns-clause-restart : goal.returns-clause-restart
-returns-clause-restart g c = λ h. restarts g.R.Blocks.size g.R.Blocks.may_hold _ _ _ (c.in-Ok.ensures.kept h (c.self.invariant.1 h)) c.pass.ensures.lasting
+returns-clause-restart g c =
+    λ h. restarts g.R.Blocks.size g.R.Blocks.may_hold _ _ _ (c.in-Ok.ensures.kept h (c.self.invariant.1 h)) c.pass.ensures.lasting

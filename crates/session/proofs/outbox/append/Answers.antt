@@ -1,7 +1,7 @@
 use Rattle.std.proofs.Common.{ap, length, arith, length-append}
 use Rattle.iscsi_pdu.specs.Spelling.{spelling}
 use Rattle.iscsi_pdu.specs.declared.header.Header.TheVariants.{Target}
-use Rattle.session.proofs.outbox.put.Goals as goal
+use Rattle.session.proofs.outbox.append.Goals as goal
 
 pub returns-clause-long : goal.returns-clause-long
 returns-clause-long c =

@@ -1,0 +1,86 @@
+-- How a command is answered in a turn (RFC 7143, 4.4).
+use Rattle.std.specs.Prelude.{◌≡◌, ℕ, if◌then◌else◌, List, [], length, Option, Some, None, Result}
+use Rattle.std.specs.List.{list_any, find}
+use Rattle.std.specs.Option.{option_map}
+use Rattle.scsi_types.specs.Cdb.{need_of}
+use Rattle.scsi_types.specs.declared.command.Command.{Command}
+use Rattle.scsi_types.specs.declared.command.CdbFault.{CdbFault}
+use Rattle.iscsi_pdu.specs.declared.header.ScsiCommand.{ScsiCommand as CommandHeader}
+use Rattle.iscsi_pdu.specs.declared.header.Header.TheVariants.{Initiator}
+use Rattle.iscsi_pdu.specs.declared.header.InitiatorHeader.TheVariants.{NopOut, ScsiCommand, DataOut, LogoutRequest}
+use Rattle.session.specs.declared.target.TargetAnswer.{TargetAnswer}
+use Rattle.session.specs.declared.target.TargetAnswer.TheVariants.{Replied, Outside, Busy, Gone, Halted}
+use Rattle.session.specs.declared.verdict.Verdict.{Verdict}
+use Rattle.session.specs.declared.verdict.Verdict.TheVariants.{Accepted, Full, Ignored, Gap, Refused}
+use Rattle.session.specs.Turn.{Incoming, pdu, Out, Asking}
+use Rattle.session.specs.Transfer.{transfer_of}
+use Rattle.session.specs.Tasks.{is_response, has_tag}
+use Rattle.session.specs.Standing.{Standing}
+
+-- How a command is answered: by the target; or there was no buffer for its data; or another immediate command waits for
+-- data, so that the task set is full.
+pub data Outcome : Type 0 where
+  by_target : TargetAnswer → Outcome
+  no_buffer : Outcome
+  set_full : Outcome
+
+abbrev pub outcome_of : Verdict → Option Asking → List Out → Option Outcome
+outcome_of Accepted (Some call) outs = Some (by_target call.answer)
+outcome_of Accepted None outs = if list_any (λ o. is_response o.header) outs then Some no_buffer else None
+outcome_of Full call outs = Some set_full
+outcome_of Ignored call outs = None
+outcome_of Gap call outs = None
+outcome_of (Refused reason) call outs = None
+
+-- the command that what came is of: a SCSI Command, or the one with its tag that waits for a Data-Out
+abbrev pub command_at : Standing → Incoming → Option CommandHeader
+command_at s (pdu b (Initiator (ScsiCommand p)) d) = Some p
+command_at s (pdu b (Initiator (DataOut x)) d) =
+    option_map (λ c. c.command) (find (has_tag x.task_tag) s.collecting)
+command_at s came = None
+
+-- a command that is answered in a turn, how, and the PDUs that go out
+pub record Answered : Type 0 where
+  pub command : CommandHeader
+  pub outcome : Outcome
+  pub own : List Out
+
+abbrev pub answered_by : Option Outcome → Option CommandHeader → List Out → Option Answered
+answered_by (Some outcome) (Some p) own = Some (record { command = p; outcome = outcome; own = own })
+answered_by (Some outcome) None own = None
+answered_by None p own = None
+
+abbrev pub answered_in : Standing → Incoming → Verdict → Option Asking → List Out → Option Answered
+answered_in s came v call outs = answered_by (outcome_of v call outs) (command_at s came) outs
+
+-- nothing is called but for a command: in its own turn, or in that of a Data-Out
+abbrev pub IsAcceptedCall : Incoming → Option Asking → Type 0
+IsAcceptedCall (pdu b (Initiator (ScsiCommand p)) d) call = Unit {0}
+IsAcceptedCall (pdu b (Initiator (DataOut x)) d) call = Unit {0}
+IsAcceptedCall (pdu b (Initiator (NopOut p)) d) call = call ≡ None
+IsAcceptedCall (pdu b (Initiator (LogoutRequest p)) d) call = call ≡ None
+IsAcceptedCall came call = ⊥
+
+abbrev pub IsCalled : Verdict → Incoming → Option Asking → Type 0
+IsCalled Accepted came call = IsAcceptedCall came call
+IsCalled Full came call = call ≡ None
+IsCalled Ignored came call = call ≡ None
+IsCalled Gap came call = call ≡ None
+IsCalled (Refused reason) came call = call ≡ None
+
+-- the data of an answer
+abbrev pub reply_data : TargetAnswer → List ℕ
+reply_data (Replied a) = a.bytes
+reply_data (Outside a) = a.bytes
+reply_data Busy = []
+reply_data Gone = []
+reply_data Halted = []
+
+abbrev pub outcome_data : Outcome → List ℕ
+outcome_data (by_target answer) = reply_data answer
+outcome_data no_buffer = []
+outcome_data set_full = []
+
+-- N, the length of the data that a command needs, for what its CDB asks, or returns
+abbrev pub needed : Result Command CdbFault → Answered → ℕ
+needed asked a = transfer_of a.command (need_of asked) (length (outcome_data a.outcome))
