@@ -43,7 +43,9 @@ pub record IsCommand {B : Type 0} (claims : Bool) (contents : B → List (List �
   pub session : new.session ≡ old.session
   pub step : IsStep claims (state_of contents old.unit) (state_of contents new.unit)
       (entry_of old.session old.serial old.by asked bytes reply (state_of contents new.unit)) reply
-  pub fine : Tells (failures_of failures never_unopened never_unsaved old.unit) (failures_of failures never_unopened never_unsaved new.unit) (IsFine (choice_of reply (contents new.unit.device) new.unit.control.lasting))
+  pub fine : Tells (failures_of failures never_unopened never_unsaved old.unit)
+      (failures_of failures never_unopened never_unsaved new.unit)
+      (IsFine (choice_of reply (contents new.unit.device) new.unit.control.lasting))
 
 -- nothing happened to the unit
 pub record IsSame {B : Type 0} (old new : TargetValue B) : Type 0 where
@@ -52,20 +54,24 @@ pub record IsSame {B : Type 0} (old new : TargetValue B) : Type 0 where
 
 -- What one step of the target's unit leaves. A session that is attached and keeps its serials is gone only where the
 -- history has its last length.
-abbrev pub IsStepped : {B : Type 0} → Bool → (B → List (List ℕ)) → (B → ℕ) → TargetValue B → Result ScsiCommand CdbFault → List ℕ → StepEnd → TargetValue B → Type 0
+abbrev pub IsStepped : {B : Type 0} → Bool → (B → List (List ℕ)) → (B → ℕ) → TargetValue B → Result ScsiCommand CdbFault
+    → List ℕ → StepEnd → TargetValue B → Type 0
 IsStepped claims contents failures old asked bytes (ends.Reply reply) new = IsCommand claims contents failures old new asked bytes reply
 IsStepped claims contents failures old asked bytes ends.Gone new = IsSame old new × (LAST_COUNT ≤ old.unit.control.count)
 IsStepped claims contents failures old asked bytes (ends.Moved owner) new =
     IsSame old new × (old.by ≢ owner_of old.unit.control.access) × (new.by ≡ owner_of new.unit.control.access)
-IsStepped claims contents failures old asked bytes ends.NoMemory new = IsSame old new × TakesMemory old.unit.control (request old.session asked bytes)
+IsStepped claims contents failures old asked bytes ends.NoMemory new =
+    IsSame old new × TakesMemory old.unit.control (request old.session asked bytes)
 
 -- What such a step leaves that is made once more by the owner where it came by another group.
-abbrev pub IsOwnStep : {B : Type 0} → Bool → (B → List (List ℕ)) → (B → ℕ) → TargetValue B → Result ScsiCommand CdbFault → List ℕ → StepEnd → TargetValue B → Type 0
+abbrev pub IsOwnStep : {B : Type 0} → Bool → (B → List (List ℕ)) → (B → ℕ) → TargetValue B → Result ScsiCommand CdbFault
+    → List ℕ → StepEnd → TargetValue B → Type 0
 IsOwnStep {B} claims contents failures old asked bytes (ends.Reply reply) new =
     (by_owner : TargetValue B) × IsSame old by_owner × IsCommand claims contents failures by_owner new asked bytes reply
 IsOwnStep claims contents failures old asked bytes ends.Gone new = IsSame old new × (LAST_COUNT ≤ old.unit.control.count)
 IsOwnStep claims contents failures old asked bytes (ends.Moved owner) new = ⊥
-IsOwnStep claims contents failures old asked bytes ends.NoMemory new = IsSame old new × TakesMemory old.unit.control (request old.session asked bytes)
+IsOwnStep claims contents failures old asked bytes ends.NoMemory new =
+    IsSame old new × TakesMemory old.unit.control (request old.session asked bytes)
 
 -- There was no memory for the data of a reply: of the unit, or of one that is not there.
 abbrev pub IsBusy : ControlValue → ℕ → Option ℕ → Result ScsiCommand CdbFault → List ℕ → Type 0
@@ -74,12 +80,15 @@ IsBusy c session unit asked bytes =
 
 -- What the target answers to a command: of its unit a command's step; that there was no memory for it, or that its
 -- session is gone, and nothing happened; of another unit that it is not there.
-abbrev pub IsAnsweredBy : {B : Type 0} → Bool → (B → List (List ℕ)) → (B → ℕ) → TargetValue B → Option ℕ → Result ScsiCommand CdbFault → List ℕ → TargetAnswer → TargetValue B → Type 0
+abbrev pub IsAnsweredBy : {B : Type 0} → Bool → (B → List (List ℕ)) → (B → ℕ) → TargetValue B → Option ℕ
+    → Result ScsiCommand CdbFault → List ℕ → TargetAnswer → TargetValue B → Type 0
 IsAnsweredBy {B} claims contents failures old unit asked bytes (Replied reply) new =
     (unit ≡ Some 0) × (by_owner : TargetValue B) × IsSame old by_owner × IsCommand claims contents failures by_owner new asked bytes reply
-IsAnsweredBy claims contents failures old unit asked bytes (Outside reply) new = (unit ≢ Some 0) × (reply ≡ absent_reply asked) × IsSame old new
+IsAnsweredBy claims contents failures old unit asked bytes (Outside reply) new =
+    (unit ≢ Some 0) × (reply ≡ absent_reply asked) × IsSame old new
 IsAnsweredBy claims contents failures old unit asked bytes Busy new = IsBusy old.unit.control old.session unit asked bytes × IsSame old new
-IsAnsweredBy claims contents failures old unit asked bytes Gone new = (unit ≡ Some 0) × IsSame old new × (LAST_COUNT ≤ old.unit.control.count)
+IsAnsweredBy claims contents failures old unit asked bytes Gone new =
+    (unit ≡ Some 0) × IsSame old new × (LAST_COUNT ≤ old.unit.control.count)
 IsAnsweredBy claims contents failures old unit asked bytes Halted new = ⊥
 
 -- where a question with its answer leads the target
