@@ -1,5 +1,7 @@
 //! The commands that wait for their data (RFC 7143, 11.7 and 11.8).
-ghost use Rattle.std.specs.Prelude.{◌≡◌, ◌<◌, ◌≤◌, ◌+◌, ◌++◌, ℕ, ◌∷◌, ◌↔◌, List, [], length, take, drop, nat_le, nat_lt, false, IsTrue, IfOk, IfSome, MatchOption, Result, Some, None};
+ghost use Rattle.std.specs.Prelude.{◌≡◌, ◌<◌, ◌≤◌, ◌+◌, ◌++◌, ℕ, ◌∷◌, ◌↔◌, List, [], length, take, drop};
+ghost use Rattle.std.specs.Prelude.{nat_le, nat_lt, false, IsTrue, IfOk, IfSome, MatchOption, Result, Some};
+ghost use Rattle.std.specs.Prelude.{None};
 ghost use Rattle.scsi_types.specs.Cdb.{Means, need_of};
 ghost use Rattle.scsi_types.specs.declared.command.Command.{Command};
 ghost use Rattle.scsi_types.specs.declared.command.CdbFault.{CdbFault};
@@ -59,7 +61,13 @@ impl Model for WaitingCommand {
 
     ghost Value = { Collecting };
 
-    ghost view = { λ s. record { command = s.command; bytes = s.bytes.items; outstanding = Some s.request; requests = s.requests; data_sn = s.data_sn } };
+    ghost view = { λ s. record {
+      command = s.command;
+      bytes = s.bytes.items;
+      outstanding = Some s.request;
+      requests = s.requests;
+      data_sn = s.data_sn;
+    } };
 
     ghost invariant = { λ s. IsSlot s.command s.asked s.need (length s.bytes.items) (vec_capacity s.bytes) s.request };
 }
