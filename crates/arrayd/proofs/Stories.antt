@@ -21,7 +21,7 @@ use Rattle.unit_state.specs.EntryLaws.{possible_over, reply_over}
 use Rattle.unit_state.specs.History.{state_after, IsLegal, IsReplyAt, has_failed, failed_entries}
 use Rattle.unit_state.specs.Step.{IsStep, entry_of}
 use Rattle.arrayd.specs.OneUnit.{TargetValue, IsCommand, IsSame, IsBusy, IsAnsweredBy, LeadsOn}
-use Rattle.arrayd.specs.Once.{RepliedCall, replied_to, replied, IsCommandOf, AreCommands, IsUnserved, AreUnserved, AreCounted, IsBegun, IsOnce, begun}
+use Rattle.arrayd.specs.Once.{RepliedCall, replied_to, replied, IsCommandOf, AreCommands, IsUnserved, AreUnserved, AreCounted, IsBegun, IsOnce, begun, from_one}
 
 -- ---- failures: one command more in front
 
@@ -201,7 +201,7 @@ module _ {B : Type 0} (claims : Bool) (contents : B → List (List ℕ)) (failur
 
 -- the whole of it
 pub is_once : {B : Type 0} (claims : Bool) (size : B → ℕ) (contents : B → List (List ℕ)) (failures : B → ℕ) (blocks device : B) (x x' : TargetValue B) (left left' held held' : Option (List ℕ)) (end : End)
-    → IsBegun size blocks x → IsTranscribed (LeadsOn claims contents failures) 1 1 left left' held held' x x' end → device ≡ x'.unit.device
+    → IsBegun size blocks x → IsTranscribed (LeadsOn claims contents failures) from_one left left' held held' x x' end → device ≡ x'.unit.device
     → IsOnce claims size contents failures blocks device left left' held held' end
 is_once {B = B} claims size contents failures blocks device x x' left left' held held' end first t is_device =
     let begun_here : Matches claims contents failures (begun size contents blocks) x = record {

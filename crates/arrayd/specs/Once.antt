@@ -13,10 +13,12 @@ use Rattle.scsi_types.specs.declared.command.Command.TheVariants as commands
 use Rattle.scsi_types.specs.declared.command.CdbFault.{CdbFault}
 use Rattle.session.specs.Question.{Question, serve}
 use Rattle.session.specs.declared.end.End.{End}
+use Rattle.session.specs.declared.session.Start.{Start}
 use Rattle.session.specs.declared.target.TargetAnswer.{TargetAnswer}
 use Rattle.session.specs.declared.target.TargetAnswer.TheVariants.{Replied, Outside, Busy, Gone, Halted}
 use Rattle.session.specs.Turn.{Asking, Turn, calls, Spells}
 use Rattle.session.specs.Legal.{Lawful, EndsBy}
+use Rattle.session.specs.Lengths.{default_lengths}
 use Rattle.session.specs.Transcript.{Written}
 use Rattle.unit_state.specs.declared.control.TheConstants.{LAST_COUNT}
 use Rattle.unit_state.specs.State.{UnitState, opening}
@@ -28,6 +30,10 @@ use Rattle.arrayd.specs.OneUnit.{TargetValue, IsBusy}
 -- the nexus of the one session
 abbrev pub host : Nexus
 host = record { port = record { name = codes "iqn.2000-01.test:host"; isid = 0 }; group = One }
+
+-- with what the session begins: CmdSN 1, StatSN 1, and the lengths where none are negotiated
+abbrev pub from_one : Start
+from_one = record { exp_cmd_sn = 1; stat_sn = 1; lengths = default_lengths }
 
 -- the unit's place: the only one of array 1
 abbrev pub place : Place
@@ -109,7 +115,7 @@ pub record AreCounted (before now : ℕ) (history : List Entry) : Type 0 where
 pub record IsServed (ts : List Turn) (left left' held held' : Option (List ℕ)) (end : End) : Type 0 where
   pub spelled : List ℕ
   pub rest : List ℕ
-  pub lawful : Lawful 1 1 ts
+  pub lawful : Lawful from_one ts
   pub ends : EndsBy ts rest (length spelled + length rest) (IsAtEnd left') end
   pub spells : Spells (map (λ t. t.came) ts) spelled
   pub read : Consumes left left' (spelled ++ rest)

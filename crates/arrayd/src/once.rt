@@ -7,12 +7,12 @@ ghost use Rattle.arrayd.specs.Once.{IsOnce};
 use crate::target::OneUnit;
 use block_file::Blocks;
 use scsi_types::NoMemory;
-use session::{End, Sink, Source, Start, serve_stream};
+use session::{End, Lengths, Sink, Source, Start, serve_stream};
 use std::alloc::Global;
 
 /// Serves one session in full feature phase, of initiator `iqn.2000-01.test:host` with ISID 0 through group 1, over
-/// one unit with these blocks. CmdSN 1 is expected first, and StatSN 1 is used first. Answers the session's end,
-/// and the device. Refused for want of memory, it has read, written and changed nothing.
+/// one unit with these blocks. CmdSN 1 is expected first, StatSN 1 is used first, and the lengths are those where
+/// none are negotiated. Answers the session's end, and the device. Refused for want of memory, it has read, written and changed nothing.
 pub fn once<S: Source, K: Sink, B: Blocks>(
     alloc: Global,
     source: &mut S,
@@ -28,6 +28,7 @@ pub fn once<S: Source, K: Sink, B: Blocks>(
     let start = Start {
         exp_cmd_sn: 1,
         stat_sn: 1,
+        lengths: Lengths::defaults(),
     };
     let end = serve_stream(alloc, source, sink, &mut target, start)?;
     Ok((end, target.close()))

@@ -9,6 +9,7 @@ pub mod Front
 pub mod Inbox
 pub mod Legal
 pub mod Logout
+pub mod Lengths
 pub mod Machine
 pub mod MachineTurn
 pub mod Nop

@@ -17,11 +17,18 @@ pub struct Lengths {
 }
 
 impl Lengths {
+    ghost use Rattle.std.specs.Prelude.{◌≡◌};
+    ghost use Rattle.session.specs.Lengths.{default_lengths};
+
     /// The lengths where none are negotiated (section 13).
-    pub const DEFAULT: Lengths = Lengths {
-        data_segment: 8192,
-        burst: 262144,
-        first_burst: 65536,
-        immediate_data: true,
-    };
+    pub fn defaults() -> Lengths
+        ensures { result ≡ default_lengths }
+    {
+        Lengths {
+            data_segment: 8192,
+            burst: 262144,
+            first_burst: 65536,
+            immediate_data: true,
+        }
+    }
 }

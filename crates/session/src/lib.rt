@@ -10,8 +10,8 @@
 //! were read, however they were cut. Of specs/, `Turn` says what a transcript is, `Window` how numbers count, `Verdict`
 //! which PDUs are accepted, `Task` how a command is called, `Response` and `DataIn` how it is answered, `Legal` which
 //! transcripts are legal and why one ends, and `Transcript` how it lies over the bytes. `Machine` says what `Session`
-//! does at a step, `Source` and `Inbox` how bytes come. What follows for an initiator is stated by the functions
-//! without a body, in `laws`.
+//! does at a step, `Source` and `Inbox` how bytes come, `Outbox` how they leave. What follows for an initiator is
+//! stated by the functions without a body, in `laws`.
 #![tactic(auto)]
 
 mod actions;

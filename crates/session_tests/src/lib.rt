@@ -4,11 +4,17 @@
 #[cfg(test)]
 mod answers;
 #[cfg(test)]
+mod batches;
+#[cfg(test)]
+mod reads;
+#[cfg(test)]
 mod rejects;
 #[cfg(test)]
 mod residuals;
 #[cfg(test)]
 mod run;
+#[cfg(test)]
+mod runs;
 #[cfg(test)]
 mod streams;
 #[cfg(test)]

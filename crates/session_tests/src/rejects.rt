@@ -1,5 +1,5 @@
 //! What is rejected (RFC 7143, 11.17.1): 04 is a protocol error, 05 a command not supported, 09 an invalid PDU field.
-use crate::run::{PLAIN, Row, run};
+use crate::run::{Begin, FROM_ONE, PLAIN, Row, run};
 use session::End;
 use std::test::*;
 use test_streams::{GOOD, PduRow, READ_AND_WRITE, READS, REJECT, Segment, TEST_UNIT_READY, WRITES};
@@ -159,16 +159,21 @@ const ROWS: &[Row] = &[
         ..PLAIN
     },
     Row {
-        name: "a read of more than one Data-In takes",
+        name: "more immediate data than FirstBurstLength",
+        start: Begin {
+            first_burst: 1023,
+            ..FROM_ONE
+        },
         input: &[
             PduRow(
                 &TEST_UNIT_READY,
                 &[
-                    (1, &[READS]),
-                    (20, &[0, 0, 0x20, 1]),
-                    (32, &[0x28, 0, 0, 0, 0, 5, 0, 0, 1]),
+                    (1, &[WRITES]),
+                    (6, &[4, 0]),
+                    (20, &[0, 0, 4, 0]),
+                    (32, &[0x2A, 0, 0, 0, 0, 5, 0, 0, 2]),
                 ],
-                Segment::None,
+                Segment::Pattern(1024),
             ),
             PduRow(&TEST_UNIT_READY, &[], Segment::None),
         ],
@@ -179,9 +184,46 @@ const ROWS: &[Row] = &[
             Segment::Rejected(
                 &TEST_UNIT_READY,
                 &[
-                    (1, &[READS]),
-                    (20, &[0, 0, 0x20, 1]),
-                    (32, &[0x28, 0, 0, 0, 0, 5, 0, 0, 1]),
+                    (1, &[WRITES]),
+                    (6, &[4, 0]),
+                    (20, &[0, 0, 4, 0]),
+                    (32, &[0x2A, 0, 0, 0, 0, 5, 0, 0, 2]),
+                ],
+            ),
+        )],
+        end: End::Protocol,
+        ..PLAIN
+    },
+    Row {
+        name: "immediate data where ImmediateData is No",
+        start: Begin {
+            immediate_data: false,
+            ..FROM_ONE
+        },
+        input: &[
+            PduRow(
+                &TEST_UNIT_READY,
+                &[
+                    (1, &[WRITES]),
+                    (6, &[4, 0]),
+                    (20, &[0, 0, 4, 0]),
+                    (32, &[0x2A, 0, 0, 0, 0, 5, 0, 0, 2]),
+                ],
+                Segment::Pattern(1024),
+            ),
+            PduRow(&TEST_UNIT_READY, &[], Segment::None),
+        ],
+        asked: &[],
+        output: &[PduRow(
+            &REJECT,
+            &[(2, &[4])],
+            Segment::Rejected(
+                &TEST_UNIT_READY,
+                &[
+                    (1, &[WRITES]),
+                    (6, &[4, 0]),
+                    (20, &[0, 0, 4, 0]),
+                    (32, &[0x2A, 0, 0, 0, 0, 5, 0, 0, 2]),
                 ],
             ),
         )],

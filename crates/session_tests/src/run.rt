@@ -1,7 +1,7 @@
 //! The runner of the tables, and the target that it serves.
 use scsi_types::{Asked, Command, Reply, Sense};
-use session::{End, Start, Target, TargetAnswer, Watched, serve_stream};
-use std::alloc::Global;
+use session::{End, Lengths, Start, Target, TargetAnswer, Watched, serve_stream};
+use std::alloc::{AllocError, Global};
 use std::process::Abort;
 use std::test::Fail;
 use test_streams::{
@@ -13,6 +13,8 @@ use test_streams::{
 pub enum Answer {
     /// GOOD with so many bytes of the pattern.
     Good(usize),
+    /// GOOD with so many of each byte, one run behind another.
+    Runs(&'static [(usize, u8)]),
     /// CHECK CONDITION with this sense key, code and qualifier, for a unit that is not there.
     Check(u8, u8, u8),
     Busy,
@@ -22,11 +24,23 @@ pub enum Answer {
 
 /// A target that answers each command alike, and keeps what it was asked and given.
 #[derive(Drop)]
-struct Fixed {
+pub struct Fixed {
     alloc: Global,
     answer: Answer,
-    asked: Vec<(Option<u8>, Asked)>,
-    given: Vec<u8>,
+    pub asked: Vec<(Option<u8>, Asked)>,
+    pub given: Vec<u8>,
+}
+
+impl Fixed {
+    /// A target that was asked nothing yet.
+    pub fn new(alloc: Global, answer: Answer) -> Fixed {
+        Fixed {
+            alloc,
+            answer,
+            asked: Vec::new(alloc),
+            given: Vec::new(alloc),
+        }
+    }
 }
 
 impl Target for Fixed {
@@ -41,6 +55,10 @@ impl Target for Fixed {
                 Ok(bytes) => TargetAnswer::Replied(Reply::good(bytes)),
                 Err(_) => TargetAnswer::Busy,
             },
+            Answer::Runs(runs) => match bytes_of(self.alloc, runs) {
+                Ok(bytes) => TargetAnswer::Replied(Reply::good(bytes)),
+                Err(_) => TargetAnswer::Busy,
+            },
             Answer::Check(key, code, qualifier) => {
                 let sense = Sense::new(key, code, qualifier);
                 TargetAnswer::Outside(Reply::check(self.alloc, sense))
@@ -52,6 +70,17 @@ impl Target for Fixed {
     }
 }
 
+// So many of each byte, one run behind another.
+fn bytes_of(alloc: Global, runs: &[(usize, u8)]) -> Result<Vec<u8>, AllocError> {
+    let mut bytes = Vec::new(alloc);
+    for (len, byte) in runs {
+        for _ in 0..*len {
+            bytes.push(*byte)?;
+        }
+    }
+    Ok(bytes)
+}
+
 /// How a session ended, what it wrote, and what its target was asked and given.
 #[derive(Drop)]
 pub struct Ran {
@@ -61,10 +90,44 @@ pub struct Ran {
     pub given: Vec<u8>,
 }
 
-/// CmdSN 1 and StatSN 1.
-pub const FROM_ONE: Start = Start {
+/// With what a session begins, as plain numbers.
+#[derive(Clone, Copy, Debug)]
+pub struct Begin {
+    pub exp_cmd_sn: u32,
+    pub stat_sn: u32,
+    pub data_segment: u32,
+    pub burst: u32,
+    pub first_burst: u32,
+    pub immediate_data: bool,
+}
+
+impl Begin {
+    /// The same as a start, whose lengths are 512 at least.
+    pub fn start(&self) -> Result<Start, Fail> {
+        if self.data_segment < 512 || self.burst < 512 {
+            return Err("a length is below 512".into());
+        }
+        Ok(Start {
+            exp_cmd_sn: self.exp_cmd_sn,
+            stat_sn: self.stat_sn,
+            lengths: Lengths {
+                data_segment: self.data_segment,
+                burst: self.burst,
+                first_burst: self.first_burst,
+                immediate_data: self.immediate_data,
+            },
+        })
+    }
+}
+
+/// CmdSN 1, StatSN 1 and the lengths where none are negotiated (RFC 7143, section 13).
+pub const FROM_ONE: Begin = Begin {
     exp_cmd_sn: 1,
     stat_sn: 1,
+    data_segment: 8192,
+    burst: 262144,
+    first_burst: 65536,
+    immediate_data: true,
 };
 
 /// Serves this input, read and written so.
@@ -73,18 +136,13 @@ pub fn serve(
     input: &[u8],
     reads: Calls,
     writes: Calls,
-    start: Start,
+    begin: Begin,
     answer: Answer,
 ) -> Result<Ran, Fail> {
     let mut source = Watched::new(FakeReader::new(input, reads));
     let mut sink = Watched::new(FakeWriter::new(alloc, writes));
-    let mut target = Fixed {
-        alloc,
-        answer,
-        asked: Vec::new(alloc),
-        given: Vec::new(alloc),
-    };
-    let end = serve_stream(alloc, &mut source, &mut sink, &mut target, start)?;
+    let mut target = Fixed::new(alloc, answer);
+    let end = serve_stream(alloc, &mut source, &mut sink, &mut target, begin.start()?)?;
     Ok(Ran {
         end,
         output: sink.into_inner().into_bytes(),
@@ -97,7 +155,7 @@ pub fn serve(
 #[derive(Clone, Copy, Debug)]
 pub struct Row {
     pub name: &'static str,
-    pub start: Start,
+    pub start: Begin,
     /// What comes.
     pub input: &'static [PduRow<'static>],
     /// What the target answers.

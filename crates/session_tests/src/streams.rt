@@ -95,12 +95,12 @@ fn a_read_fails(rt: HostRuntime) -> Result<(), Fail> {
 
 #[test]
 fn a_write_fails(rt: HostRuntime) -> Result<(), Fail> {
-    // Each answer takes seven calls.
+    // Both answers leave together.
     for k in 1..=15u64 {
-        let wanted = match k {
-            1..=7 => (End::OutputFailed, 7 * (k as usize - 1)),
-            8..=14 => (End::OutputFailed, 48 + 7 * (k as usize - 8)),
-            _ => (End::EndOfInput, 96),
+        let wanted = if k <= 14 {
+            (End::OutputFailed, 7 * (k as usize - 1))
+        } else {
+            (End::EndOfInput, 96)
         };
         let how = (WHOLE, sevens(k, ErrorKind::BrokenPipe));
         expect(&rt, rt.alloc(), 96, how, wanted)?;

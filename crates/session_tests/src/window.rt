@@ -1,6 +1,6 @@
 //! The command window (RFC 7143, 4.2.2.1).
-use crate::run::{PLAIN, Row, TEST, run};
-use session::{End, Start};
+use crate::run::{Begin, FROM_ONE, PLAIN, Row, TEST, run};
+use session::End;
 use std::test::*;
 use test_streams::{GOOD, PduRow, Segment, TEST_UNIT_READY};
 
@@ -66,9 +66,10 @@ const ROWS: &[Row] = &[
     // StatSN FFFFFFFFh, ExpCmdSN 0 and MaxCmdSN 31; then StatSN 0, ExpCmdSN 1 and MaxCmdSN 32.
     Row {
         name: "numbers wrap round",
-        start: Start {
+        start: Begin {
             exp_cmd_sn: 0xFFFF_FFFF,
             stat_sn: 0xFFFF_FFFF,
+            ..FROM_ONE
         },
         input: &[
             PduRow(

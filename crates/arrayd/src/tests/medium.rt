@@ -77,6 +77,64 @@ const ROWS: &[Row] = &[
         written: &[],
         small: true,
     },
+    // WRITE (10) of block 31, then READ (10) of blocks 15 to 31: 8704 bytes in two Data-In.
+    Row {
+        name: "READ (10) of 17 blocks",
+        fuse: SOUND,
+        input: &[
+            PduRow(
+                &TEST_UNIT_READY,
+                &[
+                    (1, &[WRITES]),
+                    (5, &[0, 2, 0]),
+                    (20, &[0, 0, 2, 0]),
+                    (32, &[0x2A, 0, 0, 0, 0, 31, 0, 0, 1]),
+                ],
+                Segment::Runs(&[(512, 0x5A)]),
+            ),
+            PduRow(
+                &TEST_UNIT_READY,
+                &[
+                    (1, &[READS]),
+                    (16, &[0, 0, 0, 2, 0, 0, 0x22, 0, 0, 0, 0, 2, 0, 0, 0, 2]),
+                    (32, &[0x28, 0, 0, 0, 0, 15, 0, 0, 17]),
+                ],
+                Segment::None,
+            ),
+        ],
+        output: &[
+            PduRow(&GOOD, &[], Segment::None),
+            PduRow(
+                &DATA_IN,
+                &[
+                    (1, &[0]),
+                    (5, &[0, 0x20, 0]),
+                    (16, &[0, 0, 0, 2]),
+                    (28, &[0, 0, 0, 3, 0, 0, 0, 0x22]),
+                ],
+                Segment::Runs(&[(8192, 0)]),
+            ),
+            PduRow(
+                &DATA_IN,
+                &[
+                    (5, &[0, 2, 0]),
+                    (16, &[0, 0, 0, 2]),
+                    (28, &[0, 0, 0, 3, 0, 0, 0, 0x22, 0, 0, 0, 1, 0, 0, 0x20, 0]),
+                ],
+                Segment::Runs(&[(512, 0x5A)]),
+            ),
+            PduRow(
+                &GOOD,
+                &[
+                    (16, &[0, 0, 0, 2]),
+                    (24, &[0, 0, 0, 2, 0, 0, 0, 3, 0, 0, 0, 0x22, 0, 0, 0, 2]),
+                ],
+                Segment::None,
+            ),
+        ],
+        written: &[(31, 0x5A)],
+        small: false,
+    },
     // WRITE (10) with FUA of block 0: the write is done, and the flush fails.
     Row {
         name: "WRITE (10) with FUA, and the flush fails",

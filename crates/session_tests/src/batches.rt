@@ -1,0 +1,180 @@
+//! How the answers leave: those of commands that came together in one write, and a long one in parts.
+use crate::run::{Answer, Begin, FROM_ONE, Fixed};
+use session::{End, Watched, serve_stream};
+use std::alloc::Global;
+use std::io;
+use std::io::{ErrorKind, Write};
+use std::process::Abort;
+use std::test::*;
+use test_streams::{Calls, FakeReader, PduRow, READS, Segment, TEST_UNIT_READY, WHOLE, spelled};
+
+/// A writer that keeps how many bytes each call brought, and fails at the call of this number, counted from 1.
+#[derive(Drop)]
+struct Recorder {
+    sizes: Vec<usize>,
+    fail_at: usize,
+}
+
+impl Write for Recorder {
+    fn write(&mut self, buf: &[u8]) -> io::Result<usize> {
+        self.sizes.push(buf.len())?;
+        if self.sizes.len() == self.fail_at {
+            return Err(io::Error::from(ErrorKind::BrokenPipe));
+        }
+        Ok(buf.len())
+    }
+
+    fn flush(&mut self) -> io::Result<()> {
+        Ok(())
+    }
+}
+
+/// A session, and how its answers leave.
+#[derive(Clone, Copy, Debug)]
+struct Batch {
+    name: &'static str,
+    start: Begin,
+    input: &'static [PduRow<'static>],
+    reads: Calls,
+    answer: Answer,
+    fail_at: usize,
+    /// How many bytes each write brings, how many commands are called, and how the session ends.
+    writes: &'static [usize],
+    calls: usize,
+    end: End,
+}
+
+const SECOND: PduRow = PduRow(&TEST_UNIT_READY, &[(24, &[0, 0, 0, 2])], Segment::None);
+
+const THIRD: PduRow = PduRow(&TEST_UNIT_READY, &[(24, &[0, 0, 0, 3])], Segment::None);
+
+// READ (10) of 1024 blocks: 524288 bytes.
+const LONG_READ: PduRow = PduRow(
+    &TEST_UNIT_READY,
+    &[
+        (1, &[READS]),
+        (20, &[0, 8, 0, 0]),
+        (32, &[0x28, 0, 0, 0, 0, 0, 0, 4, 0]),
+    ],
+    Segment::None,
+);
+
+const LONG_SEGMENTS: Begin = Begin {
+    data_segment: 65536,
+    ..FROM_ONE
+};
+
+// Two whole commands come, then the rest.
+const TWO_AND_A_HALF: Calls = Calls {
+    first: 120,
+    later: 1000,
+    fail_at: 0,
+    kind: ErrorKind::Other,
+};
+
+const PLAIN: Batch = Batch {
+    name: "three commands in one read",
+    start: FROM_ONE,
+    input: &[PduRow(&TEST_UNIT_READY, &[], Segment::None), SECOND, THIRD],
+    reads: WHOLE,
+    answer: Answer::Good(0),
+    fail_at: 0,
+    writes: &[144],
+    calls: 3,
+    end: End::EndOfInput,
+};
+
+// The outbox has room for 270336 bytes: four Data-In of 65536 and their headers, but no fifth.
+const BATCHES: &[Batch] = &[
+    PLAIN,
+    Batch {
+        name: "two commands and a half in the first read",
+        reads: TWO_AND_A_HALF,
+        writes: &[96, 48],
+        ..PLAIN
+    },
+    Batch {
+        name: "the sink fails",
+        fail_at: 1,
+        end: End::OutputFailed,
+        ..PLAIN
+    },
+    Batch {
+        name: "the sink fails at the second batch",
+        reads: TWO_AND_A_HALF,
+        fail_at: 2,
+        writes: &[96, 48],
+        end: End::OutputFailed,
+        ..PLAIN
+    },
+    Batch {
+        name: "256 KiB in segments of 8192",
+        input: &[PduRow(
+            &TEST_UNIT_READY,
+            &[
+                (1, &[READS]),
+                (20, &[0, 4, 0, 0]),
+                (32, &[0x28, 0, 0, 0, 0, 0, 0, 2, 0]),
+            ],
+            Segment::None,
+        )],
+        answer: Answer::Good(262144),
+        writes: &[263728],
+        calls: 1,
+        ..PLAIN
+    },
+    Batch {
+        name: "a reply that is longer than the outbox",
+        start: LONG_SEGMENTS,
+        input: &[LONG_READ],
+        answer: Answer::Good(524288),
+        writes: &[262336, 262384],
+        calls: 1,
+        ..PLAIN
+    },
+    Batch {
+        name: "the sink fails in the middle of a reply: no command behind it is called",
+        start: LONG_SEGMENTS,
+        input: &[LONG_READ, SECOND],
+        answer: Answer::Good(524288),
+        fail_at: 1,
+        writes: &[262336],
+        calls: 1,
+        end: End::OutputFailed,
+        ..PLAIN
+    },
+];
+
+fn check(rt: &impl Abort, alloc: Global, batch: &Batch) -> Result<(), Fail> {
+    let input = spelled(alloc, batch.input)?;
+    let mut source = Watched::new(FakeReader::new(&input, batch.reads));
+    let mut sink = Watched::new(Recorder {
+        sizes: Vec::new(alloc),
+        fail_at: batch.fail_at,
+    });
+    let mut target = Fixed::new(alloc, batch.answer);
+    let end = serve_stream(
+        alloc,
+        &mut source,
+        &mut sink,
+        &mut target,
+        batch.start.start()?,
+    )?;
+    assert_eq!(rt; end, batch.end, "{}", batch.name);
+    assert_eq!(rt;
+        sink.into_inner().sizes.as_slice(),
+        batch.writes,
+        "{}",
+        batch.name
+    );
+    assert_eq!(rt; target.asked.len(), batch.calls, "{}", batch.name);
+    Ok(())
+}
+
+#[test]
+fn batches(rt: HostRuntime) -> Result<(), Fail> {
+    for batch in BATCHES {
+        check(&rt, rt.alloc(), batch)?;
+    }
+    Ok(())
+}
