@@ -6,6 +6,10 @@ mod answers;
 #[cfg(test)]
 mod batches;
 #[cfg(test)]
+mod data_outs;
+#[cfg(test)]
+mod r2ts;
+#[cfg(test)]
 mod reads;
 #[cfg(test)]
 mod rejects;

@@ -22,16 +22,16 @@ const ROWS: &[Row] = &[
         ..PLAIN
     },
     Row {
-        name: "a NOP-Out, which is not served",
+        name: "a Login request, behind the login",
         input: &[
-            PduRow(&TEST_UNIT_READY, &[(0, &[0x40, 0x80])], Segment::None),
+            PduRow(&TEST_UNIT_READY, &[(0, &[0x43, 0x87])], Segment::None),
             PduRow(&TEST_UNIT_READY, &[], Segment::None),
         ],
         asked: &[],
         output: &[PduRow(
             &REJECT,
-            &[(2, &[5])],
-            Segment::Rejected(&TEST_UNIT_READY, &[(0, &[0x40, 0x80])]),
+            &[(2, &[4])],
+            Segment::Rejected(&TEST_UNIT_READY, &[(0, &[0x43, 0x87])]),
         )],
         end: End::Protocol,
         ..PLAIN
@@ -224,38 +224,6 @@ const ROWS: &[Row] = &[
                     (6, &[4, 0]),
                     (20, &[0, 0, 4, 0]),
                     (32, &[0x2A, 0, 0, 0, 0, 5, 0, 0, 2]),
-                ],
-            ),
-        )],
-        end: End::Protocol,
-        ..PLAIN
-    },
-    Row {
-        name: "a write whose data did not all come",
-        input: &[
-            PduRow(
-                &TEST_UNIT_READY,
-                &[
-                    (1, &[WRITES]),
-                    (6, &[1, 0]),
-                    (20, &[0, 0, 2, 0]),
-                    (32, &[0x2A, 0, 0, 0, 0, 5, 0, 0, 1]),
-                ],
-                Segment::Pattern(256),
-            ),
-            PduRow(&TEST_UNIT_READY, &[], Segment::None),
-        ],
-        asked: &[],
-        output: &[PduRow(
-            &REJECT,
-            &[(2, &[4])],
-            Segment::Rejected(
-                &TEST_UNIT_READY,
-                &[
-                    (1, &[WRITES]),
-                    (6, &[1, 0]),
-                    (20, &[0, 0, 2, 0]),
-                    (32, &[0x2A, 0, 0, 0, 0, 5, 0, 0, 1]),
                 ],
             ),
         )],
