@@ -37,7 +37,11 @@ const FAULTS: &[Row] = &[
         name: "the offset 8196, where the R2T is at 8192",
         input: &[
             LONG,
-            PduRow(&DATA_OUT, &[(6, &[0, 4]), (40, &[0, 0, 0x20, 4])], Segment::PatternAt(8196, 4)),
+            PduRow(
+                &DATA_OUT,
+                &[(6, &[0, 4]), (40, &[0, 0, 0x20, 4])],
+                Segment::PatternAt(8196, 4),
+            ),
             BEHIND,
         ],
         asked: &[],
@@ -56,7 +60,11 @@ const FAULTS: &[Row] = &[
         name: "the offset 8188, where the R2T is at 8192",
         input: &[
             LONG,
-            PduRow(&DATA_OUT, &[(6, &[0, 4]), (40, &[0, 0, 0x1F, 0xFC])], Segment::PatternAt(8188, 4)),
+            PduRow(
+                &DATA_OUT,
+                &[(6, &[0, 4]), (40, &[0, 0, 0x1F, 0xFC])],
+                Segment::PatternAt(8188, 4),
+            ),
             BEHIND,
         ],
         asked: &[],
@@ -75,7 +83,11 @@ const FAULTS: &[Row] = &[
         name: "the Target Transfer Tag of no R2T",
         input: &[
             LONG,
-            PduRow(&DATA_OUT, &[(23, &[1]), (40, &[0, 0, 0x20, 0])], Segment::PatternAt(8192, 512)),
+            PduRow(
+                &DATA_OUT,
+                &[(23, &[1]), (40, &[0, 0, 0x20, 0])],
+                Segment::PatternAt(8192, 512),
+            ),
             BEHIND,
         ],
         asked: &[],
@@ -94,7 +106,11 @@ const FAULTS: &[Row] = &[
         name: "the Target Transfer Tag that asks for nothing",
         input: &[
             LONG,
-            PduRow(&DATA_OUT, &[(20, &[0xFF, 0xFF, 0xFF, 0xFF]), (40, &[0, 0, 0x20, 0])], Segment::PatternAt(8192, 512)),
+            PduRow(
+                &DATA_OUT,
+                &[(20, &[0xFF, 0xFF, 0xFF, 0xFF]), (40, &[0, 0, 0x20, 0])],
+                Segment::PatternAt(8192, 512),
+            ),
             BEHIND,
         ],
         asked: &[],
@@ -103,7 +119,10 @@ const FAULTS: &[Row] = &[
             PduRow(
                 &REJECT,
                 &[(2, &[4]), (31, &[2])],
-                Segment::Rejected(&DATA_OUT, &[(20, &[0xFF, 0xFF, 0xFF, 0xFF]), (40, &[0, 0, 0x20, 0])]),
+                Segment::Rejected(
+                    &DATA_OUT,
+                    &[(20, &[0xFF, 0xFF, 0xFF, 0xFF]), (40, &[0, 0, 0x20, 0])],
+                ),
             ),
         ],
         end: End::Protocol,
@@ -113,7 +132,11 @@ const FAULTS: &[Row] = &[
         name: "the DataSN 1 before 0",
         input: &[
             LONG,
-            PduRow(&DATA_OUT, &[(36, &[0, 0, 0, 1, 0, 0, 0x20, 0])], Segment::PatternAt(8192, 512)),
+            PduRow(
+                &DATA_OUT,
+                &[(36, &[0, 0, 0, 1, 0, 0, 0x20, 0])],
+                Segment::PatternAt(8192, 512),
+            ),
             BEHIND,
         ],
         asked: &[],
@@ -132,7 +155,11 @@ const FAULTS: &[Row] = &[
         name: "a byte past the range",
         input: &[
             LONG,
-            PduRow(&DATA_OUT, &[(6, &[2, 1]), (40, &[0, 0, 0x20, 0])], Segment::PatternAt(8192, 513)),
+            PduRow(
+                &DATA_OUT,
+                &[(6, &[2, 1]), (40, &[0, 0, 0x20, 0])],
+                Segment::PatternAt(8192, 513),
+            ),
             BEHIND,
         ],
         asked: &[],
@@ -151,8 +178,16 @@ const FAULTS: &[Row] = &[
         name: "a Data-Out that comes twice",
         input: &[
             LONG,
-            PduRow(&DATA_OUT, &[(6, &[1, 0]), (40, &[0, 0, 0x20, 0])], Segment::PatternAt(8192, 256)),
-            PduRow(&DATA_OUT, &[(6, &[1, 0]), (40, &[0, 0, 0x20, 0])], Segment::PatternAt(8192, 256)),
+            PduRow(
+                &DATA_OUT,
+                &[(6, &[1, 0]), (40, &[0, 0, 0x20, 0])],
+                Segment::PatternAt(8192, 256),
+            ),
+            PduRow(
+                &DATA_OUT,
+                &[(6, &[1, 0]), (40, &[0, 0, 0x20, 0])],
+                Segment::PatternAt(8192, 256),
+            ),
             BEHIND,
         ],
         asked: &[],
@@ -171,8 +206,16 @@ const FAULTS: &[Row] = &[
         name: "a byte past the range, in the second Data-Out",
         input: &[
             LONG,
-            PduRow(&DATA_OUT, &[(6, &[1, 0]), (40, &[0, 0, 0x20, 0])], Segment::PatternAt(8192, 256)),
-            PduRow(&DATA_OUT, &[(6, &[1, 1]), (36, &[0, 0, 0, 1, 0, 0, 0x21, 0])], Segment::PatternAt(8448, 257)),
+            PduRow(
+                &DATA_OUT,
+                &[(6, &[1, 0]), (40, &[0, 0, 0x20, 0])],
+                Segment::PatternAt(8192, 256),
+            ),
+            PduRow(
+                &DATA_OUT,
+                &[(6, &[1, 1]), (36, &[0, 0, 0, 1, 0, 0, 0x21, 0])],
+                Segment::PatternAt(8448, 257),
+            ),
             BEHIND,
         ],
         asked: &[],
@@ -181,7 +224,10 @@ const FAULTS: &[Row] = &[
             PduRow(
                 &REJECT,
                 &[(2, &[4]), (31, &[2])],
-                Segment::Rejected(&DATA_OUT, &[(6, &[1, 1]), (36, &[0, 0, 0, 1, 0, 0, 0x21, 0])]),
+                Segment::Rejected(
+                    &DATA_OUT,
+                    &[(6, &[1, 1]), (36, &[0, 0, 0, 1, 0, 0, 0x21, 0])],
+                ),
             ),
         ],
         end: End::Protocol,
@@ -282,10 +328,7 @@ const ROWS: &[Row] = &[
             PduRow(&GOOD, &[], Segment::None),
             PduRow(
                 &R2T,
-                &[
-                    (23, &[1]),
-                    (24, &[0, 0, 0, 2, 0, 0, 0, 3, 0, 0, 0, 0x21]),
-                ],
+                &[(23, &[1]), (24, &[0, 0, 0, 2, 0, 0, 0, 3, 0, 0, 0, 0x21])],
                 Segment::None,
             ),
             PduRow(
@@ -363,10 +406,7 @@ const ROWS: &[Row] = &[
             PduRow(&R2T, &[], Segment::None),
             PduRow(
                 &GOOD,
-                &[
-                    (19, &[9]),
-                    (24, &[0, 0, 0, 1, 0, 0, 0, 3, 0, 0, 0, 0x21]),
-                ],
+                &[(19, &[9]), (24, &[0, 0, 0, 1, 0, 0, 0, 3, 0, 0, 0, 0x21])],
                 Segment::None,
             ),
             PduRow(

@@ -8,6 +8,8 @@ mod batches;
 #[cfg(test)]
 mod data_outs;
 #[cfg(test)]
+mod long_write;
+#[cfg(test)]
 mod r2ts;
 #[cfg(test)]
 mod reads;
@@ -22,4 +24,8 @@ mod runs;
 #[cfg(test)]
 mod streams;
 #[cfg(test)]
+mod tasks;
+#[cfg(test)]
 mod window;
+#[cfg(test)]
+mod write_streams;

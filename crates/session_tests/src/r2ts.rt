@@ -4,8 +4,7 @@ use crate::run::{Answer, Begin, FROM_ONE, PLAIN, Row, run};
 use scsi_types::{Asked, Command};
 use std::test::*;
 use test_streams::{
-    CHECK_CONDITION, DATA_OUT, GOOD, OVERFLOW, PduRow, R2T, Segment,
-    UNDERFLOW, WRITE,
+    CHECK_CONDITION, DATA_OUT, GOOD, OVERFLOW, PduRow, R2T, Segment, UNDERFLOW, WRITE,
 };
 
 // What WRITE (10) at block 5 asks for.
@@ -160,11 +159,7 @@ const ROWS: &[Row] = &[
         start: SHORT_BURSTS,
         input: &[FIVE, PduRow(&DATA_OUT, &[], Segment::Pattern(512))],
         asked: &[],
-        output: &[PduRow(
-            &R2T,
-            &[(40, &[0, 0, 0, 0, 0, 0, 4, 0])],
-            Segment::None,
-        )],
+        output: &[PduRow(&R2T, &[(40, &[0, 0, 0, 0, 0, 0, 4, 0])], Segment::None)],
         ..PLAIN
     },
     // The range begins behind the immediate data, not at a multiple of MaxBurstLength.

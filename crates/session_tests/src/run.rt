@@ -5,8 +5,8 @@ use std::alloc::{AllocError, Global};
 use std::process::Abort;
 use std::test::Fail;
 use test_streams::{
-    Calls, FakeReader, FakeWriter, GOOD, ONE_BYTE, PduRow, Segment, TEST_UNIT_READY, WHOLE, pattern,
-    spelled,
+    Calls, FakeReader, FakeWriter, GOOD, ONE_BYTE, PduRow, Segment, TEST_UNIT_READY, WHOLE,
+    pattern, spelled,
 };
 
 /// What a target answers to each command.
@@ -228,6 +228,11 @@ pub fn run_reads(
     assert_eq!(rt; ran.end, row.end, "{}, {reads:?}", row.name);
     assert_eq!(rt; ran.output.as_slice(), output, "{}, {reads:?}", row.name);
     assert_eq!(rt; ran.asked.as_slice(), row.asked, "{}, {reads:?}", row.name);
-    assert_eq!(rt; ran.given.as_slice(), given.as_slice(), "{}, {reads:?}", row.name);
+    assert_eq!(rt;
+        ran.given.as_slice(),
+        given.as_slice(),
+        "{}, {reads:?}",
+        row.name
+    );
     Ok(())
 }
