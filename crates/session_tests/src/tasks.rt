@@ -332,15 +332,15 @@ fn many_writes(alloc: Global, count: u8) -> Result<(Vec<u8>, Vec<u8>), Fail> {
     let mut output = Vec::new(alloc);
     for k in 0..count {
         let number = k.wrapping_add(1);
-        let next = number.wrapping_add(1);
-        let write = PduRow(&WRITE, &[(19, &[number]), (27, &[number])], Segment::None);
-        input.extend_from_slice(&spelled(alloc, &[write])?)?;
-        let r2t = PduRow(
-            &R2T,
-            &[(19, &[number]), (23, &[k]), (31, &[next])],
-            Segment::None,
-        );
-        output.extend_from_slice(&spelled(alloc, &[r2t])?)?;
+        let mut write = WRITE;
+        write[19] = number;
+        write[27] = number;
+        input.extend_from_slice(&write)?;
+        let mut r2t = R2T;
+        r2t[19] = number;
+        r2t[23] = k;
+        r2t[31] = number.wrapping_add(1);
+        output.extend_from_slice(&r2t)?;
     }
     Ok((input, output))
 }
