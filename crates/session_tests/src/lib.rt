@@ -6,6 +6,8 @@ mod answers;
 #[cfg(test)]
 mod batches;
 #[cfg(test)]
+mod data_out_faults;
+#[cfg(test)]
 mod data_outs;
 #[cfg(test)]
 mod long_write;
