@@ -6,6 +6,14 @@ mod answers;
 #[cfg(test)]
 mod batches;
 #[cfg(test)]
+mod data_out_faults;
+#[cfg(test)]
+mod data_outs;
+#[cfg(test)]
+mod long_write;
+#[cfg(test)]
+mod r2ts;
+#[cfg(test)]
 mod reads;
 #[cfg(test)]
 mod rejects;
@@ -18,4 +26,8 @@ mod runs;
 #[cfg(test)]
 mod streams;
 #[cfg(test)]
+mod tasks;
+#[cfg(test)]
 mod window;
+#[cfg(test)]
+mod write_streams;

@@ -5,7 +5,8 @@ use std::alloc::{AllocError, Global};
 use std::process::Abort;
 use std::test::Fail;
 use test_streams::{
-    Calls, FakeReader, FakeWriter, GOOD, PduRow, Segment, TEST_UNIT_READY, WHOLE, pattern, spelled,
+    Calls, FakeReader, FakeWriter, GOOD, ONE_BYTE, PduRow, Segment, TEST_UNIT_READY, WHOLE,
+    pattern, spelled,
 };
 
 /// What a target answers to each command.
@@ -188,12 +189,50 @@ pub fn run(rt: &impl Abort, alloc: Global, rows: &[Row]) -> Result<(), Fail> {
     for row in rows {
         let input = spelled(alloc, row.input)?;
         let output = spelled(alloc, row.output)?;
-        let given = pattern(alloc, row.given)?;
-        let ran = serve(alloc, &input, WHOLE, WHOLE, row.start, row.answer)?;
-        assert_eq!(rt; ran.end, row.end, "{}", row.name);
-        assert_eq!(rt; ran.output.as_slice(), output.as_slice(), "{}", row.name);
-        assert_eq!(rt; ran.asked.as_slice(), row.asked, "{}", row.name);
-        assert_eq!(rt; ran.given.as_slice(), given.as_slice(), "{}", row.name);
+        run_bytes(rt, alloc, row, &input, &output)?;
     }
+    Ok(())
+}
+
+/// The most bytes of an input that is cut at each of its places.
+const FEW_BYTES: usize = 96;
+
+/// Serves these bytes of a row: whole, one by one, and, where they are few, in two at each place.
+pub fn run_bytes(
+    rt: &impl Abort,
+    alloc: Global,
+    row: &Row,
+    input: &[u8],
+    output: &[u8],
+) -> Result<(), Fail> {
+    run_reads(rt, alloc, row, (input, output), WHOLE)?;
+    run_reads(rt, alloc, row, (input, output), ONE_BYTE)?;
+    if input.len() <= FEW_BYTES {
+        for first in 1..input.len() {
+            run_reads(rt, alloc, row, (input, output), Calls { first, ..WHOLE })?;
+        }
+    }
+    Ok(())
+}
+
+/// Serves these bytes of a row, read so, and compares.
+pub fn run_reads(
+    rt: &impl Abort,
+    alloc: Global,
+    row: &Row,
+    (input, output): (&[u8], &[u8]),
+    reads: Calls,
+) -> Result<(), Fail> {
+    let given = pattern(alloc, row.given)?;
+    let ran = serve(alloc, input, reads, WHOLE, row.start, row.answer)?;
+    assert_eq!(rt; ran.end, row.end, "{}, {reads:?}", row.name);
+    assert_eq!(rt; ran.output.as_slice(), output, "{}, {reads:?}", row.name);
+    assert_eq!(rt; ran.asked.as_slice(), row.asked, "{}, {reads:?}", row.name);
+    assert_eq!(rt;
+        ran.given.as_slice(),
+        given.as_slice(),
+        "{}, {reads:?}",
+        row.name
+    );
     Ok(())
 }
