@@ -1,5 +1,8 @@
 -- A command that came by another group is submitted once more, to the owner.
 use Rattle.std.proofs.Common.{◌≡◌, ℕ, ◌≤◌, Bool, List, Result, refl, subst, ◌∙◌}
+use Rattle.access_states.specs.AccessMap.{owner_of}
+use Rattle.block_file.specs.declared.mem.MemBlocks.{MemBlocks}
+use Rattle.block_file.specs.declared.opener.KeepOpener.{KeepOpener}
 use Rattle.scsi_types.specs.declared.names.Group.{Group}
 use Rattle.scsi_types.specs.declared.command.Command.{Command as ScsiCommand}
 use Rattle.scsi_types.specs.declared.command.CdbFault.{CdbFault}
@@ -15,12 +18,12 @@ module _ {B : Type 0} (claims : Bool) (contents : B → List (List ℕ)) (failur
   joined : IsSame old mid → IsSame mid new → IsSame old new
   joined a b = record { session = b.session ∙ a.session; unit = b.unit ∙ a.unit }
 
-  pub twice : (end : StepEnd) → IsSame old mid → mid.by ≡ mid.unit.control.owner → IsStepped claims contents failures mid asked bytes end new → IsOwnStep claims contents failures old asked bytes end new
+  pub twice : (end : StepEnd) → IsSame old mid → mid.by ≡ owner_of mid.unit.control.access → IsStepped claims contents failures mid asked bytes end new → IsOwnStep claims contents failures old asked bytes end new
   twice (Reply reply) same owner k = (mid, same, k)
-  twice Gone same owner k = (joined same k.0, subst (λ (u : UnitValue B). LAST_COUNT ≤ u.control.count) same.unit k.1)
+  twice Gone same owner k = (joined same k.0, subst (λ (u : UnitValue B KeepOpener MemBlocks). LAST_COUNT ≤ u.control.count) same.unit k.1)
   twice (Moved to) same owner k = absurd (k.1 owner)
   twice NoMemory same owner k =
-      (joined same k.0, subst (λ (u : UnitValue B). TakesMemory u.control (request old.session asked bytes)) same.unit (subst (λ (n : ℕ). TakesMemory mid.unit.control (request n asked bytes)) same.session k.1))
+      (joined same k.0, subst (λ (u : UnitValue B KeepOpener MemBlocks). TakesMemory u.control (request old.session asked bytes)) same.unit (subst (λ (n : ℕ). TakesMemory mid.unit.control (request n asked bytes)) same.session k.1))
 
   pub at_once : (end : StepEnd) → ((to : Group) → end ≡ Moved to → ⊥) → IsStepped claims contents failures old asked bytes end new → IsOwnStep claims contents failures old asked bytes end new
   at_once (Reply reply) stays k = (old, record { session = refl; unit = refl }, k)

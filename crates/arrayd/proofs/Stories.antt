@@ -3,6 +3,8 @@ use Rattle.std.proofs.Common.{◌≡◌, ℕ, zero, suc, ◌+◌, ◌<◌, ◌�
 use Rattle.std.specs.Prelude.{IsTrue, slice_get, Result}
 use Rattle.std.proofs.lemmas.List.Sums.{sum_by-cons}
 use Rattle.block_file.specs.Failures.{Tells, last_count}
+use Rattle.block_file.specs.declared.mem.MemBlocks.{MemBlocks}
+use Rattle.block_file.specs.declared.opener.KeepOpener.{KeepOpener}
 use Rattle.scsi_types.specs.ReplyValue.{ReplyValue}
 use Rattle.scsi_types.specs.declared.names.Group.{Group}
 use Rattle.scsi_types.specs.declared.command.Command.{Command as ScsiCommand}
@@ -18,7 +20,7 @@ use Rattle.session.specs.Transcript.{IsTranscribed}
 use Rattle.session.specs.Turn.{Leads, calls}
 use Rattle.unit_state.specs.declared.control.TheConstants.{LAST_COUNT}
 use Rattle.unit_state.specs.State.{ControlValue, UnitState, UnitValue, state_of}
-use Rattle.unit_state.specs.Choice.{Choice, Fine, ReadFailed, WriteFailed, IsFine, choice_of}
+use Rattle.unit_state.specs.Choice.{Choice, Fine, ReadFailed, WriteFailed, OpenFailed, SaveFailed, IsFine, choice_of}
 use Rattle.unit_state.specs.Entry.{Entry, Reset, Command, IsAttached, IsPossible, IsReplyTo, control_after, blocks_after, after}
 use Rattle.unit_state.specs.EntryLaws.{possible_over, reply_over}
 use Rattle.unit_state.specs.History.{state_after, IsLegal, IsReplyAt, has_failed, failed_entries}
@@ -48,6 +50,24 @@ counted_more before mid now session serial by_group asked bytes (WriteFailed aft
   at_most = λ room. let up : before < mid = t.rises (omega (arith, t.later, k.later)) (λ (e : false ≡ true). cc) in let rest = k.at_most room in omega (arith, failed_more (Command session serial by_group asked bytes (WriteFailed after)) history);
   only = λ room none. absurd (omega (arith, failed_more (Command session serial by_group asked bytes (WriteFailed after)) history));
 }
+counted_more before mid now session serial by_group asked bytes OpenFailed history t k = record {
+  later = omega (arith, t.later, k.later);
+  at_most = λ room. let up : before < mid = t.rises (omega (arith, t.later, k.later)) (λ (e : false ≡ true). cc) in let rest = k.at_most room in omega (arith, failed_more (Command session serial by_group asked bytes OpenFailed) history);
+  only = λ room none. absurd (omega (arith, failed_more (Command session serial by_group asked bytes OpenFailed) history));
+}
+counted_more before mid now session serial by_group asked bytes (SaveFailed records) history t k = record {
+  later = omega (arith, t.later, k.later);
+  at_most = λ room. let up : before < mid = t.rises (omega (arith, t.later, k.later)) (λ (e : false ≡ true). cc) in let rest = k.at_most room in omega (arith, failed_more (Command session serial by_group asked bytes (SaveFailed records)) history);
+  only = λ room none. absurd (omega (arith, failed_more (Command session serial by_group asked bytes (SaveFailed records)) history));
+}
+
+-- the opener and the registration file never fail, so that the device alone counts
+tells_alone : (before now : ℕ) (done : Type 0) → Tells (before + 0 + 0) (now + 0 + 0) done → Tells before now done
+tells_alone before now done t = record {
+  later = omega (arith, t.later);
+  stays = λ room d. let same : now + 0 + 0 ≡ before + 0 + 0 = t.stays (omega arith) d in omega arith;
+  rises = λ room failed. let up : before + 0 + 0 < now + 0 + 0 = t.rises (omega arith) failed in omega arith;
+}
 
 abbrev none_asked : List Asking
 none_asked = []
@@ -60,8 +80,8 @@ module _ {B : Type 0} (claims : Bool) (contents : B → List (List ℕ)) (failur
 
   same_unit : (s : UnitState) (x mid : TargetValue B) → mid.unit ≡ x.unit → Matches s x → Matches s mid
   same_unit s x mid e m = record {
-    control = m.control ∙ ap (λ (u : UnitValue B). u.control) (sym e);
-    blocks = λ h. m.blocks h ∙ ap (λ (u : UnitValue B). contents u.device) (sym e);
+    control = m.control ∙ ap (λ (u : UnitValue B KeepOpener MemBlocks). u.control) (sym e);
+    blocks = λ h. m.blocks h ∙ ap (λ (u : UnitValue B KeepOpener MemBlocks). contents u.device) (sym e);
   }
 
   module _ (s : UnitState) (x mid : TargetValue B) (m : Matches s x) (e : Entry) (reply : ReplyValue) (step : IsStep claims (state_of contents x.unit) (state_of contents mid.unit) e reply) where
@@ -137,7 +157,7 @@ module _ {B : Type 0} (claims : Bool) (contents : B → List (List ℕ)) (failur
       reply = rw same_calls k.commands.reply;
     };
     others = others_past s c cs k.history none here k.others;
-    counted = subst (λ (u : UnitValue B). AreCounted (failures u.device) (failures x'.unit.device) k.history) same.unit k.counted;
+    counted = subst (λ (u : UnitValue B KeepOpener MemBlocks). AreCounted (failures u.device) (failures x'.unit.device) k.history) same.unit k.counted;
     ends = k.ends;
   }
 
@@ -150,7 +170,7 @@ module _ {B : Type 0} (claims : Bool) (contents : B → List (List ℕ)) (failur
       let done = led.3 in
       let m' : Matches s by_owner = same_unit s x by_owner same.unit m in
       let mine : by_owner.session ≡ 0 = same.session ∙ zero_is in
-      let choice : Choice = choice_of reply (contents mid.unit.device) in
+      let choice : Choice = choice_of reply (contents mid.unit.device) mid.unit.control.lasting in
       let entry : Entry = Command 0 by_owner.serial by_owner.by asked bytes choice in
       let step : IsStep claims (state_of contents by_owner.unit) (state_of contents mid.unit) entry reply =
       subst (λ (n : ℕ). IsStep claims (state_of contents by_owner.unit) (state_of contents mid.unit) (entry_of n by_owner.serial by_owner.by asked bytes reply (state_of contents mid.unit)) reply) mine done.step in
@@ -163,7 +183,7 @@ module _ {B : Type 0} (claims : Bool) (contents : B → List (List ℕ)) (failur
             (λ c same_call. let same_one : call ≡ c = cc in subst (λ (z : RepliedCall). IsReplyTo claims s entry z.reply) same_one (replied_here s by_owner mid m' entry reply step)) refl k.history k.commands;
         others = entered_more entry s (served unit asked bytes (Replied reply)) cs k.history (replied call) refl tt k.others;
         counted = counted_more (failures x.unit.device) (failures mid.unit.device) (failures x'.unit.device) 0 by_owner.serial by_owner.by asked bytes choice k.history
-            (subst (λ (u : UnitValue B). Tells (failures u.device) (failures mid.unit.device) (IsFine choice)) same.unit done.fine) k.counted;
+            (subst (λ (u : UnitValue B KeepOpener MemBlocks). Tells (failures u.device) (failures mid.unit.device) (IsFine choice)) same.unit (tells_alone (failures by_owner.unit.device) (failures mid.unit.device) (IsFine choice) done.fine)) k.counted;
         ends = k.ends;
       }
   next unit asked bytes (Outside reply) cs s x mid x' zero_is m led rest =

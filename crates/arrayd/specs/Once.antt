@@ -1,10 +1,11 @@
 -- What one session over one unit is, from bytes to bytes and from blocks to blocks.
-use Rattle.std.specs.Prelude.{◌≡◌, ◌≢◌, ℕ, ◌+◌, ◌<◌, ◌≤◌, Bool, IsTrue, List, [], ◌∷◌}
+use Rattle.std.specs.Prelude.{◌≡◌, ◌≢◌, ℕ, ◌+◌, ◌<◌, ◌≤◌, Bool, false, IsTrue, List, [], ◌∷◌}
 use Rattle.std.specs.Prelude.{◌++◌, length, map, take, codes, Option, Some, None, Result, Ok, slice_get}
 use Rattle.std.specs.List.{filter_map}
 use Rattle.std.specs.Io.KnownBytes.{Consumes, IsAtEnd}
 use Rattle.block_file.specs.Failures.{last_count}
 use Rattle.identity.specs.Absent.{absent_reply}
+use Rattle.reservations.specs.Registry.{RecordValue}
 use Rattle.scsi_types.specs.ReplyValue.{ReplyValue}
 use Rattle.scsi_types.specs.Nexus.{Nexus}
 use Rattle.scsi_types.specs.declared.names.Group.TheVariants.{One}
@@ -35,6 +36,10 @@ host = record { port = record { name = codes "iqn.2000-01.test:host"; isid = 0 }
 abbrev pub place : Place
 place = record { unit = 0; units = 1; array = 1 }
 
+-- nobody is registered as it opens
+abbrev pub nothing : RecordValue
+nothing = record { aptpl = false; registrants = []; reservation = None }
+
 -- The entries before the session's first command: it is attached, by which its id is 0; and a command of its own takes
 -- the attention that the unit was powered on, which the session is so not told again (SAM-5, 5.14).
 abbrev pub first_entries : List Entry
@@ -42,7 +47,7 @@ first_entries = Attach host ∷ Command 0 1 One (Ok commands.TestUnitReady) [] F
 
 -- the unit over these blocks behind them
 abbrev pub begun : {B : Type 0} → (B → ℕ) → (B → List (List ℕ)) → B → UnitState
-begun size contents blocks = state_after (opening place (size blocks) (contents blocks)) first_entries
+begun size contents blocks = state_after (opening place (size blocks) (contents blocks) nothing) first_entries
 
 -- such a unit, and its session
 pub record IsBegun {B : Type 0} (size : B → ℕ) (blocks : B) (target : TargetValue B) : Type 0 where
@@ -136,7 +141,7 @@ pub record IsOnce {B : Type 0} (m : Setting) (claims : Bool) (size : B → ℕ) 
   pub transcript : List Turn
   pub served : IsServed m transcript left left' held held' end
   pub history : List Entry
-  pub legal : IsLegal claims (opening place (size blocks) (contents blocks)) (first_entries ++ history)
+  pub legal : IsLegal claims (opening place (size blocks) (contents blocks) nothing) (first_entries ++ history)
   pub commands : AreCommands claims (begun size contents blocks) (calls transcript) history
   pub others : AreUnserved (begun size contents blocks) (calls transcript) history
   pub counted : AreCounted (failures blocks) (failures device) history

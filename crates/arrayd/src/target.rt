@@ -2,8 +2,10 @@
 ghost use Rattle.std.specs.Prelude.{◌≡◌, IfOk};
 ghost use Rattle.arrayd.specs.Once.{IsBegun};
 
-use block_file::Blocks;
+use aptpl_file::{FILE_BLOCKS, RegFile};
+use block_file::{Blocks, KeepOpener, MemBlocks};
 use identity::absent;
+use reservations::Record;
 use scsi_types::{Asked, Command, Group, NoMemory, Place, PortName};
 use session::{ResetAnswer, Target, TargetAnswer};
 use std::alloc::Global;
@@ -20,7 +22,7 @@ const INITIATOR: &[u8] = b"iqn.2000-01.test:host";
 #[derive(Drop)]
 pub struct OneUnit<B: Blocks> {
     alloc: Global,
-    unit: Unit<B>,
+    unit: Unit<B, KeepOpener, MemBlocks>,
     session: SessionId,
     // The serial of the session's next command.
     serial: u64,
@@ -44,7 +46,8 @@ impl<B: Blocks> OneUnit<B> {
     ghost use Rattle.arrayd.specs.OneUnit.{IsStepped, IsOwnStep};
 
     /// A unit over these blocks, to which a session of `iqn.2000-01.test:host` with ISID 0 through the first group is
-    /// attached, which was told of the power on. Refused, it drops the blocks.
+    /// attached, which was told of the power on. The registration file is formatted in memory. Refused, it drops the
+    /// blocks.
     pub fn over(alloc: Global, blocks: B) -> Result<OneUnit<B>, NoMemory>
         ensures { IfOk result (IsBegun B.size blocks) }
     {
@@ -54,7 +57,12 @@ impl<B: Blocks> OneUnit<B> {
             array: 1,
         };
         let name = INITIATOR.to_vec(alloc)?;
-        let mut unit = Unit::open(alloc, place, blocks)?;
+        let registrations = MemBlocks::new(alloc, FILE_BLOCKS)?;
+        // Blocks in memory never fail.
+        let Ok(file) = RegFile::format(registrations) else {
+            return Err(NoMemory);
+        };
+        let mut unit = Unit::open(alloc, place, blocks, KeepOpener, file, Record::empty(alloc))?;
         let Ok(session) = unit.attach(PortName::new(name, 0), Group::One) else {
             unreachable!()
         };
@@ -76,7 +84,8 @@ impl<B: Blocks> OneUnit<B> {
     pub fn close(self) -> B
         ensures { result ≡ self.unit.device }
     {
-        self.unit.close()
+        let (blocks, KeepOpener, _registrations) = self.unit.close();
+        blocks
     }
 
     // One step of the unit, by the group that is believed to own it.

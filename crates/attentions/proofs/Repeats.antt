@@ -1,8 +1,12 @@
 -- Lists of conditions of which none is there twice.
-use Rattle.std.proofs.Common.{◌≡◌, ℕ, zero, suc, ◌+◌, ◌<◌, ◌≤◌, true, false, List, [], ◌∷◌, ◌++◌, length, get_or, drop, length-append, Contains, if◌then◌else◌, refl, sym, arith}
+use Rattle.std.proofs.Common.{◌≡◌, ℕ, zero, suc, ◌+◌, ◌<◌, ◌≤◌, true, false, List, [], ◌∷◌, ◌++◌, length}
+use Rattle.std.proofs.Common.{get_or, drop, length-append, Contains, if◌then◌else◌, refl, sym, arith}
 use Rattle.std.proofs.lemmas.Grind.{common_steps}
 use Rattle.scsi_types.specs.declared.attention.UnitAttention.{UnitAttention}
-use Rattle.scsi_types.specs.declared.attention.UnitAttention.TheVariants.{PowerOn, ReservationsPreempted, ReservationsReleased, RegistrationsPreempted, AccessStateChanged}
+use Rattle.scsi_types.specs.declared.attention.UnitAttention.TheVariants.{PowerOn, ReservationsPreempted}
+use Rattle.scsi_types.specs.declared.attention.UnitAttention.TheVariants.{ReservationsReleased}
+use Rattle.scsi_types.specs.declared.attention.UnitAttention.TheVariants.{RegistrationsPreempted}
+use Rattle.scsi_types.specs.declared.attention.UnitAttention.TheVariants.{AccessStateChanged}
 use Rattle.attentions.specs.Queue.{same_attention, is_pending, without_repeats, established}
 
 pub same_self : (a : UnitAttention) → same_attention a a ≡ true

@@ -2,7 +2,9 @@
 use Rattle.std.specs.Prelude.{Bool, true, false, not, ◌&&◌, if◌then◌else◌, List, [], ◌∷◌, ◌++◌}
 use Rattle.std.specs.List.{list_any}
 use Rattle.scsi_types.specs.declared.attention.UnitAttention.{UnitAttention}
-use Rattle.scsi_types.specs.declared.attention.UnitAttention.TheVariants.{PowerOn, ReservationsPreempted, ReservationsReleased, RegistrationsPreempted, AccessStateChanged}
+use Rattle.scsi_types.specs.declared.attention.UnitAttention.TheVariants.{PowerOn, ReservationsPreempted}
+use Rattle.scsi_types.specs.declared.attention.UnitAttention.TheVariants.{ReservationsReleased, RegistrationsPreempted}
+use Rattle.scsi_types.specs.declared.attention.UnitAttention.TheVariants.{AccessStateChanged}
 
 abbrev pub same_attention : UnitAttention → UnitAttention → Bool
 same_attention PowerOn PowerOn = true

@@ -1,6 +1,9 @@
 -- Bytes that are cut into blocks.
-use Rattle.std.proofs.Common.{◌≡◌, ◌⊎◌, ℕ, zero, suc, ◌+◌, ◌-◌, ◌*◌, ◌<◌, List, [], ◌∷◌, ◌++◌, length, take, drop, replicate, flat_map, refl, sym, ◌∙◌, ap, subst, arith, append_assoc, length-take, length-drop}
-use Rattle.std.proofs.lemmas.List.{drop-drop, take_all, take-append-le, drop-append-le, take-append-drop, take-take, drop-take, take-replicate, drop-replicate}
+use Rattle.std.proofs.Common.{◌≡◌, ◌⊎◌, ℕ, zero, suc, ◌+◌, ◌-◌, ◌*◌, ◌<◌, List, [], ◌∷◌}
+use Rattle.std.proofs.Common.{◌++◌, length, take, drop, replicate, flat_map, refl, sym, ◌∙◌}
+use Rattle.std.proofs.Common.{ap, subst, arith, append_assoc, length-take, length-drop}
+use Rattle.std.proofs.lemmas.List.{drop-drop, take_all, take-append-le, drop-append-le, take-append-drop}
+use Rattle.std.proofs.lemmas.List.{take-take, drop-take, take-replicate, drop-replicate}
 use Rattle.block_file.specs.declared.blocks.TheConstants.{BLOCK_LENGTH}
 use Rattle.block_file.specs.Disk.{block_at, written, Between, IsNewAt}
 use Rattle.block_file.specs.DiskLaws.{between_written}

@@ -1,9 +1,12 @@
 -- Laws of disks as lists of blocks, for the proofs of those who write and read them.
-use Rattle.std.proofs.Common.{◌≡◌, ◌⊎◌, inl, inr, ⊎_elim, ℕ, ◌+◌, ◌-◌, ◌<◌, ◌≤◌, List, [], ◌∷◌, ◌++◌, length, get_or, take, drop, flat_map, refl, sym, ◌∙◌, ap, arith, append_assoc, length-append, length-take, length-drop}
+use Rattle.std.proofs.Common.{◌≡◌, ◌⊎◌, inl, inr, ⊎_elim, ℕ, ◌+◌, ◌-◌, ◌<◌, ◌≤◌, List, [], ◌∷◌}
+use Rattle.std.proofs.Common.{◌++◌, length, get_or, take, drop, flat_map, refl, sym, ◌∙◌, ap}
+use Rattle.std.proofs.Common.{arith, append_assoc, length-append, length-take, length-drop}
 use Rattle.std.proofs.Math.Seq.{take-add}
 use Rattle.std.proofs.lemmas.Bool.{cases_lt}
 use Rattle.std.proofs.lemmas.Grind.{common_steps}
-use Rattle.std.proofs.lemmas.List.{drop-drop, drop_at, take-append-drop, take_more, take-append-le, get_or-drop, get_or-take, get_or-append_right, append-nil, take_all}
+use Rattle.std.proofs.lemmas.List.{drop-drop, drop_at, take-append-drop, take_more, take-append-le}
+use Rattle.std.proofs.lemmas.List.{get_or-drop, get_or-take, get_or-append_right, append-nil, take_all}
 use Rattle.std.proofs.lemmas.List.Concat.{flat_map-append}
 use Rattle.block_file.specs.Disk.{block_at, written, range_bytes, Between, IsNewAt, Adds}
 

@@ -1,5 +1,6 @@
 -- A range that is compared block by block.
-use Rattle.std.proofs.Common.{◌≡◌, MatchOption, ℕ, ◌+◌, ◌-◌, ◌*◌, ◌<◌, ◌≤◌, List, ◌++◌, length, take, drop, Option, Some, None, sym, ◌∙◌, ap, subst, arith, append_assoc, length-take}
+use Rattle.std.proofs.Common.{◌≡◌, MatchOption, ℕ, ◌+◌, ◌-◌, ◌*◌, ◌<◌, ◌≤◌, List, ◌++◌, length, take, drop}
+use Rattle.std.proofs.Common.{Option, Some, None, sym, ◌∙◌, ap, subst, arith, append_assoc, length-take}
 use Rattle.std.proofs.Math.Seq.{take-add}
 use Rattle.std.proofs.lemmas.List.{take-append-drop}
 use Rattle.block_file.specs.Disk.{block_at, range_bytes}

@@ -1,5 +1,6 @@
 -- Where runs of bytes differ first, and where they do not.
-use Rattle.std.proofs.Common.{◌≡◌, ◌≢◌, ⊎_elim, MatchOption, ℕ, zero, suc, ◌+◌, ◌-◌, ◌<◌, true, false, nat_eq, List, [], ◌∷◌, ◌++◌, length, get_or, Option, Some, None, refl, sym, ◌∙◌, ap, arith}
+use Rattle.std.proofs.Common.{◌≡◌, ◌≢◌, ⊎_elim, MatchOption, ℕ, zero, suc, ◌+◌, ◌-◌, ◌<◌, true, false, nat_eq}
+use Rattle.std.proofs.Common.{List, [], ◌∷◌, ◌++◌, length, get_or, Option, Some, None, refl, sym, ◌∙◌, ap, arith}
 use Rattle.std.proofs.lemmas.Bool.Decides.{eqb_tells, nat_tests}
 use Rattle.std.proofs.lemmas.Grind.{common_steps}
 use Rattle.compare_write.specs.Difference.{first_difference}

@@ -3,7 +3,8 @@ use Rattle.std.specs.Prelude.{List}
 use Rattle.scsi_types.specs.declared.names.Group.{Group}
 use Rattle.scsi_types.specs.declared.names.Place.{Place}
 use Rattle.scsi_types.specs.declared.pages.InquiryPage.{InquiryPage}
-use Rattle.scsi_types.specs.declared.pages.InquiryPage.TheVariants.{Standard, SupportedPages, UnitSerialNumber, DeviceIdentification, BlockLimits}
+use Rattle.scsi_types.specs.declared.pages.InquiryPage.TheVariants.{Standard, SupportedPages, UnitSerialNumber}
+use Rattle.scsi_types.specs.declared.pages.InquiryPage.TheVariants.{DeviceIdentification, BlockLimits}
 use Rattle.identity.specs.Table.{Row}
 use Rattle.identity.specs.Inquiry.{disk, standard_inquiry}
 use Rattle.identity.specs.VitalProductData.{supported_pages, serial_number, device_identification, block_limits}

@@ -1,5 +1,6 @@
 -- What is agreed on, in the words of RFC 7143, 6.2.
-use Rattle.std.proofs.Common.{◌≡◌, ℕ, ◌≤◌, ◌⊎◌, min, max, List, Bool, true, false, ◌||◌, ◌&&◌, refl, sym, ap, subst, ◌∙◌, arith, inl, inr, Option, Some, None}
+use Rattle.std.proofs.Common.{◌≡◌, ℕ, ◌≤◌, ◌⊎◌, min, max, List, Bool, true, false, ◌||◌, ◌&&◌, refl, sym, ap}
+use Rattle.std.proofs.Common.{subst, ◌∙◌, arith, inl, inr, Option, Some, None}
 use Rattle.std.specs.Prelude.{option_map, ◌↔◌, IsTrue}
 use Rattle.std.proofs.lemmas.Bool.Decides.{nat_tests}
 use Rattle.login.specs.Number.{number_within, number_in, within, flag_in}
@@ -18,7 +19,8 @@ pub least : (limits : Limits) (value : List ℕ) (offer chosen : ℕ) → number
     → agreed (Least limits) value ≡ Some (Number chosen)
     → (chosen ≤ offer) × (chosen ≤ limits.own) × ((chosen ≡ offer) ⊎ (chosen ≡ limits.own))
 least limits value offer chosen o a =
-    let e : Some (Number (min offer limits.own)) ≡ Some (Number chosen) = sym (ap (option_map (λ (n : ℕ). Number (min n limits.own))) o) ∙ a in
+    let e : Some (Number (min offer limits.own)) ≡ Some (Number chosen) =
+    sym (ap (option_map (λ (n : ℕ). Number (min n limits.own))) o) ∙ a in
     let same : min offer limits.own ≡ chosen = cc in
     subst (λ (c : ℕ). (c ≤ offer) × (c ≤ limits.own) × ((c ≡ offer) ⊎ (c ≡ limits.own))) same (lesser offer limits.own)
 
@@ -26,7 +28,8 @@ pub greatest : (limits : Limits) (value : List ℕ) (offer chosen : ℕ) → num
     → agreed (Greatest limits) value ≡ Some (Number chosen)
     → (offer ≤ chosen) × (limits.own ≤ chosen) × ((chosen ≡ offer) ⊎ (chosen ≡ limits.own))
 greatest limits value offer chosen o a =
-    let e : Some (Number (max offer limits.own)) ≡ Some (Number chosen) = sym (ap (option_map (λ (n : ℕ). Number (max n limits.own))) o) ∙ a in
+    let e : Some (Number (max offer limits.own)) ≡ Some (Number chosen) =
+    sym (ap (option_map (λ (n : ℕ). Number (max n limits.own))) o) ∙ a in
     let same : max offer limits.own ≡ chosen = cc in
     subst (λ (c : ℕ). (offer ≤ c) × (limits.own ≤ c) × ((c ≡ offer) ⊎ (c ≡ limits.own))) same (greater offer limits.own)
 

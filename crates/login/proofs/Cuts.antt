@@ -34,11 +34,13 @@ are_pairs_more part (next ∷ more) some = refl
 -- the first part of a text and what stands behind it are told by the place of the first zero byte
 pub pairs_first : (text part rest key value : List ℕ) → position_or_len (is_byte 0) text < length text
     → part ≡ before_first (is_byte 0) text → rest ≡ after_first (is_byte 0) text
-    → key ≡ before_first (is_byte 61) part → value ≡ after_first (is_byte 61) part → pairs text ≡ record { key = key; value = value } ∷ pairs rest
+    → key ≡ before_first (is_byte 61) part → value ≡ after_first (is_byte 61) part
+    → pairs text ≡ record { key = key; value = value } ∷ pairs rest
 unfolding pairs
 pairs_first text part rest key value some p r k v =
     let first : pair_of part ≡ record { key = key; value = value } = rw (k, v) refl in
-    let cut : slice_split (is_byte 0) text ≡ part ∷ slice_split (is_byte 0) rest = slice_split_first (is_byte 0) text 0 some ∙ rw (p, r) refl in
+    let cut : slice_split (is_byte 0) text ≡ part ∷ slice_split (is_byte 0) rest =
+    slice_split_first (is_byte 0) text 0 some ∙ rw (p, r) refl in
     ap pairs_of cut ∙ pairs_of_more part (slice_split (is_byte 0) rest) (some_part 0 rest)
     ∙ ap (λ (x : Pair). x ∷ pairs_of (slice_split (is_byte 0) rest)) first
 
@@ -51,7 +53,8 @@ pub is_text_first : (text part rest : List ℕ) → position_or_len (is_byte 0) 
     → is_text text ≡ (is_pair part && is_text rest)
 unfolding is_text
 is_text_first text part rest some p r =
-    let cut : slice_split (is_byte 0) text ≡ part ∷ slice_split (is_byte 0) rest = slice_split_first (is_byte 0) text 0 some ∙ rw (p, r) refl in
+    let cut : slice_split (is_byte 0) text ≡ part ∷ slice_split (is_byte 0) rest =
+    slice_split_first (is_byte 0) text 0 some ∙ rw (p, r) refl in
     ap are_pairs cut ∙ are_pairs_more part (slice_split (is_byte 0) rest) (some_part 0 rest)
 
 pub is_text_none : (text : List ℕ) → position_or_len (is_byte 0) text ≡ length text
@@ -68,7 +71,8 @@ pub is_listed_first : (word list item rest : List ℕ) → position_or_len (is_b
     → is_listed word list ≡ (bytes_eq item word || is_listed word rest)
 unfolding is_listed
 is_listed_first word list item rest some p r =
-    let cut : slice_split (is_byte 44) list ≡ item ∷ slice_split (is_byte 44) rest = slice_split_first (is_byte 44) list 0 some ∙ rw (p, r) refl in
+    let cut : slice_split (is_byte 44) list ≡ item ∷ slice_split (is_byte 44) rest =
+    slice_split_first (is_byte 44) list 0 some ∙ rw (p, r) refl in
     ap (list_any (λ x. bytes_eq x word)) cut
 
 pub is_listed_none : (word list : List ℕ) → position_or_len (is_byte 44) list ≡ length list

@@ -1,5 +1,6 @@
 -- Numbers digit by digit.
-use Rattle.std.proofs.Common.{◌≡◌, ℕ, ◌+◌, ◌*◌, ◌<◌, ◌≤◌, List, [], ◌∷◌, suc, Bool, true, false, length, get_or, drop, refl, sym, ap, ◌∙◌, drop-cons, add-one, arith, Option, Some, None}
+use Rattle.std.proofs.Common.{◌≡◌, ℕ, ◌+◌, ◌*◌, ◌<◌, ◌≤◌, List, [], ◌∷◌, suc, Bool, true, false, length}
+use Rattle.std.proofs.Common.{get_or, drop, refl, sym, ap, ◌∙◌, drop-cons, add-one, arith, Option, Some, None}
 use Rattle.std.specs.Prelude.{nat_lt, if◌then◌else◌}
 use Rattle.std.specs.Char.{digit_value}
 use Rattle.std.proofs.lemmas.Bool.Decides.{nat_tests}
@@ -11,8 +12,11 @@ pub beyond : (base n most : ℕ) (cs : List ℕ) → 0 < base → most < n → w
 beyond base n most [] some more = grind (arith, nat_tests)
 beyond base n most (c ∷ cs) some more =
     let grown : n ≤ n * base = le-mul_of_pos_right n some in
-    let go : within 0 most (read_on base (n * base + digit_value c) cs) ≡ None = beyond base (n * base + digit_value c) most cs some (omega arith) in
-    elim (nat_lt (digit_value c) base) as (λ v. within 0 most (if v then read_on base (n * base + digit_value c) cs else None) ≡ None) [ true ↦ go | false ↦ refl ]
+    let go : within 0 most (read_on base (n * base + digit_value c) cs) ≡ None =
+    beyond base (n * base + digit_value c) most cs some (omega arith) in
+    elim (nat_lt (digit_value c) base) as
+    (λ v. within 0 most (if v then read_on base (n * base + digit_value c) cs else None)
+    ≡ None) [ true ↦ go | false ↦ refl ]
 
 -- a number within the higher limit, and the lower one
 pub raised : (low high n : ℕ) (o : Option ℕ) → within 0 high o ≡ Some n → low ≤ n → within low high o ≡ Some n

@@ -1,10 +1,14 @@
 -- What the target says once, and what is known behind the first request that it answers.
-use Rattle.std.proofs.Common.{◌≡◌, rules, List, [], ◌∷◌, ◌++◌, ℕ, Bool, true, false, not, ◌&&◌, refl, sym, ap, subst, ◌∙◌, Option, Some, None}
+use Rattle.std.proofs.Common.{◌≡◌, rules, List, [], ◌∷◌, ◌++◌, ℕ, Bool, true, false, not, ◌&&◌, refl, sym, ap}
+use Rattle.std.proofs.Common.{subst, ◌∙◌, Option, Some, None}
 use Rattle.std.specs.Prelude.{IsSome, is_none, if◌then◌else◌, ◌==◌}
 use Rattle.login.specs.Text.{Pair, pairs}
 use Rattle.login.specs.Answer.{answers}
 use Rattle.login.specs.Progress.{Progress}
-use Rattle.login.specs.Refusal.{Rule, when, or_else, first_stop, stop_of, rules_for, rules_of_part, flags_rule, checks_of_first, checks_of_later, checks_of_names, version_rule, length_rule, form_rule, repeated_rule, name_rule, initiator_rule, kind_rule, target_rule, other_target_rule, session_rule, authentication_rule, kind_of}
+use Rattle.login.specs.Refusal.{Rule, when, or_else, first_stop, stop_of, rules_for, rules_of_part}
+use Rattle.login.specs.Refusal.{flags_rule, checks_of_first, checks_of_later, checks_of_names, version_rule}
+use Rattle.login.specs.Refusal.{length_rule, form_rule, repeated_rule, name_rule, initiator_rule, kind_rule}
+use Rattle.login.specs.Refusal.{target_rule, other_target_rule, session_rule, authentication_rule, kind_of}
 use Rattle.login.specs.Request.{after, after_by, passed, response, group_text, length_text, tells_length, kind_after}
 use Rattle.login.specs.declared.status.Kind.{Kind}
 use Rattle.login.specs.declared.status.LoginFlags.{LoginFlags}
@@ -68,5 +72,6 @@ known s f text none whole =
     ap (λ (b : Bool). if b then rules_of_part else flags_rule ∷ (if is_none s.kind then checks_of_first else checks_of_later)) whole
     ∙ ap (λ (b : Bool). flags_rule ∷ (if b then checks_of_first else checks_of_later)) n in
     kind_known s f t (behind flags_rule checks_of_first s f t (sym (ap (λ (rs : List Rule). first_stop rs s f t) r) ∙ none)) in
-    let there : (after s f text).kind ≡ kind_after s.kind (pairs t) = ap (λ (o : Option Stop). (after_by o s f t).kind) none ∙ passed_kind s f t whole in
+    let there : (after s f text).kind ≡ kind_after s.kind (pairs t) =
+    ap (λ (o : Option Stop). (after_by o s f t).kind) none ∙ passed_kind s f t whole in
     subst IsSome (sym there) (kind_after_known s.kind (pairs t) first)

@@ -1,5 +1,7 @@
 -- Pairs that are spelled are read again, and a text is what its pairs spell.
-use Rattle.std.proofs.Common.{◌≡◌, ◌≢◌, ℕ, zero, suc, ◌+◌, ◌<◌, List, [], ◌∷◌, ◌++◌, Bool, true, false, ◌&&◌, length, get_or, take, drop, refl, sym, ap, ◌∙◌, arith, append_assoc, length-append, drop-cons, add-one}
+use Rattle.std.proofs.Common.{◌≡◌, ◌≢◌, ℕ, zero, suc, ◌+◌, ◌<◌, List, [], ◌∷◌, ◌++◌, Bool, true, false, ◌&&◌}
+use Rattle.std.proofs.Common.{length, get_or, take, drop, refl, sym, ap, ◌∙◌, arith, append_assoc}
+use Rattle.std.proofs.Common.{length-append, drop-cons, add-one}
 use Rattle.std.specs.Prelude.{nat_lt, ◌==◌}
 use Rattle.std.specs.List.{All, slice_split, before_first, after_first, position_or_len, join_with_byte}
 use Rattle.std.proofs.Math.ListN.{get_or-append}
@@ -95,7 +97,8 @@ part_again part h =
     let n : ℕ = position_or_len (is_byte 61) part in
     let lt : n < length part = inside n (length part) (nat_lt 0 n && nat_lt n 64) h in
     let hit : get_or part n 0 ≡ 61 = is_this 61 (get_or part n 0) (passes_at_first (is_byte 61) part 0 lt) in
-    let tail : 61 ∷ drop (n + 1) part ≡ drop n part = sym (drop-cons part n 0 lt ∙ ap (λ (b : ℕ). b ∷ drop (suc n) part) hit ∙ ap (λ (k : ℕ). 61 ∷ drop k part) (sym (add-one n))) in
+    let tail : 61 ∷ drop (n + 1) part ≡ drop n part =
+    sym (drop-cons part n 0 lt ∙ ap (λ (b : ℕ). b ∷ drop (suc n) part) hit ∙ ap (λ (k : ℕ). 61 ∷ drop k part) (sym (add-one n))) in
     ap (λ (x : List ℕ). take n part ++ x) tail ∙ take-append-drop n part
 
 both_parts : (a b : Bool) → (a && b) ≡ true → (a ≡ true) × (b ≡ true)

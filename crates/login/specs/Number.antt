@@ -1,5 +1,6 @@
 -- Numbers, booleans and lists as text (RFC 7143, 6.1).
-use Rattle.std.specs.Prelude.{ℕ, ◌+◌, ◌*◌, Bool, true, false, ◌&&◌, ◌||◌, ◌==◌, nat_lt, nat_le, bytes_eq, codes, if◌then◌else◌, List, [], ◌∷◌, drop, slice_index, Option, Some, None}
+use Rattle.std.specs.Prelude.{ℕ, ◌+◌, ◌*◌, Bool, true, false, ◌&&◌, ◌||◌, ◌==◌, nat_lt, nat_le, bytes_eq}
+use Rattle.std.specs.Prelude.{codes, if◌then◌else◌, List, [], ◌∷◌, drop, slice_index, Option, Some, None}
 use Rattle.std.specs.List.{slice_split, list_any}
 use Rattle.std.specs.Char.{digit_value}
 use Rattle.login.specs.Text.{is_byte}

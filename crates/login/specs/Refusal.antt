@@ -1,5 +1,6 @@
 -- Why a login is refused (RFC 7143, 6.3 and 11.13.5): rules in order, of which the first that applies decides.
-use Rattle.std.specs.Prelude.{ℕ, ◌+◌, Bool, true, false, not, ◌&&◌, ◌||◌, ◌==◌, nat_lt, is_none, is_some, bytes_eq, codes, count_by, if◌then◌else◌, List, [], ◌∷◌, length, Option, Some, None}
+use Rattle.std.specs.Prelude.{ℕ, ◌+◌, Bool, true, false, not, ◌&&◌, ◌||◌, ◌==◌, nat_lt, is_none, is_some, bytes_eq}
+use Rattle.std.specs.Prelude.{codes, count_by, if◌then◌else◌, List, [], ◌∷◌, length, Option, Some, None}
 use Rattle.login.specs.Text.{Pair, is_byte, is_text, pairs, found}
 use Rattle.login.specs.Number.{is_listed}
 use Rattle.login.specs.Table.{row_of, key_named}
@@ -7,7 +8,9 @@ use Rattle.login.specs.Progress.{Progress}
 use Rattle.login.specs.declared.key.Key.{Key}
 use Rattle.login.specs.declared.key.Key.TheVariants as Of
 use Rattle.login.specs.declared.status.LoginFlags.{LoginFlags}
-use Rattle.login.specs.declared.status.LoginStatus.TheVariants.{InitiatorError, AuthenticationFailure, NotFound, UnsupportedVersion, MissingParameter, SessionTypeNotSupported}
+use Rattle.login.specs.declared.status.LoginStatus.TheVariants.{InitiatorError, AuthenticationFailure}
+use Rattle.login.specs.declared.status.LoginStatus.TheVariants.{NotFound, UnsupportedVersion}
+use Rattle.login.specs.declared.status.LoginStatus.TheVariants.{MissingParameter, SessionTypeNotSupported}
 use Rattle.login.specs.declared.status.Kind.{Kind}
 use Rattle.login.specs.declared.status.Kind.TheVariants.{Normal, Discovery}
 use Rattle.login.specs.declared.status.Stop.{Stop}

@@ -1,5 +1,6 @@
 -- What a Text request is answered (RFC 7143, 11.10 and appendix C).
-use Rattle.std.specs.Prelude.{ℕ, Bool, bytes_eq, codes, decimal, length, ◌==◌, count_by, nat_lt, not, ◌||◌, is_some, if◌then◌else◌, List, [], ◌∷◌, ◌++◌}
+use Rattle.std.specs.Prelude.{ℕ, Bool, bytes_eq, codes, decimal, length, ◌==◌, count_by}
+use Rattle.std.specs.Prelude.{nat_lt, not, ◌||◌, is_some, if◌then◌else◌, List, [], ◌∷◌, ◌++◌}
 use Rattle.std.specs.Net.Text.{socket_v4_text}
 use Rattle.std.specs.declared.net.SocketAddrV4.{SocketAddrV4}
 use Rattle.login.specs.Text.{Pair, is_byte, is_text, spelled}

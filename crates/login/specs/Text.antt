@@ -1,5 +1,6 @@
 -- Text (RFC 7143, 6.1): pairs `key=value`, each with a zero byte behind it.
-use Rattle.std.specs.Prelude.{ℕ, ◌<◌, ◌≢◌, All, Bool, true, ◌&&◌, ◌==◌, nat_lt, bytes_eq, if◌then◌else◌, List, [], ◌∷◌, ◌++◌, length, Option, Some, None}
+use Rattle.std.specs.Prelude.{ℕ, ◌<◌, ◌≢◌, All, Bool, true, ◌&&◌, ◌==◌, nat_lt, bytes_eq}
+use Rattle.std.specs.Prelude.{if◌then◌else◌, List, [], ◌∷◌, ◌++◌, length, Option, Some, None}
 use Rattle.std.specs.List.{slice_split, before_first, after_first, position_or_len}
 
 pub record Pair : Type 0 where

@@ -1,5 +1,6 @@
 -- How two sides agree on the value of a key (RFC 7143, 6.2).
-use Rattle.std.specs.Prelude.{ℕ, min, max, Bool, true, false, ◌&&◌, ◌||◌, codes, decimal, if◌then◌else◌, List, [], Option, Some, None, option_map}
+use Rattle.std.specs.Prelude.{ℕ, min, max, Bool, true, false, ◌&&◌, ◌||◌, codes, decimal}
+use Rattle.std.specs.Prelude.{if◌then◌else◌, List, [], Option, Some, None, option_map}
 use Rattle.login.specs.Number.{number_within, flag_in, is_listed}
 use Rattle.login.specs.declared.value.Word.{Word}
 use Rattle.login.specs.declared.value.Word.TheVariants.{Unused, Rfc3720}

@@ -1,7 +1,8 @@
 //! The checks of a login request, in their order.
 ghost use Rattle.std.specs.Prelude.{◌≡◌, count_by, option_map};
 ghost use Rattle.login.specs.Text.{is_byte, pairs};
-ghost use Rattle.login.specs.Refusal.{is_stage, may_go, has_wrong_flags, is_too_long, has_repeated, stands_from_first, has_bad_length, has_bad_name, kind_of, is_other, wants_authentication, value_said};
+ghost use Rattle.login.specs.Refusal.{is_stage, may_go, has_wrong_flags, is_too_long, has_repeated, stands_from_first};
+ghost use Rattle.login.specs.Refusal.{has_bad_length, has_bad_name, kind_of, is_other, wants_authentication, value_said};
 ghost use Rattle.login.specs.Table.{key_named};
 
 use crate::key::Key;

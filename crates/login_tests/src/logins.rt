@@ -23,15 +23,22 @@ const DEFAULTS: Parameters = Parameters {
 const STAGE_0_THEN_1: [Step; 2] = [
     (
         TO_1,
-        "InitiatorName=iqn.2000-01.test:a|InitiatorAlias=host|TargetName=iqn.2000-01.test:array|SessionType=Normal|AuthMethod=CHAP,None|",
+        "InitiatorName=iqn.2000-01.test:a|InitiatorAlias=host|TargetName=iqn.2000-01.test:array|\
+         SessionType=Normal|AuthMethod=CHAP,None|",
         Ends::Answer,
         "TargetPortalGroupTag=1|AuthMethod=None|",
     ),
     (
         FROM_1,
-        "HeaderDigest=CRC32C,None|DataDigest=None,CRC32C|DefaultTime2Wait=2|DefaultTime2Retain=0|IFMarker=No|OFMarker=No|ErrorRecoveryLevel=0|InitialR2T=No|ImmediateData=No|MaxBurstLength=131072|FirstBurstLength=262144|MaxOutstandingR2T=1|MaxConnections=1|DataPDUInOrder=Yes|DataSequenceInOrder=Yes|MaxRecvDataSegmentLength=0x10000|TaskReporting=RFC3720,FastAbort|X-vendor=1|",
+        "HeaderDigest=CRC32C,None|DataDigest=None,CRC32C|DefaultTime2Wait=2|DefaultTime2Retain=0|IFMarker=No|\
+         OFMarker=No|ErrorRecoveryLevel=0|InitialR2T=No|ImmediateData=No|MaxBurstLength=131072|\
+         FirstBurstLength=262144|MaxOutstandingR2T=1|MaxConnections=1|DataPDUInOrder=Yes|\
+         DataSequenceInOrder=Yes|MaxRecvDataSegmentLength=0x10000|TaskReporting=RFC3720,FastAbort|X-vendor=1|",
         Ends::Accepted,
-        "MaxRecvDataSegmentLength=65536|HeaderDigest=None|DataDigest=None|DefaultTime2Wait=2|DefaultTime2Retain=0|IFMarker=No|OFMarker=No|ErrorRecoveryLevel=0|InitialR2T=Yes|ImmediateData=No|MaxBurstLength=131072|FirstBurstLength=65536|MaxOutstandingR2T=1|MaxConnections=1|DataPDUInOrder=Yes|DataSequenceInOrder=Yes|TaskReporting=RFC3720|X-vendor=NotUnderstood|",
+        "MaxRecvDataSegmentLength=65536|HeaderDigest=None|DataDigest=None|DefaultTime2Wait=2|\
+         DefaultTime2Retain=0|IFMarker=No|OFMarker=No|ErrorRecoveryLevel=0|InitialR2T=Yes|ImmediateData=No|\
+         MaxBurstLength=131072|FirstBurstLength=65536|MaxOutstandingR2T=1|MaxConnections=1|\
+         DataPDUInOrder=Yes|DataSequenceInOrder=Yes|TaskReporting=RFC3720|X-vendor=NotUnderstood|",
     ),
 ];
 
@@ -53,7 +60,9 @@ const NAMES_SENT_AGAIN: [Step; 2] = [
     ),
     (
         FROM_1,
-        "InitiatorName=iqn.2000-01.test:a|TargetName=iqn.2000-01.test:array|SessionType=Normal|HeaderDigest=CRC32C,None|InitialR2T=No|MaxBurstLength=16776192|FirstBurstLength=262144|MaxRecvDataSegmentLength=262144|",
+        "InitiatorName=iqn.2000-01.test:a|TargetName=iqn.2000-01.test:array|SessionType=Normal|\
+         HeaderDigest=CRC32C,None|InitialR2T=No|MaxBurstLength=16776192|FirstBurstLength=262144|\
+         MaxRecvDataSegmentLength=262144|",
         Ends::Accepted,
         "MaxRecvDataSegmentLength=65536|HeaderDigest=None|InitialR2T=Yes|MaxBurstLength=262144|FirstBurstLength=65536|",
     ),

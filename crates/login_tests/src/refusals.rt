@@ -140,13 +140,15 @@ const TEXTS: [Row; 13] = [
     (
         "a key of 64 bytes",
         FROM_1,
-        "InitiatorName=iqn.2000-01.test:a|TargetName=iqn.2000-01.test:array|kkkkkkkkkkkkkkkkkkkkkkkkkkkkkkkkkkkkkkkkkkkkkkkkkkkkkkkkkkkkkkkk=1|",
+        "InitiatorName=iqn.2000-01.test:a|TargetName=iqn.2000-01.test:array|\
+         kkkkkkkkkkkkkkkkkkkkkkkkkkkkkkkkkkkkkkkkkkkkkkkkkkkkkkkkkkkkkkkk=1|",
         Ends::Refused(LoginStatus::InitiatorError),
     ),
     (
         "a key twice",
         FROM_1,
-        "InitiatorName=iqn.2000-01.test:a|TargetName=iqn.2000-01.test:array|InitialR2T=No|ImmediateData=No|InitialR2T=No|",
+        "InitiatorName=iqn.2000-01.test:a|TargetName=iqn.2000-01.test:array|InitialR2T=No|ImmediateData=No|\
+         InitialR2T=No|",
         Ends::Refused(LoginStatus::InitiatorError),
     ),
     (
@@ -176,19 +178,28 @@ const TEXTS: [Row; 13] = [
     (
         "an InitiatorName of 224 bytes",
         FROM_1,
-        "InitiatorName=iqn.aaaaaaaaaaaaaaaaaaaaaaaaaaaaaaaaaaaaaaaaaaaaaaaaaaaaaaaaaaaaaaaaaaaaaaaaaaaaaaaaaaaaaaaaaaaaaaaaaaaaaaaaaaaaaaaaaaaaaaaaaaaaaaaaaaaaaaaaaaaaaaaaaaaaaaaaaaaaaaaaaaaaaaaaaaaaaaaaaaaaaaaaaaaaaaaaaaaaaaaaaaaaaaaaaaaaaaaaaaaa|TargetName=iqn.2000-01.test:array|",
+        "InitiatorName=iqn.\
+         aaaaaaaaaaaaaaaaaaaaaaaaaaaaaaaaaaaaaaaaaaaaaaaaaaaaaaaaaaaaaaaaaaaaaaaaaaaaaaaaaaaaaaaaaaaaaaaaaaaa\
+         aaaaaaaaaaaaaaaaaaaaaaaaaaaaaaaaaaaaaaaaaaaaaaaaaaaaaaaaaaaaaaaaaaaaaaaaaaaaaaaaaaaaaaaaaaaaaaaaaaaa\
+         aaaaaaaaaaaaaaaaaaaa|TargetName=iqn.2000-01.test:array|",
         Ends::Refused(LoginStatus::InitiatorError),
     ),
     (
         "a TargetName of 224 bytes",
         FROM_1,
-        "InitiatorName=iqn.2000-01.test:a|TargetName=iqn.aaaaaaaaaaaaaaaaaaaaaaaaaaaaaaaaaaaaaaaaaaaaaaaaaaaaaaaaaaaaaaaaaaaaaaaaaaaaaaaaaaaaaaaaaaaaaaaaaaaaaaaaaaaaaaaaaaaaaaaaaaaaaaaaaaaaaaaaaaaaaaaaaaaaaaaaaaaaaaaaaaaaaaaaaaaaaaaaaaaaaaaaaaaaaaaaaaaaaaaaaaaaaaaaaaaaaaaaaaaa|",
+        "InitiatorName=iqn.2000-01.test:a|TargetName=iqn.\
+         aaaaaaaaaaaaaaaaaaaaaaaaaaaaaaaaaaaaaaaaaaaaaaaaaaaaaaaaaaaaaaaaaaaaaaaaaaaaaaaaaaaaaaaaaaaaaaaaaaaa\
+         aaaaaaaaaaaaaaaaaaaaaaaaaaaaaaaaaaaaaaaaaaaaaaaaaaaaaaaaaaaaaaaaaaaaaaaaaaaaaaaaaaaaaaaaaaaaaaaaaaaa\
+         aaaaaaaaaaaaaaaaaaaa|",
         Ends::Refused(LoginStatus::InitiatorError),
     ),
     (
         "a TargetName of 223 bytes",
         FROM_1,
-        "InitiatorName=iqn.2000-01.test:a|TargetName=iqn.aaaaaaaaaaaaaaaaaaaaaaaaaaaaaaaaaaaaaaaaaaaaaaaaaaaaaaaaaaaaaaaaaaaaaaaaaaaaaaaaaaaaaaaaaaaaaaaaaaaaaaaaaaaaaaaaaaaaaaaaaaaaaaaaaaaaaaaaaaaaaaaaaaaaaaaaaaaaaaaaaaaaaaaaaaaaaaaaaaaaaaaaaaaaaaaaaaaaaaaaaaaaaaaaaaaaaaaaaaa|",
+        "InitiatorName=iqn.2000-01.test:a|TargetName=iqn.\
+         aaaaaaaaaaaaaaaaaaaaaaaaaaaaaaaaaaaaaaaaaaaaaaaaaaaaaaaaaaaaaaaaaaaaaaaaaaaaaaaaaaaaaaaaaaaaaaaaaaaa\
+         aaaaaaaaaaaaaaaaaaaaaaaaaaaaaaaaaaaaaaaaaaaaaaaaaaaaaaaaaaaaaaaaaaaaaaaaaaaaaaaaaaaaaaaaaaaaaaaaaaaa\
+         aaaaaaaaaaaaaaaaaaa|",
         Ends::Refused(LoginStatus::NotFound),
     ),
 ];

@@ -74,7 +74,8 @@ fn four_portals(rt: HostRuntime) -> Result<(), Fail> {
     let first = [SocketAddrV4::new(host, 1), SocketAddrV4::new(host, 2)];
     let second = [SocketAddrV4::new(host, 5), SocketAddrV4::new(host, 65535)];
     let want =
-        "TargetName=t|TargetAddress=10.0.200.9:1,1|TargetAddress=10.0.200.9:2,1|TargetAddress=10.0.200.9:5,2|TargetAddress=10.0.200.9:65535,2|";
+        "TargetName=t|TargetAddress=10.0.200.9:1,1|TargetAddress=10.0.200.9:2,1|TargetAddress=10.0.200.9:5,2|\
+         TargetAddress=10.0.200.9:65535,2|";
     let want = bytes(rt.alloc(), want)?;
     let end = send_targets(
         rt.alloc(),

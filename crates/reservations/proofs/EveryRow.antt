@@ -1,11 +1,15 @@
 -- What the rows have in common.
-use Rattle.std.proofs.Common.{◌≡◌, ⊎_elim, ℕ, ◌+◌, ◌%◌, ◌^◌, Bool, true, false, not, ◌&&◌, ◌||◌, nat_eq, eq-eqb, if◌then◌else◌, List, [], ◌∷◌, filter, refl, sym, ◌∙◌, ap, Option, Some, None, IsFalse}
+use Rattle.std.proofs.Common.{◌≡◌, ⊎_elim, ℕ, ◌+◌, ◌%◌, ◌^◌, Bool, true, false, not, ◌&&◌, ◌||◌, nat_eq}
+use Rattle.std.proofs.Common.{eq-eqb, if◌then◌else◌, List, [], ◌∷◌, filter, refl, sym, ◌∙◌, ap, Option, Some}
+use Rattle.std.proofs.Common.{None, IsFalse}
 use Rattle.std.proofs.lemmas.Bool.{cases_Bool}
 use Rattle.std.specs.List.{cons_option, find}
 use Rattle.std.specs.Option.{option_map}
 use Rattle.scsi_types.specs.Nexus.{Nexus}
 use Rattle.scsi_types.specs.declared.reservation.PrOutAction.{PrOutAction}
-use Rattle.scsi_types.specs.declared.reservation.PrOutAction.TheVariants.{Register, Reserve, Release, Clear, Preempt, PreemptAndAbort, RegisterAndIgnoreExistingKey}
+use Rattle.scsi_types.specs.declared.reservation.PrOutAction.TheVariants.{Register, Reserve, Release, Clear}
+use Rattle.scsi_types.specs.declared.reservation.PrOutAction.TheVariants.{Preempt, PreemptAndAbort}
+use Rattle.scsi_types.specs.declared.reservation.PrOutAction.TheVariants.{RegisterAndIgnoreExistingKey}
 use Rattle.scsi_types.specs.declared.attention.UnitAttention.{UnitAttention}
 use Rattle.scsi_types.specs.declared.attention.UnitAttention.TheVariants.{ReservationsPreempted, RegistrationsPreempted}
 use Rattle.reservations.specs.declared.notice.Notice.{Notice}
@@ -16,13 +20,21 @@ use Rattle.reservations.specs.declared.request.Told.{Told}
 use Rattle.reservations.specs.Nexus.{same_nexus}
 use Rattle.reservations.specs.Notice.{code_for, code_told, telling, told_of}
 use Rattle.reservations.specs.Registry.{RegistryValue, is_of_code, key_of}
-use Rattle.reservations.specs.Rows.{PrRow, ReserveField, ParameterField, KeyConflict, RegistersNothing, RegistersNobodyMore, Registers, ChangesKey, HolderUnregisters, OtherUnregisters, Reserves, ReservesAgain, ReservesBesideAnother, ReleasesNothing, ReleasesAnotherType, Releases, Clears, PreemptField, PreemptsHolder, PreemptsAll, PreemptsKeyZero, PreemptsNobody, PreemptsRegistrants, Done, Fits, IsPreempting, effect, is_counted, is_registering}
+use Rattle.reservations.specs.Rows.{PrRow, ReserveField, ParameterField, KeyConflict, RegistersNothing}
+use Rattle.reservations.specs.Rows.{RegistersNobodyMore, Registers, ChangesKey, HolderUnregisters}
+use Rattle.reservations.specs.Rows.{OtherUnregisters, Reserves, ReservesAgain, ReservesBesideAnother}
+use Rattle.reservations.specs.Rows.{ReleasesNothing, ReleasesAnotherType, Releases, Clears, PreemptField}
+use Rattle.reservations.specs.Rows.{PreemptsHolder, PreemptsAll, PreemptsKeyZero, PreemptsNobody}
+use Rattle.reservations.specs.Rows.{PreemptsRegistrants, Done, Fits, IsPreempting, effect, is_counted}
+use Rattle.reservations.specs.Rows.{is_registering}
 use Rattle.reservations.proofs.Held.{found_passes, is_it}
 use Rattle.reservations.proofs.Order.{same_nexus_alike}
 
 -- ---- the sender
 
-untold_one : (n : Nexus) (x : Registrant) (code : Option UnitAttention) (rest : List Told) → same_nexus x.nexus n ≡ false → code_told rest n ≡ None → code_told (cons_option (telling x.nexus code) rest) n ≡ None
+untold_one : (n : Nexus) (x : Registrant) (code : Option UnitAttention) (rest : List Told)
+    → same_nexus x.nexus n ≡ false → code_told rest n ≡ None
+    → code_told (cons_option (telling x.nexus code) rest) n ≡ None
 untold_one n x None rest other none = none
 untold_one n x (Some code) rest other none = rw other none
 
@@ -30,13 +42,15 @@ pub sender_untold : (n : Nexus) (notice : Notice) (xs : List Registrant) → cod
 sender_untold n notice [] = refl
 sender_untold n notice (x ∷ xs) =
     let rest = sender_untold n notice xs in
-    ⊎_elim (λ (t : same_nexus x.nexus n ≡ true). rw t rest) (λ (f : same_nexus x.nexus n ≡ false). rw f (untold_one n x (code_for notice x.key) (told_of n notice xs) f rest))
+    ⊎_elim (λ (t : same_nexus x.nexus n ≡ true). rw t rest)
+    (λ (f : same_nexus x.nexus n ≡ false). rw f (untold_one n x (code_for notice x.key) (told_of n notice xs) f rest))
     (cases_Bool (same_nexus x.nexus n))
 
 same_told : (n : Nexus) (a b : RegistryValue) (s t : List Told) → Done a s ≡ Done b t → code_told s n ≡ None → code_told t n ≡ None
 same_told n a b s t is none = let same : s ≡ t = cc in ap (λ (ts : List Told). code_told ts n) (sym same) ∙ none
 
-pub row_untold : (row : PrRow) (r : RegistryValue) (n : Nexus) (q : PrOut) (new : RegistryValue) (told : List Told) → effect row r n q ≡ Done new told → code_told told n ≡ None
+pub row_untold : (row : PrRow) (r : RegistryValue) (n : Nexus) (q : PrOut) (new : RegistryValue) (told : List Told)
+    → effect row r n q ≡ Done new told → code_told told n ≡ None
 row_untold ReserveField r n q new told is = absurd (cc)
 row_untold ParameterField r n q new told is = absurd (cc)
 row_untold KeyConflict r n q new told is = absurd (cc)
@@ -84,13 +98,17 @@ counting_preempt Clear h = absurd h
 abbrev next_generation : PrOutAction → ℕ → ℕ
 next_generation action generation = if is_counted action then (generation + 1) % 2 ^ 32 else generation
 
-counted_one : (action : PrOutAction) (g : ℕ) (a b : RegistryValue) (s t : List Told) → Done a s ≡ Done b t → is_counted action ≡ true → a.generation ≡ (g + 1) % 2 ^ 32 → b.generation ≡ next_generation action g
+counted_one : (action : PrOutAction) (g : ℕ) (a b : RegistryValue) (s t : List Told) → Done a s ≡ Done b t
+    → is_counted action ≡ true → a.generation ≡ (g + 1) % 2 ^ 32 → b.generation ≡ next_generation action g
 counted_one action g a b s t is counts one = let same : a ≡ b = cc in rw counts (ap (λ (v : RegistryValue). v.generation) (sym same) ∙ one)
 
-counted_none : (action : PrOutAction) (g : ℕ) (a b : RegistryValue) (s t : List Told) → Done a s ≡ Done b t → is_counted action ≡ false → a.generation ≡ g → b.generation ≡ next_generation action g
+counted_none : (action : PrOutAction) (g : ℕ) (a b : RegistryValue) (s t : List Told) → Done a s ≡ Done b t
+    → is_counted action ≡ false → a.generation ≡ g → b.generation ≡ next_generation action g
 counted_none action g a b s t is stays none = let same : a ≡ b = cc in rw stays (ap (λ (v : RegistryValue). v.generation) (sym same) ∙ none)
 
-pub row_counts : (row : PrRow) (r : RegistryValue) (n : Nexus) (q : PrOut) (new : RegistryValue) (told : List Told) → Fits row r n q → effect row r n q ≡ Done new told → new.generation ≡ (if is_counted q.action then (r.generation + 1) % 2 ^ 32 else r.generation)
+pub row_counts : (row : PrRow) (r : RegistryValue) (n : Nexus) (q : PrOut) (new : RegistryValue) (told : List Told)
+    → Fits row r n q → effect row r n q ≡ Done new told
+    → new.generation ≡ (if is_counted q.action then (r.generation + 1) % 2 ^ 32 else r.generation)
 row_counts ReserveField r n q new told f is = absurd (cc)
 row_counts ParameterField r n q new told f is = absurd (cc)
 row_counts KeyConflict r n q new told f is = absurd (cc)
@@ -130,11 +148,14 @@ found_kept p q (y ∷ ys) x is =
     (cases_Bool (q y))
 
 -- the key under which a nexus was found
-key_found : (key : ℕ) (p : Registrant → Bool) (xs : List Registrant) (o : Option Registrant) → find p xs ≡ o → option_map (λ (x : Registrant). x.key) o ≡ Some key → (x : Registrant) × (find p xs ≡ Some x) × (x.key ≡ key)
+key_found : (key : ℕ) (p : Registrant → Bool) (xs : List Registrant) (o : Option Registrant) → find p xs ≡ o
+    → option_map (λ (x : Registrant). x.key) o ≡ Some key → (x : Registrant) × (find p xs ≡ Some x) × (x.key ≡ key)
 key_found key p xs None is k = absurd (cc)
 key_found key p xs (Some x) is k = (x, is, let same : x.key ≡ key = cc in same)
 
-left_with : (n m : Nexus) (key : ℕ) (q : Registrant → Bool) (xs : List Registrant) → ((x : Registrant) → q x ≡ true → x.key ≡ key → same_nexus x.nexus n ≡ true) → key_of (filter q xs) m ≡ Some key → same_nexus m n ≡ true
+left_with : (n m : Nexus) (key : ℕ) (q : Registrant → Bool) (xs : List Registrant)
+    → ((x : Registrant) → q x ≡ true → x.key ≡ key → same_nexus x.nexus n ≡ true) → key_of (filter q xs) m ≡ Some key
+    → same_nexus m n ≡ true
 left_with n m key q xs keeps k =
     let there = key_found key (is_it m) (filter q xs) (find (is_it m) (filter q xs)) refl k in
     let it = found_passes (is_it m) (filter q xs) there.0 there.1 in
@@ -143,12 +164,14 @@ left_with n m key q xs keeps k =
 keeps_without : (n : Nexus) (key : ℕ) (x : Registrant) → not (nat_eq x.key key) ≡ true → x.key ≡ key → same_nexus x.nexus n ≡ true
 keeps_without n key x h is = absurd (let e = eq-eqb x.key key is in let f = rw e at h in cc)
 
-keeps_own : (n : Nexus) (key : ℕ) (x : Registrant) → same_nexus x.nexus n || not (nat_eq x.key key) ≡ true → x.key ≡ key → same_nexus x.nexus n ≡ true
+keeps_own : (n : Nexus) (key : ℕ) (x : Registrant) → same_nexus x.nexus n || not (nat_eq x.key key) ≡ true → x.key ≡ key
+    → same_nexus x.nexus n ≡ true
 keeps_own n key x h is =
     ⊎_elim (λ (t : same_nexus x.nexus n ≡ true). t)
     (λ (f : same_nexus x.nexus n ≡ false). keeps_without n key x (rw f at h) is) (cases_Bool (same_nexus x.nexus n))
 
-same_keys : (m : Nexus) (a b : RegistryValue) (s t : List Told) (k : Option ℕ) → Done a s ≡ Done b t → key_of b.registrants m ≡ k → key_of a.registrants m ≡ k
+same_keys : (m : Nexus) (a b : RegistryValue) (s t : List Told) (k : Option ℕ) → Done a s ≡ Done b t
+    → key_of b.registrants m ≡ k → key_of a.registrants m ≡ k
 same_keys m a b s t k is h = let same : a ≡ b = cc in ap (λ (v : RegistryValue). key_of v.registrants m) same ∙ h
 
 not_both : (action : PrOutAction) → is_registering action ≡ true → IsPreempting action → ⊥
@@ -164,7 +187,9 @@ zero_asked : (a b : Bool) → a && b ≡ true → b ≡ true
 zero_asked true b h = h
 zero_asked false b h = absurd (cc)
 
-pub key_gone : (row : PrRow) (r : RegistryValue) (n : Nexus) (q : PrOut) (new : RegistryValue) (told : List Told) (m : Nexus) → Fits row r n q → IsPreempting q.action → IsFalse (nat_eq q.sakey 0) → effect row r n q ≡ Done new told → key_of new.registrants m ≡ Some q.sakey → same_nexus m n ≡ true
+pub key_gone : (row : PrRow) (r : RegistryValue) (n : Nexus) (q : PrOut) (new : RegistryValue) (told : List Told)
+    (m : Nexus) → Fits row r n q → IsPreempting q.action → IsFalse (nat_eq q.sakey 0) → effect row r n q ≡ Done new told
+    → key_of new.registrants m ≡ Some q.sakey → same_nexus m n ≡ true
 key_gone ReserveField r n q new told m f p z is k = absurd (cc)
 key_gone ParameterField r n q new told m f p z is k = absurd (cc)
 key_gone KeyConflict r n q new told m f p z is k = absurd (cc)

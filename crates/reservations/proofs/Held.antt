@@ -1,17 +1,24 @@
 -- Who is registered, and who holds, after a change.
-use Rattle.std.proofs.Common.{◌≡◌, ⊎_elim, ℕ, Bool, true, false, not, ◌&&◌, ◌||◌, nat_eq, List, [], ◌∷◌, ◌++◌, length, take, drop, filter, refl, sym, ◌∙◌, ap, Option, Some, None, is_some}
+use Rattle.std.proofs.Common.{◌≡◌, ⊎_elim, ℕ, Bool, true, false, not, ◌&&◌, ◌||◌, nat_eq, List, [], ◌∷◌, ◌++◌}
+use Rattle.std.proofs.Common.{length, take, drop, filter, refl, sym, ◌∙◌, ap, Option, Some, None, is_some}
 use Rattle.std.proofs.lemmas.Bool.{cases_Bool}
 use Rattle.std.proofs.lemmas.List.{take-append-drop}
 use Rattle.std.specs.List.{find, insert, list_any}
 use Rattle.std.specs.Option.{option_map}
 use Rattle.scsi_types.specs.Nexus.{Nexus}
 use Rattle.reservations.specs.declared.kind.ReservationType.{ReservationType}
-use Rattle.reservations.specs.declared.kind.ReservationType.TheVariants.{WriteExclusive, ExclusiveAccess, WriteExclusiveRegistrantsOnly, ExclusiveAccessRegistrantsOnly, WriteExclusiveAllRegistrants, ExclusiveAccessAllRegistrants}
+use Rattle.reservations.specs.declared.kind.ReservationType.TheVariants.{WriteExclusive, ExclusiveAccess}
+use Rattle.reservations.specs.declared.kind.ReservationType.TheVariants.{WriteExclusiveRegistrantsOnly}
+use Rattle.reservations.specs.declared.kind.ReservationType.TheVariants.{ExclusiveAccessRegistrantsOnly}
+use Rattle.reservations.specs.declared.kind.ReservationType.TheVariants.{WriteExclusiveAllRegistrants}
+use Rattle.reservations.specs.declared.kind.ReservationType.TheVariants.{ExclusiveAccessAllRegistrants}
 use Rattle.reservations.specs.declared.registrant.Registrant.{Registrant}
 use Rattle.reservations.specs.declared.registrant.Reservation.{Reservation}
 use Rattle.reservations.specs.Kind.{is_of_all_registrants}
 use Rattle.reservations.specs.Nexus.{same_nexus}
-use Rattle.reservations.specs.Registry.{IsAscending, key_of, is_registered, is_own, is_any, is_rightly_held, is_sound_hold, joined_by, left_to, made_by, only, others, with_key_of, without_key, without_others_of_key}
+use Rattle.reservations.specs.Registry.{IsAscending, key_of, is_registered, is_own, is_any, is_rightly_held}
+use Rattle.reservations.specs.Registry.{is_sound_hold, joined_by, left_to, made_by, only, others, with_key_of}
+use Rattle.reservations.specs.Registry.{without_key, without_others_of_key}
 use Rattle.reservations.proofs.Insert.{before, insert_is}
 use Rattle.reservations.proofs.Listed.{rekeyed_nexus}
 use Rattle.reservations.proofs.Order.{same_nexus_alike}
@@ -28,7 +35,8 @@ found_passes p (y ∷ ys) x is =
     (λ (f : p y ≡ false). found_passes p ys x (rw f at is)) (cases_Bool (p y))
 
 -- a registrant that a filter keeps is found behind it
-kept_found : (p q : Registrant → Bool) (xs : List Registrant) (x : Registrant) → find p xs ≡ Some x → q x ≡ true → is_some (find p (filter q xs)) ≡ true
+kept_found : (p q : Registrant → Bool) (xs : List Registrant) (x : Registrant) → find p xs ≡ Some x → q x ≡ true
+    → is_some (find p (filter q xs)) ≡ true
 kept_found p q [] x is keeps = absurd (cc)
 kept_found p q (y ∷ ys) x is keeps =
     ⊎_elim (λ (t : p y ≡ true). let first = rw t at is in let here : y ≡ x = cc in let kept = ap q here ∙ keeps in rw kept (rw t refl))
@@ -42,18 +50,24 @@ some_of None = refl
 some_of (Some x) = refl
 
 -- who is registered stays so behind a filter that keeps it
-registered_by : (h : Nexus) (q : Registrant → Bool) (xs : List Registrant) (o : Option Registrant) → find (is_it h) xs ≡ o → is_some o ≡ true → ((x : Registrant) → find (is_it h) xs ≡ Some x → is_it h x ≡ true → q x ≡ true) → is_registered (filter q xs) h ≡ true
+registered_by : (h : Nexus) (q : Registrant → Bool) (xs : List Registrant) (o : Option Registrant)
+    → find (is_it h) xs ≡ o → is_some o ≡ true
+    → ((x : Registrant) → find (is_it h) xs ≡ Some x → is_it h x ≡ true → q x ≡ true)
+    → is_registered (filter q xs) h ≡ true
 registered_by h q xs None is some keeps = absurd (cc)
 registered_by h q xs (Some x) is some keeps =
     some_of (find (is_it h) (filter q xs)) ∙ kept_found (is_it h) q xs x is (keeps x is (found_passes (is_it h) xs x is))
 
-pub registered_filter : (h : Nexus) (q : Registrant → Bool) (xs : List Registrant) → is_registered xs h ≡ true → ((x : Registrant) → find (is_it h) xs ≡ Some x → is_it h x ≡ true → q x ≡ true) → is_registered (filter q xs) h ≡ true
+pub registered_filter : (h : Nexus) (q : Registrant → Bool) (xs : List Registrant) → is_registered xs h ≡ true
+    → ((x : Registrant) → find (is_it h) xs ≡ Some x → is_it h x ≡ true → q x ≡ true)
+    → is_registered (filter q xs) h ≡ true
 registered_filter h q xs in_it keeps =
     registered_by h q xs (find (is_it h) xs) refl (sym (some_of (find (is_it h) xs)) ∙ in_it) keeps
 
 -- ---- by each change
 
-pub registered_others : (h n : Nexus) (xs : List Registrant) → is_registered xs h ≡ true → same_nexus h n ≡ false → is_registered (others n xs) h ≡ true
+pub registered_others : (h n : Nexus) (xs : List Registrant) → is_registered xs h ≡ true → same_nexus h n ≡ false
+    → is_registered (others n xs) h ≡ true
 registered_others h n xs in_it two =
     registered_filter h (λ (x : Registrant). not (same_nexus x.nexus n)) xs in_it
     (λ x is it. let apart = same_nexus_alike x.nexus h n it ∙ two in rw apart refl)
@@ -61,14 +75,17 @@ registered_others h n xs in_it two =
 pub registered_only : (n : Nexus) (xs : List Registrant) → is_registered xs n ≡ true → is_registered (only n xs) n ≡ true
 registered_only n xs in_it = registered_filter n (λ (x : Registrant). same_nexus x.nexus n) xs in_it (λ x is it. it)
 
-pub registered_preempting : (n : Nexus) (key : ℕ) (xs : List Registrant) → is_registered xs n ≡ true → is_registered (without_others_of_key n key xs) n ≡ true
+pub registered_preempting : (n : Nexus) (key : ℕ) (xs : List Registrant) → is_registered xs n ≡ true
+    → is_registered (without_others_of_key n key xs) n ≡ true
 registered_preempting n key xs in_it =
     registered_filter n (λ (x : Registrant). same_nexus x.nexus n || not (nat_eq x.key key)) xs in_it (λ x is it. rw it refl)
 
-own_of : (key : ℕ) (xs : List Registrant) (h : Nexus) (x : Registrant) → find (is_it h) xs ≡ Some x → is_own (key_of xs h) key ≡ false → nat_eq x.key key ≡ false
+own_of : (key : ℕ) (xs : List Registrant) (h : Nexus) (x : Registrant) → find (is_it h) xs ≡ Some x
+    → is_own (key_of xs h) key ≡ false → nat_eq x.key key ≡ false
 own_of key xs h x is other = rw is at other
 
-pub registered_without_key : (h : Nexus) (key : ℕ) (xs : List Registrant) → is_registered xs h ≡ true → is_own (key_of xs h) key ≡ false → is_registered (without_key key xs) h ≡ true
+pub registered_without_key : (h : Nexus) (key : ℕ) (xs : List Registrant) → is_registered xs h ≡ true
+    → is_own (key_of xs h) key ≡ false → is_registered (without_key key xs) h ≡ true
 registered_without_key h key xs in_it other =
     registered_filter h (λ (x : Registrant). not (nat_eq x.key key)) xs in_it (λ x is it. rw (own_of key xs h x is other) refl)
 
@@ -89,7 +106,8 @@ or_more true b c h = refl
 or_more false true c h = refl
 or_more false false c h = h
 
-any_more : (p : Registrant → Bool) (k : ℕ) (it : Registrant) (xs : List Registrant) → list_any p xs ≡ true → list_any p (insert xs k it) ≡ true
+any_more : (p : Registrant → Bool) (k : ℕ) (it : Registrant) (xs : List Registrant) → list_any p xs ≡ true
+    → list_any p (insert xs k it) ≡ true
 any_more p k it xs any =
     let parts = sym (any_append p (take k xs) (drop k xs)) ∙ ap (list_any p) (take-append-drop k xs) ∙ any in
     any_append p (take k xs) (it ∷ drop k xs) ∙ or_more (list_any p (take k xs)) (p it) (list_any p (drop k xs)) parts
@@ -97,7 +115,8 @@ any_more p k it xs any =
 registered_any : (h : Nexus) (xs : List Registrant) → is_registered xs h ≡ list_any (is_it h) xs
 registered_any h xs = some_of (find (is_it h) xs) ∙ found_any (is_it h) xs
 
-pub registered_joined : (h n : Nexus) (key : ℕ) (xs : List Registrant) → IsAscending xs → is_registered xs n ≡ false → is_registered xs h ≡ true → is_registered (joined_by n key xs) h ≡ true
+pub registered_joined : (h n : Nexus) (key : ℕ) (xs : List Registrant) → IsAscending xs → is_registered xs n ≡ false
+    → is_registered xs h ≡ true → is_registered (joined_by n key xs) h ≡ true
 registered_joined h n key xs a out in_it =
     let more = any_more (is_it h) (length (before n xs)) (record { nexus = n; key = key }) xs (sym (registered_any h xs) ∙ in_it) in
     registered_any h (joined_by n key xs) ∙ ap (list_any (is_it h)) (sym (insert_is n key xs a out)) ∙ more
@@ -107,7 +126,8 @@ any_rekeyed h n key [] = refl
 any_rekeyed h n key (x ∷ xs) =
     let here = ap (λ (m : Nexus). same_nexus m h) (rekeyed_nexus n key x) in rw here (rw (any_rekeyed h n key xs) refl)
 
-pub registered_rekeyed : (h n : Nexus) (key : ℕ) (xs : List Registrant) → is_registered xs h ≡ true → is_registered (with_key_of n key xs) h ≡ true
+pub registered_rekeyed : (h n : Nexus) (key : ℕ) (xs : List Registrant) → is_registered xs h ≡ true
+    → is_registered (with_key_of n key xs) h ≡ true
 registered_rekeyed h n key xs in_it =
     registered_any h (with_key_of n key xs) ∙ any_rekeyed h n key xs ∙ sym (registered_any h xs) ∙ in_it
 
@@ -117,7 +137,8 @@ any_of : (h : Nexus) (xs : List Registrant) → is_registered xs h ≡ true → 
 any_of h [] in_it = absurd (cc)
 any_of h (x ∷ xs) in_it = refl
 
-made_of : (n : Nexus) (kind : ReservationType) (ys : List Registrant) → is_registered ys n ≡ true → is_sound_hold (Some (made_by n kind)) ys ≡ true
+made_of : (n : Nexus) (kind : ReservationType) (ys : List Registrant) → is_registered ys n ≡ true
+    → is_sound_hold (Some (made_by n kind)) ys ≡ true
 made_of n WriteExclusive ys in_it = in_it
 made_of n ExclusiveAccess ys in_it = in_it
 made_of n WriteExclusiveRegistrantsOnly ys in_it = in_it
@@ -125,7 +146,8 @@ made_of n ExclusiveAccessRegistrantsOnly ys in_it = in_it
 made_of n WriteExclusiveAllRegistrants ys in_it = any_of n ys in_it
 made_of n ExclusiveAccessAllRegistrants ys in_it = any_of n ys in_it
 
-pub made_held : (n : Nexus) (kind : Option ReservationType) (ys : List Registrant) → is_registered ys n ≡ true → is_sound_hold (option_map (made_by n) kind) ys ≡ true
+pub made_held : (n : Nexus) (kind : Option ReservationType) (ys : List Registrant) → is_registered ys n ≡ true
+    → is_sound_hold (option_map (made_by n) kind) ys ≡ true
 made_held n None ys in_it = refl
 made_held n (Some kind) ys in_it = made_of n kind ys in_it
 
@@ -139,7 +161,10 @@ and_left false b h = absurd (cc)
 
 -- a reservation is rightly held where its only holder stays registered, and where somebody is left to one of all
 -- registrants
-rightly : (kind : ReservationType) (holder : Option Nexus) (xs ys : List Registrant) → is_rightly_held kind holder xs ≡ true → (is_any xs ≡ true → is_any ys ≡ true) → ((h : Nexus) → holder ≡ Some h → is_registered xs h ≡ true → is_registered ys h ≡ true) → is_rightly_held kind holder ys ≡ true
+rightly : (kind : ReservationType) (holder : Option Nexus) (xs ys : List Registrant)
+    → is_rightly_held kind holder xs ≡ true → (is_any xs ≡ true → is_any ys ≡ true)
+    → ((h : Nexus) → holder ≡ Some h → is_registered xs h ≡ true → is_registered ys h ≡ true)
+    → is_rightly_held kind holder ys ≡ true
 rightly kind None xs ys held any stays =
     let somebody = any (and_right (is_of_all_registrants kind) (is_any xs) held) in
     rw (and_left (is_of_all_registrants kind) (is_any xs) held, somebody) refl
@@ -147,17 +172,25 @@ rightly kind (Some h) xs ys held any stays =
     let there = stays h refl (and_right (not (is_of_all_registrants kind)) (is_registered xs h) held) in
     rw (and_left (not (is_of_all_registrants kind)) (is_registered xs h) held, there) refl
 
-pub hold_kept : (res : Option Reservation) (xs ys : List Registrant) → is_sound_hold res xs ≡ true → (is_any xs ≡ true → is_any ys ≡ true) → ((r : Reservation) (h : Nexus) → res ≡ Some r → r.holder ≡ Some h → is_registered xs h ≡ true → is_registered ys h ≡ true) → is_sound_hold res ys ≡ true
+pub hold_kept : (res : Option Reservation) (xs ys : List Registrant) → is_sound_hold res xs ≡ true
+    → (is_any xs ≡ true → is_any ys ≡ true)
+    → ((r : Reservation) (h : Nexus) → res ≡ Some r → r.holder ≡ Some h → is_registered xs h ≡ true
+    → is_registered ys h ≡ true) → is_sound_hold res ys ≡ true
 hold_kept None xs ys held any stays = refl
 hold_kept (Some r) xs ys held any stays = rightly r.kind r.holder xs ys held any (λ h is there. stays r h refl is there)
 
-left_none : (kind : ReservationType) (holder : Option Nexus) (xs : List Registrant) → is_rightly_held kind holder xs ≡ true → is_of_all_registrants kind ≡ false → ((h : Nexus) → holder ≡ Some h → is_registered xs h ≡ true → is_registered [] h ≡ true) → is_rightly_held kind holder [] ≡ true
+left_none : (kind : ReservationType) (holder : Option Nexus) (xs : List Registrant)
+    → is_rightly_held kind holder xs ≡ true → is_of_all_registrants kind ≡ false
+    → ((h : Nexus) → holder ≡ Some h → is_registered xs h ≡ true → is_registered [] h ≡ true)
+    → is_rightly_held kind holder [] ≡ true
 left_none kind None xs held single stays = absurd (let all = and_left (is_of_all_registrants kind) (is_any xs) held in cc)
 left_none kind (Some h) xs held single stays =
     absurd (let there = stays h refl (and_right (not (is_of_all_registrants kind)) (is_registered xs h) held) in cc)
 
 -- the same of what is left of a reservation when registrants have gone
-pub left_held : (res : Option Reservation) (xs ys : List Registrant) → is_sound_hold res xs ≡ true → ((r : Reservation) (h : Nexus) → res ≡ Some r → r.holder ≡ Some h → is_registered xs h ≡ true → is_registered ys h ≡ true) → is_sound_hold (left_to ys res) ys ≡ true
+pub left_held : (res : Option Reservation) (xs ys : List Registrant) → is_sound_hold res xs ≡ true
+    → ((r : Reservation) (h : Nexus) → res ≡ Some r → r.holder ≡ Some h → is_registered xs h ≡ true
+    → is_registered ys h ≡ true) → is_sound_hold (left_to ys res) ys ≡ true
 left_held None xs [] held stays = refl
 left_held (Some r) xs [] held stays =
     ⊎_elim (λ (t : is_of_all_registrants r.kind ≡ true). rw t refl)

@@ -24,7 +24,8 @@ above_both n x y h k =
     nexus_total.antisymm y n ∙ ap ordering_reverse (nexus_total.trans n x y below k)
 
 -- where the first is behind n, all are
-pub none_before : (n x : Nexus) (xs : List Registrant) → nexus_cmp x n ≡ Greater → AllByRecursion (λ (y : Registrant). nexus_cmp x y.nexus ≡ Less) xs → (before n xs ≡ []) × (behind n xs ≡ xs)
+pub none_before : (n x : Nexus) (xs : List Registrant) → nexus_cmp x n ≡ Greater
+    → AllByRecursion (λ (y : Registrant). nexus_cmp x y.nexus ≡ Less) xs → (before n xs ≡ []) × (behind n xs ≡ xs)
 none_before n x [] h all = (refl, refl)
 none_before n x (y ∷ ys) h all =
     let above = above_both n x y.nexus h all.0 in
@@ -35,7 +36,8 @@ pub record IsPlace (n : Nexus) (xs : List Registrant) : Type 0 where
   pub front : take (length (before n xs)) xs ≡ before n xs
   pub back : drop (length (before n xs)) xs ≡ behind n xs
 
-pub found_first : (n x : Nexus) (xs : List Registrant) (r : Registrant) → r.nexus ≡ x → is_registered (r ∷ xs) n ≡ false → nexus_cmp x n ≡ Equal → ⊥
+pub found_first : (n x : Nexus) (xs : List Registrant) (r : Registrant) → r.nexus ≡ x → is_registered (r ∷ xs) n ≡ false
+    → nexus_cmp x n ≡ Equal → ⊥
 found_first n x xs r is out tie =
     let same : same_nexus r.nexus n ≡ true = same_nexus_is r.nexus n ∙ ap (λ (m : Nexus). is_eq (nexus_cmp m n)) is ∙ ap is_eq tie in
     absurd (let found = rw same at out in cc)
@@ -45,7 +47,8 @@ out_of_rest n xs r out =
     ⊎_elim (λ (t : same_nexus r.nexus n ≡ true). absurd (let found = rw t at out in cc)) (λ (f : same_nexus r.nexus n ≡ false). rw f at out)
     (cases_Bool (same_nexus r.nexus n))
 
-place_by : (n : Nexus) (x : Registrant) (xs : List Registrant) (o : Ordering) → nexus_cmp x.nexus n ≡ o → IsAscending (x ∷ xs) → is_registered (x ∷ xs) n ≡ false → IsPlace n xs → IsPlace n (x ∷ xs)
+place_by : (n : Nexus) (x : Registrant) (xs : List Registrant) (o : Ordering) → nexus_cmp x.nexus n ≡ o
+    → IsAscending (x ∷ xs) → is_registered (x ∷ xs) n ≡ false → IsPlace n xs → IsPlace n (x ∷ xs)
 place_by n x xs Less is a out rest =
     record {
       front = rw is (ap (λ (zs : List Registrant). x ∷ zs) rest.front);
@@ -64,12 +67,14 @@ is_place n [] a out = record { front = refl; back = refl }
 is_place n (x ∷ xs) a out =
     place_by n x xs (nexus_cmp x.nexus n) refl a out (is_place n xs a.1 (out_of_rest n xs x out))
 
-pub insert_is : (n : Nexus) (key : ℕ) (xs : List Registrant) → IsAscending xs → is_registered xs n ≡ false → insert xs (length (before n xs)) (record { nexus = n; key = key }) ≡ joined_by n key xs
+pub insert_is : (n : Nexus) (key : ℕ) (xs : List Registrant) → IsAscending xs → is_registered xs n ≡ false
+    → insert xs (length (before n xs)) (record { nexus = n; key = key }) ≡ joined_by n key xs
 insert_is n key xs a out = let place = is_place n xs a out in rw (place.front, place.back) refl
 
 pub length_before : (n : Nexus) (xs : List Registrant) → length (before n xs) ≤ length xs
 length_before n [] = omega arith
 length_before n (x ∷ xs) =
     let rest = length_before n xs in
-    ⊎_elim (λ (t : is_lt (nexus_cmp x.nexus n) ≡ true). rw t (omega arith)) (λ (f : is_lt (nexus_cmp x.nexus n) ≡ false). rw f (omega arith))
+    ⊎_elim (λ (t : is_lt (nexus_cmp x.nexus n) ≡ true). rw t (omega arith))
+    (λ (f : is_lt (nexus_cmp x.nexus n) ≡ false). rw f (omega arith))
     (cases_Bool (is_lt (nexus_cmp x.nexus n)))

@@ -1,5 +1,6 @@
 -- Registrants that are listed in order, few and with keys: what keeps them so.
-use Rattle.std.proofs.Common.{◌≡◌, ⊎_elim, ℕ, suc, ◌≤◌, Bool, true, false, not, nat_eq, nat_lt, List, [], ◌∷◌, ◌++◌, length, filter, refl, ◌∙◌, ap, arith, Option, IsTrue}
+use Rattle.std.proofs.Common.{◌≡◌, ⊎_elim, ℕ, suc, ◌≤◌, Bool, true, false, not, nat_eq, nat_lt, List, [], ◌∷◌}
+use Rattle.std.proofs.Common.{◌++◌, length, filter, refl, ◌∙◌, ap, arith, Option, IsTrue}
 use Rattle.std.proofs.lemmas.Bool.{cases_Bool, ltb-true}
 use Rattle.std.proofs.lemmas.List.Edits.{length-insert}
 use Rattle.std.specs.List.{AllByRecursion}
@@ -17,16 +18,19 @@ use Rattle.reservations.proofs.Order.{nexus_total}
 
 -- ---- what a filter keeps
 
-pub all_filter : (P : Registrant → Type 0) (p : Registrant → Bool) (xs : List Registrant) → AllByRecursion P xs → AllByRecursion P (filter p xs)
+pub all_filter : (P : Registrant → Type 0) (p : Registrant → Bool) (xs : List Registrant) → AllByRecursion P xs
+    → AllByRecursion P (filter p xs)
 all_filter P p [] all = tt
 all_filter P p (x ∷ xs) all =
-    ⊎_elim (λ (t : p x ≡ true). rw t (all.0, all_filter P p xs all.1)) (λ (f : p x ≡ false). rw f (all_filter P p xs all.1)) (cases_Bool (p x))
+    ⊎_elim (λ (t : p x ≡ true). rw t (all.0, all_filter P p xs all.1))
+    (λ (f : p x ≡ false). rw f (all_filter P p xs all.1)) (cases_Bool (p x))
 
 ascending_filter : (p : Registrant → Bool) (xs : List Registrant) → IsAscending xs → IsAscending (filter p xs)
 ascending_filter p [] a = tt
 ascending_filter p (x ∷ xs) a =
     let rest = ascending_filter p xs a.1 in
-    ⊎_elim (λ (t : p x ≡ true). rw t (all_filter (λ (y : Registrant). nexus_cmp x.nexus y.nexus ≡ Less) p xs a.0, rest)) (λ (f : p x ≡ false). rw f rest)
+    ⊎_elim (λ (t : p x ≡ true). rw t (all_filter (λ (y : Registrant). nexus_cmp x.nexus y.nexus ≡ Less) p xs a.0, rest))
+    (λ (f : p x ≡ false). rw f rest)
     (cases_Bool (p x))
 
 length_filter : (p : Registrant → Bool) (xs : List Registrant) → length (filter p xs) ≤ length xs
@@ -36,18 +40,18 @@ length_filter p (x ∷ xs) =
     ⊎_elim (λ (t : p x ≡ true). rw t (omega arith)) (λ (f : p x ≡ false). rw f (omega arith)) (cases_Bool (p x))
 
 -- what is true of the registrants whoever holds
-pub record IsListed (xs : List Registrant) : Type 0 where
+pub record AreRegistrants (xs : List Registrant) : Type 0 where
   pub ascending : IsAscending xs
   pub few : length xs ≤ MOST_REGISTRANTS
   pub keys : AllByRecursion (λ (x : Registrant). IsTrue (not (nat_eq x.key 0))) xs
 
-pub listed_of : (xs : List Registrant) (res : Option Reservation) → IsSound xs res → IsListed xs
+pub listed_of : (xs : List Registrant) (res : Option Reservation) → IsSound xs res → AreRegistrants xs
 listed_of xs res s = record { ascending = s.ascending; few = s.few; keys = s.keys }
 
-pub sound_of : (xs : List Registrant) (res : Option Reservation) → IsListed xs → is_sound_hold res xs ≡ true → IsSound xs res
+pub sound_of : (xs : List Registrant) (res : Option Reservation) → AreRegistrants xs → is_sound_hold res xs ≡ true → IsSound xs res
 sound_of xs res l held = record { ascending = l.ascending; few = l.few; keys = l.keys; held = held }
 
-pub listed_filter : (p : Registrant → Bool) (xs : List Registrant) → IsListed xs → IsListed (filter p xs)
+pub listed_filter : (p : Registrant → Bool) (xs : List Registrant) → AreRegistrants xs → AreRegistrants (filter p xs)
 listed_filter p xs l =
     let short = length_filter p xs in
     record {
@@ -58,15 +62,20 @@ listed_filter p xs l =
 
 -- ---- one registrant more
 
-pub all_append : (P : Registrant → Type 0) (xs ys : List Registrant) → AllByRecursion P xs → AllByRecursion P ys → AllByRecursion P (xs ++ ys)
+pub all_append : (P : Registrant → Type 0) (xs ys : List Registrant) → AllByRecursion P xs → AllByRecursion P ys
+    → AllByRecursion P (xs ++ ys)
 all_append P [] ys a b = b
 all_append P (x ∷ xs) ys a b = (a.0, all_append P xs ys a.1 b)
 
-above_all : (n x : Nexus) (xs : List Registrant) → nexus_cmp n x ≡ Less → AllByRecursion (λ (y : Registrant). nexus_cmp x y.nexus ≡ Less) xs → AllByRecursion (λ (y : Registrant). nexus_cmp n y.nexus ≡ Less) xs
+above_all : (n x : Nexus) (xs : List Registrant) → nexus_cmp n x ≡ Less
+    → AllByRecursion (λ (y : Registrant). nexus_cmp x y.nexus ≡ Less) xs
+    → AllByRecursion (λ (y : Registrant). nexus_cmp n y.nexus ≡ Less) xs
 above_all n x [] h all = tt
 above_all n x (y ∷ ys) h all = (nexus_total.trans n x y.nexus h all.0, above_all n x ys h all.1)
 
-ascending_by : (n : Nexus) (key : ℕ) (x : Registrant) (xs : List Registrant) (o : Ordering) → nexus_cmp x.nexus n ≡ o → IsAscending (x ∷ xs) → is_registered (x ∷ xs) n ≡ false → IsAscending (joined_by n key xs) → IsAscending (joined_by n key (x ∷ xs))
+ascending_by : (n : Nexus) (key : ℕ) (x : Registrant) (xs : List Registrant) (o : Ordering) → nexus_cmp x.nexus n ≡ o
+    → IsAscending (x ∷ xs) → is_registered (x ∷ xs) n ≡ false → IsAscending (joined_by n key xs)
+    → IsAscending (joined_by n key (x ∷ xs))
 ascending_by n key x xs Less is a out rest =
     let P : Registrant → Type 0 = λ (y : Registrant). nexus_cmp x.nexus y.nexus ≡ Less in
     let front = all_filter P (λ (y : Registrant). is_lt (nexus_cmp y.nexus n)) xs a.0 in
@@ -78,12 +87,14 @@ ascending_by n key x xs Greater is a out rest =
     let below : nexus_cmp n x.nexus ≡ Less = nexus_total.antisymm n x.nexus ∙ ap ordering_reverse is in
     rw is (rw (none.0, none.1) ((below, above_all n x.nexus xs below a.0), a))
 
-ascending_joined : (n : Nexus) (key : ℕ) (xs : List Registrant) → IsAscending xs → is_registered xs n ≡ false → IsAscending (joined_by n key xs)
+ascending_joined : (n : Nexus) (key : ℕ) (xs : List Registrant) → IsAscending xs → is_registered xs n ≡ false
+    → IsAscending (joined_by n key xs)
 ascending_joined n key [] a out = (tt, tt)
 ascending_joined n key (x ∷ xs) a out =
     ascending_by n key x xs (nexus_cmp x.nexus n) refl a out (ascending_joined n key xs a.1 (out_of_rest n xs x out))
 
-pub listed_joined : (n : Nexus) (key : ℕ) (xs : List Registrant) → IsListed xs → is_registered xs n ≡ false → nat_eq key 0 ≡ false → nat_lt (length xs) MOST_REGISTRANTS ≡ true → IsListed (joined_by n key xs)
+pub listed_joined : (n : Nexus) (key : ℕ) (xs : List Registrant) → AreRegistrants xs → is_registered xs n ≡ false
+    → nat_eq key 0 ≡ false → nat_lt (length xs) MOST_REGISTRANTS ≡ true → AreRegistrants (joined_by n key xs)
 listed_joined n key xs l out nonzero room =
     let P : Registrant → Type 0 = λ (x : Registrant). IsTrue (not (nat_eq x.key 0)) in
     let it : Registrant = record { nexus = n; key = key } in
@@ -102,9 +113,12 @@ listed_joined n key xs l out nonzero room =
 
 pub rekeyed_nexus : (n : Nexus) (key : ℕ) (x : Registrant) → (rekeyed n key x).nexus ≡ x.nexus
 rekeyed_nexus n key x =
-    ⊎_elim (λ (t : same_nexus x.nexus n ≡ true). rw t refl) (λ (f : same_nexus x.nexus n ≡ false). rw f refl) (cases_Bool (same_nexus x.nexus n))
+    ⊎_elim (λ (t : same_nexus x.nexus n ≡ true). rw t refl)
+    (λ (f : same_nexus x.nexus n ≡ false). rw f refl) (cases_Bool (same_nexus x.nexus n))
 
-all_rekeyed : (n : Nexus) (key : ℕ) (m : Nexus) (xs : List Registrant) → AllByRecursion (λ (y : Registrant). nexus_cmp m y.nexus ≡ Less) xs → AllByRecursion (λ (y : Registrant). nexus_cmp m y.nexus ≡ Less) (with_key_of n key xs)
+all_rekeyed : (n : Nexus) (key : ℕ) (m : Nexus) (xs : List Registrant)
+    → AllByRecursion (λ (y : Registrant). nexus_cmp m y.nexus ≡ Less) xs
+    → AllByRecursion (λ (y : Registrant). nexus_cmp m y.nexus ≡ Less) (with_key_of n key xs)
 all_rekeyed n key m [] all = tt
 all_rekeyed n key m (x ∷ xs) all = (rw (rekeyed_nexus n key x) all.0, all_rekeyed n key m xs all.1)
 
@@ -113,10 +127,13 @@ ascending_rekeyed n key [] a = tt
 ascending_rekeyed n key (x ∷ xs) a =
     (rw (rekeyed_nexus n key x) (all_rekeyed n key x.nexus xs a.0), ascending_rekeyed n key xs a.1)
 
-keys_rekeyed : (n : Nexus) (key : ℕ) (xs : List Registrant) → nat_eq key 0 ≡ false → AllByRecursion (λ (x : Registrant). IsTrue (not (nat_eq x.key 0))) xs → AllByRecursion (λ (x : Registrant). IsTrue (not (nat_eq x.key 0))) (with_key_of n key xs)
+keys_rekeyed : (n : Nexus) (key : ℕ) (xs : List Registrant) → nat_eq key 0 ≡ false
+    → AllByRecursion (λ (x : Registrant). IsTrue (not (nat_eq x.key 0))) xs
+    → AllByRecursion (λ (x : Registrant). IsTrue (not (nat_eq x.key 0))) (with_key_of n key xs)
 keys_rekeyed n key [] nonzero all = tt
 keys_rekeyed n key (x ∷ xs) nonzero all = (
-  ⊎_elim (λ (t : same_nexus x.nexus n ≡ true). rw t (rw nonzero refl)) (λ (f : same_nexus x.nexus n ≡ false). rw f all.0) (cases_Bool (same_nexus x.nexus n)),
+  ⊎_elim (λ (t : same_nexus x.nexus n ≡ true). rw t (rw nonzero refl))
+      (λ (f : same_nexus x.nexus n ≡ false). rw f all.0) (cases_Bool (same_nexus x.nexus n)),
   keys_rekeyed n key xs nonzero all.1,
 )
 
@@ -124,7 +141,8 @@ length_rekeyed : (n : Nexus) (key : ℕ) (xs : List Registrant) → length (with
 length_rekeyed n key [] = refl
 length_rekeyed n key (x ∷ xs) = ap suc (length_rekeyed n key xs)
 
-pub listed_rekeyed : (n : Nexus) (key : ℕ) (xs : List Registrant) → IsListed xs → nat_eq key 0 ≡ false → IsListed (with_key_of n key xs)
+pub listed_rekeyed : (n : Nexus) (key : ℕ) (xs : List Registrant) → AreRegistrants xs → nat_eq key 0 ≡ false
+    → AreRegistrants (with_key_of n key xs)
 listed_rekeyed n key xs l nonzero =
     record {
       ascending = ascending_rekeyed n key xs l.ascending;

@@ -3,20 +3,31 @@ use Rattle.std.proofs.Common.{◌≡◌, ⊎_elim, Bool, true, false, nat_eq, na
 use Rattle.std.proofs.lemmas.Bool.{cases_Bool}
 use Rattle.scsi_types.specs.Nexus.{Nexus}
 use Rattle.scsi_types.specs.declared.reservation.PrOutAction.{PrOutAction}
-use Rattle.scsi_types.specs.declared.reservation.PrOutAction.TheVariants.{Register, Reserve, Release, Clear, Preempt, PreemptAndAbort, RegisterAndIgnoreExistingKey}
+use Rattle.scsi_types.specs.declared.reservation.PrOutAction.TheVariants.{Register, Reserve, Release, Clear}
+use Rattle.scsi_types.specs.declared.reservation.PrOutAction.TheVariants.{Preempt, PreemptAndAbort}
+use Rattle.scsi_types.specs.declared.reservation.PrOutAction.TheVariants.{RegisterAndIgnoreExistingKey}
 use Rattle.reservations.specs.declared.table.TheConstants.{MOST_REGISTRANTS}
 use Rattle.reservations.specs.declared.request.PrOut.{PrOut}
 use Rattle.reservations.specs.Registry.{RegistryValue, key_of, is_registered, is_key, is_held_by, is_sole_holder, is_of_code}
-use Rattle.reservations.specs.Rows.{PrRow, ReserveField, ParameterField, KeyConflict, RegistersNothing, RegistersNobodyMore, Registers, ChangesKey, HolderUnregisters, OtherUnregisters, Reserves, ReservesAgain, ReservesBesideAnother, ReleasesNothing, ReleasesAnotherType, Releases, Clears, PreemptField, PreemptsHolder, PreemptsAll, PreemptsKeyZero, PreemptsNobody, PreemptsRegistrants, Fits, Passes, IsPreempting, names_type, is_registering, is_bad_reserve, is_bad_parameter, shows_key, is_preempting_holder, is_preempting_all}
+use Rattle.reservations.specs.Rows.{PrRow, ReserveField, ParameterField, KeyConflict, RegistersNothing}
+use Rattle.reservations.specs.Rows.{RegistersNobodyMore, Registers, ChangesKey, HolderUnregisters}
+use Rattle.reservations.specs.Rows.{OtherUnregisters, Reserves, ReservesAgain, ReservesBesideAnother}
+use Rattle.reservations.specs.Rows.{ReleasesNothing, ReleasesAnotherType, Releases, Clears, PreemptField}
+use Rattle.reservations.specs.Rows.{PreemptsHolder, PreemptsAll, PreemptsKeyZero, PreemptsNobody}
+use Rattle.reservations.specs.Rows.{PreemptsRegistrants, Fits, Passes, IsPreempting, names_type}
+use Rattle.reservations.specs.Rows.{is_registering, is_bad_reserve, is_bad_parameter, shows_key}
+use Rattle.reservations.specs.Rows.{is_preempting_holder, is_preempting_all}
 use Rattle.reservations.specs.Table.{row_of, row_of_action, row_of_register, row_of_preempt}
 
 -- ---- a row that fits is the one
 
 -- what passes the checks of every action goes by its action
-by_action : (r : RegistryValue) (n : Nexus) (q : PrOut) (row : PrRow) → Passes r n q → row ≡ row_of_action q.action r n q → row ≡ row_of r n q
+by_action : (r : RegistryValue) (n : Nexus) (q : PrOut) (row : PrRow) → Passes r n q
+    → row ≡ row_of_action q.action r n q → row ≡ row_of r n q
 by_action r n q row p is = rw (p.reserve, p.parameter, p.key) is
 
-registering : (action : PrOutAction) (r : RegistryValue) (n : Nexus) (q : PrOut) (row : PrRow) → IsTrue (is_registering action) → row ≡ row_of_register r n q → row ≡ row_of_action action r n q
+registering : (action : PrOutAction) (r : RegistryValue) (n : Nexus) (q : PrOut) (row : PrRow)
+    → IsTrue (is_registering action) → row ≡ row_of_register r n q → row ≡ row_of_action action r n q
 registering Register r n q row h is = is
 registering RegisterAndIgnoreExistingKey r n q row h is = is
 registering Reserve r n q row h is = absurd (cc)
@@ -25,7 +36,8 @@ registering Clear r n q row h is = absurd (cc)
 registering Preempt r n q row h is = absurd (cc)
 registering PreemptAndAbort r n q row h is = absurd (cc)
 
-preempting : (action : PrOutAction) (r : RegistryValue) (n : Nexus) (q : PrOut) (row : PrRow) → IsPreempting action → row ≡ row_of_preempt r n q → row ≡ row_of_action action r n q
+preempting : (action : PrOutAction) (r : RegistryValue) (n : Nexus) (q : PrOut) (row : PrRow) → IsPreempting action
+    → row ≡ row_of_preempt r n q → row ≡ row_of_action action r n q
 preempting Preempt r n q row h is = is
 preempting PreemptAndAbort r n q row h is = is
 preempting Register r n q row h is = absurd h

@@ -2,7 +2,11 @@
 use Rattle.std.specs.Prelude.{Bool, true, false, IsTrue, if◌then◌else◌, Option, Some, None}
 use Rattle.scsi_types.specs.Nexus.{Nexus}
 use Rattle.reservations.specs.declared.kind.ReservationType.{ReservationType}
-use Rattle.reservations.specs.declared.kind.ReservationType.TheVariants.{WriteExclusive, ExclusiveAccess, WriteExclusiveRegistrantsOnly, ExclusiveAccessRegistrantsOnly, WriteExclusiveAllRegistrants, ExclusiveAccessAllRegistrants}
+use Rattle.reservations.specs.declared.kind.ReservationType.TheVariants.{WriteExclusive, ExclusiveAccess}
+use Rattle.reservations.specs.declared.kind.ReservationType.TheVariants.{WriteExclusiveRegistrantsOnly}
+use Rattle.reservations.specs.declared.kind.ReservationType.TheVariants.{ExclusiveAccessRegistrantsOnly}
+use Rattle.reservations.specs.declared.kind.ReservationType.TheVariants.{WriteExclusiveAllRegistrants}
+use Rattle.reservations.specs.declared.kind.ReservationType.TheVariants.{ExclusiveAccessAllRegistrants}
 use Rattle.reservations.specs.declared.registrant.Reservation.{Reservation}
 use Rattle.reservations.specs.declared.request.Access.{Access}
 use Rattle.reservations.specs.declared.request.Access.TheVariants.{Read, Write, Other}

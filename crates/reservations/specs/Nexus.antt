@@ -1,5 +1,5 @@
 -- I_T nexuses (SAM-5, 4.6): when two are one, and the order in which registrants are listed.
-use Rattle.std.specs.Prelude.{Bool, true, false, ◌&&◌, nat_eq}
+use Rattle.std.specs.Prelude.{ℕ, ◌^◌, ◌<◌, ◌≤◌, Bool, true, false, ◌&&◌, nat_eq, length}
 use Rattle.std.specs.Ordering.{ordering_then}
 use Rattle.std.specs.declared.cmp.Ordering.{Ordering}
 use Rattle.std.specs.declared.cmp.Ordering.TheVariants.{Less, Equal, Greater}
@@ -35,3 +35,9 @@ nexus_cmp m n = ordering_then (port_cmp m.port n.port) (group_cmp m.group n.grou
 -- the nexus of a port through a group
 abbrev pub through : Port → Group → Nexus
 through port group = record { port = port; group = group }
+
+-- an initiator port as iSCSI names one (RFC 7143, 4.2.7.1 and 10.12.5): a name of 1 to 223 bytes, and an ISID of six
+pub record IsPortName (port : Port) : Type 0 where
+  pub some : 0 < length port.name
+  pub short : length port.name ≤ 223
+  pub isid : port.isid < 2 ^ 48

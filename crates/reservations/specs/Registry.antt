@@ -1,5 +1,7 @@
 -- The registrations and the reservation of a logical unit (SPC-4, 5.13).
-use Rattle.std.specs.Prelude.{◌≡◌, ◌≤◌, ℕ, ◌+◌, ◌%◌, ◌^◌, Bool, true, false, not, ◌&&◌, ◌||◌, nat_eq, if◌then◌else◌, IsTrue, List, [], ◌∷◌, ◌++◌, length, map, filter, Option, Some, None, is_some}
+use Rattle.std.specs.Prelude.{◌≡◌, ◌<◌, ◌≤◌, ℕ, ◌+◌, ◌%◌, ◌^◌, Bool, true, false, not, ◌&&◌, ◌||◌, nat_eq}
+use Rattle.std.specs.Prelude.{if◌then◌else◌, IsTrue, List, [], ◌∷◌, ◌++◌, length, map, filter, Option, Some}
+use Rattle.std.specs.Prelude.{None, is_some}
 use Rattle.std.specs.List.{AllByRecursion, find, list_any}
 use Rattle.std.specs.Option.{option_map}
 use Rattle.std.specs.Ordering.{is_lt, is_gt}
@@ -10,7 +12,7 @@ use Rattle.reservations.specs.declared.kind.ReservationType.{ReservationType}
 use Rattle.reservations.specs.declared.registrant.Registrant.{Registrant}
 use Rattle.reservations.specs.declared.registrant.Reservation.{Reservation}
 use Rattle.reservations.specs.Kind.{is_of_all_registrants, type_code}
-use Rattle.reservations.specs.Nexus.{same_nexus, nexus_cmp}
+use Rattle.reservations.specs.Nexus.{IsPortName, same_nexus, nexus_cmp}
 
 -- The registrants are a map from nexus to key by its entries, in ascending order of nexuses. `generation` is
 -- PRGENERATION.
@@ -175,9 +177,15 @@ is_lasting false [] None = true
 is_lasting false [] (Some held) = false
 is_lasting false (x ∷ xs) reservation = false
 
+-- a registrant as it can be written down: a port as iSCSI names one, and a key of 8 bytes
+pub record IsListed (x : Registrant) : Type 0 where
+  pub port : IsPortName x.nexus.port
+  pub key : x.key < 2 ^ 64
+
 pub record IsRecord (aptpl : Bool) (registrants : List Registrant) (reservation : Option Reservation) : Type 0 where
   pub sound : IsSound registrants reservation
   pub lasting : IsTrue (is_lasting aptpl registrants reservation)
+  pub listed : AllByRecursion IsListed registrants
 
 -- power on with what lasted: PRGENERATION begins at 0
 abbrev pub powered_on : RecordValue → RegistryValue

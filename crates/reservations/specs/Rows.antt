@@ -1,11 +1,16 @@
 -- What a PERSISTENT RESERVE OUT does (SPC-4, 5.13 and 6.16), as a table. A row has a condition on the registry, the
 -- nexus that asks and the request, and an effect. Just one row fits each request.
-use Rattle.std.specs.Prelude.{◌≡◌, ℕ, Bool, true, false, not, ◌&&◌, ◌||◌, nat_eq, nat_lt, IsTrue, IsFalse, List, [], length, Option, Some, None, is_some, if◌then◌else◌}
+use Rattle.std.specs.Prelude.{◌≡◌, ℕ, Bool, true, false, not, ◌&&◌, ◌||◌, nat_eq, nat_lt, IsTrue, IsFalse}
+use Rattle.std.specs.Prelude.{List, [], length, Option, Some, None, is_some, if◌then◌else◌}
 use Rattle.std.specs.Option.{option_map}
 use Rattle.scsi_types.specs.Nexus.{Nexus}
 use Rattle.scsi_types.specs.declared.reservation.PrOutAction.{PrOutAction}
-use Rattle.scsi_types.specs.declared.reservation.PrOutAction.TheVariants.{Register, Reserve, Release, Clear, Preempt, PreemptAndAbort, RegisterAndIgnoreExistingKey}
-use Rattle.scsi_types.specs.declared.attention.UnitAttention.TheVariants.{ReservationsPreempted, ReservationsReleased, RegistrationsPreempted}
+use Rattle.scsi_types.specs.declared.reservation.PrOutAction.TheVariants.{Register, Reserve, Release, Clear}
+use Rattle.scsi_types.specs.declared.reservation.PrOutAction.TheVariants.{Preempt, PreemptAndAbort}
+use Rattle.scsi_types.specs.declared.reservation.PrOutAction.TheVariants.{RegisterAndIgnoreExistingKey}
+use Rattle.scsi_types.specs.declared.attention.UnitAttention.TheVariants.{ReservationsPreempted}
+use Rattle.scsi_types.specs.declared.attention.UnitAttention.TheVariants.{ReservationsReleased}
+use Rattle.scsi_types.specs.declared.attention.UnitAttention.TheVariants.{RegistrationsPreempted}
 use Rattle.reservations.specs.declared.table.TheConstants.{MOST_REGISTRANTS}
 use Rattle.reservations.specs.declared.notice.Notice.{Notice}
 use Rattle.reservations.specs.declared.notice.Notice.TheVariants.{Nothing, ToAll, OfPreempted}
@@ -15,7 +20,10 @@ use Rattle.reservations.specs.declared.request.PrOut.{PrOut}
 use Rattle.reservations.specs.declared.request.Told.{Told}
 use Rattle.reservations.specs.Kind.{is_of_registrants, type_of}
 use Rattle.reservations.specs.Notice.{told_of}
-use Rattle.reservations.specs.Registry.{RegistryValue, key_of, is_registered, is_key, is_held_by, is_sole_holder, is_holders_key, is_held_by_all, is_of_code, made_by, joined_by, with_key_of, others, only, without_key, without_others_of_key, left_to, counted}
+use Rattle.reservations.specs.Registry.{RegistryValue, key_of, is_registered, is_key, is_held_by}
+use Rattle.reservations.specs.Registry.{is_sole_holder, is_holders_key, is_held_by_all, is_of_code, made_by}
+use Rattle.reservations.specs.Registry.{joined_by, with_key_of, others, only, without_key}
+use Rattle.reservations.specs.Registry.{without_others_of_key, left_to, counted}
 
 -- ---- words of the conditions
 

@@ -3,12 +3,22 @@
 use Rattle.std.specs.Prelude.{◌≡◌, nat_eq, if◌then◌else◌, is_some}
 use Rattle.scsi_types.specs.Nexus.{Nexus}
 use Rattle.scsi_types.specs.declared.reservation.PrOutAction.{PrOutAction}
-use Rattle.scsi_types.specs.declared.reservation.PrOutAction.TheVariants.{Register, Reserve, Release, Clear, Preempt, PreemptAndAbort, RegisterAndIgnoreExistingKey}
+use Rattle.scsi_types.specs.declared.reservation.PrOutAction.TheVariants.{Register, Reserve, Release, Clear}
+use Rattle.scsi_types.specs.declared.reservation.PrOutAction.TheVariants.{Preempt, PreemptAndAbort}
+use Rattle.scsi_types.specs.declared.reservation.PrOutAction.TheVariants.{RegisterAndIgnoreExistingKey}
 use Rattle.reservations.specs.declared.request.PrEnd.{PrEnd}
 use Rattle.reservations.specs.declared.request.PrEnd.TheVariants.{Good, Conflict, Illegal, TableFull, NoMemory}
 use Rattle.reservations.specs.declared.request.PrOut.{PrOut}
 use Rattle.reservations.specs.Registry.{RegistryValue, key_of, is_key, is_sole_holder}
-use Rattle.reservations.specs.Rows.{PrRow, ReserveField, ParameterField, KeyConflict, RegistersNothing, RegistersNobodyMore, Registers, ChangesKey, HolderUnregisters, OtherUnregisters, Reserves, ReservesAgain, ReservesBesideAnother, ReleasesNothing, ReleasesAnotherType, Releases, Clears, PreemptField, PreemptsHolder, PreemptsAll, PreemptsKeyZero, PreemptsNobody, PreemptsRegistrants, Effect, Done, Conflicting, Refused, Full, effect, names_type, is_bad_reserve, is_bad_parameter, shows_key, is_preempting_holder, is_preempting_reservation, has_room, holds, holds_its_type, is_in, names_it}
+use Rattle.reservations.specs.Rows.{PrRow, ReserveField, ParameterField, KeyConflict, RegistersNothing}
+use Rattle.reservations.specs.Rows.{RegistersNobodyMore, Registers, ChangesKey, HolderUnregisters}
+use Rattle.reservations.specs.Rows.{OtherUnregisters, Reserves, ReservesAgain, ReservesBesideAnother}
+use Rattle.reservations.specs.Rows.{ReleasesNothing, ReleasesAnotherType, Releases, Clears, PreemptField}
+use Rattle.reservations.specs.Rows.{PreemptsHolder, PreemptsAll, PreemptsKeyZero, PreemptsNobody}
+use Rattle.reservations.specs.Rows.{PreemptsRegistrants, Effect, Done, Conflicting, Refused, Full, effect}
+use Rattle.reservations.specs.Rows.{names_type, is_bad_reserve, is_bad_parameter, shows_key}
+use Rattle.reservations.specs.Rows.{is_preempting_holder, is_preempting_reservation, has_room, holds}
+use Rattle.reservations.specs.Rows.{holds_its_type, is_in, names_it}
 
 abbrev pub row_of_leaving : RegistryValue → Nexus → PrOut → PrRow
 row_of_leaving r n q = if is_sole_holder r.reservation n then HolderUnregisters else OtherUnregisters

@@ -1,6 +1,6 @@
 //! I_T nexuses.
 ghost use Rattle.std.specs.Prelude.{◌≡◌, IfOk};
-ghost use Rattle.reservations.specs.Nexus.{nexus_cmp, same_nexus};
+ghost use Rattle.reservations.specs.Nexus.{IsPortName, nexus_cmp, same_nexus};
 
 use scsi_types::{Group, PortName};
 use std::alloc::{AllocError, Global};
@@ -16,23 +16,28 @@ pub struct Nexus {
 
 impl Model for Nexus {
     ghost use Rattle.scsi_types.specs.Nexus.{Nexus as NexusValue};
+    ghost use Rattle.reservations.specs.Nexus.{IsPortName};
 
     ghost Value = { NexusValue };
 
     ghost view = { λ n. record { port = n.port; group = n.group } };
+
+    ghost invariant = { λ n. IsPortName n.port };
 }
 
 impl Nexus {
     /// The nexus of this initiator port through this group.
     pub fn new(port: PortName, group: Group) -> Self
+        requires { IsPortName port }
         ensures { result ≡ record { port = port; group = group } }
     {
         Nexus { port, group }
     }
 
-    /// The initiator port.
+    /// The initiator port. Its name has 1 to 223 bytes, and its ISID fits six.
     pub fn port(&self) -> &PortName
-        ensures { result.now ≡ self.now.port }
+        ensures port { result.now ≡ self.now.port }
+        ensures named { IsPortName self.now.port }
     {
         &self.port
     }
@@ -46,13 +51,15 @@ impl Nexus {
 
     /// Another value of the same nexus.
     pub fn copy(&self, alloc: Global) -> Result<Nexus, AllocError>
-        ensures { IfOk result (λ nexus. nexus ≡ self.now) }
+        ensures equal { IfOk result (λ nexus. nexus ≡ self.now) }
+        ensures named { IsPortName self.now.port }
     {
         Nexus::copied(alloc, &self.port, self.group)
     }
 
     /// A nexus made of copies.
     pub(crate) fn copied(alloc: Global, port: &PortName, group: Group) -> Result<Nexus, AllocError>
+        requires { IsPortName port.now }
         ensures { IfOk result (λ nexus. nexus ≡ record { port = port.now; group = group }) }
     {
         let name = Vec::from_slice(alloc, port.name())?;

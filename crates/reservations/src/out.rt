@@ -1,6 +1,6 @@
 //! PERSISTENT RESERVE OUT.
 ghost use Rattle.std.specs.Prelude.{IsFalse};
-ghost use Rattle.reservations.specs.Nexus.{through};
+ghost use Rattle.reservations.specs.Nexus.{IsPortName, through};
 ghost use Rattle.reservations.specs.Registry.{IsAscending};
 ghost use Rattle.reservations.specs.Rows.{is_bad_reserve};
 ghost use Rattle.reservations.specs.Seen.{DoesRow};
@@ -14,7 +14,8 @@ use scsi_types::{Group, PortName, PrOutAction};
 impl Table {
     /// Does what the nexus asks.
     pub fn out(&mut self, port: &PortName, group: Group, request: PrOut) -> PrEnd
-        requires { IsAscending self.old.registrants.items }
+        requires ascending { IsAscending self.old.registrants.items }
+        requires named { IsPortName port.now }
         ensures { DoesRow row_of self.old self.new (through port.now group) request result }
     {
         if is_bad_reserve(request) {
@@ -32,6 +33,7 @@ impl Table {
     // Does what the action says, once the fields and the key have been looked at.
     fn act(&mut self, port: &PortName, group: Group, request: PrOut) -> PrEnd
         requires ascending { IsAscending self.old.registrants.items }
+        requires named { IsPortName port.now }
         requires reserve { IsFalse (is_bad_reserve request.action request) }
         ensures { DoesRow (row_of_action request.action) self.old self.new (through port.now group) request result }
     {

@@ -1,7 +1,7 @@
 //! CLEAR, PREEMPT, and PREEMPT AND ABORT (SPC-4, 5.13.11.2 to 5.13.11.5).
 ghost use Rattle.std.specs.Prelude.{◌≡◌};
 ghost use Rattle.reservations.specs.Kind.{type_of};
-ghost use Rattle.reservations.specs.Nexus.{through};
+ghost use Rattle.reservations.specs.Nexus.{IsPortName, through};
 ghost use Rattle.reservations.specs.Rows.{Clears, PreemptsAll, PreemptsHolder, PreemptsRegistrants};
 ghost use Rattle.reservations.specs.Seen.{Does, DoesRow};
 ghost use Rattle.reservations.specs.Table.{row_of_preempt};
@@ -30,6 +30,7 @@ impl Table {
 
     /// Takes registrations away, and with the holder's the reservation over. The key has been looked at.
     pub fn preempt(&mut self, port: &PortName, group: Group, request: PrOut) -> PrEnd
+        requires { IsPortName port.now }
         ensures { DoesRow row_of_preempt self.old self.new (through port.now group) request result }
     {
         let is_of_holder = self.is_holders_key(request.sakey);
@@ -59,7 +60,8 @@ impl Table {
         request: PrOut,
         kind: ReservationType,
     ) -> PrEnd
-        requires { type_of request.kind ≡ Some kind }
+        requires kind { type_of request.kind ≡ Some kind }
+        requires named { IsPortName port.now }
         ensures { Does PreemptsHolder self.old self.new (through port.now group) request result }
     {
         let notice = Notice::OfPreempted {
@@ -86,7 +88,8 @@ impl Table {
         request: PrOut,
         kind: ReservationType,
     ) -> PrEnd
-        requires { type_of request.kind ≡ Some kind }
+        requires kind { type_of request.kind ≡ Some kind }
+        requires named { IsPortName port.now }
         ensures { Does PreemptsAll self.old self.new (through port.now group) request result }
     {
         let notice = Notice::ToAll(UnitAttention::RegistrationsPreempted);

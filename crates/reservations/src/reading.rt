@@ -1,6 +1,8 @@
 //! PERSISTENT RESERVE IN.
 ghost use Rattle.std.specs.Prelude.{◌≡◌, ◌++◌, IfOk, OnOk, take};
-ghost use Rattle.reservations.specs.Reading.{capabilities_bytes, counted_bytes, descriptor_bytes, descriptor_of, full_status_bytes, held_type, holders_key, holding_or, keys_bytes, relative_port, reservation_bytes};
+ghost use Rattle.reservations.specs.Reading.{capabilities_bytes, counted_bytes, descriptor_bytes};
+ghost use Rattle.reservations.specs.Reading.{descriptor_of, full_status_bytes, held_type, holders_key};
+ghost use Rattle.reservations.specs.Reading.{holding_or, keys_bytes, relative_port, reservation_bytes};
 ghost use Rattle.reservations.specs.Seen.{value_of};
 
 use crate::table::Table;

@@ -1,6 +1,6 @@
 //! REGISTER, and REGISTER AND IGNORE EXISTING KEY (SPC-4, 5.13.7 and 5.13.11.2).
 ghost use Rattle.std.specs.Prelude.{◌≡◌, false};
-ghost use Rattle.reservations.specs.Nexus.{through};
+ghost use Rattle.reservations.specs.Nexus.{IsPortName, through};
 ghost use Rattle.reservations.specs.Registry.{IsAscending, is_registered};
 ghost use Rattle.reservations.specs.Rows.{ChangesKey, HolderUnregisters, Registers};
 ghost use Rattle.reservations.specs.Seen.{Does, DoesRow};
@@ -14,7 +14,8 @@ use scsi_types::{Group, PortName};
 impl Table {
     /// Registers a nexus, changes its key or unregisters it. The reservation key has been looked at.
     pub fn register(&mut self, port: &PortName, group: Group, request: PrOut) -> PrEnd
-        requires { IsAscending self.old.registrants.items }
+        requires ascending { IsAscending self.old.registrants.items }
+        requires named { IsPortName port.now }
         ensures { DoesRow row_of_register self.old self.new (through port.now group) request result }
     {
         if self.key_of(port, group).is_some() {
@@ -36,6 +37,7 @@ impl Table {
     // A nexus that isn't registered registers.
     fn join(&mut self, port: &PortName, group: Group, request: PrOut) -> PrEnd
         requires ascending { IsAscending self.old.registrants.items }
+        requires named { IsPortName port.now }
         requires new { is_registered self.old.registrants.items (through port.now group) ≡ false }
         ensures { Does Registers self.old self.new (through port.now group) request result }
     {

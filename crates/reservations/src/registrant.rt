@@ -1,5 +1,7 @@
 //! Registrants, and reservations.
 ghost use Rattle.std.specs.Prelude.{◌≡◌, IfOk};
+ghost use Rattle.std.specs.List.{AllByRecursion};
+ghost use Rattle.reservations.specs.Registry.{IsListed};
 
 use crate::{Nexus, ReservationType};
 use std::alloc::{AllocError, Global};
@@ -22,13 +24,10 @@ pub struct Reservation {
 impl Registrant {
     /// Another value of the same registrant.
     pub fn copy(&self, alloc: Global) -> Result<Registrant, AllocError>
-        ensures { IfOk result (λ x. x ≡ self.now) }
+        ensures equal { IfOk result (λ x. x ≡ self.now) }
+        ensures listed { IfOk result (λ x. IsListed x) }
     {
-        let nexus = self.nexus.copy(alloc)?;
-        Ok(Registrant {
-            nexus,
-            key: self.key,
-        })
+        Ok(listed(self.nexus.copy(alloc)?, self.key))
     }
 }
 
@@ -48,12 +47,22 @@ impl Reservation {
     }
 }
 
+// A registrant by its parts: its port is named as iSCSI names one, and its key has 8 bytes.
+fn listed(nexus: Nexus, key: u64) -> Registrant
+    ensures is { result ≡ record { nexus = nexus; key = key } }
+    ensures listed { IsListed result }
+{
+    let _port = nexus.port();
+    Registrant { nexus, key }
+}
+
 /// Another value of the same registrants.
 pub(crate) fn copy_registrants(
     alloc: Global,
     registrants: &[Registrant],
 ) -> Result<Vec<Registrant>, AllocError>
-    ensures { IfOk result (λ v. v.items ≡ registrants.now) }
+    ensures equal { IfOk result (λ v. v.items ≡ registrants.now) }
+    ensures listed { IfOk result (λ v. AllByRecursion IsListed registrants.now) }
 {
     let mut copies = Vec::with_capacity(alloc, registrants.len())?;
     for x in registrants {

@@ -1,7 +1,7 @@
 //! The registry of a unit.
 ghost use Rattle.std.specs.Prelude.{◌≡◌, ◌↔◌, IfOk, IsTrue, length, take};
 ghost use Rattle.reservations.specs.Access.{MayAccess};
-ghost use Rattle.reservations.specs.Nexus.{through};
+ghost use Rattle.reservations.specs.Nexus.{IsPortName, through};
 ghost use Rattle.reservations.specs.Reading.{capabilities_bytes, full_status_bytes, keys_bytes, reservation_bytes};
 ghost use Rattle.reservations.specs.Registry.{IsSound, empty, powered_on, reserved_type, to_last};
 ghost use Rattle.reservations.specs.Table.{IsAnswer, effect_of};
@@ -90,8 +90,9 @@ impl Registry {
     }
 
     /// Does a PERSISTENT RESERVE OUT (SPC-4, 6.16) of the nexus of a port through a group. A refusal, and a want of
-    /// memory, changes nothing.
+    /// memory, changes nothing. The port has a name of 1 to 223 bytes, and its ISID fits six.
     pub fn out(&mut self, port: &PortName, group: Group, request: PrOut) -> PrEnd
+        requires { IsPortName port.now }
         ensures { IsAnswer result (effect_of self.old (through port.now group) request) self.old self.new }
     {
         self.table.out(port, group, request)

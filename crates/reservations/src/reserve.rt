@@ -1,7 +1,7 @@
 //! RESERVE (SPC-4, 5.13.9) and RELEASE (SPC-4, 5.13.11.2).
 ghost use Rattle.std.specs.Prelude.{◌≡◌, IfOk};
 ghost use Rattle.reservations.specs.Kind.{type_of};
-ghost use Rattle.reservations.specs.Nexus.{through};
+ghost use Rattle.reservations.specs.Nexus.{IsPortName, through};
 ghost use Rattle.reservations.specs.Registry.{made_by};
 ghost use Rattle.reservations.specs.Seen.{DoesRow};
 ghost use Rattle.reservations.specs.Table.{row_of_release, row_of_reserve};
@@ -18,6 +18,7 @@ pub fn reservation_by(
     group: Group,
     kind: ReservationType,
 ) -> Result<Reservation, AllocError>
+    requires { IsPortName port.now }
     ensures { IfOk result (λ made. made ≡ made_by (through port.now group) kind) }
 {
     if kind.is_of_all_registrants() {
@@ -39,7 +40,8 @@ impl Table {
         request: PrOut,
         kind: ReservationType,
     ) -> PrEnd
-        requires { type_of request.kind ≡ Some kind }
+        requires kind { type_of request.kind ≡ Some kind }
+        requires named { IsPortName port.now }
         ensures { DoesRow row_of_reserve self.old self.new (through port.now group) request result }
     {
         if self.reservation.is_some() {

@@ -1,8 +1,9 @@
 //! The registrants in their order.
 ghost use Rattle.std.specs.Prelude.{◌≡◌, OnOk, OnErr, false, length, filter};
 ghost use Rattle.std.specs.Ordering.{is_lt};
-ghost use Rattle.reservations.specs.Nexus.{nexus_cmp, through};
-ghost use Rattle.reservations.specs.Registry.{IsAscending, is_registered, joined_by, only, others, with_key_of, without_key, without_others_of_key};
+ghost use Rattle.reservations.specs.Nexus.{IsPortName, nexus_cmp, through};
+ghost use Rattle.reservations.specs.Registry.{IsAscending, is_registered, joined_by, only, others};
+ghost use Rattle.reservations.specs.Registry.{with_key_of, without_key, without_others_of_key};
 
 use crate::{Nexus, Registrant};
 use scsi_types::{Group, PortName};
@@ -27,6 +28,7 @@ pub fn insert_registrant(
     key: u64,
 ) -> Result<(), AllocError>
     requires ascending { IsAscending registrants.old.items }
+    requires named { IsPortName port.now }
     requires new { is_registered registrants.old.items (through port.now group) ≡ false }
     ensures ok { OnOk result (registrants.new.items ≡ joined_by (through port.now group) key registrants.old.items) }
     ensures err { OnErr result (registrants.new.items ≡ registrants.old.items) }

@@ -3,7 +3,8 @@ ghost use Rattle.std.specs.Prelude.{◌≡◌, ◌+◌, ◌%◌, ◌^◌, IfOk, 
 ghost use Rattle.std.specs.Option.{unwrap_or};
 ghost use Rattle.reservations.specs.Nexus.{through};
 ghost use Rattle.reservations.specs.Notice.{telling_of, told_of};
-ghost use Rattle.reservations.specs.Registry.{is_held_by, is_held_by_all, is_holders_key, is_key, is_of_code, is_own, is_sole_holder, key_of, left_to};
+ghost use Rattle.reservations.specs.Registry.{is_held_by, is_held_by_all, is_holders_key, is_key, is_of_code};
+ghost use Rattle.reservations.specs.Registry.{is_own, is_sole_holder, key_of, left_to};
 ghost use Rattle.reservations.specs.Rows.{of_end};
 
 use crate::{Nexus, Notice, Registrant, Reservation, Told};

@@ -1,4 +1,6 @@
 //! The data of PERSISTENT RESERVE IN, byte for byte; flags; the table's end; and what lasts.
+ghost use Rattle.reservations.specs.Nexus.{IsPortName};
+
 use crate::script::{A, Want, ends_so, port_of};
 use reservations::{PrEnd, PrOut, Registry};
 use scsi_types::{Group, NoMemory, PortName, PrOutAction};
@@ -27,7 +29,9 @@ const RESERVE: PrOut = PrOut {
 };
 
 // A registry that A did these requests to.
-fn after(alloc: Global, port: &PortName, requests: &[PrOut]) -> Result<Registry, NoMemory> {
+fn after(alloc: Global, port: &PortName, requests: &[PrOut]) -> Result<Registry, NoMemory>
+    requires { IsPortName port.now }
+{
     let mut registry = Registry::new(alloc)?;
     for request in requests {
         if let PrEnd::NoMemory = registry.out(port, Group::One, *request) {

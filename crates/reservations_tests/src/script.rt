@@ -1,11 +1,14 @@
 //! The form of a script, and the one that runs it.
+ghost use Rattle.std.specs.Prelude.{IfOk};
+ghost use Rattle.reservations.specs.Nexus.{IsPortName};
+
 use reservations::{Nexus, PrEnd, PrOut, Registry, Told};
 use scsi_types::{Group, NoMemory, PortName, PrOutAction, UnitAttention};
 use std::alloc::Global;
 use std::process::Abort;
 
 /// A nexus of a script: the last letter of its name, its ISID and its group.
-pub type Who = (u8, u64, Group);
+pub type Who = (u8, u32, Group);
 
 pub const A: Who = (b'a', 0, Group::One);
 
@@ -85,10 +88,12 @@ macro_rules! steps {
 pub(crate) use steps;
 
 /// The port of a nexus.
-pub fn port_of(alloc: Global, who: Who) -> Result<PortName, NoMemory> {
+pub fn port_of(alloc: Global, who: Who) -> Result<PortName, NoMemory>
+    ensures { IfOk result (λ port. IsPortName port) }
+{
     let mut name = Vec::from_slice(alloc, b"iqn.2000-01.test:")?;
     name.push(who.0)?;
-    Ok(PortName::new(name, who.1))
+    Ok(PortName::new(name, u64::from(who.1)))
 }
 
 /// Runs a script from where the registry stands.

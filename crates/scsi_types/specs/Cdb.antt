@@ -123,10 +123,10 @@ Means cdb (Ok c) = (form : CdbForm) × HasForm cdb form × Asks form cdb c
 Means cdb (Err (BadField op)) = (form : CdbForm) × HasForm cdb form × Decodes form cdb None × (op ≡ op_of form)
 Means cdb (Err UnknownOpcode) = (form : CdbForm) → HasForm cdb form → ⊥
 
--- a parameter list that SET TARGET PORT GROUPS may have: four bytes, and four for each of 64 groups at most
-pub record IsGroupList (list_length : ℕ) : Type 0 where
-  pub whole : list_length % 4 ≡ 0
-  pub few : list_length ≤ 260
+-- a length that the parameter list of SET TARGET PORT GROUPS may have: four bytes, and four for each of 64 groups at
+-- most
+abbrev pub is_group_list : ℕ → Bool
+is_group_list list_length = list_length % 4 == 0 && nat_le list_length 260
 
 -- the bytes of data that a command needs from its initiator; a CDB that asks for nothing needs none
 abbrev pub need_of : Result Command CdbFault → ℕ
@@ -144,6 +144,5 @@ need_of (Ok (PersistentReserveIn action allocation)) = 0
 need_of (Ok (PersistentReserveOut action scope kind list_length)) = if list_length == 24 then 24 else 0
 need_of (Ok (ReportLuns select allocation)) = 0
 need_of (Ok (ReportTargetPortGroups allocation)) = 0
-need_of (Ok (SetTargetPortGroups list_length)) =
-    if list_length % 4 == 0 && nat_le list_length 260 then list_length else 0
+need_of (Ok (SetTargetPortGroups list_length)) = if is_group_list list_length then list_length else 0
 need_of (Err fault) = 0

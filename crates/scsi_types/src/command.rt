@@ -1,6 +1,6 @@
 //! Commands.
-ghost use Rattle.std.specs.Prelude.{◌≡◌, ◌↔◌, IsTrue, Ok};
-ghost use Rattle.scsi_types.specs.Cdb.{need_of, IsGroupList};
+ghost use Rattle.std.specs.Prelude.{◌≡◌, Ok};
+ghost use Rattle.scsi_types.specs.Cdb.{is_group_list, need_of};
 
 use crate::{InquiryPage, LunSelect, ModeHeader, ModePage, PageControl, PrInAction, PrOutAction};
 use thiserror::Error;
@@ -137,9 +137,9 @@ const RESERVE_LIST: u32 = 24;
 /// The most bytes of the parameter list of SET TARGET PORT GROUPS that are taken.
 const MOST_GROUP_LIST: u32 = 260;
 
-// A length that the parameter list of SET TARGET PORT GROUPS may have.
-fn is_group_list(list_length: u32) -> bool
-    ensures { IsTrue result ↔ IsGroupList list_length }
+/// Whether the parameter list of SET TARGET PORT GROUPS may have so many bytes: a multiple of 4 up to 260.
+pub fn is_group_list(list_length: u32) -> bool
+    ensures { result ≡ is_group_list list_length }
 {
     list_length % 4 == 0 && list_length <= MOST_GROUP_LIST
 }

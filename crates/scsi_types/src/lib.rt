@@ -21,7 +21,7 @@ mod status;
 
 pub use attention::UnitAttention;
 pub use cdb::decode;
-pub use command::{Asked, CdbFault, Command, Op, need};
+pub use command::{Asked, CdbFault, Command, Op, is_group_list, need};
 pub use form::CdbForm;
 pub use lun::Lun;
 pub use memory::NoMemory;

@@ -45,7 +45,7 @@ pub called_on : (this f : Collecting) (d : List ℕ) (done : Collected) (bytes :
 called_on this f d done bytes a fed_is finished same_bytes calls =
     let command_is : done.command ≡ this.command = finished.command_is ∙ ap (λ (c : Collecting). c.command) fed_is in
     let data_is : call_data bytes ≡ data_for this.command (need_of done.asked) (this.bytes ++ d) =
-        same_bytes ∙ finished.bytes_are ∙ ap (λ (c : Collecting). data_for c.command (need_of done.asked) c.bytes) fed_is in
+    same_bytes ∙ finished.bytes_are ∙ ap (λ (c : Collecting). data_for c.command (need_of done.asked) c.bytes) fed_is in
     subst (λ (p : CommandHeader). Calls p done.asked (this.bytes ++ d) a) command_is
     (calls (this.bytes ++ d) (data_is ∙ ap (λ (p : CommandHeader). data_for p (need_of done.asked) (this.bytes ++ d)) (sym command_is)))
 
@@ -68,8 +68,8 @@ not_filled : (this f : Collecting) (d : List ℕ) (request : R2tHeader) (b : Boo
     → length (this.bytes ++ d) < request.offset + request.desired_length
 not_filled this f d request b e g k unfilled =
     let told : IfSome (Some request) (λ r. b ≡ nat_le (r.offset + r.desired_length) (length (this.bytes ++ d))) =
-        subst (λ (o : Option R2tHeader). IfSome o (λ r. b ≡ nat_le (r.offset + r.desired_length) (length (this.bytes ++ d)))) e
-        (subst (λ (c : Collecting). IfSome c.outstanding (λ r. b ≡ nat_le (r.offset + r.desired_length) (length c.bytes))) g k) in
+    subst (λ (o : Option R2tHeader). IfSome o (λ r. b ≡ nat_le (r.offset + r.desired_length) (length (this.bytes ++ d)))) e
+    (subst (λ (c : Collecting). IfSome c.outstanding (λ r. b ≡ nat_le (r.offset + r.desired_length) (length c.bytes))) g k) in
     leb-false (request.offset + request.desired_length) (length (this.bytes ++ d)) (sym told ∙ unfilled)
 
 is_filled : (this f : Collecting) (d : List ℕ) (request : R2tHeader) (b : Bool) → this.outstanding ≡ Some request → f ≡ fed this d
@@ -77,8 +77,8 @@ is_filled : (this f : Collecting) (d : List ℕ) (request : R2tHeader) (b : Bool
     → request.offset + request.desired_length ≤ length (this.bytes ++ d)
 is_filled this f d request b e g k full_of =
     let told : IfSome (Some request) (λ r. b ≡ nat_le (r.offset + r.desired_length) (length (this.bytes ++ d))) =
-        subst (λ (o : Option R2tHeader). IfSome o (λ r. b ≡ nat_le (r.offset + r.desired_length) (length (this.bytes ++ d)))) e
-        (subst (λ (c : Collecting). IfSome c.outstanding (λ r. b ≡ nat_le (r.offset + r.desired_length) (length c.bytes))) g k) in
+    subst (λ (o : Option R2tHeader). IfSome o (λ r. b ≡ nat_le (r.offset + r.desired_length) (length (this.bytes ++ d)))) e
+    (subst (λ (c : Collecting). IfSome c.outstanding (λ r. b ≡ nat_le (r.offset + r.desired_length) (length c.bytes))) g k) in
     leb-true (request.offset + request.desired_length) (length (this.bytes ++ d)) (sym told ∙ full_of)
 
 module _ (s : Counters) (at : ℕ) (x : DataOutHeader) (d : List ℕ) (can : CanTake s at x d) (this : Collecting) (w rest : List Collecting)

@@ -172,8 +172,7 @@ module _ {T : Type 0} (leads : T → Asking → T → Type 0) (s mid s' : Counte
       → OnAnswer mid c.task.command c.task.need answer a' s' → TurnOnCall t p asked bytes call_is (sent_by b a'.pdus) s' × (a'.end ≡ end_by answer)
   on_call t p asked bytes k next replied =
       let is = is_call c p asked bytes a.call some k.call in
-      let reply = reply_is c.task.command c.task.need answer replied in
-      (
+      let reply = reply_is c.task.command c.task.need answer replied in (
         record {
           unit = c.unit;
           names = is.unit;

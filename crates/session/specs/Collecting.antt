@@ -1,5 +1,6 @@
 -- How the data of a command is collected (RFC 7143, 4.2.4.2, 11.7 and 11.8): its immediate data, then by R2T.
-use Rattle.std.specs.Prelude.{◌≡◌, ℕ, ◌+◌, ◌-◌, ◌<◌, ◌≤◌, min, Bool, true, false, not, IsTrue, List, [], ◌∷◌, length, take, Option, Some, None, Result}
+use Rattle.std.specs.Prelude.{◌≡◌, ℕ, ◌+◌, ◌-◌, ◌<◌, ◌≤◌, min, Bool, true, false, not, IsTrue, List, [], ◌∷◌}
+use Rattle.std.specs.Prelude.{length, take, Option, Some, None, Result}
 use Rattle.std.specs.List.{slice_get, sum_by}
 use Rattle.scsi_types.specs.Cdb.{Means, need_of}
 use Rattle.scsi_types.specs.Lun.{NamesUnit}
@@ -40,7 +41,8 @@ asked_to immediate rs = immediate + sizes rs
 
 -- The call of a command: of the unit that its LUN names, for what its CDB asks, with its data, once; of a write that
 -- expects to send what it needs all of it, which its immediate data and its R2Ts tile.
-pub record IsCalledFor (p : CommandHeader) (asked : Result Command CdbFault) (immediate : ℕ) (bytes : List ℕ) (rs : List R2tHeader) (ended : Bool) (c : Asking) : Type 0 where
+pub record IsCalledFor (p : CommandHeader) (asked : Result Command CdbFault) (immediate : ℕ) (bytes : List ℕ)
+    (rs : List R2tHeader) (ended : Bool) (c : Asking) : Type 0 where
   pub ends : ended ≡ true
   pub unit : Option ℕ
   pub names : NamesUnit p.lun unit
@@ -63,7 +65,8 @@ HasCalls p asked immediate bytes rs ended (c ∷ []) = IsCalledFor p asked immed
 HasCalls p asked immediate bytes rs ended (c ∷ (d ∷ cs)) = ⊥
 
 -- what is right of a command with these R2Ts and calls so far, of whose data so much came
-pub record IsCollected (burst : ℕ) (p : CommandHeader) (asked : Result Command CdbFault) (immediate : ℕ) (bytes : List ℕ) (rs : List R2tHeader) (ended : Bool) (cs : List Asking) : Type 0 where
+pub record IsCollected (burst : ℕ) (p : CommandHeader) (asked : Result Command CdbFault) (immediate : ℕ)
+    (bytes : List ℕ) (rs : List R2tHeader) (ended : Bool) (cs : List Asking) : Type 0 where
   pub requested : (i : ℕ) (r : R2tHeader) → slice_get rs i ≡ Some r → IsRequest burst p (need_of asked) immediate (length bytes) rs i r
   pub outcome : HasCalls p asked immediate bytes rs ended cs
 

@@ -117,7 +117,7 @@ pub data OnOpened (s : Counters) (p : CommandHeader) (asked : Result Command Cdb
       → OnOpened s p asked d a s'
   asks : HasToCollect p (need_of asked) (length d) → (next : R2tHeader)
       → Asks (after_collecting (s.standing.collecting ++ waits p d next 1 ∷ []) (after_command p s)) p (need_of asked)
-          (length d) 0 next a
+      (length d) 0 next a
       → s' ≡ after_r2t (after_collecting (s.standing.collecting ++ waits p d next 1 ∷ []) (after_command p s))
       → OnOpened s p asked d a s'
   turns_away : HasToCollect p (need_of asked) (length d)
@@ -153,9 +153,9 @@ pub data OnFed (s : Counters) (front : List Collecting) (this : Collecting) (bac
       → s' ≡ after_collecting (front ++ (fed this d ∷ back)) s → OnFed s front this back asked d end a s'
   asks_on : length (this.bytes ++ d) ≡ end → length (this.bytes ++ d) < need_of asked → (next : R2tHeader)
       → Asks (after_collecting (front ++ (waits this.command (this.bytes ++ d) next (wrap (this.requests + 1)) ∷ back)) s)
-          this.command (need_of asked) (length (this.bytes ++ d)) this.requests next a
+      this.command (need_of asked) (length (this.bytes ++ d)) this.requests next a
       → s' ≡ after_r2t (after_collecting
-          (front ++ (waits this.command (this.bytes ++ d) next (wrap (this.requests + 1)) ∷ back)) s)
+      (front ++ (waits this.command (this.bytes ++ d) next (wrap (this.requests + 1)) ∷ back)) s)
       → OnFed s front this back asked d end a s'
   calls_now : need_of asked ≤ length (this.bytes ++ d) → Calls this.command asked (this.bytes ++ d) a
       → s' ≡ after_collecting (front ++ back) s → OnFed s front this back asked d end a s'

@@ -76,12 +76,12 @@ pub data TurnOpened (s : Counters) (p : CommandHeader) (asked : Result Command C
       → TurnOpened s p asked d call outs s'
   asks : HasToCollect p (need_of asked) (length d) → (next : R2tHeader)
       → TurnAsks (after_collecting (s.standing.collecting ++ waits p d next 1 ∷ []) (after_command p s)) p
-          (need_of asked) (length d) 0 next call outs
+      (need_of asked) (length d) 0 next call outs
       → s' ≡ after_r2t (after_collecting (s.standing.collecting ++ waits p d next 1 ∷ []) (after_command p s))
       → TurnOpened s p asked d call outs s'
   turns_away : HasToCollect p (need_of asked) (length d)
       → TurnUncalled call outs (reply_with (after_command p s) p (need_of asked) [] busy) s'
-          (after_status (after_command p s))
+      (after_status (after_command p s))
       → TurnOpened s p asked d call outs s'
 
 pub record TurnOnCommand (s : Counters) (p : CommandHeader) (d : List ℕ) (call : Option Asking) (outs : List Out)
@@ -98,10 +98,10 @@ pub data TurnFed (s : Counters) (front : List Collecting) (this : Collecting) (b
       → TurnFed s front this back asked d end call outs s'
   asks_on : length (this.bytes ++ d) ≡ end → length (this.bytes ++ d) < need_of asked → (next : R2tHeader)
       → TurnAsks (after_collecting
-          (front ++ (waits this.command (this.bytes ++ d) next (wrap (this.requests + 1)) ∷ back)) s)
-          this.command (need_of asked) (length (this.bytes ++ d)) this.requests next call outs
+      (front ++ (waits this.command (this.bytes ++ d) next (wrap (this.requests + 1)) ∷ back)) s)
+      this.command (need_of asked) (length (this.bytes ++ d)) this.requests next call outs
       → s' ≡ after_r2t (after_collecting
-          (front ++ (waits this.command (this.bytes ++ d) next (wrap (this.requests + 1)) ∷ back)) s)
+      (front ++ (waits this.command (this.bytes ++ d) next (wrap (this.requests + 1)) ∷ back)) s)
       → TurnFed s front this back asked d end call outs s'
   calls_now : need_of asked ≤ length (this.bytes ++ d)
       → TurnOnCall (after_collecting (front ++ back) s) this.command asked (this.bytes ++ d) call outs s'

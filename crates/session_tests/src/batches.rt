@@ -1,6 +1,7 @@
 //! How the answers leave: those of commands that came together in one write, and a long one in parts.
-use crate::run::{Answer, Begin, FROM_ONE, Fixed};
-use session::{End, Watched, serve_stream};
+use crate::run::{Answer, Begin, FROM_ONE, Fixed, portal};
+use login::Kind;
+use session::{End, Identity, ResetAnswer, Watched, serve_stream};
 use std::alloc::Global;
 use std::io;
 use std::io::{ErrorKind, Write};
@@ -152,13 +153,20 @@ fn check(rt: &impl Abort, alloc: Global, batch: &Batch) -> Result<(), Fail> {
         sizes: Vec::new(alloc),
         fail_at: batch.fail_at,
     });
-    let mut target = Fixed::new(alloc, batch.answer);
+    let mut target = Fixed::new(alloc, batch.answer, ResetAnswer::Done);
+    let me = Identity {
+        kind: Kind::Normal,
+        target_name: b"iqn.2000-01.test:array",
+        first: &[portal(3260)],
+        second: &[],
+    };
     let end = serve_stream(
         alloc,
         &mut source,
         &mut sink,
         &mut target,
         batch.start.start()?,
+        &me,
     )?;
     assert_eq!(rt; end, batch.end, "{}", batch.name);
     assert_eq!(rt;

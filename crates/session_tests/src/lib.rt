@@ -4,9 +4,21 @@
 #[cfg(test)]
 mod answers;
 #[cfg(test)]
+mod batches;
+#[cfg(test)]
+mod data_out_faults;
+#[cfg(test)]
+mod data_outs;
+#[cfg(test)]
 mod logout;
 #[cfg(test)]
+mod long_write;
+#[cfg(test)]
 mod nop;
+#[cfg(test)]
+mod r2ts;
+#[cfg(test)]
+mod reads;
 #[cfg(test)]
 mod rejects;
 #[cfg(test)]
@@ -14,10 +26,16 @@ mod residuals;
 #[cfg(test)]
 mod run;
 #[cfg(test)]
+mod runs;
+#[cfg(test)]
 mod streams;
 #[cfg(test)]
 mod task_management;
 #[cfg(test)]
+mod tasks;
+#[cfg(test)]
 mod text;
 #[cfg(test)]
 mod window;
+#[cfg(test)]
+mod write_streams;

@@ -230,38 +230,6 @@ const ROWS: &[Row] = &[
         end: End::Protocol,
         ..PLAIN
     },
-    Row {
-        name: "a write whose data did not all come",
-        input: &[
-            PduRow(
-                &TEST_UNIT_READY,
-                &[
-                    (1, &[WRITES]),
-                    (6, &[1, 0]),
-                    (20, &[0, 0, 2, 0]),
-                    (32, &[0x2A, 0, 0, 0, 0, 5, 0, 0, 1]),
-                ],
-                Segment::Pattern(256),
-            ),
-            PduRow(&TEST_UNIT_READY, &[], Segment::None),
-        ],
-        asked: &[],
-        output: &[PduRow(
-            &REJECT,
-            &[(2, &[4])],
-            Segment::Rejected(
-                &TEST_UNIT_READY,
-                &[
-                    (1, &[WRITES]),
-                    (6, &[1, 0]),
-                    (20, &[0, 0, 2, 0]),
-                    (32, &[0x2A, 0, 0, 0, 0, 5, 0, 0, 1]),
-                ],
-            ),
-        )],
-        end: End::Protocol,
-        ..PLAIN
-    },
 ];
 
 #[test]

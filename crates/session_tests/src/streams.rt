@@ -1,7 +1,6 @@
 //! Sources and sinks that cut the bytes anywhere, and fail at each call in turn.
-use crate::run::{Answer, FROM_ONE, serve};
-use login::Kind;
-use session::{End, ResetAnswer};
+use crate::run::{PLAIN, serve};
+use session::End;
 use std::alloc::Global;
 use std::io::ErrorKind;
 use std::process::Abort;
@@ -45,15 +44,7 @@ fn expect(
     let output = spelled(alloc, OUTPUT)?;
     let front = input.get(..came).ok_or("96 bytes come")?;
     let want = output.get(..written).ok_or("96 bytes go out")?;
-    let ran = serve(
-        alloc,
-        front,
-        reads,
-        writes,
-        (Kind::Normal, 1, FROM_ONE),
-        Answer::Good(0),
-        ResetAnswer::Done,
-    )?;
+    let ran = serve(alloc, front, reads, writes, &PLAIN)?;
     assert_eq!(rt; ran.end, end, "{came} bytes, {reads:?}, {writes:?}");
     assert_eq!(rt;
         ran.output.as_slice(),

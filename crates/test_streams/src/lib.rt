@@ -7,7 +7,7 @@ mod rows;
 
 pub use calls::{Calls, FakeReader, FakeWriter, ONE_BYTE, WHOLE};
 pub use pdus::{
-    CHECK_CONDITION, DATA_IN, F_BIT, GOOD, OVERFLOW, READ_AND_WRITE, READS, REJECT,
-    TEST_UNIT_READY, UNDERFLOW, WRITES,
+    CHECK_CONDITION, DATA_IN, DATA_OUT, F_BIT, GOOD, OVERFLOW, R2T, READ_AND_WRITE, READS, REJECT,
+    TEST_UNIT_READY, UNDERFLOW, WRITE, WRITES,
 };
 pub use rows::{PduRow, RowError, Segment, pattern, spelled};

@@ -12,6 +12,8 @@ pub enum Segment<'a> {
     Runs(&'a [(usize, u8)]),
     /// So many of the bytes 0, 1, 2, .. modulo 251, which no shift of them is.
     Pattern(usize),
+    /// From this place of the pattern on, so many of its bytes.
+    PatternAt(usize, usize),
     /// The header segment of a PDU that is rejected, and what differs from it.
     Rejected(&'a [u8; 48], &'a [(usize, &'a [u8])]),
 }
@@ -53,7 +55,8 @@ pub fn spelled(alloc: Global, rows: &[PduRow<'_>]) -> Result<Vec<u8>, RowError> 
             Segment::None => {}
             Segment::Bytes(segment) => bytes.extend_from_slice(segment)?,
             Segment::Runs(runs) => put_runs(&mut bytes, runs)?,
-            Segment::Pattern(len) => put_pattern(&mut bytes, len)?,
+            Segment::Pattern(len) => put_pattern(&mut bytes, 0, len)?,
+            Segment::PatternAt(place, len) => put_pattern(&mut bytes, place, len)?,
             Segment::Rejected(bhs, changes) => {
                 let segment = changed(bhs, changes)?;
                 bytes.extend_from_slice(&segment)?;
@@ -95,9 +98,10 @@ fn put_runs(bytes: &mut Vec<u8>, runs: &[(usize, u8)]) -> Result<(), AllocError>
     Ok(())
 }
 
-fn put_pattern(bytes: &mut Vec<u8>, len: usize) -> Result<(), AllocError> {
+// Appends so many bytes of the pattern, from this place on.
+fn put_pattern(bytes: &mut Vec<u8>, place: usize, len: usize) -> Result<(), AllocError> {
     for i in 0..len {
-        bytes.push((i % 251) as u8)?;
+        bytes.push((place.wrapping_add(i) % 251) as u8)?;
     }
     Ok(())
 }
@@ -105,6 +109,6 @@ fn put_pattern(bytes: &mut Vec<u8>, len: usize) -> Result<(), AllocError> {
 /// So many bytes of the pattern.
 pub fn pattern(alloc: Global, len: usize) -> Result<Vec<u8>, AllocError> {
     let mut bytes = Vec::new(alloc);
-    put_pattern(&mut bytes, len)?;
+    put_pattern(&mut bytes, 0, len)?;
     Ok(bytes)
 }

@@ -1,6 +1,10 @@
+pub mod Changes
 pub mod Places
 pub mod ReadBack
 pub mod Order
+pub mod Lasting
+pub mod Same
+pub mod Saves
 pub mod Steps
 pub mod Told
 pub mod Works

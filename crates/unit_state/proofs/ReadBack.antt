@@ -14,7 +14,8 @@ use Rattle.unit_state.specs.Refusal.{refusal, request}
 use Rattle.unit_state.proofs.Order.{ranged, within}
 
 -- a READ after the WRITE
-module _ (s : UnitState) (session serial : ℕ) (by_group : Group) (reader next : ℕ) (through : Group) (lba blocks : ℕ) (fua past : Bool) (bytes none : List ℕ) where
+module _ (s : UnitState) (session serial : ℕ) (by_group : Group) (reader next : ℕ) (through : Group) (lba blocks : ℕ)
+    (fua past : Bool) (bytes none : List ℕ) where
   abbrev wrote : UnitState
   wrote = after s (Command session serial by_group (Ok (Write lba blocks fua)) bytes Fine)
 
@@ -25,6 +26,8 @@ module _ (s : UnitState) (session serial : ℕ) (by_group : Group) (reader next 
       → refusal wrote.control (request reader (Ok (Read lba blocks past)) none) ≡ None
       → reply_to wrote (Command reader next through (Ok (Read lba blocks past)) none Fine) ≡ Some (good (take (512 * blocks) bytes))
   read_after whole h reads =
-      let inside : lba + blocks ≤ s.control.total = within s.control.total range (ranged s.control (request session (Ok (Write lba blocks fua)) bytes) h) in
-      let read : range_bytes (written s.blocks lba (cut blocks bytes)) lba blocks ≡ take (512 * blocks) bytes = written_is_read s.blocks lba blocks bytes (omega (arith, whole, inside)) in
+      let inside : lba + blocks ≤ s.control.total =
+      within s.control.total range (ranged s.control (request session (Ok (Write lba blocks fua)) bytes) h) in
+      let read : range_bytes (written s.blocks lba (cut blocks bytes)) lba blocks ≡ take (512 * blocks) bytes =
+      written_is_read s.blocks lba blocks bytes (omega (arith, whole, inside)) in
       rw reads (rw h (ap (λ (b : List ℕ). let o : Option ReplyValue = Some (good b) in o) read))

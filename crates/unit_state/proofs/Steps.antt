@@ -1,67 +1,143 @@
 -- A step of the unit is an entry of the model.
-use Rattle.std.proofs.Common.{◌≡◌, ℕ, Bool, List, None, Ok, Err, Result, IfOk, OnErr, refl, sym, subst, ap, ◌∙◌}
+use Rattle.std.specs.Prelude.{IsTrue}
+use Rattle.std.proofs.Common.{◌≡◌, ℕ, Bool, false, List, None, Ok, Err, Result, IfOk, OnErr, refl, sym, subst, ap, ◌∙◌}
+use Rattle.access_states.specs.AccessMap.{owner_of}
+use Rattle.aptpl_file.specs.Lasts.{EachOutcomeHolds, FileValue, LastsAmong}
+use Rattle.aptpl_file.specs.LastsLaws.{each_outcome_holds}
+use Rattle.reservations.specs.Registry.{RecordValue}
 use Rattle.scsi_types.specs.ReplyValue.{ReplyValue}
 use Rattle.scsi_types.specs.declared.names.Group.{Group}
 use Rattle.scsi_types.specs.declared.command.Command.{Command as ScsiCommand}
 use Rattle.scsi_types.specs.declared.command.CdbFault.{CdbFault}
 use Rattle.unit_state.specs.declared.refusal.Refusal.{Refusal}
-use Rattle.unit_state.specs.State.{ControlValue, UnitState, unit_of}
-use Rattle.unit_state.specs.Choice.{choice_of}
+use Rattle.unit_state.specs.State.{ControlValue, UnitState, UnitValue, state_of, unit_of}
+use Rattle.unit_state.specs.Choice.{Choice, choice_of}
 use Rattle.unit_state.specs.Refusal.{Request, request, refusal, refusal_reply, refusal_control}
 use Rattle.unit_state.specs.Route.{IsAdmitted, IsRefused}
-use Rattle.unit_state.specs.Entry.{IsNext, pass}
+use Rattle.unit_state.specs.Entry.{Entry, Command, IsNext, pass}
 use Rattle.unit_state.specs.Answer.{IsAnswerWith, IsAnswer, IsServed}
-use Rattle.unit_state.specs.Step.{IsStep, OnRefusal, MayTake, TakesMemory, entry_of}
+use Rattle.unit_state.specs.Groups.{is_opening}
+use Rattle.unit_state.specs.Step.{IsStep, OnRefusal, asks_opener, MayTake, TakesMemory, entry_of}
 
 -- a command that a rule refuses
-pub refused_answer : (claims : Bool) (old new : ControlValue) (before now : List (List ℕ)) (r : Request) (refused : Refusal) (reply : ReplyValue) → IsRefused old r refused → reply ≡ refusal_reply refused → new ≡ refusal_control old r.session refused → now ≡ before
+pub refused_answer : (claims : Bool) (old new : ControlValue) (before now : List (List ℕ)) (r : Request)
+    (refused : Refusal) (reply : ReplyValue) → IsRefused old r refused → reply ≡ refusal_reply refused → new
+    ≡ refusal_control old r.session refused → now ≡ before
     → IsAnswer claims (unit_of old before) (unit_of new now) r reply
 refused_answer claims old new before now r refused reply is told control same = rw (is.refuses, told, same) (record {
-  chosen = is.fine before;
+  chosen = is.fine before new.lasting;
   torn = λ h. tt;
   control = control;
   blocks = λ h. refl;
   answer = refl;
 })
 
-done_answer : (claims : Bool) (old new : UnitState) (command : ScsiCommand) (bytes : List ℕ) (reply : ReplyValue) (session : ℕ) → IsServed claims old new session command bytes reply
-    → IsAnswerWith claims old new (request session (Ok command) bytes) None (choice_of reply new.blocks) reply
+done_answer : (claims : Bool) (old new : UnitState) (command : ScsiCommand) (bytes : List ℕ) (reply : ReplyValue)
+    (session : ℕ) → IsServed claims old new session command bytes reply
+    → IsAnswerWith claims old new (request session (Ok command) bytes) None (choice_of reply new.blocks new.control.lasting) reply
 done_answer claims old new command bytes reply session done = record {
-  chosen = done.done.chosen;
-  torn = done.done.torn;
+  chosen = done.chosen;
+  torn = done.torn;
   control = done.control;
-  blocks = done.done.leaves;
-  answer = record { finding = done.finding; may = done.done.may; is = done.answers; told = done.done.told };
+  blocks = done.leaves;
+  answer = record { finding = done.finding; may = done.may; is = done.answers; told = done.told };
 }
 
 -- a command that no rule refuses
-pub served_answer : (claims : Bool) (old new : UnitState) (session : ℕ) (asked : Result ScsiCommand CdbFault) (bytes : List ℕ) (command : ScsiCommand) (reply : ReplyValue) → IsAdmitted old.control (request session asked bytes) command → IsServed claims old new session command bytes reply
+pub served_answer : (claims : Bool) (old new : UnitState) (session : ℕ) (asked : Result ScsiCommand CdbFault)
+    (bytes : List ℕ) (command : ScsiCommand) (reply : ReplyValue) → IsAdmitted old.control
+    (request session asked bytes) command → IsServed claims old new session command bytes reply
     → IsAnswer claims old new (request session asked bytes) reply
 served_answer claims old new session asked bytes command reply is done =
     let none : refusal old.control (request session (Ok command) bytes) ≡ None =
     subst (λ (a : Result ScsiCommand CdbFault). refusal old.control (request session a bytes) ≡ None) is.asks is.unrefused in
-    subst (λ (a : Result ScsiCommand CdbFault). IsAnswer claims old new (request session a bytes) reply) (sym is.asks) (rw none (done_answer claims old new command bytes reply session done))
+    subst (λ (a : Result ScsiCommand CdbFault). IsAnswer claims old new (request session a bytes) reply) (sym is.asks)
+    (rw none (done_answer claims old new command bytes reply session done))
 
-pub served_ok : {E : Type 0} (claims : Bool) (old new : UnitState) (session : ℕ) (asked : Result ScsiCommand CdbFault) (bytes : List ℕ) (command : ScsiCommand) (result : Result ReplyValue E) → IsAdmitted old.control (request session asked bytes) command → IfOk result (IsServed claims old new session command bytes)
+pub served_ok : {E : Type 0} (claims : Bool) (old new : UnitState) (session : ℕ) (asked : Result ScsiCommand CdbFault)
+    (bytes : List ℕ) (command : ScsiCommand) (result : Result ReplyValue E) → IsAdmitted old.control
+    (request session asked bytes) command → IfOk result (IsServed claims old new session command bytes)
     → IfOk result (IsAnswer claims old new (request session asked bytes))
-served_ok claims old new session asked bytes command (Ok reply) is done = served_answer claims old new session asked bytes command reply is done
+served_ok claims old new session asked bytes command (Ok reply) is done =
+    served_answer claims old new session asked bytes command reply is done
 served_ok claims old new session asked bytes command (Err e) is done = tt
 
 -- an answer, and one command more of its session, is a step
-pub answered_step : (claims : Bool) (old mid new : UnitState) (session serial : ℕ) (by_group : Group) (asked : Result ScsiCommand CdbFault) (bytes : List ℕ) (reply : ReplyValue) → IsNext old.control session serial → by_group ≡ old.control.owner → IsAnswer claims old mid (request session asked bytes) reply → new.blocks ≡ mid.blocks → new.control ≡ pass mid.control session
+pub answered_step : (claims : Bool) (old mid new : UnitState) (session serial : ℕ) (by_group : Group)
+    (asked : Result ScsiCommand CdbFault) (bytes : List ℕ) (reply : ReplyValue) → IsNext old.control session serial
+    → by_group ≡ owner_of old.control.access → IsAnswer claims old mid (request session asked bytes) reply → new.blocks
+    ≡ mid.blocks → new.control ≡ pass mid.control session
     → IsStep claims old new (entry_of session serial by_group asked bytes reply new) reply
-answered_step claims old mid new session serial by_group asked bytes reply next owner k same control = rw same (record {
-  possible = record { next = next; owner = owner; chosen = k.chosen; torn = k.torn };
-  control = control ∙ ap (λ (c : ControlValue). pass c session) k.control;
-  blocks = k.blocks;
-  answer = k.answer;
-})
+answered_step claims old mid new session serial by_group asked bytes reply next owner k same control =
+    let last : new.control.lasting ≡ mid.control.lasting = ap (λ (c : ControlValue). c.lasting) control in
+    let chose : choice_of reply mid.blocks mid.control.lasting ≡ choice_of reply new.blocks new.control.lasting =
+    ap (λ (b : List (List ℕ)). choice_of reply b mid.control.lasting) (sym same) ∙ ap (choice_of reply new.blocks) (sym last) in
+    subst (λ (choice : Choice). IsStep claims old new (Command session serial by_group asked bytes choice) reply) chose (record {
+      possible = record { next = next; owner = owner; chosen = k.chosen; torn = k.torn };
+      control = control ∙ ap (λ (c : ControlValue). pass c session) k.control;
+      blocks = λ h. same ∙ k.blocks h;
+      answer = k.answer;
+    })
 
 -- a command that no rule refuses may find no memory, and may reach the device
-pub takes_memory : {T E : Type 0} (c : ControlValue) (session : ℕ) (asked : Result ScsiCommand CdbFault) (bytes : List ℕ) (command : ScsiCommand) (result : Result T E) → IsAdmitted c (request session asked bytes) command → OnErr result (MayTake (Ok command))
+pub takes_memory : {T E : Type 0} (c : ControlValue) (session : ℕ) (asked : Result ScsiCommand CdbFault)
+    (bytes : List ℕ) (command : ScsiCommand) (result : Result T E) → IsAdmitted c (request session asked bytes) command
+    → OnErr result (MayTake (Ok command))
     → OnErr result (TakesMemory c (request session asked bytes))
 takes_memory c session asked bytes command (Ok x) is takes = tt
 takes_memory c session asked bytes command (Err e) is takes = record { unrefused = is.unrefused; takes = rw is.asks takes }
 
+-- the opener is asked only by a command that changes the owner
+pub unasked_refused : (c : ControlValue) (r : Request) (refused : Refusal) → IsRefused c r refused → asks_opener c r ≡ false
+unasked_refused c r refused is = rw is.refuses refl
+
+pub asks_as : (c : ControlValue) (session : ℕ) (asked : Result ScsiCommand CdbFault) (bytes : List ℕ)
+    (command : ScsiCommand) → IsAdmitted c (request session asked bytes) command
+    → asks_opener c (request session asked bytes) ≡ is_opening c (Ok command) bytes
+asks_as c session asked bytes command is = rw is.unrefused (ap (λ (a : Result ScsiCommand CdbFault). is_opening c a bytes) is.asks)
+
 pub may_reach : (c : ControlValue) (r : Request) (command : ScsiCommand) (P : Type 0) → IsAdmitted c r command → OnRefusal (refusal c r) P
 may_reach c r command P is = rw is.unrefused tt
+
+-- ---- the parts of a unit, and its value
+
+pub step_seen : {B O R : Type 0} (claims : Bool) (contents : B → List (List ℕ)) (inside seen : UnitValue B O R)
+    (new : UnitState) (entry : Entry) (reply : ReplyValue) → inside ≡ seen → IsStep claims
+    (state_of contents inside) new entry reply → IsStep claims (state_of contents seen) new entry reply
+step_seen {B = B} {O = O} {R = R} claims contents inside seen new entry reply same step =
+    subst (λ (u : UnitValue B O R). IsStep claims (state_of contents u) new entry reply) same step
+
+pub memory_seen : {B O R : Type 0} (inside seen : UnitValue B O R) (r : Request) → inside ≡ seen
+    → TakesMemory inside.control r → TakesMemory seen.control r
+memory_seen {B = B} {O = O} {R = R} inside seen r same takes = subst (λ (u : UnitValue B O R). TakesMemory u.control r) same takes
+
+pub unreached_seen : {B O R : Type 0} (inside seen : UnitValue B O R) (r : Request) (new : B) → inside ≡ seen
+    → OnRefusal (refusal inside.control r) (new ≡ inside.device)
+    → OnRefusal (refusal seen.control r) (new ≡ seen.device)
+unreached_seen {B = B} {O = O} {R = R} inside seen r new same is =
+    subst (λ (u : UnitValue B O R). OnRefusal (refusal u.control r) (new ≡ u.device)) same is
+
+-- a crash leaves one of the records that the unit says
+pub restarts : {B : Type 0} (size : B → ℕ) (may_hold : B → ℕ → List ℕ → Type 0) (file : FileValue B)
+    (records said : List RecordValue) → LastsAmong size may_hold file records → said ≡ records
+    → EachOutcomeHolds (size file.device) (may_hold file.device) said
+restarts size may_hold file records said lasts same =
+    subst (EachOutcomeHolds (size file.device) (may_hold file.device)) (sym same) (each_outcome_holds size may_hold file records lasts)
+
+pub restart_seen : {B O R : Type 0} (claims : Bool) (size : R → ℕ) (may_hold : R → ℕ → List ℕ → Type 0)
+    (inside seen : UnitValue B O R) → inside ≡ seen →
+    (IsTrue claims → LastsAmong size may_hold inside.file inside.control.lasting)
+    → IsTrue claims → EachOutcomeHolds (size seen.file.device) (may_hold seen.file.device) seen.control.lasting
+restart_seen {B = B} {O = O} {R = R} claims size may_hold inside seen same lasts h =
+    subst (λ (u : UnitValue B O R). EachOutcomeHolds (size u.file.device)
+    (may_hold u.file.device) u.control.lasting) same
+    (each_outcome_holds size may_hold inside.file inside.control.lasting (lasts h))
+
+pub restart_closed : {B O R : Type 0} (claims : Bool) (size : R → ℕ) (may_hold : R → ℕ → List ℕ → Type 0)
+    (inside seen : UnitValue B O R) (device : R) → device ≡ inside.file.device → inside ≡ seen →
+    (IsTrue claims → LastsAmong size may_hold inside.file inside.control.lasting)
+    → IsTrue claims → EachOutcomeHolds (size device) (may_hold device) seen.control.lasting
+restart_closed {B = B} {O = O} {R = R} claims size may_hold inside seen device is same lasts h =
+    subst (λ (d : R). EachOutcomeHolds (size d) (may_hold d) seen.control.lasting)
+    (sym (is ∙ ap (λ (u : UnitValue B O R). u.file.device) same))
+    (restart_seen claims size may_hold inside seen same lasts h)

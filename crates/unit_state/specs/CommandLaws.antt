@@ -1,6 +1,9 @@
 -- Laws of commands, for those who serve them.
-use Rattle.std.proofs.Common.{◌≡◌, ◌≢◌, ⊎_elim, ℕ, ◌+◌, true, false, nat_eq, List, [], ◌∷◌, Option, Some, None, Result, Ok, Err, refl, ap, ◌∙◌}
+use Rattle.std.proofs.Common.{◌≡◌, ◌≢◌, ⊎_elim, ℕ, ◌+◌, Bool, true, false, nat_eq, map, List, [], ◌∷◌, Option}
+use Rattle.std.proofs.Common.{Some, None, Result, Ok, Err, refl, ap, ◌∙◌}
 use Rattle.std.proofs.lemmas.Bool.Decides.{eqb_tells}
+use Rattle.access_states.specs.AccessMap.{AccessMapValue}
+use Rattle.access_states.specs.declared.list.AsetFault.{AsetFault}
 use Rattle.reservations.specs.declared.request.Told.{Told}
 use Rattle.reservations.specs.Rows.{Effect, Done, Conflicting, Refused, Full}
 use Rattle.scsi_types.specs.declared.names.Group.{Group}
@@ -11,17 +14,23 @@ use Rattle.unit_state.specs.declared.refusal.Refusal.{Refusal}
 use Rattle.unit_state.specs.declared.refusal.Refusal.TheVariants.{Attention, Conflict, Check}
 use Rattle.unit_state.specs.declared.sessions.Attached.{Attached}
 use Rattle.unit_state.specs.State.{ControlValue}
-use Rattle.unit_state.specs.Choice.{Choice}
+use Rattle.unit_state.specs.Choice.{Choice, Fine, ReadFailed, WriteFailed, OpenFailed, SaveFailed}
+use Rattle.unit_state.specs.Groups.{after_change, change_heard, hear_change, is_any_changed, set_by}
 use Rattle.unit_state.specs.Refusal.{Request, request, refusal}
-use Rattle.unit_state.specs.Reserve.{all_heard, after_effect, effect_by, pr_out}
+use Rattle.unit_state.specs.Reserve.{all_heard, after_effect, after_saved, effect_by, pr_out}
 use Rattle.unit_state.specs.Sessions.{next_of, passed, told}
-use Rattle.unit_state.specs.Entry.{Command, IsNext, control_with, control_after, left_asked}
+use Rattle.unit_state.specs.Entry.{Command, IsNext, control_with, control_after, left_asked, left_groups}
 
 -- the serial of a session that had one command more
-pub next_passed : (sessions : List Attached) (id serial : ℕ) → next_of sessions id ≡ Some serial → next_of (passed sessions id) id ≡ Some (serial + 1)
+pub next_passed : (sessions : List Attached) (id serial : ℕ) → next_of sessions id ≡ Some serial
+    → next_of (passed sessions id) id ≡ Some (serial + 1)
 next_passed [] id serial h = absurd (cc)
 next_passed (a ∷ rest) id serial h =
-    ⊎_elim (λ (t : (nat_eq a.id id ≡ true) × (a.id ≡ id)). let here : Some a.next ≡ Some serial = rw t.0 at h in let e : a.next ≡ serial = cc in rw t.0 (rw t.0 (ap (λ (m : ℕ). let o : Option ℕ = Some (m + 1) in o) e)))
+    ⊎_elim
+    (λ (t : (nat_eq a.id id ≡ true) × (a.id ≡ id)).
+    let here : Some a.next ≡ Some serial = rw t.0 at h in
+    let e : a.next ≡ serial = cc in
+    rw t.0 (rw t.0 (ap (λ (m : ℕ). let o : Option ℕ = Some (m + 1) in o) e)))
     (λ (f : (nat_eq a.id id ≡ false) × (a.id ≢ id)). rw f.0 (rw f.0 (next_passed rest id serial (rw f.0 at h))))
     (eqb_tells a.id id)
 
@@ -41,36 +50,89 @@ next_heard codes (a ∷ rest) id =
     (λ (f : (nat_eq a.id id ≡ false) × (a.id ≢ id)). rw f.0 (next_heard codes rest id))
     (eqb_tells a.id id)
 
+-- as does every session where all keep their ids and serials
+next_mapped : (f : Attached → Attached) → ((a : Attached) → ((f a).id ≡ a.id) × ((f a).next ≡ a.next))
+    → (sessions : List Attached) (id : ℕ) → next_of (map f sessions) id ≡ next_of sessions id
+next_mapped f keeps [] id = refl
+next_mapped f keeps (a ∷ rest) id =
+    ⊎_elim
+    (λ (t : (nat_eq a.id id ≡ true) × (a.id ≡ id)).
+    let test : nat_eq (f a).id id ≡ true = ap (λ (i : ℕ). nat_eq i id) (keeps a).0 ∙ t.0 in
+    rw (t.0, test) (ap (λ (n : ℕ). let o : Option ℕ = Some n in o) (keeps a).1))
+    (λ (n : (nat_eq a.id id ≡ false) × (a.id ≢ id)).
+    let test : nat_eq (f a).id id ≡ false = ap (λ (i : ℕ). nat_eq i id) (keeps a).0 ∙ n.0 in
+    rw (n.0, test) (next_mapped f keeps rest id))
+    (eqb_tells a.id id)
+
+-- one that hears of a change of access states does
+pub change_keeps : (by_session : Option ℕ) (a : Attached)
+    → ((hear_change by_session a).id ≡ a.id) × ((hear_change by_session a).next ≡ a.next)
+change_keeps None a = (refl, refl)
+change_keeps (Some id) a =
+    ⊎_elim
+    (λ (t : (nat_eq a.id id ≡ true) × (a.id ≡ id)). rw t.0 (refl, refl))
+    (λ (f : (nat_eq a.id id ≡ false) × (a.id ≢ id)). rw f.0 (refl, refl))
+    (eqb_tells a.id id)
+
+next_changed : (is : Bool) (by_session : Option ℕ) (sessions : List Attached) (id : ℕ)
+    → next_of (change_heard is by_session sessions) id ≡ next_of sessions id
+next_changed true by_session sessions id = next_mapped (hear_change by_session) (change_keeps by_session) sessions id
+next_changed false by_session sessions id = refl
+
+next_after_change : (c : ControlValue) (by_session : Option ℕ) (r : Result AccessMapValue AsetFault) (session : ℕ)
+    → next_of (after_change c by_session r).sessions session ≡ next_of c.sessions session
+next_after_change c by_session (Ok new) session = next_changed (is_any_changed c.access new) by_session c.sessions session
+next_after_change c by_session (Err fault) session = refl
+
+next_groups : (c : ControlValue) (session list_length : ℕ) (bytes : List ℕ) (choice : Choice)
+    → next_of (left_groups c session list_length bytes choice).sessions session ≡ next_of c.sessions session
+next_groups c session list_length bytes OpenFailed = refl
+next_groups c session list_length bytes Fine = next_after_change c (Some session) (set_by c list_length bytes) session
+next_groups c session list_length bytes ReadFailed = next_after_change c (Some session) (set_by c list_length bytes) session
+next_groups c session list_length bytes (WriteFailed after) = next_after_change c (Some session) (set_by c list_length bytes) session
+next_groups c session list_length bytes (SaveFailed after) = next_after_change c (Some session) (set_by c list_length bytes) session
+
 next_after_effect : (c : ControlValue) (session : ℕ) (e : Effect) → next_of (after_effect c e).sessions session ≡ next_of c.sessions session
 next_after_effect c session (Done new codes) = next_heard codes c.sessions session
 next_after_effect c session Conflicting = refl
 next_after_effect c session (Refused asc ascq) = refl
 next_after_effect c session Full = refl
 
-next_left : (c : ControlValue) (session : ℕ) (asked : Result ScsiCommand CdbFault) (bytes : List ℕ) → next_of (left_asked c session asked bytes).sessions session ≡ next_of c.sessions session
-next_left c session (Err fault) bytes = refl
-next_left c session (Ok (commands.RequestSense allocation)) bytes = next_told c.sessions session
-next_left c session (Ok (commands.PersistentReserveOut action scope kind list_length)) bytes = next_after_effect c session (effect_by c session (pr_out action scope kind bytes))
-next_left c session (Ok commands.TestUnitReady) bytes = refl
-next_left c session (Ok (commands.Inquiry page allocation)) bytes = refl
-next_left c session (Ok (commands.ModeSense header control page allocation)) bytes = refl
-next_left c session (Ok commands.ReadCapacity10) bytes = refl
-next_left c session (Ok (commands.ReadCapacity16 allocation)) bytes = refl
-next_left c session (Ok (commands.Read lba blocks fua)) bytes = refl
-next_left c session (Ok (commands.Write lba blocks fua)) bytes = refl
-next_left c session (Ok (commands.CompareAndWrite lba blocks fua)) bytes = refl
-next_left c session (Ok (commands.SynchronizeCache lba blocks)) bytes = refl
-next_left c session (Ok (commands.PersistentReserveIn action allocation)) bytes = refl
-next_left c session (Ok (commands.ReportLuns select allocation)) bytes = refl
-next_left c session (Ok (commands.ReportTargetPortGroups allocation)) bytes = refl
-next_left c session (Ok (commands.SetTargetPortGroups list_length)) bytes = refl
+next_saved : (c : ControlValue) (session : ℕ) (e : Effect) (choice : Choice)
+    → next_of (after_saved c e choice).sessions session ≡ next_of c.sessions session
+next_saved c session e Fine = next_after_effect c session e
+next_saved c session e ReadFailed = next_after_effect c session e
+next_saved c session e (WriteFailed after) = next_after_effect c session e
+next_saved c session e OpenFailed = next_after_effect c session e
+next_saved c session e (SaveFailed after) = refl
+
+next_left : (c : ControlValue) (session : ℕ) (asked : Result ScsiCommand CdbFault) (bytes : List ℕ) (choice : Choice)
+    → next_of (left_asked c session asked bytes choice).sessions session ≡ next_of c.sessions session
+next_left c session (Err fault) bytes choice = refl
+next_left c session (Ok (commands.RequestSense allocation)) bytes choice = next_told c.sessions session
+next_left c session (Ok (commands.PersistentReserveOut action scope kind list_length)) bytes choice =
+    next_saved c session (effect_by c session (pr_out action scope kind bytes)) choice
+next_left c session (Ok commands.TestUnitReady) bytes choice = refl
+next_left c session (Ok (commands.Inquiry page allocation)) bytes choice = refl
+next_left c session (Ok (commands.ModeSense header control page allocation)) bytes choice = refl
+next_left c session (Ok commands.ReadCapacity10) bytes choice = refl
+next_left c session (Ok (commands.ReadCapacity16 allocation)) bytes choice = refl
+next_left c session (Ok (commands.Read lba blocks fua)) bytes choice = refl
+next_left c session (Ok (commands.Write lba blocks fua)) bytes choice = refl
+next_left c session (Ok (commands.CompareAndWrite lba blocks fua)) bytes choice = refl
+next_left c session (Ok (commands.SynchronizeCache lba blocks)) bytes choice = refl
+next_left c session (Ok (commands.PersistentReserveIn action allocation)) bytes choice = refl
+next_left c session (Ok (commands.ReportLuns select allocation)) bytes choice = refl
+next_left c session (Ok (commands.ReportTargetPortGroups allocation)) bytes choice = refl
+next_left c session (Ok (commands.SetTargetPortGroups list_length)) bytes choice = next_groups c session list_length bytes choice
 
 -- what a command leaves before it is counted has its serial still
-pub next_kept : (refused : Option Refusal) (c : ControlValue) (r : Request) (choice : Choice) → next_of (control_with refused c r choice).sessions r.session ≡ next_of c.sessions r.session
+pub next_kept : (refused : Option Refusal) (c : ControlValue) (r : Request) (choice : Choice)
+    → next_of (control_with refused c r choice).sessions r.session ≡ next_of c.sessions r.session
 next_kept (Some (Attention a)) c r choice = next_told c.sessions r.session
 next_kept (Some Conflict) c r choice = refl
 next_kept (Some (Check s)) c r choice = refl
-next_kept None c r choice = next_left c r.session r.asked r.bytes
+next_kept None c r choice = next_left c r.session r.asked r.bytes choice
 
 -- and the count of entries
 count_after_effect : (c : ControlValue) (e : Effect) → (after_effect c e).count ≡ c.count
@@ -79,36 +141,61 @@ count_after_effect c Conflicting = refl
 count_after_effect c (Refused asc ascq) = refl
 count_after_effect c Full = refl
 
-count_left : (c : ControlValue) (session : ℕ) (asked : Result ScsiCommand CdbFault) (bytes : List ℕ) → (left_asked c session asked bytes).count ≡ c.count
-count_left c session (Err fault) bytes = refl
-count_left c session (Ok (commands.RequestSense allocation)) bytes = refl
-count_left c session (Ok (commands.PersistentReserveOut action scope kind list_length)) bytes = count_after_effect c (effect_by c session (pr_out action scope kind bytes))
-count_left c session (Ok commands.TestUnitReady) bytes = refl
-count_left c session (Ok (commands.Inquiry page allocation)) bytes = refl
-count_left c session (Ok (commands.ModeSense header control page allocation)) bytes = refl
-count_left c session (Ok commands.ReadCapacity10) bytes = refl
-count_left c session (Ok (commands.ReadCapacity16 allocation)) bytes = refl
-count_left c session (Ok (commands.Read lba blocks fua)) bytes = refl
-count_left c session (Ok (commands.Write lba blocks fua)) bytes = refl
-count_left c session (Ok (commands.CompareAndWrite lba blocks fua)) bytes = refl
-count_left c session (Ok (commands.SynchronizeCache lba blocks)) bytes = refl
-count_left c session (Ok (commands.PersistentReserveIn action allocation)) bytes = refl
-count_left c session (Ok (commands.ReportLuns select allocation)) bytes = refl
-count_left c session (Ok (commands.ReportTargetPortGroups allocation)) bytes = refl
-count_left c session (Ok (commands.SetTargetPortGroups list_length)) bytes = refl
+count_after_change : (c : ControlValue) (by_session : Option ℕ) (r : Result AccessMapValue AsetFault)
+    → (after_change c by_session r).count ≡ c.count
+count_after_change c by_session (Ok new) = refl
+count_after_change c by_session (Err fault) = refl
 
-kept_count : (refused : Option Refusal) (c : ControlValue) (r : Request) (choice : Choice) → (control_with refused c r choice).count ≡ c.count
+count_groups : (c : ControlValue) (session list_length : ℕ) (bytes : List ℕ) (choice : Choice)
+    → (left_groups c session list_length bytes choice).count ≡ c.count
+count_groups c session list_length bytes OpenFailed = refl
+count_groups c session list_length bytes Fine = count_after_change c (Some session) (set_by c list_length bytes)
+count_groups c session list_length bytes ReadFailed = count_after_change c (Some session) (set_by c list_length bytes)
+count_groups c session list_length bytes (WriteFailed after) = count_after_change c (Some session) (set_by c list_length bytes)
+count_groups c session list_length bytes (SaveFailed after) = count_after_change c (Some session) (set_by c list_length bytes)
+
+count_saved : (c : ControlValue) (e : Effect) (choice : Choice) → (after_saved c e choice).count ≡ c.count
+count_saved c e Fine = count_after_effect c e
+count_saved c e ReadFailed = count_after_effect c e
+count_saved c e (WriteFailed after) = count_after_effect c e
+count_saved c e OpenFailed = count_after_effect c e
+count_saved c e (SaveFailed after) = refl
+
+count_left : (c : ControlValue) (session : ℕ) (asked : Result ScsiCommand CdbFault) (bytes : List ℕ) (choice : Choice)
+    → (left_asked c session asked bytes choice).count ≡ c.count
+count_left c session (Err fault) bytes choice = refl
+count_left c session (Ok (commands.RequestSense allocation)) bytes choice = refl
+count_left c session (Ok (commands.PersistentReserveOut action scope kind list_length)) bytes choice =
+    count_saved c (effect_by c session (pr_out action scope kind bytes)) choice
+count_left c session (Ok commands.TestUnitReady) bytes choice = refl
+count_left c session (Ok (commands.Inquiry page allocation)) bytes choice = refl
+count_left c session (Ok (commands.ModeSense header control page allocation)) bytes choice = refl
+count_left c session (Ok commands.ReadCapacity10) bytes choice = refl
+count_left c session (Ok (commands.ReadCapacity16 allocation)) bytes choice = refl
+count_left c session (Ok (commands.Read lba blocks fua)) bytes choice = refl
+count_left c session (Ok (commands.Write lba blocks fua)) bytes choice = refl
+count_left c session (Ok (commands.CompareAndWrite lba blocks fua)) bytes choice = refl
+count_left c session (Ok (commands.SynchronizeCache lba blocks)) bytes choice = refl
+count_left c session (Ok (commands.PersistentReserveIn action allocation)) bytes choice = refl
+count_left c session (Ok (commands.ReportLuns select allocation)) bytes choice = refl
+count_left c session (Ok (commands.ReportTargetPortGroups allocation)) bytes choice = refl
+count_left c session (Ok (commands.SetTargetPortGroups list_length)) bytes choice = count_groups c session list_length bytes choice
+
+kept_count : (refused : Option Refusal) (c : ControlValue) (r : Request) (choice : Choice)
+    → (control_with refused c r choice).count ≡ c.count
 kept_count (Some (Attention a)) c r choice = refl
 kept_count (Some Conflict) c r choice = refl
 kept_count (Some (Check s)) c r choice = refl
-kept_count None c r choice = count_left c r.session r.asked r.bytes
+kept_count None c r choice = count_left c r.session r.asked r.bytes choice
 
-module _ (c : ControlValue) (session serial : ℕ) (by_group : Group) (asked : Result ScsiCommand CdbFault) (bytes : List ℕ) (choice : Choice) where
+module _ (c : ControlValue) (session serial : ℕ) (by_group : Group) (asked : Result ScsiCommand CdbFault)
+    (bytes : List ℕ) (choice : Choice) where
   abbrev r : Request
   r = request session asked bytes
 
   -- behind a command its session's next serial is one more
-  pub next_after : IsNext c session serial → next_of (control_after c (Command session serial by_group asked bytes choice)).sessions session ≡ Some (serial + 1)
+  pub next_after : IsNext c session serial
+      → next_of (control_after c (Command session serial by_group asked bytes choice)).sessions session ≡ Some (serial + 1)
   next_after is = next_passed (control_with (refusal c r) c r choice).sessions session serial (next_kept (refusal c r) c r choice ∙ is.next)
 
   -- and the history has one entry more

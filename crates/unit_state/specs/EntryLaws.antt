@@ -7,7 +7,7 @@ use Rattle.unit_state.specs.State.{ControlValue, UnitState}
 use Rattle.unit_state.specs.Choice.{Choice}
 use Rattle.unit_state.specs.Medium.{found, work_asked}
 use Rattle.unit_state.specs.Refusal.{Request, request, refusal}
-use Rattle.unit_state.specs.Entry.{Entry, Attach, Detach, Reset, Command, CanTear, IsPossible, IsReplyTo, IsReplyWith}
+use Rattle.unit_state.specs.Entry.{Entry, Attach, Detach, Reset, Move, Command, CanTear, IsPossible, IsReplyTo, IsReplyWith}
 
 module _ (claims : Bool) (c : ControlValue) (old new : List (List ℕ)) (same : IsTrue claims → new ≡ old) where
   abbrev at : List (List ℕ) → UnitState
@@ -17,6 +17,7 @@ module _ (claims : Bool) (c : ControlValue) (old new : List (List ℕ)) (same : 
   possible_over (Attach nexus) is = is
   possible_over (Detach session) is = is
   possible_over (Reset session) is = is
+  possible_over (Move list choice) is = is
   possible_over (Command session serial by_group asked bytes choice) is =
       let r = request session asked bytes in
       record {
@@ -26,7 +27,8 @@ module _ (claims : Bool) (c : ControlValue) (old new : List (List ℕ)) (same : 
         torn = λ h. subst (λ (b : List (List ℕ)). CanTear (refusal c r) b (work_asked asked bytes) choice) (sym (same h)) (is.torn h);
       }
 
-  reply_with_over : (refused : Option Refusal) (r : Request) (choice : Choice) (reply : ReplyValue) → IsReplyWith refused claims (at old) r choice reply → IsReplyWith refused claims (at new) r choice reply
+  reply_with_over : (refused : Option Refusal) (r : Request) (choice : Choice) (reply : ReplyValue)
+      → IsReplyWith refused claims (at old) r choice reply → IsReplyWith refused claims (at new) r choice reply
   reply_with_over (Some a) r choice reply is = is
   reply_with_over None r choice reply is = record {
     finding = is.finding;
@@ -39,5 +41,6 @@ module _ (claims : Bool) (c : ControlValue) (old new : List (List ℕ)) (same : 
   reply_over (Attach nexus) reply is = absurd is
   reply_over (Detach session) reply is = absurd is
   reply_over (Reset session) reply is = absurd is
+  reply_over (Move list choice) reply is = absurd is
   reply_over (Command session serial by_group asked bytes choice) reply is =
       let r = request session asked bytes in reply_with_over (refusal c r) r choice reply is

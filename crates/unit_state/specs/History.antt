@@ -4,7 +4,7 @@ use Rattle.std.specs.List.{count_by}
 use Rattle.scsi_types.specs.ReplyValue.{ReplyValue}
 use Rattle.unit_state.specs.State.{UnitState}
 use Rattle.unit_state.specs.Choice.{is_fine}
-use Rattle.unit_state.specs.Entry.{Entry, Attach, Detach, Reset, Command, IsPossible, IsReplyTo, after, reply_to}
+use Rattle.unit_state.specs.Entry.{Entry, Attach, Detach, Reset, Move, Command, IsPossible, IsReplyTo, after, reply_to}
 
 -- the state after a history that began in this state
 abbrev pub state_after : UnitState → List Entry → UnitState
@@ -33,6 +33,7 @@ abbrev pub has_failed : Entry → Bool
 has_failed (Attach nexus) = false
 has_failed (Detach session) = false
 has_failed (Reset session) = false
+has_failed (Move list choice) = not (is_fine choice)
 has_failed (Command session serial by asked bytes choice) = not (is_fine choice)
 
 abbrev pub failed_entries : List Entry → ℕ

@@ -3,14 +3,17 @@ pub mod Choice
 pub mod CommandLaws
 pub mod Entry
 pub mod EntryLaws
+pub mod Groups
 pub mod History
 pub mod HistoryLaws
 pub mod Medium
+pub mod Moves
 pub mod Ops
 pub mod Places
 pub mod Refusal
 pub mod Reserve
 pub mod Route
+pub mod Saving
 pub mod Sessions
 pub mod State
 pub mod Step

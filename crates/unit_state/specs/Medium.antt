@@ -1,17 +1,19 @@
 -- What a command is to the medium, and what that finds and leaves (SBC-3, READ, WRITE, COMPARE AND WRITE and SYNCHRONIZE
 -- CACHE commands).
-use Rattle.std.specs.Prelude.{◌≡◌, ◌⊎◌, ℕ, ◌+◌, ◌*◌, ◌<◌, ◌≤◌, Bool, false, true, IsTrue, List, [], length, Option, Some, None, Result, Ok, Err}
+use Rattle.std.specs.Prelude.{◌≡◌, ◌⊎◌, ℕ, ◌+◌, ◌*◌, ◌<◌, ◌≤◌, Bool, false, true, IsTrue, List, [], length}
+use Rattle.std.specs.Prelude.{Option, Some, None, Result, Ok, Err}
 use Rattle.block_file.specs.declared.blocks.TheConstants.{BLOCK_LENGTH}
 use Rattle.block_file.specs.Cut.{cut}
 use Rattle.block_file.specs.Disk.{written, range_bytes, Between}
 use Rattle.compare_write.specs.Difference.{first_difference}
 use Rattle.compare_write.specs.Instances.{compare_instance, write_instance}
 use Rattle.scsi_types.specs.ReplyValue.{ReplyValue, good, check}
+use Rattle.scsi_types.specs.Sense.{internal_target_failure, set_target_port_groups_command_failed}
 use Rattle.scsi_types.specs.Sense.{unrecovered_read_error, write_error, miscompare}
 use Rattle.scsi_types.specs.declared.command.Command.{Command}
 use Rattle.scsi_types.specs.declared.command.Command.TheVariants as commands
 use Rattle.scsi_types.specs.declared.command.CdbFault.{CdbFault}
-use Rattle.unit_state.specs.Choice.{Choice, Fine, ReadFailed, WriteFailed}
+use Rattle.unit_state.specs.Choice.{Choice, Fine, ReadFailed, WriteFailed, OpenFailed, SaveFailed}
 
 -- the blocks of a command: the first, and how many
 pub record Range : Type 0 where
@@ -86,14 +88,18 @@ MayChoose (Reads r flushed) (WriteFailed after) = IsTrue flushed
 MayChoose (Writes r bytes flushed) (WriteFailed after) = Unit {0}
 MayChoose (Compares r bytes flushed) (WriteFailed after) = Unit {0}
 MayChoose (Flushes r) (WriteFailed after) = Unit {0}
+MayChoose work OpenFailed = ⊥
+MayChoose work (SaveFailed records) = ⊥
 
--- what the medium tells: the work is done, with the bytes that were read; the range differs, first at this offset; or
--- a read failed, or a write or a flush
+-- what the devices tell: the work is done, with the bytes that were read; the range differs, first at this offset; or
+-- a read failed, or a write or a flush, or the open for another controller, or a save
 pub data Finding : Type 0 where
   Done : List ℕ → Finding
   Differs : ℕ → Finding
   ReadError : Finding
   WriteError : Finding
+  OpenError : Finding
+  SaveError : Finding
 
 -- What may be told of a work, of every device: which bytes a read gives, and whether and where a compare finds a
 -- difference, is the medium's to say.
@@ -105,6 +111,8 @@ MayFind (Compares r bytes flushed) Fine finding = (finding ≡ Done []) ⊎ ((at
 MayFind (Flushes r) Fine finding = finding ≡ Done []
 MayFind work ReadFailed finding = finding ≡ ReadError
 MayFind work (WriteFailed after) finding = finding ≡ WriteError
+MayFind work OpenFailed finding = finding ≡ OpenError
+MayFind work (SaveFailed records) finding = finding ≡ SaveError
 
 -- ---- a disk with these blocks
 
@@ -129,22 +137,29 @@ found blocks (Compares r bytes flushed) Fine = found_by (difference_in blocks r 
 found blocks (Flushes r) Fine = Done []
 found blocks work ReadFailed = ReadError
 found blocks work (WriteFailed after) = WriteError
+found blocks work OpenFailed = OpenError
+found blocks work (SaveFailed records) = SaveError
 
 -- the blocks that it then has: after a failed write or flush those of the choice
 abbrev pub left : List (List ℕ) → Work → Choice → List (List ℕ)
 left blocks Nothing Fine = blocks
 left blocks (Reads r flushed) Fine = blocks
 left blocks (Writes r bytes flushed) Fine = written blocks r.lba (cut r.blocks bytes)
-left blocks (Compares r bytes flushed) Fine = compared_by (difference_in blocks r bytes) blocks (written blocks r.lba (write_instance r.blocks bytes))
+left blocks (Compares r bytes flushed) Fine =
+    compared_by (difference_in blocks r bytes) blocks (written blocks r.lba (write_instance r.blocks bytes))
 left blocks (Flushes r) Fine = blocks
 left blocks work ReadFailed = blocks
 left blocks work (WriteFailed after) = after
+left blocks work OpenFailed = blocks
+left blocks work (SaveFailed records) = blocks
 
 -- what it may have after such a failure: each block of a range that is written old or new, and every other as it was;
 -- a compare writes only where it found no difference
 abbrev pub IsTorn : List (List ℕ) → Work → Choice → Type 0
 IsTorn blocks work Fine = Unit {0}
 IsTorn blocks work ReadFailed = Unit {0}
+IsTorn blocks work OpenFailed = Unit {0}
+IsTorn blocks work (SaveFailed records) = Unit {0}
 IsTorn blocks Nothing (WriteFailed after) = after ≡ blocks
 IsTorn blocks (Reads r flushed) (WriteFailed after) = after ≡ blocks
 IsTorn blocks (Writes r bytes flushed) (WriteFailed after) = Between blocks r.lba (cut r.blocks bytes) after
@@ -152,12 +167,14 @@ IsTorn blocks (Compares r bytes flushed) (WriteFailed after) =
     (range_bytes blocks r.lba r.blocks ≡ compare_instance r.blocks bytes) × Between blocks r.lba (write_instance r.blocks bytes) after
 IsTorn blocks (Flushes r) (WriteFailed after) = after ≡ blocks
 
--- how a medium command answers what was found
+-- how a command answers what its devices told
 abbrev pub reply_by : Finding → ReplyValue
 reply_by (Done bytes) = good bytes
 reply_by (Differs at) = check (miscompare at)
 reply_by ReadError = check unrecovered_read_error
 reply_by WriteError = check write_error
+reply_by OpenError = check set_target_port_groups_command_failed
+reply_by SaveError = check internal_target_failure
 
 -- A device did this work, had these blocks and has those: under the claim the finding is a disk's, and so is what is
 -- left.

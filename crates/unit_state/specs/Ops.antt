@@ -39,14 +39,8 @@ passes_attention (Some ops.ReportLuns) = true
 passes_attention (Some ops.RequestSense) = true
 passes_attention kind = false
 
--- a kind that the unit serves: the target port group commands not yet
-abbrev pub is_served : Option Op → Bool
-is_served None = false
-is_served (Some ops.ReportTargetPortGroups) = false
-is_served (Some ops.SetTargetPortGroups) = false
-is_served kind = true
-
--- what a command does with the medium, as a reservation sees it (SPC-4, 5.13.2): a flush counts as a write
+-- what a command does with the medium, as a reservation sees it (SPC-4, 5.13.2): a flush counts as a write, and so does a
+-- change of access states
 abbrev pub access_of : Option Op → Access
 access_of (Some ops.Read) = Read
 access_of (Some ops.Write) = Write

@@ -21,3 +21,9 @@ pub record Stays (old new : ControlValue) (session at : ℕ) : Type 0 where
   pub total : new.total ≡ old.total
   pub count : new.count ≡ old.count
   pub place : IsPlaceOf new.sessions session at
+
+-- the same, for whatever session sent it
+pub record StaysAll (old new : ControlValue) : Type 0 where
+  pub total : new.total ≡ old.total
+  pub count : new.count ≡ old.count
+  pub place : (session at : ℕ) → IsPlaceOf old.sessions session at → IsPlaceOf new.sessions session at

@@ -1,19 +1,26 @@
 -- Why a command is refused: rules in order, of which the first that applies decides. They look at what does not rest
 -- on the medium, and at the request.
-use Rattle.std.specs.Prelude.{◌≡◌, ℕ, ◌+◌, ◌&&◌, Bool, nat_eq, true, false, nat_lt, nat_le, if◌then◌else◌, List, [], ◌∷◌, length, Option, Some, None, Result, Ok, Err}
-use Rattle.std.specs.Option.{option_or}
+use Rattle.std.specs.Prelude.{◌≡◌, ℕ, ◌+◌, ◌&&◌, Bool, nat_eq, true, false, nat_lt, nat_le, if◌then◌else◌}
+use Rattle.std.specs.Prelude.{List, [], ◌∷◌, length, Option, Some, None, Result, Ok, Err}
+use Rattle.std.specs.Option.{option_map, option_or}
+use Rattle.access_states.specs.AccessMap.{AccessMapValue, group_access}
+use Rattle.access_states.specs.Change.{fault_sense}
+use Rattle.access_states.specs.State.{refusal_in}
+use Rattle.access_states.specs.declared.list.AsetFault.{AsetFault}
+use Rattle.access_states.specs.declared.state.AccessState.{AccessState}
 use Rattle.reservations.specs.declared.request.Access.{Access}
 use Rattle.reservations.specs.Access.{is_let_through, party_of}
-use Rattle.reservations.specs.Rows.{is_registering}
 use Rattle.scsi_types.specs.Nexus.{Nexus}
 use Rattle.scsi_types.specs.ReplyValue.{ReplyValue, check, conflict}
 use Rattle.scsi_types.specs.Cdb.{need_of}
 use Rattle.scsi_types.specs.Attention.{attention_sense}
-use Rattle.scsi_types.specs.Sense.{invalid_opcode, invalid_field_in_cdb, lba_out_of_range, saving_parameters_not_supported, parameter_list_length_error, invalid_field_in_parameter_list}
+use Rattle.scsi_types.specs.Sense.{invalid_opcode, invalid_field_in_cdb, lba_out_of_range}
+use Rattle.scsi_types.specs.Sense.{saving_parameters_not_supported, parameter_list_length_error}
 use Rattle.scsi_types.specs.declared.attention.UnitAttention.{UnitAttention}
 use Rattle.scsi_types.specs.declared.command.Op.{Op}
 use Rattle.scsi_types.specs.declared.command.Command.{Command}
-use Rattle.scsi_types.specs.declared.command.Command.TheVariants.{ModeSense, PersistentReserveOut}
+use Rattle.scsi_types.specs.declared.command.Command.TheVariants.{ModeSense, PersistentReserveOut, SetTargetPortGroups}
+use Rattle.scsi_types.specs.declared.sense.Sense.{Sense}
 use Rattle.scsi_types.specs.declared.command.CdbFault.{CdbFault}
 use Rattle.scsi_types.specs.declared.command.CdbFault.TheVariants.{UnknownOpcode, BadField}
 use Rattle.unit_state.specs.declared.refusal.Refusal.{Refusal}
@@ -21,9 +28,9 @@ use Rattle.scsi_types.specs.declared.pages.PageControl.TheVariants.{Saved}
 use Rattle.unit_state.specs.declared.refusal.Refusal.TheVariants.{Attention, Conflict, Check}
 use Rattle.unit_state.specs.State.{ControlValue}
 use Rattle.unit_state.specs.Sessions.{first_pending, sender_of, told}
-use Rattle.unit_state.specs.Ops.{kind_asked, is_served, access_of, passes_attention}
-use Rattle.unit_state.specs.declared.reserve.TheConstants.{APTPL, LIST_LENGTH}
-use Rattle.unit_state.specs.Reserve.{flag_of}
+use Rattle.unit_state.specs.Groups.{set_by}
+use Rattle.unit_state.specs.Ops.{kind_asked, access_of, passes_attention}
+use Rattle.unit_state.specs.declared.reserve.TheConstants.{LIST_LENGTH}
 use Rattle.unit_state.specs.Medium.{Range, range_of, work_asked}
 
 -- a command as the rules judge it: who sent it, what it asks, and the data that came
@@ -64,12 +71,25 @@ attention_by (Some attention) false = Some (Attention attention)
 abbrev pub attention_rule : Rule
 attention_rule c r = attention_by (first_pending c.sessions r.session) (passes_attention (kind_asked r.asked))
 
--- the opcode is that of no command that is served
+-- the opcode is that of no command
 abbrev pub opcode_by : Option Op → Option Refusal
-opcode_by kind = if is_served kind then None else Some (Check invalid_opcode)
+opcode_by None = Some (Check invalid_opcode)
+opcode_by (Some op) = None
 
 abbrev pub opcode_rule : Rule
 opcode_rule c r = opcode_by (kind_asked r.asked)
+
+-- the access state of the group by which the session's commands come lets its ports serve none of this kind, whatever its
+-- fields (SPC-4, 5.15.2.4)
+abbrev pub access_by : AccessState → Option Op → Option Refusal
+access_by state None = None
+access_by state (Some op) = option_map Check (refusal_in state op)
+
+abbrev pub state_for : ControlValue → ℕ → AccessState
+state_for c session = (group_access c.access (sender_of c.sessions session).group).state
+
+abbrev pub access_rule : Rule
+access_rule c r = access_by (state_for c r.session) (kind_asked r.asked)
 
 -- the reservation does not let the nexus do this (SPC-4, 5.13.2)
 abbrev pub is_let : ControlValue → Nexus → Access → Bool
@@ -110,29 +130,27 @@ range_by total (Some r) = outside total r
 abbrev pub range_rule : Rule
 range_rule c r = range_by c.total (range_of (work_asked r.asked r.bytes))
 
--- the PARAMETER LIST LENGTH of a PERSISTENT RESERVE OUT
-abbrev pub list_length_of : Result Command CdbFault → Option ℕ
-list_length_of (Ok (PersistentReserveOut action scope kind list_length)) = Some list_length
-list_length_of asked = None
+-- the parameter list of PERSISTENT RESERVE OUT has 24 bytes (SPC-4, 6.16.1)
+abbrev pub reserve_list_by : ℕ → Option Refusal
+reserve_list_by list_length = if nat_eq list_length LIST_LENGTH then None else Some (Check parameter_list_length_error)
 
--- it registers, and that is to outlast a loss of power
-abbrev pub asks_to_last : Result Command CdbFault → List ℕ → Bool
-asks_to_last (Ok (PersistentReserveOut action scope kind list_length)) bytes = is_registering action && flag_of APTPL bytes
-asks_to_last asked bytes = false
+-- that of SET TARGET PORT GROUPS is one that the access states can follow (SPC-4, 6.45)
+abbrev pub groups_list_by : Result AccessMapValue AsetFault → Option Refusal
+groups_list_by (Ok new) = None
+groups_list_by (Err fault) = Some (Check (fault_sense fault))
 
--- the list has 24 bytes (SPC-4, 6.16.1); APTPL is not supported yet
-abbrev pub list_by : Option ℕ → Bool → Option Refusal
-list_by None lasts = None
-list_by (Some list_length) lasts =
-    if nat_eq list_length LIST_LENGTH then (if lasts then Some (Check invalid_field_in_parameter_list) else None)
-    else Some (Check parameter_list_length_error)
+abbrev pub list_by : ControlValue → Result Command CdbFault → List ℕ → Option Refusal
+list_by c (Ok (PersistentReserveOut action scope kind list_length)) bytes = reserve_list_by list_length
+list_by c (Ok (SetTargetPortGroups list_length)) bytes = groups_list_by (set_by c list_length bytes)
+list_by c asked bytes = None
 
 abbrev pub list_rule : Rule
-list_rule c r = list_by (list_length_of r.asked) (asks_to_last r.asked r.bytes)
+list_rule c r = list_by c r.asked r.bytes
 
 -- the rules in their order
 abbrev pub rules_of_unit : List Rule
-rules_of_unit = attention_rule ∷ opcode_rule ∷ conflict_rule ∷ field_rule ∷ saved_rule ∷ range_rule ∷ list_rule ∷ []
+rules_of_unit =
+    attention_rule ∷ opcode_rule ∷ access_rule ∷ conflict_rule ∷ field_rule ∷ saved_rule ∷ range_rule ∷ list_rule ∷ []
 
 abbrev pub first_refusal : List Rule → ControlValue → Request → Option Refusal
 first_refusal [] c r = None
@@ -142,8 +160,18 @@ first_refusal (rule ∷ rules) c r = option_or (rule c r) (first_refusal rules c
 abbrev pub refusal : ControlValue → Request → Option Refusal
 refusal c r = first_refusal rules_of_unit c r
 
--- nothing is to be told to the session first, its command is one that is served, and the reservation does not let it
-pub record IsKeptOut (c : ControlValue) (session : ℕ) (asked : Result Command CdbFault) : Type 0 where
+-- Nothing is to be told to the session first, and its command is one of this kind.
+pub record IsJudged (c : ControlValue) (session : ℕ) (asked : Result Command CdbFault) (op : Op) : Type 0 where
   pub nothing_first : first_pending c.sessions session ≡ None
-  pub served : is_served (kind_asked asked) ≡ true
-  pub not_let : is_let c (sender_of c.sessions session) (access_of (kind_asked asked)) ≡ false
+  pub kind : kind_asked asked ≡ Some op
+
+-- The ports of its group may not serve it.
+pub record IsUnserved (c : ControlValue) (session : ℕ) (asked : Result Command CdbFault) (op : Op) (s : Sense) : Type 0 where
+  pub judged : IsJudged c session asked op
+  pub not_served : refusal_in (state_for c session) op ≡ Some s
+
+-- They may, and the reservation does not let it.
+pub record IsKeptOut (c : ControlValue) (session : ℕ) (asked : Result Command CdbFault) (op : Op) : Type 0 where
+  pub judged : IsJudged c session asked op
+  pub served : refusal_in (state_for c session) op ≡ None
+  pub not_let : is_let c (sender_of c.sessions session) (access_of (Some op)) ≡ false

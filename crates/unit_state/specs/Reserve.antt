@@ -1,25 +1,29 @@
 -- PERSISTENT RESERVE IN and OUT as a unit serves them (SPC-4, 5.13, 6.15 and 6.16): the parameter list, the data, and
 -- what the table of service actions in `reservations` makes of the unit.
-use Rattle.std.specs.Prelude.{ℕ, ◌/◌, ◌%◌, ◌==◌, ◌≤◌, Bool, List, [], drop, map, length, slice_index, Option, Some, None}
+use Rattle.std.specs.Prelude.{◌≡◌, ℕ, ◌/◌, ◌%◌, ◌==◌, ◌<◌, ◌≤◌, Bool, false, true, List, [], ◌∷◌, ◌++◌, drop}
+use Rattle.std.specs.Prelude.{map, length, slice_index, All, Contains, Option, Some, None}
 use Rattle.byteorder.specs.Endian.{big_number}
 use Rattle.attentions.specs.Queue.{established}
 use Rattle.reservations.specs.declared.request.PrOut.{PrOut}
 use Rattle.reservations.specs.declared.request.Told.{Told}
 use Rattle.reservations.specs.Notice.{code_told}
 use Rattle.reservations.specs.Reading.{keys_bytes, reservation_bytes, capabilities_bytes, full_status_bytes}
-use Rattle.reservations.specs.Registry.{RegistryValue}
+use Rattle.reservations.specs.Registry.{RecordValue, RegistryValue, to_last}
 use Rattle.reservations.specs.Rows.{Effect, Done, Conflicting, Refused, Full}
 use Rattle.reservations.specs.Table.{effect_of}
 use Rattle.scsi_types.specs.ReplyValue.{ReplyValue, good, check, conflict}
 use Rattle.scsi_types.specs.Sense.{sense, insufficient_registration_resources}
 use Rattle.scsi_types.specs.declared.attention.UnitAttention.{UnitAttention}
 use Rattle.scsi_types.specs.declared.command.Command.{Command}
-use Rattle.scsi_types.specs.declared.command.Command.TheVariants.{PersistentReserveOut}
+use Rattle.scsi_types.specs.declared.command.Command.TheVariants.{PersistentReserveOut, SetTargetPortGroups}
 use Rattle.scsi_types.specs.declared.reservation.PrInAction.{PrInAction}
 use Rattle.scsi_types.specs.declared.reservation.PrInAction.TheVariants.{ReadKeys, ReadReservation, ReportCapabilities, ReadFullStatus}
 use Rattle.scsi_types.specs.declared.reservation.PrOutAction.{PrOutAction}
 use Rattle.unit_state.specs.declared.reserve.TheConstants.{ALL_TG_PT, APTPL, LIST_LENGTH, SPEC_I_PT}
 use Rattle.unit_state.specs.declared.sessions.Attached.{Attached}
+use Rattle.unit_state.specs.Groups.{IsTaken, set_by}
+use Rattle.unit_state.specs.Choice.{Choice, SaveFailed}
+use Rattle.unit_state.specs.Medium.{Finding, SaveError, reply_by}
 use Rattle.unit_state.specs.State.{ControlValue}
 use Rattle.unit_state.specs.Sessions.{nexus_of, sender_of}
 
@@ -32,12 +36,22 @@ flag_of value list = slice_index list 20 / value % 2 == 1
 -- RESERVATION KEY, SERVICE ACTION RESERVATION KEY, and the flags, with the fields of the CDB
 abbrev pub pr_out : PrOutAction → ℕ → ℕ → List ℕ → PrOut
 pr_out action scope kind list =
-    record { action = action; scope = scope; kind = kind; key = big_number 8 list; sakey = big_number 8 (drop 8 list); spec_i_pt = flag_of SPEC_I_PT list; all_tg_pt = flag_of ALL_TG_PT list; aptpl = flag_of APTPL list }
+    record {
+      action = action;
+      scope = scope;
+      kind = kind;
+      key = big_number 8 list;
+      sakey = big_number 8 (drop 8 list);
+      spec_i_pt = flag_of SPEC_I_PT list;
+      all_tg_pt = flag_of ALL_TG_PT list;
+      aptpl = flag_of APTPL list;
+    }
 
--- the list of the command came whole
-abbrev pub HasList : Command → List ℕ → Type 0
-HasList (PersistentReserveOut action scope kind list_length) bytes = LIST_LENGTH ≤ length bytes
-HasList command bytes = Unit {0}
+-- the list of the command came whole, and is one that is taken
+abbrev pub HasList : ControlValue → Command → List ℕ → Type 0
+HasList c (PersistentReserveOut action scope kind list_length) bytes = LIST_LENGTH ≤ length bytes
+HasList c (SetTargetPortGroups list_length) bytes = IsTaken (set_by c list_length bytes)
+HasList c command bytes = Unit {0}
 
 -- ---- what it does
 
@@ -63,12 +77,37 @@ hear told a = record a { pending = with_heard (code_told told (nexus_of a)) a.pe
 abbrev pub all_heard : List Told → List Attached → List Attached
 all_heard told sessions = map (hear told) sessions
 
--- and what it leaves: only GOOD changes anything
+-- and what it leaves: only GOOD changes anything, and a crash leaves just the record to last of what is there then
 abbrev pub after_effect : ControlValue → Effect → ControlValue
-after_effect c (Done new told) = record c { registry = new; sessions = all_heard told c.sessions }
+after_effect c (Done new told) =
+    record c { registry = new; lasting = to_last new ∷ []; doubt = false; sessions = all_heard told c.sessions }
 after_effect c Conflicting = c
 after_effect c (Refused asc ascq) = c
 after_effect c Full = c
+
+-- ---- what is saved before it does that
+
+-- The save of this record may fail: it is asked for unless a crash leaves just this record already, and the last save
+-- did not fail. A crash then leaves one of the records that it might have left before, or this one.
+pub record MaySave (c : ControlValue) (saved : RecordValue) (after : List RecordValue) : Type 0 where
+  pub needed : c.lasting ≡ saved ∷ [] → c.doubt ≡ true
+  pub some : 0 < length after
+  pub among : All (Contains (c.lasting ++ saved ∷ [])) after
+
+abbrev pub MayFailToSave : ControlValue → Effect → List RecordValue → Type 0
+MayFailToSave c (Done new told) after = MaySave c (to_last new) after
+MayFailToSave c Conflicting after = ⊥
+MayFailToSave c (Refused asc ascq) after = ⊥
+MayFailToSave c Full after = ⊥
+
+-- the record is saved first
+abbrev pub after_saved : ControlValue → Effect → Choice → ControlValue
+after_saved c effect (SaveFailed after) = record c { lasting = after; doubt = true }
+after_saved c effect choice = after_effect c effect
+
+abbrev pub saved_reply : Effect → Finding → ReplyValue
+saved_reply effect SaveError = reply_by SaveError
+saved_reply effect finding = effect_reply effect
 
 -- ---- the data of PERSISTENT RESERVE IN (SPC-4, 6.15)
 

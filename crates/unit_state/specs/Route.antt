@@ -1,5 +1,7 @@
 -- Where a command goes, and what lets it through.
 use Rattle.std.specs.Prelude.{◌≡◌, ◌≢◌, ℕ, List, Some, None, Ok}
+use Rattle.access_states.specs.AccessMap.{owner_of}
+use Rattle.reservations.specs.Registry.{RecordValue}
 use Rattle.scsi_types.specs.declared.names.Group.{Group}
 use Rattle.scsi_types.specs.declared.command.Command.{Command}
 use Rattle.unit_state.specs.declared.control.Route.{Route}
@@ -16,17 +18,17 @@ use Rattle.unit_state.specs.Reserve.{HasList}
 -- to nobody, to the owner, or to the unit
 abbrev pub IsRouteOf : ControlValue → ℕ → ℕ → Group → Route → Type 0
 IsRouteOf c session serial by Gone = IsNext c session serial → ⊥
-IsRouteOf c session serial by (Moved owner) = IsNext c session serial × (by ≢ c.owner) × (owner ≡ c.owner)
-IsRouteOf c session serial by (At at) = IsNext c session serial × (by ≡ c.owner) × IsPlaceOf c.sessions session at
+IsRouteOf c session serial by (Moved owner) = IsNext c session serial × (by ≢ owner_of c.access) × (owner ≡ owner_of c.access)
+IsRouteOf c session serial by (At at) = IsNext c session serial × (by ≡ owner_of c.access) × IsPlaceOf c.sessions session at
 
 -- no rule refuses the command
 pub record IsAdmitted (c : ControlValue) (r : Request) (command : Command) : Type 0 where
   pub asks : r.asked ≡ Ok command
   pub unrefused : refusal c r ≡ None
   pub fits : Fits c.total (work_of command r.bytes)
-  pub list : HasList command r.bytes
+  pub list : HasList c command r.bytes
 
 -- a rule refuses it, which tells of no failure
 pub record IsRefused (c : ControlValue) (r : Request) (refused : Refusal) : Type 0 where
   pub refuses : refusal c r ≡ Some refused
-  pub fine : (after : List (List ℕ)) → choice_of (refusal_reply refused) after ≡ Fine
+  pub fine : (after : List (List ℕ)) (lasting : List RecordValue) → choice_of (refusal_reply refused) after lasting ≡ Fine

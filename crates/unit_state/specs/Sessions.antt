@@ -1,8 +1,9 @@
 -- The sessions that are attached to a unit: a map from a session's id to its nexus, its next serial, and the unit
 -- attention conditions that wait to be told to it (SAM-5, 5.14).
-use Rattle.std.specs.Prelude.{ℕ, ◌+◌, Bool, not, nat_eq, if◌then◌else◌, List, [], ◌∷◌, drop, filter, map, slice_get, Option, Some, None}
+use Rattle.std.specs.Prelude.{ℕ, ◌+◌, ◌≤◌, Bool, not, nat_eq, if◌then◌else◌, List, [], ◌∷◌, drop, filter, map}
+use Rattle.std.specs.Prelude.{slice_get, Option, Some, None}
 use Rattle.std.specs.Option.{option_map}
-use Rattle.reservations.specs.Nexus.{same_nexus}
+use Rattle.reservations.specs.Nexus.{IsPortName, same_nexus}
 use Rattle.scsi_types.specs.Nexus.{Nexus}
 use Rattle.scsi_types.specs.declared.attention.UnitAttention.{UnitAttention}
 use Rattle.scsi_types.specs.declared.attention.UnitAttention.TheVariants.{PowerOn}
@@ -46,6 +47,11 @@ nexus_in (Some a) = nexus_of a
 
 abbrev pub sender_of : List Attached → ℕ → Nexus
 sender_of sessions id = nexus_in (session_of sessions id)
+
+-- no serial passes the count of entries, and the port is one as iSCSI names it
+pub record IsFit (count : ℕ) (a : Attached) : Type 0 where
+  pub next : a.next ≤ count
+  pub port : IsPortName a.port
 
 -- ---- one session changes
 

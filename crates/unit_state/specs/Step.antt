@@ -1,5 +1,6 @@
 -- What each end of a step tells.
 use Rattle.std.specs.Prelude.{◌≡◌, ◌≢◌, ℕ, Bool, true, false, IsTrue, List, Result, Ok, Err, Option, Some, None}
+use Rattle.access_states.specs.AccessMap.{owner_of}
 use Rattle.scsi_types.specs.ReplyValue.{ReplyValue}
 use Rattle.scsi_types.specs.declared.names.Group.{Group}
 use Rattle.scsi_types.specs.declared.command.Command.{Command as ScsiCommand}
@@ -8,6 +9,7 @@ use Rattle.scsi_types.specs.declared.command.CdbFault.{CdbFault}
 use Rattle.unit_state.specs.declared.refusal.Refusal.{Refusal}
 use Rattle.unit_state.specs.State.{ControlValue, UnitState}
 use Rattle.unit_state.specs.Choice.{choice_of}
+use Rattle.unit_state.specs.Groups.{is_opening}
 use Rattle.unit_state.specs.Refusal.{Request, refusal}
 use Rattle.unit_state.specs.Entry.{Entry, Command, IsNext, IsPossible, IsReplyTo, control_after, blocks_after}
 use Rattle.unit_state.specs.declared.unit.StepEnd.{StepEnd}
@@ -28,12 +30,12 @@ OnNoReply NoMemory P = P
 -- Gone exactly where the command is not the session's next; else Moved, to the owner, exactly where it came by
 -- another group
 abbrev pub IsRouted : ControlValue → ℕ → ℕ → Group → StepEnd → Type 0
-IsRouted c session serial by (Reply reply) = IsNext c session serial × (by ≡ c.owner)
+IsRouted c session serial by (Reply reply) = IsNext c session serial × (by ≡ owner_of c.access)
 IsRouted c session serial by Gone = IsNext c session serial → ⊥
-IsRouted c session serial by (Moved owner) = IsNext c session serial × (by ≢ c.owner) × (owner ≡ c.owner)
-IsRouted c session serial by NoMemory = IsNext c session serial × (by ≡ c.owner)
+IsRouted c session serial by (Moved owner) = IsNext c session serial × (by ≢ owner_of c.access) × (owner ≡ owner_of c.access)
+IsRouted c session serial by NoMemory = IsNext c session serial × (by ≡ owner_of c.access)
 
--- a command that asks what the unit is, or who is registered with it
+-- a command that asks what the unit is, who is registered with it, or what state each group is in
 abbrev pub is_describing : ScsiCommand → Bool
 is_describing (commands.Inquiry page allocation) = true
 is_describing (commands.ModeSense header control page allocation) = true
@@ -41,6 +43,7 @@ is_describing (commands.ReportLuns select allocation) = true
 is_describing commands.ReadCapacity10 = true
 is_describing (commands.ReadCapacity16 allocation) = true
 is_describing (commands.PersistentReserveIn action allocation) = true
+is_describing (commands.ReportTargetPortGroups allocation) = true
 is_describing command = false
 
 -- a command takes memory for the data of its reply, and PERSISTENT RESERVE OUT for registrants and for who is told
@@ -61,7 +64,7 @@ pub record TakesMemory (c : ControlValue) (r : Request) : Type 0 where
 
 -- the command's entry, whose choice its reply and the unit after it tell
 abbrev pub entry_of : ℕ → ℕ → Group → Result ScsiCommand CdbFault → List ℕ → ReplyValue → UnitState → Entry
-entry_of session serial by asked bytes reply new = Command session serial by asked bytes (choice_of reply new.blocks)
+entry_of session serial by asked bytes reply new = Command session serial by asked bytes (choice_of reply new.blocks new.control.lasting)
 
 -- The step added this entry: it was possible, and what is left and the reply are what the model gives; the blocks
 -- too, where the device's type claims them.
@@ -70,6 +73,26 @@ pub record IsStep (claims : Bool) (old new : UnitState) (entry : Entry) (reply :
   pub control : new.control ≡ control_after old.control entry
   pub blocks : IsTrue claims → new.blocks ≡ blocks_after old entry
   pub answer : IsReplyTo claims old entry reply
+
+-- the opener is asked: no rule refuses the command, and it changes the owner
+abbrev pub opens_with : Option Refusal → ControlValue → Request → Bool
+opens_with (Some refused) c r = false
+opens_with None c r = is_opening c r.asked r.bytes
+
+abbrev pub asks_opener : ControlValue → Request → Bool
+asks_opener c r = opens_with (refusal c r) c r
+
+-- the registration file is asked: no rule refuses the command, and it is a PERSISTENT RESERVE OUT
+abbrev pub is_reserving : Result ScsiCommand CdbFault → Bool
+is_reserving (Ok (commands.PersistentReserveOut action scope kind list_length)) = true
+is_reserving asked = false
+
+abbrev pub saves_with : Option Refusal → Request → Bool
+saves_with (Some refused) r = false
+saves_with None r = is_reserving r.asked
+
+abbrev pub asks_file : ControlValue → Request → Bool
+asks_file c r = saves_with (refusal c r) r
 
 -- a command that a rule refuses does not reach the device
 abbrev pub OnRefusal : Option Refusal → Type 0 → Type 0

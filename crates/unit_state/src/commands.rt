@@ -1,5 +1,5 @@
 //! What a command is answered.
-ghost use Rattle.std.specs.Prelude.{◌≡◌, ℕ, List, [], true, Bool, IsTrue, IfOk, OnErr, Ok, length};
+ghost use Rattle.std.specs.Prelude.{◌≡◌, ◌+◌, ◌&&◌, ℕ, List, [], false, true, Bool, IsTrue, IfOk, OnErr, Ok, length};
 ghost use Rattle.block_file.specs.Failures.{Tells};
 ghost use Rattle.unit_state.specs.Answer.{IsAnswer, IsServed, Lasts};
 ghost use Rattle.unit_state.specs.Choice.{IsFine, choice_of};
@@ -8,21 +8,29 @@ ghost use Rattle.identity.specs.SenseData.{told_sense};
 ghost use Rattle.identity.specs.Table.{cut};
 ghost use Rattle.scsi_types.specs.Sense.{sense_bytes};
 ghost use Rattle.unit_state.specs.Entry.{described};
+ghost use Rattle.unit_state.specs.Groups.{is_opening};
+ghost use Rattle.aptpl_file.specs.Lasts.{LastsAmong};
+ghost use Rattle.scsi_types.specs.declared.command.Command.TheVariants.{PersistentReserveOut, SetTargetPortGroups};
+ghost use Rattle.scsi_types.specs.declared.reservation.PrOutAction.{PrOutAction};
 ghost use Rattle.unit_state.specs.Reserve.{HasList};
 ghost use Rattle.unit_state.specs.Sessions.{first_pending};
 ghost use Rattle.unit_state.specs.Places.{IsPlaceOf, Stays};
 ghost use Rattle.unit_state.specs.Refusal.{refusal, refusal_control, request, tell};
 ghost use Rattle.unit_state.specs.State.{unit_of};
-ghost use Rattle.unit_state.specs.Step.{MayTake, OnRefusal, is_describing, TakesMemory};
+ghost use Rattle.unit_state.specs.Step.{MayTake, OnRefusal, asks_file, asks_opener, is_describing};
+ghost use Rattle.unit_state.specs.Step.{is_reserving, TakesMemory};
 ghost use Rattle.unit_state.specs.Worked.{finding_at};
 
 use crate::control::Control;
+use crate::groups::set_groups;
 use crate::medium::{compare, flush, read, write};
 use crate::refusal::Refusal;
 use crate::reserve::{pr_out, reservation_data};
 use crate::rules::admit;
+use crate::saving::reserve;
 use crate::sessions::Sender;
-use block_file::{BLOCK_LENGTH, Blocks};
+use aptpl_file::RegFile;
+use block_file::{BLOCK_LENGTH, Blocks, Opener};
 use compare_write::MediumEnd;
 use identity::{
     inquiry, mode_sense, read_capacity_10, read_capacity_16, report_luns, request_sense,
@@ -32,8 +40,10 @@ use std::alloc::Global;
 
 /// Answers a command: the refusal of the first rule that applies, else what the command returns. Memory is taken for
 /// the data of a reply and for a PERSISTENT RESERVE OUT alone, before anything changes.
-pub fn answer<B: Blocks>(
+pub fn answer<B: Blocks, O: Opener<B>, R: Blocks>(
     device: &mut B,
+    opener: &mut O,
+    file: &mut RegFile<R>,
     control: &mut Control,
     alloc: Global,
     sender: Sender,
@@ -44,15 +54,23 @@ pub fn answer<B: Blocks>(
     requires place { IsPlaceOf control.old.sessions sender.session sender.at }
     ensures size { B.size device.new ≡ B.size device.old }
     ensures stays { Stays control.old control.new sender.session sender.at }
-    ensures err { OnErr result ((device.new ≡ device.old) × (control.new ≡ control.old)) }
+    ensures err { OnErr result ((device.new ≡ device.old) × (opener.new ≡ opener.old) × (file.new ≡ file.old)
+        × (control.new ≡ control.old)) }
+    ensures kept { IsTrue R.claims → LastsAmong R.size R.may_hold file.old control.old.lasting
+        → LastsAmong R.size R.may_hold file.new control.new.lasting }
     ensures memory { OnErr result (TakesMemory control.old (request sender.session asked bytes.now)) }
-    ensures answered { IfOk result (IsAnswer B.claims (unit_of control.old (B.contents device.old))
+    ensures answered { IfOk result (IsAnswer (O.claims && B.claims) (unit_of control.old (B.contents device.old))
         (unit_of control.new (B.contents device.new))
         (request sender.session asked bytes.now)) }
     ensures unreached { OnRefusal (refusal control.old (request sender.session asked bytes.now))
         (device.new ≡ device.old) }
-    ensures fine { IfOk result (λ reply. Tells (B.failures device.old) (B.failures device.new)
-        (IsFine (choice_of reply (B.contents device.new)))) }
+    ensures unopened { asks_opener control.old (request sender.session asked bytes.now) ≡ false
+        → opener.new ≡ opener.old }
+    ensures unsaved { asks_file control.old (request sender.session asked bytes.now) ≡ false → file.new ≡ file.old }
+    ensures fine { IfOk result (λ reply. Tells
+        (B.failures device.old + O.opens_failed opener.old + R.failures file.old.device)
+        (B.failures device.new + O.opens_failed opener.new + R.failures file.new.device)
+        (IsFine (choice_of reply (B.contents device.new) control.new.lasting))) }
     ensures lasts { IsTrue B.claims → IfOk result (Lasts (B.contents device.new) (B.may_hold device.new)
         (work_asked asked bytes.now)) }
 {
@@ -63,13 +81,14 @@ pub fn answer<B: Blocks>(
             return Ok(refusal.reply(alloc));
         }
     };
-    serve(device, control, alloc, sender, command, bytes)
+    serve(device, opener, file, control, alloc, sender, command, bytes)
 }
 
 /// What telling a refusal changes.
 fn refuse(control: &mut Control, sender: Sender, refusal: Refusal)
     requires { IsPlaceOf control.old.sessions sender.session sender.at }
     ensures told { control.new ≡ refusal_control control.old sender.session refusal }
+    ensures lasting { control.new.lasting ≡ control.old.lasting }
     ensures stays { Stays control.old control.new sender.session sender.at }
 {
     match refusal {
@@ -79,7 +98,65 @@ fn refuse(control: &mut Control, sender: Sender, refusal: Refusal)
 }
 
 /// Serves a command that no rule refuses.
-fn serve<B: Blocks>(
+fn serve<B: Blocks, O: Opener<B>, R: Blocks>(
+    device: &mut B,
+    opener: &mut O,
+    file: &mut RegFile<R>,
+    control: &mut Control,
+    alloc: Global,
+    sender: Sender,
+    command: Command,
+    bytes: &[u8],
+) -> Result<Reply, NoMemory>
+    requires fits { Fits (B.size device.old) (work_of command bytes.now) }
+    requires list { HasList control.old command bytes.now }
+    requires place { IsPlaceOf control.old.sessions sender.session sender.at }
+    ensures size { B.size device.new ≡ B.size device.old }
+    ensures stays { Stays control.old control.new sender.session sender.at }
+    ensures err { OnErr result ((device.new ≡ device.old) × (opener.new ≡ opener.old) × (file.new ≡ file.old)
+        × (control.new ≡ control.old)) }
+    ensures kept { IsTrue R.claims → LastsAmong R.size R.may_hold file.old control.old.lasting
+        → LastsAmong R.size R.may_hold file.new control.new.lasting }
+    ensures memory { OnErr result (MayTake (Ok command)) }
+    ensures served { IfOk result (IsServed (O.claims && B.claims) (unit_of control.old (B.contents device.old))
+        (unit_of control.new (B.contents device.new)) sender.session command bytes.now) }
+    ensures unopened { is_opening control.old (Ok command) bytes.now ≡ false → opener.new ≡ opener.old }
+    ensures unsaved { is_reserving (Ok command) ≡ false → file.new ≡ file.old }
+    ensures fine { IfOk result (λ reply. Tells
+        (B.failures device.old + O.opens_failed opener.old + R.failures file.old.device)
+        (B.failures device.new + O.opens_failed opener.new + R.failures file.new.device)
+        (IsFine (choice_of reply (B.contents device.new) control.new.lasting))) }
+    ensures lasts { IsTrue B.claims → IfOk result (Lasts (B.contents device.new) (B.may_hold device.new)
+        (work_of command bytes.now)) }
+{
+    match command {
+        Command::SetTargetPortGroups { list_length } => Ok(set_groups(
+            device,
+            opener,
+            control,
+            alloc,
+            sender,
+            list_length,
+            bytes,
+        )),
+        Command::PersistentReserveOut {
+            action,
+            scope,
+            kind,
+            ..
+        } => reserve(
+            file,
+            control,
+            alloc,
+            sender,
+            pr_out(action, scope, kind, bytes),
+        ),
+        other => perform(device, control, alloc, sender, other, bytes),
+    }
+}
+
+/// Serves a command that asks for nothing to be opened or saved.
+fn perform<B: Blocks>(
     device: &mut B,
     control: &mut Control,
     alloc: Global,
@@ -88,16 +165,19 @@ fn serve<B: Blocks>(
     bytes: &[u8],
 ) -> Result<Reply, NoMemory>
     requires fits { Fits (B.size device.old) (work_of command bytes.now) }
-    requires list { HasList command bytes.now }
+    requires no_change { (list_length : ℕ) → command ≡ SetTargetPortGroups list_length → ⊥ }
+    requires no_save { (action : PrOutAction) (scope kind list_length : ℕ)
+        → command ≡ PersistentReserveOut action scope kind list_length → ⊥ }
     requires place { IsPlaceOf control.old.sessions sender.session sender.at }
     ensures size { B.size device.new ≡ B.size device.old }
+    ensures lasting { control.new.lasting ≡ control.old.lasting }
     ensures stays { Stays control.old control.new sender.session sender.at }
     ensures err { OnErr result ((device.new ≡ device.old) × (control.new ≡ control.old)) }
     ensures memory { OnErr result (MayTake (Ok command)) }
     ensures served { IfOk result (IsServed B.claims (unit_of control.old (B.contents device.old))
         (unit_of control.new (B.contents device.new)) sender.session command bytes.now) }
     ensures fine { IfOk result (λ reply. Tells (B.failures device.old) (B.failures device.new)
-        (IsFine (choice_of reply (B.contents device.new)))) }
+        (IsFine (choice_of reply (B.contents device.new) control.new.lasting))) }
     ensures lasts { IsTrue B.claims → IfOk result (Lasts (B.contents device.new) (B.may_hold device.new)
         (work_of command bytes.now)) }
 {
@@ -105,15 +185,6 @@ fn serve<B: Blocks>(
         Command::TestUnitReady => Ok(Reply::good(Vec::new(alloc))),
         Command::RequestSense { allocation } => {
             Ok(Reply::good(sense(control, alloc, sender, allocation)?))
-        }
-        Command::PersistentReserveOut {
-            action,
-            scope,
-            kind,
-            ..
-        } => {
-            let reply = control.reserve(alloc, sender, pr_out(action, scope, kind, bytes))?;
-            Ok(reply)
         }
         Command::Read { lba, blocks, fua } => {
             let mut out = vec![in alloc; 0u8; BLOCK_LENGTH * usize::from(blocks)]?;
@@ -147,6 +218,7 @@ fn sense(
     ensures sense { IfOk result (λ v. v.items ≡ cut allocation
         (sense_bytes (told_sense (first_pending control.old.sessions sender.session)))) }
     ensures told { IfOk result (λ v. control.new ≡ tell control.old sender.session) }
+    ensures lasting { control.new.lasting ≡ control.old.lasting }
     ensures stays { Stays control.old control.new sender.session sender.at }
     ensures err { OnErr result (control.new ≡ control.old) }
 {
@@ -155,7 +227,7 @@ fn sense(
     Ok(sense)
 }
 
-/// The data of a command that asks what the unit is, or who is registered with it.
+/// The data of a command that asks what the unit is, who is registered with it, or what state each group is in.
 fn describe(
     control: &Control,
     alloc: Global,
@@ -187,6 +259,11 @@ fn describe(
         }
         Command::PersistentReserveIn { action, allocation } => {
             reservation_data(control.registry(), action, allocation)
+        }
+        Command::ReportTargetPortGroups { allocation } => {
+            control
+                .access()
+                .report(alloc, control.preferred(), allocation)
         }
         Command::ReadCapacity10 => read_capacity_10(alloc, control.total()),
         Command::ReadCapacity16 { allocation } => {

@@ -1,15 +1,19 @@
-//! All of a unit but its device.
-ghost use Rattle.std.specs.Prelude.{◌≡◌, ◌+◌, ℕ, ◌<◌, ◌≤◌, ◌↔◌, length, IfOk, OnErr, IsErr};
+//! All of a unit but its devices.
+ghost use Rattle.std.specs.Prelude.{◌≡◌, ◌+◌, ℕ, ◌<◌, ◌≤◌, ◌↔◌, length, [], ◌∷◌, true, false, IfNone, IfOk};
+ghost use Rattle.std.specs.Prelude.{IfSome, OnErr, IsErr, IsTrue};
 ghost use Rattle.unit_state.specs.Places.{IsPlaceOf};
 ghost use Rattle.unit_state.specs.State.{preferred};
 
+use crate::records::{LastSave, same_record};
 use crate::sessions::{
-    Attached, MOST_SESSIONS, Sender, SessionId, end, hear_all, pass_at, place_of, replace, reset,
-    staying, tell_at,
+    Attached, MOST_SESSIONS, Sender, SessionId, end, hear_all, hear_change_all, pass_at, place_of,
+    replace, reset, staying, tell_at,
 };
+use access_states::AccessMap;
+use aptpl_file::SaveFault;
 use attentions::Pending;
-use reservations::{Access, PrEnd, PrOut, Registry};
-use scsi_types::{Group, NoMemory, Place, PortName, Reply, Sense, UnitAttention};
+use reservations::{Access, PrEnd, PrOut, Record, Registry, Told};
+use scsi_types::{Group, NoMemory, Place, PortName, UnitAttention};
 use std::alloc::Global;
 use std::marker::Model;
 use thiserror::Error;
@@ -41,61 +45,87 @@ pub enum Route {
     At(usize),
 }
 
-/// All of a unit but its device: who is attached and what each is to be told, who is registered, and who owns it.
+/// All of a unit but its devices: who is attached and what each is to be told, who is registered, and what state each
+/// target port group is in.
 #[derive(Drop)]
 pub struct Control {
     place: Place,
     total: u32,
-    owner: Group,
+    access: AccessMap,
     registry: Registry,
+    save: LastSave,
     sessions: Vec<Attached>,
     count: u64,
 }
 
 impl Model for Control {
     ghost use Rattle.std.specs.Prelude.{All, ◌≤◌, vec_len, vec_capacity};
+    ghost use Rattle.unit_state.specs.Saving.{is_doubtful, records_left};
+    ghost use Rattle.unit_state.specs.Sessions.{IsFit};
     ghost use Rattle.unit_state.specs.State.{ControlValue};
 
     ghost Value = { ControlValue };
 
-    ghost view = { λ u. record { place = u.place; total = u.total; owner = u.owner; registry = u.registry; sessions = u.sessions.items; count = u.count } };
+    ghost view = { λ u. record {
+      place = u.place;
+      total = u.total;
+      access = u.access;
+      registry = u.registry;
+      lasting = records_left u.registry u.save;
+      doubt = is_doubtful u.save;
+      sessions = u.sessions.items;
+      count = u.count;
+    } };
 
-    ghost invariant = { λ u. All (λ a. a.next ≤ u.count) u.sessions.items × (64 ≤ vec_capacity u.sessions) };
+    ghost invariant = { λ u. All (IsFit u.count) u.sessions.items × (64 ≤ vec_capacity u.sessions) };
 }
 
 impl Control {
     ghost use Rattle.scsi_types.specs.Nexus.{Port, Nexus};
     ghost use Rattle.unit_state.specs.State.{opening_control};
-    ghost use Rattle.unit_state.specs.Entry.{Attach, Detach, Reset, HasRoom, IsAttached, control_after, pass};
-    ghost use Rattle.unit_state.specs.Places.{Stays};
+    ghost use Rattle.unit_state.specs.Entry.{Attach, Detach, Reset, HasRoom, IsAttached, control_after};
+    ghost use Rattle.unit_state.specs.Entry.{count_one, pass};
+    ghost use Rattle.unit_state.specs.Groups.{with_access};
+    ghost use Rattle.unit_state.specs.Places.{Stays, StaysAll};
     ghost use Rattle.unit_state.specs.Refusal.{is_let, tell};
-    ghost use Rattle.unit_state.specs.Reserve.{after_effect, effect_by, effect_reply};
+    ghost use Rattle.aptpl_file.specs.Lasts.{left_by};
+    ghost use Rattle.reservations.specs.Nexus.{IsPortName};
+    ghost use Rattle.reservations.specs.Registry.{to_last};
+    ghost use Rattle.reservations.specs.Rows.{Done};
+    ghost use Rattle.reservations.specs.Table.{IsAnswer};
+    ghost use Rattle.unit_state.specs.Reserve.{after_effect, effect_by};
+    ghost use Rattle.unit_state.specs.Saving.{with_doubt};
     ghost use Rattle.unit_state.specs.Route.{IsRouteOf};
     ghost use Rattle.unit_state.specs.Sessions.{first_pending, sender_of};
 
-    /// As a unit of so many blocks opens: its preferred group owns it, nobody is registered, and no session is attached.
-    pub fn new(alloc: Global, place: Place, total: u32) -> Result<Control, NoMemory>
-        ensures { IfOk result (λ c. c ≡ opening_control place total) }
+    /// As a unit of so many blocks opens: its preferred group owns it, what lasted is registered, and no session is
+    /// attached.
+    pub fn new(alloc: Global, place: Place, total: u32, lasted: Record) -> Result<Control, NoMemory>
+        ensures { IfOk result (λ c. c ≡ opening_control place total lasted) }
     {
         let sessions = Vec::with_capacity(alloc, MOST_SESSIONS)?;
-        let registry = Registry::new(alloc)?;
+        let registry = Registry::from_record(alloc, lasted)?;
         Ok(Control {
             place,
             total,
-            owner: preferred(place.unit),
+            access: AccessMap::opening(preferred(place.unit)),
             registry,
+            save: LastSave::Done,
             sessions,
             count: 0,
         })
     }
 
-    /// Attaches a session of this nexus, and ends one that it had. Takes no memory.
+    /// Attaches a session of this nexus, and ends one that it had. Takes no memory. The port has a name of 1 to 223
+    /// bytes, and its ISID fits six.
     pub fn attach(&mut self, port: PortName, group: Group) -> Result<SessionId, AttachFault>
+        requires { IsPortName port }
         ensures room { IsErr result ↔ (HasRoom self.old (record { port = port; group = group }) → ⊥) }
         ensures id { IfOk result (λ id. id ≡ self.old.count) }
         ensures after { IfOk result (λ id. self.new
             ≡ control_after self.old (Attach (record { port = port; group = group }))) }
         ensures total { self.new.total ≡ self.old.total }
+        ensures lasting { self.new.lasting ≡ self.old.lasting }
         ensures err { OnErr result (self.new ≡ self.old) }
     {
         if self.count == LAST_COUNT || staying(&self.sessions, &port, group) >= MOST_SESSIONS {
@@ -123,6 +153,7 @@ impl Control {
         ensures gone { IsErr result ↔ (IsAttached self.old session → ⊥) }
         ensures after { IfOk result (λ done. self.new ≡ control_after self.old (Detach session)) }
         ensures total { self.new.total ≡ self.old.total }
+        ensures lasting { self.new.lasting ≡ self.old.lasting }
         ensures err { OnErr result (self.new ≡ self.old) }
     {
         self.find(session)?;
@@ -136,6 +167,7 @@ impl Control {
         ensures gone { IsErr result ↔ (IsAttached self.old session → ⊥) }
         ensures after { IfOk result (λ done. self.new ≡ control_after self.old (Reset session)) }
         ensures total { self.new.total ≡ self.old.total }
+        ensures lasting { self.new.lasting ≡ self.old.lasting }
         ensures err { OnErr result (self.new ≡ self.old) }
     {
         self.find(session)?;
@@ -169,8 +201,9 @@ impl Control {
         if self.sessions[at].next != serial {
             return Route::Gone;
         }
-        if by != self.owner {
-            return Route::Moved(self.owner);
+        let owner = self.access.owner();
+        if by != owner {
+            return Route::Moved(owner);
         }
         Route::At(at)
     }
@@ -187,6 +220,27 @@ impl Control {
         ensures { result ≡ self.now.total }
     {
         self.total
+    }
+
+    /// Whether the history has its last length.
+    pub fn is_full(&self) -> bool
+        ensures { IsTrue result ↔ (LAST_COUNT ≤ self.now.count) }
+    {
+        self.count == LAST_COUNT
+    }
+
+    /// The access state of each group.
+    pub fn access(&self) -> &AccessMap
+        ensures { result.now ≡ self.now.access }
+    {
+        &self.access
+    }
+
+    /// The group that the unit prefers.
+    pub fn preferred(&self) -> Group
+        ensures { result ≡ preferred self.now.place.unit }
+    {
+        preferred(self.place.unit)
     }
 
     /// The group by which a session's commands come.
@@ -225,37 +279,88 @@ impl Control {
     pub fn tell(&mut self, sender: Sender)
         requires { IsPlaceOf self.old.sessions sender.session sender.at }
         ensures told { self.new ≡ tell self.old sender.session }
+        ensures lasting { self.new.lasting ≡ self.old.lasting }
         ensures stays { Stays self.old self.new sender.session sender.at }
     {
         tell_at(&mut self.sessions, sender.at);
     }
 
-    /// Does a PERSISTENT RESERVE OUT of a session, and tells who is to hear of it. A refusal, and a want of memory,
-    /// changes nothing.
-    pub fn reserve(
-        &mut self,
-        alloc: Global,
-        sender: Sender,
-        asked: PrOut,
-    ) -> Result<Reply, NoMemory>
-        requires { IsPlaceOf self.old.sessions sender.session sender.at }
-        ensures reply { IfOk result (λ reply. reply ≡ effect_reply (effect_by self.old sender.session asked)) }
-        ensures after { IfOk result (λ reply. self.new
-            ≡ after_effect self.old (effect_by self.old sender.session asked)) }
-        ensures stays { Stays self.old self.new sender.session sender.at }
-        ensures err { OnErr result (self.new ≡ self.old) }
+    /// What a PERSISTENT RESERVE OUT of a session makes of a copy of the registry.
+    pub fn attempt(&self, sender: Sender, asked: PrOut) -> Result<(Registry, PrEnd), NoMemory>
+        requires { IsPlaceOf self.now.sessions sender.session sender.at }
+        ensures { IfOk result (λ r. IsAnswer r.1 (effect_by self.now sender.session asked) self.now.registry r.0) }
     {
         let attached = &self.sessions[sender.at];
-        match self.registry.out(&attached.port, attached.group, asked) {
-            PrEnd::Good(told) => {
-                hear_all(&mut self.sessions, &told);
-                Ok(Reply::good(Vec::new(alloc)))
-            }
-            PrEnd::Conflict => Ok(Reply::conflict(alloc)),
-            PrEnd::Illegal(asc, ascq) => Ok(Reply::check(alloc, Sense::new(0x05, asc, ascq))),
-            PrEnd::TableFull => Ok(Reply::check(alloc, Sense::INSUFFICIENT_REGISTRATION_RESOURCES)),
-            PrEnd::NoMemory => Err(NoMemory),
+        let mut registry = self.registry.copy()?;
+        let end = registry.out(&attached.port, attached.group, asked);
+        Ok((registry, end))
+    }
+
+    /// What is to be saved before such a registry is in force: its record to last; nothing where a crash leaves just that
+    /// already, and the last save did not fail.
+    pub fn to_save(&self, new: &Registry) -> Result<Option<Record>, NoMemory>
+        ensures some { IfOk result (λ o. IfSome o (λ saved. (saved ≡ to_last new.now)
+            × (self.now.lasting ≡ saved ∷ [] → self.now.doubt ≡ true))) }
+        ensures none { IfOk result (λ o. IfNone o ((self.now.lasting ≡ to_last new.now ∷ [])
+            × (self.now.doubt ≡ false))) }
+    {
+        let saved = new.record()?;
+        let last = self.registry.record()?;
+        match &self.save {
+            LastSave::Done if same_record(&last, &saved) => Ok(None),
+            _ => Ok(Some(saved)),
         }
+    }
+
+    /// A save of this record has failed.
+    pub fn fail(&mut self, fault: SaveFault, saved: Record)
+        ensures ever { 0 < length self.old.lasting }
+        ensures failed { self.new ≡ with_doubt self.old (left_by fault self.old.lasting saved) }
+        ensures stays { StaysAll self.old self.new }
+    {
+        match fault {
+            SaveFault::OldRoot => {
+                if let LastSave::Done = self.save {
+                    self.save = LastSave::Failed;
+                }
+            }
+            SaveFault::IdleSlot => self.save = LastSave::Failed,
+            SaveFault::NewRoot => self.save = LastSave::Undecided(saved),
+        }
+    }
+
+    /// Puts a registry in force, the record to last of which is what a crash leaves, and tells who is to hear of it.
+    pub fn settle(&mut self, registry: Registry, told: &[Told])
+        ensures settled { self.new ≡ after_effect self.old (Done registry told.now) }
+        ensures stays { StaysAll self.old self.new }
+    {
+        self.registry = registry;
+        self.save = LastSave::Done;
+        hear_all(&mut self.sessions, told);
+    }
+
+    /// Puts these access states in the place of those that are there. Where the state of a group is another, every session
+    /// hears of it but the one that asked for it.
+    pub fn set_access(&mut self, by: Option<SessionId>, access: AccessMap)
+        ensures changed { self.new ≡ with_access self.old by access }
+        ensures lasting { self.new.lasting ≡ self.old.lasting }
+        ensures stays { StaysAll self.old self.new }
+    {
+        let change = self.access.change_to(&access);
+        self.access = access;
+        if change.changed[0] || change.changed[1] {
+            hear_change_all(&mut self.sessions, by);
+        }
+    }
+
+    /// Counts an entry that is no command.
+    pub fn count_one(&mut self)
+        requires { self.old.count < LAST_COUNT }
+        ensures counted { self.new ≡ count_one self.old }
+        ensures total { self.new.total ≡ self.old.total }
+        ensures lasting { self.new.lasting ≡ self.old.lasting }
+    {
+        self.count += 1;
     }
 
     /// Counts one command more of a session.
@@ -264,6 +369,7 @@ impl Control {
         requires room { self.old.count < LAST_COUNT }
         ensures passed { self.new ≡ pass self.old sender.session }
         ensures total { self.new.total ≡ self.old.total }
+        ensures lasting { self.new.lasting ≡ self.old.lasting }
     {
         pass_at(&mut self.sessions, sender.at);
         self.count += 1;

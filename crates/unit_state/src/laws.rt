@@ -4,19 +4,28 @@ ghost use Rattle.std.specs.Prelude.{◌++◌, length, take, Option, Some, None, 
 ghost use Rattle.scsi_types.specs.ReplyValue.{ReplyValue, check, conflict, good};
 ghost use Rattle.scsi_types.specs.declared.names.Group.{Group};
 ghost use Rattle.scsi_types.specs.declared.command.Command.{Command as ScsiCommand};
-ghost use Rattle.scsi_types.specs.declared.command.Command.TheVariants.{Read, Write};
+ghost use Rattle.scsi_types.specs.declared.command.Command.TheVariants.{PersistentReserveOut, Read};
+ghost use Rattle.scsi_types.specs.declared.command.Command.TheVariants.{SetTargetPortGroups, Write};
+ghost use Rattle.scsi_types.specs.declared.reservation.PrOutAction.{PrOutAction};
 ghost use Rattle.scsi_types.specs.declared.command.CdbFault.{CdbFault};
 ghost use Rattle.scsi_types.specs.Attention.{attention_sense};
 ghost use Rattle.scsi_types.specs.declared.attention.UnitAttention.{UnitAttention as Condition};
-ghost use Rattle.scsi_types.specs.declared.attention.UnitAttention.TheVariants.{PowerOn};
-ghost use Rattle.attentions.specs.Queue.{is_pending, without_repeats};
+ghost use Rattle.scsi_types.specs.declared.attention.UnitAttention.TheVariants.{AccessStateChanged, PowerOn};
+ghost use Rattle.scsi_types.specs.Sense.{internal_target_failure, set_target_port_groups_command_failed};
+ghost use Rattle.reservations.specs.Registry.{RecordValue};
+ghost use Rattle.unit_state.specs.Saving.{LastsAlone, with_doubt};
+ghost use Rattle.access_states.specs.AccessMap.{AccessMapValue};
+ghost use Rattle.attentions.specs.Queue.{established, is_pending, without_repeats};
 ghost use Rattle.unit_state.specs.Ops.{kind_asked, passes_attention};
 ghost use Rattle.reservations.specs.declared.request.PrOut.{PrOut};
-ghost use Rattle.unit_state.specs.Refusal.{IsKeptOut};
+ghost use Rattle.scsi_types.specs.declared.command.Op.{Op};
+ghost use Rattle.scsi_types.specs.declared.sense.Sense.{Sense};
+ghost use Rattle.unit_state.specs.Refusal.{IsKeptOut, IsUnserved};
 ghost use Rattle.unit_state.specs.Reserve.{after_effect, effect_by};
 ghost use Rattle.unit_state.specs.Sessions.{session_of, first_pending, pending_of};
 ghost use Rattle.unit_state.specs.State.{ControlValue, UnitState};
-ghost use Rattle.unit_state.specs.Choice.{Choice, Fine};
+ghost use Rattle.unit_state.specs.Choice.{Choice, Fine, OpenFailed, SaveFailed};
+ghost use Rattle.unit_state.specs.Groups.{is_any_changed, with_access};
 ghost use Rattle.unit_state.specs.Refusal.{refusal, request};
 ghost use Rattle.unit_state.specs.Entry.{Entry, Command, Detach, Reset, IsPossible, IsNext, after, blocks_after};
 ghost use Rattle.unit_state.specs.Entry.{control_after, pass, reply_to};
@@ -87,18 +96,37 @@ pub fn an_attention_is_told_once()
         → is_pending (pending_of (after s (Command session serial by asked bytes Fine)).control.sessions session) attention ≡ false }
 {}
 
-/// A command that the reservation does not let its nexus do is RESERVATION CONFLICT and does nothing: where nothing is to be
-/// told first, it is judged when it is served (SPC-4, 5.13.2).
+/// A command of a kind that the ports of its group do not serve in the state of that group is refused for that and does
+/// nothing, whatever its fields and whatever the reservation: where nothing is to be told first (SPC-4, 5.15.2.4).
+pub fn a_group_serves_what_its_state_lets()
+    ensures reply { (s : UnitState) (session serial : ℕ) (by : Group) (asked : Result ScsiCommand CdbFault)
+        (bytes : List ℕ) (op : Op) (sense : Sense)
+        → IsUnserved s.control session asked op sense
+        → reply_to s (Command session serial by asked bytes Fine) ≡ Some (check sense) }
+    ensures blocks { (s : UnitState) (session serial : ℕ) (by : Group) (asked : Result ScsiCommand CdbFault)
+        (bytes : List ℕ) (op : Op) (sense : Sense)
+        → IsUnserved s.control session asked op sense
+        → blocks_after s (Command session serial by asked bytes Fine) ≡ s.blocks }
+    ensures control { (s : UnitState) (session serial : ℕ) (by : Group) (asked : Result ScsiCommand CdbFault)
+        (bytes : List ℕ) (op : Op) (sense : Sense)
+        → IsUnserved s.control session asked op sense
+        → control_after s.control (Command session serial by asked bytes Fine) ≡ pass s.control session }
+{}
+
+/// A command that the reservation does not let its nexus do is RESERVATION CONFLICT and does nothing: where nothing is to
+/// be told first and the group serves it, it is judged when it is served (SPC-4, 5.13.2).
 pub fn a_reservation_keeps_others_out()
     ensures reply { (s : UnitState) (session serial : ℕ) (by : Group) (asked : Result ScsiCommand CdbFault)
-        (bytes : List ℕ)
-        → IsKeptOut s.control session asked → reply_to s (Command session serial by asked bytes Fine) ≡ Some conflict }
+        (bytes : List ℕ) (op : Op)
+        → IsKeptOut s.control session asked op
+        → reply_to s (Command session serial by asked bytes Fine) ≡ Some conflict }
     ensures blocks { (s : UnitState) (session serial : ℕ) (by : Group) (asked : Result ScsiCommand CdbFault)
-        (bytes : List ℕ)
-        → IsKeptOut s.control session asked → blocks_after s (Command session serial by asked bytes Fine) ≡ s.blocks }
+        (bytes : List ℕ) (op : Op)
+        → IsKeptOut s.control session asked op
+        → blocks_after s (Command session serial by asked bytes Fine) ≡ s.blocks }
     ensures control { (s : UnitState) (session serial : ℕ) (by : Group) (asked : Result ScsiCommand CdbFault)
-        (bytes : List ℕ)
-        → IsKeptOut s.control session asked
+        (bytes : List ℕ) (op : Op)
+        → IsKeptOut s.control session asked op
         → control_after s.control (Command session serial by asked bytes Fine) ≡ pass s.control session }
 {}
 
@@ -116,6 +144,58 @@ pub fn a_reset_is_told_to_the_others()
         ≡ pending_of c.sessions session }
     ensures others { (c : ControlValue) (session other : ℕ) → other ≢ session → IsSome (session_of c.sessions other)
         → pending_of (control_after c (Reset session)).sessions other ≡ PowerOn ∷ [] }
+{}
+
+/// Who sets access states hears nothing of it. Where the state of a group is another, every other session is to be told so,
+/// behind what it was to be told; and every session where the unit moves by itself (SPC-4, 5.15.2).
+pub fn a_change_is_told_to_the_others()
+    ensures own { (c : ControlValue) (session : ℕ) (new : AccessMapValue)
+        → pending_of (with_access c (Some session) new).sessions session ≡ pending_of c.sessions session }
+    ensures others { (c : ControlValue) (session other : ℕ) (new : AccessMapValue) → other ≢ session
+        → is_any_changed c.access new ≡ true → IsSome (session_of c.sessions other)
+        → pending_of (with_access c (Some session) new).sessions other
+        ≡ established (pending_of c.sessions other) AccessStateChanged }
+    ensures moved { (c : ControlValue) (other : ℕ) (new : AccessMapValue) → is_any_changed c.access new ≡ true
+        → IsSome (session_of c.sessions other)
+        → pending_of (with_access c None new).sessions other
+        ≡ established (pending_of c.sessions other) AccessStateChanged }
+{}
+
+/// A SET TARGET PORT GROUPS for which the blocks can't be opened changes nothing, and is told so (SPC-4, 6.45).
+pub fn a_failed_open_changes_nothing()
+    ensures control { (c : ControlValue) (session serial : ℕ) (by : Group) (list_length : ℕ) (bytes : List ℕ)
+        → refusal c (request session (Ok (SetTargetPortGroups list_length)) bytes) ≡ None
+        → control_after c (Command session serial by (Ok (SetTargetPortGroups list_length)) bytes OpenFailed)
+        ≡ pass c session }
+    ensures reply { (s : UnitState) (session serial : ℕ) (by : Group) (list_length : ℕ) (bytes : List ℕ)
+        → refusal s.control (request session (Ok (SetTargetPortGroups list_length)) bytes) ≡ None
+        → reply_to s (Command session serial by (Ok (SetTargetPortGroups list_length)) bytes OpenFailed)
+        ≡ Some (check set_target_port_groups_command_failed) }
+{}
+
+/// Where a PERSISTENT RESERVE OUT is GOOD a restart finds just what is to last of the registrations that are there then,
+/// and there is no doubt (SPC-4, 5.13.5).
+pub fn good_tells_that_it_lasts()
+    ensures { (s : UnitState) (session serial : ℕ) (by : Group) (action : PrOutAction)
+        (scope kind list_length : ℕ) (bytes : List ℕ) (choice : Choice)
+        → reply_to s (Command session serial by (Ok (PersistentReserveOut action scope kind list_length)) bytes choice)
+        ≡ Some (good [])
+        → LastsAlone (control_after s.control
+        (Command session serial by (Ok (PersistentReserveOut action scope kind list_length)) bytes choice)) }
+{}
+
+/// A PERSISTENT RESERVE OUT that can't be saved is told so, and changes nothing but what a restart may find.
+pub fn a_failed_save_changes_nothing_else()
+    ensures control { (c : ControlValue) (session serial : ℕ) (by : Group) (action : PrOutAction)
+        (scope kind list_length : ℕ) (bytes : List ℕ) (after : List RecordValue)
+        → refusal c (request session (Ok (PersistentReserveOut action scope kind list_length)) bytes) ≡ None
+        → control_after c (Command session serial by (Ok (PersistentReserveOut action scope kind list_length)) bytes
+        (SaveFailed after)) ≡ pass (with_doubt c after) session }
+    ensures reply { (s : UnitState) (session serial : ℕ) (by : Group) (action : PrOutAction)
+        (scope kind list_length : ℕ) (bytes : List ℕ) (after : List RecordValue)
+        → refusal s.control (request session (Ok (PersistentReserveOut action scope kind list_length)) bytes) ≡ None
+        → reply_to s (Command session serial by (Ok (PersistentReserveOut action scope kind list_length)) bytes
+        (SaveFailed after)) ≡ Some (check internal_target_failure) }
 {}
 
 /// A session that ended is not attached.

@@ -3,15 +3,18 @@
 
 mod commands;
 mod control;
+mod groups;
 pub mod laws;
 mod medium;
 mod ops;
+mod records;
 mod refusal;
 mod reserve;
 mod rules;
+mod saving;
 mod sessions;
 mod unit;
 
 pub use control::{AttachFault, Gone};
 pub use sessions::SessionId;
-pub use unit::{StepEnd, Unit};
+pub use unit::{MoveFault, StepEnd, Unit};

@@ -1,6 +1,6 @@
 //! The kind of a command, and what the kind alone decides.
 ghost use Rattle.std.specs.Prelude.{◌≡◌};
-ghost use Rattle.unit_state.specs.Ops.{access_of, is_served, kind_of, kind_asked, passes_attention};
+ghost use Rattle.unit_state.specs.Ops.{access_of, kind_of, kind_asked, passes_attention};
 
 use reservations::Access;
 use scsi_types::{Asked, CdbFault, Command, Op};
@@ -44,16 +44,6 @@ pub fn passes_attention(kind: Option<Op>) -> bool
     match kind {
         Some(Op::Inquiry) | Some(Op::ReportLuns) | Some(Op::RequestSense) => true,
         _ => false,
-    }
-}
-
-/// Whether the unit serves a kind of command: the target port group commands not yet.
-pub fn is_served(kind: Option<Op>) -> bool
-    ensures { result ≡ is_served kind }
-{
-    match kind {
-        None | Some(Op::ReportTargetPortGroups) | Some(Op::SetTargetPortGroups) => false,
-        _ => true,
     }
 }
 

@@ -4,20 +4,24 @@ ghost use Rattle.std.specs.Prelude.{MatchResult};
 ghost use Rattle.unit_state.specs.Medium.{range_of, work_asked};
 ghost use Rattle.unit_state.specs.Ops.{access_of, passes_attention};
 ghost use Rattle.unit_state.specs.Places.{IsPlaceOf};
-ghost use Rattle.unit_state.specs.Refusal.{attention_by, conflict_by, field_by, is_let, list_by, list_length_of};
-ghost use Rattle.unit_state.specs.Refusal.{asks_saved, asks_to_last, opcode_by, outside, range_by, refusal, request};
+ghost use Rattle.unit_state.specs.Groups.{set_by};
+ghost use Rattle.unit_state.specs.Refusal.{access_by, attention_by, conflict_by, field_by, groups_list_by};
+ghost use Rattle.unit_state.specs.Refusal.{is_let, list_by};
+ghost use Rattle.unit_state.specs.Refusal.{asks_saved, opcode_by, outside, range_by, refusal, request};
+ghost use Rattle.unit_state.specs.Refusal.{reserve_list_by};
+ghost use Rattle.unit_state.specs.Refusal.{state_for};
 ghost use Rattle.scsi_types.specs.Sense.{saving_parameters_not_supported};
-ghost use Rattle.unit_state.specs.Reserve.{flag_of};
-ghost use Rattle.reservations.specs.Rows.{is_registering};
 ghost use Rattle.unit_state.specs.Route.{IsAdmitted, IsRefused};
 ghost use Rattle.unit_state.specs.Sessions.{first_pending, sender_of};
 
 use crate::control::Control;
-use crate::ops::{access_of, is_served, kind_asked, passes_attention};
+use crate::groups::states_asked;
+use crate::ops::{access_of, kind_asked, passes_attention};
 use crate::refusal::Refusal;
-use crate::reserve::{APTPL, LIST_LENGTH, has_flag};
+use crate::reserve::LIST_LENGTH;
 use crate::sessions::Sender;
-use scsi_types::{Asked, CdbFault, Command, Op, PageControl, PrOutAction, Sense, need};
+use access_states::permits;
+use scsi_types::{Asked, CdbFault, Command, Op, PageControl, Sense, need};
 
 /// The command, where no rule refuses it.
 pub fn admit(
@@ -47,11 +51,12 @@ fn first_refusal(control: &Control, sender: Sender, asked: &Asked, bytes: &[u8])
     let kind = kind_asked(asked);
     attention(control, sender, kind)
         .or(opcode(kind))
+        .or(access(control, sender, kind))
         .or(conflict(control, sender, kind))
         .or(field(asked, bytes))
         .or(saved(asked))
         .or(range(asked, control.total()))
-        .or(list(asked, bytes))
+        .or(list(control, asked, bytes))
 }
 
 /// An attention is pending, and the command is none that it lets pass (SAM-5, 5.14).
@@ -66,14 +71,26 @@ fn attention(control: &Control, sender: Sender, kind: Option<Op>) -> Option<Refu
     Some(Refusal::Attention(attention))
 }
 
-/// The opcode is that of no command that is served.
+/// The opcode is that of no command.
 fn opcode(kind: Option<Op>) -> Option<Refusal>
     ensures { result ≡ opcode_by kind }
 {
-    if is_served(kind) {
-        return None;
+    match kind {
+        Some(_) => None,
+        None => Some(Refusal::Check(Sense::INVALID_OPCODE)),
     }
-    Some(Refusal::Check(Sense::INVALID_OPCODE))
+}
+
+/// The ports of the session's group serve no such command in the state of that group (SPC-4, 5.15.2.4).
+fn access(control: &Control, sender: Sender, kind: Option<Op>) -> Option<Refusal>
+    requires { IsPlaceOf control.now.sessions sender.session sender.at }
+    ensures { result ≡ access_by (state_for control.now sender.session) kind }
+{
+    let state = control.access().state(control.group(sender));
+    match permits(state, kind?) {
+        Some(sense) => Some(Refusal::Check(sense)),
+        None => None,
+    }
 }
 
 /// The reservation does not let the nexus do this (SPC-4, 5.13.2).
@@ -141,35 +158,35 @@ fn outside(lba: u64, blocks: u32, total: u32) -> Option<Refusal>
     Some(Refusal::Check(Sense::LBA_OUT_OF_RANGE))
 }
 
-/// A PERSISTENT RESERVE OUT with a parameter list of another length, or that is to outlast a loss of power.
-fn list(asked: &Asked, bytes: &[u8]) -> Option<Refusal>
-    ensures { result ≡ list_by (list_length_of asked.now) (asks_to_last asked.now bytes.now) }
+/// The parameter list is none that the command may have.
+fn list(control: &Control, asked: &Asked, bytes: &[u8]) -> Option<Refusal>
+    ensures { result ≡ list_by control.now asked.now bytes.now }
 {
-    let Ok(
-        Command::PersistentReserveOut {
-            action,
-            list_length,
-            ..
-        },
-    ) = asked
-    else {
-        return None;
-    };
-    if *list_length != LIST_LENGTH {
-        return Some(Refusal::Check(Sense::PARAMETER_LIST_LENGTH_ERROR));
+    match asked {
+        Ok(Command::PersistentReserveOut { list_length, .. }) => reserve_list(*list_length),
+        Ok(Command::SetTargetPortGroups { list_length }) => {
+            groups_list(control, *list_length, bytes)
+        }
+        _ => None,
     }
-    if registers(*action) && has_flag(bytes, APTPL) {
-        return Some(Refusal::Check(Sense::INVALID_FIELD_IN_PARAMETER_LIST));
-    }
-    None
 }
 
-/// Whether a service action registers its nexus.
-fn registers(action: PrOutAction) -> bool
-    ensures { result ≡ is_registering action }
+/// A PERSISTENT RESERVE OUT with a parameter list of another length.
+fn reserve_list(list_length: u32) -> Option<Refusal>
+    ensures { result ≡ reserve_list_by list_length }
 {
-    match action {
-        PrOutAction::Register | PrOutAction::RegisterAndIgnoreExistingKey => true,
-        _ => false,
+    if list_length == LIST_LENGTH {
+        return None;
+    }
+    Some(Refusal::Check(Sense::PARAMETER_LIST_LENGTH_ERROR))
+}
+
+/// A SET TARGET PORT GROUPS with a parameter list that the access states can't follow.
+fn groups_list(control: &Control, list_length: u32, bytes: &[u8]) -> Option<Refusal>
+    ensures { result ≡ groups_list_by (set_by control.now list_length bytes.now) }
+{
+    match states_asked(control, list_length, bytes) {
+        Ok(_) => None,
+        Err(fault) => Some(Refusal::Check(fault.sense())),
     }
 }

@@ -1,10 +1,12 @@
 //! The sessions that are attached to a unit.
-ghost use Rattle.std.specs.Prelude.{◌≡◌, ◌<◌, ◌++◌, ◌-◌, ◌^◌, [], ◌∷◌, length, slice_get, None, IfSome, MatchOption};
+ghost use Rattle.std.specs.Prelude.{◌≡◌, ◌<◌, ◌++◌, ◌-◌, ◌^◌, [], ◌∷◌, length, map, slice_get, None, IfSome};
+ghost use Rattle.std.specs.Prelude.{MatchOption};
 ghost use Rattle.std.specs.Prelude.{vec_capacity};
 ghost use Rattle.unit_state.specs.Places.{IsChangedAt, IsPlaceOf};
 ghost use Rattle.unit_state.specs.Sessions.{all_reset, ended, heard_reset, is_of, nexus_of, pass_one, session_of};
 ghost use Rattle.unit_state.specs.Sessions.{tell_one, without};
 ghost use Rattle.reservations.specs.Notice.{code_told};
+ghost use Rattle.unit_state.specs.Groups.{hear_change};
 ghost use Rattle.unit_state.specs.Reserve.{all_heard, hear};
 
 use attentions::Pending;
@@ -90,6 +92,26 @@ fn hear_reset(attached: &mut Attached, by: SessionId)
 {
     if attached.id != by {
         attached.pending.replace_all(UnitAttention::PowerOn);
+    }
+}
+
+/// Tells every session but the one that asked for it of a change of access states, behind what it is to be told already.
+pub fn hear_change_all(sessions: &mut Vec<Attached>, by: Option<SessionId>)
+    ensures items { sessions.new.items ≡ map (hear_change by) sessions.old.items }
+    ensures capacity { vec_capacity sessions.new ≡ vec_capacity sessions.old }
+{
+    for attached in sessions.iter_mut() {
+        hear_change(attached, by);
+    }
+}
+
+fn hear_change(attached: &mut Attached, by: Option<SessionId>)
+    ensures { attached.new ≡ hear_change by attached.old }
+{
+    if by != Some(attached.id) {
+        attached
+            .pending
+            .establish(UnitAttention::AccessStateChanged);
     }
 }
 

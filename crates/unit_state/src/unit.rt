@@ -1,13 +1,22 @@
-ghost use Rattle.std.specs.Prelude.{IfSome, ◌≡◌, ◌<◌, ◌↔◌, IfOk, OnErr, IsErr};
-ghost use Rattle.block_file.specs.Failures.{Tells};
+ghost use Rattle.std.specs.Prelude.{IfSome, ◌≡◌, ◌≢◌, ◌<◌, ◌&&◌, ◌↔◌, false, Err, [], ◌∷◌, IfOk, OnOk, OnErr, IsErr};
+ghost use Rattle.block_file.specs.Disk.{Only};
+ghost use Rattle.block_file.specs.Failures.{Counts, Tells};
+ghost use Rattle.aptpl_file.specs.Lasts.{EachOutcomeHolds, LastsAmong};
+ghost use Rattle.reservations.specs.Nexus.{IsPortName};
+ghost use Rattle.unit_state.specs.declared.control.TheConstants.{LAST_COUNT};
 
 use crate::commands::answer;
 use crate::control::{AttachFault, Control, Gone, Route};
+use crate::groups::change;
 use crate::sessions::{Sender, SessionId};
-use block_file::Blocks;
+use access_states::{AsetFault, Cause, Change};
+use aptpl_file::RegFile;
+use block_file::{Blocks, DeviceFailed, Opener};
+use reservations::Record;
 use scsi_types::{Asked, Group, NoMemory, Place, PortName, Reply};
 use std::alloc::Global;
 use std::marker::Model;
+use thiserror::Error;
 
 /// What a step ended with. Only `Reply` is an entry of the unit's history; the others change nothing.
 #[derive(Debug, Drop)]
@@ -22,25 +31,45 @@ pub enum StepEnd {
     NoMemory,
 }
 
-/// A logical unit over a device.
+/// Why a unit does not move. Nothing has changed.
+#[derive(Clone, Copy, Debug, PartialEq, Eq, Error)]
+pub enum MoveFault {
+    /// The list is none that the access states can follow.
+    #[error("{0}")]
+    List(AsetFault),
+    /// The blocks could not be opened for the new owner.
+    #[error("the device could not be opened")]
+    OpenFailed,
+    /// The history has its last length.
+    #[error("the unit is gone")]
+    Gone,
+}
+
+/// A logical unit over a device, with an opener that opens the device for the controller that takes it over, and a
+/// registration file on a device of its own. Of every unit it is known that a crash of that device leaves one of the
+/// records that `lasting` names, where its type claims what is said of a crash.
 #[derive(Drop)]
-pub struct Unit<B: Blocks> {
+pub struct Unit<B: Blocks, O: Opener<B>, R: Blocks> {
     device: B,
+    opener: O,
+    file: RegFile<R>,
     control: Control,
 }
 
-impl<B: Blocks> Model for Unit<B> {
-    ghost use Rattle.std.specs.Prelude.{◌≡◌};
+impl<B: Blocks, O: Opener<B>, R: Blocks> Model for Unit<B, O, R> {
+    ghost use Rattle.std.specs.Prelude.{◌≡◌, IsTrue};
+    ghost use Rattle.aptpl_file.specs.Lasts.{LastsAmong};
     ghost use Rattle.unit_state.specs.State.{UnitValue};
 
-    ghost Value = { UnitValue B };
+    ghost Value = { UnitValue B O R };
 
-    ghost view = { λ u. record { device = u.device; control = u.control } };
+    ghost view = { λ u. record { device = u.device; opener = u.opener; file = u.file; control = u.control } };
 
-    ghost invariant = { λ u. u.control.total ≡ B.size u.device };
+    ghost invariant = { λ u. (u.control.total ≡ B.size u.device)
+        × (IsTrue R.claims → LastsAmong R.size R.may_hold u.file u.control.lasting) };
 }
 
-impl<B: Blocks> Unit<B> {
+impl<B: Blocks, O: Opener<B>, R: Blocks> Unit<B, O, R> {
     ghost use Rattle.scsi_types.specs.Nexus.{Port, Nexus};
     ghost use Rattle.unit_state.specs.State.{UnitState, UnitValue, opening_control, state_of, failures_of};
     ghost use Rattle.unit_state.specs.Choice.{IsFine, choice_of};
@@ -49,26 +78,48 @@ impl<B: Blocks> Unit<B> {
     ghost use Rattle.std.specs.Prelude.{IsTrue};
     ghost use Rattle.unit_state.specs.Answer.{Lasts};
     ghost use Rattle.unit_state.specs.Medium.{work_asked};
-    ghost use Rattle.unit_state.specs.Step.{OnReply, OnNoReply, OnRefusal, IsRouted, IsStep, TakesMemory, entry_of};
+    ghost use Rattle.unit_state.specs.Groups.{is_moved_by, move_by};
+    ghost use Rattle.unit_state.specs.Moves.{IsMove};
+    ghost use Rattle.unit_state.specs.Step.{OnReply, OnNoReply, OnRefusal, IsRouted, IsStep, TakesMemory};
+    ghost use Rattle.unit_state.specs.Step.{asks_file, asks_opener, entry_of};
 
-    /// Opens a unit over its blocks; its preferred group owns it. Refused, it drops the device.
-    pub fn open(alloc: Global, place: Place, blocks: B) -> Result<Unit<B>, NoMemory>
-        ensures { IfOk result (λ u. u ≡ record { device = blocks; control = opening_control place (B.size blocks) }) }
+    /// Opens a unit over its blocks, with this registration file and the record that it holds; its preferred group owns it.
+    /// Refused, it drops the devices and the opener.
+    pub fn open(
+        alloc: Global,
+        place: Place,
+        blocks: B,
+        opener: O,
+        file: RegFile<R>,
+        lasted: Record,
+    ) -> Result<Unit<B, O, R>, NoMemory>
+        requires lasts { IsTrue R.claims → LastsAmong R.size R.may_hold file (lasted ∷ []) }
+        ensures { IfOk result (λ u. u ≡ record {
+          device = blocks;
+          opener = opener;
+          file = file;
+          control = opening_control place (B.size blocks) lasted;
+        }) }
     {
-        let control = Control::new(alloc, place, blocks.count())?;
+        let control = Control::new(alloc, place, blocks.count(), lasted)?;
         Ok(Unit {
             device: blocks,
+            opener,
+            file,
             control,
         })
     }
 
-    /// Attaches a session of this nexus, and ends one that it had. Takes no memory.
+    /// Attaches a session of this nexus, and ends one that it had. Takes no memory. The port has a name of 1 to 223
+    /// bytes, and its ISID fits six.
     pub fn attach(&mut self, port: PortName, group: Group) -> Result<SessionId, AttachFault>
+        requires { IsPortName port }
         ensures room { IsErr result ↔ (HasRoom self.old.control (record { port = port; group = group }) → ⊥) }
         ensures id { IfOk result (λ id. id ≡ self.old.control.count) }
         ensures control { IfOk result (λ id. self.new.control
             ≡ control_after self.old.control (Attach (record { port = port; group = group }))) }
         ensures device { self.new.device ≡ self.old.device }
+        ensures file { self.new.file ≡ self.old.file }
         ensures err { OnErr result (self.new ≡ self.old) }
     {
         self.control.attach(port, group)
@@ -79,6 +130,7 @@ impl<B: Blocks> Unit<B> {
         ensures gone { IsErr result ↔ (IsAttached self.old.control session → ⊥) }
         ensures control { IfOk result (λ done. self.new.control ≡ control_after self.old.control (Detach session)) }
         ensures device { self.new.device ≡ self.old.device }
+        ensures file { self.new.file ≡ self.old.file }
         ensures err { OnErr result (self.new ≡ self.old) }
     {
         self.control.detach(session)
@@ -90,6 +142,7 @@ impl<B: Blocks> Unit<B> {
         ensures gone { IsErr result ↔ (IsAttached self.old.control session → ⊥) }
         ensures control { IfOk result (λ done. self.new.control ≡ control_after self.old.control (Reset session)) }
         ensures device { self.new.device ≡ self.old.device }
+        ensures file { self.new.file ≡ self.old.file }
         ensures err { OnErr result (self.new ≡ self.old) }
     {
         self.control.reset(session)
@@ -108,9 +161,9 @@ impl<B: Blocks> Unit<B> {
         ensures routed { IsRouted self.old.control session serial by result }
         ensures unchanged { OnNoReply result (self.new ≡ self.old) }
         ensures memory { result ≡ StepEnd.NoMemory → TakesMemory self.old.control (request session asked bytes.now) }
-        // Over every device one entry of the model, as far as the medium does not decide it; over one that claims its
-        // contents the blocks too.
-        ensures entry { OnReply result (λ reply. IsStep B.claims (state_of B.contents self.old)
+        // Over all devices one entry of the model, as far as the medium does not decide it; over a device and an opener that
+        // claim the contents the blocks too.
+        ensures entry { OnReply result (λ reply. IsStep (O.claims && B.claims) (state_of B.contents self.old)
             (state_of B.contents self.new)
             (entry_of session serial by asked bytes.now reply (state_of B.contents self.new)) reply) }
         // After GOOD of a SYNCHRONIZE CACHE or of a command with FUA a crash leaves the blocks that the unit holds.
@@ -119,10 +172,19 @@ impl<B: Blocks> Unit<B> {
         // A command that a rule refuses does not reach the device.
         ensures unreached { OnReply result (λ reply. OnRefusal
             (refusal self.old.control (request session asked bytes.now)) (self.new.device ≡ self.old.device)) }
+        // The opener is asked only by a command that changes the owner.
+        ensures unopened { asks_opener self.old.control (request session asked bytes.now) ≡ false
+            → self.new.opener ≡ self.old.opener }
+        // The registration file is asked only by a PERSISTENT RESERVE OUT.
+        ensures unsaved { asks_file self.old.control (request session asked bytes.now) ≡ false
+            → self.new.file ≡ self.old.file }
+        // A crash leaves one of the records that the unit then says.
+        ensures restart { IsTrue R.claims → EachOutcomeHolds (R.size self.new.file.device)
+            (R.may_hold self.new.file.device) self.new.control.lasting }
         // The choice is Fine exactly where no count of failures rose.
-        ensures fine { OnReply result (λ reply. Tells (failures_of B.failures self.old)
-            (failures_of B.failures self.new)
-            (IsFine (choice_of reply (B.contents self.new.device)))) }
+        ensures fine { OnReply result (λ reply. Tells (failures_of B.failures O.opens_failed R.failures self.old)
+            (failures_of B.failures O.opens_failed R.failures self.new)
+            (IsFine (choice_of reply (B.contents self.new.device) self.new.control.lasting))) }
     {
         let sender = match self.control.route(session, serial, by) {
             Route::Gone => return StepEnd::Gone,
@@ -131,6 +193,8 @@ impl<B: Blocks> Unit<B> {
         };
         let reply = match answer(
             &mut self.device,
+            &mut self.opener,
+            &mut self.file,
             &mut self.control,
             alloc,
             sender,
@@ -144,10 +208,61 @@ impl<B: Blocks> Unit<B> {
         StepEnd::Reply(reply)
     }
 
-    /// Hands the device back.
-    pub fn close(self) -> B
-        ensures { result ≡ self.device }
+    /// Moves the unit as a parameter list of SET TARGET PORT GROUPS says, without a session: the states that it changes
+    /// are altered implicitly (SPC-4, 5.15.2.2), and every session hears of it. Takes no memory.
+    pub fn move_to(&mut self, list: &[u8]) -> Result<Change, MoveFault>
+        ensures moved { IsMove (O.claims && B.claims) (state_of B.contents self.old) (state_of B.contents self.new)
+            list.now result }
+        ensures err { OnErr result ((self.new.control ≡ self.old.control) × (self.new.device ≡ self.old.device)) }
+        ensures file { self.new.file ≡ self.old.file }
+        ensures unopened { is_moved_by self.old.control.access (move_by self.old.control list.now) ≡ false
+            → self.new.opener ≡ self.old.opener }
+        ensures unasked { self.old.control.count ≡ LAST_COUNT → self.new ≡ self.old }
+        ensures failures { Tells (failures_of B.failures O.opens_failed R.failures self.old)
+            (failures_of B.failures O.opens_failed R.failures self.new) (result ≢ Err MoveFault.OpenFailed) }
     {
-        self.device
+        if self.control.is_full() {
+            return Err(MoveFault::Gone);
+        }
+        let access = match self.control.access().after(Cause::Implicit, list) {
+            Ok(access) => access,
+            Err(fault) => return Err(MoveFault::List(fault)),
+        };
+        let moved = self.control.access().change_to(&access);
+        match change(
+            &mut self.device,
+            &mut self.opener,
+            &mut self.control,
+            None,
+            access,
+        ) {
+            Ok(()) => {}
+            Err(DeviceFailed) => return Err(MoveFault::OpenFailed),
+        }
+        self.control.count_one();
+        Ok(moved)
+    }
+
+    /// Makes what was written last: after a success a crash leaves the blocks that the unit holds. It is no entry.
+    pub fn flush(&mut self) -> Result<(), DeviceFailed>
+        ensures control { self.new.control ≡ self.old.control }
+        ensures opener { self.new.opener ≡ self.old.opener }
+        ensures file { self.new.file ≡ self.old.file }
+        ensures blocks { IsTrue B.claims → B.contents self.new.device ≡ B.contents self.old.device }
+        ensures lasts { IsTrue B.claims → OnOk result
+            (Only (B.contents self.new.device) (B.may_hold self.new.device)) }
+        ensures failures { Counts (failures_of B.failures O.opens_failed R.failures self.old)
+            (failures_of B.failures O.opens_failed R.failures self.new) result }
+    {
+        self.device.flush()
+    }
+
+    /// Hands the device, the opener and the device of the registration file back. A crash of that leaves one of the records
+    /// that the unit says.
+    pub fn close(self) -> (B, O, R)
+        ensures closed { result ≡ (self.device, self.opener, self.file.device) }
+        ensures restart { IsTrue R.claims → EachOutcomeHolds (R.size result.2) (R.may_hold result.2) self.control.lasting }
+    {
+        (self.device, self.opener, self.file.close())
     }
 }

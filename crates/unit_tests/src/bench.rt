@@ -1,10 +1,13 @@
 //! A unit with the sessions of a test, and its device.
 use crate::bytes::{Runs, cdb_of, spelled};
-use block_file::{Blocks, DeviceFailed, FusedBlocks, MemBlocks};
+use access_states::Change;
+use aptpl_file::{FILE_BLOCKS, RegFile};
+use block_file::{Blocks, DeviceFailed, FusedBlocks, FusedOpener, KeepOpener, MemBlocks};
+use reservations::Record;
 use scsi_types::{Group, Place, PortName, decode};
 use std::alloc::{AllocError, Global};
 use std::test::Fail;
-use unit_state::{AttachFault, Gone, SessionId, StepEnd, Unit};
+use unit_state::{AttachFault, Gone, MoveFault, SessionId, StepEnd, Unit};
 
 /// How a device in memory fails.
 #[derive(Clone, Copy, Debug)]
@@ -23,6 +26,12 @@ pub enum Call {
     Attach(u64, Group),
     Detach(usize),
     Reset(usize),
+    /// Moves the unit as a list says.
+    Move(Runs),
+    /// Flushes the unit.
+    Flush,
+    /// Not a call: the power is lost, and the unit opens again.
+    Restart,
     /// The next command of a session with its data, by the session's own group.
     Send(usize, &'static str, Runs),
     /// The same, and where the unit belongs to the other group, once more by that one.
@@ -37,6 +46,8 @@ pub enum Ended {
     Step(StepEnd),
     Attach(Result<SessionId, AttachFault>),
     Session(Result<(), Gone>),
+    Move(Result<Change, MoveFault>),
+    Flush(Result<(), DeviceFailed>),
 }
 
 /// A session that was attached: its id, its group, and the serial of its next command.
@@ -47,17 +58,35 @@ struct Attached {
     next: u64,
 }
 
-/// A unit over memory behind a fuse, and the sessions that were attached to it.
+/// The calls of the registration file's device in which it is formatted: the 33 blocks of a slot, a flush, the root, and a
+/// flush. A save makes as many.
+pub const SAVE: u64 = 36;
+
+/// A unit over memory behind a fuse, with an opener and a registration file behind a fuse each, and the sessions that were
+/// attached to it.
 #[derive(Drop)]
 pub struct Bench {
     alloc: Global,
-    unit: Unit<FusedBlocks<MemBlocks>>,
+    unit: Unit<FusedBlocks<MemBlocks>, FusedOpener<KeepOpener>, FusedBlocks<MemBlocks>>,
     sessions: Vec<Attached>,
 }
 
 impl Bench {
-    /// A unit of so many blocks of zeros.
-    pub fn open(alloc: Global, place: Place, blocks: u32, fuse: Fuse) -> Result<Bench, Fail> {
+    /// A unit of so many blocks of zeros, which are opened for another controller so often before an open fails, and with a
+    /// registration file of nothing, whose device makes so many calls before one fails.
+    pub fn open(
+        alloc: Global,
+        place: Place,
+        blocks: u32,
+        fuse: Fuse,
+        opens: u64,
+        saves: u64,
+    ) -> Result<Bench, Fail> {
+        let registrations = MemBlocks::new(alloc, FILE_BLOCKS)?;
+        let fused = FusedBlocks::new(registrations, saves.saturating_add(SAVE));
+        let Ok(file) = RegFile::format(fused) else {
+            return Err(Fail::from("a registration file"));
+        };
         let memory = MemBlocks::new(alloc, blocks)?;
         let device = match fuse {
             Fuse::Never => FusedBlocks::new(memory, u64::MAX),
@@ -66,7 +95,14 @@ impl Bench {
         };
         Ok(Bench {
             alloc,
-            unit: Unit::open(alloc, place, device)?,
+            unit: Unit::open(
+                alloc,
+                place,
+                device,
+                FusedOpener::new(KeepOpener, opens),
+                file,
+                Record::empty(alloc),
+            )?,
             sessions: Vec::new(alloc),
         })
     }
@@ -83,6 +119,9 @@ impl Bench {
                 let id = self.session(session)?.id;
                 Ok(Ended::Session(self.unit.reset(id)))
             }
+            Call::Move(runs) => Ok(Ended::Move(self.unit.move_to(&spelled(self.alloc, runs)?))),
+            Call::Restart => Err(Fail::from("a call of the unit")),
+            Call::Flush => Ok(Ended::Flush(self.unit.flush())),
             Call::Send(session, cdb, runs) => Ok(Ended::Step(self.send(
                 session, cdb, runs, false,
             )?)),
@@ -96,10 +135,33 @@ impl Bench {
         }
     }
 
+    /// The unit as it opens after a power loss: with the blocks and the registration file that were left. No call fails.
+    pub fn restart(self, place: Place) -> Result<Bench, Fail> {
+        let Bench { alloc, unit, .. } = self;
+        let (device, _opener, registrations) = unit.close();
+        let fused = FusedBlocks::new(registrations.into_inner(), u64::MAX);
+        let Ok((file, lasted)) = RegFile::open(alloc, fused) else {
+            return Err(Fail::from("a record that lasted"));
+        };
+        Ok(Bench {
+            alloc,
+            unit: Unit::open(
+                alloc,
+                place,
+                FusedBlocks::new(device.into_inner(), u64::MAX),
+                FusedOpener::new(KeepOpener, u64::MAX),
+                file,
+                lasted,
+            )?,
+            sessions: Vec::new(alloc),
+        })
+    }
+
     /// Hands the memory back.
     pub fn close(self) -> MemBlocks {
         let Bench { unit, .. } = self;
-        unit.close().into_inner()
+        let (device, _opener, _registrations) = unit.close();
+        device.into_inner()
     }
 
     fn session(&self, at: usize) -> Result<Attached, Fail> {
@@ -109,6 +171,9 @@ impl Bench {
 
     fn attach(&mut self, isid: u64, group: Group) -> Result<Result<SessionId, AttachFault>, Fail> {
         let name = b"iqn.2026-01.example:host".to_vec(self.alloc)?;
+        if isid >= 0x1_0000_0000_0000 {
+            return Err(Fail::from("an ISID of six bytes"));
+        }
         let end = self.unit.attach(PortName::new(name, isid), group);
         if let Ok(id) = end {
             self.sessions.push(Attached { id, group, next: 1 })?;

@@ -3,7 +3,7 @@ use crate::bench::Call::Send;
 use crate::bench::Fuse::{self, After, Landing};
 use crate::bytes::Runs;
 use crate::run::End::{self, Check, Good, Told};
-use crate::run::{FIRST, ONE_SESSION, Row, Script, run};
+use crate::run::{ALWAYS, FIRST, ONE_SESSION, Row, Script, UNSAVED, run};
 use std::test::Fail;
 
 /// What a row is called, how its device fails, a CDB, its data, how the command is to end, and the blocks that are
@@ -81,6 +81,8 @@ fn failing_devices(rt: HostRuntime) -> Result<(), Fail> {
                 place: FIRST,
                 blocks: 16,
                 fuse: *fuse,
+                opens: ALWAYS,
+                saves: UNSAVED,
                 tables: &[ONE_SESSION, &calls],
                 after,
             };

@@ -2,7 +2,7 @@
 use crate::bench::Call::{Attach, Forward, Send};
 use crate::bench::Fuse;
 use crate::run::End::{Attached, Check, Good};
-use crate::run::{FIRST, ONE_SESSION, Row, Script, run, table};
+use crate::run::{ALWAYS, FIRST, ONE_SESSION, Row, Script, UNSAVED, run, table};
 use scsi_types::Group::Two;
 use std::test::Fail;
 
@@ -45,6 +45,8 @@ fn what_a_unit_is(rt: HostRuntime) -> Result<(), Fail> {
             place: FIRST,
             blocks: 16,
             fuse: Fuse::Never,
+            opens: ALWAYS,
+            saves: UNSAVED,
             tables: &[ONE_SESSION, ROWS],
             after: &[],
         },

@@ -2,6 +2,8 @@
 #![tactic(auto)]
 
 #[cfg(test)]
+mod access;
+#[cfg(test)]
 mod bench;
 #[cfg(test)]
 mod bytes;
@@ -12,10 +14,14 @@ mod fencing;
 #[cfg(test)]
 mod identities;
 #[cfg(test)]
+mod lasting;
+#[cfg(test)]
 mod medium;
 #[cfg(test)]
 mod run;
 #[cfg(test)]
 mod sessions;
+#[cfg(test)]
+mod states;
 #[cfg(test)]
 mod unit_attentions;

@@ -2,7 +2,7 @@
 use crate::bench::Call::Send;
 use crate::bench::Fuse;
 use crate::run::End::{Check, Good, Told};
-use crate::run::{FIRST, ONE_SESSION, Row, Script, run, table};
+use crate::run::{ALWAYS, FIRST, ONE_SESSION, Row, Script, UNSAVED, run, table};
 use std::test::Fail;
 
 const ZERO: &str = "00";
@@ -81,6 +81,8 @@ fn medium_commands(rt: HostRuntime) -> Result<(), Fail> {
             place: FIRST,
             blocks: 2048,
             fuse: Fuse::Never,
+            opens: ALWAYS,
+            saves: UNSAVED,
             tables: &[ONE_SESSION, RANGES, SHORT, WRITTEN, COMPARED],
             after: &[(5, 0x11), (6, 0x22), (7, 0x77), (9, 0x99), (2047, 0xFF)],
         },

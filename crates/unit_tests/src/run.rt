@@ -6,7 +6,7 @@ use scsi_types::{Group, Place, Reply, Sense, Status};
 use std::alloc::{AllocError, Global};
 use std::process::Abort;
 use std::test::Fail;
-use unit_state::{AttachFault, SessionId, StepEnd};
+use unit_state::{AttachFault, MoveFault, SessionId, StepEnd};
 
 /// How a call is to end.
 #[derive(Clone, Copy)]
@@ -23,8 +23,12 @@ pub enum End {
     Gone,
     Attached(SessionId),
     TooMany,
-    /// The session was ended, or its reset done.
+    /// The session was ended, its reset done, or the unit flushed.
     Done,
+    /// The unit moved: whether the state of group 1 and of group 2 is another, and the new owner.
+    MovedTo([bool; 2], Option<Group>),
+    NotMoved(MoveFault),
+    NotFlushed,
 }
 
 /// What a row is called, a call, and how it is to end.
@@ -47,9 +51,16 @@ pub struct Script<'a> {
     pub place: Place,
     pub blocks: u32,
     pub fuse: Fuse,
+    /// How often the blocks are opened for another controller before an open fails.
+    pub opens: u64,
+    /// How many calls the registration file's device makes before one fails.
+    pub saves: u64,
     pub tables: &'a [&'a [Row]],
     pub after: &'a [(u32, u8)],
 }
+
+/// Opens that never fail.
+pub const ALWAYS: u64 = u64::MAX;
 
 /// The first of two units of the array 1: its first group owns it.
 pub const FIRST: Place = Place {
@@ -71,11 +82,25 @@ pub const ONE_SESSION: &[Row] = table! {
     "the power on": Call::Send(0, "00", &[]) => End::Check(0x06, 0x29, 0x00);
 };
 
+/// No call of the registration file's device.
+pub const UNSAVED: u64 = 0;
+
 /// Makes the calls of each table in turn, and looks at all blocks afterwards.
 pub fn run(rt: &impl Abort, alloc: Global, script: &Script) -> Result<(), Fail> {
-    let mut bench = Bench::open(alloc, script.place, script.blocks, script.fuse)?;
+    let mut bench = Bench::open(
+        alloc,
+        script.place,
+        script.blocks,
+        script.fuse,
+        script.opens,
+        script.saves,
+    )?;
     for table in script.tables {
         for (name, call, end) in *table {
+            if let Call::Restart = call {
+                bench = bench.restart(script.place)?;
+                continue;
+            }
             let ended = bench.call(*call)?;
             assert!(rt;
                 is_met(alloc, &ended, *end)?,
@@ -116,7 +141,12 @@ fn is_met(alloc: Global, ended: &Ended, end: End) -> Result<bool, AllocError> {
         Ended::Step(StepEnd::NoMemory) => Ok(false),
         Ended::Attach(Ok(id)) => Ok(matches!(end, End::Attached(wanted) if wanted == *id)),
         Ended::Attach(Err(AttachFault::TooManySessions)) => Ok(matches!(end, End::TooMany)),
-        Ended::Session(Ok(())) => Ok(matches!(end, End::Done)),
+        Ended::Session(Ok(())) | Ended::Flush(Ok(())) => Ok(matches!(end, End::Done)),
+        Ended::Move(Ok(change)) => Ok(
+            matches!(end, End::MovedTo(changed, owner) if change.changed == changed && change.owner == owner),
+        ),
+        Ended::Move(Err(fault)) => Ok(matches!(end, End::NotMoved(wanted) if wanted == *fault)),
+        Ended::Flush(Err(_)) => Ok(matches!(end, End::NotFlushed)),
     }
 }
 

@@ -2,7 +2,7 @@
 use crate::bench::Call::{Attach, Detach, Forward, Send, Serial};
 use crate::bench::Fuse;
 use crate::run::End::{Attached, Check, Done, Good, Moved, TooMany};
-use crate::run::{End, FIRST, ONE_SESSION, Row, SECOND, Script, run, table};
+use crate::run::{ALWAYS, End, FIRST, ONE_SESSION, Row, SECOND, Script, UNSAVED, run, table};
 use scsi_types::Group::{One, Two};
 use std::test::Fail;
 use unit_state::{AttachFault, Gone, laws};
@@ -84,6 +84,8 @@ const SMALL: Script = Script {
     place: FIRST,
     blocks: 16,
     fuse: Fuse::Never,
+    opens: ALWAYS,
+    saves: UNSAVED,
     tables: &[],
     after: &[(5, 0x11)],
 };
@@ -153,6 +155,13 @@ fn the_laws_can_be_called() {
     laws::a_read_gives_what_was_written();
     laws::a_serial_is_taken_once();
     laws::an_attention_is_told_once();
+    laws::a_group_serves_what_its_state_lets();
+    laws::a_change_is_told_to_the_others();
+    laws::a_failed_open_changes_nothing();
+    laws::good_tells_that_it_lasts();
+    laws::a_failed_save_changes_nothing_else();
+    laws::a_reservation_keeps_others_out();
+    laws::a_sender_hears_nothing_of_its_own();
     laws::a_reset_is_told_to_the_others();
     laws::an_ended_session_is_gone();
 }

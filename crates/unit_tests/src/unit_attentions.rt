@@ -2,7 +2,7 @@
 use crate::bench::Call::{Attach, Detach, Reset, Send};
 use crate::bench::Fuse;
 use crate::run::End::{Attached, Check, Done, Good, Told};
-use crate::run::{End, FIRST, Row, Script, run, table};
+use crate::run::{ALWAYS, End, FIRST, Row, Script, UNSAVED, run, table};
 use scsi_types::Group::One;
 use std::test::Fail;
 
@@ -103,6 +103,8 @@ fn what_a_session_is_told(rt: HostRuntime) -> Result<(), Fail> {
             place: FIRST,
             blocks: 16,
             fuse: Fuse::Never,
+            opens: ALWAYS,
+            saves: UNSAVED,
             tables,
             after: &[],
         };

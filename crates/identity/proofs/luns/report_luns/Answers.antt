@@ -1,4 +1,5 @@
-use Rattle.std.proofs.Common.{◌≡◌, ℕ, ◌+◌, ◌-◌, ◌*◌, ◌<◌, suc, List, ◌∷◌, ◌++◌, set, replicate, drop, refl, subst, IfOk, ◌∙◌, ap, arith, rules}
+use Rattle.std.proofs.Common.{◌≡◌, ℕ, ◌+◌, ◌-◌, ◌*◌, ◌<◌, suc, List, ◌∷◌, ◌++◌, set, replicate, drop, refl}
+use Rattle.std.proofs.Common.{subst, IfOk, ◌∙◌, ap, arith, rules}
 use Rattle.std.proofs.lemmas.List.{drop-replicate}
 use Rattle.byteorder.specs.Endian.{big_bytes}
 use Rattle.identity.specs.Table.{Number, Reserved, cut, spell}

@@ -9,6 +9,13 @@ pub returns : goal.returns
 unfolding initiator_bhs
 returns c =
     let p = c.args.p.now in
-    rw (c.copy_from_slice.ensures.after, c.bhs_with-bhs.ensures, c.initiator_words-words.ensures, c.flag_value.ensures, c.flag_value-2.ensures, c.flag_value-opcode.ensures)
+    rw (
+      c.copy_from_slice.ensures.after,
+      c.bhs_with-bhs.ensures,
+      c.initiator_words-words.ensures,
+      c.flag_value.ensures,
+      c.flag_value-2.ensures,
+      c.flag_value-opcode.ensures,
+    )
     (ap (λ (x : List ℕ). take 32 (initiator_bhs (ScsiCommand p) c.args.len) ++ x) (append-nil p.cdb
     ∙ sym (cells-whole 16 p.cdb (omega arith))))

@@ -56,4 +56,6 @@ returns-clause-ok c =
     (w ++ d ++ zeros (padded (length d) - length d)) =
     ap (λ (x : List ℕ). x ++ take k (0 ∷ 0 ∷ 0 ∷ [])) e2 ∙ ap (λ (x : List ℕ). o ++ w ++ d ++ x) pad
     ∙ regroup o w d (zeros (padded (length d) - length d)) in
-    on-ok-append c.extend_from_slice-3.result c.extend_from_slice-2.new.self.items c.extend_from_slice-3.new.self.items (take k (0 ∷ 0 ∷ 0 ∷ [])) (o ++ (w ++ d ++ zeros (padded (length d) - length d))) c.extend_from_slice-3.ensures.items joined
+    on-ok-append c.extend_from_slice-3.result c.extend_from_slice-2.new.self.items c.extend_from_slice-3.new.self.items
+    (take k (0 ∷ 0 ∷ 0 ∷ [])) (o ++
+    (w ++ d ++ zeros (padded (length d) - length d))) c.extend_from_slice-3.ensures.items joined

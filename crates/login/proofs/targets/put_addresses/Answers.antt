@@ -5,7 +5,9 @@ use Rattle.login.proofs.targets.put_addresses.Goals as goal
 
 more : (tag : ℕ) (portals : List SocketAddrV4) (i : ℕ) (d : SocketAddrV4) → i < length portals
     → addresses tag (drop i portals) ≡ address_text tag (get_or portals i d) ++ addresses tag (drop (i + 1) portals)
-more tag portals i d lt = ap (addresses tag) (drop-cons portals i d lt) ∙ ap (λ (k : ℕ). address_text tag (get_or portals i d) ++ addresses tag (drop k portals)) (sym (add-one i))
+more tag portals i d lt =
+    ap (addresses tag) (drop-cons portals i d lt) ∙ ap
+    (λ (k : ℕ). address_text tag (get_or portals i d) ++ addresses tag (drop k portals)) (sym (add-one i))
 
 step : (tag : ℕ) (portals : List SocketAddrV4) (i : ℕ) (d : SocketAddrV4) (out new all : List ℕ) → i < length portals
     → new ≡ out ++ address_text tag (get_or portals i d)

@@ -1,5 +1,10 @@
 use Rattle.std.proofs.Common.{◌≡◌, take}
+use Rattle.std.specs.List.{AllByRecursion}
+use Rattle.reservations.specs.Registry.{IsListed}
 use Rattle.reservations.proofs.registrant.copy_registrants.Given as goal
 
 abbrev pub invariant-loop-x : goal.invariant-loop-x
-invariant-loop-x l = l.copies.items ≡ take l.x-index l.registrants
+invariant-loop-x l = record {
+  copied : l.copies.items ≡ take l.x-index l.registrants;
+  listed : AllByRecursion IsListed (take l.x-index l.registrants);
+}

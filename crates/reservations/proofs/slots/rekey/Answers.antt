@@ -7,6 +7,8 @@ pub loop-x-preserved : goal.loop-x-preserved
 loop-x-preserved c =
     let within : c.loop-x.x-index < length c.deref_mut-x-items.result.now = omega arith in
     elim c.if-is.branch [
-      | then-is w ↦ rw w.x-items-is (rekey_one _ _ _ _ _ c.x-item.result within c.loop-x.invariant c.x-item.is (sym c.is.ensures ∙ w.if-is.true))
-      | else-is w ↦ rw w.x-items-is (rekey_other _ _ _ _ _ c.x-item.result within c.loop-x.invariant c.x-item.is (sym c.is.ensures ∙ w.if-is.false))
+      | then-is w ↦ rw w.x-items-is (rekey_one _ _ _ _ _ c.x-item.result within c.loop-x.invariant c.x-item.is
+          (sym c.is.ensures ∙ w.if-is.true))
+      | else-is w ↦ rw w.x-items-is (rekey_other _ _ _ _ _ c.x-item.result within c.loop-x.invariant c.x-item.is
+          (sym c.is.ensures ∙ w.if-is.false))
     ]

@@ -5,4 +5,13 @@ use Rattle.reservations.proofs.transport_id.port_text.Goals as goal
 pub returns : goal.returns
 unfolding port_text
 returns c =
-    simp (c.in_ok-push.ensures.items, c.in_ok-push_digits.ensures, c.in_ok-extend_from_slice.ensures.items, c.in_ok-text.ensures.items, c.name.ensures, c.to_be_bytes-isid.ensures, c.isid.ensures, append_assoc)
+    simp (
+      c.in_ok-push.ensures.items,
+      c.in_ok-push_digits.ensures,
+      c.in_ok-extend_from_slice.ensures.items,
+      c.in_ok-text.ensures.items,
+      c.name.ensures,
+      c.to_be_bytes-isid.ensures,
+      c.isid.ensures,
+      append_assoc,
+    )

@@ -2,10 +2,13 @@ use Rattle.std.proofs.Common.{refl}
 use Rattle.unit_state.proofs.laws.a_reservation_keeps_others_out.Goals as goal
 
 pub returns-clause-reply : goal.returns-clause-reply
-returns-clause-reply c = λ s session serial by asked bytes out. rw (out.nothing_first, out.served, out.not_let) refl
+returns-clause-reply c =
+    λ s session serial by asked bytes op out. rw (out.judged.nothing_first, out.judged.kind, out.served, out.not_let) refl
 
 pub returns-clause-blocks : goal.returns-clause-blocks
-returns-clause-blocks c = λ s session serial by asked bytes out. rw (out.nothing_first, out.served, out.not_let) refl
+returns-clause-blocks c =
+    λ s session serial by asked bytes op out. rw (out.judged.nothing_first, out.judged.kind, out.served, out.not_let) refl
 
 pub returns-clause-control : goal.returns-clause-control
-returns-clause-control c = λ s session serial by asked bytes out. rw (out.nothing_first, out.served, out.not_let) refl
+returns-clause-control c =
+    λ s session serial by asked bytes op out. rw (out.judged.nothing_first, out.judged.kind, out.served, out.not_let) refl

@@ -11,4 +11,5 @@ returns-clause-blocks c = λ s session serial by asked bytes attention first sto
 
 pub returns-clause-told : goal.returns-clause-told
 returns-clause-told c = λ s session serial by asked bytes attention first stops apart.
-    rw (first, stops) (rw (pending_told s.control.sessions session) (told_no_more (pending_of s.control.sessions session) attention apart first))
+    rw (first, stops) (rw (pending_told s.control.sessions session)
+    (told_no_more (pending_of s.control.sessions session) attention apart first))

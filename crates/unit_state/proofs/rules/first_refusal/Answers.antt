@@ -1,4 +1,5 @@
-use Rattle.unit_state.specs.Refusal.{Request, request, attention_rule, opcode_rule, conflict_rule, field_rule, saved_rule, range_rule, list_rule}
+use Rattle.unit_state.specs.Refusal.{Request, request, attention_rule, opcode_rule, access_rule}
+use Rattle.unit_state.specs.Refusal.{conflict_rule, field_rule, saved_rule, range_rule, list_rule}
 use Rattle.unit_state.proofs.Order.{in_order}
 use Rattle.unit_state.proofs.rules.first_refusal.Goals as goal
 
@@ -8,5 +9,24 @@ returns c =
     let kind = c.kind_asked-kind.ensures in
     let range = c.range.ensures c.args.bytes.now in
     let of = c.args.control.now in
-    rw (c.or-6.ensures, c.or-5.ensures, c.or-4.ensures, c.or-3.ensures, c.or-2.ensures, c.or.ensures, c.attention.ensures, c.opcode.ensures, c.conflict.ensures, c.field.ensures, c.saved.ensures, range, c.list.ensures, kind, c.total.ensures)
-    (in_order (attention_rule of r) (opcode_rule of r) (conflict_rule of r) (field_rule of r) (saved_rule of r) (range_rule of r) (list_rule of r))
+    rw (
+      c.or-7.ensures,
+      c.or-6.ensures,
+      c.or-5.ensures,
+      c.or-4.ensures,
+      c.or-3.ensures,
+      c.or-2.ensures,
+      c.or.ensures,
+      c.attention.ensures,
+      c.opcode.ensures,
+      c.access.ensures,
+      c.conflict.ensures,
+      c.field.ensures,
+      c.saved.ensures,
+      range,
+      c.list.ensures,
+      kind,
+      c.total.ensures,
+    )
+    (in_order (attention_rule of r) (opcode_rule of r) (access_rule of r) (conflict_rule of r) (field_rule of r)
+    (saved_rule of r) (range_rule of r) (list_rule of r))

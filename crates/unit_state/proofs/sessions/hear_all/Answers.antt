@@ -8,9 +8,13 @@ loop-attached-init c = refl
 
 pub loop-attached-preserved : goal.loop-attached-preserved
 loop-attached-preserved c =
-    rw (c.hear.ensures, ← c.attached-item.is) (next_changed (hear c.args.told.now) c.deref_mut-attached-items.result.now c.loop-attached.attached-items c.loop-attached.attached-index c.attached-item.result c.loop-attached.invariant c.loop-attached-test.true c.attached-item.is)
+    rw (c.hear.ensures, ← c.attached-item.is)
+    (next_changed (hear c.args.told.now) c.deref_mut-attached-items.result.now c.loop-attached.attached-items
+    c.loop-attached.attached-index c.attached-item.result c.loop-attached.invariant c.loop-attached-test.true
+    c.attached-item.is)
 
 pub returns-clause-items : goal.returns-clause-items
 returns-clause-items c =
     let of = c.deref_mut-attached-items in
-    written_back (hear c.args.told.now) _ of.result.now _ _ _ of.ensures.value of.ensures.len c.loop-attached.invariant c.loop-attached.auto.attached-items c.loop-attached-test.false
+    written_back (hear c.args.told.now) _ of.result.now _ _ _ of.ensures.value of.ensures.len c.loop-attached.invariant
+    c.loop-attached.auto.attached-items c.loop-attached-test.false

@@ -2,6 +2,7 @@ use Rattle.std.proofs.Common.{◌≡◌, ◌+◌, ap, List}
 use Rattle.unit_state.specs.declared.sessions.Attached.{Attached}
 use Rattle.unit_state.specs.Places.{IsPlaceOf}
 use Rattle.unit_state.specs.Sessions.{pass_one, passed}
+use Rattle.unit_state.specs.Saving.{is_doubtful, records_left}
 use Rattle.unit_state.specs.State.{ControlValue}
 use Rattle.unit_state.proofs.Places.{changed_at}
 use Rattle.unit_state.proofs.control.Control.pass.Goals as goal
@@ -9,6 +10,16 @@ use Rattle.unit_state.proofs.control.Control.pass.Goals as goal
 pub returns-clause-passed : goal.returns-clause-passed
 returns-clause-passed c =
     let place : IsPlaceOf c.self.inside.sessions.items c.args.sender.session c.args.sender.at = rw (← c.self.view_is) at c.requires.place in
-    let is : c.pass_at.new.sessions.items ≡ passed c.self.inside.sessions.items c.args.sender.session = changed_at pass_one _ _ _ _ place c.pass_at.ensures.passed in
+    let is : c.pass_at.new.sessions.items ≡ passed c.self.inside.sessions.items c.args.sender.session =
+    changed_at pass_one _ _ _ _ place c.pass_at.ensures.passed in
     rw (← c.self.view_is)
-    (ap (λ (ss : List Attached). let v : ControlValue = record { place = c.self.inside.place; total = c.self.inside.total; owner = c.self.inside.owner; registry = c.self.inside.registry; sessions = ss; count = c.self.inside.count + 1 } in v) is)
+    (ap (λ (ss : List Attached). let v : ControlValue = record {
+      place = c.self.inside.place;
+      total = c.self.inside.total;
+      access = c.self.inside.access;
+      registry = c.self.inside.registry;
+      lasting = records_left c.self.inside.registry c.self.inside.save;
+      doubt = is_doubtful c.self.inside.save;
+      sessions = ss;
+      count = c.self.inside.count + 1;
+    } in v) is)

@@ -1,0 +1,2 @@
+mod Crowd
+mod Taken

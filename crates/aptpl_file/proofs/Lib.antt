@@ -1,0 +1,10 @@
+pub mod EntriesRead
+pub mod Halves
+pub mod Header
+pub mod Holder
+pub mod OneRecord
+pub mod Padding
+pub mod SlotWrites
+pub mod Spelled
+pub mod Stops
+pub mod Taken

@@ -1,0 +1,47 @@
+-- The record that the blocks of a registration file hold.
+use Rattle.std.specs.Prelude.{◌≡◌, ◌⊎◌, ℕ, ◌+◌, ◌<◌, ◌≤◌, List, [], ◌∷◌, length, take, drop}
+use Rattle.reservations.specs.Registry.{RecordValue, IsRecord}
+use Rattle.block_file.specs.Disk.{block_at}
+use Rattle.aptpl_file.specs.declared.spelling.TheConstants.{FILE_BLOCKS, ROOT_MAGIC, SLOT_BLOCKS}
+use Rattle.aptpl_file.specs.declared.slot.Slot.{Slot}
+use Rattle.aptpl_file.specs.declared.fault.OpenFault.{OpenFault}
+use Rattle.aptpl_file.specs.declared.fault.OpenFault.TheVariants.{NotARegFile, Version, DeviceFailed, NoMemory}
+use Rattle.aptpl_file.specs.Format.{first_block, root_block, slot_block}
+
+-- the slot's blocks are the spelling of the record
+abbrev pub HoldsSlot : List (List ℕ) → Slot → RecordValue → Type 0
+HoldsSlot disk slot r = (k : ℕ) → k < SLOT_BLOCKS → block_at disk (first_block slot + k) ≡ slot_block r k
+
+-- the root names a slot, and that slot's blocks are the spelling of the record
+pub record Holds (disk : List (List ℕ)) (r : RecordValue) : Type 0 where
+  pub blocks : FILE_BLOCKS ≤ length disk
+  pub lasting : IsRecord r.aptpl r.registrants r.reservation
+  pub slot : Slot
+  pub root : block_at disk 0 ≡ root_block slot
+  pub spelled : HoldsSlot disk slot r
+
+-- the blocks hold one of these records
+abbrev pub HoldsOneOf : List RecordValue → List (List ℕ) → Type 0
+HoldsOneOf [] disk = ⊥
+HoldsOneOf (r ∷ rs) disk = Holds disk r ⊎ HoldsOneOf rs disk
+
+abbrev pub HoldsNothing : List (List ℕ) → Type 0
+HoldsNothing disk = (r : RecordValue) → Holds disk r → ⊥
+
+-- ---- why a file is refused
+
+-- there are enough blocks, and the first begins with the name of a registration file
+pub record IsNamed (disk : List (List ℕ)) : Type 0 where
+  pub blocks : FILE_BLOCKS ≤ length disk
+  pub magic : take 8 (block_at disk 0) ≡ ROOT_MAGIC
+
+abbrev pub IsOfVersion1 : List (List ℕ) → Type 0
+IsOfVersion1 disk = take 2 (drop 8 (block_at disk 0)) ≡ 0 ∷ 1 ∷ []
+
+-- Another version is named only where the file has the name; and where it has the name and another version, nothing
+-- else is named.
+abbrev pub IsRefusal : List (List ℕ) → OpenFault → Type 0
+IsRefusal disk NotARegFile = HoldsNothing disk × (IsNamed disk → IsOfVersion1 disk)
+IsRefusal disk Version = IsNamed disk × (IsOfVersion1 disk → ⊥)
+IsRefusal disk DeviceFailed = Unit {0}
+IsRefusal disk NoMemory = Unit {0}

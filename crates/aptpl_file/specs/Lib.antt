@@ -1,0 +1,6 @@
+pub mod Format
+pub mod Holds
+pub mod Lasts
+pub mod LastsLaws
+pub mod Reads
+pub mod Writes

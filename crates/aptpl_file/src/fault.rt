@@ -1,0 +1,34 @@
+//! Why a file is not opened, and where a save failed.
+use thiserror::Error;
+
+/// Why a registration file is not opened.
+#[derive(Clone, Copy, Debug, PartialEq, Eq, Error)]
+pub enum OpenFault {
+    /// There are too few blocks, or they spell no record.
+    #[error("not a registration file")]
+    NotARegFile,
+    /// It is a registration file of another version.
+    #[error("a registration file of another version")]
+    Version,
+    /// The device failed.
+    #[error("the device failed")]
+    DeviceFailed,
+    /// There was no memory for the registrants.
+    #[error("no memory")]
+    NoMemory,
+}
+
+/// Where the device failed in a save. What a crash may leave then follows from the place.
+#[derive(Clone, Copy, Debug, PartialEq, Eq, Error)]
+pub enum SaveFault {
+    /// At the root that an earlier save left undecided, and that was to be written again: a crash leaves what it might
+    /// have left before.
+    #[error("the device failed at the old root")]
+    OldRoot,
+    /// At the slot that the root does not name: a crash leaves the record that the root names.
+    #[error("the device failed at the slot")]
+    IdleSlot,
+    /// At the root that names the new record: a crash leaves that record, or the one before.
+    #[error("the device failed at the new root")]
+    NewRoot,
+}

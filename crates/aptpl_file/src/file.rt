@@ -1,0 +1,161 @@
+//! The registration file.
+ghost use Rattle.std.specs.Prelude.{◌≡◌, ◌<◌, ◌≤◌, IsErrOf, List, [], ◌∷◌, IfOk, IfErr, OnOk, OnErr, IsTrue, true, false, None};
+ghost use Rattle.block_file.specs.Disk.{or_new, Adds};
+ghost use Rattle.block_file.specs.Moment.{StopsAmong};
+ghost use Rattle.block_file.specs.Failures.{Counts, Tells};
+ghost use Rattle.reservations.specs.Registry.{RecordValue};
+ghost use Rattle.aptpl_file.specs.declared.spelling.TheConstants.{FILE_BLOCKS};
+
+use crate::reading::read_record;
+use crate::spelling::FILE_BLOCKS;
+use crate::writing::{save_root, save_slot};
+use crate::{OpenFault, SaveFault, Slot};
+use block_file::{Blocks, DeviceFailed};
+use reservations::Record;
+use std::alloc::Global;
+use std::marker::Model;
+
+/// A registration file on a device: a root and two slots, one of which the root names. The other is written by the next
+/// save.
+#[derive(Drop)]
+pub struct RegFile<B: Blocks> {
+    device: B,
+    slot: Slot,
+    undecided: bool,
+}
+
+impl<B: Blocks> Model for RegFile<B> {
+    ghost use Rattle.std.specs.Prelude.{◌≤◌};
+    ghost use Rattle.aptpl_file.specs.declared.spelling.TheConstants.{FILE_BLOCKS};
+    ghost use Rattle.aptpl_file.specs.Lasts.{FileValue};
+
+    ghost Value = { FileValue B };
+
+    ghost view = { λ f. record { device = f.device; slot = f.slot; undecided = f.undecided } };
+
+    ghost invariant = { λ f. FILE_BLOCKS ≤ B.size f.device };
+}
+
+impl<B: Blocks> RegFile<B> {
+    ghost use Rattle.aptpl_file.specs.Holds.{Holds, IsRefusal};
+    ghost use Rattle.aptpl_file.specs.Format.{root_block};
+    ghost use Rattle.aptpl_file.specs.Lasts.{LastsAmong, RootLasts, StopsAt, left_by};
+
+    /// Makes a registration file of nothing on a device of at least 67 blocks. Refused, it drops the device.
+    pub fn format(mut device: B) -> Result<RegFile<B>, SaveFault>
+        requires { FILE_BLOCKS ≤ B.size device }
+        ensures size { IfOk result (λ file. B.size file.device ≡ B.size device) }
+        ensures lasts { IsTrue B.claims → IfOk result (λ file. LastsAmong B.size B.may_hold file
+            (record { aptpl = false; registrants = []; reservation = None } ∷ [])) }
+        ensures failures { IfOk result (λ file. Tells (B.failures device) (B.failures file.device) (Unit {0})) }
+    {
+        let slot = Slot::First;
+        let Ok(()) = save_slot(&mut device, slot, false, &[], &None) else {
+            return Err(SaveFault::IdleSlot);
+        };
+        let Ok(()) = save_root(&mut device, slot) else {
+            return Err(SaveFault::NewRoot);
+        };
+        Ok(RegFile {
+            device,
+            slot,
+            undecided: false,
+        })
+    }
+
+    /// Opens a registration file, and gives the record that it holds, which a crash leaves from then on. Refused, it
+    /// drops the device.
+    pub fn open(alloc: Global, mut device: B) -> Result<(RegFile<B>, Record), OpenFault>
+        ensures size { IfOk result (λ found. B.size found.0.device ≡ B.size device) }
+        ensures holds { IsTrue B.claims → IfOk result (λ found. Holds (B.contents device) found.1) }
+        ensures contents { IsTrue B.claims → IfOk result (λ found.
+            B.contents found.0.device ≡ B.contents device) }
+        ensures lasts { IsTrue B.claims → IfOk result (λ found.
+            LastsAmong B.size B.may_hold found.0 (found.1 ∷ [])) }
+        ensures refused { IsTrue B.claims → IfErr result (IsRefusal (B.contents device)) }
+        ensures few { B.size device < FILE_BLOCKS → IsErrOf result OpenFault.NotARegFile }
+        ensures failures { IfOk result (λ found. Tells (B.failures device) (B.failures found.0.device) (Unit {0})) }
+    {
+        if device.count() < FILE_BLOCKS {
+            return Err(OpenFault::NotARegFile);
+        }
+        let (slot, record) = match read_record(&mut device, alloc) {
+            Ok(found) => found,
+            Err(fault) => return Err(fault),
+        };
+        let file = RegFile {
+            device,
+            slot,
+            undecided: false,
+        };
+        Ok((file, record))
+    }
+
+    /// Makes a record last. Takes no memory.
+    ///
+    /// Done, a crash leaves this record alone. Failed, a crash leaves one that it might have left before, or this one;
+    /// and so does a stop at any moment of the call.
+    pub fn save(&mut self, saved: &Record) -> Result<(), SaveFault>
+        ensures size { B.size self.new.device ≡ B.size self.old.device }
+        ensures saved { IsTrue B.claims → OnOk result (LastsAmong B.size B.may_hold self.new (saved.now ∷ [])) }
+        ensures failed { IsTrue B.claims → IfErr result (λ fault. (records : List RecordValue)
+            → LastsAmong B.size B.may_hold self.old records
+            → LastsAmong B.size B.may_hold self.new (left_by fault records saved.now)) }
+        ensures stop { IsTrue B.claims → IsTrue B.claims_moments → (records : List RecordValue)
+            → LastsAmong B.size B.may_hold self.old records
+            → StopsAt B.moment B.left_since (saved.now ∷ records) self.old.device self.new.device }
+        ensures failures { Counts (B.failures self.old.device) (B.failures self.new.device) result }
+    {
+        let aptpl = saved.aptpl();
+        let Ok(()) = self.decide() else {
+            return Err(SaveFault::OldRoot);
+        };
+        let idle = self.slot.other();
+        let Ok(()) = save_slot(
+            &mut self.device,
+            idle,
+            aptpl,
+            saved.registrants(),
+            saved.reservation(),
+        ) else {
+            return Err(SaveFault::IdleSlot);
+        };
+        let Ok(()) = save_root(&mut self.device, idle) else {
+            self.undecided = true;
+            return Err(SaveFault::NewRoot);
+        };
+        self.slot = idle;
+        Ok(())
+    }
+
+    // Writes the old root again where a save left it undecided.
+    fn decide(&mut self) -> Result<(), DeviceFailed>
+        ensures size { B.size self.new.device ≡ B.size self.old.device }
+        ensures slot { self.new.slot ≡ self.old.slot }
+        ensures decided { OnOk result (self.new.undecided ≡ false) }
+        ensures root { IsTrue B.claims → self.old.undecided ≡ true
+            → OnOk result (RootLasts (B.may_hold self.new.device) self.old.slot) }
+        ensures same { self.old.undecided ≡ false → self.new ≡ self.old }
+        ensures failed { OnErr result (self.new.undecided ≡ self.old.undecided) }
+        ensures crash { IsTrue B.claims → Adds 0 (root_block self.old.slot ∷ []) (B.may_hold self.old.device)
+            (B.may_hold self.new.device) }
+        ensures stop { IsTrue B.claims → IsTrue B.claims_moments → StopsAmong B.moment B.left_since B.size
+            (or_new 0 (root_block self.old.slot ∷ []) (B.may_hold self.old.device)) self.old.device self.new.device }
+        ensures failures { Counts (B.failures self.old.device) (B.failures self.new.device) result }
+    {
+        if self.undecided {
+            let Ok(()) = save_root(&mut self.device, self.slot) else {
+                return Err(DeviceFailed);
+            };
+            self.undecided = false;
+        }
+        Ok(())
+    }
+
+    /// Hands the device back.
+    pub fn close(self) -> B
+        ensures { result ≡ self.device }
+    {
+        self.device
+    }
+}

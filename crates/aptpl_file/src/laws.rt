@@ -1,0 +1,18 @@
+//! What the definitions of a registration file say, in other words.
+ghost use Rattle.std.specs.Prelude.{◌≡◌, List, ℕ};
+ghost use Rattle.reservations.specs.Registry.{RecordValue};
+ghost use Rattle.aptpl_file.specs.Holds.{Holds};
+ghost use Rattle.aptpl_file.specs.Lasts.{EachOutcomeHolds, FileValue, LastsAmong};
+
+use block_file::Blocks;
+
+/// Each record has one spelling: the same blocks hold no two.
+pub fn one_record_is_held()
+    ensures { (disk : List (List ℕ)) (r s : RecordValue) → Holds disk r → Holds disk s → r ≡ s }
+{}
+
+/// A crash of a file's device leaves a file that holds one of the records among which it lasts.
+pub fn each_outcome_holds_one_of_them<B: Blocks>()
+    ensures { (file : FileValue B) (records : List RecordValue) → LastsAmong B.size B.may_hold file records
+        → EachOutcomeHolds (B.size file.device) (B.may_hold file.device) records }
+{}

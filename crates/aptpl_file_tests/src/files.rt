@@ -1,0 +1,76 @@
+//! Records, and devices with their blocks.
+use aptpl_file::{FILE_BLOCKS, RegFile};
+use block_file::{Blocks, MemBlocks};
+use reservations::{PrOut, Record, Registry};
+use scsi_types::{Group, NoMemory, PortName, PrOutAction};
+use std::alloc::{AllocError, Global};
+
+/// What a nexus asks.
+#[derive(Clone, Copy)]
+pub enum Asked {
+    /// REGISTER of a key with APTPL.
+    Register(u64),
+    /// RESERVE with its key, and the type.
+    Reserve(u64, u8),
+}
+
+/// The request.
+pub fn request(asked: Asked) -> PrOut {
+    let (action, key, sakey, kind) = match asked {
+        Asked::Register(sakey) => (PrOutAction::Register, 0, sakey, 0),
+        Asked::Reserve(key, kind) => (PrOutAction::Reserve, key, 0, kind),
+    };
+    PrOut {
+        action,
+        scope: 0,
+        kind,
+        key,
+        sakey,
+        spec_i_pt: false,
+        all_tg_pt: false,
+        aptpl: true,
+    }
+}
+
+/// A registry after these requests of nexuses, `iqn.2000-01.test:` and a letter with ISID 400001370000h, through group 1.
+pub fn registry_after(alloc: Global, requests: &[(u8, Asked)]) -> Result<Registry, NoMemory> {
+    let mut registry = Registry::new(alloc)?;
+    for (letter, asked) in requests {
+        let mut name = Vec::from_slice(alloc, b"iqn.2000-01.test:")?;
+        name.push(*letter)?;
+        let port = PortName::new(name, 0x4000_0137_0000);
+        let _ = registry.out(&port, Group::One, request(*asked));
+    }
+    Ok(registry)
+}
+
+/// What a record says, as READ FULL STATUS of the registry that begins with it, and whether APTPL is set.
+pub fn told(alloc: Global, record: Record) -> Result<(bool, Vec<u8>), NoMemory> {
+    let aptpl = record.aptpl();
+    let registry = Registry::from_record(alloc, record)?;
+    Ok((aptpl, registry.full_status(65535)?))
+}
+
+/// A formatted file in memory.
+pub fn formatted(alloc: Global) -> Result<Option<RegFile<MemBlocks>>, AllocError> {
+    let device = MemBlocks::new(alloc, FILE_BLOCKS)?;
+    Ok(RegFile::format(device).ok())
+}
+
+/// The bytes of a block; zeros where it cannot be read.
+pub fn block_of<B: Blocks>(device: &mut B, index: u32) -> [u8; 512] {
+    let mut block = [0; 512];
+    if index < device.count() {
+        let _ = device.read(index, &mut block);
+    }
+    block
+}
+
+/// Puts a byte into a block.
+pub fn set_byte<B: Blocks>(device: &mut B, index: u32, at: usize, value: u8) {
+    let mut block = block_of(device, index);
+    if index < device.count() && at < 512 {
+        block[at] = value;
+        let _ = device.write(index, &block);
+    }
+}

@@ -1,0 +1,77 @@
+//! A device that stops at each call of a save in turn.
+use crate::files::{Asked, formatted, registry_after, told};
+use aptpl_file::{RegFile, SaveFault};
+use block_file::{FusedBlocks, MemBlocks};
+use reservations::Record;
+use scsi_types::NoMemory;
+use std::alloc::Global;
+use std::test::Fail;
+
+/// The calls of an open: the root, 33 blocks of the slot, and a flush.
+const OPEN_CALLS: u64 = 35;
+
+/// The calls of a save: 33 blocks of the slot, a flush, the root, and a flush.
+const SAVE_CALLS: u64 = 36;
+
+/// The record of one nexus with this key.
+fn record_of(alloc: Global, key: u64) -> Result<Record, NoMemory> {
+    registry_after(alloc, &[(b'a', Asked::Register(key))])?.record()
+}
+
+/// A file that holds the key 11h, behind a fuse that passes on so many calls of the save that comes.
+fn fused(
+    alloc: Global,
+    calls: u64,
+    lands: bool,
+) -> Result<Option<FusedBlocks<MemBlocks>>, NoMemory> {
+    let Some(mut file) = formatted(alloc)? else {
+        return Ok(None);
+    };
+    if file.save(&record_of(alloc, 0x11)?).is_err() {
+        return Ok(None);
+    }
+    let device = file.close();
+    let passed = OPEN_CALLS + calls % 100;
+    Ok(Some(if lands {
+        FusedBlocks::landing(device, passed)
+    } else {
+        FusedBlocks::new(device, passed)
+    }))
+}
+
+/// Where a save fails that stops at this call, counted from 0.
+fn place_of(calls: u64) -> Option<SaveFault> {
+    match calls {
+        0..34 => Some(SaveFault::IdleSlot),
+        34..36 => Some(SaveFault::NewRoot),
+        _ => None,
+    }
+}
+
+#[test]
+fn each_call_of_a_save(rt: HostRuntime) -> Result<(), Fail> {
+    let alloc = rt.alloc();
+    let old = told(alloc, record_of(alloc, 0x11)?)?;
+    let new = told(alloc, record_of(alloc, 0x22)?)?;
+    for lands in [false, true] {
+        for calls in 0..SAVE_CALLS + 1 {
+            let Some(device) = fused(alloc, calls, lands)? else {
+                panic!(rt; "{calls}")
+            };
+            let Ok((mut file, found)) = RegFile::open(alloc, device) else {
+                panic!(rt; "{calls}")
+            };
+            assert_eq!(rt; told(alloc, found)?, old, "{calls}");
+            let fault = file.save(&record_of(alloc, 0x22)?).err();
+            assert_eq!(rt; fault, place_of(calls), "{calls}");
+            let left = file.close().into_inner();
+            let Ok((_, record)) = RegFile::open(alloc, left) else {
+                panic!(rt; "{calls}")
+            };
+            let landed = calls > 34 || lands && calls == 34;
+            let wanted = if landed { &new } else { &old };
+            assert_eq!(rt; told(alloc, record)?, *wanted, "{calls}, {lands}");
+        }
+    }
+    Ok(())
+}

@@ -1,0 +1,173 @@
+//! A device that fails one call and then serves again.
+ghost use Rattle.std.specs.Prelude.{◌+◌, [], false, min};
+ghost use Rattle.std.proofs.Common.{arith};
+ghost use Rattle.block_file.specs.Failures.{last_count};
+
+use crate::files::{Asked, formatted, registry_after, told};
+use aptpl_file::{RegFile, SaveFault};
+use block_file::{Blocks, DeviceFailed};
+use reservations::Record;
+use scsi_types::NoMemory;
+use std::alloc::Global;
+use std::test::Fail;
+
+/// A device that fails one call of read, write and flush, counted from 0; a write that fails is done. Of its contents it
+/// claims nothing.
+#[derive(Drop)]
+struct Glitch<B: Blocks> {
+    inner: B,
+    calls: u64,
+    fails_at: u64,
+    failed: u64,
+}
+
+impl<B: Blocks> Blocks for Glitch<B> {
+    ghost claims = { false };
+
+    ghost claims_moments = { false };
+
+    ghost size = { λ d. B.size d.inner };
+
+    ghost contents = { λ d. [] };
+
+    ghost may_hold = { λ d k value. Unit {0} };
+
+    ghost moment = { λ d. 0 };
+
+    ghost left_since = { λ d t disk. Unit {0} };
+
+    ghost failures = { λ d. min (B.failures d.inner + d.failed) last_count };
+
+    ghost fits = { λ d. B.fits d.inner };
+
+    ghost bounded = { λ d. Prim.omega arith };
+
+    ghost sized = { λ d h. Prim.cc };
+
+    ghost wide = { λ d k h. Prim.cc };
+
+    ghost is_outcome = { λ d k h lt. tt };
+
+    ghost counts_now = { λ d t disk h. Prim.cc };
+
+    ghost only_now = { λ d disk h. Prim.cc };
+
+    fn count(&self) -> u32 {
+        self.inner.count()
+    }
+
+    fn read(&mut self, index: u32, block: &mut [u8; 512]) -> Result<(), DeviceFailed> {
+        if self.calls == self.fails_at {
+            self.calls = self.calls.wrapping_add(1);
+            self.failed = self.failed.saturating_add(1);
+            return Err(DeviceFailed);
+        }
+        self.calls = self.calls.wrapping_add(1);
+        self.inner.read(index, block)
+    }
+
+    fn write(&mut self, index: u32, block: &[u8; 512]) -> Result<(), DeviceFailed> {
+        if self.calls == self.fails_at {
+            self.calls = self.calls.wrapping_add(1);
+            self.failed = self.failed.saturating_add(1);
+            let _ = self.inner.write(index, block);
+            return Err(DeviceFailed);
+        }
+        self.calls = self.calls.wrapping_add(1);
+        self.inner.write(index, block)
+    }
+
+    fn flush(&mut self) -> Result<(), DeviceFailed> {
+        if self.calls == self.fails_at {
+            self.calls = self.calls.wrapping_add(1);
+            self.failed = self.failed.saturating_add(1);
+            return Err(DeviceFailed);
+        }
+        self.calls = self.calls.wrapping_add(1);
+        self.inner.flush()
+    }
+}
+
+/// The record of one nexus with this key.
+fn record_of(alloc: Global, key: u64) -> Result<Record, NoMemory> {
+    registry_after(alloc, &[(b'a', Asked::Register(key))])?.record()
+}
+
+/// A save that fails at one of its 36 calls, counted from 0, its fault, and the calls of the save after it.
+struct Row {
+    fails_at: u64,
+    fault: Option<SaveFault>,
+    calls: u64,
+}
+
+const ROWS: &[Row] = &[
+    Row {
+        fails_at: 0,
+        fault: Some(SaveFault::IdleSlot),
+        calls: 36,
+    },
+    Row {
+        fails_at: 33,
+        fault: Some(SaveFault::IdleSlot),
+        calls: 36,
+    },
+    Row {
+        fails_at: 34,
+        fault: Some(SaveFault::NewRoot),
+        calls: 38,
+    },
+    Row {
+        fails_at: 35,
+        fault: Some(SaveFault::NewRoot),
+        calls: 38,
+    },
+    Row {
+        fails_at: 99,
+        fault: None,
+        calls: 36,
+    },
+];
+
+#[test]
+fn an_undecided_root_is_written_again(rt: HostRuntime) -> Result<(), Fail> {
+    let alloc = rt.alloc();
+    for row in ROWS {
+        let Some(file) = formatted(alloc)? else {
+            panic!(rt; "{}", row.fails_at)
+        };
+        let glitch = Glitch {
+            inner: file.close(),
+            calls: 0,
+            fails_at: 35 + row.fails_at,
+            failed: 0,
+        };
+        let Ok((mut file, _)) = RegFile::open(alloc, glitch) else {
+            panic!(rt; "{}", row.fails_at)
+        };
+        let fault = file.save(&record_of(alloc, 0x11)?).err();
+        assert_eq!(rt; fault, row.fault, "{}", row.fails_at);
+        assert!(rt;
+            file.save(&record_of(alloc, 0x22)?).is_ok(),
+            "{}",
+            row.fails_at
+        );
+        let left = file.close();
+        let before = if row.fault.is_none() {
+            35 + 36
+        } else {
+            36 + row.fails_at
+        };
+        assert_eq!(rt;
+            left.calls.wrapping_sub(before),
+            row.calls,
+            "{}",
+            row.fails_at
+        );
+        let Ok((_, record)) = RegFile::open(alloc, left.inner) else {
+            panic!(rt; "{}", row.fails_at)
+        };
+        let wanted = told(alloc, record_of(alloc, 0x22)?)?;
+        assert_eq!(rt; told(alloc, record)?, wanted, "{}", row.fails_at);
+    }
+    Ok(())
+}

@@ -1,0 +1,198 @@
+//! Files that are refused, and why.
+use crate::files::{Asked, formatted, registry_after, set_byte};
+use aptpl_file::{OpenFault, RegFile};
+use block_file::MemBlocks;
+use std::test::Fail;
+
+/// Bytes put into a file of two registrants, a and b, of which a holds a reservation of type 5 (slot 1 from block 34 on,
+/// entries in block 35), and why it is refused.
+struct Row {
+    name: &'static str,
+    puts: &'static [(u32, usize, u8)],
+    fault: OpenFault,
+}
+
+const NOT: OpenFault = OpenFault::NotARegFile;
+
+const ROWS: &[Row] = &[
+    Row {
+        name: "another root",
+        puts: &[(0, 7, 0x32)],
+        fault: NOT,
+    },
+    Row {
+        name: "version 3",
+        puts: &[(0, 9, 3)],
+        fault: OpenFault::Version,
+    },
+    Row {
+        name: "version 257",
+        puts: &[(0, 8, 1)],
+        fault: OpenFault::Version,
+    },
+    Row {
+        name: "another root comes before the version",
+        puts: &[(0, 0, 0), (0, 9, 3)],
+        fault: NOT,
+    },
+    Row {
+        name: "the version comes before the slot",
+        puts: &[(0, 9, 3), (0, 10, 2)],
+        fault: OpenFault::Version,
+    },
+    Row {
+        name: "slot 2",
+        puts: &[(0, 10, 2)],
+        fault: NOT,
+    },
+    Row {
+        name: "a root with a stray byte",
+        puts: &[(0, 511, 1)],
+        fault: NOT,
+    },
+    Row {
+        name: "the slot that is named was never written",
+        puts: &[(0, 10, 0), (1, 0, 0)],
+        fault: NOT,
+    },
+    Row {
+        name: "a slot with another name",
+        puts: &[(34, 3, 0)],
+        fault: NOT,
+    },
+    Row {
+        name: "aptpl 2",
+        puts: &[(34, 8, 2)],
+        fault: NOT,
+    },
+    Row {
+        name: "registrants without aptpl",
+        puts: &[(34, 8, 0)],
+        fault: NOT,
+    },
+    Row {
+        name: "65 registrants",
+        puts: &[(34, 9, 65)],
+        fault: NOT,
+    },
+    Row {
+        name: "one registrant, and another entry",
+        puts: &[(34, 9, 1)],
+        fault: NOT,
+    },
+    Row {
+        name: "three registrants, and two entries",
+        puts: &[(34, 9, 3)],
+        fault: NOT,
+    },
+    Row {
+        name: "type 2",
+        puts: &[(34, 10, 2)],
+        fault: NOT,
+    },
+    Row {
+        name: "type 7 with a holder",
+        puts: &[(34, 10, 7)],
+        fault: NOT,
+    },
+    Row {
+        name: "no type, and a holder",
+        puts: &[(34, 10, 0)],
+        fault: NOT,
+    },
+    Row {
+        name: "a holder that is not there",
+        puts: &[(34, 11, 2)],
+        fault: NOT,
+    },
+    Row {
+        name: "type 5 without a holder",
+        puts: &[(34, 11, 0xFF)],
+        fault: NOT,
+    },
+    Row {
+        name: "a slot with a stray byte",
+        puts: &[(34, 12, 1)],
+        fault: NOT,
+    },
+    Row {
+        name: "entries out of order",
+        puts: &[(35, 34, b'c')],
+        fault: NOT,
+    },
+    Row {
+        name: "one nexus twice",
+        puts: &[(35, 34, b'b')],
+        fault: NOT,
+    },
+    Row {
+        name: "key 0",
+        puts: &[(35, 7, 0)],
+        fault: NOT,
+    },
+    Row {
+        name: "group 3",
+        puts: &[(35, 9, 3)],
+        fault: NOT,
+    },
+    Row {
+        name: "group 257",
+        puts: &[(35, 8, 1)],
+        fault: NOT,
+    },
+    Row {
+        name: "a name of no byte",
+        puts: &[(35, 16, 0)],
+        fault: NOT,
+    },
+    Row {
+        name: "a name of 224 bytes",
+        puts: &[(35, 16, 224)],
+        fault: NOT,
+    },
+    Row {
+        name: "a byte behind the name",
+        puts: &[(35, 35, 1)],
+        fault: NOT,
+    },
+    Row {
+        name: "a byte behind the last entry",
+        puts: &[(66, 511, 1)],
+        fault: NOT,
+    },
+];
+
+#[test]
+fn rows(rt: HostRuntime) -> Result<(), Fail> {
+    let alloc = rt.alloc();
+    let requests = [
+        (b'a', Asked::Register(0x11)),
+        (b'b', Asked::Register(0x22)),
+        (b'a', Asked::Reserve(0x11, 5)),
+    ];
+    for row in ROWS {
+        let Some(mut file) = formatted(alloc)? else {
+            panic!(rt; "{}", row.name)
+        };
+        let record = registry_after(alloc, &requests)?.record()?;
+        assert!(rt; file.save(&record).is_ok(), "{}", row.name);
+        let mut device = file.close();
+        for (index, at, value) in row.puts {
+            set_byte(&mut device, *index, *at, *value);
+        }
+        let fault = RegFile::open(alloc, device).err();
+        assert_eq!(rt; fault, Some(row.fault), "{}", row.name);
+    }
+    Ok(())
+}
+
+#[test]
+fn devices_of_zeros(rt: HostRuntime) -> Result<(), Fail> {
+    let alloc = rt.alloc();
+    for count in [0, 66, 67, 68] {
+        let device = MemBlocks::new(alloc, count)?;
+        let fault = RegFile::open(alloc, device).err();
+        assert_eq!(rt; fault, Some(OpenFault::NotARegFile), "{count}");
+    }
+    Ok(())
+}

@@ -1,0 +1,8 @@
+use Rattle.std.proofs.Common.{refl}
+use Rattle.unit_state.proofs.laws.a_failed_save_changes_nothing_else.Goals as goal
+
+pub returns-clause-control : goal.returns-clause-control
+returns-clause-control c = λ control session serial by action scope kind list_length bytes after none. rw none refl
+
+pub returns-clause-reply : goal.returns-clause-reply
+returns-clause-reply c = λ s session serial by action scope kind list_length bytes after none. rw none refl

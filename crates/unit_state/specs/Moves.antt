@@ -1,0 +1,27 @@
+-- What each end of a move tells.
+use Rattle.std.specs.Prelude.{◌≡◌, ℕ, ◌<◌, ◌≤◌, Bool, true, IsTrue, List, Result, Ok, Err}
+use Rattle.access_states.specs.Change.{change_between}
+use Rattle.access_states.specs.declared.change.Change.{Change}
+use Rattle.unit_state.specs.declared.control.TheConstants.{LAST_COUNT}
+use Rattle.unit_state.specs.declared.unit.MoveFault.{MoveFault}
+use Rattle.unit_state.specs.declared.unit.MoveFault.TheVariants as faults
+use Rattle.unit_state.specs.State.{UnitState}
+use Rattle.unit_state.specs.Choice.{Fine}
+use Rattle.unit_state.specs.Groups.{is_moved_by, move_by}
+use Rattle.unit_state.specs.Entry.{Move, IsPossible, control_after, blocks_after}
+
+-- The unit moved: the entry was possible, what is left is what the model gives, and the answer says what has changed.
+pub record IsMoved (claims : Bool) (old new : UnitState) (list : List ℕ) (told : Change) : Type 0 where
+  pub possible : IsPossible claims old (Move list Fine)
+  pub control : new.control ≡ control_after old.control (Move list Fine)
+  pub blocks : IsTrue claims → new.blocks ≡ blocks_after old (Move list Fine)
+  pub tells : told ≡ change_between old.control.access new.control.access
+
+-- It did not: the history has its last length; else the list is one that the access states can't follow; else another
+-- group would have owned the unit, for which the device was not opened.
+abbrev pub IsMove : Bool → UnitState → UnitState → List ℕ → Result Change MoveFault → Type 0
+IsMove claims old new list (Ok told) = IsMoved claims old new list told
+IsMove claims old new list (Err faults.Gone) = LAST_COUNT ≤ old.control.count
+IsMove claims old new list (Err (faults.List fault)) = (old.control.count < LAST_COUNT) × (move_by old.control list ≡ Err fault)
+IsMove claims old new list (Err faults.OpenFailed) =
+    (old.control.count < LAST_COUNT) × (is_moved_by old.control.access (move_by old.control list) ≡ true)
