@@ -254,7 +254,7 @@ module _ {B : Type 0} (claims : Bool) (contents : B → List (List ℕ)) (failur
 
 -- the whole of it
 pub is_once : {B : Type 0} (m : Setting) (claims : Bool) (size : B → ℕ) (contents : B → List (List ℕ)) (failures : B → ℕ) (blocks device : B) (x x' : TargetValue B) (left left' held held' : Option (List ℕ)) (end : End)
-    → IsBegun size blocks x → IsTranscribed (LeadsOn claims contents failures) m 1 1 left left' held held' x x' end → device ≡ x'.unit.device
+    → IsBegun size blocks x → IsTranscribed (LeadsOn claims contents failures) m left left' held held' x x' end → device ≡ x'.unit.device
     → IsOnce m claims size contents failures blocks device left left' held held' end
 is_once {B = B} m claims size contents failures blocks device x x' left left' held held' end first t is_device =
     let begun_here : Matches claims contents failures (begun size contents blocks) x = record {

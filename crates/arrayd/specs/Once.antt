@@ -14,7 +14,9 @@ use Rattle.scsi_types.specs.declared.command.Command.{Command as ScsiCommand}
 use Rattle.scsi_types.specs.declared.command.Command.TheVariants as commands
 use Rattle.scsi_types.specs.declared.command.CdbFault.{CdbFault}
 use Rattle.session.specs.Asking.{Asking, served, reset}
+use Rattle.session.specs.Lengths.{default_lengths}
 use Rattle.session.specs.Setting.{Setting}
+use Rattle.session.specs.declared.session.Start.{Start}
 use Rattle.session.specs.declared.end.End.{End}
 use Rattle.session.specs.declared.target.TargetAnswer.TheVariants.{Replied, Outside, Busy, Gone, Halted}
 use Rattle.session.specs.declared.target.ResetAnswer.TheVariants as resets
@@ -35,6 +37,10 @@ host = record { port = record { name = codes "iqn.2000-01.test:host"; isid = 0 }
 -- the unit's place: the only one of array 1
 abbrev pub place : Place
 place = record { unit = 0; units = 1; array = 1 }
+
+-- with what the session begins: CmdSN 1, StatSN 1, and the lengths where none are negotiated
+abbrev pub from_one : Start
+from_one = record { exp_cmd_sn = 1; stat_sn = 1; lengths = default_lengths }
 
 -- nobody is registered as it opens
 abbrev pub nothing : RecordValue
@@ -128,7 +134,7 @@ pub record AreCounted (before now : ℕ) (history : List Entry) : Type 0 where
 pub record IsServed (m : Setting) (ts : List Turn) (left left' held held' : Option (List ℕ)) (end : End) : Type 0 where
   pub spelled : List ℕ
   pub rest : List ℕ
-  pub lawful : Lawful m 1 1 ts
+  pub lawful : Lawful m ts
   pub ends : EndsBy ts rest (length spelled + length rest) (IsAtEnd left') end
   pub spells : Spells (map (λ t. t.came) ts) spelled
   pub read : Consumes left left' (spelled ++ rest)
