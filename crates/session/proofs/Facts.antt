@@ -198,7 +198,7 @@ module _ (s m : Counters) (came : Incoming) (v : Verdict) (call : Option Asking)
   no_buffer_facts accepted none outs s' is next =
       let ended : list_any (λ o. is_response o.header) (the_outs no_buffer busy) ≡ true = outs_ended m.standing p.task_tag m.setting.start.lengths (sent_bytes no_buffer busy) (the_response no_buffer busy) (sense no_buffer busy) (length (sent_bytes no_buffer busy)) 0 0 in
       let outcome_is : outcome_of v call (the_outs no_buffer busy) ≡ Some no_buffer =
-          ap₂ (λ (w : Verdict) (c : Option Asking). outcome_of w c (the_outs no_buffer busy)) accepted none ∙ ap (λ (b : Bool). if b then Some no_buffer else None) ended in
+      ap₂ (λ (w : Verdict) (c : Option Asking). outcome_of w c (the_outs no_buffer busy)) accepted none ∙ ap (λ (b : Bool). if b then Some no_buffer else None) ended in
       moved refl is next (reply_facts no_buffer busy outcome_is (λ o. o) (record { response = refl; status_is = refl; sense_is = refl }))
 
   full_facts : v ≡ Full → (outs : List Out) (s' : Counters) → outs ≡ reply_with m p (need_of asked) [] task_set_full → s' ≡ after_status m
@@ -236,7 +236,7 @@ module _ (s n s' : Counters) (came : Incoming) (call : Option Asking) (p : Comma
     (no_request : (outs : List Out) → IsRequestAnswered s.setting s.standing Accepted came call outs)
     (setting : n.setting ≡ s.setting) (status : n.stat_sn ≡ s.stat_sn) (tag : n.standing.transfer_tag ≡ s.standing.transfer_tag)
     (commands : ((n.standing.exp_cmd_sn ≡ s.standing.exp_cmd_sn) × (takes_number Accepted came ≡ false))
-      ⊎ ((n.standing.exp_cmd_sn ≡ wrap (s.standing.exp_cmd_sn + 1)) × (takes_number Accepted came ≡ true))) where
+    ⊎ ((n.standing.exp_cmd_sn ≡ wrap (s.standing.exp_cmd_sn + 1)) × (takes_number Accepted came ≡ true))) where
   asks_facts : (need bytes requests : ℕ) (outs : List Out) → TurnAsks n p need bytes requests next call outs → s' ≡ after_r2t n
       → TurnFacts s s' came Accepted call outs
   asks_facts need bytes requests outs k after =

@@ -326,7 +326,7 @@ module _ (burst : ℕ) (some : 0 < burst) (b : List ℕ) (p : CommandHeader) (d 
               unit = s.unit;
               names = s.names;
               answer = s.answer;
-            call_is = refl;
+              call_is = refl;
               all = enough;
               tiled = λ w h. omega (arith, enough w h);
               unasked = λ f. refl;

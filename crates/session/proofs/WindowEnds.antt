@@ -72,8 +72,8 @@ accepted_one : (came : Incoming) (t : Turn) (behind : List Turn)
 accepted_one (pdu b (Initiator (ScsiCommand p)) d) t behind =
     let k : Task = record { command = p; segment = d; own = through ends (t ∷ filter_of p t behind) } in
     begun_command (has_ended k) p (collected k) refl where
-  filter_of : CommandHeader → Turn → List Turn → List Turn
-  filter_of p t behind = filter (touches p) behind
+      filter_of : CommandHeader → Turn → List Turn → List Turn
+      filter_of p t behind = filter (touches p) behind
 accepted_one came t behind = begun_none (number Accepted came)
 
 one_place : (v : Verdict) (came : Incoming) (t : Turn) (behind : List Turn)
@@ -92,9 +92,15 @@ waiting_grows : (ts : List Turn) (u : Turn) → waiting_in (ts ++ u ∷ []) ≤ 
 waiting_grows ts u =
     let begun : Option Task = begun_by (accepted_command u.verdict u.came) u [] in
     let new : List Task = option_to_list begun in
-    omega (arith, ap (λ (ks : List Task). count (filter_map collecting_of ks)) (tasks_more ts u),
-    ap count (filter_map-append collecting_of (map (extended u) (tasks ts)) new), count_append (filter_map collecting_of (map (extended u) (tasks ts))) (filter_map collecting_of new),
-    fewer u (tasks ts), ap (λ (ks : List Task). count (filter_map collecting_of ks)) (last_task begun), one_place u.verdict u.came u [])
+    omega (
+      arith,
+      ap (λ (ks : List Task). count (filter_map collecting_of ks)) (tasks_more ts u),
+      ap count (filter_map-append collecting_of (map (extended u) (tasks ts)) new),
+      count_append (filter_map collecting_of (map (extended u) (tasks ts))) (filter_map collecting_of new),
+      fewer u (tasks ts),
+      ap (λ (ks : List Task). count (filter_map collecting_of ks)) (last_task begun),
+      one_place u.verdict u.came u [],
+    )
 
 taken_more : (ts : List Turn) (u : Turn) → numbers_taken (ts ++ u ∷ []) ≡ numbers_taken ts + (0 + number u.verdict u.came)
 taken_more ts u = sum_by-append (λ t. cond (takes_number t.verdict t.came) 1 0) ts (u ∷ [])
@@ -187,5 +193,5 @@ max_counted m ts l before t behind e =
     let few_now : waiting_in now ≤ 32 = few_wait m [] now (omega arith) (λ front u rest f. l.judged front u (rest ++ behind) (whole front u rest f)) in
     subst (λ (n : ℕ). HaveMaxCmdSn n t.sent) (last_is m.start.exp_cmd_sn (numbers_taken now) (waiting_in now) (waiting_fits now) (omega (arith, few_now)))
     (window_ends (standing m.start now) t.sent (l.windows before t behind e)) where
-  whole : (front : List Turn) (u : Turn) (rest : List Turn) → before ++ t ∷ [] ≡ front ++ (u ∷ rest) → ts ≡ front ++ (u ∷ (rest ++ behind))
-  whole front u rest f = e ∙ sym (append_assoc before (t ∷ []) behind) ∙ ap (λ (z : List Turn). z ++ behind) f ∙ append_assoc front (u ∷ rest) behind
+      whole : (front : List Turn) (u : Turn) (rest : List Turn) → before ++ t ∷ [] ≡ front ++ (u ∷ rest) → ts ≡ front ++ (u ∷ (rest ++ behind))
+      whole front u rest f = e ∙ sym (append_assoc before (t ∷ []) behind) ∙ ap (λ (z : List Turn). z ++ behind) f ∙ append_assoc front (u ∷ rest) behind

@@ -12,9 +12,7 @@ use crate::logout::{logout_end, logout_response};
 use crate::nop::nop_in;
 use crate::session::Session;
 use crate::target::ResetAnswer;
-use crate::task_management::{
-    Management, management_response, reset_end, reset_response,
-};
+use crate::task_management::{Management, management_response, reset_end, reset_response};
 use crate::text::{MadeText, is_part, text_response};
 use iscsi_pdu::{
     Header, InitiatorHeader, LogoutRequest, NopOut, TaskManagementRequest, TextRequest,

@@ -77,15 +77,15 @@ impl Model for Session {
     ghost Value = { Counters };
 
     ghost view = { λ s. record {
-        setting = record {
-            units = s.units;
-            kind = s.kind;
-            target_name = s.target_name.items;
-            told = s.told.items;
-            start = s.start;
-        };
-        stat_sn = s.stat_sn;
-        standing = record { exp_cmd_sn = s.exp_cmd_sn; collecting = s.waiting; transfer_tag = s.transfer_tag };
+      setting = record {
+        units = s.units;
+        kind = s.kind;
+        target_name = s.target_name.items;
+        told = s.told.items;
+        start = s.start;
+      };
+      stat_sn = s.stat_sn;
+      standing = record { exp_cmd_sn = s.exp_cmd_sn; collecting = s.waiting; transfer_tag = s.transfer_tag };
     } };
 }
 
@@ -326,13 +326,7 @@ impl Session {
     }
 
     // A command that has to collect its data begins to wait, if there is a buffer for it: its first R2T.
-    fn wait(
-        &mut self,
-        command: ScsiCommand,
-        asked: Asked,
-        need: u32,
-        bytes: &[u8],
-    ) -> Option<R2t>
+    fn wait(&mut self, command: ScsiCommand, asked: Asked, need: u32, bytes: &[u8]) -> Option<R2t>
         requires asked { IsAskedBy command asked }
         requires need { need ≡ need_of asked }
         requires collects { HasToCollect command need (length bytes.now) }
@@ -513,12 +507,7 @@ fn silence<'a>() -> Actions<'a>
 }
 
 // A command is to be called, for what its CDB asks, with its data.
-fn call<'a>(
-    command: ScsiCommand,
-    asked: Asked,
-    need: u32,
-    bytes: CommandData<'a>,
-) -> Actions<'a>
+fn call<'a>(command: ScsiCommand, asked: Asked, need: u32, bytes: CommandData<'a>) -> Actions<'a>
     requires need { need ≡ need_of asked }
     ensures calls { (gathered : List ℕ) → call_data bytes.entry ≡ data_for command (need_of asked) gathered
         → Calls command asked gathered result }

@@ -10,7 +10,9 @@ use crate::actions::ResponsePdu;
 use crate::collecting::WaitingCommands;
 use crate::end::End;
 use crate::target::ResetAnswer;
-use iscsi_pdu::{Numbers, ScsiCommand, TargetHeader, TaskManagementRequest, TaskManagementResponse};
+use iscsi_pdu::{
+    Numbers, ScsiCommand, TargetHeader, TaskManagementRequest, TaskManagementResponse,
+};
 use scsi_types::Lun;
 
 /// Responses (RFC 7143, 11.6.1).

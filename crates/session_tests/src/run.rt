@@ -279,6 +279,11 @@ pub fn run_reads(
         "{}, {reads:?}",
         row.name
     );
-    assert_eq!(rt; ran.resets.as_slice(), row.resets, "{}, {reads:?}", row.name);
+    assert_eq!(rt;
+        ran.resets.as_slice(),
+        row.resets,
+        "{}, {reads:?}",
+        row.name
+    );
     Ok(())
 }

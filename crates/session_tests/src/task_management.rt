@@ -1,8 +1,9 @@
 //! Task management (RFC 7143, 11.5 and 11.6), on a target of one unit.
 use crate::run::{PLAIN, Row, run};
+use scsi_types::{Asked, Command};
 use session::{End, ResetAnswer};
 use std::test::*;
-use test_streams::{GOOD, PduRow, Segment, TEST_UNIT_READY};
+use test_streams::{DATA_OUT, GOOD, PduRow, R2T, Segment, TEST_UNIT_READY, WRITE};
 
 // A request to LUN 0 with the tag 1 and CmdSN 1; its function stands in byte 1.
 const REQUEST: [u8; 48] = [
@@ -193,6 +194,210 @@ const ROWS: &[Row] = &[
         ..PLAIN
     },
 ];
+
+// What WRITE (10) of one block at block 5 asks for.
+const ONE_BLOCK: (Option<u8>, Asked) = (
+    Some(0),
+    Ok(Command::Write {
+        lba: 5,
+        blocks: 1,
+        fua: false,
+    }),
+);
+
+// The third command, and its answer: StatSN 2, ExpCmdSN 4 and MaxCmdSN 35, as no write waits any more.
+const THIRD: PduRow = PduRow(
+    &TEST_UNIT_READY,
+    &[(19, &[9]), (24, &[0, 0, 0, 3])],
+    Segment::None,
+);
+
+const THIRD_GOOD: PduRow = PduRow(
+    &GOOD,
+    &[(19, &[9]), (24, &[0, 0, 0, 2, 0, 0, 0, 4, 0, 0, 0, 0x23])],
+    Segment::None,
+);
+
+// A write that waits for its 512 bytes, by its R2T, and what becomes of it. The request has CmdSN 2 and the tag 2.
+const WAITING: &[Row] = &[
+    Row {
+        name: "ABORT TASK drops it: it is not answered, and its Data-Out behind is passed over",
+        input: &[
+            PduRow(&WRITE, &[], Segment::None),
+            PduRow(
+                &REQUEST,
+                &[(1, &[0x81]), (19, &[2]), (23, &[1]), (27, &[2])],
+                Segment::None,
+            ),
+            PduRow(&DATA_OUT, &[], Segment::Pattern(512)),
+            THIRD,
+        ],
+        output: &[
+            PduRow(&R2T, &[], Segment::None),
+            PduRow(
+                &RESPONSE,
+                &[(2, &[0]), (19, &[2]), (31, &[3]), (35, &[0x22])],
+                Segment::None,
+            ),
+            THIRD_GOOD,
+        ],
+        ..PLAIN
+    },
+    Row {
+        name: "an immediate ABORT TASK drops it",
+        input: &[
+            PduRow(&WRITE, &[], Segment::None),
+            PduRow(
+                &REQUEST,
+                &[(0, &[0x42, 0x81]), (19, &[2]), (23, &[1]), (27, &[2])],
+                Segment::None,
+            ),
+            PduRow(&DATA_OUT, &[], Segment::Pattern(512)),
+        ],
+        asked: &[],
+        output: &[
+            PduRow(&R2T, &[], Segment::None),
+            PduRow(&RESPONSE, &[(2, &[0]), (19, &[2])], Segment::None),
+        ],
+        ..PLAIN
+    },
+    Row {
+        name: "ABORT TASK of another tag leaves it, and there is no such task",
+        input: &[
+            PduRow(&WRITE, &[], Segment::None),
+            PduRow(
+                &REQUEST,
+                &[(1, &[0x81]), (19, &[2]), (23, &[7]), (27, &[2])],
+                Segment::None,
+            ),
+            PduRow(&DATA_OUT, &[], Segment::Pattern(512)),
+        ],
+        asked: &[ONE_BLOCK],
+        given: 512,
+        output: &[
+            PduRow(&R2T, &[], Segment::None),
+            PduRow(
+                &RESPONSE,
+                &[(2, &[1]), (19, &[2]), (31, &[3])],
+                Segment::None,
+            ),
+            PduRow(
+                &GOOD,
+                &[(24, &[0, 0, 0, 2, 0, 0, 0, 3, 0, 0, 0, 0x22])],
+                Segment::None,
+            ),
+        ],
+        ..PLAIN
+    },
+    Row {
+        name: "ABORT TASK on unit 1, which is not there, leaves it",
+        input: &[
+            PduRow(&WRITE, &[], Segment::None),
+            PduRow(
+                &REQUEST,
+                &[(1, &[0x81]), (9, &[1]), (19, &[2]), (23, &[1]), (27, &[2])],
+                Segment::None,
+            ),
+            PduRow(&DATA_OUT, &[], Segment::Pattern(512)),
+        ],
+        asked: &[ONE_BLOCK],
+        given: 512,
+        output: &[
+            PduRow(&R2T, &[], Segment::None),
+            PduRow(
+                &RESPONSE,
+                &[(2, &[2]), (19, &[2]), (31, &[3])],
+                Segment::None,
+            ),
+            PduRow(
+                &GOOD,
+                &[(24, &[0, 0, 0, 2, 0, 0, 0, 3, 0, 0, 0, 0x22])],
+                Segment::None,
+            ),
+        ],
+        ..PLAIN
+    },
+    Row {
+        name: "ABORT TASK SET by the other form of the LUN drops it",
+        input: &[
+            PduRow(&WRITE, &[], Segment::None),
+            PduRow(
+                &REQUEST,
+                &[(1, &[0x82]), (8, &[0x40]), (19, &[2]), (27, &[2])],
+                Segment::None,
+            ),
+            PduRow(&DATA_OUT, &[], Segment::Pattern(512)),
+            THIRD,
+        ],
+        output: &[
+            PduRow(&R2T, &[], Segment::None),
+            PduRow(
+                &RESPONSE,
+                &[(2, &[0]), (19, &[2]), (31, &[3]), (35, &[0x22])],
+                Segment::None,
+            ),
+            THIRD_GOOD,
+        ],
+        ..PLAIN
+    },
+    Row {
+        name: "LOGICAL UNIT RESET drops it, and the unit is reset",
+        input: &[
+            PduRow(&WRITE, &[], Segment::None),
+            PduRow(
+                &REQUEST,
+                &[(1, &[0x85]), (19, &[2]), (27, &[2])],
+                Segment::None,
+            ),
+            PduRow(&DATA_OUT, &[], Segment::Pattern(512)),
+            THIRD,
+        ],
+        resets: &[0],
+        output: &[
+            PduRow(&R2T, &[], Segment::None),
+            PduRow(
+                &RESPONSE,
+                &[(2, &[0]), (19, &[2]), (31, &[3]), (35, &[0x22])],
+                Segment::None,
+            ),
+            THIRD_GOOD,
+        ],
+        ..PLAIN
+    },
+    Row {
+        name: "TASK REASSIGN leaves it",
+        input: &[
+            PduRow(&WRITE, &[], Segment::None),
+            PduRow(
+                &REQUEST,
+                &[(1, &[0x88]), (19, &[2]), (23, &[1]), (27, &[2])],
+                Segment::None,
+            ),
+            PduRow(&DATA_OUT, &[], Segment::Pattern(512)),
+        ],
+        asked: &[ONE_BLOCK],
+        given: 512,
+        output: &[
+            PduRow(&R2T, &[], Segment::None),
+            PduRow(
+                &RESPONSE,
+                &[(2, &[4]), (19, &[2]), (31, &[3])],
+                Segment::None,
+            ),
+            PduRow(
+                &GOOD,
+                &[(24, &[0, 0, 0, 2, 0, 0, 0, 3, 0, 0, 0, 0x22])],
+                Segment::None,
+            ),
+        ],
+        ..PLAIN
+    },
+];
+
+#[test]
+fn a_write_that_waits(rt: HostRuntime) -> Result<(), Fail> {
+    run(&rt, rt.alloc(), WAITING)
+}
 
 #[test]
 fn task_management(rt: HostRuntime) -> Result<(), Fail> {
