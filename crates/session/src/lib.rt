@@ -1,14 +1,17 @@
 //! An iSCSI session in full feature phase over a byte stream (RFC 7143, from section 4.2 on).
 //!
 //! [`serve_stream`] reads PDUs from a [`Source`], has its [`Target`] serve their commands, and writes the answers to
-//! a [`Sink`], until the session ends. Each command is answered in the turn in which it comes: the data of a write
-//! comes with it, and that of a read goes out in runs of Data-In, as long as the [`Lengths`] in force allow. Answers
-//! of commands that came together leave together. [`Session`] is the same without bytes: what a PDU, a fault or an
-//! answer calls for. [`Watched`] makes a source or a sink of a reader or writer.
+//! a [`Sink`], until the session ends. A write whose data does not all come with it waits for the rest, which it asks for
+//! by R2T; any other command is answered in the turn in which it comes. The data of a read goes out in runs of Data-In.
+//! All is cut as the [`Lengths`] in force say. Answers of commands that came together leave together. [`Session`] is the
+//! same without bytes: what a PDU, a fault or an answer calls for. [`Watched`] makes a source or a sink of a reader or
+//! writer.
 //!
 //! The theorem stands on [`serve_stream`]: the bytes that are written spell a legal transcript of the bytes that
-//! were read, however they were cut. Of specs/, `Turn` says what a transcript is, `Window` how numbers count, `Verdict`
-//! which PDUs are accepted, `Task` how a command is called, `Response` and `DataIn` how it is answered, `Legal` which
+//! were read, however they were cut. Of specs/, `Turn` says what a transcript is, `Asking` what a target is asked, `Setting`
+//! what stays the same, `Standing` what stands behind some turns, `Window` how numbers count, `Verdict` which PDUs are
+//! accepted, `Tasks` and `Collecting` how a command gathers its data and is called, `Drops` and `TaskManagement` which are
+//! aborted, `Answered`, `Response` and `DataIn` how a command is answered, `Requests` how anything else is, `Legal` which
 //! transcripts are legal and why one ends, and `Transcript` how it lies over the bytes. `Machine` says what `Session`
 //! does at a step, `Source` and `Inbox` how bytes come, `Outbox` how they leave. What follows for an initiator is
 //! stated by the functions without a body, in `laws`.
