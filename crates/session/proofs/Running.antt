@@ -124,6 +124,7 @@ ends_by_call : (end : End) (call : Option Asking) → Some end ≡ end_of_call c
 ends_by_call end None e = absurd (cc)
 ends_by_call end (Some (served unit asked bytes answer)) e = ends_by_answer end answer e
 ends_by_call end (Some (reset unit answer)) e = ends_by_reset end answer e
+ends_by_call end (Some other) e = absurd (cc)
 
 ends_by_logout : (end : End) (closes : Bool) → Some end ≡ (if closes then Some LoggedOut else None) → IsCalledFor end
 ends_by_logout end true e = inr (inr cc)

@@ -30,7 +30,7 @@ pub data Outcome : Type 0 where
 
 abbrev pub outcome_of : Verdict → Option Asking → List Out → Option Outcome
 outcome_of Accepted (Some (served unit asked bytes answer)) outs = Some (by_target answer)
-outcome_of Accepted (Some (reset unit answer)) outs = None
+outcome_of Accepted (Some other) outs = None
 outcome_of Accepted None outs = if list_any (λ o. is_response o.header) outs then Some no_buffer else None
 outcome_of Full call outs = Some set_full
 outcome_of Ignored call outs = None
@@ -62,7 +62,7 @@ answered_in s came v call outs = answered_by (outcome_of v call outs) (command_a
 abbrev pub IsServed : Option Asking → Type 0
 IsServed None = Unit {0}
 IsServed (Some (served unit asked bytes answer)) = Unit {0}
-IsServed (Some (reset unit answer)) = ⊥
+IsServed (Some other) = ⊥
 
 -- of the other requests a LOGICAL UNIT RESET of a unit that is there has its one Reset
 abbrev pub IsAcceptedCall : Setting → Standing → Incoming → Option Asking → Type 0

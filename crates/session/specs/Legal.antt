@@ -146,6 +146,7 @@ abbrev pub end_of_call : Option Asking → Option End
 end_of_call None = None
 end_of_call (Some (served unit asked bytes answer)) = end_by answer
 end_of_call (Some (reset unit answer)) = end_by_reset answer
+end_of_call (Some other) = None
 
 abbrev pub end_of_accepted : Incoming → Option Asking → Option End
 end_of_accepted (pdu b (Initiator (LogoutRequest p)) d) call = if closes p then Some LoggedOut else None

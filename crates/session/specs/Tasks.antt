@@ -85,6 +85,7 @@ abbrev pub finds_gone : Option Asking → Bool
 finds_gone None = false
 finds_gone (Some (served unit asked bytes answer)) = is_gone answer
 finds_gone (Some (reset unit answer)) = is_gone_by_reset answer
+finds_gone (Some other) = false
 
 -- a turn of a task that ends it: its SCSI Response goes out, it is dropped, or the session is gone
 abbrev pub ends : Turn → Bool

@@ -56,7 +56,7 @@ pub use lengths::Lengths;
 pub use session::{Session, Start};
 pub use source::{Failed, Sink, Source};
 pub use stream::serve_stream;
-pub use target::{ResetAnswer, Target, TargetAnswer};
+pub use target::{BeginAnswer, ResetAnswer, Target, TargetAnswer};
 pub use text::MadeText;
 pub use verdict::Verdict;
 pub use watched::Watched;

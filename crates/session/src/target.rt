@@ -1,7 +1,17 @@
 ghost use Rattle.std.specs.Prelude.{◌≡◌, ℕ};
-ghost use Rattle.session.specs.Asking.{Asking, served, reset};
+ghost use Rattle.session.specs.Asking.{Asking, began, lives, served, reset, over};
 
+use login::Kind;
 use scsi_types::{Asked, Reply};
+
+/// What a target answers where a session is to begin.
+#[derive(Clone, Copy, Debug, PartialEq, Eq)]
+pub enum BeginAnswer {
+    /// It has begun, with this Target Session Identifying Handle (TSIH): 1 to 65535, that of no other session that lives.
+    Begun(u16),
+    /// There is no room for it: the session is attached to nothing.
+    Refused,
+}
 
 /// What a target answers to a command.
 #[derive(Debug, Drop)]
@@ -40,6 +50,19 @@ pub trait Target {
     /// How many units there are, from unit 0 on: a session asks once, before anything else.
     fn units(&self) -> u16
         ensures { result ≡ unit_count self.now };
+
+    /// Begins a session of this kind, of the initiator port with this InitiatorName, of 1 to 223 bytes, and this ISID, below
+    /// 2^48. The session of the same port and kind that lives is over from then on (RFC 7143, 6.3.5).
+    fn begin(&mut self, name: &[u8], isid: u64, kind: Kind) -> BeginAnswer
+        ensures { leads self.old (began (record { name = name.now; isid = isid }) kind result) self.new };
+
+    /// Whether the session with this TSIH lives, and is of this initiator port.
+    fn lives(&mut self, tsih: u16, name: &[u8], isid: u64) -> bool
+        ensures { leads self.old (lives tsih (record { name = name.now; isid = isid }) result) self.new };
+
+    /// The session is over, or its login was refused: a session says so once, at its end.
+    fn end(&mut self)
+        ensures { leads self.old over self.new };
 
     /// Serves a command of the unit that its LUN names, with the bytes that came for it: of a write as many as it
     /// needs and the initiator expects to send, else none. `unit` is none where the LUN names no unit.
