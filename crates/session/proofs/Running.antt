@@ -16,7 +16,6 @@ use Rattle.session.specs.Logout.{closes}
 use Rattle.iscsi_pdu.specs.declared.fault.PduFault.{PduFault}
 use Rattle.session.specs.declared.end.End.{End}
 use Rattle.session.specs.declared.end.End.TheVariants.{EndOfInput, InputFailed, OutputFailed, Protocol, Reinstated, LoggedOut}
-use Rattle.session.specs.Setting.{Setting}
 use Rattle.session.specs.declared.target.TargetAnswer.{TargetAnswer}
 use Rattle.session.specs.declared.target.TargetAnswer.TheVariants.{Replied, Outside, Busy, Gone, Halted}
 use Rattle.session.specs.declared.verdict.Verdict.{Verdict}
@@ -26,15 +25,22 @@ use Rattle.session.specs.declared.target.ResetAnswer.TheVariants as resets
 use Rattle.session.specs.Asking.{Asking, served, reset}
 use Rattle.session.specs.Source.{AppendsFront}
 use Rattle.session.specs.Inbox.{Filled}
-use Rattle.session.specs.Turn.{Incoming, pdu, faulty, Out, Turn, calls, sent, bytes_of, Spells, Leads}
+use Rattle.session.specs.Turn.{Incoming, pdu, faulty, Out, bytes_of, Spells, Leads}
 use Rattle.iscsi_pdu.specs.declared.TheConstants.{BHS_LENGTH}
-use Rattle.session.specs.Legal.{end_by, end_by_reset, end_of_call, end_of_accepted, end_after, GoesOn, NoneWhole, StandsBehind, EndsWith, most_bytes, EndsBy}
-use Rattle.session.specs.Counters.{Counters, begun}
+use Rattle.session.specs.Legal.{end_by, end_by_reset, end_of_call, end_of_accepted, end_after}
+use Rattle.session.specs.Ends.{NoneWhole, StandsBehind, EndsWith, most_bytes, EndsBy}
+use Rattle.session.specs.LoginPhase.{LoginStanding, login_end}
+use Rattle.session.specs.Phases.{Transcript, Exchange, exchanges, incoming, asked, outgoing, NoneEnds}
+use Rattle.session.specs.declared.identity.Identity.{Identity}
+use Rattle.session.specs.declared.opening.Opening.{Opening}
+use Rattle.session.specs.declared.login_phase.LoginOutcome.{LoginOutcome}
+use Rattle.session.specs.declared.login_phase.LoginOutcome.TheVariants as outcomes
+use Rattle.session.specs.Counters.{Counters}
 use Rattle.session.specs.Outbox.{OutboxValue, IsOut, IsWritten, IsClosed, IsClosedAs}
-use Rattle.session.specs.Stream.{IsLed, MakesTurn}
-use Rattle.session.specs.Transcript.{Written, IsTranscribed, IsFailureOf}
+use Rattle.session.specs.Stream.{IsLed, PhasesValue, ExchangeOf, MakesExchange}
+use Rattle.session.specs.Transcript.{Written, IsPassed, IsFailureOf}
 use Rattle.session.proofs.Queues.{all_out_at_last, broke}
-use Rattle.session.proofs.Lawful.{at_each_more, at_each_none, Stands, stands_more, stands_none}
+use Rattle.session.proofs.Exchanges.{all_more, PhaseStands, lawful_now, More, one_more}
 
 -- ---- what was read
 
@@ -58,10 +64,10 @@ regroup a w n = ap (λ (z : List ℕ). a ++ z) (sym (take-append-drop n w)) ∙ 
 
 -- ---- what went out
 
-bytes_more : (ts : List Turn) (t : Turn) → bytes_of (sent (ts ++ t ∷ [])) ≡ bytes_of (sent ts) ++ bytes_of t.sent
-bytes_more ts t =
-    ap bytes_of (flat_map-append (λ u. u.sent) ts (t ∷ []) ∙ ap (λ (o : List Out). sent ts ++ o) (append-nil t.sent))
-    ∙ flat_map-append (λ o. spelling (Target o.header) o.bytes) (sent ts) t.sent
+bytes_more : (es : List Exchange) (e : Exchange) → bytes_of (outgoing (es ++ e ∷ [])) ≡ bytes_of (outgoing es) ++ bytes_of e.sent
+bytes_more es e =
+    ap bytes_of (flat_map-append (λ u. u.sent) es (e ∷ []) ∙ ap (λ (o : List Out). outgoing es ++ o) (append-nil e.sent))
+    ∙ flat_map-append (λ o. spelling (Target o.header) o.bytes) (outgoing es) e.sent
 
 -- ---- what the target was asked
 
@@ -71,33 +77,33 @@ module _ {T : Type 0} (leads : T → Asking → T → Type 0) where
   leads_more [] x m y c k l = (y, subst (λ (z : T). leads z c y) k l, refl)
   leads_more (b ∷ cs) x m y c k l = (k.0, k.1, leads_more cs k.0 m y c k.2 l)
 
-  led_by : (ts : List Turn) (x m y : T) (came : Incoming) (v : Verdict) (call : Option Asking) (outs : List Out)
-      → Leads leads (calls ts) x m → IsLed leads call m y
-      → Leads leads (calls (ts ++ record { came = came; verdict = v; call = call; sent = outs } ∷ [])) x y
-  led_by ts x m y came v None outs k l =
-      let same : calls (ts ++ record { came = came; verdict = v; call = None; sent = outs } ∷ []) ≡ calls ts = filter_map-append (λ (t : Turn). t.call) ts (record { came = came; verdict = v; call = None; sent = outs } ∷ []) ∙ append-nil (calls ts) in
+  led_by : (es : List Exchange) (x m y : T) (came : Incoming) (call : Option Asking) (outs : List Out) (end : Option End)
+      → Leads leads (asked es) x m → IsLed leads call m y
+      → Leads leads (asked (es ++ record { came = came; call = call; sent = outs; end = end } ∷ [])) x y
+  led_by es x m y came None outs end k l =
+      let same : asked (es ++ record { came = came; call = None; sent = outs; end = end } ∷ []) ≡ asked es = filter_map-append (λ (e : Exchange). e.call) es (record { came = came; call = None; sent = outs; end = end } ∷ []) ∙ append-nil (asked es) in
       subst₂ (λ (cs : List Asking) (z : T). Leads leads cs x z) (sym same) (sym l) k
-  led_by ts x m y came v (Some c) outs k l =
-      let more : calls (ts ++ record { came = came; verdict = v; call = Some c; sent = outs } ∷ []) ≡ calls ts ++ c ∷ [] = filter_map-append (λ (t : Turn). t.call) ts (record { came = came; verdict = v; call = Some c; sent = outs } ∷ []) in
-      subst (λ (cs : List Asking). Leads leads cs x y) (sym more) (leads_more (calls ts) x m y c k l)
+  led_by es x m y came (Some c) outs end k l =
+      let more : asked (es ++ record { came = came; call = Some c; sent = outs; end = end } ∷ []) ≡ asked es ++ c ∷ [] = filter_map-append (λ (e : Exchange). e.call) es (record { came = came; call = Some c; sent = outs; end = end } ∷ []) in
+      subst (λ (cs : List Asking). Leads leads cs x y) (sym more) (leads_more (asked es) x m y c k l)
 
-  led_more : (ts : List Turn) (x m y : T) (t : Turn) → Leads leads (calls ts) x m → IsLed leads t.call m y
-      → Leads leads (calls (ts ++ t ∷ [])) x y
-  led_more ts x m y t k l = led_by ts x m y t.came t.verdict t.call t.sent k l
+  led_more : (es : List Exchange) (x m y : T) (e : Exchange) → Leads leads (asked es) x m → IsLed leads e.call m y
+      → Leads leads (asked (es ++ e ∷ [])) x y
+  led_more es x m y e k l = led_by es x m y e.came e.call e.sent e.end k l
 
 -- ---- between two turns
 
-pub record Running {T : Type 0} (leads : T → Asking → T → Type 0) (setting : Setting)
-    (left left' held held' : Option (List ℕ)) (before now : ℕ) (o : OutboxValue) (target target' : T) (s : Counters)
+pub record Running {T : Type 0} (leads : T → Asking → T → Type 0) (units : ℕ) (me : Identity) (opening : Opening)
+    (left left' held held' : Option (List ℕ)) (before now : ℕ) (o : OutboxValue) (target target' : T) (p : PhasesValue)
     (waiting : List ℕ) (reads : ℕ) : Type 0 where
-  pub transcript : List Turn
+  pub transcript : Transcript
   pub spelled : List ℕ
-  pub stands : Stands setting transcript s
-  pub goes_on : GoesOn transcript
-  pub spells : Spells (map (λ t. t.came) transcript) spelled
+  pub stands : PhaseStands units me opening transcript p.login p.counters
+  pub none_ends : NoneEnds (exchanges transcript)
+  pub spells : Spells (incoming (exchanges transcript)) spelled
   pub read : Consumes left left' (spelled ++ waiting)
-  pub written : IsOut held held' before now o (bytes_of (sent transcript))
-  pub led : Leads leads (calls transcript) target target'
+  pub written : IsOut held held' before now o (bytes_of (outgoing (exchanges transcript)))
+  pub led : Leads leads (asked (exchanges transcript)) target target'
   pub many : reads ≤ length spelled + length waiting
 
 nil_of : (xs : List ℕ) → length xs ≡ 0 → xs ≡ []
@@ -135,13 +141,27 @@ ends_accepted : (end : End) (came : Incoming) (call : Option Asking) → Some en
 ends_accepted end (pdu b (Initiator (LogoutRequest p)) d) call e = ends_by_logout end (closes p) e
 ends_accepted end came call e = ends_by_call end call e
 
-pub ends_so : (end : End) (v : Verdict) (came : Incoming) (call : Option Asking) → Some end ≡ end_after v came call
+turn_ends_so : (end : End) (v : Verdict) (came : Incoming) (call : Option Asking) → Some end ≡ end_after v came call
     → IsCalledFor end
-ends_so end Accepted came call e = ends_accepted end came call e
-ends_so end Full came call e = absurd (cc)
-ends_so end Ignored came call e = absurd (cc)
-ends_so end Gap came call e = inl cc
-ends_so end (Refused reason) came call e = inl cc
+turn_ends_so end Accepted came call e = ends_accepted end came call e
+turn_ends_so end Full came call e = absurd (cc)
+turn_ends_so end Ignored came call e = absurd (cc)
+turn_ends_so end Gap came call e = inl cc
+turn_ends_so end (Refused reason) came call e = inl cc
+
+login_ends_so : (end : End) (o : LoginOutcome) → Some end ≡ login_end o → IsCalledFor end
+login_ends_so end outcomes.GoesOn e = absurd (cc)
+login_ends_so end (outcomes.Begun tsih) e = absurd (cc)
+login_ends_so end (outcomes.Refused status) e = inl cc
+login_ends_so end (outcomes.Rejected reason) e = inl cc
+
+-- the end that a turn of either phase calls for
+ends_so : (end : End) (login : Option LoginStanding) (s : Counters) (came : Incoming) (e : Exchange) (p' : PhasesValue)
+    → ExchangeOf (record { login = login; counters = s }) came e p' → Some end ≡ e.end → IsCalledFor end
+ends_so end None s came e p' made is =
+    turn_ends_so end made.turn.verdict made.turn.came made.turn.call (is ∙ ap (λ (x : Exchange). x.end) made.exchange_is)
+ends_so end (Some v) s came e p' made is =
+    login_ends_so end made.turn.outcome (is ∙ ap (λ (x : Exchange). x.end) made.exchange_is)
 
 not_input : (end : End) → IsCalledFor end → end ≡ InputFailed → ⊥
 not_input end (inl e) f = let g : Protocol ≡ InputFailed = sym e ∙ f in cc
@@ -154,98 +174,108 @@ not_output end (inr (inl e)) f = let g : Reinstated ≡ OutputFailed = sym e ∙
 not_output end (inr (inr e)) f = let g : LoggedOut ≡ OutputFailed = sym e ∙ f in cc
 
 -- an end that a turn called for, of a transcript that ends with it
-ends_by : (end : End) (ts : List Turn) (rest : List ℕ) (taken : ℕ) (at_end : Type 0) → IsCalledFor end
-    → EndsWith ts rest (Some end) → EndsBy ts rest taken at_end end
-ends_by end ts rest taken at_end (inl e) k = subst (EndsBy ts rest taken at_end) (sym e) (subst (λ (z : End). EndsWith ts rest (Some z)) e k)
-ends_by end ts rest taken at_end (inr (inl e)) k = subst (EndsBy ts rest taken at_end) (sym e) (subst (λ (z : End). EndsWith ts rest (Some z)) e k)
-ends_by end ts rest taken at_end (inr (inr e)) k = subst (EndsBy ts rest taken at_end) (sym e) (subst (λ (z : End). EndsWith ts rest (Some z)) e k)
+ends_by : (end : End) (es : List Exchange) (rest : List ℕ) (taken : ℕ) (at_end : Type 0) → IsCalledFor end
+    → EndsWith es rest (Some end) → EndsBy es rest taken at_end end
+ends_by end es rest taken at_end (inl e) k = subst (EndsBy es rest taken at_end) (sym e) (subst (λ (z : End). EndsWith es rest (Some z)) e k)
+ends_by end es rest taken at_end (inr (inl e)) k = subst (EndsBy es rest taken at_end) (sym e) (subst (λ (z : End). EndsWith es rest (Some z)) e k)
+ends_by end es rest taken at_end (inr (inr e)) k = subst (EndsBy es rest taken at_end) (sym e) (subst (λ (z : End). EndsWith es rest (Some z)) e k)
 
-written_all : (end : End) (held held' : Option (List ℕ)) (ts : List Turn) → IsCalledFor end
-    → Appends held held' (bytes_of (sent ts)) → Written end held held' ts
-written_all end held held' ts (inl e) k = subst (λ (z : End). Written z held held' ts) (sym e) k
-written_all end held held' ts (inr (inl e)) k = subst (λ (z : End). Written z held held' ts) (sym e) k
-written_all end held held' ts (inr (inr e)) k = subst (λ (z : End). Written z held held' ts) (sym e) k
+written_all : (end : End) (held held' : Option (List ℕ)) (es : List Exchange) → IsCalledFor end
+    → Appends held held' (bytes_of (outgoing es)) → Written end held held' es
+written_all end held held' es (inl e) k = subst (λ (z : End). Written z held held' es) (sym e) k
+written_all end held held' es (inr (inl e)) k = subst (λ (z : End). Written z held held' es) (sym e) k
+written_all end held held' es (inr (inr e)) k = subst (λ (z : End). Written z held held' es) (sym e) k
 
 -- an end where all was written, or the sink failed
-module _ {T : Type 0} (leads : T → Asking → T → Type 0) (setting : Setting)
+module _ {T : Type 0} (leads : T → Asking → T → Type 0) (units : ℕ) (me : Identity) (opening : Opening)
     (left left' held held' : Option (List ℕ)) (before now : ℕ) (x x' : T) where
   abbrev Ended : End → Type 0
-  Ended end = IsTranscribed leads setting left left' held held' x x' end × IsFailureOf OutputFailed before now end
+  Ended end = IsPassed leads units me opening left left' held held' x x' end × IsFailureOf OutputFailed before now end
 
   closed : (bytes : List ℕ) (wanted end : End) → (wanted ≡ OutputFailed → ⊥)
-      → (Appends held held' bytes → IsTranscribed leads setting left left' held held' x x' wanted)
-      → (AppendsFront held held' bytes → IsTranscribed leads setting left left' held held' x x' OutputFailed)
+      → (Appends held held' bytes → IsPassed leads units me opening left left' held held' x x' wanted)
+      → (AppendsFront held held' bytes → IsPassed leads units me opening left left' held held' x x' OutputFailed)
       → IsClosed held held' before now bytes wanted end → Ended end
   closed bytes wanted end other all cut (inl w) =
-      (subst (IsTranscribed leads setting left left' held held' x x') (sym w.0) (all w.1), record { rises = λ f. absurd (other (sym w.0 ∙ f)); stays = λ _. w.2 })
+      (subst (IsPassed leads units me opening left left' held held' x x') (sym w.0) (all w.1), record { rises = λ f. absurd (other (sym w.0 ∙ f)); stays = λ _. w.2 })
   closed bytes wanted end other all cut (inr w) =
-      (subst (IsTranscribed leads setting left left' held held' x x') (sym w.0) (cut w.1), record { rises = λ f. w.2; stays = λ o. absurd (o w.0) })
+      (subst (IsPassed leads units me opening left left' held held' x x') (sym w.0) (cut w.1), record { rises = λ f. w.2; stays = λ o. absurd (o w.0) })
 
-module _ {T : Type 0} (leads : T → Asking → T → Type 0) (setting : Setting)
-    (left left' held held' : Option (List ℕ)) (before now : ℕ) (o : OutboxValue) (x x' : T) (s : Counters)
+module _ {T : Type 0} (leads : T → Asking → T → Type 0) (units : ℕ) (me : Identity) (opening : Opening)
+    (left left' held held' : Option (List ℕ)) (before now : ℕ) (o : OutboxValue) (x x' : T) (p : PhasesValue)
     (waiting : List ℕ) (reads : ℕ)
-    (r : Running leads setting left left' held held' before now o x x' s waiting reads) where
+    (r : Running leads units me opening left left' held held' before now o x x' p waiting reads) where
+  abbrev so_far : List Exchange
+  so_far = exchanges r.transcript
+
   -- what the whole is with one turn more, where these bytes of what waits spell its PDU
-  module _ (s' : Counters) (x'' : T) (held'' : Option (List ℕ)) (now' : ℕ) (o' : OutboxValue) (came : Incoming)
-      (wanted : Option End) (turned : MakesTurn leads s s' x' x'' held' held'' now now' o o' came wanted) where
-    stands_now : Stands setting (r.transcript ++ turned.turn ∷ []) s'
-    stands_now = stands_more setting r.transcript turned.turn came s s' r.stands r.goes_on turned.made
+  module _ (p' : PhasesValue) (x'' : T) (held'' : Option (List ℕ)) (now' : ℕ) (o' : OutboxValue) (came : Incoming)
+      (wanted : Option End) (turned : MakesExchange leads p p' x' x'' held' held'' now now' o o' came wanted) where
+    abbrev all_now : List Exchange
+    all_now = so_far ++ turned.exchange ∷ []
 
-    led_now : Leads leads (calls (r.transcript ++ turned.turn ∷ [])) x x''
-    led_now = led_more leads r.transcript x x' x'' turned.turn r.led turned.led
+    more_now : More units me opening r.transcript came turned.exchange p'
+    more_now = one_more units me opening r.transcript came turned.exchange p p' r.stands turned.made
 
-    came_now : map (λ (t : Turn). t.came) (r.transcript ++ turned.turn ∷ []) ≡ map (λ (t : Turn). t.came) r.transcript ++ came ∷ []
-    came_now = map-append (λ (t : Turn). t.came) r.transcript (turned.turn ∷ []) ∙ ap (λ (c : Incoming). map (λ (t : Turn). t.came) r.transcript ++ c ∷ []) turned.made.came_is
+    led_now : Leads leads (asked all_now) x x''
+    led_now = led_more leads so_far x x' x'' turned.exchange r.led turned.led
 
-    out_now : IsOut held held'' before now' o' (bytes_of (sent (r.transcript ++ turned.turn ∷ [])))
-    out_now = subst (IsOut held held'' before now' o') (sym (bytes_more r.transcript turned.turn)) (turned.queued held before (bytes_of (sent r.transcript)) r.written)
+    came_now : incoming all_now ≡ incoming so_far ++ came ∷ []
+    came_now = map-append (λ (e : Exchange). e.came) so_far (turned.exchange ∷ []) ∙ ap (λ (c : Incoming). incoming so_far ++ c ∷ []) more_now.came_is
+
+    out_now : IsOut held held'' before now' o' (bytes_of (outgoing all_now))
+    out_now = subst (IsOut held held'' before now' o') (sym (bytes_more so_far turned.exchange)) (turned.queued held before (bytes_of (outgoing so_far)) r.written)
+
+    one_of_three : (end : End) → wanted ≡ Some end → IsCalledFor end
+    one_of_three end e = ends_so end p.login p.counters came turned.exchange p' turned.made (sym e ∙ turned.wanted_is)
 
     -- the reader did not fail
     input_stays : (held3 : Option (List ℕ)) (now3 : ℕ) (end result : End) → IsCalledFor end → IsClosedAs held'' held3 now' now3 o' end result
         → result ≡ InputFailed → ⊥
-    input_stays held3 now3 end result one close e = elim (close held before (bytes_of (sent (r.transcript ++ turned.turn ∷ []))) out_now) [
+    input_stays held3 now3 end result one close e = elim (close held before (bytes_of (outgoing all_now)) out_now) [
       | inl w ↦ not_input end one (sym w.0 ∙ e)
       | inr w ↦ let g : OutputFailed ≡ InputFailed = sym w.0 ∙ e in cc
     ]
 
     -- the last turn
-    last_turn : (rest : List ℕ) → StandsBehind came rest → EndsWith (r.transcript ++ turned.turn ∷ []) rest wanted
+    last_turn : (rest : List ℕ) → StandsBehind came rest → EndsWith all_now rest wanted
     last_turn rest stands = record {
-      front = r.transcript;
-      last = turned.turn;
+      front = so_far;
+      last = turned.exchange;
       whole = refl;
-      goes_on = r.goes_on;
-      stands = subst (λ (c : Incoming). StandsBehind c rest) (sym turned.made.came_is) stands;
+      goes_on = r.none_ends;
+      stands = subst (λ (c : Incoming). StandsBehind c rest) (sym more_now.came_is) stands;
       ends = sym turned.wanted_is;
     }
 
     -- the session ends with it
-    module _ (spelled rest : List ℕ) (spells : Spells (map (λ (t : Turn). t.came) r.transcript ++ came ∷ []) spelled)
+    module _ (spelled rest : List ℕ) (spells : Spells (incoming so_far ++ came ∷ []) spelled)
         (read : Consumes left left' (spelled ++ rest)) (stands : StandsBehind came rest) (held3 : Option (List ℕ)) (now3 : ℕ) where
       ended : (end : End)
-          → EndsBy (r.transcript ++ turned.turn ∷ []) rest (length spelled + length rest) (IsAtEnd left') end
-          → Written end held held3 (r.transcript ++ turned.turn ∷ [])
-          → IsTranscribed leads setting left left' held held3 x x'' end
+          → EndsBy all_now rest (length spelled + length rest) (IsAtEnd left') end
+          → Written end held held3 all_now
+          → IsPassed leads units me opening left left' held held3 x x'' end
       ended end ends written = record {
-        transcript = r.transcript ++ turned.turn ∷ [];
+        transcript = more_now.transcript;
         spelled = spelled;
         rest = rest;
-        lawful = stands_now.lawful;
-        ends = ends;
-        spells = subst (λ (is : List Incoming). Spells is spelled) (sym came_now) spells;
+        lawful = more_now.lawful;
+        ends = subst (λ (es : List Exchange). EndsBy es rest (length spelled + length rest) (IsAtEnd left') end) (sym more_now.exchanges_are) ends;
+        spells = subst (λ (es : List Exchange). Spells (incoming es) spelled) (sym more_now.exchanges_are)
+            (subst (λ (is : List Incoming). Spells is spelled) (sym came_now) spells);
         read = read;
-        written = written;
-        led = led_now;
+        written = subst (λ (es : List Exchange). Written end held held3 es) (sym more_now.exchanges_are) written;
+        led = subst (λ (es : List Exchange). Leads leads (asked es) x x'') (sym more_now.exchanges_are) led_now;
       }
 
       ends_now : (end result : End) → wanted ≡ Some end → IsCalledFor end
           → IsClosedAs held'' held3 now' now3 o' end result
-          → Ended leads setting left left' held held3 before now3 x x'' result
+          → Ended leads units me opening left left' held held3 before now3 x x'' result
       ends_now end result e one close =
-          closed leads setting left left' held held3 before now3 x x'' (bytes_of (sent (r.transcript ++ turned.turn ∷ []))) end result (not_output end one)
-          (λ all. ended end (ends_by end (r.transcript ++ turned.turn ∷ []) rest (length spelled + length rest) (IsAtEnd left') one (subst (EndsWith (r.transcript ++ turned.turn ∷ []) rest) e (last_turn rest stands))) (written_all end held held3 (r.transcript ++ turned.turn ∷ []) one all))
+          closed leads units me opening left left' held held3 before now3 x x'' (bytes_of (outgoing all_now)) end result (not_output end one)
+          (λ all. ended end (ends_by end all_now rest (length spelled + length rest) (IsAtEnd left') one (subst (EndsWith all_now rest) e (last_turn rest stands))) (written_all end held held3 all_now one all))
           (λ cut. ended OutputFailed (inr (wanted, last_turn rest stands)) cut)
-          (close held before (bytes_of (sent (r.transcript ++ turned.turn ∷ []))) out_now)
+          (close held before (bytes_of (outgoing all_now)) out_now)
 
   -- a PDU comes, and the session goes on, or ends
   bhs_front : (n : ℕ) (bhs : List ℕ) (h : Header) (d : List ℕ) → bhs ≡ take BHS_LENGTH waiting → n ≤ length waiting
@@ -254,8 +284,8 @@ module _ {T : Type 0} (leads : T → Asking → T → Type 0) (setting : Setting
 
   spells_now : (n : ℕ) (bhs : List ℕ) (h : Header) (d : List ℕ) → bhs ≡ take BHS_LENGTH waiting → n ≤ length waiting
       → IsPdu (take n waiting) h d
-      → Spells (map (λ (t : Turn). t.came) r.transcript ++ pdu bhs h d ∷ []) (r.spelled ++ take n waiting)
-  spells_now n bhs h d e within p = spells_more (map (λ (t : Turn). t.came) r.transcript) r.spelled bhs (take n waiting) h d r.spells p (bhs_front n bhs h d e within p)
+      → Spells (incoming so_far ++ pdu bhs h d ∷ []) (r.spelled ++ take n waiting)
+  spells_now n bhs h d e within p = spells_more (incoming so_far) r.spelled bhs (take n waiting) h d r.spells p (bhs_front n bhs h d e within p)
 
   read_now : (n : ℕ) → Consumes left left' ((r.spelled ++ take n waiting) ++ drop n waiting)
   read_now n = subst (Consumes left left') (regroup r.spelled waiting n) r.read
@@ -263,67 +293,71 @@ module _ {T : Type 0} (leads : T → Asking → T → Type 0) (setting : Setting
   many_now : (n : ℕ) → reads ≤ length (r.spelled ++ take n waiting) + length (drop n waiting)
   many_now n = omega (arith, r.many, length-append r.spelled (take n waiting), ap length (take-append-drop n waiting), length-append (take n waiting) (drop n waiting))
 
-  module _ (s' : Counters) (x'' : T) (held'' : Option (List ℕ)) (now' : ℕ) (o' : OutboxValue) (bhs : List ℕ) (h : Header)
+  module _ (p' : PhasesValue) (x'' : T) (held'' : Option (List ℕ)) (now' : ℕ) (o' : OutboxValue) (bhs : List ℕ) (h : Header)
       (d : List ℕ) (n : ℕ) (bhs_is : bhs ≡ take BHS_LENGTH waiting) (within : n ≤ length waiting)
       (spelled : IsPdu (take n waiting) h d) where
-    pub pdu_goes_on : MakesTurn leads s s' x' x'' held' held'' now now' o o' (pdu bhs h d) None
-        → Running leads setting left left' held held'' before now' o' x x'' s' (drop n waiting) reads
-    pdu_goes_on t = record {
-      transcript = r.transcript ++ t.turn ∷ [];
-      spelled = r.spelled ++ take n waiting;
-      stands = stands_now s' x'' held'' now' o' (pdu bhs h d) None t;
-      goes_on = at_each_more (λ _ u. end_after u.verdict u.came u.call ≡ None) r.transcript t.turn r.goes_on (sym t.wanted_is);
-      spells = subst (λ (is : List Incoming). Spells is (r.spelled ++ take n waiting)) (sym (came_now s' x'' held'' now' o' (pdu bhs h d) None t)) (spells_now n bhs h d bhs_is within spelled);
-      read = read_now n;
-      written = out_now s' x'' held'' now' o' (pdu bhs h d) None t;
-      led = led_now s' x'' held'' now' o' (pdu bhs h d) None t;
-      many = many_now n;
-    }
+    pub pdu_goes_on : MakesExchange leads p p' x' x'' held' held'' now now' o o' (pdu bhs h d) None
+        → Running leads units me opening left left' held held'' before now' o' x x'' p' (drop n waiting) reads
+    pdu_goes_on t =
+        let k = more_now p' x'' held'' now' o' (pdu bhs h d) None t in
+        let back = sym k.exchanges_are in
+        record {
+          transcript = k.transcript;
+          spelled = r.spelled ++ take n waiting;
+          stands = k.stands (sym t.wanted_is);
+          none_ends = subst NoneEnds back (all_more (λ (e : Exchange). e.end ≡ None) so_far t.exchange r.none_ends (sym t.wanted_is));
+          spells = subst (λ (es : List Exchange). Spells (incoming es) (r.spelled ++ take n waiting)) back
+              (subst (λ (is : List Incoming). Spells is (r.spelled ++ take n waiting)) (sym (came_now p' x'' held'' now' o' (pdu bhs h d) None t)) (spells_now n bhs h d bhs_is within spelled));
+          read = read_now n;
+          written = subst (λ (es : List Exchange). IsOut held held'' before now' o' (bytes_of (outgoing es))) back (out_now p' x'' held'' now' o' (pdu bhs h d) None t);
+          led = subst (λ (es : List Exchange). Leads leads (asked es) x x'') back (led_now p' x'' held'' now' o' (pdu bhs h d) None t);
+          many = many_now n;
+        }
 
-    pub pdu_ends : (held3 : Option (List ℕ)) (now3 : ℕ) (end result : End) → MakesTurn leads s s' x' x'' held' held'' now now' o o' (pdu bhs h d) (Some end)
+    pub pdu_ends : (held3 : Option (List ℕ)) (now3 : ℕ) (end result : End) → MakesExchange leads p p' x' x'' held' held'' now now' o o' (pdu bhs h d) (Some end)
         → IsClosedAs held'' held3 now' now3 o' end result
-        → Ended leads setting left left' held held3 before now3 x x'' result
+        → Ended leads units me opening left left' held held3 before now3 x x'' result
     pdu_ends held3 now3 end result t close =
-        ends_now s' x'' held'' now' o' (pdu bhs h d) (Some end) t (r.spelled ++ take n waiting) (drop n waiting) (spells_now n bhs h d bhs_is within spelled) (read_now n) tt held3 now3
-        end result refl (ends_so end t.turn.verdict t.turn.came t.turn.call t.wanted_is) close
+        ends_now p' x'' held'' now' o' (pdu bhs h d) (Some end) t (r.spelled ++ take n waiting) (drop n waiting) (spells_now n bhs h d bhs_is within spelled) (read_now n) tt held3 now3
+        end result refl (one_of_three p' x'' held'' now' o' (pdu bhs h d) (Some end) t end refl) close
 
-    pub pdu_ends_not_by_input : (held3 : Option (List ℕ)) (now3 : ℕ) (end result : End) → MakesTurn leads s s' x' x'' held' held'' now now' o o' (pdu bhs h d) (Some end)
+    pub pdu_ends_not_by_input : (held3 : Option (List ℕ)) (now3 : ℕ) (end result : End) → MakesExchange leads p p' x' x'' held' held'' now now' o o' (pdu bhs h d) (Some end)
         → IsClosedAs held'' held3 now' now3 o' end result → result ≡ InputFailed → ⊥
     pdu_ends_not_by_input held3 now3 end result t close =
-        input_stays s' x'' held'' now' o' (pdu bhs h d) (Some end) t held3 now3 end result (ends_so end t.turn.verdict t.turn.came t.turn.call t.wanted_is) close
+        input_stays p' x'' held'' now' o' (pdu bhs h d) (Some end) t held3 now3 end result (one_of_three p' x'' held'' now' o' (pdu bhs h d) (Some end) t end refl) close
 
-  pub fault_ends : (s' : Counters) (held'' held3 : Option (List ℕ)) (now' now3 : ℕ) (o' : OutboxValue) (bhs : List ℕ) (f : PduFault) (result : End)
+  pub fault_ends : (p' : PhasesValue) (held'' held3 : Option (List ℕ)) (now' now3 : ℕ) (o' : OutboxValue) (bhs : List ℕ) (f : PduFault) (result : End)
       → bhs ≡ take BHS_LENGTH waiting → length bhs ≡ BHS_LENGTH → FaultStands waiting f
-      → MakesTurn leads s s' x' x' held' held'' now now' o o' (faulty f bhs) (Some Protocol)
+      → MakesExchange leads p p' x' x' held' held'' now now' o o' (faulty f bhs) (Some Protocol)
       → IsClosedAs held'' held3 now' now3 o' Protocol result
-      → Ended leads setting left left' held held3 before now3 x x' result
-  fault_ends s' held'' held3 now' now3 o' bhs f result bhs_is long stands t close =
-      ends_now s' x' held'' now' o' (faulty f bhs) (Some Protocol) t r.spelled waiting (spells_fault (map (λ (t : Turn). t.came) r.transcript) r.spelled bhs f r.spells) r.read
+      → Ended leads units me opening left left' held held3 before now3 x x' result
+  fault_ends p' held'' held3 now' now3 o' bhs f result bhs_is long stands t close =
+      ends_now p' x' held'' now' o' (faulty f bhs) (Some Protocol) t r.spelled waiting (spells_fault (incoming so_far) r.spelled bhs f r.spells) r.read
       (stands, omega (arith, ap length bhs_is, long, length-take BHS_LENGTH waiting), bhs_is) held3 now3 Protocol result refl (inl refl) close
 
   -- what waits to go out is written
   pub flushed : (held'' : Option (List ℕ)) (now' : ℕ) (o' : OutboxValue) → IsWritten held' held'' now now' o o'
-      → Running leads setting left left' held held'' before now' o' x x' s waiting reads
+      → Running leads units me opening left left' held held'' before now' o' x x' p waiting reads
   flushed held'' now' o' w = record {
     transcript = r.transcript;
     spelled = r.spelled;
     stands = r.stands;
-    goes_on = r.goes_on;
+    none_ends = r.none_ends;
     spells = r.spells;
     read = r.read;
-    written = w held before (bytes_of (sent r.transcript)) r.written;
+    written = w held before (bytes_of (outgoing so_far)) r.written;
     led = r.led;
     many = r.many;
   }
 
   -- more came, or the input is at its end
   pub more_came : (left'' : Option (List ℕ)) (waiting' : List ℕ) (n : ℕ) → Filled left' left'' waiting waiting' n
-      → 0 < n → Running leads setting left left'' held held' before now o x x' s waiting' (reads + 1)
+      → 0 < n → Running leads units me opening left left'' held held' before now o x x' p waiting' (reads + 1)
   more_came left'' waiting' n f some = record {
     transcript = r.transcript;
     spelled = r.spelled;
     stands = r.stands;
-    goes_on = r.goes_on;
+    none_ends = r.none_ends;
     spells = r.spells;
     read = subst (Consumes left left'') (append_assoc r.spelled waiting f.more ∙ ap (λ (z : List ℕ). r.spelled ++ z) (sym f.grown)) (Consumes-trans _ _ _ _ _ r.read f.read);
     written = r.written;
@@ -332,14 +366,14 @@ module _ {T : Type 0} (leads : T → Asking → T → Type 0) (setting : Setting
   }
 
   stops_here : (end : End) (left'' held'' : Option (List ℕ)) (rest : List ℕ) → Consumes left left'' (r.spelled ++ rest)
-      → EndsBy r.transcript rest (length r.spelled + length rest) (IsAtEnd left'') end
-      → Written end held held'' r.transcript
-      → IsTranscribed leads setting left left'' held held'' x x' end
+      → EndsBy so_far rest (length r.spelled + length rest) (IsAtEnd left'') end
+      → Written end held held'' so_far
+      → IsPassed leads units me opening left left'' held held'' x x' end
   stops_here end left'' held'' rest read ends written = record {
     transcript = r.transcript;
     spelled = r.spelled;
     rest = rest;
-    lawful = r.stands.lawful;
+    lawful = lawful_now units me opening r.transcript p.login p.counters r.stands;
     ends = ends;
     spells = r.spells;
     read = read;
@@ -347,49 +381,49 @@ module _ {T : Type 0} (leads : T → Asking → T → Type 0) (setting : Setting
     led = r.led;
   }
 
-  pub sink_failed : o.failed ≡ true → Ended leads setting left left' held held' before now x x' OutputFailed
+  pub sink_failed : o.failed ≡ true → Ended leads units me opening left left' held held' before now x x' OutputFailed
   sink_failed failed =
-      let b = broke o.failed held held' before now o.waiting (bytes_of (sent r.transcript)) failed r.written in
-      (stops_here OutputFailed left' held' waiting r.read (inl r.goes_on) b.0, record { rises = λ _. b.1; stays = λ other. absurd (other refl) })
+      let b = broke o.failed held held' before now o.waiting (bytes_of (outgoing so_far)) failed r.written in
+      (stops_here OutputFailed left' held' waiting r.read (inl r.none_ends) b.0, record { rises = λ _. b.1; stays = λ other. absurd (other refl) })
 
   module _ (empty : o.waiting ≡ []) (serves : o.failed ≡ false) where
-    all_out : Appends held held' (bytes_of (sent r.transcript)) × (now ≡ before)
-    all_out = all_out_at_last o.failed held held' before now o.waiting (bytes_of (sent r.transcript)) empty serves r.written
+    all_out : Appends held held' (bytes_of (outgoing so_far)) × (now ≡ before)
+    all_out = all_out_at_last o.failed held held' before now o.waiting (bytes_of (outgoing so_far)) empty serves r.written
 
     pub input_ended : (left'' : Option (List ℕ)) (waiting' : List ℕ) (n : ℕ) → n ≡ 0
         → Filled left' left'' waiting waiting' n → NoneWhole waiting
-        → Ended leads setting left left'' held held' before now x x' EndOfInput
+        → Ended leads units me opening left left'' held held' before now x x' EndOfInput
     input_ended left'' waiting' n nothing f none =
         let no_more : f.more ≡ [] = nil_of f.more (f.count ∙ nothing) in (
           stops_here EndOfInput left'' held' waiting (subst (Consumes left left'') (ap (λ (z : List ℕ). r.spelled ++ z) (ap (λ (m : List ℕ). waiting ++ m) no_more ∙ append-nil waiting)) (subst (Consumes left left'') (append_assoc r.spelled waiting f.more) (Consumes-trans _ _ _ _ _ r.read f.read)))
-              (r.goes_on, inl (f.end nothing, none)) all_out.0,
+              (r.none_ends, inl (f.end nothing, none)) all_out.0,
           record { rises = λ (e : EndOfInput ≡ OutputFailed). absurd (cc); stays = λ _. all_out.1 },
         )
 
     pub input_failed : (left'' : Option (List ℕ)) → Keeps left' left'' → NoneWhole waiting
-        → Ended leads setting left left'' held held' before now x x' InputFailed
+        → Ended leads units me opening left left'' held held' before now x x' InputFailed
     input_failed left'' kept none = (
-      stops_here InputFailed left'' held' waiting (Consumes-kept _ _ _ _ r.read kept) (r.goes_on, none) all_out.0,
+      stops_here InputFailed left'' held' waiting (Consumes-kept _ _ _ _ r.read kept) (r.none_ends, none) all_out.0,
       record { rises = λ (e : InputFailed ≡ OutputFailed). absurd (cc); stays = λ _. all_out.1 },
     )
 
   pub taken_all : (held'' : Option (List ℕ)) (now' : ℕ) (result : End) → most_bytes ≤ reads → IsClosedAs held' held'' now now' o EndOfInput result
-      → Ended leads setting left left' held held'' before now' x x' result
+      → Ended leads units me opening left left' held held'' before now' x x' result
   taken_all held'' now' result many close =
-      closed leads setting left left' held held'' before now' x x' (bytes_of (sent r.transcript)) EndOfInput result (λ (e : EndOfInput ≡ OutputFailed). let never : ⊥ = cc in never)
-      (λ all. stops_here EndOfInput left' held'' waiting r.read (r.goes_on, inr (omega (arith, many, r.many))) all)
-      (λ cut. stops_here OutputFailed left' held'' waiting r.read (inl r.goes_on) cut)
-      (close held before (bytes_of (sent r.transcript)) r.written)
+      closed leads units me opening left left' held held'' before now' x x' (bytes_of (outgoing so_far)) EndOfInput result (λ (e : EndOfInput ≡ OutputFailed). let never : ⊥ = cc in never)
+      (λ all. stops_here EndOfInput left' held'' waiting r.read (r.none_ends, inr (omega (arith, many, r.many))) all)
+      (λ cut. stops_here OutputFailed left' held'' waiting r.read (inl r.none_ends) cut)
+      (close held before (bytes_of (outgoing so_far)) r.written)
 
-pub starts : {T : Type 0} (leads : T → Asking → T → Type 0) (setting : Setting) (left held : Option (List ℕ)) (n : ℕ) (o : OutboxValue) (x : T) (s : Counters) (waiting : List ℕ)
-    → setting.start.exp_cmd_sn < 4294967296 → setting.start.stat_sn < 4294967296
-    → s ≡ begun setting → o ≡ record { waiting = []; failed = false } → waiting ≡ []
-    → Running leads setting left left held held n n o x x s waiting 0
-starts leads setting left held n o x s waiting cmd_fits stat_fits s_is o_is empty = record {
-  transcript = [];
+pub starts : {T : Type 0} (leads : T → Asking → T → Type 0) (units : ℕ) (me : Identity) (opening : Opening) (left held : Option (List ℕ)) (n : ℕ) (o : OutboxValue) (x : T) (p : PhasesValue) (waiting : List ℕ)
+    → PhaseStands units me opening (record { logins = []; turns = [] }) p.login p.counters
+    → o ≡ record { waiting = []; failed = false } → waiting ≡ []
+    → Running leads units me opening left left held held n n o x x p waiting 0
+starts leads units me opening left held n o x p waiting stands o_is empty = record {
+  transcript = record { logins = []; turns = [] };
   spelled = [];
-  stands = stands_none setting s cmd_fits stat_fits s_is;
-  goes_on = at_each_none (λ _ u. end_after u.verdict u.came u.call ≡ None);
+  stands = stands;
+  none_ends = tt;
   spells = refl;
   read = subst (Consumes left left) (sym empty) (Consumes-nil left);
   written = subst (λ (z : OutboxValue). IsOut held held n n z []) (sym o_is) (refl, [], Appends-nil held, refl);

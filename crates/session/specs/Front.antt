@@ -5,7 +5,7 @@ use Rattle.iscsi_pdu.specs.Fault.{Stands}
 use Rattle.iscsi_pdu.specs.declared.header.Pdu.{Pdu}
 use Rattle.iscsi_pdu.specs.declared.fault.PduFault.{PduFault}
 use Rattle.iscsi_pdu.specs.declared.TheConstants.{BHS_LENGTH, LONGEST_PDU}
-use Rattle.session.specs.Legal.{NoneWhole}
+use Rattle.session.specs.Ends.{NoneWhole}
 use Rattle.session.specs.declared.waiting.Front.{Front}
 use Rattle.session.specs.declared.waiting.Front.TheVariants.{Whole, Faulty, Partial}
 

@@ -43,9 +43,13 @@ use Rattle.session.specs.DataIn.{data_ins, Tiles}
 use Rattle.session.specs.Logout.{closes}
 use Rattle.session.specs.Requests.{IsRequestAnswered}
 
+-- the fact holds at each place of a list, of what stands before it and there
+abbrev pub AtEachOf : {A : Type 0} → (List A → A → Type 0) → List A → Type 0
+AtEachOf {A} P ts = (before : List A) (t : A) (behind : List A) → ts ≡ before ++ (t ∷ behind) → P before t
+
 -- the fact holds at each place of the transcript
 abbrev pub AtEach : (List Turn → Turn → Type 0) → List Turn → Type 0
-AtEach P ts = (before : List Turn) (t : Turn) (behind : List Turn) → ts ≡ before ++ (t ∷ behind) → P before t
+AtEach P ts = AtEachOf P ts
 
 -- the StatSN that a PDU uses up (4.2.2.2): that of a response or of a Reject
 abbrev pub status_number : TargetHeader → Option ℕ
@@ -197,37 +201,3 @@ pub record Lawful (m : Setting) (ts : List Turn) : Type 0 where
       IsRequestAnswered m (standing m.start before) t.verdict t.came t.call t.sent) ts
   -- nothing comes behind a turn that calls for an end
   pub ends : AtEach (λ before t. GoesOn before) ts
-
--- no PDU and no fault with its whole header segment stands at the front of these bytes
-pub record NoneWhole (rest : List ℕ) : Type 0 where
-  pub no_pdu : (n : ℕ) (h : Header) (d : List ℕ) → IsPdu (take n rest) h d → n ≤ length rest → ⊥
-  pub no_fault : (f : PduFault) → Stands rest f → length rest < BHS_LENGTH
-
--- a fault can only be the last that comes: it stands at the front of what was read behind the PDUs
-abbrev pub StandsBehind : Incoming → List ℕ → Type 0
-StandsBehind (pdu bhs h d) rest = Unit {0}
-StandsBehind (faulty f bhs) rest = Stands rest f × (BHS_LENGTH ≤ length rest) × (bhs ≡ take BHS_LENGTH rest)
-
--- the last turn calls for this end, and none before it does
-pub record EndsWith (ts : List Turn) (rest : List ℕ) (end : Option End) : Type 0 where
-  pub front : List Turn
-  pub last : Turn
-  pub whole : ts ≡ front ++ last ∷ []
-  pub goes_on : GoesOn front
-  pub stands : StandsBehind last.came rest
-  pub ends : end_after last.verdict last.came last.call ≡ end
-
--- how many bytes a session takes at most
-abbrev pub most_bytes : ℕ
-most_bytes = 18446744073709551615
-
--- why the session ended so, where these bytes were read behind the PDUs and this many in all: the input is at
--- its end with no whole PDU left, or as many bytes came as a session takes; the reader failed with no whole PDU
--- left; or the last turn calls for it; or the writer failed, behind any turn
-abbrev pub EndsBy : List Turn → List ℕ → ℕ → Type 0 → End → Type 0
-EndsBy ts rest taken at_end EndOfInput = GoesOn ts × ((at_end × NoneWhole rest) ⊎ (most_bytes ≤ taken))
-EndsBy ts rest taken at_end InputFailed = GoesOn ts × NoneWhole rest
-EndsBy ts rest taken at_end OutputFailed = GoesOn ts ⊎ ((end : Option End) × EndsWith ts rest end)
-EndsBy ts rest taken at_end Protocol = EndsWith ts rest (Some Protocol)
-EndsBy ts rest taken at_end Reinstated = EndsWith ts rest (Some Reinstated)
-EndsBy ts rest taken at_end LoggedOut = EndsWith ts rest (Some LoggedOut)

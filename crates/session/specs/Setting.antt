@@ -15,11 +15,11 @@ pub record Setting : Type 0 where
   pub told : List ℕ
   pub start : Start
 
--- the setting of a session that begins so, with a target of this identity that has so many units
-abbrev pub setting_of : ℕ → Identity → Start → Setting
-setting_of units me start = record {
+-- the setting of a session of this kind that begins so, with a target of this identity that has so many units
+abbrev pub setting_of : ℕ → Identity → Kind → Start → Setting
+setting_of units me kind start = record {
   units = units;
-  kind = me.kind;
+  kind = kind;
   target_name = me.target_name.now;
   told = target_text me.target_name.now me.first.now me.second.now;
   start = start;

@@ -1,11 +1,21 @@
 -- What one turn makes of session, target and sink.
-use Rattle.std.specs.Prelude.{◌≡◌, ℕ, List, Option, Some, None}
+use Rattle.std.specs.Prelude.{◌≡◌, ◌<◌, ℕ, Bool, [], false, true, List, Option, Some, None, IfSome, MatchOption}
+use Rattle.login.specs.Request.{kind_in}
 use Rattle.session.specs.declared.end.End.{End}
+use Rattle.session.specs.declared.identity.Identity.{Identity}
+use Rattle.session.specs.declared.login_phase.LoginOutcome.{LoginOutcome}
+use Rattle.session.specs.declared.opening.Opening.{Opening}
+use Rattle.session.specs.declared.opening.Opening.TheVariants.{Login, FullFeature}
+use Rattle.session.specs.declared.session.Start.{Start}
+use Rattle.login.specs.declared.status.Kind.{Kind}
 use Rattle.session.specs.Asking.{Asking}
+use Rattle.session.specs.Setting.{setting_of}
 use Rattle.session.specs.Turn.{Incoming, Turn, bytes_of}
 use Rattle.session.specs.Legal.{end_after}
-use Rattle.session.specs.Counters.{Counters}
+use Rattle.session.specs.Counters.{Counters, begun}
 use Rattle.session.specs.MachineTurn.{TurnOf}
+use Rattle.session.specs.LoginPhase.{LoginTurn, LoginStanding, login_standing, login_after, IsLoginTurn, begins, IsStart}
+use Rattle.session.specs.Phases.{Exchange, of_login, of_turn}
 use Rattle.session.specs.Outbox.{OutboxValue, IsQueued}
 
 -- a call leads the target on; with none it stays
@@ -23,3 +33,66 @@ pub record MakesTurn {T : Type 0} (leads : T → Asking → T → Type 0)
   pub led : IsLed leads turn.call target target'
   pub queued : IsQueued held held' before now o o' (bytes_of turn.sent)
   pub wanted_is : wanted ≡ end_after turn.verdict turn.came turn.call
+
+-- a turn of a login, and what it came to
+pub record MakesLoginTurn {T : Type 0} (leads : T → Asking → T → Type 0)
+    (v v' : LoginStanding) (target target' : T) (held held' : Option (List ℕ)) (before now : ℕ) (o o' : OutboxValue)
+    (came : Incoming) (outcome : LoginOutcome) : Type 0 where
+  pub turn : LoginTurn
+  pub came_is : turn.came ≡ came
+  pub outcome_is : turn.outcome ≡ outcome
+  pub made : IsLoginTurn v turn
+  pub next : v' ≡ login_after v came
+  pub led : IsLed leads turn.call target target'
+  pub queued : IsQueued held held' before now o o' (bytes_of turn.sent)
+
+-- ---- both phases
+
+-- what stands behind the turns of a login that goes on; and the session, which waits for its end
+pub record PhasesValue : Type 0 where
+  pub login : Option LoginStanding
+  pub counters : Counters
+
+-- a session that begins so
+abbrev pub IsOpened : ℕ → Identity → Opening → PhasesValue → Type 0
+IsOpened units me (Login tag) p =
+    (p.login ≡ Some (login_standing me.target_name.now tag []))
+    × (kind : Kind) × (start : Start) × (p.counters ≡ begun (setting_of units me kind start))
+IsOpened units me (FullFeature kind start) p = (p.login ≡ None) × (p.counters ≡ begun (setting_of units me kind start))
+
+-- while the login goes on, nothing waits in full feature phase
+abbrev pub IsFresh : PhasesValue → Type 0
+IsFresh p = IfSome p.login (λ v. p.counters.standing.collecting ≡ [])
+
+-- the login goes on; or full feature phase begins with what it came to
+abbrev pub NextPhase : Bool → LoginStanding → PhasesValue → PhasesValue → Type 0
+NextPhase false v p p' = p' ≡ record { login = Some v; counters = p.counters }
+NextPhase true v p p' =
+    (start : Start) × IsStart v start × (start.exp_cmd_sn < 4294967296) × (start.stat_sn < 4294967296)
+    × (p' ≡ record { login = None; counters = begun (record (p.counters.setting) { kind = kind_in v.progress.kind; start = start }) })
+
+-- what one turn makes of both phases
+pub record LoginExchange (v : LoginStanding) (p : PhasesValue) (came : Incoming) (e : Exchange) (p' : PhasesValue) : Type 0 where
+  pub turn : LoginTurn
+  pub came_is : turn.came ≡ came
+  pub made : IsLoginTurn v turn
+  pub exchange_is : e ≡ of_login turn
+  pub next : NextPhase (begins turn.outcome) (login_after v came) p p'
+
+pub record FeatureExchange (p : PhasesValue) (came : Incoming) (e : Exchange) (p' : PhasesValue) : Type 0 where
+  pub turn : Turn
+  pub made : TurnOf p.counters came turn p'.counters
+  pub exchange_is : e ≡ of_turn turn
+  pub next : p'.login ≡ None
+
+abbrev pub ExchangeOf : PhasesValue → Incoming → Exchange → PhasesValue → Type 0
+ExchangeOf p came e p' = MatchOption p.login (FeatureExchange p came e p') (λ v. LoginExchange v p came e p')
+
+pub record MakesExchange {T : Type 0} (leads : T → Asking → T → Type 0)
+    (p p' : PhasesValue) (target target' : T) (held held' : Option (List ℕ)) (before now : ℕ) (o o' : OutboxValue)
+    (came : Incoming) (wanted : Option End) : Type 0 where
+  pub exchange : Exchange
+  pub made : ExchangeOf p came exchange p'
+  pub led : IsLed leads exchange.call target target'
+  pub queued : IsQueued held held' before now o o' (bytes_of exchange.sent)
+  pub wanted_is : wanted ≡ exchange.end

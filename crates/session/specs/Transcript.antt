@@ -1,40 +1,49 @@
 -- Bytes to bytes: what a session makes of a stream.
-use Rattle.std.specs.Prelude.{◌≡◌, ℕ, ◌+◌, List, ◌++◌, length, map, Option}
+use Rattle.std.specs.Prelude.{◌≡◌, ℕ, ◌+◌, List, ◌++◌, length, Option}
 use Rattle.std.specs.Io.KnownBytes.{Appends, Consumes, IsAtEnd}
 use Rattle.session.specs.declared.end.End.{End}
 use Rattle.session.specs.declared.end.End.TheVariants.{EndOfInput, InputFailed, OutputFailed, Protocol, Reinstated, LoggedOut}
-use Rattle.session.specs.Asking.{Asking}
-use Rattle.session.specs.Setting.{Setting}
+use Rattle.session.specs.declared.identity.Identity.{Identity}
+use Rattle.session.specs.declared.opening.Opening.{Opening}
+use Rattle.session.specs.Asking.{Asking, over}
 use Rattle.session.specs.Source.{AppendsFront, Rises}
-use Rattle.session.specs.Turn.{Turn, calls, sent, bytes_of, Spells, Leads}
-use Rattle.session.specs.Legal.{Lawful, EndsBy}
+use Rattle.session.specs.Turn.{bytes_of, Spells, Leads}
+use Rattle.session.specs.Phases.{Transcript, Exchange, exchanges, incoming, asked, outgoing, IsLawful}
+use Rattle.session.specs.Ends.{EndsBy}
 
 -- the writer failed: a beginning of the bytes of all turns went out
-abbrev pub IsCut : Option (List ℕ) → Option (List ℕ) → List Turn → Type 0
-IsCut held held' ts = AppendsFront held held' (bytes_of (sent ts))
+abbrev pub IsCut : Option (List ℕ) → Option (List ℕ) → List Exchange → Type 0
+IsCut held held' es = AppendsFront held held' (bytes_of (outgoing es))
 
 -- the bytes that went out are those of the PDUs of all turns, up to where the writer failed
-abbrev pub Written : End → Option (List ℕ) → Option (List ℕ) → List Turn → Type 0
-Written EndOfInput held held' ts = Appends held held' (bytes_of (sent ts))
-Written InputFailed held held' ts = Appends held held' (bytes_of (sent ts))
-Written OutputFailed held held' ts = IsCut held held' ts
-Written Protocol held held' ts = Appends held held' (bytes_of (sent ts))
-Written Reinstated held held' ts = Appends held held' (bytes_of (sent ts))
-Written LoggedOut held held' ts = Appends held held' (bytes_of (sent ts))
+abbrev pub Written : End → Option (List ℕ) → Option (List ℕ) → List Exchange → Type 0
+Written EndOfInput held held' es = Appends held held' (bytes_of (outgoing es))
+Written InputFailed held held' es = Appends held held' (bytes_of (outgoing es))
+Written OutputFailed held held' es = IsCut held held' es
+Written Protocol held held' es = Appends held held' (bytes_of (outgoing es))
+Written Reinstated held held' es = Appends held held' (bytes_of (outgoing es))
+Written LoggedOut held held' es = Appends held held' (bytes_of (outgoing es))
 
--- The bytes that were read spell the PDUs of a legal transcript, and a rest behind them; the bytes that were
--- written spell the PDUs that it sends; its calls lead the target from its state before to that after.
-pub record IsTranscribed {T : Type 0} (leads : T → Asking → T → Type 0) (setting : Setting)
+-- Up to its end a session has passed so: the bytes that were read spell the PDUs of a legal transcript, and a rest behind them; the bytes that were
+-- written spell the PDUs that it sends; what it asks leads the target from its state before to that after.
+pub record IsPassed {T : Type 0} (leads : T → Asking → T → Type 0) (units : ℕ) (me : Identity) (opening : Opening)
     (left left' held held' : Option (List ℕ)) (target target' : T) (end : End) : Type 0 where
-  pub transcript : List Turn
+  pub transcript : Transcript
   pub spelled : List ℕ
   pub rest : List ℕ
-  pub lawful : Lawful setting transcript
-  pub ends : EndsBy transcript rest (length spelled + length rest) (IsAtEnd left') end
-  pub spells : Spells (map (λ t. t.came) transcript) spelled
+  pub lawful : IsLawful units me opening transcript
+  pub ends : EndsBy (exchanges transcript) rest (length spelled + length rest) (IsAtEnd left') end
+  pub spells : Spells (incoming (exchanges transcript)) spelled
   pub read : Consumes left left' (spelled ++ rest)
-  pub written : Written end held held' transcript
-  pub led : Leads leads (calls transcript) target target'
+  pub written : Written end held held' (exchanges transcript)
+  pub led : Leads leads (asked (exchanges transcript)) target target'
+
+-- The same of a session that is over: the last that it asked was to tell its target so.
+pub record IsTranscribed {T : Type 0} (leads : T → Asking → T → Type 0) (units : ℕ) (me : Identity) (opening : Opening)
+    (left left' held held' : Option (List ℕ)) (target target' : T) (end : End) : Type 0 where
+  pub at_end : T
+  pub passed : IsPassed leads units me opening left left' held held' target at_end end
+  pub told : leads at_end over target'
 
 -- the session ended so exactly where its reader, or its writer, counted a failure
 pub record IsFailureOf (cause : End) (before now : ℕ) (end : End) : Type 0 where

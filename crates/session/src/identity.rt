@@ -1,11 +1,8 @@
-use login::Kind;
 use std::net::SocketAddrV4;
 
-/// Who the target of a session is, and what the session is for.
+/// Who the target of a session is.
 #[derive(Clone, Copy, Debug)]
 pub struct Identity<'a> {
-    /// A discovery session serves Text Requests, and no command (RFC 7143, 4.3).
-    pub kind: Kind,
     /// The target's name (RFC 7143, 4.2.7).
     pub target_name: &'a [u8],
     /// The portals of the first controller, in order.

@@ -25,9 +25,12 @@ mod identity;
 mod inbox;
 mod laws;
 mod lengths;
+mod login_phase;
 mod logout;
 mod nop;
+mod opening;
 mod outbox;
+mod phases;
 mod requests;
 mod response;
 mod session;
@@ -37,6 +40,7 @@ mod target;
 mod task_management;
 mod text;
 mod transfer;
+mod turn;
 mod verdict;
 mod waiting;
 mod watched;
@@ -53,6 +57,7 @@ pub use laws::{
     status_numbers_are_consecutive, the_window_never_falls,
 };
 pub use lengths::Lengths;
+pub use opening::Opening;
 pub use session::{Session, Start};
 pub use source::{Failed, Sink, Source};
 pub use stream::serve_stream;

@@ -1,5 +1,5 @@
 //! A session without bytes: what it makes of PDUs and of answers.
-ghost use Rattle.std.specs.Prelude.{◌≡◌, ℕ, List, ◌≤◌, Some, None, length, vec_capacity, IfOk, IfSome, MatchOption};
+ghost use Rattle.std.specs.Prelude.{◌≡◌, ℕ, List, [], ◌≤◌, Some, None, length, vec_capacity, IfOk, IfSome, MatchOption};
 ghost use Rattle.scsi_types.specs.Cdb.{need_of};
 ghost use Rattle.iscsi_pdu.specs.declared.TheConstants.{MAX_DATA_SEGMENT_LENGTH};
 ghost use Rattle.session.specs.declared.text.MadeText.{MadeText};
@@ -90,15 +90,16 @@ impl Model for Session {
 }
 
 impl Session {
-    /// A session that begins so, with a target of this identity that has so many units. Takes the memory for the commands
+    /// A session of this kind that begins so, with a target of this identity that has so many units. Takes the memory for the commands
     /// that wait for their data; later only the data itself takes memory.
     pub fn new(
         alloc: Global,
+        kind: Kind,
         start: Start,
         units: u16,
         me: &Identity<'_>,
     ) -> Result<Session, NoMemory>
-        ensures { IfOk result (λ s. s ≡ begun (setting_of units me.now start)) }
+        ensures { IfOk result (λ s. s ≡ begun (setting_of units me.now kind start)) }
     {
         Ok(Session {
             alloc,
@@ -107,11 +108,23 @@ impl Session {
             waiting: WaitingCommands::new(alloc)?,
             transfer_tag: 0,
             units,
-            kind: me.kind,
+            kind,
             target_name: me.target_name.to_vec(alloc)?,
             told: target_text(alloc, me.target_name, me.first, me.second)?,
             start,
         })
+    }
+
+    /// Begins anew, as a session of this kind: before anything came.
+    pub fn begin(&mut self, kind: Kind, start: Start)
+        ensures { self.old.standing.collecting ≡ []
+            → self.new ≡ begun (record (self.old.setting) { kind = kind; start = start }) }
+    {
+        self.kind = kind;
+        self.start = start;
+        self.stat_sn = start.stat_sn;
+        self.exp_cmd_sn = start.exp_cmd_sn;
+        self.transfer_tag = 0;
     }
 
     /// Answers the text of a PDU, where it is a Text Request, in memory with room for the longest answer: whether it has

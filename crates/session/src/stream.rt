@@ -1,89 +1,27 @@
-ghost use Rattle.std.specs.Prelude.{◌≡◌, ◌<◌, ◌≤◌, [], length, vec_capacity, Some, IfOk, OnErr};
+ghost use Rattle.std.specs.Prelude.{◌≡◌, ℕ, ◌<◌, ◌≤◌, [], false, length, vec_capacity, IfOk, OnErr};
 ghost use Rattle.std.specs.Io.KnownBytes.{Keeps};
-ghost use Rattle.session.specs.declared.end.End.TheVariants.{InputFailed, OutputFailed, Protocol};
+ghost use Rattle.session.specs.declared.end.End.TheVariants.{InputFailed, OutputFailed};
 ghost use Rattle.session.specs.Source.{Counted};
 ghost use Rattle.session.specs.Inbox.{Filled};
 ghost use Rattle.session.specs.Outbox.{IsClosedAs};
-ghost use Rattle.session.specs.Turn.{pdu as came, faulty};
-ghost use Rattle.session.specs.Setting.{setting_of};
-ghost use Rattle.session.specs.Stream.{MakesTurn};
-ghost use Rattle.session.specs.Transcript.{IsTranscribed, IsFailureOf};
+ghost use Rattle.session.specs.declared.identity.Identity.{Identity};
+ghost use Rattle.session.specs.declared.opening.Opening.{Opening};
+ghost use Rattle.session.specs.Stream.{IsOpened};
+ghost use Rattle.session.specs.Transcript.{IsPassed, IsTranscribed, IsFailureOf};
 
-use crate::actions::Call;
 use crate::end::End;
 use crate::identity::Identity;
 use crate::inbox::{INBOX_CAPACITY, Inbox};
+use crate::opening::Opening;
 use crate::outbox::Outbox;
-use crate::session::{Session, Start};
+use crate::phases::Phases;
 use crate::source::{Failed, Sink, Source};
 use crate::target::Target;
-use crate::text::{LONGEST_TEXT, MadeText};
 use crate::waiting::{Front, front_of};
-use iscsi_pdu::{BHS_LENGTH, LONGEST_PDU, Pdu, PduFault};
+use iscsi_pdu::LONGEST_PDU;
+use login::LONGEST_RESPONSE;
 use scsi_types::NoMemory;
 use std::alloc::Global;
-
-// One turn: what a PDU calls for, with the target's answer, put into the outbox; the end that it calls for.
-fn turn<K: Sink, T: Target>(
-    session: &mut Session,
-    target: &mut T,
-    sink: &mut K,
-    outbox: &mut Outbox,
-    room: &mut Vec<u8>,
-    bhs: &[u8],
-    pdu: Pdu<'_>,
-) -> Option<End>
-    requires room { LONGEST_TEXT ≤ vec_capacity room.old }
-    requires bhs { length bhs.now ≡ BHS_LENGTH }
-    ensures kept { LONGEST_TEXT ≤ vec_capacity room.new }
-    ensures turn { MakesTurn T.leads session.old session.new target.old target.new (K.held sink.old) (K.held sink.new)
-        (K.failures sink.old) (K.failures sink.new) outbox.old outbox.new
-        (came bhs.now pdu.entry.header pdu.entry.data.now) result }
-{
-    let answered = session.make_text(room, &pdu);
-    let text = MadeText {
-        answered,
-        bytes: room.as_slice(),
-    };
-    let actions = session.on_pdu(pdu, text);
-    match &actions.call {
-        None => {
-            outbox.fill(sink, bhs, &actions.pdus);
-            actions.end
-        }
-        Some(call) => match call {
-            Call::Serve(call) => {
-                let answer = target.serve(call.unit, call.asked, call.bytes.bytes());
-                let answered = session.on_answer(call.task, &answer);
-                outbox.fill(sink, bhs, &answered.pdus);
-                answered.end
-            }
-            Call::Reset(call) => {
-                let answer = target.reset(call.unit);
-                let answered = session.on_reset(call.request, answer);
-                outbox.fill(sink, bhs, &answered.pdus);
-                answered.end
-            }
-        },
-    }
-}
-
-// The last turn: a fault stands where a PDU should.
-fn fault_turn<K: Sink, T: Target>(
-    session: &mut Session,
-    target: &T,
-    sink: &mut K,
-    outbox: &mut Outbox,
-    bhs: &[u8],
-    fault: PduFault,
-)
-    requires bhs { length bhs.now ≡ BHS_LENGTH }
-    ensures { MakesTurn T.leads session.old session.new target.now target.now (K.held sink.old) (K.held sink.new)
-        (K.failures sink.old) (K.failures sink.new) outbox.old outbox.new (faulty fault bhs.now) (Some Protocol) }
-{
-    let actions = session.on_fault(fault);
-    outbox.fill(sink, bhs, &actions.pdus);
-}
 
 // Writes what waits at the session's end: this end, or that the sink failed.
 fn finish<K: Sink>(sink: &mut K, outbox: &mut Outbox, end: End) -> End
@@ -110,19 +48,19 @@ fn read_more<S: Source>(inbox: &mut Inbox, outbox: &Outbox, source: &mut S) -> R
     inbox.fill(source)
 }
 
-/// Serves a session in full feature phase over a stream until its end: what is written spells a legal transcript
-/// of what is read, whose calls the target answers. Answers wait in the outbox and leave together, before each
-/// read, where they fill it, and at the end. All memory is taken before the first read; refused, nothing
-/// was read, written or asked.
+/// Serves a session over a stream until its end, from its login on, or in full feature phase: what is written spells a legal
+/// transcript of what is read, and the target answers what it asks. The last that it asks is that the session is over.
+/// Answers wait in the outbox and leave together, before each read, where they fill it, and at the end. All memory but that
+/// of the data of writes is taken before the first read; refused, nothing was read, written or asked.
 pub fn serve_stream<S: Source, K: Sink, T: Target>(
     alloc: Global,
     source: &mut S,
     sink: &mut K,
     target: &mut T,
-    start: Start,
+    opening: Opening,
     me: &Identity<'_>,
 ) -> Result<End, NoMemory>
-    ensures transcribed { IfOk result (IsTranscribed T.leads (setting_of (T.unit_count target.old) me.now start)
+    ensures transcribed { IfOk result (IsTranscribed T.leads (T.unit_count target.old) me.now opening
         (S.left source.old) (S.left source.new) (K.held sink.old) (K.held sink.new) target.old target.new) }
     ensures input_failed { IfOk result (IsFailureOf InputFailed (S.failures source.old) (S.failures source.new)) }
     ensures output_failed { IfOk result (IsFailureOf OutputFailed (K.failures sink.old) (K.failures sink.new)) }
@@ -130,36 +68,60 @@ pub fn serve_stream<S: Source, K: Sink, T: Target>(
 {
     let mut inbox = Inbox::new(alloc)?;
     let mut outbox = Outbox::new(alloc)?;
-    let mut session = Session::new(alloc, start, target.units(), me)?;
-    let mut room = Vec::with_capacity(alloc, LONGEST_TEXT as usize)?;
+    let mut phases = Phases::new(alloc, opening, target.units(), me)?;
+    let mut room = Vec::with_capacity(alloc, LONGEST_RESPONSE as usize)?;
+    let end = pass(source, sink, target, &mut inbox, &mut outbox, &mut phases, &mut room);
+    target.end();
+    Ok(end)
+}
+
+// Serves a session that was opened until its end.
+fn pass<S: Source, K: Sink, T: Target>(
+    source: &mut S,
+    sink: &mut K,
+    target: &mut T,
+    inbox: &mut Inbox,
+    outbox: &mut Outbox,
+    phases: &mut Phases,
+    room: &mut Vec<u8>,
+) -> End
+    requires empty { inbox.old ≡ [] }
+    requires unwritten { outbox.old ≡ record { waiting = []; failed = false } }
+    requires room { LONGEST_RESPONSE ≤ vec_capacity room.old }
+    ensures passed { (units : ℕ) (me : Identity) (opening : Opening) → IsOpened units me opening phases.old
+        → IsPassed T.leads units me opening (S.left source.old) (S.left source.new) (K.held sink.old) (K.held sink.new)
+        target.old target.new result }
+    ensures input_failed { IsFailureOf InputFailed (S.failures source.old) (S.failures source.new) result }
+    ensures output_failed { IsFailureOf OutputFailed (K.failures sink.old) (K.failures sink.new) result }
+{
     let mut reads: u64 = 0;
     while reads < u64::MAX {
         match front_of(inbox.bytes()) {
             Front::Whole { bhs, pdu, taken } => {
-                match turn(&mut session, target, sink, &mut outbox, &mut room, bhs, pdu) {
-                    Some(end) => return Ok(finish(sink, &mut outbox, end)),
+                match phases.turn(target, sink, outbox, room, bhs, pdu) {
+                    Some(end) => return finish(sink, outbox, end),
                     None => inbox.consume(taken),
                 }
                 if outbox.has_failed() {
-                    return Ok(End::OutputFailed);
+                    return End::OutputFailed;
                 }
             }
             Front::Faulty { bhs, fault } => {
-                fault_turn(&mut session, target, sink, &mut outbox, bhs, fault);
-                return Ok(finish(sink, &mut outbox, End::Protocol));
+                phases.fault(target, sink, outbox, bhs, fault);
+                return finish(sink, outbox, End::Protocol);
             }
             Front::Partial => {
                 outbox.flush(sink);
                 if outbox.has_failed() {
-                    return Ok(End::OutputFailed);
+                    return End::OutputFailed;
                 }
-                match read_more(&mut inbox, &outbox, source) {
-                    Ok(0) => return Ok(End::EndOfInput),
+                match read_more(inbox, outbox, source) {
+                    Ok(0) => return End::EndOfInput,
                     Ok(_) => reads += 1,
-                    Err(_) => return Ok(End::InputFailed),
+                    Err(_) => return End::InputFailed,
                 }
             }
         }
     }
-    Ok(finish(sink, &mut outbox, End::EndOfInput))
+    finish(sink, outbox, End::EndOfInput)
 }

@@ -2,7 +2,7 @@ use Rattle.std.proofs.Common.{ℕ, List, Some, ap, subst, ◌∙◌}
 use Rattle.session.specs.declared.actions.Call.{Call}
 use Rattle.session.specs.Asking.{served}
 use Rattle.session.proofs.Turns.{alone, called, was_reset}
-use Rattle.session.proofs.stream.turn.Goals as goal
+use Rattle.session.proofs.turn.turn.Goals as goal
 
 pub returns-in-None-clause-turn : goal.returns-in-None-clause-turn
 returns-in-None-clause-turn g c = alone g.T.Target.leads _ _ _ _ _ _ _ _ _ c.args.bhs.now c.on_pdu-actions.result c.fill.ensures c.args.pdu.header c.args.pdu.data.now c.on_pdu-actions.ensures.on c.in-None.is

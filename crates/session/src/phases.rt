@@ -1,0 +1,120 @@
+//! A whole session without bytes: its login, and full feature phase behind it.
+ghost use Rattle.std.specs.Prelude.{◌≡◌, ◌≤◌, length, vec_capacity, IfOk, Some};
+ghost use Rattle.login.specs.declared.negotiation.TheConstants.{LONGEST_RESPONSE};
+ghost use Rattle.session.specs.declared.end.End.TheVariants.{Protocol};
+ghost use Rattle.session.specs.Turn.{pdu as came, faulty};
+ghost use Rattle.session.specs.Stream.{IsOpened, IsFresh, MakesExchange};
+
+use crate::end::End;
+use crate::identity::Identity;
+use crate::lengths::Lengths;
+use crate::login_phase::LoginPhase;
+use crate::opening::Opening;
+use crate::outbox::Outbox;
+use crate::session::{Session, Start};
+use crate::source::Sink;
+use crate::target::Target;
+use crate::turn::{fault_turn, login_fault_turn, login_turn, turn};
+use iscsi_pdu::{BHS_LENGTH, Pdu, PduFault};
+use login::{Kind, LONGEST_RESPONSE};
+use scsi_types::NoMemory;
+use std::alloc::Global;
+use std::marker::Model;
+
+/// A session in one of its phases: in its login, while there is one; else in full feature phase.
+#[derive(Drop)]
+pub struct Phases {
+    pub login: Option<LoginPhase>,
+    pub session: Session,
+}
+
+impl Model for Phases {
+    ghost use Rattle.session.specs.Stream.{PhasesValue};
+
+    ghost Value = { PhasesValue };
+
+    ghost view = { λ p. record { login = p.login; counters = p.session } };
+}
+
+impl Phases {
+    /// A session that begins so, with a target of this identity that has so many units. Takes all memory that it needs, but
+    /// that of the data of writes.
+    pub fn new(
+        alloc: Global,
+        opening: Opening,
+        units: u16,
+        me: &Identity<'_>,
+    ) -> Result<Phases, NoMemory>
+        ensures { IfOk result (λ p. IsOpened units me.now opening p) }
+    {
+        match opening {
+            Opening::Login(tag) => {
+                // Its kind and its start come of the login.
+                let start = Start {
+                    exp_cmd_sn: 0,
+                    stat_sn: 1,
+                    lengths: Lengths::defaults(),
+                };
+                let login = LoginPhase::new(alloc, me.target_name, tag)?;
+                Ok(Phases {
+                    login: Some(login),
+                    session: Session::new(alloc, Kind::Normal, start, units, me)?,
+                })
+            }
+            Opening::FullFeature(kind, start) => Ok(Phases {
+                login: None,
+                session: Session::new(alloc, kind, start, units, me)?,
+            }),
+        }
+    }
+
+    /// One turn: what a PDU calls for, with the target's answer, put into the outbox; the end that it calls for.
+    pub fn turn<K: Sink, T: Target>(
+        &mut self,
+        target: &mut T,
+        sink: &mut K,
+        outbox: &mut Outbox,
+        room: &mut Vec<u8>,
+        bhs: &[u8],
+        pdu: Pdu<'_>,
+    ) -> Option<End>
+        requires fresh { IsFresh self.old }
+        requires room { LONGEST_RESPONSE ≤ vec_capacity room.old }
+        requires bhs { length bhs.now ≡ BHS_LENGTH }
+        ensures kept { LONGEST_RESPONSE ≤ vec_capacity room.new }
+        ensures exchange { MakesExchange T.leads self.old self.new target.old target.new (K.held sink.old) (K.held sink.new)
+            (K.failures sink.old) (K.failures sink.new) outbox.old outbox.new
+            (came bhs.now pdu.entry.header pdu.entry.data.now) result }
+    {
+        match &mut self.login {
+            None => turn(&mut self.session, target, sink, outbox, room, bhs, pdu),
+            Some(login) => {
+                let outcome = login_turn(login, target, sink, outbox, room, bhs, pdu);
+                if outcome.begins() {
+                    self.session.begin(login.kind(), login.start());
+                    self.login = None;
+                }
+                outcome.end()
+            }
+        }
+    }
+
+    /// The last turn: a fault stands where a PDU should.
+    pub fn fault<K: Sink, T: Target>(
+        &mut self,
+        target: &T,
+        sink: &mut K,
+        outbox: &mut Outbox,
+        bhs: &[u8],
+        fault: PduFault,
+    )
+        requires bhs { length bhs.now ≡ BHS_LENGTH }
+        ensures { MakesExchange T.leads self.old self.new target.now target.now (K.held sink.old) (K.held sink.new)
+            (K.failures sink.old) (K.failures sink.new) outbox.old outbox.new (faulty fault bhs.now) (Some Protocol) }
+    {
+        match &mut self.login {
+            None => fault_turn(&mut self.session, target, sink, outbox, bhs, fault),
+            Some(login) => login_fault_turn(login, target, sink, outbox, bhs, fault),
+        }
+    }
+}

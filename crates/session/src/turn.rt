@@ -1,0 +1,125 @@
+//! A turn of a session: what came, what the target answers, and what goes out for it.
+ghost use Rattle.std.specs.Prelude.{◌≡◌, ◌≤◌, length, vec_capacity, Some};
+ghost use Rattle.session.specs.declared.end.End.TheVariants.{Protocol};
+ghost use Rattle.session.specs.Turn.{pdu as came, faulty};
+ghost use Rattle.session.specs.Verdict.{reason_of};
+ghost use Rattle.session.specs.Stream.{MakesTurn, MakesLoginTurn};
+ghost use Rattle.session.specs.LoginPhase.{login_end};
+ghost use Rattle.login.specs.declared.negotiation.TheConstants.{LONGEST_RESPONSE};
+
+use crate::actions::{Call, Pdus};
+use crate::end::End;
+use crate::login_phase::{LoginOutcome, LoginPhase, login_cmd_sn, login_pdus};
+use crate::outbox::Outbox;
+use crate::session::Session;
+use crate::source::Sink;
+use crate::target::Target;
+use crate::text::{LONGEST_TEXT, MadeText};
+use crate::verdict::reject_reason;
+use iscsi_pdu::{BHS_LENGTH, Pdu, PduFault, Reject};
+use login::LONGEST_RESPONSE;
+
+/// One turn of full feature phase: what a PDU calls for, with the target's answer, put into the outbox; the end that it calls for.
+pub fn turn<K: Sink, T: Target>(
+    session: &mut Session,
+    target: &mut T,
+    sink: &mut K,
+    outbox: &mut Outbox,
+    room: &mut Vec<u8>,
+    bhs: &[u8],
+    pdu: Pdu<'_>,
+) -> Option<End>
+    requires room { LONGEST_TEXT ≤ vec_capacity room.old }
+    requires bhs { length bhs.now ≡ BHS_LENGTH }
+    ensures kept { LONGEST_TEXT ≤ vec_capacity room.new }
+    ensures turn { MakesTurn T.leads session.old session.new target.old target.new (K.held sink.old) (K.held sink.new)
+        (K.failures sink.old) (K.failures sink.new) outbox.old outbox.new
+        (came bhs.now pdu.entry.header pdu.entry.data.now) result }
+{
+    let answered = session.make_text(room, &pdu);
+    let text = MadeText {
+        answered,
+        bytes: room.as_slice(),
+    };
+    let actions = session.on_pdu(pdu, text);
+    match &actions.call {
+        None => {
+            outbox.fill(sink, bhs, &actions.pdus);
+            actions.end
+        }
+        Some(call) => match call {
+            Call::Serve(call) => {
+                let answer = target.serve(call.unit, call.asked, call.bytes.bytes());
+                let answered = session.on_answer(call.task, &answer);
+                outbox.fill(sink, bhs, &answered.pdus);
+                answered.end
+            }
+            Call::Reset(call) => {
+                let answer = target.reset(call.unit);
+                let answered = session.on_reset(call.request, answer);
+                outbox.fill(sink, bhs, &answered.pdus);
+                answered.end
+            }
+        },
+    }
+}
+
+/// The last turn of full feature phase: a fault stands where a PDU should.
+pub fn fault_turn<K: Sink, T: Target>(
+    session: &mut Session,
+    target: &T,
+    sink: &mut K,
+    outbox: &mut Outbox,
+    bhs: &[u8],
+    fault: PduFault,
+)
+    requires bhs { length bhs.now ≡ BHS_LENGTH }
+    ensures { MakesTurn T.leads session.old session.new target.now target.now (K.held sink.old) (K.held sink.new)
+        (K.failures sink.old) (K.failures sink.new) outbox.old outbox.new (faulty fault bhs.now) (Some Protocol) }
+{
+    let actions = session.on_fault(fault);
+    outbox.fill(sink, bhs, &actions.pdus);
+}
+
+/// One turn of a login: what a PDU comes to, with the target's answer, and its one answer, put into the outbox.
+pub fn login_turn<K: Sink, T: Target>(
+    login: &mut LoginPhase,
+    target: &mut T,
+    sink: &mut K,
+    outbox: &mut Outbox,
+    room: &mut Vec<u8>,
+    bhs: &[u8],
+    pdu: Pdu<'_>,
+) -> LoginOutcome
+    requires room { LONGEST_RESPONSE ≤ vec_capacity room.old }
+    requires bhs { length bhs.now ≡ BHS_LENGTH }
+    ensures kept { LONGEST_RESPONSE ≤ vec_capacity room.new }
+    ensures turn { MakesLoginTurn T.leads login.old login.new target.old target.new (K.held sink.old) (K.held sink.new)
+        (K.failures sink.old) (K.failures sink.new) outbox.old outbox.new
+        (came bhs.now pdu.entry.header pdu.entry.data.now) result }
+{
+    let numbers = login.take_numbers(login_cmd_sn(&pdu.header));
+    let outcome = login.on_pdu(target, room, &pdu);
+    let pdus = login_pdus(numbers, &pdu.header, outcome, room);
+    outbox.fill(sink, bhs, &pdus);
+    outcome
+}
+
+/// The last turn of a login: a fault stands where a PDU should.
+pub fn login_fault_turn<K: Sink, T: Target>(
+    login: &mut LoginPhase,
+    target: &T,
+    sink: &mut K,
+    outbox: &mut Outbox,
+    bhs: &[u8],
+    fault: PduFault,
+)
+    requires bhs { length bhs.now ≡ BHS_LENGTH }
+    ensures { MakesLoginTurn T.leads login.old login.new target.now target.now (K.held sink.old) (K.held sink.new)
+        (K.failures sink.old) (K.failures sink.new) outbox.old outbox.new (faulty fault bhs.now)
+        (LoginOutcome.Rejected (reason_of fault)) }
+{
+    let numbers = login.take_numbers(None);
+    let reason = reject_reason(fault);
+    outbox.fill(sink, bhs, &Pdus::Reject(Reject { reason, numbers }));
+}
