@@ -102,11 +102,22 @@ lawful_now units me opening c None s k = (k.has_login, inr (k.kind, k.start, k.h
 lawful_now units me opening c (Some v) s k =
     (subst (λ (o : Opening). HasLogin me o c.logins) (sym k.opening_is) k.is_login, inl k.no_turns)
 
--- it waits for nothing while it logs in
-pub fresh_now : (units : ℕ) (me : Identity) (opening : Opening) (c : Transcript) (login : Option LoginStanding) (s : Counters)
-    → PhaseStands units me opening c login s → IsFresh (record { login = login; counters = s })
-fresh_now units me opening c None s k = tt
-fresh_now units me opening c (Some v) s k = ap (λ (z : Counters). z.standing.collecting) k.waits
+-- nothing waits while it logs in
+fresh_next : (b : Bool) (v : LoginStanding) (p p' : PhasesValue) → p.counters.standing.collecting ≡ [] → NextPhase b v p p' → IsFresh p'
+fresh_next false v p p' k next = rw next k
+fresh_next true v p p' k next = rw next.4 tt
+
+fresh_after : (login : Option LoginStanding) (s : Counters) (came : Incoming) (e : Exchange) (p' : PhasesValue)
+    → IsFresh (record { login = login; counters = s }) → ExchangeOf (record { login = login; counters = s }) came e p' → IsFresh p'
+fresh_after None s came e p' k made = rw made.next tt
+fresh_after (Some v) s came e p' k made = fresh_next (begins made.turn.outcome) (login_after v came) _ p' k made.next
+
+pub fresh_more : (p : PhasesValue) (came : Incoming) (e : Exchange) (p' : PhasesValue) → IsFresh p → ExchangeOf p came e p' → IsFresh p'
+fresh_more p came e p' k made = fresh_after p.login p.counters came e p' k made
+
+pub fresh_opened : (units : ℕ) (me : Identity) (opening : Opening) (p : PhasesValue) → IsOpened units me opening p → IsFresh p
+fresh_opened units me (Login tag) p k = rw k.0 (rw k.3 refl)
+fresh_opened units me (FullFeature kind start) p k = rw k.0 tt
 
 -- ---- one turn more
 
@@ -238,9 +249,8 @@ module _ (units : ℕ) (me : Identity) (opening : Opening) (c : Transcript) (cam
 -- before anything came
 module _ (units : ℕ) (me : Identity) where
   pub stands_opened : (opening : Opening) (p : PhasesValue) → IsOpened units me opening p
-      → ((kind : Kind) (start : Start) → opening ≡ FullFeature kind start → (start.exp_cmd_sn < 4294967296) × (start.stat_sn < 4294967296))
       → PhaseStands units me opening (record { logins = []; turns = [] }) p.login p.counters
-  stands_opened (Login tag) p k fits = rw k.0 (record {
+  stands_opened (Login tag) p k = rw k.0 (record {
     tag = tag;
     opening_is = refl;
     is_login = record {
@@ -256,11 +266,11 @@ module _ (units : ℕ) (me : Identity) where
     start = k.2;
     waits = k.3;
   })
-  stands_opened (FullFeature kind start) p k fits = rw k.0 (record {
+  stands_opened (FullFeature kind start) p k = rw k.0 (record {
     has_login = refl;
     kind = kind;
     start = start;
     has_begun = (refl, refl);
-    stands = stands_none (setting_of units me kind start) p.counters (fits kind start refl).0 (fits kind start refl).1 k.1;
+    stands = stands_none (setting_of units me kind start) p.counters k.2 k.3 k.1;
     goes_on = at_each_none (λ _ u. end_after u.verdict u.came u.call ≡ None);
   })

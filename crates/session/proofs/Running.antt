@@ -23,7 +23,7 @@ use Rattle.session.specs.declared.verdict.Verdict.TheVariants.{Accepted, Full, I
 use Rattle.session.specs.declared.target.ResetAnswer.{ResetAnswer}
 use Rattle.session.specs.declared.target.ResetAnswer.TheVariants as resets
 use Rattle.session.specs.Asking.{Asking, served, reset}
-use Rattle.session.specs.Source.{AppendsFront}
+use Rattle.session.specs.Source.{AppendsFront, Rises}
 use Rattle.session.specs.Inbox.{Filled}
 use Rattle.session.specs.Turn.{Incoming, pdu, faulty, Out, bytes_of, Spells, Leads}
 use Rattle.iscsi_pdu.specs.declared.TheConstants.{BHS_LENGTH}
@@ -335,6 +335,13 @@ module _ {T : Type 0} (leads : T → Asking → T → Type 0) (units : ℕ) (me 
       ends_now p' x' held'' now' o' (faulty f bhs) (Some Protocol) t r.spelled waiting (spells_fault (incoming so_far) r.spelled bhs f r.spells) r.read
       (stands, omega (arith, ap length bhs_is, long, length-take BHS_LENGTH waiting), bhs_is) held3 now3 Protocol result refl (inl refl) close
 
+  pub fault_ends_not_by_input : (p' : PhasesValue) (held'' held3 : Option (List ℕ)) (now' now3 : ℕ) (o' : OutboxValue) (bhs : List ℕ) (f : PduFault) (result : End)
+      → bhs ≡ take BHS_LENGTH waiting → length bhs ≡ BHS_LENGTH → FaultStands waiting f
+      → MakesExchange leads p p' x' x' held' held'' now now' o o' (faulty f bhs) (Some Protocol)
+      → IsClosedAs held'' held3 now' now3 o' Protocol result → result ≡ InputFailed → ⊥
+  fault_ends_not_by_input p' held'' held3 now' now3 o' bhs f result bhs_is long stands t close =
+      input_stays p' x' held'' now' o' (faulty f bhs) (Some Protocol) t held3 now3 Protocol result (inl refl) close
+
   -- what waits to go out is written
   pub flushed : (held'' : Option (List ℕ)) (now' : ℕ) (o' : OutboxValue) → IsWritten held' held'' now now' o o'
       → Running leads units me opening left left' held held'' before now' o' x x' p waiting reads
@@ -414,6 +421,24 @@ module _ {T : Type 0} (leads : T → Asking → T → Type 0) (units : ℕ) (me 
       (λ all. stops_here EndOfInput left' held'' waiting r.read (r.none_ends, inr (omega (arith, many, r.many))) all)
       (λ cut. stops_here OutputFailed left' held'' waiting r.read (inl r.none_ends) cut)
       (close held before (bytes_of (outgoing so_far)) r.written)
+
+  pub taken_all_not_by_input : (held'' : Option (List ℕ)) (now' : ℕ) (result : End) → IsClosedAs held' held'' now now' o EndOfInput result
+      → result ≡ InputFailed → ⊥
+  taken_all_not_by_input held'' now' result close e = elim (close held before (bytes_of (outgoing so_far)) r.written) [
+    | inl w ↦ let g : EndOfInput ≡ InputFailed = sym w.0 ∙ e in cc
+    | inr w ↦ let g : OutputFailed ≡ InputFailed = sym w.0 ∙ e in cc
+  ]
+
+-- the reader failed just where the session ended so
+pub output_not_input : {before now : ℕ} → now ≡ before → IsFailureOf InputFailed before now OutputFailed
+output_not_input same = record { rises = λ (e : OutputFailed ≡ InputFailed). absurd (cc); stays = λ _. same }
+
+pub ended_not_failed : {before now : ℕ} → now ≡ before → IsFailureOf InputFailed before now EndOfInput
+ended_not_failed same = record { rises = λ (e : EndOfInput ≡ InputFailed). absurd (cc); stays = λ _. same }
+
+pub failed_so : {before here now : ℕ} → here ≡ before → Rises here now → IsFailureOf InputFailed before now InputFailed
+failed_so {before} {here} {now} same rises =
+    record { rises = λ _. subst (λ (n : ℕ). Rises n now) same rises; stays = λ other. absurd (other refl) }
 
 pub starts : {T : Type 0} (leads : T → Asking → T → Type 0) (units : ℕ) (me : Identity) (opening : Opening) (left held : Option (List ℕ)) (n : ℕ) (o : OutboxValue) (x : T) (p : PhasesValue) (waiting : List ℕ)
     → PhaseStands units me opening (record { logins = []; turns = [] }) p.login p.counters

@@ -1,18 +1,18 @@
 //! The login phase of a session (RFC 7143, 6.3): what each PDU comes to, and its one answer.
-ghost use Rattle.std.specs.Prelude.{◌≡◌, ℕ, ◌+◌, ◌≤◌, List, [], length, replicate, vec_capacity, IfOk, Option};
+ghost use Rattle.std.specs.Prelude.{◌≡◌, ℕ, ◌+◌, ◌≤◌, List, [], length, replicate, vec_capacity, IfOk, Bool, Option};
 ghost use Rattle.std.specs.Option.{option_or, unwrap_or};
 ghost use Rattle.byteorder.specs.Endian.{big_number};
 ghost use Rattle.iscsi_pdu.specs.declared.TheConstants.{MAX_DATA_SEGMENT_LENGTH};
 ghost use Rattle.login.specs.declared.negotiation.TheConstants.{LONGEST_RESPONSE};
 ghost use Rattle.login.specs.Progress.{Progress};
 ghost use Rattle.login.specs.Request.{answer_to, after, kind_in};
-ghost use Rattle.session.specs.Asking.{Asking};
+ghost use Rattle.session.specs.Asking.{Asking, began, lives};
 ghost use Rattle.session.specs.Turn.{Out, pdu as came};
 ghost use Rattle.session.specs.Window.{wrap};
 ghost use Rattle.session.specs.Standing.{numbers_for};
 ghost use Rattle.session.specs.AnswerPdus.{AreInReach};
 ghost use Rattle.session.specs.LoginPhase.{flags_of, login_standing, login_after, login_numbers, cmd_sn_in};
-ghost use Rattle.session.specs.LoginPhase.{IsNegotiated, HasOutcome, progress_after, out, passed_header, refused_header, refusal_of};
+ghost use Rattle.session.specs.LoginPhase.{port_of, outcome_of_begin, outcome_of_lives, IsNegotiated, HasOutcome, progress_after, out, passed_header, refused_header, refusal_of};
 ghost use Rattle.session.specs.LoginPhase.{task_tag_of, login_outs, login_end, begins, IsStart};
 ghost use Rattle.session.specs.LoginMachine.{HasText, IsTextOf};
 ghost use Rattle.session.specs.Machine.{sent_by};
@@ -159,23 +159,22 @@ impl LoginPhase {
     {
         match self.negotiation.request(room, flags_of(request), text) {
             LoginEnd::Answer => LoginOutcome::GoesOn,
-            LoginEnd::Accepted => {
-                let kind = self.negotiation.session_kind();
-                let isid = BigEndian::read_u48(&request.isid);
-                match target.begin(self.negotiation.initiator(), isid, kind) {
-                    BeginAnswer::Begun(tsih) => LoginOutcome::Begun(tsih),
-                    BeginAnswer::Refused => LoginOutcome::Refused(LoginStatus::OutOfResources),
-                }
-            }
+            LoginEnd::Accepted => self.begin_session(target, request),
             LoginEnd::Refused(status) => LoginOutcome::Refused(status),
-            LoginEnd::NamesSession => {
-                let isid = BigEndian::read_u48(&request.isid);
-                if target.lives(request.tsih, room, isid) {
-                    LoginOutcome::Refused(LoginStatus::TooManyConnections)
-                } else {
-                    LoginOutcome::Refused(LoginStatus::SessionDoesNotExist)
-                }
-            }
+            LoginEnd::NamesSession => find_session(target, request, room),
+        }
+    }
+
+    // Where all checks passed: the target is asked to begin the session.
+    fn begin_session<T: Target>(&self, target: &mut T, request: &LoginRequest) -> LoginOutcome
+        ensures { (answer : BeginAnswer) × T.leads target.old
+            (began (port_of request.now self.now.progress.said) (kind_in self.now.progress.kind) answer) target.new
+            × (result ≡ outcome_of_begin answer) }
+    {
+        let name = self.negotiation.initiator();
+        match target.begin(name, isid_of(request), self.kind()) {
+            BeginAnswer::Begun(tsih) => LoginOutcome::Begun(tsih),
+            BeginAnswer::Refused => LoginOutcome::Refused(LoginStatus::OutOfResources),
         }
     }
 
@@ -202,6 +201,26 @@ impl LoginPhase {
             },
         }
     }
+}
+
+// Where a request names a session: the target is asked whether it lives, and is of the port with this InitiatorName.
+fn find_session<T: Target>(target: &mut T, request: &LoginRequest, name: &[u8]) -> LoginOutcome
+    ensures { (answer : Bool) × T.leads target.old
+        (lives request.now.tsih (record { name = name.now; isid = big_number 6 request.now.isid }) answer) target.new
+        × (result ≡ outcome_of_lives answer) }
+{
+    if target.lives(request.tsih, name, isid_of(request)) {
+        LoginOutcome::Refused(LoginStatus::TooManyConnections)
+    } else {
+        LoginOutcome::Refused(LoginStatus::SessionDoesNotExist)
+    }
+}
+
+// The ISID, six bytes read as a number.
+fn isid_of(request: &LoginRequest) -> u64
+    ensures { result ≡ big_number 6 request.now.isid }
+{
+    BigEndian::read_u48(&request.isid)
 }
 
 // What the negotiation looks at in a header.

@@ -133,7 +133,7 @@ impl Session {
         requires room { LONGEST_TEXT ≤ vec_capacity room.old }
         ensures made { (text : MadeText) → text.answered ≡ result → text.bytes.now ≡ room.new.items
             → IsMade self.now.setting pdu.now.header pdu.now.data.now text }
-        ensures kept { LONGEST_TEXT ≤ vec_capacity room.new }
+        ensures kept { vec_capacity room.old ≤ vec_capacity room.new }
     {
         match pdu.header {
             Header::Initiator(InitiatorHeader::TextRequest(_)) => self.answer_in(room, pdu.data),
@@ -145,7 +145,7 @@ impl Session {
     fn answer_in(&self, room: &mut Vec<u8>, bytes: &[u8]) -> bool
         requires room { LONGEST_TEXT ≤ vec_capacity room.old }
         ensures made { IsMadeOf result self.now.setting bytes.now room.new.items }
-        ensures kept { LONGEST_TEXT ≤ vec_capacity room.new }
+        ensures kept { vec_capacity room.old ≤ vec_capacity room.new }
     {
         let most = self.start.lengths.data_segment.min(LONGEST_TEXT) as usize;
         match answer_within(room, most, &self.target_name, self.kind, &self.told, bytes) {

@@ -6,8 +6,8 @@ ghost use Rattle.session.specs.Inbox.{Filled};
 ghost use Rattle.session.specs.Outbox.{IsClosedAs};
 ghost use Rattle.session.specs.declared.identity.Identity.{Identity};
 ghost use Rattle.session.specs.declared.opening.Opening.{Opening};
-ghost use Rattle.session.specs.Stream.{IsOpened};
-ghost use Rattle.session.specs.Transcript.{IsPassed, IsTranscribed, IsFailureOf};
+ghost use Rattle.session.specs.Stream.{IsOpened, IsFresh};
+ghost use Rattle.session.specs.Transcript.{Passes, IsTranscribed, IsFailureOf};
 
 use crate::end::End;
 use crate::identity::Identity;
@@ -87,12 +87,12 @@ fn pass<S: Source, K: Sink, T: Target>(
 ) -> End
     requires empty { inbox.old ≡ [] }
     requires unwritten { outbox.old ≡ record { waiting = []; failed = false } }
+    requires fresh { IsFresh phases.old }
     requires room { LONGEST_RESPONSE ≤ vec_capacity room.old }
-    ensures passed { (units : ℕ) (me : Identity) (opening : Opening) → IsOpened units me opening phases.old
-        → IsPassed T.leads units me opening (S.left source.old) (S.left source.new) (K.held sink.old) (K.held sink.new)
+    ensures { (units : ℕ) (me : Identity) (opening : Opening) → IsOpened units me opening phases.old
+        → Passes T.leads units me opening (S.left source.old) (S.left source.new) (K.held sink.old) (K.held sink.new)
+        (S.failures source.old) (S.failures source.new) (K.failures sink.old) (K.failures sink.new)
         target.old target.new result }
-    ensures input_failed { IsFailureOf InputFailed (S.failures source.old) (S.failures source.new) result }
-    ensures output_failed { IsFailureOf OutputFailed (K.failures sink.old) (K.failures sink.new) result }
 {
     let mut reads: u64 = 0;
     while reads < u64::MAX {

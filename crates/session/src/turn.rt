@@ -31,7 +31,7 @@ pub fn turn<K: Sink, T: Target>(
 ) -> Option<End>
     requires room { LONGEST_TEXT ≤ vec_capacity room.old }
     requires bhs { length bhs.now ≡ BHS_LENGTH }
-    ensures kept { LONGEST_TEXT ≤ vec_capacity room.new }
+    ensures kept { vec_capacity room.old ≤ vec_capacity room.new }
     ensures turn { MakesTurn T.leads session.old session.new target.old target.new (K.held sink.old) (K.held sink.new)
         (K.failures sink.old) (K.failures sink.new) outbox.old outbox.new
         (came bhs.now pdu.entry.header pdu.entry.data.now) result }

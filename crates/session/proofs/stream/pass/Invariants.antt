@@ -1,0 +1,22 @@
+use Rattle.std.proofs.Common.{◌≡◌, ◌+◌, ◌-◌, ◌*◌, ◌≤◌, ℕ, vec_capacity, length}
+use Rattle.login.specs.declared.negotiation.TheConstants.{LONGEST_RESPONSE}
+use Rattle.session.specs.declared.inbox.TheConstants.{INBOX_CAPACITY}
+use Rattle.session.specs.declared.identity.Identity.{Identity}
+use Rattle.session.specs.declared.opening.Opening.{Opening}
+use Rattle.session.specs.Ends.{most_bytes}
+use Rattle.session.specs.Stream.{IsOpened, IsFresh}
+use Rattle.session.proofs.Running.{Running}
+use Rattle.session.proofs.stream.pass.Given as goal
+
+abbrev pub invariant-loop-reads : goal.invariant-loop-reads
+invariant-loop-reads g l = record {
+  running : (units : ℕ) (me : Identity) (opening : Opening) → IsOpened units me opening l.fn.phases
+      → Running g.T.Target.leads units me opening (g.S.Source.left l.fn.source) (g.S.Source.left l.source) (g.K.Sink.held l.fn.sink) (g.K.Sink.held l.sink)
+      (g.K.Sink.failures l.fn.sink) (g.K.Sink.failures l.sink) l.outbox l.fn.target l.target l.phases l.inbox l.reads;
+  fresh : IsFresh l.phases;
+  room : LONGEST_RESPONSE ≤ vec_capacity l.room;
+  source_served : g.S.Source.failures l.source ≡ g.S.Source.failures l.fn.source;
+}
+
+abbrev pub decreases-loop-reads : goal.decreases-loop-reads
+decreases-loop-reads g l = (most_bytes - l.reads) * (INBOX_CAPACITY + 1) + length l.inbox
