@@ -18,11 +18,11 @@ use Rattle.session.specs.declared.session.Start.{Start}
 use Rattle.session.specs.Setting.{Setting, setting_of}
 use Rattle.session.specs.Turn.{Incoming, Turn}
 use Rattle.session.specs.Window.{wrap}
-use Rattle.session.specs.Legal.{AtEachOf, end_after, GoesOn}
+use Rattle.session.specs.Legal.{AtEachOf, end_after, GoesOn, Lawful}
 use Rattle.session.specs.Counters.{Counters, begun}
 use Rattle.session.specs.MachineTurn.{TurnOf}
 use Rattle.session.specs.LoginPhase.{LoginTurn, LoginStanding, progress_after, progress_behind, cmd_sn_in, first_cmd_sn, login_standing, login_after, IsLoginTurn, login_end, begins, IsStart}
-use Rattle.session.specs.Phases.{Transcript, Exchange, of_login, of_turn, exchanges, NoneEnds, NoneBegins, IsLogin, HasLogin, Began, IsBehindLogin, HasBegun, IsLawful}
+use Rattle.session.specs.Phases.{Transcript, Exchange, of_login, of_turn, exchanges, NoneEnds, NoneBegins, IsLogin, Began, IsBehindLogin, IsLawful}
 use Rattle.session.specs.Stream.{PhasesValue, NextPhase, LoginExchange, FeatureExchange, ExchangeOf, IsOpened, IsFresh}
 use Rattle.session.proofs.Lawful.{at_each_more, at_each_none, at_each_of_more, at_each_of_none, Stands, stands_more, stands_none}
 
@@ -83,6 +83,22 @@ pub record LogsIn (units : ℕ) (me : Identity) (opening : Opening) (c : Transcr
   pub start : Start
   pub waits : s ≡ begun (setting_of units me kind start)
 
+-- the login of a session that begins so, and what full feature phase begins with
+abbrev HasLogin : Identity → Opening → List LoginTurn → Type 0
+HasLogin me (Login tag) ls = IsLogin me.target_name.now tag ls
+HasLogin me (FullFeature kind start) ls = ls ≡ []
+
+abbrev HasBegun : Identity → Opening → List LoginTurn → Kind → Start → Type 0
+HasBegun me (Login tag) ls kind start = IsBehindLogin me.target_name.now tag ls kind start
+HasBegun me (FullFeature kind' start') ls kind start = (kind ≡ kind') × (start ≡ start')
+
+lawful_behind : (units : ℕ) (me : Identity) (opening : Opening) (c : Transcript) (kind : Kind) (start : Start)
+    → HasLogin me opening c.logins → HasBegun me opening c.logins kind start → Lawful (setting_of units me kind start) c.turns
+    → IsLawful units me opening c
+lawful_behind units me (Login tag) c kind start login began lawful = (login, inr (kind, start, began, lawful))
+lawful_behind units me (FullFeature kind' start') c kind start login began lawful =
+    (login, subst₂ (λ (k : Kind) (s : Start). Lawful (setting_of units me k s) c.turns) began.0 began.1 lawful)
+
 -- full feature phase
 pub record Serves (units : ℕ) (me : Identity) (opening : Opening) (c : Transcript) (s : Counters) : Type 0 where
   pub has_login : HasLogin me opening c.logins
@@ -98,9 +114,9 @@ PhaseStands units me opening c (Some v) s = LogsIn units me opening c v s
 
 pub lawful_now : (units : ℕ) (me : Identity) (opening : Opening) (c : Transcript) (login : Option LoginStanding) (s : Counters)
     → PhaseStands units me opening c login s → IsLawful units me opening c
-lawful_now units me opening c None s k = (k.has_login, inr (k.kind, k.start, k.has_begun, k.stands.lawful))
+lawful_now units me opening c None s k = lawful_behind units me opening c k.kind k.start k.has_login k.has_begun k.stands.lawful
 lawful_now units me opening c (Some v) s k =
-    (subst (λ (o : Opening). HasLogin me o c.logins) (sym k.opening_is) k.is_login, inl k.no_turns)
+    subst (λ (o : Opening). IsLawful units me o c) (sym k.opening_is) (k.is_login, inl k.no_turns)
 
 -- nothing waits while it logs in
 fresh_next : (b : Bool) (v : LoginStanding) (p p' : PhasesValue) → p.counters.standing.collecting ≡ [] → NextPhase b v p p' → IsFresh p'
@@ -156,7 +172,7 @@ module _ (units : ℕ) (me : Identity) (opening : Opening) (c : Transcript) (s :
     served_more e p' is next = rw (is, next) (record {
       transcript = record c { turns = c.turns ++ t ∷ [] };
       exchanges_are = turn_exchanges;
-      lawful = (k.has_login, inr (k.kind, k.start, k.has_begun, stands_now.lawful));
+      lawful = lawful_behind units me opening (record c { turns = c.turns ++ t ∷ [] }) k.kind k.start k.has_login k.has_begun stands_now.lawful;
       stands = serves_on;
       came_is = made.came_is;
     })
@@ -230,7 +246,7 @@ module _ (units : ℕ) (me : Identity) (opening : Opening) (c : Transcript) (v :
     logged_more e is next = rw is (record {
       transcript = logged;
       exchanges_are = login_exchanges;
-      lawful = (subst (λ (o : Opening). HasLogin me o logins_now) (sym k.opening_is) login_now, inl refl);
+      lawful = subst (λ (o : Opening). IsLawful units me o logged) (sym k.opening_is) (login_now, inl refl);
       stands = by_next (begins l.outcome) refl next;
       came_is = came_is;
     })

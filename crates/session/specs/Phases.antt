@@ -62,11 +62,6 @@ pub record IsLogin (target : List ℕ) (tag : ℕ) (ls : List LoginTurn) : Type 
   pub first : AtEachOf (λ (before : List LoginTurn) (l : LoginTurn). NoneBegins before) ls
   pub ends : AtEachOf (λ (before : List LoginTurn) (l : LoginTurn). NoneEnds (map of_login before)) ls
 
--- the login of a session that begins so has come this far
-abbrev pub HasLogin : Identity → Opening → List LoginTurn → Type 0
-HasLogin me (Login tag) ls = IsLogin me.target_name.now tag ls
-HasLogin me (FullFeature kind start) ls = ls ≡ []
-
 -- the last turn of the login began the session
 pub record Began (ls : List LoginTurn) : Type 0 where
   pub front : List LoginTurn
@@ -74,22 +69,22 @@ pub record Began (ls : List LoginTurn) : Type 0 where
   pub whole : ls ≡ front ++ last ∷ []
   pub begun : begins last.outcome ≡ true
 
--- full feature phase has this kind and this start: as the login left them, or as given
+-- full feature phase has this kind and this start, as the login left them
 pub record IsBehindLogin (target : List ℕ) (tag : ℕ) (ls : List LoginTurn) (kind : Kind) (start : Start) : Type 0 where
   pub began : Began ls
   pub kind_is : kind ≡ kind_in (login_standing target tag ls).progress.kind
   pub start_is : IsStart (login_standing target tag ls) start
 
-abbrev pub HasBegun : Identity → Opening → List LoginTurn → Kind → Start → Type 0
-HasBegun me (Login tag) ls kind start = IsBehindLogin me.target_name.now tag ls kind start
-HasBegun me (FullFeature kind' start') ls kind start = (kind ≡ kind') × (start ≡ start')
-
 -- ---- the whole
 
--- A session that begins so, with a target of this identity that has so many units: it is in its login, and there is no turn
--- behind that; or its login has begun it, and the turns behind that are lawful in the setting to which it came.
+-- Behind a login no turn came; or the login has begun the session, and the turns are lawful in the setting that it came to.
+abbrev pub IsLawfulBehind : ℕ → Identity → ℕ → Transcript → Type 0
+IsLawfulBehind units me tag c =
+    (c.turns ≡ [])
+    ⊎ ((kind : Kind) × (start : Start) × IsBehindLogin me.target_name.now tag c.logins kind start
+      × Lawful (setting_of units me kind start) c.turns)
+
+-- The transcript of a session that begins so, with a target of this identity that has so many units.
 abbrev pub IsLawful : ℕ → Identity → Opening → Transcript → Type 0
-IsLawful units me opening c = HasLogin me opening c.logins × (
-  (c.turns ≡ [])
-  ⊎ ((kind : Kind) × (start : Start) × HasBegun me opening c.logins kind start × Lawful (setting_of units me kind start) c.turns)
-)
+IsLawful units me (Login tag) c = IsLogin me.target_name.now tag c.logins × IsLawfulBehind units me tag c
+IsLawful units me (FullFeature kind start) c = (c.logins ≡ []) × Lawful (setting_of units me kind start) c.turns
