@@ -1,6 +1,7 @@
 //! A disk array over iSCSI.
 #![tactic(auto)]
 
+mod attachment;
 mod once;
 mod target;
 mod words;
