@@ -15,7 +15,7 @@ use std::alloc::Global;
 use unit_state::{SessionId, StepEnd, Unit};
 
 /// The place of the unit.
-const UNIT: u8 = 0;
+pub const UNIT: u8 = 0;
 
 /// A session that was attached to a unit.
 #[derive(Clone, Copy, Debug, PartialEq, Eq)]

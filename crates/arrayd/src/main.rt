@@ -2,8 +2,10 @@
 #![tactic(auto)]
 
 mod attachment;
+mod live;
 mod once;
 mod target;
+mod unit_sessions;
 mod words;
 
 use block_file::MemBlocks;
