@@ -9,7 +9,7 @@ use Rattle.scsi_types.specs.ReplyValue.{ReplyValue}
 use Rattle.scsi_types.specs.declared.names.Group.{Group}
 use Rattle.scsi_types.specs.declared.command.Command.{Command as ScsiCommand}
 use Rattle.scsi_types.specs.declared.command.CdbFault.{CdbFault}
-use Rattle.session.specs.Asking.{Asking, served, reset}
+use Rattle.session.specs.Asking.{Asking, began, lives, served, reset, over}
 use Rattle.session.specs.declared.target.ResetAnswer.{ResetAnswer}
 use Rattle.session.specs.declared.target.ResetAnswer.TheVariants as resets
 use Rattle.session.specs.declared.target.TargetAnswer.{TargetAnswer}
@@ -161,19 +161,19 @@ module _ {B : Type 0} (claims : Bool) (contents : B → List (List ℕ)) (failur
     ends = k.ends;
   }
 
-  next : (unit : Option ℕ) (asked : Result ScsiCommand CdbFault) (bytes : List ℕ) (a : TargetAnswer) (cs : List Asking) (s : UnitState) (x mid x' : TargetValue B) → x.session ≡ 0 → Matches s x
-      → IsAnsweredBy claims contents failures x unit asked bytes a mid → ((s' : UnitState) → mid.session ≡ 0 → Matches s' mid → Story s' mid x' cs)
+  next : (unit : Option ℕ) (asked : Result ScsiCommand CdbFault) (bytes : List ℕ) (a : TargetAnswer) (cs : List Asking) (s : UnitState) (x mid x' : TargetValue B) → x.at.session ≡ 0 → Matches s x
+      → IsAnsweredBy (LAST_COUNT ≤ x.unit.control.count) claims contents failures x unit asked bytes a mid → ((s' : UnitState) → mid.at.session ≡ 0 → Matches s' mid → Story s' mid x' cs)
       → Story s x x' (served unit asked bytes a ∷ cs)
   next unit asked bytes (Replied reply) cs s x mid x' zero_is m led rest =
       let by_owner : TargetValue B = led.1 in
       let same = led.2 in
       let done = led.3 in
       let m' : Matches s by_owner = same_unit s x by_owner same.unit m in
-      let mine : by_owner.session ≡ 0 = same.session ∙ zero_is in
+      let mine : by_owner.at.session ≡ 0 = same.session ∙ zero_is in
       let choice : Choice = choice_of reply (contents mid.unit.device) mid.unit.control.lasting in
-      let entry : Entry = Command 0 by_owner.serial by_owner.by asked bytes choice in
+      let entry : Entry = Command 0 by_owner.at.serial by_owner.at.by asked bytes choice in
       let step : IsStep claims (state_of contents by_owner.unit) (state_of contents mid.unit) entry reply =
-      subst (λ (n : ℕ). IsStep claims (state_of contents by_owner.unit) (state_of contents mid.unit) (entry_of n by_owner.serial by_owner.by asked bytes reply (state_of contents mid.unit)) reply) mine done.step in
+      subst (λ (n : ℕ). IsStep claims (state_of contents by_owner.unit) (state_of contents mid.unit) (entry_of n by_owner.at.serial by_owner.at.by asked bytes reply (state_of contents mid.unit)) reply) mine done.step in
       let call : RepliedCall = record { asked = asked; bytes = bytes; reply = reply } in
       let k = rest (after s entry) (done.session ∙ mine) (matches_after s by_owner mid m' entry reply step) in
       record {
@@ -182,7 +182,7 @@ module _ {B : Type 0} (claims : Bool) (contents : B → List (List ℕ)) (failur
         commands = commands_more s cs entry (served unit asked bytes (Replied reply)) (replied call) (refl, refl, refl)
             (λ c same_call. let same_one : call ≡ c = cc in subst (λ (z : RepliedCall). IsReplyTo claims s entry z.reply) same_one (replied_here s by_owner mid m' entry reply step)) refl k.history k.commands;
         others = entered_more entry s (served unit asked bytes (Replied reply)) cs k.history (replied call) refl tt k.others;
-        counted = counted_more (failures x.unit.device) (failures mid.unit.device) (failures x'.unit.device) 0 by_owner.serial by_owner.by asked bytes choice k.history
+        counted = counted_more (failures x.unit.device) (failures mid.unit.device) (failures x'.unit.device) 0 by_owner.at.serial by_owner.at.by asked bytes choice k.history
             (subst (λ (u : UnitValue B KeepOpener MemBlocks). Tells (failures u.device) (failures mid.unit.device) (IsFine choice)) same.unit (tells_alone (failures by_owner.unit.device) (failures mid.unit.device) (IsFine choice) done.fine)) k.counted;
         ends = k.ends;
       }
@@ -206,8 +206,8 @@ module _ {B : Type 0} (claims : Bool) (contents : B → List (List ℕ)) (failur
     only = λ room none. k.only room (omega (arith, failed_more (Reset session) history));
   }
 
-  reset_next : (unit : ℕ) (a : ResetAnswer) (cs : List Asking) (s : UnitState) (x mid x' : TargetValue B) → x.session ≡ 0 → Matches s x
-      → IsResetBy x unit a mid → ((s' : UnitState) → mid.session ≡ 0 → Matches s' mid → Story s' mid x' cs) → Story s x x' (reset unit a ∷ cs)
+  reset_next : (unit : ℕ) (a : ResetAnswer) (cs : List Asking) (s : UnitState) (x mid x' : TargetValue B) → x.at.session ≡ 0 → Matches s x
+      → IsResetBy (LAST_COUNT ≤ x.unit.control.count) x unit a mid → ((s' : UnitState) → mid.at.session ≡ 0 → Matches s' mid → Story s' mid x' cs) → Story s x x' (reset unit a ∷ cs)
   reset_next unit resets.Done cs s x mid x' zero_is m led rest =
       let done = led.1 in
       let control : s.control ≡ x.unit.control = m.control in
@@ -228,8 +228,14 @@ module _ {B : Type 0} (claims : Bool) (contents : B → List (List ℕ)) (failur
   reset_next unit resets.Failed cs s x mid x' zero_is m led rest =
       past s x mid x' cs (reset unit resets.Failed) refl led.0 refl led.1 (rest s (led.1.session ∙ zero_is) (same_unit s x mid led.1.unit m))
 
-  asked_next : (c : Asking) (cs : List Asking) (s : UnitState) (x mid x' : TargetValue B) → x.session ≡ 0 → Matches s x
-      → LeadsOn claims contents failures x c mid → ((s' : UnitState) → mid.session ≡ 0 → Matches s' mid → Story s' mid x' cs) → Story s x x' (c ∷ cs)
+  asked_next : (c : Asking) (cs : List Asking) (s : UnitState) (x mid x' : TargetValue B) → x.at.session ≡ 0 → Matches s x
+      → LeadsOn claims contents failures x c mid → ((s' : UnitState) → mid.at.session ≡ 0 → Matches s' mid → Story s' mid x' cs) → Story s x x' (c ∷ cs)
+  asked_next (began port kind a) cs s x mid x' zero_is m led rest =
+      past s x mid x' cs (began port kind a) refl led.0 refl led.1 (rest s (led.1.session ∙ zero_is) (same_unit s x mid led.1.unit m))
+  asked_next (lives tsih port a) cs s x mid x' zero_is m led rest =
+      past s x mid x' cs (lives tsih port a) refl led.0 refl led.1 (rest s (led.1.session ∙ zero_is) (same_unit s x mid led.1.unit m))
+  asked_next over cs s x mid x' zero_is m led rest =
+      past s x mid x' cs over refl tt refl led (rest s (led.session ∙ zero_is) (same_unit s x mid led.unit m))
   asked_next (served unit asked bytes a) cs s x mid x' zero_is m led rest = next unit asked bytes a cs s x mid x' zero_is m led rest
   asked_next (reset unit a) cs s x mid x' zero_is m led rest = reset_next unit a cs s x mid x' zero_is m led rest
 
@@ -241,7 +247,7 @@ module _ {B : Type 0} (claims : Bool) (contents : B → List (List ℕ)) (failur
   none_at zero call at = cc
   none_at (suc k) call at = cc
 
-  pub story : (cs : List Asking) (s : UnitState) (x x' : TargetValue B) → x.session ≡ 0 → Matches s x → Leads (LeadsOn claims contents failures) cs x x' → Story s x x' cs
+  pub story : (cs : List Asking) (s : UnitState) (x x' : TargetValue B) → x.at.session ≡ 0 → Matches s x → Leads (LeadsOn claims contents failures) cs x x' → Story s x x' cs
   story [] s x x' zero_is m same = record {
     history = [];
     legal = tt;

@@ -13,7 +13,8 @@ use Rattle.scsi_types.specs.declared.names.Place.{Place}
 use Rattle.scsi_types.specs.declared.command.Command.{Command as ScsiCommand}
 use Rattle.scsi_types.specs.declared.command.Command.TheVariants as commands
 use Rattle.scsi_types.specs.declared.command.CdbFault.{CdbFault}
-use Rattle.session.specs.Asking.{Asking, served, reset}
+use Rattle.session.specs.Asking.{Asking, began, lives, served, reset, over}
+use Rattle.session.specs.declared.target.BeginAnswer.TheVariants.{Refused}
 use Rattle.session.specs.Lengths.{default_lengths}
 use Rattle.session.specs.Setting.{Setting}
 use Rattle.session.specs.declared.session.Start.{Start}
@@ -57,7 +58,7 @@ begun size contents blocks = state_after (opening place (size blocks) (contents 
 
 -- such a unit, and its session
 pub record IsBegun {B : Type 0} (size : B → ℕ) (blocks : B) (target : TargetValue B) : Type 0 where
-  pub session : target.session ≡ 0
+  pub session : target.at.session ≡ 0
   pub device : target.unit.device ≡ blocks
   pub control : target.unit.control ≡ (begun size (λ b. []) blocks).control
 
@@ -75,6 +76,8 @@ pub data EnteredCall : Type 0 where
   was_reset : EnteredCall
 
 abbrev pub entered_by : Asking → Option EnteredCall
+entered_by (began port kind answer) = None
+entered_by (lives tsih port answer) = None
 entered_by (served unit asked bytes (Replied reply)) = Some (replied (record { asked = asked; bytes = bytes; reply = reply }))
 entered_by (served unit asked bytes (Outside reply)) = None
 entered_by (served unit asked bytes Busy) = None
@@ -83,6 +86,7 @@ entered_by (served unit asked bytes Halted) = None
 entered_by (reset unit resets.Done) = Some was_reset
 entered_by (reset unit resets.Gone) = None
 entered_by (reset unit resets.Failed) = None
+entered_by over = None
 
 abbrev pub entered : List Asking → List EnteredCall
 entered cs = filter_map entered_by cs
@@ -102,8 +106,11 @@ pub record AreCommands (claims : Bool) (s : UnitState) (cs : List Asking) (histo
 -- ---- the calls that were answered otherwise
 
 -- In this state of the unit a call may be answered so without a step: a unit that is not there; no memory for the data
--- of a reply; a history of the last length. The unit serves on for good.
+-- of a reply; a history of the last length. The unit serves on for good. No other session begins or lives, and the end
+-- of this one is no entry.
 abbrev pub IsUnserved : UnitState → Asking → Type 0
+IsUnserved s (began port kind answer) = answer ≡ Refused
+IsUnserved s (lives tsih port answer) = answer ≡ false
 IsUnserved s (served unit asked bytes (Replied reply)) = Unit {0}
 IsUnserved s (served unit asked bytes (Outside reply)) = (unit ≢ Some 0) × (reply ≡ absent_reply asked)
 IsUnserved s (served unit asked bytes Busy) = IsBusy s.control 0 unit asked bytes
@@ -112,6 +119,7 @@ IsUnserved s (served unit asked bytes Halted) = ⊥
 IsUnserved s (reset unit resets.Done) = Unit {0}
 IsUnserved s (reset unit resets.Gone) = (unit ≡ 0) × (LAST_COUNT ≤ s.control.count)
 IsUnserved s (reset unit resets.Failed) = unit ≢ 0
+IsUnserved s over = Unit {0}
 
 -- each call that was answered otherwise, in the state behind the entries before it
 abbrev pub AreUnserved : UnitState → List Asking → List Entry → Type 0

@@ -1,8 +1,11 @@
 //! A disk array over iSCSI.
 #![tactic(auto)]
 
+mod attachment;
+mod live;
 mod once;
 mod target;
+mod unit_sessions;
 mod words;
 
 use block_file::MemBlocks;

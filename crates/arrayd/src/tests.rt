@@ -3,3 +3,4 @@ mod examples;
 mod first_questions;
 mod medium;
 mod run;
+mod sessions;

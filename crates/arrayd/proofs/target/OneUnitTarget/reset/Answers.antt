@@ -1,15 +1,14 @@
-use Rattle.arrayd.proofs.Ready.{ready_reset, count_reset}
+use Rattle.std.proofs.Common.{refl, arith}
+use Rattle.arrayd.proofs.Ready.{grows_reset_by, ready_reset_by, reset_late, reset_over}
 use Rattle.arrayd.proofs.target.OneUnitTarget.reset.Goals as goal
-use Rattle.arrayd.proofs.target.OneUnitTarget.reset.Goals.{in-Ok, in-Err}
 
 pub invariant_of-self : goal.invariant_of-self
-invariant_of-self g c =
-    let old = c.self.inside.unit.control in
-    let new = c.reset.new.self.control in
-    elim c.match-reset.branch [
-      | in-Ok w ↦ (
-        ready_reset old new c.self.inside.session c.self.inside.serial c.self.invariant.0 w.in-Ok.ensures.control,
-        count_reset old new c.self.inside.session c.self.inside.serial c.self.invariant.1 w.in-Ok.ensures.control,
-      )
-      | in-Err w ↦ rw w.in-Err.ensures.err c.self.invariant
-    ]
+invariant_of-self g c = (
+  ready_reset_by _ _ _ _ c.reset.result c.self.invariant.0 refl c.reset.ensures,
+  omega (arith, grows_reset_by _ _ _ _ c.reset.result c.reset.ensures, c.self.invariant.1),
+)
+
+pub returns : goal.returns
+returns g c =
+    rw (← c.self.view_is)
+    (reset_over _ _ _ _ _ (reset_late c.self.inside.unit.control c.self.inside.at.session c.self.inside.at.serial c.self.invariant.0) c.reset.result c.reset.ensures)

@@ -1,5 +1,15 @@
-use Rattle.std.proofs.Common.{rules}
+use Rattle.arrayd.specs.OneUnit.{TargetValue}
+use Rattle.arrayd.proofs.Ready.{answered_over, fits_answered, gone_late, ready_answered}
 use Rattle.arrayd.proofs.target.OneUnitTarget.serve.Goals as goal
 
-pub returns-in-Reply : goal.returns-in-Reply
-returns-in-Reply g c = (search rules, c.in-Reply.ensures.0, c.in-Reply.ensures.1, c.in-Reply.ensures.2)
+pub invariant_of-self : goal.invariant_of-self
+invariant_of-self g c = (
+  ready_answered g.B.Blocks.claims g.B.Blocks.contents g.B.Blocks.failures _ _ _ _ _ _ c.answer.result c.self.invariant.0 c.answer.ensures,
+  fits_answered g.B.Blocks.claims g.B.Blocks.contents g.B.Blocks.failures _ _ _ _ _ _ c.answer.result c.self.invariant.1 c.answer.ensures,
+)
+
+pub returns : goal.returns
+returns g c =
+    rw (← c.self.view_is)
+    (answered_over g.B.Blocks.claims g.B.Blocks.contents g.B.Blocks.failures _ _ _ _
+    (gone_late c.self.inside.unit.control c.self.inside.at.session c.self.inside.at.serial c.self.invariant.0) _ _ _ c.answer.result c.answer.ensures)
