@@ -15,9 +15,18 @@ use Rattle.session.specs.declared.target.ResetAnswer.TheVariants as resets
 use Rattle.session.specs.declared.target.TargetAnswer.{TargetAnswer}
 use Rattle.session.specs.declared.target.TargetAnswer.TheVariants.{Replied, Outside, Busy, Gone, Halted}
 use Rattle.session.specs.declared.end.End.{End}
-use Rattle.session.specs.Setting.{Setting}
-use Rattle.session.specs.Transcript.{IsTranscribed}
-use Rattle.session.specs.Turn.{Leads, calls}
+use Rattle.std.specs.Prelude.{map, ◌++◌}
+use Rattle.std.specs.Io.KnownBytes.{IsAtEnd}
+use Rattle.login.specs.declared.status.Kind.TheVariants.{Normal}
+use Rattle.session.specs.declared.identity.Identity.{Identity}
+use Rattle.session.specs.declared.opening.Opening.TheVariants.{FullFeature}
+use Rattle.session.specs.declared.session.Start.{Start}
+use Rattle.session.specs.Ends.{EndsBy}
+use Rattle.session.specs.LoginPhase.{LoginTurn}
+use Rattle.session.specs.Phases.{Exchange, exchanges, of_login, of_turn, incoming, asked}
+use Rattle.session.specs.Setting.{setting_of}
+use Rattle.session.specs.Transcript.{Written, IsTranscribed}
+use Rattle.session.specs.Turn.{Spells, Leads}
 use Rattle.unit_state.specs.declared.control.TheConstants.{LAST_COUNT}
 use Rattle.unit_state.specs.State.{ControlValue, UnitState, UnitValue, state_of}
 use Rattle.unit_state.specs.Choice.{Choice, Fine, ReadFailed, WriteFailed, OpenFailed, SaveFailed, IsFine, choice_of}
@@ -259,22 +268,37 @@ module _ {B : Type 0} (claims : Bool) (contents : B → List (List ℕ)) (failur
   story (c ∷ cs) s x x' zero_is m led = asked_next c cs s x led.0 x' zero_is m led.1 (λ s' z m'. story cs s' led.0 x' z m' led.2)
 
 -- the whole of it
-pub is_once : {B : Type 0} (m : Setting) (claims : Bool) (size : B → ℕ) (contents : B → List (List ℕ)) (failures : B → ℕ) (blocks device : B) (x x' : TargetValue B) (left left' held held' : Option (List ℕ)) (end : End)
-    → IsBegun size blocks x → IsTranscribed (LeadsOn claims contents failures) m left left' held held' x x' end → device ≡ x'.unit.device
-    → IsOnce m claims size contents failures blocks device left left' held held' end
-is_once {B = B} m claims size contents failures blocks device x x' left left' held held' end first t is_device =
+pub is_once : {B : Type 0} (me : Identity) (start : Start) (claims : Bool) (size : B → ℕ) (contents : B → List (List ℕ)) (failures : B → ℕ) (blocks device : B) (x x' : TargetValue B) (left left' held held' : Option (List ℕ)) (end : End)
+    → IsBegun size blocks x → IsTranscribed (LeadsOn claims contents failures) 1 me (FullFeature Normal start) left left' held held' x x' end
+    → device ≡ x'.unit.device
+    → IsOnce (setting_of 1 me Normal start) claims size contents failures blocks device left left' held held' end
+is_once {B = B} me start claims size contents failures blocks device x x' left left' held held' end first t is_device =
     let begun_here : Matches claims contents failures (begun size contents blocks) x = record {
       control = sym first.control;
       blocks = λ h. ap contents (sym first.device);
     } in
-    let k = story claims contents failures (calls t.transcript) (begun size contents blocks) x x' first.session begun_here t.led in
+    let passed = t.passed in
+    let turns = passed.transcript.turns in
+    let es : exchanges passed.transcript ≡ map of_turn turns =
+        ap (λ (ls : List LoginTurn). map of_login ls ++ map of_turn turns) passed.lawful.0 in
+    let led = subst (λ (z : List Exchange). Leads (LeadsOn claims contents failures) (asked z) x t.at_end) es passed.led in
+    let k = story claims contents failures (asked (map of_turn turns)) (begun size contents blocks) x t.at_end first.session begun_here led in
+    let at_end : device ≡ t.at_end.unit.device = is_device ∙ ap (λ (u : UnitValue B KeepOpener MemBlocks). u.device) t.told.unit in
     record {
-      transcript = t.transcript;
-      served = record { spelled = t.spelled; rest = t.rest; lawful = t.lawful; ends = t.ends; spells = t.spells; read = t.read; written = t.written };
+      transcript = turns;
+      served = record {
+        spelled = passed.spelled;
+        rest = passed.rest;
+        lawful = passed.lawful.1;
+        ends = subst (λ (z : List Exchange). EndsBy z passed.rest (length passed.spelled + length passed.rest) (IsAtEnd left') end) es passed.ends;
+        spells = subst (λ (z : List Exchange). Spells (incoming z) passed.spelled) es passed.spells;
+        read = passed.read;
+        written = subst (λ (z : List Exchange). Written end held held' z) es passed.written;
+      };
       history = k.history;
       legal = (record { room = omega arith; sessions = omega arith }, (record { next = record { room = omega arith; next = refl }; owner = refl; chosen = refl; torn = λ h. tt }, k.legal));
       commands = k.commands;
       others = k.others;
-      counted = subst (λ (d : B). AreCounted (failures d) (failures device) k.history) first.device (subst (λ (d : B). AreCounted (failures x.unit.device) (failures d) k.history) (sym is_device) k.counted);
-      blocks_after = λ h. ap contents is_device ∙ k.ends h;
+      counted = subst (λ (d : B). AreCounted (failures d) (failures device) k.history) first.device (subst (λ (d : B). AreCounted (failures x.unit.device) (failures d) k.history) (sym at_end) k.counted);
+      blocks_after = λ h. ap contents at_end ∙ k.ends h;
     }

@@ -21,8 +21,10 @@ use Rattle.session.specs.declared.session.Start.{Start}
 use Rattle.session.specs.declared.end.End.{End}
 use Rattle.session.specs.declared.target.TargetAnswer.TheVariants.{Replied, Outside, Busy, Gone, Halted}
 use Rattle.session.specs.declared.target.ResetAnswer.TheVariants as resets
-use Rattle.session.specs.Turn.{Turn, calls, Spells}
-use Rattle.session.specs.Legal.{Lawful, EndsBy}
+use Rattle.session.specs.Turn.{Turn, Spells}
+use Rattle.session.specs.Legal.{Lawful}
+use Rattle.session.specs.Phases.{of_turn, incoming, asked}
+use Rattle.session.specs.Ends.{EndsBy}
 use Rattle.session.specs.Transcript.{Written}
 use Rattle.unit_state.specs.declared.control.TheConstants.{LAST_COUNT}
 use Rattle.unit_state.specs.State.{UnitState, opening}
@@ -143,10 +145,10 @@ pub record IsServed (m : Setting) (ts : List Turn) (left left' held held' : Opti
   pub spelled : List ℕ
   pub rest : List ℕ
   pub lawful : Lawful m ts
-  pub ends : EndsBy ts rest (length spelled + length rest) (IsAtEnd left') end
-  pub spells : Spells (map (λ t. t.came) ts) spelled
+  pub ends : EndsBy (map of_turn ts) rest (length spelled + length rest) (IsAtEnd left') end
+  pub spells : Spells (incoming (map of_turn ts)) spelled
   pub read : Consumes left left' (spelled ++ rest)
-  pub written : Written end held held' ts
+  pub written : Written end held held' (map of_turn ts)
 
 -- Its calls are the commands of one legal history of the unit; the failures that this tells are those of the device;
 -- and where the device's type claims its contents, it has the blocks after that history.
@@ -156,7 +158,7 @@ pub record IsOnce {B : Type 0} (m : Setting) (claims : Bool) (size : B → ℕ) 
   pub served : IsServed m transcript left left' held held' end
   pub history : List Entry
   pub legal : IsLegal claims (opening place (size blocks) (contents blocks) nothing) (first_entries ++ history)
-  pub commands : AreCommands claims (begun size contents blocks) (calls transcript) history
-  pub others : AreUnserved (begun size contents blocks) (calls transcript) history
+  pub commands : AreCommands claims (begun size contents blocks) (asked (map of_turn transcript)) history
+  pub others : AreUnserved (begun size contents blocks) (asked (map of_turn transcript)) history
   pub counted : AreCounted (failures blocks) (failures device) history
   pub blocks_after : IsTrue claims → contents device ≡ (state_after (begun size contents blocks) history).blocks

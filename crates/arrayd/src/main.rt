@@ -9,7 +9,6 @@ mod unit_sessions;
 mod words;
 
 use block_file::MemBlocks;
-use login::Kind;
 use scsi_types::NoMemory;
 use session::{End, Identity, Watched};
 use std::alloc::Global;
@@ -95,7 +94,6 @@ fn serve_once<R: Input + Print>(rt: &R, alloc: Global) -> Result<(), Fault> {
     let mut source = Watched::new(rt.reader());
     let mut sink = Watched::new(io::writer(rt));
     let me = Identity {
-        kind: Kind::Normal,
         target_name: TARGET_NAME,
         first: &portal(3260),
         second: &portal(3264),

@@ -7,8 +7,9 @@ ghost use Rattle.arrayd.specs.Once.{IsOnce, from_one};
 
 use crate::target::OneUnit;
 use block_file::Blocks;
+use login::Kind;
 use scsi_types::NoMemory;
-use session::{End, Identity, Lengths, Sink, Source, Start, serve_stream};
+use session::{End, Identity, Lengths, Opening, Sink, Source, Start, serve_stream};
 use std::alloc::Global;
 
 /// Serves one session in full feature phase, of initiator `iqn.2000-01.test:host` with ISID 0 through group 1, over
@@ -22,7 +23,7 @@ pub fn once<S: Source, K: Sink, B: Blocks>(
     blocks: B,
     me: &Identity<'_>,
 ) -> Result<(End, B), NoMemory>
-    ensures served { IfOk result (λ r. IsOnce (setting_of 1 me.now from_one) B.claims B.size B.contents B.failures blocks r.1 (S.left source.old) (S.left source.new) (K.held sink.old) (K.held sink.new) r.0) }
+    ensures served { IfOk result (λ r. IsOnce (setting_of 1 me.now Kind.Normal from_one) B.claims B.size B.contents B.failures blocks r.1 (S.left source.old) (S.left source.new) (K.held sink.old) (K.held sink.new) r.0) }
     ensures input_failed { IfOk result (λ r. IsFailureOf InputFailed (S.failures source.old) (S.failures source.new) r.0) }
     ensures output_failed { IfOk result (λ r. IsFailureOf OutputFailed (K.failures sink.old) (K.failures sink.new) r.0) }
     ensures no_memory { OnErr result ((source.new ≡ source.old) × (sink.new ≡ sink.old)) }
@@ -33,6 +34,7 @@ pub fn once<S: Source, K: Sink, B: Blocks>(
         stat_sn: 1,
         lengths: Lengths::defaults(),
     };
-    let end = serve_stream(alloc, source, sink, &mut target, start, me)?;
+    let opening = Opening::FullFeature(Kind::Normal, start);
+    let end = serve_stream(alloc, source, sink, &mut target, opening, me)?;
     Ok((end, target.close()))
 }

@@ -2,7 +2,6 @@
 use crate::once::once;
 use crate::{TARGET_NAME, portal};
 use block_file::{Blocks, DeviceFailed, FusedBlocks, MemBlocks};
-use login::Kind;
 use session::{End, Identity, Watched};
 use std::alloc::Global;
 use std::process::Abort;
@@ -93,7 +92,6 @@ pub fn serve(
     let mut source = Watched::new(FakeReader::new(input, reads));
     let mut sink = Watched::new(FakeWriter::new(alloc, WHOLE));
     let me = Identity {
-        kind: Kind::Normal,
         target_name: TARGET_NAME,
         first: &portal(3260),
         second: &portal(3264),
