@@ -5,6 +5,7 @@ pub mod Following
 pub mod Gathering
 pub mod Lawful
 pub mod Lists
+pub mod LoginNumbers
 pub mod LoginTurns
 pub mod Places
 pub mod Queues

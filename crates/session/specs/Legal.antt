@@ -12,7 +12,7 @@ use Rattle.iscsi_pdu.specs.declared.header.Header.{Header}
 use Rattle.iscsi_pdu.specs.declared.header.Header.TheVariants.{Initiator}
 use Rattle.iscsi_pdu.specs.declared.header.InitiatorHeader.TheVariants.{ScsiCommand, DataOut, LogoutRequest}
 use Rattle.iscsi_pdu.specs.declared.header.TargetHeader.{TargetHeader}
-use Rattle.iscsi_pdu.specs.declared.header.TargetHeader.TheVariants.{NopIn, ScsiResponse, TaskManagementResponse}
+use Rattle.iscsi_pdu.specs.declared.header.TargetHeader.TheVariants.{NopIn, ScsiResponse, TaskManagementResponse, LoginResponse}
 use Rattle.iscsi_pdu.specs.declared.header.TargetHeader.TheVariants.{TextResponse, DataIn, LogoutResponse, R2t, Reject}
 use Rattle.iscsi_pdu.specs.declared.header.R2t.{R2t as R2tHeader}
 use Rattle.iscsi_pdu.specs.declared.header.Numbers.{Numbers}
@@ -56,6 +56,7 @@ abbrev pub status_number : TargetHeader → Option ℕ
 status_number (NopIn p) = Some p.numbers.stat_sn
 status_number (ScsiResponse p) = Some p.numbers.stat_sn
 status_number (TaskManagementResponse p) = Some p.numbers.stat_sn
+status_number (LoginResponse p) = Some p.numbers.stat_sn
 status_number (TextResponse p) = Some p.numbers.stat_sn
 status_number (LogoutResponse p) = Some p.numbers.stat_sn
 status_number (Reject p) = Some p.numbers.stat_sn

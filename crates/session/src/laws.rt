@@ -5,6 +5,9 @@ ghost use Rattle.session.specs.declared.target.TargetAnswer.{TargetAnswer};
 ghost use Rattle.session.specs.declared.verdict.Verdict.TheVariants.{Accepted, Full};
 ghost use Rattle.std.specs.List.{AllByRecursion};
 ghost use Rattle.session.specs.Setting.{Setting};
+ghost use Rattle.session.specs.Phases.{Transcript, exchanges, outgoing, IsLawful};
+ghost use Rattle.session.specs.declared.identity.Identity.{Identity};
+ghost use Rattle.session.specs.declared.opening.Opening.{Opening};
 ghost use Rattle.session.specs.Turn.{Turn, sent};
 ghost use Rattle.session.specs.Tasks.{tasks};
 ghost use Rattle.session.specs.Window.{wrap};
@@ -20,6 +23,13 @@ pub fn status_numbers_are_consecutive()
     ensures { (m : Setting) (ts : List Turn) (k n next : ℕ) → Lawful m ts
         → slice_get (status_numbers (sent ts)) k ≡ Some n → slice_get (status_numbers (sent ts)) (k + 1) ≡ Some next
         → next ≡ wrap (n + 1) }
+{}
+
+/// Over a whole session that begins with a login, the first PDU that uses up a StatSN has StatSN 1, and each has the next one
+/// behind that before it: a login and full feature phase count as one (RFC 7143, 4.2.2.2).
+pub fn status_numbers_count_on_behind_a_login()
+    ensures { (units : ℕ) (me : Identity) (tag : ℕ) (c : Transcript) → IsLawful units me (Opening.Login tag) c → (k n : ℕ)
+        → slice_get (status_numbers (outgoing (exchanges c))) k ≡ Some n → n ≡ wrap (1 + k) }
 {}
 
 /// No command is answered twice: a turn, which has one PDU that came, has at most one SCSI Response, and none where

@@ -54,7 +54,7 @@ pub use end::End;
 pub use identity::Identity;
 pub use laws::{
     a_read_gets_the_data_of_its_answer, no_command_is_answered_twice,
-    status_numbers_are_consecutive, the_window_never_falls,
+    status_numbers_are_consecutive, status_numbers_count_on_behind_a_login, the_window_never_falls,
 };
 pub use lengths::Lengths;
 pub use opening::Opening;
