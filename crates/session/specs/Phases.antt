@@ -90,6 +90,6 @@ HasBegun me (FullFeature kind' start') ls kind start = (kind ≡ kind') × (star
 -- behind that; or its login has begun it, and the turns behind that are lawful in the setting to which it came.
 abbrev pub IsLawful : ℕ → Identity → Opening → Transcript → Type 0
 IsLawful units me opening c = HasLogin me opening c.logins × (
-  (c.turns ≡ [])
-  ⊎ ((kind : Kind) × (start : Start) × HasBegun me opening c.logins kind start × Lawful (setting_of units me kind start) c.turns)
-)
+    (c.turns ≡ [])
+    ⊎ ((kind : Kind) × (start : Start) × HasBegun me opening c.logins kind start × Lawful (setting_of units me kind start) c.turns)
+    )
