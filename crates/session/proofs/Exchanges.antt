@@ -229,8 +229,8 @@ module _ (units : ℕ) (me : Identity) (opening : Opening) (c : Transcript) (v :
         let behind = subst (λ (w : LoginStanding). IsStart w next.0) standing_now next.1 in
         let kind = kind_in (login_standing me.target_name.now k.tag logins_now).progress.kind in
         let same : begun (record (s.setting) { kind = kind_in (login_after v came).progress.kind; start = next.0 }) ≡ begun (setting_of units me kind next.0) =
-            subst₂ (λ (m : Setting) (w : LoginStanding). begun (record m { kind = kind_in w.progress.kind; start = next.0 }) ≡ begun (setting_of units me kind next.0))
-            (sym (ap (λ (z : Counters). z.setting) k.waits)) (sym standing_now) refl in
+        subst₂ (λ (m : Setting) (w : LoginStanding). begun (record m { kind = kind_in w.progress.kind; start = next.0 }) ≡ begun (setting_of units me kind next.0))
+        (sym (ap (λ (z : Counters). z.setting) k.waits)) (sym standing_now) refl in
         rw next.4 (record {
           has_login = subst (λ (o : Opening). HasLogin me o logins_now) (sym k.opening_is) login_now;
           kind = kind;

@@ -46,7 +46,7 @@ module _ {T : Type 0} (leads : T → Asking → T → Type 0) (x y : T) (s : Pro
       → Comes e
   accepted text e now is same k =
       let asked : leads x (began (port_of p (after s (flags_of p) d).said) (kind_in (after s (flags_of p) d).kind) k.0) y =
-          subst (λ (z : Progress). leads x (began (port_of p z.said) (kind_in z.kind) k.0) y) same k.1 in
+      subst (λ (z : Progress). leads x (began (port_of p z.said) (kind_in z.kind) k.0) y) same k.1 in
       subst Comes is (Some (began (port_of p (after s (flags_of p) d).said) (kind_in (after s (flags_of p) d).kind) k.0), asked, (k.0, refl, k.2))
 
   pub named : (e : Ending) (port : Port) → Stopped stops.NamesSession ≡ e → port ≡ port_of p (s.unfinished ++ d)
@@ -75,8 +75,8 @@ module _ {T : Type 0} (leads : T → Asking → T → Type 0) (v mid : LoginStan
       let same : mid.progress ≡ v.progress = ap (λ (w : LoginStanding). w.progress) taken in
       let number : n ≡ login_numbers v (pdu bhs h d) = numbers ∙ ap (λ (k : Option ℕ). numbers_for v.stat_sn (unwrap_or (option_or v.first k) 0) 0) cmd in
       let sends : sent_by bhs pdus ≡ login_outs (login_numbers v (pdu bhs h d)) v.progress (pdu bhs h d) outcome =
-          outs v.progress bhs d (subst₂ (λ (s : Progress) (t : List ℕ). IsTextOf s h d outcome t) same (sym same_text) has_text)
-          ∙ ap (λ (k : Numbers). login_outs k v.progress (pdu bhs h d) outcome) number in
+      outs v.progress bhs d (subst₂ (λ (s : Progress) (t : List ℕ). IsTextOf s h d outcome t) same (sym same_text) has_text)
+      ∙ ap (λ (k : Numbers). login_outs k v.progress (pdu bhs h d) outcome) number in
       record {
         turn = record { came = pdu bhs h d; call = comes.0; outcome = outcome; sent = login_outs (login_numbers v (pdu bhs h d)) v.progress (pdu bhs h d) outcome };
         came_is = refl;

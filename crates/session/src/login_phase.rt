@@ -100,9 +100,9 @@ impl LoginPhase {
     pub fn take_numbers(&mut self, cmd_sn: Option<u32>) -> Numbers
         ensures numbers { result ≡ numbers_for self.old.stat_sn (unwrap_or (option_or self.old.first cmd_sn) 0) 0 }
         ensures after { self.new ≡ record {
-            progress = self.old.progress;
-            first = option_or self.old.first cmd_sn;
-            stat_sn = wrap (self.old.stat_sn + 1);
+          progress = self.old.progress;
+          first = option_or self.old.first cmd_sn;
+          stat_sn = wrap (self.old.stat_sn + 1);
         } }
     {
         self.first = self.first.or(cmd_sn);

@@ -70,7 +70,15 @@ pub fn serve_stream<S: Source, K: Sink, T: Target>(
     let mut outbox = Outbox::new(alloc)?;
     let mut phases = Phases::new(alloc, opening, target.units(), me)?;
     let mut room = Vec::with_capacity(alloc, LONGEST_RESPONSE as usize)?;
-    let end = pass(source, sink, target, &mut inbox, &mut outbox, &mut phases, &mut room);
+    let end = pass(
+        source,
+        sink,
+        target,
+        &mut inbox,
+        &mut outbox,
+        &mut phases,
+        &mut room,
+    );
     target.end();
     Ok(end)
 }

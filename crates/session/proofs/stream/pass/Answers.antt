@@ -33,8 +33,8 @@ pub returns-then-has_failed : goal.returns-then-has_failed
 returns-then-has_failed g c units me opening k =
     let w = subst (λ (b : List ℕ). IsWhole b c.in-Whole.bhs.now c.in-Whole.pdu c.in-Whole.taken) c.bytes.ensures c.in-Whole.ensures in
     let both = sink_failed g.T.Target.leads units me opening _ _ _ _ _ _ _ _ _ _ _ _
-        (pdu_goes_on g.T.Target.leads units me opening _ _ _ _ _ _ _ _ _ _ _ _ (c.loop-reads.invariant.running units me opening k) c.turn.new.self c.turn.new.target _ _ _ c.in-Whole.bhs.now _ _ c.in-Whole.taken w.bhs_is w.within w.spelled c.in-None.ensures.exchange)
-        (sym c.has_failed.ensures ∙ c.if-has_failed.true) in
+    (pdu_goes_on g.T.Target.leads units me opening _ _ _ _ _ _ _ _ _ _ _ _ (c.loop-reads.invariant.running units me opening k) c.turn.new.self c.turn.new.target _ _ _ c.in-Whole.bhs.now _ _ c.in-Whole.taken w.bhs_is w.within w.spelled c.in-None.ensures.exchange)
+    (sym c.has_failed.ensures ∙ c.if-has_failed.true) in
     record { passed = both.0; input_failed = output_not_input c.loop-reads.invariant.source_served; output_failed = both.1 }
 
 pub loop-reads-preserved-else-has_failed : goal.loop-reads-preserved-else-has_failed
@@ -50,16 +50,16 @@ loop-reads-preserved-else-has_failed g c =
 pub returns-then-has_failed-2 : goal.returns-then-has_failed-2
 returns-then-has_failed-2 g c units me opening k =
     let both = sink_failed g.T.Target.leads units me opening _ _ _ _ _ _ _ _ _ _ _ _
-        (flushed g.T.Target.leads units me opening _ _ _ _ _ _ _ _ _ _ _ _ (c.loop-reads.invariant.running units me opening k) _ _ _ c.flush.ensures.written)
-        (sym c.has_failed-in-Partial.ensures ∙ c.if-has_failed-2.true) in
+    (flushed g.T.Target.leads units me opening _ _ _ _ _ _ _ _ _ _ _ _ (c.loop-reads.invariant.running units me opening k) _ _ _ c.flush.ensures.written)
+    (sym c.has_failed-in-Partial.ensures ∙ c.if-has_failed-2.true) in
     record { passed = both.0; input_failed = output_not_input c.loop-reads.invariant.source_served; output_failed = both.1 }
 
 pub returns-in-Ok-eq0 : goal.returns-in-Ok-eq0
 returns-in-Ok-eq0 g c units me opening k =
     let both = input_ended g.T.Target.leads units me opening _ _ _ _ _ _ _ _ _ _ _ _
-        (flushed g.T.Target.leads units me opening _ _ _ _ _ _ _ _ _ _ _ _ (c.loop-reads.invariant.running units me opening k) _ _ _ c.flush.ensures.written)
-        c.flush.ensures.all_written (sym c.has_failed-in-Partial.ensures ∙ c.if-has_failed-2.false)
-        _ _ _ (omega (arith, c.in-Ok-eq0.field-0-test)) c.in-Ok-eq0.ensures.ok (subst NoneWhole c.bytes.ensures c.in-Partial.ensures.0) in
+    (flushed g.T.Target.leads units me opening _ _ _ _ _ _ _ _ _ _ _ _ (c.loop-reads.invariant.running units me opening k) _ _ _ c.flush.ensures.written)
+    c.flush.ensures.all_written (sym c.has_failed-in-Partial.ensures ∙ c.if-has_failed-2.false)
+    _ _ _ (omega (arith, c.in-Ok-eq0.field-0-test)) c.in-Ok-eq0.ensures.ok (subst NoneWhole c.bytes.ensures c.in-Partial.ensures.0) in
     record { passed = both.0; input_failed = ended_not_failed (c.in-Ok-eq0.ensures.failures ∙ c.loop-reads.invariant.source_served); output_failed = both.1 }
 
 pub loop-reads-preserved : goal.loop-reads-preserved
@@ -75,9 +75,9 @@ loop-reads-preserved g c = record {
 pub returns-in-Err : goal.returns-in-Err
 returns-in-Err g c units me opening k =
     let both = input_failed g.T.Target.leads units me opening _ _ _ _ _ _ _ _ _ _ _ _
-        (flushed g.T.Target.leads units me opening _ _ _ _ _ _ _ _ _ _ _ _ (c.loop-reads.invariant.running units me opening k) _ _ _ c.flush.ensures.written)
-        c.flush.ensures.all_written (sym c.has_failed-in-Partial.ensures ∙ c.if-has_failed-2.false)
-        _ c.in-Err.ensures.err.1 (subst NoneWhole c.bytes.ensures c.in-Partial.ensures.0) in
+    (flushed g.T.Target.leads units me opening _ _ _ _ _ _ _ _ _ _ _ _ (c.loop-reads.invariant.running units me opening k) _ _ _ c.flush.ensures.written)
+    c.flush.ensures.all_written (sym c.has_failed-in-Partial.ensures ∙ c.if-has_failed-2.false)
+    _ c.in-Err.ensures.err.1 (subst NoneWhole c.bytes.ensures c.in-Partial.ensures.0) in
     record { passed = both.0; input_failed = failed_so c.loop-reads.invariant.source_served c.in-Err.ensures.failures; output_failed = both.1 }
 
 pub returns : goal.returns
