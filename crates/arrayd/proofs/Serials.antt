@@ -1,61 +1,81 @@
--- No serial of a session that lives passes the unit's count of entries.
-use Rattle.std.proofs.Common.{◌≡◌, ◌≢◌, ⊎_elim, ℕ, ◌+◌, ◌<◌, ◌≤◌, Bool, true, false, not, cond, get_or, zero, suc, List, [], ◌∷◌, ◌++◌, take, drop, map, length, filter}
+-- No serial of a session that lives passes the unit's count of entries, and none has the number of one to come.
+use Rattle.std.proofs.Common.{◌≡◌, ◌≢◌, ⊎_elim, ℕ, ◌+◌, ◌<◌, ◌≤◌, Bool, true, false, not, cond, nat_eq, get_or, zero, suc, List, [], ◌∷◌, ◌++◌, take, drop, map, length, filter}
 use Rattle.std.proofs.Common.{Option, Some, None, IfSome, All, refl, sym, ap, subst, ◌∙◌, arith}
 use Rattle.std.specs.Prelude.{find}
 use Rattle.std.specs.Option.{option_and_then}
+use Rattle.std.proofs.lemmas.Bool.Decides.{nat_tests}
 use Rattle.std.proofs.lemmas.List.{take_more}
 use Rattle.std.proofs.lemmas.List.Elements.{All-append, All-drop, All-filter, All-head, All-map, All-push, All-tail, All-take, All-weaker}
 use Rattle.login.specs.declared.status.Kind.{Kind}
 use Rattle.scsi_types.specs.Nexus.{Port}
 use Rattle.arrayd.specs.declared.attachment.Attachment.{Attachment}
 use Rattle.arrayd.specs.declared.live.LiveSession.{LiveSession}
-use Rattle.arrayd.specs.Sessions.{IsBehind, attachment_of, is_present, others, with_attachment}
+use Rattle.arrayd.specs.Sessions.{IsCounted, attachment_of, is_present, others, with_attachment}
 
 -- one that does not pass a count passes no later one
 later_at : (count later : ℕ) (o : Option Attachment) → count ≤ later → IfSome o (λ at. at.serial ≤ count) → IfSome o (λ at. at.serial ≤ later)
 later_at count later None le fits = tt
 later_at count later (Some at) le fits = omega arith
 
-pub all_later : (count later : ℕ) (live : List LiveSession) → count ≤ later → All (IsBehind count) live → All (IsBehind later) live
-all_later count later live le fits = All-weaker (IsBehind count) (IsBehind later) (λ s b. later_at count later s.at le b) live fits
+-- nor does a number that was counted
+later_one : (count later begun more : ℕ) (s : LiveSession) → count ≤ later → begun ≤ more → IsCounted count begun s → IsCounted later more s
+later_one count later begun more s le grows fits = record { serial = later_at count later s.at le fits.serial; number = omega (arith, fits.number) }
+
+pub all_later : (count later begun more : ℕ) (live : List LiveSession) → count ≤ later → begun ≤ more → All (IsCounted count begun) live → All (IsCounted later more) live
+all_later count later begun more live le grows fits =
+    All-weaker (IsCounted count begun) (IsCounted later more) (λ s b. later_one count later begun more s le grows b) live fits
 
 -- the session of the connection that asks
-found_at : (count : ℕ) (s : LiveSession) (rest : Option LiveSession) (at : Attachment) (b : Bool) → IsBehind count s
+found_at : (count : ℕ) (s : LiveSession) (rest : Option LiveSession) (at : Attachment) (b : Bool) → IfSome s.at (λ a. a.serial ≤ count)
     → (option_and_then (λ x. x.at) rest ≡ Some at → at.serial ≤ count) → option_and_then (λ x. x.at) (cond b (Some s) rest) ≡ Some at → at.serial ≤ count
 found_at count s rest at true here others is = subst (λ (o : Option Attachment). IfSome o (λ a. a.serial ≤ count)) is here
 found_at count s rest at false here others is = others is
 
-pub present_fits : (count : ℕ) (present : Option ℕ) (live : List LiveSession) (at : Attachment) → All (IsBehind count) live → attachment_of present live ≡ Some at → at.serial ≤ count
-present_fits count present [] at fits is = absurd (cc)
-present_fits count present (s ∷ live) at fits is =
-    found_at count s (find (is_present present) live) at (is_present present s) (All-head (IsBehind count) s live fits)
-    (λ there. present_fits count present live at (All-tail (IsBehind count) s live fits) there) is
+pub present_fits : (count begun : ℕ) (present : Option ℕ) (live : List LiveSession) (at : Attachment) → All (IsCounted count begun) live → attachment_of present live ≡ Some at
+    → at.serial ≤ count
+present_fits count begun present [] at fits is = absurd (cc)
+present_fits count begun present (s ∷ live) at fits is =
+    found_at count s (find (is_present present) live) at (is_present present s) (All-head (IsCounted count begun) s live fits).serial
+    (λ there. present_fits count begun present live at (All-tail (IsCounted count begun) s live fits) there) is
 
 -- it is kept
-kept_at : (count : ℕ) (s t : LiveSession) (b : Bool) → IsBehind count s → IsBehind count t → IsBehind count (cond b s t)
-kept_at count s t true here there = here
-kept_at count s t false here there = there
+kept_one : (count later begun : ℕ) (present : Option ℕ) (at : Attachment) (s : LiveSession) (b : Bool) → at.serial ≤ later → count ≤ later → IsCounted count begun s
+    → IsCounted later begun (cond b (record s { at = Some at }) s)
+kept_one count later begun present at s true le grows fits = record { serial = le; number = fits.number }
+kept_one count later begun present at s false le grows fits = later_one count later begun begun s grows (omega arith) fits
 
-pub all_kept : (count later : ℕ) (present : Option ℕ) (at : Attachment) (live : List LiveSession) → at.serial ≤ later → count ≤ later → All (IsBehind count) live
-    → All (IsBehind later) (map (with_attachment present at) live)
-all_kept count later present at live le grows fits =
-    All-map (IsBehind later) (with_attachment present at) live
-    (All-weaker (IsBehind count) (λ s. IsBehind later (with_attachment present at s))
-    (λ s b. kept_at later (record s { at = Some at }) s (is_present present s) le (later_at count later s.at grows b)) live fits)
+pub all_kept : (count later begun : ℕ) (present : Option ℕ) (at : Attachment) (live : List LiveSession) → at.serial ≤ later → count ≤ later → All (IsCounted count begun) live
+    → All (IsCounted later begun) (map (with_attachment present at) live)
+all_kept count later begun present at live le grows fits =
+    All-map (IsCounted later begun) (with_attachment present at) live
+    (All-weaker (IsCounted count begun) (λ s. IsCounted later begun (with_attachment present at s))
+    (λ s b. kept_one count later begun present at s (is_present present s) le grows b) live fits)
 
 -- and written back
-pub all_written : (later n : ℕ) (kept old : List LiveSession) → All (IsBehind later) kept → All (IsBehind later) old
-    → All (IsBehind later) (take n (kept ++ drop (length kept) old))
-all_written later n kept old a b =
-    All-take (IsBehind later) n (kept ++ drop (length kept) old) (All-append (IsBehind later) kept (drop (length kept) old) a (All-drop (IsBehind later) (length kept) old b))
+pub all_written : (later begun n : ℕ) (kept old : List LiveSession) → All (IsCounted later begun) kept → All (IsCounted later begun) old
+    → All (IsCounted later begun) (take n (kept ++ drop (length kept) old))
+all_written later begun n kept old a b =
+    All-take (IsCounted later begun) n (kept ++ drop (length kept) old)
+    (All-append (IsCounted later begun) kept (drop (length kept) old) a (All-drop (IsCounted later begun) (length kept) old b))
 
 -- others live on, and a new one does
-pub all_filtered : (later : ℕ) (test : LiveSession → Bool) (live : List LiveSession) → All (IsBehind later) live → All (IsBehind later) (filter test live)
-all_filtered later test live fits = All-filter test (IsBehind later) live fits
+pub all_filtered : (later begun : ℕ) (test : LiveSession → Bool) (live : List LiveSession) → All (IsCounted later begun) live → All (IsCounted later begun) (filter test live)
+all_filtered later begun test live fits = All-filter test (IsCounted later begun) live fits
 
-pub all_joined : (later : ℕ) (port : Port) (kind : Kind) (live : List LiveSession) (new : LiveSession) → All (IsBehind later) live → IsBehind later new
-    → All (IsBehind later) (others port kind live ++ new ∷ [])
-all_joined later port kind live new fits here = All-push (IsBehind later) (others port kind live) new (All-filter _ (IsBehind later) live fits) here
+pub all_joined : (later begun : ℕ) (port : Port) (kind : Kind) (live : List LiveSession) (new : LiveSession) → All (IsCounted later begun) live → IsCounted later begun new
+    → All (IsCounted later begun) (others port kind live ++ new ∷ [])
+all_joined later begun port kind live new fits here =
+    All-push (IsCounted later begun) (others port kind live) new (All-filter _ (IsCounted later begun) live fits) here
+
+-- the number of the next one is no other's
+another : (s : LiveSession) (rest : Option LiveSession) (begun : ℕ) → s.number < begun → rest ≡ None → cond (is_present (Some begun) s) (Some s) rest ≡ None
+another s rest begun lt none = let ne : nat_eq s.number begun ≡ false = grind (arith, nat_tests) in rw ne none
+
+pub fresh_number : (count begun : ℕ) (live : List LiveSession) → All (IsCounted count begun) live → find (is_present (Some begun)) live ≡ None
+fresh_number count begun [] fits = refl
+fresh_number count begun (s ∷ live) fits =
+    another s (find (is_present (Some begun)) live) begun (All-head (IsCounted count begun) s live fits).number
+    (fresh_number count begun live (All-tail (IsCounted count begun) s live fits))
 
 -- ---- the first session that passes a test
 

@@ -121,11 +121,12 @@ abbrev pub IsJoined : {B : Type 0} → Kind → UnitValue B KeepOpener MemBlocks
 IsJoined Normal old new nexus at = IsAttachedAnew old new nexus at
 IsJoined Discovery old new nexus at = (new ≡ old) × (at ≡ None)
 
--- It has begun: it lives, with the next TSIH, in place of the older one of its port and kind, and it is the session of
--- the connection that asks. All others live on.
+-- It has begun: it lives, with the next TSIH and a number that no other one has, in place of the older one of its port and
+-- kind, and it is the session of the connection that asks. All others live on.
 pub record HasBegun {B : Type 0} (old new : SessionsValue B) (port : Port) (kind : Kind) (tsih : ℕ) : Type 0 where
   pub name : IsPortName port
   pub next : IsNextTsih old.last old.live tsih
+  pub fresh : find (is_present (Some old.begun)) old.live ≡ None
   pub at : Option Attachment
   pub joined : IsJoined kind old.unit new.unit (through port old.group) at
   pub rest : new ≡ record {
@@ -177,8 +178,8 @@ pub record IsOver {B : Type 0} (old new : SessionsValue B) : Type 0 where
 
 -- ---- a command, and a reset
 
--- An attached session is answered as one that has the unit alone, but that it is gone where its serial is not the next:
--- where its nexus has another session, or the history has its last length. It lives on, with its next serial.
+-- An attached session is answered as one that has the unit alone, but that it is gone where its serial is not its next at
+-- the unit, or the history has its last length. It lives on, with its next serial.
 pub record IsServedAt {B : Type 0} (claims : Bool) (contents : B → List (List ℕ)) (failures : B → ℕ) (old new : SessionsValue B)
     (at : Attachment) (number : Option ℕ) (asked : Result ScsiCommand CdbFault) (bytes : List ℕ) (answer : TargetAnswer) : Type 0 where
   pub after : Attachment
@@ -218,6 +219,7 @@ Leads claims contents failures old (reset number answer) new =
     IsResetAt old new (attachment_of old.present old.live) number answer
 Leads claims contents failures old over new = IsOver old new
 
--- no serial passes the unit's count of entries
-abbrev pub IsBehind : ℕ → LiveSession → Type 0
-IsBehind count s = IfSome s.at (λ at. at.serial ≤ count)
+-- no serial passes the unit's count of entries, and each session has begun
+pub record IsCounted (count begun : ℕ) (s : LiveSession) : Type 0 where
+  pub serial : IfSome s.at (λ at. at.serial ≤ count)
+  pub number : s.number < begun

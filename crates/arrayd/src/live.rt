@@ -35,7 +35,7 @@ pub enum BeginFault {
     /// The InitiatorName has not 1 to 223 bytes, or the ISID is not below 2^48.
     #[error("no name of an initiator port")]
     NoPortName,
-    /// As many sessions of other ports are attached to the unit as it takes.
+    /// As many sessions of other ports are attached to the unit as it takes, or its history has its last length.
     #[error("no room at the unit")]
     NoRoom,
     /// A session has each TSIH.

@@ -35,7 +35,7 @@ pub struct UnitSessions<B: Blocks> {
 
 impl<B: Blocks> Model for UnitSessions<B> {
     ghost use Rattle.std.specs.Prelude.{All};
-    ghost use Rattle.arrayd.specs.Sessions.{IsBehind, SessionsValue};
+    ghost use Rattle.arrayd.specs.Sessions.{IsCounted, SessionsValue};
 
     ghost Value = { SessionsValue B };
 
@@ -48,7 +48,7 @@ impl<B: Blocks> Model for UnitSessions<B> {
       present = t.present;
     } };
 
-    ghost invariant = { λ t. All (IsBehind t.unit.control.count) t.live.items };
+    ghost invariant = { λ t. All (IsCounted t.unit.control.count t.begun) t.live.items };
 }
 
 // Attaches a normal session to the unit; a discovery session is attached to none (RFC 7143, 4.3).
@@ -126,6 +126,7 @@ impl<B: Blocks> UnitSessions<B> {
 
     /// Begins a session of the connection that asks, of this kind and of the initiator port with this name and ISID: its
     /// TSIH. The one of the same port and kind is over from then on (RFC 7143, 6.3.5).
+    #[tactic(auto, using(crate::proofs::Serials::fresh_number))]
     pub fn try_begin(&mut self, name: &[u8], isid: u64, kind: Kind) -> Result<u16, BeginFault>
         ensures begun { IfOk result (HasBegun self.old self.new (record { name = name.now; isid = isid }) kind) }
         ensures cause { IfErr result (IsCauseOf self.old (record { name = name.now; isid = isid }) kind) }

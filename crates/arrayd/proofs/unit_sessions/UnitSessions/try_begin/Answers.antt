@@ -1,15 +1,16 @@
-use Rattle.std.proofs.Common.{All, List, subst, sym}
+use Rattle.std.proofs.Common.{◌+◌, All, List, arith, subst, sym}
 use Rattle.arrayd.specs.declared.live.LiveSession.{LiveSession}
-use Rattle.arrayd.specs.Sessions.{IsBehind}
+use Rattle.arrayd.specs.Sessions.{IsCounted}
 use Rattle.arrayd.proofs.Serials.{all_joined, all_later}
 use Rattle.arrayd.proofs.unit_sessions.UnitSessions.try_begin.Goals as goal
 
 pub invariant_of-self-2 : goal.invariant_of-self-2
 invariant_of-self-2 g c =
-    let count = c.self.inside.unit.control.count in
+    let here = c.self.inside in
+    let count = here.unit.control.count in
     let later = c.join.new.unit.control.count in
-    subst (λ (live : List LiveSession). All (IsBehind later) live) (sym c.replace.ensures)
-    (all_joined later _ _ _ _
-    (all_later count later _ c.in_ok-at.ensures.grows
-    (subst (λ (live : List LiveSession). All (IsBehind count) live) (sym c.reserve.ensures.items) c.self.invariant))
-    c.in_ok-at.ensures.fits)
+    subst (λ (live : List LiveSession). All (IsCounted later (here.begun + 1)) live) (sym c.replace.ensures)
+    (all_joined later (here.begun + 1) _ _ _ _
+    (all_later count later here.begun (here.begun + 1) _ c.in_ok-at.ensures.grows (omega arith)
+    (subst (λ (live : List LiveSession). All (IsCounted count here.begun) live) (sym c.reserve.ensures.items) c.self.invariant))
+    (record { serial = c.in_ok-at.ensures.fits; number = omega arith }))
