@@ -120,11 +120,11 @@ counts_on units me tag c lawful k n e =
     elim (get_append (status_numbers (login_sent c.logins)) (status_numbers (sent c.turns)) k n (subst (λ (ns : List ℕ). slice_get ns k ≡ Some n) (all_sent c) e)) [
       | inl w ↦ login_count target tag [] c.logins lawful.0.turns k n w
       | inr w ↦ elim lawful.1 [
-          | inl none ↦ absurd (none_there w.0 n (subst (λ (ts : List Turn). slice_get (status_numbers (sent ts)) w.0 ≡ Some n) none w.2))
-          | inr behind ↦
-              behind.3.numbered w.0 n w.2
-              ∙ ap (λ (m : ℕ). wrap (m + w.0)) behind.2.start_is.stat_sn
-              ∙ mod-add-mod (1 + length c.logins) 4294967296 w.0
-              ∙ ap wrap (let f : 1 + length c.logins + w.0 ≡ 1 + k = omega (arith, w.1, long) in f)
-        ]
+        | inl none ↦ absurd (none_there w.0 n (subst (λ (ts : List Turn). slice_get (status_numbers (sent ts)) w.0 ≡ Some n) none w.2))
+        | inr behind ↦
+            behind.3.numbered w.0 n w.2
+            ∙ ap (λ (m : ℕ). wrap (m + w.0)) behind.2.start_is.stat_sn
+            ∙ mod-add-mod (1 + length c.logins) 4294967296 w.0
+            ∙ ap wrap (let f : 1 + length c.logins + w.0 ≡ 1 + k = omega (arith, w.1, long) in f)
+      ]
     ]

@@ -82,7 +82,7 @@ abbrev pub IsLawfulBehind : ℕ → Identity → ℕ → Transcript → Type 0
 IsLawfulBehind units me tag c =
     (c.turns ≡ [])
     ⊎ ((kind : Kind) × (start : Start) × IsBehindLogin me.target_name.now tag c.logins kind start
-      × Lawful (setting_of units me kind start) c.turns)
+    × Lawful (setting_of units me kind start) c.turns)
 
 -- The transcript of a session that begins so, with a target of this identity that has so many units.
 abbrev pub IsLawful : ℕ → Identity → Opening → Transcript → Type 0
