@@ -15,9 +15,7 @@ use Rattle.session.specs.declared.task_management.TaskFunction.TheVariants.{
   Unserved,
 }
 use Rattle.session.specs.declared.task_management.Management.{Management}
-use Rattle.session.specs.declared.task_management.Management.TheVariants.{Respond, Reset}
 use Rattle.session.specs.Asking.{Asking}
-use Rattle.session.specs.Turn.{Out}
 use Rattle.session.specs.Tasks.{Collecting, r2ts_of}
 use Rattle.session.specs.Drops.{function_of, drops_by, found_unit}
 use Rattle.session.specs.TaskManagement.{there, drops_one, kept_by, management_of, IsManagedBy, IsManaged, reset_response, management_answer}

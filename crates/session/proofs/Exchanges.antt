@@ -1,5 +1,5 @@
 -- One turn more of a whole session, in its login or behind it.
-use Rattle.std.proofs.Common.{Bool, true, false, ◌≡◌, ◌⊎◌, ℕ, ◌+◌, ◌<◌, List, [], ◌∷◌, ◌++◌, Option, Some, None, length, map, refl, sym, ap, subst, subst₂, ◌∙◌, arith, inl, inr, append_assoc, length-append}
+use Rattle.std.proofs.Common.{Bool, true, false, ◌≡◌, ℕ, ◌+◌, List, [], ◌∷◌, ◌++◌, Option, Some, None, length, map, refl, sym, ap, subst, subst₂, ◌∙◌, arith, inl, inr, append_assoc, length-append}
 use Rattle.std.specs.List.{AllByRecursion}
 use Rattle.std.specs.Option.{option_or}
 use Rattle.std.proofs.lemmas.List.{append-nil, map-append}
@@ -7,23 +7,19 @@ use Rattle.std.proofs.Math.Nat.{mod-add-mod}
 use Rattle.login.specs.Progress.{Progress, beginning}
 use Rattle.login.specs.Request.{kind_in}
 use Rattle.login.specs.declared.status.Kind.{Kind}
-use Rattle.session.specs.declared.end.End.{End}
-use Rattle.session.specs.declared.end.End.TheVariants.{Protocol}
 use Rattle.session.specs.declared.identity.Identity.{Identity}
-use Rattle.session.specs.declared.login_phase.LoginOutcome.{LoginOutcome}
-use Rattle.session.specs.declared.login_phase.LoginOutcome.TheVariants as outcomes
 use Rattle.session.specs.declared.opening.Opening.{Opening}
 use Rattle.session.specs.declared.opening.Opening.TheVariants.{Login, FullFeature}
 use Rattle.session.specs.declared.session.Start.{Start}
 use Rattle.session.specs.Setting.{Setting, setting_of}
 use Rattle.session.specs.Turn.{Incoming, Turn}
 use Rattle.session.specs.Window.{wrap}
-use Rattle.session.specs.Legal.{AtEachOf, end_after, GoesOn, Lawful}
+use Rattle.session.specs.Legal.{end_after, GoesOn, Lawful}
 use Rattle.session.specs.Counters.{Counters, begun}
 use Rattle.session.specs.MachineTurn.{TurnOf}
 use Rattle.session.specs.LoginPhase.{LoginTurn, LoginStanding, progress_after, progress_behind, cmd_sn_in, first_cmd_sn, login_standing, login_after, IsLoginTurn, login_end, begins, IsStart}
-use Rattle.session.specs.Phases.{Transcript, Exchange, of_login, of_turn, exchanges, NoneEnds, NoneBegins, IsLogin, Began, IsBehindLogin, IsLawful}
-use Rattle.session.specs.Stream.{PhasesValue, NextPhase, LoginExchange, FeatureExchange, ExchangeOf, IsOpened, IsFresh}
+use Rattle.session.specs.Phases.{Transcript, Exchange, of_login, of_turn, exchanges, NoneEnds, NoneBegins, IsLogin, IsBehindLogin, IsLawful}
+use Rattle.session.specs.Stream.{PhasesValue, NextPhase, ExchangeOf, IsOpened, IsFresh}
 use Rattle.session.proofs.Lawful.{at_each_more, at_each_none, at_each_of_more, at_each_of_none, Stands, stands_more, stands_none}
 
 -- ---- lists

@@ -1,6 +1,6 @@
 -- What is judged of a turn holds of each turn that the session makes.
-use Rattle.std.proofs.Common.{min, ◌≡◌, ◌⊎◌, ℕ, zero, suc, ◌+◌, ◌%◌, ◌<◌, ◌≤◌, ◌↔◌, Bool, true, false, not, List, [], ◌∷◌, ◌++◌, Option, Some, None, length, refl, sym, ap, ap₂, ◌∙◌, subst, inl, inr}
-use Rattle.std.specs.Prelude.{◌==◌, IsTrue, slice_get, Result, nat_lt, if◌then◌else◌, take}
+use Rattle.std.proofs.Common.{◌≡◌, ◌⊎◌, ℕ, zero, suc, ◌+◌, ◌%◌, ◌<◌, ◌↔◌, Bool, true, false, List, [], ◌∷◌, ◌++◌, Option, Some, None, length, refl, ap, ap₂, ◌∙◌, subst, inl, inr}
+use Rattle.std.specs.Prelude.{IsTrue, slice_get, Result, nat_lt, if◌then◌else◌, take}
 use Rattle.std.specs.List.{AllByRecursion, list_any, find}
 use Rattle.std.specs.Option.{option_map}
 use Rattle.std.proofs.lemmas.Bool.{ltb-true, lt-ltb}
@@ -16,39 +16,32 @@ use Rattle.iscsi_pdu.specs.declared.header.R2t.{R2t as R2tHeader}
 use Rattle.iscsi_pdu.specs.declared.header.ScsiResponse.{ScsiResponse as ResponseHeader}
 use Rattle.iscsi_pdu.specs.declared.header.DataIn.{DataIn as DataInHeader}
 use Rattle.iscsi_pdu.specs.declared.header.Numbers.{Numbers}
-use Rattle.iscsi_pdu.specs.declared.header.LogoutRequest.{LogoutRequest as LogoutHeader}
 use Rattle.iscsi_pdu.specs.declared.header.Header.TheVariants.{Initiator}
 use Rattle.iscsi_pdu.specs.declared.header.InitiatorHeader.TheVariants.{NopOut, ScsiCommand, DataOut}
 use Rattle.iscsi_pdu.specs.declared.header.InitiatorHeader.TheVariants.{TaskManagementRequest, TextRequest, LogoutRequest}
-use Rattle.iscsi_pdu.specs.declared.header.TargetHeader.TheVariants.{NopIn, ScsiResponse, LogoutResponse, R2t}
-use Rattle.iscsi_pdu.specs.declared.TheConstants.{MAX_DATA_SEGMENT_LENGTH}
-use Rattle.session.specs.declared.lengths.Lengths.{Lengths}
-use Rattle.session.specs.declared.data_in.TheConstants.{NO_TRANSFER_TAG}
-use Rattle.session.specs.declared.logout.TheConstants.{CLOSED, RECOVERY_NOT_SUPPORTED, TIME_TO_WAIT, TIME_TO_RETAIN}
+use Rattle.iscsi_pdu.specs.declared.header.TargetHeader.TheVariants.{R2t}
 use Rattle.session.specs.declared.response.Completion.{Completion}
 use Rattle.session.specs.declared.response.TheConstants.{COMPLETED, TARGET_FAILURE}
 use Rattle.session.specs.declared.target.TargetAnswer.{TargetAnswer}
 use Rattle.session.specs.declared.target.TargetAnswer.TheVariants.{Replied, Outside, Busy, Gone, Halted}
 use Rattle.session.specs.declared.verdict.Verdict.{Verdict}
 use Rattle.session.specs.declared.verdict.Verdict.TheVariants.{Accepted, Full, Ignored, Gap, Refused}
-use Rattle.session.specs.declared.verdict.TheConstants.{RESERVED_TAG}
 use Rattle.session.specs.Asking.{Asking, served}
 use Rattle.session.specs.Setting.{Setting}
 use Rattle.session.specs.Turn.{Incoming, pdu, Out}
 use Rattle.session.proofs.RequestFacts.{TurnFacts, commands_of, moved, nop_facts, managed_facts, text_facts, logout_facts}
-use Rattle.session.specs.Window.{wrap, numbers_of, exp_cmd_sn_behind, takes_number}
-use Rattle.session.specs.Tasks.{is_response, r2t_with, r2ts_of, has_tag, Collecting}
+use Rattle.session.specs.Window.{wrap, takes_number}
+use Rattle.session.specs.Tasks.{is_response, r2ts_of, has_tag, Collecting}
 use Rattle.session.specs.Standing.{numbers_at}
 use Rattle.session.specs.Slots.{fed}
 use Rattle.session.specs.Requests.{IsRequestAnswered}
-use Rattle.session.specs.Logout.{closes, logout_answer}
 use Rattle.session.specs.Verdict.{IsJudged}
 use Rattle.session.specs.Transfer.{expected_transfer, transfer_of, sent_data}
 use Rattle.session.specs.Answered.{Outcome, by_target, no_buffer, set_full, outcome_of, command_at, Answered, answered_by, answered_in, IsServed, IsCalled, outcome_data}
-use Rattle.session.specs.Response.{response_with, responses, HasOneResponse, IsAnsweredAs, IsToldAs, sense_part}
-use Rattle.session.specs.DataIn.{data_in_with, data_ins, Tiles}
-use Rattle.session.specs.Legal.{status_number, status_numbers, IsWindow, HaveWindow, HaveNextR2t, IsOfCommand, IsRejected, IsAnsweredTask, IsTiledTask, IsCountedTask, HasResiduals, IsToldTask}
-use Rattle.session.specs.Counters.{Counters, after_status, after_number, after_command, after_collecting, after_r2t, after_answer, next_numbers}
+use Rattle.session.specs.Response.{HasOneResponse, IsAnsweredAs, IsToldAs, sense_part}
+use Rattle.session.specs.DataIn.{data_ins, Tiles}
+use Rattle.session.specs.Legal.{IsOfCommand, IsRejected}
+use Rattle.session.specs.Counters.{Counters, after_status, after_command, after_collecting, after_r2t, next_numbers}
 use Rattle.session.specs.AnswerPdus.{data_ins_for, response_for, reply_with, busy, task_set_full}
 use Rattle.session.specs.MachineTurn.{TurnOnAnswer, TurnAsks, TurnOpened, calls, asks, turns_away, TurnFed, fills, asks_on, calls_now, TurnOnAccepted, TurnOnFullPdu, TurnOnVerdict}
 use Rattle.session.proofs.Segments.{outs_of, outs_windows, outs_statuses, outs_responses, outs_front, outs_count, outs_kinds, outs_r2ts, outs_ended, outs_tiled}

@@ -1,16 +1,14 @@
 -- What a turn makes of the tasks: as the session made it.
-use Rattle.std.proofs.Common.{◌≡◌, ◌⊎◌, ℕ, ◌+◌, ◌<◌, ◌≤◌, Bool, true, false, List, [], ◌∷◌, ◌++◌, Option, Some, None, map, length, refl, sym, ap, subst, subst₂, ◌∙◌, inl, inr}
-use Rattle.std.specs.Prelude.{◌==◌, ◌||◌, ◌&&◌, if◌then◌else◌, Result, nat_lt}
+use Rattle.std.proofs.Common.{◌≡◌, ◌⊎◌, ℕ, ◌<◌, Bool, true, false, List, [], ◌∷◌, ◌++◌, Option, Some, None, map, length, refl, sym, ap, subst, subst₂, ◌∙◌, inl, inr}
+use Rattle.std.specs.Prelude.{◌==◌, ◌||◌, if◌then◌else◌, Result, nat_lt}
 use Rattle.std.specs.List.{filter, list_any, find}
 use Rattle.std.specs.Option.{option_to_list}
 use Rattle.std.proofs.lemmas.Bool.{eqb-true}
 use Rattle.std.proofs.lemmas.List.{append-nil}
-use Rattle.scsi_types.specs.Cdb.{Means, need_of}
+use Rattle.scsi_types.specs.Cdb.{need_of}
 use Rattle.scsi_types.specs.declared.command.Command.{Command}
 use Rattle.scsi_types.specs.declared.command.CdbFault.{CdbFault}
 use Rattle.iscsi_pdu.specs.declared.header.ScsiCommand.{ScsiCommand as CommandHeader}
-use Rattle.iscsi_pdu.specs.declared.header.DataOut.{DataOut as DataOutHeader}
-use Rattle.iscsi_pdu.specs.declared.header.Header.{Header}
 use Rattle.iscsi_pdu.specs.declared.header.Header.TheVariants.{Initiator}
 use Rattle.iscsi_pdu.specs.declared.header.InitiatorHeader.TheVariants.{NopOut, ScsiCommand, DataOut}
 use Rattle.iscsi_pdu.specs.declared.header.InitiatorHeader.TheVariants.{TaskManagementRequest, TextRequest, LogoutRequest}
@@ -21,17 +19,15 @@ use Rattle.session.specs.declared.verdict.Verdict.{Verdict}
 use Rattle.session.specs.declared.verdict.Verdict.TheVariants.{Accepted, Full, Ignored, Gap, Refused}
 use Rattle.session.specs.declared.verdict.TheConstants.{RESERVED_TAG}
 use Rattle.session.specs.Asking.{Asking, served}
-use Rattle.session.specs.Turn.{Incoming, pdu, faulty, Out, Turn}
-use Rattle.session.specs.Tasks.{is_accepted, is_response, r2ts_of, finds_gone, touches, has_tag, ends, Task, Collecting, accepted_command, begun_by, tasks}
-use Rattle.session.specs.Collecting.{HasToCollect}
+use Rattle.session.specs.Turn.{Incoming, pdu, Out, Turn}
+use Rattle.session.specs.Tasks.{is_response, r2ts_of, finds_gone, touches, has_tag, ends, Task, Collecting, accepted_command, begun_by, tasks}
 use Rattle.session.specs.TaskTurn.{keeps, IsCalledNow, IsOpened, IsFed, IsTakenData}
 use Rattle.session.specs.TaskTurn as task
 use Rattle.session.specs.Setting.{Setting, discovers}
 use Rattle.session.specs.Standing.{Standing}
 use Rattle.session.specs.Transfer.{sent_data, expected_transfer}
-use Rattle.session.specs.Verdict.{IsJudged, is_refused, window_verdict, unless_full, verdict_of, has_its_turn, most_immediate}
-use Rattle.session.specs.Answered.{reply_data}
-use Rattle.session.specs.AnswerPdus.{reply_with, completion_of, busy}
+use Rattle.session.specs.Verdict.{IsJudged, is_refused, unless_full, verdict_of, most_immediate}
+use Rattle.session.specs.AnswerPdus.{reply_with, busy}
 use Rattle.session.specs.Response.{sense_part}
 use Rattle.session.specs.declared.response.Completion.{Completion}
 use Rattle.session.specs.declared.response.TheConstants.{TARGET_FAILURE}
@@ -41,7 +37,7 @@ use Rattle.session.specs.Nop.{nop_answer}
 use Rattle.session.specs.Text.{text_outs}
 use Rattle.session.specs.TaskManagement.{management_answer}
 use Rattle.session.specs.Logout.{logout_answer}
-use Rattle.session.specs.MachineTurn.{TurnOnAnswer, TurnOnCall, TurnOpened, calls, asks, turns_away, TurnFed, fills, asks_on, calls_now, TurnOnAccepted, TurnOnFullPdu, TurnOnVerdict, TurnOf}
+use Rattle.session.specs.MachineTurn.{TurnOnAnswer, TurnOnCall, TurnOpened, calls, asks, turns_away, TurnFed, fills, asks_on, calls_now, TurnOnAccepted, TurnOnFullPdu, TurnOnVerdict}
 use Rattle.session.proofs.Segments.{outs_r2ts, outs_ended}
 use Rattle.session.proofs.Tasks.{no_more, extended, tasks_more}
 use Rattle.session.proofs.Table.{IsKept, nothing_comes, command_comes, data_comes, management_comes}

@@ -7,13 +7,12 @@ use Rattle.std.proofs.lemmas.List.Sums.{sum_by-append}
 use Rattle.std.proofs.lemmas.List.Elements.{filter_map-append}
 use Rattle.std.proofs.lemmas.Grind.{flat_map-append}
 use Rattle.std.proofs.Math.Nat.{mod-add-mod}
-use Rattle.session.specs.declared.lengths.Lengths.{Lengths}
 use Rattle.session.specs.Setting.{Setting}
 use Rattle.session.specs.Turn.{Incoming, Out, Turn, sent}
 use Rattle.session.specs.Window.{wrap, takes_number, exp_cmd_sn_after}
 use Rattle.session.specs.Verdict.{IsJudged}
 use Rattle.session.specs.Requests.{IsRequestAnswered}
-use Rattle.session.specs.Tasks.{r2t_with, r2ts_of, r2ts, tasks, collecting, Collecting, Task}
+use Rattle.session.specs.Tasks.{r2t_with, r2ts_of, r2ts, tasks, Collecting}
 use Rattle.session.specs.Standing.{Standing, transfer_at, standing}
 use Rattle.session.specs.Collecting.{IsRightTask}
 use Rattle.iscsi_pdu.specs.declared.header.R2t.{R2t as R2tHeader}

@@ -1,8 +1,7 @@
 -- The StatSNs of a whole session.
-use Rattle.std.proofs.Common.{◌≡◌, ◌⊎◌, ℕ, zero, suc, ◌+◌, ◌%◌, List, [], ◌∷◌, ◌++◌, Option, Some, None, length, map, refl, sym, ap, subst, ◌∙◌, arith, inl, inr, append_assoc, length-append}
+use Rattle.std.proofs.Common.{◌≡◌, ◌⊎◌, ℕ, zero, suc, ◌+◌, List, [], ◌∷◌, ◌++◌, Option, Some, length, map, refl, sym, ap, subst, ◌∙◌, arith, inl, inr, append_assoc, length-append}
 use Rattle.std.specs.Prelude.{slice_get}
 use Rattle.std.specs.List.{flat_map}
-use Rattle.std.proofs.lemmas.List.{append-nil}
 use Rattle.std.proofs.lemmas.List.Elements.{filter_map-append}
 use Rattle.std.proofs.lemmas.Grind.{flat_map-append}
 use Rattle.std.proofs.Math.Nat.{mod-add-mod}
@@ -25,9 +24,9 @@ use Rattle.session.specs.declared.opening.Opening.TheVariants.{Login}
 use Rattle.session.specs.Asking.{Asking}
 use Rattle.session.specs.Turn.{Incoming, pdu, faulty, Out, Turn, sent}
 use Rattle.session.specs.Window.{wrap}
-use Rattle.session.specs.Legal.{AtEachOf, status_number, status_numbers, Lawful}
+use Rattle.session.specs.Legal.{AtEachOf, status_number, status_numbers}
 use Rattle.session.specs.LoginPhase.{LoginTurn, LoginStanding, HasOutcome, login_outs, login_standing, IsLoginTurn}
-use Rattle.session.specs.Phases.{Transcript, Exchange, of_login, of_turn, exchanges, outgoing, IsLawful}
+use Rattle.session.specs.Phases.{Transcript, of_login, of_turn, exchanges, outgoing, IsLawful}
 
 status_append : (xs ys : List Out) → status_numbers (xs ++ ys) ≡ status_numbers xs ++ status_numbers ys
 status_append xs ys = filter_map-append (λ o. status_number o.header) xs ys

@@ -3,7 +3,7 @@ use Rattle.std.proofs.Common.{Bool, true, false, ◌≡◌, ℕ, List, [], ◌�
 use Rattle.scsi_types.specs.Nexus.{Port}
 use Rattle.iscsi_pdu.specs.declared.header.LoginRequest.{LoginRequest as LoginHeader}
 use Rattle.login.specs.Progress.{Progress}
-use Rattle.login.specs.Request.{Ending, Answered, Finished, Stopped, answer_to, after, kind_in}
+use Rattle.login.specs.Request.{Ending, Finished, Stopped, after, kind_in}
 use Rattle.login.specs.declared.status.Kind.{Kind}
 use Rattle.login.specs.declared.status.Stop.TheVariants as stops
 use Rattle.session.specs.declared.login_phase.LoginOutcome.{LoginOutcome}
@@ -22,7 +22,7 @@ use Rattle.session.specs.declared.login_phase.LoginOutcome.TheVariants.{Rejected
 use Rattle.session.specs.declared.session.Start.{Start}
 use Rattle.session.specs.Counters.{Counters, begun}
 use Rattle.session.specs.LoginMachine.{IsTextOf}
-use Rattle.session.specs.LoginPhase.{flags_of, port_of, outcome_of_begin, outcome_of_lives, IsNegotiated, HasOutcome, LoginTurn, LoginStanding, progress_after, cmd_sn_in, login_after, login_numbers, login_outs, login_end, begins, IsStart}
+use Rattle.session.specs.LoginPhase.{flags_of, port_of, outcome_of_begin, outcome_of_lives, IsNegotiated, HasOutcome, LoginStanding, progress_after, cmd_sn_in, login_numbers, login_outs, login_end, begins, IsStart}
 use Rattle.session.specs.Machine.{sent_by}
 use Rattle.session.specs.Outbox.{OutboxValue, IsQueued}
 use Rattle.session.specs.Phases.{of_login, of_turn}

@@ -15,7 +15,6 @@ use Rattle.session.specs.declared.actions.CommandData.{CommandData}
 use Rattle.session.specs.declared.collecting.Collected.{Collected}
 use Rattle.session.specs.Setting.{Setting}
 use Rattle.session.specs.Transfer.{data_for}
-use Rattle.session.specs.declared.collecting.R2tWith.{R2tWith}
 use Rattle.session.specs.Window.{wrap}
 use Rattle.session.specs.Tasks.{Collecting, has_tag}
 use Rattle.session.specs.Collecting.{Continues, HasToCollect, IsNext, shrinks_window}

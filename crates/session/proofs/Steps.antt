@@ -1,7 +1,7 @@
 -- What a turn makes of the one task that it touches.
 use Rattle.std.proofs.Common.{◌≡◌, ◌⊎◌, ℕ, zero, suc, ◌+◌, ◌-◌, ◌<◌, ◌≤◌, min, Bool, true, false, IsTrue, List, [], ◌∷◌, ◌++◌, Option, Some, None, length, refl, sym, ap, subst, ◌∙◌, inl, inr, arith, length-append, append_assoc}
 use Rattle.std.specs.Prelude.{slice_get, ◌||◌, if◌then◌else◌, Result, nat_lt}
-use Rattle.std.specs.List.{last_or, filter_map, flat_map, list_any, cons_option}
+use Rattle.std.specs.List.{last_or, flat_map, list_any, cons_option}
 use Rattle.std.proofs.lemmas.Bool.{ltb-true, ltb-false}
 use Rattle.std.proofs.lemmas.List.{append-nil}
 use Rattle.std.proofs.lemmas.List.Elements.{filter_map-append}
@@ -17,13 +17,13 @@ use Rattle.iscsi_pdu.specs.declared.header.TargetHeader.TheVariants.{R2t}
 use Rattle.session.specs.declared.verdict.Verdict.{Verdict}
 use Rattle.session.specs.declared.verdict.Verdict.TheVariants.{Accepted}
 use Rattle.iscsi_pdu.specs.declared.header.Header.TheVariants.{Initiator}
-use Rattle.iscsi_pdu.specs.declared.header.InitiatorHeader.TheVariants.{ScsiCommand, DataOut, TaskManagementRequest}
-use Rattle.session.specs.TaskTurn.{IsOpened, asks, busy, called, IsFed, filling, on, now, IsFilling, IsAskedOn, IsCalledNow}
+use Rattle.iscsi_pdu.specs.declared.header.InitiatorHeader.TheVariants.{ScsiCommand, DataOut}
+use Rattle.session.specs.TaskTurn.{IsOpened, asks, busy, called, IsFed, filling, on, now, IsCalledNow}
 use Rattle.session.specs.Asking.{Asking}
 use Rattle.session.specs.Turn.{Incoming, pdu, Out, Turn, sent}
 use Rattle.session.specs.Window.{wrap}
-use Rattle.session.specs.Tasks.{data_out_with, is_management, r2t_with, r2ts_of, ends, Task, has_ended, data_outs, r2ts, command_call, command_calls, gathered, is_response, is_r2t, sends_r2t, behind_last, finds_gone, Collecting, collected, collecting_of}
-use Rattle.session.specs.Collecting.{asked_to, IsRequest, IsCalledFor, IsUncalled, HasCalls, IsCollected, IsRightTask, IsNext, Continues, HasToCollect}
+use Rattle.session.specs.Tasks.{data_out_with, is_management, r2t_with, r2ts_of, ends, Task, has_ended, data_outs, r2ts, command_call, command_calls, gathered, is_response, sends_r2t, behind_last, finds_gone, Collecting, collected, collecting_of}
+use Rattle.session.specs.Collecting.{asked_to, IsRequest, IsUncalled, HasCalls, IsCollected, IsRightTask, IsNext, Continues, HasToCollect}
 use Rattle.session.proofs.Right.{last_push, end_is, within_need, more_data, more_asked, reaches}
 use Rattle.session.proofs.Tasks.{with_turn}
 

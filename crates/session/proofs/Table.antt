@@ -1,12 +1,10 @@
 -- What a turn makes of all tasks of a session, and of those that wait for data.
-use Rattle.std.proofs.Common.{◌≡◌, ◌⊎◌, ℕ, ◌+◌, ◌<◌, Bool, true, false, not, List, [], ◌∷◌, ◌++◌, Option, Some, None, map, length, refl, sym, ap, subst, ◌∙◌, inl, inr}
+use Rattle.std.proofs.Common.{◌≡◌, ◌⊎◌, ℕ, ◌+◌, ◌<◌, Bool, true, false, List, [], ◌∷◌, ◌++◌, Option, map, refl, sym, ap, subst, ◌∙◌, inl, inr}
 use Rattle.std.specs.Prelude.{◌==◌, ◌||◌, ◌&&◌, if◌then◌else◌, Result}
 use Rattle.std.specs.List.{AllByRecursion, filter, filter_map, cons_option, list_any}
-use Rattle.std.specs.Option.{option_to_list}
-use Rattle.std.proofs.lemmas.Bool.{eqb-true, eq-eqb, eqb-false, ne_eqb}
-use Rattle.std.proofs.lemmas.List.{append-nil}
+use Rattle.std.proofs.lemmas.Bool.{eq-eqb, eqb-false, ne_eqb}
 use Rattle.std.proofs.lemmas.List.Elements.{filter_map-append}
-use Rattle.scsi_types.specs.Cdb.{Means, need_of}
+use Rattle.scsi_types.specs.Cdb.{Means}
 use Rattle.scsi_types.specs.declared.command.Command.{Command}
 use Rattle.scsi_types.specs.declared.command.CdbFault.{CdbFault}
 use Rattle.iscsi_pdu.specs.declared.header.ScsiCommand.{ScsiCommand as CommandHeader}
@@ -14,15 +12,14 @@ use Rattle.iscsi_pdu.specs.declared.header.DataOut.{DataOut as DataOutHeader}
 use Rattle.iscsi_pdu.specs.declared.header.TaskManagementRequest.{TaskManagementRequest as ManagementHeader}
 use Rattle.iscsi_pdu.specs.declared.header.Header.TheVariants.{Initiator}
 use Rattle.iscsi_pdu.specs.declared.header.InitiatorHeader.TheVariants.{ScsiCommand, DataOut, TaskManagementRequest}
-use Rattle.session.specs.declared.verdict.Verdict.{Verdict}
 use Rattle.session.specs.declared.verdict.Verdict.TheVariants.{Accepted}
 use Rattle.session.specs.Asking.{Asking}
-use Rattle.session.specs.Turn.{Incoming, pdu, Out, Turn}
+use Rattle.session.specs.Turn.{pdu, Out, Turn}
 use Rattle.session.specs.Drops.{drops, found_unit}
 use Rattle.session.specs.Tasks.{ends, r2ts_of, Task, accepted_command, begun_by, tasks, has_ended, Collecting, collected, collecting_of, collecting, has_tag}
 use Rattle.session.specs.Collecting.{IsRightTask, Continues}
 use Rattle.session.specs.TaskTurn.{IsOpened, asks, busy, called, IsFed, filling, on, now, IsTakenData, keeps}
-use Rattle.session.proofs.Tasks.{no_more, with_turn, extended, tasks_more}
+use Rattle.session.proofs.Tasks.{with_turn, extended}
 use Rattle.session.proofs.Steps.{fed, dropped, opened}
 use Rattle.session.proofs.Walk.{HasNone, IsUnique, touched_is, still, walk, drop_all}
 

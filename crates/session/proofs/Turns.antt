@@ -1,10 +1,9 @@
 -- What a turn of the session is, from what its parts say.
-use Rattle.std.proofs.Common.{◌≡◌, ◌∙◌, ℕ, ◌≤◌, List, Option, Some, None, refl, sym, ap, ap₂, subst, subst₂, length, arith, ◌+◌, ◌++◌, Result}
+use Rattle.std.proofs.Common.{◌≡◌, ◌∙◌, ℕ, List, Option, Some, None, refl, sym, ap, ap₂, subst, subst₂, ◌++◌, Result}
 use Rattle.std.specs.Prelude.{MatchOption}
 use Rattle.scsi_types.specs.Cdb.{need_of}
 use Rattle.scsi_types.specs.declared.command.Command.{Command}
 use Rattle.scsi_types.specs.declared.command.CdbFault.{CdbFault}
-use Rattle.iscsi_pdu.specs.declared.header.DataOut.{DataOut as DataOutHeader}
 use Rattle.iscsi_pdu.specs.declared.header.R2t.{R2t as R2tHeader}
 use Rattle.iscsi_pdu.specs.declared.header.Header.{Header}
 use Rattle.iscsi_pdu.specs.declared.header.Header.TheVariants.{Initiator}
@@ -18,7 +17,6 @@ use Rattle.session.specs.declared.actions.Call.{Call}
 use Rattle.session.specs.declared.actions.Call.TheVariants as kinds
 use Rattle.session.specs.declared.actions.ServeCall.{ServeCall}
 use Rattle.session.specs.declared.actions.ResetCall.{ResetCall}
-use Rattle.session.specs.declared.end.End.{End}
 use Rattle.session.specs.declared.end.End.TheVariants.{Protocol}
 use Rattle.session.specs.declared.target.ResetAnswer.{ResetAnswer}
 use Rattle.session.specs.declared.task_management.Management.{Management}

@@ -1,12 +1,10 @@
 -- A turn touches the one open task that it concerns, and leaves all others.
-use Rattle.std.proofs.Common.{◌≡◌, ◌⊎◌, ℕ, Bool, true, false, not, List, [], ◌∷◌, ◌++◌, Option, Some, None, map, refl, sym, ap, subst, ◌∙◌, inl, inr}
-use Rattle.std.specs.Prelude.{◌==◌, ◌||◌, ◌&&◌, if◌then◌else◌}
-use Rattle.std.specs.List.{AllByRecursion, filter, filter_map, cons_option, list_any}
-use Rattle.std.proofs.lemmas.Bool.{eq-eqb, eqb-false, ne_eqb}
+use Rattle.std.proofs.Common.{◌≡◌, ℕ, Bool, true, false, not, List, [], ◌∷◌, ◌++◌, Option, Some, None, map, refl, sym, ap, subst, ◌∙◌}
+use Rattle.std.specs.Prelude.{◌==◌, if◌then◌else◌}
+use Rattle.std.specs.List.{AllByRecursion, filter, filter_map, cons_option}
 use Rattle.iscsi_pdu.specs.declared.header.ScsiCommand.{ScsiCommand as CommandHeader}
-use Rattle.session.specs.declared.verdict.Verdict.{Verdict}
 use Rattle.session.specs.Turn.{Turn}
-use Rattle.session.specs.Tasks.{is_accepted, touches, Task, has_ended, Collecting, collected, collecting_of, has_tag}
+use Rattle.session.specs.Tasks.{touches, Task, has_ended, Collecting, collected, collecting_of, has_tag}
 use Rattle.session.specs.Collecting.{IsRightTask}
 use Rattle.session.proofs.Tasks.{with_turn, extended_by, extended}
 

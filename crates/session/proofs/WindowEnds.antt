@@ -1,7 +1,7 @@
 -- The end of the window never falls.
 use Rattle.std.proofs.Common.{◌≡◌, ℕ, ◌+◌, ◌-◌, ◌<◌, ◌≤◌, Bool, true, false, not, List, [], ◌∷◌, ◌++◌, Option, Some, None, map, refl, ap, ◌∙◌, subst, sym, append_assoc, arith, cond}
 use Rattle.std.specs.Prelude.{◌==◌, ◌&&◌, ◌||◌, nat_lt, if◌then◌else◌}
-use Rattle.std.specs.List.{AllByRecursion, filter, filter_map, cons_option, count_by, list_any}
+use Rattle.std.specs.List.{filter, filter_map, cons_option, count_by, list_any}
 use Rattle.std.specs.Option.{option_to_list}
 use Rattle.std.proofs.lemmas.List.{append-nil}
 use Rattle.std.proofs.lemmas.List.Sums.{sum_by-append}
@@ -13,9 +13,9 @@ use Rattle.session.specs.Setting.{Setting, discovers}
 use Rattle.session.specs.Text.{is_text_refused}
 use Rattle.session.specs.declared.verdict.Verdict.{Verdict}
 use Rattle.session.specs.declared.verdict.Verdict.TheVariants.{Accepted, Full, Ignored, Gap, Refused}
-use Rattle.session.specs.Turn.{Incoming, pdu, faulty, Out, Turn}
-use Rattle.session.specs.Window.{wrap, ahead, takes_number, exp_cmd_sn_after}
-use Rattle.session.specs.Tasks.{touches, ends, through, Task, accepted_command, begun_by, tasks, has_ended, Collecting, collected, collecting_of, collecting}
+use Rattle.session.specs.Turn.{Incoming, pdu, Out, Turn}
+use Rattle.session.specs.Window.{wrap, ahead, takes_number}
+use Rattle.session.specs.Tasks.{touches, ends, through, Task, accepted_command, begun_by, tasks, has_ended, Collecting, collected, collecting_of}
 use Rattle.session.specs.Collecting.{shrinks_window, is_immediate}
 use Rattle.session.specs.Standing.{Standing, standing, numbered_waiting, window_size, last_in_window}
 use Rattle.session.specs.Verdict.{IsJudged, window_verdict, is_refused}

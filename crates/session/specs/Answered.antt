@@ -13,7 +13,7 @@ use Rattle.session.specs.declared.target.TargetAnswer.{TargetAnswer}
 use Rattle.session.specs.declared.target.TargetAnswer.TheVariants.{Replied, Outside, Busy, Gone, Halted}
 use Rattle.session.specs.declared.verdict.Verdict.{Verdict}
 use Rattle.session.specs.declared.verdict.Verdict.TheVariants.{Accepted, Full, Ignored, Gap, Refused}
-use Rattle.session.specs.Asking.{Asking, served, reset}
+use Rattle.session.specs.Asking.{Asking, served}
 use Rattle.session.specs.Setting.{Setting}
 use Rattle.session.specs.TaskManagement.{IsManaged}
 use Rattle.session.specs.Turn.{Incoming, pdu, Out}

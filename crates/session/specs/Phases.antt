@@ -9,10 +9,10 @@ use Rattle.session.specs.declared.opening.Opening.{Opening}
 use Rattle.session.specs.declared.opening.Opening.TheVariants.{Login, FullFeature}
 use Rattle.session.specs.declared.session.Start.{Start}
 use Rattle.session.specs.Asking.{Asking}
-use Rattle.session.specs.Setting.{Setting, setting_of}
+use Rattle.session.specs.Setting.{setting_of}
 use Rattle.session.specs.Turn.{Incoming, Out, Turn}
 use Rattle.session.specs.Legal.{AtEachOf, end_after, Lawful}
-use Rattle.session.specs.LoginPhase.{LoginTurn, LoginStanding, login_standing, IsLoginTurn, login_end, begins, IsStart}
+use Rattle.session.specs.LoginPhase.{LoginTurn, login_standing, IsLoginTurn, login_end, begins, IsStart}
 
 -- the turns of the login, and those of full feature phase behind them
 pub record Transcript : Type 0 where

@@ -1,4 +1,4 @@
-use Rattle.std.proofs.Common.{◌≡◌, ◌∙◌, ℕ, List, arith, rules, subst, sym, refl}
+use Rattle.std.proofs.Common.{◌∙◌, ℕ, List, arith, subst, sym, refl}
 use Rattle.session.specs.Ends.{NoneWhole}
 use Rattle.session.specs.Front.{IsWhole, IsFaulty}
 use Rattle.session.proofs.Exchanges.{stands_opened, fresh_more}

@@ -1,4 +1,4 @@
-use Rattle.std.proofs.Common.{◌≡◌, ◌∙◌, List, not, ap, rules}
+use Rattle.std.proofs.Common.{◌∙◌, List, not, ap, rules}
 use Rattle.std.specs.List.{filter}
 use Rattle.std.proofs.lemmas.Fn.{filter_same}
 use Rattle.session.specs.Tasks.{Collecting}

@@ -1,4 +1,4 @@
-use Rattle.std.proofs.Common.{List, sym, subst, rules}
+use Rattle.std.proofs.Common.{List, sym, subst}
 use Rattle.session.specs.Tasks.{Collecting}
 use Rattle.session.specs.Slots.{IsRemoved}
 use Rattle.session.proofs.Places.{removed_at}

@@ -1,4 +1,4 @@
-use Rattle.std.proofs.Common.{◌≡◌, List, ℕ, refl, ◌∙◌, ap, subst}
+use Rattle.std.proofs.Common.{refl, ◌∙◌, ap}
 use Rattle.byteorder.specs.Endian.{big_number}
 use Rattle.login.specs.Request.{answer_to, after}
 use Rattle.login.specs.declared.status.LoginFlags.{LoginFlags}

@@ -1,4 +1,4 @@
-use Rattle.std.proofs.Common.{refl, sym, ◌∙◌, arith}
+use Rattle.std.proofs.Common.{sym, ◌∙◌, arith}
 use Rattle.session.proofs.LoginTurns.{by_turn, goes_on, begins_now, fresh_of}
 use Rattle.session.proofs.phases.Phases.turn.Goals as goal
 use Rattle.session.proofs.phases.Phases.turn.Goals.{then-begins+in-Some-1, then-begins+in-None-1, else-begins}

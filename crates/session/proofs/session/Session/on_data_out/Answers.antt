@@ -1,4 +1,4 @@
-use Rattle.std.proofs.Common.{◌≡◌, true, false, rules, ap, sym, subst, ◌∙◌, refl, inr}
+use Rattle.std.proofs.Common.{◌≡◌, true, false, ap, sym, ◌∙◌}
 use Rattle.session.specs.Counters.{Counters}
 use Rattle.session.proofs.Receiving.{can_take, rejected_data}
 use Rattle.session.proofs.session.Session.on_data_out.Goals as goal

@@ -1,6 +1,6 @@
 use Rattle.std.proofs.Common.{refl}
 use Rattle.iscsi_pdu.specs.declared.header.Header.TheVariants.{Initiator}
-use Rattle.session.specs.declared.verdict.TheConstants.{COMMAND_NOT_SUPPORTED, PROTOCOL_ERROR}
+use Rattle.session.specs.declared.verdict.TheConstants.{PROTOCOL_ERROR}
 use Rattle.session.proofs.Unserved.{refused}
 use Rattle.session.proofs.session.Session.on_initiator.Goals as goal
 

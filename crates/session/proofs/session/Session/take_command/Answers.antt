@@ -1,4 +1,4 @@
-use Rattle.std.proofs.Common.{rules, refl}
+use Rattle.std.proofs.Common.{refl}
 use Rattle.session.proofs.Receiving.{begins}
 use Rattle.session.proofs.session.Session.take_command.Goals as goal
 

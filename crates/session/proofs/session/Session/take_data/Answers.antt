@@ -1,4 +1,4 @@
-use Rattle.std.proofs.Common.{rules, ℕ, ap, sym, ◌∙◌, refl, arith}
+use Rattle.std.proofs.Common.{ℕ, ap, ◌∙◌, refl, arith}
 use Rattle.scsi_types.specs.Cdb.{need_of}
 use Rattle.session.specs.declared.actions.CommandData.TheVariants.{Gathered}
 use Rattle.session.specs.Tasks.{Collecting}
