@@ -19,7 +19,7 @@ use Rattle.session.specs.Asking.{Asking}
 use Rattle.session.specs.Tasks.{Collecting, r2ts_of}
 use Rattle.session.specs.Drops.{function_of, drops_by, found_unit}
 use Rattle.session.specs.TaskManagement.{there, drops_one, kept_by, management_of, IsManagedBy, IsManaged, reset_response, management_answer}
-use Rattle.session.specs.TaskTurn.{keeps}
+use Rattle.session.proofs.TaskTurn.{keeps}
 
 pub no_r2t_managed : (n : Numbers) (x : ManagementHeader) (response : Option ℕ) → r2ts_of (management_answer n x response) ≡ []
 no_r2t_managed n x None = refl

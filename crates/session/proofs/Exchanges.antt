@@ -20,13 +20,13 @@ use Rattle.session.specs.MachineTurn.{TurnOf}
 use Rattle.session.specs.LoginPhase.{LoginTurn, LoginStanding, progress_after, progress_behind, cmd_sn_in, first_cmd_sn, login_standing, login_after, IsLoginTurn, login_end, begins, IsStart}
 use Rattle.session.specs.Phases.{Transcript, Exchange, of_login, of_turn, exchanges, NoneEnds, NoneBegins, IsLogin, IsBehindLogin, IsLawful}
 use Rattle.session.specs.Stream.{PhasesValue, NextPhase, ExchangeOf, IsOpened, IsFresh}
+use Rattle.session.proofs.Table.{all_append}
 use Rattle.session.proofs.Lawful.{at_each_more, at_each_none, at_each_of_more, at_each_of_none, Stands, stands_more, stands_none}
 
 -- ---- lists
 
 pub all_more : {A : Type 0} (P : A → Type 0) (xs : List A) (x : A) → AllByRecursion P xs → P x → AllByRecursion P (xs ++ x ∷ [])
-all_more P [] x k here = (here, tt)
-all_more P (y ∷ ys) x k here = (k.0, all_more P ys x k.1 here)
+all_more P xs x k here = all_append P xs (x ∷ []) k (here, tt)
 
 -- ---- what stands behind one turn of a login more
 

@@ -1,6 +1,6 @@
 -- What is judged of a turn holds of each turn that the session makes.
 use Rattle.std.proofs.Common.{◌≡◌, ◌⊎◌, ℕ, zero, suc, ◌+◌, ◌%◌, ◌<◌, ◌↔◌, Bool, true, false, List, [], ◌∷◌, ◌++◌, Option, Some, None, length, refl, ap, ap₂, ◌∙◌, subst, inl, inr}
-use Rattle.std.specs.Prelude.{IsTrue, slice_get, Result, nat_lt, if◌then◌else◌, take}
+use Rattle.std.specs.Prelude.{IsTrue, Result, nat_lt, if◌then◌else◌, take}
 use Rattle.std.specs.List.{AllByRecursion, list_any, find}
 use Rattle.std.specs.Option.{option_map}
 use Rattle.std.proofs.lemmas.Bool.{ltb-true, lt-ltb}
@@ -14,7 +14,6 @@ use Rattle.iscsi_pdu.specs.declared.header.ScsiCommand.{ScsiCommand as CommandHe
 use Rattle.iscsi_pdu.specs.declared.header.DataOut.{DataOut as DataOutHeader}
 use Rattle.iscsi_pdu.specs.declared.header.R2t.{R2t as R2tHeader}
 use Rattle.iscsi_pdu.specs.declared.header.ScsiResponse.{ScsiResponse as ResponseHeader}
-use Rattle.iscsi_pdu.specs.declared.header.DataIn.{DataIn as DataInHeader}
 use Rattle.iscsi_pdu.specs.declared.header.Numbers.{Numbers}
 use Rattle.iscsi_pdu.specs.declared.header.Header.TheVariants.{Initiator}
 use Rattle.iscsi_pdu.specs.declared.header.InitiatorHeader.TheVariants.{NopOut, ScsiCommand, DataOut}
@@ -44,17 +43,10 @@ use Rattle.session.specs.Legal.{IsOfCommand, IsRejected}
 use Rattle.session.specs.Counters.{Counters, after_status, after_command, after_collecting, after_r2t, next_numbers}
 use Rattle.session.specs.AnswerPdus.{data_ins_for, response_for, reply_with, busy, task_set_full}
 use Rattle.session.specs.MachineTurn.{TurnOnAnswer, TurnAsks, TurnOpened, calls, asks, turns_away, TurnFed, fills, asks_on, calls_now, TurnOnAccepted, TurnOnFullPdu, TurnOnVerdict}
-use Rattle.session.proofs.Segments.{outs_of, outs_windows, outs_statuses, outs_responses, outs_front, outs_count, outs_kinds, outs_r2ts, outs_ended, outs_tiled}
+use Rattle.session.proofs.Segments.{outs_of, outs_windows, outs_statuses, outs_responses, outs_front, outs_count, outs_kinds, outs_r2ts, outs_ended, outs_tiled, no_segment}
 
 abbrev none_data : List ℕ
 none_data = []
-
-abbrev no_segments : List (DataInHeader × List ℕ)
-no_segments = []
-
-no_segment : (k : ℕ) (x : DataInHeader × List ℕ) → slice_get no_segments k ≡ Some x → ⊥
-no_segment zero x e = absurd (cc)
-no_segment (suc k) x e = absurd (cc)
 
 less : (a b : ℕ) → IsTrue (nat_lt a b) ↔ (a < b)
 less a b = (λ e. ltb-true a b e, λ h. lt-ltb a b h)

@@ -21,8 +21,8 @@ use Rattle.session.specs.declared.verdict.TheConstants.{RESERVED_TAG}
 use Rattle.session.specs.Asking.{Asking, served}
 use Rattle.session.specs.Turn.{Incoming, pdu, Out, Turn}
 use Rattle.session.specs.Tasks.{is_response, r2ts_of, finds_gone, touches, has_tag, ends, Task, Collecting, accepted_command, begun_by, tasks}
-use Rattle.session.specs.TaskTurn.{keeps, IsCalledNow, IsOpened, IsFed, IsTakenData}
-use Rattle.session.specs.TaskTurn as task
+use Rattle.session.proofs.TaskTurn.{keeps, IsCalledNow, IsOpened, IsFed, IsTakenData}
+use Rattle.session.proofs.TaskTurn as task
 use Rattle.session.specs.Setting.{Setting, discovers}
 use Rattle.session.specs.Standing.{Standing}
 use Rattle.session.specs.Transfer.{sent_data, expected_transfer}

@@ -5,10 +5,9 @@ use Rattle.std.specs.List.{count_by}
 use Rattle.std.proofs.lemmas.List.{append-nil}
 use Rattle.std.proofs.lemmas.List.Sums.{sum_by-append}
 use Rattle.std.proofs.lemmas.List.Elements.{filter_map-append}
-use Rattle.std.proofs.lemmas.Grind.{flat_map-append}
 use Rattle.std.proofs.Math.Nat.{mod-add-mod}
 use Rattle.session.specs.Setting.{Setting}
-use Rattle.session.specs.Turn.{Incoming, Out, Turn, sent}
+use Rattle.session.specs.Turn.{Incoming, Turn, sent}
 use Rattle.session.specs.Window.{wrap, takes_number, exp_cmd_sn_after}
 use Rattle.session.specs.Verdict.{IsJudged}
 use Rattle.session.specs.Requests.{IsRequestAnswered}
@@ -17,6 +16,8 @@ use Rattle.session.specs.Standing.{Standing, transfer_at, standing}
 use Rattle.session.specs.Collecting.{IsRightTask}
 use Rattle.iscsi_pdu.specs.declared.header.R2t.{R2t as R2tHeader}
 use Rattle.std.specs.List.{AllByRecursion}
+use Rattle.session.proofs.Right.{get_more}
+use Rattle.session.proofs.Steps.{sent_more}
 use Rattle.session.proofs.Table.{IsKept}
 use Rattle.session.proofs.Gathering.{kept_more}
 use Rattle.session.specs.Legal.{AtEachOf, AtEach, status_number, status_numbers, HaveWindow, HaveNextR2t, IsAnsweredTask, IsTiledTask, IsCountedTask, HasResiduals, IsToldTask, answer_at, GoesOn, Lawful}
@@ -74,9 +75,6 @@ count_more : (ts : List Turn) (t : Turn)
     → count_by numbered (ts ++ t ∷ []) ≡ count_by numbered ts + (0 + cond (numbered t) 1 0)
 count_more ts t = sum_by-append (λ u. cond (numbered u) 1 0) ts (t ∷ [])
 
-wrap_wrap : (n : ℕ) → wrap (wrap n) ≡ wrap n
-wrap_wrap n = omega arith
-
 command_more : (first : ℕ) (ts : List Turn) (t : Turn) (s s' : Counters) → s.standing.exp_cmd_sn ≡ exp_cmd_sn_after first ts
     → ((s'.standing.exp_cmd_sn ≡ s.standing.exp_cmd_sn) × (numbered t ≡ false)) ⊎ ((s'.standing.exp_cmd_sn ≡ wrap (s.standing.exp_cmd_sn + 1)) × (numbered t ≡ true))
     → s'.standing.exp_cmd_sn ≡ exp_cmd_sn_after first (ts ++ t ∷ [])
@@ -89,19 +87,9 @@ command_more first ts t s s' tied (inr w) =
     let more : count_by numbered (ts ++ t ∷ []) ≡ n + 1 = count_more ts t ∙ ap (λ (b : Bool). n + (0 + cond b 1 0)) w.1 ∙ (let e : n + (0 + 1) ≡ n + 1 = omega arith in e) in
     w.0 ∙ ap (λ (m : ℕ). wrap (m + 1)) tied ∙ mod-add-mod (first + n) 4294967296 1 ∙ ap wrap (let e : first + n + 1 ≡ first + count_by numbered (ts ++ t ∷ []) = omega (arith, more) in e)
 
-sent_more : (ts : List Turn) (t : Turn) → sent (ts ++ t ∷ []) ≡ sent ts ++ t.sent
-sent_more ts t = flat_map-append (λ u. u.sent) ts (t ∷ []) ∙ ap (λ (o : List Out). sent ts ++ o) (append-nil t.sent)
-
 pub statuses_more : (ts : List Turn) (t : Turn)
     → status_numbers (sent (ts ++ t ∷ [])) ≡ status_numbers (sent ts) ++ status_numbers t.sent
 statuses_more ts t = ap status_numbers (sent_more ts t) ∙ filter_map-append (λ o. status_number o.header) (sent ts) t.sent
-
-get_more : (xs : List ℕ) (y k n : ℕ) → slice_get (xs ++ y ∷ []) k ≡ Some n
-    → (slice_get xs k ≡ Some n) ⊎ ((k ≡ length xs) × (n ≡ y))
-get_more [] y zero n e = inr (refl, cc)
-get_more [] y (suc k) n e = absurd (cc)
-get_more (x ∷ xs) y zero n e = inl e
-get_more (x ∷ xs) y (suc k) n e = elim (get_more xs y k n e) [ inl w ↦ inl w | inr w ↦ inr (ap suc w.0, w.1) ]
 
 module _ (first : ℕ) (ts : List Turn) (t : Turn) (s s' : Counters)
     (tied : s.stat_sn ≡ wrap (first + length (status_numbers (sent ts)))) where

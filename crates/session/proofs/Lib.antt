@@ -17,6 +17,7 @@ pub mod Running
 pub mod Segments
 pub mod Steps
 pub mod Table
+pub mod TaskTurn
 pub mod Tasks
 pub mod Turns
 pub mod Unserved

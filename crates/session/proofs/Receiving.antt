@@ -30,7 +30,7 @@ use Rattle.session.specs.declared.verdict.Verdict.TheVariants.{Accepted, Ignored
 use Rattle.session.specs.declared.verdict.TheConstants.{PROTOCOL_ERROR}
 use Rattle.session.proofs.Places.{stands_one}
 
-count_append : (xs ys : List Collecting) → count_by shrinks_window (xs ++ ys) ≡ count_by shrinks_window xs + count_by shrinks_window ys
+pub count_append : (xs ys : List Collecting) → count_by shrinks_window (xs ++ ys) ≡ count_by shrinks_window xs + count_by shrinks_window ys
 count_append xs ys = sum_by-append (λ c. cond (shrinks_window c) 1 0) xs ys
 
 unwrapped : (n : ℕ) → n < 4294967296 → n ≡ wrap n

@@ -10,7 +10,7 @@ use Rattle.iscsi_pdu.specs.declared.header.R2t.{R2t as R2tHeader}
 use Rattle.session.specs.Window.{wrap}
 use Rattle.session.specs.Collecting.{sizes, asked_to, IsRequest, IsNext}
 
-get_more : {X : Type 0} (xs : List X) (y : X) (k : ℕ) (x : X) → slice_get (xs ++ y ∷ []) k ≡ Some x
+pub get_more : {X : Type 0} (xs : List X) (y : X) (k : ℕ) (x : X) → slice_get (xs ++ y ∷ []) k ≡ Some x
     → (slice_get xs k ≡ Some x) ⊎ ((k ≡ length xs) × (x ≡ y))
 get_more [] y zero x e = inr (refl, cc)
 get_more [] y (suc k) x e = absurd (cc)

@@ -169,10 +169,10 @@ record TilesFrom (l : Lengths) (tag : ℕ) (bytes : List ℕ) (first start : ℕ
   pub joined : joined_data segments ≡ drop start bytes
   pub each : (k : ℕ) (s : Segment) → slice_get segments k ≡ Some s → IsSegmentFrom l tag (length bytes) first start segments k s.0 s.1
 
-abbrev no_segments : List Segment
+abbrev pub no_segments : List Segment
 no_segments = []
 
-no_segment : (k : ℕ) (x : Segment) → slice_get no_segments k ≡ Some x → ⊥
+pub no_segment : (k : ℕ) (x : Segment) → slice_get no_segments k ≡ Some x → ⊥
 no_segment zero x e = absurd (cc)
 no_segment (suc k) x e = absurd (cc)
 

@@ -18,7 +18,7 @@ use Rattle.session.specs.declared.verdict.Verdict.{Verdict}
 use Rattle.session.specs.declared.verdict.Verdict.TheVariants.{Accepted}
 use Rattle.iscsi_pdu.specs.declared.header.Header.TheVariants.{Initiator}
 use Rattle.iscsi_pdu.specs.declared.header.InitiatorHeader.TheVariants.{ScsiCommand, DataOut}
-use Rattle.session.specs.TaskTurn.{IsOpened, asks, busy, called, IsFed, filling, on, now, IsCalledNow}
+use Rattle.session.proofs.TaskTurn.{IsOpened, asks, busy, called, IsFed, filling, on, now, IsCalledNow}
 use Rattle.session.specs.Asking.{Asking}
 use Rattle.session.specs.Turn.{Incoming, pdu, Out, Turn, sent}
 use Rattle.session.specs.Window.{wrap}
@@ -29,7 +29,7 @@ use Rattle.session.proofs.Tasks.{with_turn}
 
 -- ---- one turn more of a list of turns
 
-sent_more : (own : List Turn) (u : Turn) → sent (own ++ u ∷ []) ≡ sent own ++ u.sent
+pub sent_more : (own : List Turn) (u : Turn) → sent (own ++ u ∷ []) ≡ sent own ++ u.sent
 sent_more own u = flat_map-append (λ t. t.sent) own (u ∷ []) ∙ ap (λ (o : List Out). sent own ++ o) (append-nil u.sent)
 
 r2ts_more : (own : List Turn) (u : Turn) → r2ts (own ++ u ∷ []) ≡ r2ts own ++ r2ts_of u.sent

@@ -18,7 +18,7 @@ use Rattle.session.specs.Turn.{pdu, Out, Turn}
 use Rattle.session.specs.Drops.{drops, found_unit}
 use Rattle.session.specs.Tasks.{ends, r2ts_of, Task, accepted_command, begun_by, tasks, has_ended, Collecting, collected, collecting_of, collecting, has_tag}
 use Rattle.session.specs.Collecting.{IsRightTask, Continues}
-use Rattle.session.specs.TaskTurn.{IsOpened, asks, busy, called, IsFed, filling, on, now, IsTakenData, keeps}
+use Rattle.session.proofs.TaskTurn.{IsOpened, asks, busy, called, IsFed, filling, on, now, IsTakenData, keeps}
 use Rattle.session.proofs.Tasks.{with_turn, extended}
 use Rattle.session.proofs.Steps.{fed, dropped, opened}
 use Rattle.session.proofs.Walk.{HasNone, IsUnique, touched_is, still, walk, drop_all}
@@ -104,7 +104,7 @@ none_of_any g (c ∷ cs) e = one (has_tag g c) refl e (λ h. none_of_any g cs h)
   one true f h rest = absurd (let q : true ≡ false = h in cc)
   one false f h rest = (f, rest h)
 
-all_append : (P : Task → Type 0) (xs ys : List Task) → AllByRecursion P xs → AllByRecursion P ys → AllByRecursion P (xs ++ ys)
+pub all_append : {A : Type 0} (P : A → Type 0) (xs ys : List A) → AllByRecursion P xs → AllByRecursion P ys → AllByRecursion P (xs ++ ys)
 all_append P [] ys h k = k
 all_append P (x ∷ xs) ys h k = (h.0, all_append P xs ys h.1 k)
 

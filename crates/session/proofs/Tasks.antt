@@ -75,7 +75,7 @@ tasks_step (Some c) t behind u more rest front e =
     ap (λ (k : Task). k ∷ more) (command_more c.0 c.1 t behind u)
     ∙ ap (λ (ks : List Task). extended u (of_command c.0 c.1 (t ∷ filter (touches c.0) behind)) ∷ ks) e
 
-last_task : (o : Option Task) → cons_option o [] ≡ option_to_list o
+pub last_task : (o : Option Task) → cons_option o [] ≡ option_to_list o
 last_task None = refl
 last_task (Some k) = refl
 

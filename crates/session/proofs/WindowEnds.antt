@@ -9,6 +9,8 @@ use Rattle.std.proofs.lemmas.List.Elements.{filter_map-append}
 use Rattle.iscsi_pdu.specs.declared.header.ScsiCommand.{ScsiCommand as CommandHeader}
 use Rattle.iscsi_pdu.specs.declared.header.Header.TheVariants.{Initiator}
 use Rattle.iscsi_pdu.specs.declared.header.InitiatorHeader.TheVariants.{NopOut, ScsiCommand, TaskManagementRequest, TextRequest, LogoutRequest}
+use Rattle.session.proofs.Receiving.{count_append}
+use Rattle.session.proofs.Tasks.{last_task}
 use Rattle.session.specs.Setting.{Setting, discovers}
 use Rattle.session.specs.Text.{is_text_refused}
 use Rattle.session.specs.declared.verdict.Verdict.{Verdict}
@@ -27,9 +29,6 @@ use Rattle.session.proofs.Tasks.{with_turn, extended_by, extended, tasks_more}
 
 abbrev count : List Collecting → ℕ
 count cs = count_by shrinks_window cs
-
-count_append : (xs ys : List Collecting) → count (xs ++ ys) ≡ count xs + count ys
-count_append xs ys = sum_by-append (λ c. cond (shrinks_window c) 1 0) xs ys
 
 abbrev weight : Task → ℕ
 weight k = count (cons_option (collecting_of k) [])
@@ -84,10 +83,6 @@ one_place Ignored came t behind = omega arith
 one_place Gap came t behind = omega arith
 one_place (Refused reason) came t behind = omega arith
 
-last_task : (o : Option Task) → option_to_list o ≡ cons_option o []
-last_task None = refl
-last_task (Some k) = refl
-
 waiting_grows : (ts : List Turn) (u : Turn) → waiting_in (ts ++ u ∷ []) ≤ waiting_in ts + number u.verdict u.came
 waiting_grows ts u =
     let begun : Option Task = begun_by (accepted_command u.verdict u.came) u [] in
@@ -98,7 +93,7 @@ waiting_grows ts u =
       ap count (filter_map-append collecting_of (map (extended u) (tasks ts)) new),
       count_append (filter_map collecting_of (map (extended u) (tasks ts))) (filter_map collecting_of new),
       fewer u (tasks ts),
-      ap (λ (ks : List Task). count (filter_map collecting_of ks)) (last_task begun),
+      ap (λ (ks : List Task). count (filter_map collecting_of ks)) (sym (last_task begun)),
       one_place u.verdict u.came u [],
     )
 

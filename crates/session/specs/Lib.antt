@@ -27,7 +27,6 @@ pub mod Source
 pub mod Standing
 pub mod Stream
 pub mod TaskManagement
-pub mod TaskTurn
 pub mod Tasks
 pub mod Text
 pub mod Transcript
