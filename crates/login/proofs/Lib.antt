@@ -1,5 +1,8 @@
 pub mod Agreed
 pub mod Cuts
+pub mod InRange
 pub mod Numbers
 pub mod Once
+pub mod Sizes
 pub mod Spelled
+pub mod Turns

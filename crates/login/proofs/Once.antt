@@ -28,11 +28,11 @@ rest_none : (a b : Option Stop) → or_else a b ≡ None → b ≡ None
 rest_none None b h = h
 rest_none (Some x) b h = cc
 
-first_none : (a b : Option Stop) → or_else a b ≡ None → a ≡ None
+pub first_none : (a b : Option Stop) → or_else a b ≡ None → a ≡ None
 first_none None b h = refl
 first_none (Some x) b h = cc
 
-behind : (rule : Rule) (rules : List Rule) (s : Progress) (f : LoginFlags) (t : List ℕ)
+pub behind : (rule : Rule) (rules : List Rule) (s : Progress) (f : LoginFlags) (t : List ℕ)
     → first_stop (rule ∷ rules) s f t ≡ None → first_stop rules s f t ≡ None
 behind rule rules s f t h = rest_none (rule s f t) (first_stop rules s f t) h
 

@@ -1,10 +1,10 @@
 -- What a login request is answered, and how far the login has come then (RFC 7143, 6.3).
-use Rattle.std.specs.Prelude.{ℕ, Bool, not, ◌&&◌, ◌||◌, ◌==◌, codes, decimal, if◌then◌else◌, List, [], ◌++◌, Option, Some, None}
+use Rattle.std.specs.Prelude.{ℕ, Bool, not, ◌&&◌, ◌||◌, ◌==◌, codes, decimal, if◌then◌else◌, List, [], ◌++◌, Option, Some, None, unwrap_or}
 use Rattle.login.specs.Text.{Pair, pairs, spelled}
 use Rattle.login.specs.Answer.{answers}
 use Rattle.login.specs.Progress.{Progress}
 use Rattle.login.specs.Refusal.{stop_of, kind_of, value_said}
-use Rattle.login.specs.declared.key.Key.TheVariants.{InitiatorName}
+use Rattle.login.specs.declared.key.Key.TheVariants as Of
 use Rattle.login.specs.declared.status.LoginFlags.{LoginFlags}
 use Rattle.login.specs.declared.status.Kind.{Kind}
 use Rattle.login.specs.declared.status.Kind.TheVariants.{Normal, Discovery}
@@ -76,20 +76,18 @@ after_by None s f whole = passed s f whole
 unfoldable pub after : Progress → LoginFlags → List ℕ → Progress
 after s f text = let whole = s.unfinished ++ text in after_by (stop_of s f whole) s f whole
 
--- what the end of a request tells
+-- what the end of a request tells, with this text as its response
 abbrev pub told : LoginEnd → List ℕ → Ending
 told Answer text = Answered text
 told Accepted text = Finished text
 told (Refused status) text = Stopped (Stops.Refused status)
 told NamesSession text = Stopped Stops.NamesSession
 
-abbrev pub or_empty : Option (List ℕ) → List ℕ
-or_empty None = []
-or_empty (Some v) = v
-
+-- the InitiatorName that pairs say, empty where they say none
 abbrev pub initiator_of : List Pair → List ℕ
-initiator_of ps = or_empty (value_said InitiatorName ps)
+initiator_of ps = unwrap_or (value_said Of.InitiatorName ps) []
 
+-- the session type, Normal where none is said yet
 abbrev pub kind_in : Option Kind → Kind
-kind_in None = Normal
 kind_in (Some kind) = kind
+kind_in None = Normal

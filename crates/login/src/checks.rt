@@ -10,9 +10,10 @@ use crate::status::{Kind, LoginFlags};
 use crate::text::{first_pair, found};
 use crate::value::is_listed;
 
-/// The most bytes of text, and pairs, of a negotiation.
-const MOST_BYTES: usize = 8192;
+/// The most bytes of text of a negotiation.
+pub const MOST_BYTES: usize = 8192;
 
+/// The most pairs of a negotiation, and of a Text request.
 pub const MOST_PAIRS: usize = 64;
 
 /// The most bytes of a name.

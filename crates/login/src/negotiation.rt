@@ -1,51 +1,45 @@
-//! The negotiation of a login.
-ghost use Rattle.std.specs.Prelude.{◌≤◌, length, vec_capacity, ◌≡◌, ◌++◌, IfOk, IfSome, IfNone, is_none, true, false, option_map};
-ghost use Rattle.login.specs.Request.{next_stage, kind_after};
+//! The negotiation of a login, in memory that is taken before its first request.
+ghost use Rattle.std.specs.Prelude.{◌≡◌, ◌+◌, ◌++◌, ◌≤◌, ◌<◌, ℕ, List, IfOk, is_none, true, false, length, vec_capacity, Some, None};
+ghost use Rattle.login.specs.Request.{next_stage, kind_after, kind_in, initiator_of};
 ghost use Rattle.login.specs.Text.{pairs};
 ghost use Rattle.login.specs.Parameters.{parameters_of};
-ghost use Rattle.login.specs.Progress.{beginning};
+ghost use Rattle.login.specs.Progress.{Progress, beginning};
 
-use crate::answer::{put_answers, put_number, put_pair};
+use crate::answer::{put_answers, put_bytes, put_number, put_pair};
 use crate::checks::{
-    has_bad_name, has_repeated, has_wrong_flags, is_too_long, kind_of, names_other,
+    MOST_BYTES, has_bad_name, has_repeated, has_wrong_flags, is_too_long, kind_of, names_other,
     wants_authentication,
 };
 use crate::parameters::Parameters;
 use crate::status::{Kind, LoginFlags, LoginStatus, Stop};
 use crate::text::{found, is_text};
 use scsi_types::NoMemory;
-use std::alloc::{AllocError, Global};
+use std::alloc::Global;
 use std::marker::Model;
 
-/// What a login request comes to.
-#[derive(Debug, Drop)]
-pub enum OldEnd {
-    Answer(Vec<u8>),
-    Accepted(Vec<u8>),
-    Refused(LoginStatus),
-    NamesSession,
-    NoMemory,
-}
-
-/// The longest text of a response.
+/// The longest text of a response (bytes), and more than there is. A request that is answered has at most 8192 bytes and
+/// 64 pairs with the others of its run; the answer to a pair is at most 14 bytes longer than the pair, as
+/// `k=NotUnderstood` is than `k`; and what the target says by itself has at most 58.
 pub const LONGEST_RESPONSE: u32 = 9216;
 
 /// What a login request comes to.
 #[derive(Clone, Copy, Debug, PartialEq, Eq)]
 pub enum LoginEnd {
+    /// The text of the response stands in the memory that was given; T and NSG are as they were asked for. The login
+    /// goes on.
     Answer,
+    /// The text of the last response stands in the memory: the session goes to full feature phase.
     Accepted,
     /// The login is refused; the negotiation stands where it stood.
     Refused(LoginStatus),
     /// Its TSIH is not 0: refused as one connection too many where that session lives, else as a session that does not
-    /// exist.
+    /// exist. Its InitiatorName stands in the memory, and the negotiation where it stood.
     NamesSession,
 }
 
-/// The negotiation of a login, from its first request on.
+/// The negotiation of a login, from its first request on. It takes all its memory when it is made.
 #[derive(Drop)]
 pub struct Negotiation {
-    alloc: Global,
     target: Vec<u8>,
     tag: u16,
     stage: Option<u8>,
@@ -56,7 +50,9 @@ pub struct Negotiation {
 }
 
 impl Model for Negotiation {
+    ghost use Rattle.std.specs.Prelude.{◌≤◌, ◌<◌, length, vec_capacity};
     ghost use Rattle.login.specs.Progress.{Progress};
+    ghost use Rattle.login.specs.declared.checks.TheConstants.{MOST_BYTES};
 
     ghost Value = { Progress };
 
@@ -69,70 +65,100 @@ impl Model for Negotiation {
       said = n.said.items;
       unfinished = n.unfinished.items;
     } };
+
+    ghost invariant = { λ n. (length n.unfinished.items ≤ MOST_BYTES) × (MOST_BYTES ≤ vec_capacity n.unfinished)
+        × (MOST_BYTES ≤ vec_capacity n.said) × (n.tag < 65536) };
 }
 
 impl Negotiation {
-    ghost use Rattle.login.specs.declared.key.Key.TheVariants.{InitiatorName};
-    ghost use Rattle.login.specs.Refusal.{stop_of, first_stop, checks_of_first, checks_of_later, checks_of_names, value_said};
-    ghost use Rattle.login.specs.Request.{answer_to, answer_by, after, passed, told, response, initiator_of, kind_in};
+    ghost use Rattle.login.specs.Refusal.{stop_of, first_stop, checks_of_first, checks_of_later, checks_of_names, is_too_long};
+    ghost use Rattle.login.specs.Request.{answer_to, answer_by, after, passed, told, response, group_text, length_text, tells_length};
 
     /// A negotiation that has not begun, with the target of this name, by a portal of the group with this tag.
     pub fn new(alloc: Global, target: &[u8], tag: u16) -> Result<Negotiation, NoMemory>
         ensures { IfOk result (λ n. n ≡ beginning target.now tag) }
     {
         Ok(Negotiation {
-            alloc,
             target: Vec::from_slice(alloc, target)?,
             tag,
             stage: None,
             kind: None,
             declared: false,
-            said: Vec::new(alloc),
-            unfinished: Vec::new(alloc),
+            said: Vec::with_capacity(alloc, MOST_BYTES)?,
+            unfinished: Vec::with_capacity(alloc, MOST_BYTES)?,
         })
     }
 
-    /// Answers a Login request
+    /// Answers a Login request, of whose header these fields are looked at, with this text. The text of the response
+    /// takes the place of what stood in the memory.
+    #[tactic(auto, unfolding(crate::specs::Request::answer_to, crate::specs::Request::after))]
     pub fn request(&mut self, out: &mut Vec<u8>, flags: LoginFlags, text: &[u8]) -> LoginEnd
         requires room { LONGEST_RESPONSE ≤ vec_capacity out.old }
-        requires never { ⊥ }
         ensures answer { told result out.new.items ≡ answer_to self.old flags text.now }
         ensures state { self.new ≡ after self.old flags text.now }
-        ensures named { result ≡ LoginEnd.NamesSession → out.new.items ≡ initiator_of (pairs (self.old.unfinished ++ text.now)) }
+        ensures named { result ≡ LoginEnd.NamesSession
+            → out.new.items ≡ initiator_of (pairs (self.old.unfinished ++ text.now)) }
         ensures short { length out.new.items ≤ LONGEST_RESPONSE }
         ensures kept { LONGEST_RESPONSE ≤ vec_capacity out.new }
     {
-        unreachable!()
+        out.clear();
+        if MOST_BYTES - self.unfinished.len() < text.len() {
+            return LoginEnd::Refused(self.status_of_long(flags));
+        }
+        let before = self.unfinished.len();
+        put_bytes(&mut self.unfinished, text);
+        match self.stop(flags, &self.unfinished) {
+            Some(Stop::Refused(status)) => {
+                self.unfinished.truncate(before);
+                LoginEnd::Refused(status)
+            }
+            Some(Stop::NamesSession) => {
+                put_bytes(out, initiator_of(&self.unfinished));
+                self.unfinished.truncate(before);
+                LoginEnd::NamesSession
+            }
+            None => self.pass(out, flags),
+        }
     }
 
-    /// The kind
+    /// The session type, Normal before the first request was answered.
     pub fn session_kind(&self) -> Kind
         ensures { result ≡ kind_in self.now.kind }
     {
-        match self.kind { Some(kind) => kind, None => Kind::Normal }
+        match self.kind {
+            Some(kind) => kind,
+            None => Kind::Normal,
+        }
     }
 
-    /// The session type, once the first request was answered.
-    pub fn kind(&self) -> Option<Kind>
-        ensures { result ≡ self.now.kind }
-    {
-        self.kind
-    }
-
-    /// The InitiatorName, once the first request was answered.
+    /// The InitiatorName, empty before the first request was answered.
     pub fn initiator(&self) -> &[u8]
         ensures { result.now ≡ initiator_of (pairs self.now.said) }
     {
-        match found(&self.said, b"InitiatorName") { Some(name) => name, None => &[] }
+        initiator_of(&self.said)
     }
 
     /// The values in force by what was said so far.
     pub fn parameters(&self) -> Parameters
-        requires never { ⊥ }
-        ensures value { result ≡ parameters_of (pairs self.now.said) }
+        ensures values { result ≡ parameters_of (pairs self.now.said) }
         ensures lengths { (512 ≤ result.max_burst_length) × (512 ≤ result.max_recv_data_segment_length) }
     {
-        unreachable!()
+        Parameters::after(&self.said)
+    }
+
+    /// How a request is refused that is too long with those of its run, so that its text isn't looked at.
+    #[tactic(auto, unfolding(crate::specs::Refusal::stop_of))]
+    fn status_of_long(&self, flags: LoginFlags) -> LoginStatus
+        ensures { (whole : List ℕ) → MOST_BYTES < length whole → stop_of self.now flags whole ≡ Some (Stop.Refused result) }
+    {
+        if has_wrong_flags(self.stage, flags) || flags.continues || self.kind.is_some() {
+            return LoginStatus::InitiatorError;
+        }
+        if flags.version_min != 0 {
+            LoginStatus::UnsupportedVersion
+        } else {
+            LoginStatus::InitiatorError
+        }
     }
 
     /// The first check that the request does not pass.
@@ -225,50 +251,69 @@ impl Negotiation {
         None
     }
 
-    /// Goes on behind a request that passed the checks.
-    fn pass(&mut self, flags: LoginFlags, whole: Vec<u8>) -> OldEnd
+    /// Goes on behind a request that passed the checks; its text is unfinished.
+    fn pass(&mut self, out: &mut Vec<u8>, flags: LoginFlags) -> LoginEnd
+        requires empty { length out.old.items ≡ 0 }
+        requires room { LONGEST_RESPONSE ≤ vec_capacity out.old }
+        requires fits { is_too_long self.old.said self.old.unfinished ≡ false }
+        ensures answer { told result out.new.items
+            ≡ answer_by None flags (response self.old flags (pairs self.old.unfinished)) }
+        ensures state { self.new ≡ passed self.old flags self.old.unfinished }
+        ensures going { result ≡ LoginEnd.NamesSession → ⊥ }
+        ensures short { length out.new.items ≤ LONGEST_RESPONSE }
+        ensures kept { LONGEST_RESPONSE ≤ vec_capacity out.new }
     {
         if flags.continues {
             self.stage = Some(flags.current_stage);
-            self.unfinished = whole;
-            return OldEnd::Answer(Vec::new(self.alloc));
+            return LoginEnd::Answer;
         }
-        let Ok(text) = self.response(flags, &whole) else {
-            return OldEnd::NoMemory;
-        };
-        if self.said.extend_from_slice(&whole).is_err() {
-            return OldEnd::NoMemory;
-        }
-        self.unfinished = Vec::new(self.alloc);
+        self.put_response(out, flags, &self.unfinished);
+        put_bytes(&mut self.said, &self.unfinished);
         let next = next_stage(flags);
         self.stage = Some(next);
-        self.kind = kind_after(self.kind, &whole);
+        self.kind = kind_after(self.kind, &self.unfinished);
         self.declared = self.declared || flags.current_stage == 1;
+        self.unfinished.clear();
         if next == 3 {
-            OldEnd::Accepted(text)
+            LoginEnd::Accepted
         } else {
-            OldEnd::Answer(text)
+            LoginEnd::Answer
         }
     }
 
-    /// What the target says by itself, and the answers.
-    fn response(&self, flags: LoginFlags, whole: &[u8]) -> Result<Vec<u8>, AllocError>
-        ensures { IfOk result (λ text. text.items ≡ response self.now flags (pairs whole.now)) }
+    /// Appends what the target says by itself, and the answers.
+    fn put_response(&self, out: &mut Vec<u8>, flags: LoginFlags, whole: &[u8])
+        requires room { length out.old.items + length (response self.now flags (pairs whole.now)) ≤ vec_capacity out.old }
+        ensures put { out.new.items ≡ out.old.items ++ response self.now flags (pairs whole.now) }
+        ensures kept { vec_capacity out.old ≤ vec_capacity out.new }
     {
-        let mut text = Vec::new(self.alloc);
+        self.put_group(out, whole);
+        self.put_length(out, flags);
+        put_answers(out, whole);
+    }
+
+    /// Appends TargetPortalGroupTag, in the response of a normal session to its first request.
+    fn put_group(&self, out: &mut Vec<u8>, whole: &[u8])
+        requires room { length out.old.items
+            + length (group_text self.now.tag self.now.kind (kind_after self.now.kind (pairs whole.now))) ≤ vec_capacity out.old }
+        ensures put { out.new.items
+            ≡ out.old.items ++ group_text self.now.tag self.now.kind (kind_after self.now.kind (pairs whole.now)) }
+        ensures kept { vec_capacity out.old ≤ vec_capacity out.new }
+    {
         if self.kind.is_none() && kind_of(whole) == Some(Kind::Normal) {
-            put_number(
-                self.alloc,
-                &mut text,
-                b"TargetPortalGroupTag",
-                self.tag as u32,
-            )?;
+            put_number(out, b"TargetPortalGroupTag", self.tag as u32);
         }
+    }
+
+    /// Appends MaxRecvDataSegmentLength, in the first response of stage 1.
+    fn put_length(&self, out: &mut Vec<u8>, flags: LoginFlags)
+        requires room { length out.old.items + length (length_text (tells_length self.now flags)) ≤ vec_capacity out.old }
+        ensures put { out.new.items ≡ out.old.items ++ length_text (tells_length self.now flags) }
+        ensures kept { vec_capacity out.old ≤ vec_capacity out.new }
+    {
         if !self.declared && flags.current_stage == 1 {
-            put_pair(&mut text, b"MaxRecvDataSegmentLength", b"65536")?;
+            put_pair(out, b"MaxRecvDataSegmentLength", b"65536");
         }
-        put_answers(self.alloc, &mut text, whole)?;
-        Ok(text)
     }
 }
 
@@ -297,11 +342,13 @@ fn kind_after(kind: Option<Kind>, text: &[u8]) -> Option<Kind>
     }
 }
 
-/// The text of a run, with that of its next request.
-fn joined(alloc: Global, unfinished: &[u8], text: &[u8]) -> Result<Vec<u8>, AllocError>
-    ensures { IfOk result (λ whole. whole.items ≡ unfinished.now ++ text.now) }
+/// The InitiatorName that a text says, empty where it says none.
+fn initiator_of(text: &[u8]) -> &[u8]
+    ensures said { result.now ≡ initiator_of (pairs text.now) }
+    ensures within { length result.now ≤ length text.now }
 {
-    let mut whole = Vec::from_slice(alloc, unfinished)?;
-    whole.extend_from_slice(text)?;
-    Ok(whole)
+    match found(text, b"InitiatorName") {
+        Some(name) => name,
+        None => &[],
+    }
 }

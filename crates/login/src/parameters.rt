@@ -1,5 +1,5 @@
 //! The values in force in a session.
-ghost use Rattle.std.specs.Prelude.{◌≡◌, []};
+ghost use Rattle.std.specs.Prelude.{◌≡◌, ◌≤◌, []};
 ghost use Rattle.login.specs.Text.{pairs};
 ghost use Rattle.login.specs.Table.{in_force};
 ghost use Rattle.login.specs.Parameters.{number_of, flag_of, parameters_of};
@@ -34,7 +34,8 @@ impl Parameters {
     /// The values after the pairs of a text.
     #[tactic(auto, unfolding(crate::specs::Parameters::parameters_of))]
     pub fn after(text: &[u8]) -> Parameters
-        ensures { result ≡ parameters_of (pairs text.now) }
+        ensures values { result ≡ parameters_of (pairs text.now) }
+        ensures lengths { (512 ≤ result.max_burst_length) × (512 ≤ result.max_recv_data_segment_length) }
     {
         Parameters {
             max_burst_length: number(text, Key::MaxBurstLength),

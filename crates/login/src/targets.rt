@@ -1,10 +1,9 @@
 //! The answer to a Text request: SendTargets (RFC 7143, 11.10 and appendix C).
 ghost use Rattle.std.specs.Prelude.{◌≡◌, ◌++◌, OnOk, IfOk, string_bytes};
-ghost use Rattle.login.specs.Text.{pairs};
+ghost use Rattle.login.specs.Text.{pairs, spelled};
 ghost use Rattle.login.specs.TextEnd.{IsTextEnd};
 ghost use Rattle.login.specs.Targets.{portal_text, address_text, addresses, answer_of, answers_of, target_text, targets_text};
 
-use crate::answer::put_pair;
 use crate::checks::{MOST_PAIRS, count_of_pairs};
 use crate::key::Key;
 use crate::status::Kind;
@@ -58,7 +57,7 @@ pub fn target_text(
     ensures { IfOk result (λ told. told.items ≡ target_text target.now first.now second.now) }
 {
     let mut told = Vec::new(alloc);
-    put_pair(&mut told, b"TargetName", target)?;
+    push_pair(&mut told, b"TargetName", target)?;
     put_addresses(alloc, &mut told, 1, first)?;
     put_addresses(alloc, &mut told, 2, second)?;
     Ok(told)
@@ -87,7 +86,7 @@ fn put_address(
     ensures { OnOk result (out.new.items ≡ out.old.items ++ address_text tag portal.now) }
 {
     let text = portal_text(alloc, tag, portal)?;
-    put_pair(out, b"TargetAddress", text.as_bytes())
+    push_pair(out, b"TargetAddress", text.as_bytes())
 }
 
 #[tactic(auto, unfolding(crate::specs::Targets::portal_text))]
@@ -130,9 +129,9 @@ fn put_text_answer(
     if key == b"SendTargets".as_slice() {
         put_targets(out, target, kind, told, value)
     } else if Key::named(key).is_some() {
-        put_pair(out, key, b"Reject")
+        push_pair(out, key, b"Reject")
     } else {
-        put_pair(out, key, b"NotUnderstood")
+        push_pair(out, key, b"NotUnderstood")
     }
 }
 
@@ -152,6 +151,16 @@ fn put_targets(
     } else if kind == Kind::Discovery {
         out.extend_from_slice(told)
     } else {
-        put_pair(out, b"SendTargets", b"Reject")
+        push_pair(out, b"SendTargets", b"Reject")
     }
+}
+
+// Appends a pair, for which memory is taken.
+fn push_pair(out: &mut Vec<u8>, key: &[u8], value: &[u8]) -> Result<(), AllocError>
+    ensures { OnOk result (out.new.items ≡ out.old.items ++ spelled key.now value.now) }
+{
+    out.extend_from_slice(key)?;
+    out.extend_from_slice(b"=")?;
+    out.extend_from_slice(value)?;
+    out.extend_from_slice(b"\0")
 }

@@ -19,6 +19,7 @@ pub fn parted(bytes: &[u8], byte: u8) -> Option<(&[u8], &[u8])>
     ensures none { IfNone result (position_or_len (is_byte byte) bytes.now ≡ length bytes.now) }
     ensures some { IfSome result (λ r. position_or_len (is_byte byte) bytes.now < length bytes.now) }
     ensures before { IfSome result (λ r. r.0.now ≡ before_first (is_byte byte) bytes.now) }
+    ensures before_shorter { IfSome result (λ r. length r.0.now < length bytes.now) }
     ensures behind { IfSome result (λ r. r.1.now ≡ after_first (is_byte byte) bytes.now) }
     ensures shorter { IfSome result (λ r. length r.1.now < length bytes.now) }
 {
@@ -70,6 +71,7 @@ pub fn first_pair(text: &[u8]) -> Option<First<'_>>
     ensures none { IfNone result (pairs text.now ≡ []) }
     ensures some { IfSome result (λ f.
         pairs text.now ≡ record { key = f.key.now; value = f.value.now } ∷ pairs f.rest.now) }
+    ensures value_within { IfSome result (λ f. length f.value.now ≤ length text.now) }
     ensures shorter { IfSome result (λ f. length f.rest.now < length text.now) }
 {
     let Some((part, rest)) = parted(text, 0) else {
@@ -83,6 +85,7 @@ pub fn first_pair(text: &[u8]) -> Option<First<'_>>
 fn pair_of(part: &[u8]) -> (&[u8], &[u8])
     ensures key { result.0.now ≡ before_first (is_byte 61) part.now }
     ensures value { result.1.now ≡ after_first (is_byte 61) part.now }
+    ensures within { length result.1.now ≤ length part.now }
 {
     match parted(part, b'=') {
         Some((key, value)) => (key, value),
@@ -92,7 +95,8 @@ fn pair_of(part: &[u8]) -> (&[u8], &[u8])
 
 /// The value of the first pair of a text with this key.
 pub fn found<'a>(text: &'a [u8], key: &[u8]) -> Option<&'a [u8]>
-    ensures { option_map (λ v. v.now) result ≡ found key.now (pairs text.now) }
+    ensures value { option_map (λ v. v.now) result ≡ found key.now (pairs text.now) }
+    ensures within { IfSome result (λ v. length v.now ≤ length text.now) }
 {
     let mut rest = text;
     while let Some(first) = first_pair(rest) {

@@ -1,6 +1,6 @@
 //! Each key: values below, in and above its range, of a wrong form, and absent.
-use crate::scripts::{Ends, STAYS_1, Step, TO_1, bytes, run};
-use login::{Key, LoginEnd, Value, Word, in_force};
+use crate::scripts::{STAYS_1, Step, TO_1, bytes, run};
+use login::{Key, LONGEST_RESPONSE, LoginEnd, Value, Word, in_force};
 use std::test::*;
 
 /// A key, an offer in stage 1, the answer to it, and the key's value in force then.
@@ -9,7 +9,7 @@ pub type Row = (Key, &'static str, &'static str, Value);
 const BEGIN: [Step; 1] = [(
     TO_1,
     "InitiatorName=iqn.2000-01.test:a|TargetName=iqn.2000-01.test:array|",
-    Ends::Answer,
+    LoginEnd::Answer,
     "TargetPortalGroupTag=1|",
 )];
 
@@ -25,10 +25,11 @@ pub fn check(rt: &HostRuntime, rows: &[Row]) -> Result<(), Fail> {
         let end = if answer.is_empty() { "" } else { "|" };
         let want = format!(in rt.alloc(); "{OWN}{answer}{end}")?;
         let want = bytes(rt.alloc(), &want)?;
-        let LoginEnd::Answer(answered) = login.request(STAYS_1, &request) else {
+        let mut out = Vec::with_capacity(rt.alloc(), LONGEST_RESPONSE as usize)?;
+        if login.request(&mut out, STAYS_1, &request) != LoginEnd::Answer {
             return Err(Fail::from("not answered"));
-        };
-        if answered.as_slice() != want.as_slice() {
+        }
+        if out.as_slice() != want.as_slice() {
             return Err(Fail::new(format_args!("{offer}: another answer")));
         }
         let found = in_force(&request, *key);

@@ -1,6 +1,6 @@
 //! Logins that are accepted, request by request.
-use crate::scripts::{Ends, FROM_0, FROM_1, MORE_0, MORE_1, STAYS, STAYS_1, Step, TO_1, run};
-use login::{Kind, Parameters};
+use crate::scripts::{FROM_0, FROM_1, MORE_0, MORE_1, STAYS, STAYS_1, Step, TO_1, run};
+use login::{Kind, LoginEnd, LoginFlags, LoginStatus, Parameters};
 use std::test::*;
 
 /// The values where nothing is agreed on (RFC 7143, section 13).
@@ -25,7 +25,7 @@ const STAGE_0_THEN_1: [Step; 2] = [
         TO_1,
         "InitiatorName=iqn.2000-01.test:a|InitiatorAlias=host|TargetName=iqn.2000-01.test:array|\
          SessionType=Normal|AuthMethod=CHAP,None|",
-        Ends::Answer,
+        LoginEnd::Answer,
         "TargetPortalGroupTag=1|AuthMethod=None|",
     ),
     (
@@ -34,7 +34,7 @@ const STAGE_0_THEN_1: [Step; 2] = [
          OFMarker=No|ErrorRecoveryLevel=0|InitialR2T=No|ImmediateData=No|MaxBurstLength=131072|\
          FirstBurstLength=262144|MaxOutstandingR2T=1|MaxConnections=1|DataPDUInOrder=Yes|\
          DataSequenceInOrder=Yes|MaxRecvDataSegmentLength=0x10000|TaskReporting=RFC3720,FastAbort|X-vendor=1|",
-        Ends::Accepted,
+        LoginEnd::Accepted,
         "MaxRecvDataSegmentLength=65536|HeaderDigest=None|DataDigest=None|DefaultTime2Wait=2|\
          DefaultTime2Retain=0|IFMarker=No|OFMarker=No|ErrorRecoveryLevel=0|InitialR2T=Yes|ImmediateData=No|\
          MaxBurstLength=131072|FirstBurstLength=65536|MaxOutstandingR2T=1|MaxConnections=1|\
@@ -46,7 +46,7 @@ const STAGE_0_THEN_1: [Step; 2] = [
 const STAGE_1_ALONE: [Step; 1] = [(
     FROM_1,
     "InitiatorName=iqn.2000-01.test:a|TargetName=iqn.2000-01.test:array|SessionType=Normal|",
-    Ends::Accepted,
+    LoginEnd::Accepted,
     "TargetPortalGroupTag=1|MaxRecvDataSegmentLength=65536|",
 )];
 
@@ -55,7 +55,7 @@ const NAMES_SENT_AGAIN: [Step; 2] = [
     (
         TO_1,
         "InitiatorName=iqn.2000-01.test:a|TargetName=iqn.2000-01.test:array|SessionType=Normal|AuthMethod=None|",
-        Ends::Answer,
+        LoginEnd::Answer,
         "TargetPortalGroupTag=1|AuthMethod=None|",
     ),
     (
@@ -63,7 +63,7 @@ const NAMES_SENT_AGAIN: [Step; 2] = [
         "InitiatorName=iqn.2000-01.test:a|TargetName=iqn.2000-01.test:array|SessionType=Normal|\
          HeaderDigest=CRC32C,None|InitialR2T=No|MaxBurstLength=16776192|FirstBurstLength=262144|\
          MaxRecvDataSegmentLength=262144|",
-        Ends::Accepted,
+        LoginEnd::Accepted,
         "MaxRecvDataSegmentLength=65536|HeaderDigest=None|InitialR2T=Yes|MaxBurstLength=262144|FirstBurstLength=65536|",
     ),
 ];
@@ -72,7 +72,7 @@ const NAMES_SENT_AGAIN: [Step; 2] = [
 const STAGE_0_ALONE: [Step; 1] = [(
     FROM_0,
     "InitiatorName=iqn.2000-01.test:a|TargetName=iqn.2000-01.test:array|AuthMethod=None|",
-    Ends::Accepted,
+    LoginEnd::Accepted,
     "TargetPortalGroupTag=1|AuthMethod=None|",
 )];
 
@@ -80,30 +80,30 @@ const STAGE_0_ALONE: [Step; 1] = [(
 const DISCOVERY: [Step; 1] = [(
     FROM_1,
     "InitiatorName=iqn.2000-01.test:a|SessionType=Discovery|MaxRecvDataSegmentLength=32768|",
-    Ends::Accepted,
+    LoginEnd::Accepted,
     "MaxRecvDataSegmentLength=65536|",
 )];
 
 // A text that goes on in the next requests, cut inside a value and inside a key.
 const PARTS: [Step; 5] = [
-    (MORE_0, "InitiatorName=iqn.2000-01", Ends::Answer, ""),
+    (MORE_0, "InitiatorName=iqn.2000-01", LoginEnd::Answer, ""),
     (
         MORE_0,
         ".test:a|TargetName=iqn.2000-01.test:array|Auth",
-        Ends::Answer,
+        LoginEnd::Answer,
         "",
     ),
     (
         TO_1,
         "Method=None|",
-        Ends::Answer,
+        LoginEnd::Answer,
         "TargetPortalGroupTag=1|AuthMethod=None|",
     ),
-    (MORE_1, "ImmediateData=N", Ends::Answer, ""),
+    (MORE_1, "ImmediateData=N", LoginEnd::Answer, ""),
     (
         FROM_1,
         "o|",
-        Ends::Accepted,
+        LoginEnd::Accepted,
         "MaxRecvDataSegmentLength=65536|ImmediateData=No|",
     ),
 ];
@@ -113,16 +113,16 @@ const SAID_ONCE: [Step; 3] = [
     (
         STAYS_1,
         "InitiatorName=iqn.2000-01.test:a|TargetName=iqn.2000-01.test:array|",
-        Ends::Answer,
+        LoginEnd::Answer,
         "TargetPortalGroupTag=1|MaxRecvDataSegmentLength=65536|",
     ),
     (
         STAYS_1,
         "ImmediateData=No|",
-        Ends::Answer,
+        LoginEnd::Answer,
         "ImmediateData=No|",
     ),
-    (FROM_1, "", Ends::Accepted, ""),
+    (FROM_1, "", LoginEnd::Accepted, ""),
 ];
 
 // What the first request said of names and type stands.
@@ -130,16 +130,48 @@ const FIRST_STANDS: [Step; 2] = [
     (
         STAYS,
         "InitiatorName=iqn.2000-01.test:a|TargetName=iqn.2000-01.test:array|",
-        Ends::Answer,
+        LoginEnd::Answer,
         "TargetPortalGroupTag=1|",
     ),
     (
         FROM_0,
         "InitiatorName=iqn.2000-01.test:b|TargetName=other|SessionType=Discovery|SessionType=None|",
-        Ends::Accepted,
+        LoginEnd::Accepted,
         "",
     ),
 ];
+
+// A refusal in a run changes nothing: the text goes on where it stood, cut inside the name of the initiator.
+const REFUSED_IN_A_RUN: [Step; 6] = [
+    (MORE_0, "InitiatorName=iqn.2000-01", LoginEnd::Answer, ""),
+    (
+        STAYS_1,
+        ".test:b|",
+        LoginEnd::Refused(LoginStatus::InitiatorError),
+        "",
+    ),
+    (
+        FROM_0,
+        ".test:b|TargetName=iqn.2000-01.test:array|AuthMethod=CHAP|",
+        LoginEnd::Refused(LoginStatus::AuthenticationFailure),
+        "",
+    ),
+    (
+        OF_SESSION,
+        ".test:c|TargetName=iqn.2000-01.test:array|",
+        LoginEnd::NamesSession,
+        "iqn.2000-01.test:c",
+    ),
+    (MORE_0, ".test:a|TargetName=iqn.2000", LoginEnd::Answer, ""),
+    (
+        FROM_0,
+        "-01.test:array|",
+        LoginEnd::Accepted,
+        "TargetPortalGroupTag=1|",
+    ),
+];
+
+const OF_SESSION: LoginFlags = LoginFlags { tsih: 7, ..FROM_0 };
 
 // A login that is accepted, with its session type and its values.
 fn check(
@@ -151,10 +183,10 @@ fn check(
 ) -> Result<(), Fail> {
     let login = run(rt, name, steps)?;
     let found = login.parameters();
-    if found != want || login.kind() != Some(kind) {
+    if found != want || login.session_kind() != kind {
         return Err(Fail::new(format_args!("{name}: {found:?}")));
     }
-    if login.initiator().ok_or("a name")? != b"iqn.2000-01.test:a".as_slice() {
+    if login.initiator() != b"iqn.2000-01.test:a".as_slice() {
         return Err(Fail::new(format_args!("{name}: another initiator")));
     }
     Ok(())
@@ -216,6 +248,13 @@ fn accepted(rt: HostRuntime) -> Result<(), Fail> {
             immediate_data: false,
             ..DEFAULTS
         },
+    )?;
+    check(
+        &rt,
+        "refused in a run",
+        &REFUSED_IN_A_RUN,
+        Kind::Normal,
+        DEFAULTS,
     )?;
     check(
         &rt,

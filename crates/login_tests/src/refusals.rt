@@ -1,6 +1,6 @@
 //! Logins that are refused, each by the first check that it does not pass.
-use crate::scripts::{Ends, FROM_0, FROM_1, STAYS, Step, TO_1, next, run};
-use login::{LoginFlags, LoginStatus};
+use crate::scripts::{FROM_0, FROM_1, STAYS, Step, TO_1, next, run};
+use login::{LoginEnd, LoginFlags, LoginStatus};
 use std::test::*;
 
 const T_WITH_C: LoginFlags = LoginFlags {
@@ -53,62 +53,62 @@ const NEWER_IN_3: LoginFlags = LoginFlags {
 const OF_SESSION: LoginFlags = LoginFlags { tsih: 7, ..FROM_1 };
 
 /// What is wrong with a first request; its flags and text; and what it comes to.
-type Row = (&'static str, LoginFlags, &'static str, Ends);
+type Row = (&'static str, LoginFlags, &'static str, LoginEnd);
 
 const FLAGS: [Row; 9] = [
     (
         "T with C",
         T_WITH_C,
         "InitiatorName=iqn.2000-01.test:a|TargetName=iqn.2000-01.test:array|",
-        Ends::Refused(LoginStatus::InitiatorError),
+        LoginEnd::Refused(LoginStatus::InitiatorError),
     ),
     (
         "begins in stage 3",
         IN_3,
         "InitiatorName=iqn.2000-01.test:a|TargetName=iqn.2000-01.test:array|",
-        Ends::Refused(LoginStatus::InitiatorError),
+        LoginEnd::Refused(LoginStatus::InitiatorError),
     ),
     (
         "begins in stage 2",
         IN_2,
         "InitiatorName=iqn.2000-01.test:a|TargetName=iqn.2000-01.test:array|",
-        Ends::Refused(LoginStatus::InitiatorError),
+        LoginEnd::Refused(LoginStatus::InitiatorError),
     ),
     (
         "from 0 to 2",
         FROM_0_TO_2,
         "InitiatorName=iqn.2000-01.test:a|TargetName=iqn.2000-01.test:array|",
-        Ends::Refused(LoginStatus::InitiatorError),
+        LoginEnd::Refused(LoginStatus::InitiatorError),
     ),
     (
         "from 0 to 0",
         FROM_0_TO_0,
         "InitiatorName=iqn.2000-01.test:a|TargetName=iqn.2000-01.test:array|",
-        Ends::Refused(LoginStatus::InitiatorError),
+        LoginEnd::Refused(LoginStatus::InitiatorError),
     ),
     (
         "from 1 to 1",
         FROM_1_TO_1,
         "InitiatorName=iqn.2000-01.test:a|TargetName=iqn.2000-01.test:array|",
-        Ends::Refused(LoginStatus::InitiatorError),
+        LoginEnd::Refused(LoginStatus::InitiatorError),
     ),
     (
         "a newer version",
         NEWER,
         "InitiatorName=iqn.2000-01.test:a|TargetName=iqn.2000-01.test:array|",
-        Ends::Refused(LoginStatus::UnsupportedVersion),
+        LoginEnd::Refused(LoginStatus::UnsupportedVersion),
     ),
     (
         "the flags come before the version",
         NEWER_IN_3,
         "InitiatorName=iqn.2000-01.test:a|TargetName=iqn.2000-01.test:array|",
-        Ends::Refused(LoginStatus::InitiatorError),
+        LoginEnd::Refused(LoginStatus::InitiatorError),
     ),
     (
         "the version comes before the text",
         NEWER,
         "InitiatorName",
-        Ends::Refused(LoginStatus::UnsupportedVersion),
+        LoginEnd::Refused(LoginStatus::UnsupportedVersion),
     ),
 ];
 
@@ -117,63 +117,63 @@ const TEXTS: [Row; 13] = [
         "no equals sign",
         FROM_1,
         "InitiatorName=iqn.2000-01.test:a|TargetName=iqn.2000-01.test:array|InitialR2T|",
-        Ends::Refused(LoginStatus::InitiatorError),
+        LoginEnd::Refused(LoginStatus::InitiatorError),
     ),
     (
         "no zero byte",
         FROM_1,
         "InitiatorName=iqn.2000-01.test:a|TargetName=iqn.2000-01.test:array|InitialR2T=No",
-        Ends::Refused(LoginStatus::InitiatorError),
+        LoginEnd::Refused(LoginStatus::InitiatorError),
     ),
     (
         "an empty key",
         FROM_1,
         "InitiatorName=iqn.2000-01.test:a|TargetName=iqn.2000-01.test:array|=No|",
-        Ends::Refused(LoginStatus::InitiatorError),
+        LoginEnd::Refused(LoginStatus::InitiatorError),
     ),
     (
         "an empty pair",
         FROM_1,
         "InitiatorName=iqn.2000-01.test:a|TargetName=iqn.2000-01.test:array||",
-        Ends::Refused(LoginStatus::InitiatorError),
+        LoginEnd::Refused(LoginStatus::InitiatorError),
     ),
     (
         "a key of 64 bytes",
         FROM_1,
         "InitiatorName=iqn.2000-01.test:a|TargetName=iqn.2000-01.test:array|\
          kkkkkkkkkkkkkkkkkkkkkkkkkkkkkkkkkkkkkkkkkkkkkkkkkkkkkkkkkkkkkkkk=1|",
-        Ends::Refused(LoginStatus::InitiatorError),
+        LoginEnd::Refused(LoginStatus::InitiatorError),
     ),
     (
         "a key twice",
         FROM_1,
         "InitiatorName=iqn.2000-01.test:a|TargetName=iqn.2000-01.test:array|InitialR2T=No|ImmediateData=No|\
          InitialR2T=No|",
-        Ends::Refused(LoginStatus::InitiatorError),
+        LoginEnd::Refused(LoginStatus::InitiatorError),
     ),
     (
         "an unknown key twice",
         FROM_1,
         "InitiatorName=iqn.2000-01.test:a|TargetName=iqn.2000-01.test:array|X-a=1|X-a=2|",
-        Ends::Refused(LoginStatus::InitiatorError),
+        LoginEnd::Refused(LoginStatus::InitiatorError),
     ),
     (
         "a name twice",
         FROM_1,
         "InitiatorName=iqn.2000-01.test:a|InitiatorName=iqn.2000-01.test:a|TargetName=iqn.2000-01.test:array|",
-        Ends::Refused(LoginStatus::InitiatorError),
+        LoginEnd::Refused(LoginStatus::InitiatorError),
     ),
     (
         "the text comes before the names",
         FROM_1,
         "X-a=1|X-a=2|",
-        Ends::Refused(LoginStatus::InitiatorError),
+        LoginEnd::Refused(LoginStatus::InitiatorError),
     ),
     (
         "an empty InitiatorName",
         FROM_1,
         "InitiatorName=|TargetName=iqn.2000-01.test:array|",
-        Ends::Refused(LoginStatus::InitiatorError),
+        LoginEnd::Refused(LoginStatus::InitiatorError),
     ),
     (
         "an InitiatorName of 224 bytes",
@@ -182,7 +182,7 @@ const TEXTS: [Row; 13] = [
          aaaaaaaaaaaaaaaaaaaaaaaaaaaaaaaaaaaaaaaaaaaaaaaaaaaaaaaaaaaaaaaaaaaaaaaaaaaaaaaaaaaaaaaaaaaaaaaaaaaa\
          aaaaaaaaaaaaaaaaaaaaaaaaaaaaaaaaaaaaaaaaaaaaaaaaaaaaaaaaaaaaaaaaaaaaaaaaaaaaaaaaaaaaaaaaaaaaaaaaaaaa\
          aaaaaaaaaaaaaaaaaaaa|TargetName=iqn.2000-01.test:array|",
-        Ends::Refused(LoginStatus::InitiatorError),
+        LoginEnd::Refused(LoginStatus::InitiatorError),
     ),
     (
         "a TargetName of 224 bytes",
@@ -191,7 +191,7 @@ const TEXTS: [Row; 13] = [
          aaaaaaaaaaaaaaaaaaaaaaaaaaaaaaaaaaaaaaaaaaaaaaaaaaaaaaaaaaaaaaaaaaaaaaaaaaaaaaaaaaaaaaaaaaaaaaaaaaaa\
          aaaaaaaaaaaaaaaaaaaaaaaaaaaaaaaaaaaaaaaaaaaaaaaaaaaaaaaaaaaaaaaaaaaaaaaaaaaaaaaaaaaaaaaaaaaaaaaaaaaa\
          aaaaaaaaaaaaaaaaaaaa|",
-        Ends::Refused(LoginStatus::InitiatorError),
+        LoginEnd::Refused(LoginStatus::InitiatorError),
     ),
     (
         "a TargetName of 223 bytes",
@@ -200,7 +200,7 @@ const TEXTS: [Row; 13] = [
          aaaaaaaaaaaaaaaaaaaaaaaaaaaaaaaaaaaaaaaaaaaaaaaaaaaaaaaaaaaaaaaaaaaaaaaaaaaaaaaaaaaaaaaaaaaaaaaaaaaa\
          aaaaaaaaaaaaaaaaaaaaaaaaaaaaaaaaaaaaaaaaaaaaaaaaaaaaaaaaaaaaaaaaaaaaaaaaaaaaaaaaaaaaaaaaaaaaaaaaaaaa\
          aaaaaaaaaaaaaaaaaaa|",
-        Ends::Refused(LoginStatus::NotFound),
+        LoginEnd::Refused(LoginStatus::NotFound),
     ),
 ];
 
@@ -209,92 +209,96 @@ const NAMES: [Row; 14] = [
         "no InitiatorName",
         FROM_1,
         "TargetName=iqn.2000-01.test:array|SessionType=Normal|",
-        Ends::Refused(LoginStatus::MissingParameter),
+        LoginEnd::Refused(LoginStatus::MissingParameter),
     ),
     (
         "no InitiatorName, and another session type",
         FROM_1,
         "TargetName=iqn.2000-01.test:array|SessionType=Boot|",
-        Ends::Refused(LoginStatus::MissingParameter),
+        LoginEnd::Refused(LoginStatus::MissingParameter),
     ),
     (
         "another session type",
         FROM_1,
         "InitiatorName=iqn.2000-01.test:a|SessionType=Boot|",
-        Ends::Refused(LoginStatus::SessionTypeNotSupported),
+        LoginEnd::Refused(LoginStatus::SessionTypeNotSupported),
     ),
     (
         "an empty session type",
         FROM_1,
         "InitiatorName=iqn.2000-01.test:a|TargetName=iqn.2000-01.test:array|SessionType=|",
-        Ends::Refused(LoginStatus::SessionTypeNotSupported),
+        LoginEnd::Refused(LoginStatus::SessionTypeNotSupported),
     ),
     (
         "no TargetName",
         FROM_1,
         "InitiatorName=iqn.2000-01.test:a|SessionType=Normal|",
-        Ends::Refused(LoginStatus::MissingParameter),
+        LoginEnd::Refused(LoginStatus::MissingParameter),
     ),
     (
         "no TargetName and no SessionType",
         FROM_1,
         "InitiatorName=iqn.2000-01.test:a|",
-        Ends::Refused(LoginStatus::MissingParameter),
+        LoginEnd::Refused(LoginStatus::MissingParameter),
     ),
     (
         "an unknown TargetName",
         FROM_1,
         "InitiatorName=iqn.2000-01.test:a|TargetName=iqn.2000-01.test:other|",
-        Ends::Refused(LoginStatus::NotFound),
+        LoginEnd::Refused(LoginStatus::NotFound),
     ),
     (
         "an empty TargetName",
         FROM_1,
         "InitiatorName=iqn.2000-01.test:a|TargetName=|",
-        Ends::Refused(LoginStatus::NotFound),
+        LoginEnd::Refused(LoginStatus::NotFound),
     ),
     (
         "an unknown TargetName for discovery",
         FROM_1,
         "InitiatorName=iqn.2000-01.test:a|SessionType=Discovery|TargetName=iqn.2000-01.test:other|",
-        Ends::Refused(LoginStatus::NotFound),
+        LoginEnd::Refused(LoginStatus::NotFound),
     ),
     (
         "the target comes before the session",
         OF_SESSION,
         "InitiatorName=iqn.2000-01.test:a|TargetName=iqn.2000-01.test:other|",
-        Ends::Refused(LoginStatus::NotFound),
+        LoginEnd::Refused(LoginStatus::NotFound),
     ),
     (
         "a session that is named",
         OF_SESSION,
         "InitiatorName=iqn.2000-01.test:a|TargetName=iqn.2000-01.test:array|",
-        Ends::NamesSession,
+        LoginEnd::NamesSession,
     ),
     (
         "the session comes before authentication",
         OF_SESSION,
         "InitiatorName=iqn.2000-01.test:a|TargetName=iqn.2000-01.test:array|AuthMethod=CHAP|",
-        Ends::NamesSession,
+        LoginEnd::NamesSession,
     ),
     (
         "CHAP alone",
         FROM_1,
         "InitiatorName=iqn.2000-01.test:a|TargetName=iqn.2000-01.test:array|AuthMethod=CHAP|",
-        Ends::Refused(LoginStatus::AuthenticationFailure),
+        LoginEnd::Refused(LoginStatus::AuthenticationFailure),
     ),
     (
         "no method",
         FROM_1,
         "InitiatorName=iqn.2000-01.test:a|TargetName=iqn.2000-01.test:array|AuthMethod=|",
-        Ends::Refused(LoginStatus::AuthenticationFailure),
+        LoginEnd::Refused(LoginStatus::AuthenticationFailure),
     ),
 ];
 
 // A first request, and behind it one that is answered, since a refusal changes nothing.
 fn check(rt: &HostRuntime, rows: &[Row]) -> Result<(), Fail> {
     for (name, flags, text, end) in rows {
-        let mut login = run(rt, name, &[(*flags, text, *end, "")])?;
+        let told = match end {
+            LoginEnd::NamesSession => "iqn.2000-01.test:a",
+            _ => "",
+        };
+        let mut login = run(rt, name, &[(*flags, text, *end, told)])?;
         next(rt, &mut login, name, GOOD)?;
     }
     Ok(())
@@ -303,7 +307,7 @@ fn check(rt: &HostRuntime, rows: &[Row]) -> Result<(), Fail> {
 const GOOD: Step = (
     FROM_1,
     "InitiatorName=iqn.2000-01.test:a|TargetName=iqn.2000-01.test:array|",
-    Ends::Accepted,
+    LoginEnd::Accepted,
     "TargetPortalGroupTag=1|MaxRecvDataSegmentLength=65536|",
 );
 
@@ -327,37 +331,37 @@ const LATER: [Row; 6] = [
         "back to stage 0",
         STAYS,
         "",
-        Ends::Refused(LoginStatus::InitiatorError),
+        LoginEnd::Refused(LoginStatus::InitiatorError),
     ),
     (
         "from stage 0 behind it",
         FROM_0,
         "",
-        Ends::Refused(LoginStatus::InitiatorError),
+        LoginEnd::Refused(LoginStatus::InitiatorError),
     ),
     (
         "a key of the first request",
         FROM_1,
         "ImmediateData=Yes|",
-        Ends::Refused(LoginStatus::InitiatorError),
+        LoginEnd::Refused(LoginStatus::InitiatorError),
     ),
     (
         "a key twice",
         FROM_1,
         "InitialR2T=No|InitialR2T=No|",
-        Ends::Refused(LoginStatus::InitiatorError),
+        LoginEnd::Refused(LoginStatus::InitiatorError),
     ),
     (
         "no pair",
         FROM_1,
         "InitialR2T|",
-        Ends::Refused(LoginStatus::InitiatorError),
+        LoginEnd::Refused(LoginStatus::InitiatorError),
     ),
     (
         "CHAP alone",
         FROM_1,
         "AuthMethod=CHAP|",
-        Ends::Refused(LoginStatus::AuthenticationFailure),
+        LoginEnd::Refused(LoginStatus::AuthenticationFailure),
     ),
 ];
 
@@ -374,13 +378,13 @@ fn later_requests(rt: HostRuntime) -> Result<(), Fail> {
 const FIRST: Step = (
     TO_1,
     "InitiatorName=iqn.2000-01.test:a|TargetName=iqn.2000-01.test:array|ImmediateData=No|",
-    Ends::Answer,
+    LoginEnd::Answer,
     "TargetPortalGroupTag=1|ImmediateData=No|",
 );
 
 const LAST: Step = (
     FROM_1,
     "",
-    Ends::Accepted,
+    LoginEnd::Accepted,
     "MaxRecvDataSegmentLength=65536|",
 );

@@ -1,21 +1,13 @@
 //! Logins as lists of requests, each with what it comes to.
-use login::{LoginEnd, LoginFlags, LoginStatus, Negotiation};
+use login::{LONGEST_RESPONSE, LoginEnd, LoginFlags, Negotiation};
 use std::alloc::Global;
 use std::test::*;
 
 pub const TARGET: &str = "iqn.2000-01.test:array";
 
-/// What a request comes to.
-#[derive(Clone, Copy, Debug, PartialEq, Eq)]
-pub enum Ends {
-    Answer,
-    Accepted,
-    Refused(LoginStatus),
-    NamesSession,
-}
-
-/// A request, its text, what it comes to and the text of its response. The bars of a text stand for its zero bytes.
-pub type Step = (LoginFlags, &'static str, Ends, &'static str);
+/// A request, its text, what it comes to, and what stands in the memory then: the text of its response, nothing behind a
+/// refusal, or the InitiatorName. The bars of a text stand for its zero bytes.
+pub type Step = (LoginFlags, &'static str, LoginEnd, &'static str);
 
 /// A request of a stage, without T, C, version and TSIH.
 pub const STAYS: LoginFlags = LoginFlags {
@@ -106,17 +98,12 @@ pub fn next(rt: &HostRuntime, login: &mut Negotiation, name: &str, step: Step) -
     let (flags, text, end, answer) = step;
     let want = bytes(rt.alloc(), answer)?;
     let request = bytes(rt.alloc(), text)?;
-    let (ended, answered) = match login.request(flags, &request) {
-        LoginEnd::Answer(answer) => (Ends::Answer, answer),
-        LoginEnd::Accepted(answer) => (Ends::Accepted, answer),
-        LoginEnd::Refused(status) => (Ends::Refused(status), Vec::new(rt.alloc())),
-        LoginEnd::NamesSession => (Ends::NamesSession, Vec::new(rt.alloc())),
-        LoginEnd::NoMemory => return Err(Fail::from("no memory")),
-    };
+    let mut out = Vec::with_capacity(rt.alloc(), LONGEST_RESPONSE as usize)?;
+    let ended = login.request(&mut out, flags, &request);
     if ended != end {
         return Err(Fail::new(format_args!("{name}: {text}: {ended:?}")));
     }
-    if answered.as_slice() != want.as_slice() {
+    if out.as_slice() != want.as_slice() {
         return Err(Fail::new(format_args!("{name}: {text}: another answer")));
     }
     Ok(())
