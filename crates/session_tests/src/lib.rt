@@ -10,6 +10,8 @@ mod data_out_faults;
 #[cfg(test)]
 mod data_outs;
 #[cfg(test)]
+mod fixed;
+#[cfg(test)]
 mod logout;
 #[cfg(test)]
 mod long_write;
