@@ -10,7 +10,13 @@ mod data_out_faults;
 #[cfg(test)]
 mod data_outs;
 #[cfg(test)]
+mod first_commands;
+#[cfg(test)]
 mod fixed;
+#[cfg(test)]
+mod login;
+#[cfg(test)]
+mod login_requests;
 #[cfg(test)]
 mod logout;
 #[cfg(test)]

@@ -186,6 +186,16 @@ pub fn run(rt: &impl Abort, alloc: Global, rows: &[Row]) -> Result<(), Fail> {
     Ok(())
 }
 
+/// Serves each row, cut in two at each place, and compares.
+pub fn run_cut(rt: &impl Abort, alloc: Global, rows: &[Row]) -> Result<(), Fail> {
+    for row in rows {
+        let input = spelled(alloc, row.input)?;
+        let output = spelled(alloc, row.output)?;
+        cut_anywhere(rt, alloc, row, &input, &output)?;
+    }
+    Ok(())
+}
+
 /// The most bytes of an input that is cut at each of its places.
 const FEW_BYTES: usize = 96;
 
@@ -200,9 +210,21 @@ pub fn run_bytes(
     run_reads(rt, alloc, row, (input, output), WHOLE)?;
     run_reads(rt, alloc, row, (input, output), ONE_BYTE)?;
     if input.len() <= FEW_BYTES {
-        for first in 1..input.len() {
-            run_reads(rt, alloc, row, (input, output), Calls { first, ..WHOLE })?;
-        }
+        cut_anywhere(rt, alloc, row, input, output)?;
+    }
+    Ok(())
+}
+
+// Serves these bytes of a row, in two at each place.
+fn cut_anywhere(
+    rt: &impl Abort,
+    alloc: Global,
+    row: &Row,
+    input: &[u8],
+    output: &[u8],
+) -> Result<(), Fail> {
+    for first in 1..input.len() {
+        run_reads(rt, alloc, row, (input, output), Calls { first, ..WHOLE })?;
     }
     Ok(())
 }
