@@ -16,7 +16,15 @@ mod fixed;
 #[cfg(test)]
 mod login;
 #[cfg(test)]
+mod login_later;
+#[cfg(test)]
+mod login_names;
+#[cfg(test)]
+mod login_refusals;
+#[cfg(test)]
 mod login_requests;
+#[cfg(test)]
+mod login_texts;
 #[cfg(test)]
 mod logout;
 #[cfg(test)]

@@ -14,7 +14,7 @@ const ROWS: &[Row] = &[
                 &[(1, &[0x81]), (7, &[102])],
                 Segment::Bytes(
                     b"InitiatorName=iqn.2000-01.test:a\0TargetName=iqn.2000-01.test:array\0\
-                SessionType=Normal\0AuthMethod=None\0",
+                    SessionType=Normal\0AuthMethod=None\0",
                 ),
             ),
             PduRow(
@@ -22,8 +22,8 @@ const ROWS: &[Row] = &[
                 &[(7, &[205])],
                 Segment::Bytes(
                     b"InitiatorName=iqn.2000-01.test:a\0TargetName=iqn.2000-01.test:array\0\
-                SessionType=Normal\0HeaderDigest=CRC32C,None\0InitialR2T=No\0\
-                MaxBurstLength=16776192\0FirstBurstLength=262144\0MaxRecvDataSegmentLength=262144\0",
+                    SessionType=Normal\0HeaderDigest=CRC32C,None\0InitialR2T=No\0\
+                    MaxBurstLength=16776192\0FirstBurstLength=262144\0MaxRecvDataSegmentLength=262144\0",
                 ),
             ),
         ],
@@ -38,7 +38,7 @@ const ROWS: &[Row] = &[
                 &[(7, &[109]), (24, &[0, 0, 0, 2])],
                 Segment::Bytes(
                     b"MaxRecvDataSegmentLength=65536\0HeaderDigest=None\0InitialR2T=Yes\0\
-                MaxBurstLength=262144\0FirstBurstLength=65536\0",
+                    MaxBurstLength=262144\0FirstBurstLength=65536\0",
                 ),
             ),
         ],
@@ -53,7 +53,7 @@ const ROWS: &[Row] = &[
                 &[(7, &[85])],
                 Segment::Bytes(
                     b"InitiatorName=iqn.2000-01.test:b\0TargetName=iqn.2000-01.test:b\0\
-                SessionType=Discovery\0",
+                    SessionType=Discovery\0",
                 ),
             ),
         ],
