@@ -1,5 +1,5 @@
 //! The first commands behind a login: their numbers (RFC 7143, 4.2.2 and 11.12.8), and what is none.
-use crate::login::{BEGUN, BY_LOGIN, NAMES, NAMES_AND_TYPE, ONE_LOGIN, SAID};
+use crate::login::{BEGUN, BY_LOGIN, NAMES_AND_TYPE, ONE_LOGIN, SAID, STAGE_1_NEXT, TO_STAGE_1};
 use crate::run::{Row, TEST, run};
 use session::End;
 use std::test::*;
@@ -28,17 +28,13 @@ const ROWS: &[Row] = &[
     Row {
         name: "behind two requests the first status has StatSN 3",
         input: &[
-            PduRow(&LOGIN, &[(1, &[0x81]), (7, &[67])], Segment::Bytes(NAMES)),
+            TO_STAGE_1,
             PduRow(&LOGIN, &[], Segment::None),
             PduRow(&TEST_UNIT_READY, &[], Segment::None),
         ],
         asked: &[TEST],
         output: &[
-            PduRow(
-                &LOGGED_IN,
-                &[(1, &[0x81]), (7, &[23]), (14, &[0, 0])],
-                Segment::Bytes(b"TargetPortalGroupTag=1\0"),
-            ),
+            STAGE_1_NEXT,
             PduRow(
                 &LOGGED_IN,
                 &[(7, &[31]), (24, &[0, 0, 0, 2])],

@@ -16,9 +16,13 @@ mod fixed;
 #[cfg(test)]
 mod login;
 #[cfg(test)]
+mod login_faults;
+#[cfg(test)]
 mod login_later;
 #[cfg(test)]
 mod login_names;
+#[cfg(test)]
+mod login_others;
 #[cfg(test)]
 mod login_refusals;
 #[cfg(test)]

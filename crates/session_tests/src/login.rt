@@ -24,7 +24,16 @@ pub const ONE_LOGIN: PduRow = PduRow(&LOGIN, &[(7, &[86])], Segment::Bytes(NAMES
 
 pub const BEGUN: PduRow = PduRow(&LOGGED_IN, &[(7, &[54])], Segment::Bytes(SAID));
 
-/// That login by a portal of group 1, of which the target is asked once; and the end of the input.
+/// A request of stage 0 alone, to go on in stage 1, and its response.
+pub const TO_STAGE_1: PduRow = PduRow(&LOGIN, &[(1, &[0x81]), (7, &[67])], Segment::Bytes(NAMES));
+
+pub const STAGE_1_NEXT: PduRow = PduRow(
+    &LOGGED_IN,
+    &[(1, &[0x81]), (7, &[23]), (14, &[0, 0])],
+    Segment::Bytes(b"TargetPortalGroupTag=1\0"),
+);
+
+/// The login of one request by a portal of group 1, of which the target is asked once; and the end of the input.
 pub const BY_LOGIN: Row = Row {
     name: "one request of stage 1",
     login: Some(1),

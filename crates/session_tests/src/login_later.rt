@@ -1,6 +1,6 @@
 //! Logins that are refused at a later request (RFC 7143, 6.2, 6.3 and 11.13.5).
 use crate::fixed::LoginCall;
-use crate::login::{INITIATOR, NAMES, ONE_LOGIN};
+use crate::login::{INITIATOR, NAMES, ONE_LOGIN, STAGE_1_NEXT, TO_STAGE_1};
 use crate::login_refusals::REFUSED;
 use crate::run::{Row, run};
 use login::Kind;
@@ -29,16 +29,12 @@ const ROWS: &[Row] = &[
     Row {
         name: "stage 0, where stage 1 is next",
         input: &[
-            PduRow(&LOGIN, &[(1, &[0x81]), (7, &[67])], Segment::Bytes(NAMES)),
+            TO_STAGE_1,
             PduRow(&LOGIN, &[(1, &[0x81])], Segment::None),
             ONE_LOGIN,
         ],
         output: &[
-            PduRow(
-                &LOGGED_IN,
-                &[(1, &[0x81]), (7, &[23]), (14, &[0, 0])],
-                Segment::Bytes(b"TargetPortalGroupTag=1\0"),
-            ),
+            STAGE_1_NEXT,
             PduRow(
                 &LOGIN_REFUSED,
                 &[(1, &[0]), (24, &[0, 0, 0, 2])],
@@ -50,16 +46,12 @@ const ROWS: &[Row] = &[
     Row {
         name: "stage 3, where stage 1 is next",
         input: &[
-            PduRow(&LOGIN, &[(1, &[0x81]), (7, &[67])], Segment::Bytes(NAMES)),
+            TO_STAGE_1,
             PduRow(&LOGIN, &[(1, &[0x8F])], Segment::None),
             ONE_LOGIN,
         ],
         output: &[
-            PduRow(
-                &LOGGED_IN,
-                &[(1, &[0x81]), (7, &[23]), (14, &[0, 0])],
-                Segment::Bytes(b"TargetPortalGroupTag=1\0"),
-            ),
+            STAGE_1_NEXT,
             PduRow(
                 &LOGIN_REFUSED,
                 &[(1, &[0x0C]), (24, &[0, 0, 0, 2])],
@@ -92,16 +84,12 @@ const ROWS: &[Row] = &[
     Row {
         name: "from stage 1 to stage 1",
         input: &[
-            PduRow(&LOGIN, &[(1, &[0x81]), (7, &[67])], Segment::Bytes(NAMES)),
+            TO_STAGE_1,
             PduRow(&LOGIN, &[(1, &[0x85])], Segment::None),
             ONE_LOGIN,
         ],
         output: &[
-            PduRow(
-                &LOGGED_IN,
-                &[(1, &[0x81]), (7, &[23]), (14, &[0, 0])],
-                Segment::Bytes(b"TargetPortalGroupTag=1\0"),
-            ),
+            STAGE_1_NEXT,
             PduRow(&LOGIN_REFUSED, &[(24, &[0, 0, 0, 2])], Segment::None),
         ],
         ..REFUSED
@@ -109,16 +97,12 @@ const ROWS: &[Row] = &[
     Row {
         name: "a pair without =",
         input: &[
-            PduRow(&LOGIN, &[(1, &[0x81]), (7, &[67])], Segment::Bytes(NAMES)),
+            TO_STAGE_1,
             PduRow(&LOGIN, &[(7, &[4])], Segment::Bytes(b"X-a\0")),
             ONE_LOGIN,
         ],
         output: &[
-            PduRow(
-                &LOGGED_IN,
-                &[(1, &[0x81]), (7, &[23]), (14, &[0, 0])],
-                Segment::Bytes(b"TargetPortalGroupTag=1\0"),
-            ),
+            STAGE_1_NEXT,
             PduRow(&LOGIN_REFUSED, &[(24, &[0, 0, 0, 2])], Segment::None),
         ],
         ..REFUSED
@@ -126,16 +110,12 @@ const ROWS: &[Row] = &[
     Row {
         name: "a last pair without its zero byte",
         input: &[
-            PduRow(&LOGIN, &[(1, &[0x81]), (7, &[67])], Segment::Bytes(NAMES)),
+            TO_STAGE_1,
             PduRow(&LOGIN, &[(7, &[16])], Segment::Bytes(b"ImmediateData=No")),
             ONE_LOGIN,
         ],
         output: &[
-            PduRow(
-                &LOGGED_IN,
-                &[(1, &[0x81]), (7, &[23]), (14, &[0, 0])],
-                Segment::Bytes(b"TargetPortalGroupTag=1\0"),
-            ),
+            STAGE_1_NEXT,
             PduRow(&LOGIN_REFUSED, &[(24, &[0, 0, 0, 2])], Segment::None),
         ],
         ..REFUSED
@@ -175,7 +155,7 @@ const ROWS: &[Row] = &[
     Row {
         name: "a key twice",
         input: &[
-            PduRow(&LOGIN, &[(1, &[0x81]), (7, &[67])], Segment::Bytes(NAMES)),
+            TO_STAGE_1,
             PduRow(
                 &LOGIN,
                 &[(7, &[34])],
@@ -184,11 +164,7 @@ const ROWS: &[Row] = &[
             ONE_LOGIN,
         ],
         output: &[
-            PduRow(
-                &LOGGED_IN,
-                &[(1, &[0x81]), (7, &[23]), (14, &[0, 0])],
-                Segment::Bytes(b"TargetPortalGroupTag=1\0"),
-            ),
+            STAGE_1_NEXT,
             PduRow(&LOGIN_REFUSED, &[(24, &[0, 0, 0, 2])], Segment::None),
         ],
         ..REFUSED
@@ -374,7 +350,7 @@ const ROWS: &[Row] = &[
     Row {
         name: "the target begins no session: the text of the last request is not answered",
         input: &[
-            PduRow(&LOGIN, &[(1, &[0x81]), (7, &[67])], Segment::Bytes(NAMES)),
+            TO_STAGE_1,
             PduRow(&LOGIN, &[(7, &[17])], Segment::Bytes(b"ImmediateData=No\0")),
             ONE_LOGIN,
         ],
@@ -385,11 +361,7 @@ const ROWS: &[Row] = &[
             kind: Kind::Normal,
         }],
         output: &[
-            PduRow(
-                &LOGGED_IN,
-                &[(1, &[0x81]), (7, &[23]), (14, &[0, 0])],
-                Segment::Bytes(b"TargetPortalGroupTag=1\0"),
-            ),
+            STAGE_1_NEXT,
             PduRow(
                 &LOGIN_REFUSED,
                 &[(24, &[0, 0, 0, 2]), (36, &[3, 2])],

@@ -1,5 +1,5 @@
 //! Logins of several requests that are accepted (RFC 7143, 6.2, 6.3 and 11.12).
-use crate::login::{BY_LOGIN, NAMES, SAID};
+use crate::login::{BY_LOGIN, NAMES, SAID, STAGE_1_NEXT, TO_STAGE_1};
 use crate::run::{Row, TEST, run};
 use std::test::*;
 use test_streams::{GOOD, LOGGED_IN, LOGIN, PduRow, Segment, TEST_UNIT_READY};
@@ -47,7 +47,7 @@ const ROWS: &[Row] = &[
     Row {
         name: "other names in the second request: those of the first stand",
         input: &[
-            PduRow(&LOGIN, &[(1, &[0x81]), (7, &[67])], Segment::Bytes(NAMES)),
+            TO_STAGE_1,
             PduRow(
                 &LOGIN,
                 &[(7, &[85])],
@@ -58,11 +58,7 @@ const ROWS: &[Row] = &[
             ),
         ],
         output: &[
-            PduRow(
-                &LOGGED_IN,
-                &[(1, &[0x81]), (7, &[23]), (14, &[0, 0])],
-                Segment::Bytes(b"TargetPortalGroupTag=1\0"),
-            ),
+            STAGE_1_NEXT,
             PduRow(
                 &LOGGED_IN,
                 &[(7, &[31]), (24, &[0, 0, 0, 2])],
@@ -192,15 +188,11 @@ const ROWS: &[Row] = &[
     Row {
         name: "Version-min and TSIH of a later request are not looked at",
         input: &[
-            PduRow(&LOGIN, &[(1, &[0x81]), (7, &[67])], Segment::Bytes(NAMES)),
+            TO_STAGE_1,
             PduRow(&LOGIN, &[(3, &[1]), (14, &[0, 7])], Segment::None),
         ],
         output: &[
-            PduRow(
-                &LOGGED_IN,
-                &[(1, &[0x81]), (7, &[23]), (14, &[0, 0])],
-                Segment::Bytes(b"TargetPortalGroupTag=1\0"),
-            ),
+            STAGE_1_NEXT,
             PduRow(
                 &LOGGED_IN,
                 &[(7, &[31]), (24, &[0, 0, 0, 2])],
