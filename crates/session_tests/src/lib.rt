@@ -10,6 +10,8 @@ mod data_out_faults;
 #[cfg(test)]
 mod data_outs;
 #[cfg(test)]
+mod discovery;
+#[cfg(test)]
 mod first_commands;
 #[cfg(test)]
 mod fixed;
@@ -33,6 +35,10 @@ mod login_texts;
 mod logout;
 #[cfg(test)]
 mod long_write;
+#[cfg(test)]
+mod negotiated_reads;
+#[cfg(test)]
+mod negotiated_writes;
 #[cfg(test)]
 mod nop;
 #[cfg(test)]
