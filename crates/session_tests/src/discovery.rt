@@ -6,7 +6,6 @@ use crate::nop::{NOP_IN, NOP_OUT};
 use crate::run::{Row, run};
 use crate::text::{REQUEST as TEXT_REQUEST, RESPONSE as TEXT_RESPONSE, TOLD};
 use login::Kind;
-use scsi_types::Command;
 use session::{BeginAnswer, End};
 use std::test::*;
 use test_streams::{

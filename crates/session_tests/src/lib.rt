@@ -16,6 +16,8 @@ mod first_commands;
 #[cfg(test)]
 mod fixed;
 #[cfg(test)]
+mod libiscsi;
+#[cfg(test)]
 mod login;
 #[cfg(test)]
 mod login_faults;
@@ -30,6 +32,8 @@ mod login_refusals;
 #[cfg(test)]
 mod login_requests;
 #[cfg(test)]
+mod login_streams;
+#[cfg(test)]
 mod login_texts;
 #[cfg(test)]
 mod logout;
@@ -41,6 +45,8 @@ mod negotiated_reads;
 mod negotiated_writes;
 #[cfg(test)]
 mod nop;
+#[cfg(test)]
+mod open_iscsi;
 #[cfg(test)]
 mod r2ts;
 #[cfg(test)]
