@@ -4,7 +4,6 @@ use crate::login::{NAMES, ONE_LOGIN, STAGE_1_NEXT, TO_STAGE_1};
 use crate::login_refusals::REFUSED;
 use crate::nop::NOP_OUT;
 use crate::run::{Row, run};
-use scsi_types::Command;
 use std::test::*;
 use test_streams::{GOOD, LOGGED_IN, LOGIN, PduRow, REJECT, Segment, TEST_UNIT_READY};
 

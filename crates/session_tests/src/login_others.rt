@@ -5,7 +5,6 @@ use crate::logout::LOGOUT;
 use crate::nop::NOP_OUT;
 use crate::run::{Row, run, run_cut};
 use crate::text::REQUEST as TEXT_REQUEST;
-use scsi_types::Command;
 use std::test::*;
 use test_streams::{
     DATA_OUT, LOGGED_IN, LOGIN, NOT_IN_LOGIN, PduRow, Segment, TEST_UNIT_READY, WRITE,
