@@ -1,5 +1,6 @@
 //! What a target answers, on the wire (RFC 7143, 11.4).
-use crate::run::{Answer, PLAIN, Row, TEST, run};
+use crate::fixed::Answer;
+use crate::run::{PLAIN, Row, TEST, run};
 use scsi_types::Command;
 use session::End;
 use std::test::*;

@@ -1,7 +1,8 @@
 //! How the answers leave: those of commands that came together in one write, and a long one in parts.
-use crate::run::{Answer, Begin, FROM_ONE, Fixed, portal};
+use crate::fixed::{Answer, Answers, Fixed};
+use crate::run::{Begin, FROM_ONE, portal};
 use login::Kind;
-use session::{End, Identity, ResetAnswer, Watched, serve_stream};
+use session::{BeginAnswer, End, Identity, Opening, ResetAnswer, Watched, serve_stream};
 use std::alloc::Global;
 use std::io;
 use std::io::{ErrorKind, Write};
@@ -153,9 +154,16 @@ fn check(rt: &impl Abort, alloc: Global, batch: &Batch) -> Result<(), Fail> {
         sizes: Vec::new(alloc),
         fail_at: batch.fail_at,
     });
-    let mut target = Fixed::new(alloc, batch.answer, ResetAnswer::Done);
+    let mut target = Fixed::new(
+        alloc,
+        Answers {
+            command: batch.answer,
+            reset: ResetAnswer::Done,
+            begin: BeginAnswer::Refused,
+            lives: false,
+        },
+    );
     let me = Identity {
-        kind: Kind::Normal,
         target_name: b"iqn.2000-01.test:array",
         first: &[portal(3260)],
         second: &[],
@@ -165,7 +173,7 @@ fn check(rt: &impl Abort, alloc: Global, batch: &Batch) -> Result<(), Fail> {
         &mut source,
         &mut sink,
         &mut target,
-        batch.start.start()?,
+        Opening::FullFeature(Kind::Normal, batch.start.start()?),
         &me,
     )?;
     assert_eq!(rt; end, batch.end, "{}", batch.name);
@@ -176,6 +184,7 @@ fn check(rt: &impl Abort, alloc: Global, batch: &Batch) -> Result<(), Fail> {
         batch.name
     );
     assert_eq!(rt; target.asked.len(), batch.calls, "{}", batch.name);
+    assert!(rt; target.ended_once(), "{}", batch.name);
     Ok(())
 }
 

@@ -10,11 +10,43 @@ mod data_out_faults;
 #[cfg(test)]
 mod data_outs;
 #[cfg(test)]
+mod discovery;
+#[cfg(test)]
+mod first_commands;
+#[cfg(test)]
+mod fixed;
+#[cfg(test)]
+mod libiscsi;
+#[cfg(test)]
+mod login;
+#[cfg(test)]
+mod login_faults;
+#[cfg(test)]
+mod login_later;
+#[cfg(test)]
+mod login_names;
+#[cfg(test)]
+mod login_others;
+#[cfg(test)]
+mod login_refusals;
+#[cfg(test)]
+mod login_requests;
+#[cfg(test)]
+mod login_streams;
+#[cfg(test)]
+mod login_texts;
+#[cfg(test)]
 mod logout;
 #[cfg(test)]
 mod long_write;
 #[cfg(test)]
+mod negotiated_reads;
+#[cfg(test)]
+mod negotiated_writes;
+#[cfg(test)]
 mod nop;
+#[cfg(test)]
+mod open_iscsi;
 #[cfg(test)]
 mod r2ts;
 #[cfg(test)]

@@ -4,8 +4,8 @@ use session::End;
 use std::test::*;
 use test_streams::{GOOD, PduRow, Segment, TEST_UNIT_READY};
 
-// A logout for reason 0 with the tag 1 and CmdSN 1; its reason stands in byte 1.
-const LOGOUT: [u8; 48] = [
+/// A logout for reason 0 with the tag 1 and CmdSN 1; its reason stands in byte 1.
+pub const LOGOUT: [u8; 48] = [
     0x06, 0x80, 0x00, 0x00, 0x00, 0x00, 0x00, 0x00, // reason
     0x00, 0x00, 0x00, 0x00, 0x00, 0x00, 0x00, 0x00, //
     0x00, 0x00, 0x00, 0x01, 0x00, 0x00, 0x00, 0x00, // tag, connection
@@ -14,8 +14,8 @@ const LOGOUT: [u8; 48] = [
     0x00, 0x00, 0x00, 0x00, 0x00, 0x00, 0x00, 0x00,
 ];
 
-// Its answer, with StatSN 1, ExpCmdSN 2, MaxCmdSN 33, Time2Wait 2 and Time2Retain 0; the response stands in byte 2.
-const RESPONSE: [u8; 48] = [
+/// Its answer, with StatSN 1, ExpCmdSN 2, MaxCmdSN 33, Time2Wait 2 and Time2Retain 0; the response stands in byte 2.
+pub const RESPONSE: [u8; 48] = [
     0x26, 0x80, 0x00, 0x00, 0x00, 0x00, 0x00, 0x00, // response
     0x00, 0x00, 0x00, 0x00, 0x00, 0x00, 0x00, 0x00, //
     0x00, 0x00, 0x00, 0x01, 0x00, 0x00, 0x00, 0x00, // tag

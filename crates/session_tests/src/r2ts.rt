@@ -1,6 +1,7 @@
 //! Writes whose data comes by R2T (RFC 7143, 11.7 and 11.8): what did not come with the command is asked for in
 //! ranges of MaxBurstLength, one outstanding at a time, and the command is called once, with all of it.
-use crate::run::{Answer, Begin, FROM_ONE, PLAIN, Row, run};
+use crate::fixed::Answer;
+use crate::run::{Begin, FROM_ONE, PLAIN, Row, run};
 use scsi_types::{Asked, Command};
 use std::test::*;
 use test_streams::{

@@ -1,6 +1,7 @@
 //! A read of 128 KiB in Data-In of 8192 bytes (RFC 7143, 11.7): DataSN counts from 0, the offset is where each lies, and
 //! F stands on the last, since all are one run. ExpDataSN is how many there are (11.4.8).
-use crate::run::{Answer, PLAIN, Row, run};
+use crate::fixed::Answer;
+use crate::run::{PLAIN, Row, run};
 use scsi_types::Command;
 use std::test::*;
 use test_streams::{DATA_IN, GOOD, PduRow, READS, Segment, TEST_UNIT_READY};

@@ -1,6 +1,7 @@
 //! How much moves, and the Residual Count with U and O (RFC 7143, 11.4.1 and 11.4.5): WRITE (10) and READ (10) of
 //! block 5 (SBC-3), where the target returns 512 bytes of a read.
-use crate::run::{Answer, PLAIN, Row, run};
+use crate::fixed::Answer;
+use crate::run::{PLAIN, Row, run};
 use scsi_types::{Asked, Command};
 use std::test::*;
 use test_streams::{

@@ -1,10 +1,11 @@
-//! The runner of the tables, and the target that it serves.
+//! The runner of the tables.
+use crate::fixed::{Answer, Answers, Fixed, KeptCall, LoginCall};
 use login::Kind;
-use scsi_types::{Asked, Command, Reply, Sense};
+use scsi_types::{Asked, Command};
 use session::{
-    End, Identity, Lengths, ResetAnswer, Start, Target, TargetAnswer, Watched, serve_stream,
+    BeginAnswer, End, Identity, Lengths, Opening, ResetAnswer, Start, Watched, serve_stream,
 };
-use std::alloc::{AllocError, Global};
+use std::alloc::Global;
 use std::net::{Ipv4Addr, SocketAddrV4};
 use std::process::Abort;
 use std::test::Fail;
@@ -13,101 +14,12 @@ use test_streams::{
     pattern, spelled,
 };
 
-/// What a target answers to each command.
-#[derive(Clone, Copy, Debug)]
-pub enum Answer {
-    /// GOOD with so many bytes of the pattern.
-    Good(usize),
-    /// GOOD with so many of each byte, one run behind another.
-    Runs(&'static [(usize, u8)]),
-    /// CHECK CONDITION with this sense key, code and qualifier, for a unit that is not there.
-    Check(u8, u8, u8),
-    Busy,
-    Gone,
-    Halted,
-}
-
-/// A target of one unit that answers each command and each reset alike, and keeps what it was asked and given.
-#[derive(Drop)]
-pub struct Fixed {
-    alloc: Global,
-    answer: Answer,
-    reset: ResetAnswer,
-    pub resets: Vec<u8>,
-    pub asked: Vec<(Option<u8>, Asked)>,
-    pub given: Vec<u8>,
-}
-
-impl Fixed {
-    /// A target that was asked nothing yet.
-    pub fn new(alloc: Global, answer: Answer, reset: ResetAnswer) -> Fixed {
-        Fixed {
-            alloc,
-            answer,
-            reset,
-            resets: Vec::new(alloc),
-            asked: Vec::new(alloc),
-            given: Vec::new(alloc),
-        }
-    }
-}
-
-impl Target for Fixed {
-    ghost leads = { λ old asking new. Unit {0} };
-
-    ghost unit_count = { λ t. 1 };
-
-    fn units(&self) -> u16 {
-        1
-    }
-
-    fn reset(&mut self, unit: u8) -> ResetAnswer {
-        match self.resets.push(unit) {
-            Ok(()) => self.reset,
-            Err(_) => ResetAnswer::Failed,
-        }
-    }
-
-    fn serve(&mut self, unit: Option<u8>, asked: Asked, bytes: &[u8]) -> TargetAnswer {
-        if self.asked.push((unit, asked)).is_err() || self.given.extend_from_slice(bytes).is_err() {
-            return TargetAnswer::Busy;
-        }
-        match self.answer {
-            Answer::Good(len) => match pattern(self.alloc, len) {
-                Ok(bytes) => TargetAnswer::Replied(Reply::good(bytes)),
-                Err(_) => TargetAnswer::Busy,
-            },
-            Answer::Runs(runs) => match bytes_of(self.alloc, runs) {
-                Ok(bytes) => TargetAnswer::Replied(Reply::good(bytes)),
-                Err(_) => TargetAnswer::Busy,
-            },
-            Answer::Check(key, code, qualifier) => {
-                let sense = Sense::new(key, code, qualifier);
-                TargetAnswer::Outside(Reply::check(self.alloc, sense))
-            }
-            Answer::Busy => TargetAnswer::Busy,
-            Answer::Gone => TargetAnswer::Gone,
-            Answer::Halted => TargetAnswer::Halted,
-        }
-    }
-}
-
-// So many of each byte, one run behind another.
-fn bytes_of(alloc: Global, runs: &[(usize, u8)]) -> Result<Vec<u8>, AllocError> {
-    let mut bytes = Vec::new(alloc);
-    for (len, byte) in runs {
-        for _ in 0..*len {
-            bytes.push(*byte)?;
-        }
-    }
-    Ok(bytes)
-}
-
 /// How a session ended, what it wrote, and what its target was asked and given.
 #[derive(Drop)]
 pub struct Ran {
     pub end: End,
     pub output: Vec<u8>,
+    pub calls: Vec<KeptCall>,
     pub asked: Vec<(Option<u8>, Asked)>,
     pub given: Vec<u8>,
     pub resets: Vec<u8>,
@@ -159,6 +71,7 @@ pub fn portal(port: u16) -> SocketAddrV4 {
 }
 
 /// Serves this input, read and written so, in the session of this row: its target has one portal of the first controller.
+/// Fails where the target does not hear once, and last, that the session is over.
 pub fn serve(
     alloc: Global,
     input: &[u8],
@@ -168,19 +81,22 @@ pub fn serve(
 ) -> Result<Ran, Fail> {
     let second = [portal(3264), portal(3265), portal(3266)];
     let me = Identity {
-        kind: row.kind,
         target_name: b"iqn.2000-01.test:array",
         first: &[portal(3260)],
         second: second.get(..row.portals).ok_or("three portals at most")?,
     };
     let mut source = Watched::new(FakeReader::new(input, reads));
     let mut sink = Watched::new(FakeWriter::new(alloc, writes));
-    let mut target = Fixed::new(alloc, row.answer, row.reset);
-    let start = row.start.start()?;
-    let end = serve_stream(alloc, &mut source, &mut sink, &mut target, start, &me)?;
+    let mut target = Fixed::new(alloc, row.answers());
+    let opening = row.opening()?;
+    let end = serve_stream(alloc, &mut source, &mut sink, &mut target, opening, &me)?;
+    if !target.ended_once() {
+        return Err("the session is over once, and nothing is asked then".into());
+    }
     Ok(Ran {
         end,
         output: sink.into_inner().into_bytes(),
+        calls: target.calls,
         asked: target.asked,
         given: target.given,
         resets: target.resets,
@@ -191,10 +107,13 @@ pub fn serve(
 #[derive(Clone, Copy, Debug)]
 pub struct Row {
     pub name: &'static str,
+    /// The group of the portal by which it logs in; none where it begins in full feature phase, of this kind and with
+    /// this start.
+    pub login: Option<u16>,
     pub kind: Kind,
+    pub start: Begin,
     /// How many portals the second controller has.
     pub portals: usize,
-    pub start: Begin,
     /// What comes.
     pub input: &'static [PduRow<'static>],
     /// What the target answers.
@@ -205,9 +124,33 @@ pub struct Row {
     /// What it answers to a reset, and which units it is to reset.
     pub reset: ResetAnswer,
     pub resets: &'static [u8],
+    /// What it answers where a session is to begin and whether one lives, and what the login is to ask of it.
+    pub begin: BeginAnswer,
+    pub lives: bool,
+    pub calls: &'static [LoginCall<'static>],
     /// What goes out, and how the session ends.
     pub output: &'static [PduRow<'static>],
     pub end: End,
+}
+
+impl Row {
+    // How its session begins.
+    fn opening(&self) -> Result<Opening, Fail> {
+        match self.login {
+            Some(group) => Ok(Opening::Login(group)),
+            None => Ok(Opening::FullFeature(self.kind, self.start.start()?)),
+        }
+    }
+
+    // What its target answers.
+    fn answers(&self) -> Answers {
+        Answers {
+            command: self.answer,
+            reset: self.reset,
+            begin: self.begin,
+            lives: self.lives,
+        }
+    }
 }
 
 /// What a target is asked by a TEST UNIT READY to LUN 0.
@@ -216,15 +159,19 @@ pub const TEST: (Option<u8>, Asked) = (Some(0), Ok(Command::TestUnitReady));
 /// From CmdSN 1 and StatSN 1, one TEST UNIT READY that is served, and the end of the input.
 pub const PLAIN: Row = Row {
     name: "TEST UNIT READY",
+    login: None,
     kind: Kind::Normal,
-    portals: 1,
     start: FROM_ONE,
+    portals: 1,
     input: &[PduRow(&TEST_UNIT_READY, &[], Segment::None)],
     answer: Answer::Good(0),
     asked: &[TEST],
     given: 0,
     reset: ResetAnswer::Done,
     resets: &[],
+    begin: BeginAnswer::Begun(1),
+    lives: false,
+    calls: &[],
     output: &[PduRow(&GOOD, &[], Segment::None)],
     end: End::EndOfInput,
 };
@@ -235,6 +182,16 @@ pub fn run(rt: &impl Abort, alloc: Global, rows: &[Row]) -> Result<(), Fail> {
         let input = spelled(alloc, row.input)?;
         let output = spelled(alloc, row.output)?;
         run_bytes(rt, alloc, row, &input, &output)?;
+    }
+    Ok(())
+}
+
+/// Serves each row, cut in two at each place, and compares.
+pub fn run_cut(rt: &impl Abort, alloc: Global, rows: &[Row]) -> Result<(), Fail> {
+    for row in rows {
+        let input = spelled(alloc, row.input)?;
+        let output = spelled(alloc, row.output)?;
+        cut_anywhere(rt, alloc, row, &input, &output)?;
     }
     Ok(())
 }
@@ -253,9 +210,21 @@ pub fn run_bytes(
     run_reads(rt, alloc, row, (input, output), WHOLE)?;
     run_reads(rt, alloc, row, (input, output), ONE_BYTE)?;
     if input.len() <= FEW_BYTES {
-        for first in 1..input.len() {
-            run_reads(rt, alloc, row, (input, output), Calls { first, ..WHOLE })?;
-        }
+        cut_anywhere(rt, alloc, row, input, output)?;
+    }
+    Ok(())
+}
+
+// Serves these bytes of a row, in two at each place.
+fn cut_anywhere(
+    rt: &impl Abort,
+    alloc: Global,
+    row: &Row,
+    input: &[u8],
+    output: &[u8],
+) -> Result<(), Fail> {
+    for first in 1..input.len() {
+        run_reads(rt, alloc, row, (input, output), Calls { first, ..WHOLE })?;
     }
     Ok(())
 }
@@ -285,5 +254,14 @@ pub fn run_reads(
         "{}, {reads:?}",
         row.name
     );
+    compare_calls(rt, row, &ran.calls)
+}
+
+// Compares what the login asked of the target.
+fn compare_calls(rt: &impl Abort, row: &Row, calls: &[KeptCall]) -> Result<(), Fail> {
+    assert_eq!(rt; calls.len(), row.calls.len(), "{}", row.name);
+    for (kept, call) in calls.iter().zip(row.calls) {
+        assert_eq!(rt; kept.call(), *call, "{}", row.name);
+    }
     Ok(())
 }

@@ -1,5 +1,6 @@
 //! The data of a read in runs of MaxBurstLength (RFC 7143, 11.7.1 and 13.13): F stands at the end of each and of the data.
-use crate::run::{Answer, Begin, FROM_ONE, PLAIN, Row, run};
+use crate::fixed::Answer;
+use crate::run::{Begin, FROM_ONE, PLAIN, Row, run};
 use scsi_types::Command;
 use std::test::*;
 use test_streams::{DATA_IN, GOOD, OVERFLOW, PduRow, READS, Segment, TEST_UNIT_READY};

@@ -1,6 +1,7 @@
 //! Several writes that wait for their data at once, and other commands between: answers come in the order in which commands
 //! are completed (RFC 7143, 4.2.2 and 11.8).
-use crate::run::{Answer, Begin, FROM_ONE, PLAIN, Row, TEST, run, run_bytes};
+use crate::fixed::Answer;
+use crate::run::{Begin, FROM_ONE, PLAIN, Row, TEST, run, run_bytes};
 use scsi_types::{Asked, Command};
 use std::alloc::Global;
 use std::test::*;

@@ -5,8 +5,8 @@ use session::End;
 use std::test::*;
 use test_streams::{GOOD, PduRow, REJECT, Segment, TEST_UNIT_READY};
 
-// A Text Request with F, the tag 1 and CmdSN 1.
-const REQUEST: [u8; 48] = [
+/// A Text Request with F, the tag 1 and CmdSN 1.
+pub const REQUEST: [u8; 48] = [
     0x04, 0x80, 0x00, 0x00, 0x00, 0x00, 0x00, 0x00, // F, no data
     0x00, 0x00, 0x00, 0x00, 0x00, 0x00, 0x00, 0x00, // LUN
     0x00, 0x00, 0x00, 0x01, 0xFF, 0xFF, 0xFF, 0xFF, // tag, Target Transfer Tag
@@ -15,8 +15,8 @@ const REQUEST: [u8; 48] = [
     0x00, 0x00, 0x00, 0x00, 0x00, 0x00, 0x00, 0x00,
 ];
 
-// Its answer, with StatSN 1, ExpCmdSN 2 and MaxCmdSN 33.
-const RESPONSE: [u8; 48] = [
+/// Its answer, with StatSN 1, ExpCmdSN 2 and MaxCmdSN 33.
+pub const RESPONSE: [u8; 48] = [
     0x24, 0x80, 0x00, 0x00, 0x00, 0x00, 0x00, 0x00, // F, no data
     0x00, 0x00, 0x00, 0x00, 0x00, 0x00, 0x00, 0x00, //
     0x00, 0x00, 0x00, 0x01, 0xFF, 0xFF, 0xFF, 0xFF, // tag, Target Transfer Tag
@@ -25,8 +25,8 @@ const RESPONSE: [u8; 48] = [
     0x00, 0x00, 0x00, 0x00, 0x00, 0x00, 0x00, 0x00,
 ];
 
-// What the target tells of itself: 96 bytes.
-const TOLD: &[u8] =
+/// What the target tells of itself: 96 bytes.
+pub const TOLD: &[u8] =
     b"TargetName=iqn.2000-01.test:array\0TargetAddress=127.0.0.1:3260,1\0TargetAddress=127.0.0.1:3264,2\0";
 
 const ROWS: &[Row] = &[

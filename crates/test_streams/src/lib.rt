@@ -2,10 +2,12 @@
 #![tactic(auto)]
 
 mod calls;
+mod logins;
 mod pdus;
 mod rows;
 
 pub use calls::{Calls, FakeReader, FakeWriter, ONE_BYTE, WHOLE};
+pub use logins::{LOGGED_IN, LOGIN, LOGIN_REFUSED, NOT_IN_LOGIN};
 pub use pdus::{
     CHECK_CONDITION, DATA_IN, DATA_OUT, F_BIT, GOOD, OVERFLOW, R2T, READ_AND_WRITE, READS, REJECT,
     TEST_UNIT_READY, UNDERFLOW, WRITE, WRITES,

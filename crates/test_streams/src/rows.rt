@@ -8,6 +8,8 @@ use std::alloc::{AllocError, Global};
 pub enum Segment<'a> {
     None,
     Bytes(&'a [u8]),
+    /// These bytes, and behind them so many of each byte, one run behind another.
+    BytesAndRuns(&'a [u8], &'a [(usize, u8)]),
     /// So many of each byte, one run behind another.
     Runs(&'a [(usize, u8)]),
     /// So many of the bytes 0, 1, 2, .. modulo 251, which no shift of them is.
@@ -54,6 +56,10 @@ pub fn spelled(alloc: Global, rows: &[PduRow<'_>]) -> Result<Vec<u8>, RowError> 
         match row.2 {
             Segment::None => {}
             Segment::Bytes(segment) => bytes.extend_from_slice(segment)?,
+            Segment::BytesAndRuns(segment, runs) => {
+                bytes.extend_from_slice(segment)?;
+                put_runs(&mut bytes, runs)?;
+            }
             Segment::Runs(runs) => put_runs(&mut bytes, runs)?,
             Segment::Pattern(len) => put_pattern(&mut bytes, 0, len)?,
             Segment::PatternAt(place, len) => put_pattern(&mut bytes, place, len)?,

@@ -1,0 +1,334 @@
+//! What is rejected in a login (RFC 7143, 7.3 and 11.17.1): 05 for an opcode that no PDU of an initiator has, 09 for
+//! another fault.
+use crate::login::{NAMES, ONE_LOGIN, STAGE_1_NEXT, TO_STAGE_1};
+use crate::login_refusals::REFUSED;
+use crate::nop::NOP_OUT;
+use crate::run::{Row, run};
+use std::test::*;
+use test_streams::{GOOD, LOGGED_IN, LOGIN, PduRow, REJECT, Segment, TEST_UNIT_READY};
+
+// In place of the first Login Request: ExpCmdSN is 0.
+const FIRST: &[Row] = &[
+    Row {
+        name: "an opcode that no PDU has",
+        input: &[PduRow(&LOGIN, &[(0, &[7])], Segment::None), ONE_LOGIN],
+        output: &[PduRow(
+            &REJECT,
+            &[(2, &[5]), (24, &[0, 0, 0, 1, 0, 0, 0, 0, 0, 0, 0, 0x1F])],
+            Segment::Rejected(&LOGIN, &[(0, &[7])]),
+        )],
+        ..REFUSED
+    },
+    Row {
+        name: "another, of those of a target",
+        input: &[PduRow(&LOGIN, &[(0, &[0x3E])], Segment::None), ONE_LOGIN],
+        output: &[PduRow(
+            &REJECT,
+            &[(2, &[5]), (24, &[0, 0, 0, 1, 0, 0, 0, 0, 0, 0, 0, 0x1F])],
+            Segment::Rejected(&LOGIN, &[(0, &[0x3E])]),
+        )],
+        ..REFUSED
+    },
+    Row {
+        name: "a PDU of a target",
+        input: &[PduRow(&GOOD, &[], Segment::None), ONE_LOGIN],
+        output: &[PduRow(
+            &REJECT,
+            &[(2, &[5]), (24, &[0, 0, 0, 1, 0, 0, 0, 0, 0, 0, 0, 0x1F])],
+            Segment::Rejected(&GOOD, &[]),
+        )],
+        ..REFUSED
+    },
+    Row {
+        name: "a Login Response",
+        input: &[PduRow(&LOGGED_IN, &[], Segment::None), ONE_LOGIN],
+        output: &[PduRow(
+            &REJECT,
+            &[(2, &[5]), (24, &[0, 0, 0, 1, 0, 0, 0, 0, 0, 0, 0, 0x1F])],
+            Segment::Rejected(&LOGGED_IN, &[]),
+        )],
+        ..REFUSED
+    },
+    Row {
+        name: "a PDU of a target with a reserved field that is not zero",
+        input: &[PduRow(&GOOD, &[(8, &[1])], Segment::None), ONE_LOGIN],
+        output: &[PduRow(
+            &REJECT,
+            &[(2, &[9]), (24, &[0, 0, 0, 1, 0, 0, 0, 0, 0, 0, 0, 0x1F])],
+            Segment::Rejected(&GOOD, &[(8, &[1])]),
+        )],
+        ..REFUSED
+    },
+    Row {
+        name: "an additional header segment",
+        input: &[PduRow(&LOGIN, &[(4, &[1])], Segment::None), ONE_LOGIN],
+        output: &[PduRow(
+            &REJECT,
+            &[(2, &[9]), (24, &[0, 0, 0, 1, 0, 0, 0, 0, 0, 0, 0, 0x1F])],
+            Segment::Rejected(&LOGIN, &[(4, &[1])]),
+        )],
+        ..REFUSED
+    },
+    Row {
+        name: "a data segment of 65537 bytes",
+        input: &[PduRow(&LOGIN, &[(5, &[1, 0, 1])], Segment::None), ONE_LOGIN],
+        output: &[PduRow(
+            &REJECT,
+            &[(2, &[9]), (24, &[0, 0, 0, 1, 0, 0, 0, 0, 0, 0, 0, 0x1F])],
+            Segment::Rejected(&LOGIN, &[(5, &[1, 0, 1])]),
+        )],
+        ..REFUSED
+    },
+    Row {
+        name: "an additional header segment and 65537 bytes, of a NOP-Out",
+        input: &[
+            PduRow(&NOP_OUT, &[(4, &[1, 1, 0, 1])], Segment::None),
+            ONE_LOGIN,
+        ],
+        output: &[PduRow(
+            &REJECT,
+            &[(2, &[9]), (24, &[0, 0, 0, 1, 0, 0, 0, 0, 0, 0, 0, 0x1F])],
+            Segment::Rejected(&NOP_OUT, &[(4, &[1, 1, 0, 1])]),
+        )],
+        ..REFUSED
+    },
+    Row {
+        name: "a SCSI Command without F",
+        input: &[
+            PduRow(&TEST_UNIT_READY, &[(1, &[1])], Segment::None),
+            ONE_LOGIN,
+        ],
+        output: &[PduRow(
+            &REJECT,
+            &[(2, &[9]), (24, &[0, 0, 0, 1, 0, 0, 0, 0, 0, 0, 0, 0x1F])],
+            Segment::Rejected(&TEST_UNIT_READY, &[(1, &[1])]),
+        )],
+        ..REFUSED
+    },
+    Row {
+        name: "a SCSI Command with R and W",
+        input: &[
+            PduRow(&TEST_UNIT_READY, &[(1, &[0xE1])], Segment::None),
+            ONE_LOGIN,
+        ],
+        output: &[PduRow(
+            &REJECT,
+            &[(2, &[9]), (24, &[0, 0, 0, 1, 0, 0, 0, 0, 0, 0, 0, 0x1F])],
+            Segment::Rejected(&TEST_UNIT_READY, &[(1, &[0xE1])]),
+        )],
+        ..REFUSED
+    },
+];
+
+// Behind a Login Request: ExpCmdSN is its CmdSN.
+const SECOND: &[Row] = &[
+    Row {
+        name: "an opcode that no PDU has",
+        input: &[
+            TO_STAGE_1,
+            PduRow(&LOGIN, &[(0, &[7])], Segment::None),
+            ONE_LOGIN,
+        ],
+        output: &[
+            STAGE_1_NEXT,
+            PduRow(
+                &REJECT,
+                &[(2, &[5]), (24, &[0, 0, 0, 2])],
+                Segment::Rejected(&LOGIN, &[(0, &[7])]),
+            ),
+        ],
+        ..REFUSED
+    },
+    Row {
+        name: "another, of those of a target",
+        input: &[
+            TO_STAGE_1,
+            PduRow(&LOGIN, &[(0, &[0x3E])], Segment::None),
+            ONE_LOGIN,
+        ],
+        output: &[
+            STAGE_1_NEXT,
+            PduRow(
+                &REJECT,
+                &[(2, &[5]), (24, &[0, 0, 0, 2])],
+                Segment::Rejected(&LOGIN, &[(0, &[0x3E])]),
+            ),
+        ],
+        ..REFUSED
+    },
+    Row {
+        name: "a PDU of a target",
+        input: &[TO_STAGE_1, PduRow(&GOOD, &[], Segment::None), ONE_LOGIN],
+        output: &[
+            STAGE_1_NEXT,
+            PduRow(
+                &REJECT,
+                &[(2, &[5]), (24, &[0, 0, 0, 2])],
+                Segment::Rejected(&GOOD, &[]),
+            ),
+        ],
+        ..REFUSED
+    },
+    Row {
+        name: "a Login Response",
+        input: &[
+            TO_STAGE_1,
+            PduRow(&LOGGED_IN, &[], Segment::None),
+            ONE_LOGIN,
+        ],
+        output: &[
+            STAGE_1_NEXT,
+            PduRow(
+                &REJECT,
+                &[(2, &[5]), (24, &[0, 0, 0, 2])],
+                Segment::Rejected(&LOGGED_IN, &[]),
+            ),
+        ],
+        ..REFUSED
+    },
+    Row {
+        name: "a PDU of a target with a reserved field that is not zero",
+        input: &[
+            TO_STAGE_1,
+            PduRow(&GOOD, &[(8, &[1])], Segment::None),
+            ONE_LOGIN,
+        ],
+        output: &[
+            STAGE_1_NEXT,
+            PduRow(
+                &REJECT,
+                &[(2, &[9]), (24, &[0, 0, 0, 2])],
+                Segment::Rejected(&GOOD, &[(8, &[1])]),
+            ),
+        ],
+        ..REFUSED
+    },
+    Row {
+        name: "an additional header segment",
+        input: &[
+            TO_STAGE_1,
+            PduRow(&LOGIN, &[(4, &[1])], Segment::None),
+            ONE_LOGIN,
+        ],
+        output: &[
+            STAGE_1_NEXT,
+            PduRow(
+                &REJECT,
+                &[(2, &[9]), (24, &[0, 0, 0, 2])],
+                Segment::Rejected(&LOGIN, &[(4, &[1])]),
+            ),
+        ],
+        ..REFUSED
+    },
+    Row {
+        name: "a data segment of 65537 bytes",
+        input: &[
+            TO_STAGE_1,
+            PduRow(&LOGIN, &[(5, &[1, 0, 1])], Segment::None),
+            ONE_LOGIN,
+        ],
+        output: &[
+            STAGE_1_NEXT,
+            PduRow(
+                &REJECT,
+                &[(2, &[9]), (24, &[0, 0, 0, 2])],
+                Segment::Rejected(&LOGIN, &[(5, &[1, 0, 1])]),
+            ),
+        ],
+        ..REFUSED
+    },
+    Row {
+        name: "an additional header segment and 65537 bytes, of a NOP-Out",
+        input: &[
+            TO_STAGE_1,
+            PduRow(&NOP_OUT, &[(4, &[1, 1, 0, 1])], Segment::None),
+            ONE_LOGIN,
+        ],
+        output: &[
+            STAGE_1_NEXT,
+            PduRow(
+                &REJECT,
+                &[(2, &[9]), (24, &[0, 0, 0, 2])],
+                Segment::Rejected(&NOP_OUT, &[(4, &[1, 1, 0, 1])]),
+            ),
+        ],
+        ..REFUSED
+    },
+    Row {
+        name: "a SCSI Command without F",
+        input: &[
+            TO_STAGE_1,
+            PduRow(&TEST_UNIT_READY, &[(1, &[1])], Segment::None),
+            ONE_LOGIN,
+        ],
+        output: &[
+            STAGE_1_NEXT,
+            PduRow(
+                &REJECT,
+                &[(2, &[9]), (24, &[0, 0, 0, 2])],
+                Segment::Rejected(&TEST_UNIT_READY, &[(1, &[1])]),
+            ),
+        ],
+        ..REFUSED
+    },
+    Row {
+        name: "a SCSI Command with R and W",
+        input: &[
+            TO_STAGE_1,
+            PduRow(&TEST_UNIT_READY, &[(1, &[0xE1])], Segment::None),
+            ONE_LOGIN,
+        ],
+        output: &[
+            STAGE_1_NEXT,
+            PduRow(
+                &REJECT,
+                &[(2, &[9]), (24, &[0, 0, 0, 2])],
+                Segment::Rejected(&TEST_UNIT_READY, &[(1, &[0xE1])]),
+            ),
+        ],
+        ..REFUSED
+    },
+    Row {
+        name: "its numbers are those of the Login Request",
+        input: &[
+            PduRow(
+                &LOGIN,
+                &[(1, &[0x81]), (7, &[67]), (24, &[0xFF, 0xFF, 0xFF, 0xFE])],
+                Segment::Bytes(NAMES),
+            ),
+            PduRow(&LOGIN, &[(0, &[7])], Segment::None),
+            ONE_LOGIN,
+        ],
+        output: &[
+            PduRow(
+                &LOGGED_IN,
+                &[
+                    (1, &[0x81]),
+                    (7, &[23]),
+                    (14, &[0, 0]),
+                    (24, &[0, 0, 0, 1, 0xFF, 0xFF, 0xFF, 0xFE, 0, 0, 0, 0x1D]),
+                ],
+                Segment::Bytes(b"TargetPortalGroupTag=1\0"),
+            ),
+            PduRow(
+                &REJECT,
+                &[
+                    (2, &[5]),
+                    (24, &[0, 0, 0, 2, 0xFF, 0xFF, 0xFF, 0xFE, 0, 0, 0, 0x1D]),
+                ],
+                Segment::Rejected(&LOGIN, &[(0, &[7])]),
+            ),
+        ],
+        ..REFUSED
+    },
+];
+
+#[test]
+fn a_fault_first(rt: HostRuntime) -> Result<(), Fail> {
+    run(&rt, rt.alloc(), FIRST)
+}
+
+#[test]
+fn a_fault_behind_a_request(rt: HostRuntime) -> Result<(), Fail> {
+    run(&rt, rt.alloc(), SECOND)
+}

@@ -1,0 +1,313 @@
+//! Logins that are refused for their names, session types, TSIH and AuthMethod (RFC 7143, 6.3 and 11.13.5).
+use crate::fixed::LoginCall;
+use crate::login::{INITIATOR, NAMES_AND_TYPE, ONE_LOGIN};
+use crate::login_refusals::REFUSED;
+use crate::run::{Row, run};
+use login::Kind;
+use session::BeginAnswer;
+use std::test::*;
+use test_streams::{LOGIN, LOGIN_REFUSED, PduRow, Segment};
+
+const ROWS: &[Row] = &[
+    Row {
+        name: "no text",
+        input: &[PduRow(&LOGIN, &[], Segment::None), ONE_LOGIN],
+        output: &[PduRow(&LOGIN_REFUSED, &[(37, &[7])], Segment::None)],
+        ..REFUSED
+    },
+    Row {
+        name: "no InitiatorName",
+        input: &[
+            PduRow(
+                &LOGIN,
+                &[(7, &[53])],
+                Segment::Bytes(b"TargetName=iqn.2000-01.test:array\0SessionType=Normal\0"),
+            ),
+            ONE_LOGIN,
+        ],
+        output: &[PduRow(&LOGIN_REFUSED, &[(37, &[7])], Segment::None)],
+        ..REFUSED
+    },
+    Row {
+        name: "no InitiatorName, in a discovery session of an unknown target",
+        input: &[
+            PduRow(
+                &LOGIN,
+                &[(7, &[52])],
+                Segment::Bytes(b"SessionType=Discovery\0TargetName=iqn.2000-01.test:b\0"),
+            ),
+            ONE_LOGIN,
+        ],
+        output: &[PduRow(&LOGIN_REFUSED, &[(37, &[7])], Segment::None)],
+        ..REFUSED
+    },
+    Row {
+        name: "a session type that there is not",
+        input: &[
+            PduRow(
+                &LOGIN,
+                &[(7, &[85])],
+                Segment::Bytes(
+                    b"InitiatorName=iqn.2000-01.test:a\0TargetName=iqn.2000-01.test:array\0\
+                    SessionType=Other\0",
+                ),
+            ),
+            ONE_LOGIN,
+        ],
+        output: &[PduRow(&LOGIN_REFUSED, &[(37, &[9])], Segment::None)],
+        ..REFUSED
+    },
+    Row {
+        name: "the session type comes before the names of targets",
+        input: &[
+            PduRow(
+                &LOGIN,
+                &[(7, &[55])],
+                Segment::Bytes(b"InitiatorName=iqn.2000-01.test:a\0SessionType=discovery\0"),
+            ),
+            ONE_LOGIN,
+        ],
+        output: &[PduRow(&LOGIN_REFUSED, &[(37, &[9])], Segment::None)],
+        ..REFUSED
+    },
+    Row {
+        name: "no TargetName in a normal session",
+        input: &[
+            PduRow(
+                &LOGIN,
+                &[(7, &[52])],
+                Segment::Bytes(b"InitiatorName=iqn.2000-01.test:a\0SessionType=Normal\0"),
+            ),
+            ONE_LOGIN,
+        ],
+        output: &[PduRow(&LOGIN_REFUSED, &[(37, &[7])], Segment::None)],
+        ..REFUSED
+    },
+    Row {
+        name: "nor a SessionType",
+        input: &[
+            PduRow(
+                &LOGIN,
+                &[(7, &[33])],
+                Segment::Bytes(b"InitiatorName=iqn.2000-01.test:a\0"),
+            ),
+            ONE_LOGIN,
+        ],
+        output: &[PduRow(&LOGIN_REFUSED, &[(37, &[7])], Segment::None)],
+        ..REFUSED
+    },
+    Row {
+        name: "an unknown target",
+        input: &[
+            PduRow(
+                &LOGIN,
+                &[(7, &[82])],
+                Segment::Bytes(
+                    b"InitiatorName=iqn.2000-01.test:a\0TargetName=iqn.2000-01.test:b\0\
+                    SessionType=Normal\0",
+                ),
+            ),
+            ONE_LOGIN,
+        ],
+        output: &[PduRow(&LOGIN_REFUSED, &[(37, &[3])], Segment::None)],
+        ..REFUSED
+    },
+    Row {
+        name: "an empty TargetName",
+        input: &[
+            PduRow(
+                &LOGIN,
+                &[(7, &[45])],
+                Segment::Bytes(b"InitiatorName=iqn.2000-01.test:a\0TargetName=\0"),
+            ),
+            ONE_LOGIN,
+        ],
+        output: &[PduRow(&LOGIN_REFUSED, &[(37, &[3])], Segment::None)],
+        ..REFUSED
+    },
+    Row {
+        name: "a beginning of the target's name",
+        input: &[
+            PduRow(
+                &LOGIN,
+                &[(7, &[66])],
+                Segment::Bytes(
+                    b"InitiatorName=iqn.2000-01.test:a\0TargetName=iqn.2000-01.test:arra\0",
+                ),
+            ),
+            ONE_LOGIN,
+        ],
+        output: &[PduRow(&LOGIN_REFUSED, &[(37, &[3])], Segment::None)],
+        ..REFUSED
+    },
+    Row {
+        name: "a discovery session of an unknown target",
+        input: &[
+            PduRow(
+                &LOGIN,
+                &[(7, &[85])],
+                Segment::Bytes(
+                    b"InitiatorName=iqn.2000-01.test:a\0SessionType=Discovery\0\
+                    TargetName=iqn.2000-01.test:b\0",
+                ),
+            ),
+            ONE_LOGIN,
+        ],
+        output: &[PduRow(&LOGIN_REFUSED, &[(37, &[3])], Segment::None)],
+        ..REFUSED
+    },
+    Row {
+        name: "an unknown target and a TSIH: the target is not asked",
+        input: &[
+            PduRow(
+                &LOGIN,
+                &[(7, &[63]), (14, &[0, 7])],
+                Segment::Bytes(
+                    b"InitiatorName=iqn.2000-01.test:a\0TargetName=iqn.2000-01.test:b\0",
+                ),
+            ),
+            ONE_LOGIN,
+        ],
+        lives: true,
+        output: &[PduRow(&LOGIN_REFUSED, &[(14, &[0, 7]), (37, &[3])], Segment::None)],
+        ..REFUSED
+    },
+    Row {
+        name: "one connection more in a session that lives",
+        input: &[
+            PduRow(
+                &LOGIN,
+                &[(7, &[86]), (14, &[0, 7])],
+                Segment::Bytes(NAMES_AND_TYPE),
+            ),
+            ONE_LOGIN,
+        ],
+        lives: true,
+        calls: &[LoginCall::Lives {
+            tsih: 7,
+            name: INITIATOR,
+            isid: 0x4000_0137_0000,
+        }],
+        output: &[PduRow(&LOGIN_REFUSED, &[(14, &[0, 7]), (37, &[6])], Segment::None)],
+        ..REFUSED
+    },
+    Row {
+        name: "a connection in a session that does not live",
+        input: &[
+            PduRow(
+                &LOGIN,
+                &[(7, &[86]), (14, &[0, 7])],
+                Segment::Bytes(NAMES_AND_TYPE),
+            ),
+            ONE_LOGIN,
+        ],
+        calls: &[LoginCall::Lives {
+            tsih: 7,
+            name: INITIATOR,
+            isid: 0x4000_0137_0000,
+        }],
+        output: &[PduRow(
+            &LOGIN_REFUSED,
+            &[(14, &[0, 7]), (37, &[0x0A])],
+            Segment::None,
+        )],
+        ..REFUSED
+    },
+    Row {
+        name: "the TSIH FFFFh in a discovery session, from stage 0",
+        input: &[
+            PduRow(
+                &LOGIN,
+                &[(1, &[0x83]), (7, &[55]), (14, &[0xFF, 0xFF])],
+                Segment::Bytes(b"InitiatorName=iqn.2000-01.test:a\0SessionType=Discovery\0"),
+            ),
+            ONE_LOGIN,
+        ],
+        calls: &[LoginCall::Lives {
+            tsih: 65535,
+            name: INITIATOR,
+            isid: 0x4000_0137_0000,
+        }],
+        output: &[PduRow(
+            &LOGIN_REFUSED,
+            &[(1, &[0]), (14, &[0xFF, 0xFF]), (37, &[0x0A])],
+            Segment::None,
+        )],
+        ..REFUSED
+    },
+    Row {
+        name: "the TSIH comes before the authentication",
+        input: &[
+            PduRow(
+                &LOGIN,
+                &[(7, &[102]), (14, &[0x12, 0x34])],
+                Segment::Bytes(
+                    b"InitiatorName=iqn.2000-01.test:a\0TargetName=iqn.2000-01.test:array\0\
+                    SessionType=Normal\0AuthMethod=CHAP\0",
+                ),
+            ),
+            ONE_LOGIN,
+        ],
+        lives: true,
+        calls: &[LoginCall::Lives {
+            tsih: 4660,
+            name: INITIATOR,
+            isid: 0x4000_0137_0000,
+        }],
+        output: &[PduRow(
+            &LOGIN_REFUSED,
+            &[(14, &[0x12, 0x34]), (37, &[6])],
+            Segment::None,
+        )],
+        ..REFUSED
+    },
+    Row {
+        name: "AuthMethod without None",
+        input: &[
+            PduRow(
+                &LOGIN,
+                &[(1, &[0x81]), (7, &[106])],
+                Segment::Bytes(
+                    b"InitiatorName=iqn.2000-01.test:a\0TargetName=iqn.2000-01.test:array\0\
+                    SessionType=Normal\0AuthMethod=CHAP,SRP\0",
+                ),
+            ),
+            ONE_LOGIN,
+        ],
+        output: &[PduRow(&LOGIN_REFUSED, &[(1, &[0]), (37, &[1])], Segment::None)],
+        ..REFUSED
+    },
+    Row {
+        name: "AuthMethod without None in stage 1",
+        input: &[
+            PduRow(
+                &LOGIN,
+                &[(7, &[102])],
+                Segment::Bytes(
+                    b"InitiatorName=iqn.2000-01.test:a\0TargetName=iqn.2000-01.test:array\0\
+                    SessionType=Normal\0AuthMethod=none\0",
+                ),
+            ),
+            ONE_LOGIN,
+        ],
+        output: &[PduRow(&LOGIN_REFUSED, &[(37, &[1])], Segment::None)],
+        ..REFUSED
+    },
+    Row {
+        name: "the target begins no session",
+        input: &[ONE_LOGIN, ONE_LOGIN],
+        begin: BeginAnswer::Refused,
+        calls: &[LoginCall::Begin {
+            name: INITIATOR,
+            isid: 0x4000_0137_0000,
+            kind: Kind::Normal,
+        }],
+        output: &[PduRow(&LOGIN_REFUSED, &[(36, &[3, 2])], Segment::None)],
+        ..REFUSED
+    },
+];
+
+#[test]
+fn names_and_sessions(rt: HostRuntime) -> Result<(), Fail> {
+    run(&rt, rt.alloc(), ROWS)
+}
