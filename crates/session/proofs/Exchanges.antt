@@ -19,7 +19,7 @@ use Rattle.session.specs.Counters.{Counters, begun}
 use Rattle.session.specs.MachineTurn.{TurnOf}
 use Rattle.session.specs.LoginPhase.{LoginTurn, LoginStanding, progress_after, progress_behind, cmd_sn_in, first_cmd_sn, login_standing, login_after, IsLoginTurn, login_end, begins, IsStart}
 use Rattle.session.specs.Phases.{Transcript, Exchange, of_login, of_turn, exchanges, NoneEnds, NoneBegins, IsLogin, IsBehindLogin, IsLawful}
-use Rattle.session.specs.Stream.{PhasesValue, NextPhase, ExchangeOf, IsOpened, IsFresh}
+use Rattle.session.specs.Stream.{PhasesValue, NextPhase, ExchangeOf, OpensWith, IsFresh}
 use Rattle.session.proofs.Table.{all_append}
 use Rattle.session.proofs.Lawful.{at_each_more, at_each_none, at_each_of_more, at_each_of_none, Stands, stands_more, stands_none}
 
@@ -127,7 +127,7 @@ fresh_after (Some v) s came e p' k made = fresh_next (begins made.turn.outcome) 
 pub fresh_more : (p : PhasesValue) (came : Incoming) (e : Exchange) (p' : PhasesValue) → IsFresh p → ExchangeOf p came e p' → IsFresh p'
 fresh_more p came e p' k made = fresh_after p.login p.counters came e p' k made
 
-pub fresh_opened : (units : ℕ) (me : Identity) (opening : Opening) (p : PhasesValue) → IsOpened units me opening p → IsFresh p
+pub fresh_opened : (units : ℕ) (me : Identity) (opening : Opening) (p : PhasesValue) → OpensWith units me opening p → IsFresh p
 fresh_opened units me (Login tag) p k = rw k.0 (rw k.3 refl)
 fresh_opened units me (FullFeature kind start) p k = rw k.0 tt
 
@@ -194,7 +194,7 @@ module _ (units : ℕ) (me : Identity) (opening : Opening) (c : Transcript) (v :
   login_now : IsLogin me.target_name.now k.tag logins_now
   login_now = record {
     turns = at_each_of_more _ c.logins l k.is_login.turns (subst (λ (w : LoginStanding). IsLoginTurn w l) k.standing_is made);
-    first = at_each_of_more (λ (before : List LoginTurn) (u : LoginTurn). NoneBegins before) c.logins l k.is_login.first k.none_begins;
+    none_begun = at_each_of_more (λ (before : List LoginTurn) (u : LoginTurn). NoneBegins before) c.logins l k.is_login.none_begun k.none_begins;
     ends = at_each_of_more (λ (before : List LoginTurn) (u : LoginTurn). NoneEnds (map of_login before)) c.logins l k.is_login.ends k.none_ends;
   }
 
@@ -260,14 +260,14 @@ module _ (units : ℕ) (me : Identity) (opening : Opening) (c : Transcript) (cam
 
 -- before anything came
 module _ (units : ℕ) (me : Identity) where
-  pub stands_opened : (opening : Opening) (p : PhasesValue) → IsOpened units me opening p
+  pub stands_opened : (opening : Opening) (p : PhasesValue) → OpensWith units me opening p
       → PhaseStands units me opening (record { logins = []; turns = [] }) p.login p.counters
   stands_opened (Login tag) p k = rw k.0 (record {
     tag = tag;
     opening_is = refl;
     is_login = record {
       turns = at_each_of_none _;
-      first = at_each_of_none (λ (before : List LoginTurn) (l : LoginTurn). NoneBegins before);
+      none_begun = at_each_of_none (λ (before : List LoginTurn) (l : LoginTurn). NoneBegins before);
       ends = at_each_of_none (λ (before : List LoginTurn) (l : LoginTurn). NoneEnds (map of_login before));
     };
     none_begins = tt;

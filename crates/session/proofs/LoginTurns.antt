@@ -9,6 +9,7 @@ use Rattle.login.specs.declared.status.Stop.TheVariants as stops
 use Rattle.session.specs.declared.login_phase.LoginOutcome.{LoginOutcome}
 use Rattle.session.specs.declared.target.BeginAnswer.{BeginAnswer}
 use Rattle.session.specs.Asking.{Asking, began, lives}
+use Rattle.session.specs.Handle.{HasHandle}
 use Rattle.std.specs.Option.{option_or, unwrap_or}
 use Rattle.std.proofs.Common.{◌+◌, ◌<◌}
 use Rattle.iscsi_pdu.specs.declared.fault.PduFault.{PduFault}
@@ -42,12 +43,12 @@ module _ {T : Type 0} (leads : T → Asking → T → Type 0) (x y : T) (s : Pro
   Comes e = (call : Option Asking) × IsLed leads call x y × IsNegotiated s p d e call o
 
   pub accepted : (text : List ℕ) (e : Ending) (now : Progress) → Finished text ≡ e → now ≡ after s (flags_of p) d
-      → (answer : BeginAnswer) × leads x (began (port_of p now.said) (kind_in now.kind) answer) y × (o ≡ outcome_of_begin answer)
+      → (answer : BeginAnswer) × leads x (began (port_of p now.said) (kind_in now.kind) answer) y × HasHandle answer × (o ≡ outcome_of_begin answer)
       → Comes e
   accepted text e now is same k =
       let asked : leads x (began (port_of p (after s (flags_of p) d).said) (kind_in (after s (flags_of p) d).kind) k.0) y =
       subst (λ (z : Progress). leads x (began (port_of p z.said) (kind_in z.kind) k.0) y) same k.1 in
-      subst Comes is (Some (began (port_of p (after s (flags_of p) d).said) (kind_in (after s (flags_of p) d).kind) k.0), asked, (k.0, refl, k.2))
+      subst Comes is (Some (began (port_of p (after s (flags_of p) d).said) (kind_in (after s (flags_of p) d).kind) k.0), asked, (k.0, refl, k.2, k.3))
 
   pub named : (e : Ending) (port : Port) → Stopped stops.NamesSession ≡ e → port ≡ port_of p (s.unfinished ++ d)
       → (answer : Bool) × leads x (lives p.tsih port answer) y × (o ≡ outcome_of_lives answer) → Comes e

@@ -1,4 +1,4 @@
--- Which transcripts are legal (RFC 7143, sections 4 and 7). A transcript is a list of turns; each fact is judged
+-- Which turns of full feature phase are legal (RFC 7143, sections 4 and 7). They are a list; each fact is judged
 -- of the turn at each place, with the turns before it, so what holds of a transcript holds of each beginning.
 use Rattle.std.specs.Prelude.{◌≡◌, ℕ, ◌+◌, if◌then◌else◌, List, [], ◌∷◌, ◌++◌, length}
 use Rattle.std.specs.Prelude.{Option, Some, None, Result, IfSome, MatchOption, slice_get}
@@ -163,7 +163,7 @@ end_after (Refused reason) came call = Some Protocol
 abbrev pub GoesOn : List Turn → Type 0
 GoesOn ts = AtEach (λ before t. end_after t.verdict t.came t.call ≡ None) ts
 
--- The facts of a transcript of a session with this setting.
+-- The facts of the turns of full feature phase, of a session with this setting.
 pub record Lawful (m : Setting) (ts : List Turn) : Type 0 where
   -- what becomes of each PDU is what stands before it, and the rules, say
   pub judged : AtEach (λ before t. IsJudged m (standing m.start before) t.came t.verdict) ts

@@ -8,6 +8,7 @@ pub mod Drops
 pub mod Ends
 pub mod Following
 pub mod Front
+pub mod Handle
 pub mod Inbox
 pub mod Legal
 pub mod Lengths

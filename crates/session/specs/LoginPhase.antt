@@ -39,6 +39,7 @@ use Rattle.session.specs.declared.target.BeginAnswer.{BeginAnswer}
 use Rattle.session.specs.declared.target.BeginAnswer.TheVariants as begin_answers
 use Rattle.session.specs.declared.verdict.TheConstants.{COMMAND_NOT_SUPPORTED}
 use Rattle.session.specs.Asking.{Asking, began, lives}
+use Rattle.session.specs.Handle.{HasHandle}
 use Rattle.session.specs.Turn.{Incoming, pdu, faulty, Out}
 use Rattle.session.specs.Window.{wrap}
 use Rattle.session.specs.Standing.{numbers_for}
@@ -126,8 +127,9 @@ outcome_of_lives false = Refused SessionDoesNotExist
 abbrev pub IsNegotiated : Progress → LoginHeader → List ℕ → Ending → Option Asking → LoginOutcome → Type 0
 IsNegotiated s p d (Answered text) call o = (call ≡ None) × (o ≡ GoesOn)
 IsNegotiated s p d (Finished text) call o =
-    (answer : BeginAnswer) × (call ≡ Some (began (port_of p (after s (flags_of p) d).said) (kind_in (after s (flags_of p) d).kind) answer))
-    × (o ≡ outcome_of_begin answer)
+    (answer : BeginAnswer)
+    × (call ≡ Some (began (port_of p (after s (flags_of p) d).said) (kind_in (after s (flags_of p) d).kind) answer))
+    × HasHandle answer × (o ≡ outcome_of_begin answer)
 IsNegotiated s p d (Stopped (stops.Refused status)) call o = (call ≡ None) × (o ≡ Refused status)
 IsNegotiated s p d (Stopped stops.NamesSession) call o =
     (answer : Bool) × (call ≡ Some (lives p.tsih (port_of p (s.unfinished ++ d)) answer)) × (o ≡ outcome_of_lives answer)
@@ -193,7 +195,8 @@ refusal_of n h status = refused_header n (task_tag_of h) 0 (replicate 6 0) 0 sta
 abbrev pub out : TargetHeader → List ℕ → List Out
 out header bytes = record { header = header; bytes = bytes } ∷ []
 
--- the one PDU for what came, by what it came to; a Reject has the basic header segment of what is rejected
+-- the one PDU for what came, by what it came to; a Reject has the basic header segment of what is rejected. What comes to
+-- nothing of the kind, as no turn does, has none.
 abbrev pub login_outs : Numbers → Progress → Incoming → LoginOutcome → List Out
 login_outs n s (pdu b (Initiator (LoginRequest p)) d) GoesOn =
     out (passed_header n p 0) (ending_text (answer_to s (flags_of p) d))

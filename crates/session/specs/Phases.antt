@@ -59,7 +59,7 @@ NoneBegins ls = AllByRecursion (λ l. begins l.outcome ≡ false) ls
 -- turn that begins the session, or behind one that calls for an end.
 pub record IsLogin (target : List ℕ) (tag : ℕ) (ls : List LoginTurn) : Type 0 where
   pub turns : AtEachOf (λ (before : List LoginTurn) (l : LoginTurn). IsLoginTurn (login_standing target tag before) l) ls
-  pub first : AtEachOf (λ (before : List LoginTurn) (l : LoginTurn). NoneBegins before) ls
+  pub none_begun : AtEachOf (λ (before : List LoginTurn) (l : LoginTurn). NoneBegins before) ls
   pub ends : AtEachOf (λ (before : List LoginTurn) (l : LoginTurn). NoneEnds (map of_login before)) ls
 
 -- the last turn of the login began the session

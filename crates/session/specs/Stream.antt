@@ -54,11 +54,11 @@ pub record PhasesValue : Type 0 where
   pub counters : Counters
 
 -- a session that begins so
-abbrev pub IsOpened : ℕ → Identity → Opening → PhasesValue → Type 0
-IsOpened units me (Login tag) p =
+abbrev pub OpensWith : ℕ → Identity → Opening → PhasesValue → Type 0
+OpensWith units me (Login tag) p =
     (p.login ≡ Some (login_standing me.target_name.now tag []))
     × (kind : Kind) × (start : Start) × (p.counters ≡ begun (setting_of units me kind start))
-IsOpened units me (FullFeature kind start) p =
+OpensWith units me (FullFeature kind start) p =
     (p.login ≡ None) × (p.counters ≡ begun (setting_of units me kind start))
     × (start.exp_cmd_sn < 4294967296) × (start.stat_sn < 4294967296)
 

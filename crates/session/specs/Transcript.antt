@@ -51,7 +51,7 @@ pub record IsFailureOf (cause : End) (before now : ℕ) (end : End) : Type 0 whe
   pub stays : (end ≡ cause → ⊥) → now ≡ before
 
 -- how it has passed up to its end, and whose failure that was
-pub record Passes {T : Type 0} (leads : T → Asking → T → Type 0) (units : ℕ) (me : Identity) (opening : Opening)
+pub record HasPassed {T : Type 0} (leads : T → Asking → T → Type 0) (units : ℕ) (me : Identity) (opening : Opening)
     (left left' held held' : Option (List ℕ)) (read read' written written' : ℕ) (target target' : T) (end : End) : Type 0 where
   pub passed : IsPassed leads units me opening left left' held held' target target' end
   pub input_failed : IsFailureOf InputFailed read read' end

@@ -1,4 +1,4 @@
--- What passes in a session: a list of turns. A turn is a PDU that came, or a fault, with what it called for.
+-- What passes in full feature phase: a list of turns. A turn is a PDU that came, or a fault, with what it called for.
 use Rattle.std.specs.Prelude.{◌≡◌, ℕ, List, [], ◌∷◌, ◌++◌, take, Option}
 use Rattle.std.specs.List.{filter_map, flat_map}
 use Rattle.iscsi_pdu.specs.Pdu.{IsPdu}

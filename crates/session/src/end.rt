@@ -7,7 +7,7 @@ pub enum End {
     InputFailed,
     /// The sink failed. A beginning of the bytes was written.
     OutputFailed,
-    /// The initiator broke the protocol: a PDU was rejected, or its CmdSN leaves a gap (RFC 7143, 7.3 and 4.2.2.1).
+    /// A PDU was rejected, or its CmdSN leaves a gap (RFC 7143, 7.3 and 4.2.2.1); or the login was refused (11.13.5).
     Protocol,
     /// The session is attached no more: another one took its nexus (RFC 7143, 6.3.5).
     Reinstated,

@@ -1,19 +1,20 @@
-//! An iSCSI session in full feature phase over a byte stream (RFC 7143, from section 4.2 on).
+//! An iSCSI session over a byte stream, from its login on or in full feature phase (RFC 7143, sections 4 to 7).
 //!
-//! [`serve_stream`] reads PDUs from a [`Source`], has its [`Target`] serve their commands, and writes the answers to
-//! a [`Sink`], until the session ends. A write whose data does not all come with it waits for the rest, which it asks for
-//! by R2T; any other command is answered in the turn in which it comes. The data of a read goes out in runs of Data-In.
-//! All is cut as the [`Lengths`] in force say. Answers of commands that came together leave together. [`Session`] is the
-//! same without bytes: what a PDU, a fault or an answer calls for. [`Watched`] makes a source or a sink of a reader or
-//! writer.
+//! [`serve_stream`] reads PDUs from a [`Source`], has its [`Target`] begin the session and serve its commands, and writes the
+//! answers to a [`Sink`], until the session ends. How it begins is its [`Opening`]. In full feature phase a write whose data
+//! does not all come with it waits for the rest, which it asks for by R2T; any other command is answered in the turn in which
+//! it comes. The data of a read goes out in runs of Data-In. All is cut as the [`Lengths`] in force say. Answers of commands
+//! that came together leave together. [`Session`] is full feature phase without bytes: what a PDU, a fault or an answer calls
+//! for. [`Watched`] makes a source or a sink of a reader or writer.
 //!
 //! The theorem stands on [`serve_stream`]: the bytes that are written spell a legal transcript of the bytes that
-//! were read, however they were cut. Of specs/, `Turn` says what a transcript is, `Asking` what a target is asked, `Setting`
-//! what stays the same, `Standing` what stands behind some turns, `Window` how numbers count, `Verdict` which PDUs are
-//! accepted, `Tasks` and `Collecting` how a command gathers its data and is called, `Drops` and `TaskManagement` which are
-//! aborted, `Answered`, `Response` and `DataIn` how a command is answered, `Requests` how anything else is, `Legal` which
-//! transcripts are legal and why one ends, and `Transcript` how it lies over the bytes. `Machine` says what `Session`
-//! does at a step, `Source` and `Inbox` how bytes come, `Outbox` how they leave. What follows for an initiator is
+//! were read, however they were cut. Of specs/, `Phases` says what a transcript is and which are legal: `LoginPhase` has the
+//! turns of a login, `Turn` and `Legal` those of full feature phase; `Ends` says why a session ends, and `Transcript` how a
+//! transcript lies over the bytes. `Asking` says what a target is asked, `Setting` what stays the same in full feature phase,
+//! `Standing` what stands behind some turns, `Window` how numbers count, `Verdict` which PDUs are accepted, `Tasks` and
+//! `Collecting` how a command gathers its data and is called, `Drops` and `TaskManagement` which are aborted, `Answered`,
+//! `Response` and `DataIn` how a command is answered, `Requests` how anything else is. `Machine` and `Stream` say what the
+//! code does at a step, `Source` and `Inbox` how bytes come, `Outbox` how they leave. What follows for an initiator is
 //! stated by the functions without a body, in `laws`.
 #![tactic(auto)]
 

@@ -7,6 +7,7 @@ ghost use Rattle.login.specs.declared.negotiation.TheConstants.{LONGEST_RESPONSE
 ghost use Rattle.login.specs.Progress.{Progress};
 ghost use Rattle.login.specs.Request.{answer_to, after, kind_in};
 ghost use Rattle.session.specs.Asking.{Asking, began, lives};
+ghost use Rattle.session.specs.Handle.{HasHandle};
 ghost use Rattle.session.specs.Turn.{Out, pdu as came};
 ghost use Rattle.session.specs.Window.{wrap};
 ghost use Rattle.session.specs.Standing.{numbers_for};
@@ -169,7 +170,7 @@ impl LoginPhase {
     fn begin_session<T: Target>(&self, target: &mut T, request: &LoginRequest) -> LoginOutcome
         ensures { (answer : BeginAnswer) × T.leads target.old
             (began (port_of request.now self.now.progress.said) (kind_in self.now.progress.kind) answer) target.new
-            × (result ≡ outcome_of_begin answer) }
+            × HasHandle answer × (result ≡ outcome_of_begin answer) }
     {
         let name = self.negotiation.initiator();
         match target.begin(name, isid_of(request), self.kind()) {

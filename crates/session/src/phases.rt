@@ -3,7 +3,7 @@ ghost use Rattle.std.specs.Prelude.{◌≡◌, ◌≤◌, length, vec_capacity, 
 ghost use Rattle.login.specs.declared.negotiation.TheConstants.{LONGEST_RESPONSE};
 ghost use Rattle.session.specs.declared.end.End.TheVariants.{Protocol};
 ghost use Rattle.session.specs.Turn.{pdu as came, faulty};
-ghost use Rattle.session.specs.Stream.{IsOpened, IsFresh, MakesExchange};
+ghost use Rattle.session.specs.Stream.{OpensWith, IsFresh, MakesExchange};
 
 use crate::end::End;
 use crate::identity::Identity;
@@ -45,7 +45,7 @@ impl Phases {
         units: u16,
         me: &Identity<'_>,
     ) -> Result<Phases, NoMemory>
-        ensures { IfOk result (λ p. IsOpened units me.now opening p) }
+        ensures { IfOk result (λ p. OpensWith units me.now opening p) }
     {
         match opening {
             Opening::Login(tag) => {

@@ -6,8 +6,8 @@ ghost use Rattle.session.specs.Inbox.{Filled};
 ghost use Rattle.session.specs.Outbox.{IsClosedAs};
 ghost use Rattle.session.specs.declared.identity.Identity.{Identity};
 ghost use Rattle.session.specs.declared.opening.Opening.{Opening};
-ghost use Rattle.session.specs.Stream.{IsOpened, IsFresh};
-ghost use Rattle.session.specs.Transcript.{Passes, IsTranscribed, IsFailureOf};
+ghost use Rattle.session.specs.Stream.{OpensWith, IsFresh};
+ghost use Rattle.session.specs.Transcript.{HasPassed, IsTranscribed, IsFailureOf};
 
 use crate::end::End;
 use crate::identity::Identity;
@@ -97,8 +97,8 @@ fn pass<S: Source, K: Sink, T: Target>(
     requires unwritten { outbox.old ≡ record { waiting = []; failed = false } }
     requires fresh { IsFresh phases.old }
     requires room { LONGEST_RESPONSE ≤ vec_capacity room.old }
-    ensures { (units : ℕ) (me : Identity) (opening : Opening) → IsOpened units me opening phases.old
-        → Passes T.leads units me opening (S.left source.old) (S.left source.new) (K.held sink.old) (K.held sink.new)
+    ensures { (units : ℕ) (me : Identity) (opening : Opening) → OpensWith units me opening phases.old
+        → HasPassed T.leads units me opening (S.left source.old) (S.left source.new) (K.held sink.old) (K.held sink.new)
         (S.failures source.old) (S.failures source.new) (K.failures sink.old) (K.failures sink.new)
         target.old target.new result }
 {

@@ -1,5 +1,6 @@
 ghost use Rattle.std.specs.Prelude.{◌≡◌, ℕ};
 ghost use Rattle.session.specs.Asking.{Asking, began, lives, served, reset, over};
+ghost use Rattle.session.specs.Handle.{HasHandle};
 
 use login::Kind;
 use scsi_types::{Asked, Reply};
@@ -52,9 +53,10 @@ pub trait Target {
         ensures { result ≡ unit_count self.now };
 
     /// Begins a session of this kind, of the initiator port with this InitiatorName, of 1 to 223 bytes, and this ISID, below
-    /// 2^48. The session of the same port and kind that lives is over from then on (RFC 7143, 6.3.5).
+    /// 2^48. Where it begins, the session of the same port and kind that lives is over from then on (RFC 7143, 6.3.5).
     fn begin(&mut self, name: &[u8], isid: u64, kind: Kind) -> BeginAnswer
-        ensures { leads self.old (began (record { name = name.now; isid = isid }) kind result) self.new };
+        ensures leads { leads self.old (began (record { name = name.now; isid = isid }) kind result) self.new }
+        ensures handle { HasHandle result };
 
     /// Whether the session with this TSIH lives, and is of this initiator port.
     fn lives(&mut self, tsih: u16, name: &[u8], isid: u64) -> bool
