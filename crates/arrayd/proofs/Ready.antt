@@ -1,5 +1,6 @@
 -- The session's serial is the unit's next.
-use Rattle.std.proofs.Common.{◌≡◌, ◌≢◌, ℕ, ◌+◌, ◌<◌, ◌≤◌, ⊎_elim, true, false, nat_eq, List, [], ◌∷◌, Bool, Option, Some, None, Result, refl, sym, ap, ◌∙◌, arith}
+use Rattle.std.proofs.Common.{◌≡◌, ◌≢◌, ℕ, ◌+◌, ◌<◌, ◌≤◌, ⊎_elim, true, false, nat_eq, List, [], ◌∷◌, Bool, Option, Some, None}
+use Rattle.std.proofs.Common.{Result, refl, sym, ap, ◌∙◌, arith}
 use Rattle.std.specs.Prelude.{IsSome}
 use Rattle.std.specs.Option.{option_map}
 use Rattle.std.proofs.lemmas.Bool.Decides.{eqb_tells}
@@ -24,7 +25,8 @@ use Rattle.unit_state.specs.CommandLaws.{next_after, count_after}
 use Rattle.arrayd.specs.OneUnit.{TargetValue, IsSame, IsCommand, IsAnsweredBy, IsResetBy}
 
 -- one that has its serial and is gone has no room
-pub gone_late : (c : ControlValue) (session serial : ℕ) → next_of c.sessions session ≡ Some serial → (IsNext c session serial → ⊥) → LAST_COUNT ≤ c.count
+pub gone_late : (c : ControlValue) (session serial : ℕ) → next_of c.sessions session ≡ Some serial → (IsNext c session serial → ⊥)
+    → LAST_COUNT ≤ c.count
 gone_late c session serial next gone = ⊎_elim (λ (lt : c.count < LAST_COUNT). absurd (gone (record { room = lt; next = next }))) (λ (le : LAST_COUNT ≤ c.count). le) (cases_lt c.count LAST_COUNT)
 
 -- behind a command its serial is the next again
@@ -39,7 +41,8 @@ count_next c new session serial by_group asked bytes choice fits after =
     let e : new.count ≡ c.count + 1 = ap (λ (d : ControlValue). d.count) after ∙ count_after c session serial by_group asked bytes choice in omega arith
 
 -- behind a reset of its own its serial is the same
-next_reset : (sessions : List Attached) (by_session session : ℕ) → next_of (all_reset sessions by_session) session ≡ next_of sessions session
+next_reset : (sessions : List Attached) (by_session session : ℕ)
+    → next_of (all_reset sessions by_session) session ≡ next_of sessions session
 next_reset [] by_session session = refl
 next_reset (a ∷ rest) by_session session =
     ⊎_elim (λ (own : (nat_eq a.id by_session ≡ true) × (a.id ≡ by_session)). rw own.0
@@ -48,7 +51,8 @@ next_reset (a ∷ rest) by_session session =
     (⊎_elim (λ (t : (nat_eq a.id session ≡ true) × (a.id ≡ session)). rw t.0 refl) (λ (f : (nat_eq a.id session ≡ false) × (a.id ≢ session)). rw f.0 (next_reset rest by_session session)) (eqb_tells a.id session)))
     (eqb_tells a.id by_session)
 
-pub ready_reset : (c new : ControlValue) (session serial : ℕ) → next_of c.sessions session ≡ Some serial → new ≡ control_after c (Reset session) → next_of new.sessions session ≡ Some serial
+pub ready_reset : (c new : ControlValue) (session serial : ℕ) → next_of c.sessions session ≡ Some serial
+    → new ≡ control_after c (Reset session) → next_of new.sessions session ≡ Some serial
 ready_reset c new session serial next after = ap (λ (d : ControlValue). next_of d.sessions session) after ∙ next_reset c.sessions session session ∙ next
 
 -- one that is attached and cannot reset has no room
@@ -56,7 +60,8 @@ is_attached : (o : Option Attached) (serial : ℕ) → option_map (λ a. a.next)
 is_attached None serial next = absurd (cc)
 is_attached (Some a) serial next = refl
 
-pub reset_late : (c : ControlValue) (session serial : ℕ) → next_of c.sessions session ≡ Some serial → (IsAttached c session → ⊥) → LAST_COUNT ≤ c.count
+pub reset_late : (c : ControlValue) (session serial : ℕ) → next_of c.sessions session ≡ Some serial → (IsAttached c session → ⊥)
+    → LAST_COUNT ≤ c.count
 reset_late c session serial next gone =
     ⊎_elim (λ (lt : c.count < LAST_COUNT). absurd (gone (record { room = lt; attached = is_attached (session_of c.sessions session) serial next }))) (λ (le : LAST_COUNT ≤ c.count). le) (cases_lt c.count LAST_COUNT)
 
@@ -67,7 +72,8 @@ some n = Some n
 
 module _ {B : Type 0} (old new : TargetValue B) where
   -- behind nothing the session's serial is the next still
-  pub ready_same : IsSame old new → next_of old.unit.control.sessions old.at.session ≡ Some old.at.serial → next_of new.unit.control.sessions new.at.session ≡ Some new.at.serial
+  pub ready_same : IsSame old new → next_of old.unit.control.sessions old.at.session ≡ Some old.at.serial
+      → next_of new.unit.control.sessions new.at.session ≡ Some new.at.serial
   ready_same same next =
       ap (λ (u : UnitValue B KeepOpener MemBlocks). next_of u.control.sessions new.at.session) same.unit
       ∙ ap (λ (n : ℕ). next_of old.unit.control.sessions n) same.session ∙ next ∙ sym (ap some same.serial)
@@ -84,8 +90,10 @@ module _ {B : Type 0} (old new : TargetValue B) where
 
 module _ {B : Type 0} (claims : Bool) (contents : B → List (List ℕ)) (failures : B → ℕ) (old new : TargetValue B) where
   -- what one fact tells of a session that is gone, another tells that follows
-  pub answered_over : (late also : Type 0) → (late → also) → (number : Option ℕ) (asked : Result ScsiCommand CdbFault) (bytes : List ℕ) (a : TargetAnswer)
-      → IsAnsweredBy late claims contents failures old number asked bytes a new → IsAnsweredBy also claims contents failures old number asked bytes a new
+  pub answered_over : (late also : Type 0) → (late → also)
+      → (number : Option ℕ) (asked : Result ScsiCommand CdbFault) (bytes : List ℕ) (a : TargetAnswer)
+      → IsAnsweredBy late claims contents failures old number asked bytes a new
+      → IsAnsweredBy also claims contents failures old number asked bytes a new
   answered_over late also follows number asked bytes (Replied reply) k = k
   answered_over late also follows number asked bytes (Outside reply) k = k
   answered_over late also follows number asked bytes Busy k = k
@@ -94,7 +102,8 @@ module _ {B : Type 0} (claims : Bool) (contents : B → List (List ℕ)) (failur
 
   -- behind an answer the session's serial is the next still
   pub ready_answered : (late : Type 0) (number : Option ℕ) (asked : Result ScsiCommand CdbFault) (bytes : List ℕ) (a : TargetAnswer)
-      → next_of old.unit.control.sessions old.at.session ≡ Some old.at.serial → IsAnsweredBy late claims contents failures old number asked bytes a new
+      → next_of old.unit.control.sessions old.at.session ≡ Some old.at.serial
+      → IsAnsweredBy late claims contents failures old number asked bytes a new
       → next_of new.unit.control.sessions new.at.session ≡ Some new.at.serial
   ready_answered late number asked bytes (Replied reply) next k =
       let by_owner : TargetValue B = k.1 in
@@ -110,14 +119,16 @@ module _ {B : Type 0} (claims : Bool) (contents : B → List (List ℕ)) (failur
 
   -- no serial passes the count of entries, which never falls
   module _ (late : Type 0) (number : Option ℕ) (asked : Result ScsiCommand CdbFault) (bytes : List ℕ) where
-    counted : (reply : ReplyValue) → (by_owner : TargetValue B) → IsSame old by_owner → IsCommand claims contents failures by_owner new asked bytes reply
+    counted : (reply : ReplyValue) → (by_owner : TargetValue B) → IsSame old by_owner
+        → IsCommand claims contents failures by_owner new asked bytes reply
         → new.unit.control.count ≡ old.unit.control.count + 1
     counted reply by_owner same done =
         ap (λ (d : ControlValue). d.count) done.step.control
         ∙ count_after by_owner.unit.control by_owner.at.session by_owner.at.serial by_owner.at.by asked bytes (choice_of reply (contents new.unit.device) new.unit.control.lasting)
         ∙ ap (λ (u : UnitValue B KeepOpener MemBlocks). u.control.count + 1) same.unit
 
-    pub fits_answered : (a : TargetAnswer) → old.at.serial ≤ old.unit.control.count → IsAnsweredBy late claims contents failures old number asked bytes a new
+    pub fits_answered : (a : TargetAnswer) → old.at.serial ≤ old.unit.control.count
+        → IsAnsweredBy late claims contents failures old number asked bytes a new
         → new.at.serial ≤ new.unit.control.count
     fits_answered (Replied reply) fits k =
         let e = counted reply k.1 k.2 k.3 in
@@ -127,7 +138,8 @@ module _ {B : Type 0} (claims : Bool) (contents : B → List (List ℕ)) (failur
     fits_answered Gone fits k = fits_same old new k.1 fits
     fits_answered Halted fits k = absurd k
 
-    pub grows_answered : (a : TargetAnswer) → IsAnsweredBy late claims contents failures old number asked bytes a new → old.unit.control.count ≤ new.unit.control.count
+    pub grows_answered : (a : TargetAnswer) → IsAnsweredBy late claims contents failures old number asked bytes a new
+        → old.unit.control.count ≤ new.unit.control.count
     grows_answered (Replied reply) k = let e = counted reply k.1 k.2 k.3 in omega arith
     grows_answered (Outside reply) k = grows_same old new k.2
     grows_answered Busy k = grows_same old new k.1
@@ -140,7 +152,8 @@ module _ {B : Type 0} (late : Type 0) (old new : TargetValue B) (number : ℕ) w
   reset_over also follows resets.Gone k = (k.0, k.1, follows k.2)
   reset_over also follows resets.Failed k = k
 
-  pub ready_reset_by : (a : ResetAnswer) → next_of old.unit.control.sessions old.at.session ≡ Some old.at.serial → new.at ≡ old.at → IsResetBy late old number a new
+  pub ready_reset_by : (a : ResetAnswer) → next_of old.unit.control.sessions old.at.session ≡ Some old.at.serial → new.at ≡ old.at
+      → IsResetBy late old number a new
       → next_of new.unit.control.sessions new.at.session ≡ Some new.at.serial
   ready_reset_by resets.Done next stays k =
       rw stays (ready_reset old.unit.control new.unit.control old.at.session old.at.serial next k.1.control)

@@ -1,8 +1,8 @@
 -- The calls of a session are the commands of one legal history of its unit.
-use Rattle.std.proofs.Common.{◌≡◌, ℕ, zero, suc, ◌+◌, ◌<◌, ◌≤◌, List, [], ◌∷◌, length, take, Bool, true, false, Option, Some, None, refl, sym, ap, subst, ◌∙◌, arith, cond}
+use Rattle.std.proofs.Common.{◌≡◌, ℕ, zero, suc, ◌+◌, ◌<◌, ◌≤◌, List, [], ◌∷◌, length, Bool, true, false, Option, Some, None, refl, sym, ap, subst, ◌∙◌, arith, cond}
 use Rattle.std.specs.Prelude.{IsTrue, slice_get, Result}
 use Rattle.std.proofs.lemmas.List.Sums.{sum_by-cons}
-use Rattle.block_file.specs.Failures.{Tells, last_count}
+use Rattle.block_file.specs.Failures.{Tells}
 use Rattle.block_file.specs.declared.mem.MemBlocks.{MemBlocks}
 use Rattle.block_file.specs.declared.opener.KeepOpener.{KeepOpener}
 use Rattle.scsi_types.specs.ReplyValue.{ReplyValue}
@@ -34,7 +34,7 @@ use Rattle.unit_state.specs.Entry.{Entry, Reset, Command, IsAttached, IsPossible
 use Rattle.unit_state.specs.EntryLaws.{possible_over, reply_over}
 use Rattle.unit_state.specs.History.{state_after, IsLegal, IsReplyAt, has_failed, failed_entries}
 use Rattle.unit_state.specs.Step.{IsStep, entry_of}
-use Rattle.arrayd.specs.OneUnit.{TargetValue, IsCommand, IsSame, IsBusy, IsAnsweredBy, IsReset, IsResetBy, LeadsOn}
+use Rattle.arrayd.specs.OneUnit.{TargetValue, IsSame, IsBusy, IsAnsweredBy, IsResetBy, LeadsOn}
 use Rattle.arrayd.specs.Once.{RepliedCall, EnteredCall, replied, was_reset, entered_by, entered, IsEntryOf, AreCommands, IsUnserved, AreUnserved, AreCounted, IsBegun, IsOnce, begun}
 
 -- ---- failures: one command more in front

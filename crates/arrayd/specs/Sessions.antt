@@ -1,5 +1,5 @@
 -- One unit, and the sessions that live at it (RFC 7143, 6.3): how one begins, what it asks, and how it is over.
-use Rattle.std.specs.Prelude.{◌≡◌, ◌≢◌, ◌⊎◌, ℕ, ◌+◌, ◌-◌, ◌^◌, ◌<◌, ◌≤◌, Bool, true, false, not, ◌&&◌, nat_eq}
+use Rattle.std.specs.Prelude.{◌≡◌, ◌≢◌, ◌⊎◌, ℕ, ◌+◌, ◌<◌, ◌≤◌, Bool, true, false, not, ◌&&◌, nat_eq}
 use Rattle.std.specs.Prelude.{if◌then◌else◌, IfSome, List, [], ◌∷◌, ◌++◌, map, filter, find, Option, Some, None, Result}
 use Rattle.std.specs.List.{list_any}
 use Rattle.std.specs.Option.{option_and_then}
@@ -17,11 +17,11 @@ use Rattle.session.specs.declared.target.BeginAnswer.TheVariants.{Begun, Refused
 use Rattle.session.specs.declared.target.TargetAnswer.{TargetAnswer}
 use Rattle.session.specs.declared.target.ResetAnswer.{ResetAnswer}
 use Rattle.session.specs.declared.target.ResetAnswer.TheVariants as resets
-use Rattle.unit_state.specs.State.{ControlValue, UnitValue, opening_control}
+use Rattle.unit_state.specs.State.{UnitValue, opening_control}
 use Rattle.unit_state.specs.Entry.{Attach, Detach, HasRoom, IsAttached, IsNext, control_after}
 use Rattle.arrayd.specs.declared.attachment.Attachment.{Attachment}
 use Rattle.arrayd.specs.declared.live.LiveSession.{LiveSession}
-use Rattle.arrayd.specs.declared.live.TheConstants.{LAST_TSIH}
+use Rattle.arrayd.specs.declared.live.TheConstants.{LAST_NUMBER, LAST_TSIH}
 use Rattle.arrayd.specs.declared.live.BeginFault.{BeginFault}
 use Rattle.arrayd.specs.declared.live.BeginFault.TheVariants as faults
 use Rattle.arrayd.specs.Once.{nothing, place}
@@ -144,7 +144,7 @@ abbrev pub IsCauseOf : {B : Type 0} → SessionsValue B → Port → Kind → Be
 IsCauseOf old port kind faults.NoPortName = IsPortName port → ⊥
 IsCauseOf old port kind faults.NoRoom = (kind ≡ Normal) × (HasRoom old.unit.control (through port old.group) → ⊥)
 IsCauseOf old port kind faults.NoTsih = AreAllTaken old.live
-IsCauseOf old port kind faults.NoNumber = 2 ^ 64 - 1 ≤ old.begun
+IsCauseOf old port kind faults.NoNumber = LAST_NUMBER ≤ old.begun
 IsCauseOf old port kind faults.NoMemory = Unit {0}
 
 -- it may not, and nothing has changed
@@ -208,16 +208,16 @@ IsResetAt old new None number answer = (new ≡ old) × IsUnreset number answer
 -- ---- the whole
 
 -- where a question with its answer leads the target
-abbrev pub Leads : {B : Type 0} → Bool → (B → List (List ℕ)) → (B → ℕ) → SessionsValue B → Asking → SessionsValue B → Type 0
-Leads claims contents failures old (began port kind (Begun tsih)) new = HasBegun old new port kind tsih
-Leads claims contents failures old (began port kind Refused) new = IsRefused old new port kind
-Leads claims contents failures old (lives tsih port answer) new =
+abbrev pub LeadsSessionsOn : {B : Type 0} → Bool → (B → List (List ℕ)) → (B → ℕ) → SessionsValue B → Asking → SessionsValue B → Type 0
+LeadsSessionsOn claims contents failures old (began port kind (Begun tsih)) new = HasBegun old new port kind tsih
+LeadsSessionsOn claims contents failures old (began port kind Refused) new = IsRefused old new port kind
+LeadsSessionsOn claims contents failures old (lives tsih port answer) new =
     (answer ≡ list_any (λ s. nat_eq s.tsih tsih && same_port s.port port) old.live) × (new ≡ old)
-Leads claims contents failures old (served number asked bytes answer) new =
+LeadsSessionsOn claims contents failures old (served number asked bytes answer) new =
     IsServed claims contents failures old new (attachment_of old.present old.live) number asked bytes answer
-Leads claims contents failures old (reset number answer) new =
+LeadsSessionsOn claims contents failures old (reset number answer) new =
     IsResetAt old new (attachment_of old.present old.live) number answer
-Leads claims contents failures old over new = IsOver old new
+LeadsSessionsOn claims contents failures old over new = IsOver old new
 
 -- no serial passes the unit's count of entries, and each session has begun
 pub record IsCounted (count begun : ℕ) (s : LiveSession) : Type 0 where

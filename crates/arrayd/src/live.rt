@@ -14,6 +14,9 @@ use thiserror::Error;
 /// The greatest TSIH, which 1 follows (RFC 7143, 11.12.9).
 pub const LAST_TSIH: u16 = 65535;
 
+/// So many sessions begin; then none does.
+pub const LAST_NUMBER: u64 = 18_446_744_073_709_551_615;
+
 /// A session that has begun and is not over.
 #[derive(Debug, Drop)]
 pub struct LiveSession {

@@ -6,7 +6,8 @@ ghost use Rattle.unit_state.specs.Entry.{HasRoom};
 
 use crate::attachment::{Attachment, UNIT, answer, open, reset, turn_away};
 use crate::live::{
-    BeginFault, LiveSession, attachment_of, is_port, is_port_name, keep, next_tsih, remove, replace,
+    BeginFault, LAST_NUMBER, LiveSession, attachment_of, is_port, is_port_name, keep, next_tsih,
+    remove, replace,
 };
 use block_file::{Blocks, KeepOpener, MemBlocks};
 use login::Kind;
@@ -138,12 +139,12 @@ impl<B: Blocks> UnitSessions<B> {
         let Some(tsih) = next_tsih(&self.live, self.last) else {
             return Err(BeginFault::NoTsih);
         };
-        if self.begun == u64::MAX {
+        if self.begun == LAST_NUMBER {
             return Err(BeginFault::NoNumber);
         }
         self.live.reserve(1)?;
         let port = PortName::new(name.to_vec(self.alloc)?, isid);
-        // What may be refused is known from here on.
+        // The last step that may be refused.
         let at = join(self.alloc, &mut self.unit, name, isid, self.group, kind)?;
         let number = self.begun;
         replace(
@@ -164,9 +165,9 @@ impl<B: Blocks> UnitSessions<B> {
 }
 
 impl<B: Blocks> Target for UnitSessions<B> {
-    ghost use Rattle.arrayd.specs.Sessions.{Leads};
+    ghost use Rattle.arrayd.specs.Sessions.{LeadsSessionsOn};
 
-    ghost leads = { Leads B.claims B.contents B.failures };
+    ghost leads = { LeadsSessionsOn B.claims B.contents B.failures };
 
     ghost unit_count = { λ t. 1 };
 

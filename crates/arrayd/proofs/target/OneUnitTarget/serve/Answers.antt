@@ -1,4 +1,3 @@
-use Rattle.arrayd.specs.OneUnit.{TargetValue}
 use Rattle.arrayd.proofs.Ready.{answered_over, fits_answered, gone_late, ready_answered}
 use Rattle.arrayd.proofs.target.OneUnitTarget.serve.Goals as goal
 
