@@ -35,7 +35,7 @@ const DISCOVERY_BEGUN: PduRow = PduRow(
     Segment::Bytes(b"MaxRecvDataSegmentLength=65536\0"),
 );
 
-const ROWS: &[Row] = &[
+const SERVED: &[Row] = &[
     Row {
         name: "SendTargets=All, NOP-Out, and Logout",
         input: &[
@@ -215,6 +215,44 @@ const ROWS: &[Row] = &[
         ..DISCOVERY
     },
     Row {
+        name: "the target begins no session",
+        input: &[
+            DISCOVERS,
+            PduRow(
+                &TEXT_REQUEST,
+                &[(7, &[16])],
+                Segment::Bytes(b"SendTargets=All\0"),
+            ),
+        ],
+        begin: BeginAnswer::Refused,
+        output: &[PduRow(&LOGIN_REFUSED, &[(36, &[3, 2])], Segment::None)],
+        end: End::Protocol,
+        ..DISCOVERY
+    },
+    Row {
+        name: "SendTargets=All in a normal session",
+        input: &[
+            ONE_LOGIN,
+            PduRow(
+                &TEXT_REQUEST,
+                &[(7, &[16])],
+                Segment::Bytes(b"SendTargets=All\0"),
+            ),
+        ],
+        output: &[
+            BEGUN,
+            PduRow(
+                &TEXT_RESPONSE,
+                &[(7, &[19]), (24, &[0, 0, 0, 2])],
+                Segment::Bytes(b"SendTargets=Reject\0"),
+            ),
+        ],
+        ..BY_LOGIN
+    },
+];
+
+const REJECTED: &[Row] = &[
+    Row {
         name: "576 bytes of an answer, where the initiator takes 512",
         input: &[
             PduRow(
@@ -337,44 +375,14 @@ const ROWS: &[Row] = &[
         end: End::Protocol,
         ..DISCOVERY
     },
-    Row {
-        name: "the target begins no session",
-        input: &[
-            DISCOVERS,
-            PduRow(
-                &TEXT_REQUEST,
-                &[(7, &[16])],
-                Segment::Bytes(b"SendTargets=All\0"),
-            ),
-        ],
-        begin: BeginAnswer::Refused,
-        output: &[PduRow(&LOGIN_REFUSED, &[(36, &[3, 2])], Segment::None)],
-        end: End::Protocol,
-        ..DISCOVERY
-    },
-    Row {
-        name: "SendTargets=All in a normal session",
-        input: &[
-            ONE_LOGIN,
-            PduRow(
-                &TEXT_REQUEST,
-                &[(7, &[16])],
-                Segment::Bytes(b"SendTargets=All\0"),
-            ),
-        ],
-        output: &[
-            BEGUN,
-            PduRow(
-                &TEXT_RESPONSE,
-                &[(7, &[19]), (24, &[0, 0, 0, 2])],
-                Segment::Bytes(b"SendTargets=Reject\0"),
-            ),
-        ],
-        ..BY_LOGIN
-    },
 ];
 
 #[test]
 fn discovery(rt: HostRuntime) -> Result<(), Fail> {
-    run(&rt, rt.alloc(), ROWS)
+    run(&rt, rt.alloc(), SERVED)
+}
+
+#[test]
+fn rejected_in_discovery(rt: HostRuntime) -> Result<(), Fail> {
+    run(&rt, rt.alloc(), REJECTED)
 }

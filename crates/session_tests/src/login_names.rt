@@ -250,7 +250,7 @@ const ROWS: &[Row] = &[
         ],
         lives: true,
         calls: &[LoginCall::Lives {
-            tsih: 4660,
+            tsih: 0x1234,
             name: INITIATOR,
             isid: 0x4000_0137_0000,
         }],
