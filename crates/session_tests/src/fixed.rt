@@ -155,9 +155,11 @@ impl Target for Fixed {
 
     fn begin(&mut self, name: &[u8], isid: u64, kind: Kind) -> BeginAnswer {
         self.hear();
-        match self.keep_begin(name, isid, kind) {
-            Ok(()) => self.answers.begin,
-            Err(_) => BeginAnswer::Refused,
+        let kept = self.keep_begin(name, isid, kind).is_ok();
+        match self.answers.begin {
+            // No session has the TSIH 0.
+            BeginAnswer::Begun(tsih) if kept && tsih != 0 => BeginAnswer::Begun(tsih),
+            _ => BeginAnswer::Refused,
         }
     }
 

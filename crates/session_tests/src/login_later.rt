@@ -8,7 +8,7 @@ use session::BeginAnswer;
 use std::test::*;
 use test_streams::{LOGGED_IN, LOGIN, LOGIN_REFUSED, PduRow, Segment};
 
-const ROWS: &[Row] = &[
+const FLAGS: &[Row] = &[
     Row {
         name: "stage 1, where stage 0 stays",
         input: &[
@@ -94,6 +94,9 @@ const ROWS: &[Row] = &[
         ],
         ..REFUSED
     },
+];
+
+const TEXTS: &[Row] = &[
     Row {
         name: "a pair without =",
         input: &[
@@ -194,6 +197,9 @@ const ROWS: &[Row] = &[
         ],
         ..REFUSED
     },
+];
+
+const LIMITS: &[Row] = &[
     Row {
         name: "64 pairs, and one more",
         input: &[
@@ -292,6 +298,9 @@ const ROWS: &[Row] = &[
         ],
         ..REFUSED
     },
+];
+
+const RUNS: &[Row] = &[
     Row {
         name: "a run with C of another stage",
         input: &[
@@ -373,6 +382,21 @@ const ROWS: &[Row] = &[
 ];
 
 #[test]
-fn later_requests(rt: HostRuntime) -> Result<(), Fail> {
-    run(&rt, rt.alloc(), ROWS)
+fn flags_of_later_requests(rt: HostRuntime) -> Result<(), Fail> {
+    run(&rt, rt.alloc(), FLAGS)
+}
+
+#[test]
+fn texts_of_later_requests(rt: HostRuntime) -> Result<(), Fail> {
+    run(&rt, rt.alloc(), TEXTS)
+}
+
+#[test]
+fn limits_of_a_negotiation(rt: HostRuntime) -> Result<(), Fail> {
+    run(&rt, rt.alloc(), LIMITS)
+}
+
+#[test]
+fn runs_that_are_refused(rt: HostRuntime) -> Result<(), Fail> {
+    run(&rt, rt.alloc(), RUNS)
 }

@@ -8,7 +8,7 @@ use session::BeginAnswer;
 use std::test::*;
 use test_streams::{LOGIN, LOGIN_REFUSED, PduRow, Segment};
 
-const ROWS: &[Row] = &[
+const MISSING: &[Row] = &[
     Row {
         name: "no text",
         input: &[PduRow(&LOGIN, &[], Segment::None), ONE_LOGIN],
@@ -96,6 +96,9 @@ const ROWS: &[Row] = &[
         output: &[PduRow(&LOGIN_REFUSED, &[(37, &[7])], Segment::None)],
         ..REFUSED
     },
+];
+
+const TARGETS: &[Row] = &[
     Row {
         name: "an unknown target",
         input: &[
@@ -172,6 +175,9 @@ const ROWS: &[Row] = &[
         output: &[PduRow(&LOGIN_REFUSED, &[(14, &[0, 7]), (37, &[3])], Segment::None)],
         ..REFUSED
     },
+];
+
+const SESSIONS: &[Row] = &[
     Row {
         name: "one connection more in a session that lives",
         input: &[
@@ -261,6 +267,9 @@ const ROWS: &[Row] = &[
         )],
         ..REFUSED
     },
+];
+
+const METHODS: &[Row] = &[
     Row {
         name: "AuthMethod without None",
         input: &[
@@ -308,6 +317,21 @@ const ROWS: &[Row] = &[
 ];
 
 #[test]
-fn names_and_sessions(rt: HostRuntime) -> Result<(), Fail> {
-    run(&rt, rt.alloc(), ROWS)
+fn names_that_are_missing(rt: HostRuntime) -> Result<(), Fail> {
+    run(&rt, rt.alloc(), MISSING)
+}
+
+#[test]
+fn targets_that_are_not_there(rt: HostRuntime) -> Result<(), Fail> {
+    run(&rt, rt.alloc(), TARGETS)
+}
+
+#[test]
+fn sessions_that_are_named(rt: HostRuntime) -> Result<(), Fail> {
+    run(&rt, rt.alloc(), SESSIONS)
+}
+
+#[test]
+fn what_comes_last(rt: HostRuntime) -> Result<(), Fail> {
+    run(&rt, rt.alloc(), METHODS)
 }
