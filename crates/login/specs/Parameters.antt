@@ -1,5 +1,5 @@
 -- The values in force in a session (RFC 7143, 13).
-use Rattle.std.specs.Prelude.{ℕ, Bool, false, List}
+use Rattle.std.specs.Prelude.{◌≡◌, ℕ, Bool, true, false, List}
 use Rattle.login.specs.Text.{Pair}
 use Rattle.login.specs.Table.{in_force}
 use Rattle.login.specs.declared.key.Key.TheVariants as Of
@@ -35,3 +35,13 @@ parameters_of ps = record {
   data_pdu_in_order = flag_of (in_force Of.DataPDUInOrder ps);
   data_sequence_in_order = flag_of (in_force Of.DataSequenceInOrder ps);
 }
+
+-- What a session relies on: every write asks for its data by R2T, one at a time, data comes in order, over one connection,
+-- and nothing that was lost is recovered.
+pub record IsReliedOn (p : Parameters) : Type 0 where
+  pub initial_r2t : p.initial_r2t ≡ true
+  pub pdus_in_order : p.data_pdu_in_order ≡ true
+  pub sequences_in_order : p.data_sequence_in_order ≡ true
+  pub one_connection : p.max_connections ≡ 1
+  pub one_r2t : p.max_outstanding_r2t ≡ 1
+  pub no_recovery : p.error_recovery_level ≡ 0

@@ -1,5 +1,6 @@
 //! What the definitions say, in the words of RFC 7143.
 ghost use Rattle.std.specs.Prelude.{◌≡◌, ◌≤◌, ◌⊎◌, ◌↔◌, ◌++◌, ℕ, List, Bool, true, false, IsTrue, Some, None, IsSome};
+ghost use Rattle.login.specs.Parameters.{parameters_of, IsReliedOn};
 ghost use Rattle.login.specs.Text.{Pair, ArePairs, is_text, pairs, text_of};
 ghost use Rattle.login.specs.Number.{number_within, flag_in};
 ghost use Rattle.login.specs.Value.{agreed};
@@ -50,4 +51,10 @@ pub fn what_the_target_says_once()
     ensures tag { (s : Progress) (f : LoginFlags) (ps : List Pair) (kind : Kind) → s.kind ≡ Some kind
         → response s f ps ≡ length_text (tells_length s f) ++ answers ps }
     ensures length { (s : Progress) (f : LoginFlags) → s.declared ≡ true → tells_length s f ≡ false }
+{}
+
+/// Whatever is offered, a negotiation comes to the values that a session relies on: InitialR2T, DataPDUInOrder and
+/// DataSequenceInOrder are Yes, MaxConnections and MaxOutstandingR2T are 1, and ErrorRecoveryLevel is 0 (RFC 7143, 13).
+pub fn what_every_negotiation_comes_to()
+    ensures { (ps : List Pair) → IsReliedOn (parameters_of ps) }
 {}
