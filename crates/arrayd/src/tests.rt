@@ -1,6 +1,11 @@
+mod between;
 mod command_line;
 mod examples;
 mod first_questions;
+mod life;
+mod lives;
 mod medium;
+mod pdus;
+mod reinstated;
 mod run;
 mod sessions;
