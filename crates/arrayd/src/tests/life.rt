@@ -1,5 +1,4 @@
 //! The runner of sessions that begin with a login, over a unit that sessions of other ports may share.
-use super::run::BLOCKS;
 use crate::live::BeginFault;
 use crate::unit_sessions::UnitSessions;
 use crate::{TARGET_NAME, portal};
@@ -20,9 +19,6 @@ pub const OTHER: &[u8] = b"iqn.2000-01.test:other";
 
 /// How many sessions are attached to a unit at most.
 const MOST_SESSIONS: u64 = 64;
-
-/// The most bytes of an input that is cut at each of its places.
-const FEW_BYTES: usize = 320;
 
 /// The bytes of PDUs, and where each PDU begins.
 #[derive(Drop)]
@@ -49,13 +45,13 @@ impl Script {
         Ok(())
     }
 
-    /// The ways in which the bytes come: whole, one by one, and in two: cut at each place where they are few, else around
-    /// the first byte of each PDU and around the end of its header segment.
-    pub fn ways(&self, alloc: Global) -> Result<Vec<Calls>, Fail> {
+    /// The ways in which the bytes come: whole, one by one, and in two: cut at each place, or else around the first byte of
+    /// each PDU and around the end of its header segment.
+    pub fn ways(&self, alloc: Global, each_place: bool) -> Result<Vec<Calls>, Fail> {
         let mut ways = Vec::new(alloc);
         ways.push(WHOLE)?;
         ways.push(ONE_BYTE)?;
-        if self.bytes.len() <= FEW_BYTES {
+        if each_place {
             for first in 1..self.bytes.len() {
                 ways.push(Calls { first, ..WHOLE })?;
             }
@@ -139,11 +135,13 @@ pub fn lives_still(
     false
 }
 
-/// A session from its login on, over 2048 blocks of zeros, as a row of a table. When it is over, the sessions of the other
-/// ports are attached, and no other.
+/// A session from its login on, over a unit of zeros, as a row of a table. When it is over, the sessions of the other ports
+/// are attached, and no other.
 #[derive(Clone, Copy, Debug)]
 pub struct Life {
     pub name: &'static str,
+    /// How many blocks the unit has.
+    pub blocks: u32,
     /// Its port.
     pub port: (&'static [u8], u64),
     /// How many sessions of other ports live.
@@ -152,6 +150,8 @@ pub struct Life {
     pub input: &'static [PduRow<'static>],
     pub output: &'static [PduRow<'static>],
     pub end: End,
+    /// Whether the input is cut in two at each place.
+    pub each_place: bool,
 }
 
 /// Serves these bytes of a life in all ways, and compares.
@@ -162,8 +162,8 @@ pub fn run_script(
     input: &Script,
     output: &[u8],
 ) -> Result<(), Fail> {
-    for reads in &input.ways(alloc)? {
-        let mut target = shared(alloc, BLOCKS, life.others)?;
+    for reads in &input.ways(alloc, life.each_place)? {
+        let mut target = shared(alloc, life.blocks, life.others)?;
         let (end, told) = serve_over(alloc, &mut target, LOGIN_FIRST, &input.bytes, *reads)?;
         assert_eq!(rt; end, life.end, "{}, {reads:?}", life.name);
         assert_eq!(rt; told.as_slice(), output, "{}, {reads:?}", life.name);
@@ -174,7 +174,7 @@ pub fn run_script(
         );
     }
     // Once is enough for the unit's sessions: each look makes the unit full.
-    let mut target = shared(alloc, BLOCKS, life.others)?;
+    let mut target = shared(alloc, life.blocks, life.others)?;
     let _ = serve_over(alloc, &mut target, LOGIN_FIRST, &input.bytes, WHOLE)?;
     assert!(rt; has_attached(&mut target, life.others), "{}", life.name);
     Ok(())

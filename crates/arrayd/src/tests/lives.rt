@@ -12,6 +12,7 @@ const PORT: (&[u8], u64) = (b"iqn.2000-01.test:a", 0x4000_0137_0000);
 // A login of one request, and a logout: 88 bytes of text with their padding.
 const LOGIN_AND_LOGOUT: Life = Life {
     name: "a login of one request, and a logout",
+    blocks: 16,
     port: PORT,
     others: 0,
     input: &[
@@ -23,6 +24,7 @@ const LOGIN_AND_LOGOUT: Life = Life {
         PduRow(&LOGOUT_RESPONSE, &[], Segment::None),
     ],
     end: End::LoggedOut,
+    each_place: true,
 };
 
 // The lengths that the login asks for: Data-In of 3072 bytes at most, bursts of 4096, and 1024 with a command.
@@ -36,6 +38,7 @@ const ANSWERED_LENGTHS: &[u8] = b"TargetPortalGroupTag=1\0MaxRecvDataSegmentLeng
 
 const WHOLE_LIFE: Life = Life {
     name: "a whole life",
+    blocks: 2048,
     port: PORT,
     others: 0,
     input: &[
@@ -311,6 +314,7 @@ const WHOLE_LIFE: Life = Life {
         ),
     ],
     end: End::LoggedOut,
+    each_place: false,
 };
 
 #[test]

@@ -32,6 +32,8 @@ struct Row {
     port: (&'static [u8], u64),
     second: Stream,
     rest: Stream,
+    /// Whether each input is cut in two at each place.
+    each_place: bool,
 }
 
 const HOST_PORT: (&[u8], u64) = (b"iqn.2000-01.test:a", 0x4000_0137_0000);
@@ -106,21 +108,21 @@ fn run(rt: &impl Abort, alloc: Global, rows: &[Row]) -> Result<(), Fail> {
     for row in rows {
         let mut target = serve(rt, alloc, row, WHOLES)?;
         assert!(rt; has_attached(&mut target, 0), "{}", row.name);
-        for first in &scripted(alloc, row.first.input)?.ways(alloc)? {
+        for first in &scripted(alloc, row.first.input)?.ways(alloc, row.each_place)? {
             let reads = Reads {
                 first: *first,
                 ..WHOLES
             };
             let _ = serve(rt, alloc, row, reads)?;
         }
-        for second in &scripted(alloc, row.second.input)?.ways(alloc)? {
+        for second in &scripted(alloc, row.second.input)?.ways(alloc, row.each_place)? {
             let reads = Reads {
                 second: *second,
                 ..WHOLES
             };
             let _ = serve(rt, alloc, row, reads)?;
         }
-        for rest in &scripted(alloc, row.rest.input)?.ways(alloc)? {
+        for rest in &scripted(alloc, row.rest.input)?.ways(alloc, row.each_place)? {
             let reads = Reads {
                 rest: *rest,
                 ..WHOLES
@@ -208,6 +210,7 @@ const ROWS: &[Row] = &[
         },
         second: SECOND,
         rest: REST,
+        each_place: true,
     },
     // WRITE (10) of block 5, whose data came by R2T: it is not done, and the second session reads zeros.
     Row {
@@ -278,6 +281,7 @@ const ROWS: &[Row] = &[
             ],
             end: End::LoggedOut,
         },
+        each_place: false,
     },
     Row {
         name: "another ISID",
@@ -299,6 +303,7 @@ const ROWS: &[Row] = &[
             end: End::EndOfInput,
         },
         rest: REST,
+        each_place: false,
     },
     Row {
         name: "another name",
@@ -319,6 +324,7 @@ const ROWS: &[Row] = &[
             ..SECOND
         },
         rest: REST,
+        each_place: false,
     },
 ];
 
