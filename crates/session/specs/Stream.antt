@@ -71,7 +71,10 @@ abbrev pub NextPhase : Bool → LoginStanding → PhasesValue → PhasesValue �
 NextPhase false v p p' = p' ≡ record { login = Some v; counters = p.counters }
 NextPhase true v p p' =
     (start : Start) × IsStart v start × (start.exp_cmd_sn < 4294967296) × (start.stat_sn < 4294967296)
-    × (p' ≡ record { login = None; counters = begun (record (p.counters.setting) { kind = kind_in v.progress.kind; start = start }) })
+    × (p' ≡ record {
+      login = None;
+      counters = begun (record (p.counters.setting) { kind = kind_in v.progress.kind; start = start });
+    })
 
 -- what one turn makes of both phases
 pub record LoginExchange (v : LoginStanding) (p : PhasesValue) (came : Incoming) (e : Exchange) (p' : PhasesValue) : Type 0 where

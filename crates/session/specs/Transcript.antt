@@ -24,8 +24,9 @@ Written Protocol held held' es = Appends held held' (bytes_of (outgoing es))
 Written Reinstated held held' es = Appends held held' (bytes_of (outgoing es))
 Written LoggedOut held held' es = Appends held held' (bytes_of (outgoing es))
 
--- Up to its end a session has passed so: the bytes that were read spell the PDUs of a legal transcript, and a rest behind them; the bytes that were
--- written spell the PDUs that it sends; what it asks leads the target from its state before to that after.
+-- Up to its end a session has passed so: the bytes that were read spell the PDUs of a legal transcript, and a rest behind
+-- them; the bytes that were written spell the PDUs that it sends; what it asks leads the target from its state before to
+-- that after.
 pub record IsPassed {T : Type 0} (leads : T → Asking → T → Type 0) (units : ℕ) (me : Identity) (opening : Opening)
     (left left' held held' : Option (List ℕ)) (target target' : T) (end : End) : Type 0 where
   pub transcript : Transcript

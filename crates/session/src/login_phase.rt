@@ -13,7 +13,8 @@ ghost use Rattle.session.specs.Window.{wrap};
 ghost use Rattle.session.specs.Standing.{numbers_for};
 ghost use Rattle.session.specs.AnswerPdus.{AreInReach};
 ghost use Rattle.session.specs.LoginPhase.{flags_of, login_standing, login_after, login_numbers, cmd_sn_in};
-ghost use Rattle.session.specs.LoginPhase.{port_of, outcome_of_begin, outcome_of_lives, IsNegotiated, HasOutcome, progress_after, out, passed_header, refused_header, refusal_of};
+ghost use Rattle.session.specs.LoginPhase.{port_of, outcome_of_begin, outcome_of_lives, IsNegotiated, HasOutcome};
+ghost use Rattle.session.specs.LoginPhase.{progress_after, out, passed_header, refused_header, refusal_of};
 ghost use Rattle.session.specs.LoginPhase.{task_tag_of, login_outs, login_end, begins, IsStart};
 ghost use Rattle.session.specs.LoginMachine.{HasText, IsTextOf};
 ghost use Rattle.session.specs.Machine.{sent_by};
@@ -122,7 +123,9 @@ impl LoginPhase {
         requires room { LONGEST_RESPONSE ≤ vec_capacity room.old }
         ensures outcome { (bhs : List ℕ) → (call : Option Asking) × IsLed T.leads call target.old target.new
             × HasOutcome self.old.progress (came bhs pdu.now.header pdu.now.data.now) call result }
-        ensures state { (bhs : List ℕ) → self.new ≡ record self.old { progress = progress_after self.old.progress (came bhs pdu.now.header pdu.now.data.now) } }
+        ensures state { (bhs : List ℕ) → self.new ≡ record self.old {
+          progress = progress_after self.old.progress (came bhs pdu.now.header pdu.now.data.now);
+        } }
         ensures text { IsTextOf self.old.progress pdu.now.header pdu.now.data.now result room.new.items }
         ensures short { length room.new.items ≤ LONGEST_RESPONSE }
         ensures kept { LONGEST_RESPONSE ≤ vec_capacity room.new }
@@ -152,7 +155,8 @@ impl LoginPhase {
     ) -> LoginOutcome
         requires room { LONGEST_RESPONSE ≤ vec_capacity room.old }
         ensures outcome { (call : Option Asking) × IsLed T.leads call target.old target.new
-            × IsNegotiated self.old.progress request.now text.now (answer_to self.old.progress (flags_of request.now) text.now) call result }
+            × IsNegotiated self.old.progress request.now text.now
+            (answer_to self.old.progress (flags_of request.now) text.now) call result }
         ensures state { self.new ≡ record self.old { progress = after self.old.progress (flags_of request.now) text.now } }
         ensures text { HasText (answer_to self.old.progress (flags_of request.now) text.now) result room.new.items }
         ensures short { length room.new.items ≤ LONGEST_RESPONSE }

@@ -19,7 +19,8 @@ use crate::verdict::reject_reason;
 use iscsi_pdu::{BHS_LENGTH, Pdu, PduFault, Reject};
 use login::LONGEST_RESPONSE;
 
-/// One turn of full feature phase: what a PDU calls for, with the target's answer, put into the outbox; the end that it calls for.
+/// One turn of full feature phase: what a PDU calls for, with the target's answer, put into the outbox; the end that it
+/// calls for.
 pub fn turn<K: Sink, T: Target>(
     session: &mut Session,
     target: &mut T,
