@@ -47,7 +47,8 @@ impl Target for Left {
     }
 }
 
-/// A target at which, right before it serves the second command of a session, a second connection is served and then left.
+/// A target at which, right before it serves the second command of a session, a second connection is served and then
+/// left.
 #[derive(Drop)]
 pub struct Between<'a> {
     alloc: Global,
@@ -83,8 +84,8 @@ impl<'a> Between<'a> {
         }
     }
 
-    /// The target, at which the second connection asks from now on, and how the stream of that connection ended and what
-    /// went out, where it was served.
+    /// The target, at which the second connection asks from now on, and how the stream of that connection ended and
+    /// what went out, where it was served.
     pub fn over(self) -> (UnitSessions<MemBlocks>, Option<(End, Vec<u8>)>) {
         let mut target = self.at.target;
         let _ = target.connect(self.second);

@@ -1,10 +1,11 @@
 //! What the tools of libiscsi send, and what they are answered.
 //!
-//! Its login (lib/login.c) without a user is one request from stage 1 to full feature phase, immediate, with a random tag, CmdSN
-//! and ISID (type 80h), which offers all its keys at once. The Text Request of a discovery (lib/discovery.c) and the logout
-//! (lib/logout.c) are immediate too. A command has the attribute SIMPLE, and `iscsi_full_connect` (lib/connect.c) sends TEST
-//! UNIT READY until no unit attention is left. What the tools ask stands in utils/iscsi-ls.c, iscsi-inq.c and
-//! iscsi-readcapacity16.c, and the CDBs in lib/scsi-lowlevel.c. See RFC 7143, 6.3 and 13, for the answers to the keys.
+//! Its login (lib/login.c) without a user is one request from stage 1 to full feature phase, immediate, with a random
+//! tag, CmdSN and ISID (type 80h), which offers all its keys at once. The Text Request of a discovery (lib/discovery.c)
+//! and the logout (lib/logout.c) are immediate too. A command has the attribute SIMPLE, and `iscsi_full_connect`
+//! (lib/connect.c) sends TEST UNIT READY until no unit attention is left. What the tools ask stands in utils/iscsi-ls.c,
+//! iscsi-inq.c and iscsi-readcapacity16.c, and the CDBs in lib/scsi-lowlevel.c. See RFC 7143, 6.3 and 13, for the answers
+//! to the keys.
 use super::life::{Life, run as run_lives};
 use super::pdus::{LOGIN, LOGIN_RESPONSE, LOGOUT, LOGOUT_RESPONSE, TEXT, TEXT_RESPONSE};
 use super::questions::{Answer, Question, Talk, run};
@@ -176,8 +177,8 @@ const LS_UNITS: Talk = Talk {
     ],
 };
 
-// `iscsi-inq` asks for the standard data, and with `-e 1 -c` for a page of vital product data; `iscsi-readcapacity16` for
-// the long capacity.
+// `iscsi-inq` asks for the standard data, and with `-e 1 -c` for a page of vital product data; `iscsi-readcapacity16`
+// for the long capacity.
 const INQUIRIES: Talk = Talk {
     login: Life {
         name: "iscsi-inq, iscsi-readcapacity16",

@@ -28,25 +28,15 @@ pub struct Script {
 }
 
 impl Script {
-    /// No PDU yet.
-    pub fn new(alloc: Global) -> Script {
-        Script {
-            bytes: Vec::new(alloc),
-            begins: Vec::new(alloc),
-        }
-    }
-
-    /// Appends PDUs.
-    pub fn put(&mut self, alloc: Global, rows: &[PduRow<'_>]) -> Result<(), Fail> {
-        for row in rows {
-            self.begins.push(self.bytes.len())?;
-            self.bytes.extend_from_slice(&spelled(alloc, &[*row])?)?;
-        }
+    /// Appends a PDU.
+    pub fn push(&mut self, pdu: &[u8]) -> Result<(), Fail> {
+        self.begins.push(self.bytes.len())?;
+        self.bytes.extend_from_slice(pdu)?;
         Ok(())
     }
 
-    /// The ways in which the bytes come: whole, one by one, and in two: cut at each place, or else around the first byte of
-    /// each PDU and around the end of its header segment.
+    /// The ways in which the bytes come: whole, one by one, and in two: cut at each place, or else around the first byte
+    /// of each PDU and around the end of its header segment.
     pub fn ways(&self, alloc: Global, each_place: bool) -> Result<Vec<Calls>, Fail> {
         let mut ways = Vec::new(alloc);
         ways.push(WHOLE)?;
@@ -71,8 +61,13 @@ impl Script {
 
 /// These PDUs.
 pub fn scripted(alloc: Global, rows: &[PduRow<'_>]) -> Result<Script, Fail> {
-    let mut script = Script::new(alloc);
-    script.put(alloc, rows)?;
+    let mut script = Script {
+        bytes: Vec::new(alloc),
+        begins: Vec::new(alloc),
+    };
+    for row in rows {
+        script.push(&spelled(alloc, &[*row])?)?;
+    }
     Ok(script)
 }
 
@@ -135,8 +130,8 @@ pub fn lives_still(
     false
 }
 
-/// A session from its login on, over a unit of zeros, as a row of a table. When it is over, the sessions of the other ports
-/// are attached, and no other.
+/// A session from its login on, over a unit of zeros, as a row of a table. When it is over, the sessions of the other
+/// ports are attached, and no other.
 #[derive(Clone, Copy, Debug)]
 pub struct Life {
     pub name: &'static str,

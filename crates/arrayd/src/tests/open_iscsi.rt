@@ -1,10 +1,10 @@
-//! What a Linux host sends that logs in by open-iscsi, from the login on until its disk is there, and what it is answered.
+//! What a Linux host sends that logs in by open-iscsi, from the login until its disk is there, and what it is answered.
 //!
-//! The login (open-iscsi, usr/login.c) has two requests: the names and AuthMethod in stage 0, the other keys in stage 1. Its
-//! ISID is of the OUI 00023Dh (usr/initiator.c). The logout is immediate (usr/initiator.c). In between the kernel looks for
-//! units (drivers/scsi/scsi_scan.c, scsi.c), for target port groups (drivers/scsi/device_handler/scsi_dh_alua.c), and at the
-//! disk (drivers/scsi/sd.c); its commands have the attribute SIMPLE (drivers/scsi/libiscsi.c). See RFC 7143, 6.3 and 13, for
-//! the answers to the keys.
+//! The login (open-iscsi, usr/login.c) has two requests: the names and AuthMethod in stage 0, the other keys in stage 1.
+//! Its ISID is of the OUI 00023Dh, and its logout is immediate (usr/initiator.c). In between the kernel looks for units
+//! (drivers/scsi/scsi_scan.c, scsi.c), for target port groups (drivers/scsi/device_handler/scsi_dh_alua.c), and at the
+//! disk (drivers/scsi/sd.c); its commands have the attribute SIMPLE (drivers/scsi/libiscsi.c). See RFC 7143, 6.3 and 13,
+//! for the answers to the keys.
 use super::life::Life;
 use super::pdus::{LOGIN, LOGIN_RESPONSE};
 use super::questions::{Answer, Question, Talk, run};

@@ -5,8 +5,7 @@ use std::alloc::Global;
 use std::process::Abort;
 use std::test::Fail;
 use test_streams::{
-    CHECK_CONDITION, DATA_IN, F_BIT, GOOD, PduRow, READS, Segment, TEST_UNIT_READY, UNDERFLOW,
-    spelled,
+    CHECK_CONDITION, DATA_IN, GOOD, PduRow, READS, Segment, TEST_UNIT_READY, UNDERFLOW, spelled,
 };
 
 /// What a command is answered.
@@ -33,6 +32,36 @@ pub struct Talk {
     pub questions: &'static [Question],
 }
 
+// A PDU whose header segment is changed in places.
+#[derive(Drop)]
+struct Draft {
+    bytes: Vec<u8>,
+}
+
+impl Draft {
+    fn of(alloc: Global, row: PduRow<'static>) -> Result<Draft, Fail> {
+        let bytes = spelled(alloc, &[row])?;
+        Ok(Draft { bytes })
+    }
+
+    fn put_bytes(&mut self, at: usize, bytes: &[u8]) -> Result<(), Fail> {
+        let room = self.bytes.as_mut_slice().get_mut(at..).ok_or("outside")?;
+        let place = room.get_mut(..bytes.len()).ok_or("outside")?;
+        place.copy_from_slice(bytes);
+        Ok(())
+    }
+
+    fn put(&mut self, at: usize, number: u32) -> Result<(), Fail> {
+        self.put_bytes(at, &number.to_be_bytes())
+    }
+
+    // ExpCmdSN, and MaxCmdSN 31 behind it.
+    fn put_window(&mut self, exp_cmd_sn: u32) -> Result<(), Fail> {
+        self.put(28, exp_cmd_sn)?;
+        self.put(32, exp_cmd_sn.wrapping_add(31))
+    }
+}
+
 // The bytes of a session as they come and go out, and its next tag, CmdSN and StatSN.
 #[derive(Drop)]
 struct Spelling {
@@ -43,107 +72,102 @@ struct Spelling {
 }
 
 impl Spelling {
-    fn answer(&mut self, rows: &[PduRow<'_>]) -> Result<(), Fail> {
-        self.output.extend_from_slice(&spelled(self.alloc, rows)?)?;
-        Ok(())
-    }
-
-    // One command and its answer: the window goes on behind it.
+    // A command and its answer.
     fn ask(&mut self, question: &Question) -> Result<(), Fail> {
         let Question(expected, cdb, answer) = *question;
         let (tag, cmd_sn, stat_sn) = self.next;
-        let exp_cmd_sn = cmd_sn.wrapping_add(1);
-        self.next = (tag.wrapping_add(1), exp_cmd_sn, stat_sn.wrapping_add(1));
-        let (tag, cmd_sn, stat_sn) = (
-            tag.to_be_bytes(),
-            cmd_sn.to_be_bytes(),
-            stat_sn.to_be_bytes(),
-        );
-        let window = (
-            exp_cmd_sn.to_be_bytes(),
-            exp_cmd_sn.wrapping_add(31).to_be_bytes(),
-        );
-        let reads = [if expected > 0 { READS } else { F_BIT }];
-        let length = u32::from(expected).to_be_bytes();
-        let changes: [(usize, &[u8]); 6] = [
-            (1, &reads),
-            (16, &tag),
-            (20, &length),
-            (24, &cmd_sn),
-            (28, &stat_sn),
-            (32, cdb),
-        ];
-        self.input.put(
-            self.alloc,
-            &[PduRow(&TEST_UNIT_READY, &changes, Segment::None)],
-        )?;
-        let came = match answer {
-            Answer::Data(came, segment) => {
-                let came = came.to_be_bytes();
-                let changes: [(usize, &[u8]); 4] = [
-                    (6, &came),
-                    (16, &tag),
-                    (28, &window.0),
-                    (32, &window.1),
-                ];
-                self.answer(&[PduRow(&DATA_IN, &changes, segment)])?;
-                1
-            }
-            Answer::Good | Answer::Check(_, _, _) => 0,
-        };
-        let left = match answer {
-            Answer::Data(came, _) => expected.saturating_sub(came),
-            Answer::Good | Answer::Check(_, _, _) => expected,
-        };
-        let flags = [if left > 0 { UNDERFLOW } else { 0x80 }];
-        let residual = u32::from(left).to_be_bytes();
-        let changes: [(usize, &[u8]); 7] = [
-            (1, &flags),
-            (16, &tag),
-            (24, &stat_sn),
-            (28, &window.0),
-            (32, &window.1),
-            (39, &[came]),
-            (44, &residual),
-        ];
-        match answer {
-            Answer::Good | Answer::Data(_, _) => {
-                self.answer(&[PduRow(&GOOD, &changes, Segment::None)])
-            }
-            Answer::Check(key, code, qualifier) => {
-                let sense = [
-                    0, 0x12, 0x70, 0, key, 0, 0, 0, 0, 0x0A, 0, 0, 0, 0, code, qualifier, 0, 0, 0,
-                    0,
-                ];
-                self.answer(&[PduRow(&CHECK_CONDITION, &changes, Segment::Bytes(&sense))])
-            }
+        let row = PduRow(&TEST_UNIT_READY, &[], Segment::None);
+        let mut command = Draft::of(self.alloc, row)?;
+        if expected > 0 {
+            command.put_bytes(1, &[READS])?;
         }
+        command.put(16, tag)?;
+        command.put(20, u32::from(expected))?;
+        command.put(24, cmd_sn)?;
+        command.put(28, stat_sn)?;
+        command.put_bytes(32, cdb)?;
+        self.input.push(&command.bytes)?;
+        match answer {
+            Answer::Good => self.respond(0, expected),
+            Answer::Data(came, segment) => {
+                self.send(came, segment)?;
+                self.respond(1, expected.saturating_sub(came))
+            }
+            Answer::Check(key, code, qualifier) => self.refuse(expected, (key, code, qualifier)),
+        }?;
+        self.next = (
+            tag.wrapping_add(1),
+            cmd_sn.wrapping_add(1),
+            stat_sn.wrapping_add(1),
+        );
+        Ok(())
+    }
+
+    // A Data-In of all that came: the window goes on behind its command.
+    fn send(&mut self, came: u16, segment: Segment<'static>) -> Result<(), Fail> {
+        let (tag, cmd_sn, _) = self.next;
+        let mut data_in = Draft::of(self.alloc, PduRow(&DATA_IN, &[], segment))?;
+        data_in.put_bytes(6, &came.to_be_bytes())?;
+        data_in.put(16, tag)?;
+        data_in.put_window(cmd_sn.wrapping_add(1))?;
+        self.output.extend_from_slice(&data_in.bytes)?;
+        Ok(())
+    }
+
+    // GOOD behind so many Data-In, where so many bytes of what was expected are left.
+    fn respond(&mut self, data_ins: u32, left: u16) -> Result<(), Fail> {
+        let good = Draft::of(self.alloc, PduRow(&GOOD, &[], Segment::None))?;
+        self.close(good, data_ins, left)
+    }
+
+    // CHECK CONDITION with this sense key, code and qualifier, where so many bytes were expected.
+    fn refuse(&mut self, expected: u16, (key, code, qualifier): (u8, u8, u8)) -> Result<(), Fail> {
+        // The sense begins behind the header and its own length.
+        let row = PduRow(
+            &CHECK_CONDITION,
+            &[],
+            Segment::Bytes(&[
+                0, 0x12, 0x70, 0, 0, 0, 0, 0, 0, 0x0A, 0, 0, 0, 0, 0, 0, 0, 0, 0, 0,
+            ]),
+        );
+        let mut check = Draft::of(self.alloc, row)?;
+        check.put_bytes(52, &[key])?;
+        check.put_bytes(62, &[code, qualifier])?;
+        self.close(check, 0, expected)
+    }
+
+    // A SCSI Response with its numbers and its residual.
+    fn close(&mut self, response: Draft, data_ins: u32, left: u16) -> Result<(), Fail> {
+        let (tag, cmd_sn, stat_sn) = self.next;
+        let mut response = response;
+        if left > 0 {
+            response.put_bytes(1, &[UNDERFLOW])?;
+        }
+        response.put(16, tag)?;
+        response.put(24, stat_sn)?;
+        response.put_window(cmd_sn.wrapping_add(1))?;
+        response.put(36, data_ins)?;
+        response.put(44, u32::from(left))?;
+        self.output.extend_from_slice(&response.bytes)?;
+        Ok(())
     }
 
     // The logout and its answer.
     fn leave(&mut self) -> Result<(), Fail> {
         let (tag, cmd_sn, stat_sn) = self.next;
-        let max_cmd_sn = cmd_sn.wrapping_add(31).to_be_bytes();
-        let (tag, cmd_sn, stat_sn) = (
-            tag.to_be_bytes(),
-            cmd_sn.to_be_bytes(),
-            stat_sn.to_be_bytes(),
-        );
-        let changes: [(usize, &[u8]); 4] = [
-            (0, &[0x46]),
-            (16, &tag),
-            (24, &cmd_sn),
-            (28, &stat_sn),
-        ];
-        self.input
-            .put(self.alloc, &[PduRow(&LOGOUT, &changes, Segment::None)])?;
-        let changes: [(usize, &[u8]); 4] = [
-            (16, &tag),
-            (24, &stat_sn),
-            (28, &cmd_sn),
-            (32, &max_cmd_sn),
-        ];
-        self.answer(&[PduRow(&LOGOUT_RESPONSE, &changes, Segment::None)])
+        let mut logout = Draft::of(self.alloc, PduRow(&LOGOUT, &[], Segment::None))?;
+        logout.put_bytes(0, &[0x46])?;
+        logout.put(16, tag)?;
+        logout.put(24, cmd_sn)?;
+        logout.put(28, stat_sn)?;
+        self.input.push(&logout.bytes)?;
+        let row = PduRow(&LOGOUT_RESPONSE, &[], Segment::None);
+        let mut response = Draft::of(self.alloc, row)?;
+        response.put(16, tag)?;
+        response.put(24, stat_sn)?;
+        response.put_window(cmd_sn)?;
+        self.output.extend_from_slice(&response.bytes)?;
+        Ok(())
     }
 }
 
