@@ -280,7 +280,7 @@ is_once {B = B} me start claims size contents failures blocks device x x' left l
     let passed = t.passed in
     let turns = passed.transcript.turns in
     let es : exchanges passed.transcript ≡ map of_turn turns =
-        ap (λ (ls : List LoginTurn). map of_login ls ++ map of_turn turns) passed.lawful.0 in
+    ap (λ (ls : List LoginTurn). map of_login ls ++ map of_turn turns) passed.lawful.0 in
     let led = subst (λ (z : List Exchange). Leads (LeadsOn claims contents failures) (asked z) x t.at_end) es passed.led in
     let k = story claims contents failures (asked (map of_turn turns)) (begun size contents blocks) x t.at_end first.session begun_here led in
     let at_end : device ≡ t.at_end.unit.device = is_device ∙ ap (λ (u : UnitValue B KeepOpener MemBlocks). u.device) t.told.unit in
