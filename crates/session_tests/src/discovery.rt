@@ -1,6 +1,6 @@
 //! Discovery sessions from their login on (RFC 7143, 4.3, 11.10 and appendix C).
 use crate::fixed::LoginCall;
-use crate::login::{BEGUN, BY_LOGIN, INITIATOR, ONE_LOGIN};
+use crate::logins::{BEGUN, BY_LOGIN, INITIATOR, ONE_LOGIN};
 use crate::logout::{LOGOUT, RESPONSE as LOGGED_OUT};
 use crate::nop::{NOP_IN, NOP_OUT};
 use crate::run::{Row, run};

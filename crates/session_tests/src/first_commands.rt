@@ -1,5 +1,5 @@
 //! The first commands behind a login: their numbers (RFC 7143, 4.2.2 and 11.12.8), and what is none.
-use crate::login::{BEGUN, BY_LOGIN, NAMES_AND_TYPE, ONE_LOGIN, SAID, STAGE_1_NEXT, TO_STAGE_1};
+use crate::logins::{BEGUN, BY_LOGIN, NAMES_AND_TYPE, ONE_LOGIN, SAID, STAGE_1_NEXT, TO_STAGE_1};
 use crate::run::{Row, TEST, run};
 use session::End;
 use std::test::*;

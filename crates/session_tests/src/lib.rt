@@ -18,8 +18,6 @@ mod fixed;
 #[cfg(test)]
 mod libiscsi;
 #[cfg(test)]
-mod login;
-#[cfg(test)]
 mod login_faults;
 #[cfg(test)]
 mod login_later;
@@ -35,6 +33,8 @@ mod login_requests;
 mod login_streams;
 #[cfg(test)]
 mod login_texts;
+#[cfg(test)]
+mod logins;
 #[cfg(test)]
 mod logout;
 #[cfg(test)]

@@ -2,7 +2,7 @@
 //! those of its `lib/login.c`, which sends the names in both stages; the discovery is that of its `lib/discovery.c`. It
 //! chooses its ISID, its tags and its first CmdSN at random, and begins with TEST UNIT READY.
 use crate::fixed::{Answer, LoginCall};
-use crate::login::BY_LOGIN;
+use crate::logins::BY_LOGIN;
 use crate::logout::{LOGOUT, RESPONSE as LOGGED_OUT};
 use crate::open_iscsi::INQUIRY;
 use crate::run::{Row, TEST, run};

@@ -1,7 +1,7 @@
 //! What is rejected in a login (RFC 7143, 7.3 and 11.17.1): 05 for an opcode that no PDU of an initiator has, 09 for
 //! another fault.
-use crate::login::{NAMES, ONE_LOGIN, STAGE_1_NEXT, TO_STAGE_1};
 use crate::login_refusals::REFUSED;
+use crate::logins::{NAMES, ONE_LOGIN, STAGE_1_NEXT, TO_STAGE_1};
 use crate::nop::NOP_OUT;
 use crate::run::{Row, run};
 use std::test::*;

@@ -1,7 +1,7 @@
 //! Logins that are refused at a later request (RFC 7143, 6.2, 6.3 and 11.13.5).
 use crate::fixed::LoginCall;
-use crate::login::{INITIATOR, NAMES, ONE_LOGIN, STAGE_1_NEXT, TO_STAGE_1};
 use crate::login_refusals::REFUSED;
+use crate::logins::{INITIATOR, NAMES, ONE_LOGIN, STAGE_1_NEXT, TO_STAGE_1};
 use crate::run::{Row, run};
 use login::Kind;
 use session::BeginAnswer;

@@ -1,7 +1,7 @@
 //! Logins that are refused for their names, session types, TSIH and AuthMethod (RFC 7143, 6.3 and 11.13.5).
 use crate::fixed::LoginCall;
-use crate::login::{INITIATOR, NAMES_AND_TYPE, ONE_LOGIN};
 use crate::login_refusals::REFUSED;
+use crate::logins::{INITIATOR, NAMES_AND_TYPE, ONE_LOGIN};
 use crate::run::{Row, run};
 use login::Kind;
 use session::BeginAnswer;

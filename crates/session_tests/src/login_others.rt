@@ -1,6 +1,6 @@
 //! PDUs of an initiator that are no Login Requests, in a login (RFC 7143, 11.13.5): 020B.
-use crate::login::{NAMES, ONE_LOGIN, STAGE_1_NEXT, TO_STAGE_1};
 use crate::login_refusals::REFUSED;
+use crate::logins::{NAMES, ONE_LOGIN, STAGE_1_NEXT, TO_STAGE_1};
 use crate::logout::LOGOUT;
 use crate::nop::NOP_OUT;
 use crate::run::{Row, run, run_cut};

@@ -1,5 +1,5 @@
 //! Logins that are refused for their flags and versions (RFC 7143, 6.3.1, 11.12 and 11.13.5): 0200 and 0205.
-use crate::login::{NAMES_AND_TYPE, ONE_LOGIN};
+use crate::logins::{NAMES_AND_TYPE, ONE_LOGIN};
 use crate::run::{PLAIN, Row, run};
 use session::End;
 use std::test::*;

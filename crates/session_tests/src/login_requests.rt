@@ -1,5 +1,5 @@
 //! Logins of several requests that are accepted (RFC 7143, 6.2, 6.3 and 11.12).
-use crate::login::{BY_LOGIN, NAMES, SAID, STAGE_1_NEXT, TO_STAGE_1};
+use crate::logins::{BY_LOGIN, NAMES, SAID, STAGE_1_NEXT, TO_STAGE_1};
 use crate::run::{Row, TEST, run};
 use std::test::*;
 use test_streams::{GOOD, LOGGED_IN, LOGIN, PduRow, Segment, TEST_UNIT_READY};

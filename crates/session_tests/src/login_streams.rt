@@ -1,5 +1,5 @@
 //! A login of two requests and a command, over streams that end anywhere and that fail at each call in turn.
-use crate::login::{BY_LOGIN, STAGE_1_NEXT, TO_STAGE_1};
+use crate::logins::{BY_LOGIN, STAGE_1_NEXT, TO_STAGE_1};
 use crate::run::{Row, TEST, run_cut, serve};
 use session::End;
 use std::alloc::Global;

@@ -1,6 +1,6 @@
 //! Logins that are refused for the form and the length of their texts (RFC 7143, 6.1 and 6.2).
-use crate::login::ONE_LOGIN;
 use crate::login_refusals::REFUSED;
+use crate::logins::ONE_LOGIN;
 use crate::run::{Row, run};
 use std::test::*;
 use test_streams::{LOGIN, LOGIN_REFUSED, PduRow, Segment};

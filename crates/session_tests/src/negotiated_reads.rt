@@ -1,6 +1,6 @@
 //! What goes out by the lengths that a login negotiated (RFC 7143, 13.12 and 13.13).
 use crate::fixed::Answer;
-use crate::login::{BEGUN, BY_LOGIN, ONE_LOGIN};
+use crate::logins::{BEGUN, BY_LOGIN, ONE_LOGIN};
 use crate::nop::{NOP_IN, NOP_OUT};
 use crate::run::{Row, run};
 use scsi_types::Command;

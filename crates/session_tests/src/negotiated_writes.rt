@@ -1,5 +1,5 @@
 //! What comes in by the lengths that a login negotiated (RFC 7143, 13.10, 13.11, 13.13 and 13.14).
-use crate::login::BY_LOGIN;
+use crate::logins::BY_LOGIN;
 use crate::run::{Row, run};
 use scsi_types::Command;
 use session::End;

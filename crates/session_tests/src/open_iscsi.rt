@@ -2,7 +2,7 @@
 //! those of its `usr/login.c`, the values those that its `iscsid.conf` documents as defaults, and the discovery is that of
 //! `iscsiadm -m discovery -t st`. The ISID and CmdSN 1 are such as it chooses; the tags stand for any.
 use crate::fixed::{Answer, LoginCall};
-use crate::login::BY_LOGIN;
+use crate::logins::BY_LOGIN;
 use crate::logout::{LOGOUT, RESPONSE as LOGGED_OUT};
 use crate::run::{Row, TEST, run};
 use crate::text::{REQUEST as TEXT_REQUEST, RESPONSE as TEXT_RESPONSE, TOLD};
