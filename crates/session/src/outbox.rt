@@ -25,13 +25,17 @@ pub const SENSE_SEGMENT_LENGTH: usize = 20;
 /// The bytes of the memory: room for a read of 256 KiB in Data-In of 8192, so that it leaves in one write.
 pub const OUTBOX_CAPACITY: usize = 270336;
 
+/// So many bytes do not wait for the next read: they leave, so that the peer works on them while the session makes its
+/// next turns.
+pub const ENOUGH_TO_WRITE: usize = 8192;
+
 /// The most bytes that pad a data segment.
 const MOST_PADDING: usize = 3;
 
 /// The bytes of PDUs until they are written, in memory that was taken once.
 ///
-/// They leave together: before the session waits for its peer, where there is no room for more, and at its end.
-/// Once the sink failed, nothing more is written.
+/// They leave together: before the session waits for its peer, behind a turn that leaves `ENOUGH_TO_WRITE`, where there
+/// is no room for more, and at its end. Once the sink failed, nothing more is written.
 #[derive(Drop)]
 pub struct Outbox {
     bytes: Vec<u8>,
@@ -78,8 +82,22 @@ impl Outbox {
         self.bytes.clear();
     }
 
-    /// Takes the PDUs of a turn in; a Reject has the header segment's bytes as its data.
+    /// Takes the PDUs of a turn in, and writes what waits where it is enough; a Reject has the header segment's bytes as
+    /// its data.
     pub fn fill<K: Sink>(&mut self, sink: &mut K, bhs: &[u8], pdus: &Pdus<'_>)
+        requires bhs { length bhs.now ≡ BHS_LENGTH }
+        requires reach { AreInReach pdus.now }
+        ensures { IsQueued (K.held sink.old) (K.held sink.new) (K.failures sink.old) (K.failures sink.new)
+            self.old self.new (bytes_of (sent_by bhs.now pdus.now)) }
+    {
+        self.take_in(sink, bhs, pdus);
+        if self.bytes.len() >= ENOUGH_TO_WRITE {
+            self.flush(sink);
+        }
+    }
+
+    // Takes the PDUs of a turn in, one behind the other.
+    fn take_in<K: Sink>(&mut self, sink: &mut K, bhs: &[u8], pdus: &Pdus<'_>)
         requires bhs { length bhs.now ≡ BHS_LENGTH }
         requires reach { AreInReach pdus.now }
         ensures { IsQueued (K.held sink.old) (K.held sink.new) (K.failures sink.old) (K.failures sink.new)

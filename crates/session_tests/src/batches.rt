@@ -1,4 +1,4 @@
-//! How the answers leave: those of commands that came together in one write, and a long one in parts.
+//! How the answers leave: those of commands that came together in one write, many and long ones in parts.
 use crate::fixed::{Answer, Answers, Fixed};
 use crate::run::{Begin, FROM_ONE, portal};
 use login::Kind;
@@ -60,6 +60,37 @@ const LONG_READ: PduRow = PduRow(
     ],
     Segment::None,
 );
+
+// READ (10) of 8 blocks, three times: a Data-In of 4096 bytes and a response, so 4192 bytes each.
+const THREE_READS: &[PduRow] = &[
+    PduRow(
+        &TEST_UNIT_READY,
+        &[
+            (1, &[READS]),
+            (20, &[0, 0, 0x10, 0]),
+            (32, &[0x28, 0, 0, 0, 0, 0, 0, 0, 8]),
+        ],
+        Segment::None,
+    ),
+    PduRow(
+        &TEST_UNIT_READY,
+        &[
+            (1, &[READS]),
+            (20, &[0, 0, 0x10, 0, 0, 0, 0, 2]),
+            (32, &[0x28, 0, 0, 0, 0, 0, 0, 0, 8]),
+        ],
+        Segment::None,
+    ),
+    PduRow(
+        &TEST_UNIT_READY,
+        &[
+            (1, &[READS]),
+            (20, &[0, 0, 0x10, 0, 0, 0, 0, 3]),
+            (32, &[0x28, 0, 0, 0, 0, 0, 0, 0, 8]),
+        ],
+        Segment::None,
+    ),
+];
 
 const LONG_SEGMENTS: Begin = Begin {
     data_segment: 65536,
@@ -123,6 +154,23 @@ const BATCHES: &[Batch] = &[
         answer: Answer::Good(262144),
         writes: &[263728],
         calls: 1,
+        ..PLAIN
+    },
+    Batch {
+        name: "8192 bytes wait behind the second of three reads",
+        input: THREE_READS,
+        answer: Answer::Good(4096),
+        writes: &[8384, 4192],
+        ..PLAIN
+    },
+    Batch {
+        name: "the sink fails behind the second of three reads: the third is not called",
+        input: THREE_READS,
+        answer: Answer::Good(4096),
+        fail_at: 1,
+        writes: &[8384],
+        calls: 2,
+        end: End::OutputFailed,
         ..PLAIN
     },
     Batch {
