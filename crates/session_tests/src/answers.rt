@@ -4,7 +4,7 @@ use crate::run::{PLAIN, Row, TEST, run};
 use scsi_types::Command;
 use session::End;
 use std::test::*;
-use test_streams::{CHECK_CONDITION, GOOD, PduRow, READS, Segment, TEST_UNIT_READY};
+use test_streams::{CHECK_CONDITION, GOOD, PduRow, Segment, TEST_UNIT_READY};
 
 const ROWS: &[Row] = &[
     // READ (10) of block 5, of which 512 bytes are expected. The status BUSY (SAM-5, 5.3.1); none of them came.
@@ -12,11 +12,7 @@ const ROWS: &[Row] = &[
         name: "busy",
         input: &[PduRow(
             &TEST_UNIT_READY,
-            &[
-                (1, &[READS]),
-                (20, &[0, 0, 2, 0]),
-                (32, &[0x28, 0, 0, 0, 0, 5, 0, 0, 1, 0]),
-            ],
+            "1:C1 20:00000200 32:28000000000500000100",
             Segment::None,
         )],
         answer: Answer::Busy,
@@ -28,18 +24,14 @@ const ROWS: &[Row] = &[
                 fua: false,
             }),
         )],
-        output: &[PduRow(
-            &GOOD,
-            &[(1, &[0x82, 0x00, 0x08]), (44, &[0, 0, 2, 0])],
-            Segment::None,
-        )],
+        output: &[PduRow(&GOOD, "1:820008 44:00000200", Segment::None)],
         ..PLAIN
     },
     Row {
         name: "gone: no answer, and no second command",
         input: &[
-            PduRow(&TEST_UNIT_READY, &[], Segment::None),
-            PduRow(&TEST_UNIT_READY, &[], Segment::None),
+            PduRow(&TEST_UNIT_READY, "", Segment::None),
+            PduRow(&TEST_UNIT_READY, "", Segment::None),
         ],
         answer: Answer::Gone,
         output: &[],
@@ -50,33 +42,27 @@ const ROWS: &[Row] = &[
     Row {
         name: "halted",
         input: &[
-            PduRow(&TEST_UNIT_READY, &[], Segment::None),
-            PduRow(&TEST_UNIT_READY, &[(24, &[0, 0, 0, 2])], Segment::None),
+            PduRow(&TEST_UNIT_READY, "", Segment::None),
+            PduRow(&TEST_UNIT_READY, "24:00000002", Segment::None),
         ],
         answer: Answer::Halted,
         asked: &[TEST, TEST],
         output: &[
-            PduRow(&GOOD, &[(2, &[0x01])], Segment::None),
-            PduRow(
-                &GOOD,
-                &[(2, &[0x01]), (24, &[0, 0, 0, 2, 0, 0, 0, 3, 0, 0, 0, 0x22])],
-                Segment::None,
-            ),
+            PduRow(&GOOD, "2:01", Segment::None),
+            PduRow(&GOOD, "2:01 24:000000020000000300000022", Segment::None),
         ],
         ..PLAIN
     },
     // INVALID FIELD IN CDB, to a LUN that names no unit: its byte 2 is not 0.
     Row {
         name: "sense",
-        input: &[PduRow(&TEST_UNIT_READY, &[(10, &[0x01])], Segment::None)],
+        input: &[PduRow(&TEST_UNIT_READY, "10:01", Segment::None)],
         answer: Answer::Check(0x05, 0x24, 0x00),
         asked: &[(None, Ok(Command::TestUnitReady))],
         output: &[PduRow(
             &CHECK_CONDITION,
-            &[],
-            Segment::Bytes(&[
-                0x00, 0x12, 0x70, 0, 0x05, 0, 0, 0, 0, 0x0A, 0, 0, 0, 0, 0x24, 0, 0, 0, 0, 0,
-            ]),
+            "",
+            Segment::Digits("0012700005000000000A00000000240000000000"),
         )],
         ..PLAIN
     },

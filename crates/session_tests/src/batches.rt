@@ -8,7 +8,7 @@ use std::io;
 use std::io::{ErrorKind, Write};
 use std::process::Abort;
 use std::test::*;
-use test_streams::{Calls, FakeReader, PduRow, READS, Segment, TEST_UNIT_READY, WHOLE, spelled};
+use test_streams::{Calls, FakeReader, PduRow, Segment, TEST_UNIT_READY, WHOLE, spelled};
 
 /// A writer that keeps how many bytes each call brought, and fails at the call of this number, counted from 1.
 #[derive(Drop)]
@@ -46,18 +46,14 @@ struct Batch {
     end: End,
 }
 
-const SECOND: PduRow = PduRow(&TEST_UNIT_READY, &[(24, &[0, 0, 0, 2])], Segment::None);
+const SECOND: PduRow = PduRow(&TEST_UNIT_READY, "24:00000002", Segment::None);
 
-const THIRD: PduRow = PduRow(&TEST_UNIT_READY, &[(24, &[0, 0, 0, 3])], Segment::None);
+const THIRD: PduRow = PduRow(&TEST_UNIT_READY, "24:00000003", Segment::None);
 
 // READ (10) of 1024 blocks: 524288 bytes.
 const LONG_READ: PduRow = PduRow(
     &TEST_UNIT_READY,
-    &[
-        (1, &[READS]),
-        (20, &[0, 8, 0, 0]),
-        (32, &[0x28, 0, 0, 0, 0, 0, 0, 4, 0]),
-    ],
+    "1:C1 20:00080000 32:280000000000000400",
     Segment::None,
 );
 
@@ -65,29 +61,17 @@ const LONG_READ: PduRow = PduRow(
 const THREE_READS: &[PduRow] = &[
     PduRow(
         &TEST_UNIT_READY,
-        &[
-            (1, &[READS]),
-            (20, &[0, 0, 0x10, 0]),
-            (32, &[0x28, 0, 0, 0, 0, 0, 0, 0, 8]),
-        ],
+        "1:C1 20:00001000 32:280000000000000008",
         Segment::None,
     ),
     PduRow(
         &TEST_UNIT_READY,
-        &[
-            (1, &[READS]),
-            (20, &[0, 0, 0x10, 0, 0, 0, 0, 2]),
-            (32, &[0x28, 0, 0, 0, 0, 0, 0, 0, 8]),
-        ],
+        "1:C1 20:0000100000000002 32:280000000000000008",
         Segment::None,
     ),
     PduRow(
         &TEST_UNIT_READY,
-        &[
-            (1, &[READS]),
-            (20, &[0, 0, 0x10, 0, 0, 0, 0, 3]),
-            (32, &[0x28, 0, 0, 0, 0, 0, 0, 0, 8]),
-        ],
+        "1:C1 20:0000100000000003 32:280000000000000008",
         Segment::None,
     ),
 ];
@@ -108,7 +92,7 @@ const TWO_AND_A_HALF: Calls = Calls {
 const PLAIN: Batch = Batch {
     name: "three commands in one read",
     start: FROM_ONE,
-    input: &[PduRow(&TEST_UNIT_READY, &[], Segment::None), SECOND, THIRD],
+    input: &[PduRow(&TEST_UNIT_READY, "", Segment::None), SECOND, THIRD],
     reads: WHOLE,
     answer: Answer::Good(0),
     fail_at: 0,
@@ -144,11 +128,7 @@ const BATCHES: &[Batch] = &[
         name: "256 KiB in segments of 8192",
         input: &[PduRow(
             &TEST_UNIT_READY,
-            &[
-                (1, &[READS]),
-                (20, &[0, 4, 0, 0]),
-                (32, &[0x28, 0, 0, 0, 0, 0, 0, 2, 0]),
-            ],
+            "1:C1 20:00040000 32:280000000000000200",
             Segment::None,
         )],
         answer: Answer::Good(262144),

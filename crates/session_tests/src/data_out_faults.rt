@@ -6,31 +6,19 @@ use std::test::*;
 use test_streams::{DATA_OUT, PduRow, R2T, REJECT, Segment, TEST_UNIT_READY, WRITE};
 
 // A write of 17 blocks that brings 8192 bytes, and its R2T for the 512 bytes at 8192.
-const LONG: PduRow = PduRow(
-    &WRITE,
-    &[(6, &[0x20, 0]), (20, &[0, 0, 0x22, 0]), (40, &[17])],
-    Segment::Pattern(8192),
-);
+const LONG: PduRow = PduRow(&WRITE, "6:2000 20:00002200 40:11", Segment::Pattern(8192));
 
-const LONG_R2T: PduRow = PduRow(&R2T, &[(42, &[0x20])], Segment::None);
+const LONG_R2T: PduRow = PduRow(&R2T, "42:20", Segment::None);
 
 // A command that would be served, had the session not ended.
-const BEHIND: PduRow = PduRow(
-    &TEST_UNIT_READY,
-    &[(19, &[9]), (24, &[0, 0, 0, 2])],
-    Segment::None,
-);
+const BEHIND: PduRow = PduRow(&TEST_UNIT_READY, "19:09 24:00000002", Segment::None);
 
 const FAULTS: &[Row] = &[
     Row {
         name: "the offset 8196, where the R2T is at 8192",
         input: &[
             LONG,
-            PduRow(
-                &DATA_OUT,
-                &[(6, &[0, 4]), (40, &[0, 0, 0x20, 4])],
-                Segment::PatternAt(8196, 4),
-            ),
+            PduRow(&DATA_OUT, "6:0004 40:00002004", Segment::PatternAt(8196, 4)),
             BEHIND,
         ],
         asked: &[],
@@ -38,8 +26,8 @@ const FAULTS: &[Row] = &[
             LONG_R2T,
             PduRow(
                 &REJECT,
-                &[(2, &[4]), (31, &[2])],
-                Segment::Rejected(&DATA_OUT, &[(6, &[0, 4]), (40, &[0, 0, 0x20, 4])]),
+                "2:04 31:02",
+                Segment::Rejected(&DATA_OUT, "6:0004 40:00002004"),
             ),
         ],
         end: End::Protocol,
@@ -49,11 +37,7 @@ const FAULTS: &[Row] = &[
         name: "the offset 8188, where the R2T is at 8192",
         input: &[
             LONG,
-            PduRow(
-                &DATA_OUT,
-                &[(6, &[0, 4]), (40, &[0, 0, 0x1F, 0xFC])],
-                Segment::PatternAt(8188, 4),
-            ),
+            PduRow(&DATA_OUT, "6:0004 40:00001FFC", Segment::PatternAt(8188, 4)),
             BEHIND,
         ],
         asked: &[],
@@ -61,8 +45,8 @@ const FAULTS: &[Row] = &[
             LONG_R2T,
             PduRow(
                 &REJECT,
-                &[(2, &[4]), (31, &[2])],
-                Segment::Rejected(&DATA_OUT, &[(6, &[0, 4]), (40, &[0, 0, 0x1F, 0xFC])]),
+                "2:04 31:02",
+                Segment::Rejected(&DATA_OUT, "6:0004 40:00001FFC"),
             ),
         ],
         end: End::Protocol,
@@ -74,7 +58,7 @@ const FAULTS: &[Row] = &[
             LONG,
             PduRow(
                 &DATA_OUT,
-                &[(23, &[1]), (40, &[0, 0, 0x20, 0])],
+                "23:01 40:00002000",
                 Segment::PatternAt(8192, 512),
             ),
             BEHIND,
@@ -84,8 +68,8 @@ const FAULTS: &[Row] = &[
             LONG_R2T,
             PduRow(
                 &REJECT,
-                &[(2, &[4]), (31, &[2])],
-                Segment::Rejected(&DATA_OUT, &[(23, &[1]), (40, &[0, 0, 0x20, 0])]),
+                "2:04 31:02",
+                Segment::Rejected(&DATA_OUT, "23:01 40:00002000"),
             ),
         ],
         end: End::Protocol,
@@ -97,7 +81,7 @@ const FAULTS: &[Row] = &[
             LONG,
             PduRow(
                 &DATA_OUT,
-                &[(20, &[0xFF, 0xFF, 0xFF, 0xFF]), (40, &[0, 0, 0x20, 0])],
+                "20:FFFFFFFF 40:00002000",
                 Segment::PatternAt(8192, 512),
             ),
             BEHIND,
@@ -107,11 +91,8 @@ const FAULTS: &[Row] = &[
             LONG_R2T,
             PduRow(
                 &REJECT,
-                &[(2, &[4]), (31, &[2])],
-                Segment::Rejected(
-                    &DATA_OUT,
-                    &[(20, &[0xFF, 0xFF, 0xFF, 0xFF]), (40, &[0, 0, 0x20, 0])],
-                ),
+                "2:04 31:02",
+                Segment::Rejected(&DATA_OUT, "20:FFFFFFFF 40:00002000"),
             ),
         ],
         end: End::Protocol,
@@ -123,7 +104,7 @@ const FAULTS: &[Row] = &[
             LONG,
             PduRow(
                 &DATA_OUT,
-                &[(36, &[0, 0, 0, 1, 0, 0, 0x20, 0])],
+                "36:0000000100002000",
                 Segment::PatternAt(8192, 512),
             ),
             BEHIND,
@@ -133,8 +114,8 @@ const FAULTS: &[Row] = &[
             LONG_R2T,
             PduRow(
                 &REJECT,
-                &[(2, &[4]), (31, &[2])],
-                Segment::Rejected(&DATA_OUT, &[(36, &[0, 0, 0, 1, 0, 0, 0x20, 0])]),
+                "2:04 31:02",
+                Segment::Rejected(&DATA_OUT, "36:0000000100002000"),
             ),
         ],
         end: End::Protocol,
@@ -146,7 +127,7 @@ const FAULTS: &[Row] = &[
             LONG,
             PduRow(
                 &DATA_OUT,
-                &[(6, &[2, 1]), (40, &[0, 0, 0x20, 0])],
+                "6:0201 40:00002000",
                 Segment::PatternAt(8192, 513),
             ),
             BEHIND,
@@ -156,8 +137,8 @@ const FAULTS: &[Row] = &[
             LONG_R2T,
             PduRow(
                 &REJECT,
-                &[(2, &[4]), (31, &[2])],
-                Segment::Rejected(&DATA_OUT, &[(6, &[2, 1]), (40, &[0, 0, 0x20, 0])]),
+                "2:04 31:02",
+                Segment::Rejected(&DATA_OUT, "6:0201 40:00002000"),
             ),
         ],
         end: End::Protocol,
@@ -169,12 +150,12 @@ const FAULTS: &[Row] = &[
             LONG,
             PduRow(
                 &DATA_OUT,
-                &[(6, &[1, 0]), (40, &[0, 0, 0x20, 0])],
+                "6:0100 40:00002000",
                 Segment::PatternAt(8192, 256),
             ),
             PduRow(
                 &DATA_OUT,
-                &[(6, &[1, 0]), (40, &[0, 0, 0x20, 0])],
+                "6:0100 40:00002000",
                 Segment::PatternAt(8192, 256),
             ),
             BEHIND,
@@ -184,8 +165,8 @@ const FAULTS: &[Row] = &[
             LONG_R2T,
             PduRow(
                 &REJECT,
-                &[(2, &[4]), (31, &[2])],
-                Segment::Rejected(&DATA_OUT, &[(6, &[1, 0]), (40, &[0, 0, 0x20, 0])]),
+                "2:04 31:02",
+                Segment::Rejected(&DATA_OUT, "6:0100 40:00002000"),
             ),
         ],
         end: End::Protocol,
@@ -197,12 +178,12 @@ const FAULTS: &[Row] = &[
             LONG,
             PduRow(
                 &DATA_OUT,
-                &[(6, &[1, 0]), (40, &[0, 0, 0x20, 0])],
+                "6:0100 40:00002000",
                 Segment::PatternAt(8192, 256),
             ),
             PduRow(
                 &DATA_OUT,
-                &[(6, &[1, 1]), (36, &[0, 0, 0, 1, 0, 0, 0x21, 0])],
+                "6:0101 36:0000000100002100",
                 Segment::PatternAt(8448, 257),
             ),
             BEHIND,
@@ -212,11 +193,8 @@ const FAULTS: &[Row] = &[
             LONG_R2T,
             PduRow(
                 &REJECT,
-                &[(2, &[4]), (31, &[2])],
-                Segment::Rejected(
-                    &DATA_OUT,
-                    &[(6, &[1, 1]), (36, &[0, 0, 0, 1, 0, 0, 0x21, 0])],
-                ),
+                "2:04 31:02",
+                Segment::Rejected(&DATA_OUT, "6:0101 36:0000000100002100"),
             ),
         ],
         end: End::Protocol,
@@ -226,7 +204,7 @@ const FAULTS: &[Row] = &[
         name: "the tag of a write that waits, in a second command",
         input: &[
             LONG,
-            PduRow(&TEST_UNIT_READY, &[(27, &[2])], Segment::None),
+            PduRow(&TEST_UNIT_READY, "27:02", Segment::None),
             BEHIND,
         ],
         asked: &[],
@@ -234,8 +212,8 @@ const FAULTS: &[Row] = &[
             LONG_R2T,
             PduRow(
                 &REJECT,
-                &[(2, &[4]), (31, &[2])],
-                Segment::Rejected(&TEST_UNIT_READY, &[(27, &[2])]),
+                "2:04 31:02",
+                Segment::Rejected(&TEST_UNIT_READY, "27:02"),
             ),
         ],
         end: End::Protocol,
@@ -245,7 +223,7 @@ const FAULTS: &[Row] = &[
         name: "the tag of a write that waits, in an immediate command",
         input: &[
             LONG,
-            PduRow(&TEST_UNIT_READY, &[(0, &[0x41])], Segment::None),
+            PduRow(&TEST_UNIT_READY, "0:41", Segment::None),
             BEHIND,
         ],
         asked: &[],
@@ -253,8 +231,8 @@ const FAULTS: &[Row] = &[
             LONG_R2T,
             PduRow(
                 &REJECT,
-                &[(2, &[4]), (31, &[2])],
-                Segment::Rejected(&TEST_UNIT_READY, &[(0, &[0x41])]),
+                "2:04 31:02",
+                Segment::Rejected(&TEST_UNIT_READY, "0:41"),
             ),
         ],
         end: End::Protocol,

@@ -25,13 +25,13 @@ const DISCOVERY: Row = Row {
 // Its Login Request, and the response.
 const DISCOVERS: PduRow = PduRow(
     &LOGIN,
-    &[(7, &[55])],
+    "7:37",
     Segment::Bytes(b"InitiatorName=iqn.2000-01.test:a\0SessionType=Discovery\0"),
 );
 
 const DISCOVERY_BEGUN: PduRow = PduRow(
     &LOGGED_IN,
-    &[(7, &[31])],
+    "7:1F",
     Segment::Bytes(b"MaxRecvDataSegmentLength=65536\0"),
 );
 
@@ -40,40 +40,24 @@ const SERVED: &[Row] = &[
         name: "SendTargets=All, NOP-Out, and Logout",
         input: &[
             DISCOVERS,
+            PduRow(&TEXT_REQUEST, "7:10", Segment::Bytes(b"SendTargets=All\0")),
+            PduRow(&NOP_OUT, "7:05 24:00000002", Segment::Pattern(5)),
+            PduRow(&LOGOUT, "24:00000003", Segment::None),
             PduRow(
                 &TEXT_REQUEST,
-                &[(7, &[16])],
-                Segment::Bytes(b"SendTargets=All\0"),
-            ),
-            PduRow(
-                &NOP_OUT,
-                &[(7, &[5]), (24, &[0, 0, 0, 2])],
-                Segment::Pattern(5),
-            ),
-            PduRow(&LOGOUT, &[(24, &[0, 0, 0, 3])], Segment::None),
-            PduRow(
-                &TEXT_REQUEST,
-                &[(7, &[16]), (24, &[0, 0, 0, 4])],
+                "7:10 24:00000004",
                 Segment::Bytes(b"SendTargets=All\0"),
             ),
         ],
         output: &[
             DISCOVERY_BEGUN,
-            PduRow(
-                &TEXT_RESPONSE,
-                &[(7, &[96]), (24, &[0, 0, 0, 2])],
-                Segment::Bytes(TOLD),
-            ),
+            PduRow(&TEXT_RESPONSE, "7:60 24:00000002", Segment::Bytes(TOLD)),
             PduRow(
                 &NOP_IN,
-                &[(7, &[5]), (24, &[0, 0, 0, 3, 0, 0, 0, 3, 0, 0, 0, 0x22])],
+                "7:05 24:000000030000000300000022",
                 Segment::Pattern(5),
             ),
-            PduRow(
-                &LOGGED_OUT,
-                &[(24, &[0, 0, 0, 4, 0, 0, 0, 4, 0, 0, 0, 0x23])],
-                Segment::None,
-            ),
+            PduRow(&LOGGED_OUT, "24:000000040000000400000023", Segment::None),
         ],
         end: End::LoggedOut,
         ..DISCOVERY
@@ -84,29 +68,21 @@ const SERVED: &[Row] = &[
             DISCOVERS,
             PduRow(
                 &TEXT_REQUEST,
-                &[(0, &[0x44]), (7, &[16])],
+                "0:44 7:10",
                 Segment::Bytes(b"SendTargets=All\0"),
             ),
-            PduRow(&NOP_OUT, &[(0, &[0x40])], Segment::None),
-            PduRow(&LOGOUT, &[(0, &[0x46])], Segment::None),
+            PduRow(&NOP_OUT, "0:40", Segment::None),
+            PduRow(&LOGOUT, "0:46", Segment::None),
         ],
         output: &[
             DISCOVERY_BEGUN,
             PduRow(
                 &TEXT_RESPONSE,
-                &[(7, &[96]), (24, &[0, 0, 0, 2, 0, 0, 0, 1, 0, 0, 0, 0x20])],
+                "7:60 24:000000020000000100000020",
                 Segment::Bytes(TOLD),
             ),
-            PduRow(
-                &NOP_IN,
-                &[(24, &[0, 0, 0, 3, 0, 0, 0, 1, 0, 0, 0, 0x20])],
-                Segment::None,
-            ),
-            PduRow(
-                &LOGGED_OUT,
-                &[(24, &[0, 0, 0, 4, 0, 0, 0, 1, 0, 0, 0, 0x20])],
-                Segment::None,
-            ),
+            PduRow(&NOP_IN, "24:000000030000000100000020", Segment::None),
+            PduRow(&LOGGED_OUT, "24:000000040000000100000020", Segment::None),
         ],
         end: End::LoggedOut,
         ..DISCOVERY
@@ -116,28 +92,20 @@ const SERVED: &[Row] = &[
         input: &[
             PduRow(
                 &LOGIN,
-                &[(1, &[0x83]), (7, &[71])],
+                "1:83 7:47",
                 Segment::Bytes(
                     b"InitiatorName=iqn.2000-01.test:a\0SessionType=Discovery\0AuthMethod=None\0",
                 ),
             ),
-            PduRow(
-                &TEXT_REQUEST,
-                &[(7, &[16])],
-                Segment::Bytes(b"SendTargets=All\0"),
-            ),
+            PduRow(&TEXT_REQUEST, "7:10", Segment::Bytes(b"SendTargets=All\0")),
         ],
         output: &[
             PduRow(
                 &LOGGED_IN,
-                &[(1, &[0x83]), (7, &[16])],
+                "1:83 7:10",
                 Segment::Bytes(b"AuthMethod=None\0"),
             ),
-            PduRow(
-                &TEXT_RESPONSE,
-                &[(7, &[96]), (24, &[0, 0, 0, 2])],
-                Segment::Bytes(TOLD),
-            ),
+            PduRow(&TEXT_RESPONSE, "7:60 24:00000002", Segment::Bytes(TOLD)),
         ],
         ..DISCOVERY
     },
@@ -147,25 +115,17 @@ const SERVED: &[Row] = &[
         input: &[
             PduRow(
                 &LOGIN,
-                &[(7, &[89])],
+                "7:59",
                 Segment::Bytes(
                     b"InitiatorName=iqn.2000-01.test:a\0SessionType=Discovery\0\
                     TargetName=iqn.2000-01.test:array\0",
                 ),
             ),
-            PduRow(
-                &TEXT_REQUEST,
-                &[(7, &[16])],
-                Segment::Bytes(b"SendTargets=All\0"),
-            ),
+            PduRow(&TEXT_REQUEST, "7:10", Segment::Bytes(b"SendTargets=All\0")),
         ],
         output: &[
             DISCOVERY_BEGUN,
-            PduRow(
-                &TEXT_RESPONSE,
-                &[(7, &[96]), (24, &[0, 0, 0, 2])],
-                Segment::Bytes(TOLD),
-            ),
+            PduRow(&TEXT_RESPONSE, "7:60 24:00000002", Segment::Bytes(TOLD)),
         ],
         ..DISCOVERY
     },
@@ -174,32 +134,32 @@ const SERVED: &[Row] = &[
         input: &[
             PduRow(
                 &LOGIN,
-                &[(1, &[0x81]), (7, &[55])],
+                "1:81 7:37",
                 Segment::Bytes(b"InitiatorName=iqn.2000-01.test:a\0SessionType=Discovery\0"),
             ),
             PduRow(
                 &LOGIN,
-                &[(7, &[29])],
+                "7:1D",
                 Segment::Bytes(b"MaxRecvDataSegmentLength=512\0"),
             ),
             PduRow(
                 &TEXT_REQUEST,
-                &[(7, &[65])],
+                "7:41",
                 Segment::Bytes(
                     b"SendTargets=\0SendTargets=\0SendTargets=\0SendTargets=\0SendTargets=\0",
                 ),
             ),
         ],
         output: &[
-            PduRow(&LOGGED_IN, &[(1, &[0x81]), (14, &[0, 0])], Segment::None),
+            PduRow(&LOGGED_IN, "1:81 14:0000", Segment::None),
             PduRow(
                 &LOGGED_IN,
-                &[(7, &[31]), (24, &[0, 0, 0, 2])],
+                "7:1F 24:00000002",
                 Segment::Bytes(b"MaxRecvDataSegmentLength=65536\0"),
             ),
             PduRow(
                 &TEXT_RESPONSE,
-                &[(6, &[1, 0xE0]), (24, &[0, 0, 0, 3])],
+                "6:01E0 24:00000003",
                 Segment::Bytes(
                     b"TargetName=iqn.2000-01.test:array\0TargetAddress=127.0.0.1:3260,1\0\
                     TargetAddress=127.0.0.1:3264,2\0TargetName=iqn.2000-01.test:array\0\
@@ -218,14 +178,10 @@ const SERVED: &[Row] = &[
         name: "the target begins no session",
         input: &[
             DISCOVERS,
-            PduRow(
-                &TEXT_REQUEST,
-                &[(7, &[16])],
-                Segment::Bytes(b"SendTargets=All\0"),
-            ),
+            PduRow(&TEXT_REQUEST, "7:10", Segment::Bytes(b"SendTargets=All\0")),
         ],
         begin: BeginAnswer::Refused,
-        output: &[PduRow(&LOGIN_REFUSED, &[(36, &[3, 2])], Segment::None)],
+        output: &[PduRow(&LOGIN_REFUSED, "36:0302", Segment::None)],
         end: End::Protocol,
         ..DISCOVERY
     },
@@ -233,17 +189,13 @@ const SERVED: &[Row] = &[
         name: "SendTargets=All in a normal session",
         input: &[
             ONE_LOGIN,
-            PduRow(
-                &TEXT_REQUEST,
-                &[(7, &[16])],
-                Segment::Bytes(b"SendTargets=All\0"),
-            ),
+            PduRow(&TEXT_REQUEST, "7:10", Segment::Bytes(b"SendTargets=All\0")),
         ],
         output: &[
             BEGUN,
             PduRow(
                 &TEXT_RESPONSE,
-                &[(7, &[19]), (24, &[0, 0, 0, 2])],
+                "7:13 24:00000002",
                 Segment::Bytes(b"SendTargets=Reject\0"),
             ),
         ],
@@ -257,34 +209,34 @@ const REJECTED: &[Row] = &[
         input: &[
             PduRow(
                 &LOGIN,
-                &[(1, &[0x81]), (7, &[55])],
+                "1:81 7:37",
                 Segment::Bytes(b"InitiatorName=iqn.2000-01.test:a\0SessionType=Discovery\0"),
             ),
             PduRow(
                 &LOGIN,
-                &[(7, &[29])],
+                "7:1D",
                 Segment::Bytes(b"MaxRecvDataSegmentLength=512\0"),
             ),
             PduRow(
                 &TEXT_REQUEST,
-                &[(7, &[78])],
+                "7:4E",
                 Segment::Bytes(
                     b"SendTargets=\0SendTargets=\0SendTargets=\0SendTargets=\0SendTargets=\0SendTargets=\0",
                 ),
             ),
-            PduRow(&TEXT_REQUEST, &[(24, &[0, 0, 0, 2])], Segment::None),
+            PduRow(&TEXT_REQUEST, "24:00000002", Segment::None),
         ],
         output: &[
-            PduRow(&LOGGED_IN, &[(1, &[0x81]), (14, &[0, 0])], Segment::None),
+            PduRow(&LOGGED_IN, "1:81 14:0000", Segment::None),
             PduRow(
                 &LOGGED_IN,
-                &[(7, &[31]), (24, &[0, 0, 0, 2])],
+                "7:1F 24:00000002",
                 Segment::Bytes(b"MaxRecvDataSegmentLength=65536\0"),
             ),
             PduRow(
                 &REJECT,
-                &[(2, &[4]), (24, &[0, 0, 0, 3])],
-                Segment::Rejected(&TEXT_REQUEST, &[(7, &[78])]),
+                "2:04 24:00000003",
+                Segment::Rejected(&TEXT_REQUEST, "7:4E"),
             ),
         ],
         end: End::Protocol,
@@ -294,19 +246,15 @@ const REJECTED: &[Row] = &[
         name: "a SCSI Command is rejected",
         input: &[
             DISCOVERS,
-            PduRow(&TEST_UNIT_READY, &[], Segment::None),
-            PduRow(
-                &TEXT_REQUEST,
-                &[(7, &[16])],
-                Segment::Bytes(b"SendTargets=All\0"),
-            ),
+            PduRow(&TEST_UNIT_READY, "", Segment::None),
+            PduRow(&TEXT_REQUEST, "7:10", Segment::Bytes(b"SendTargets=All\0")),
         ],
         output: &[
             DISCOVERY_BEGUN,
             PduRow(
                 &REJECT,
-                &[(2, &[4]), (24, &[0, 0, 0, 2])],
-                Segment::Rejected(&TEST_UNIT_READY, &[]),
+                "2:04 24:00000002",
+                Segment::Rejected(&TEST_UNIT_READY, ""),
             ),
         ],
         end: End::Protocol,
@@ -316,24 +264,16 @@ const REJECTED: &[Row] = &[
         name: "a write is rejected, behind SendTargets",
         input: &[
             DISCOVERS,
-            PduRow(
-                &TEXT_REQUEST,
-                &[(7, &[16])],
-                Segment::Bytes(b"SendTargets=All\0"),
-            ),
-            PduRow(&WRITE, &[(24, &[0, 0, 0, 2])], Segment::None),
+            PduRow(&TEXT_REQUEST, "7:10", Segment::Bytes(b"SendTargets=All\0")),
+            PduRow(&WRITE, "24:00000002", Segment::None),
         ],
         output: &[
             DISCOVERY_BEGUN,
-            PduRow(
-                &TEXT_RESPONSE,
-                &[(7, &[96]), (24, &[0, 0, 0, 2])],
-                Segment::Bytes(TOLD),
-            ),
+            PduRow(&TEXT_RESPONSE, "7:60 24:00000002", Segment::Bytes(TOLD)),
             PduRow(
                 &REJECT,
-                &[(2, &[4]), (24, &[0, 0, 0, 3, 0, 0, 0, 2, 0, 0, 0, 0x21])],
-                Segment::Rejected(&WRITE, &[(24, &[0, 0, 0, 2])]),
+                "2:04 24:000000030000000200000021",
+                Segment::Rejected(&WRITE, "24:00000002"),
             ),
         ],
         end: End::Protocol,
@@ -343,19 +283,15 @@ const REJECTED: &[Row] = &[
         name: "a task management request is rejected",
         input: &[
             DISCOVERS,
-            PduRow(&TEST_UNIT_READY, &[(0, &[2, 0x85])], Segment::None),
-            PduRow(
-                &TEXT_REQUEST,
-                &[(7, &[16])],
-                Segment::Bytes(b"SendTargets=All\0"),
-            ),
+            PduRow(&TEST_UNIT_READY, "0:0285", Segment::None),
+            PduRow(&TEXT_REQUEST, "7:10", Segment::Bytes(b"SendTargets=All\0")),
         ],
         output: &[
             DISCOVERY_BEGUN,
             PduRow(
                 &REJECT,
-                &[(2, &[4]), (24, &[0, 0, 0, 2])],
-                Segment::Rejected(&TEST_UNIT_READY, &[(0, &[2, 0x85])]),
+                "2:04 24:00000002",
+                Segment::Rejected(&TEST_UNIT_READY, "0:0285"),
             ),
         ],
         end: End::Protocol,
@@ -368,8 +304,8 @@ const REJECTED: &[Row] = &[
             DISCOVERY_BEGUN,
             PduRow(
                 &REJECT,
-                &[(2, &[4]), (24, &[0, 0, 0, 2])],
-                Segment::Rejected(&LOGIN, &[(7, &[55])]),
+                "2:04 24:00000002",
+                Segment::Rejected(&LOGIN, "7:37"),
             ),
         ],
         end: End::Protocol,

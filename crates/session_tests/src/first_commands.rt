@@ -10,18 +10,14 @@ const ROWS: &[Row] = &[
         name: "the first has the CmdSN of the login, and StatSN goes on",
         input: &[
             ONE_LOGIN,
-            PduRow(&TEST_UNIT_READY, &[], Segment::None),
-            PduRow(&TEST_UNIT_READY, &[(24, &[0, 0, 0, 2])], Segment::None),
+            PduRow(&TEST_UNIT_READY, "", Segment::None),
+            PduRow(&TEST_UNIT_READY, "24:00000002", Segment::None),
         ],
         asked: &[TEST, TEST],
         output: &[
             BEGUN,
-            PduRow(&GOOD, &[(24, &[0, 0, 0, 2])], Segment::None),
-            PduRow(
-                &GOOD,
-                &[(24, &[0, 0, 0, 3, 0, 0, 0, 3, 0, 0, 0, 0x22])],
-                Segment::None,
-            ),
+            PduRow(&GOOD, "24:00000002", Segment::None),
+            PduRow(&GOOD, "24:000000030000000300000022", Segment::None),
         ],
         ..BY_LOGIN
     },
@@ -29,81 +25,54 @@ const ROWS: &[Row] = &[
         name: "behind two requests the first status has StatSN 3",
         input: &[
             TO_STAGE_1,
-            PduRow(&LOGIN, &[], Segment::None),
-            PduRow(&TEST_UNIT_READY, &[], Segment::None),
+            PduRow(&LOGIN, "", Segment::None),
+            PduRow(&TEST_UNIT_READY, "", Segment::None),
         ],
         asked: &[TEST],
         output: &[
             STAGE_1_NEXT,
             PduRow(
                 &LOGGED_IN,
-                &[(7, &[31]), (24, &[0, 0, 0, 2])],
+                "7:1F 24:00000002",
                 Segment::Bytes(b"MaxRecvDataSegmentLength=65536\0"),
             ),
-            PduRow(&GOOD, &[(24, &[0, 0, 0, 3])], Segment::None),
+            PduRow(&GOOD, "24:00000003", Segment::None),
         ],
         ..BY_LOGIN
     },
     Row {
         name: "a login with the CmdSN FFFFFFFFh",
         input: &[
-            PduRow(
-                &LOGIN,
-                &[(7, &[86]), (24, &[0xFF, 0xFF, 0xFF, 0xFF])],
-                Segment::Bytes(NAMES_AND_TYPE),
-            ),
-            PduRow(
-                &TEST_UNIT_READY,
-                &[(24, &[0xFF, 0xFF, 0xFF, 0xFF])],
-                Segment::None,
-            ),
-            PduRow(&TEST_UNIT_READY, &[(24, &[0, 0, 0, 0])], Segment::None),
+            PduRow(&LOGIN, "7:56 24:FFFFFFFF", Segment::Bytes(NAMES_AND_TYPE)),
+            PduRow(&TEST_UNIT_READY, "24:FFFFFFFF", Segment::None),
+            PduRow(&TEST_UNIT_READY, "24:00000000", Segment::None),
         ],
         asked: &[TEST, TEST],
         output: &[
             PduRow(
                 &LOGGED_IN,
-                &[
-                    (7, &[54]),
-                    (24, &[0, 0, 0, 1, 0xFF, 0xFF, 0xFF, 0xFF, 0, 0, 0, 0x1E]),
-                ],
+                "7:36 24:00000001FFFFFFFF0000001E",
                 Segment::Bytes(SAID),
             ),
-            PduRow(
-                &GOOD,
-                &[(24, &[0, 0, 0, 2, 0, 0, 0, 0, 0, 0, 0, 0x1F])],
-                Segment::None,
-            ),
-            PduRow(
-                &GOOD,
-                &[(24, &[0, 0, 0, 3, 0, 0, 0, 1, 0, 0, 0, 0x20])],
-                Segment::None,
-            ),
+            PduRow(&GOOD, "24:00000002000000000000001F", Segment::None),
+            PduRow(&GOOD, "24:000000030000000100000020", Segment::None),
         ],
         ..BY_LOGIN
     },
     Row {
         name: "a login with the CmdSN 0",
         input: &[
-            PduRow(
-                &LOGIN,
-                &[(7, &[86]), (24, &[0, 0, 0, 0])],
-                Segment::Bytes(NAMES_AND_TYPE),
-            ),
-            PduRow(&TEST_UNIT_READY, &[(24, &[0, 0, 0, 0])], Segment::None),
+            PduRow(&LOGIN, "7:56 24:00000000", Segment::Bytes(NAMES_AND_TYPE)),
+            PduRow(&TEST_UNIT_READY, "24:00000000", Segment::None),
         ],
         asked: &[TEST],
         output: &[
             PduRow(
                 &LOGGED_IN,
-                &[(7, &[54]), (24, &[0, 0, 0, 1, 0, 0, 0, 0, 0, 0, 0, 0x1F])],
+                "7:36 24:00000001000000000000001F",
                 Segment::Bytes(SAID),
             ),
-            PduRow(
-                &GOOD,
-                &[(24, &[0, 0, 0, 2, 0, 0, 0, 1, 0, 0, 0, 0x20])],
-                Segment::None,
-            ),
+            PduRow(&GOOD, "24:000000020000000100000020", Segment::None),
         ],
         ..BY_LOGIN
     },
@@ -111,20 +80,20 @@ const ROWS: &[Row] = &[
         name: "outside the window it is ignored",
         input: &[
             ONE_LOGIN,
-            PduRow(&TEST_UNIT_READY, &[(24, &[0, 0, 0, 0x21])], Segment::None),
-            PduRow(&TEST_UNIT_READY, &[(24, &[0, 0, 0, 0])], Segment::None),
-            PduRow(&TEST_UNIT_READY, &[], Segment::None),
+            PduRow(&TEST_UNIT_READY, "24:00000021", Segment::None),
+            PduRow(&TEST_UNIT_READY, "24:00000000", Segment::None),
+            PduRow(&TEST_UNIT_READY, "", Segment::None),
         ],
         asked: &[TEST],
-        output: &[BEGUN, PduRow(&GOOD, &[(24, &[0, 0, 0, 2])], Segment::None)],
+        output: &[BEGUN, PduRow(&GOOD, "24:00000002", Segment::None)],
         ..BY_LOGIN
     },
     Row {
         name: "inside the window, but not the next, it leaves a gap",
         input: &[
             ONE_LOGIN,
-            PduRow(&TEST_UNIT_READY, &[(24, &[0, 0, 0, 2])], Segment::None),
-            PduRow(&TEST_UNIT_READY, &[], Segment::None),
+            PduRow(&TEST_UNIT_READY, "24:00000002", Segment::None),
+            PduRow(&TEST_UNIT_READY, "", Segment::None),
         ],
         end: End::Protocol,
         ..BY_LOGIN
@@ -134,14 +103,14 @@ const ROWS: &[Row] = &[
         input: &[
             ONE_LOGIN,
             ONE_LOGIN,
-            PduRow(&TEST_UNIT_READY, &[], Segment::None),
+            PduRow(&TEST_UNIT_READY, "", Segment::None),
         ],
         output: &[
             BEGUN,
             PduRow(
                 &REJECT,
-                &[(2, &[4]), (24, &[0, 0, 0, 2])],
-                Segment::Rejected(&LOGIN, &[(7, &[86])]),
+                "2:04 24:00000002",
+                Segment::Rejected(&LOGIN, "7:56"),
             ),
         ],
         end: End::Protocol,
@@ -151,22 +120,22 @@ const ROWS: &[Row] = &[
         name: "also behind a command, and with the TSIH of the session",
         input: &[
             ONE_LOGIN,
-            PduRow(&TEST_UNIT_READY, &[], Segment::None),
+            PduRow(&TEST_UNIT_READY, "", Segment::None),
             PduRow(
                 &LOGIN,
-                &[(7, &[86]), (14, &[0, 1]), (24, &[0, 0, 0, 2])],
+                "7:56 14:0001 24:00000002",
                 Segment::Bytes(NAMES_AND_TYPE),
             ),
-            PduRow(&TEST_UNIT_READY, &[(24, &[0, 0, 0, 2])], Segment::None),
+            PduRow(&TEST_UNIT_READY, "24:00000002", Segment::None),
         ],
         asked: &[TEST],
         output: &[
             BEGUN,
-            PduRow(&GOOD, &[(24, &[0, 0, 0, 2])], Segment::None),
+            PduRow(&GOOD, "24:00000002", Segment::None),
             PduRow(
                 &REJECT,
-                &[(2, &[4]), (24, &[0, 0, 0, 3, 0, 0, 0, 2, 0, 0, 0, 0x21])],
-                Segment::Rejected(&LOGIN, &[(7, &[86]), (14, &[0, 1]), (24, &[0, 0, 0, 2])]),
+                "2:04 24:000000030000000200000021",
+                Segment::Rejected(&LOGIN, "7:56 14:0001 24:00000002"),
             ),
         ],
         end: End::Protocol,

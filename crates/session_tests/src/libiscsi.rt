@@ -11,7 +11,7 @@ use login::Kind;
 use scsi_types::{Command, InquiryPage};
 use session::End;
 use std::test::*;
-use test_streams::{DATA_IN, GOOD, LOGGED_IN, LOGIN, PduRow, Segment, TEST_UNIT_READY, UNDERFLOW};
+use test_streams::{DATA_IN, GOOD, LOGGED_IN, LOGIN, PduRow, Segment, TEST_UNIT_READY};
 
 // READ CAPACITY (16) of 2048 blocks of 512 bytes (SBC-3).
 const LONG_CAPACITY: &[u8] = &[
@@ -25,13 +25,7 @@ const ROWS: &[Row] = &[
         input: &[
             PduRow(
                 &LOGIN,
-                &[
-                    (1, &[0x81]),
-                    (7, &[129]),
-                    (8, &[0x80, 0x3B, 0x1F, 0x62, 0, 0]),
-                    (16, &[0x32, 0x7B, 0x23, 0xC6]),
-                    (24, &[0x6B, 0x8B, 0x45, 0x67, 0, 0, 0, 0]),
-                ],
+                "1:81 7:81 8:803B1F620000 16:327B23C6 24:6B8B456700000000",
                 Segment::Bytes(
                     b"InitiatorName=iqn.2007-10.com.github:sahlberg:libiscsi:test\0\
                     TargetName=iqn.2000-01.test:array\0SessionType=Normal\0AuthMethod=None\0",
@@ -39,13 +33,7 @@ const ROWS: &[Row] = &[
             ),
             PduRow(
                 &LOGIN,
-                &[
-                    (1, &[0x87]),
-                    (6, &[1, 0xAD]),
-                    (8, &[0x80, 0x3B, 0x1F, 0x62, 0, 0]),
-                    (16, &[0x32, 0x7B, 0x23, 0xC7]),
-                    (24, &[0x6B, 0x8B, 0x45, 0x67, 0, 0, 0, 2]),
-                ],
+                "1:87 6:01AD 8:803B1F620000 16:327B23C7 24:6B8B456700000002",
                 Segment::Bytes(
                     b"InitiatorName=iqn.2007-10.com.github:sahlberg:libiscsi:test\0\
                     TargetName=iqn.2000-01.test:array\0SessionType=Normal\0HeaderDigest=None,CRC32C\0\
@@ -58,50 +46,22 @@ const ROWS: &[Row] = &[
             ),
             PduRow(
                 &TEST_UNIT_READY,
-                &[(
-                    16,
-                    &[
-                        0x32, 0x7B, 0x23, 0xC8, 0, 0, 0, 0, 0x6B, 0x8B, 0x45, 0x67, 0, 0, 0, 3, 0,
-                        0, 0, 0, 0, 0,
-                    ],
-                )],
+                "16:327B23C8000000006B8B456700000003000000000000",
                 Segment::None,
             ),
             PduRow(
                 &TEST_UNIT_READY,
-                &[
-                    (1, &[0xC1]),
-                    (
-                        16,
-                        &[
-                            0x32, 0x7B, 0x23, 0xC9, 0, 0, 0, 0x40, 0x6B, 0x8B, 0x45, 0x68, 0, 0, 0,
-                            4, 0x12, 0, 0, 0, 0x40, 0,
-                        ],
-                    ),
-                ],
+                "1:C1 16:327B23C9000000406B8B456800000004120000004000",
                 Segment::None,
             ),
             PduRow(
                 &TEST_UNIT_READY,
-                &[
-                    (1, &[0xC1]),
-                    (
-                        16,
-                        &[
-                            0x32, 0x7B, 0x23, 0xCA, 0, 0, 0, 0x20, 0x6B, 0x8B, 0x45, 0x69, 0, 0, 0,
-                            5, 0x9E, 0x10, 0, 0, 0, 0, 0, 0, 0, 0, 0, 0, 0, 0x20, 0, 0,
-                        ],
-                    ),
-                ],
+                "1:C1 16:327B23CA000000206B8B4569000000059E100000000000000000000000200000",
                 Segment::None,
             ),
             PduRow(
                 &LOGOUT,
-                &[
-                    (0, &[0x46]),
-                    (16, &[0x32, 0x7B, 0x23, 0xCB]),
-                    (24, &[0x6B, 0x8B, 0x45, 0x6A, 0, 0, 0, 6]),
-                ],
+                "0:46 16:327B23CB 24:6B8B456A00000006",
                 Segment::None,
             ),
         ],
@@ -125,30 +85,12 @@ const ROWS: &[Row] = &[
         output: &[
             PduRow(
                 &LOGGED_IN,
-                &[
-                    (1, &[0x81]),
-                    (7, &[39]),
-                    (8, &[0x80, 0x3B, 0x1F, 0x62, 0, 0, 0, 0]),
-                    (16, &[0x32, 0x7B, 0x23, 0xC6]),
-                    (
-                        24,
-                        &[0, 0, 0, 1, 0x6B, 0x8B, 0x45, 0x67, 0x6B, 0x8B, 0x45, 0x86],
-                    ),
-                ],
+                "1:81 7:27 8:803B1F6200000000 16:327B23C6 24:000000016B8B45676B8B4586",
                 Segment::Bytes(b"TargetPortalGroupTag=1\0AuthMethod=None\0"),
             ),
             PduRow(
                 &LOGGED_IN,
-                &[
-                    (1, &[0x87]),
-                    (6, &[1, 0x34]),
-                    (8, &[0x80, 0x3B, 0x1F, 0x62, 0, 0, 0, 1]),
-                    (16, &[0x32, 0x7B, 0x23, 0xC7]),
-                    (
-                        24,
-                        &[0, 0, 0, 2, 0x6B, 0x8B, 0x45, 0x67, 0x6B, 0x8B, 0x45, 0x86],
-                    ),
-                ],
+                "1:87 6:0134 8:803B1F6200000001 16:327B23C7 24:000000026B8B45676B8B4586",
                 Segment::Bytes(
                     b"MaxRecvDataSegmentLength=65536\0HeaderDigest=None\0DataDigest=None\0InitialR2T=Yes\0\
                     ImmediateData=Yes\0MaxBurstLength=262144\0FirstBurstLength=65536\0\
@@ -159,68 +101,32 @@ const ROWS: &[Row] = &[
             ),
             PduRow(
                 &GOOD,
-                &[
-                    (16, &[0x32, 0x7B, 0x23, 0xC8]),
-                    (
-                        24,
-                        &[0, 0, 0, 3, 0x6B, 0x8B, 0x45, 0x68, 0x6B, 0x8B, 0x45, 0x87],
-                    ),
-                ],
+                "16:327B23C8 24:000000036B8B45686B8B4587",
                 Segment::None,
             ),
             PduRow(
                 &DATA_IN,
-                &[
-                    (7, &[36]),
-                    (16, &[0x32, 0x7B, 0x23, 0xC9]),
-                    (28, &[0x6B, 0x8B, 0x45, 0x69, 0x6B, 0x8B, 0x45, 0x88]),
-                ],
+                "7:24 16:327B23C9 28:6B8B45696B8B4588",
                 Segment::Bytes(INQUIRY),
             ),
             PduRow(
                 &GOOD,
-                &[
-                    (1, &[UNDERFLOW]),
-                    (16, &[0x32, 0x7B, 0x23, 0xC9]),
-                    (
-                        24,
-                        &[0, 0, 0, 4, 0x6B, 0x8B, 0x45, 0x69, 0x6B, 0x8B, 0x45, 0x88],
-                    ),
-                    (36, &[0, 0, 0, 1]),
-                    (44, &[0, 0, 0, 0x1C]),
-                ],
+                "1:82 16:327B23C9 24:000000046B8B45696B8B4588 36:00000001 44:0000001C",
                 Segment::None,
             ),
             PduRow(
                 &DATA_IN,
-                &[
-                    (7, &[32]),
-                    (16, &[0x32, 0x7B, 0x23, 0xCA]),
-                    (28, &[0x6B, 0x8B, 0x45, 0x6A, 0x6B, 0x8B, 0x45, 0x89]),
-                ],
+                "7:20 16:327B23CA 28:6B8B456A6B8B4589",
                 Segment::Bytes(LONG_CAPACITY),
             ),
             PduRow(
                 &GOOD,
-                &[
-                    (16, &[0x32, 0x7B, 0x23, 0xCA]),
-                    (
-                        24,
-                        &[0, 0, 0, 5, 0x6B, 0x8B, 0x45, 0x6A, 0x6B, 0x8B, 0x45, 0x89],
-                    ),
-                    (36, &[0, 0, 0, 1]),
-                ],
+                "16:327B23CA 24:000000056B8B456A6B8B4589 36:00000001",
                 Segment::None,
             ),
             PduRow(
                 &LOGGED_OUT,
-                &[
-                    (16, &[0x32, 0x7B, 0x23, 0xCB]),
-                    (
-                        24,
-                        &[0, 0, 0, 6, 0x6B, 0x8B, 0x45, 0x6A, 0x6B, 0x8B, 0x45, 0x89],
-                    ),
-                ],
+                "16:327B23CB 24:000000066B8B456A6B8B4589",
                 Segment::None,
             ),
         ],
@@ -232,13 +138,7 @@ const ROWS: &[Row] = &[
         input: &[
             PduRow(
                 &LOGIN,
-                &[
-                    (1, &[0x87]),
-                    (6, &[1, 0x8E]),
-                    (8, &[0x80, 0x3B, 0x1F, 0x62, 0, 0]),
-                    (16, &[0x32, 0x7B, 0x23, 0xC6]),
-                    (24, &[0x6B, 0x8B, 0x45, 0x67, 0, 0, 0, 0]),
-                ],
+                "1:87 6:018E 8:803B1F620000 16:327B23C6 24:6B8B456700000000",
                 Segment::Bytes(
                     b"InitiatorName=iqn.2007-10.com.github:sahlberg:libiscsi:test\0SessionType=Discovery\0\
                     HeaderDigest=None,CRC32C\0DataDigest=None\0InitialR2T=No\0ImmediateData=Yes\0\
@@ -250,21 +150,12 @@ const ROWS: &[Row] = &[
             ),
             PduRow(
                 &TEXT_REQUEST,
-                &[
-                    (0, &[0x44]),
-                    (7, &[16]),
-                    (16, &[0x32, 0x7B, 0x23, 0xC7]),
-                    (24, &[0x6B, 0x8B, 0x45, 0x67, 0, 0, 0, 2]),
-                ],
+                "0:44 7:10 16:327B23C7 24:6B8B456700000002",
                 Segment::Bytes(b"SendTargets=All\0"),
             ),
             PduRow(
                 &LOGOUT,
-                &[
-                    (0, &[0x46]),
-                    (16, &[0x32, 0x7B, 0x23, 0xC8]),
-                    (24, &[0x6B, 0x8B, 0x45, 0x67, 0, 0, 0, 3]),
-                ],
+                "0:46 16:327B23C8 24:6B8B456700000003",
                 Segment::None,
             ),
         ],
@@ -276,16 +167,7 @@ const ROWS: &[Row] = &[
         output: &[
             PduRow(
                 &LOGGED_IN,
-                &[
-                    (1, &[0x87]),
-                    (6, &[1, 0x34]),
-                    (8, &[0x80, 0x3B, 0x1F, 0x62, 0, 0, 0, 1]),
-                    (16, &[0x32, 0x7B, 0x23, 0xC6]),
-                    (
-                        24,
-                        &[0, 0, 0, 1, 0x6B, 0x8B, 0x45, 0x67, 0x6B, 0x8B, 0x45, 0x86],
-                    ),
-                ],
+                "1:87 6:0134 8:803B1F6200000001 16:327B23C6 24:000000016B8B45676B8B4586",
                 Segment::Bytes(
                     b"MaxRecvDataSegmentLength=65536\0HeaderDigest=None\0DataDigest=None\0InitialR2T=Yes\0\
                     ImmediateData=Yes\0MaxBurstLength=262144\0FirstBurstLength=65536\0\
@@ -296,25 +178,12 @@ const ROWS: &[Row] = &[
             ),
             PduRow(
                 &TEXT_RESPONSE,
-                &[
-                    (7, &[96]),
-                    (16, &[0x32, 0x7B, 0x23, 0xC7]),
-                    (
-                        24,
-                        &[0, 0, 0, 2, 0x6B, 0x8B, 0x45, 0x67, 0x6B, 0x8B, 0x45, 0x86],
-                    ),
-                ],
+                "7:60 16:327B23C7 24:000000026B8B45676B8B4586",
                 Segment::Bytes(TOLD),
             ),
             PduRow(
                 &LOGGED_OUT,
-                &[
-                    (16, &[0x32, 0x7B, 0x23, 0xC8]),
-                    (
-                        24,
-                        &[0, 0, 0, 3, 0x6B, 0x8B, 0x45, 0x67, 0x6B, 0x8B, 0x45, 0x86],
-                    ),
-                ],
+                "16:327B23C8 24:000000036B8B45676B8B4586",
                 Segment::None,
             ),
         ],

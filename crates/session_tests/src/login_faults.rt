@@ -11,110 +11,101 @@ use test_streams::{GOOD, LOGGED_IN, LOGIN, PduRow, REJECT, Segment, TEST_UNIT_RE
 const FIRST: &[Row] = &[
     Row {
         name: "an opcode that no PDU has",
-        input: &[PduRow(&LOGIN, &[(0, &[7])], Segment::None), ONE_LOGIN],
+        input: &[PduRow(&LOGIN, "0:07", Segment::None), ONE_LOGIN],
         output: &[PduRow(
             &REJECT,
-            &[(2, &[5]), (24, &[0, 0, 0, 1, 0, 0, 0, 0, 0, 0, 0, 0x1F])],
-            Segment::Rejected(&LOGIN, &[(0, &[7])]),
+            "2:05 24:00000001000000000000001F",
+            Segment::Rejected(&LOGIN, "0:07"),
         )],
         ..REFUSED
     },
     Row {
         name: "another, of those of a target",
-        input: &[PduRow(&LOGIN, &[(0, &[0x3E])], Segment::None), ONE_LOGIN],
+        input: &[PduRow(&LOGIN, "0:3E", Segment::None), ONE_LOGIN],
         output: &[PduRow(
             &REJECT,
-            &[(2, &[5]), (24, &[0, 0, 0, 1, 0, 0, 0, 0, 0, 0, 0, 0x1F])],
-            Segment::Rejected(&LOGIN, &[(0, &[0x3E])]),
+            "2:05 24:00000001000000000000001F",
+            Segment::Rejected(&LOGIN, "0:3E"),
         )],
         ..REFUSED
     },
     Row {
         name: "a PDU of a target",
-        input: &[PduRow(&GOOD, &[], Segment::None), ONE_LOGIN],
+        input: &[PduRow(&GOOD, "", Segment::None), ONE_LOGIN],
         output: &[PduRow(
             &REJECT,
-            &[(2, &[5]), (24, &[0, 0, 0, 1, 0, 0, 0, 0, 0, 0, 0, 0x1F])],
-            Segment::Rejected(&GOOD, &[]),
+            "2:05 24:00000001000000000000001F",
+            Segment::Rejected(&GOOD, ""),
         )],
         ..REFUSED
     },
     Row {
         name: "a Login Response",
-        input: &[PduRow(&LOGGED_IN, &[], Segment::None), ONE_LOGIN],
+        input: &[PduRow(&LOGGED_IN, "", Segment::None), ONE_LOGIN],
         output: &[PduRow(
             &REJECT,
-            &[(2, &[5]), (24, &[0, 0, 0, 1, 0, 0, 0, 0, 0, 0, 0, 0x1F])],
-            Segment::Rejected(&LOGGED_IN, &[]),
+            "2:05 24:00000001000000000000001F",
+            Segment::Rejected(&LOGGED_IN, ""),
         )],
         ..REFUSED
     },
     Row {
         name: "a PDU of a target with a reserved field that is not zero",
-        input: &[PduRow(&GOOD, &[(8, &[1])], Segment::None), ONE_LOGIN],
+        input: &[PduRow(&GOOD, "8:01", Segment::None), ONE_LOGIN],
         output: &[PduRow(
             &REJECT,
-            &[(2, &[9]), (24, &[0, 0, 0, 1, 0, 0, 0, 0, 0, 0, 0, 0x1F])],
-            Segment::Rejected(&GOOD, &[(8, &[1])]),
+            "2:09 24:00000001000000000000001F",
+            Segment::Rejected(&GOOD, "8:01"),
         )],
         ..REFUSED
     },
     Row {
         name: "an additional header segment",
-        input: &[PduRow(&LOGIN, &[(4, &[1])], Segment::None), ONE_LOGIN],
+        input: &[PduRow(&LOGIN, "4:01", Segment::None), ONE_LOGIN],
         output: &[PduRow(
             &REJECT,
-            &[(2, &[9]), (24, &[0, 0, 0, 1, 0, 0, 0, 0, 0, 0, 0, 0x1F])],
-            Segment::Rejected(&LOGIN, &[(4, &[1])]),
+            "2:09 24:00000001000000000000001F",
+            Segment::Rejected(&LOGIN, "4:01"),
         )],
         ..REFUSED
     },
     Row {
         name: "a data segment of 65537 bytes",
-        input: &[PduRow(&LOGIN, &[(5, &[1, 0, 1])], Segment::None), ONE_LOGIN],
+        input: &[PduRow(&LOGIN, "5:010001", Segment::None), ONE_LOGIN],
         output: &[PduRow(
             &REJECT,
-            &[(2, &[9]), (24, &[0, 0, 0, 1, 0, 0, 0, 0, 0, 0, 0, 0x1F])],
-            Segment::Rejected(&LOGIN, &[(5, &[1, 0, 1])]),
+            "2:09 24:00000001000000000000001F",
+            Segment::Rejected(&LOGIN, "5:010001"),
         )],
         ..REFUSED
     },
     Row {
         name: "an additional header segment and 65537 bytes, of a NOP-Out",
-        input: &[
-            PduRow(&NOP_OUT, &[(4, &[1, 1, 0, 1])], Segment::None),
-            ONE_LOGIN,
-        ],
+        input: &[PduRow(&NOP_OUT, "4:01010001", Segment::None), ONE_LOGIN],
         output: &[PduRow(
             &REJECT,
-            &[(2, &[9]), (24, &[0, 0, 0, 1, 0, 0, 0, 0, 0, 0, 0, 0x1F])],
-            Segment::Rejected(&NOP_OUT, &[(4, &[1, 1, 0, 1])]),
+            "2:09 24:00000001000000000000001F",
+            Segment::Rejected(&NOP_OUT, "4:01010001"),
         )],
         ..REFUSED
     },
     Row {
         name: "a SCSI Command without F",
-        input: &[
-            PduRow(&TEST_UNIT_READY, &[(1, &[1])], Segment::None),
-            ONE_LOGIN,
-        ],
+        input: &[PduRow(&TEST_UNIT_READY, "1:01", Segment::None), ONE_LOGIN],
         output: &[PduRow(
             &REJECT,
-            &[(2, &[9]), (24, &[0, 0, 0, 1, 0, 0, 0, 0, 0, 0, 0, 0x1F])],
-            Segment::Rejected(&TEST_UNIT_READY, &[(1, &[1])]),
+            "2:09 24:00000001000000000000001F",
+            Segment::Rejected(&TEST_UNIT_READY, "1:01"),
         )],
         ..REFUSED
     },
     Row {
         name: "a SCSI Command with R and W",
-        input: &[
-            PduRow(&TEST_UNIT_READY, &[(1, &[0xE1])], Segment::None),
-            ONE_LOGIN,
-        ],
+        input: &[PduRow(&TEST_UNIT_READY, "1:E1", Segment::None), ONE_LOGIN],
         output: &[PduRow(
             &REJECT,
-            &[(2, &[9]), (24, &[0, 0, 0, 1, 0, 0, 0, 0, 0, 0, 0, 0x1F])],
-            Segment::Rejected(&TEST_UNIT_READY, &[(1, &[0xE1])]),
+            "2:09 24:00000001000000000000001F",
+            Segment::Rejected(&TEST_UNIT_READY, "1:E1"),
         )],
         ..REFUSED
     },
@@ -124,98 +115,74 @@ const FIRST: &[Row] = &[
 const SECOND: &[Row] = &[
     Row {
         name: "an opcode that no PDU has",
-        input: &[
-            TO_STAGE_1,
-            PduRow(&LOGIN, &[(0, &[7])], Segment::None),
-            ONE_LOGIN,
-        ],
+        input: &[TO_STAGE_1, PduRow(&LOGIN, "0:07", Segment::None), ONE_LOGIN],
         output: &[
             STAGE_1_NEXT,
             PduRow(
                 &REJECT,
-                &[(2, &[5]), (24, &[0, 0, 0, 2])],
-                Segment::Rejected(&LOGIN, &[(0, &[7])]),
+                "2:05 24:00000002",
+                Segment::Rejected(&LOGIN, "0:07"),
             ),
         ],
         ..REFUSED
     },
     Row {
         name: "another, of those of a target",
-        input: &[
-            TO_STAGE_1,
-            PduRow(&LOGIN, &[(0, &[0x3E])], Segment::None),
-            ONE_LOGIN,
-        ],
+        input: &[TO_STAGE_1, PduRow(&LOGIN, "0:3E", Segment::None), ONE_LOGIN],
         output: &[
             STAGE_1_NEXT,
             PduRow(
                 &REJECT,
-                &[(2, &[5]), (24, &[0, 0, 0, 2])],
-                Segment::Rejected(&LOGIN, &[(0, &[0x3E])]),
+                "2:05 24:00000002",
+                Segment::Rejected(&LOGIN, "0:3E"),
             ),
         ],
         ..REFUSED
     },
     Row {
         name: "a PDU of a target",
-        input: &[TO_STAGE_1, PduRow(&GOOD, &[], Segment::None), ONE_LOGIN],
+        input: &[TO_STAGE_1, PduRow(&GOOD, "", Segment::None), ONE_LOGIN],
         output: &[
             STAGE_1_NEXT,
-            PduRow(
-                &REJECT,
-                &[(2, &[5]), (24, &[0, 0, 0, 2])],
-                Segment::Rejected(&GOOD, &[]),
-            ),
+            PduRow(&REJECT, "2:05 24:00000002", Segment::Rejected(&GOOD, "")),
         ],
         ..REFUSED
     },
     Row {
         name: "a Login Response",
-        input: &[
-            TO_STAGE_1,
-            PduRow(&LOGGED_IN, &[], Segment::None),
-            ONE_LOGIN,
-        ],
+        input: &[TO_STAGE_1, PduRow(&LOGGED_IN, "", Segment::None), ONE_LOGIN],
         output: &[
             STAGE_1_NEXT,
             PduRow(
                 &REJECT,
-                &[(2, &[5]), (24, &[0, 0, 0, 2])],
-                Segment::Rejected(&LOGGED_IN, &[]),
+                "2:05 24:00000002",
+                Segment::Rejected(&LOGGED_IN, ""),
             ),
         ],
         ..REFUSED
     },
     Row {
         name: "a PDU of a target with a reserved field that is not zero",
-        input: &[
-            TO_STAGE_1,
-            PduRow(&GOOD, &[(8, &[1])], Segment::None),
-            ONE_LOGIN,
-        ],
+        input: &[TO_STAGE_1, PduRow(&GOOD, "8:01", Segment::None), ONE_LOGIN],
         output: &[
             STAGE_1_NEXT,
             PduRow(
                 &REJECT,
-                &[(2, &[9]), (24, &[0, 0, 0, 2])],
-                Segment::Rejected(&GOOD, &[(8, &[1])]),
+                "2:09 24:00000002",
+                Segment::Rejected(&GOOD, "8:01"),
             ),
         ],
         ..REFUSED
     },
     Row {
         name: "an additional header segment",
-        input: &[
-            TO_STAGE_1,
-            PduRow(&LOGIN, &[(4, &[1])], Segment::None),
-            ONE_LOGIN,
-        ],
+        input: &[TO_STAGE_1, PduRow(&LOGIN, "4:01", Segment::None), ONE_LOGIN],
         output: &[
             STAGE_1_NEXT,
             PduRow(
                 &REJECT,
-                &[(2, &[9]), (24, &[0, 0, 0, 2])],
-                Segment::Rejected(&LOGIN, &[(4, &[1])]),
+                "2:09 24:00000002",
+                Segment::Rejected(&LOGIN, "4:01"),
             ),
         ],
         ..REFUSED
@@ -224,15 +191,15 @@ const SECOND: &[Row] = &[
         name: "a data segment of 65537 bytes",
         input: &[
             TO_STAGE_1,
-            PduRow(&LOGIN, &[(5, &[1, 0, 1])], Segment::None),
+            PduRow(&LOGIN, "5:010001", Segment::None),
             ONE_LOGIN,
         ],
         output: &[
             STAGE_1_NEXT,
             PduRow(
                 &REJECT,
-                &[(2, &[9]), (24, &[0, 0, 0, 2])],
-                Segment::Rejected(&LOGIN, &[(5, &[1, 0, 1])]),
+                "2:09 24:00000002",
+                Segment::Rejected(&LOGIN, "5:010001"),
             ),
         ],
         ..REFUSED
@@ -241,15 +208,15 @@ const SECOND: &[Row] = &[
         name: "an additional header segment and 65537 bytes, of a NOP-Out",
         input: &[
             TO_STAGE_1,
-            PduRow(&NOP_OUT, &[(4, &[1, 1, 0, 1])], Segment::None),
+            PduRow(&NOP_OUT, "4:01010001", Segment::None),
             ONE_LOGIN,
         ],
         output: &[
             STAGE_1_NEXT,
             PduRow(
                 &REJECT,
-                &[(2, &[9]), (24, &[0, 0, 0, 2])],
-                Segment::Rejected(&NOP_OUT, &[(4, &[1, 1, 0, 1])]),
+                "2:09 24:00000002",
+                Segment::Rejected(&NOP_OUT, "4:01010001"),
             ),
         ],
         ..REFUSED
@@ -258,15 +225,15 @@ const SECOND: &[Row] = &[
         name: "a SCSI Command without F",
         input: &[
             TO_STAGE_1,
-            PduRow(&TEST_UNIT_READY, &[(1, &[1])], Segment::None),
+            PduRow(&TEST_UNIT_READY, "1:01", Segment::None),
             ONE_LOGIN,
         ],
         output: &[
             STAGE_1_NEXT,
             PduRow(
                 &REJECT,
-                &[(2, &[9]), (24, &[0, 0, 0, 2])],
-                Segment::Rejected(&TEST_UNIT_READY, &[(1, &[1])]),
+                "2:09 24:00000002",
+                Segment::Rejected(&TEST_UNIT_READY, "1:01"),
             ),
         ],
         ..REFUSED
@@ -275,15 +242,15 @@ const SECOND: &[Row] = &[
         name: "a SCSI Command with R and W",
         input: &[
             TO_STAGE_1,
-            PduRow(&TEST_UNIT_READY, &[(1, &[0xE1])], Segment::None),
+            PduRow(&TEST_UNIT_READY, "1:E1", Segment::None),
             ONE_LOGIN,
         ],
         output: &[
             STAGE_1_NEXT,
             PduRow(
                 &REJECT,
-                &[(2, &[9]), (24, &[0, 0, 0, 2])],
-                Segment::Rejected(&TEST_UNIT_READY, &[(1, &[0xE1])]),
+                "2:09 24:00000002",
+                Segment::Rejected(&TEST_UNIT_READY, "1:E1"),
             ),
         ],
         ..REFUSED
@@ -291,32 +258,20 @@ const SECOND: &[Row] = &[
     Row {
         name: "its numbers are those of the Login Request",
         input: &[
-            PduRow(
-                &LOGIN,
-                &[(1, &[0x81]), (7, &[67]), (24, &[0xFF, 0xFF, 0xFF, 0xFE])],
-                Segment::Bytes(NAMES),
-            ),
-            PduRow(&LOGIN, &[(0, &[7])], Segment::None),
+            PduRow(&LOGIN, "1:81 7:43 24:FFFFFFFE", Segment::Bytes(NAMES)),
+            PduRow(&LOGIN, "0:07", Segment::None),
             ONE_LOGIN,
         ],
         output: &[
             PduRow(
                 &LOGGED_IN,
-                &[
-                    (1, &[0x81]),
-                    (7, &[23]),
-                    (14, &[0, 0]),
-                    (24, &[0, 0, 0, 1, 0xFF, 0xFF, 0xFF, 0xFE, 0, 0, 0, 0x1D]),
-                ],
+                "1:81 7:17 14:0000 24:00000001FFFFFFFE0000001D",
                 Segment::Bytes(b"TargetPortalGroupTag=1\0"),
             ),
             PduRow(
                 &REJECT,
-                &[
-                    (2, &[5]),
-                    (24, &[0, 0, 0, 2, 0xFF, 0xFF, 0xFF, 0xFE, 0, 0, 0, 0x1D]),
-                ],
-                Segment::Rejected(&LOGIN, &[(0, &[7])]),
+                "2:05 24:00000002FFFFFFFE0000001D",
+                Segment::Rejected(&LOGIN, "0:07"),
             ),
         ],
         ..REFUSED

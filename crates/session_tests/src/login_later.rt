@@ -12,85 +12,61 @@ const FLAGS: &[Row] = &[
     Row {
         name: "stage 1, where stage 0 stays",
         input: &[
-            PduRow(&LOGIN, &[(1, &[0]), (7, &[67])], Segment::Bytes(NAMES)),
-            PduRow(&LOGIN, &[], Segment::None),
+            PduRow(&LOGIN, "1:00 7:43", Segment::Bytes(NAMES)),
+            PduRow(&LOGIN, "", Segment::None),
             ONE_LOGIN,
         ],
         output: &[
             PduRow(
                 &LOGGED_IN,
-                &[(1, &[0]), (7, &[23]), (14, &[0, 0])],
+                "1:00 7:17 14:0000",
                 Segment::Bytes(b"TargetPortalGroupTag=1\0"),
             ),
-            PduRow(&LOGIN_REFUSED, &[(24, &[0, 0, 0, 2])], Segment::None),
+            PduRow(&LOGIN_REFUSED, "24:00000002", Segment::None),
         ],
         ..REFUSED
     },
     Row {
         name: "stage 0, where stage 1 is next",
-        input: &[
-            TO_STAGE_1,
-            PduRow(&LOGIN, &[(1, &[0x81])], Segment::None),
-            ONE_LOGIN,
-        ],
+        input: &[TO_STAGE_1, PduRow(&LOGIN, "1:81", Segment::None), ONE_LOGIN],
         output: &[
             STAGE_1_NEXT,
-            PduRow(
-                &LOGIN_REFUSED,
-                &[(1, &[0]), (24, &[0, 0, 0, 2])],
-                Segment::None,
-            ),
+            PduRow(&LOGIN_REFUSED, "1:00 24:00000002", Segment::None),
         ],
         ..REFUSED
     },
     Row {
         name: "stage 3, where stage 1 is next",
-        input: &[
-            TO_STAGE_1,
-            PduRow(&LOGIN, &[(1, &[0x8F])], Segment::None),
-            ONE_LOGIN,
-        ],
+        input: &[TO_STAGE_1, PduRow(&LOGIN, "1:8F", Segment::None), ONE_LOGIN],
         output: &[
             STAGE_1_NEXT,
-            PduRow(
-                &LOGIN_REFUSED,
-                &[(1, &[0x0C]), (24, &[0, 0, 0, 2])],
-                Segment::None,
-            ),
+            PduRow(&LOGIN_REFUSED, "1:0C 24:00000002", Segment::None),
         ],
         ..REFUSED
     },
     Row {
         name: "T with C",
         input: &[
-            PduRow(&LOGIN, &[(1, &[0]), (7, &[67])], Segment::Bytes(NAMES)),
-            PduRow(&LOGIN, &[(1, &[0xC1])], Segment::None),
+            PduRow(&LOGIN, "1:00 7:43", Segment::Bytes(NAMES)),
+            PduRow(&LOGIN, "1:C1", Segment::None),
             ONE_LOGIN,
         ],
         output: &[
             PduRow(
                 &LOGGED_IN,
-                &[(1, &[0]), (7, &[23]), (14, &[0, 0])],
+                "1:00 7:17 14:0000",
                 Segment::Bytes(b"TargetPortalGroupTag=1\0"),
             ),
-            PduRow(
-                &LOGIN_REFUSED,
-                &[(1, &[0]), (24, &[0, 0, 0, 2])],
-                Segment::None,
-            ),
+            PduRow(&LOGIN_REFUSED, "1:00 24:00000002", Segment::None),
         ],
         ..REFUSED
     },
     Row {
         name: "from stage 1 to stage 1",
-        input: &[
-            TO_STAGE_1,
-            PduRow(&LOGIN, &[(1, &[0x85])], Segment::None),
-            ONE_LOGIN,
-        ],
+        input: &[TO_STAGE_1, PduRow(&LOGIN, "1:85", Segment::None), ONE_LOGIN],
         output: &[
             STAGE_1_NEXT,
-            PduRow(&LOGIN_REFUSED, &[(24, &[0, 0, 0, 2])], Segment::None),
+            PduRow(&LOGIN_REFUSED, "24:00000002", Segment::None),
         ],
         ..REFUSED
     },
@@ -101,12 +77,12 @@ const TEXTS: &[Row] = &[
         name: "a pair without =",
         input: &[
             TO_STAGE_1,
-            PduRow(&LOGIN, &[(7, &[4])], Segment::Bytes(b"X-a\0")),
+            PduRow(&LOGIN, "7:04", Segment::Bytes(b"X-a\0")),
             ONE_LOGIN,
         ],
         output: &[
             STAGE_1_NEXT,
-            PduRow(&LOGIN_REFUSED, &[(24, &[0, 0, 0, 2])], Segment::None),
+            PduRow(&LOGIN_REFUSED, "24:00000002", Segment::None),
         ],
         ..REFUSED
     },
@@ -114,12 +90,12 @@ const TEXTS: &[Row] = &[
         name: "a last pair without its zero byte",
         input: &[
             TO_STAGE_1,
-            PduRow(&LOGIN, &[(7, &[16])], Segment::Bytes(b"ImmediateData=No")),
+            PduRow(&LOGIN, "7:10", Segment::Bytes(b"ImmediateData=No")),
             ONE_LOGIN,
         ],
         output: &[
             STAGE_1_NEXT,
-            PduRow(&LOGIN_REFUSED, &[(24, &[0, 0, 0, 2])], Segment::None),
+            PduRow(&LOGIN_REFUSED, "24:00000002", Segment::None),
         ],
         ..REFUSED
     },
@@ -128,30 +104,22 @@ const TEXTS: &[Row] = &[
         input: &[
             PduRow(
                 &LOGIN,
-                &[(1, &[0]), (7, &[84])],
+                "1:00 7:54",
                 Segment::Bytes(
                     b"InitiatorName=iqn.2000-01.test:a\0TargetName=iqn.2000-01.test:array\0\
                     ImmediateData=No\0",
                 ),
             ),
-            PduRow(
-                &LOGIN,
-                &[(1, &[0x83]), (7, &[17])],
-                Segment::Bytes(b"ImmediateData=No\0"),
-            ),
+            PduRow(&LOGIN, "1:83 7:11", Segment::Bytes(b"ImmediateData=No\0")),
             ONE_LOGIN,
         ],
         output: &[
             PduRow(
                 &LOGGED_IN,
-                &[(1, &[0]), (7, &[40]), (14, &[0, 0])],
+                "1:00 7:28 14:0000",
                 Segment::Bytes(b"TargetPortalGroupTag=1\0ImmediateData=No\0"),
             ),
-            PduRow(
-                &LOGIN_REFUSED,
-                &[(1, &[0]), (24, &[0, 0, 0, 2])],
-                Segment::None,
-            ),
+            PduRow(&LOGIN_REFUSED, "1:00 24:00000002", Segment::None),
         ],
         ..REFUSED
     },
@@ -161,39 +129,31 @@ const TEXTS: &[Row] = &[
             TO_STAGE_1,
             PduRow(
                 &LOGIN,
-                &[(7, &[34])],
+                "7:22",
                 Segment::Bytes(b"ImmediateData=No\0ImmediateData=No\0"),
             ),
             ONE_LOGIN,
         ],
         output: &[
             STAGE_1_NEXT,
-            PduRow(&LOGIN_REFUSED, &[(24, &[0, 0, 0, 2])], Segment::None),
+            PduRow(&LOGIN_REFUSED, "24:00000002", Segment::None),
         ],
         ..REFUSED
     },
     Row {
         name: "AuthMethod without None",
         input: &[
-            PduRow(&LOGIN, &[(1, &[0]), (7, &[67])], Segment::Bytes(NAMES)),
-            PduRow(
-                &LOGIN,
-                &[(1, &[0x81]), (7, &[16])],
-                Segment::Bytes(b"AuthMethod=CHAP\0"),
-            ),
+            PduRow(&LOGIN, "1:00 7:43", Segment::Bytes(NAMES)),
+            PduRow(&LOGIN, "1:81 7:10", Segment::Bytes(b"AuthMethod=CHAP\0")),
             ONE_LOGIN,
         ],
         output: &[
             PduRow(
                 &LOGGED_IN,
-                &[(1, &[0]), (7, &[23]), (14, &[0, 0])],
+                "1:00 7:17 14:0000",
                 Segment::Bytes(b"TargetPortalGroupTag=1\0"),
             ),
-            PduRow(
-                &LOGIN_REFUSED,
-                &[(1, &[0]), (24, &[0, 0, 0, 2]), (37, &[1])],
-                Segment::None,
-            ),
+            PduRow(&LOGIN_REFUSED, "1:00 24:00000002 37:01", Segment::None),
         ],
         ..REFUSED
     },
@@ -205,7 +165,7 @@ const LIMITS: &[Row] = &[
         input: &[
             PduRow(
                 &LOGIN,
-                &[(1, &[0]), (6, &[1, 0x79])],
+                "1:00 6:0179",
                 Segment::Bytes(
                     b"InitiatorName=iqn.2000-01.test:a\0TargetName=iqn.2000-01.test:array\0k00=\0k01=\0\
                     k02=\0k03=\0k04=\0k05=\0k06=\0k07=\0k08=\0k09=\0k10=\0k11=\0k12=\0k13=\0k14=\0k15=\0\
@@ -215,17 +175,13 @@ const LIMITS: &[Row] = &[
                     k58=\0k59=\0k60=\0k61=\0",
                 ),
             ),
-            PduRow(
-                &LOGIN,
-                &[(1, &[0x83]), (7, &[5])],
-                Segment::Bytes(b"X-a=\0"),
-            ),
+            PduRow(&LOGIN, "1:83 7:05", Segment::Bytes(b"X-a=\0")),
             ONE_LOGIN,
         ],
         output: &[
             PduRow(
                 &LOGGED_IN,
-                &[(1, &[0]), (6, &[4, 0x73]), (14, &[0, 0])],
+                "1:00 6:0473 14:0000",
                 Segment::Bytes(
                     b"TargetPortalGroupTag=1\0k00=NotUnderstood\0k01=NotUnderstood\0k02=NotUnderstood\0\
                     k03=NotUnderstood\0k04=NotUnderstood\0k05=NotUnderstood\0k06=NotUnderstood\0\
@@ -245,11 +201,7 @@ const LIMITS: &[Row] = &[
                     k59=NotUnderstood\0k60=NotUnderstood\0k61=NotUnderstood\0",
                 ),
             ),
-            PduRow(
-                &LOGIN_REFUSED,
-                &[(1, &[0]), (24, &[0, 0, 0, 2])],
-                Segment::None,
-            ),
+            PduRow(&LOGIN_REFUSED, "1:00 24:00000002", Segment::None),
         ],
         ..REFUSED
     },
@@ -258,22 +210,18 @@ const LIMITS: &[Row] = &[
         input: &[
             PduRow(
                 &LOGIN,
-                &[(1, &[0x40]), (6, &[0x20, 0])],
+                "1:40 6:2000",
                 Segment::BytesAndRuns(
                     b"InitiatorName=iqn.2000-01.test:a\0TargetName=iqn.2000-01.test:array\0X-a=",
                     &[(8121, b'a')],
                 ),
             ),
-            PduRow(&LOGIN, &[(1, &[0x40]), (7, &[1])], Segment::Bytes(b"\0")),
+            PduRow(&LOGIN, "1:40 7:01", Segment::Bytes(b"\0")),
             ONE_LOGIN,
         ],
         output: &[
-            PduRow(&LOGGED_IN, &[(1, &[0]), (14, &[0, 0])], Segment::None),
-            PduRow(
-                &LOGIN_REFUSED,
-                &[(1, &[0]), (24, &[0, 0, 0, 2])],
-                Segment::None,
-            ),
+            PduRow(&LOGGED_IN, "1:00 14:0000", Segment::None),
+            PduRow(&LOGIN_REFUSED, "1:00 24:00000002", Segment::None),
         ],
         ..REFUSED
     },
@@ -282,19 +230,15 @@ const LIMITS: &[Row] = &[
         input: &[
             PduRow(
                 &LOGIN,
-                &[(1, &[0x44]), (7, &[52])],
+                "1:44 7:34",
                 Segment::Bytes(b"InitiatorName=iqn.2000-01.test:a\0TargetName=iqn.2000"),
             ),
-            PduRow(&LOGIN, &[(7, &[11])], Segment::Bytes(b"-01.test:b\0")),
+            PduRow(&LOGIN, "7:0B", Segment::Bytes(b"-01.test:b\0")),
             ONE_LOGIN,
         ],
         output: &[
-            PduRow(&LOGGED_IN, &[(1, &[4]), (14, &[0, 0])], Segment::None),
-            PduRow(
-                &LOGIN_REFUSED,
-                &[(24, &[0, 0, 0, 2]), (37, &[3])],
-                Segment::None,
-            ),
+            PduRow(&LOGGED_IN, "1:04 14:0000", Segment::None),
+            PduRow(&LOGIN_REFUSED, "24:00000002 37:03", Segment::None),
         ],
         ..REFUSED
     },
@@ -306,23 +250,15 @@ const RUNS: &[Row] = &[
         input: &[
             PduRow(
                 &LOGIN,
-                &[(1, &[0x44]), (7, &[52])],
+                "1:44 7:34",
                 Segment::Bytes(b"InitiatorName=iqn.2000-01.test:a\0TargetName=iqn.2000"),
             ),
-            PduRow(
-                &LOGIN,
-                &[(1, &[0x83]), (7, &[15])],
-                Segment::Bytes(b"-01.test:array\0"),
-            ),
+            PduRow(&LOGIN, "1:83 7:0F", Segment::Bytes(b"-01.test:array\0")),
             ONE_LOGIN,
         ],
         output: &[
-            PduRow(&LOGGED_IN, &[(1, &[4]), (14, &[0, 0])], Segment::None),
-            PduRow(
-                &LOGIN_REFUSED,
-                &[(1, &[0]), (24, &[0, 0, 0, 2])],
-                Segment::None,
-            ),
+            PduRow(&LOGGED_IN, "1:04 14:0000", Segment::None),
+            PduRow(&LOGIN_REFUSED, "1:00 24:00000002", Segment::None),
         ],
         ..REFUSED
     },
@@ -331,12 +267,12 @@ const RUNS: &[Row] = &[
         input: &[
             PduRow(
                 &LOGIN,
-                &[(1, &[0x44]), (7, &[25]), (14, &[0, 9])],
+                "1:44 7:19 14:0009",
                 Segment::Bytes(b"InitiatorName=iqn.2000-01"),
             ),
             PduRow(
                 &LOGIN,
-                &[(7, &[42]), (14, &[0, 9])],
+                "7:2A 14:0009",
                 Segment::Bytes(b".test:a\0TargetName=iqn.2000-01.test:array\0"),
             ),
             ONE_LOGIN,
@@ -347,12 +283,8 @@ const RUNS: &[Row] = &[
             isid: 0x4000_0137_0000,
         }],
         output: &[
-            PduRow(&LOGGED_IN, &[(1, &[4]), (14, &[0, 0])], Segment::None),
-            PduRow(
-                &LOGIN_REFUSED,
-                &[(14, &[0, 9]), (24, &[0, 0, 0, 2]), (37, &[0x0A])],
-                Segment::None,
-            ),
+            PduRow(&LOGGED_IN, "1:04 14:0000", Segment::None),
+            PduRow(&LOGIN_REFUSED, "14:0009 24:00000002 37:0A", Segment::None),
         ],
         ..REFUSED
     },
@@ -360,7 +292,7 @@ const RUNS: &[Row] = &[
         name: "the target begins no session: the text of the last request is not answered",
         input: &[
             TO_STAGE_1,
-            PduRow(&LOGIN, &[(7, &[17])], Segment::Bytes(b"ImmediateData=No\0")),
+            PduRow(&LOGIN, "7:11", Segment::Bytes(b"ImmediateData=No\0")),
             ONE_LOGIN,
         ],
         begin: BeginAnswer::Refused,
@@ -371,11 +303,7 @@ const RUNS: &[Row] = &[
         }],
         output: &[
             STAGE_1_NEXT,
-            PduRow(
-                &LOGIN_REFUSED,
-                &[(24, &[0, 0, 0, 2]), (36, &[3, 2])],
-                Segment::None,
-            ),
+            PduRow(&LOGIN_REFUSED, "24:00000002 36:0302", Segment::None),
         ],
         ..REFUSED
     },

@@ -11,8 +11,8 @@ use test_streams::{LOGIN, LOGIN_REFUSED, PduRow, Segment};
 const MISSING: &[Row] = &[
     Row {
         name: "no text",
-        input: &[PduRow(&LOGIN, &[], Segment::None), ONE_LOGIN],
-        output: &[PduRow(&LOGIN_REFUSED, &[(37, &[7])], Segment::None)],
+        input: &[PduRow(&LOGIN, "", Segment::None), ONE_LOGIN],
+        output: &[PduRow(&LOGIN_REFUSED, "37:07", Segment::None)],
         ..REFUSED
     },
     Row {
@@ -20,12 +20,12 @@ const MISSING: &[Row] = &[
         input: &[
             PduRow(
                 &LOGIN,
-                &[(7, &[53])],
+                "7:35",
                 Segment::Bytes(b"TargetName=iqn.2000-01.test:array\0SessionType=Normal\0"),
             ),
             ONE_LOGIN,
         ],
-        output: &[PduRow(&LOGIN_REFUSED, &[(37, &[7])], Segment::None)],
+        output: &[PduRow(&LOGIN_REFUSED, "37:07", Segment::None)],
         ..REFUSED
     },
     Row {
@@ -33,12 +33,12 @@ const MISSING: &[Row] = &[
         input: &[
             PduRow(
                 &LOGIN,
-                &[(7, &[52])],
+                "7:34",
                 Segment::Bytes(b"SessionType=Discovery\0TargetName=iqn.2000-01.test:b\0"),
             ),
             ONE_LOGIN,
         ],
-        output: &[PduRow(&LOGIN_REFUSED, &[(37, &[7])], Segment::None)],
+        output: &[PduRow(&LOGIN_REFUSED, "37:07", Segment::None)],
         ..REFUSED
     },
     Row {
@@ -46,7 +46,7 @@ const MISSING: &[Row] = &[
         input: &[
             PduRow(
                 &LOGIN,
-                &[(7, &[85])],
+                "7:55",
                 Segment::Bytes(
                     b"InitiatorName=iqn.2000-01.test:a\0TargetName=iqn.2000-01.test:array\0\
                     SessionType=Other\0",
@@ -54,7 +54,7 @@ const MISSING: &[Row] = &[
             ),
             ONE_LOGIN,
         ],
-        output: &[PduRow(&LOGIN_REFUSED, &[(37, &[9])], Segment::None)],
+        output: &[PduRow(&LOGIN_REFUSED, "37:09", Segment::None)],
         ..REFUSED
     },
     Row {
@@ -62,12 +62,12 @@ const MISSING: &[Row] = &[
         input: &[
             PduRow(
                 &LOGIN,
-                &[(7, &[55])],
+                "7:37",
                 Segment::Bytes(b"InitiatorName=iqn.2000-01.test:a\0SessionType=discovery\0"),
             ),
             ONE_LOGIN,
         ],
-        output: &[PduRow(&LOGIN_REFUSED, &[(37, &[9])], Segment::None)],
+        output: &[PduRow(&LOGIN_REFUSED, "37:09", Segment::None)],
         ..REFUSED
     },
     Row {
@@ -75,12 +75,12 @@ const MISSING: &[Row] = &[
         input: &[
             PduRow(
                 &LOGIN,
-                &[(7, &[52])],
+                "7:34",
                 Segment::Bytes(b"InitiatorName=iqn.2000-01.test:a\0SessionType=Normal\0"),
             ),
             ONE_LOGIN,
         ],
-        output: &[PduRow(&LOGIN_REFUSED, &[(37, &[7])], Segment::None)],
+        output: &[PduRow(&LOGIN_REFUSED, "37:07", Segment::None)],
         ..REFUSED
     },
     Row {
@@ -88,12 +88,12 @@ const MISSING: &[Row] = &[
         input: &[
             PduRow(
                 &LOGIN,
-                &[(7, &[33])],
+                "7:21",
                 Segment::Bytes(b"InitiatorName=iqn.2000-01.test:a\0"),
             ),
             ONE_LOGIN,
         ],
-        output: &[PduRow(&LOGIN_REFUSED, &[(37, &[7])], Segment::None)],
+        output: &[PduRow(&LOGIN_REFUSED, "37:07", Segment::None)],
         ..REFUSED
     },
 ];
@@ -104,7 +104,7 @@ const TARGETS: &[Row] = &[
         input: &[
             PduRow(
                 &LOGIN,
-                &[(7, &[82])],
+                "7:52",
                 Segment::Bytes(
                     b"InitiatorName=iqn.2000-01.test:a\0TargetName=iqn.2000-01.test:b\0\
                     SessionType=Normal\0",
@@ -112,7 +112,7 @@ const TARGETS: &[Row] = &[
             ),
             ONE_LOGIN,
         ],
-        output: &[PduRow(&LOGIN_REFUSED, &[(37, &[3])], Segment::None)],
+        output: &[PduRow(&LOGIN_REFUSED, "37:03", Segment::None)],
         ..REFUSED
     },
     Row {
@@ -120,12 +120,12 @@ const TARGETS: &[Row] = &[
         input: &[
             PduRow(
                 &LOGIN,
-                &[(7, &[45])],
+                "7:2D",
                 Segment::Bytes(b"InitiatorName=iqn.2000-01.test:a\0TargetName=\0"),
             ),
             ONE_LOGIN,
         ],
-        output: &[PduRow(&LOGIN_REFUSED, &[(37, &[3])], Segment::None)],
+        output: &[PduRow(&LOGIN_REFUSED, "37:03", Segment::None)],
         ..REFUSED
     },
     Row {
@@ -133,14 +133,14 @@ const TARGETS: &[Row] = &[
         input: &[
             PduRow(
                 &LOGIN,
-                &[(7, &[66])],
+                "7:42",
                 Segment::Bytes(
                     b"InitiatorName=iqn.2000-01.test:a\0TargetName=iqn.2000-01.test:arra\0",
                 ),
             ),
             ONE_LOGIN,
         ],
-        output: &[PduRow(&LOGIN_REFUSED, &[(37, &[3])], Segment::None)],
+        output: &[PduRow(&LOGIN_REFUSED, "37:03", Segment::None)],
         ..REFUSED
     },
     Row {
@@ -148,7 +148,7 @@ const TARGETS: &[Row] = &[
         input: &[
             PduRow(
                 &LOGIN,
-                &[(7, &[85])],
+                "7:55",
                 Segment::Bytes(
                     b"InitiatorName=iqn.2000-01.test:a\0SessionType=Discovery\0\
                     TargetName=iqn.2000-01.test:b\0",
@@ -156,7 +156,7 @@ const TARGETS: &[Row] = &[
             ),
             ONE_LOGIN,
         ],
-        output: &[PduRow(&LOGIN_REFUSED, &[(37, &[3])], Segment::None)],
+        output: &[PduRow(&LOGIN_REFUSED, "37:03", Segment::None)],
         ..REFUSED
     },
     Row {
@@ -164,7 +164,7 @@ const TARGETS: &[Row] = &[
         input: &[
             PduRow(
                 &LOGIN,
-                &[(7, &[63]), (14, &[0, 7])],
+                "7:3F 14:0007",
                 Segment::Bytes(
                     b"InitiatorName=iqn.2000-01.test:a\0TargetName=iqn.2000-01.test:b\0",
                 ),
@@ -172,7 +172,7 @@ const TARGETS: &[Row] = &[
             ONE_LOGIN,
         ],
         lives: true,
-        output: &[PduRow(&LOGIN_REFUSED, &[(14, &[0, 7]), (37, &[3])], Segment::None)],
+        output: &[PduRow(&LOGIN_REFUSED, "14:0007 37:03", Segment::None)],
         ..REFUSED
     },
 ];
@@ -181,11 +181,7 @@ const SESSIONS: &[Row] = &[
     Row {
         name: "one connection more in a session that lives",
         input: &[
-            PduRow(
-                &LOGIN,
-                &[(7, &[86]), (14, &[0, 7])],
-                Segment::Bytes(NAMES_AND_TYPE),
-            ),
+            PduRow(&LOGIN, "7:56 14:0007", Segment::Bytes(NAMES_AND_TYPE)),
             ONE_LOGIN,
         ],
         lives: true,
@@ -194,17 +190,13 @@ const SESSIONS: &[Row] = &[
             name: INITIATOR,
             isid: 0x4000_0137_0000,
         }],
-        output: &[PduRow(&LOGIN_REFUSED, &[(14, &[0, 7]), (37, &[6])], Segment::None)],
+        output: &[PduRow(&LOGIN_REFUSED, "14:0007 37:06", Segment::None)],
         ..REFUSED
     },
     Row {
         name: "a connection in a session that does not live",
         input: &[
-            PduRow(
-                &LOGIN,
-                &[(7, &[86]), (14, &[0, 7])],
-                Segment::Bytes(NAMES_AND_TYPE),
-            ),
+            PduRow(&LOGIN, "7:56 14:0007", Segment::Bytes(NAMES_AND_TYPE)),
             ONE_LOGIN,
         ],
         calls: &[LoginCall::Lives {
@@ -212,11 +204,7 @@ const SESSIONS: &[Row] = &[
             name: INITIATOR,
             isid: 0x4000_0137_0000,
         }],
-        output: &[PduRow(
-            &LOGIN_REFUSED,
-            &[(14, &[0, 7]), (37, &[0x0A])],
-            Segment::None,
-        )],
+        output: &[PduRow(&LOGIN_REFUSED, "14:0007 37:0A", Segment::None)],
         ..REFUSED
     },
     Row {
@@ -224,7 +212,7 @@ const SESSIONS: &[Row] = &[
         input: &[
             PduRow(
                 &LOGIN,
-                &[(1, &[0x83]), (7, &[55]), (14, &[0xFF, 0xFF])],
+                "1:83 7:37 14:FFFF",
                 Segment::Bytes(b"InitiatorName=iqn.2000-01.test:a\0SessionType=Discovery\0"),
             ),
             ONE_LOGIN,
@@ -234,11 +222,7 @@ const SESSIONS: &[Row] = &[
             name: INITIATOR,
             isid: 0x4000_0137_0000,
         }],
-        output: &[PduRow(
-            &LOGIN_REFUSED,
-            &[(1, &[0]), (14, &[0xFF, 0xFF]), (37, &[0x0A])],
-            Segment::None,
-        )],
+        output: &[PduRow(&LOGIN_REFUSED, "1:00 14:FFFF 37:0A", Segment::None)],
         ..REFUSED
     },
     Row {
@@ -246,7 +230,7 @@ const SESSIONS: &[Row] = &[
         input: &[
             PduRow(
                 &LOGIN,
-                &[(7, &[102]), (14, &[0x12, 0x34])],
+                "7:66 14:1234",
                 Segment::Bytes(
                     b"InitiatorName=iqn.2000-01.test:a\0TargetName=iqn.2000-01.test:array\0\
                     SessionType=Normal\0AuthMethod=CHAP\0",
@@ -260,11 +244,7 @@ const SESSIONS: &[Row] = &[
             name: INITIATOR,
             isid: 0x4000_0137_0000,
         }],
-        output: &[PduRow(
-            &LOGIN_REFUSED,
-            &[(14, &[0x12, 0x34]), (37, &[6])],
-            Segment::None,
-        )],
+        output: &[PduRow(&LOGIN_REFUSED, "14:1234 37:06", Segment::None)],
         ..REFUSED
     },
 ];
@@ -275,7 +255,7 @@ const METHODS: &[Row] = &[
         input: &[
             PduRow(
                 &LOGIN,
-                &[(1, &[0x81]), (7, &[106])],
+                "1:81 7:6A",
                 Segment::Bytes(
                     b"InitiatorName=iqn.2000-01.test:a\0TargetName=iqn.2000-01.test:array\0\
                     SessionType=Normal\0AuthMethod=CHAP,SRP\0",
@@ -283,7 +263,7 @@ const METHODS: &[Row] = &[
             ),
             ONE_LOGIN,
         ],
-        output: &[PduRow(&LOGIN_REFUSED, &[(1, &[0]), (37, &[1])], Segment::None)],
+        output: &[PduRow(&LOGIN_REFUSED, "1:00 37:01", Segment::None)],
         ..REFUSED
     },
     Row {
@@ -291,7 +271,7 @@ const METHODS: &[Row] = &[
         input: &[
             PduRow(
                 &LOGIN,
-                &[(7, &[102])],
+                "7:66",
                 Segment::Bytes(
                     b"InitiatorName=iqn.2000-01.test:a\0TargetName=iqn.2000-01.test:array\0\
                     SessionType=Normal\0AuthMethod=none\0",
@@ -299,7 +279,7 @@ const METHODS: &[Row] = &[
             ),
             ONE_LOGIN,
         ],
-        output: &[PduRow(&LOGIN_REFUSED, &[(37, &[1])], Segment::None)],
+        output: &[PduRow(&LOGIN_REFUSED, "37:01", Segment::None)],
         ..REFUSED
     },
     Row {
@@ -311,7 +291,7 @@ const METHODS: &[Row] = &[
             isid: 0x4000_0137_0000,
             kind: Kind::Normal,
         }],
-        output: &[PduRow(&LOGIN_REFUSED, &[(36, &[3, 2])], Segment::None)],
+        output: &[PduRow(&LOGIN_REFUSED, "36:0302", Segment::None)],
         ..REFUSED
     },
 ];

@@ -24,66 +24,35 @@ const TASK_MANAGEMENT: [u8; 48] = [
 const FIRST: &[Row] = &[
     Row {
         name: "a NOP-Out",
-        input: &[
-            PduRow(&NOP_OUT, &[(16, &[0x0A, 0x0B, 0x0C, 0x0D])], Segment::None),
-            ONE_LOGIN,
-        ],
-        output: &[PduRow(
-            &NOT_IN_LOGIN,
-            &[(16, &[0x0A, 0x0B, 0x0C, 0x0D])],
-            Segment::None,
-        )],
+        input: &[PduRow(&NOP_OUT, "16:0A0B0C0D", Segment::None), ONE_LOGIN],
+        output: &[PduRow(&NOT_IN_LOGIN, "16:0A0B0C0D", Segment::None)],
         ..REFUSED
     },
     Row {
         name: "a SCSI Command",
         input: &[
-            PduRow(
-                &TEST_UNIT_READY,
-                &[(16, &[0x0A, 0x0B, 0x0C, 0x0D])],
-                Segment::None,
-            ),
+            PduRow(&TEST_UNIT_READY, "16:0A0B0C0D", Segment::None),
             ONE_LOGIN,
         ],
-        output: &[PduRow(
-            &NOT_IN_LOGIN,
-            &[(16, &[0x0A, 0x0B, 0x0C, 0x0D])],
-            Segment::None,
-        )],
+        output: &[PduRow(&NOT_IN_LOGIN, "16:0A0B0C0D", Segment::None)],
         ..REFUSED
     },
     Row {
         name: "a write with its data",
         input: &[
-            PduRow(
-                &WRITE,
-                &[(6, &[2, 0]), (16, &[0x0A, 0x0B, 0x0C, 0x0D])],
-                Segment::Pattern(512),
-            ),
+            PduRow(&WRITE, "6:0200 16:0A0B0C0D", Segment::Pattern(512)),
             ONE_LOGIN,
         ],
-        output: &[PduRow(
-            &NOT_IN_LOGIN,
-            &[(16, &[0x0A, 0x0B, 0x0C, 0x0D])],
-            Segment::None,
-        )],
+        output: &[PduRow(&NOT_IN_LOGIN, "16:0A0B0C0D", Segment::None)],
         ..REFUSED
     },
     Row {
         name: "a task management request",
         input: &[
-            PduRow(
-                &TASK_MANAGEMENT,
-                &[(16, &[0x0A, 0x0B, 0x0C, 0x0D])],
-                Segment::None,
-            ),
+            PduRow(&TASK_MANAGEMENT, "16:0A0B0C0D", Segment::None),
             ONE_LOGIN,
         ],
-        output: &[PduRow(
-            &NOT_IN_LOGIN,
-            &[(16, &[0x0A, 0x0B, 0x0C, 0x0D])],
-            Segment::None,
-        )],
+        output: &[PduRow(&NOT_IN_LOGIN, "16:0A0B0C0D", Segment::None)],
         ..REFUSED
     },
     Row {
@@ -91,80 +60,45 @@ const FIRST: &[Row] = &[
         input: &[
             PduRow(
                 &TEXT_REQUEST,
-                &[(7, &[16]), (16, &[0x0A, 0x0B, 0x0C, 0x0D])],
+                "7:10 16:0A0B0C0D",
                 Segment::Bytes(b"SendTargets=All\0"),
             ),
             ONE_LOGIN,
         ],
-        output: &[PduRow(
-            &NOT_IN_LOGIN,
-            &[(16, &[0x0A, 0x0B, 0x0C, 0x0D])],
-            Segment::None,
-        )],
+        output: &[PduRow(&NOT_IN_LOGIN, "16:0A0B0C0D", Segment::None)],
         ..REFUSED
     },
     Row {
         name: "a Data-Out",
         input: &[
-            PduRow(
-                &DATA_OUT,
-                &[(6, &[2, 0]), (16, &[0x0A, 0x0B, 0x0C, 0x0D])],
-                Segment::Pattern(512),
-            ),
+            PduRow(&DATA_OUT, "6:0200 16:0A0B0C0D", Segment::Pattern(512)),
             ONE_LOGIN,
         ],
-        output: &[PduRow(
-            &NOT_IN_LOGIN,
-            &[(16, &[0x0A, 0x0B, 0x0C, 0x0D])],
-            Segment::None,
-        )],
+        output: &[PduRow(&NOT_IN_LOGIN, "16:0A0B0C0D", Segment::None)],
         ..REFUSED
     },
     Row {
         name: "a Logout",
-        input: &[
-            PduRow(&LOGOUT, &[(16, &[0x0A, 0x0B, 0x0C, 0x0D])], Segment::None),
-            ONE_LOGIN,
-        ],
-        output: &[PduRow(
-            &NOT_IN_LOGIN,
-            &[(16, &[0x0A, 0x0B, 0x0C, 0x0D])],
-            Segment::None,
-        )],
+        input: &[PduRow(&LOGOUT, "16:0A0B0C0D", Segment::None), ONE_LOGIN],
+        output: &[PduRow(&NOT_IN_LOGIN, "16:0A0B0C0D", Segment::None)],
         ..REFUSED
     },
     Row {
         name: "a NOP-Out of the reserved tag, in place of an answer",
         input: &[
-            PduRow(
-                &NOP_OUT,
-                &[(0, &[0x40]), (16, &[0xFF, 0xFF, 0xFF, 0xFF])],
-                Segment::None,
-            ),
+            PduRow(&NOP_OUT, "0:40 16:FFFFFFFF", Segment::None),
             ONE_LOGIN,
         ],
-        output: &[PduRow(
-            &NOT_IN_LOGIN,
-            &[(16, &[0xFF, 0xFF, 0xFF, 0xFF])],
-            Segment::None,
-        )],
+        output: &[PduRow(&NOT_IN_LOGIN, "16:FFFFFFFF", Segment::None)],
         ..REFUSED
     },
     Row {
         name: "a command with a CmdSN: ExpCmdSN is 0 all the same",
         input: &[
-            PduRow(
-                &TEST_UNIT_READY,
-                &[(16, &[0x0A, 0x0B, 0x0C, 0x0D]), (24, &[0, 0, 0, 0x4D])],
-                Segment::None,
-            ),
+            PduRow(&TEST_UNIT_READY, "16:0A0B0C0D 24:0000004D", Segment::None),
             ONE_LOGIN,
         ],
-        output: &[PduRow(
-            &NOT_IN_LOGIN,
-            &[(16, &[0x0A, 0x0B, 0x0C, 0x0D])],
-            Segment::None,
-        )],
+        output: &[PduRow(&NOT_IN_LOGIN, "16:0A0B0C0D", Segment::None)],
         ..REFUSED
     },
 ];
@@ -175,17 +109,14 @@ const SECOND: &[Row] = &[
         name: "a NOP-Out",
         input: &[
             TO_STAGE_1,
-            PduRow(&NOP_OUT, &[(16, &[0x0A, 0x0B, 0x0C, 0x0D])], Segment::None),
+            PduRow(&NOP_OUT, "16:0A0B0C0D", Segment::None),
             ONE_LOGIN,
         ],
         output: &[
             STAGE_1_NEXT,
             PduRow(
                 &NOT_IN_LOGIN,
-                &[
-                    (16, &[0x0A, 0x0B, 0x0C, 0x0D]),
-                    (24, &[0, 0, 0, 2, 0, 0, 0, 1, 0, 0, 0, 0x20]),
-                ],
+                "16:0A0B0C0D 24:000000020000000100000020",
                 Segment::None,
             ),
         ],
@@ -195,21 +126,14 @@ const SECOND: &[Row] = &[
         name: "a SCSI Command",
         input: &[
             TO_STAGE_1,
-            PduRow(
-                &TEST_UNIT_READY,
-                &[(16, &[0x0A, 0x0B, 0x0C, 0x0D])],
-                Segment::None,
-            ),
+            PduRow(&TEST_UNIT_READY, "16:0A0B0C0D", Segment::None),
             ONE_LOGIN,
         ],
         output: &[
             STAGE_1_NEXT,
             PduRow(
                 &NOT_IN_LOGIN,
-                &[
-                    (16, &[0x0A, 0x0B, 0x0C, 0x0D]),
-                    (24, &[0, 0, 0, 2, 0, 0, 0, 1, 0, 0, 0, 0x20]),
-                ],
+                "16:0A0B0C0D 24:000000020000000100000020",
                 Segment::None,
             ),
         ],
@@ -219,21 +143,14 @@ const SECOND: &[Row] = &[
         name: "a write with its data",
         input: &[
             TO_STAGE_1,
-            PduRow(
-                &WRITE,
-                &[(6, &[2, 0]), (16, &[0x0A, 0x0B, 0x0C, 0x0D])],
-                Segment::Pattern(512),
-            ),
+            PduRow(&WRITE, "6:0200 16:0A0B0C0D", Segment::Pattern(512)),
             ONE_LOGIN,
         ],
         output: &[
             STAGE_1_NEXT,
             PduRow(
                 &NOT_IN_LOGIN,
-                &[
-                    (16, &[0x0A, 0x0B, 0x0C, 0x0D]),
-                    (24, &[0, 0, 0, 2, 0, 0, 0, 1, 0, 0, 0, 0x20]),
-                ],
+                "16:0A0B0C0D 24:000000020000000100000020",
                 Segment::None,
             ),
         ],
@@ -243,21 +160,14 @@ const SECOND: &[Row] = &[
         name: "a task management request",
         input: &[
             TO_STAGE_1,
-            PduRow(
-                &TASK_MANAGEMENT,
-                &[(16, &[0x0A, 0x0B, 0x0C, 0x0D])],
-                Segment::None,
-            ),
+            PduRow(&TASK_MANAGEMENT, "16:0A0B0C0D", Segment::None),
             ONE_LOGIN,
         ],
         output: &[
             STAGE_1_NEXT,
             PduRow(
                 &NOT_IN_LOGIN,
-                &[
-                    (16, &[0x0A, 0x0B, 0x0C, 0x0D]),
-                    (24, &[0, 0, 0, 2, 0, 0, 0, 1, 0, 0, 0, 0x20]),
-                ],
+                "16:0A0B0C0D 24:000000020000000100000020",
                 Segment::None,
             ),
         ],
@@ -269,7 +179,7 @@ const SECOND: &[Row] = &[
             TO_STAGE_1,
             PduRow(
                 &TEXT_REQUEST,
-                &[(7, &[16]), (16, &[0x0A, 0x0B, 0x0C, 0x0D])],
+                "7:10 16:0A0B0C0D",
                 Segment::Bytes(b"SendTargets=All\0"),
             ),
             ONE_LOGIN,
@@ -278,10 +188,7 @@ const SECOND: &[Row] = &[
             STAGE_1_NEXT,
             PduRow(
                 &NOT_IN_LOGIN,
-                &[
-                    (16, &[0x0A, 0x0B, 0x0C, 0x0D]),
-                    (24, &[0, 0, 0, 2, 0, 0, 0, 1, 0, 0, 0, 0x20]),
-                ],
+                "16:0A0B0C0D 24:000000020000000100000020",
                 Segment::None,
             ),
         ],
@@ -291,21 +198,14 @@ const SECOND: &[Row] = &[
         name: "a Data-Out",
         input: &[
             TO_STAGE_1,
-            PduRow(
-                &DATA_OUT,
-                &[(6, &[2, 0]), (16, &[0x0A, 0x0B, 0x0C, 0x0D])],
-                Segment::Pattern(512),
-            ),
+            PduRow(&DATA_OUT, "6:0200 16:0A0B0C0D", Segment::Pattern(512)),
             ONE_LOGIN,
         ],
         output: &[
             STAGE_1_NEXT,
             PduRow(
                 &NOT_IN_LOGIN,
-                &[
-                    (16, &[0x0A, 0x0B, 0x0C, 0x0D]),
-                    (24, &[0, 0, 0, 2, 0, 0, 0, 1, 0, 0, 0, 0x20]),
-                ],
+                "16:0A0B0C0D 24:000000020000000100000020",
                 Segment::None,
             ),
         ],
@@ -315,17 +215,14 @@ const SECOND: &[Row] = &[
         name: "a Logout",
         input: &[
             TO_STAGE_1,
-            PduRow(&LOGOUT, &[(16, &[0x0A, 0x0B, 0x0C, 0x0D])], Segment::None),
+            PduRow(&LOGOUT, "16:0A0B0C0D", Segment::None),
             ONE_LOGIN,
         ],
         output: &[
             STAGE_1_NEXT,
             PduRow(
                 &NOT_IN_LOGIN,
-                &[
-                    (16, &[0x0A, 0x0B, 0x0C, 0x0D]),
-                    (24, &[0, 0, 0, 2, 0, 0, 0, 1, 0, 0, 0, 0x20]),
-                ],
+                "16:0A0B0C0D 24:000000020000000100000020",
                 Segment::None,
             ),
         ],
@@ -334,35 +231,19 @@ const SECOND: &[Row] = &[
     Row {
         name: "the CmdSN is that of the Login Request",
         input: &[
-            PduRow(
-                &LOGIN,
-                &[(1, &[0x81]), (7, &[67]), (24, &[0xFF, 0xFF, 0xFF, 0xFE])],
-                Segment::Bytes(NAMES),
-            ),
-            PduRow(
-                &TEST_UNIT_READY,
-                &[(16, &[0x0A, 0x0B, 0x0C, 0x0D]), (24, &[0, 0, 0, 0x4D])],
-                Segment::None,
-            ),
+            PduRow(&LOGIN, "1:81 7:43 24:FFFFFFFE", Segment::Bytes(NAMES)),
+            PduRow(&TEST_UNIT_READY, "16:0A0B0C0D 24:0000004D", Segment::None),
             ONE_LOGIN,
         ],
         output: &[
             PduRow(
                 &LOGGED_IN,
-                &[
-                    (1, &[0x81]),
-                    (7, &[23]),
-                    (14, &[0, 0]),
-                    (24, &[0, 0, 0, 1, 0xFF, 0xFF, 0xFF, 0xFE, 0, 0, 0, 0x1D]),
-                ],
+                "1:81 7:17 14:0000 24:00000001FFFFFFFE0000001D",
                 Segment::Bytes(b"TargetPortalGroupTag=1\0"),
             ),
             PduRow(
                 &NOT_IN_LOGIN,
-                &[
-                    (16, &[0x0A, 0x0B, 0x0C, 0x0D]),
-                    (24, &[0, 0, 0, 2, 0xFF, 0xFF, 0xFF, 0xFE, 0, 0, 0, 0x1D]),
-                ],
+                "16:0A0B0C0D 24:00000002FFFFFFFE0000001D",
                 Segment::None,
             ),
         ],
@@ -373,20 +254,17 @@ const SECOND: &[Row] = &[
         input: &[
             PduRow(
                 &LOGIN,
-                &[(1, &[0x44]), (7, &[25])],
+                "1:44 7:19",
                 Segment::Bytes(b"InitiatorName=iqn.2000-01"),
             ),
-            PduRow(&LOGOUT, &[(16, &[0x0A, 0x0B, 0x0C, 0x0D])], Segment::None),
+            PduRow(&LOGOUT, "16:0A0B0C0D", Segment::None),
             ONE_LOGIN,
         ],
         output: &[
-            PduRow(&LOGGED_IN, &[(1, &[4]), (14, &[0, 0])], Segment::None),
+            PduRow(&LOGGED_IN, "1:04 14:0000", Segment::None),
             PduRow(
                 &NOT_IN_LOGIN,
-                &[
-                    (16, &[0x0A, 0x0B, 0x0C, 0x0D]),
-                    (24, &[0, 0, 0, 2, 0, 0, 0, 1, 0, 0, 0, 0x20]),
-                ],
+                "16:0A0B0C0D 24:000000020000000100000020",
                 Segment::None,
             ),
         ],

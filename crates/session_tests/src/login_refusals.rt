@@ -19,144 +19,100 @@ const ROWS: &[Row] = &[
     Row {
         name: "T with C",
         input: &[
-            PduRow(
-                &LOGIN,
-                &[(1, &[0xC7]), (7, &[86])],
-                Segment::Bytes(NAMES_AND_TYPE),
-            ),
+            PduRow(&LOGIN, "1:C7 7:56", Segment::Bytes(NAMES_AND_TYPE)),
             ONE_LOGIN,
         ],
-        output: &[PduRow(&LOGIN_REFUSED, &[], Segment::None)],
+        output: &[PduRow(&LOGIN_REFUSED, "", Segment::None)],
         ..REFUSED
     },
     Row {
         name: "stage 2",
         input: &[
-            PduRow(
-                &LOGIN,
-                &[(1, &[0x8B]), (7, &[86])],
-                Segment::Bytes(NAMES_AND_TYPE),
-            ),
+            PduRow(&LOGIN, "1:8B 7:56", Segment::Bytes(NAMES_AND_TYPE)),
             ONE_LOGIN,
         ],
-        output: &[PduRow(&LOGIN_REFUSED, &[(1, &[8])], Segment::None)],
+        output: &[PduRow(&LOGIN_REFUSED, "1:08", Segment::None)],
         ..REFUSED
     },
     Row {
         name: "stage 3",
         input: &[
-            PduRow(
-                &LOGIN,
-                &[(1, &[0x8F]), (7, &[86])],
-                Segment::Bytes(NAMES_AND_TYPE),
-            ),
+            PduRow(&LOGIN, "1:8F 7:56", Segment::Bytes(NAMES_AND_TYPE)),
             ONE_LOGIN,
         ],
-        output: &[PduRow(&LOGIN_REFUSED, &[(1, &[0x0C])], Segment::None)],
+        output: &[PduRow(&LOGIN_REFUSED, "1:0C", Segment::None)],
         ..REFUSED
     },
     Row {
         name: "stage 3, without T",
         input: &[
-            PduRow(
-                &LOGIN,
-                &[(1, &[0x0C]), (7, &[86])],
-                Segment::Bytes(NAMES_AND_TYPE),
-            ),
+            PduRow(&LOGIN, "1:0C 7:56", Segment::Bytes(NAMES_AND_TYPE)),
             ONE_LOGIN,
         ],
-        output: &[PduRow(&LOGIN_REFUSED, &[(1, &[0x0C])], Segment::None)],
+        output: &[PduRow(&LOGIN_REFUSED, "1:0C", Segment::None)],
         ..REFUSED
     },
     Row {
         name: "from stage 1 to stage 1",
         input: &[
-            PduRow(
-                &LOGIN,
-                &[(1, &[0x85]), (7, &[86])],
-                Segment::Bytes(NAMES_AND_TYPE),
-            ),
+            PduRow(&LOGIN, "1:85 7:56", Segment::Bytes(NAMES_AND_TYPE)),
             ONE_LOGIN,
         ],
-        output: &[PduRow(&LOGIN_REFUSED, &[], Segment::None)],
+        output: &[PduRow(&LOGIN_REFUSED, "", Segment::None)],
         ..REFUSED
     },
     Row {
         name: "from stage 1 to stage 0",
         input: &[
-            PduRow(
-                &LOGIN,
-                &[(1, &[0x84]), (7, &[86])],
-                Segment::Bytes(NAMES_AND_TYPE),
-            ),
+            PduRow(&LOGIN, "1:84 7:56", Segment::Bytes(NAMES_AND_TYPE)),
             ONE_LOGIN,
         ],
-        output: &[PduRow(&LOGIN_REFUSED, &[], Segment::None)],
+        output: &[PduRow(&LOGIN_REFUSED, "", Segment::None)],
         ..REFUSED
     },
     Row {
         name: "from stage 1 to stage 2",
         input: &[
-            PduRow(
-                &LOGIN,
-                &[(1, &[0x86]), (7, &[86])],
-                Segment::Bytes(NAMES_AND_TYPE),
-            ),
+            PduRow(&LOGIN, "1:86 7:56", Segment::Bytes(NAMES_AND_TYPE)),
             ONE_LOGIN,
         ],
-        output: &[PduRow(&LOGIN_REFUSED, &[], Segment::None)],
+        output: &[PduRow(&LOGIN_REFUSED, "", Segment::None)],
         ..REFUSED
     },
     Row {
         name: "from stage 0 to stage 0",
         input: &[
-            PduRow(
-                &LOGIN,
-                &[(1, &[0x80]), (7, &[86])],
-                Segment::Bytes(NAMES_AND_TYPE),
-            ),
+            PduRow(&LOGIN, "1:80 7:56", Segment::Bytes(NAMES_AND_TYPE)),
             ONE_LOGIN,
         ],
-        output: &[PduRow(&LOGIN_REFUSED, &[(1, &[0])], Segment::None)],
+        output: &[PduRow(&LOGIN_REFUSED, "1:00", Segment::None)],
         ..REFUSED
     },
     Row {
         name: "from stage 0 to stage 2",
         input: &[
-            PduRow(
-                &LOGIN,
-                &[(1, &[0x82]), (7, &[86])],
-                Segment::Bytes(NAMES_AND_TYPE),
-            ),
+            PduRow(&LOGIN, "1:82 7:56", Segment::Bytes(NAMES_AND_TYPE)),
             ONE_LOGIN,
         ],
-        output: &[PduRow(&LOGIN_REFUSED, &[(1, &[0])], Segment::None)],
+        output: &[PduRow(&LOGIN_REFUSED, "1:00", Segment::None)],
         ..REFUSED
     },
     Row {
         name: "C in stage 2",
         input: &[
-            PduRow(
-                &LOGIN,
-                &[(1, &[0x48]), (7, &[86])],
-                Segment::Bytes(NAMES_AND_TYPE),
-            ),
+            PduRow(&LOGIN, "1:48 7:56", Segment::Bytes(NAMES_AND_TYPE)),
             ONE_LOGIN,
         ],
-        output: &[PduRow(&LOGIN_REFUSED, &[(1, &[8])], Segment::None)],
+        output: &[PduRow(&LOGIN_REFUSED, "1:08", Segment::None)],
         ..REFUSED
     },
     Row {
         name: "Version-min 1",
         input: &[
-            PduRow(
-                &LOGIN,
-                &[(3, &[1]), (7, &[86])],
-                Segment::Bytes(NAMES_AND_TYPE),
-            ),
+            PduRow(&LOGIN, "3:01 7:56", Segment::Bytes(NAMES_AND_TYPE)),
             ONE_LOGIN,
         ],
-        output: &[PduRow(&LOGIN_REFUSED, &[(37, &[5])], Segment::None)],
+        output: &[PduRow(&LOGIN_REFUSED, "37:05", Segment::None)],
         ..REFUSED
     },
     Row {
@@ -164,7 +120,7 @@ const ROWS: &[Row] = &[
         input: &[
             PduRow(
                 &LOGIN,
-                &[(3, &[0xFF]), (6, &[0x20, 1])],
+                "3:FF 6:2001",
                 Segment::BytesAndRuns(
                     b"InitiatorName=iqn.2000-01.test:a\0TargetName=iqn.2000-01.test:array\0X-a=",
                     &[(8121, b'a'), (1, 0)],
@@ -172,29 +128,25 @@ const ROWS: &[Row] = &[
             ),
             ONE_LOGIN,
         ],
-        output: &[PduRow(&LOGIN_REFUSED, &[(37, &[5])], Segment::None)],
+        output: &[PduRow(&LOGIN_REFUSED, "37:05", Segment::None)],
         ..REFUSED
     },
     Row {
         name: "the flags come first, then the version, then the names",
         input: &[
-            PduRow(
-                &LOGIN,
-                &[(1, &[0x84]), (3, &[1]), (7, &[6])],
-                Segment::Bytes(b"X-a=1\0"),
-            ),
+            PduRow(&LOGIN, "1:84 3:01 7:06", Segment::Bytes(b"X-a=1\0")),
             ONE_LOGIN,
         ],
-        output: &[PduRow(&LOGIN_REFUSED, &[], Segment::None)],
+        output: &[PduRow(&LOGIN_REFUSED, "", Segment::None)],
         ..REFUSED
     },
     Row {
         name: "the version comes before the names",
         input: &[
-            PduRow(&LOGIN, &[(3, &[1]), (7, &[6])], Segment::Bytes(b"X-a=1\0")),
+            PduRow(&LOGIN, "3:01 7:06", Segment::Bytes(b"X-a=1\0")),
             ONE_LOGIN,
         ],
-        output: &[PduRow(&LOGIN_REFUSED, &[(37, &[5])], Segment::None)],
+        output: &[PduRow(&LOGIN_REFUSED, "37:05", Segment::None)],
         ..REFUSED
     },
     Row {
@@ -202,26 +154,14 @@ const ROWS: &[Row] = &[
         input: &[
             PduRow(
                 &LOGIN,
-                &[
-                    (1, &[0x81]),
-                    (7, &[6]),
-                    (8, &[0x80, 0x12, 0x34, 0x56, 0x78, 0x9A, 0x12, 0x34]),
-                    (16, &[0x0A, 0x0B, 0x0C, 0x0D]),
-                    (24, &[1, 2, 3, 4]),
-                ],
+                "1:81 7:06 8:80123456789A1234 16:0A0B0C0D 24:01020304",
                 Segment::Bytes(b"X-a=1\0"),
             ),
             ONE_LOGIN,
         ],
         output: &[PduRow(
             &LOGIN_REFUSED,
-            &[
-                (1, &[0]),
-                (8, &[0x80, 0x12, 0x34, 0x56, 0x78, 0x9A, 0x12, 0x34]),
-                (16, &[0x0A, 0x0B, 0x0C, 0x0D]),
-                (24, &[0, 0, 0, 1, 1, 2, 3, 4, 1, 2, 3, 0x23]),
-                (37, &[7]),
-            ],
+            "1:00 8:80123456789A1234 16:0A0B0C0D 24:000000010102030401020323 37:07",
             Segment::None,
         )],
         ..REFUSED

@@ -11,7 +11,7 @@ const ROWS: &[Row] = &[
         input: &[
             PduRow(
                 &LOGIN,
-                &[(1, &[0x81]), (7, &[102])],
+                "1:81 7:66",
                 Segment::Bytes(
                     b"InitiatorName=iqn.2000-01.test:a\0TargetName=iqn.2000-01.test:array\0\
                     SessionType=Normal\0AuthMethod=None\0",
@@ -19,7 +19,7 @@ const ROWS: &[Row] = &[
             ),
             PduRow(
                 &LOGIN,
-                &[(7, &[205])],
+                "7:CD",
                 Segment::Bytes(
                     b"InitiatorName=iqn.2000-01.test:a\0TargetName=iqn.2000-01.test:array\0\
                     SessionType=Normal\0HeaderDigest=CRC32C,None\0InitialR2T=No\0\
@@ -30,12 +30,12 @@ const ROWS: &[Row] = &[
         output: &[
             PduRow(
                 &LOGGED_IN,
-                &[(1, &[0x81]), (7, &[39]), (14, &[0, 0])],
+                "1:81 7:27 14:0000",
                 Segment::Bytes(b"TargetPortalGroupTag=1\0AuthMethod=None\0"),
             ),
             PduRow(
                 &LOGGED_IN,
-                &[(7, &[109]), (24, &[0, 0, 0, 2])],
+                "7:6D 24:00000002",
                 Segment::Bytes(
                     b"MaxRecvDataSegmentLength=65536\0HeaderDigest=None\0InitialR2T=Yes\0\
                     MaxBurstLength=262144\0FirstBurstLength=65536\0",
@@ -50,7 +50,7 @@ const ROWS: &[Row] = &[
             TO_STAGE_1,
             PduRow(
                 &LOGIN,
-                &[(7, &[85])],
+                "7:55",
                 Segment::Bytes(
                     b"InitiatorName=iqn.2000-01.test:b\0TargetName=iqn.2000-01.test:b\0\
                     SessionType=Discovery\0",
@@ -61,7 +61,7 @@ const ROWS: &[Row] = &[
             STAGE_1_NEXT,
             PduRow(
                 &LOGGED_IN,
-                &[(7, &[31]), (24, &[0, 0, 0, 2])],
+                "7:1F 24:00000002",
                 Segment::Bytes(b"MaxRecvDataSegmentLength=65536\0"),
             ),
         ],
@@ -70,44 +70,32 @@ const ROWS: &[Row] = &[
     Row {
         name: "requests that stay in their stage; NSG is not looked at then, and 0 in the response",
         input: &[
-            PduRow(&LOGIN, &[(1, &[0]), (7, &[67])], Segment::Bytes(NAMES)),
-            PduRow(&LOGIN, &[(1, &[3])], Segment::None),
-            PduRow(&LOGIN, &[(1, &[0x81])], Segment::None),
-            PduRow(&LOGIN, &[(1, &[4])], Segment::None),
-            PduRow(
-                &LOGIN,
-                &[(1, &[7]), (7, &[17])],
-                Segment::Bytes(b"ImmediateData=No\0"),
-            ),
-            PduRow(&LOGIN, &[], Segment::None),
+            PduRow(&LOGIN, "1:00 7:43", Segment::Bytes(NAMES)),
+            PduRow(&LOGIN, "1:03", Segment::None),
+            PduRow(&LOGIN, "1:81", Segment::None),
+            PduRow(&LOGIN, "1:04", Segment::None),
+            PduRow(&LOGIN, "1:07 7:11", Segment::Bytes(b"ImmediateData=No\0")),
+            PduRow(&LOGIN, "", Segment::None),
         ],
         output: &[
             PduRow(
                 &LOGGED_IN,
-                &[(1, &[0]), (7, &[23]), (14, &[0, 0])],
+                "1:00 7:17 14:0000",
                 Segment::Bytes(b"TargetPortalGroupTag=1\0"),
             ),
+            PduRow(&LOGGED_IN, "1:00 14:0000 24:00000002", Segment::None),
+            PduRow(&LOGGED_IN, "1:81 14:0000 24:00000003", Segment::None),
             PduRow(
                 &LOGGED_IN,
-                &[(1, &[0]), (14, &[0, 0]), (24, &[0, 0, 0, 2])],
-                Segment::None,
-            ),
-            PduRow(
-                &LOGGED_IN,
-                &[(1, &[0x81]), (14, &[0, 0]), (24, &[0, 0, 0, 3])],
-                Segment::None,
-            ),
-            PduRow(
-                &LOGGED_IN,
-                &[(1, &[4]), (7, &[31]), (14, &[0, 0]), (24, &[0, 0, 0, 4])],
+                "1:04 7:1F 14:0000 24:00000004",
                 Segment::Bytes(b"MaxRecvDataSegmentLength=65536\0"),
             ),
             PduRow(
                 &LOGGED_IN,
-                &[(1, &[4]), (7, &[17]), (14, &[0, 0]), (24, &[0, 0, 0, 5])],
+                "1:04 7:11 14:0000 24:00000005",
                 Segment::Bytes(b"ImmediateData=No\0"),
             ),
-            PduRow(&LOGGED_IN, &[(24, &[0, 0, 0, 6])], Segment::None),
+            PduRow(&LOGGED_IN, "24:00000006", Segment::None),
         ],
         ..BY_LOGIN
     },
@@ -116,46 +104,30 @@ const ROWS: &[Row] = &[
         input: &[
             PduRow(
                 &LOGIN,
-                &[(1, &[0x40]), (7, &[25])],
+                "1:40 7:19",
                 Segment::Bytes(b"InitiatorName=iqn.2000-01"),
             ),
             PduRow(
                 &LOGIN,
-                &[(1, &[0x40]), (7, &[46])],
+                "1:40 7:2E",
                 Segment::Bytes(b".test:a\0TargetName=iqn.2000-01.test:array\0Auth"),
             ),
-            PduRow(
-                &LOGIN,
-                &[(1, &[0x81]), (7, &[12])],
-                Segment::Bytes(b"Method=None\0"),
-            ),
-            PduRow(
-                &LOGIN,
-                &[(1, &[0x44]), (7, &[15])],
-                Segment::Bytes(b"ImmediateData=N"),
-            ),
-            PduRow(&LOGIN, &[(7, &[2])], Segment::Bytes(b"o\0")),
+            PduRow(&LOGIN, "1:81 7:0C", Segment::Bytes(b"Method=None\0")),
+            PduRow(&LOGIN, "1:44 7:0F", Segment::Bytes(b"ImmediateData=N")),
+            PduRow(&LOGIN, "7:02", Segment::Bytes(b"o\0")),
         ],
         output: &[
-            PduRow(&LOGGED_IN, &[(1, &[0]), (14, &[0, 0])], Segment::None),
+            PduRow(&LOGGED_IN, "1:00 14:0000", Segment::None),
+            PduRow(&LOGGED_IN, "1:00 14:0000 24:00000002", Segment::None),
             PduRow(
                 &LOGGED_IN,
-                &[(1, &[0]), (14, &[0, 0]), (24, &[0, 0, 0, 2])],
-                Segment::None,
-            ),
-            PduRow(
-                &LOGGED_IN,
-                &[(1, &[0x81]), (7, &[39]), (14, &[0, 0]), (24, &[0, 0, 0, 3])],
+                "1:81 7:27 14:0000 24:00000003",
                 Segment::Bytes(b"TargetPortalGroupTag=1\0AuthMethod=None\0"),
             ),
+            PduRow(&LOGGED_IN, "1:04 14:0000 24:00000004", Segment::None),
             PduRow(
                 &LOGGED_IN,
-                &[(1, &[4]), (14, &[0, 0]), (24, &[0, 0, 0, 4])],
-                Segment::None,
-            ),
-            PduRow(
-                &LOGGED_IN,
-                &[(7, &[48]), (24, &[0, 0, 0, 5])],
+                "7:30 24:00000005",
                 Segment::Bytes(b"MaxRecvDataSegmentLength=65536\0ImmediateData=No\0"),
             ),
         ],
@@ -166,36 +138,29 @@ const ROWS: &[Row] = &[
         input: &[
             PduRow(
                 &LOGIN,
-                &[(1, &[0x44]), (7, &[39])],
+                "1:44 7:27",
                 Segment::Bytes(b"InitiatorName=iqn.2000-01.test:a\0Target"),
             ),
             PduRow(
                 &LOGIN,
-                &[(7, &[28])],
+                "7:1C",
                 Segment::Bytes(b"Name=iqn.2000-01.test:array\0"),
             ),
         ],
         output: &[
-            PduRow(&LOGGED_IN, &[(1, &[4]), (14, &[0, 0])], Segment::None),
-            PduRow(
-                &LOGGED_IN,
-                &[(7, &[54]), (24, &[0, 0, 0, 2])],
-                Segment::Bytes(SAID),
-            ),
+            PduRow(&LOGGED_IN, "1:04 14:0000", Segment::None),
+            PduRow(&LOGGED_IN, "7:36 24:00000002", Segment::Bytes(SAID)),
         ],
         ..BY_LOGIN
     },
     Row {
         name: "Version-min and TSIH of a later request are not looked at",
-        input: &[
-            TO_STAGE_1,
-            PduRow(&LOGIN, &[(3, &[1]), (14, &[0, 7])], Segment::None),
-        ],
+        input: &[TO_STAGE_1, PduRow(&LOGIN, "3:01 14:0007", Segment::None)],
         output: &[
             STAGE_1_NEXT,
             PduRow(
                 &LOGGED_IN,
-                &[(7, &[31]), (24, &[0, 0, 0, 2])],
+                "7:1F 24:00000002",
                 Segment::Bytes(b"MaxRecvDataSegmentLength=65536\0"),
             ),
         ],
@@ -204,36 +169,23 @@ const ROWS: &[Row] = &[
     Row {
         name: "the CmdSN of the first request alone counts",
         input: &[
-            PduRow(
-                &LOGIN,
-                &[(1, &[0x81]), (7, &[67]), (24, &[0, 0, 0, 7])],
-                Segment::Bytes(NAMES),
-            ),
-            PduRow(&LOGIN, &[(24, &[0, 0, 0, 9])], Segment::None),
-            PduRow(&TEST_UNIT_READY, &[(24, &[0, 0, 0, 7])], Segment::None),
+            PduRow(&LOGIN, "1:81 7:43 24:00000007", Segment::Bytes(NAMES)),
+            PduRow(&LOGIN, "24:00000009", Segment::None),
+            PduRow(&TEST_UNIT_READY, "24:00000007", Segment::None),
         ],
         asked: &[TEST],
         output: &[
             PduRow(
                 &LOGGED_IN,
-                &[
-                    (1, &[0x81]),
-                    (7, &[23]),
-                    (14, &[0, 0]),
-                    (24, &[0, 0, 0, 1, 0, 0, 0, 7, 0, 0, 0, 0x26]),
-                ],
+                "1:81 7:17 14:0000 24:000000010000000700000026",
                 Segment::Bytes(b"TargetPortalGroupTag=1\0"),
             ),
             PduRow(
                 &LOGGED_IN,
-                &[(7, &[31]), (24, &[0, 0, 0, 2, 0, 0, 0, 7, 0, 0, 0, 0x26])],
+                "7:1F 24:000000020000000700000026",
                 Segment::Bytes(b"MaxRecvDataSegmentLength=65536\0"),
             ),
-            PduRow(
-                &GOOD,
-                &[(24, &[0, 0, 0, 3, 0, 0, 0, 8, 0, 0, 0, 0x27])],
-                Segment::None,
-            ),
+            PduRow(&GOOD, "24:000000030000000800000027", Segment::None),
         ],
         ..BY_LOGIN
     },

@@ -15,18 +15,18 @@ const SESSION: Row = Row {
     name: "two requests and a command",
     input: &[
         TO_STAGE_1,
-        PduRow(&LOGIN, &[], Segment::None),
-        PduRow(&TEST_UNIT_READY, &[], Segment::None),
+        PduRow(&LOGIN, "", Segment::None),
+        PduRow(&TEST_UNIT_READY, "", Segment::None),
     ],
     asked: &[TEST],
     output: &[
         STAGE_1_NEXT,
         PduRow(
             &LOGGED_IN,
-            &[(7, &[31]), (24, &[0, 0, 0, 2])],
+            "7:1F 24:00000002",
             Segment::Bytes(b"MaxRecvDataSegmentLength=65536\0"),
         ),
-        PduRow(&GOOD, &[(24, &[0, 0, 0, 3])], Segment::None),
+        PduRow(&GOOD, "24:00000003", Segment::None),
     ],
     ..BY_LOGIN
 };
@@ -110,7 +110,7 @@ fn forties(fail_at: u64) -> Calls {
 // A PDU with an opcode that there is not, in place of a Login Request.
 const UNKNOWN: Row = Row {
     name: "an unknown opcode",
-    input: &[PduRow(&LOGIN, &[(0, &[0x07])], Segment::None)],
+    input: &[PduRow(&LOGIN, "0:07", Segment::None)],
     ..BY_LOGIN
 };
 

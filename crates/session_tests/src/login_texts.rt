@@ -12,14 +12,14 @@ const ROWS: &[Row] = &[
         input: &[
             PduRow(
                 &LOGIN,
-                &[(7, &[71])],
+                "7:47",
                 Segment::Bytes(
                     b"InitiatorName=iqn.2000-01.test:a\0TargetName=iqn.2000-01.test:array\0X-a\0",
                 ),
             ),
             ONE_LOGIN,
         ],
-        output: &[PduRow(&LOGIN_REFUSED, &[], Segment::None)],
+        output: &[PduRow(&LOGIN_REFUSED, "", Segment::None)],
         ..REFUSED
     },
     Row {
@@ -27,14 +27,14 @@ const ROWS: &[Row] = &[
         input: &[
             PduRow(
                 &LOGIN,
-                &[(7, &[70])],
+                "7:46",
                 Segment::Bytes(
                     b"InitiatorName=iqn.2000-01.test:a\0TargetName=iqn.2000-01.test:array\0=1\0",
                 ),
             ),
             ONE_LOGIN,
         ],
-        output: &[PduRow(&LOGIN_REFUSED, &[], Segment::None)],
+        output: &[PduRow(&LOGIN_REFUSED, "", Segment::None)],
         ..REFUSED
     },
     Row {
@@ -42,7 +42,7 @@ const ROWS: &[Row] = &[
         input: &[
             PduRow(
                 &LOGIN,
-                &[(7, &[134])],
+                "7:86",
                 Segment::Bytes(
                     b"InitiatorName=iqn.2000-01.test:a\0TargetName=iqn.2000-01.test:array\0\
                     X-aaaaaaaaaaaaaaaaaaaaaaaaaaaaaaaaaaaaaaaaaaaaaaaaaaaaaaaaaaaaaa=1\0",
@@ -50,7 +50,7 @@ const ROWS: &[Row] = &[
             ),
             ONE_LOGIN,
         ],
-        output: &[PduRow(&LOGIN_REFUSED, &[], Segment::None)],
+        output: &[PduRow(&LOGIN_REFUSED, "", Segment::None)],
         ..REFUSED
     },
     Row {
@@ -58,14 +58,14 @@ const ROWS: &[Row] = &[
         input: &[
             PduRow(
                 &LOGIN,
-                &[(7, &[68])],
+                "7:44",
                 Segment::Bytes(
                     b"InitiatorName=iqn.2000-01.test:a\0TargetName=iqn.2000-01.test:array\0\0",
                 ),
             ),
             ONE_LOGIN,
         ],
-        output: &[PduRow(&LOGIN_REFUSED, &[], Segment::None)],
+        output: &[PduRow(&LOGIN_REFUSED, "", Segment::None)],
         ..REFUSED
     },
     Row {
@@ -73,7 +73,7 @@ const ROWS: &[Row] = &[
         input: &[
             PduRow(
                 &LOGIN,
-                &[(7, &[85])],
+                "7:55",
                 Segment::Bytes(
                     b"InitiatorName=iqn.2000-01.test:a\0TargetName=iqn.2000-01.test:array\0\
                     SessionType=Normal",
@@ -81,7 +81,7 @@ const ROWS: &[Row] = &[
             ),
             ONE_LOGIN,
         ],
-        output: &[PduRow(&LOGIN_REFUSED, &[], Segment::None)],
+        output: &[PduRow(&LOGIN_REFUSED, "", Segment::None)],
         ..REFUSED
     },
     Row {
@@ -89,7 +89,7 @@ const ROWS: &[Row] = &[
         input: &[
             PduRow(
                 &LOGIN,
-                &[(7, &[103])],
+                "7:67",
                 Segment::Bytes(
                     b"InitiatorName=iqn.2000-01.test:a\0TargetName=iqn.2000-01.test:array\0\
                     ImmediateData=Yes\0ImmediateData=Yes\0",
@@ -97,7 +97,7 @@ const ROWS: &[Row] = &[
             ),
             ONE_LOGIN,
         ],
-        output: &[PduRow(&LOGIN_REFUSED, &[], Segment::None)],
+        output: &[PduRow(&LOGIN_REFUSED, "", Segment::None)],
         ..REFUSED
     },
     Row {
@@ -105,14 +105,14 @@ const ROWS: &[Row] = &[
         input: &[
             PduRow(
                 &LOGIN,
-                &[(7, &[79])],
+                "7:4F",
                 Segment::Bytes(
                     b"InitiatorName=iqn.2000-01.test:a\0TargetName=iqn.2000-01.test:array\0X-a=1\0X-a=2\0",
                 ),
             ),
             ONE_LOGIN,
         ],
-        output: &[PduRow(&LOGIN_REFUSED, &[], Segment::None)],
+        output: &[PduRow(&LOGIN_REFUSED, "", Segment::None)],
         ..REFUSED
     },
     Row {
@@ -120,7 +120,7 @@ const ROWS: &[Row] = &[
         input: &[
             PduRow(
                 &LOGIN,
-                &[(7, &[100])],
+                "7:64",
                 Segment::Bytes(
                     b"InitiatorName=iqn.2000-01.test:a\0TargetName=iqn.2000-01.test:array\0\
                     InitiatorName=iqn.2000-01.test:a\0",
@@ -128,7 +128,7 @@ const ROWS: &[Row] = &[
             ),
             ONE_LOGIN,
         ],
-        output: &[PduRow(&LOGIN_REFUSED, &[], Segment::None)],
+        output: &[PduRow(&LOGIN_REFUSED, "", Segment::None)],
         ..REFUSED
     },
     Row {
@@ -136,7 +136,7 @@ const ROWS: &[Row] = &[
         input: &[
             PduRow(
                 &LOGIN,
-                &[(6, &[1, 0x7E])],
+                "6:017E",
                 Segment::Bytes(
                     b"InitiatorName=iqn.2000-01.test:a\0TargetName=iqn.2000-01.test:array\0k00=\0k01=\0\
                     k02=\0k03=\0k04=\0k05=\0k06=\0k07=\0k08=\0k09=\0k10=\0k11=\0k12=\0k13=\0k14=\0k15=\0\
@@ -148,7 +148,7 @@ const ROWS: &[Row] = &[
             ),
             ONE_LOGIN,
         ],
-        output: &[PduRow(&LOGIN_REFUSED, &[], Segment::None)],
+        output: &[PduRow(&LOGIN_REFUSED, "", Segment::None)],
         ..REFUSED
     },
     Row {
@@ -156,7 +156,7 @@ const ROWS: &[Row] = &[
         input: &[
             PduRow(
                 &LOGIN,
-                &[(6, &[0x20, 1])],
+                "6:2001",
                 Segment::BytesAndRuns(
                     b"InitiatorName=iqn.2000-01.test:a\0TargetName=iqn.2000-01.test:array\0X-a=",
                     &[(8121, b'a'), (1, 0)],
@@ -164,7 +164,7 @@ const ROWS: &[Row] = &[
             ),
             ONE_LOGIN,
         ],
-        output: &[PduRow(&LOGIN_REFUSED, &[], Segment::None)],
+        output: &[PduRow(&LOGIN_REFUSED, "", Segment::None)],
         ..REFUSED
     },
     Row {
@@ -172,7 +172,7 @@ const ROWS: &[Row] = &[
         input: &[
             PduRow(
                 &LOGIN,
-                &[(5, &[1, 0, 0])],
+                "5:010000",
                 Segment::BytesAndRuns(
                     b"InitiatorName=iqn.2000-01.test:a\0TargetName=iqn.2000-01.test:array\0X-a=",
                     &[(65464, b'a'), (1, 0)],
@@ -180,7 +180,7 @@ const ROWS: &[Row] = &[
             ),
             ONE_LOGIN,
         ],
-        output: &[PduRow(&LOGIN_REFUSED, &[], Segment::None)],
+        output: &[PduRow(&LOGIN_REFUSED, "", Segment::None)],
         ..REFUSED
     },
     Row {
@@ -188,12 +188,12 @@ const ROWS: &[Row] = &[
         input: &[
             PduRow(
                 &LOGIN,
-                &[(7, &[49])],
+                "7:31",
                 Segment::Bytes(b"InitiatorName=\0TargetName=iqn.2000-01.test:array\0"),
             ),
             ONE_LOGIN,
         ],
-        output: &[PduRow(&LOGIN_REFUSED, &[], Segment::None)],
+        output: &[PduRow(&LOGIN_REFUSED, "", Segment::None)],
         ..REFUSED
     },
     Row {
@@ -201,7 +201,7 @@ const ROWS: &[Row] = &[
         input: &[
             PduRow(
                 &LOGIN,
-                &[(6, &[1, 0x11])],
+                "6:0111",
                 Segment::BytesAndRuns(
                     b"TargetName=iqn.2000-01.test:array\0InitiatorName=",
                     &[(224, b'a'), (1, 0)],
@@ -209,7 +209,7 @@ const ROWS: &[Row] = &[
             ),
             ONE_LOGIN,
         ],
-        output: &[PduRow(&LOGIN_REFUSED, &[], Segment::None)],
+        output: &[PduRow(&LOGIN_REFUSED, "", Segment::None)],
         ..REFUSED
     },
     Row {
@@ -217,7 +217,7 @@ const ROWS: &[Row] = &[
         input: &[
             PduRow(
                 &LOGIN,
-                &[(6, &[1, 0x0D])],
+                "6:010D",
                 Segment::BytesAndRuns(
                     b"InitiatorName=iqn.2000-01.test:a\0TargetName=",
                     &[(224, b'a'), (1, 0)],
@@ -225,7 +225,7 @@ const ROWS: &[Row] = &[
             ),
             ONE_LOGIN,
         ],
-        output: &[PduRow(&LOGIN_REFUSED, &[], Segment::None)],
+        output: &[PduRow(&LOGIN_REFUSED, "", Segment::None)],
         ..REFUSED
     },
 ];

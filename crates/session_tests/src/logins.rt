@@ -20,16 +20,16 @@ pub const NAMES_AND_TYPE: &[u8] =
 pub const SAID: &[u8] = b"TargetPortalGroupTag=1\0MaxRecvDataSegmentLength=65536\0";
 
 /// A login of one request, and its response.
-pub const ONE_LOGIN: PduRow = PduRow(&LOGIN, &[(7, &[86])], Segment::Bytes(NAMES_AND_TYPE));
+pub const ONE_LOGIN: PduRow = PduRow(&LOGIN, "7:56", Segment::Bytes(NAMES_AND_TYPE));
 
-pub const BEGUN: PduRow = PduRow(&LOGGED_IN, &[(7, &[54])], Segment::Bytes(SAID));
+pub const BEGUN: PduRow = PduRow(&LOGGED_IN, "7:36", Segment::Bytes(SAID));
 
 /// A request of stage 0 alone, to go on in stage 1, and its response.
-pub const TO_STAGE_1: PduRow = PduRow(&LOGIN, &[(1, &[0x81]), (7, &[67])], Segment::Bytes(NAMES));
+pub const TO_STAGE_1: PduRow = PduRow(&LOGIN, "1:81 7:43", Segment::Bytes(NAMES));
 
 pub const STAGE_1_NEXT: PduRow = PduRow(
     &LOGGED_IN,
-    &[(1, &[0x81]), (7, &[23]), (14, &[0, 0])],
+    "1:81 7:17 14:0000",
     Segment::Bytes(b"TargetPortalGroupTag=1\0"),
 );
 
@@ -52,17 +52,13 @@ const ONE_REQUEST: &[Row] = &[
     BY_LOGIN,
     Row {
         name: "without SessionType it is a normal session",
-        input: &[PduRow(&LOGIN, &[(7, &[67])], Segment::Bytes(NAMES))],
+        input: &[PduRow(&LOGIN, "7:43", Segment::Bytes(NAMES))],
         ..BY_LOGIN
     },
     Row {
         name: "the target gives the last TSIH",
         begin: BeginAnswer::Begun(65535),
-        output: &[PduRow(
-            &LOGGED_IN,
-            &[(7, &[54]), (14, &[0xFF, 0xFF])],
-            Segment::Bytes(SAID),
-        )],
+        output: &[PduRow(&LOGGED_IN, "7:36 14:FFFF", Segment::Bytes(SAID))],
         ..BY_LOGIN
     },
     Row {
@@ -70,7 +66,7 @@ const ONE_REQUEST: &[Row] = &[
         login: Some(2),
         output: &[PduRow(
             &LOGGED_IN,
-            &[(7, &[54])],
+            "7:36",
             Segment::Bytes(b"TargetPortalGroupTag=2\0MaxRecvDataSegmentLength=65536\0"),
         )],
         ..BY_LOGIN
@@ -79,14 +75,7 @@ const ONE_REQUEST: &[Row] = &[
         name: "another ISID and tag; Version-max, CID and ExpStatSN are not looked at",
         input: &[PduRow(
             &LOGIN,
-            &[
-                (2, &[5]),
-                (7, &[86]),
-                (8, &[0x80, 0x12, 0x34, 0x56, 0x78, 0x9A]),
-                (16, &[0x0A, 0x0B, 0x0C, 0x0D]),
-                (20, &[0, 9]),
-                (28, &[1, 2, 3, 4]),
-            ],
+            "2:05 7:56 8:80123456789A 16:0A0B0C0D 20:0009 28:01020304",
             Segment::Bytes(NAMES_AND_TYPE),
         )],
         calls: &[LoginCall::Begin {
@@ -96,11 +85,7 @@ const ONE_REQUEST: &[Row] = &[
         }],
         output: &[PduRow(
             &LOGGED_IN,
-            &[
-                (7, &[54]),
-                (8, &[0x80, 0x12, 0x34, 0x56, 0x78, 0x9A]),
-                (16, &[0x0A, 0x0B, 0x0C, 0x0D]),
-            ],
+            "7:36 8:80123456789A 16:0A0B0C0D",
             Segment::Bytes(SAID),
         )],
         ..BY_LOGIN
@@ -109,7 +94,7 @@ const ONE_REQUEST: &[Row] = &[
         name: "from stage 0 straight to full feature phase: the target does not say its length",
         input: &[PduRow(
             &LOGIN,
-            &[(1, &[0x83]), (7, &[83])],
+            "1:83 7:53",
             Segment::Bytes(
                 b"InitiatorName=iqn.2000-01.test:a\0TargetName=iqn.2000-01.test:array\0\
                 AuthMethod=None\0",
@@ -117,7 +102,7 @@ const ONE_REQUEST: &[Row] = &[
         )],
         output: &[PduRow(
             &LOGGED_IN,
-            &[(1, &[0x83]), (7, &[39])],
+            "1:83 7:27",
             Segment::Bytes(b"TargetPortalGroupTag=1\0AuthMethod=None\0"),
         )],
         ..BY_LOGIN
@@ -126,7 +111,7 @@ const ONE_REQUEST: &[Row] = &[
         name: "a key of 63 bytes that nobody knows",
         input: &[PduRow(
             &LOGIN,
-            &[(7, &[133])],
+            "7:85",
             Segment::Bytes(
                 b"InitiatorName=iqn.2000-01.test:a\0TargetName=iqn.2000-01.test:array\0\
                 X-aaaaaaaaaaaaaaaaaaaaaaaaaaaaaaaaaaaaaaaaaaaaaaaaaaaaaaaaaaaaa=1\0",
@@ -134,7 +119,7 @@ const ONE_REQUEST: &[Row] = &[
         )],
         output: &[PduRow(
             &LOGGED_IN,
-            &[(7, &[132])],
+            "7:84",
             Segment::Bytes(
                 b"TargetPortalGroupTag=1\0MaxRecvDataSegmentLength=65536\0\
                 X-aaaaaaaaaaaaaaaaaaaaaaaaaaaaaaaaaaaaaaaaaaaaaaaaaaaaaaaaaaaaa=NotUnderstood\0",
@@ -146,7 +131,7 @@ const ONE_REQUEST: &[Row] = &[
         name: "a name of 223 bytes",
         input: &[PduRow(
             &LOGIN,
-            &[(6, &[1, 0x10])],
+            "6:0110",
             Segment::BytesAndRuns(
                 b"TargetName=iqn.2000-01.test:array\0InitiatorName=",
                 &[(223, b'a'), (1, 0)],
@@ -163,7 +148,7 @@ const ONE_REQUEST: &[Row] = &[
         name: "64 pairs",
         input: &[PduRow(
             &LOGIN,
-            &[(6, &[1, 0x79])],
+            "6:0179",
             Segment::Bytes(
                 b"InitiatorName=iqn.2000-01.test:a\0TargetName=iqn.2000-01.test:array\0k00=\0k01=\0\
                 k02=\0k03=\0k04=\0k05=\0k06=\0k07=\0k08=\0k09=\0k10=\0k11=\0k12=\0k13=\0k14=\0k15=\0\
@@ -175,7 +160,7 @@ const ONE_REQUEST: &[Row] = &[
         )],
         output: &[PduRow(
             &LOGGED_IN,
-            &[(6, &[4, 0x92])],
+            "6:0492",
             Segment::Bytes(
                 b"TargetPortalGroupTag=1\0MaxRecvDataSegmentLength=65536\0k00=NotUnderstood\0\
                 k01=NotUnderstood\0k02=NotUnderstood\0k03=NotUnderstood\0k04=NotUnderstood\0\
@@ -202,7 +187,7 @@ const ONE_REQUEST: &[Row] = &[
         name: "8192 bytes",
         input: &[PduRow(
             &LOGIN,
-            &[(6, &[0x20, 0])],
+            "6:2000",
             Segment::BytesAndRuns(
                 b"InitiatorName=iqn.2000-01.test:a\0TargetName=iqn.2000-01.test:array\0X-a=",
                 &[(8120, b'a'), (1, 0)],
@@ -210,7 +195,7 @@ const ONE_REQUEST: &[Row] = &[
         )],
         output: &[PduRow(
             &LOGGED_IN,
-            &[(7, &[72])],
+            "7:48",
             Segment::Bytes(
                 b"TargetPortalGroupTag=1\0MaxRecvDataSegmentLength=65536\0X-a=NotUnderstood\0",
             ),

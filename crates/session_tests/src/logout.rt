@@ -28,55 +28,51 @@ const ROWS: &[Row] = &[
     Row {
         name: "reason 0 closes the session, and nothing behind it is served",
         input: &[
-            PduRow(&LOGOUT, &[], Segment::None),
-            PduRow(&TEST_UNIT_READY, &[(24, &[0, 0, 0, 2])], Segment::None),
+            PduRow(&LOGOUT, "", Segment::None),
+            PduRow(&TEST_UNIT_READY, "24:00000002", Segment::None),
         ],
         asked: &[],
-        output: &[PduRow(&RESPONSE, &[], Segment::None)],
+        output: &[PduRow(&RESPONSE, "", Segment::None)],
         end: End::LoggedOut,
         ..PLAIN
     },
     Row {
         name: "reason 1 closes the connection, which is the only one",
-        input: &[PduRow(&LOGOUT, &[(1, &[0x81])], Segment::None)],
+        input: &[PduRow(&LOGOUT, "1:81", Segment::None)],
         asked: &[],
-        output: &[PduRow(&RESPONSE, &[], Segment::None)],
+        output: &[PduRow(&RESPONSE, "", Segment::None)],
         end: End::LoggedOut,
         ..PLAIN
     },
     Row {
         name: "reason 2 asks for a recovery that is not served",
         input: &[
-            PduRow(&LOGOUT, &[(1, &[0x82])], Segment::None),
-            PduRow(&TEST_UNIT_READY, &[(24, &[0, 0, 0, 2])], Segment::None),
+            PduRow(&LOGOUT, "1:82", Segment::None),
+            PduRow(&TEST_UNIT_READY, "24:00000002", Segment::None),
         ],
         output: &[
-            PduRow(&RESPONSE, &[(2, &[2])], Segment::None),
-            PduRow(
-                &GOOD,
-                &[(24, &[0, 0, 0, 2, 0, 0, 0, 3, 0, 0, 0, 0x22])],
-                Segment::None,
-            ),
+            PduRow(&RESPONSE, "2:02", Segment::None),
+            PduRow(&GOOD, "24:000000020000000300000022", Segment::None),
         ],
         ..PLAIN
     },
     Row {
         name: "reason 127 is none",
-        input: &[PduRow(&LOGOUT, &[(1, &[0xFF])], Segment::None)],
+        input: &[PduRow(&LOGOUT, "1:FF", Segment::None)],
         asked: &[],
-        output: &[PduRow(&RESPONSE, &[(2, &[2])], Segment::None)],
+        output: &[PduRow(&RESPONSE, "2:02", Segment::None)],
         ..PLAIN
     },
     Row {
         name: "an immediate one behind a command takes no number",
         input: &[
-            PduRow(&TEST_UNIT_READY, &[], Segment::None),
-            PduRow(&LOGOUT, &[(0, &[0x46])], Segment::None),
+            PduRow(&TEST_UNIT_READY, "", Segment::None),
+            PduRow(&LOGOUT, "0:46", Segment::None),
         ],
         asked: &[TEST],
         output: &[
-            PduRow(&GOOD, &[], Segment::None),
-            PduRow(&RESPONSE, &[(24, &[0, 0, 0, 2])], Segment::None),
+            PduRow(&GOOD, "", Segment::None),
+            PduRow(&RESPONSE, "24:00000002", Segment::None),
         ],
         end: End::LoggedOut,
         ..PLAIN
@@ -84,8 +80,8 @@ const ROWS: &[Row] = &[
     Row {
         name: "outside the window it is ignored",
         input: &[
-            PduRow(&LOGOUT, &[(24, &[0, 0, 0, 0])], Segment::None),
-            PduRow(&TEST_UNIT_READY, &[], Segment::None),
+            PduRow(&LOGOUT, "24:00000000", Segment::None),
+            PduRow(&TEST_UNIT_READY, "", Segment::None),
         ],
         ..PLAIN
     },

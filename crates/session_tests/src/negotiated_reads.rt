@@ -13,7 +13,7 @@ const ROWS: &[Row] = &[
         input: &[
             PduRow(
                 &LOGIN,
-                &[(7, &[116])],
+                "7:74",
                 Segment::Bytes(
                     b"InitiatorName=iqn.2000-01.test:a\0TargetName=iqn.2000-01.test:array\0\
                     MaxRecvDataSegmentLength=512\0MaxBurstLength=1024\0",
@@ -21,11 +21,7 @@ const ROWS: &[Row] = &[
             ),
             PduRow(
                 &TEST_UNIT_READY,
-                &[
-                    (1, &[0xC1]),
-                    (20, &[0, 0, 6, 0]),
-                    (32, &[0x28, 0, 0, 0, 0, 5, 0, 0, 3]),
-                ],
+                "1:C1 20:00000600 32:280000000005000003",
                 Segment::None,
             ),
         ],
@@ -41,27 +37,23 @@ const ROWS: &[Row] = &[
         output: &[
             PduRow(
                 &LOGGED_IN,
-                &[(7, &[74])],
+                "7:4A",
                 Segment::Bytes(
                     b"TargetPortalGroupTag=1\0MaxRecvDataSegmentLength=65536\0MaxBurstLength=1024\0",
                 ),
             ),
-            PduRow(&DATA_IN, &[(1, &[0]), (6, &[2, 0])], Segment::Pattern(512)),
+            PduRow(&DATA_IN, "1:00 6:0200", Segment::Pattern(512)),
             PduRow(
                 &DATA_IN,
-                &[(6, &[2, 0]), (36, &[0, 0, 0, 1, 0, 0, 2, 0])],
+                "6:0200 36:0000000100000200",
                 Segment::PatternAt(512, 512),
             ),
             PduRow(
                 &DATA_IN,
-                &[(6, &[2, 0]), (36, &[0, 0, 0, 2, 0, 0, 4, 0])],
+                "6:0200 36:0000000200000400",
                 Segment::PatternAt(1024, 512),
             ),
-            PduRow(
-                &GOOD,
-                &[(24, &[0, 0, 0, 2]), (36, &[0, 0, 0, 3])],
-                Segment::None,
-            ),
+            PduRow(&GOOD, "24:00000002 36:00000003", Segment::None),
         ],
         ..BY_LOGIN
     },
@@ -70,7 +62,7 @@ const ROWS: &[Row] = &[
         input: &[
             PduRow(
                 &LOGIN,
-                &[(1, &[0x83]), (7, &[119])],
+                "1:83 7:77",
                 Segment::Bytes(
                     b"InitiatorName=iqn.2000-01.test:a\0TargetName=iqn.2000-01.test:array\0\
                     MaxRecvDataSegmentLength=0x200\0MaxBurstLength=0X400\0",
@@ -78,11 +70,7 @@ const ROWS: &[Row] = &[
             ),
             PduRow(
                 &TEST_UNIT_READY,
-                &[
-                    (1, &[0xC1]),
-                    (20, &[0, 0, 6, 0]),
-                    (32, &[0x28, 0, 0, 0, 0, 5, 0, 0, 3]),
-                ],
+                "1:C1 20:00000600 32:280000000005000003",
                 Segment::None,
             ),
         ],
@@ -98,25 +86,21 @@ const ROWS: &[Row] = &[
         output: &[
             PduRow(
                 &LOGGED_IN,
-                &[(1, &[0x83]), (7, &[43])],
+                "1:83 7:2B",
                 Segment::Bytes(b"TargetPortalGroupTag=1\0MaxBurstLength=1024\0"),
             ),
-            PduRow(&DATA_IN, &[(1, &[0]), (6, &[2, 0])], Segment::Pattern(512)),
+            PduRow(&DATA_IN, "1:00 6:0200", Segment::Pattern(512)),
             PduRow(
                 &DATA_IN,
-                &[(6, &[2, 0]), (36, &[0, 0, 0, 1, 0, 0, 2, 0])],
+                "6:0200 36:0000000100000200",
                 Segment::PatternAt(512, 512),
             ),
             PduRow(
                 &DATA_IN,
-                &[(6, &[2, 0]), (36, &[0, 0, 0, 2, 0, 0, 4, 0])],
+                "6:0200 36:0000000200000400",
                 Segment::PatternAt(1024, 512),
             ),
-            PduRow(
-                &GOOD,
-                &[(24, &[0, 0, 0, 2]), (36, &[0, 0, 0, 3])],
-                Segment::None,
-            ),
+            PduRow(&GOOD, "24:00000002 36:00000003", Segment::None),
         ],
         ..BY_LOGIN
     },
@@ -126,11 +110,7 @@ const ROWS: &[Row] = &[
             ONE_LOGIN,
             PduRow(
                 &TEST_UNIT_READY,
-                &[
-                    (1, &[0xC1]),
-                    (20, &[0, 0, 6, 0]),
-                    (32, &[0x28, 0, 0, 0, 0, 5, 0, 0, 3]),
-                ],
+                "1:C1 20:00000600 32:280000000005000003",
                 Segment::None,
             ),
         ],
@@ -145,12 +125,8 @@ const ROWS: &[Row] = &[
         )],
         output: &[
             BEGUN,
-            PduRow(&DATA_IN, &[(6, &[6, 0])], Segment::Pattern(1536)),
-            PduRow(
-                &GOOD,
-                &[(24, &[0, 0, 0, 2]), (36, &[0, 0, 0, 1])],
-                Segment::None,
-            ),
+            PduRow(&DATA_IN, "6:0600", Segment::Pattern(1536)),
+            PduRow(&GOOD, "24:00000002 36:00000001", Segment::None),
         ],
         ..BY_LOGIN
     },
@@ -159,7 +135,7 @@ const ROWS: &[Row] = &[
         input: &[
             PduRow(
                 &LOGIN,
-                &[(7, &[140])],
+                "7:8C",
                 Segment::Bytes(
                     b"InitiatorName=iqn.2000-01.test:a\0TargetName=iqn.2000-01.test:array\0\
                     MaxRecvDataSegmentLength=511\0MaxBurstLength=16777216\0FirstBurstLength=-1\0",
@@ -167,11 +143,7 @@ const ROWS: &[Row] = &[
             ),
             PduRow(
                 &TEST_UNIT_READY,
-                &[
-                    (1, &[0xC1]),
-                    (20, &[0, 0, 6, 0]),
-                    (32, &[0x28, 0, 0, 0, 0, 5, 0, 0, 3]),
-                ],
+                "1:C1 20:00000600 32:280000000005000003",
                 Segment::None,
             ),
         ],
@@ -187,18 +159,14 @@ const ROWS: &[Row] = &[
         output: &[
             PduRow(
                 &LOGGED_IN,
-                &[(7, &[132])],
+                "7:84",
                 Segment::Bytes(
                     b"TargetPortalGroupTag=1\0MaxRecvDataSegmentLength=65536\0\
                     MaxRecvDataSegmentLength=Reject\0MaxBurstLength=Reject\0FirstBurstLength=Reject\0",
                 ),
             ),
-            PduRow(&DATA_IN, &[(6, &[6, 0])], Segment::Pattern(1536)),
-            PduRow(
-                &GOOD,
-                &[(24, &[0, 0, 0, 2]), (36, &[0, 0, 0, 1])],
-                Segment::None,
-            ),
+            PduRow(&DATA_IN, "6:0600", Segment::Pattern(1536)),
+            PduRow(&GOOD, "24:00000002 36:00000001", Segment::None),
         ],
         ..BY_LOGIN
     },
@@ -207,7 +175,7 @@ const ROWS: &[Row] = &[
         input: &[
             PduRow(
                 &LOGIN,
-                &[(7, &[101])],
+                "7:65",
                 Segment::Bytes(
                     b"InitiatorName=iqn.2000-01.test:a\0TargetName=iqn.2000-01.test:array\0\
                     MaxRecvDataSegmentLength=16777215\0",
@@ -215,11 +183,7 @@ const ROWS: &[Row] = &[
             ),
             PduRow(
                 &TEST_UNIT_READY,
-                &[
-                    (1, &[0xC1]),
-                    (20, &[0, 1, 2, 0]),
-                    (32, &[0x28, 0, 0, 0, 0, 5, 0, 0, 0x81]),
-                ],
+                "1:C1 20:00010200 32:280000000005000081",
                 Segment::None,
             ),
         ],
@@ -234,21 +198,13 @@ const ROWS: &[Row] = &[
         )],
         output: &[
             BEGUN,
+            PduRow(&DATA_IN, "1:00 5:010000", Segment::Pattern(65536)),
             PduRow(
                 &DATA_IN,
-                &[(1, &[0]), (5, &[1, 0, 0])],
-                Segment::Pattern(65536),
-            ),
-            PduRow(
-                &DATA_IN,
-                &[(6, &[2, 0]), (36, &[0, 0, 0, 1, 0, 1, 0, 0])],
+                "6:0200 36:0000000100010000",
                 Segment::PatternAt(65536, 512),
             ),
-            PduRow(
-                &GOOD,
-                &[(24, &[0, 0, 0, 2]), (36, &[0, 0, 0, 2])],
-                Segment::None,
-            ),
+            PduRow(&GOOD, "24:00000002 36:00000002", Segment::None),
         ],
         ..BY_LOGIN
     },
@@ -257,21 +213,17 @@ const ROWS: &[Row] = &[
         input: &[
             PduRow(
                 &LOGIN,
-                &[(7, &[96])],
+                "7:60",
                 Segment::Bytes(
                     b"InitiatorName=iqn.2000-01.test:a\0TargetName=iqn.2000-01.test:array\0\
                     MaxRecvDataSegmentLength=512\0",
                 ),
             ),
-            PduRow(&NOP_OUT, &[(6, &[2, 4])], Segment::Pattern(516)),
+            PduRow(&NOP_OUT, "6:0204", Segment::Pattern(516)),
         ],
         output: &[
             BEGUN,
-            PduRow(
-                &NOP_IN,
-                &[(6, &[2, 0]), (24, &[0, 0, 0, 2])],
-                Segment::Pattern(512),
-            ),
+            PduRow(&NOP_IN, "6:0200 24:00000002", Segment::Pattern(512)),
         ],
         ..BY_LOGIN
     },
@@ -280,7 +232,7 @@ const ROWS: &[Row] = &[
         input: &[
             PduRow(
                 &LOGIN,
-                &[(1, &[0x81]), (7, &[122])],
+                "1:81 7:7A",
                 Segment::Bytes(
                     b"InitiatorName=iqn.2000-01.test:a\0TargetName=iqn.2000-01.test:array\0\
                     SessionType=Normal\0MaxBurstLength=1024\0AuthMethod=None\0",
@@ -288,7 +240,7 @@ const ROWS: &[Row] = &[
             ),
             PduRow(
                 &LOGIN,
-                &[(7, &[129])],
+                "7:81",
                 Segment::Bytes(
                     b"InitiatorName=iqn.2000-01.test:a\0TargetName=iqn.2000-01.test:array\0\
                     SessionType=Normal\0MaxRecvDataSegmentLength=512\0InitialR2T=No\0",
@@ -296,11 +248,7 @@ const ROWS: &[Row] = &[
             ),
             PduRow(
                 &TEST_UNIT_READY,
-                &[
-                    (1, &[0xC1]),
-                    (20, &[0, 0, 6, 0]),
-                    (32, &[0x28, 0, 0, 0, 0, 5, 0, 0, 3]),
-                ],
+                "1:C1 20:00000600 32:280000000005000003",
                 Segment::None,
             ),
         ],
@@ -316,30 +264,26 @@ const ROWS: &[Row] = &[
         output: &[
             PduRow(
                 &LOGGED_IN,
-                &[(1, &[0x81]), (7, &[59]), (14, &[0, 0])],
+                "1:81 7:3B 14:0000",
                 Segment::Bytes(b"TargetPortalGroupTag=1\0MaxBurstLength=1024\0AuthMethod=None\0"),
             ),
             PduRow(
                 &LOGGED_IN,
-                &[(7, &[46]), (24, &[0, 0, 0, 2])],
+                "7:2E 24:00000002",
                 Segment::Bytes(b"MaxRecvDataSegmentLength=65536\0InitialR2T=Yes\0"),
             ),
-            PduRow(&DATA_IN, &[(1, &[0]), (6, &[2, 0])], Segment::Pattern(512)),
+            PduRow(&DATA_IN, "1:00 6:0200", Segment::Pattern(512)),
             PduRow(
                 &DATA_IN,
-                &[(6, &[2, 0]), (36, &[0, 0, 0, 1, 0, 0, 2, 0])],
+                "6:0200 36:0000000100000200",
                 Segment::PatternAt(512, 512),
             ),
             PduRow(
                 &DATA_IN,
-                &[(6, &[2, 0]), (36, &[0, 0, 0, 2, 0, 0, 4, 0])],
+                "6:0200 36:0000000200000400",
                 Segment::PatternAt(1024, 512),
             ),
-            PduRow(
-                &GOOD,
-                &[(24, &[0, 0, 0, 3]), (36, &[0, 0, 0, 3])],
-                Segment::None,
-            ),
+            PduRow(&GOOD, "24:00000003 36:00000003", Segment::None),
         ],
         ..BY_LOGIN
     },

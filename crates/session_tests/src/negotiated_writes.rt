@@ -14,21 +14,17 @@ const ROWS: &[Row] = &[
         input: &[
             PduRow(
                 &LOGIN,
-                &[(7, &[87])],
+                "7:57",
                 Segment::Bytes(
                     b"InitiatorName=iqn.2000-01.test:a\0TargetName=iqn.2000-01.test:array\0\
                     MaxBurstLength=1024\0",
                 ),
             ),
-            PduRow(
-                &WRITE,
-                &[(20, &[0, 0, 6, 0]), (32, &[0x2A, 0, 0, 0, 0, 5, 0, 0, 3])],
-                Segment::None,
-            ),
-            PduRow(&DATA_OUT, &[(6, &[4, 0])], Segment::Pattern(1024)),
+            PduRow(&WRITE, "20:00000600 32:2A0000000005000003", Segment::None),
+            PduRow(&DATA_OUT, "6:0400", Segment::Pattern(1024)),
             PduRow(
                 &DATA_OUT,
-                &[(6, &[2, 0]), (20, &[0, 0, 0, 1]), (40, &[0, 0, 4, 0])],
+                "6:0200 20:00000001 40:00000400",
                 Segment::PatternAt(1024, 512),
             ),
         ],
@@ -44,26 +40,18 @@ const ROWS: &[Row] = &[
         output: &[
             PduRow(
                 &LOGGED_IN,
-                &[(7, &[74])],
+                "7:4A",
                 Segment::Bytes(
                     b"TargetPortalGroupTag=1\0MaxRecvDataSegmentLength=65536\0MaxBurstLength=1024\0",
                 ),
             ),
+            PduRow(&R2T, "24:00000002 44:00000400", Segment::None),
             PduRow(
                 &R2T,
-                &[(24, &[0, 0, 0, 2]), (44, &[0, 0, 4, 0])],
+                "20:00000001 24:00000002 36:000000010000040000000200",
                 Segment::None,
             ),
-            PduRow(
-                &R2T,
-                &[
-                    (20, &[0, 0, 0, 1]),
-                    (24, &[0, 0, 0, 2]),
-                    (36, &[0, 0, 0, 1, 0, 0, 4, 0, 0, 0, 2, 0]),
-                ],
-                Segment::None,
-            ),
-            PduRow(&GOOD, &[(24, &[0, 0, 0, 2])], Segment::None),
+            PduRow(&GOOD, "24:00000002", Segment::None),
         ],
         ..BY_LOGIN
     },
@@ -72,27 +60,27 @@ const ROWS: &[Row] = &[
         input: &[
             PduRow(
                 &LOGIN,
-                &[(7, &[84])],
+                "7:54",
                 Segment::Bytes(
                     b"InitiatorName=iqn.2000-01.test:a\0TargetName=iqn.2000-01.test:array\0\
                     ImmediateData=No\0",
                 ),
             ),
-            PduRow(&WRITE, &[(6, &[2, 0])], Segment::Pattern(512)),
-            PduRow(&TEST_UNIT_READY, &[], Segment::None),
+            PduRow(&WRITE, "6:0200", Segment::Pattern(512)),
+            PduRow(&TEST_UNIT_READY, "", Segment::None),
         ],
         output: &[
             PduRow(
                 &LOGGED_IN,
-                &[(7, &[71])],
+                "7:47",
                 Segment::Bytes(
                     b"TargetPortalGroupTag=1\0MaxRecvDataSegmentLength=65536\0ImmediateData=No\0",
                 ),
             ),
             PduRow(
                 &REJECT,
-                &[(2, &[4]), (24, &[0, 0, 0, 2])],
-                Segment::Rejected(&WRITE, &[(6, &[2, 0])]),
+                "2:04 24:00000002",
+                Segment::Rejected(&WRITE, "6:0200"),
             ),
         ],
         end: End::Protocol,
@@ -103,14 +91,14 @@ const ROWS: &[Row] = &[
         input: &[
             PduRow(
                 &LOGIN,
-                &[(7, &[84])],
+                "7:54",
                 Segment::Bytes(
                     b"InitiatorName=iqn.2000-01.test:a\0TargetName=iqn.2000-01.test:array\0\
                     ImmediateData=No\0",
                 ),
             ),
-            PduRow(&WRITE, &[], Segment::None),
-            PduRow(&DATA_OUT, &[(6, &[2, 0])], Segment::Pattern(512)),
+            PduRow(&WRITE, "", Segment::None),
+            PduRow(&DATA_OUT, "6:0200", Segment::Pattern(512)),
         ],
         asked: &[(
             Some(0),
@@ -124,13 +112,13 @@ const ROWS: &[Row] = &[
         output: &[
             PduRow(
                 &LOGGED_IN,
-                &[(7, &[71])],
+                "7:47",
                 Segment::Bytes(
                     b"TargetPortalGroupTag=1\0MaxRecvDataSegmentLength=65536\0ImmediateData=No\0",
                 ),
             ),
-            PduRow(&R2T, &[(24, &[0, 0, 0, 2])], Segment::None),
-            PduRow(&GOOD, &[(24, &[0, 0, 0, 2])], Segment::None),
+            PduRow(&R2T, "24:00000002", Segment::None),
+            PduRow(&GOOD, "24:00000002", Segment::None),
         ],
         ..BY_LOGIN
     },
@@ -139,7 +127,7 @@ const ROWS: &[Row] = &[
         input: &[
             PduRow(
                 &LOGIN,
-                &[(7, &[88])],
+                "7:58",
                 Segment::Bytes(
                     b"InitiatorName=iqn.2000-01.test:a\0TargetName=iqn.2000-01.test:array\0\
                     FirstBurstLength=512\0",
@@ -147,16 +135,12 @@ const ROWS: &[Row] = &[
             ),
             PduRow(
                 &WRITE,
-                &[
-                    (6, &[2, 0]),
-                    (20, &[0, 0, 6, 0]),
-                    (32, &[0x2A, 0, 0, 0, 0, 5, 0, 0, 3]),
-                ],
+                "6:0200 20:00000600 32:2A0000000005000003",
                 Segment::Pattern(512),
             ),
             PduRow(
                 &DATA_OUT,
-                &[(6, &[4, 0]), (40, &[0, 0, 2, 0])],
+                "6:0400 40:00000200",
                 Segment::PatternAt(512, 1024),
             ),
         ],
@@ -172,17 +156,13 @@ const ROWS: &[Row] = &[
         output: &[
             PduRow(
                 &LOGGED_IN,
-                &[(7, &[75])],
+                "7:4B",
                 Segment::Bytes(
                     b"TargetPortalGroupTag=1\0MaxRecvDataSegmentLength=65536\0FirstBurstLength=512\0",
                 ),
             ),
-            PduRow(
-                &R2T,
-                &[(24, &[0, 0, 0, 2]), (40, &[0, 0, 2, 0, 0, 0, 4, 0])],
-                Segment::None,
-            ),
-            PduRow(&GOOD, &[(24, &[0, 0, 0, 2])], Segment::None),
+            PduRow(&R2T, "24:00000002 40:0000020000000400", Segment::None),
+            PduRow(&GOOD, "24:00000002", Segment::None),
         ],
         ..BY_LOGIN
     },
@@ -191,7 +171,7 @@ const ROWS: &[Row] = &[
         input: &[
             PduRow(
                 &LOGIN,
-                &[(7, &[88])],
+                "7:58",
                 Segment::Bytes(
                     b"InitiatorName=iqn.2000-01.test:a\0TargetName=iqn.2000-01.test:array\0\
                     FirstBurstLength=512\0",
@@ -199,34 +179,23 @@ const ROWS: &[Row] = &[
             ),
             PduRow(
                 &WRITE,
-                &[
-                    (6, &[2, 4]),
-                    (20, &[0, 0, 6, 0]),
-                    (32, &[0x2A, 0, 0, 0, 0, 5, 0, 0, 3]),
-                ],
+                "6:0204 20:00000600 32:2A0000000005000003",
                 Segment::Pattern(516),
             ),
-            PduRow(&TEST_UNIT_READY, &[], Segment::None),
+            PduRow(&TEST_UNIT_READY, "", Segment::None),
         ],
         output: &[
             PduRow(
                 &LOGGED_IN,
-                &[(7, &[75])],
+                "7:4B",
                 Segment::Bytes(
                     b"TargetPortalGroupTag=1\0MaxRecvDataSegmentLength=65536\0FirstBurstLength=512\0",
                 ),
             ),
             PduRow(
                 &REJECT,
-                &[(2, &[4]), (24, &[0, 0, 0, 2])],
-                Segment::Rejected(
-                    &WRITE,
-                    &[
-                        (6, &[2, 4]),
-                        (20, &[0, 0, 6, 0]),
-                        (32, &[0x2A, 0, 0, 0, 0, 5, 0, 0, 3]),
-                    ],
-                ),
+                "2:04 24:00000002",
+                Segment::Rejected(&WRITE, "6:0204 20:00000600 32:2A0000000005000003"),
             ),
         ],
         end: End::Protocol,

@@ -24,102 +24,79 @@ pub const NOP_IN: [u8; 48] = [
     0x00, 0x00, 0x00, 0x00, 0x00, 0x00, 0x00, 0x00,
 ];
 
-const RESERVED: &[u8] = &[0xFF, 0xFF, 0xFF, 0xFF];
-
 const ROWS: &[Row] = &[
     Row {
         name: "its data comes back, with its LUN and its tag",
         input: &[PduRow(
             &NOP_OUT,
-            &[
-                (7, &[5]),
-                (8, &[0x40, 0x07]),
-                (16, &[1, 2, 3, 4]),
-                (20, &[9, 9, 9, 9]),
-            ],
+            "7:05 8:4007 16:01020304 20:09090909",
             Segment::Pattern(5),
         )],
         asked: &[],
-        output: &[PduRow(
-            &NOP_IN,
-            &[(7, &[5]), (8, &[0x40, 0x07]), (16, &[1, 2, 3, 4])],
-            Segment::Pattern(5),
-        )],
+        output: &[PduRow(&NOP_IN, "7:05 8:4007 16:01020304", Segment::Pattern(5))],
         ..PLAIN
     },
     Row {
         name: "of 8196 bytes 8192 come back",
-        input: &[PduRow(&NOP_OUT, &[(6, &[0x20, 4])], Segment::Pattern(8196))],
+        input: &[PduRow(&NOP_OUT, "6:2004", Segment::Pattern(8196))],
         asked: &[],
-        output: &[PduRow(&NOP_IN, &[(6, &[0x20, 0])], Segment::Pattern(8192))],
+        output: &[PduRow(&NOP_IN, "6:2000", Segment::Pattern(8192))],
         ..PLAIN
     },
     Row {
         name: "an immediate one takes no number, and a StatSN",
         input: &[
-            PduRow(&NOP_OUT, &[(0, &[0x40])], Segment::None),
-            PduRow(&TEST_UNIT_READY, &[], Segment::None),
+            PduRow(&NOP_OUT, "0:40", Segment::None),
+            PduRow(&TEST_UNIT_READY, "", Segment::None),
         ],
         output: &[
-            PduRow(
-                &NOP_IN,
-                &[(24, &[0, 0, 0, 1, 0, 0, 0, 1, 0, 0, 0, 0x20])],
-                Segment::None,
-            ),
-            PduRow(&GOOD, &[(24, &[0, 0, 0, 2])], Segment::None),
+            PduRow(&NOP_IN, "24:000000010000000100000020", Segment::None),
+            PduRow(&GOOD, "24:00000002", Segment::None),
         ],
         ..PLAIN
     },
     Row {
         name: "a numbered one takes its number",
         input: &[
-            PduRow(&NOP_OUT, &[], Segment::None),
-            PduRow(&TEST_UNIT_READY, &[(24, &[0, 0, 0, 2])], Segment::None),
+            PduRow(&NOP_OUT, "", Segment::None),
+            PduRow(&TEST_UNIT_READY, "24:00000002", Segment::None),
         ],
         output: &[
-            PduRow(&NOP_IN, &[], Segment::None),
-            PduRow(
-                &GOOD,
-                &[(24, &[0, 0, 0, 2, 0, 0, 0, 3, 0, 0, 0, 0x22])],
-                Segment::None,
-            ),
+            PduRow(&NOP_IN, "", Segment::None),
+            PduRow(&GOOD, "24:000000020000000300000022", Segment::None),
         ],
         ..PLAIN
     },
     Row {
         name: "with the reserved tag there is no answer, and no StatSN is used",
         input: &[
-            PduRow(&NOP_OUT, &[(0, &[0x40]), (16, RESERVED)], Segment::None),
-            PduRow(&TEST_UNIT_READY, &[], Segment::None),
+            PduRow(&NOP_OUT, "0:40 16:FFFFFFFF", Segment::None),
+            PduRow(&TEST_UNIT_READY, "", Segment::None),
         ],
         ..PLAIN
     },
     Row {
         name: "with the reserved tag, but numbered, it takes its number",
         input: &[
-            PduRow(&NOP_OUT, &[(16, RESERVED)], Segment::None),
-            PduRow(&TEST_UNIT_READY, &[(24, &[0, 0, 0, 2])], Segment::None),
+            PduRow(&NOP_OUT, "16:FFFFFFFF", Segment::None),
+            PduRow(&TEST_UNIT_READY, "24:00000002", Segment::None),
         ],
-        output: &[PduRow(
-            &GOOD,
-            &[(24, &[0, 0, 0, 1, 0, 0, 0, 3, 0, 0, 0, 0x22])],
-            Segment::None,
-        )],
+        output: &[PduRow(&GOOD, "24:000000010000000300000022", Segment::None)],
         ..PLAIN
     },
     Row {
         name: "outside the window it is ignored",
         input: &[
-            PduRow(&NOP_OUT, &[(24, &[0, 0, 0, 33])], Segment::None),
-            PduRow(&TEST_UNIT_READY, &[], Segment::None),
+            PduRow(&NOP_OUT, "24:00000021", Segment::None),
+            PduRow(&TEST_UNIT_READY, "", Segment::None),
         ],
         ..PLAIN
     },
     Row {
         name: "inside the window, but not the next, it leaves a gap",
         input: &[
-            PduRow(&NOP_OUT, &[(24, &[0, 0, 0, 2])], Segment::None),
-            PduRow(&TEST_UNIT_READY, &[], Segment::None),
+            PduRow(&NOP_OUT, "24:00000002", Segment::None),
+            PduRow(&TEST_UNIT_READY, "", Segment::None),
         ],
         asked: &[],
         output: &[],

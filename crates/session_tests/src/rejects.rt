@@ -2,36 +2,32 @@
 use crate::run::{Begin, FROM_ONE, PLAIN, Row, run};
 use session::End;
 use std::test::*;
-use test_streams::{GOOD, PduRow, READ_AND_WRITE, READS, REJECT, Segment, TEST_UNIT_READY, WRITES};
+use test_streams::{GOOD, PduRow, REJECT, Segment, TEST_UNIT_READY};
 
 // Each is rejected with its header segment, and ends the session: the target is asked nothing, also of what is behind.
 const ROWS: &[Row] = &[
     Row {
         name: "an opcode that no PDU has",
         input: &[
-            PduRow(&TEST_UNIT_READY, &[(0, &[0x07])], Segment::None),
-            PduRow(&TEST_UNIT_READY, &[], Segment::None),
+            PduRow(&TEST_UNIT_READY, "0:07", Segment::None),
+            PduRow(&TEST_UNIT_READY, "", Segment::None),
         ],
         asked: &[],
-        output: &[PduRow(
-            &REJECT,
-            &[(2, &[5])],
-            Segment::Rejected(&TEST_UNIT_READY, &[(0, &[0x07])]),
-        )],
+        output: &[PduRow(&REJECT, "2:05", Segment::Rejected(&TEST_UNIT_READY, "0:07"))],
         end: End::Protocol,
         ..PLAIN
     },
     Row {
         name: "a Login request, behind the login",
         input: &[
-            PduRow(&TEST_UNIT_READY, &[(0, &[0x43, 0x87])], Segment::None),
-            PduRow(&TEST_UNIT_READY, &[], Segment::None),
+            PduRow(&TEST_UNIT_READY, "0:4387", Segment::None),
+            PduRow(&TEST_UNIT_READY, "", Segment::None),
         ],
         asked: &[],
         output: &[PduRow(
             &REJECT,
-            &[(2, &[4])],
-            Segment::Rejected(&TEST_UNIT_READY, &[(0, &[0x43, 0x87])]),
+            "2:04",
+            Segment::Rejected(&TEST_UNIT_READY, "0:4387"),
         )],
         end: End::Protocol,
         ..PLAIN
@@ -39,70 +35,58 @@ const ROWS: &[Row] = &[
     Row {
         name: "a PDU of a target",
         input: &[
-            PduRow(&GOOD, &[], Segment::None),
-            PduRow(&TEST_UNIT_READY, &[], Segment::None),
+            PduRow(&GOOD, "", Segment::None),
+            PduRow(&TEST_UNIT_READY, "", Segment::None),
         ],
         asked: &[],
-        output: &[PduRow(&REJECT, &[(2, &[5])], Segment::Rejected(&GOOD, &[]))],
+        output: &[PduRow(&REJECT, "2:05", Segment::Rejected(&GOOD, ""))],
         end: End::Protocol,
         ..PLAIN
     },
     Row {
         name: "R and W",
         input: &[
-            PduRow(&TEST_UNIT_READY, &[(1, &[READ_AND_WRITE])], Segment::None),
-            PduRow(&TEST_UNIT_READY, &[], Segment::None),
+            PduRow(&TEST_UNIT_READY, "1:E1", Segment::None),
+            PduRow(&TEST_UNIT_READY, "", Segment::None),
         ],
         asked: &[],
-        output: &[PduRow(
-            &REJECT,
-            &[(2, &[9])],
-            Segment::Rejected(&TEST_UNIT_READY, &[(1, &[READ_AND_WRITE])]),
-        )],
+        output: &[PduRow(&REJECT, "2:09", Segment::Rejected(&TEST_UNIT_READY, "1:E1"))],
         end: End::Protocol,
         ..PLAIN
     },
     Row {
         name: "without F",
         input: &[
-            PduRow(&TEST_UNIT_READY, &[(1, &[0x01])], Segment::None),
-            PduRow(&TEST_UNIT_READY, &[], Segment::None),
+            PduRow(&TEST_UNIT_READY, "1:01", Segment::None),
+            PduRow(&TEST_UNIT_READY, "", Segment::None),
         ],
         asked: &[],
-        output: &[PduRow(
-            &REJECT,
-            &[(2, &[9])],
-            Segment::Rejected(&TEST_UNIT_READY, &[(1, &[0x01])]),
-        )],
+        output: &[PduRow(&REJECT, "2:09", Segment::Rejected(&TEST_UNIT_READY, "1:01"))],
         end: End::Protocol,
         ..PLAIN
     },
     Row {
         name: "an additional header segment",
         input: &[
-            PduRow(&TEST_UNIT_READY, &[(4, &[1])], Segment::None),
-            PduRow(&TEST_UNIT_READY, &[], Segment::None),
+            PduRow(&TEST_UNIT_READY, "4:01", Segment::None),
+            PduRow(&TEST_UNIT_READY, "", Segment::None),
         ],
         asked: &[],
-        output: &[PduRow(
-            &REJECT,
-            &[(2, &[9])],
-            Segment::Rejected(&TEST_UNIT_READY, &[(4, &[1])]),
-        )],
+        output: &[PduRow(&REJECT, "2:09", Segment::Rejected(&TEST_UNIT_READY, "4:01"))],
         end: End::Protocol,
         ..PLAIN
     },
     Row {
         name: "a data segment of 65537 bytes",
         input: &[
-            PduRow(&TEST_UNIT_READY, &[(5, &[1, 0, 1])], Segment::None),
-            PduRow(&TEST_UNIT_READY, &[], Segment::None),
+            PduRow(&TEST_UNIT_READY, "5:010001", Segment::None),
+            PduRow(&TEST_UNIT_READY, "", Segment::None),
         ],
         asked: &[],
         output: &[PduRow(
             &REJECT,
-            &[(2, &[9])],
-            Segment::Rejected(&TEST_UNIT_READY, &[(5, &[1, 0, 1])]),
+            "2:09",
+            Segment::Rejected(&TEST_UNIT_READY, "5:010001"),
         )],
         end: End::Protocol,
         ..PLAIN
@@ -110,18 +94,14 @@ const ROWS: &[Row] = &[
     Row {
         name: "the reserved tag",
         input: &[
-            PduRow(
-                &TEST_UNIT_READY,
-                &[(16, &[0xFF, 0xFF, 0xFF, 0xFF])],
-                Segment::None,
-            ),
-            PduRow(&TEST_UNIT_READY, &[], Segment::None),
+            PduRow(&TEST_UNIT_READY, "16:FFFFFFFF", Segment::None),
+            PduRow(&TEST_UNIT_READY, "", Segment::None),
         ],
         asked: &[],
         output: &[PduRow(
             &REJECT,
-            &[(2, &[4])],
-            Segment::Rejected(&TEST_UNIT_READY, &[(16, &[0xFF, 0xFF, 0xFF, 0xFF])]),
+            "2:04",
+            Segment::Rejected(&TEST_UNIT_READY, "16:FFFFFFFF"),
         )],
         end: End::Protocol,
         ..PLAIN
@@ -131,28 +111,18 @@ const ROWS: &[Row] = &[
         input: &[
             PduRow(
                 &TEST_UNIT_READY,
-                &[
-                    (1, &[WRITES]),
-                    (6, &[2, 4]),
-                    (20, &[0, 0, 2, 0]),
-                    (32, &[0x2A, 0, 0, 0, 0, 5, 0, 0, 1]),
-                ],
+                "1:A1 6:0204 20:00000200 32:2A0000000005000001",
                 Segment::Pattern(516),
             ),
-            PduRow(&TEST_UNIT_READY, &[], Segment::None),
+            PduRow(&TEST_UNIT_READY, "", Segment::None),
         ],
         asked: &[],
         output: &[PduRow(
             &REJECT,
-            &[(2, &[4])],
+            "2:04",
             Segment::Rejected(
                 &TEST_UNIT_READY,
-                &[
-                    (1, &[WRITES]),
-                    (6, &[2, 4]),
-                    (20, &[0, 0, 2, 0]),
-                    (32, &[0x2A, 0, 0, 0, 0, 5, 0, 0, 1]),
-                ],
+                "1:A1 6:0204 20:00000200 32:2A0000000005000001",
             ),
         )],
         end: End::Protocol,
@@ -167,28 +137,18 @@ const ROWS: &[Row] = &[
         input: &[
             PduRow(
                 &TEST_UNIT_READY,
-                &[
-                    (1, &[WRITES]),
-                    (6, &[4, 0]),
-                    (20, &[0, 0, 4, 0]),
-                    (32, &[0x2A, 0, 0, 0, 0, 5, 0, 0, 2]),
-                ],
+                "1:A1 6:0400 20:00000400 32:2A0000000005000002",
                 Segment::Pattern(1024),
             ),
-            PduRow(&TEST_UNIT_READY, &[], Segment::None),
+            PduRow(&TEST_UNIT_READY, "", Segment::None),
         ],
         asked: &[],
         output: &[PduRow(
             &REJECT,
-            &[(2, &[4])],
+            "2:04",
             Segment::Rejected(
                 &TEST_UNIT_READY,
-                &[
-                    (1, &[WRITES]),
-                    (6, &[4, 0]),
-                    (20, &[0, 0, 4, 0]),
-                    (32, &[0x2A, 0, 0, 0, 0, 5, 0, 0, 2]),
-                ],
+                "1:A1 6:0400 20:00000400 32:2A0000000005000002",
             ),
         )],
         end: End::Protocol,
@@ -203,28 +163,18 @@ const ROWS: &[Row] = &[
         input: &[
             PduRow(
                 &TEST_UNIT_READY,
-                &[
-                    (1, &[WRITES]),
-                    (6, &[4, 0]),
-                    (20, &[0, 0, 4, 0]),
-                    (32, &[0x2A, 0, 0, 0, 0, 5, 0, 0, 2]),
-                ],
+                "1:A1 6:0400 20:00000400 32:2A0000000005000002",
                 Segment::Pattern(1024),
             ),
-            PduRow(&TEST_UNIT_READY, &[], Segment::None),
+            PduRow(&TEST_UNIT_READY, "", Segment::None),
         ],
         asked: &[],
         output: &[PduRow(
             &REJECT,
-            &[(2, &[4])],
+            "2:04",
             Segment::Rejected(
                 &TEST_UNIT_READY,
-                &[
-                    (1, &[WRITES]),
-                    (6, &[4, 0]),
-                    (20, &[0, 0, 4, 0]),
-                    (32, &[0x2A, 0, 0, 0, 0, 5, 0, 0, 2]),
-                ],
+                "1:A1 6:0400 20:00000400 32:2A0000000005000002",
             ),
         )],
         end: End::Protocol,

@@ -4,9 +4,7 @@ use crate::fixed::Answer;
 use crate::run::{PLAIN, Row, run};
 use scsi_types::{Asked, Command};
 use std::test::*;
-use test_streams::{
-    DATA_IN, F_BIT, GOOD, OVERFLOW, PduRow, READS, Segment, TEST_UNIT_READY, UNDERFLOW, WRITES,
-};
+use test_streams::{DATA_IN, GOOD, PduRow, Segment, TEST_UNIT_READY};
 
 const WRITE: (Option<u8>, Asked) = (
     Some(0),
@@ -31,81 +29,54 @@ const ROWS: &[Row] = &[
         name: "a write of 512 that expects 512 and sends 512",
         input: &[PduRow(
             &TEST_UNIT_READY,
-            &[
-                (1, &[WRITES]),
-                (6, &[2, 0]),
-                (20, &[0, 0, 2, 0]),
-                (32, &[0x2A, 0, 0, 0, 0, 5, 0, 0, 1]),
-            ],
+            "1:A1 6:0200 20:00000200 32:2A0000000005000001",
             Segment::Pattern(512),
         )],
         answer: Answer::Good(0),
         asked: &[WRITE],
         given: 512,
-        output: &[PduRow(&GOOD, &[], Segment::None)],
+        output: &[PduRow(&GOOD, "", Segment::None)],
         ..PLAIN
     },
     Row {
         name: "a write of 512 that expects 1024 and sends 512",
         input: &[PduRow(
             &TEST_UNIT_READY,
-            &[
-                (1, &[WRITES]),
-                (6, &[2, 0]),
-                (20, &[0, 0, 4, 0]),
-                (32, &[0x2A, 0, 0, 0, 0, 5, 0, 0, 1]),
-            ],
+            "1:A1 6:0200 20:00000400 32:2A0000000005000001",
             Segment::Pattern(512),
         )],
         answer: Answer::Good(0),
         asked: &[WRITE],
         given: 512,
-        output: &[PduRow(
-            &GOOD,
-            &[(1, &[UNDERFLOW]), (44, &[0, 0, 2, 0])],
-            Segment::None,
-        )],
+        output: &[PduRow(&GOOD, "1:82 44:00000200", Segment::None)],
         ..PLAIN
     },
     Row {
         name: "a write of 512 that expects 256 and sends 256",
         input: &[PduRow(
             &TEST_UNIT_READY,
-            &[
-                (1, &[WRITES]),
-                (6, &[1, 0]),
-                (20, &[0, 0, 1, 0]),
-                (32, &[0x2A, 0, 0, 0, 0, 5, 0, 0, 1]),
-            ],
+            "1:A1 6:0100 20:00000100 32:2A0000000005000001",
             Segment::Pattern(256),
         )],
         answer: Answer::Good(0),
         asked: &[WRITE],
         given: 256,
-        output: &[PduRow(
-            &GOOD,
-            &[(1, &[OVERFLOW]), (44, &[0, 0, 1, 0])],
-            Segment::None,
-        )],
+        output: &[PduRow(&GOOD, "1:84 44:00000100", Segment::None)],
         ..PLAIN
     },
     Row {
         name: "a read of 512 that expects 512",
         input: &[PduRow(
             &TEST_UNIT_READY,
-            &[
-                (1, &[READS]),
-                (20, &[0, 0, 2, 0]),
-                (32, &[0x28, 0, 0, 0, 0, 5, 0, 0, 1]),
-            ],
+            "1:C1 20:00000200 32:280000000005000001",
             Segment::None,
         )],
         answer: Answer::Good(512),
         asked: &[READ],
         given: 0,
         output: &[
-            PduRow(&DATA_IN, &[(6, &[2, 0])], Segment::Pattern(512)),
-            PduRow(&GOOD, &[(36, &[0, 0, 0, 1])], Segment::None),
+            PduRow(&DATA_IN, "6:0200", Segment::Pattern(512)),
+            PduRow(&GOOD, "36:00000001", Segment::None),
         ],
         ..PLAIN
     },
@@ -113,23 +84,15 @@ const ROWS: &[Row] = &[
         name: "a read of 512 that expects 256",
         input: &[PduRow(
             &TEST_UNIT_READY,
-            &[
-                (1, &[READS]),
-                (20, &[0, 0, 1, 0]),
-                (32, &[0x28, 0, 0, 0, 0, 5, 0, 0, 1]),
-            ],
+            "1:C1 20:00000100 32:280000000005000001",
             Segment::None,
         )],
         answer: Answer::Good(512),
         asked: &[READ],
         given: 0,
         output: &[
-            PduRow(&DATA_IN, &[(6, &[1, 0])], Segment::Pattern(256)),
-            PduRow(
-                &GOOD,
-                &[(1, &[OVERFLOW]), (36, &[0, 0, 0, 1]), (44, &[0, 0, 1, 0])],
-                Segment::None,
-            ),
+            PduRow(&DATA_IN, "6:0100", Segment::Pattern(256)),
+            PduRow(&GOOD, "1:84 36:00000001 44:00000100", Segment::None),
         ],
         ..PLAIN
     },
@@ -137,23 +100,15 @@ const ROWS: &[Row] = &[
         name: "a read of 512 that expects 1024",
         input: &[PduRow(
             &TEST_UNIT_READY,
-            &[
-                (1, &[READS]),
-                (20, &[0, 0, 4, 0]),
-                (32, &[0x28, 0, 0, 0, 0, 5, 0, 0, 1]),
-            ],
+            "1:C1 20:00000400 32:280000000005000001",
             Segment::None,
         )],
         answer: Answer::Good(512),
         asked: &[READ],
         given: 0,
         output: &[
-            PduRow(&DATA_IN, &[(6, &[2, 0])], Segment::Pattern(512)),
-            PduRow(
-                &GOOD,
-                &[(1, &[UNDERFLOW]), (36, &[0, 0, 0, 1]), (44, &[0, 0, 2, 0])],
-                Segment::None,
-            ),
+            PduRow(&DATA_IN, "6:0200", Segment::Pattern(512)),
+            PduRow(&GOOD, "1:82 36:00000001 44:00000200", Segment::None),
         ],
         ..PLAIN
     },
@@ -162,23 +117,15 @@ const ROWS: &[Row] = &[
         name: "a read of 512 that expects 3",
         input: &[PduRow(
             &TEST_UNIT_READY,
-            &[
-                (1, &[READS]),
-                (20, &[0, 0, 0, 3]),
-                (32, &[0x28, 0, 0, 0, 0, 5, 0, 0, 1]),
-            ],
+            "1:C1 20:00000003 32:280000000005000001",
             Segment::None,
         )],
         answer: Answer::Good(512),
         asked: &[READ],
         given: 0,
         output: &[
-            PduRow(&DATA_IN, &[(6, &[0, 3])], Segment::Pattern(3)),
-            PduRow(
-                &GOOD,
-                &[(1, &[OVERFLOW]), (36, &[0, 0, 0, 1]), (44, &[0, 0, 1, 253])],
-                Segment::None,
-            ),
+            PduRow(&DATA_IN, "6:0003", Segment::Pattern(3)),
+            PduRow(&GOOD, "1:84 36:00000001 44:000001FD", Segment::None),
         ],
         ..PLAIN
     },
@@ -186,21 +133,13 @@ const ROWS: &[Row] = &[
         name: "a read of 512 without R",
         input: &[PduRow(
             &TEST_UNIT_READY,
-            &[
-                (1, &[F_BIT]),
-                (20, &[0, 0, 2, 0]),
-                (32, &[0x28, 0, 0, 0, 0, 5, 0, 0, 1]),
-            ],
+            "1:81 20:00000200 32:280000000005000001",
             Segment::None,
         )],
         answer: Answer::Good(512),
         asked: &[READ],
         given: 0,
-        output: &[PduRow(
-            &GOOD,
-            &[(1, &[OVERFLOW]), (44, &[0, 0, 2, 0])],
-            Segment::None,
-        )],
+        output: &[PduRow(&GOOD, "1:84 44:00000200", Segment::None)],
         ..PLAIN
     },
 ];

@@ -163,7 +163,7 @@ pub const PLAIN: Row = Row {
     kind: Kind::Normal,
     start: FROM_ONE,
     portals: 1,
-    input: &[PduRow(&TEST_UNIT_READY, &[], Segment::None)],
+    input: &[PduRow(&TEST_UNIT_READY, "", Segment::None)],
     answer: Answer::Good(0),
     asked: &[TEST],
     given: 0,
@@ -172,7 +172,7 @@ pub const PLAIN: Row = Row {
     begin: BeginAnswer::Begun(1),
     lives: false,
     calls: &[],
-    output: &[PduRow(&GOOD, &[], Segment::None)],
+    output: &[PduRow(&GOOD, "", Segment::None)],
     end: End::EndOfInput,
 };
 

@@ -3,7 +3,7 @@ use crate::fixed::Answer;
 use crate::run::{Begin, FROM_ONE, PLAIN, Row, run};
 use scsi_types::Command;
 use std::test::*;
-use test_streams::{DATA_IN, GOOD, OVERFLOW, PduRow, READS, Segment, TEST_UNIT_READY};
+use test_streams::{DATA_IN, GOOD, PduRow, Segment, TEST_UNIT_READY};
 
 // The initiator's MaxRecvDataSegmentLength, and MaxBurstLength.
 const SHORT_RUNS: Begin = Begin {
@@ -43,11 +43,7 @@ const ROWS: &[Row] = &[
         start: SHORT_RUNS,
         input: &[PduRow(
             &TEST_UNIT_READY,
-            &[
-                (1, &[READS]),
-                (20, &[0, 0, 0x0A, 0]),
-                (32, &[0x28, 0, 0, 0, 0, 5, 0, 0, 5]),
-            ],
+            "1:C1 20:00000A00 32:280000000005000005",
             Segment::None,
         )],
         answer: Answer::Runs(&[(512, 1), (512, 2), (512, 3), (512, 4), (512, 5)]),
@@ -62,42 +58,30 @@ const ROWS: &[Row] = &[
         output: &[
             PduRow(
                 &DATA_IN,
-                &[(1, &[0]), (5, &[0, 2, 0]), (36, &[0, 0, 0, 0, 0, 0, 0, 0])],
+                "1:00 5:000200 36:0000000000000000",
                 Segment::Runs(&[(512, 1)]),
             ),
             PduRow(
                 &DATA_IN,
-                &[
-                    (1, &[0x80]),
-                    (5, &[0, 2, 0]),
-                    (36, &[0, 0, 0, 1, 0, 0, 2, 0]),
-                ],
+                "1:80 5:000200 36:0000000100000200",
                 Segment::Runs(&[(512, 2)]),
             ),
             PduRow(
                 &DATA_IN,
-                &[(1, &[0]), (5, &[0, 2, 0]), (36, &[0, 0, 0, 2, 0, 0, 4, 0])],
+                "1:00 5:000200 36:0000000200000400",
                 Segment::Runs(&[(512, 3)]),
             ),
             PduRow(
                 &DATA_IN,
-                &[
-                    (1, &[0x80]),
-                    (5, &[0, 2, 0]),
-                    (36, &[0, 0, 0, 3, 0, 0, 6, 0]),
-                ],
+                "1:80 5:000200 36:0000000300000600",
                 Segment::Runs(&[(512, 4)]),
             ),
             PduRow(
                 &DATA_IN,
-                &[
-                    (1, &[0x80]),
-                    (5, &[0, 2, 0]),
-                    (36, &[0, 0, 0, 4, 0, 0, 8, 0]),
-                ],
+                "1:80 5:000200 36:0000000400000800",
                 Segment::Runs(&[(512, 5)]),
             ),
-            PduRow(&GOOD, &[(36, &[0, 0, 0, 5])], Segment::None),
+            PduRow(&GOOD, "36:00000005", Segment::None),
         ],
         ..PLAIN
     },
@@ -107,11 +91,7 @@ const ROWS: &[Row] = &[
         start: UNEVEN_RUNS,
         input: &[PduRow(
             &TEST_UNIT_READY,
-            &[
-                (1, &[READS]),
-                (20, &[0, 0, 6, 0]),
-                (32, &[0x28, 0, 0, 0, 0, 5, 0, 0, 3]),
-            ],
+            "1:C1 20:00000600 32:280000000005000003",
             Segment::None,
         )],
         answer: Answer::Runs(&[(512, 1), (256, 2), (512, 3), (256, 4)]),
@@ -126,33 +106,25 @@ const ROWS: &[Row] = &[
         output: &[
             PduRow(
                 &DATA_IN,
-                &[(1, &[0]), (5, &[0, 2, 0]), (36, &[0, 0, 0, 0, 0, 0, 0, 0])],
+                "1:00 5:000200 36:0000000000000000",
                 Segment::Runs(&[(512, 1)]),
             ),
             PduRow(
                 &DATA_IN,
-                &[
-                    (1, &[0x80]),
-                    (5, &[0, 1, 0]),
-                    (36, &[0, 0, 0, 1, 0, 0, 2, 0]),
-                ],
+                "1:80 5:000100 36:0000000100000200",
                 Segment::Runs(&[(256, 2)]),
             ),
             PduRow(
                 &DATA_IN,
-                &[(1, &[0]), (5, &[0, 2, 0]), (36, &[0, 0, 0, 2, 0, 0, 3, 0])],
+                "1:00 5:000200 36:0000000200000300",
                 Segment::Runs(&[(512, 3)]),
             ),
             PduRow(
                 &DATA_IN,
-                &[
-                    (1, &[0x80]),
-                    (5, &[0, 1, 0]),
-                    (36, &[0, 0, 0, 3, 0, 0, 5, 0]),
-                ],
+                "1:80 5:000100 36:0000000300000500",
                 Segment::Runs(&[(256, 4)]),
             ),
-            PduRow(&GOOD, &[(36, &[0, 0, 0, 4])], Segment::None),
+            PduRow(&GOOD, "36:00000004", Segment::None),
         ],
         ..PLAIN
     },
@@ -162,11 +134,7 @@ const ROWS: &[Row] = &[
         start: RUNS_BELOW_A_SEGMENT,
         input: &[PduRow(
             &TEST_UNIT_READY,
-            &[
-                (1, &[READS]),
-                (20, &[0, 0, 6, 0]),
-                (32, &[0x28, 0, 0, 0, 0, 5, 0, 0, 3]),
-            ],
+            "1:C1 20:00000600 32:280000000005000003",
             Segment::None,
         )],
         answer: Answer::Runs(&[(1024, 1), (512, 2)]),
@@ -181,23 +149,15 @@ const ROWS: &[Row] = &[
         output: &[
             PduRow(
                 &DATA_IN,
-                &[
-                    (1, &[0x80]),
-                    (5, &[0, 4, 0]),
-                    (36, &[0, 0, 0, 0, 0, 0, 0, 0]),
-                ],
+                "1:80 5:000400 36:0000000000000000",
                 Segment::Runs(&[(1024, 1)]),
             ),
             PduRow(
                 &DATA_IN,
-                &[
-                    (1, &[0x80]),
-                    (5, &[0, 2, 0]),
-                    (36, &[0, 0, 0, 1, 0, 0, 4, 0]),
-                ],
+                "1:80 5:000200 36:0000000100000400",
                 Segment::Runs(&[(512, 2)]),
             ),
-            PduRow(&GOOD, &[(36, &[0, 0, 0, 2])], Segment::None),
+            PduRow(&GOOD, "36:00000002", Segment::None),
         ],
         ..PLAIN
     },
@@ -206,11 +166,7 @@ const ROWS: &[Row] = &[
         start: LONG_SEGMENTS,
         input: &[PduRow(
             &TEST_UNIT_READY,
-            &[
-                (1, &[READS]),
-                (20, &[0, 2, 0, 0]),
-                (32, &[0x28, 0, 0, 0, 0, 0, 0, 1, 0]),
-            ],
+            "1:C1 20:00020000 32:280000000000000100",
             Segment::None,
         )],
         answer: Answer::Runs(&[(65536, 1), (65536, 2)]),
@@ -225,19 +181,15 @@ const ROWS: &[Row] = &[
         output: &[
             PduRow(
                 &DATA_IN,
-                &[(1, &[0]), (5, &[1, 0, 0]), (36, &[0, 0, 0, 0, 0, 0, 0, 0])],
+                "1:00 5:010000 36:0000000000000000",
                 Segment::Runs(&[(65536, 1)]),
             ),
             PduRow(
                 &DATA_IN,
-                &[
-                    (1, &[0x80]),
-                    (5, &[1, 0, 0]),
-                    (36, &[0, 0, 0, 1, 0, 1, 0, 0]),
-                ],
+                "1:80 5:010000 36:0000000100010000",
                 Segment::Runs(&[(65536, 2)]),
             ),
-            PduRow(&GOOD, &[(36, &[0, 0, 0, 2])], Segment::None),
+            PduRow(&GOOD, "36:00000002", Segment::None),
         ],
         ..PLAIN
     },
@@ -247,11 +199,7 @@ const ROWS: &[Row] = &[
         start: LONGEST_SEGMENTS,
         input: &[PduRow(
             &TEST_UNIT_READY,
-            &[
-                (1, &[READS]),
-                (20, &[0, 1, 2, 0]),
-                (32, &[0x28, 0, 0, 0, 0, 0, 0, 0, 0x81]),
-            ],
+            "1:C1 20:00010200 32:280000000000000081",
             Segment::None,
         )],
         answer: Answer::Runs(&[(65536, 1), (512, 2)]),
@@ -266,19 +214,15 @@ const ROWS: &[Row] = &[
         output: &[
             PduRow(
                 &DATA_IN,
-                &[(1, &[0]), (5, &[1, 0, 0]), (36, &[0, 0, 0, 0, 0, 0, 0, 0])],
+                "1:00 5:010000 36:0000000000000000",
                 Segment::Runs(&[(65536, 1)]),
             ),
             PduRow(
                 &DATA_IN,
-                &[
-                    (1, &[0x80]),
-                    (5, &[0, 2, 0]),
-                    (36, &[0, 0, 0, 1, 0, 1, 0, 0]),
-                ],
+                "1:80 5:000200 36:0000000100010000",
                 Segment::Runs(&[(512, 2)]),
             ),
-            PduRow(&GOOD, &[(36, &[0, 0, 0, 2])], Segment::None),
+            PduRow(&GOOD, "36:00000002", Segment::None),
         ],
         ..PLAIN
     },
@@ -288,11 +232,7 @@ const ROWS: &[Row] = &[
         start: SHORT_RUNS,
         input: &[PduRow(
             &TEST_UNIT_READY,
-            &[
-                (1, &[READS]),
-                (20, &[0, 0, 5, 0x15]),
-                (32, &[0x28, 0, 0, 0, 0, 5, 0, 0, 3]),
-            ],
+            "1:C1 20:00000515 32:280000000005000003",
             Segment::None,
         )],
         answer: Answer::Runs(&[(512, 1), (512, 2), (512, 3)]),
@@ -307,36 +247,20 @@ const ROWS: &[Row] = &[
         output: &[
             PduRow(
                 &DATA_IN,
-                &[(1, &[0]), (5, &[0, 2, 0]), (36, &[0, 0, 0, 0, 0, 0, 0, 0])],
+                "1:00 5:000200 36:0000000000000000",
                 Segment::Runs(&[(512, 1)]),
             ),
             PduRow(
                 &DATA_IN,
-                &[
-                    (1, &[0x80]),
-                    (5, &[0, 2, 0]),
-                    (36, &[0, 0, 0, 1, 0, 0, 2, 0]),
-                ],
+                "1:80 5:000200 36:0000000100000200",
                 Segment::Runs(&[(512, 2)]),
             ),
             PduRow(
                 &DATA_IN,
-                &[
-                    (1, &[0x80]),
-                    (5, &[0, 1, 0x15]),
-                    (36, &[0, 0, 0, 2, 0, 0, 4, 0]),
-                ],
+                "1:80 5:000115 36:0000000200000400",
                 Segment::Runs(&[(277, 3)]),
             ),
-            PduRow(
-                &GOOD,
-                &[
-                    (1, &[OVERFLOW]),
-                    (36, &[0, 0, 0, 3]),
-                    (44, &[0, 0, 0, 0xEB]),
-                ],
-                Segment::None,
-            ),
+            PduRow(&GOOD, "1:84 36:00000003 44:000000EB", Segment::None),
         ],
         ..PLAIN
     },

@@ -9,17 +9,13 @@ use test_streams::{Calls, GOOD, ONE_BYTE, PduRow, Segment, TEST_UNIT_READY, WHOL
 
 // Two commands, and their answers: 96 bytes each.
 const INPUT: &[PduRow] = &[
-    PduRow(&TEST_UNIT_READY, &[], Segment::None),
-    PduRow(&TEST_UNIT_READY, &[(24, &[0, 0, 0, 2])], Segment::None),
+    PduRow(&TEST_UNIT_READY, "", Segment::None),
+    PduRow(&TEST_UNIT_READY, "24:00000002", Segment::None),
 ];
 
 const OUTPUT: &[PduRow] = &[
-    PduRow(&GOOD, &[], Segment::None),
-    PduRow(
-        &GOOD,
-        &[(24, &[0, 0, 0, 2, 0, 0, 0, 3, 0, 0, 0, 0x22])],
-        Segment::None,
-    ),
+    PduRow(&GOOD, "", Segment::None),
+    PduRow(&GOOD, "24:000000020000000300000022", Segment::None),
 ];
 
 // Seven bytes a call: fourteen calls move the 96 bytes, two of them at a PDU's end.

@@ -28,78 +28,74 @@ const RESPONSE: [u8; 48] = [
 const ROWS: &[Row] = &[
     Row {
         name: "ABORT TASK of a task that ended: there is none",
-        input: &[PduRow(
-            &REQUEST,
-            &[(1, &[0x81]), (20, &[0, 0, 0, 9])],
-            Segment::None,
-        )],
+        input: &[PduRow(&REQUEST, "1:81 20:00000009", Segment::None)],
         asked: &[],
-        output: &[PduRow(&RESPONSE, &[(2, &[1])], Segment::None)],
+        output: &[PduRow(&RESPONSE, "2:01", Segment::None)],
         ..PLAIN
     },
     Row {
         name: "ABORT TASK SET",
-        input: &[PduRow(&REQUEST, &[(1, &[0x82])], Segment::None)],
+        input: &[PduRow(&REQUEST, "1:82", Segment::None)],
         asked: &[],
-        output: &[PduRow(&RESPONSE, &[(2, &[0])], Segment::None)],
+        output: &[PduRow(&RESPONSE, "2:00", Segment::None)],
         ..PLAIN
     },
     Row {
         name: "function 3 is not supported",
-        input: &[PduRow(&REQUEST, &[(1, &[0x83])], Segment::None)],
+        input: &[PduRow(&REQUEST, "1:83", Segment::None)],
         asked: &[],
-        output: &[PduRow(&RESPONSE, &[(2, &[5])], Segment::None)],
+        output: &[PduRow(&RESPONSE, "2:05", Segment::None)],
         ..PLAIN
     },
     Row {
         name: "function 4 is not supported",
-        input: &[PduRow(&REQUEST, &[(1, &[0x84])], Segment::None)],
+        input: &[PduRow(&REQUEST, "1:84", Segment::None)],
         asked: &[],
-        output: &[PduRow(&RESPONSE, &[(2, &[5])], Segment::None)],
+        output: &[PduRow(&RESPONSE, "2:05", Segment::None)],
         ..PLAIN
     },
     Row {
         name: "function 6 is not supported",
-        input: &[PduRow(&REQUEST, &[(1, &[0x86])], Segment::None)],
+        input: &[PduRow(&REQUEST, "1:86", Segment::None)],
         asked: &[],
-        output: &[PduRow(&RESPONSE, &[(2, &[5])], Segment::None)],
+        output: &[PduRow(&RESPONSE, "2:05", Segment::None)],
         ..PLAIN
     },
     Row {
         name: "function 7 is not supported",
-        input: &[PduRow(&REQUEST, &[(1, &[0x87])], Segment::None)],
+        input: &[PduRow(&REQUEST, "1:87", Segment::None)],
         asked: &[],
-        output: &[PduRow(&RESPONSE, &[(2, &[5])], Segment::None)],
+        output: &[PduRow(&RESPONSE, "2:05", Segment::None)],
         ..PLAIN
     },
     Row {
         name: "TASK REASSIGN",
-        input: &[PduRow(&REQUEST, &[(1, &[0x88])], Segment::None)],
+        input: &[PduRow(&REQUEST, "1:88", Segment::None)],
         asked: &[],
-        output: &[PduRow(&RESPONSE, &[(2, &[4])], Segment::None)],
+        output: &[PduRow(&RESPONSE, "2:04", Segment::None)],
         ..PLAIN
     },
     Row {
         name: "LOGICAL UNIT RESET",
-        input: &[PduRow(&REQUEST, &[(1, &[0x85])], Segment::None)],
+        input: &[PduRow(&REQUEST, "1:85", Segment::None)],
         asked: &[],
-        output: &[PduRow(&RESPONSE, &[(2, &[0])], Segment::None)],
+        output: &[PduRow(&RESPONSE, "2:00", Segment::None)],
         resets: &[0],
         ..PLAIN
     },
     Row {
         name: "LOGICAL UNIT RESET by the other form of the LUN",
-        input: &[PduRow(&REQUEST, &[(1, &[0x85]), (8, &[0x40])], Segment::None)],
+        input: &[PduRow(&REQUEST, "1:85 8:40", Segment::None)],
         asked: &[],
-        output: &[PduRow(&RESPONSE, &[(2, &[0])], Segment::None)],
+        output: &[PduRow(&RESPONSE, "2:00", Segment::None)],
         resets: &[0],
         ..PLAIN
     },
     Row {
         name: "LOGICAL UNIT RESET that failed",
-        input: &[PduRow(&REQUEST, &[(1, &[0x85])], Segment::None)],
+        input: &[PduRow(&REQUEST, "1:85", Segment::None)],
         asked: &[],
-        output: &[PduRow(&RESPONSE, &[(2, &[0xFF])], Segment::None)],
+        output: &[PduRow(&RESPONSE, "2:FF", Segment::None)],
         reset: ResetAnswer::Failed,
         resets: &[0],
         ..PLAIN
@@ -107,8 +103,8 @@ const ROWS: &[Row] = &[
     Row {
         name: "LOGICAL UNIT RESET, and the session is gone",
         input: &[
-            PduRow(&REQUEST, &[(1, &[0x85])], Segment::None),
-            PduRow(&TEST_UNIT_READY, &[(24, &[0, 0, 0, 2])], Segment::None),
+            PduRow(&REQUEST, "1:85", Segment::None),
+            PduRow(&TEST_UNIT_READY, "24:00000002", Segment::None),
         ],
         asked: &[],
         reset: ResetAnswer::Gone,
@@ -119,75 +115,63 @@ const ROWS: &[Row] = &[
     },
     Row {
         name: "ABORT TASK on unit 1, which is not there",
-        input: &[PduRow(&REQUEST, &[(1, &[0x81]), (9, &[1])], Segment::None)],
+        input: &[PduRow(&REQUEST, "1:81 9:01", Segment::None)],
         asked: &[],
-        output: &[PduRow(&RESPONSE, &[(2, &[2])], Segment::None)],
+        output: &[PduRow(&RESPONSE, "2:02", Segment::None)],
         ..PLAIN
     },
     Row {
         name: "ABORT TASK SET on unit 1, which is not there",
-        input: &[PduRow(&REQUEST, &[(1, &[0x82]), (9, &[1])], Segment::None)],
+        input: &[PduRow(&REQUEST, "1:82 9:01", Segment::None)],
         asked: &[],
-        output: &[PduRow(&RESPONSE, &[(2, &[2])], Segment::None)],
+        output: &[PduRow(&RESPONSE, "2:02", Segment::None)],
         ..PLAIN
     },
     Row {
         name: "LOGICAL UNIT RESET on unit 1, which is not there",
-        input: &[PduRow(&REQUEST, &[(1, &[0x85]), (9, &[1])], Segment::None)],
+        input: &[PduRow(&REQUEST, "1:85 9:01", Segment::None)],
         asked: &[],
-        output: &[PduRow(&RESPONSE, &[(2, &[2])], Segment::None)],
+        output: &[PduRow(&RESPONSE, "2:02", Segment::None)],
         ..PLAIN
     },
     Row {
         name: "LOGICAL UNIT RESET on a LUN that names no unit",
-        input: &[PduRow(&REQUEST, &[(1, &[0x85]), (10, &[1])], Segment::None)],
+        input: &[PduRow(&REQUEST, "1:85 10:01", Segment::None)],
         asked: &[],
-        output: &[PduRow(&RESPONSE, &[(2, &[2])], Segment::None)],
+        output: &[PduRow(&RESPONSE, "2:02", Segment::None)],
         ..PLAIN
     },
     Row {
         name: "TASK REASSIGN on unit 1, which is not there",
-        input: &[PduRow(&REQUEST, &[(1, &[0x88]), (9, &[1])], Segment::None)],
+        input: &[PduRow(&REQUEST, "1:88 9:01", Segment::None)],
         asked: &[],
-        output: &[PduRow(&RESPONSE, &[(2, &[4])], Segment::None)],
+        output: &[PduRow(&RESPONSE, "2:04", Segment::None)],
         ..PLAIN
     },
     Row {
         name: "an immediate one takes no number",
         input: &[
-            PduRow(&REQUEST, &[(0, &[0x42, 0x85])], Segment::None),
-            PduRow(&TEST_UNIT_READY, &[], Segment::None),
+            PduRow(&REQUEST, "0:4285", Segment::None),
+            PduRow(&TEST_UNIT_READY, "", Segment::None),
         ],
         resets: &[0],
         output: &[
-            PduRow(
-                &RESPONSE,
-                &[(24, &[0, 0, 0, 1, 0, 0, 0, 1, 0, 0, 0, 0x20])],
-                Segment::None,
-            ),
-            PduRow(&GOOD, &[(24, &[0, 0, 0, 2])], Segment::None),
+            PduRow(&RESPONSE, "24:000000010000000100000020", Segment::None),
+            PduRow(&GOOD, "24:00000002", Segment::None),
         ],
         ..PLAIN
     },
     Row {
         name: "outside the window it is ignored",
         input: &[
-            PduRow(
-                &REQUEST,
-                &[(1, &[0x85]), (24, &[0, 0, 0, 0])],
-                Segment::None,
-            ),
-            PduRow(&TEST_UNIT_READY, &[], Segment::None),
+            PduRow(&REQUEST, "1:85 24:00000000", Segment::None),
+            PduRow(&TEST_UNIT_READY, "", Segment::None),
         ],
         ..PLAIN
     },
     Row {
         name: "inside the window, but not the next, it leaves a gap",
-        input: &[PduRow(
-            &REQUEST,
-            &[(1, &[0x85]), (24, &[0, 0, 0, 2])],
-            Segment::None,
-        )],
+        input: &[PduRow(&REQUEST, "1:85 24:00000002", Segment::None)],
         asked: &[],
         output: &[],
         end: End::Protocol,
@@ -206,39 +190,23 @@ const ONE_BLOCK: (Option<u8>, Asked) = (
 );
 
 // The third command, and its answer: StatSN 2, ExpCmdSN 4 and MaxCmdSN 35, as no write waits any more.
-const THIRD: PduRow = PduRow(
-    &TEST_UNIT_READY,
-    &[(19, &[9]), (24, &[0, 0, 0, 3])],
-    Segment::None,
-);
+const THIRD: PduRow = PduRow(&TEST_UNIT_READY, "19:09 24:00000003", Segment::None);
 
-const THIRD_GOOD: PduRow = PduRow(
-    &GOOD,
-    &[(19, &[9]), (24, &[0, 0, 0, 2, 0, 0, 0, 4, 0, 0, 0, 0x23])],
-    Segment::None,
-);
+const THIRD_GOOD: PduRow = PduRow(&GOOD, "19:09 24:000000020000000400000023", Segment::None);
 
 // A write that waits for its 512 bytes, by its R2T, and what becomes of it. The request has CmdSN 2 and the tag 2.
 const WAITING: &[Row] = &[
     Row {
         name: "ABORT TASK drops it: it is not answered, and its Data-Out behind is passed over",
         input: &[
-            PduRow(&WRITE, &[], Segment::None),
-            PduRow(
-                &REQUEST,
-                &[(1, &[0x81]), (19, &[2]), (23, &[1]), (27, &[2])],
-                Segment::None,
-            ),
-            PduRow(&DATA_OUT, &[], Segment::Pattern(512)),
+            PduRow(&WRITE, "", Segment::None),
+            PduRow(&REQUEST, "1:81 19:02 23:01 27:02", Segment::None),
+            PduRow(&DATA_OUT, "", Segment::Pattern(512)),
             THIRD,
         ],
         output: &[
-            PduRow(&R2T, &[], Segment::None),
-            PduRow(
-                &RESPONSE,
-                &[(2, &[0]), (19, &[2]), (31, &[3]), (35, &[0x22])],
-                Segment::None,
-            ),
+            PduRow(&R2T, "", Segment::None),
+            PduRow(&RESPONSE, "2:00 19:02 31:03 35:22", Segment::None),
             THIRD_GOOD,
         ],
         ..PLAIN
@@ -246,96 +214,60 @@ const WAITING: &[Row] = &[
     Row {
         name: "an immediate ABORT TASK drops it",
         input: &[
-            PduRow(&WRITE, &[], Segment::None),
-            PduRow(
-                &REQUEST,
-                &[(0, &[0x42, 0x81]), (19, &[2]), (23, &[1]), (27, &[2])],
-                Segment::None,
-            ),
-            PduRow(&DATA_OUT, &[], Segment::Pattern(512)),
+            PduRow(&WRITE, "", Segment::None),
+            PduRow(&REQUEST, "0:4281 19:02 23:01 27:02", Segment::None),
+            PduRow(&DATA_OUT, "", Segment::Pattern(512)),
         ],
         asked: &[],
         output: &[
-            PduRow(&R2T, &[], Segment::None),
-            PduRow(&RESPONSE, &[(2, &[0]), (19, &[2])], Segment::None),
+            PduRow(&R2T, "", Segment::None),
+            PduRow(&RESPONSE, "2:00 19:02", Segment::None),
         ],
         ..PLAIN
     },
     Row {
         name: "ABORT TASK of another tag leaves it, and there is no such task",
         input: &[
-            PduRow(&WRITE, &[], Segment::None),
-            PduRow(
-                &REQUEST,
-                &[(1, &[0x81]), (19, &[2]), (23, &[7]), (27, &[2])],
-                Segment::None,
-            ),
-            PduRow(&DATA_OUT, &[], Segment::Pattern(512)),
+            PduRow(&WRITE, "", Segment::None),
+            PduRow(&REQUEST, "1:81 19:02 23:07 27:02", Segment::None),
+            PduRow(&DATA_OUT, "", Segment::Pattern(512)),
         ],
         asked: &[ONE_BLOCK],
         given: 512,
         output: &[
-            PduRow(&R2T, &[], Segment::None),
-            PduRow(
-                &RESPONSE,
-                &[(2, &[1]), (19, &[2]), (31, &[3])],
-                Segment::None,
-            ),
-            PduRow(
-                &GOOD,
-                &[(24, &[0, 0, 0, 2, 0, 0, 0, 3, 0, 0, 0, 0x22])],
-                Segment::None,
-            ),
+            PduRow(&R2T, "", Segment::None),
+            PduRow(&RESPONSE, "2:01 19:02 31:03", Segment::None),
+            PduRow(&GOOD, "24:000000020000000300000022", Segment::None),
         ],
         ..PLAIN
     },
     Row {
         name: "ABORT TASK on unit 1, which is not there, leaves it",
         input: &[
-            PduRow(&WRITE, &[], Segment::None),
-            PduRow(
-                &REQUEST,
-                &[(1, &[0x81]), (9, &[1]), (19, &[2]), (23, &[1]), (27, &[2])],
-                Segment::None,
-            ),
-            PduRow(&DATA_OUT, &[], Segment::Pattern(512)),
+            PduRow(&WRITE, "", Segment::None),
+            PduRow(&REQUEST, "1:81 9:01 19:02 23:01 27:02", Segment::None),
+            PduRow(&DATA_OUT, "", Segment::Pattern(512)),
         ],
         asked: &[ONE_BLOCK],
         given: 512,
         output: &[
-            PduRow(&R2T, &[], Segment::None),
-            PduRow(
-                &RESPONSE,
-                &[(2, &[2]), (19, &[2]), (31, &[3])],
-                Segment::None,
-            ),
-            PduRow(
-                &GOOD,
-                &[(24, &[0, 0, 0, 2, 0, 0, 0, 3, 0, 0, 0, 0x22])],
-                Segment::None,
-            ),
+            PduRow(&R2T, "", Segment::None),
+            PduRow(&RESPONSE, "2:02 19:02 31:03", Segment::None),
+            PduRow(&GOOD, "24:000000020000000300000022", Segment::None),
         ],
         ..PLAIN
     },
     Row {
         name: "ABORT TASK SET by the other form of the LUN drops it",
         input: &[
-            PduRow(&WRITE, &[], Segment::None),
-            PduRow(
-                &REQUEST,
-                &[(1, &[0x82]), (8, &[0x40]), (19, &[2]), (27, &[2])],
-                Segment::None,
-            ),
-            PduRow(&DATA_OUT, &[], Segment::Pattern(512)),
+            PduRow(&WRITE, "", Segment::None),
+            PduRow(&REQUEST, "1:82 8:40 19:02 27:02", Segment::None),
+            PduRow(&DATA_OUT, "", Segment::Pattern(512)),
             THIRD,
         ],
         output: &[
-            PduRow(&R2T, &[], Segment::None),
-            PduRow(
-                &RESPONSE,
-                &[(2, &[0]), (19, &[2]), (31, &[3]), (35, &[0x22])],
-                Segment::None,
-            ),
+            PduRow(&R2T, "", Segment::None),
+            PduRow(&RESPONSE, "2:00 19:02 31:03 35:22", Segment::None),
             THIRD_GOOD,
         ],
         ..PLAIN
@@ -343,23 +275,15 @@ const WAITING: &[Row] = &[
     Row {
         name: "LOGICAL UNIT RESET drops it, and the unit is reset",
         input: &[
-            PduRow(&WRITE, &[], Segment::None),
-            PduRow(
-                &REQUEST,
-                &[(1, &[0x85]), (19, &[2]), (27, &[2])],
-                Segment::None,
-            ),
-            PduRow(&DATA_OUT, &[], Segment::Pattern(512)),
+            PduRow(&WRITE, "", Segment::None),
+            PduRow(&REQUEST, "1:85 19:02 27:02", Segment::None),
+            PduRow(&DATA_OUT, "", Segment::Pattern(512)),
             THIRD,
         ],
         resets: &[0],
         output: &[
-            PduRow(&R2T, &[], Segment::None),
-            PduRow(
-                &RESPONSE,
-                &[(2, &[0]), (19, &[2]), (31, &[3]), (35, &[0x22])],
-                Segment::None,
-            ),
+            PduRow(&R2T, "", Segment::None),
+            PduRow(&RESPONSE, "2:00 19:02 31:03 35:22", Segment::None),
             THIRD_GOOD,
         ],
         ..PLAIN
@@ -367,28 +291,16 @@ const WAITING: &[Row] = &[
     Row {
         name: "TASK REASSIGN leaves it",
         input: &[
-            PduRow(&WRITE, &[], Segment::None),
-            PduRow(
-                &REQUEST,
-                &[(1, &[0x88]), (19, &[2]), (23, &[1]), (27, &[2])],
-                Segment::None,
-            ),
-            PduRow(&DATA_OUT, &[], Segment::Pattern(512)),
+            PduRow(&WRITE, "", Segment::None),
+            PduRow(&REQUEST, "1:88 19:02 23:01 27:02", Segment::None),
+            PduRow(&DATA_OUT, "", Segment::Pattern(512)),
         ],
         asked: &[ONE_BLOCK],
         given: 512,
         output: &[
-            PduRow(&R2T, &[], Segment::None),
-            PduRow(
-                &RESPONSE,
-                &[(2, &[4]), (19, &[2]), (31, &[3])],
-                Segment::None,
-            ),
-            PduRow(
-                &GOOD,
-                &[(24, &[0, 0, 0, 2, 0, 0, 0, 3, 0, 0, 0, 0x22])],
-                Segment::None,
-            ),
+            PduRow(&R2T, "", Segment::None),
+            PduRow(&RESPONSE, "2:04 19:02 31:03", Segment::None),
+            PduRow(&GOOD, "24:000000020000000300000022", Segment::None),
         ],
         ..PLAIN
     },

@@ -6,7 +6,7 @@ use scsi_types::{Asked, Command};
 use std::alloc::Global;
 use std::test::*;
 use test_streams::{
-    DATA_IN, DATA_OUT, GOOD, PduRow, R2T, READS, Segment, TEST_UNIT_READY, WRITE, spelled,
+    DATA_IN, DATA_OUT, GOOD, PduRow, R2T, Segment, TEST_UNIT_READY, WRITE, spelled,
 };
 
 // What WRITE (10) at block 5 asks for.
@@ -52,39 +52,23 @@ const ROWS: &[Row] = &[
     Row {
         name: "two writes, their Data-Out interleaved, and a read",
         input: &[
-            PduRow(&WRITE, &[(20, &[0, 0, 4, 0]), (40, &[2])], Segment::None),
-            PduRow(
-                &WRITE,
-                &[
-                    (19, &[2]),
-                    (20, &[0, 0, 4, 0]),
-                    (27, &[2]),
-                    (37, &[9]),
-                    (40, &[2]),
-                ],
-                Segment::None,
-            ),
-            PduRow(&DATA_OUT, &[(19, &[2]), (23, &[1])], Segment::Pattern(512)),
-            PduRow(&DATA_OUT, &[], Segment::PatternAt(1024, 512)),
+            PduRow(&WRITE, "20:00000400 40:02", Segment::None),
+            PduRow(&WRITE, "19:02 20:00000400 27:02 37:09 40:02", Segment::None),
+            PduRow(&DATA_OUT, "19:02 23:01", Segment::Pattern(512)),
+            PduRow(&DATA_OUT, "", Segment::PatternAt(1024, 512)),
             PduRow(
                 &TEST_UNIT_READY,
-                &[
-                    (1, &[READS]),
-                    (19, &[3]),
-                    (20, &[0, 0, 2, 0]),
-                    (27, &[3]),
-                    (32, &[0x28, 0, 0, 0, 0, 5, 0, 0, 1]),
-                ],
+                "1:C1 19:03 20:00000200 27:03 32:280000000005000001",
                 Segment::None,
             ),
             PduRow(
                 &DATA_OUT,
-                &[(19, &[2]), (23, &[1]), (36, &[0, 0, 0, 1, 0, 0, 2, 0])],
+                "19:02 23:01 36:0000000100000200",
                 Segment::PatternAt(512, 512),
             ),
             PduRow(
                 &DATA_OUT,
-                &[(36, &[0, 0, 0, 1, 0, 0, 2, 0])],
+                "36:0000000100000200",
                 Segment::PatternAt(1536, 512),
             ),
         ],
@@ -92,36 +76,20 @@ const ROWS: &[Row] = &[
         asked: &[READ, AT_9, AT_5],
         given: 2048,
         output: &[
-            PduRow(&R2T, &[(46, &[4, 0])], Segment::None),
-            PduRow(
-                &R2T,
-                &[(19, &[2]), (23, &[1]), (31, &[3]), (46, &[4, 0])],
-                Segment::None,
-            ),
+            PduRow(&R2T, "46:0400", Segment::None),
+            PduRow(&R2T, "19:02 23:01 31:03 46:0400", Segment::None),
             PduRow(
                 &DATA_IN,
-                &[(6, &[2, 0]), (19, &[3]), (31, &[4, 0, 0, 0, 0x21])],
+                "6:0200 19:03 31:0400000021",
                 Segment::Pattern(512),
             ),
             PduRow(
                 &GOOD,
-                &[
-                    (19, &[3]),
-                    (24, &[0, 0, 0, 1, 0, 0, 0, 4, 0, 0, 0, 0x21]),
-                    (36, &[0, 0, 0, 1]),
-                ],
+                "19:03 24:000000010000000400000021 36:00000001",
                 Segment::None,
             ),
-            PduRow(
-                &GOOD,
-                &[(19, &[2]), (24, &[0, 0, 0, 2, 0, 0, 0, 4, 0, 0, 0, 0x22])],
-                Segment::None,
-            ),
-            PduRow(
-                &GOOD,
-                &[(24, &[0, 0, 0, 3, 0, 0, 0, 4, 0, 0, 0, 0x23])],
-                Segment::None,
-            ),
+            PduRow(&GOOD, "19:02 24:000000020000000400000022", Segment::None),
+            PduRow(&GOOD, "24:000000030000000400000023", Segment::None),
         ],
         ..PLAIN
     },
@@ -135,36 +103,17 @@ const ROWS: &[Row] = &[
             ..FROM_ONE
         },
         input: &[
-            PduRow(&WRITE, &[(24, &[0xFF, 0xFF, 0xFF, 0xFF])], Segment::None),
-            PduRow(&TEST_UNIT_READY, &[(19, &[2]), (27, &[0])], Segment::None),
-            PduRow(
-                &TEST_UNIT_READY,
-                &[(19, &[3]), (24, &[0xFF, 0xFF, 0xFF, 0xFF])],
-                Segment::None,
-            ),
-            PduRow(&DATA_OUT, &[], Segment::Pattern(512)),
+            PduRow(&WRITE, "24:FFFFFFFF", Segment::None),
+            PduRow(&TEST_UNIT_READY, "19:02 27:00", Segment::None),
+            PduRow(&TEST_UNIT_READY, "19:03 24:FFFFFFFF", Segment::None),
+            PduRow(&DATA_OUT, "", Segment::Pattern(512)),
         ],
         asked: &[TEST, ONE_BLOCK],
         given: 512,
         output: &[
-            PduRow(
-                &R2T,
-                &[(24, &[0xFF, 0xFF, 0xFF, 0xFF, 0, 0, 0, 0, 0, 0, 0, 0x1E])],
-                Segment::None,
-            ),
-            PduRow(
-                &GOOD,
-                &[
-                    (19, &[2]),
-                    (24, &[0xFF, 0xFF, 0xFF, 0xFF, 0, 0, 0, 1, 0, 0, 0, 0x1F]),
-                ],
-                Segment::None,
-            ),
-            PduRow(
-                &GOOD,
-                &[(24, &[0, 0, 0, 0, 0, 0, 0, 1, 0, 0, 0, 0x20])],
-                Segment::None,
-            ),
+            PduRow(&R2T, "24:FFFFFFFF000000000000001E", Segment::None),
+            PduRow(&GOOD, "19:02 24:FFFFFFFF000000010000001F", Segment::None),
+            PduRow(&GOOD, "24:000000000000000100000020", Segment::None),
         ],
         ..PLAIN
     },
@@ -172,16 +121,16 @@ const ROWS: &[Row] = &[
     Row {
         name: "an immediate write waits, and a numbered one is served",
         input: &[
-            PduRow(&WRITE, &[(0, &[0x41])], Segment::None),
-            PduRow(&TEST_UNIT_READY, &[(19, &[2])], Segment::None),
-            PduRow(&DATA_OUT, &[], Segment::Pattern(512)),
+            PduRow(&WRITE, "0:41", Segment::None),
+            PduRow(&TEST_UNIT_READY, "19:02", Segment::None),
+            PduRow(&DATA_OUT, "", Segment::Pattern(512)),
         ],
         asked: &[TEST, ONE_BLOCK],
         given: 512,
         output: &[
-            PduRow(&R2T, &[(31, &[1])], Segment::None),
-            PduRow(&GOOD, &[(19, &[2])], Segment::None),
-            PduRow(&GOOD, &[(27, &[2])], Segment::None),
+            PduRow(&R2T, "31:01", Segment::None),
+            PduRow(&GOOD, "19:02", Segment::None),
+            PduRow(&GOOD, "27:02", Segment::None),
         ],
         ..PLAIN
     },
@@ -189,47 +138,31 @@ const ROWS: &[Row] = &[
     Row {
         name: "a second immediate command, while an immediate write waits",
         input: &[
-            PduRow(&WRITE, &[(0, &[0x41])], Segment::None),
-            PduRow(&TEST_UNIT_READY, &[(0, &[0x41]), (19, &[2])], Segment::None),
-            PduRow(&DATA_OUT, &[], Segment::Pattern(512)),
-            PduRow(&TEST_UNIT_READY, &[(0, &[0x41]), (19, &[2])], Segment::None),
+            PduRow(&WRITE, "0:41", Segment::None),
+            PduRow(&TEST_UNIT_READY, "0:41 19:02", Segment::None),
+            PduRow(&DATA_OUT, "", Segment::Pattern(512)),
+            PduRow(&TEST_UNIT_READY, "0:41 19:02", Segment::None),
         ],
         asked: &[ONE_BLOCK, TEST],
         given: 512,
         output: &[
-            PduRow(&R2T, &[(31, &[1])], Segment::None),
-            PduRow(
-                &GOOD,
-                &[(3, &[0x28]), (19, &[2]), (31, &[1, 0, 0, 0, 0x20])],
-                Segment::None,
-            ),
-            PduRow(
-                &GOOD,
-                &[(27, &[2, 0, 0, 0, 1, 0, 0, 0, 0x20])],
-                Segment::None,
-            ),
-            PduRow(
-                &GOOD,
-                &[(19, &[2]), (27, &[3, 0, 0, 0, 1, 0, 0, 0, 0x20])],
-                Segment::None,
-            ),
+            PduRow(&R2T, "31:01", Segment::None),
+            PduRow(&GOOD, "3:28 19:02 31:0100000020", Segment::None),
+            PduRow(&GOOD, "27:020000000100000020", Segment::None),
+            PduRow(&GOOD, "19:02 27:030000000100000020", Segment::None),
         ],
         ..PLAIN
     },
     Row {
         name: "an immediate command, while a numbered write waits",
         input: &[
-            PduRow(&WRITE, &[], Segment::None),
-            PduRow(
-                &TEST_UNIT_READY,
-                &[(0, &[0x41]), (19, &[2]), (27, &[2])],
-                Segment::None,
-            ),
+            PduRow(&WRITE, "", Segment::None),
+            PduRow(&TEST_UNIT_READY, "0:41 19:02 27:02", Segment::None),
         ],
         asked: &[TEST],
         output: &[
-            PduRow(&R2T, &[], Segment::None),
-            PduRow(&GOOD, &[(19, &[2]), (35, &[0x20])], Segment::None),
+            PduRow(&R2T, "", Segment::None),
+            PduRow(&GOOD, "19:02 35:20", Segment::None),
         ],
         ..PLAIN
     },
@@ -245,84 +178,28 @@ const BEHIND_32: Row = Row {
     name: "behind 32 numbered writes that wait",
     input: &[
         // CmdSN 33, which the window has not: it is passed over.
-        PduRow(&TEST_UNIT_READY, &[(19, &[40]), (27, &[33])], Segment::None),
+        PduRow(&TEST_UNIT_READY, "19:28 27:21", Segment::None),
         // An immediate write waits; a second one, and TEST UNIT READY, find the task set full.
-        PduRow(
-            &WRITE,
-            &[(0, &[0x41]), (19, &[33]), (27, &[33])],
-            Segment::None,
-        ),
-        PduRow(
-            &WRITE,
-            &[(0, &[0x41]), (19, &[34]), (27, &[33])],
-            Segment::None,
-        ),
-        PduRow(
-            &TEST_UNIT_READY,
-            &[(0, &[0x41]), (19, &[35]), (27, &[33])],
-            Segment::None,
-        ),
+        PduRow(&WRITE, "0:41 19:21 27:21", Segment::None),
+        PduRow(&WRITE, "0:41 19:22 27:21", Segment::None),
+        PduRow(&TEST_UNIT_READY, "0:41 19:23 27:21", Segment::None),
         // One write is complete: CmdSN 33 has its place, and no other.
-        PduRow(&DATA_OUT, &[], Segment::Pattern(512)),
-        PduRow(&TEST_UNIT_READY, &[(19, &[36]), (27, &[34])], Segment::None),
-        PduRow(&TEST_UNIT_READY, &[(19, &[36]), (27, &[33])], Segment::None),
-        PduRow(
-            &DATA_OUT,
-            &[(19, &[33]), (23, &[32])],
-            Segment::PatternAt(512, 512),
-        ),
-        PduRow(
-            &TEST_UNIT_READY,
-            &[(0, &[0x41]), (19, &[37]), (27, &[34])],
-            Segment::None,
-        ),
+        PduRow(&DATA_OUT, "", Segment::Pattern(512)),
+        PduRow(&TEST_UNIT_READY, "19:24 27:22", Segment::None),
+        PduRow(&TEST_UNIT_READY, "19:24 27:21", Segment::None),
+        PduRow(&DATA_OUT, "19:21 23:20", Segment::PatternAt(512, 512)),
+        PduRow(&TEST_UNIT_READY, "0:41 19:25 27:22", Segment::None),
     ],
     asked: &[ONE_BLOCK, TEST, ONE_BLOCK, TEST],
     given: 1024,
     output: &[
-        PduRow(
-            &R2T,
-            &[(19, &[33]), (23, &[32]), (31, &[33])],
-            Segment::None,
-        ),
-        PduRow(
-            &GOOD,
-            &[
-                (3, &[0x28]),
-                (19, &[34]),
-                (27, &[1, 0, 0, 0, 33, 0, 0, 0, 32]),
-            ],
-            Segment::None,
-        ),
-        PduRow(
-            &GOOD,
-            &[
-                (3, &[0x28]),
-                (19, &[35]),
-                (27, &[2, 0, 0, 0, 33, 0, 0, 0, 32]),
-            ],
-            Segment::None,
-        ),
-        PduRow(
-            &GOOD,
-            &[(27, &[3, 0, 0, 0, 33, 0, 0, 0, 33])],
-            Segment::None,
-        ),
-        PduRow(
-            &GOOD,
-            &[(19, &[36]), (27, &[4, 0, 0, 0, 34, 0, 0, 0, 34])],
-            Segment::None,
-        ),
-        PduRow(
-            &GOOD,
-            &[(19, &[33]), (27, &[5, 0, 0, 0, 34, 0, 0, 0, 34])],
-            Segment::None,
-        ),
-        PduRow(
-            &GOOD,
-            &[(19, &[37]), (27, &[6, 0, 0, 0, 34, 0, 0, 0, 34])],
-            Segment::None,
-        ),
+        PduRow(&R2T, "19:21 23:20 31:21", Segment::None),
+        PduRow(&GOOD, "3:28 19:22 27:010000002100000020", Segment::None),
+        PduRow(&GOOD, "3:28 19:23 27:020000002100000020", Segment::None),
+        PduRow(&GOOD, "27:030000002100000021", Segment::None),
+        PduRow(&GOOD, "19:24 27:040000002200000022", Segment::None),
+        PduRow(&GOOD, "19:21 27:050000002200000022", Segment::None),
+        PduRow(&GOOD, "19:25 27:060000002200000022", Segment::None),
     ],
     ..PLAIN
 };

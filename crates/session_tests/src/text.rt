@@ -33,37 +33,25 @@ const ROWS: &[Row] = &[
     Row {
         name: "SendTargets=All in a discovery session",
         kind: Kind::Discovery,
-        input: &[PduRow(
-            &REQUEST,
-            &[(6, &[0, 16])],
-            Segment::Bytes(b"SendTargets=All\0"),
-        )],
+        input: &[PduRow(&REQUEST, "6:0010", Segment::Bytes(b"SendTargets=All\0"))],
         asked: &[],
-        output: &[PduRow(&RESPONSE, &[(7, &[96])], Segment::Bytes(TOLD))],
+        output: &[PduRow(&RESPONSE, "7:60", Segment::Bytes(TOLD))],
         ..PLAIN
     },
     Row {
         name: "SendTargets with the empty text in a discovery session",
         kind: Kind::Discovery,
-        input: &[PduRow(
-            &REQUEST,
-            &[(6, &[0, 13])],
-            Segment::Bytes(b"SendTargets=\0"),
-        )],
+        input: &[PduRow(&REQUEST, "6:000D", Segment::Bytes(b"SendTargets=\0"))],
         asked: &[],
-        output: &[PduRow(&RESPONSE, &[(7, &[96])], Segment::Bytes(TOLD))],
+        output: &[PduRow(&RESPONSE, "7:60", Segment::Bytes(TOLD))],
         ..PLAIN
     },
     Row {
         name: "SendTargets with the empty text in a normal session",
         kind: Kind::Normal,
-        input: &[PduRow(
-            &REQUEST,
-            &[(6, &[0, 13])],
-            Segment::Bytes(b"SendTargets=\0"),
-        )],
+        input: &[PduRow(&REQUEST, "6:000D", Segment::Bytes(b"SendTargets=\0"))],
         asked: &[],
-        output: &[PduRow(&RESPONSE, &[(7, &[96])], Segment::Bytes(TOLD))],
+        output: &[PduRow(&RESPONSE, "7:60", Segment::Bytes(TOLD))],
         ..PLAIN
     },
     Row {
@@ -71,27 +59,19 @@ const ROWS: &[Row] = &[
         kind: Kind::Normal,
         input: &[PduRow(
             &REQUEST,
-            &[(6, &[0, 35])],
+            "6:0023",
             Segment::Bytes(b"SendTargets=iqn.2000-01.test:array\0"),
         )],
         asked: &[],
-        output: &[PduRow(&RESPONSE, &[(7, &[96])], Segment::Bytes(TOLD))],
+        output: &[PduRow(&RESPONSE, "7:60", Segment::Bytes(TOLD))],
         ..PLAIN
     },
     Row {
         name: "SendTargets=All in a normal session",
         kind: Kind::Normal,
-        input: &[PduRow(
-            &REQUEST,
-            &[(6, &[0, 16])],
-            Segment::Bytes(b"SendTargets=All\0"),
-        )],
+        input: &[PduRow(&REQUEST, "6:0010", Segment::Bytes(b"SendTargets=All\0"))],
         asked: &[],
-        output: &[PduRow(
-            &RESPONSE,
-            &[(7, &[19])],
-            Segment::Bytes(b"SendTargets=Reject\0"),
-        )],
+        output: &[PduRow(&RESPONSE, "7:13", Segment::Bytes(b"SendTargets=Reject\0"))],
         ..PLAIN
     },
     Row {
@@ -99,11 +79,11 @@ const ROWS: &[Row] = &[
         kind: Kind::Normal,
         input: &[PduRow(
             &REQUEST,
-            &[(6, &[0, 31])],
+            "6:001F",
             Segment::Bytes(b"SendTargets=iqn.2000-01.test:b\0"),
         )],
         asked: &[],
-        output: &[PduRow(&RESPONSE, &[(7, &[0])], Segment::Bytes(b""))],
+        output: &[PduRow(&RESPONSE, "7:00", Segment::Bytes(b""))],
         ..PLAIN
     },
     Row {
@@ -111,13 +91,13 @@ const ROWS: &[Row] = &[
         kind: Kind::Normal,
         input: &[PduRow(
             &REQUEST,
-            &[(6, &[0, 24])],
+            "6:0018",
             Segment::Bytes(b"HeaderDigest=None\0X-a=1\0"),
         )],
         asked: &[],
         output: &[PduRow(
             &RESPONSE,
-            &[(7, &[38])],
+            "7:26",
             Segment::Bytes(b"HeaderDigest=Reject\0X-a=NotUnderstood\0"),
         )],
         ..PLAIN
@@ -125,38 +105,26 @@ const ROWS: &[Row] = &[
     Row {
         name: "no text, behind which a command is served; immediate, it takes no number",
         input: &[
-            PduRow(&REQUEST, &[(0, &[0x44])], Segment::None),
-            PduRow(&TEST_UNIT_READY, &[], Segment::None),
+            PduRow(&REQUEST, "0:44", Segment::None),
+            PduRow(&TEST_UNIT_READY, "", Segment::None),
         ],
         output: &[
-            PduRow(
-                &RESPONSE,
-                &[(24, &[0, 0, 0, 1, 0, 0, 0, 1, 0, 0, 0, 0x20])],
-                Segment::None,
-            ),
-            PduRow(&GOOD, &[(24, &[0, 0, 0, 2])], Segment::None),
+            PduRow(&RESPONSE, "24:000000010000000100000020", Segment::None),
+            PduRow(&GOOD, "24:00000002", Segment::None),
         ],
         ..PLAIN
     },
     Row {
         name: "outside the window it is ignored, whatever it has",
         input: &[
-            PduRow(
-                &REQUEST,
-                &[(1, &[0x40]), (24, &[0, 0, 0, 0])],
-                Segment::None,
-            ),
-            PduRow(&TEST_UNIT_READY, &[], Segment::None),
+            PduRow(&REQUEST, "1:40 24:00000000", Segment::None),
+            PduRow(&TEST_UNIT_READY, "", Segment::None),
         ],
         ..PLAIN
     },
     Row {
         name: "inside the window, but not the next, it leaves a gap, whatever it has",
-        input: &[PduRow(
-            &REQUEST,
-            &[(1, &[0x40]), (24, &[0, 0, 0, 2])],
-            Segment::None,
-        )],
+        input: &[PduRow(&REQUEST, "1:40 24:00000002", Segment::None)],
         asked: &[],
         output: &[],
         end: End::Protocol,
@@ -165,7 +133,7 @@ const ROWS: &[Row] = &[
     Row {
         name: "a command in a discovery session, outside the window",
         kind: Kind::Discovery,
-        input: &[PduRow(&TEST_UNIT_READY, &[(24, &[0, 0, 0, 0])], Segment::None)],
+        input: &[PduRow(&TEST_UNIT_READY, "24:00000000", Segment::None)],
         asked: &[],
         output: &[],
         ..PLAIN
@@ -174,7 +142,7 @@ const ROWS: &[Row] = &[
         name: "64 pairs",
         input: &[PduRow(
             &REQUEST,
-            &[(7, &[192])],
+            "7:C0",
             Segment::Bytes(
                 b"a=\0a=\0a=\0a=\0a=\0a=\0a=\0a=\0a=\0a=\0a=\0a=\0a=\0a=\0a=\0a=\0a=\0a=\0a=\0a=\0a=\0a=\0a=\0a=\0a=\0a=\0a=\0a=\0a=\0a=\0a=\0a=\0a=\0a=\0a=\0a=\0a=\0a=\0a=\0a=\0a=\0a=\0a=\0a=\0a=\0a=\0a=\0a=\0a=\0a=\0a=\0a=\0a=\0a=\0a=\0a=\0a=\0a=\0a=\0a=\0a=\0a=\0a=\0a=\0",
             ),
@@ -182,7 +150,7 @@ const ROWS: &[Row] = &[
         asked: &[],
         output: &[PduRow(
             &RESPONSE,
-            &[(6, &[4, 0])],
+            "6:0400",
             Segment::Bytes(
                 b"a=NotUnderstood\0a=NotUnderstood\0a=NotUnderstood\0a=NotUnderstood\0a=NotUnderstood\0a=NotUnderstood\0a=NotUnderstood\0a=NotUnderstood\0a=NotUnderstood\0a=NotUnderstood\0a=NotUnderstood\0a=NotUnderstood\0a=NotUnderstood\0a=NotUnderstood\0a=NotUnderstood\0a=NotUnderstood\0a=NotUnderstood\0a=NotUnderstood\0a=NotUnderstood\0a=NotUnderstood\0a=NotUnderstood\0a=NotUnderstood\0a=NotUnderstood\0a=NotUnderstood\0a=NotUnderstood\0a=NotUnderstood\0a=NotUnderstood\0a=NotUnderstood\0a=NotUnderstood\0a=NotUnderstood\0a=NotUnderstood\0a=NotUnderstood\0a=NotUnderstood\0a=NotUnderstood\0a=NotUnderstood\0a=NotUnderstood\0a=NotUnderstood\0a=NotUnderstood\0a=NotUnderstood\0a=NotUnderstood\0a=NotUnderstood\0a=NotUnderstood\0a=NotUnderstood\0a=NotUnderstood\0a=NotUnderstood\0a=NotUnderstood\0a=NotUnderstood\0a=NotUnderstood\0a=NotUnderstood\0a=NotUnderstood\0a=NotUnderstood\0a=NotUnderstood\0a=NotUnderstood\0a=NotUnderstood\0a=NotUnderstood\0a=NotUnderstood\0a=NotUnderstood\0a=NotUnderstood\0a=NotUnderstood\0a=NotUnderstood\0a=NotUnderstood\0a=NotUnderstood\0a=NotUnderstood\0a=NotUnderstood\0",
             ),
@@ -197,15 +165,11 @@ const REFUSED: &[Row] = &[
         name: "without F",
         kind: Kind::Normal,
         input: &[
-            PduRow(&REQUEST, &[(1, &[0]), (6, &[0, 0])], Segment::None),
-            PduRow(&REQUEST, &[(24, &[0, 0, 0, 2])], Segment::None),
+            PduRow(&REQUEST, "1:00 6:0000", Segment::None),
+            PduRow(&REQUEST, "24:00000002", Segment::None),
         ],
         asked: &[],
-        output: &[PduRow(
-            &REJECT,
-            &[(2, &[4])],
-            Segment::Rejected(&REQUEST, &[(1, &[0]), (6, &[0, 0])]),
-        )],
+        output: &[PduRow(&REJECT, "2:04", Segment::Rejected(&REQUEST, "1:00 6:0000"))],
         end: End::Protocol,
         ..PLAIN
     },
@@ -215,17 +179,13 @@ const REFUSED: &[Row] = &[
         input: &[
             PduRow(
                 &REQUEST,
-                &[(1, &[0xC0]), (6, &[0, 16])],
+                "1:C0 6:0010",
                 Segment::Bytes(b"SendTargets=All\0"),
             ),
-            PduRow(&REQUEST, &[(24, &[0, 0, 0, 2])], Segment::None),
+            PduRow(&REQUEST, "24:00000002", Segment::None),
         ],
         asked: &[],
-        output: &[PduRow(
-            &REJECT,
-            &[(2, &[4])],
-            Segment::Rejected(&REQUEST, &[(1, &[0xC0]), (6, &[0, 16])]),
-        )],
+        output: &[PduRow(&REJECT, "2:04", Segment::Rejected(&REQUEST, "1:C0 6:0010"))],
         end: End::Protocol,
         ..PLAIN
     },
@@ -233,18 +193,14 @@ const REFUSED: &[Row] = &[
         name: "with a Target Transfer Tag",
         kind: Kind::Normal,
         input: &[
-            PduRow(
-                &REQUEST,
-                &[(20, &[0, 0, 0, 1]), (6, &[0, 0])],
-                Segment::None,
-            ),
-            PduRow(&REQUEST, &[(24, &[0, 0, 0, 2])], Segment::None),
+            PduRow(&REQUEST, "20:00000001 6:0000", Segment::None),
+            PduRow(&REQUEST, "24:00000002", Segment::None),
         ],
         asked: &[],
         output: &[PduRow(
             &REJECT,
-            &[(2, &[4])],
-            Segment::Rejected(&REQUEST, &[(20, &[0, 0, 0, 1]), (6, &[0, 0])]),
+            "2:04",
+            Segment::Rejected(&REQUEST, "20:00000001 6:0000"),
         )],
         end: End::Protocol,
         ..PLAIN
@@ -253,19 +209,11 @@ const REFUSED: &[Row] = &[
         name: "a pair without its zero byte",
         kind: Kind::Normal,
         input: &[
-            PduRow(
-                &REQUEST,
-                &[(6, &[0, 15])],
-                Segment::Bytes(b"SendTargets=All"),
-            ),
-            PduRow(&REQUEST, &[(24, &[0, 0, 0, 2])], Segment::None),
+            PduRow(&REQUEST, "6:000F", Segment::Bytes(b"SendTargets=All")),
+            PduRow(&REQUEST, "24:00000002", Segment::None),
         ],
         asked: &[],
-        output: &[PduRow(
-            &REJECT,
-            &[(2, &[4])],
-            Segment::Rejected(&REQUEST, &[(6, &[0, 15])]),
-        )],
+        output: &[PduRow(&REJECT, "2:04", Segment::Rejected(&REQUEST, "6:000F"))],
         end: End::Protocol,
         ..PLAIN
     },
@@ -273,40 +221,32 @@ const REFUSED: &[Row] = &[
         name: "a pair without =",
         kind: Kind::Normal,
         input: &[
-            PduRow(&REQUEST, &[(6, &[0, 12])], Segment::Bytes(b"SendTargets\0")),
-            PduRow(&REQUEST, &[(24, &[0, 0, 0, 2])], Segment::None),
+            PduRow(&REQUEST, "6:000C", Segment::Bytes(b"SendTargets\0")),
+            PduRow(&REQUEST, "24:00000002", Segment::None),
         ],
         asked: &[],
-        output: &[PduRow(
-            &REJECT,
-            &[(2, &[4])],
-            Segment::Rejected(&REQUEST, &[(6, &[0, 12])]),
-        )],
+        output: &[PduRow(&REJECT, "2:04", Segment::Rejected(&REQUEST, "6:000C"))],
         end: End::Protocol,
         ..PLAIN
     },
     Row {
         name: "a command in a discovery session",
         kind: Kind::Discovery,
-        input: &[PduRow(&TEST_UNIT_READY, &[], Segment::None)],
+        input: &[PduRow(&TEST_UNIT_READY, "", Segment::None)],
         asked: &[],
-        output: &[PduRow(
-            &REJECT,
-            &[(2, &[4])],
-            Segment::Rejected(&TEST_UNIT_READY, &[]),
-        )],
+        output: &[PduRow(&REJECT, "2:04", Segment::Rejected(&TEST_UNIT_READY, ""))],
         end: End::Protocol,
         ..PLAIN
     },
     Row {
         name: "task management in a discovery session",
         kind: Kind::Discovery,
-        input: &[PduRow(&TEST_UNIT_READY, &[(0, &[0x02, 0x85])], Segment::None)],
+        input: &[PduRow(&TEST_UNIT_READY, "0:0285", Segment::None)],
         asked: &[],
         output: &[PduRow(
             &REJECT,
-            &[(2, &[4])],
-            Segment::Rejected(&TEST_UNIT_READY, &[(0, &[0x02, 0x85])]),
+            "2:04",
+            Segment::Rejected(&TEST_UNIT_READY, "0:0285"),
         )],
         end: End::Protocol,
         ..PLAIN
@@ -317,19 +257,15 @@ const REFUSED: &[Row] = &[
         input: &[
             PduRow(
                 &REQUEST,
-                &[(6, &[0, 195])],
+                "6:00C3",
                 Segment::Bytes(
                     b"a=\0a=\0a=\0a=\0a=\0a=\0a=\0a=\0a=\0a=\0a=\0a=\0a=\0a=\0a=\0a=\0a=\0a=\0a=\0a=\0a=\0a=\0a=\0a=\0a=\0a=\0a=\0a=\0a=\0a=\0a=\0a=\0a=\0a=\0a=\0a=\0a=\0a=\0a=\0a=\0a=\0a=\0a=\0a=\0a=\0a=\0a=\0a=\0a=\0a=\0a=\0a=\0a=\0a=\0a=\0a=\0a=\0a=\0a=\0a=\0a=\0a=\0a=\0a=\0a=\0",
                 ),
             ),
-            PduRow(&REQUEST, &[(24, &[0, 0, 0, 2])], Segment::None),
+            PduRow(&REQUEST, "24:00000002", Segment::None),
         ],
         asked: &[],
-        output: &[PduRow(
-            &REJECT,
-            &[(2, &[4])],
-            Segment::Rejected(&REQUEST, &[(6, &[0, 195])]),
-        )],
+        output: &[PduRow(&REJECT, "2:04", Segment::Rejected(&REQUEST, "6:00C3"))],
         end: End::Protocol,
         ..PLAIN
     },
@@ -339,17 +275,13 @@ const REFUSED: &[Row] = &[
         portals: 3,
         input: &[PduRow(
             &REQUEST,
-            &[(6, &[2, 164])],
+            "6:02A4",
             Segment::Bytes(
                 b"SendTargets=\0SendTargets=\0SendTargets=\0SendTargets=\0SendTargets=\0SendTargets=\0SendTargets=\0SendTargets=\0SendTargets=\0SendTargets=\0SendTargets=\0SendTargets=\0SendTargets=\0SendTargets=\0SendTargets=\0SendTargets=\0SendTargets=\0SendTargets=\0SendTargets=\0SendTargets=\0SendTargets=\0SendTargets=\0SendTargets=\0SendTargets=\0SendTargets=\0SendTargets=\0SendTargets=\0SendTargets=\0SendTargets=\0SendTargets=\0SendTargets=\0SendTargets=\0SendTargets=\0SendTargets=\0SendTargets=\0SendTargets=\0SendTargets=\0SendTargets=\0SendTargets=\0SendTargets=\0SendTargets=\0SendTargets=\0SendTargets=\0SendTargets=\0SendTargets=\0SendTargets=\0SendTargets=\0SendTargets=\0SendTargets=\0SendTargets=\0SendTargets=\0SendTargets=\0",
             ),
         )],
         asked: &[],
-        output: &[PduRow(
-            &REJECT,
-            &[(2, &[4])],
-            Segment::Rejected(&REQUEST, &[(6, &[2, 164])]),
-        )],
+        output: &[PduRow(&REJECT, "2:04", Segment::Rejected(&REQUEST, "6:02A4"))],
         end: End::Protocol,
         ..PLAIN
     },

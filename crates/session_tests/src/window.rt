@@ -8,25 +8,21 @@ const ROWS: &[Row] = &[
     PLAIN,
     Row {
         name: "CmdSN 0 is behind the window",
-        input: &[PduRow(&TEST_UNIT_READY, &[(24, &[0, 0, 0, 0])], Segment::None)],
+        input: &[PduRow(&TEST_UNIT_READY, "24:00000000", Segment::None)],
         asked: &[],
         output: &[],
         ..PLAIN
     },
     Row {
         name: "CmdSN FFFFFFFFh is behind the window",
-        input: &[PduRow(
-            &TEST_UNIT_READY,
-            &[(24, &[0xFF, 0xFF, 0xFF, 0xFF])],
-            Segment::None,
-        )],
+        input: &[PduRow(&TEST_UNIT_READY, "24:FFFFFFFF", Segment::None)],
         asked: &[],
         output: &[],
         ..PLAIN
     },
     Row {
         name: "CmdSN 2 leaves a gap",
-        input: &[PduRow(&TEST_UNIT_READY, &[(24, &[0, 0, 0, 2])], Segment::None)],
+        input: &[PduRow(&TEST_UNIT_READY, "24:00000002", Segment::None)],
         asked: &[],
         output: &[],
         end: End::Protocol,
@@ -34,7 +30,7 @@ const ROWS: &[Row] = &[
     },
     Row {
         name: "CmdSN 3 leaves a gap",
-        input: &[PduRow(&TEST_UNIT_READY, &[(24, &[0, 0, 0, 3])], Segment::None)],
+        input: &[PduRow(&TEST_UNIT_READY, "24:00000003", Segment::None)],
         asked: &[],
         output: &[],
         end: End::Protocol,
@@ -42,7 +38,7 @@ const ROWS: &[Row] = &[
     },
     Row {
         name: "CmdSN 32, the last of the window, leaves a gap",
-        input: &[PduRow(&TEST_UNIT_READY, &[(24, &[0, 0, 0, 32])], Segment::None)],
+        input: &[PduRow(&TEST_UNIT_READY, "24:00000020", Segment::None)],
         asked: &[],
         output: &[],
         end: End::Protocol,
@@ -50,7 +46,7 @@ const ROWS: &[Row] = &[
     },
     Row {
         name: "CmdSN 33 is ahead of the window",
-        input: &[PduRow(&TEST_UNIT_READY, &[(24, &[0, 0, 0, 33])], Segment::None)],
+        input: &[PduRow(&TEST_UNIT_READY, "24:00000021", Segment::None)],
         asked: &[],
         output: &[],
         ..PLAIN
@@ -58,8 +54,8 @@ const ROWS: &[Row] = &[
     Row {
         name: "the command behind an ignored one is served",
         input: &[
-            PduRow(&TEST_UNIT_READY, &[(24, &[0, 0, 0, 0])], Segment::None),
-            PduRow(&TEST_UNIT_READY, &[], Segment::None),
+            PduRow(&TEST_UNIT_READY, "24:00000000", Segment::None),
+            PduRow(&TEST_UNIT_READY, "", Segment::None),
         ],
         ..PLAIN
     },
@@ -72,50 +68,26 @@ const ROWS: &[Row] = &[
             ..FROM_ONE
         },
         input: &[
-            PduRow(
-                &TEST_UNIT_READY,
-                &[(24, &[0xFF, 0xFF, 0xFF, 0xFF])],
-                Segment::None,
-            ),
-            PduRow(&TEST_UNIT_READY, &[(24, &[0, 0, 0, 0])], Segment::None),
+            PduRow(&TEST_UNIT_READY, "24:FFFFFFFF", Segment::None),
+            PduRow(&TEST_UNIT_READY, "24:00000000", Segment::None),
         ],
         asked: &[TEST, TEST],
         output: &[
-            PduRow(
-                &GOOD,
-                &[(24, &[0xFF, 0xFF, 0xFF, 0xFF, 0, 0, 0, 0, 0, 0, 0, 0x1F])],
-                Segment::None,
-            ),
-            PduRow(
-                &GOOD,
-                &[(24, &[0, 0, 0, 0, 0, 0, 0, 1, 0, 0, 0, 0x20])],
-                Segment::None,
-            ),
+            PduRow(&GOOD, "24:FFFFFFFF000000000000001F", Segment::None),
+            PduRow(&GOOD, "24:000000000000000100000020", Segment::None),
         ],
         ..PLAIN
     },
     Row {
         name: "an immediate command takes no number",
         input: &[
-            PduRow(
-                &TEST_UNIT_READY,
-                &[(0, &[0x41]), (24, &[0, 0, 0, 7])],
-                Segment::None,
-            ),
-            PduRow(&TEST_UNIT_READY, &[], Segment::None),
+            PduRow(&TEST_UNIT_READY, "0:41 24:00000007", Segment::None),
+            PduRow(&TEST_UNIT_READY, "", Segment::None),
         ],
         asked: &[TEST, TEST],
         output: &[
-            PduRow(
-                &GOOD,
-                &[(24, &[0, 0, 0, 1, 0, 0, 0, 1, 0, 0, 0, 0x20])],
-                Segment::None,
-            ),
-            PduRow(
-                &GOOD,
-                &[(24, &[0, 0, 0, 2, 0, 0, 0, 2, 0, 0, 0, 0x21])],
-                Segment::None,
-            ),
+            PduRow(&GOOD, "24:000000010000000100000020", Segment::None),
+            PduRow(&GOOD, "24:000000020000000200000021", Segment::None),
         ],
         ..PLAIN
     },

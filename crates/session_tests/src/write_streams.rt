@@ -9,13 +9,13 @@ use test_streams::{Calls, DATA_OUT, GOOD, PduRow, R2T, Segment, WHOLE, WRITE, sp
 
 // 48 bytes, and 560; 48 bytes are written behind each.
 const INPUT: &[PduRow] = &[
-    PduRow(&WRITE, &[], Segment::None),
-    PduRow(&DATA_OUT, &[], Segment::Pattern(512)),
+    PduRow(&WRITE, "", Segment::None),
+    PduRow(&DATA_OUT, "", Segment::Pattern(512)),
 ];
 
 const OUTPUT: &[PduRow] = &[
-    PduRow(&R2T, &[], Segment::None),
-    PduRow(&GOOD, &[], Segment::None),
+    PduRow(&R2T, "", Segment::None),
+    PduRow(&GOOD, "", Segment::None),
 ];
 
 const ALL: usize = 608;

@@ -9,7 +9,6 @@ mod rows;
 pub use calls::{Calls, FakeReader, FakeWriter, ONE_BYTE, WHOLE};
 pub use logins::{LOGGED_IN, LOGIN, LOGIN_REFUSED, NOT_IN_LOGIN};
 pub use pdus::{
-    CHECK_CONDITION, DATA_IN, DATA_OUT, F_BIT, GOOD, OVERFLOW, R2T, READ_AND_WRITE, READS, REJECT,
-    TEST_UNIT_READY, UNDERFLOW, WRITE, WRITES,
+    CHECK_CONDITION, DATA_IN, DATA_OUT, GOOD, R2T, READS, REJECT, TEST_UNIT_READY, UNDERFLOW, WRITE,
 };
 pub use rows::{PduRow, RowError, Segment, pattern, spelled};

@@ -80,16 +80,9 @@ pub const REJECT: [u8; 48] = [
     0x00, 0x00, 0x00, 0x00, 0x00, 0x00, 0x00, 0x00,
 ];
 
-/// Byte 1 of a SCSI Command: the F bit and the attribute SIMPLE, alone, with R, with W and with both.
-pub const F_BIT: u8 = 0x81;
-
+/// Byte 1 of a SCSI Command that reads: the F bit, R and the attribute SIMPLE. In rows of text A1h has W, E1h both, 81h
+/// neither.
 pub const READS: u8 = 0xC1;
 
-pub const WRITES: u8 = 0xA1;
-
-pub const READ_AND_WRITE: u8 = 0xE1;
-
-/// Byte 1 of a SCSI Response: the F bit with U and with O (RFC 7143, 11.4.1).
+/// Byte 1 of a SCSI Response with U (RFC 7143, 11.4.1). In rows of text 84h has O.
 pub const UNDERFLOW: u8 = 0x82;
-
-pub const OVERFLOW: u8 = 0x84;

@@ -8,6 +8,8 @@ use std::alloc::{AllocError, Global};
 pub enum Segment<'a> {
     None,
     Bytes(&'a [u8]),
+    /// The bytes of these digits in hexadecimal, two a byte, with blanks between.
+    Digits(&'a str),
     /// These bytes, and behind them so many of each byte, one run behind another.
     BytesAndRuns(&'a [u8], &'a [(usize, u8)]),
     /// So many of each byte, one run behind another.
@@ -17,17 +19,17 @@ pub enum Segment<'a> {
     /// From this place of the pattern on, so many of its bytes.
     PatternAt(usize, usize),
     /// The header segment of a PDU that is rejected, and what differs from it.
-    Rejected(&'a [u8; 48], &'a [(usize, &'a [u8])]),
+    Rejected(&'a [u8; 48], &'a str),
 }
 
-/// A PDU as a row of a table: the header segment from which it starts, the bytes that stand at a place in place of
-/// others, and its data segment, without padding.
+/// A PDU as a row of a table: the header segment from which it starts, what differs from it, and its data segment,
+/// without padding.
+///
+/// What differs is text, since that costs a proof less than numbers: a place, counted from 0, a colon, and the bytes that
+/// stand from there on, two digits in hexadecimal each; then perhaps a blank and the next place. `1:C1 20:00000A00` is the
+/// byte C1h at place 1 and four bytes from place 20 on.
 #[derive(Clone, Copy, Debug)]
-pub struct PduRow<'a>(
-    pub &'a [u8; 48],
-    pub &'a [(usize, &'a [u8])],
-    pub Segment<'a>,
-);
+pub struct PduRow<'a>(pub &'a [u8; 48], pub &'a str, pub Segment<'a>);
 
 /// Why rows could not be spelled.
 #[derive(Debug, Drop)]
@@ -35,6 +37,8 @@ pub enum RowError {
     NoMemory,
     /// A change passes the header segment's end.
     Outside,
+    /// Text that names no bytes.
+    Digits,
 }
 
 impl From<AllocError> for RowError {
@@ -60,6 +64,7 @@ pub fn spelled(alloc: Global, rows: &[PduRow<'_>]) -> Result<Vec<u8>, RowError> 
                 bytes.extend_from_slice(segment)?;
                 put_runs(&mut bytes, runs)?;
             }
+            Segment::Digits(digits) => put_digits(&mut bytes, digits)?,
             Segment::Runs(runs) => put_runs(&mut bytes, runs)?,
             Segment::Pattern(len) => put_pattern(&mut bytes, 0, len)?,
             Segment::PatternAt(place, len) => put_pattern(&mut bytes, place, len)?,
@@ -73,15 +78,73 @@ pub fn spelled(alloc: Global, rows: &[PduRow<'_>]) -> Result<Vec<u8>, RowError> 
     Ok(bytes)
 }
 
-// The header segment with its changes.
-fn changed(bhs: &[u8; 48], changes: &[(usize, &[u8])]) -> Result<[u8; 48], RowError> {
-    let mut new = *bhs;
-    for (at, bytes) in changes {
-        let room = new.get_mut(*at..).ok_or(RowError::Outside)?;
-        let place = room.get_mut(..bytes.len()).ok_or(RowError::Outside)?;
-        place.copy_from_slice(bytes);
+// The value of a digit in hexadecimal.
+fn digit_of(c: u8) -> Result<u8, RowError> {
+    match c {
+        b'0'..=b'9' => Ok(c - b'0'),
+        b'A'..=b'F' => Ok(c - b'A' + 10),
+        _ => Err(RowError::Digits),
     }
+}
+
+// The header segment with its changes.
+fn changed(bhs: &[u8; 48], changes: &str) -> Result<[u8; 48], RowError> {
+    let mut new = *bhs;
+    let mut place: usize = 0;
+    let mut is_place = true;
+    let mut high: Option<u8> = None;
+    for c in changes.as_bytes() {
+        if is_place {
+            match *c {
+                b':' => is_place = false,
+                b'0'..=b'9' => {
+                    place = place.wrapping_mul(10).wrapping_add(usize::from(*c - b'0'));
+                }
+                _ => return Err(RowError::Digits),
+            }
+            continue;
+        }
+        match high {
+            None if *c == b' ' => {
+                is_place = true;
+                place = 0;
+            }
+            None => high = Some(digit_of(*c)?),
+            Some(first) => {
+                let byte = first.wrapping_mul(16) | digit_of(*c)?;
+                *new.get_mut(place).ok_or(RowError::Outside)? = byte;
+                place = place.wrapping_add(1);
+                high = None;
+            }
+        }
+    }
+    ended(high)?;
     Ok(new)
+}
+
+// No digit is left over.
+fn ended(high: Option<u8>) -> Result<(), RowError> {
+    match high {
+        None => Ok(()),
+        Some(_) => Err(RowError::Digits),
+    }
+}
+
+// Appends the bytes of these digits.
+fn put_digits(bytes: &mut Vec<u8>, digits: &str) -> Result<(), RowError> {
+    let mut high: Option<u8> = None;
+    for c in digits.as_bytes() {
+        match high {
+            None if *c == b' ' => {}
+            None => high = Some(digit_of(*c)?),
+            Some(first) => {
+                let byte = first.wrapping_mul(16) | digit_of(*c)?;
+                bytes.extend_from_slice(&[byte])?;
+                high = None;
+            }
+        }
+    }
+    ended(high)
 }
 
 // Appends zeros up to a multiple of four.

@@ -17,22 +17,18 @@ const WELCOME: &[u8] = b"MaxRecvDataSegmentLength=65536\0";
 const THE_TARGET: &[u8] = b"TargetName=iqn.2000-01.test:array\0TargetAddress=127.0.0.1:3260,1\0\
     TargetAddress=127.0.0.1:3264,2\0";
 
-const LOGS_IN: PduRow = PduRow(&LOGIN, &[(7, &[0x37])], Segment::Bytes(DISCOVERS));
+const LOGS_IN: PduRow = PduRow(&LOGIN, "7:37", Segment::Bytes(DISCOVERS));
 
-const ASKS: PduRow = PduRow(&TEXT, &[(7, &[16])], Segment::Bytes(b"SendTargets=All\0"));
+const ASKS: PduRow = PduRow(&TEXT, "7:10", Segment::Bytes(b"SendTargets=All\0"));
 
-const IS_TOLD: PduRow = PduRow(&TEXT_RESPONSE, &[(7, &[0x60])], Segment::Bytes(THE_TARGET));
+const IS_TOLD: PduRow = PduRow(&TEXT_RESPONSE, "7:60", Segment::Bytes(THE_TARGET));
 
 // With CmdSN 2.
-const LEAVES: PduRow = PduRow(
-    &LOGOUT,
-    &[(19, &[3]), (24, &[0, 0, 0, 2, 0, 0, 0, 3])],
-    Segment::None,
-);
+const LEAVES: PduRow = PduRow(&LOGOUT, "19:03 24:0000000200000003", Segment::None);
 
 const HAS_LEFT: PduRow = PduRow(
     &LOGOUT_RESPONSE,
-    &[(19, &[3]), (24, &[0, 0, 0, 3, 0, 0, 0, 3, 0, 0, 0, 0x22])],
+    "19:03 24:000000030000000300000022",
     Segment::None,
 );
 
@@ -44,7 +40,7 @@ const ROWS: &[Life] = &[
         others: 0,
         input: &[LOGS_IN, ASKS, LEAVES],
         output: &[
-            PduRow(&LOGIN_RESPONSE, &[(7, &[0x1F])], Segment::Bytes(WELCOME)),
+            PduRow(&LOGIN_RESPONSE, "7:1F", Segment::Bytes(WELCOME)),
             IS_TOLD,
             HAS_LEFT,
         ],
@@ -59,11 +55,7 @@ const ROWS: &[Life] = &[
         others: 64,
         input: &[LOGS_IN, ASKS, LEAVES],
         output: &[
-            PduRow(
-                &LOGIN_RESPONSE,
-                &[(7, &[0x1F]), (15, &[65])],
-                Segment::Bytes(WELCOME),
-            ),
+            PduRow(&LOGIN_RESPONSE, "7:1F 15:41", Segment::Bytes(WELCOME)),
             IS_TOLD,
             HAS_LEFT,
         ],
@@ -76,16 +68,13 @@ const ROWS: &[Life] = &[
         blocks: 16,
         port: PORT,
         others: 0,
-        input: &[
-            LOGS_IN,
-            PduRow(&TEST_UNIT_READY, &[(31, &[2])], Segment::None),
-        ],
+        input: &[LOGS_IN, PduRow(&TEST_UNIT_READY, "31:02", Segment::None)],
         output: &[
-            PduRow(&LOGIN_RESPONSE, &[(7, &[0x1F])], Segment::Bytes(WELCOME)),
+            PduRow(&LOGIN_RESPONSE, "7:1F", Segment::Bytes(WELCOME)),
             PduRow(
                 &REJECT,
-                &[(2, &[4]), (27, &[2])],
-                Segment::Rejected(&TEST_UNIT_READY, &[(31, &[2])]),
+                "2:04 27:02",
+                Segment::Rejected(&TEST_UNIT_READY, "31:02"),
             ),
         ],
         end: End::Protocol,

@@ -3,8 +3,7 @@ use super::run::{Row, SOUND, run, serve};
 use session::End;
 use std::test::*;
 use test_streams::{
-    CHECK_CONDITION, DATA_IN, GOOD, OVERFLOW, PduRow, READS, Segment, TEST_UNIT_READY, UNDERFLOW,
-    WHOLE, WRITES, spelled,
+    CHECK_CONDITION, DATA_IN, GOOD, PduRow, Segment, TEST_UNIT_READY, WHOLE, spelled,
 };
 
 const BLOCK: Segment<'static> = Segment::Runs(&[(512, 0x5A)]);
@@ -14,52 +13,33 @@ const THREE_COMMANDS: Row = Row {
     name: "three commands",
     fuse: SOUND,
     input: &[
-        PduRow(&TEST_UNIT_READY, &[], Segment::None),
+        PduRow(&TEST_UNIT_READY, "", Segment::None),
         PduRow(
             &TEST_UNIT_READY,
-            &[
-                (1, &[WRITES]),
-                (5, &[0, 2, 0]),
-                (16, &[0, 0, 0, 2, 0, 0, 2, 0, 0, 0, 0, 2, 0, 0, 0, 2]),
-                (32, &[0x2A, 0, 0, 0, 0, 5, 0, 0, 1]),
-            ],
+            "1:A1 5:000200 16:00000002000002000000000200000002 32:2A0000000005000001",
             BLOCK,
         ),
         PduRow(
             &TEST_UNIT_READY,
-            &[
-                (1, &[READS]),
-                (16, &[0, 0, 0, 3, 0, 0, 2, 0, 0, 0, 0, 3, 0, 0, 0, 3]),
-                (32, &[0x28, 0, 0, 0, 0, 5, 0, 0, 1]),
-            ],
+            "1:C1 16:00000003000002000000000300000003 32:280000000005000001",
             Segment::None,
         ),
     ],
     output: &[
-        PduRow(&GOOD, &[], Segment::None),
+        PduRow(&GOOD, "", Segment::None),
         PduRow(
             &GOOD,
-            &[
-                (16, &[0, 0, 0, 2]),
-                (24, &[0, 0, 0, 2, 0, 0, 0, 3, 0, 0, 0, 0x22]),
-            ],
+            "16:00000002 24:000000020000000300000022",
             Segment::None,
         ),
         PduRow(
             &DATA_IN,
-            &[
-                (5, &[0, 2, 0]),
-                (16, &[0, 0, 0, 3]),
-                (24, &[0, 0, 0, 0, 0, 0, 0, 4, 0, 0, 0, 0x23]),
-            ],
+            "5:000200 16:00000003 24:000000000000000400000023",
             BLOCK,
         ),
         PduRow(
             &GOOD,
-            &[
-                (16, &[0, 0, 0, 3]),
-                (24, &[0, 0, 0, 3, 0, 0, 0, 4, 0, 0, 0, 0x23, 0, 0, 0, 1]),
-            ],
+            "16:00000003 24:00000003000000040000002300000001",
             Segment::None,
         ),
     ],
@@ -71,8 +51,8 @@ const ROWS: &[Row] = &[
     Row {
         name: "TEST UNIT READY",
         fuse: SOUND,
-        input: &[PduRow(&TEST_UNIT_READY, &[], Segment::None)],
-        output: &[PduRow(&GOOD, &[], Segment::None)],
+        input: &[PduRow(&TEST_UNIT_READY, "", Segment::None)],
+        output: &[PduRow(&GOOD, "", Segment::None)],
         written: &[],
         small: true,
     },
@@ -83,19 +63,10 @@ const ROWS: &[Row] = &[
         fuse: SOUND,
         input: &[PduRow(
             &TEST_UNIT_READY,
-            &[
-                (1, &[WRITES]),
-                (5, &[0, 2, 0]),
-                (20, &[0, 0, 4, 0]),
-                (32, &[0x2A, 0, 0, 0, 0, 7, 0, 0, 1]),
-            ],
+            "1:A1 5:000200 20:00000400 32:2A0000000007000001",
             BLOCK,
         )],
-        output: &[PduRow(
-            &GOOD,
-            &[(1, &[UNDERFLOW]), (44, &[0, 0, 2, 0])],
-            Segment::None,
-        )],
+        output: &[PduRow(&GOOD, "1:82 44:00000200", Segment::None)],
         written: &[(7, 0x5A)],
         small: true,
     },
@@ -105,20 +76,13 @@ const ROWS: &[Row] = &[
         fuse: SOUND,
         input: &[PduRow(
             &TEST_UNIT_READY,
-            &[
-                (1, &[WRITES]),
-                (5, &[0, 1, 0]),
-                (20, &[0, 0, 1, 0]),
-                (32, &[0x2A, 0, 0, 0, 0, 7, 0, 0, 1]),
-            ],
+            "1:A1 5:000100 20:00000100 32:2A0000000007000001",
             Segment::Runs(&[(256, 0x5A)]),
         )],
         output: &[PduRow(
             &CHECK_CONDITION,
-            &[(1, &[OVERFLOW]), (44, &[0, 0, 1, 0])],
-            Segment::Bytes(&[
-                0, 0x12, 0x70, 0, 5, 0, 0, 0, 0, 0x0A, 0, 0, 0, 0, 0x24, 0, 0, 0, 0, 0,
-            ]),
+            "1:84 44:00000100",
+            Segment::Digits("0012700005000000000A00000000240000000000"),
         )],
         written: &[],
         small: true,

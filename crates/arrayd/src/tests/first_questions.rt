@@ -1,13 +1,9 @@
 //! What an initiator asks first, from bytes to bytes.
 use super::run::{Row, SOUND, run};
 use std::test::*;
-use test_streams::{
-    CHECK_CONDITION, DATA_IN, GOOD, PduRow, READS, Segment, TEST_UNIT_READY, UNDERFLOW,
-};
+use test_streams::{CHECK_CONDITION, DATA_IN, GOOD, PduRow, Segment, TEST_UNIT_READY};
 
-const NOT_SUPPORTED: Segment<'static> = Segment::Bytes(&[
-    0, 0x12, 0x70, 0, 5, 0, 0, 0, 0, 0x0A, 0, 0, 0, 0, 0x25, 0, 0, 0, 0, 0,
-]);
+const NOT_SUPPORTED: Segment<'static> = Segment::Digits("0012700005000000000A00000000250000000000");
 
 const ROWS: &[Row] = &[
     // The answer's 36 bytes are fewer than the 255 that were expected.
@@ -16,28 +12,16 @@ const ROWS: &[Row] = &[
         fuse: SOUND,
         input: &[PduRow(
             &TEST_UNIT_READY,
-            &[
-                (1, &[READS]),
-                (20, &[0, 0, 0, 0xFF]),
-                (32, &[0x12, 0, 0, 0, 0xFF]),
-            ],
+            "1:C1 20:000000FF 32:12000000FF",
             Segment::None,
         )],
         output: &[
             PduRow(
                 &DATA_IN,
-                &[(5, &[0, 0, 36])],
+                "5:000024",
                 Segment::Bytes(b"\x00\x00\x06\x12\x1F\x30\x10\x02TWINCTL ALUA DISK       0001"),
             ),
-            PduRow(
-                &GOOD,
-                &[
-                    (1, &[UNDERFLOW]),
-                    (36, &[0, 0, 0, 1]),
-                    (44, &[0, 0, 0, 219]),
-                ],
-                Segment::None,
-            ),
+            PduRow(&GOOD, "1:82 36:00000001 44:000000DB", Segment::None),
         ],
         written: &[],
         small: true,
@@ -47,17 +31,12 @@ const ROWS: &[Row] = &[
         fuse: SOUND,
         input: &[PduRow(
             &TEST_UNIT_READY,
-            &[
-                (1, &[READS]),
-                (8, &[0, 2]),
-                (20, &[0, 0, 0, 1]),
-                (32, &[0x12, 0, 0, 0, 1]),
-            ],
+            "1:C1 8:0002 20:00000001 32:1200000001",
             Segment::None,
         )],
         output: &[
-            PduRow(&DATA_IN, &[(5, &[0, 0, 1])], Segment::Bytes(&[0x7F])),
-            PduRow(&GOOD, &[(36, &[0, 0, 0, 1])], Segment::None),
+            PduRow(&DATA_IN, "5:000001", Segment::Digits("7F")),
+            PduRow(&GOOD, "36:00000001", Segment::None),
         ],
         written: &[],
         small: true,
@@ -65,16 +44,16 @@ const ROWS: &[Row] = &[
     Row {
         name: "TEST UNIT READY of unit 1",
         fuse: SOUND,
-        input: &[PduRow(&TEST_UNIT_READY, &[(8, &[0, 1])], Segment::None)],
-        output: &[PduRow(&CHECK_CONDITION, &[], NOT_SUPPORTED)],
+        input: &[PduRow(&TEST_UNIT_READY, "8:0001", Segment::None)],
+        output: &[PduRow(&CHECK_CONDITION, "", NOT_SUPPORTED)],
         written: &[],
         small: true,
     },
     Row {
         name: "TEST UNIT READY of a LUN that names no unit",
         fuse: SOUND,
-        input: &[PduRow(&TEST_UNIT_READY, &[(8, &[1, 0])], Segment::None)],
-        output: &[PduRow(&CHECK_CONDITION, &[], NOT_SUPPORTED)],
+        input: &[PduRow(&TEST_UNIT_READY, "8:0100", Segment::None)],
+        output: &[PduRow(&CHECK_CONDITION, "", NOT_SUPPORTED)],
         written: &[],
         small: true,
     },
@@ -83,20 +62,16 @@ const ROWS: &[Row] = &[
         fuse: SOUND,
         input: &[PduRow(
             &TEST_UNIT_READY,
-            &[
-                (1, &[READS]),
-                (20, &[0, 0, 0, 16]),
-                (32, &[0xA0, 0, 0, 0, 0, 0, 0, 0, 0, 16]),
-            ],
+            "1:C1 20:00000010 32:A0000000000000000010",
             Segment::None,
         )],
         output: &[
             PduRow(
                 &DATA_IN,
-                &[(5, &[0, 0, 16])],
-                Segment::Bytes(&[0, 0, 0, 8, 0, 0, 0, 0, 0, 0, 0, 0, 0, 0, 0, 0]),
+                "5:000010",
+                Segment::Digits("00000008000000000000000000000000"),
             ),
-            PduRow(&GOOD, &[(36, &[0, 0, 0, 1])], Segment::None),
+            PduRow(&GOOD, "36:00000001", Segment::None),
         ],
         written: &[],
         small: true,
@@ -107,20 +82,16 @@ const ROWS: &[Row] = &[
         fuse: SOUND,
         input: &[PduRow(
             &TEST_UNIT_READY,
-            &[
-                (1, &[READS]),
-                (20, &[0, 0, 0, 18]),
-                (32, &[0x03, 0, 0, 0, 18]),
-            ],
+            "1:C1 20:00000012 32:0300000012",
             Segment::None,
         )],
         output: &[
             PduRow(
                 &DATA_IN,
-                &[(5, &[0, 0, 18])],
-                Segment::Bytes(&[0x70, 0, 0, 0, 0, 0, 0, 0x0A, 0, 0, 0, 0, 0, 0, 0, 0, 0, 0]),
+                "5:000012",
+                Segment::Digits("700000000000000A00000000000000000000"),
             ),
-            PduRow(&GOOD, &[(36, &[0, 0, 0, 1])], Segment::None),
+            PduRow(&GOOD, "36:00000001", Segment::None),
         ],
         written: &[],
         small: true,
@@ -130,23 +101,18 @@ const ROWS: &[Row] = &[
         fuse: SOUND,
         input: &[PduRow(
             &TEST_UNIT_READY,
-            &[
-                (1, &[READS]),
-                (20, &[0, 0, 0, 36]),
-                (32, &[0x1A, 0, 0x3F, 0, 36]),
-            ],
+            "1:C1 20:00000024 32:1A003F0024",
             Segment::None,
         )],
         output: &[
             PduRow(
                 &DATA_IN,
-                &[(5, &[0, 0, 36])],
-                Segment::Bytes(&[
-                    0x23, 0, 0x10, 0, 0x08, 0x12, 0x04, 0, 0, 0, 0, 0, 0, 0, 0, 0, 0, 0, 0, 0, 0,
-                    0, 0, 0, 0x0A, 0x0A, 0, 0x10, 0, 0, 0, 0, 0, 0, 0, 0,
-                ]),
+                "5:000024",
+                Segment::Digits(
+                    "2300100008120400000000000000000000000000000000000A0A00100000000000000000",
+                ),
             ),
-            PduRow(&GOOD, &[(36, &[0, 0, 0, 1])], Segment::None),
+            PduRow(&GOOD, "36:00000001", Segment::None),
         ],
         written: &[],
         small: true,

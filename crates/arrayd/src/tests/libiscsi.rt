@@ -62,16 +62,8 @@ const KEYS: &[u8] = b"TargetPortalGroupTag=1\0MaxRecvDataSegmentLength=65536\0He
 const THE_TARGET: &[u8] = b"TargetName=iqn.2000-01.test:array\0TargetAddress=127.0.0.1:3260,1\0\
     TargetAddress=127.0.0.1:3264,2\0";
 
-// The ISID; tag 6B8B4567h; CmdSN 327B23C6h, and so MaxCmdSN 327B23E5h.
-const RANDOM_ISID: (usize, &[u8]) = (8, &[0x80, 0x6B, 0x8B, 0x45, 0, 0]);
-
-const TAG: (usize, &[u8]) = (16, &[0x6B, 0x8B, 0x45, 0x67]);
-
-const CMD_SN: (usize, &[u8]) = (24, &[0x32, 0x7B, 0x23, 0xC6]);
-
-const WINDOW: (usize, &[u8]) = (28, &[0x32, 0x7B, 0x23, 0xC6, 0x32, 0x7B, 0x23, 0xE5]);
-
-// `iscsi-ls` asks which targets there are. No number is used up.
+// `iscsi-ls` asks which targets there are. No number is used up: the random ISID is 806B8B450000h, the tag 6B8B4567h, and
+// CmdSN 327B23C6h, so MaxCmdSN is 327B23E5h.
 const LS_DISCOVERY: Life = Life {
     name: "iscsi-ls: discovery",
     blocks: 16,
@@ -80,44 +72,30 @@ const LS_DISCOVERY: Life = Life {
     input: &[
         PduRow(
             &LOGIN,
-            &[(6, &[1, 0x92]), RANDOM_ISID, TAG, CMD_SN, (31, &[1])],
+            "6:0192 8:806B8B450000 16:6B8B4567 24:327B23C6 31:01",
             Segment::Bytes(DISCOVERS),
         ),
         PduRow(
             &TEXT,
-            &[
-                (0, &[0x44]),
-                (7, &[16]),
-                (16, &[0x6B, 0x8B, 0x45, 0x68]),
-                CMD_SN,
-            ],
+            "0:44 7:10 16:6B8B4568 24:327B23C6",
             Segment::Bytes(b"SendTargets=All\0"),
         ),
-        PduRow(
-            &LOGOUT,
-            &[
-                (0, &[0x46]),
-                (16, &[0x6B, 0x8B, 0x45, 0x69]),
-                CMD_SN,
-                (31, &[3]),
-            ],
-            Segment::None,
-        ),
+        PduRow(&LOGOUT, "0:46 16:6B8B4569 24:327B23C6 31:03", Segment::None),
     ],
     output: &[
         PduRow(
             &LOGIN_RESPONSE,
-            &[(6, &[1, 0x34]), RANDOM_ISID, TAG, WINDOW],
+            "6:0134 8:806B8B450000 16:6B8B4567 28:327B23C6327B23E5",
             Segment::Bytes(DISCOVERY_KEYS),
         ),
         PduRow(
             &TEXT_RESPONSE,
-            &[(7, &[0x60]), (16, &[0x6B, 0x8B, 0x45, 0x68]), WINDOW],
+            "7:60 16:6B8B4568 28:327B23C6327B23E5",
             Segment::Bytes(THE_TARGET),
         ),
         PduRow(
             &LOGOUT_RESPONSE,
-            &[(16, &[0x6B, 0x8B, 0x45, 0x69]), (27, &[3]), WINDOW],
+            "16:6B8B4569 27:03 28:327B23C6327B23E5",
             Segment::None,
         ),
     ],
@@ -143,12 +121,12 @@ const LS_UNITS: Talk = Talk {
         others: 0,
         input: &[PduRow(
             &LOGIN,
-            &[(6, &[1, 0xB1]), RANDOM_ISID, TAG, CMD_SN, (31, &[1])],
+            "6:01B1 8:806B8B450000 16:6B8B4567 24:327B23C6 31:01",
             Segment::Bytes(LS_LOGS_IN),
         )],
         output: &[PduRow(
             &LOGIN_RESPONSE,
-            &[(6, &[1, 0x4B]), RANDOM_ISID, TAG, WINDOW],
+            "6:014B 8:806B8B450000 16:6B8B4567 28:327B23C6327B23E5",
             Segment::Bytes(KEYS),
         )],
         end: End::LoggedOut,
@@ -160,10 +138,7 @@ const LS_UNITS: Talk = Talk {
         Question(
             16,
             &[0xA0, 0, 0, 0, 0, 0, 0, 0, 0, 16],
-            Answer::Data(
-                16,
-                Segment::Bytes(&[0, 0, 0, 8, 0, 0, 0, 0, 0, 0, 0, 0, 0, 0, 0, 0]),
-            ),
+            Answer::Data(16, Segment::Digits("00000008000000000000000000000000")),
         ),
         Question(0, READY, Answer::Check(6, 0x29, 0)),
         Question(0, READY, Answer::Good),
@@ -172,7 +147,7 @@ const LS_UNITS: Talk = Talk {
         Question(
             8,
             &[0x25],
-            Answer::Data(8, Segment::Bytes(&[0, 0, 0x07, 0xFF, 0, 0, 2, 0])),
+            Answer::Data(8, Segment::Digits("000007FF00000200")),
         ),
     ],
 };
@@ -187,12 +162,12 @@ const INQUIRIES: Talk = Talk {
         others: 0,
         input: &[PduRow(
             &LOGIN,
-            &[(6, &[1, 0xB2]), RANDOM_ISID, TAG, CMD_SN, (31, &[1])],
+            "6:01B2 8:806B8B450000 16:6B8B4567 24:327B23C6 31:01",
             Segment::Bytes(INQ_LOGS_IN),
         )],
         output: &[PduRow(
             &LOGIN_RESPONSE,
-            &[(6, &[1, 0x4B]), RANDOM_ISID, TAG, WINDOW],
+            "6:014B 8:806B8B450000 16:6B8B4567 28:327B23C6327B23E5",
             Segment::Bytes(KEYS),
         )],
         end: End::LoggedOut,
@@ -207,7 +182,7 @@ const INQUIRIES: Talk = Talk {
         Question(
             64,
             &[0x12, 1, 0, 0, 64],
-            Answer::Data(8, Segment::Bytes(&[0, 0, 0, 4, 0, 0x80, 0x83, 0xB0])),
+            Answer::Data(8, Segment::Digits("00000004008083B0")),
         ),
         Question(64, &[0x12, 1, 0xB1, 0, 64], Answer::Check(5, 0x24, 0)),
         // READ CAPACITY (16)

@@ -4,7 +4,7 @@ use super::pdus::{HOST_A, LOGIN, LOGIN_RESPONSE, LOGOUT, LOGOUT_RESPONSE, POWER_
 use session::End;
 use std::test::*;
 use test_streams::{
-    CHECK_CONDITION, DATA_IN, DATA_OUT, GOOD, PduRow, R2T, READS, Segment, TEST_UNIT_READY, WRITE,
+    CHECK_CONDITION, DATA_IN, DATA_OUT, GOOD, PduRow, R2T, Segment, TEST_UNIT_READY, WRITE,
 };
 
 const PORT: (&[u8], u64) = (b"iqn.2000-01.test:a", 0x4000_0137_0000);
@@ -16,12 +16,12 @@ const LOGIN_AND_LOGOUT: Life = Life {
     port: PORT,
     others: 0,
     input: &[
-        PduRow(&LOGIN, &[(7, &[0x56])], Segment::Bytes(HOST_A)),
-        PduRow(&LOGOUT, &[], Segment::None),
+        PduRow(&LOGIN, "7:56", Segment::Bytes(HOST_A)),
+        PduRow(&LOGOUT, "", Segment::None),
     ],
     output: &[
-        PduRow(&LOGIN_RESPONSE, &[(7, &[0x36])], Segment::Bytes(WELCOME)),
-        PduRow(&LOGOUT_RESPONSE, &[], Segment::None),
+        PduRow(&LOGIN_RESPONSE, "7:36", Segment::Bytes(WELCOME)),
+        PduRow(&LOGOUT_RESPONSE, "", Segment::None),
     ],
     end: End::LoggedOut,
     each_place: true,
@@ -42,274 +42,163 @@ const WHOLE_LIFE: Life = Life {
     port: PORT,
     others: 0,
     input: &[
-        PduRow(&LOGIN, &[(7, &[0x9E])], Segment::Bytes(SHORT_LENGTHS)),
-        PduRow(&TEST_UNIT_READY, &[(31, &[2])], Segment::None),
+        PduRow(&LOGIN, "7:9E", Segment::Bytes(SHORT_LENGTHS)),
+        PduRow(&TEST_UNIT_READY, "31:02", Segment::None),
         PduRow(
             &TEST_UNIT_READY,
-            &[(16, &[0, 0, 0, 2, 0, 0, 0, 0, 0, 0, 0, 2, 0, 0, 0, 3])],
+            "16:00000002000000000000000200000003",
             Segment::None,
         ),
         // REPORT LUNS
         PduRow(
             &TEST_UNIT_READY,
-            &[
-                (1, &[READS]),
-                (16, &[0, 0, 0, 3, 0, 0, 0, 16, 0, 0, 0, 3, 0, 0, 0, 4]),
-                (32, &[0xA0, 0, 0, 0, 0, 0, 0, 0, 0, 16]),
-            ],
+            "1:C1 16:00000003000000100000000300000004 32:A0000000000000000010",
             Segment::None,
         ),
         // INQUIRY
         PduRow(
             &TEST_UNIT_READY,
-            &[
-                (1, &[READS]),
-                (16, &[0, 0, 0, 4, 0, 0, 0, 36, 0, 0, 0, 4, 0, 0, 0, 5]),
-                (32, &[0x12, 0, 0, 0, 36]),
-            ],
+            "1:C1 16:00000004000000240000000400000005 32:1200000024",
             Segment::None,
         ),
         // READ CAPACITY (10)
         PduRow(
             &TEST_UNIT_READY,
-            &[
-                (1, &[READS]),
-                (16, &[0, 0, 0, 5, 0, 0, 0, 8, 0, 0, 0, 5, 0, 0, 0, 6]),
-                (32, &[0x25]),
-            ],
+            "1:C1 16:00000005000000080000000500000006 32:25",
             Segment::None,
         ),
         // WRITE (10) of the last 16 blocks, of whose 8192 bytes 1024 come with the command.
         PduRow(
             &WRITE,
-            &[
-                (5, &[0, 4, 0]),
-                (16, &[0, 0, 0, 6, 0, 0, 0x20, 0, 0, 0, 0, 6, 0, 0, 0, 7]),
-                (34, &[0, 0, 0x07, 0xF0, 0, 0, 16]),
-            ],
+            "5:000400 16:00000006000020000000000600000007 34:000007F0000010",
             Segment::Pattern(1024),
         ),
         // For the first R2T, with F behind all of it.
         PduRow(
             &DATA_OUT,
-            &[
-                (1, &[0]),
-                (5, &[0, 0x0C, 0]),
-                (16, &[0, 0, 0, 6]),
-                (31, &[7]),
-                (40, &[0, 0, 4, 0]),
-            ],
+            "1:00 5:000C00 16:00000006 31:07 40:00000400",
             Segment::PatternAt(1024, 3072),
         ),
         PduRow(
             &DATA_OUT,
-            &[
-                (5, &[0, 4, 0]),
-                (16, &[0, 0, 0, 6]),
-                (31, &[7]),
-                (36, &[0, 0, 0, 1, 0, 0, 0x10, 0]),
-            ],
+            "5:000400 16:00000006 31:07 36:0000000100001000",
             Segment::PatternAt(4096, 1024),
         ),
         // For the second.
         PduRow(
             &DATA_OUT,
-            &[
-                (5, &[0, 0x0C, 0]),
-                (16, &[0, 0, 0, 6, 0, 0, 0, 1]),
-                (31, &[7]),
-                (40, &[0, 0, 0x14, 0]),
-            ],
+            "5:000C00 16:0000000600000001 31:07 40:00001400",
             Segment::PatternAt(5120, 3072),
         ),
         // READ (10) of the same blocks.
         PduRow(
             &TEST_UNIT_READY,
-            &[
-                (1, &[READS]),
-                (16, &[0, 0, 0, 7, 0, 0, 0x20, 0, 0, 0, 0, 7, 0, 0, 0, 8]),
-                (32, &[0x28, 0, 0, 0, 0x07, 0xF0, 0, 0, 16]),
-            ],
+            "1:C1 16:00000007000020000000000700000008 32:2800000007F0000010",
             Segment::None,
         ),
         // READ (10) of the block before them.
         PduRow(
             &TEST_UNIT_READY,
-            &[
-                (1, &[READS]),
-                (16, &[0, 0, 0, 8, 0, 0, 2, 0, 0, 0, 0, 8, 0, 0, 0, 9]),
-                (32, &[0x28, 0, 0, 0, 0x07, 0xEF, 0, 0, 1]),
-            ],
+            "1:C1 16:00000008000002000000000800000009 32:2800000007EF000001",
             Segment::None,
         ),
-        PduRow(
-            &LOGOUT,
-            &[(19, &[9]), (24, &[0, 0, 0, 9, 0, 0, 0, 10])],
-            Segment::None,
-        ),
+        PduRow(&LOGOUT, "19:09 24:000000090000000A", Segment::None),
     ],
     output: &[
-        PduRow(
-            &LOGIN_RESPONSE,
-            &[(7, &[0x60])],
-            Segment::Bytes(ANSWERED_LENGTHS),
-        ),
+        PduRow(&LOGIN_RESPONSE, "7:60", Segment::Bytes(ANSWERED_LENGTHS)),
         // The first command is told of the power on.
-        PduRow(&CHECK_CONDITION, &[(27, &[2])], Segment::Bytes(POWER_ON)),
+        PduRow(&CHECK_CONDITION, "27:02", Segment::Bytes(POWER_ON)),
         PduRow(
             &GOOD,
-            &[
-                (16, &[0, 0, 0, 2]),
-                (24, &[0, 0, 0, 3, 0, 0, 0, 3, 0, 0, 0, 0x22]),
-            ],
+            "16:00000002 24:000000030000000300000022",
             Segment::None,
         ),
         PduRow(
             &DATA_IN,
-            &[
-                (5, &[0, 0, 16]),
-                (16, &[0, 0, 0, 3]),
-                (28, &[0, 0, 0, 4, 0, 0, 0, 0x23]),
-            ],
-            Segment::Bytes(&[0, 0, 0, 8, 0, 0, 0, 0, 0, 0, 0, 0, 0, 0, 0, 0]),
+            "5:000010 16:00000003 28:0000000400000023",
+            Segment::Digits("00000008000000000000000000000000"),
         ),
         PduRow(
             &GOOD,
-            &[
-                (16, &[0, 0, 0, 3]),
-                (24, &[0, 0, 0, 4, 0, 0, 0, 4, 0, 0, 0, 0x23, 0, 0, 0, 1]),
-            ],
+            "16:00000003 24:00000004000000040000002300000001",
             Segment::None,
         ),
         PduRow(
             &DATA_IN,
-            &[
-                (5, &[0, 0, 36]),
-                (16, &[0, 0, 0, 4]),
-                (28, &[0, 0, 0, 5, 0, 0, 0, 0x24]),
-            ],
+            "5:000024 16:00000004 28:0000000500000024",
             Segment::Bytes(b"\x00\x00\x06\x12\x1F\x30\x10\x02TWINCTL ALUA DISK       0001"),
         ),
         PduRow(
             &GOOD,
-            &[
-                (16, &[0, 0, 0, 4]),
-                (24, &[0, 0, 0, 5, 0, 0, 0, 5, 0, 0, 0, 0x24, 0, 0, 0, 1]),
-            ],
+            "16:00000004 24:00000005000000050000002400000001",
             Segment::None,
         ),
         PduRow(
             &DATA_IN,
-            &[
-                (5, &[0, 0, 8]),
-                (16, &[0, 0, 0, 5]),
-                (28, &[0, 0, 0, 6, 0, 0, 0, 0x25]),
-            ],
-            Segment::Bytes(&[0, 0, 0x07, 0xFF, 0, 0, 2, 0]),
+            "5:000008 16:00000005 28:0000000600000025",
+            Segment::Digits("000007FF00000200"),
         ),
         PduRow(
             &GOOD,
-            &[
-                (16, &[0, 0, 0, 5]),
-                (24, &[0, 0, 0, 6, 0, 0, 0, 6, 0, 0, 0, 0x25, 0, 0, 0, 1]),
-            ],
+            "16:00000005 24:00000006000000060000002500000001",
             Segment::None,
         ),
         // 4096 bytes behind those that came; MaxCmdSN is one less while the write waits.
         PduRow(
             &R2T,
-            &[
-                (16, &[0, 0, 0, 6]),
-                (24, &[0, 0, 0, 7, 0, 0, 0, 7, 0, 0, 0, 0x25]),
-                (40, &[0, 0, 4, 0, 0, 0, 0x10, 0]),
-            ],
+            "16:00000006 24:000000070000000700000025 40:0000040000001000",
             Segment::None,
         ),
         // And the last 3072.
         PduRow(
             &R2T,
-            &[
-                (16, &[0, 0, 0, 6, 0, 0, 0, 1]),
-                (24, &[0, 0, 0, 7, 0, 0, 0, 7, 0, 0, 0, 0x25]),
-                (36, &[0, 0, 0, 1, 0, 0, 0x14, 0, 0, 0, 0x0C, 0]),
-            ],
+            "16:0000000600000001 24:000000070000000700000025 36:000000010000140000000C00",
             Segment::None,
         ),
         PduRow(
             &GOOD,
-            &[
-                (16, &[0, 0, 0, 6]),
-                (24, &[0, 0, 0, 7, 0, 0, 0, 7, 0, 0, 0, 0x26]),
-            ],
+            "16:00000006 24:000000070000000700000026",
             Segment::None,
         ),
         // Two runs of 4096, each in a Data-In of 3072 bytes and one of 1024 with F.
         PduRow(
             &DATA_IN,
-            &[
-                (1, &[0]),
-                (5, &[0, 0x0C, 0]),
-                (16, &[0, 0, 0, 7]),
-                (28, &[0, 0, 0, 8, 0, 0, 0, 0x27]),
-            ],
+            "1:00 5:000C00 16:00000007 28:0000000800000027",
             Segment::Pattern(3072),
         ),
         PduRow(
             &DATA_IN,
-            &[
-                (5, &[0, 4, 0]),
-                (16, &[0, 0, 0, 7]),
-                (28, &[0, 0, 0, 8, 0, 0, 0, 0x27, 0, 0, 0, 1, 0, 0, 0x0C, 0]),
-            ],
+            "5:000400 16:00000007 28:00000008000000270000000100000C00",
             Segment::PatternAt(3072, 1024),
         ),
         PduRow(
             &DATA_IN,
-            &[
-                (1, &[0]),
-                (5, &[0, 0x0C, 0]),
-                (16, &[0, 0, 0, 7]),
-                (28, &[0, 0, 0, 8, 0, 0, 0, 0x27, 0, 0, 0, 2, 0, 0, 0x10, 0]),
-            ],
+            "1:00 5:000C00 16:00000007 28:00000008000000270000000200001000",
             Segment::PatternAt(4096, 3072),
         ),
         PduRow(
             &DATA_IN,
-            &[
-                (5, &[0, 4, 0]),
-                (16, &[0, 0, 0, 7]),
-                (28, &[0, 0, 0, 8, 0, 0, 0, 0x27, 0, 0, 0, 3, 0, 0, 0x1C, 0]),
-            ],
+            "5:000400 16:00000007 28:00000008000000270000000300001C00",
             Segment::PatternAt(7168, 1024),
         ),
         PduRow(
             &GOOD,
-            &[
-                (16, &[0, 0, 0, 7]),
-                (24, &[0, 0, 0, 8, 0, 0, 0, 8, 0, 0, 0, 0x27, 0, 0, 0, 4]),
-            ],
+            "16:00000007 24:00000008000000080000002700000004",
             Segment::None,
         ),
         PduRow(
             &DATA_IN,
-            &[
-                (5, &[0, 2, 0]),
-                (16, &[0, 0, 0, 8]),
-                (28, &[0, 0, 0, 9, 0, 0, 0, 0x28]),
-            ],
+            "5:000200 16:00000008 28:0000000900000028",
             Segment::Runs(&[(512, 0)]),
         ),
         PduRow(
             &GOOD,
-            &[
-                (16, &[0, 0, 0, 8]),
-                (24, &[0, 0, 0, 9, 0, 0, 0, 9, 0, 0, 0, 0x28, 0, 0, 0, 1]),
-            ],
+            "16:00000008 24:00000009000000090000002800000001",
             Segment::None,
         ),
         PduRow(
             &LOGOUT_RESPONSE,
-            &[(19, &[9]), (24, &[0, 0, 0, 10, 0, 0, 0, 10, 0, 0, 0, 0x29])],
+            "19:09 24:0000000A0000000A00000029",
             Segment::None,
         ),
     ],

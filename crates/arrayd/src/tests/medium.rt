@@ -1,31 +1,20 @@
 //! The medium commands, from bytes to bytes and blocks.
 use super::run::{Fuse, Row, SOUND, run};
 use std::test::*;
-use test_streams::{
-    CHECK_CONDITION, DATA_IN, GOOD, PduRow, READS, Segment, TEST_UNIT_READY, UNDERFLOW, WRITES,
-};
+use test_streams::{CHECK_CONDITION, DATA_IN, GOOD, PduRow, Segment, TEST_UNIT_READY};
 
-const OUT_OF_RANGE: Segment<'static> = Segment::Bytes(&[
-    0, 0x12, 0x70, 0, 5, 0, 0, 0, 0, 0x0A, 0, 0, 0, 0, 0x21, 0, 0, 0, 0, 0,
-]);
+const OUT_OF_RANGE: Segment<'static> = Segment::Digits("0012700005000000000A00000000210000000000");
 
-const WRITE_ERROR: Segment<'static> = Segment::Bytes(&[
-    0, 0x12, 0x70, 0, 3, 0, 0, 0, 0, 0x0A, 0, 0, 0, 0, 0x0C, 0, 0, 0, 0, 0,
-]);
+const WRITE_ERROR: Segment<'static> = Segment::Digits("0012700003000000000A000000000C0000000000");
 
 // WRITE (10) of four blocks at LBA 10 with 2048 bytes.
 const FOUR_BLOCKS: &[PduRow<'static>] = &[PduRow(
     &TEST_UNIT_READY,
-    &[
-        (1, &[WRITES]),
-        (5, &[0, 8, 0]),
-        (20, &[0, 0, 8, 0]),
-        (32, &[0x2A, 0, 0, 0, 0, 10, 0, 0, 4]),
-    ],
+    "1:A1 5:000800 20:00000800 32:2A000000000A000004",
     Segment::Runs(&[(2048, 0x5A)]),
 )];
 
-const FAILED_WRITE: &[PduRow<'static>] = &[PduRow(&CHECK_CONDITION, &[], WRITE_ERROR)];
+const FAILED_WRITE: &[PduRow<'static>] = &[PduRow(&CHECK_CONDITION, "", WRITE_ERROR)];
 
 const ROWS: &[Row] = &[
     // The device fails at the third block: blocks 10 and 11 are new.
@@ -60,19 +49,13 @@ const ROWS: &[Row] = &[
         },
         input: &[PduRow(
             &TEST_UNIT_READY,
-            &[
-                (1, &[READS]),
-                (20, &[0, 0, 2, 0]),
-                (32, &[0x28, 0, 0, 0, 0, 10, 0, 0, 1]),
-            ],
+            "1:C1 20:00000200 32:28000000000A000001",
             Segment::None,
         )],
         output: &[PduRow(
             &CHECK_CONDITION,
-            &[(1, &[UNDERFLOW]), (44, &[0, 0, 2, 0])],
-            Segment::Bytes(&[
-                0, 0x12, 0x70, 0, 3, 0, 0, 0, 0, 0x0A, 0, 0, 0, 0, 0x11, 0, 0, 0, 0, 0,
-            ]),
+            "1:82 44:00000200",
+            Segment::Digits("0012700003000000000A00000000110000000000"),
         )],
         written: &[],
         small: true,
@@ -84,51 +67,30 @@ const ROWS: &[Row] = &[
         input: &[
             PduRow(
                 &TEST_UNIT_READY,
-                &[
-                    (1, &[WRITES]),
-                    (5, &[0, 2, 0]),
-                    (20, &[0, 0, 2, 0]),
-                    (32, &[0x2A, 0, 0, 0, 0, 31, 0, 0, 1]),
-                ],
+                "1:A1 5:000200 20:00000200 32:2A000000001F000001",
                 Segment::Runs(&[(512, 0x5A)]),
             ),
             PduRow(
                 &TEST_UNIT_READY,
-                &[
-                    (1, &[READS]),
-                    (16, &[0, 0, 0, 2, 0, 0, 0x22, 0, 0, 0, 0, 2, 0, 0, 0, 2]),
-                    (32, &[0x28, 0, 0, 0, 0, 15, 0, 0, 17]),
-                ],
+                "1:C1 16:00000002000022000000000200000002 32:28000000000F000011",
                 Segment::None,
             ),
         ],
         output: &[
-            PduRow(&GOOD, &[], Segment::None),
+            PduRow(&GOOD, "", Segment::None),
             PduRow(
                 &DATA_IN,
-                &[
-                    (1, &[0]),
-                    (5, &[0, 0x20, 0]),
-                    (16, &[0, 0, 0, 2]),
-                    (28, &[0, 0, 0, 3, 0, 0, 0, 0x22]),
-                ],
+                "1:00 5:002000 16:00000002 28:0000000300000022",
                 Segment::Runs(&[(8192, 0)]),
             ),
             PduRow(
                 &DATA_IN,
-                &[
-                    (5, &[0, 2, 0]),
-                    (16, &[0, 0, 0, 2]),
-                    (28, &[0, 0, 0, 3, 0, 0, 0, 0x22, 0, 0, 0, 1, 0, 0, 0x20, 0]),
-                ],
+                "5:000200 16:00000002 28:00000003000000220000000100002000",
                 Segment::Runs(&[(512, 0x5A)]),
             ),
             PduRow(
                 &GOOD,
-                &[
-                    (16, &[0, 0, 0, 2]),
-                    (24, &[0, 0, 0, 2, 0, 0, 0, 3, 0, 0, 0, 0x22, 0, 0, 0, 2]),
-                ],
+                "16:00000002 24:00000002000000030000002200000002",
                 Segment::None,
             ),
         ],
@@ -144,12 +106,7 @@ const ROWS: &[Row] = &[
         },
         input: &[PduRow(
             &TEST_UNIT_READY,
-            &[
-                (1, &[WRITES]),
-                (5, &[0, 2, 0]),
-                (20, &[0, 0, 2, 0]),
-                (32, &[0x2A, 0x08, 0, 0, 0, 0, 0, 0, 1]),
-            ],
+            "1:A1 5:000200 20:00000200 32:2A0800000000000001",
             Segment::Runs(&[(512, 0x5A)]),
         )],
         output: FAILED_WRITE,
@@ -161,10 +118,10 @@ const ROWS: &[Row] = &[
         fuse: SOUND,
         input: &[PduRow(
             &TEST_UNIT_READY,
-            &[(1, &[READS]), (32, &[0x28, 0, 0, 0, 8, 0, 0, 0, 0])],
+            "1:C1 32:280000000800000000",
             Segment::None,
         )],
-        output: &[PduRow(&CHECK_CONDITION, &[], OUT_OF_RANGE)],
+        output: &[PduRow(&CHECK_CONDITION, "", OUT_OF_RANGE)],
         written: &[],
         small: true,
     },
@@ -173,18 +130,10 @@ const ROWS: &[Row] = &[
         fuse: SOUND,
         input: &[PduRow(
             &TEST_UNIT_READY,
-            &[
-                (1, &[READS]),
-                (20, &[0, 0, 4, 0]),
-                (32, &[0x28, 0, 0, 0, 7, 0xFF, 0, 0, 2]),
-            ],
+            "1:C1 20:00000400 32:2800000007FF000002",
             Segment::None,
         )],
-        output: &[PduRow(
-            &CHECK_CONDITION,
-            &[(1, &[UNDERFLOW]), (44, &[0, 0, 4, 0])],
-            OUT_OF_RANGE,
-        )],
+        output: &[PduRow(&CHECK_CONDITION, "1:82 44:00000400", OUT_OF_RANGE)],
         written: &[],
         small: true,
     },
@@ -193,13 +142,10 @@ const ROWS: &[Row] = &[
         fuse: SOUND,
         input: &[PduRow(
             &TEST_UNIT_READY,
-            &[
-                (1, &[READS]),
-                (32, &[0x88, 0, 0, 0, 0, 1, 0, 0, 0, 0, 0, 0, 0, 1]),
-            ],
+            "1:C1 32:8800000000010000000000000001",
             Segment::None,
         )],
-        output: &[PduRow(&CHECK_CONDITION, &[], OUT_OF_RANGE)],
+        output: &[PduRow(&CHECK_CONDITION, "", OUT_OF_RANGE)],
         written: &[],
         small: true,
     },
@@ -209,20 +155,13 @@ const ROWS: &[Row] = &[
         fuse: SOUND,
         input: &[PduRow(
             &TEST_UNIT_READY,
-            &[
-                (1, &[WRITES]),
-                (5, &[0, 4, 0]),
-                (20, &[0, 0, 4, 0]),
-                (32, &[0x89, 0, 0, 0, 0, 0, 0, 0, 0, 3, 0, 0, 0, 1]),
-            ],
+            "1:A1 5:000400 20:00000400 32:8900000000000000000300000001",
             Segment::Runs(&[(5, 0), (1, 1), (506, 0), (512, 0x5A)]),
         )],
         output: &[PduRow(
             &CHECK_CONDITION,
-            &[],
-            Segment::Bytes(&[
-                0, 0x12, 0xF0, 0, 0x0E, 0, 0, 0, 5, 0x0A, 0, 0, 0, 0, 0x1D, 0, 0, 0, 0, 0,
-            ]),
+            "",
+            Segment::Digits("0012F0000E000000050A000000001D0000000000"),
         )],
         written: &[],
         small: true,
@@ -232,15 +171,10 @@ const ROWS: &[Row] = &[
         fuse: SOUND,
         input: &[PduRow(
             &TEST_UNIT_READY,
-            &[
-                (1, &[WRITES]),
-                (5, &[0, 4, 0]),
-                (20, &[0, 0, 4, 0]),
-                (32, &[0x89, 0, 0, 0, 0, 0, 0, 0, 0, 3, 0, 0, 0, 1]),
-            ],
+            "1:A1 5:000400 20:00000400 32:8900000000000000000300000001",
             Segment::Runs(&[(512, 0), (512, 0x5A)]),
         )],
-        output: &[PduRow(&GOOD, &[], Segment::None)],
+        output: &[PduRow(&GOOD, "", Segment::None)],
         written: &[(3, 0x5A)],
         small: true,
     },
@@ -249,10 +183,10 @@ const ROWS: &[Row] = &[
         fuse: SOUND,
         input: &[PduRow(
             &TEST_UNIT_READY,
-            &[(32, &[0x89, 0, 0, 0, 0, 0, 0, 0, 0, 3, 0, 0, 0, 0])],
+            "32:8900000000000000000300000000",
             Segment::None,
         )],
-        output: &[PduRow(&GOOD, &[], Segment::None)],
+        output: &[PduRow(&GOOD, "", Segment::None)],
         written: &[],
         small: true,
     },
@@ -261,15 +195,13 @@ const ROWS: &[Row] = &[
         fuse: SOUND,
         input: &[PduRow(
             &TEST_UNIT_READY,
-            &[(32, &[0x89, 0, 0, 0, 0, 0, 0, 0, 0, 3, 0, 0, 0, 33])],
+            "32:8900000000000000000300000021",
             Segment::None,
         )],
         output: &[PduRow(
             &CHECK_CONDITION,
-            &[],
-            Segment::Bytes(&[
-                0, 0x12, 0x70, 0, 5, 0, 0, 0, 0, 0x0A, 0, 0, 0, 0, 0x24, 0, 0, 0, 0, 0,
-            ]),
+            "",
+            Segment::Digits("0012700005000000000A00000000240000000000"),
         )],
         written: &[],
         small: true,
@@ -277,42 +209,26 @@ const ROWS: &[Row] = &[
     Row {
         name: "SYNCHRONIZE CACHE (10) at the last block, to the end",
         fuse: SOUND,
-        input: &[PduRow(
-            &TEST_UNIT_READY,
-            &[(32, &[0x35, 0, 0, 0, 7, 0xFF, 0, 0, 0])],
-            Segment::None,
-        )],
-        output: &[PduRow(&GOOD, &[], Segment::None)],
+        input: &[PduRow(&TEST_UNIT_READY, "32:3500000007FF000000", Segment::None)],
+        output: &[PduRow(&GOOD, "", Segment::None)],
         written: &[],
         small: false,
     },
     Row {
         name: "SYNCHRONIZE CACHE (10) of the last block and the next",
         fuse: SOUND,
-        input: &[PduRow(
-            &TEST_UNIT_READY,
-            &[(32, &[0x35, 0, 0, 0, 7, 0xFF, 0, 0, 2])],
-            Segment::None,
-        )],
-        output: &[PduRow(&CHECK_CONDITION, &[], OUT_OF_RANGE)],
+        input: &[PduRow(&TEST_UNIT_READY, "32:3500000007FF000002", Segment::None)],
+        output: &[PduRow(&CHECK_CONDITION, "", OUT_OF_RANGE)],
         written: &[],
         small: true,
     },
     Row {
         name: "READ CAPACITY (10)",
         fuse: SOUND,
-        input: &[PduRow(
-            &TEST_UNIT_READY,
-            &[(1, &[READS]), (20, &[0, 0, 0, 8]), (32, &[0x25])],
-            Segment::None,
-        )],
+        input: &[PduRow(&TEST_UNIT_READY, "1:C1 20:00000008 32:25", Segment::None)],
         output: &[
-            PduRow(
-                &DATA_IN,
-                &[(5, &[0, 0, 8])],
-                Segment::Bytes(&[0, 0, 0x07, 0xFF, 0, 0, 2, 0]),
-            ),
-            PduRow(&GOOD, &[(36, &[0, 0, 0, 1])], Segment::None),
+            PduRow(&DATA_IN, "5:000008", Segment::Digits("000007FF00000200")),
+            PduRow(&GOOD, "36:00000001", Segment::None),
         ],
         written: &[],
         small: false,
@@ -322,20 +238,16 @@ const ROWS: &[Row] = &[
         fuse: SOUND,
         input: &[PduRow(
             &TEST_UNIT_READY,
-            &[
-                (1, &[READS]),
-                (20, &[0, 0, 0, 10]),
-                (32, &[0x9E, 0x10, 0, 0, 0, 0, 0, 0, 0, 0, 0, 0, 0, 10]),
-            ],
+            "1:C1 20:0000000A 32:9E1000000000000000000000000A",
             Segment::None,
         )],
         output: &[
             PduRow(
                 &DATA_IN,
-                &[(5, &[0, 0, 10])],
-                Segment::Bytes(&[0, 0, 0, 0, 0, 0, 0x07, 0xFF, 0, 0]),
+                "5:00000A",
+                Segment::Digits("00000000000007FF0000"),
             ),
-            PduRow(&GOOD, &[(36, &[0, 0, 0, 1])], Segment::None),
+            PduRow(&GOOD, "36:00000001", Segment::None),
         ],
         written: &[],
         small: false,

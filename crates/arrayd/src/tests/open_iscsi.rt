@@ -32,14 +32,7 @@ const KEYS_ANSWERED: &[u8] =
     ImmediateData=Yes\0MaxBurstLength=262144\0FirstBurstLength=65536\0MaxOutstandingR2T=1\0\
     MaxConnections=1\0DataPDUInOrder=Yes\0DataSequenceInOrder=Yes\0";
 
-const ISID: (usize, &[u8]) = (8, &[0, 0x02, 0x3D, 0, 0, 0]);
-
-// Tag, connection, CmdSN and ExpStatSN, all 0 at first.
-const NUMBERS: (usize, &[u8]) = (16, &[0; 16]);
-
-// ExpCmdSN 0 and MaxCmdSN 31.
-const WINDOW: (usize, &[u8]) = (28, &[0, 0, 0, 0, 0, 0, 0, 0x1F]);
-
+// Tag, connection, CmdSN and ExpStatSN are all 0 at first; so ExpCmdSN is 0 and MaxCmdSN 31.
 const LOGIN_OF_TWO: Life = Life {
     name: "a Linux host",
     blocks: 2048,
@@ -48,31 +41,24 @@ const LOGIN_OF_TWO: Life = Life {
     input: &[
         PduRow(
             &LOGIN,
-            &[(1, &[0x81]), (7, &[0x8E]), ISID, NUMBERS],
+            "1:81 7:8E 8:00023D000000 16:00000000000000000000000000000000",
             Segment::Bytes(NAMES),
         ),
         PduRow(
             &LOGIN,
-            &[(6, &[1, 0x37]), ISID, NUMBERS, (31, &[2])],
+            "6:0137 8:00023D000000 16:00000000000000000000000000000000 31:02",
             Segment::Bytes(KEYS),
         ),
     ],
     output: &[
         PduRow(
             &LOGIN_RESPONSE,
-            &[
-                (1, &[0x81]),
-                (7, &[0x27]),
-                ISID,
-                (15, &[0]),
-                (19, &[0]),
-                WINDOW,
-            ],
+            "1:81 7:27 8:00023D000000 15:00 19:00 28:000000000000001F",
             Segment::Bytes(NAMES_ANSWERED),
         ),
         PduRow(
             &LOGIN_RESPONSE,
-            &[(6, &[1, 0x34]), ISID, (19, &[0]), (27, &[2]), WINDOW],
+            "6:0134 8:00023D000000 19:00 27:02 28:000000000000001F",
             Segment::Bytes(KEYS_ANSWERED),
         ),
     ],
@@ -80,7 +66,7 @@ const LOGIN_OF_TWO: Life = Life {
     each_place: false,
 };
 
-const PAGES: Segment<'static> = Segment::Bytes(&[0, 0, 0, 4, 0, 0x80, 0x83, 0xB0]);
+const PAGES: Segment<'static> = Segment::Digits("00000004008083B0");
 
 const SCAN: &[Question] = &[
     // INQUIRY, and pages 00h, 80h and 83h.
@@ -103,12 +89,7 @@ const SCAN: &[Question] = &[
         &[0x12, 1, 0x83, 0, 255],
         Answer::Data(
             32,
-            Segment::Bytes(&[
-                0x00, 0x83, 0x00, 0x1C, // the page
-                0x01, 0x03, 0, 8, 0x30, 0, 0, 0, 0, 1, 0, 0, // NAA 3 of array 1, unit 0
-                0x51, 0x94, 0, 4, 0, 0, 0, 1, // relative target port 1
-                0x51, 0x95, 0, 4, 0, 0, 0, 1, // target port group 1
-            ]),
+            Segment::Digits("0083001C01030008300000000001000051940004000000015195000400000001"),
         ),
     ),
     // REPORT LUNS, for up to 511 units
@@ -133,11 +114,7 @@ const SCAN: &[Question] = &[
         &[0xA3, 0x0A, 0, 0, 0, 0, 0, 0, 0, 128],
         Answer::Data(
             28,
-            Segment::Bytes(&[
-                0, 0, 0, 0x18, // 24 bytes follow
-                0x80, 0x0F, 0, 1, 0, 0, 0, 1, 0, 0, 0, 1, // group 1: preferred, active/optimized
-                0x01, 0x0F, 0, 2, 0, 0, 0, 1, 0, 0, 0, 2, // group 2: active/non-optimized
-            ]),
+            Segment::Digits("00000018800F00010000000100000001010F00020000000100000002"),
         ),
     ),
     // The disk: TEST UNIT READY, READ CAPACITY (16) and (10).
@@ -153,7 +130,7 @@ const SCAN: &[Question] = &[
     Question(
         8,
         &[0x25],
-        Answer::Data(8, Segment::Bytes(&[0, 0, 0x07, 0xFF, 0, 0, 2, 0])),
+        Answer::Data(8, Segment::Digits("000007FF00000200")),
     ),
     // Pages 00h and B0h, the Block Limits.
     Question(64, &[0x12, 1, 0, 0, 64], Answer::Data(8, PAGES)),
@@ -183,22 +160,19 @@ const SCAN: &[Question] = &[
     Question(
         4,
         &[0x1A, 0, 0x3F, 0, 4],
-        Answer::Data(4, Segment::Bytes(&[0x23, 0, 0x10, 0])),
+        Answer::Data(4, Segment::Digits("23001000")),
     ),
     Question(
         4,
         &[0x1A, 0, 0x08, 0, 4],
-        Answer::Data(4, Segment::Bytes(&[0x17, 0, 0x10, 0])),
+        Answer::Data(4, Segment::Digits("17001000")),
     ),
     Question(
         24,
         &[0x1A, 0, 0x08, 0, 24],
         Answer::Data(
             24,
-            Segment::Bytes(&[
-                0x17, 0, 0x10, 0, 0x08, 0x12, 0x04, 0, 0, 0, 0, 0, 0, 0, 0, 0, 0, 0, 0, 0, 0, 0, 0,
-                0,
-            ]),
+            Segment::Digits("170010000812040000000000000000000000000000000000"),
         ),
     ),
     // REPORT SUPPORTED OPERATION CODES is none that the unit knows.

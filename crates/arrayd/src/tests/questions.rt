@@ -76,7 +76,7 @@ impl Spelling {
     fn ask(&mut self, question: &Question) -> Result<(), Fail> {
         let Question(expected, cdb, answer) = *question;
         let (tag, cmd_sn, stat_sn) = self.next;
-        let row = PduRow(&TEST_UNIT_READY, &[], Segment::None);
+        let row = PduRow(&TEST_UNIT_READY, "", Segment::None);
         let mut command = Draft::of(self.alloc, row)?;
         if expected > 0 {
             command.put_bytes(1, &[READS])?;
@@ -106,7 +106,7 @@ impl Spelling {
     // A Data-In of all that came: the window goes on behind its command.
     fn send(&mut self, came: u16, segment: Segment<'static>) -> Result<(), Fail> {
         let (tag, cmd_sn, _) = self.next;
-        let mut data_in = Draft::of(self.alloc, PduRow(&DATA_IN, &[], segment))?;
+        let mut data_in = Draft::of(self.alloc, PduRow(&DATA_IN, "", segment))?;
         data_in.put_bytes(6, &came.to_be_bytes())?;
         data_in.put(16, tag)?;
         data_in.put_window(cmd_sn.wrapping_add(1))?;
@@ -116,7 +116,7 @@ impl Spelling {
 
     // GOOD behind so many Data-In, where so many bytes of what was expected are left.
     fn respond(&mut self, data_ins: u32, left: u16) -> Result<(), Fail> {
-        let good = Draft::of(self.alloc, PduRow(&GOOD, &[], Segment::None))?;
+        let good = Draft::of(self.alloc, PduRow(&GOOD, "", Segment::None))?;
         self.close(good, data_ins, left)
     }
 
@@ -125,10 +125,8 @@ impl Spelling {
         // The sense begins behind the header and its own length.
         let row = PduRow(
             &CHECK_CONDITION,
-            &[],
-            Segment::Bytes(&[
-                0, 0x12, 0x70, 0, 0, 0, 0, 0, 0, 0x0A, 0, 0, 0, 0, 0, 0, 0, 0, 0, 0,
-            ]),
+            "",
+            Segment::Digits("0012700000000000000A00000000000000000000"),
         );
         let mut check = Draft::of(self.alloc, row)?;
         check.put_bytes(52, &[key])?;
@@ -155,13 +153,13 @@ impl Spelling {
     // The logout and its answer.
     fn leave(&mut self) -> Result<(), Fail> {
         let (tag, cmd_sn, stat_sn) = self.next;
-        let mut logout = Draft::of(self.alloc, PduRow(&LOGOUT, &[], Segment::None))?;
+        let mut logout = Draft::of(self.alloc, PduRow(&LOGOUT, "", Segment::None))?;
         logout.put_bytes(0, &[0x46])?;
         logout.put(16, tag)?;
         logout.put(24, cmd_sn)?;
         logout.put(28, stat_sn)?;
         self.input.push(&logout.bytes)?;
-        let row = PduRow(&LOGOUT_RESPONSE, &[], Segment::None);
+        let row = PduRow(&LOGOUT_RESPONSE, "", Segment::None);
         let mut response = Draft::of(self.alloc, row)?;
         response.put(16, tag)?;
         response.put(24, stat_sn)?;

@@ -14,7 +14,7 @@ const OTHER_HOST: &[u8] =
     SessionType=Normal\0";
 
 // The command behind a refused login is not looked at.
-const READY: PduRow = PduRow(&TEST_UNIT_READY, &[(31, &[2])], Segment::None);
+const READY: PduRow = PduRow(&TEST_UNIT_READY, "31:02", Segment::None);
 
 const ROWS: &[Life] = &[
     Life {
@@ -22,11 +22,8 @@ const ROWS: &[Life] = &[
         blocks: 16,
         port: PORT,
         others: 64,
-        input: &[
-            PduRow(&LOGIN, &[(7, &[0x56])], Segment::Bytes(HOST_A)),
-            READY,
-        ],
-        output: &[PduRow(&LOGIN_REFUSED, &[(36, &[3, 2])], Segment::None)],
+        input: &[PduRow(&LOGIN, "7:56", Segment::Bytes(HOST_A)), READY],
+        output: &[PduRow(&LOGIN_REFUSED, "36:0302", Segment::None)],
         end: End::Protocol,
         each_place: false,
     },
@@ -38,16 +35,12 @@ const ROWS: &[Life] = &[
         input: &[
             PduRow(
                 &LOGIN,
-                &[(7, &[0x5A]), (8, &[0, 0, 0, 0, 0, 0, 0, 1])],
+                "7:5A 8:0000000000000001",
                 Segment::Bytes(OTHER_HOST),
             ),
             READY,
         ],
-        output: &[PduRow(
-            &LOGIN_REFUSED,
-            &[(8, &[0, 0, 0, 0, 0, 0, 0, 1]), (36, &[2, 6])],
-            Segment::None,
-        )],
+        output: &[PduRow(&LOGIN_REFUSED, "8:0000000000000001 36:0206", Segment::None)],
         end: End::Protocol,
         each_place: true,
     },
@@ -59,16 +52,12 @@ const ROWS: &[Life] = &[
         input: &[
             PduRow(
                 &LOGIN,
-                &[(7, &[0x5A]), (8, &[0, 0, 0, 0, 0, 1, 0, 1])],
+                "7:5A 8:0000000000010001",
                 Segment::Bytes(OTHER_HOST),
             ),
             READY,
         ],
-        output: &[PduRow(
-            &LOGIN_REFUSED,
-            &[(8, &[0, 0, 0, 0, 0, 1, 0, 1]), (36, &[2, 0x0A])],
-            Segment::None,
-        )],
+        output: &[PduRow(&LOGIN_REFUSED, "8:0000000000010001 36:020A", Segment::None)],
         end: End::Protocol,
         each_place: false,
     },
@@ -78,18 +67,10 @@ const ROWS: &[Life] = &[
         port: (b"iqn.2000-01.test:a", 0),
         others: 1,
         input: &[
-            PduRow(
-                &LOGIN,
-                &[(7, &[0x56]), (8, &[0, 0, 0, 0, 0, 0, 0, 1])],
-                Segment::Bytes(HOST_A),
-            ),
+            PduRow(&LOGIN, "7:56 8:0000000000000001", Segment::Bytes(HOST_A)),
             READY,
         ],
-        output: &[PduRow(
-            &LOGIN_REFUSED,
-            &[(8, &[0, 0, 0, 0, 0, 0, 0, 1]), (36, &[2, 0x0A])],
-            Segment::None,
-        )],
+        output: &[PduRow(&LOGIN_REFUSED, "8:0000000000000001 36:020A", Segment::None)],
         end: End::Protocol,
         each_place: false,
     },
@@ -101,16 +82,12 @@ const ROWS: &[Life] = &[
         input: &[
             PduRow(
                 &LOGIN,
-                &[(7, &[0x5A]), (8, &[0, 0, 0, 0, 0, 0, 0, 2])],
+                "7:5A 8:0000000000000002",
                 Segment::Bytes(OTHER_HOST),
             ),
             READY,
         ],
-        output: &[PduRow(
-            &LOGIN_REFUSED,
-            &[(8, &[0, 0, 0, 0, 0, 0, 0, 2]), (36, &[2, 0x0A])],
-            Segment::None,
-        )],
+        output: &[PduRow(&LOGIN_REFUSED, "8:0000000000000002 36:020A", Segment::None)],
         end: End::Protocol,
         each_place: false,
     },
@@ -128,13 +105,10 @@ fn room_for_one_more(rt: HostRuntime) -> Result<(), Fail> {
     let mut target = shared(alloc, 16, 64)?;
     let input = spelled(
         alloc,
-        &[
-            PduRow(&LOGIN, &[(7, &[0x56])], Segment::Bytes(HOST_A)),
-            READY,
-        ],
+        &[PduRow(&LOGIN, "7:56", Segment::Bytes(HOST_A)), READY],
     )?;
     let (end, told) = serve_over(alloc, &mut target, LOGIN_FIRST, &input, WHOLE)?;
-    let refused = [PduRow(&LOGIN_REFUSED, &[(36, &[3, 2])], Segment::None)];
+    let refused = [PduRow(&LOGIN_REFUSED, "36:0302", Segment::None)];
     assert_eq!(rt; end, End::Protocol);
     assert_eq!(rt; told.as_slice(), spelled(alloc, &refused)?.as_slice());
     // The session that began last has the number 63.
@@ -143,12 +117,8 @@ fn room_for_one_more(rt: HostRuntime) -> Result<(), Fail> {
     assert!(rt; !target.lives(64, OTHER, 63));
     let (end, told) = serve_over(alloc, &mut target, LOGIN_FIRST, &input, WHOLE)?;
     let welcome = [
-        PduRow(
-            &LOGIN_RESPONSE,
-            &[(7, &[0x36]), (15, &[65])],
-            Segment::Bytes(WELCOME),
-        ),
-        PduRow(&CHECK_CONDITION, &[(27, &[2])], Segment::Bytes(POWER_ON)),
+        PduRow(&LOGIN_RESPONSE, "7:36 15:41", Segment::Bytes(WELCOME)),
+        PduRow(&CHECK_CONDITION, "27:02", Segment::Bytes(POWER_ON)),
     ];
     assert_eq!(rt; end, End::EndOfInput);
     assert_eq!(rt; told.as_slice(), spelled(alloc, &welcome)?.as_slice());

@@ -10,8 +10,8 @@ use std::alloc::Global;
 use std::process::Abort;
 use std::test::*;
 use test_streams::{
-    CHECK_CONDITION, Calls, DATA_IN, DATA_OUT, GOOD, PduRow, R2T, READS, Segment, TEST_UNIT_READY,
-    WHOLE, WRITE, spelled,
+    CHECK_CONDITION, Calls, DATA_IN, DATA_OUT, GOOD, PduRow, R2T, Segment, TEST_UNIT_READY, WHOLE,
+    WRITE, spelled,
 };
 
 /// What comes by a connection, what goes out, and how its stream ends.
@@ -133,40 +133,33 @@ fn run(rt: &impl Abort, alloc: Global, rows: &[Row]) -> Result<(), Fail> {
     Ok(())
 }
 
-const LOGS_IN: PduRow = PduRow(&LOGIN, &[(7, &[0x56])], Segment::Bytes(HOST_A));
+const LOGS_IN: PduRow = PduRow(&LOGIN, "7:56", Segment::Bytes(HOST_A));
 
-const HAS_LOGGED_IN: PduRow = PduRow(&LOGIN_RESPONSE, &[(7, &[0x36])], Segment::Bytes(WELCOME));
+const HAS_LOGGED_IN: PduRow = PduRow(&LOGIN_RESPONSE, "7:36", Segment::Bytes(WELCOME));
 
 // TEST UNIT READY with CmdSN 1 and with CmdSN 2.
-const READY: PduRow = PduRow(&TEST_UNIT_READY, &[(31, &[2])], Segment::None);
+const READY: PduRow = PduRow(&TEST_UNIT_READY, "31:02", Segment::None);
 
 const READY_AGAIN: PduRow = PduRow(
     &TEST_UNIT_READY,
-    &[(16, &[0, 0, 0, 2, 0, 0, 0, 0, 0, 0, 0, 2, 0, 0, 0, 3])],
+    "16:00000002000000000000000200000003",
     Segment::None,
 );
 
-const IS_TOLD: PduRow = PduRow(&CHECK_CONDITION, &[(27, &[2])], Segment::Bytes(POWER_ON));
+const IS_TOLD: PduRow = PduRow(&CHECK_CONDITION, "27:02", Segment::Bytes(POWER_ON));
 
 const IS_GOOD: PduRow = PduRow(
     &GOOD,
-    &[
-        (16, &[0, 0, 0, 2]),
-        (24, &[0, 0, 0, 3, 0, 0, 0, 3, 0, 0, 0, 0x22]),
-    ],
+    "16:00000002 24:000000030000000300000022",
     Segment::None,
 );
 
 // A logout with CmdSN 3.
-const LEAVES: PduRow = PduRow(
-    &LOGOUT,
-    &[(19, &[3]), (24, &[0, 0, 0, 3, 0, 0, 0, 4])],
-    Segment::None,
-);
+const LEAVES: PduRow = PduRow(&LOGOUT, "19:03 24:0000000300000004", Segment::None);
 
 const HAS_LEFT: PduRow = PduRow(
     &LOGOUT_RESPONSE,
-    &[(19, &[3]), (24, &[0, 0, 0, 4, 0, 0, 0, 4, 0, 0, 0, 0x23])],
+    "19:03 24:000000040000000400000023",
     Segment::None,
 );
 
@@ -188,11 +181,7 @@ const REST: Stream = Stream {
 const SECOND: Stream = Stream {
     input: &[LOGS_IN, READY],
     output: &[
-        PduRow(
-            &LOGIN_RESPONSE,
-            &[(7, &[0x36]), (15, &[2])],
-            Segment::Bytes(WELCOME),
-        ),
+        PduRow(&LOGIN_RESPONSE, "7:36 15:02", Segment::Bytes(WELCOME)),
         IS_TOLD,
     ],
     end: End::EndOfInput,
@@ -220,26 +209,15 @@ const ROWS: &[Row] = &[
             input: &[
                 LOGS_IN,
                 READY,
-                PduRow(
-                    &WRITE,
-                    &[(16, &[0, 0, 0, 2]), (24, &[0, 0, 0, 2, 0, 0, 0, 3])],
-                    Segment::None,
-                ),
-                PduRow(
-                    &DATA_OUT,
-                    &[(16, &[0, 0, 0, 2]), (31, &[3])],
-                    Segment::Pattern(512),
-                ),
+                PduRow(&WRITE, "16:00000002 24:0000000200000003", Segment::None),
+                PduRow(&DATA_OUT, "16:00000002 31:03", Segment::Pattern(512)),
             ],
             output: &[
                 HAS_LOGGED_IN,
                 IS_TOLD,
                 PduRow(
                     &R2T,
-                    &[
-                        (16, &[0, 0, 0, 2]),
-                        (24, &[0, 0, 0, 3, 0, 0, 0, 3, 0, 0, 0, 0x21]),
-                    ],
+                    "16:00000002 24:000000030000000300000021",
                     Segment::None,
                 ),
             ],
@@ -250,11 +228,7 @@ const ROWS: &[Row] = &[
             input: &[
                 PduRow(
                     &TEST_UNIT_READY,
-                    &[
-                        (1, &[READS]),
-                        (16, &[0, 0, 0, 2, 0, 0, 2, 0, 0, 0, 0, 2, 0, 0, 0, 3]),
-                        (32, &[0x28, 0, 0, 0, 0, 5, 0, 0, 1]),
-                    ],
+                    "1:C1 16:00000002000002000000000200000003 32:280000000005000001",
                     Segment::None,
                 ),
                 LEAVES,
@@ -262,19 +236,12 @@ const ROWS: &[Row] = &[
             output: &[
                 PduRow(
                     &DATA_IN,
-                    &[
-                        (5, &[0, 2, 0]),
-                        (16, &[0, 0, 0, 2]),
-                        (28, &[0, 0, 0, 3, 0, 0, 0, 0x22]),
-                    ],
+                    "5:000200 16:00000002 28:0000000300000022",
                     Segment::Runs(&[(512, 0)]),
                 ),
                 PduRow(
                     &GOOD,
-                    &[
-                        (16, &[0, 0, 0, 2]),
-                        (24, &[0, 0, 0, 3, 0, 0, 0, 3, 0, 0, 0, 0x22, 0, 0, 0, 1]),
-                    ],
+                    "16:00000002 24:00000003000000030000002200000001",
                     Segment::None,
                 ),
                 HAS_LEFT,
@@ -288,16 +255,9 @@ const ROWS: &[Row] = &[
         port: (b"iqn.2000-01.test:a", 0x4000_0137_0001),
         first: UNDISTURBED,
         second: Stream {
-            input: &[
-                PduRow(&LOGIN, &[(7, &[0x56]), (13, &[1])], Segment::Bytes(HOST_A)),
-                READY,
-            ],
+            input: &[PduRow(&LOGIN, "7:56 13:01", Segment::Bytes(HOST_A)), READY],
             output: &[
-                PduRow(
-                    &LOGIN_RESPONSE,
-                    &[(7, &[0x36]), (13, &[1, 0, 2])],
-                    Segment::Bytes(WELCOME),
-                ),
+                PduRow(&LOGIN_RESPONSE, "7:36 13:010002", Segment::Bytes(WELCOME)),
                 IS_TOLD,
             ],
             end: End::EndOfInput,
@@ -313,7 +273,7 @@ const ROWS: &[Row] = &[
             input: &[
                 PduRow(
                     &LOGIN,
-                    &[(7, &[0x56])],
+                    "7:56",
                     Segment::Bytes(
                         b"InitiatorName=iqn.2000-01.test:b\0TargetName=iqn.2000-01.test:array\0\
                         SessionType=Normal\0",
