@@ -21,7 +21,7 @@ use Rattle.session.specs.Collecting.{Continues, HasToCollect, IsNext, shrinks_wi
 use Rattle.session.specs.Slots.{IsAskedBy, NeedIs, IsFinished, StandsAt, IsRemoved, fed, waits, asked_on, r2t_for}
 use Rattle.session.specs.Standing.{numbers_for}
 use Rattle.session.specs.Counters.{Counters, after_command, after_collecting, after_r2t, next_numbers}
-use Rattle.session.specs.Machine.{OnRefusal, OnPdu, OnAccepted, asks, BeginsToWait, IsSilent, call_data, Calls, CanTake, OnFed, OnData, fills, asks_on, calls_now, r2t_with_for}
+use Rattle.session.specs.Machine.{pdus_of, call_of, end_of, OnRefusal, OnPdu, OnAccepted, asks, BeginsToWait, IsSilent, call_data, Calls, CanTake, OnFed, OnData, fills, asks_on, calls_now, r2t_with_for}
 use Rattle.std.proofs.lemmas.Bool.{leb-false, leb-true}
 use Rattle.std.specs.Prelude.{IfSome, MatchOption}
 use Rattle.iscsi_pdu.specs.declared.header.Header.TheVariants.{Initiator}
@@ -124,7 +124,7 @@ module _ (s : Counters) (at : ℕ) (x : DataOutHeader) (d : List ℕ) (can : Can
   module _ (f : Collecting) (b : Bool) (fed_is : f ≡ fed this d)
       (told : IfSome f.outstanding (λ q. b ≡ nat_le (q.offset + q.desired_length) (length f.bytes))) where
     pub on_filling : b ≡ false → (asked : Result Command CdbFault) → IsAskedBy this.command asked → (a : Actions) (s' : Counters) (new : List Collecting)
-        → IsSilent a → a.end ≡ None → Inserts f new → s' ≡ after_collecting new s → OnData s x d a s'
+        → IsSilent a → end_of a ≡ None → Inserts f new → s' ≡ after_collecting new s → OnData s x d a s'
     on_filling unfilled asked asked_by a s' new silent no_end insert after =
         on_data asked asked_by a s' (fills (not_filled this f d continues.request b continues.outstanding fed_is told unfilled) silent no_end
         (after ∙ ap (λ (cs : List Collecting). after_collecting cs s) (inserted f new insert ∙ ap (λ (c : Collecting). r.stands.front ++ (c ∷ r.stands.back)) fed_is)))
@@ -136,7 +136,7 @@ module _ (s : Counters) (at : ℕ) (x : DataOutHeader) (d : List ℕ) (can : Can
 
     pub on_asking : b ≡ true → (asked : Result Command CdbFault) → IsAskedBy this.command asked → (a : Actions) (s' : Counters) (new : List Collecting) (g : Collecting) (next : R2tHeader) (waiting : ℕ)
         → this.requests < 4294967296 → length f.bytes < need_of asked → g ≡ asked_on f (need_of asked) (r2t_with_for s waiting) → waiting ≡ count_by shrinks_window w → g.outstanding ≡ Some next
-        → Inserts g new → a.pdus ≡ pdus.R2t next → a.call ≡ None → a.end ≡ None → s' ≡ after_r2t (after_collecting new s) → OnData s x d a s'
+        → Inserts g new → pdus_of a ≡ pdus.R2t next → call_of a ≡ None → end_of a ≡ None → s' ≡ after_r2t (after_collecting new s) → OnData s x d a s'
     on_asking full_of asked asked_by a s' new g next waiting fits short asked_is counted out insert pdus_are no_call no_end after =
         let joined : List ℕ = this.bytes ++ d in
         let cs : List Collecting = r.stands.front ++ (waits this.command joined next (wrap (this.requests + 1)) ∷ r.stands.back) in
@@ -180,7 +180,7 @@ rejected_data s s' at x d w a e found here stands not_continues on = record {
 -- a command begins to wait
 pub begins : (s mid s' : Counters) (p : CommandHeader) (asked : Result Command CdbFault) (need : ℕ) (d : List ℕ) (next : R2tHeader) (a : Actions)
     → IsAskedBy p asked → need ≡ need_of asked → HasToCollect p need (length d) → mid ≡ after_command p s → BeginsToWait mid p need d next s'
-    → a.pdus ≡ pdus.R2t next → a.call ≡ None → a.end ≡ None → OnAccepted s p d a s'
+    → pdus_of a ≡ pdus.R2t next → call_of a ≡ None → end_of a ≡ None → OnAccepted s p d a s'
 begins s mid s' p asked need d next a asked_by need_is collects mid_is k pdus_are no_call no_end = record {
   asked = asked;
   asked_by = asked_by;

@@ -18,6 +18,7 @@ use Rattle.iscsi_pdu.specs.declared.header.InitiatorHeader.TheVariants.{NopOut, 
 use Rattle.iscsi_pdu.specs.declared.header.InitiatorHeader.TheVariants.{TaskManagementRequest, TextRequest, LogoutRequest}
 use Rattle.iscsi_pdu.specs.declared.header.TargetHeader.TheVariants.{ScsiResponse, R2t, Reject}
 use Rattle.session.specs.declared.actions.Actions.{Actions}
+use Rattle.session.specs.declared.actions.Actions.TheVariants.{Send, Ask}
 use Rattle.session.specs.declared.actions.Call.{Call}
 use Rattle.session.specs.declared.actions.Call.TheVariants as kinds
 use Rattle.session.specs.declared.actions.ServeCall.{ServeCall}
@@ -66,16 +67,29 @@ sent_by bhs (pdus.R2t r) = record { header = R2t r; bytes = [] } ∷ []
 sent_by bhs (pdus.Response x) = out_of (Some x)
 sent_by bhs (pdus.Answer x r s) = data_ins_of x ++ record { header = ScsiResponse r; bytes = sense_part s } ∷ []
 
+-- the PDUs that actions say to write, the call that they ask for, and the end behind them
+abbrev pub pdus_of : Actions → Pdus
+pdus_of (Send x) = x.pdus
+pdus_of (Ask c) = pdus.Nothing
+
+abbrev pub call_of : Actions → Option Call
+call_of (Send x) = None
+call_of (Ask c) = Some c
+
+abbrev pub end_of : Actions → Option End
+end_of (Send x) = x.end
+end_of (Ask c) = None
+
 -- nothing goes out, and nothing is called
 pub record IsSilent (a : Actions) : Type 0 where
-  pub pdus_are : a.pdus ≡ pdus.Nothing
-  pub no_call : a.call ≡ None
+  pub pdus_are : pdus_of a ≡ pdus.Nothing
+  pub no_call : call_of a ≡ None
 
 -- these PDUs go out, and a status number is used up
 pub record Sends (s : Counters) (outs : List Out) (a : Actions) (s' : Counters) : Type 0 where
-  pub pdus_are : (bhs : List ℕ) → sent_by bhs a.pdus ≡ outs
-  pub no_call : a.call ≡ None
-  pub no_end : a.end ≡ None
+  pub pdus_are : (bhs : List ℕ) → sent_by bhs (pdus_of a) ≡ outs
+  pub no_call : call_of a ≡ None
+  pub no_end : end_of a ≡ None
   pub next : s' ≡ after_status s
 
 -- the data that a call has
@@ -96,18 +110,18 @@ IsCallOf p asked bytes (kinds.Serve c) = IsServeOf p asked bytes c
 IsCallOf p asked bytes (kinds.Reset c) = ⊥
 
 pub record Calls (p : CommandHeader) (asked : Result Command CdbFault) (bytes : List ℕ) (a : Actions) : Type 0 where
-  pub pdus_are : a.pdus ≡ pdus.Nothing
-  pub call : MatchOption a.call ⊥ (λ c. IsCallOf p asked bytes c)
-  pub no_end : a.end ≡ None
+  pub pdus_are : pdus_of a ≡ pdus.Nothing
+  pub call : MatchOption (call_of a) ⊥ (λ c. IsCallOf p asked bytes c)
+  pub no_end : end_of a ≡ None
 
 -- the next R2T of a command goes out, where so much of its data has come and these are the counters
 pub record Asks (s : Counters) (p : CommandHeader) (need came requests : ℕ) (next : R2tHeader) (a : Actions) : Type 0 where
   pub is_next : IsNext s.setting.start.lengths.burst p need came requests next
   pub transfer : next.transfer_tag ≡ s.standing.transfer_tag
   pub numbers : next.numbers ≡ next_numbers s
-  pub pdus_are : a.pdus ≡ pdus.R2t next
-  pub no_call : a.call ≡ None
-  pub no_end : a.end ≡ None
+  pub pdus_are : pdus_of a ≡ pdus.R2t next
+  pub no_call : call_of a ≡ None
+  pub no_end : end_of a ≡ None
 
 -- a command that was accepted takes its number; it is called, or its first R2T goes out, or there was no buffer for its
 -- data
@@ -149,7 +163,7 @@ pub record OnAccepted (s : Counters) (p : CommandHeader) (d : List ℕ) (a : Act
 -- a Data-Out that continues a command: more is to come for its R2T, or the next one goes out, or it is called
 pub data OnFed (s : Counters) (front : List Collecting) (this : Collecting) (back : List Collecting)
     (asked : Result Command CdbFault) (d : List ℕ) (end : ℕ) (a : Actions) (s' : Counters) : Type 0 where
-  fills : length (this.bytes ++ d) < end → IsSilent a → a.end ≡ None
+  fills : length (this.bytes ++ d) < end → IsSilent a → end_of a ≡ None
       → s' ≡ after_collecting (front ++ (fed this d ∷ back)) s → OnFed s front this back asked d end a s'
   asks_on : length (this.bytes ++ d) ≡ end → length (this.bytes ++ d) < need_of asked → (next : R2tHeader)
       → Asks (after_collecting (front ++ (waits this.command (this.bytes ++ d) next (wrap (this.requests + 1)) ∷ back)) s)
@@ -180,16 +194,16 @@ pub record OnData (s : Counters) (x : DataOutHeader) (d : List ℕ) (a : Actions
 
 -- a Reject for this reason goes out, which takes a status number, and the session ends
 pub record OnRefusal (s : Counters) (reason : ℕ) (a : Actions) (s' : Counters) : Type 0 where
-  pub pdus_are : a.pdus ≡ pdus.Reject (record { reason = reason; numbers = next_numbers s })
-  pub no_call : a.call ≡ None
-  pub ends : a.end ≡ Some Protocol
+  pub pdus_are : pdus_of a ≡ pdus.Reject (record { reason = reason; numbers = next_numbers s })
+  pub no_call : call_of a ≡ None
+  pub ends : end_of a ≡ Some Protocol
   pub next : s' ≡ after_status s
 
 -- a request is answered by these PDUs, which are none or one, with this end
 pub record Answers (s : Counters) (outs : List Out) (end : Option End) (a : Actions) (s' : Counters) : Type 0 where
-  pub pdus_are : (bhs : List ℕ) → sent_by bhs a.pdus ≡ outs
-  pub no_call : a.call ≡ None
-  pub ends : a.end ≡ end
+  pub pdus_are : (bhs : List ℕ) → sent_by bhs (pdus_of a) ≡ outs
+  pub no_call : call_of a ≡ None
+  pub ends : end_of a ≡ end
   pub next : s' ≡ after_answer outs s
 
 abbrev pub OnNopOut : Counters → NopOutHeader → List ℕ → Actions → Counters → Type 0
@@ -215,9 +229,9 @@ pub record OnFull (s : Counters) (p : CommandHeader) (a : Actions) (s' : Counter
 
 -- a unit is to be reset
 pub record OnReset (s : Counters) (p : ManagementHeader) (unit : ℕ) (a : Actions) (s' : Counters) : Type 0 where
-  pub pdus_are : a.pdus ≡ pdus.Nothing
-  pub call : a.call ≡ Some (kinds.Reset (record { request = p; unit = unit }))
-  pub no_end : a.end ≡ None
+  pub pdus_are : pdus_of a ≡ pdus.Nothing
+  pub call : call_of a ≡ Some (kinds.Reset (record { request = p; unit = unit }))
+  pub no_end : end_of a ≡ None
   pub next : s' ≡ s
 
 abbrev pub OnManagedBy : Management → Counters → ManagementHeader → Actions → Counters → Type 0
@@ -253,8 +267,8 @@ OnFullPdu s h a s' = ⊥
 abbrev pub OnUnaccepted : Verdict → Counters → Actions → Counters → Type 0
 OnUnaccepted Accepted s a s' = ⊥
 OnUnaccepted Full s a s' = ⊥
-OnUnaccepted Ignored s a s' = IsSilent a × (a.end ≡ None) × (s' ≡ s)
-OnUnaccepted Gap s a s' = IsSilent a × (a.end ≡ Some Protocol) × (s' ≡ s)
+OnUnaccepted Ignored s a s' = IsSilent a × (end_of a ≡ None) × (s' ≡ s)
+OnUnaccepted Gap s a s' = IsSilent a × (end_of a ≡ Some Protocol) × (s' ≡ s)
 OnUnaccepted (Refused reason) s a s' = OnRefusal s reason a s'
 
 -- what a verdict makes of a PDU
@@ -277,7 +291,7 @@ OnCommand s p d a s' = OnPdu s (Initiator (ScsiCommand p)) d a s'
 -- what a session makes of an answer: where the session is gone it ends, else the answer goes out
 pub record OnGone (s : Counters) (a : Actions) (s' : Counters) : Type 0 where
   pub silent : IsSilent a
-  pub ends : a.end ≡ Some Reinstated
+  pub ends : end_of a ≡ Some Reinstated
   pub next : s' ≡ s
 
 abbrev pub OnAnswer : Counters → CommandHeader → ℕ → TargetAnswer → Actions → Counters → Type 0

@@ -8,13 +8,20 @@ use iscsi_pdu::{
 };
 use scsi_types::{Asked, Sense};
 
-/// What a PDU or an answer calls for: PDUs to write, then perhaps a call of the target, then perhaps the end.
+/// What a PDU calls for.
 #[derive(Debug, Drop)]
-pub struct Actions<'a> {
+pub enum Actions<'a> {
+    /// That these PDUs are written.
+    Send(Sending<'a>),
+    /// That the target is asked; its answer goes back to the session.
+    Ask(Call<'a>),
+}
+
+/// What a PDU or an answer of the target has written: PDUs, then perhaps the end.
+#[derive(Clone, Copy, Debug)]
+pub struct Sending<'a> {
     /// PDUs to write first.
     pub pdus: Pdus<'a>,
-    /// What the target is asked.
-    pub call: Option<Call<'a>>,
     /// Nothing is read any more once these PDUs are written.
     pub end: Option<End>,
 }

@@ -49,7 +49,7 @@ mod window;
 
 pub use actions::{
     Actions, Call, CommandData, DataInPdu, DataIns, OpenTask, Pdus, ResetCall, ResponsePdu,
-    ServeCall,
+    Sending, ServeCall,
 };
 pub use end::End;
 pub use identity::Identity;

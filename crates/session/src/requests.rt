@@ -1,12 +1,13 @@
 //! What a session makes of requests that are no SCSI Command: NOP-Out, Text, task management and Logout.
 ghost use Rattle.std.specs.Prelude.{◌≡◌, ℕ, List};
 ghost use Rattle.session.specs.AnswerPdus.{AreInReach};
+ghost use Rattle.session.specs.declared.actions.Actions.TheVariants.{Send};
 ghost use Rattle.session.specs.Counters.{Counters, next_numbers};
-ghost use Rattle.session.specs.Machine.{OnPdu, OnNopOut, OnText, OnLogout, OnManagement, OnResetAnswer, Answers};
+ghost use Rattle.session.specs.Machine.{pdus_of, OnPdu, OnNopOut, OnText, OnLogout, OnManagement, OnResetAnswer, Answers};
 ghost use Rattle.session.specs.TaskManagement.{management_answer};
 ghost use Rattle.session.specs.Text.{IsAnswerOf, IsMadeOf};
 
-use crate::actions::{Actions, Call, Pdus, ResetCall};
+use crate::actions::{Actions, Call, ResetCall, Sending};
 use crate::end::End;
 use crate::logout::{logout_end, logout_response};
 use crate::nop::nop_in;
@@ -20,20 +21,20 @@ use iscsi_pdu::{
 
 impl Session {
     /// What a NOP-Out calls for.
-    pub(crate) fn on_nop_out<'a>(&mut self, request: NopOut, bytes: &'a [u8]) -> Actions<'a>
-        ensures on { OnPdu self.old (Header.Initiator (InitiatorHeader.NopOut request)) bytes.now result self.new }
+    pub(crate) fn on_nop_out<'a>(&mut self, request: NopOut, bytes: &'a [u8]) -> Sending<'a>
+        ensures on { OnPdu self.old (Header.Initiator (InitiatorHeader.NopOut request)) bytes.now (Send result) self.new }
         ensures within { AreInReach result.pdus }
     {
         let verdict = self.verdict(request.immediate, request.numbers.cmd_sn, false);
         match self.turned_away(verdict) {
-            Some(actions) => actions,
+            Some(sending) => sending,
             None => self.answer_nop_out(request, bytes),
         }
     }
 
     // An accepted NOP-Out.
-    fn answer_nop_out<'a>(&mut self, request: NopOut, bytes: &'a [u8]) -> Actions<'a>
-        ensures on { OnNopOut self.old request bytes.now result self.new }
+    fn answer_nop_out<'a>(&mut self, request: NopOut, bytes: &'a [u8]) -> Sending<'a>
+        ensures on { OnNopOut self.old request bytes.now (Send result) self.new }
         ensures within { AreInReach result.pdus }
     {
         self.accept(request.immediate);
@@ -47,15 +48,15 @@ impl Session {
         request: TextRequest,
         bytes: &'a [u8],
         text: MadeText<'a>,
-    ) -> Actions<'a>
+    ) -> Sending<'a>
         requires made { IsMadeOf text.answered self.old.setting bytes.now text.bytes.now }
-        ensures on { OnPdu self.old (Header.Initiator (InitiatorHeader.TextRequest request)) bytes.now result self.new }
+        ensures on { OnPdu self.old (Header.Initiator (InitiatorHeader.TextRequest request)) bytes.now (Send result) self.new }
         ensures within { AreInReach result.pdus }
     {
         let refused = is_part(&request) || !text.answered;
         let verdict = self.verdict(request.immediate, request.numbers.cmd_sn, refused);
         match self.turned_away(verdict) {
-            Some(actions) => actions,
+            Some(sending) => sending,
             None => self.answer_text(request, bytes, text.bytes),
         }
     }
@@ -66,9 +67,9 @@ impl Session {
         request: TextRequest,
         bytes: &'a [u8],
         answer: &'a [u8],
-    ) -> Actions<'a>
+    ) -> Sending<'a>
         requires made { IsAnswerOf self.old.setting bytes.now answer.now }
-        ensures on { OnText self.old request bytes.now result self.new }
+        ensures on { OnText self.old request bytes.now (Send result) self.new }
         ensures within { AreInReach result.pdus }
     {
         self.accept(request.immediate);
@@ -80,12 +81,12 @@ impl Session {
     pub(crate) fn on_task_management<'a>(&mut self, request: TaskManagementRequest) -> Actions<'a>
         ensures on { (d : List ℕ)
             → OnPdu self.old (Header.Initiator (InitiatorHeader.TaskManagementRequest request)) d result self.new }
-        ensures within { AreInReach result.pdus }
+        ensures within { AreInReach (pdus_of result) }
     {
         let refused = self.discovers();
         let verdict = self.verdict(request.immediate, request.numbers.cmd_sn, refused);
         match self.turned_away(verdict) {
-            Some(actions) => actions,
+            Some(sending) => Actions::Send(sending),
             None => self.manage(request),
         }
     }
@@ -93,20 +94,14 @@ impl Session {
     // An accepted request for task management: its response, or the reset of a unit that is there.
     fn manage<'a>(&mut self, request: TaskManagementRequest) -> Actions<'a>
         ensures on { OnManagement self.old request result self.new }
-        ensures within { AreInReach result.pdus }
+        ensures within { AreInReach (pdus_of result) }
     {
         self.accept(request.immediate);
         match self.drop_tasks(&request) {
-            Management::Respond(response) => self.respond_to_management(
-                &request,
-                Some(response),
-                None,
-            ),
-            Management::Reset(unit) => Actions {
-                pdus: Pdus::Nothing,
-                call: Some(Call::Reset(ResetCall { request, unit })),
-                end: None,
-            },
+            Management::Respond(response) => {
+                Actions::Send(self.respond_to_management(&request, Some(response), None))
+            }
+            Management::Reset(unit) => Actions::Ask(Call::Reset(ResetCall { request, unit })),
         }
     }
 
@@ -115,8 +110,8 @@ impl Session {
         &mut self,
         request: TaskManagementRequest,
         answer: ResetAnswer,
-    ) -> Actions<'a>
-        ensures on { OnResetAnswer self.old request answer result self.new }
+    ) -> Sending<'a>
+        ensures on { OnResetAnswer self.old request answer (Send result) self.new }
         ensures within { AreInReach result.pdus }
     {
         self.respond_to_management(&request, reset_response(answer), reset_end(answer))
@@ -128,8 +123,8 @@ impl Session {
         request: &TaskManagementRequest,
         response: Option<u8>,
         end: Option<End>,
-    ) -> Actions<'a>
-        ensures on { Answers self.old (management_answer (next_numbers self.old) request.now response) end result self.new }
+    ) -> Sending<'a>
+        ensures on { Answers self.old (management_answer (next_numbers self.old) request.now response) end (Send result) self.new }
         ensures within { AreInReach result.pdus }
     {
         let pdu = management_response(self.next_numbers(), request, response);
@@ -137,21 +132,21 @@ impl Session {
     }
 
     /// What a Logout Request calls for.
-    pub(crate) fn on_logout<'a>(&mut self, request: LogoutRequest) -> Actions<'a>
+    pub(crate) fn on_logout<'a>(&mut self, request: LogoutRequest) -> Sending<'a>
         ensures on { (d : List ℕ)
-            → OnPdu self.old (Header.Initiator (InitiatorHeader.LogoutRequest request)) d result self.new }
+            → OnPdu self.old (Header.Initiator (InitiatorHeader.LogoutRequest request)) d (Send result) self.new }
         ensures within { AreInReach result.pdus }
     {
         let verdict = self.verdict(request.immediate, request.numbers.cmd_sn, false);
         match self.turned_away(verdict) {
-            Some(actions) => actions,
+            Some(sending) => sending,
             None => self.answer_logout(request),
         }
     }
 
     // An accepted logout.
-    fn answer_logout<'a>(&mut self, request: LogoutRequest) -> Actions<'a>
-        ensures on { OnLogout self.old request result self.new }
+    fn answer_logout<'a>(&mut self, request: LogoutRequest) -> Sending<'a>
+        ensures on { OnLogout self.old request (Send result) self.new }
         ensures within { AreInReach result.pdus }
     {
         self.accept(request.immediate);

@@ -2,6 +2,7 @@
 ghost use Rattle.std.specs.Prelude.{◌≡◌, ℕ, List, [], ◌≤◌, Some, None, length, vec_capacity, IfOk, IfSome, MatchOption};
 ghost use Rattle.scsi_types.specs.Cdb.{need_of};
 ghost use Rattle.iscsi_pdu.specs.declared.TheConstants.{MAX_DATA_SEGMENT_LENGTH};
+ghost use Rattle.session.specs.declared.actions.Actions.TheVariants.{Send};
 ghost use Rattle.session.specs.declared.text.MadeText.{MadeText};
 ghost use Rattle.session.specs.declared.verdict.Verdict.TheVariants.{Accepted, Full};
 ghost use Rattle.session.specs.Setting.{setting_of, discovers};
@@ -17,9 +18,11 @@ ghost use Rattle.session.specs.Verdict.{reason_of, window_verdict};
 ghost use Rattle.session.specs.AnswerPdus.{AreInReach, reply_with};
 ghost use Rattle.session.specs.Machine.{OnPdu, OnCommand, OnUnaccepted, OnRefusal, OnAnswer};
 ghost use Rattle.session.specs.Machine.{Sends, Answers, IsSilent, Calls, OnAccepted, OnFull, OnData};
-ghost use Rattle.session.specs.Machine.{out_of, call_data, r2t_with_for, BeginsToWait, CanTake};
+ghost use Rattle.session.specs.Machine.{out_of, pdus_of, call_data, r2t_with_for, BeginsToWait, CanTake};
 
-use crate::actions::{Actions, Call, CommandData, DataIns, OpenTask, Pdus, ResponsePdu, ServeCall};
+use crate::actions::{
+    Actions, Call, CommandData, DataIns, OpenTask, Pdus, ResponsePdu, Sending, ServeCall,
+};
 use crate::collecting::{R2tWith, WaitingCommand, WaitingCommands};
 use crate::data_in::count;
 use crate::end::End;
@@ -161,11 +164,11 @@ impl Session {
     pub fn on_pdu<'a>(&mut self, pdu: Pdu<'a>, text: MadeText<'a>) -> Actions<'a>
         requires made { IsMade self.old.setting pdu.header pdu.data.now text }
         ensures on { OnPdu self.old pdu.entry.header pdu.entry.data.now result self.new }
-        ensures within { AreInReach result.pdus }
+        ensures within { AreInReach (pdus_of result) }
     {
         match pdu.header {
             Header::Initiator(header) => self.on_initiator(header, pdu.data, text),
-            Header::Target(_) => self.reject(COMMAND_NOT_SUPPORTED),
+            Header::Target(_) => Actions::Send(self.reject(COMMAND_NOT_SUPPORTED)),
         }
     }
 
@@ -178,16 +181,18 @@ impl Session {
     ) -> Actions<'a>
         requires made { IsMade self.old.setting (Header.Initiator header) bytes.now text }
         ensures on { OnPdu self.old (Header.Initiator header) bytes.now result self.new }
-        ensures within { AreInReach result.pdus }
+        ensures within { AreInReach (pdus_of result) }
     {
         match header {
-            InitiatorHeader::NopOut(request) => self.on_nop_out(request, bytes),
+            InitiatorHeader::NopOut(request) => Actions::Send(self.on_nop_out(request, bytes)),
             InitiatorHeader::ScsiCommand(command) => self.on_command(command, bytes),
             InitiatorHeader::TaskManagementRequest(request) => self.on_task_management(request),
-            InitiatorHeader::LoginRequest(_) => self.reject(PROTOCOL_ERROR),
-            InitiatorHeader::TextRequest(request) => self.on_text(request, bytes, text),
+            InitiatorHeader::LoginRequest(_) => Actions::Send(self.reject(PROTOCOL_ERROR)),
+            InitiatorHeader::TextRequest(request) => {
+                Actions::Send(self.on_text(request, bytes, text))
+            }
             InitiatorHeader::DataOut(header) => self.on_data_out(header, bytes),
-            InitiatorHeader::LogoutRequest(request) => self.on_logout(request),
+            InitiatorHeader::LogoutRequest(request) => Actions::Send(self.on_logout(request)),
         }
     }
 
@@ -231,19 +236,18 @@ impl Session {
     }
 
     /// What a verdict calls for that does not accept its PDU.
-    pub(crate) fn turned_away<'a>(&mut self, verdict: Verdict) -> Option<Actions<'a>>
+    pub(crate) fn turned_away<'a>(&mut self, verdict: Verdict) -> Option<Sending<'a>>
         requires { verdict ≡ Full → ⊥ }
         ensures away { MatchOption result ((verdict ≡ Accepted) × (self.new ≡ self.old))
-            (λ a. OnUnaccepted verdict self.old a self.new) }
-        ensures within { IfSome result (λ a. AreInReach a.pdus) }
+            (λ x. OnUnaccepted verdict self.old (Send x) self.new) }
+        ensures within { IfSome result (λ x. AreInReach x.pdus) }
     {
         match verdict {
             Verdict::Accepted => None,
             Verdict::Full => unreachable!(),
             Verdict::Ignored => Some(silence()),
-            Verdict::Gap => Some(Actions {
+            Verdict::Gap => Some(Sending {
                 pdus: Pdus::Nothing,
-                call: None,
                 end: Some(End::Protocol),
             }),
             Verdict::Refused(reason) => Some(self.reject(reason)),
@@ -262,9 +266,9 @@ impl Session {
         &mut self,
         pdu: Option<ResponsePdu<'a>>,
         end: Option<End>,
-    ) -> Actions<'a>
+    ) -> Sending<'a>
         requires { IfSome pdu (λ x. length x.bytes.now ≤ MAX_DATA_SEGMENT_LENGTH) }
-        ensures on { Answers self.old (out_of pdu.entry) end result self.new }
+        ensures on { Answers self.old (out_of pdu.entry) end (Send result) self.new }
         ensures within { AreInReach result.pdus }
     {
         let pdus = match pdu {
@@ -274,17 +278,13 @@ impl Session {
                 Pdus::Response(pdu)
             }
         };
-        Actions {
-            pdus,
-            call: None,
-            end,
-        }
+        Sending { pdus, end }
     }
 
     // What a SCSI Command calls for.
     fn on_command<'a>(&mut self, command: ScsiCommand, bytes: &'a [u8]) -> Actions<'a>
         ensures on { OnCommand self.old command bytes.now result self.new }
-        ensures within { AreInReach result.pdus }
+        ensures within { AreInReach (pdus_of result) }
     {
         let verdict = command_verdict(
             self.kind,
@@ -295,17 +295,17 @@ impl Session {
             bytes,
         );
         if verdict == Verdict::Full {
-            return self.find_full(command);
+            return Actions::Send(self.find_full(command));
         }
         match self.turned_away(verdict) {
-            Some(actions) => actions,
+            Some(sending) => Actions::Send(sending),
             None => self.take_command(command, bytes),
         }
     }
 
     // An immediate command that finds the task set full.
-    fn find_full<'a>(&mut self, command: ScsiCommand) -> Actions<'a>
-        ensures on { OnFull self.old command result self.new }
+    fn find_full<'a>(&mut self, command: ScsiCommand) -> Sending<'a>
+        ensures on { OnFull self.old command (Send result) self.new }
         ensures within { AreInReach result.pdus }
     {
         let need = data_needed(&decode(&command.cdb));
@@ -316,7 +316,7 @@ impl Session {
     // A command that is accepted: it is to be called, or waits for its data.
     fn take_command<'a>(&mut self, command: ScsiCommand, bytes: &'a [u8]) -> Actions<'a>
         ensures on { OnAccepted self.old command bytes.now result self.new }
-        ensures within { AreInReach result.pdus }
+        ensures within { AreInReach (pdus_of result) }
     {
         let asked = decode(&command.cdb);
         let need = data_needed(&asked);
@@ -326,14 +326,10 @@ impl Session {
             return call(command, asked, need, data);
         }
         match self.wait(command, asked, need, bytes) {
-            Some(r2t) => Actions {
-                pdus: Pdus::R2t(r2t),
-                call: None,
-                end: None,
-            },
+            Some(r2t) => Actions::Send(ask_for(r2t)),
             None => {
                 let busy = Completion::bare(COMPLETED, Status::Busy);
-                self.respond(&OpenTask { command, need }, &[], busy)
+                Actions::Send(self.respond(&OpenTask { command, need }, &[], busy))
             }
         }
     }
@@ -376,15 +372,15 @@ impl Session {
     // What a Data-Out calls for.
     fn on_data_out<'a>(&mut self, header: DataOut, bytes: &[u8]) -> Actions<'a>
         ensures on { OnPdu self.old (Header.Initiator (InitiatorHeader.DataOut header)) bytes.now result self.new }
-        ensures within { AreInReach result.pdus }
+        ensures within { AreInReach (pdus_of result) }
     {
         match self.waiting.position(header.task_tag) {
-            None => silence(),
+            None => Actions::Send(silence()),
             Some(at) => {
                 if self.waiting.at(at).continues(&header, bytes) {
                     self.take_data(at, header, bytes)
                 } else {
-                    self.reject(PROTOCOL_ERROR)
+                    Actions::Send(self.reject(PROTOCOL_ERROR))
                 }
             }
         }
@@ -394,14 +390,14 @@ impl Session {
     fn take_data<'a>(&mut self, at: usize, header: DataOut, bytes: &[u8]) -> Actions<'a>
         requires { CanTake self.old at header bytes.now }
         ensures on { OnData self.old header bytes.now result self.new }
-        ensures within { AreInReach result.pdus }
+        ensures within { AreInReach (pdus_of result) }
     {
         let waiting = self.waiting.numbered();
         let mut command = self.waiting.remove(at);
         command.feed(&header, bytes);
         if !command.is_filled() {
             self.waiting.insert(at, command);
-            return silence();
+            return Actions::Send(silence());
         }
         if command.len() >= command.need() as usize {
             let done = command.finish();
@@ -412,11 +408,7 @@ impl Session {
         let r2t = command.request();
         self.waiting.insert(at, command);
         self.transfer_tag = next_transfer_tag(self.transfer_tag);
-        Actions {
-            pdus: Pdus::R2t(r2t),
-            call: None,
-            end: None,
-        }
+        Actions::Send(ask_for(r2t))
     }
 
     /// Takes the number of a PDU with this I bit, unless it is immediate.
@@ -427,47 +419,43 @@ impl Session {
     }
 
     /// What the fault calls for that stands in place of a PDU: a Reject, and the end.
-    pub fn on_fault<'a>(&mut self, fault: PduFault) -> Actions<'a>
-        ensures on { OnRefusal self.old (reason_of fault) result self.new }
+    pub fn on_fault<'a>(&mut self, fault: PduFault) -> Sending<'a>
+        ensures on { OnRefusal self.old (reason_of fault) (Send result) self.new }
         ensures within { AreInReach result.pdus }
     {
         self.reject(reject_reason(fault))
     }
 
     // A Reject for this reason, and the end.
-    fn reject<'a>(&mut self, reason: u8) -> Actions<'a>
-        ensures on { OnRefusal self.old reason result self.new }
+    fn reject<'a>(&mut self, reason: u8) -> Sending<'a>
+        ensures on { OnRefusal self.old reason (Send result) self.new }
         ensures within { AreInReach result.pdus }
     {
         let numbers = self.next_numbers();
         self.stat_sn = self.stat_sn.wrapping_add(1);
-        Actions {
+        Sending {
             pdus: Pdus::Reject(Reject { reason, numbers }),
-            call: None,
             end: Some(End::Protocol),
         }
     }
 
     /// What the answer to a task calls for: its data and its SCSI Response, or the end where the session is gone.
-    pub fn on_answer<'a>(&mut self, task: OpenTask, answer: &'a TargetAnswer) -> Actions<'a>
-        ensures answered { OnAnswer self.old task.command task.need answer.now result self.new }
+    pub fn on_answer<'a>(&mut self, task: &OpenTask, answer: &'a TargetAnswer) -> Sending<'a>
+        ensures answered { OnAnswer self.old task.now.command task.now.need answer.now (Send result) self.new }
         ensures reach { AreInReach result.pdus }
     {
         match answer {
             TargetAnswer::Replied(reply) | TargetAnswer::Outside(reply) => {
-                self.respond(&task, reply.bytes(), Completion::of(reply))
+                self.respond(task, reply.bytes(), Completion::of(reply))
             }
-            TargetAnswer::Busy => self.respond(
-                &task,
-                &[],
-                Completion::bare(COMPLETED, Status::Busy),
-            ),
+            TargetAnswer::Busy => {
+                self.respond(task, &[], Completion::bare(COMPLETED, Status::Busy))
+            }
             TargetAnswer::Halted => {
-                self.respond(&task, &[], Completion::bare(TARGET_FAILURE, Status::Good))
+                self.respond(task, &[], Completion::bare(TARGET_FAILURE, Status::Good))
             }
-            TargetAnswer::Gone => Actions {
+            TargetAnswer::Gone => Sending {
                 pdus: Pdus::Nothing,
-                call: None,
                 end: Some(End::Reinstated),
             },
         }
@@ -479,9 +467,9 @@ impl Session {
         task: &OpenTask,
         bytes: &'a [u8],
         completion: Completion,
-    ) -> Actions<'a>
+    ) -> Sending<'a>
         ensures sent { Sends self.old
-            (reply_with self.old task.now.command task.now.need bytes.now completion) result self.new }
+            (reply_with self.old task.now.command task.now.need bytes.now completion) (Send result) self.new }
         ensures reach { AreInReach result.pdus }
     {
         // A Data-In without a status has no StatSN (RFC 7143, 11.7.3).
@@ -494,27 +482,37 @@ impl Session {
         let numbers = self.next_numbers();
         let response = scsi_response(numbers, task, bytes.len(), count(&data_ins), completion);
         self.stat_sn = self.stat_sn.wrapping_add(1);
-        Actions {
+        Sending {
             pdus: Pdus::Answer {
                 data_ins,
                 response,
                 sense: completion.sense,
             },
-            call: None,
             end: None,
         }
     }
 }
 
-// Nothing goes out, and nothing is called.
-fn silence<'a>() -> Actions<'a>
-    ensures silent { IsSilent result }
+// Nothing goes out.
+fn silence<'a>() -> Sending<'a>
+    ensures silent { IsSilent (Send result) }
     ensures no_end { result.end ≡ None }
     ensures within { AreInReach result.pdus }
 {
-    Actions {
+    Sending {
         pdus: Pdus::Nothing,
-        call: None,
+        end: None,
+    }
+}
+
+// The next R2T of a write goes out.
+fn ask_for<'a>(r2t: R2t) -> Sending<'a>
+    ensures asks { result.pdus ≡ Pdus.R2t r2t }
+    ensures no_end { result.end ≡ None }
+    ensures within { AreInReach result.pdus }
+{
+    Sending {
+        pdus: Pdus::R2t(r2t),
         end: None,
     }
 }
@@ -524,18 +522,14 @@ fn call<'a>(command: ScsiCommand, asked: Asked, need: u32, bytes: CommandData<'a
     requires need { need ≡ need_of asked }
     ensures calls { (gathered : List ℕ) → call_data bytes.entry ≡ data_for command (need_of asked) gathered
         → Calls command asked gathered result }
-    ensures within { AreInReach result.pdus }
+    ensures within { AreInReach (pdus_of result) }
 {
-    Actions {
-        pdus: Pdus::Nothing,
-        call: Some(Call::Serve(ServeCall {
-            task: OpenTask { command, need },
-            unit: Lun::parse(&command.lun),
-            asked,
-            bytes,
-        })),
-        end: None,
-    }
+    Actions::Ask(Call::Serve(ServeCall {
+        task: OpenTask { command, need },
+        unit: Lun::parse(&command.lun),
+        asked,
+        bytes,
+    }))
 }
 
 // How much data a command needs; one that is not served needs none.

@@ -7,7 +7,7 @@ ghost use Rattle.session.specs.Stream.{MakesTurn, MakesLoginTurn};
 ghost use Rattle.session.specs.LoginPhase.{login_end};
 ghost use Rattle.login.specs.declared.negotiation.TheConstants.{LONGEST_RESPONSE};
 
-use crate::actions::{Call, Pdus};
+use crate::actions::{Actions, Call, Pdus};
 use crate::end::End;
 use crate::login_phase::{LoginOutcome, LoginPhase, login_cmd_sn, login_pdus};
 use crate::outbox::Outbox;
@@ -43,15 +43,15 @@ pub fn turn<K: Sink, T: Target>(
         bytes: room.as_slice(),
     };
     let actions = session.on_pdu(pdu, text);
-    match &actions.call {
-        None => {
-            outbox.fill(sink, bhs, &actions.pdus);
-            actions.end
+    match &actions {
+        Actions::Send(sending) => {
+            outbox.fill(sink, bhs, &sending.pdus);
+            sending.end
         }
-        Some(call) => match call {
+        Actions::Ask(call) => match call {
             Call::Serve(call) => {
                 let answer = target.serve(call.unit, call.asked, call.bytes.bytes());
-                let answered = session.on_answer(call.task, &answer);
+                let answered = session.on_answer(&call.task, &answer);
                 outbox.fill(sink, bhs, &answered.pdus);
                 answered.end
             }
@@ -78,8 +78,8 @@ pub fn fault_turn<K: Sink, T: Target>(
     ensures { MakesTurn T.leads session.old session.new target.now target.now (K.held sink.old) (K.held sink.new)
         (K.failures sink.old) (K.failures sink.new) outbox.old outbox.new (faulty fault bhs.now) (Some Protocol) }
 {
-    let actions = session.on_fault(fault);
-    outbox.fill(sink, bhs, &actions.pdus);
+    let sending = session.on_fault(fault);
+    outbox.fill(sink, bhs, &sending.pdus);
 }
 
 /// One turn of a login: what a PDU comes to, with the target's answer, and its one answer, put into the outbox.

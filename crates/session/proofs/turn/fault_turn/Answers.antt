@@ -1,5 +1,6 @@
+use Rattle.session.specs.declared.actions.Actions.TheVariants.{Send}
 use Rattle.session.proofs.Turns.{fault}
 use Rattle.session.proofs.turn.fault_turn.Goals as goal
 
 pub returns : goal.returns
-returns g c = fault g.T.Target.leads _ _ _ _ _ _ _ _ _ c.args.bhs.now c.on_fault-actions.result c.fill.ensures c.args.fault c.on_fault-actions.ensures.on
+returns g c = fault g.T.Target.leads _ _ _ _ _ _ _ _ _ c.args.bhs.now (Send c.on_fault-sending.result) c.fill.ensures c.args.fault c.on_fault-sending.ensures.on

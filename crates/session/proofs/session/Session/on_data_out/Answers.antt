@@ -1,4 +1,5 @@
 use Rattle.std.proofs.Common.{◌≡◌, true, false, ap, sym, ◌∙◌}
+use Rattle.session.specs.declared.actions.Actions.TheVariants.{Send}
 use Rattle.session.specs.Counters.{Counters}
 use Rattle.session.proofs.Receiving.{can_take, rejected_data}
 use Rattle.session.proofs.session.Session.on_data_out.Goals as goal
@@ -9,4 +10,4 @@ take_data-requires c =
 
 pub returns-else-continues-clause-on : goal.returns-else-continues-clause-on
 returns-else-continues-clause-on c =
-    rejected_data _ _ c.in-Some.at c.args.header c.args.bytes.now _ c.reject.result (ap (λ (s : Counters). s.standing.collecting) c.self.view_is) c.in-Some.ensures c.at.result.now c.at.ensures (λ k. let e : true ≡ false = sym (c.continues.ensures.1 k) ∙ c.if-continues.false in cc) c.reject.ensures.on
+    rejected_data _ _ c.in-Some.at c.args.header c.args.bytes.now _ (Send c.reject.result) (ap (λ (s : Counters). s.standing.collecting) c.self.view_is) c.in-Some.ensures c.at.result.now c.at.ensures (λ k. let e : true ≡ false = sym (c.continues.ensures.1 k) ∙ c.if-continues.false in cc) c.reject.ensures.on

@@ -1,8 +1,9 @@
 use Rattle.std.proofs.Common.{refl}
+use Rattle.session.specs.declared.actions.Actions.TheVariants.{Send}
 use Rattle.session.specs.declared.verdict.TheConstants.{COMMAND_NOT_SUPPORTED}
 use Rattle.session.proofs.Unserved.{refused}
 use Rattle.session.proofs.session.Session.on_pdu.Goals as goal
 
 pub returns-in-Target-clause-on : goal.returns-in-Target-clause-on
 returns-in-Target-clause-on c =
-    refused _ _ c.args.pdu.header c.args.pdu.data.now c.reject.result COMMAND_NOT_SUPPORTED (rw c.in-Target.is refl) c.reject.ensures.on
+    refused _ _ c.args.pdu.header c.args.pdu.data.now (Send c.reject.result) COMMAND_NOT_SUPPORTED (rw c.in-Target.is refl) c.reject.ensures.on

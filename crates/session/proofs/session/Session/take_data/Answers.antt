@@ -50,6 +50,6 @@ returns-clause-on c =
     (omega (arith, c.if-len-need.false, c.len.ensures, c.need.ensures c.feed.ensures.asked.0 asked_by.means))
     (c.ask.ensures.asked (need_of c.feed.ensures.asked.0) (need_is_of c.feed.new.self.command c.feed.ensures.asked.0 asked_by)
     ∙ ap (asked_on c.feed.new.self (need_of c.feed.ensures.asked.0)) (c.r2t_with.ensures ∙ ap (λ (s : Counters). r2t_with_for s c.numbered-waiting.result) c.self.view_is))
-    c.numbered-waiting.ensures.count c.request-r2t.ensures c.insert-2.ensures refl refl refl
+    c.numbered-waiting.ensures.count c.request-r2t.ensures c.insert-2.ensures c.ask_for.ensures.asks refl c.ask_for.ensures.no_end
     (ap (λ (t : ℕ). view_of c.self.inside.stat_sn (record { units = c.self.inside.units; kind = c.self.inside.kind; target_name = c.self.inside.target_name.items; told = c.self.inside.told.items; start = c.self.inside.start }) c.self.inside.exp_cmd_sn c.insert-2.new.self t) c.next_transfer_tag-self-inside.ensures
     ∙ ap (λ (s : Counters). after_r2t (after_collecting c.insert-2.new.self s)) c.self.view_is)
