@@ -76,7 +76,7 @@ impl Phases {
         outbox: &mut Outbox,
         room: &mut Vec<u8>,
         bhs: &[u8],
-        pdu: Pdu<'_>,
+        pdu: &Pdu<'_>,
     ) -> Option<End>
         requires fresh { IsFresh self.old }
         requires room { LONGEST_RESPONSE ≤ vec_capacity room.old }
@@ -84,7 +84,7 @@ impl Phases {
         ensures kept { LONGEST_RESPONSE ≤ vec_capacity room.new }
         ensures exchange { MakesExchange T.leads self.old self.new target.old target.new (K.held sink.old) (K.held sink.new)
             (K.failures sink.old) (K.failures sink.new) outbox.old outbox.new
-            (came bhs.now pdu.entry.header pdu.entry.data.now) result }
+            (came bhs.now pdu.now.header pdu.now.data.now) result }
     {
         match &mut self.login {
             None => turn(&mut self.session, target, sink, outbox, room, bhs, pdu),

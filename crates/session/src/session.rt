@@ -158,16 +158,21 @@ impl Session {
         }
     }
 
-    /// What a PDU calls for: the window first, then the causes of a Reject (RFC 7143, 4.2.2.1 and 7.3). A command
-    /// that is accepted is to be called. A PDU of a kind that is not served is rejected. `text` is what
+    /// What a PDU with this header and this data calls for: the window first, then the causes of a Reject (RFC 7143, 4.2.2.1
+    /// and 7.3). A command that is accepted is to be called. A PDU of a kind that is not served is rejected. `text` is what
     /// [`make_text`](Session::make_text) made of the PDU.
-    pub fn on_pdu<'a>(&mut self, pdu: Pdu<'a>, text: MadeText<'a>) -> Actions<'a>
-        requires made { IsMade self.old.setting pdu.header pdu.data.now text }
-        ensures on { OnPdu self.old pdu.entry.header pdu.entry.data.now result self.new }
+    pub fn on_pdu<'a>(
+        &mut self,
+        header: &Header,
+        bytes: &'a [u8],
+        text: MadeText<'a>,
+    ) -> Actions<'a>
+        requires made { IsMade self.old.setting header.now bytes.now text }
+        ensures on { OnPdu self.old header.now bytes.now result self.new }
         ensures within { AreInReach (pdus_of result) }
     {
-        match pdu.header {
-            Header::Initiator(header) => self.on_initiator(header, pdu.data, text),
+        match header {
+            Header::Initiator(header) => self.on_initiator(header, bytes, text),
             Header::Target(_) => Actions::Send(self.reject(COMMAND_NOT_SUPPORTED)),
         }
     }
@@ -175,24 +180,24 @@ impl Session {
     // What an initiator's PDU calls for.
     fn on_initiator<'a>(
         &mut self,
-        header: InitiatorHeader,
+        header: &InitiatorHeader,
         bytes: &'a [u8],
         text: MadeText<'a>,
     ) -> Actions<'a>
-        requires made { IsMade self.old.setting (Header.Initiator header) bytes.now text }
-        ensures on { OnPdu self.old (Header.Initiator header) bytes.now result self.new }
+        requires made { IsMade self.old.setting (Header.Initiator header.now) bytes.now text }
+        ensures on { OnPdu self.old (Header.Initiator header.now) bytes.now result self.new }
         ensures within { AreInReach (pdus_of result) }
     {
         match header {
-            InitiatorHeader::NopOut(request) => Actions::Send(self.on_nop_out(request, bytes)),
+            InitiatorHeader::NopOut(request) => Actions::Send(self.on_nop_out(*request, bytes)),
             InitiatorHeader::ScsiCommand(command) => self.on_command(command, bytes),
-            InitiatorHeader::TaskManagementRequest(request) => self.on_task_management(request),
+            InitiatorHeader::TaskManagementRequest(request) => self.on_task_management(*request),
             InitiatorHeader::LoginRequest(_) => Actions::Send(self.reject(PROTOCOL_ERROR)),
             InitiatorHeader::TextRequest(request) => {
-                Actions::Send(self.on_text(request, bytes, text))
+                Actions::Send(self.on_text(*request, bytes, text))
             }
-            InitiatorHeader::DataOut(header) => self.on_data_out(header, bytes),
-            InitiatorHeader::LogoutRequest(request) => Actions::Send(self.on_logout(request)),
+            InitiatorHeader::DataOut(header) => self.on_data_out(*header, bytes),
+            InitiatorHeader::LogoutRequest(request) => Actions::Send(self.on_logout(*request)),
         }
     }
 
@@ -282,8 +287,8 @@ impl Session {
     }
 
     // What a SCSI Command calls for.
-    fn on_command<'a>(&mut self, command: ScsiCommand, bytes: &'a [u8]) -> Actions<'a>
-        ensures on { OnCommand self.old command bytes.now result self.new }
+    fn on_command<'a>(&mut self, command: &ScsiCommand, bytes: &'a [u8]) -> Actions<'a>
+        ensures on { OnCommand self.old command.now bytes.now result self.new }
         ensures within { AreInReach (pdus_of result) }
     {
         let verdict = command_verdict(
@@ -291,7 +296,7 @@ impl Session {
             self.start.lengths,
             self.window(),
             &self.waiting,
-            &command,
+            command,
             bytes,
         );
         if verdict == Verdict::Full {
@@ -304,32 +309,40 @@ impl Session {
     }
 
     // An immediate command that finds the task set full.
-    fn find_full<'a>(&mut self, command: ScsiCommand) -> Sending<'a>
-        ensures on { OnFull self.old command (Send result) self.new }
+    fn find_full<'a>(&mut self, command: &ScsiCommand) -> Sending<'a>
+        ensures on { OnFull self.old command.now (Send result) self.new }
         ensures within { AreInReach result.pdus }
     {
         let need = data_needed(&decode(&command.cdb));
         let full = Completion::bare(COMPLETED, Status::TaskSetFull);
-        self.respond(&OpenTask { command, need }, &[], full)
+        let task = OpenTask {
+            command: *command,
+            need,
+        };
+        self.respond(&task, &[], full)
     }
 
     // A command that is accepted: it is to be called, or waits for its data.
-    fn take_command<'a>(&mut self, command: ScsiCommand, bytes: &'a [u8]) -> Actions<'a>
-        ensures on { OnAccepted self.old command bytes.now result self.new }
+    fn take_command<'a>(&mut self, command: &ScsiCommand, bytes: &'a [u8]) -> Actions<'a>
+        ensures on { OnAccepted self.old command.now bytes.now result self.new }
         ensures within { AreInReach (pdus_of result) }
     {
         let asked = decode(&command.cdb);
         let need = data_needed(&asked);
         self.accept(command.immediate);
-        if !has_to_collect(&command, need, bytes.len()) {
-            let data = CommandData::Came(command_data(&command, need, bytes));
+        if !has_to_collect(command, need, bytes.len()) {
+            let data = CommandData::Came(command_data(command, need, bytes));
             return call(command, asked, need, data);
         }
-        match self.wait(command, asked, need, bytes) {
+        match self.wait(*command, asked, need, bytes) {
             Some(r2t) => Actions::Send(ask_for(r2t)),
             None => {
                 let busy = Completion::bare(COMPLETED, Status::Busy);
-                Actions::Send(self.respond(&OpenTask { command, need }, &[], busy))
+                let task = OpenTask {
+                    command: *command,
+                    need,
+                };
+                Actions::Send(self.respond(&task, &[], busy))
             }
         }
     }
@@ -402,7 +415,7 @@ impl Session {
         if command.len() >= command.need() as usize {
             let done = command.finish();
             let data = CommandData::Gathered(done.bytes);
-            return call(done.command, done.asked, done.need, data);
+            return call(&done.command, done.asked, done.need, data);
         }
         command.ask(self.r2t_with(waiting));
         let r2t = command.request();
@@ -518,14 +531,17 @@ fn ask_for<'a>(r2t: R2t) -> Sending<'a>
 }
 
 // A command is to be called, for what its CDB asks, with its data.
-fn call<'a>(command: ScsiCommand, asked: Asked, need: u32, bytes: CommandData<'a>) -> Actions<'a>
+fn call<'a>(command: &ScsiCommand, asked: Asked, need: u32, bytes: CommandData<'a>) -> Actions<'a>
     requires need { need ≡ need_of asked }
-    ensures calls { (gathered : List ℕ) → call_data bytes.entry ≡ data_for command (need_of asked) gathered
-        → Calls command asked gathered result }
+    ensures calls { (gathered : List ℕ) → call_data bytes.entry ≡ data_for command.now (need_of asked) gathered
+        → Calls command.now asked gathered result }
     ensures within { AreInReach (pdus_of result) }
 {
     Actions::Ask(Call::Serve(ServeCall {
-        task: OpenTask { command, need },
+        task: OpenTask {
+            command: *command,
+            need,
+        },
         unit: Lun::parse(&command.lun),
         asked,
         bytes,

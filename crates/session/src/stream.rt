@@ -106,7 +106,7 @@ fn pass<S: Source, K: Sink, T: Target>(
     while reads < u64::MAX {
         match front_of(inbox.bytes()) {
             Front::Whole { bhs, pdu, taken } => {
-                match phases.turn(target, sink, outbox, room, bhs, pdu) {
+                match phases.turn(target, sink, outbox, room, bhs, &pdu) {
                     Some(end) => return finish(sink, outbox, end),
                     None => inbox.consume(taken),
                 }

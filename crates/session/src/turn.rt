@@ -28,21 +28,21 @@ pub fn turn<K: Sink, T: Target>(
     outbox: &mut Outbox,
     room: &mut Vec<u8>,
     bhs: &[u8],
-    pdu: Pdu<'_>,
+    pdu: &Pdu<'_>,
 ) -> Option<End>
     requires room { LONGEST_TEXT ≤ vec_capacity room.old }
     requires bhs { length bhs.now ≡ BHS_LENGTH }
     ensures kept { vec_capacity room.old ≤ vec_capacity room.new }
     ensures turn { MakesTurn T.leads session.old session.new target.old target.new (K.held sink.old) (K.held sink.new)
         (K.failures sink.old) (K.failures sink.new) outbox.old outbox.new
-        (came bhs.now pdu.entry.header pdu.entry.data.now) result }
+        (came bhs.now pdu.now.header pdu.now.data.now) result }
 {
-    let answered = session.make_text(room, &pdu);
+    let answered = session.make_text(room, pdu);
     let text = MadeText {
         answered,
         bytes: room.as_slice(),
     };
-    let actions = session.on_pdu(pdu, text);
+    let actions = session.on_pdu(&pdu.header, pdu.data, text);
     match &actions {
         Actions::Send(sending) => {
             outbox.fill(sink, bhs, &sending.pdus);
@@ -90,17 +90,17 @@ pub fn login_turn<K: Sink, T: Target>(
     outbox: &mut Outbox,
     room: &mut Vec<u8>,
     bhs: &[u8],
-    pdu: Pdu<'_>,
+    pdu: &Pdu<'_>,
 ) -> LoginOutcome
     requires room { LONGEST_RESPONSE ≤ vec_capacity room.old }
     requires bhs { length bhs.now ≡ BHS_LENGTH }
     ensures kept { LONGEST_RESPONSE ≤ vec_capacity room.new }
     ensures turn { MakesLoginTurn T.leads login.old login.new target.old target.new (K.held sink.old) (K.held sink.new)
         (K.failures sink.old) (K.failures sink.new) outbox.old outbox.new
-        (came bhs.now pdu.entry.header pdu.entry.data.now) result }
+        (came bhs.now pdu.now.header pdu.now.data.now) result }
 {
     let numbers = login.take_numbers(login_cmd_sn(&pdu.header));
-    let outcome = login.on_pdu(target, room, &pdu);
+    let outcome = login.on_pdu(target, room, pdu);
     let pdus = login_pdus(numbers, &pdu.header, outcome, room);
     outbox.fill(sink, bhs, &pdus);
     outcome
