@@ -68,7 +68,10 @@ new_owner Two Two = None
 
 abbrev pub change_between : AccessMapValue → AccessMapValue → Change
 change_between old new =
-    record { changed = is_changed old new One ∷ is_changed old new Two ∷ []; owner = new_owner (owner_of old) (owner_of new) }
+    record {
+      changed = is_changed old new One ∷ is_changed old new Two ∷ [];
+      owner = new_owner (owner_of old) (owner_of new);
+    }
 
 -- the state of some group is another
 abbrev pub is_any_change : Change → Bool

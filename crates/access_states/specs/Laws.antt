@@ -14,6 +14,7 @@ named_for named One = named.one
 named_for named Two = named.two
 
 -- the list was taken: it names these states, and leads from the old ones to the new
-pub record IsTaken (cause : Cause) (old : AccessMapValue) (bytes : List ℕ) (named : Named) (new : AccessMapValue) : Type 0 where
+pub record IsTaken (cause : Cause) (old : AccessMapValue) (bytes : List ℕ) (named : Named)
+    (new : AccessMapValue) : Type 0 where
   pub reads : named_by bytes ≡ Ok named
   pub taken : access_after cause old bytes ≡ Ok new

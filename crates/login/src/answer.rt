@@ -24,7 +24,8 @@ pub fn put_answers(out: &mut Vec<u8>, text: &[u8])
 // Appends the answer to a pair, if it has one.
 #[tactic(auto, unfolding(crate::specs::Answer::verdict_of))]
 fn put_answer(out: &mut Vec<u8>, key: &[u8], value: &[u8])
-    requires room { length out.old.items + length (answer_text key.now (verdict_of key.now value.now)) ≤ vec_capacity out.old }
+    requires room { length out.old.items + length (answer_text key.now (verdict_of key.now value.now))
+        ≤ vec_capacity out.old }
     ensures put { out.new.items ≡ out.old.items ++ answer_text key.now (verdict_of key.now value.now) }
     ensures kept { vec_capacity out.old ≤ vec_capacity out.new }
 {

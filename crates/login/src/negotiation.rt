@@ -297,7 +297,8 @@ impl Negotiation {
     /// Appends TargetPortalGroupTag, in the response of a normal session to its first request.
     fn put_group(&self, out: &mut Vec<u8>, whole: &[u8])
         requires room { length out.old.items
-            + length (group_text self.now.tag self.now.kind (kind_after self.now.kind (pairs whole.now))) ≤ vec_capacity out.old }
+            + length (group_text self.now.tag self.now.kind (kind_after self.now.kind (pairs whole.now)))
+            ≤ vec_capacity out.old }
         ensures put { out.new.items
             ≡ out.old.items ++ group_text self.now.tag self.now.kind (kind_after self.now.kind (pairs whole.now)) }
         ensures kept { vec_capacity out.old ≤ vec_capacity out.new }

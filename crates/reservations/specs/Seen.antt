@@ -8,7 +8,12 @@ use Rattle.reservations.specs.Rows.{PrRow, effect}
 use Rattle.reservations.specs.Table.{IsAnswer}
 
 abbrev pub value_of : Table → RegistryValue
-value_of t = record { registrants = t.registrants.items; reservation = t.reservation; aptpl = t.aptpl; generation = t.generation }
+value_of t = record {
+  registrants = t.registrants.items;
+  reservation = t.reservation;
+  aptpl = t.aptpl;
+  generation = t.generation;
+}
 
 -- the call did what this row says, or changed nothing for want of memory
 abbrev pub Does : PrRow → Table → Table → Nexus → PrOut → PrEnd → Type 0

@@ -26,7 +26,8 @@ sizes rs = sum_by (λ r. r.desired_length) rs
 
 -- The R2T at a place among those of a command that needs so many bytes, of which so many were immediate and so many
 -- have come: it asks for the bytes behind those that were asked for, as many as a burst has, when these have all come.
-pub record IsRequest (burst : ℕ) (p : CommandHeader) (need immediate came : ℕ) (rs : List R2tHeader) (i : ℕ) (r : R2tHeader) : Type 0 where
+pub record IsRequest (burst : ℕ) (p : CommandHeader) (need immediate came : ℕ) (rs : List R2tHeader) (i : ℕ)
+    (r : R2tHeader) : Type 0 where
   pub number : r.r2t_sn ≡ wrap i
   pub place : r.offset ≡ immediate + sizes (take i rs)
   pub size : r.desired_length ≡ min burst (need - r.offset)
@@ -54,7 +55,8 @@ pub record IsCalledFor (p : CommandHeader) (asked : Result Command CdbFault) (im
 
 -- A command that was not called is one that has to collect, and no byte came that was not asked for; while it collects an
 -- R2T is outstanding.
-pub record IsUncalled (p : CommandHeader) (need immediate : ℕ) (bytes : List ℕ) (rs : List R2tHeader) (ended : Bool) : Type 0 where
+pub record IsUncalled (p : CommandHeader) (need immediate : ℕ) (bytes : List ℕ) (rs : List R2tHeader)
+    (ended : Bool) : Type 0 where
   pub collects : HasToCollect p need immediate
   pub within : length bytes ≤ asked_to immediate rs
   pub waits : ended ≡ false → length bytes < asked_to immediate rs
@@ -67,14 +69,16 @@ HasCalls p asked immediate bytes rs ended (c ∷ (d ∷ cs)) = ⊥
 -- what is right of a command with these R2Ts and calls so far, of whose data so much came
 pub record IsCollected (burst : ℕ) (p : CommandHeader) (asked : Result Command CdbFault) (immediate : ℕ)
     (bytes : List ℕ) (rs : List R2tHeader) (ended : Bool) (cs : List Asking) : Type 0 where
-  pub requested : (i : ℕ) (r : R2tHeader) → slice_get rs i ≡ Some r → IsRequest burst p (need_of asked) immediate (length bytes) rs i r
+  pub requested : (i : ℕ) (r : R2tHeader) → slice_get rs i ≡ Some r
+      → IsRequest burst p (need_of asked) immediate (length bytes) rs i r
   pub outcome : HasCalls p asked immediate bytes rs ended cs
 
 -- a task is right: by what its CDB asks for
 pub record IsRightTask (burst : ℕ) (k : Task) : Type 0 where
   pub asked : Result Command CdbFault
   pub means : Means k.command.cdb asked
-  pub right : IsCollected burst k.command asked (length k.segment) (gathered k) (r2ts k.own) (has_ended k) (command_calls k.own)
+  pub right : IsCollected burst k.command asked (length k.segment) (gathered k) (r2ts k.own) (has_ended k)
+      (command_calls k.own)
 
 -- A Data-Out continues the R2T that is outstanding (11.7): its Target Transfer Tag, the next DataSN, the next byte, and
 -- none past its range.

@@ -102,7 +102,8 @@ login_after v came = record {
   stat_sn = wrap (v.stat_sn + 1);
 }
 
--- the numbers of the PDU that answers this: ExpCmdSN is the CmdSN of the first Login Request (4.2.2.1), and 0 where none came
+-- the numbers of the PDU that answers this: ExpCmdSN is the CmdSN of the first Login Request (4.2.2.1), and 0 where none
+-- came
 abbrev pub login_numbers : LoginStanding → Incoming → Numbers
 login_numbers v came = numbers_for v.stat_sn (unwrap_or (option_or v.first (cmd_sn_in came)) 0) 0
 

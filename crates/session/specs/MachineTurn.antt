@@ -135,7 +135,8 @@ abbrev pub TurnAnswered : Counters → List Out → Option Asking → List Out �
 TurnAnswered s wanted call outs s' = TurnUncalled call outs wanted s' (after_answer wanted s)
 
 -- a request for task management has this response
-pub record TurnAnswers (s : Counters) (p : ManagementHeader) (response : Option ℕ) (outs : List Out) (s' : Counters) : Type 0 where
+pub record TurnAnswers (s : Counters) (p : ManagementHeader) (response : Option ℕ) (outs : List Out)
+    (s' : Counters) : Type 0 where
   pub outs_are : outs ≡ management_answer (next_numbers s) p response
   pub next_is : s' ≡ after_answer (management_answer (next_numbers s) p response) s
 

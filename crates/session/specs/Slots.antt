@@ -33,7 +33,8 @@ NeedIs p need = (asked : Result Command CdbFault) → Means p.cdb asked → need
 
 -- A command that has to collect so many bytes: its buffer has room for them, no more have come, and its R2T does not pass
 -- them.
-pub record IsSlot (p : CommandHeader) (asked : Result Command CdbFault) (need came capacity : ℕ) (request : R2tHeader) : Type 0 where
+pub record IsSlot (p : CommandHeader) (asked : Result Command CdbFault) (need came capacity : ℕ)
+    (request : R2tHeader) : Type 0 where
   pub asked_by : IsAskedBy p asked
   pub need_is : need ≡ need_of asked
   pub writes : IsTrue p.write

@@ -77,7 +77,8 @@ NextPhase true v p p' =
     })
 
 -- what one turn makes of both phases
-pub record LoginExchange (v : LoginStanding) (p : PhasesValue) (came : Incoming) (e : Exchange) (p' : PhasesValue) : Type 0 where
+pub record LoginExchange (v : LoginStanding) (p : PhasesValue) (came : Incoming) (e : Exchange)
+    (p' : PhasesValue) : Type 0 where
   pub turn : LoginTurn
   pub came_is : turn.came ≡ came
   pub made : IsLoginTurn v turn

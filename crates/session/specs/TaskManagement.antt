@@ -56,7 +56,8 @@ management_of TaskReassign dropped unit = Respond REASSIGNMENT_NOT_SUPPORTED
 management_of Unserved dropped unit = Respond FUNCTION_NOT_SUPPORTED
 
 -- what a request comes to, where there are so many units and these commands wait, and which of them wait behind it
-pub record IsManagement (units : ℕ) (cs : List Collecting) (p : ManagementHeader) (m : Management) (kept : List Collecting) : Type 0 where
+pub record IsManagement (units : ℕ) (cs : List Collecting) (p : ManagementHeader) (m : Management)
+    (kept : List Collecting) : Type 0 where
   pub unit : Option ℕ
   pub names : NamesUnit p.lun unit
   pub is : m ≡ management_of (function_of p.function) (drops_one p cs) (there units unit)

@@ -110,7 +110,8 @@ accepted_command v came = if is_accepted v then command_with came else None
 
 abbrev pub begun_by : Option (CommandHeader × List ℕ) → Turn → List Turn → Option Task
 begun_by None t behind = None
-begun_by (Some c) t behind = Some (record { command = c.0; segment = c.1; own = through ends (t ∷ filter (touches c.0) behind) })
+begun_by (Some c) t behind =
+    Some (record { command = c.0; segment = c.1; own = through ends (t ∷ filter (touches c.0) behind) })
 
 -- the tasks of these turns, in the order in which their commands came
 abbrev pub tasks : List Turn → List Task

@@ -53,7 +53,8 @@ pub record IsFailureOf (cause : End) (before now : ℕ) (end : End) : Type 0 whe
 
 -- how it has passed up to its end, and whose failure that was
 pub record HasPassed {T : Type 0} (leads : T → Asking → T → Type 0) (units : ℕ) (me : Identity) (opening : Opening)
-    (left left' held held' : Option (List ℕ)) (read read' written written' : ℕ) (target target' : T) (end : End) : Type 0 where
+    (left left' held held' : Option (List ℕ)) (read read' written written' : ℕ) (target target' : T)
+    (end : End) : Type 0 where
   pub passed : IsPassed leads units me opening left left' held held' target target' end
   pub input_failed : IsFailureOf InputFailed read read' end
   pub output_failed : IsFailureOf OutputFailed written written' end

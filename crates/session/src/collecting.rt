@@ -62,7 +62,13 @@ impl Model for WaitingCommand {
 
     ghost Value = { Collecting };
 
-    ghost view = { λ s. record { command = s.command; bytes = s.bytes.items; outstanding = Some s.request; requests = s.requests; data_sn = s.data_sn } };
+    ghost view = { λ s. record {
+      command = s.command;
+      bytes = s.bytes.items;
+      outstanding = Some s.request;
+      requests = s.requests;
+      data_sn = s.data_sn;
+    } };
 
     ghost invariant = { λ s. IsSlot s.command s.asked s.need (length s.bytes.items) (vec_capacity s.bytes) s.request };
 }

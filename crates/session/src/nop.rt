@@ -10,7 +10,8 @@ use crate::transfer::first_bytes;
 use crate::verdict::RESERVED_TAG;
 use iscsi_pdu::{MAX_DATA_SEGMENT_LENGTH, NopIn, NopOut, Numbers, TargetHeader};
 
-/// The NOP-In that a NOP-Out asks for, with these numbers and its data, as much as the initiator takes; none where it has the reserved tag.
+/// The NOP-In that a NOP-Out asks for, with these numbers and its data, as much as the initiator takes; none where it has the
+/// reserved tag.
 pub fn nop_in<'a>(
     numbers: Numbers,
     lengths: Lengths,

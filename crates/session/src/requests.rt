@@ -50,7 +50,8 @@ impl Session {
         text: MadeText<'a>,
     ) -> Sending<'a>
         requires made { IsMadeOf text.answered self.old.setting bytes.now text.bytes.now }
-        ensures on { OnPdu self.old (Header.Initiator (InitiatorHeader.TextRequest request)) bytes.now (Send result) self.new }
+        ensures on { OnPdu self.old (Header.Initiator (InitiatorHeader.TextRequest request)) bytes.now (Send result)
+            self.new }
         ensures within { AreInReach result.pdus }
     {
         let refused = is_part(&request) || !text.answered;
@@ -124,7 +125,8 @@ impl Session {
         response: Option<u8>,
         end: Option<End>,
     ) -> Sending<'a>
-        ensures on { Answers self.old (management_answer (next_numbers self.old) request.now response) end (Send result) self.new }
+        ensures on { Answers self.old (management_answer (next_numbers self.old) request.now response) end (Send result)
+            self.new }
         ensures within { AreInReach result.pdus }
     {
         let pdu = management_response(self.next_numbers(), request, response);

@@ -93,8 +93,8 @@ impl Model for Session {
 }
 
 impl Session {
-    /// A session of this kind that begins so, with a target of this identity that has so many units. Takes the memory for the commands
-    /// that wait for their data; later only the data itself takes memory.
+    /// A session of this kind that begins so, with a target of this identity that has so many units. Takes the memory for the
+    /// commands that wait for their data; later only the data itself takes memory.
     pub fn new(
         alloc: Global,
         kind: Kind,
@@ -217,7 +217,8 @@ impl Session {
 
     /// What a request for task management comes to. The commands that it drops wait for their data no more.
     pub(crate) fn drop_tasks(&mut self, request: &TaskManagementRequest) -> Management
-        ensures { (kept : List Collecting) × IsManagement self.old.setting.units self.old.standing.collecting request.now result kept
+        ensures { (kept : List Collecting)
+            × IsManagement self.old.setting.units self.old.standing.collecting request.now result kept
             × (self.new ≡ after_collecting kept self.old) }
     {
         management_for(request, self.units, &mut self.waiting)

@@ -43,7 +43,8 @@ next_told (a ∷ rest) id =
     (eqb_tells a.id id)
 
 -- as does one that hears of a PERSISTENT RESERVE OUT
-next_heard : (codes : List Told) (sessions : List Attached) (id : ℕ) → next_of (all_heard codes sessions) id ≡ next_of sessions id
+next_heard : (codes : List Told) (sessions : List Attached) (id : ℕ)
+    → next_of (all_heard codes sessions) id ≡ next_of sessions id
 next_heard codes [] id = refl
 next_heard codes (a ∷ rest) id =
     ⊎_elim (λ (t : (nat_eq a.id id ≡ true) × (a.id ≡ id)). rw t.0 refl)
@@ -89,10 +90,13 @@ next_groups : (c : ControlValue) (session list_length : ℕ) (bytes : List ℕ) 
 next_groups c session list_length bytes OpenFailed = refl
 next_groups c session list_length bytes Fine = next_after_change c (Some session) (set_by c list_length bytes) session
 next_groups c session list_length bytes ReadFailed = next_after_change c (Some session) (set_by c list_length bytes) session
-next_groups c session list_length bytes (WriteFailed after) = next_after_change c (Some session) (set_by c list_length bytes) session
-next_groups c session list_length bytes (SaveFailed after) = next_after_change c (Some session) (set_by c list_length bytes) session
+next_groups c session list_length bytes (WriteFailed after) =
+    next_after_change c (Some session) (set_by c list_length bytes) session
+next_groups c session list_length bytes (SaveFailed after) =
+    next_after_change c (Some session) (set_by c list_length bytes) session
 
-next_after_effect : (c : ControlValue) (session : ℕ) (e : Effect) → next_of (after_effect c e).sessions session ≡ next_of c.sessions session
+next_after_effect : (c : ControlValue) (session : ℕ) (e : Effect)
+    → next_of (after_effect c e).sessions session ≡ next_of c.sessions session
 next_after_effect c session (Done new codes) = next_heard codes c.sessions session
 next_after_effect c session Conflicting = refl
 next_after_effect c session (Refused asc ascq) = refl
@@ -124,7 +128,8 @@ next_left c session (Ok (commands.SynchronizeCache lba blocks)) bytes choice = r
 next_left c session (Ok (commands.PersistentReserveIn action allocation)) bytes choice = refl
 next_left c session (Ok (commands.ReportLuns select allocation)) bytes choice = refl
 next_left c session (Ok (commands.ReportTargetPortGroups allocation)) bytes choice = refl
-next_left c session (Ok (commands.SetTargetPortGroups list_length)) bytes choice = next_groups c session list_length bytes choice
+next_left c session (Ok (commands.SetTargetPortGroups list_length)) bytes choice =
+    next_groups c session list_length bytes choice
 
 -- what a command leaves before it is counted has its serial still
 pub next_kept : (refused : Option Refusal) (c : ControlValue) (r : Request) (choice : Choice)
@@ -151,8 +156,10 @@ count_groups : (c : ControlValue) (session list_length : ℕ) (bytes : List ℕ)
 count_groups c session list_length bytes OpenFailed = refl
 count_groups c session list_length bytes Fine = count_after_change c (Some session) (set_by c list_length bytes)
 count_groups c session list_length bytes ReadFailed = count_after_change c (Some session) (set_by c list_length bytes)
-count_groups c session list_length bytes (WriteFailed after) = count_after_change c (Some session) (set_by c list_length bytes)
-count_groups c session list_length bytes (SaveFailed after) = count_after_change c (Some session) (set_by c list_length bytes)
+count_groups c session list_length bytes (WriteFailed after) =
+    count_after_change c (Some session) (set_by c list_length bytes)
+count_groups c session list_length bytes (SaveFailed after) =
+    count_after_change c (Some session) (set_by c list_length bytes)
 
 count_saved : (c : ControlValue) (e : Effect) (choice : Choice) → (after_saved c e choice).count ≡ c.count
 count_saved c e Fine = count_after_effect c e
@@ -179,7 +186,8 @@ count_left c session (Ok (commands.SynchronizeCache lba blocks)) bytes choice = 
 count_left c session (Ok (commands.PersistentReserveIn action allocation)) bytes choice = refl
 count_left c session (Ok (commands.ReportLuns select allocation)) bytes choice = refl
 count_left c session (Ok (commands.ReportTargetPortGroups allocation)) bytes choice = refl
-count_left c session (Ok (commands.SetTargetPortGroups list_length)) bytes choice = count_groups c session list_length bytes choice
+count_left c session (Ok (commands.SetTargetPortGroups list_length)) bytes choice =
+    count_groups c session list_length bytes choice
 
 kept_count : (refused : Option Refusal) (c : ControlValue) (r : Request) (choice : Choice)
     → (control_with refused c r choice).count ≡ c.count
@@ -196,7 +204,9 @@ module _ (c : ControlValue) (session serial : ℕ) (by_group : Group) (asked : R
   -- behind a command its session's next serial is one more
   pub next_after : IsNext c session serial
       → next_of (control_after c (Command session serial by_group asked bytes choice)).sessions session ≡ Some (serial + 1)
-  next_after is = next_passed (control_with (refusal c r) c r choice).sessions session serial (next_kept (refusal c r) c r choice ∙ is.next)
+  next_after is =
+      next_passed (control_with (refusal c r) c r choice).sessions session serial
+      (next_kept (refusal c r) c r choice ∙ is.next)
 
   -- and the history has one entry more
   pub count_after : (control_after c (Command session serial by_group asked bytes choice)).count ≡ c.count + 1

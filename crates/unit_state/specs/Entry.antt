@@ -99,7 +99,8 @@ IsPossible claims s (Attach nexus) = HasRoom s.control nexus
 IsPossible claims s (Detach session) = IsAttached s.control session
 IsPossible claims s (Reset session) = IsAttached s.control session
 IsPossible claims s (Move list choice) = CanMove s.control list choice
-IsPossible claims s (Command session serial by asked bytes choice) = CanCome claims s (request session asked bytes) serial by choice
+IsPossible claims s (Command session serial by asked bytes choice) =
+    CanCome claims s (request session asked bytes) serial by choice
 
 -- ---- what is after an entry, and what it is answered
 

@@ -24,7 +24,8 @@ module _ (claims : Bool) (c : ControlValue) (old new : List (List ℕ)) (same : 
         next = is.next;
         owner = is.owner;
         chosen = is.chosen;
-        torn = λ h. subst (λ (b : List (List ℕ)). CanTear (refusal c r) b (work_asked asked bytes) choice) (sym (same h)) (is.torn h);
+        torn = λ h.
+            subst (λ (b : List (List ℕ)). CanTear (refusal c r) b (work_asked asked bytes) choice) (sym (same h)) (is.torn h);
       }
 
   reply_with_over : (refused : Option Refusal) (r : Request) (choice : Choice) (reply : ReplyValue)

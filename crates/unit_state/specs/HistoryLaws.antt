@@ -45,7 +45,8 @@ decided_with : (refused : Option Refusal) (s : UnitState) (r : Request) (choice 
 decided_with (Some a) s r choice reply is = sym is
 decided_with None s r choice reply is = ap (returned s.control r) (sym (is.told refl)) ∙ sym is.is
 
-decided_by : (s : UnitState) (entry : Entry) (reply : ReplyValue) → IsReplyTo true s entry reply → reply_to s entry ≡ Some reply
+decided_by : (s : UnitState) (entry : Entry) (reply : ReplyValue) → IsReplyTo true s entry reply
+    → reply_to s entry ≡ Some reply
 decided_by s (Attach nexus) reply is = absurd is
 decided_by s (Detach session) reply is = absurd is
 decided_by s (Reset session) reply is = absurd is

@@ -107,7 +107,8 @@ abbrev pub MayFind : Work → Choice → Finding → Type 0
 MayFind Nothing Fine finding = finding ≡ Done []
 MayFind (Reads r flushed) Fine finding = (bytes : List ℕ) × (finding ≡ Done bytes) × (length bytes ≡ BLOCK_LENGTH * r.blocks)
 MayFind (Writes r bytes flushed) Fine finding = finding ≡ Done []
-MayFind (Compares r bytes flushed) Fine finding = (finding ≡ Done []) ⊎ ((at : ℕ) × (finding ≡ Differs at) × (at < BLOCK_LENGTH * r.blocks))
+MayFind (Compares r bytes flushed) Fine finding =
+    (finding ≡ Done []) ⊎ ((at : ℕ) × (finding ≡ Differs at) × (at < BLOCK_LENGTH * r.blocks))
 MayFind (Flushes r) Fine finding = finding ≡ Done []
 MayFind work ReadFailed finding = finding ≡ ReadError
 MayFind work (WriteFailed after) finding = finding ≡ WriteError
@@ -164,7 +165,8 @@ IsTorn blocks Nothing (WriteFailed after) = after ≡ blocks
 IsTorn blocks (Reads r flushed) (WriteFailed after) = after ≡ blocks
 IsTorn blocks (Writes r bytes flushed) (WriteFailed after) = Between blocks r.lba (cut r.blocks bytes) after
 IsTorn blocks (Compares r bytes flushed) (WriteFailed after) =
-    (range_bytes blocks r.lba r.blocks ≡ compare_instance r.blocks bytes) × Between blocks r.lba (write_instance r.blocks bytes) after
+    (range_bytes blocks r.lba r.blocks ≡ compare_instance r.blocks bytes)
+    × Between blocks r.lba (write_instance r.blocks bytes) after
 IsTorn blocks (Flushes r) (WriteFailed after) = after ≡ blocks
 
 -- how a command answers what its devices told
@@ -178,7 +180,8 @@ reply_by SaveError = check internal_target_failure
 
 -- A device did this work, had these blocks and has those: under the claim the finding is a disk's, and so is what is
 -- left.
-pub record IsDone (claims : Bool) (old new : List (List ℕ)) (work : Work) (choice : Choice) (finding : Finding) : Type 0 where
+pub record IsDone (claims : Bool) (old new : List (List ℕ)) (work : Work) (choice : Choice)
+    (finding : Finding) : Type 0 where
   pub chosen : MayChoose work choice
   pub may : MayFind work choice finding
   pub torn : IsTrue claims → IsTorn old work choice

@@ -22,6 +22,7 @@ pub record IsMoved (claims : Bool) (old new : UnitState) (list : List ℕ) (told
 abbrev pub IsMove : Bool → UnitState → UnitState → List ℕ → Result Change MoveFault → Type 0
 IsMove claims old new list (Ok told) = IsMoved claims old new list told
 IsMove claims old new list (Err faults.Gone) = LAST_COUNT ≤ old.control.count
-IsMove claims old new list (Err (faults.List fault)) = (old.control.count < LAST_COUNT) × (move_by old.control list ≡ Err fault)
+IsMove claims old new list (Err (faults.List fault)) =
+    (old.control.count < LAST_COUNT) × (move_by old.control list ≡ Err fault)
 IsMove claims old new list (Err faults.OpenFailed) =
     (old.control.count < LAST_COUNT) × (is_moved_by old.control.access (move_by old.control list) ≡ true)

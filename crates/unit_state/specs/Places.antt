@@ -14,7 +14,8 @@ pub record IsPlaceOf (sessions : List Attached) (id at : ℕ) : Type 0 where
   pub there : IsSome (slice_get sessions at)
   pub first : session_of (take at sessions) id ≡ None
   pub found : session_of sessions id ≡ slice_get sessions at
-  pub changes : (f : Attached → Attached) → IfSome (slice_get sessions at) (λ a. changed f sessions id ≡ slice_set sessions at (f a))
+  pub changes : (f : Attached → Attached)
+      → IfSome (slice_get sessions at) (λ a. changed f sessions id ≡ slice_set sessions at (f a))
 
 -- what serving a command leaves as it was, whatever else changes
 pub record Stays (old new : ControlValue) (session at : ℕ) : Type 0 where

@@ -104,7 +104,8 @@ conflict_rule c r = conflict_by (is_let c (sender_of c.sessions r.session) (acce
 
 -- a field of the CDB is bad, or less data came than the command needs
 abbrev pub field_by : Result Command CdbFault → List ℕ → Option Refusal
-field_by (Ok command) bytes = if nat_lt (length bytes) (need_of (Ok command)) then Some (Check invalid_field_in_cdb) else None
+field_by (Ok command) bytes =
+    if nat_lt (length bytes) (need_of (Ok command)) then Some (Check invalid_field_in_cdb) else None
 field_by (Err (BadField op)) bytes = Some (Check invalid_field_in_cdb)
 field_by (Err UnknownOpcode) bytes = None
 

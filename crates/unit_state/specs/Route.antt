@@ -18,7 +18,8 @@ use Rattle.unit_state.specs.Reserve.{HasList}
 -- to nobody, to the owner, or to the unit
 abbrev pub IsRouteOf : ControlValue → ℕ → ℕ → Group → Route → Type 0
 IsRouteOf c session serial by Gone = IsNext c session serial → ⊥
-IsRouteOf c session serial by (Moved owner) = IsNext c session serial × (by ≢ owner_of c.access) × (owner ≡ owner_of c.access)
+IsRouteOf c session serial by (Moved owner) =
+    IsNext c session serial × (by ≢ owner_of c.access) × (owner ≡ owner_of c.access)
 IsRouteOf c session serial by (At at) = IsNext c session serial × (by ≡ owner_of c.access) × IsPlaceOf c.sessions session at
 
 -- no rule refuses the command

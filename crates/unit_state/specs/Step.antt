@@ -64,7 +64,8 @@ pub record TakesMemory (c : ControlValue) (r : Request) : Type 0 where
 
 -- the command's entry, whose choice its reply and the unit after it tell
 abbrev pub entry_of : ℕ → ℕ → Group → Result ScsiCommand CdbFault → List ℕ → ReplyValue → UnitState → Entry
-entry_of session serial by asked bytes reply new = Command session serial by asked bytes (choice_of reply new.blocks new.control.lasting)
+entry_of session serial by asked bytes reply new =
+    Command session serial by asked bytes (choice_of reply new.blocks new.control.lasting)
 
 -- The step added this entry: it was possible, and what is left and the reply are what the model gives; the blocks
 -- too, where the device's type claims them.
