@@ -1,11 +1,6 @@
 //! A disk array over iSCSI.
 #![tactic(auto)]
 
-mod attachment;
-mod live;
-mod once;
-mod target;
-mod unit_sessions;
 mod words;
 
 use block_file::MemBlocks;
@@ -16,6 +11,7 @@ use std::env::Env;
 use std::net::{Ipv4Addr, SocketAddrV4};
 use std::process::ExitCode;
 use std::{env, io};
+use targets::once;
 use words::{Plan, WordsFault};
 
 /// How many blocks the unit of `--once` has.

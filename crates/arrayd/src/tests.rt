@@ -1,16 +1,1 @@
-mod between;
 mod command_line;
-mod discovery;
-mod examples;
-mod first_questions;
-mod libiscsi;
-mod life;
-mod lives;
-mod medium;
-mod open_iscsi;
-mod pdus;
-mod questions;
-mod refused_logins;
-mod reinstated;
-mod run;
-mod sessions;
