@@ -38,24 +38,46 @@ impl Script {
     /// of each PDU and around the end of its header segment.
     pub fn ways(&self, alloc: Global, each_place: bool) -> Result<Vec<Calls>, Fail> {
         let mut ways = Vec::new(alloc);
-        ways.push(WHOLE)?;
-        ways.push(ONE_BYTE)?;
+        ways.extend_from_slice(&[WHOLE, ONE_BYTE])?;
         if each_place {
-            for first in 1..self.bytes.len() {
-                ways.push(Calls { first, ..WHOLE })?;
-            }
-            return Ok(ways);
-        }
-        for begin in &self.begins {
-            for behind in [0, 1, 2, 48, 49, 50] {
-                let first = begin.saturating_add(behind).saturating_sub(1);
-                if first > 0 {
-                    ways.push(Calls { first, ..WHOLE })?;
-                }
-            }
+            put_each_place(&mut ways, self.bytes.len())?;
+        } else {
+            put_around_each(&mut ways, &self.begins)?;
         }
         Ok(ways)
     }
+}
+
+// In two at each place of so many bytes.
+fn put_each_place(ways: &mut Vec<Calls>, len: usize) -> Result<(), Fail> {
+    for first in 1..len {
+        put_way(ways, first)?;
+    }
+    Ok(())
+}
+
+// In two around each of the places where a PDU begins and where its header segment ends.
+fn put_around_each(ways: &mut Vec<Calls>, begins: &[usize]) -> Result<(), Fail> {
+    for begin in begins {
+        put_around(ways, *begin)?;
+        put_around(ways, begin.saturating_add(48))?;
+    }
+    Ok(())
+}
+
+// In two right before this place, there and right behind it.
+fn put_around(ways: &mut Vec<Calls>, place: usize) -> Result<(), Fail> {
+    put_way(ways, place.saturating_sub(1))?;
+    put_way(ways, place)?;
+    put_way(ways, place.saturating_add(1))
+}
+
+// In two, so many bytes first.
+fn put_way(ways: &mut Vec<Calls>, first: usize) -> Result<(), Fail> {
+    if first > 0 {
+        ways.extend_from_slice(&[Calls { first, ..WHOLE }])?;
+    }
+    Ok(())
 }
 
 /// These PDUs.

@@ -1,6 +1,6 @@
 //! Session reinstatement (RFC 7143, 6.3.5): while a session lives, another connection logs in.
 use crate::between::Between;
-use crate::life::{LOGIN_FIRST, has_attached, lives_still, scripted, serve_over, shared};
+use crate::life::{LOGIN_FIRST, Script, has_attached, lives_still, scripted, serve_over, shared};
 use crate::pdus::{HOST_A, LOGIN, LOGIN_RESPONSE, LOGOUT, LOGOUT_RESPONSE, POWER_ON, WELCOME};
 use block_file::MemBlocks;
 use login::Kind;
@@ -76,59 +76,138 @@ fn goes_on() -> Opening {
     Opening::FullFeature(Kind::Normal, start)
 }
 
+// Serves the first session up to its end, and the second, which comes between, up to its first command: the target, and
+// how the second's stream went.
+fn serve_both(
+    rt: &impl Abort,
+    alloc: Global,
+    row: &Row,
+    (first, second): (&[u8], &[u8]),
+    reads: Reads,
+) -> Result<(UnitSessions<MemBlocks>, Option<(End, Vec<u8>)>), Fail> {
+    let mut between = Between::new(alloc, shared(alloc, 16, 0)?, second, reads.second);
+    let told = serve_over(alloc, &mut between, LOGIN_FIRST, first, reads.first)?;
+    compare(rt, alloc, row.name, row.first, told)?;
+    Ok(between.over())
+}
+
+// Serves the rest of the second session, and compares.
+fn serve_rest(
+    rt: &impl Abort,
+    alloc: Global,
+    row: &Row,
+    target: &mut UnitSessions<MemBlocks>,
+    rest: &[u8],
+    reads: Calls,
+) -> Result<(), Fail> {
+    let told = serve_over(alloc, target, goes_on(), rest, reads)?;
+    compare(rt, alloc, row.name, row.rest, told)?;
+    assert!(rt; !lives_still(target, row.port, 0), "{}", row.name);
+    Ok(())
+}
+
 // Serves the two sessions, and compares: the target, when both are over.
 fn serve(
     rt: &impl Abort,
     alloc: Global,
     row: &Row,
+    scripts: &Scripts,
     reads: Reads,
 ) -> Result<UnitSessions<MemBlocks>, Fail> {
-    let first = spelled(alloc, row.first.input)?;
-    let second = spelled(alloc, row.second.input)?;
-    let rest = spelled(alloc, row.rest.input)?;
-    let mut between = Between::new(alloc, shared(alloc, 16, 0)?, &second, reads.second);
-    let told = serve_over(alloc, &mut between, LOGIN_FIRST, &first, reads.first)?;
-    compare(rt, alloc, row.name, row.first, told)?;
-    let (mut target, told) = between.over();
-    compare(
-        rt,
-        alloc,
-        row.name,
-        row.second,
-        told.ok_or("no second connection")?,
-    )?;
-    let told = serve_over(alloc, &mut target, goes_on(), &rest, reads.rest)?;
-    compare(rt, alloc, row.name, row.rest, told)?;
-    assert!(rt; !lives_still(&mut target, row.port, 0), "{}", row.name);
+    let inputs = (
+        scripts.first.bytes.as_slice(),
+        scripts.second.bytes.as_slice(),
+    );
+    let (mut target, told) = serve_both(rt, alloc, row, inputs, reads)?;
+    let Some(told) = told else {
+        return Err("no second connection".into());
+    };
+    compare(rt, alloc, row.name, row.second, told)?;
+    serve_rest(rt, alloc, row, &mut target, &scripts.rest.bytes, reads.rest)?;
     Ok(target)
 }
 
-// Serves each row with each of its streams in all ways, and compares.
+/// What comes by the three streams of a row.
+#[derive(Drop)]
+struct Scripts {
+    first: Script,
+    second: Script,
+    rest: Script,
+}
+
+impl Scripts {
+    fn of(alloc: Global, row: &Row) -> Result<Scripts, Fail> {
+        Ok(Scripts {
+            first: scripted(alloc, row.first.input)?,
+            second: scripted(alloc, row.second.input)?,
+            rest: scripted(alloc, row.rest.input)?,
+        })
+    }
+}
+
+/// One of the streams of a row.
+#[derive(Clone, Copy)]
+enum Which {
+    First,
+    Second,
+    Rest,
+}
+
+impl Which {
+    fn of(self, scripts: &Scripts) -> &Script {
+        match self {
+            Which::First => &scripts.first,
+            Which::Second => &scripts.second,
+            Which::Rest => &scripts.rest,
+        }
+    }
+
+    // This one comes so, the others whole.
+    fn so(self, way: Calls) -> Reads {
+        match self {
+            Which::First => Reads {
+                first: way,
+                ..WHOLES
+            },
+            Which::Second => Reads {
+                second: way,
+                ..WHOLES
+            },
+            Which::Rest => Reads {
+                rest: way,
+                ..WHOLES
+            },
+        }
+    }
+}
+
+// Serves a row with one of its streams in all ways, and compares.
+fn run_ways(
+    rt: &impl Abort,
+    alloc: Global,
+    row: &Row,
+    scripts: &Scripts,
+    which: Which,
+) -> Result<(), Fail> {
+    for way in &which.of(scripts).ways(alloc, row.each_place)? {
+        let _ = serve(rt, alloc, row, scripts, which.so(*way))?;
+    }
+    Ok(())
+}
+
+// Serves a row with each of its streams in all ways, and compares.
+fn run_row(rt: &impl Abort, alloc: Global, row: &Row) -> Result<(), Fail> {
+    let scripts = Scripts::of(alloc, row)?;
+    let mut target = serve(rt, alloc, row, &scripts, WHOLES)?;
+    assert!(rt; has_attached(&mut target, 0), "{}", row.name);
+    run_ways(rt, alloc, row, &scripts, Which::First)?;
+    run_ways(rt, alloc, row, &scripts, Which::Second)?;
+    run_ways(rt, alloc, row, &scripts, Which::Rest)
+}
+
 fn run(rt: &impl Abort, alloc: Global, rows: &[Row]) -> Result<(), Fail> {
     for row in rows {
-        let mut target = serve(rt, alloc, row, WHOLES)?;
-        assert!(rt; has_attached(&mut target, 0), "{}", row.name);
-        for first in &scripted(alloc, row.first.input)?.ways(alloc, row.each_place)? {
-            let reads = Reads {
-                first: *first,
-                ..WHOLES
-            };
-            let _ = serve(rt, alloc, row, reads)?;
-        }
-        for second in &scripted(alloc, row.second.input)?.ways(alloc, row.each_place)? {
-            let reads = Reads {
-                second: *second,
-                ..WHOLES
-            };
-            let _ = serve(rt, alloc, row, reads)?;
-        }
-        for rest in &scripted(alloc, row.rest.input)?.ways(alloc, row.each_place)? {
-            let reads = Reads {
-                rest: *rest,
-                ..WHOLES
-            };
-            let _ = serve(rt, alloc, row, reads)?;
-        }
+        run_row(rt, alloc, row)?;
     }
     Ok(())
 }

@@ -21,6 +21,8 @@ const OTHER_NAME: Port = (b"iqn.2000-01.test:guest", 1);
 #[derive(Clone, Copy)]
 enum Ask {
     Begin(Port, Kind),
+    /// The same of `try_begin`, which tells why not.
+    TryBegin(Port, Kind),
     Lives(u16, Port),
     /// TEST UNIT READY of the unit with this number.
     Ready(u8),
@@ -33,6 +35,7 @@ enum Ask {
 enum Told {
     Begun(u16),
     Refused,
+    Not(BeginFault),
     Lives(bool),
     Good,
     /// CHECK CONDITION, 06 29/00.
@@ -134,6 +137,13 @@ fn begin(target: &mut UnitSessions<MemBlocks>, (name, isid): Port, kind: Kind) -
     }
 }
 
+fn try_begin(target: &mut UnitSessions<MemBlocks>, (name, isid): Port, kind: Kind) -> Told {
+    match target.try_begin(name, isid, kind) {
+        Ok(tsih) => Told::Begun(tsih),
+        Err(fault) => Told::Not(fault),
+    }
+}
+
 fn reset(target: &mut UnitSessions<MemBlocks>, unit: u8) -> Told {
     match target.reset(unit) {
         ResetAnswer::Done => Told::Done,
@@ -150,6 +160,7 @@ fn end(target: &mut UnitSessions<MemBlocks>) -> Told {
 fn answered(target: &mut UnitSessions<MemBlocks>, ask: Ask) -> Told {
     match ask {
         Ask::Begin(port, kind) => begin(target, port, kind),
+        Ask::TryBegin(port, kind) => try_begin(target, port, kind),
         Ask::Lives(tsih, (name, isid)) => Told::Lives(target.lives(tsih, name, isid)),
         Ask::Ready(unit) => ready(target, unit),
         Ask::Reset(unit) => reset(target, unit),
@@ -157,66 +168,123 @@ fn answered(target: &mut UnitSessions<MemBlocks>, ask: Ask) -> Told {
     }
 }
 
-// Asks through the connections, each of which keeps its session, and compares.
-fn run(rt: &impl Abort, alloc: Global, rows: &[Row]) -> Result<(), Fail> {
-    let blocks = MemBlocks::new(alloc, 16)?;
-    let mut target = UnitSessions::over(alloc, blocks, Group::Two)?;
-    let mut connections: [Option<u64>; 6] = [None; 6];
-    for (at, (connection, ask, want)) in rows.iter().enumerate() {
-        let session = connections.get_mut(*connection).ok_or("six connections")?;
-        let _ = target.connect(*session);
-        let got = answered(&mut target, *ask);
+// Asks through one of the connections, which keeps its session.
+fn ask_by(
+    target: &mut UnitSessions<MemBlocks>,
+    connections: &mut [Option<u64>; 6],
+    connection: usize,
+    asked: Ask,
+) -> Told {
+    let Some(session) = connections.get_mut(connection) else {
+        return Told::Else;
+    };
+    let _ = target.connect(*session);
+    let told = answered(target, asked);
+    *session = target.connect(None);
+    told
+}
+
+// Asks through the connections, of which the first has this session and the others have none, and compares.
+fn run(
+    rt: &impl Abort,
+    target: &mut UnitSessions<MemBlocks>,
+    first: Option<u64>,
+    rows: &[Row],
+) -> Result<(), Fail> {
+    let mut connections = [first, None, None, None, None, None];
+    for (at, (connection, asked, want)) in rows.iter().enumerate() {
+        let got = ask_by(target, &mut connections, *connection, *asked);
         assert_eq!(rt; got, *want, "row {at}");
-        *session = target.connect(None);
     }
     Ok(())
+}
+
+// A unit of 16 blocks, of which no session has begun.
+fn unbegun(alloc: Global, group: Group) -> Result<UnitSessions<MemBlocks>, Fail> {
+    let blocks = MemBlocks::new(alloc, 16)?;
+    Ok(UnitSessions::over(alloc, blocks, group)?)
 }
 
 #[test]
 fn sessions_of_three_ports(rt: HostRuntime) -> Result<(), Fail> {
-    run(&rt, rt.alloc(), ROWS)
+    let mut target = unbegun(rt.alloc(), Group::Two)?;
+    run(&rt, &mut target, None, ROWS)
 }
+
+// Begins a normal session of each of the first ISIDs: whether each had the next TSIH.
+fn fill(target: &mut UnitSessions<MemBlocks>, name: &'static [u8], sessions: u16) -> bool {
+    for isid in 0..sessions {
+        let port = (name, u64::from(isid));
+        if try_begin(target, port, Kind::Normal) != Told::Begun(isid + 1) {
+            return false;
+        }
+    }
+    true
+}
+
+const NAME: &[u8] = b"iqn.2000-01.test:host";
+
+// The first connection is that of the last session that began.
+const FULL: &[Row] = &[
+    (
+        1,
+        Ask::TryBegin((NAME, 64), Kind::Normal),
+        Told::Not(BeginFault::NoRoom),
+    ),
+    (1, Ask::Ready(0), Told::Gone),
+    (0, Ask::Ready(0), Told::PowerOn),
+    (0, Ask::Lives(1, (NAME, 0)), Told::Lives(true)),
+    // The port that has a session has room, and a discovery session needs none.
+    (
+        0,
+        Ask::TryBegin((NAME, 64), Kind::Discovery),
+        Told::Begun(65),
+    ),
+    (0, Ask::TryBegin((NAME, 0), Kind::Normal), Told::Begun(66)),
+    (0, Ask::Ready(0), Told::PowerOn),
+];
 
 // 64 ports are attached: the next one is refused, and no session notices.
 #[test]
 fn a_full_unit(rt: HostRuntime) -> Result<(), Fail> {
-    let alloc = rt.alloc();
-    let mut target = UnitSessions::over(alloc, MemBlocks::new(alloc, 16)?, Group::One)?;
-    let (name, _) = HOST;
-    for isid in 0..64u16 {
-        let got = target.try_begin(name, u64::from(isid), Kind::Normal);
-        assert_eq!(rt; got, Ok(isid + 1));
-    }
+    let mut target = unbegun(rt.alloc(), Group::One)?;
+    assert!(rt; fill(&mut target, NAME, 64));
     let last = target.connect(None);
-    let got = target.try_begin(name, 64, Kind::Normal);
-    assert_eq!(rt; got, Err(BeginFault::NoRoom));
-    assert_eq!(rt; target.connect(last), None);
-    assert_eq!(rt; ready(&mut target, 0), Told::PowerOn);
-    assert!(rt; target.lives(1, name, 0));
-    // The port that has a session has room, and a discovery session needs none.
-    assert_eq!(rt; target.try_begin(name, 64, Kind::Discovery), Ok(65));
-    assert_eq!(rt; target.try_begin(name, 0, Kind::Normal), Ok(66));
-    assert_eq!(rt; ready(&mut target, 0), Told::PowerOn);
-    Ok(())
+    run(&rt, &mut target, last, FULL)
 }
+
+// Begins a session of a port, and then has discovery sessions begin and end until the last TSIH: whether each had the next.
+fn use_up(target: &mut UnitSessions<MemBlocks>, port: Port) -> bool {
+    if try_begin(target, port, Kind::Normal) != Told::Begun(1) {
+        return false;
+    }
+    for before in 1..LAST_TSIH {
+        if try_begin(target, port, Kind::Discovery) != Told::Begun(before + 1) {
+            return false;
+        }
+        target.end();
+    }
+    true
+}
+
+const USED_UP: &[Row] = &[
+    (0, Ask::TryBegin(HOST, Kind::Discovery), Told::Begun(2)),
+    (
+        0,
+        Ask::TryBegin((&[0x61; 224], 1), Kind::Normal),
+        Told::Not(BeginFault::NoPortName),
+    ),
+    (
+        0,
+        Ask::TryBegin((&[0x61; 223], 1), Kind::Normal),
+        Told::Begun(3),
+    ),
+];
 
 // Behind 65535 comes 1; but the session with TSIH 1 lives.
 #[test]
 fn handles_begin_again(rt: HostRuntime) -> Result<(), Fail> {
-    let alloc = rt.alloc();
-    let mut target = UnitSessions::over(alloc, MemBlocks::new(alloc, 16)?, Group::One)?;
-    let (name, isid) = HOST;
-    assert_eq!(rt; target.try_begin(name, isid, Kind::Normal), Ok(1));
-    for before in 1..LAST_TSIH {
-        let got = target.try_begin(name, isid, Kind::Discovery);
-        assert_eq!(rt; got, Ok(before + 1));
-        target.end();
-    }
-    assert_eq!(rt; target.try_begin(name, isid, Kind::Discovery), Ok(2));
-    assert_eq!(rt;
-        target.try_begin(&[0x61; 224], isid, Kind::Normal),
-        Err(BeginFault::NoPortName)
-    );
-    assert_eq!(rt; target.try_begin(&[0x61; 223], isid, Kind::Normal), Ok(3));
-    Ok(())
+    let mut target = unbegun(rt.alloc(), Group::One)?;
+    assert!(rt; use_up(&mut target, HOST));
+    run(&rt, &mut target, None, USED_UP)
 }
