@@ -1,147 +1,95 @@
 //! The first commands behind a login: their numbers (RFC 7143, 4.2.2 and 11.12.8), and what is none.
-use crate::logins::{BEGUN, BY_LOGIN, NAMES_AND_TYPE, ONE_LOGIN, SAID, STAGE_1_NEXT, TO_STAGE_1};
-use crate::run::{Row, TEST, run};
-use session::End;
+use crate::run::run;
 use std::test::*;
-use test_streams::{GOOD, LOGGED_IN, LOGIN, PduRow, REJECT, Segment, TEST_UNIT_READY};
 
-const ROWS: &[Row] = &[
-    Row {
-        name: "the first has the CmdSN of the login, and StatSN goes on",
-        input: &[
-            ONE_LOGIN,
-            PduRow(&TEST_UNIT_READY, "", Segment::None),
-            PduRow(&TEST_UNIT_READY, "24:00000002", Segment::None),
-        ],
-        asked: &[TEST, TEST],
-        output: &[
-            BEGUN,
-            PduRow(&GOOD, "24:00000002", Segment::None),
-            PduRow(&GOOD, "24:000000030000000300000022", Segment::None),
-        ],
-        ..BY_LOGIN
-    },
-    Row {
-        name: "behind two requests the first status has StatSN 3",
-        input: &[
-            TO_STAGE_1,
-            PduRow(&LOGIN, "", Segment::None),
-            PduRow(&TEST_UNIT_READY, "", Segment::None),
-        ],
-        asked: &[TEST],
-        output: &[
-            STAGE_1_NEXT,
-            PduRow(
-                &LOGGED_IN,
-                "7:1F 24:00000002",
-                Segment::Bytes(b"MaxRecvDataSegmentLength=65536\0"),
-            ),
-            PduRow(&GOOD, "24:00000003", Segment::None),
-        ],
-        ..BY_LOGIN
-    },
-    Row {
-        name: "a login with the CmdSN FFFFFFFFh",
-        input: &[
-            PduRow(&LOGIN, "7:56 24:FFFFFFFF", Segment::Bytes(NAMES_AND_TYPE)),
-            PduRow(&TEST_UNIT_READY, "24:FFFFFFFF", Segment::None),
-            PduRow(&TEST_UNIT_READY, "24:00000000", Segment::None),
-        ],
-        asked: &[TEST, TEST],
-        output: &[
-            PduRow(
-                &LOGGED_IN,
-                "7:36 24:00000001FFFFFFFF0000001E",
-                Segment::Bytes(SAID),
-            ),
-            PduRow(&GOOD, "24:00000002000000000000001F", Segment::None),
-            PduRow(&GOOD, "24:000000030000000100000020", Segment::None),
-        ],
-        ..BY_LOGIN
-    },
-    Row {
-        name: "a login with the CmdSN 0",
-        input: &[
-            PduRow(&LOGIN, "7:56 24:00000000", Segment::Bytes(NAMES_AND_TYPE)),
-            PduRow(&TEST_UNIT_READY, "24:00000000", Segment::None),
-        ],
-        asked: &[TEST],
-        output: &[
-            PduRow(
-                &LOGGED_IN,
-                "7:36 24:00000001000000000000001F",
-                Segment::Bytes(SAID),
-            ),
-            PduRow(&GOOD, "24:000000020000000100000020", Segment::None),
-        ],
-        ..BY_LOGIN
-    },
-    Row {
-        name: "outside the window it is ignored",
-        input: &[
-            ONE_LOGIN,
-            PduRow(&TEST_UNIT_READY, "24:00000021", Segment::None),
-            PduRow(&TEST_UNIT_READY, "24:00000000", Segment::None),
-            PduRow(&TEST_UNIT_READY, "", Segment::None),
-        ],
-        asked: &[TEST],
-        output: &[BEGUN, PduRow(&GOOD, "24:00000002", Segment::None)],
-        ..BY_LOGIN
-    },
-    Row {
-        name: "inside the window, but not the next, it leaves a gap",
-        input: &[
-            ONE_LOGIN,
-            PduRow(&TEST_UNIT_READY, "24:00000002", Segment::None),
-            PduRow(&TEST_UNIT_READY, "", Segment::None),
-        ],
-        end: End::Protocol,
-        ..BY_LOGIN
-    },
-    Row {
-        name: "another Login Request is rejected, as anything a session has not",
-        input: &[
-            ONE_LOGIN,
-            ONE_LOGIN,
-            PduRow(&TEST_UNIT_READY, "", Segment::None),
-        ],
-        output: &[
-            BEGUN,
-            PduRow(
-                &REJECT,
-                "2:04 24:00000002",
-                Segment::Rejected(&LOGIN, "7:56"),
-            ),
-        ],
-        end: End::Protocol,
-        ..BY_LOGIN
-    },
-    Row {
-        name: "also behind a command, and with the TSIH of the session",
-        input: &[
-            ONE_LOGIN,
-            PduRow(&TEST_UNIT_READY, "", Segment::None),
-            PduRow(
-                &LOGIN,
-                "7:56 14:0001 24:00000002",
-                Segment::Bytes(NAMES_AND_TYPE),
-            ),
-            PduRow(&TEST_UNIT_READY, "24:00000002", Segment::None),
-        ],
-        asked: &[TEST],
-        output: &[
-            BEGUN,
-            PduRow(&GOOD, "24:00000002", Segment::None),
-            PduRow(
-                &REJECT,
-                "2:04 24:000000030000000200000021",
-                Segment::Rejected(&LOGIN, "7:56 14:0001 24:00000002"),
-            ),
-        ],
-        end: End::Protocol,
-        ..BY_LOGIN
-    },
-];
+const ROWS: &str = r#"
+the first has the CmdSN of the login, and StatSN goes on
+login 1
+> LOGIN 7:56 NAMES_AND_TYPE
+> TEST_UNIT_READY
+> TEST_UNIT_READY 24:00000002
+< LOGGED_IN 7:36 SAID
+< GOOD 24:00000002
+< GOOD 24:000000030000000300000022
+asked begin iqn.2000-01.test:a 400001370000 Normal
+asked 0 Ok(TestUnitReady)
+asked 0 Ok(TestUnitReady)
+
+behind two requests the first status has StatSN 3
+login 1
+> LOGIN 1:81 7:43 NAMES
+> LOGIN
+> TEST_UNIT_READY
+< LOGGED_IN 1:81 7:17 14:0000 "TargetPortalGroupTag=1\0"
+< LOGGED_IN 7:1F 24:00000002 "MaxRecvDataSegmentLength=65536\0"
+< GOOD 24:00000003
+asked begin iqn.2000-01.test:a 400001370000 Normal
+asked 0 Ok(TestUnitReady)
+
+a login with the CmdSN FFFFFFFFh
+login 1
+> LOGIN 7:56 24:FFFFFFFF NAMES_AND_TYPE
+> TEST_UNIT_READY 24:FFFFFFFF
+> TEST_UNIT_READY 24:00000000
+< LOGGED_IN 7:36 24:00000001FFFFFFFF0000001E SAID
+< GOOD 24:00000002000000000000001F
+< GOOD 24:000000030000000100000020
+asked begin iqn.2000-01.test:a 400001370000 Normal
+asked 0 Ok(TestUnitReady)
+asked 0 Ok(TestUnitReady)
+
+a login with the CmdSN 0
+login 1
+> LOGIN 7:56 24:00000000 NAMES_AND_TYPE
+> TEST_UNIT_READY 24:00000000
+< LOGGED_IN 7:36 24:00000001000000000000001F SAID
+< GOOD 24:000000020000000100000020
+asked begin iqn.2000-01.test:a 400001370000 Normal
+asked 0 Ok(TestUnitReady)
+
+outside the window it is ignored
+login 1
+> LOGIN 7:56 NAMES_AND_TYPE
+> TEST_UNIT_READY 24:00000021
+> TEST_UNIT_READY 24:00000000
+> TEST_UNIT_READY
+< LOGGED_IN 7:36 SAID
+< GOOD 24:00000002
+asked begin iqn.2000-01.test:a 400001370000 Normal
+asked 0 Ok(TestUnitReady)
+
+inside the window, but not the next, it leaves a gap
+login 1
+> LOGIN 7:56 NAMES_AND_TYPE
+> TEST_UNIT_READY 24:00000002
+> TEST_UNIT_READY
+< LOGGED_IN 7:36 SAID
+asked begin iqn.2000-01.test:a 400001370000 Normal
+end Protocol
+
+another Login Request is rejected, as anything a session has not
+login 1
+> LOGIN 7:56 NAMES_AND_TYPE
+> LOGIN 7:56 NAMES_AND_TYPE
+> TEST_UNIT_READY
+< LOGGED_IN 7:36 SAID
+< REJECT 2:04 24:00000002 rejected LOGIN 7:56
+asked begin iqn.2000-01.test:a 400001370000 Normal
+end Protocol
+
+also behind a command, and with the TSIH of the session
+login 1
+> LOGIN 7:56 NAMES_AND_TYPE
+> TEST_UNIT_READY
+> LOGIN 7:56 14:0001 24:00000002 NAMES_AND_TYPE
+> TEST_UNIT_READY 24:00000002
+< LOGGED_IN 7:36 SAID
+< GOOD 24:00000002
+< REJECT 2:04 24:000000030000000200000021 rejected LOGIN 7:56 14:0001 24:00000002
+asked begin iqn.2000-01.test:a 400001370000 Normal
+asked 0 Ok(TestUnitReady)
+end Protocol
+"#;
 
 #[test]
 fn the_first_commands(rt: HostRuntime) -> Result<(), Fail> {

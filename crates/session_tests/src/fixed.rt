@@ -1,19 +1,18 @@
 //! The target that the tables' sessions are served by.
+use crate::row::TEXTS;
 use login::Kind;
 use scsi_types::{Asked, Reply, Sense};
 use session::{BeginAnswer, ResetAnswer, Target, TargetAnswer};
 use std::alloc::{AllocError, Global};
-use test_streams::pattern;
+use test_streams::{RowError, bytes_of};
 
 /// What a target answers to each command.
-#[derive(Clone, Copy, Debug)]
-pub enum Answer {
-    /// GOOD with so many bytes of the pattern.
-    Good(usize),
-    /// GOOD with so many of each byte, one run behind another.
-    Runs(&'static [(usize, u8)]),
-    /// GOOD with these bytes, of each command in its turn, and BUSY behind the last.
-    InOrder(&'static [&'static [u8]]),
+#[derive(Clone, Copy)]
+pub enum Answer<'a> {
+    /// GOOD with these bytes, spelled as in a row.
+    Good(&'a str),
+    /// GOOD with these bytes, of each command in its turn with `|` between, and BUSY behind the last.
+    InTurn(&'a str),
     /// CHECK CONDITION with this sense key, code and qualifier, for a unit that is not there.
     Check(u8, u8, u8),
     Busy,
@@ -22,87 +21,40 @@ pub enum Answer {
 }
 
 /// What a target answers to a command, to a reset, where a session is to begin, and whether one lives.
-#[derive(Clone, Copy, Debug)]
-pub struct Answers {
-    pub command: Answer,
+#[derive(Clone, Copy)]
+pub struct Answers<'a> {
+    pub command: Answer<'a>,
     pub reset: ResetAnswer,
     pub begin: BeginAnswer,
     pub lives: bool,
 }
 
-/// What a login asks of a target: to begin a session of this kind for the initiator port of this name and ISID, or whether
-/// its session with this TSIH lives.
-#[derive(Clone, Copy, Debug, PartialEq, Eq)]
-pub enum LoginCall<'a> {
-    Begin {
-        name: &'a [u8],
-        isid: u64,
-        kind: Kind,
-    },
-    Lives {
-        tsih: u16,
-        name: &'a [u8],
-        isid: u64,
-    },
-}
-
-/// The same, in memory of its own.
-#[derive(Debug, Drop)]
-pub enum KeptCall {
-    Begin {
-        name: Vec<u8>,
-        isid: u64,
-        kind: Kind,
-    },
-    Lives {
-        tsih: u16,
-        name: Vec<u8>,
-        isid: u64,
-    },
-}
-
-impl KeptCall {
-    /// What was asked.
-    pub fn call(&self) -> LoginCall<'_> {
-        match self {
-            KeptCall::Begin { name, isid, kind } => LoginCall::Begin {
-                name: name.as_slice(),
-                isid: *isid,
-                kind: *kind,
-            },
-            KeptCall::Lives { tsih, name, isid } => LoginCall::Lives {
-                tsih: *tsih,
-                name: name.as_slice(),
-                isid: *isid,
-            },
-        }
-    }
-}
-
 /// A target of one unit that answers alike each time, and keeps what it was asked and given.
 #[derive(Drop)]
-pub struct Fixed {
+pub struct Fixed<'a> {
     alloc: Global,
-    answers: Answers,
-    pub calls: Vec<KeptCall>,
-    pub resets: Vec<u8>,
-    pub asked: Vec<(Option<u8>, Asked)>,
+    answers: Answers<'a>,
+    /// What it was asked, each as a line.
+    pub asked: Vec<String>,
     pub given: Vec<u8>,
+    /// How many commands and how many logins it was asked.
+    pub commands: usize,
+    pub logins: usize,
     // How often it heard that the session is over, and whether it was asked anything behind that.
     ends: usize,
     late: bool,
 }
 
-impl Fixed {
+impl<'a> Fixed<'a> {
     /// A target that was asked nothing yet.
-    pub fn new(alloc: Global, answers: Answers) -> Fixed {
+    pub fn new(alloc: Global, answers: Answers<'a>) -> Self {
         Fixed {
             alloc,
             answers,
-            calls: Vec::new(alloc),
-            resets: Vec::new(alloc),
             asked: Vec::new(alloc),
             given: Vec::new(alloc),
+            commands: 0,
+            logins: 0,
             ends: 0,
             late: false,
         }
@@ -113,38 +65,34 @@ impl Fixed {
         self.ends == 1 && !self.late
     }
 
-    // Takes down that it is asked something other than the end.
-    fn hear(&mut self) {
+    // Takes down that it is asked something other than the end; whether there is memory for it.
+    fn hear(&mut self, line: Result<String, AllocError>) -> bool {
         self.late = self.late || self.ends > 0;
-    }
-
-    fn keep_begin(&mut self, name: &[u8], isid: u64, kind: Kind) -> Result<(), AllocError> {
-        let name = Vec::from_slice(self.alloc, name)?;
-        self.calls.push(KeptCall::Begin { name, isid, kind })?;
-        Ok(())
-    }
-
-    fn keep_lives(&mut self, tsih: u16, name: &[u8], isid: u64) -> Result<(), AllocError> {
-        let name = Vec::from_slice(self.alloc, name)?;
-        self.calls.push(KeptCall::Lives { tsih, name, isid })?;
-        Ok(())
+        match line {
+            Ok(line) => self.asked.push(line).is_ok(),
+            Err(_) => false,
+        }
     }
 
     // The data of the last command that it was asked.
-    fn data(&self) -> Option<Result<Vec<u8>, AllocError>> {
+    fn data(&self) -> Option<Result<Vec<u8>, RowError>> {
         match self.answers.command {
-            Answer::Good(len) => Some(pattern(self.alloc, len)),
-            Answer::Runs(runs) => Some(bytes_of(self.alloc, runs)),
-            Answer::InOrder(datas) => {
-                let data = datas.get(self.asked.len().checked_sub(1)?)?;
-                Some(Vec::from_slice(self.alloc, data))
+            Answer::Good(data) => Some(bytes_of(self.alloc, TEXTS, data)),
+            Answer::InTurn(datas) => {
+                let data = datas.split('|').nth(self.commands.checked_sub(1)?)?;
+                Some(bytes_of(self.alloc, TEXTS, data))
             }
             Answer::Check(_, _, _) | Answer::Busy | Answer::Gone | Answer::Halted => None,
         }
     }
 }
 
-impl Target for Fixed {
+// A name in a line.
+fn shown(name: &[u8]) -> &str {
+    str::from_utf8(name).unwrap_or("no text")
+}
+
+impl Target for Fixed<'_> {
     ghost leads = { λ old asking new. Unit {0} };
 
     ghost unit_count = { λ t. 1 };
@@ -154,8 +102,9 @@ impl Target for Fixed {
     }
 
     fn begin(&mut self, name: &[u8], isid: u64, kind: Kind) -> BeginAnswer {
-        self.hear();
-        let kept = self.keep_begin(name, isid, kind).is_ok();
+        let name = shown(name);
+        let kept = self.hear(format!(in self.alloc; "begin {name} {isid:012X} {kind:?}"));
+        self.logins = self.logins.saturating_add(1);
         match self.answers.begin {
             // No session has the TSIH 0.
             BeginAnswer::Begun(tsih) if kept && tsih != 0 => BeginAnswer::Begun(tsih),
@@ -164,8 +113,10 @@ impl Target for Fixed {
     }
 
     fn lives(&mut self, tsih: u16, name: &[u8], isid: u64) -> bool {
-        self.hear();
-        self.keep_lives(tsih, name, isid).is_ok() && self.answers.lives
+        let name = shown(name);
+        let kept = self.hear(format!(in self.alloc; "lives {tsih} {name} {isid:012X}"));
+        self.logins = self.logins.saturating_add(1);
+        kept && self.answers.lives
     }
 
     fn end(&mut self) {
@@ -173,18 +124,22 @@ impl Target for Fixed {
     }
 
     fn reset(&mut self, unit: u8) -> ResetAnswer {
-        self.hear();
-        match self.resets.push(unit) {
-            Ok(()) => self.answers.reset,
-            Err(_) => ResetAnswer::Failed,
+        if self.hear(format!(in self.alloc; "reset {unit}")) {
+            self.answers.reset
+        } else {
+            ResetAnswer::Failed
         }
     }
 
     fn serve(&mut self, unit: Option<u8>, asked: Asked, bytes: &[u8]) -> TargetAnswer {
-        self.hear();
-        if self.asked.push((unit, asked)).is_err() || self.given.extend_from_slice(bytes).is_err() {
+        let line = match unit {
+            Some(unit) => format!(in self.alloc; "{unit} {asked:?}"),
+            None => format!(in self.alloc; "- {asked:?}"),
+        };
+        if !self.hear(line) || self.given.extend_from_slice(bytes).is_err() {
             return TargetAnswer::Busy;
         }
+        self.commands = self.commands.saturating_add(1);
         match self.answers.command {
             Answer::Check(key, code, qualifier) => {
                 let sense = Sense::new(key, code, qualifier);
@@ -192,23 +147,10 @@ impl Target for Fixed {
             }
             Answer::Gone => TargetAnswer::Gone,
             Answer::Halted => TargetAnswer::Halted,
-            Answer::Good(_) | Answer::Runs(_) | Answer::InOrder(_) | Answer::Busy => {
-                match self.data() {
-                    Some(Ok(bytes)) => TargetAnswer::Replied(Reply::good(bytes)),
-                    Some(Err(_)) | None => TargetAnswer::Busy,
-                }
-            }
+            Answer::Good(_) | Answer::InTurn(_) | Answer::Busy => match self.data() {
+                Some(Ok(bytes)) => TargetAnswer::Replied(Reply::good(bytes)),
+                Some(Err(_)) | None => TargetAnswer::Busy,
+            },
         }
     }
-}
-
-// So many of each byte, one run behind another.
-fn bytes_of(alloc: Global, runs: &[(usize, u8)]) -> Result<Vec<u8>, AllocError> {
-    let mut bytes = Vec::new(alloc);
-    for (len, byte) in runs {
-        for _ in 0..*len {
-            bytes.push(*byte)?;
-        }
-    }
-    Ok(bytes)
 }

@@ -56,6 +56,8 @@ mod rejects;
 #[cfg(test)]
 mod residuals;
 #[cfg(test)]
+mod row;
+#[cfg(test)]
 mod run;
 #[cfg(test)]
 mod runs;

@@ -1,98 +1,47 @@
 //! A login of two requests and a command, over streams that end anywhere and that fail at each call in turn.
-use crate::logins::{BY_LOGIN, STAGE_1_NEXT, TO_STAGE_1};
-use crate::run::{Row, TEST, run_cut, serve};
+use crate::run::{first_row, run_cut, run_front};
 use session::End;
-use std::alloc::Global;
 use std::io::ErrorKind;
-use std::process::Abort;
 use std::test::*;
-use test_streams::{
-    Calls, GOOD, LOGGED_IN, LOGIN, ONE_BYTE, PduRow, Segment, TEST_UNIT_READY, WHOLE, spelled,
-};
+use test_streams::{Calls, ONE_BYTE, WHOLE};
 
 // 116 bytes, 48 and 48; 72, 80 and 48 are written behind them.
-const SESSION: Row = Row {
-    name: "two requests and a command",
-    input: &[
-        TO_STAGE_1,
-        PduRow(&LOGIN, "", Segment::None),
-        PduRow(&TEST_UNIT_READY, "", Segment::None),
-    ],
-    asked: &[TEST],
-    output: &[
-        STAGE_1_NEXT,
-        PduRow(
-            &LOGGED_IN,
-            "7:1F 24:00000002",
-            Segment::Bytes(b"MaxRecvDataSegmentLength=65536\0"),
-        ),
-        PduRow(&GOOD, "24:00000003", Segment::None),
-    ],
-    ..BY_LOGIN
-};
+const SESSION: &str = r#"
+two requests and a command
+login 1
+> LOGIN 1:81 7:43 NAMES
+> LOGIN
+> TEST_UNIT_READY
+< LOGGED_IN 1:81 7:17 14:0000 "TargetPortalGroupTag=1\0"
+< LOGGED_IN 7:1F 24:00000002 "MaxRecvDataSegmentLength=65536\0"
+< GOOD 24:00000003
+asked begin iqn.2000-01.test:a 400001370000 Normal
+asked 0 Ok(TestUnitReady)
+"#;
 
 const ALL: usize = 212;
 
-/// What is to come of an input: the session's end, how many bytes are written, and how many sessions begin.
-#[derive(Clone, Copy, Debug)]
-struct Wanted {
-    end: End,
-    written: usize,
-    begins: usize,
-}
-
-// What so many bytes come to, where no stream fails: the answers of whole PDUs.
-fn answered(came: usize, end: End) -> Wanted {
-    let (written, begins) = match came {
-        0..=115 => (0, 0),
-        116..=163 => (72, 0),
-        164..=211 => (152, 1),
-        _ => (200, 1),
-    };
-    Wanted {
-        end,
-        written,
-        begins,
+// What so many bytes come to, where no stream fails: the answers of whole PDUs, and whether the session begins.
+fn answered(came: usize, end: End) -> (End, usize, usize) {
+    match came {
+        0..=115 => (end, 0, 0),
+        116..=163 => (end, 72, 0),
+        164..=211 => (end, 152, 1),
+        _ => (end, 200, 1),
     }
-}
-
-// Serves the first bytes of the input, and compares.
-fn expect(
-    rt: &impl Abort,
-    alloc: Global,
-    came: usize,
-    (reads, writes): (Calls, Calls),
-    wanted: Wanted,
-) -> Result<(), Fail> {
-    let input = spelled(alloc, SESSION.input)?;
-    let output = spelled(alloc, SESSION.output)?;
-    let front = input.get(..came).ok_or("212 bytes come")?;
-    let want = output.get(..wanted.written).ok_or("200 bytes go out")?;
-    let ran = serve(alloc, front, reads, writes, &SESSION)?;
-    assert_eq!(rt; ran.end, wanted.end, "{came} bytes, {reads:?}, {writes:?}");
-    assert_eq!(rt;
-        ran.output.as_slice(),
-        want,
-        "{came} bytes, {reads:?}, {writes:?}"
-    );
-    assert_eq!(rt;
-        ran.calls.len(),
-        wanted.begins,
-        "{came} bytes, {reads:?}, {writes:?}"
-    );
-    Ok(())
 }
 
 #[test]
 fn the_login_comes_in_two(rt: HostRuntime) -> Result<(), Fail> {
-    run_cut(&rt, rt.alloc(), &[SESSION])
+    run_cut(&rt, rt.alloc(), SESSION)
 }
 
 #[test]
 fn the_login_ends_anywhere(rt: HostRuntime) -> Result<(), Fail> {
+    let row = first_row(rt.alloc(), SESSION)?;
     for came in 0..=ALL {
         let wanted = answered(came, End::EndOfInput);
-        expect(&rt, rt.alloc(), came, (WHOLE, WHOLE), wanted)?;
+        run_front(&rt, rt.alloc(), &row, came, (WHOLE, WHOLE), wanted)?;
     }
     Ok(())
 }
@@ -108,31 +57,31 @@ fn forties(fail_at: u64) -> Calls {
 }
 
 // A PDU with an opcode that there is not, in place of a Login Request.
-const UNKNOWN: Row = Row {
-    name: "an unknown opcode",
-    input: &[PduRow(&LOGIN, "0:07", Segment::None)],
-    ..BY_LOGIN
-};
+const UNKNOWN: &str = r"
+an unknown opcode
+login 1
+> LOGIN 0:07
+< REJECT 2:05 24:00000001000000000000001F rejected LOGIN 0:07
+end Protocol
+";
 
 #[test]
 fn a_fault_is_answered_once_its_header_is_there(rt: HostRuntime) -> Result<(), Fail> {
-    let input = spelled(rt.alloc(), UNKNOWN.input)?;
+    let row = first_row(rt.alloc(), UNKNOWN)?;
     for came in 0..=48usize {
-        let front = input.get(..came).ok_or("48 bytes come")?;
-        let ran = serve(rt.alloc(), front, WHOLE, WHOLE, &UNKNOWN)?;
         let wanted = if came < 48 {
-            (End::EndOfInput, 0)
+            (End::EndOfInput, 0, 0)
         } else {
-            (End::Protocol, 96)
+            (End::Protocol, 96, 0)
         };
-        assert_eq!(rt; (ran.end, ran.output.len()), wanted, "{came} bytes");
-        assert_eq!(rt; ran.calls.len(), 0, "{came} bytes");
+        run_front(&rt, rt.alloc(), &row, came, (WHOLE, WHOLE), wanted)?;
     }
     Ok(())
 }
 
 #[test]
 fn a_read_of_a_login_fails(rt: HostRuntime) -> Result<(), Fail> {
+    let row = first_row(rt.alloc(), SESSION)?;
     // Six calls bring the bytes, and the seventh finds the end.
     for k in 1..=8u64 {
         let came = (40 * (k as usize - 1)).min(ALL);
@@ -141,9 +90,10 @@ fn a_read_of_a_login_fails(rt: HostRuntime) -> Result<(), Fail> {
         } else {
             End::EndOfInput
         };
-        expect(
+        run_front(
             &rt,
             rt.alloc(),
+            &row,
             ALL,
             (forties(k), WHOLE),
             answered(came, end),
@@ -165,14 +115,11 @@ const FAILING_WRITES: &[(u64, usize, usize)] = &[
 
 #[test]
 fn a_write_of_a_login_fails(rt: HostRuntime) -> Result<(), Fail> {
+    let row = first_row(rt.alloc(), SESSION)?;
     for (k, written, begins) in FAILING_WRITES {
-        let wanted = Wanted {
-            end: End::OutputFailed,
-            written: *written,
-            begins: *begins,
-        };
-        expect(&rt, rt.alloc(), ALL, (ONE_BYTE, forties(*k)), wanted)?;
+        let wanted = (End::OutputFailed, *written, *begins);
+        run_front(&rt, rt.alloc(), &row, ALL, (ONE_BYTE, forties(*k)), wanted)?;
     }
     let wanted = answered(ALL, End::EndOfInput);
-    expect(&rt, rt.alloc(), ALL, (ONE_BYTE, forties(7)), wanted)
+    run_front(&rt, rt.alloc(), &row, ALL, (ONE_BYTE, forties(7)), wanted)
 }

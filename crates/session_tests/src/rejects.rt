@@ -1,186 +1,77 @@
 //! What is rejected (RFC 7143, 11.17.1): 04 is a protocol error, 05 a command not supported, 09 an invalid PDU field.
-use crate::run::{Begin, FROM_ONE, PLAIN, Row, run};
-use session::End;
+use crate::run::run;
 use std::test::*;
-use test_streams::{GOOD, PduRow, REJECT, Segment, TEST_UNIT_READY};
 
 // Each is rejected with its header segment, and ends the session: the target is asked nothing, also of what is behind.
-const ROWS: &[Row] = &[
-    Row {
-        name: "an opcode that no PDU has",
-        input: &[
-            PduRow(&TEST_UNIT_READY, "0:07", Segment::None),
-            PduRow(&TEST_UNIT_READY, "", Segment::None),
-        ],
-        asked: &[],
-        output: &[PduRow(&REJECT, "2:05", Segment::Rejected(&TEST_UNIT_READY, "0:07"))],
-        end: End::Protocol,
-        ..PLAIN
-    },
-    Row {
-        name: "a Login request, behind the login",
-        input: &[
-            PduRow(&TEST_UNIT_READY, "0:4387", Segment::None),
-            PduRow(&TEST_UNIT_READY, "", Segment::None),
-        ],
-        asked: &[],
-        output: &[PduRow(
-            &REJECT,
-            "2:04",
-            Segment::Rejected(&TEST_UNIT_READY, "0:4387"),
-        )],
-        end: End::Protocol,
-        ..PLAIN
-    },
-    Row {
-        name: "a PDU of a target",
-        input: &[
-            PduRow(&GOOD, "", Segment::None),
-            PduRow(&TEST_UNIT_READY, "", Segment::None),
-        ],
-        asked: &[],
-        output: &[PduRow(&REJECT, "2:05", Segment::Rejected(&GOOD, ""))],
-        end: End::Protocol,
-        ..PLAIN
-    },
-    Row {
-        name: "R and W",
-        input: &[
-            PduRow(&TEST_UNIT_READY, "1:E1", Segment::None),
-            PduRow(&TEST_UNIT_READY, "", Segment::None),
-        ],
-        asked: &[],
-        output: &[PduRow(&REJECT, "2:09", Segment::Rejected(&TEST_UNIT_READY, "1:E1"))],
-        end: End::Protocol,
-        ..PLAIN
-    },
-    Row {
-        name: "without F",
-        input: &[
-            PduRow(&TEST_UNIT_READY, "1:01", Segment::None),
-            PduRow(&TEST_UNIT_READY, "", Segment::None),
-        ],
-        asked: &[],
-        output: &[PduRow(&REJECT, "2:09", Segment::Rejected(&TEST_UNIT_READY, "1:01"))],
-        end: End::Protocol,
-        ..PLAIN
-    },
-    Row {
-        name: "an additional header segment",
-        input: &[
-            PduRow(&TEST_UNIT_READY, "4:01", Segment::None),
-            PduRow(&TEST_UNIT_READY, "", Segment::None),
-        ],
-        asked: &[],
-        output: &[PduRow(&REJECT, "2:09", Segment::Rejected(&TEST_UNIT_READY, "4:01"))],
-        end: End::Protocol,
-        ..PLAIN
-    },
-    Row {
-        name: "a data segment of 65537 bytes",
-        input: &[
-            PduRow(&TEST_UNIT_READY, "5:010001", Segment::None),
-            PduRow(&TEST_UNIT_READY, "", Segment::None),
-        ],
-        asked: &[],
-        output: &[PduRow(
-            &REJECT,
-            "2:09",
-            Segment::Rejected(&TEST_UNIT_READY, "5:010001"),
-        )],
-        end: End::Protocol,
-        ..PLAIN
-    },
-    Row {
-        name: "the reserved tag",
-        input: &[
-            PduRow(&TEST_UNIT_READY, "16:FFFFFFFF", Segment::None),
-            PduRow(&TEST_UNIT_READY, "", Segment::None),
-        ],
-        asked: &[],
-        output: &[PduRow(
-            &REJECT,
-            "2:04",
-            Segment::Rejected(&TEST_UNIT_READY, "16:FFFFFFFF"),
-        )],
-        end: End::Protocol,
-        ..PLAIN
-    },
-    Row {
-        name: "more immediate data than is expected",
-        input: &[
-            PduRow(
-                &TEST_UNIT_READY,
-                "1:A1 6:0204 20:00000200 32:2A0000000005000001",
-                Segment::Pattern(516),
-            ),
-            PduRow(&TEST_UNIT_READY, "", Segment::None),
-        ],
-        asked: &[],
-        output: &[PduRow(
-            &REJECT,
-            "2:04",
-            Segment::Rejected(
-                &TEST_UNIT_READY,
-                "1:A1 6:0204 20:00000200 32:2A0000000005000001",
-            ),
-        )],
-        end: End::Protocol,
-        ..PLAIN
-    },
-    Row {
-        name: "more immediate data than FirstBurstLength",
-        start: Begin {
-            first_burst: 1023,
-            ..FROM_ONE
-        },
-        input: &[
-            PduRow(
-                &TEST_UNIT_READY,
-                "1:A1 6:0400 20:00000400 32:2A0000000005000002",
-                Segment::Pattern(1024),
-            ),
-            PduRow(&TEST_UNIT_READY, "", Segment::None),
-        ],
-        asked: &[],
-        output: &[PduRow(
-            &REJECT,
-            "2:04",
-            Segment::Rejected(
-                &TEST_UNIT_READY,
-                "1:A1 6:0400 20:00000400 32:2A0000000005000002",
-            ),
-        )],
-        end: End::Protocol,
-        ..PLAIN
-    },
-    Row {
-        name: "immediate data where ImmediateData is No",
-        start: Begin {
-            immediate_data: false,
-            ..FROM_ONE
-        },
-        input: &[
-            PduRow(
-                &TEST_UNIT_READY,
-                "1:A1 6:0400 20:00000400 32:2A0000000005000002",
-                Segment::Pattern(1024),
-            ),
-            PduRow(&TEST_UNIT_READY, "", Segment::None),
-        ],
-        asked: &[],
-        output: &[PduRow(
-            &REJECT,
-            "2:04",
-            Segment::Rejected(
-                &TEST_UNIT_READY,
-                "1:A1 6:0400 20:00000400 32:2A0000000005000002",
-            ),
-        )],
-        end: End::Protocol,
-        ..PLAIN
-    },
-];
+const ROWS: &str = r"
+an opcode that no PDU has
+> TEST_UNIT_READY 0:07
+> TEST_UNIT_READY
+< REJECT 2:05 rejected TEST_UNIT_READY 0:07
+end Protocol
+
+a Login request, behind the login
+> TEST_UNIT_READY 0:4387
+> TEST_UNIT_READY
+< REJECT 2:04 rejected TEST_UNIT_READY 0:4387
+end Protocol
+
+a PDU of a target
+> GOOD
+> TEST_UNIT_READY
+< REJECT 2:05 rejected GOOD
+end Protocol
+
+R and W
+> TEST_UNIT_READY 1:E1
+> TEST_UNIT_READY
+< REJECT 2:09 rejected TEST_UNIT_READY 1:E1
+end Protocol
+
+without F
+> TEST_UNIT_READY 1:01
+> TEST_UNIT_READY
+< REJECT 2:09 rejected TEST_UNIT_READY 1:01
+end Protocol
+
+an additional header segment
+> TEST_UNIT_READY 4:01
+> TEST_UNIT_READY
+< REJECT 2:09 rejected TEST_UNIT_READY 4:01
+end Protocol
+
+a data segment of 65537 bytes
+> TEST_UNIT_READY 5:010001
+> TEST_UNIT_READY
+< REJECT 2:09 rejected TEST_UNIT_READY 5:010001
+end Protocol
+
+the reserved tag
+> TEST_UNIT_READY 16:FFFFFFFF
+> TEST_UNIT_READY
+< REJECT 2:04 rejected TEST_UNIT_READY 16:FFFFFFFF
+end Protocol
+
+more immediate data than is expected
+> TEST_UNIT_READY 1:A1 6:0204 20:00000200 32:2A0000000005000001 pattern 516
+> TEST_UNIT_READY
+< REJECT 2:04 rejected TEST_UNIT_READY 1:A1 6:0204 20:00000200 32:2A0000000005000001
+end Protocol
+
+more immediate data than FirstBurstLength
+FirstBurstLength 1023
+> TEST_UNIT_READY 1:A1 6:0400 20:00000400 32:2A0000000005000002 pattern 1024
+> TEST_UNIT_READY
+< REJECT 2:04 rejected TEST_UNIT_READY 1:A1 6:0400 20:00000400 32:2A0000000005000002
+end Protocol
+
+immediate data where ImmediateData is No
+ImmediateData No
+> TEST_UNIT_READY 1:A1 6:0400 20:00000400 32:2A0000000005000002 pattern 1024
+> TEST_UNIT_READY
+< REJECT 2:04 rejected TEST_UNIT_READY 1:A1 6:0400 20:00000400 32:2A0000000005000002
+end Protocol
+";
 
 #[test]
 fn rejects(rt: HostRuntime) -> Result<(), Fail> {

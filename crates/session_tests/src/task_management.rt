@@ -1,310 +1,169 @@
 //! Task management (RFC 7143, 11.5 and 11.6), on a target of one unit.
-use crate::run::{PLAIN, Row, run};
-use scsi_types::{Asked, Command};
-use session::{End, ResetAnswer};
+use crate::run::run;
 use std::test::*;
-use test_streams::{DATA_OUT, GOOD, PduRow, R2T, Segment, TEST_UNIT_READY, WRITE};
 
-// A request to LUN 0 with the tag 1 and CmdSN 1; its function stands in byte 1.
-const REQUEST: [u8; 48] = [
-    0x02, 0x80, 0x00, 0x00, 0x00, 0x00, 0x00, 0x00, // function
-    0x00, 0x00, 0x00, 0x00, 0x00, 0x00, 0x00, 0x00, // LUN
-    0x00, 0x00, 0x00, 0x01, 0x00, 0x00, 0x00, 0x00, // tag, Referenced Task Tag
-    0x00, 0x00, 0x00, 0x01, 0x00, 0x00, 0x00, 0x01, // CmdSN, ExpStatSN
-    0x00, 0x00, 0x00, 0x00, 0x00, 0x00, 0x00, 0x00, // RefCmdSN
-    0x00, 0x00, 0x00, 0x00, 0x00, 0x00, 0x00, 0x00,
-];
+const ROWS: &str = r"
+ABORT TASK of a task that ended: there is none
+> TASK_REQUEST 1:81 20:00000009
+< TASK_RESPONSE 2:01
 
-// Its answer, with StatSN 1, ExpCmdSN 2 and MaxCmdSN 33; the response stands in byte 2.
-const RESPONSE: [u8; 48] = [
-    0x22, 0x80, 0x00, 0x00, 0x00, 0x00, 0x00, 0x00, // response
-    0x00, 0x00, 0x00, 0x00, 0x00, 0x00, 0x00, 0x00, //
-    0x00, 0x00, 0x00, 0x01, 0x00, 0x00, 0x00, 0x00, // tag
-    0x00, 0x00, 0x00, 0x01, 0x00, 0x00, 0x00, 0x02, // StatSN, ExpCmdSN
-    0x00, 0x00, 0x00, 0x21, 0x00, 0x00, 0x00, 0x00, // MaxCmdSN
-    0x00, 0x00, 0x00, 0x00, 0x00, 0x00, 0x00, 0x00,
-];
+ABORT TASK SET
+> TASK_REQUEST 1:82
+< TASK_RESPONSE 2:00
 
-const ROWS: &[Row] = &[
-    Row {
-        name: "ABORT TASK of a task that ended: there is none",
-        input: &[PduRow(&REQUEST, "1:81 20:00000009", Segment::None)],
-        asked: &[],
-        output: &[PduRow(&RESPONSE, "2:01", Segment::None)],
-        ..PLAIN
-    },
-    Row {
-        name: "ABORT TASK SET",
-        input: &[PduRow(&REQUEST, "1:82", Segment::None)],
-        asked: &[],
-        output: &[PduRow(&RESPONSE, "2:00", Segment::None)],
-        ..PLAIN
-    },
-    Row {
-        name: "function 3 is not supported",
-        input: &[PduRow(&REQUEST, "1:83", Segment::None)],
-        asked: &[],
-        output: &[PduRow(&RESPONSE, "2:05", Segment::None)],
-        ..PLAIN
-    },
-    Row {
-        name: "function 4 is not supported",
-        input: &[PduRow(&REQUEST, "1:84", Segment::None)],
-        asked: &[],
-        output: &[PduRow(&RESPONSE, "2:05", Segment::None)],
-        ..PLAIN
-    },
-    Row {
-        name: "function 6 is not supported",
-        input: &[PduRow(&REQUEST, "1:86", Segment::None)],
-        asked: &[],
-        output: &[PduRow(&RESPONSE, "2:05", Segment::None)],
-        ..PLAIN
-    },
-    Row {
-        name: "function 7 is not supported",
-        input: &[PduRow(&REQUEST, "1:87", Segment::None)],
-        asked: &[],
-        output: &[PduRow(&RESPONSE, "2:05", Segment::None)],
-        ..PLAIN
-    },
-    Row {
-        name: "TASK REASSIGN",
-        input: &[PduRow(&REQUEST, "1:88", Segment::None)],
-        asked: &[],
-        output: &[PduRow(&RESPONSE, "2:04", Segment::None)],
-        ..PLAIN
-    },
-    Row {
-        name: "LOGICAL UNIT RESET",
-        input: &[PduRow(&REQUEST, "1:85", Segment::None)],
-        asked: &[],
-        output: &[PduRow(&RESPONSE, "2:00", Segment::None)],
-        resets: &[0],
-        ..PLAIN
-    },
-    Row {
-        name: "LOGICAL UNIT RESET by the other form of the LUN",
-        input: &[PduRow(&REQUEST, "1:85 8:40", Segment::None)],
-        asked: &[],
-        output: &[PduRow(&RESPONSE, "2:00", Segment::None)],
-        resets: &[0],
-        ..PLAIN
-    },
-    Row {
-        name: "LOGICAL UNIT RESET that failed",
-        input: &[PduRow(&REQUEST, "1:85", Segment::None)],
-        asked: &[],
-        output: &[PduRow(&RESPONSE, "2:FF", Segment::None)],
-        reset: ResetAnswer::Failed,
-        resets: &[0],
-        ..PLAIN
-    },
-    Row {
-        name: "LOGICAL UNIT RESET, and the session is gone",
-        input: &[
-            PduRow(&REQUEST, "1:85", Segment::None),
-            PduRow(&TEST_UNIT_READY, "24:00000002", Segment::None),
-        ],
-        asked: &[],
-        reset: ResetAnswer::Gone,
-        resets: &[0],
-        output: &[],
-        end: End::Reinstated,
-        ..PLAIN
-    },
-    Row {
-        name: "ABORT TASK on unit 1, which is not there",
-        input: &[PduRow(&REQUEST, "1:81 9:01", Segment::None)],
-        asked: &[],
-        output: &[PduRow(&RESPONSE, "2:02", Segment::None)],
-        ..PLAIN
-    },
-    Row {
-        name: "ABORT TASK SET on unit 1, which is not there",
-        input: &[PduRow(&REQUEST, "1:82 9:01", Segment::None)],
-        asked: &[],
-        output: &[PduRow(&RESPONSE, "2:02", Segment::None)],
-        ..PLAIN
-    },
-    Row {
-        name: "LOGICAL UNIT RESET on unit 1, which is not there",
-        input: &[PduRow(&REQUEST, "1:85 9:01", Segment::None)],
-        asked: &[],
-        output: &[PduRow(&RESPONSE, "2:02", Segment::None)],
-        ..PLAIN
-    },
-    Row {
-        name: "LOGICAL UNIT RESET on a LUN that names no unit",
-        input: &[PduRow(&REQUEST, "1:85 10:01", Segment::None)],
-        asked: &[],
-        output: &[PduRow(&RESPONSE, "2:02", Segment::None)],
-        ..PLAIN
-    },
-    Row {
-        name: "TASK REASSIGN on unit 1, which is not there",
-        input: &[PduRow(&REQUEST, "1:88 9:01", Segment::None)],
-        asked: &[],
-        output: &[PduRow(&RESPONSE, "2:04", Segment::None)],
-        ..PLAIN
-    },
-    Row {
-        name: "an immediate one takes no number",
-        input: &[
-            PduRow(&REQUEST, "0:4285", Segment::None),
-            PduRow(&TEST_UNIT_READY, "", Segment::None),
-        ],
-        resets: &[0],
-        output: &[
-            PduRow(&RESPONSE, "24:000000010000000100000020", Segment::None),
-            PduRow(&GOOD, "24:00000002", Segment::None),
-        ],
-        ..PLAIN
-    },
-    Row {
-        name: "outside the window it is ignored",
-        input: &[
-            PduRow(&REQUEST, "1:85 24:00000000", Segment::None),
-            PduRow(&TEST_UNIT_READY, "", Segment::None),
-        ],
-        ..PLAIN
-    },
-    Row {
-        name: "inside the window, but not the next, it leaves a gap",
-        input: &[PduRow(&REQUEST, "1:85 24:00000002", Segment::None)],
-        asked: &[],
-        output: &[],
-        end: End::Protocol,
-        ..PLAIN
-    },
-];
+function 3 is not supported
+> TASK_REQUEST 1:83
+< TASK_RESPONSE 2:05
 
-// What WRITE (10) of one block at block 5 asks for.
-const ONE_BLOCK: (Option<u8>, Asked) = (
-    Some(0),
-    Ok(Command::Write {
-        lba: 5,
-        blocks: 1,
-        fua: false,
-    }),
-);
+function 4 is not supported
+> TASK_REQUEST 1:84
+< TASK_RESPONSE 2:05
 
-// The third command, and its answer: StatSN 2, ExpCmdSN 4 and MaxCmdSN 35, as no write waits any more.
-const THIRD: PduRow = PduRow(&TEST_UNIT_READY, "19:09 24:00000003", Segment::None);
+function 6 is not supported
+> TASK_REQUEST 1:86
+< TASK_RESPONSE 2:05
 
-const THIRD_GOOD: PduRow = PduRow(&GOOD, "19:09 24:000000020000000400000023", Segment::None);
+function 7 is not supported
+> TASK_REQUEST 1:87
+< TASK_RESPONSE 2:05
 
-// A write that waits for its 512 bytes, by its R2T, and what becomes of it. The request has CmdSN 2 and the tag 2.
-const WAITING: &[Row] = &[
-    Row {
-        name: "ABORT TASK drops it: it is not answered, and its Data-Out behind is passed over",
-        input: &[
-            PduRow(&WRITE, "", Segment::None),
-            PduRow(&REQUEST, "1:81 19:02 23:01 27:02", Segment::None),
-            PduRow(&DATA_OUT, "", Segment::Pattern(512)),
-            THIRD,
-        ],
-        output: &[
-            PduRow(&R2T, "", Segment::None),
-            PduRow(&RESPONSE, "2:00 19:02 31:03 35:22", Segment::None),
-            THIRD_GOOD,
-        ],
-        ..PLAIN
-    },
-    Row {
-        name: "an immediate ABORT TASK drops it",
-        input: &[
-            PduRow(&WRITE, "", Segment::None),
-            PduRow(&REQUEST, "0:4281 19:02 23:01 27:02", Segment::None),
-            PduRow(&DATA_OUT, "", Segment::Pattern(512)),
-        ],
-        asked: &[],
-        output: &[
-            PduRow(&R2T, "", Segment::None),
-            PduRow(&RESPONSE, "2:00 19:02", Segment::None),
-        ],
-        ..PLAIN
-    },
-    Row {
-        name: "ABORT TASK of another tag leaves it, and there is no such task",
-        input: &[
-            PduRow(&WRITE, "", Segment::None),
-            PduRow(&REQUEST, "1:81 19:02 23:07 27:02", Segment::None),
-            PduRow(&DATA_OUT, "", Segment::Pattern(512)),
-        ],
-        asked: &[ONE_BLOCK],
-        given: 512,
-        output: &[
-            PduRow(&R2T, "", Segment::None),
-            PduRow(&RESPONSE, "2:01 19:02 31:03", Segment::None),
-            PduRow(&GOOD, "24:000000020000000300000022", Segment::None),
-        ],
-        ..PLAIN
-    },
-    Row {
-        name: "ABORT TASK on unit 1, which is not there, leaves it",
-        input: &[
-            PduRow(&WRITE, "", Segment::None),
-            PduRow(&REQUEST, "1:81 9:01 19:02 23:01 27:02", Segment::None),
-            PduRow(&DATA_OUT, "", Segment::Pattern(512)),
-        ],
-        asked: &[ONE_BLOCK],
-        given: 512,
-        output: &[
-            PduRow(&R2T, "", Segment::None),
-            PduRow(&RESPONSE, "2:02 19:02 31:03", Segment::None),
-            PduRow(&GOOD, "24:000000020000000300000022", Segment::None),
-        ],
-        ..PLAIN
-    },
-    Row {
-        name: "ABORT TASK SET by the other form of the LUN drops it",
-        input: &[
-            PduRow(&WRITE, "", Segment::None),
-            PduRow(&REQUEST, "1:82 8:40 19:02 27:02", Segment::None),
-            PduRow(&DATA_OUT, "", Segment::Pattern(512)),
-            THIRD,
-        ],
-        output: &[
-            PduRow(&R2T, "", Segment::None),
-            PduRow(&RESPONSE, "2:00 19:02 31:03 35:22", Segment::None),
-            THIRD_GOOD,
-        ],
-        ..PLAIN
-    },
-    Row {
-        name: "LOGICAL UNIT RESET drops it, and the unit is reset",
-        input: &[
-            PduRow(&WRITE, "", Segment::None),
-            PduRow(&REQUEST, "1:85 19:02 27:02", Segment::None),
-            PduRow(&DATA_OUT, "", Segment::Pattern(512)),
-            THIRD,
-        ],
-        resets: &[0],
-        output: &[
-            PduRow(&R2T, "", Segment::None),
-            PduRow(&RESPONSE, "2:00 19:02 31:03 35:22", Segment::None),
-            THIRD_GOOD,
-        ],
-        ..PLAIN
-    },
-    Row {
-        name: "TASK REASSIGN leaves it",
-        input: &[
-            PduRow(&WRITE, "", Segment::None),
-            PduRow(&REQUEST, "1:88 19:02 23:01 27:02", Segment::None),
-            PduRow(&DATA_OUT, "", Segment::Pattern(512)),
-        ],
-        asked: &[ONE_BLOCK],
-        given: 512,
-        output: &[
-            PduRow(&R2T, "", Segment::None),
-            PduRow(&RESPONSE, "2:04 19:02 31:03", Segment::None),
-            PduRow(&GOOD, "24:000000020000000300000022", Segment::None),
-        ],
-        ..PLAIN
-    },
-];
+TASK REASSIGN
+> TASK_REQUEST 1:88
+< TASK_RESPONSE 2:04
+
+LOGICAL UNIT RESET
+> TASK_REQUEST 1:85
+< TASK_RESPONSE 2:00
+asked reset 0
+
+LOGICAL UNIT RESET by the other form of the LUN
+> TASK_REQUEST 1:85 8:40
+< TASK_RESPONSE 2:00
+asked reset 0
+
+LOGICAL UNIT RESET that failed
+reset failed
+> TASK_REQUEST 1:85
+< TASK_RESPONSE 2:FF
+asked reset 0
+
+LOGICAL UNIT RESET, and the session is gone
+reset gone
+> TASK_REQUEST 1:85
+> TEST_UNIT_READY 24:00000002
+asked reset 0
+end Reinstated
+
+ABORT TASK on unit 1, which is not there
+> TASK_REQUEST 1:81 9:01
+< TASK_RESPONSE 2:02
+
+ABORT TASK SET on unit 1, which is not there
+> TASK_REQUEST 1:82 9:01
+< TASK_RESPONSE 2:02
+
+LOGICAL UNIT RESET on unit 1, which is not there
+> TASK_REQUEST 1:85 9:01
+< TASK_RESPONSE 2:02
+
+LOGICAL UNIT RESET on a LUN that names no unit
+> TASK_REQUEST 1:85 10:01
+< TASK_RESPONSE 2:02
+
+TASK REASSIGN on unit 1, which is not there
+> TASK_REQUEST 1:88 9:01
+< TASK_RESPONSE 2:04
+
+an immediate one takes no number
+> TASK_REQUEST 0:4285
+> TEST_UNIT_READY
+< TASK_RESPONSE 24:000000010000000100000020
+< GOOD 24:00000002
+asked reset 0
+asked 0 Ok(TestUnitReady)
+
+outside the window it is ignored
+> TASK_REQUEST 1:85 24:00000000
+> TEST_UNIT_READY
+< GOOD
+asked 0 Ok(TestUnitReady)
+
+inside the window, but not the next, it leaves a gap
+> TASK_REQUEST 1:85 24:00000002
+end Protocol
+";
+
+// A write that waits for its 512 bytes, by its R2T, and what becomes of it. The request has CmdSN 2 and the tag 2. The
+// third command has the tag 9, and its answer StatSN 2, ExpCmdSN 4 and MaxCmdSN 35, as no write waits any more.
+const WAITING: &str = r"
+ABORT TASK drops it: it is not answered, and its Data-Out behind is passed over
+> WRITE
+> TASK_REQUEST 1:81 19:02 23:01 27:02
+> DATA_OUT pattern 512
+> TEST_UNIT_READY 19:09 24:00000003
+< R2T
+< TASK_RESPONSE 2:00 19:02 31:03 35:22
+< GOOD 19:09 24:000000020000000400000023
+asked 0 Ok(TestUnitReady)
+
+an immediate ABORT TASK drops it
+> WRITE
+> TASK_REQUEST 0:4281 19:02 23:01 27:02
+> DATA_OUT pattern 512
+< R2T
+< TASK_RESPONSE 2:00 19:02
+
+ABORT TASK of another tag leaves it, and there is no such task
+> WRITE
+> TASK_REQUEST 1:81 19:02 23:07 27:02
+> DATA_OUT pattern 512
+< R2T
+< TASK_RESPONSE 2:01 19:02 31:03
+< GOOD 24:000000020000000300000022
+asked 0 Ok(Write { lba: 5, blocks: 1, fua: false })
+given pattern 512
+
+ABORT TASK on unit 1, which is not there, leaves it
+> WRITE
+> TASK_REQUEST 1:81 9:01 19:02 23:01 27:02
+> DATA_OUT pattern 512
+< R2T
+< TASK_RESPONSE 2:02 19:02 31:03
+< GOOD 24:000000020000000300000022
+asked 0 Ok(Write { lba: 5, blocks: 1, fua: false })
+given pattern 512
+
+ABORT TASK SET by the other form of the LUN drops it
+> WRITE
+> TASK_REQUEST 1:82 8:40 19:02 27:02
+> DATA_OUT pattern 512
+> TEST_UNIT_READY 19:09 24:00000003
+< R2T
+< TASK_RESPONSE 2:00 19:02 31:03 35:22
+< GOOD 19:09 24:000000020000000400000023
+asked 0 Ok(TestUnitReady)
+
+LOGICAL UNIT RESET drops it, and the unit is reset
+> WRITE
+> TASK_REQUEST 1:85 19:02 27:02
+> DATA_OUT pattern 512
+> TEST_UNIT_READY 19:09 24:00000003
+< R2T
+< TASK_RESPONSE 2:00 19:02 31:03 35:22
+< GOOD 19:09 24:000000020000000400000023
+asked reset 0
+asked 0 Ok(TestUnitReady)
+
+TASK REASSIGN leaves it
+> WRITE
+> TASK_REQUEST 1:88 19:02 23:01 27:02
+> DATA_OUT pattern 512
+< R2T
+< TASK_RESPONSE 2:04 19:02 31:03
+< GOOD 24:000000020000000300000022
+asked 0 Ok(Write { lba: 5, blocks: 1, fua: false })
+given pattern 512
+";
 
 #[test]
 fn a_write_that_waits(rt: HostRuntime) -> Result<(), Fail> {

@@ -1,22 +1,21 @@
 //! A write that waits for its data, over streams that are cut and that fail at each call in turn.
-use crate::run::{PLAIN, serve};
+use crate::row::Row;
+use crate::run::{first_row, run_front};
 use session::End;
 use std::alloc::Global;
 use std::io::ErrorKind;
 use std::process::Abort;
 use std::test::*;
-use test_streams::{Calls, DATA_OUT, GOOD, PduRow, R2T, Segment, WHOLE, WRITE, spelled};
+use test_streams::{Calls, WHOLE};
 
 // 48 bytes, and 560; 48 bytes are written behind each.
-const INPUT: &[PduRow] = &[
-    PduRow(&WRITE, "", Segment::None),
-    PduRow(&DATA_OUT, "", Segment::Pattern(512)),
-];
-
-const OUTPUT: &[PduRow] = &[
-    PduRow(&R2T, "", Segment::None),
-    PduRow(&GOOD, "", Segment::None),
-];
+const SESSION: &str = r"
+a write and its data
+> WRITE
+> DATA_OUT pattern 512
+< R2T
+< GOOD
+";
 
 const ALL: usize = 608;
 
@@ -29,36 +28,28 @@ fn answered(came: usize) -> usize {
     }
 }
 
-// What was served of the first bytes of the input: this end, so many bytes of the output, and one call if all came.
+// What was served of the first bytes of the input: this end, and so many bytes of the output.
 fn expect(
     rt: &impl Abort,
     alloc: Global,
+    row: &Row<'_>,
     came: usize,
-    (reads, writes): (Calls, Calls),
+    how: (Calls, Calls),
     (end, written): (End, usize),
 ) -> Result<(), Fail> {
-    let input = spelled(alloc, INPUT)?;
-    let output = spelled(alloc, OUTPUT)?;
-    let front = input.get(..came).ok_or("608 bytes come")?;
-    let want = output.get(..written).ok_or("96 bytes go out")?;
-    let ran = serve(alloc, front, reads, writes, &PLAIN)?;
-    assert_eq!(rt; ran.end, end, "{came} bytes, {reads:?}, {writes:?}");
-    assert_eq!(rt;
-        ran.output.as_slice(),
-        want,
-        "{came} bytes, {reads:?}, {writes:?}"
-    );
-    Ok(())
+    run_front(rt, alloc, row, came, how, (end, written, 0))
 }
 
 #[test]
 fn the_input_ends_anywhere(rt: HostRuntime) -> Result<(), Fail> {
+    let row = first_row(rt.alloc(), SESSION)?;
     // 47 bytes of the Data-Out are there at 95.
     for came in 0..=ALL {
         let how = (WHOLE, WHOLE);
         expect(
             &rt,
             rt.alloc(),
+            &row,
             came,
             how,
             (End::EndOfInput, answered(came)),
@@ -69,9 +60,10 @@ fn the_input_ends_anywhere(rt: HostRuntime) -> Result<(), Fail> {
 
 #[test]
 fn the_input_comes_in_two(rt: HostRuntime) -> Result<(), Fail> {
+    let row = first_row(rt.alloc(), SESSION)?;
     for first in 1..ALL {
         let how = (Calls { first, ..WHOLE }, WHOLE);
-        expect(&rt, rt.alloc(), ALL, how, (End::EndOfInput, 96))?;
+        expect(&rt, rt.alloc(), &row, ALL, how, (End::EndOfInput, 96))?;
     }
     Ok(())
 }
@@ -88,6 +80,7 @@ fn forties(fail_at: u64) -> Calls {
 
 #[test]
 fn a_read_fails(rt: HostRuntime) -> Result<(), Fail> {
+    let row = first_row(rt.alloc(), SESSION)?;
     // Sixteen calls bring the bytes, and the seventeenth finds the end.
     for k in 1..=18u64 {
         let came = (40 * (k as usize - 1)).min(ALL);
@@ -99,6 +92,7 @@ fn a_read_fails(rt: HostRuntime) -> Result<(), Fail> {
         expect(
             &rt,
             rt.alloc(),
+            &row,
             ALL,
             (forties(k), WHOLE),
             (end, answered(came)),
@@ -109,6 +103,7 @@ fn a_read_fails(rt: HostRuntime) -> Result<(), Fail> {
 
 #[test]
 fn a_write_fails(rt: HostRuntime) -> Result<(), Fail> {
+    let row = first_row(rt.alloc(), SESSION)?;
     // Both answers leave together, in three calls.
     for k in 1..=4u64 {
         let wanted = if k <= 3 {
@@ -116,7 +111,7 @@ fn a_write_fails(rt: HostRuntime) -> Result<(), Fail> {
         } else {
             (End::EndOfInput, 96)
         };
-        expect(&rt, rt.alloc(), ALL, (WHOLE, forties(k)), wanted)?;
+        expect(&rt, rt.alloc(), &row, ALL, (WHOLE, forties(k)), wanted)?;
     }
     Ok(())
 }

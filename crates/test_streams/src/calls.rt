@@ -65,10 +65,11 @@ impl<'a> Read for FakeReader<'a> {
     }
 }
 
-/// A writer that keeps what it takes.
+/// A writer that keeps what it takes, and how many bytes each call brings.
 #[derive(Drop)]
 pub struct FakeWriter {
     bytes: Vec<u8>,
+    sizes: Vec<usize>,
     most: usize,
     calls: u64,
     how: Calls,
@@ -79,6 +80,7 @@ impl FakeWriter {
     pub fn new(alloc: Global, how: Calls) -> Self {
         FakeWriter {
             bytes: Vec::new(alloc),
+            sizes: Vec::new(alloc),
             most: how.first,
             calls: 0,
             how,
@@ -89,10 +91,16 @@ impl FakeWriter {
     pub fn into_bytes(self) -> Vec<u8> {
         self.bytes
     }
+
+    /// What it took, and how many bytes each call brought.
+    pub fn into_parts(self) -> (Vec<u8>, Vec<usize>) {
+        (self.bytes, self.sizes)
+    }
 }
 
 impl Write for FakeWriter {
     fn write(&mut self, buf: &[u8]) -> io::Result<usize> {
+        self.sizes.push(buf.len())?;
         self.calls = self.calls.wrapping_add(1);
         if self.calls == self.how.fail_at {
             return Err(io::Error::from(self.how.kind));

@@ -1,6 +1,7 @@
 //! PDUs as data: a header segment that is known, what differs from it, and the data segment.
 ghost use Rattle.std.specs.Prelude.{◌≡◌};
 
+use crate::digits::{change, put_digits};
 use std::alloc::{AllocError, Global};
 
 /// A data segment.
@@ -10,8 +11,6 @@ pub enum Segment<'a> {
     Bytes(&'a [u8]),
     /// The bytes of these digits in hexadecimal, two a byte, with blanks between.
     Digits(&'a str),
-    /// These bytes, and behind them so many of each byte, one run behind another.
-    BytesAndRuns(&'a [u8], &'a [(usize, u8)]),
     /// So many of each byte, one run behind another.
     Runs(&'a [(usize, u8)]),
     /// So many of the bytes 0, 1, 2, .. modulo 251, which no shift of them is.
@@ -37,8 +36,10 @@ pub enum RowError {
     NoMemory,
     /// A change passes the header segment's end.
     Outside,
-    /// Text that names no bytes.
+    /// Text that names no bytes, or no number.
     Digits,
+    /// A word that is none, or that stands where it has no meaning.
+    Word,
 }
 
 impl From<AllocError> for RowError {
@@ -60,10 +61,6 @@ pub fn spelled(alloc: Global, rows: &[PduRow<'_>]) -> Result<Vec<u8>, RowError> 
         match row.2 {
             Segment::None => {}
             Segment::Bytes(segment) => bytes.extend_from_slice(segment)?,
-            Segment::BytesAndRuns(segment, runs) => {
-                bytes.extend_from_slice(segment)?;
-                put_runs(&mut bytes, runs)?;
-            }
             Segment::Digits(digits) => put_digits(&mut bytes, digits)?,
             Segment::Runs(runs) => put_runs(&mut bytes, runs)?,
             Segment::Pattern(len) => put_pattern(&mut bytes, 0, len)?,
@@ -78,77 +75,17 @@ pub fn spelled(alloc: Global, rows: &[PduRow<'_>]) -> Result<Vec<u8>, RowError> 
     Ok(bytes)
 }
 
-// The value of a digit in hexadecimal.
-fn digit_of(c: u8) -> Result<u8, RowError> {
-    match c {
-        b'0'..=b'9' => Ok(c - b'0'),
-        b'A'..=b'F' => Ok(c - b'A' + 10),
-        _ => Err(RowError::Digits),
-    }
-}
-
 // The header segment with its changes.
 fn changed(bhs: &[u8; 48], changes: &str) -> Result<[u8; 48], RowError> {
     let mut new = *bhs;
-    let mut place: usize = 0;
-    let mut is_place = true;
-    let mut high: Option<u8> = None;
-    for c in changes.as_bytes() {
-        if is_place {
-            match *c {
-                b':' => is_place = false,
-                b'0'..=b'9' => {
-                    place = place.wrapping_mul(10).wrapping_add(usize::from(*c - b'0'));
-                }
-                _ => return Err(RowError::Digits),
-            }
-            continue;
-        }
-        match high {
-            None if *c == b' ' => {
-                is_place = true;
-                place = 0;
-            }
-            None => high = Some(digit_of(*c)?),
-            Some(first) => {
-                let byte = first.wrapping_mul(16) | digit_of(*c)?;
-                *new.get_mut(place).ok_or(RowError::Outside)? = byte;
-                place = place.wrapping_add(1);
-                high = None;
-            }
-        }
+    for word in changes.split_ascii_whitespace() {
+        change(&mut new, word)?;
     }
-    ended(high)?;
     Ok(new)
 }
 
-// No digit is left over.
-fn ended(high: Option<u8>) -> Result<(), RowError> {
-    match high {
-        None => Ok(()),
-        Some(_) => Err(RowError::Digits),
-    }
-}
-
-// Appends the bytes of these digits.
-fn put_digits(bytes: &mut Vec<u8>, digits: &str) -> Result<(), RowError> {
-    let mut high: Option<u8> = None;
-    for c in digits.as_bytes() {
-        match high {
-            None if *c == b' ' => {}
-            None => high = Some(digit_of(*c)?),
-            Some(first) => {
-                let byte = first.wrapping_mul(16) | digit_of(*c)?;
-                bytes.extend_from_slice(&[byte])?;
-                high = None;
-            }
-        }
-    }
-    ended(high)
-}
-
 // Appends zeros up to a multiple of four.
-fn put_padding(bytes: &mut Vec<u8>) -> Result<(), AllocError> {
+pub(crate) fn put_padding(bytes: &mut Vec<u8>) -> Result<(), AllocError> {
     for _ in 0..3 {
         if bytes.len() % 4 != 0 {
             bytes.push(0)?;
@@ -168,16 +105,9 @@ fn put_runs(bytes: &mut Vec<u8>, runs: &[(usize, u8)]) -> Result<(), AllocError>
 }
 
 // Appends so many bytes of the pattern, from this place on.
-fn put_pattern(bytes: &mut Vec<u8>, place: usize, len: usize) -> Result<(), AllocError> {
+pub(crate) fn put_pattern(bytes: &mut Vec<u8>, place: usize, len: usize) -> Result<(), AllocError> {
     for i in 0..len {
         bytes.push((place.wrapping_add(i) % 251) as u8)?;
     }
     Ok(())
-}
-
-/// So many bytes of the pattern.
-pub fn pattern(alloc: Global, len: usize) -> Result<Vec<u8>, AllocError> {
-    let mut bytes = Vec::new(alloc);
-    put_pattern(&mut bytes, 0, len)?;
-    Ok(bytes)
 }

@@ -5,8 +5,9 @@ use aptpl_file::{FILE_BLOCKS, RegFile};
 use block_file::{Blocks, DeviceFailed, FusedBlocks, FusedOpener, KeepOpener, MemBlocks};
 use reservations::Record;
 use scsi_types::{Group, Place, PortName, decode};
-use std::alloc::{AllocError, Global};
+use std::alloc::Global;
 use std::test::Fail;
+use test_streams::RowError;
 use unit_state::{AttachFault, Gone, MoveFault, SessionId, StepEnd, Unit};
 
 /// How a device in memory fails.
@@ -205,7 +206,7 @@ impl Bench {
         by: Group,
         cdb: &str,
         runs: Runs,
-    ) -> Result<StepEnd, AllocError> {
+    ) -> Result<StepEnd, RowError> {
         let asked = decode(&cdb_of(self.alloc, cdb)?);
         let bytes = spelled(self.alloc, runs)?;
         Ok(self.unit.step(self.alloc, id, serial, by, asked, &bytes))

@@ -1,11 +1,12 @@
 //! The runner of the tables.
 use crate::bench::{Bench, Call, Ended, Fuse, filled_by};
-use crate::bytes::{Runs, bytes_of, spelled};
+use crate::bytes::{Runs, spelled};
 use block_file::Blocks;
 use scsi_types::{Group, Place, Reply, Sense, Status};
-use std::alloc::{AllocError, Global};
+use std::alloc::Global;
 use std::process::Abort;
 use std::test::Fail;
+use test_streams::{RowError, bytes_of_digits};
 use unit_state::{AttachFault, MoveFault, SessionId, StepEnd};
 
 /// How a call is to end.
@@ -131,7 +132,7 @@ fn wanted(after: &[(u32, u8)], index: u32) -> u8 {
     0
 }
 
-fn is_met(alloc: Global, ended: &Ended, end: End) -> Result<bool, AllocError> {
+fn is_met(alloc: Global, ended: &Ended, end: End) -> Result<bool, RowError> {
     match ended {
         Ended::Step(StepEnd::Reply(reply)) => is_reply(alloc, reply, end),
         Ended::Step(StepEnd::Moved(owner)) => Ok(
@@ -150,7 +151,7 @@ fn is_met(alloc: Global, ended: &Ended, end: End) -> Result<bool, AllocError> {
     }
 }
 
-fn is_reply(alloc: Global, reply: &Reply, end: End) -> Result<bool, AllocError> {
+fn is_reply(alloc: Global, reply: &Reply, end: End) -> Result<bool, RowError> {
     match end {
         End::Good(runs) => {
             let bytes = spelled(alloc, runs)?;
@@ -164,7 +165,7 @@ fn is_reply(alloc: Global, reply: &Reply, end: End) -> Result<bool, AllocError> 
             Ok(is_check(reply) && reply.sense() == Some(Sense::new(key, asc, ascq)))
         }
         End::Told(digits) => {
-            let bytes = bytes_of(alloc, digits)?;
+            let bytes = bytes_of_digits(alloc, digits)?;
             let Some(sense) = reply.sense() else {
                 return Ok(false);
             };

@@ -1,0 +1,302 @@
+//! The rows of the tables, as text:
+//!
+//! ```text
+//! # The R2T tells the StatSN of the next status, and does not use it up.
+//! 512 bytes come with the command, 1024 by R2T
+//! MaxBurstLength 1024
+//! > WRITE 6:0200 20:00000600 40:03 pattern 512
+//! > DATA_OUT 6:0400 40:00000200 pattern 512+1024
+//! < R2T 40:0000020000000400
+//! < GOOD
+//! asked 0 Ok(Write { lba: 5, blocks: 3, fua: false })
+//! given pattern 1536
+//! ```
+//!
+//! A table is one text, with an empty line between two rows. Of its lines, one that begins with `#` is a comment, and one
+//! that begins with a blank goes on with the line before. The first line of a row is its name. Each other line is one of
+//! these, and one that is none, or that cannot be read, fails the test with the row's name. Those of `>`, `<` and `asked`
+//! stand as often as there is something to say, the others once at most.
+//!
+//! - `> PDU`: what comes, and `< PDU`: what goes out, in their order; a row has one of them at least. `test_streams` says
+//!   how a PDU is spelled (`pdu_of`), and has the header segments by their names.
+//! - How the session begins. `login 1`: by a login, through a portal of this group; else in full feature phase.
+//!   `discovery`: it is one of discovery; else a normal one. `ExpCmdSN FFFFFFFF`, `StatSN FFFFFFFF`: its numbers, else 1.
+//!   `MaxRecvDataSegmentLength 512` of the initiator, `MaxBurstLength 1024`, `FirstBurstLength 512`, `ImmediateData No`:
+//!   what is agreed on, else the values where nothing is negotiated (RFC 7143, section 13). `portals 3`: how many portals
+//!   the second controller has, else 1.
+//! - What the target answers. To a command: `answer good PARTS`, GOOD with these bytes, which are spelled as a PDU's data
+//!   segment (`bytes_of`), else GOOD with none; `answer in-turn PARTS | PARTS`, the same of each command in its turn, and
+//!   BUSY behind the last; `answer check 052400`, CHECK CONDITION with this sense key, code and qualifier, for a unit that
+//!   is not there; `answer busy`, `answer gone`, `answer halted`. To a reset: `reset failed`, `reset gone`, else done.
+//!   Where a session is to begin: `begin 65535`, begun with this TSIH, `begin refused`, else begun with the TSIH 1.
+//!   `lives`: the session that a login names lives, else it does not.
+//! - What the target is asked, in this order, and nothing else: `asked begin NAME ISID Normal`, to begin a session of
+//!   this kind for the initiator port of this name and ISID; `asked lives 7 NAME ISID`, whether its session with this
+//!   TSIH lives; `asked reset 0`, to reset this unit; `asked 0 Ok(TestUnitReady)`, to serve this command on this unit, or
+//!   on none (`-`), as `Debug` of `Asked` spells it.
+//! - `given PARTS`: what bytes it is given with the commands, else none.
+//! - `end Protocol`: how the session ends (`End`), else `EndOfInput`.
+use crate::fixed::{Answer, Answers};
+use login::Kind;
+use session::{BeginAnswer, Lengths, Opening, ResetAnswer, Start};
+use std::alloc::Global;
+use std::str::FromStr;
+use std::test::Fail;
+use test_streams::{RowError, Texts, bytes_of, lines_of, pdu_of};
+
+/// The texts that rows name: those of both sides of a login, what the target says by itself, and what it tells of itself.
+pub const TEXTS: Texts = &[
+    (
+        "NAMES",
+        r"InitiatorName=iqn.2000-01.test:a\0TargetName=iqn.2000-01.test:array\0",
+    ),
+    (
+        "NAMES_AND_TYPE",
+        r"InitiatorName=iqn.2000-01.test:a\0TargetName=iqn.2000-01.test:array\0SessionType=Normal\0",
+    ),
+    (
+        "SAID",
+        r"TargetPortalGroupTag=1\0MaxRecvDataSegmentLength=65536\0",
+    ),
+    (
+        "TOLD",
+        r"TargetName=iqn.2000-01.test:array\0TargetAddress=127.0.0.1:3260,1\0TargetAddress=127.0.0.1:3264,2\0",
+    ),
+];
+
+/// With what a session begins, as plain numbers.
+#[derive(Clone, Copy)]
+struct Begin {
+    exp_cmd_sn: u32,
+    stat_sn: u32,
+    data_segment: u32,
+    burst: u32,
+    first_burst: u32,
+    immediate_data: bool,
+}
+
+// CmdSN 1, StatSN 1 and the lengths where none are negotiated (RFC 7143, section 13).
+const FROM_ONE: Begin = Begin {
+    exp_cmd_sn: 1,
+    stat_sn: 1,
+    data_segment: 8192,
+    burst: 262144,
+    first_burst: 65536,
+    immediate_data: true,
+};
+
+/// A session as a row of a table.
+#[derive(Drop)]
+pub struct Row<'a> {
+    pub name: &'a str,
+    /// The group of the portal by which it logs in; none where it begins in full feature phase, of this kind and with
+    /// this start.
+    login: Option<u16>,
+    kind: Kind,
+    begin: Begin,
+    /// How many portals the second controller has.
+    pub portals: usize,
+    pub answers: Answers<'a>,
+    /// What comes, and what goes out.
+    pub input: Vec<u8>,
+    pub output: Vec<u8>,
+    /// What the target is asked and given, and how the session ends.
+    pub asked: Vec<&'a str>,
+    pub given: Vec<u8>,
+    pub end: &'a str,
+    // The words of its lines that a row has once.
+    words: Vec<&'a str>,
+}
+
+impl<'a> Row<'a> {
+    /// The row of these lines; none where they are comments.
+    pub fn read(alloc: Global, text: &'a str) -> Result<Option<Row<'a>>, Fail> {
+        let lines = lines_of(alloc, text)?;
+        let mut row = Row::new(alloc);
+        for line in &lines {
+            if row.name.is_empty() {
+                row.name = *line;
+                continue;
+            }
+            if let Err(error) = row.take(alloc, *line) {
+                return Err(Fail::new(format_args!("{}: {line}: {error:?}", row.name)));
+            }
+        }
+        if row.name.is_empty() {
+            return Ok(None);
+        }
+        if row.name.starts_with(['>', '<']) || row.input.is_empty() && row.output.is_empty() {
+            return Err(Fail::new(format_args!(
+                "{}: a row has a name, and what comes or goes out",
+                row.name
+            )));
+        }
+        Ok(Some(row))
+    }
+
+    // The row of no lines.
+    fn new(alloc: Global) -> Row<'a> {
+        Row {
+            name: "",
+            login: None,
+            kind: Kind::Normal,
+            begin: FROM_ONE,
+            portals: 1,
+            answers: Answers {
+                command: Answer::Good(""),
+                reset: ResetAnswer::Done,
+                begin: BeginAnswer::Begun(1),
+                lives: false,
+            },
+            input: Vec::new(alloc),
+            output: Vec::new(alloc),
+            asked: Vec::new(alloc),
+            given: Vec::new(alloc),
+            end: "EndOfInput",
+            words: Vec::new(alloc),
+        }
+    }
+
+    /// How its session begins.
+    pub fn opening(&self) -> Result<Opening, Fail> {
+        match self.login {
+            Some(group) => Ok(Opening::Login(group)),
+            None => Ok(Opening::FullFeature(self.kind, self.begin.start()?)),
+        }
+    }
+
+    // Takes a line.
+    fn take(&mut self, alloc: Global, line: &'a str) -> Result<(), RowError> {
+        let (word, rest) = line.split_once(' ').unwrap_or((line, ""));
+        match word {
+            ">" => {
+                let pdu = pdu_of(alloc, TEXTS, rest)?;
+                self.input.extend_from_slice(&pdu)?;
+            }
+            "<" => {
+                let pdu = pdu_of(alloc, TEXTS, rest)?;
+                self.output.extend_from_slice(&pdu)?;
+            }
+            "asked" => self.asked.extend_from_slice(&[rest])?,
+            _ => {
+                if self.words.contains(&word) {
+                    return Err(RowError::Word);
+                }
+                self.words.extend_from_slice(&[word])?;
+                return self.take_once(alloc, word, rest);
+            }
+        }
+        Ok(())
+    }
+
+    // Takes a line whose word a row has once.
+    fn take_once(&mut self, alloc: Global, word: &str, rest: &'a str) -> Result<(), RowError> {
+        match word {
+            "answer" => self.answers.command = command_answer(alloc, rest)?,
+            "reset" => self.answers.reset = reset_answer(rest)?,
+            "begin" => self.answers.begin = begin_answer(rest)?,
+            "lives" if rest.is_empty() => self.answers.lives = true,
+            "login" => self.login = Some(read(rest)?),
+            "discovery" if rest.is_empty() => self.kind = Kind::Discovery,
+            "portals" => self.portals = read(rest)?,
+            "given" => self.given = bytes_of(alloc, TEXTS, rest)?,
+            "end" => self.end = rest,
+            _ => return self.begin.take(word, rest),
+        }
+        Ok(())
+    }
+}
+
+impl Begin {
+    // Takes a number or a length.
+    fn take(&mut self, word: &str, rest: &str) -> Result<(), RowError> {
+        match word {
+            "ExpCmdSN" => self.exp_cmd_sn = read_hexadecimal(rest)?,
+            "StatSN" => self.stat_sn = read_hexadecimal(rest)?,
+            "MaxRecvDataSegmentLength" => self.data_segment = read(rest)?,
+            "MaxBurstLength" => self.burst = read(rest)?,
+            "FirstBurstLength" => self.first_burst = read(rest)?,
+            "ImmediateData" if rest == "No" => self.immediate_data = false,
+            _ => return Err(RowError::Word),
+        }
+        Ok(())
+    }
+
+    // The same as a start, whose lengths are 512 at least.
+    fn start(&self) -> Result<Start, Fail> {
+        if self.data_segment < 512 || self.burst < 512 {
+            return Err("a length is below 512".into());
+        }
+        Ok(Start {
+            exp_cmd_sn: self.exp_cmd_sn,
+            stat_sn: self.stat_sn,
+            lengths: Lengths {
+                data_segment: self.data_segment,
+                burst: self.burst,
+                first_burst: self.first_burst,
+                immediate_data: self.immediate_data,
+            },
+        })
+    }
+}
+
+// The number of these decimal digits.
+fn read<T: FromStr>(text: &str) -> Result<T, RowError>
+where
+    T::Err: Drop,
+{
+    match text.parse() {
+        Ok(number) => Ok(number),
+        Err(_) => Err(RowError::Digits),
+    }
+}
+
+// The number of these digits in hexadecimal.
+fn read_hexadecimal(text: &str) -> Result<u32, RowError> {
+    match u32::from_str_radix(text, 16) {
+        Ok(number) => Ok(number),
+        Err(_) => Err(RowError::Digits),
+    }
+}
+
+fn command_answer(alloc: Global, text: &str) -> Result<Answer<'_>, RowError> {
+    let (word, rest) = text.split_once(' ').unwrap_or((text, ""));
+    match word {
+        "good" => {
+            let _data = bytes_of(alloc, TEXTS, rest)?;
+            Ok(Answer::Good(rest))
+        }
+        "in-turn" => {
+            for data in rest.split('|') {
+                let _data = bytes_of(alloc, TEXTS, data)?;
+            }
+            Ok(Answer::InTurn(rest))
+        }
+        "check" => {
+            let sense = bytes_of(alloc, TEXTS, rest)?;
+            if sense.len() != 3 {
+                return Err(RowError::Digits);
+            }
+            Ok(Answer::Check(sense[0], sense[1], sense[2]))
+        }
+        "busy" if rest.is_empty() => Ok(Answer::Busy),
+        "gone" if rest.is_empty() => Ok(Answer::Gone),
+        "halted" if rest.is_empty() => Ok(Answer::Halted),
+        _ => Err(RowError::Word),
+    }
+}
+
+fn reset_answer(text: &str) -> Result<ResetAnswer, RowError> {
+    match text {
+        "failed" => Ok(ResetAnswer::Failed),
+        "gone" => Ok(ResetAnswer::Gone),
+        _ => Err(RowError::Word),
+    }
+}
+
+fn begin_answer(text: &str) -> Result<BeginAnswer, RowError> {
+    if text == "refused" {
+        return Ok(BeginAnswer::Refused);
+    }
+    Ok(BeginAnswer::Begun(read(text)?))
+}
