@@ -2,7 +2,7 @@
 ghost use Rattle.std.specs.Prelude.{◌≡◌, ◌<◌, ◌≤◌, IsErrOf, List, [], ◌∷◌, IfOk, IfErr, OnOk, OnErr, IsTrue, true, false, None};
 ghost use Rattle.block_file.specs.Disk.{or_new, Adds};
 ghost use Rattle.block_file.specs.Moment.{StopsAmong};
-ghost use Rattle.block_file.specs.Failures.{Counts, Tells};
+ghost use Rattle.block_file.specs.Failures.{Counts, HasFailed, Tells};
 ghost use Rattle.reservations.specs.Registry.{RecordValue};
 ghost use Rattle.aptpl_file.specs.declared.spelling.TheConstants.{FILE_BLOCKS};
 
@@ -42,20 +42,17 @@ impl<B: Blocks> RegFile<B> {
     ghost use Rattle.aptpl_file.specs.Lasts.{LastsAmong, RootLasts, StopsAt, left_by};
 
     /// Makes a registration file of nothing on a device of at least 67 blocks. Refused, it drops the device.
-    pub fn format(mut device: B) -> Result<RegFile<B>, SaveFault>
+    pub fn format(mut device: B) -> Result<RegFile<B>, DeviceFailed>
         requires { FILE_BLOCKS ≤ B.size device }
         ensures size { IfOk result (λ file. B.size file.device ≡ B.size device) }
         ensures lasts { IsTrue B.claims → IfOk result (λ file. LastsAmong B.size B.may_hold file
             (record { aptpl = false; registrants = []; reservation = None } ∷ [])) }
         ensures failures { IfOk result (λ file. Tells (B.failures device) (B.failures file.device) (Unit {0})) }
+        ensures failed { IfErr result (λ fault. HasFailed B.failures device) }
     {
         let slot = Slot::First;
-        let Ok(()) = save_slot(&mut device, slot, false, &[], &None) else {
-            return Err(SaveFault::IdleSlot);
-        };
-        let Ok(()) = save_root(&mut device, slot) else {
-            return Err(SaveFault::NewRoot);
-        };
+        save_slot(&mut device, slot, false, &[], &None)?;
+        save_root(&mut device, slot)?;
         Ok(RegFile {
             device,
             slot,
@@ -75,6 +72,7 @@ impl<B: Blocks> RegFile<B> {
         ensures refused { IsTrue B.claims → IfErr result (IsRefusal (B.contents device)) }
         ensures few { B.size device < FILE_BLOCKS → IsErrOf result OpenFault.NotARegFile }
         ensures failures { IfOk result (λ found. Tells (B.failures device) (B.failures found.0.device) (Unit {0})) }
+        ensures failed { IsErrOf result OpenFault.DeviceFailed → HasFailed B.failures device }
     {
         if device.count() < FILE_BLOCKS {
             return Err(OpenFault::NotARegFile);

@@ -44,6 +44,11 @@ pub fn registry_after(alloc: Global, requests: &[(u8, Asked)]) -> Result<Registr
     Ok(registry)
 }
 
+/// The record of one nexus with this key.
+pub fn record_of(alloc: Global, key: u64) -> Result<Record, NoMemory> {
+    registry_after(alloc, &[(b'a', Asked::Register(key))])?.record()
+}
+
 /// What a record says, as READ FULL STATUS of the registry that begins with it, and whether APTPL is set.
 pub fn told(alloc: Global, record: Record) -> Result<(bool, Vec<u8>), NoMemory> {
     let aptpl = record.aptpl();

@@ -1,8 +1,7 @@
 //! A device that stops at each call of a save in turn.
-use crate::files::{Asked, formatted, registry_after, told};
+use crate::files::{formatted, record_of, told};
 use aptpl_file::{RegFile, SaveFault};
 use block_file::{FusedBlocks, MemBlocks};
-use reservations::Record;
 use scsi_types::NoMemory;
 use std::alloc::Global;
 use std::test::Fail;
@@ -12,11 +11,6 @@ const OPEN_CALLS: u64 = 35;
 
 /// The calls of a save: 33 blocks of the slot, a flush, the root, and a flush.
 const SAVE_CALLS: u64 = 36;
-
-/// The record of one nexus with this key.
-fn record_of(alloc: Global, key: u64) -> Result<Record, NoMemory> {
-    registry_after(alloc, &[(b'a', Asked::Register(key))])?.record()
-}
 
 /// A file that holds the key 11h, behind a fuse that passes on so many calls of the save that comes.
 fn fused(

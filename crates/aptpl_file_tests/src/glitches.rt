@@ -3,11 +3,9 @@ ghost use Rattle.std.specs.Prelude.{◌+◌, [], false, min};
 ghost use Rattle.std.proofs.Common.{arith};
 ghost use Rattle.block_file.specs.Failures.{last_count};
 
-use crate::files::{Asked, formatted, registry_after, told};
+use crate::files::{formatted, record_of, told};
 use aptpl_file::{RegFile, SaveFault};
 use block_file::{Blocks, DeviceFailed};
-use reservations::Record;
-use scsi_types::NoMemory;
 use std::alloc::Global;
 use std::test::Fail;
 
@@ -86,11 +84,6 @@ impl<B: Blocks> Blocks for Glitch<B> {
         self.calls = self.calls.wrapping_add(1);
         self.inner.flush()
     }
-}
-
-/// The record of one nexus with this key.
-fn record_of(alloc: Global, key: u64) -> Result<Record, NoMemory> {
-    registry_after(alloc, &[(b'a', Asked::Register(key))])?.record()
 }
 
 /// A save that fails at one of its 36 calls, counted from 0, its fault, and the calls of the save after it.

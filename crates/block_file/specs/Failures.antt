@@ -14,3 +14,9 @@ pub record Tells (before now : ℕ) (done : Type 0) : Type 0 where
 -- a call fails exactly where the count rises
 abbrev pub Counts : {T E : Type 0} → ℕ → ℕ → Result T E → Type 0
 Counts before now result = Tells before now (IsOk result)
+
+-- The device has failed: in some state after this one its count is higher, its last value apart. A device that never
+-- fails has no such state.
+pub record HasFailed {B : Type 0} (failures : B → ℕ) (before : B) : Type 0 where
+  pub after : B
+  pub told : Tells (failures before) (failures after) ⊥

@@ -80,7 +80,8 @@ pub data EnteredCall : Type 0 where
 abbrev pub entered_by : Asking → Option EnteredCall
 entered_by (began port kind answer) = None
 entered_by (lives tsih port answer) = None
-entered_by (served unit asked bytes (Replied reply)) = Some (replied (record { asked = asked; bytes = bytes; reply = reply }))
+entered_by (served unit asked bytes (Replied reply)) =
+    Some (replied (record { asked = asked; bytes = bytes; reply = reply }))
 entered_by (served unit asked bytes (Outside reply)) = None
 entered_by (served unit asked bytes Busy) = None
 entered_by (served unit asked bytes Gone) = None
@@ -95,15 +96,18 @@ entered cs = filter_map entered_by cs
 
 -- the entry is the session's command that asks this, with this data; or its reset
 abbrev pub IsEntryOf : Entry → EnteredCall → Type 0
-IsEntryOf (Command session serial by_group asked bytes choice) (replied call) = (session ≡ 0) × (asked ≡ call.asked) × (bytes ≡ call.bytes)
+IsEntryOf (Command session serial by_group asked bytes choice) (replied call) =
+    (session ≡ 0) × (asked ≡ call.asked) × (bytes ≡ call.bytes)
 IsEntryOf (Reset session) was_reset = session ≡ 0
 IsEntryOf entry call = ⊥
 
 -- The entered calls are the entries of this history, in order, and the model gives each command its reply.
 pub record AreCommands (claims : Bool) (s : UnitState) (cs : List Asking) (history : List Entry) : Type 0 where
   pub as_many : length history ≡ length (entered cs)
-  pub entry : (k : ℕ) (call : EnteredCall) → slice_get (entered cs) k ≡ Some call → (e : Entry) × (slice_get history k ≡ Some e) × IsEntryOf e call
-  pub reply : (k : ℕ) (call : RepliedCall) → slice_get (entered cs) k ≡ Some (replied call) → IsReplyAt claims s history k call.reply
+  pub entry : (k : ℕ) (call : EnteredCall) → slice_get (entered cs) k ≡ Some call
+      → (e : Entry) × (slice_get history k ≡ Some e) × IsEntryOf e call
+  pub reply : (k : ℕ) (call : RepliedCall) → slice_get (entered cs) k ≡ Some (replied call)
+      → IsReplyAt claims s history k call.reply
 
 -- ---- the calls that were answered otherwise
 

@@ -59,7 +59,8 @@ pub record IsSame {B : Type 0} (old new : TargetValue B) : Type 0 where
 -- What one step of the target's unit leaves.
 abbrev pub IsStepped : {B : Type 0} → Bool → (B → List (List ℕ)) → (B → ℕ) → TargetValue B → Result ScsiCommand CdbFault
     → List ℕ → StepEnd → TargetValue B → Type 0
-IsStepped claims contents failures old asked bytes (ends.Reply reply) new = IsCommand claims contents failures old new asked bytes reply
+IsStepped claims contents failures old asked bytes (ends.Reply reply) new =
+    IsCommand claims contents failures old new asked bytes reply
 IsStepped claims contents failures old asked bytes ends.Gone new =
     IsSame old new × (IsNext old.unit.control old.at.session old.at.serial → ⊥)
 IsStepped claims contents failures old asked bytes (ends.Moved owner) new =
@@ -81,17 +82,20 @@ IsOwnStep claims contents failures old asked bytes ends.NoMemory new =
 -- There was no memory for the data of a reply: of the unit, or of one that is not there.
 abbrev pub IsBusy : ControlValue → ℕ → Option ℕ → Result ScsiCommand CdbFault → List ℕ → Type 0
 IsBusy c session unit asked bytes =
-    ((unit ≡ Some 0) × TakesMemory c (request session asked bytes)) ⊎ ((unit ≢ Some 0) × ((absent_reply asked).status ≡ Good))
+    ((unit ≡ Some 0) × TakesMemory c (request session asked bytes))
+    ⊎ ((unit ≢ Some 0) × ((absent_reply asked).status ≡ Good))
 
 -- What the target answers to a command: of its unit a command's step; that there was no memory for it, or that its
 -- session is gone, which tells the first of these facts, and nothing happened; of another unit that it is not there.
 abbrev pub IsAnsweredBy : {B : Type 0} → Type 0 → Bool → (B → List (List ℕ)) → (B → ℕ) → TargetValue B → Option ℕ
     → Result ScsiCommand CdbFault → List ℕ → TargetAnswer → TargetValue B → Type 0
 IsAnsweredBy {B} late claims contents failures old unit asked bytes (Replied reply) new =
-    (unit ≡ Some 0) × (by_owner : TargetValue B) × IsSame old by_owner × IsCommand claims contents failures by_owner new asked bytes reply
+    (unit ≡ Some 0) × (by_owner : TargetValue B) × IsSame old by_owner
+    × IsCommand claims contents failures by_owner new asked bytes reply
 IsAnsweredBy late claims contents failures old unit asked bytes (Outside reply) new =
     (unit ≢ Some 0) × (reply ≡ absent_reply asked) × IsSame old new
-IsAnsweredBy late claims contents failures old unit asked bytes Busy new = IsBusy old.unit.control old.at.session unit asked bytes × IsSame old new
+IsAnsweredBy late claims contents failures old unit asked bytes Busy new =
+    IsBusy old.unit.control old.at.session unit asked bytes × IsSame old new
 IsAnsweredBy late claims contents failures old unit asked bytes Gone new =
     (unit ≡ Some 0) × IsSame old new × late
 IsAnsweredBy late claims contents failures old unit asked bytes Halted new = ⊥
@@ -126,5 +130,6 @@ LeadsOn claims contents failures old (began port kind answer) new = (answer ≡ 
 LeadsOn claims contents failures old (lives tsih port answer) new = (answer ≡ false) × IsSame old new
 LeadsOn claims contents failures old (served unit asked bytes answer) new =
     IsAnsweredBy (LAST_COUNT ≤ old.unit.control.count) claims contents failures old unit asked bytes answer new
-LeadsOn claims contents failures old (reset unit answer) new = IsResetBy (LAST_COUNT ≤ old.unit.control.count) old unit answer new
+LeadsOn claims contents failures old (reset unit answer) new =
+    IsResetBy (LAST_COUNT ≤ old.unit.control.count) old unit answer new
 LeadsOn claims contents failures old over new = IsSame old new

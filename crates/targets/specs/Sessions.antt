@@ -108,7 +108,8 @@ pub record IsFirstFree (live : List LiveSession) (above to tsih : ℕ) : Type 0 
 
 -- A normal session is attached to the unit, where the older one of its nexus ends in the same step; its id is the
 -- count of entries before, and no command of it was served. The devices are as they were.
-pub record IsAttachedAnew {B : Type 0} (old new : UnitValue B KeepOpener MemBlocks) (nexus : Nexus) (at : Option Attachment) : Type 0 where
+pub record IsAttachedAnew {B : Type 0} (old new : UnitValue B KeepOpener MemBlocks) (nexus : Nexus)
+    (at : Option Attachment) : Type 0 where
   pub room : HasRoom old.control nexus
   pub control : new.control ≡ control_after old.control (Attach nexus)
   pub device : new.device ≡ old.device
@@ -132,7 +133,8 @@ pub record HasBegun {B : Type 0} (old new : SessionsValue B) (port : Port) (kind
   pub rest : new ≡ record {
     unit = new.unit;
     group = old.group;
-    live = others port kind old.live ++ record { number = old.begun; tsih = tsih; port = port; kind = kind; at = at } ∷ [];
+    live = others port kind old.live
+        ++ record { number = old.begun; tsih = tsih; port = port; kind = kind; at = at } ∷ [];
     last = tsih;
     begun = old.begun + 1;
     present = Some old.begun;
@@ -162,7 +164,8 @@ pub record IsDetached {B : Type 0} (old new : UnitValue B KeepOpener MemBlocks) 
   pub device : new.device ≡ old.device
   pub file : new.file ≡ old.file
 
-abbrev pub IsLeft : {B : Type 0} → UnitValue B KeepOpener MemBlocks → UnitValue B KeepOpener MemBlocks → Option Attachment → Type 0
+abbrev pub IsLeft : {B : Type 0} → UnitValue B KeepOpener MemBlocks → UnitValue B KeepOpener MemBlocks → Option Attachment
+    → Type 0
 IsLeft old new None = new ≡ old
 IsLeft old new (Some at) = IsDetached old new at.session
 
@@ -181,7 +184,8 @@ pub record IsOver {B : Type 0} (old new : SessionsValue B) : Type 0 where
 -- An attached session is answered as one that has the unit alone, but that it is gone where its serial is not its next at
 -- the unit, or the history has its last length. It lives on, with its next serial.
 pub record IsServedAt {B : Type 0} (claims : Bool) (contents : B → List (List ℕ)) (failures : B → ℕ) (old new : SessionsValue B)
-    (at : Attachment) (number : Option ℕ) (asked : Result ScsiCommand CdbFault) (bytes : List ℕ) (answer : TargetAnswer) : Type 0 where
+    (at : Attachment) (number : Option ℕ) (asked : Result ScsiCommand CdbFault) (bytes : List ℕ) (answer : TargetAnswer)
+    : Type 0 where
   pub after : Attachment
   pub answered : IsAnsweredBy (IsNext old.unit.control at.session at.serial → ⊥) claims contents failures
       (record { unit = old.unit; at = at }) number asked bytes answer (record { unit = new.unit; at = after })
@@ -201,14 +205,16 @@ IsUnreset number resets.Failed = number ≢ 0
 
 abbrev pub IsResetAt : {B : Type 0} → SessionsValue B → SessionsValue B → Option Attachment → ℕ → ResetAnswer → Type 0
 IsResetAt old new (Some at) number answer =
-    IsResetBy (IsAttached old.unit.control at.session → ⊥) (record { unit = old.unit; at = at }) number answer (record { unit = new.unit; at = at })
+    IsResetBy (IsAttached old.unit.control at.session → ⊥) (record { unit = old.unit; at = at }) number answer
+    (record { unit = new.unit; at = at })
     × (new ≡ record old { unit = new.unit })
 IsResetAt old new None number answer = (new ≡ old) × IsUnreset number answer
 
 -- ---- the whole
 
 -- where a question with its answer leads the target
-abbrev pub LeadsSessionsOn : {B : Type 0} → Bool → (B → List (List ℕ)) → (B → ℕ) → SessionsValue B → Asking → SessionsValue B → Type 0
+abbrev pub LeadsSessionsOn : {B : Type 0} → Bool → (B → List (List ℕ)) → (B → ℕ) → SessionsValue B → Asking
+    → SessionsValue B → Type 0
 LeadsSessionsOn claims contents failures old (began port kind (Begun tsih)) new = HasBegun old new port kind tsih
 LeadsSessionsOn claims contents failures old (began port kind Refused) new = IsRefused old new port kind
 LeadsSessionsOn claims contents failures old (lives tsih port answer) new =

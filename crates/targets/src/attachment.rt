@@ -114,7 +114,8 @@ pub fn answer<B: Blocks>(
 ) -> TargetAnswer
     requires { at.old.serial ≤ unit.old.control.count }
     ensures { IsAnsweredBy (IsNext unit.old.control at.old.session at.old.serial → ⊥) B.claims B.contents B.failures
-        (record { unit = unit.old; at = at.old }) number asked bytes.now result (record { unit = unit.new; at = at.new }) }
+        (record { unit = unit.old; at = at.old }) number asked bytes.now result
+        (record { unit = unit.new; at = at.new }) }
 {
     if number != Some(UNIT) {
         return turn_away(alloc, number, &asked);

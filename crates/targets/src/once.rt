@@ -23,9 +23,13 @@ pub fn once<S: Source, K: Sink, B: Blocks>(
     blocks: B,
     me: &Identity<'_>,
 ) -> Result<(End, B), NoMemory>
-    ensures served { IfOk result (λ r. IsOnce (setting_of 1 me.now Kind.Normal from_one) B.claims B.size B.contents B.failures blocks r.1 (S.left source.old) (S.left source.new) (K.held sink.old) (K.held sink.new) r.0) }
-    ensures input_failed { IfOk result (λ r. IsFailureOf InputFailed (S.failures source.old) (S.failures source.new) r.0) }
-    ensures output_failed { IfOk result (λ r. IsFailureOf OutputFailed (K.failures sink.old) (K.failures sink.new) r.0) }
+    ensures served { IfOk result (λ r. IsOnce (setting_of 1 me.now Kind.Normal from_one)
+        B.claims B.size B.contents B.failures blocks r.1
+        (S.left source.old) (S.left source.new) (K.held sink.old) (K.held sink.new) r.0) }
+    ensures input_failed { IfOk result (λ r.
+        IsFailureOf InputFailed (S.failures source.old) (S.failures source.new) r.0) }
+    ensures output_failed { IfOk result (λ r.
+        IsFailureOf OutputFailed (K.failures sink.old) (K.failures sink.new) r.0) }
     ensures no_memory { OnErr result ((source.new ≡ source.old) × (sink.new ≡ sink.old)) }
 {
     let mut target = OneUnit::over(alloc, blocks)?;

@@ -62,7 +62,8 @@ fn join<B: Blocks>(
     kind: Kind,
 ) -> Result<Option<Attachment>, BeginFault>
     requires { IsPortName (record { name = name.now; isid = isid }) }
-    ensures joined { IfOk result (IsJoined kind unit.old unit.new (through (record { name = name.now; isid = isid }) group)) }
+    ensures joined { IfOk result (IsJoined kind unit.old unit.new
+        (through (record { name = name.now; isid = isid }) group)) }
     ensures full { result ≡ Err BeginFault.NoRoom → (kind ≡ Kind.Normal)
         × (HasRoom unit.old.control (through (record { name = name.now; isid = isid }) group) → ⊥) }
     ensures faults { IfErr result (λ fault. (fault ≡ BeginFault.NoRoom) ⊎ (fault ≡ BeginFault.NoMemory)) }

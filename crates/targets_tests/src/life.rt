@@ -75,7 +75,7 @@ fn put_around(ways: &mut Vec<Calls>, place: usize) -> Result<(), Fail> {
 // In two, so many bytes first.
 fn put_way(ways: &mut Vec<Calls>, first: usize) -> Result<(), Fail> {
     if first > 0 {
-        ways.extend_from_slice(&[Calls { first, ..WHOLE }])?;
+        ways.push(Calls { first, ..WHOLE })?;
     }
     Ok(())
 }

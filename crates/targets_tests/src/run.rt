@@ -63,9 +63,9 @@ fn block_at<B: Blocks>(device: &mut B, index: u32) -> Option<[u8; 512]> {
 
 // What all bytes of a block are: where it was not written, 0.
 fn byte_of(written: &[(u32, u8)], index: u32) -> u8 {
-    for (at, byte) in written {
-        if *at == index {
-            return *byte;
+    for i in 0..written.len() {
+        if written[i].0 == index {
+            return written[i].1;
         }
     }
     0
