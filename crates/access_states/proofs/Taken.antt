@@ -54,7 +54,8 @@ taken cause old new bytes named reads h = subst (λ r. after_named cause old r �
 
 pub leads : (cause : Cause) (old new : AccessMapValue) (bytes : List ℕ) (named : Named) → IsTaken cause old bytes named new
     → map_after cause old named ≡ new
-leads cause old new bytes named l = (is_new (map_after cause old named) new (taken cause old new bytes named l.reads l.taken)).1
+leads cause old new bytes named l =
+    (is_new (map_after cause old named) new (taken cause old new bytes named l.reads l.taken)).1
 
 -- the same, whatever the list names
 pub from : (cause : Cause) (old new : AccessMapValue) (r : Result Named AsetFault) → after_named cause old r ≡ Ok new
@@ -84,7 +85,8 @@ unmoved cause old = ap (put cause old old.state) (itself old.state)
 altered : (cause : Cause) (old : GroupAccess) (state : AccessState) → (altered_to cause old state).state ≢ old.state
     → (altered_to cause old state).altered ≡ Some cause
 altered cause old state h =
-    elim (same_state state old.state) as (λ b. same_state state old.state ≡ b → (put cause old state b).altered ≡ Some cause) [
+    elim (same_state state old.state) as (λ b. same_state state old.state ≡ b
+        → (put cause old state b).altered ≡ Some cause) [
       | true ↦ λ e. absurd (h (altered_state cause old state ∙ same state old.state e))
       | false ↦ λ e. refl
     ] refl

@@ -97,7 +97,8 @@ header_of disk slot r header xs read same has =
     subst (λ (ys : List Registrant). HasHeader header ys r) same (slot_header disk slot r header read has)
 
 -- and with the entries it is the whole
-pub slot_of_parts : (disk : List (List ℕ)) (slot : Slot) (count : ℕ) (header : List ℕ) (xs : List Registrant) (r : RecordValue)
+pub slot_of_parts : (disk : List (List ℕ)) (slot : Slot) (count : ℕ) (header : List ℕ) (xs : List Registrant)
+    (r : RecordValue)
     → header ≡ block_at disk (first_block slot) → HasHeader header xs r → HasEntries disk slot count xs
     → HasSlot disk slot r
 slot_of_parts disk slot count header xs r read head tail = record {
@@ -121,9 +122,11 @@ one_slot : (a b : Slot) → root_block a ≡ root_block b → a ≡ b
 one_slot First First e = refl
 one_slot Second Second e = refl
 one_slot First Second e =
-    let n : 0 ≡ 1 = sym (root_slot First) ∙ ap (λ (b : List ℕ). slice_index b 10) e ∙ root_slot Second in absurd (omega (arith, n))
+    let n : 0 ≡ 1 = sym (root_slot First) ∙ ap (λ (b : List ℕ). slice_index b 10) e
+        ∙ root_slot Second in absurd (omega (arith, n))
 one_slot Second First e =
-    let n : 1 ≡ 0 = sym (root_slot Second) ∙ ap (λ (b : List ℕ). slice_index b 10) e ∙ root_slot First in absurd (omega (arith, n))
+    let n : 1 ≡ 0 = sym (root_slot Second) ∙ ap (λ (b : List ℕ). slice_index b 10) e
+        ∙ root_slot First in absurd (omega (arith, n))
 
 pub slot_held : (disk : List (List ℕ)) (slot : Slot) (r : RecordValue) → block_at disk 0 ≡ root_block slot → Holds disk r
     → HasSlot disk slot r

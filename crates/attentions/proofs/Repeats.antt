@@ -122,7 +122,8 @@ there (x ∷ xs) code h = elim (same_attention code x) as (λ b. same_attention 
 ] refl
 
 pub waits : (xs : List UnitAttention) (code : UnitAttention) → Contains (established xs code) code
-waits xs code = elim (is_pending xs code) as (λ b. is_pending xs code ≡ b → Contains (if b then xs else xs ++ code ∷ []) code) [
+waits xs code = elim (is_pending xs code) as (λ b. is_pending xs code ≡ b
+    → Contains (if b then xs else xs ++ code ∷ []) code) [
   | true ↦ λ e. there xs code e
   | false ↦ λ e. (length xs, grind (arith, length-append xs (code ∷ [])), grind (arith, common_steps))
 ] refl
@@ -131,5 +132,6 @@ pub rest_of : (xs : List UnitAttention) → without_repeats xs ≡ true → with
 rest_of [] h = refl
 rest_of (x ∷ xs) h = rest x xs h
 
-pub goes_behind : (xs : List UnitAttention) (code : UnitAttention) → is_pending xs code ≡ false → xs ++ code ∷ [] ≡ established xs code
+pub goes_behind : (xs : List UnitAttention) (code : UnitAttention) → is_pending xs code ≡ false
+    → xs ++ code ∷ [] ≡ established xs code
 goes_behind xs code h = grind (arith, h)

@@ -81,14 +81,16 @@ none-whole b n h d short p within =
 le-padded : (n : ℕ) → n ≤ padded n
 le-padded n = omega arith
 
-pub data-is : (b : List ℕ) (len : ℕ) → take (48 + len - 48) (drop 48 b) ≡ slice_range (take (48 + padded len) b) 48 (48 + len)
+pub data-is : (b : List ℕ) (len : ℕ)
+    → take (48 + len - 48) (drop 48 b) ≡ slice_range (take (48 + padded len) b) 48 (48 + len)
 data-is b len =
     let le = le-padded len in
     let inner : drop 48 (take (48 + padded len) b) ≡ take (padded len) (drop 48 b) = drop-take 48 (padded len) b in
     sym (ap (take (48 + len - 48)) inner ∙ take-take (48 + len - 48) (padded len) (drop 48 b) (omega arith))
 
 -- the padding, in the bytes and in the PDU
-pub padding-is : (b : List ℕ) (len : ℕ) → drop (48 + len) (take (48 + padded len) b) ≡ slice_range b (48 + len) (48 + padded len)
+pub padding-is : (b : List ℕ) (len : ℕ)
+    → drop (48 + len) (take (48 + padded len) b) ≡ slice_range b (48 + len) (48 + padded len)
 padding-is b len =
     let le = le-padded len in
     ap (λ (k : ℕ). drop (48 + len) (take k b)) (omega arith) ∙ drop-take (48 + len) (padded len - len) b
@@ -96,7 +98,8 @@ padding-is b len =
 
 -- A PDU with this header stands at the front, where its padding is right.
 pub whole : (b : List ℕ) (h : Header) → HasBhs b → HasFields (take 48 b) h → 48 + padded (three_at b 5) ≤ length b
-    → (IsTarget h → slice_range b (48 + three_at b 5) (48 + padded (three_at b 5)) ≡ zeros (padded (three_at b 5) - three_at b 5))
+    → (IsTarget h → slice_range b (48 + three_at b 5) (48 + padded (three_at b 5)) ≡ zeros
+        (padded (three_at b 5) - three_at b 5))
     → IsPdu (take (48 + padded (three_at b 5)) b) h (take (48 + three_at b 5 - 48) (drop 48 b))
 whole b h front fields fits pad =
     let len : ℕ = three_at b 5 in
@@ -139,6 +142,7 @@ pad-to b n x y ex ey fits e =
 
 -- padding that is right where the header is a target's is not wrong
 pub bad-padding : (b : List ℕ) (h : Header) → HasFields (take 48 b) h → HasBadPadding b
-    → (IsTarget h → slice_range b (48 + three_at b 5) (48 + padded (three_at b 5)) ≡ zeros (padded (three_at b 5) - three_at b 5)) → ⊥
+    → (IsTarget h → slice_range b (48 + three_at b 5) (48 + padded (three_at b 5)) ≡ zeros
+        (padded (three_at b 5) - three_at b 5)) → ⊥
 bad-padding b (Initiator h) fields bad right = let op = opcode-initiator h b fields in omega (arith, op, bad.0)
 bad-padding b (Target h) fields bad right = bad.2 (right tt)

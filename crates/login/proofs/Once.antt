@@ -19,7 +19,8 @@ use Rattle.login.specs.declared.status.LoginStatus.TheVariants.{SessionTypeNotSu
 -- the tag is not said where the session type is known
 pub no_tag : (s : Progress) (f : LoginFlags) (ps : List Pair) (kind : Kind) → s.kind ≡ Some kind
     → response s f ps ≡ length_text (tells_length s f) ++ answers ps
-no_tag s f ps kind e = ap (λ (k : Option Kind). group_text s.tag k (kind_after k ps) ++ length_text (tells_length s f) ++ answers ps) e
+no_tag s f ps kind e = ap (λ (k : Option Kind). group_text s.tag k (kind_after k ps) ++ length_text (tells_length s f)
+    ++ answers ps) e
 
 pub no_length : (s : Progress) (f : LoginFlags) → s.declared ≡ true → tells_length s f ≡ false
 no_length s f e = ap (λ (b : Bool). not b && f.current_stage == 1) e
@@ -69,9 +70,11 @@ known s f text none whole =
     let t : List ℕ = s.unfinished ++ text in
     let first : is_none s.kind ≡ true → IsSome (kind_of (pairs t)) = λ n.
     let r : rules_for s f ≡ flags_rule ∷ checks_of_first =
-    ap (λ (b : Bool). if b then rules_of_part else flags_rule ∷ (if is_none s.kind then checks_of_first else checks_of_later)) whole
+    ap (λ (b : Bool). if b then rules_of_part else flags_rule
+        ∷ (if is_none s.kind then checks_of_first else checks_of_later)) whole
     ∙ ap (λ (b : Bool). flags_rule ∷ (if b then checks_of_first else checks_of_later)) n in
-    kind_known s f t (behind flags_rule checks_of_first s f t (sym (ap (λ (rs : List Rule). first_stop rs s f t) r) ∙ none)) in
+    kind_known s f t (behind flags_rule checks_of_first s f t
+        (sym (ap (λ (rs : List Rule). first_stop rs s f t) r) ∙ none)) in
     let there : (after s f text).kind ≡ kind_after s.kind (pairs t) =
     ap (λ (o : Option Stop). (after_by o s f t).kind) none ∙ passed_kind s f t whole in
     subst IsSome (sym there) (kind_after_known s.kind (pairs t) first)

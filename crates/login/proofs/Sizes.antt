@@ -95,7 +95,8 @@ flag_short : (b : Bool) → length (value_text (Flag b)) ≤ 13
 flag_short true = omega arith
 flag_short false = omega arith
 
-either_short : (own : Bool) (f : Bool → Bool) (o : Option Bool) → IsShort (verdict (Either own) (option_map (λ b. Flag (f b)) o))
+either_short : (own : Bool) (f : Bool → Bool) (o : Option Bool)
+    → IsShort (verdict (Either own) (option_map (λ b. Flag (f b)) o))
 either_short own f None = omega arith
 either_short own f (Some b) = flag_short (f b)
 
@@ -143,7 +144,8 @@ answer_within key (Some value) h =
 
 answer_short : (p : Pair) → length (answer_text p.key (verdict_of p.key p.value)) ≤ length p.key + 15
 unfolding verdict_of
-answer_short p = answer_within p.key (verdict_of p.key p.value) (verdict_on_short (key_named p.key) p.value (small_named p.key))
+answer_short p = answer_within p.key (verdict_of p.key p.value)
+    (verdict_on_short (key_named p.key) p.value (small_named p.key))
 
 key_within : (part : List ℕ) → length (pair_of part).key ≤ length part
 key_within part = omega (arith, length-take (position_or_len (is_byte 61) part) part)
@@ -219,5 +221,6 @@ pub response_put : (s : Progress) (f : LoginFlags) (text out put : List ℕ) →
     → is_too_long s.said s.unfinished ≡ false → text ≡ s.unfinished → length out ≡ 0
     → put ≡ out ++ response s f (pairs text) → length put ≤ 9216
 response_put s f text out put tag h e empty all =
-    let k : length out + length (response s f (pairs text)) ≤ 9216 = response_room s f text out 9216 tag h e empty (omega arith) in
+    let k : length out + length (response s f (pairs text)) ≤ 9216 =
+        response_room s f text out 9216 tag h e empty (omega arith) in
     omega (arith, ap length all, length-append out (response s f (pairs text)))

@@ -25,7 +25,8 @@ long_first rules s f t h =
     when_false (is_too_long s.said t) (Refused InitiatorError) (first_none (length_rule s f t) (first_stop rules s f t) h)
 
 long_by : (continues first : Bool) (s : Progress) (f : LoginFlags) (t : List ℕ)
-    → first_stop (if continues then rules_of_part else flags_rule ∷ (if first then checks_of_first else checks_of_later)) s f t ≡ None
+    → first_stop (if continues then rules_of_part else flags_rule
+        ∷ (if first then checks_of_first else checks_of_later)) s f t ≡ None
     → is_too_long s.said t ≡ false
 long_by true first s f t h = long_first [] s f t (behind flags_rule (length_rule ∷ []) s f t h)
 long_by false true s f t h =
@@ -41,7 +42,8 @@ not_long s f t h = long_by f.continues (is_none s.kind) s f t h
 
 -- the rules look at the joined text, and not at what stood there before
 same_by : (continues first : Bool) (s : Progress) (f : LoginFlags) (w t : List ℕ)
-    → let rules : List Rule = if continues then rules_of_part else flags_rule ∷ (if first then checks_of_first else checks_of_later) in
+    → let rules : List Rule =
+        if continues then rules_of_part else flags_rule ∷ (if first then checks_of_first else checks_of_later) in
     first_stop rules (record s { unfinished = w }) f t ≡ first_stop rules s f t
 same_by true first s f w t = refl
 same_by false true s f w t = refl
@@ -56,14 +58,16 @@ pub judged : (s old : Progress) (f : LoginFlags) (w t text : List ℕ) (r : Opti
 judged s old f w t text r e joined same h =
     h ∙ indifferent s f w t ∙ ap (stop_of s f) (same ∙ joined) ∙ ap (λ (p : Progress). stop_of p f (p.unfinished ++ text)) e
 
-pub answer_stopped : (s : Progress) (f : LoginFlags) (text : List ℕ) (stop : Stop) → stop_of s f (s.unfinished ++ text) ≡ Some stop
+pub answer_stopped : (s : Progress) (f : LoginFlags) (text : List ℕ) (stop : Stop)
+    → stop_of s f (s.unfinished ++ text) ≡ Some stop
     → Stopped stop ≡ answer_to s f text
 unfolding answer_to
 answer_stopped s f text stop h =
     let whole : List ℕ = s.unfinished ++ text in
     sym (ap (λ (o : Option Stop). answer_by o f (response s f (pairs whole))) h)
 
-pub state_stopped : (s : Progress) (f : LoginFlags) (text : List ℕ) (stop : Stop) → stop_of s f (s.unfinished ++ text) ≡ Some stop
+pub state_stopped : (s : Progress) (f : LoginFlags) (text : List ℕ) (stop : Stop)
+    → stop_of s f (s.unfinished ++ text) ≡ Some stop
     → s ≡ after s f text
 unfolding after
 state_stopped s f text stop h =
@@ -78,7 +82,8 @@ restored s old u text w t n e here joined size cut =
     cut ∙ ap (λ (k : ℕ). take k w) size ∙ ap (take (length u)) joined ∙ take-append_seam u text ∙ here in
     ap (λ (x : List ℕ). record s { unfinished = x }) back ∙ e
 
-pub answer_passed : (s old : Progress) (f : LoginFlags) (w text : List ℕ) (ending : Ending) → s ≡ old → w ≡ s.unfinished ++ text
+pub answer_passed : (s old : Progress) (f : LoginFlags) (w text : List ℕ) (ending : Ending) → s ≡ old
+    → w ≡ s.unfinished ++ text
     → stop_of old f (old.unfinished ++ text) ≡ None
     → ending ≡ answer_by None f (response (record s { unfinished = w }) f (pairs w))
     → ending ≡ answer_to old f text

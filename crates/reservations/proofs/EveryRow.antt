@@ -46,7 +46,8 @@ sender_untold n notice (x ∷ xs) =
     (λ (f : same_nexus x.nexus n ≡ false). rw f (untold_one n x (code_for notice x.key) (told_of n notice xs) f rest))
     (cases_Bool (same_nexus x.nexus n))
 
-same_told : (n : Nexus) (a b : RegistryValue) (s t : List Told) → Done a s ≡ Done b t → code_told s n ≡ None → code_told t n ≡ None
+same_told : (n : Nexus) (a b : RegistryValue) (s t : List Told) → Done a s ≡ Done b t → code_told s n ≡ None
+    → code_told t n ≡ None
 same_told n a b s t is none = let same : s ≡ t = cc in ap (λ (ts : List Told). code_told ts n) (sym same) ∙ none
 
 pub row_untold : (row : PrRow) (r : RegistryValue) (n : Nexus) (q : PrOut) (new : RegistryValue) (told : List Told)
@@ -62,11 +63,14 @@ row_untold PreemptsKeyZero r n q new told is = absurd (cc)
 row_untold PreemptsNobody r n q new told is = absurd (cc)
 row_untold HolderUnregisters r n q new told is = same_told n _ new _ told is (sender_untold n _ r.registrants)
 row_untold Releases r n q new told is = same_told n _ new _ told is (sender_untold n _ r.registrants)
-row_untold Clears r n q new told is = same_told n _ new _ told is (sender_untold n (ToAll ReservationsPreempted) r.registrants)
+row_untold Clears r n q new told is =
+    same_told n _ new _ told is (sender_untold n (ToAll ReservationsPreempted) r.registrants)
 row_untold PreemptsHolder r n q new told is =
     same_told n _ new _ told is (sender_untold n (OfPreempted q.sakey (not (is_of_code r.reservation q.kind))) r.registrants)
-row_untold PreemptsAll r n q new told is = same_told n _ new _ told is (sender_untold n (ToAll RegistrationsPreempted) r.registrants)
-row_untold PreemptsRegistrants r n q new told is = same_told n _ new _ told is (sender_untold n (OfPreempted q.sakey false) r.registrants)
+row_untold PreemptsAll r n q new told is =
+    same_told n _ new _ told is (sender_untold n (ToAll RegistrationsPreempted) r.registrants)
+row_untold PreemptsRegistrants r n q new told is =
+    same_told n _ new _ told is (sender_untold n (OfPreempted q.sakey false) r.registrants)
 row_untold RegistersNothing r n q new told is = same_told n _ new _ told is refl
 row_untold Registers r n q new told is = same_told n _ new _ told is refl
 row_untold ChangesKey r n q new told is = same_told n _ new _ told is refl
@@ -100,11 +104,13 @@ next_generation action generation = if is_counted action then (generation + 1) %
 
 counted_one : (action : PrOutAction) (g : ℕ) (a b : RegistryValue) (s t : List Told) → Done a s ≡ Done b t
     → is_counted action ≡ true → a.generation ≡ (g + 1) % 2 ^ 32 → b.generation ≡ next_generation action g
-counted_one action g a b s t is counts one = let same : a ≡ b = cc in rw counts (ap (λ (v : RegistryValue). v.generation) (sym same) ∙ one)
+counted_one action g a b s t is counts one = let same : a ≡ b =
+    cc in rw counts (ap (λ (v : RegistryValue). v.generation) (sym same) ∙ one)
 
 counted_none : (action : PrOutAction) (g : ℕ) (a b : RegistryValue) (s t : List Told) → Done a s ≡ Done b t
     → is_counted action ≡ false → a.generation ≡ g → b.generation ≡ next_generation action g
-counted_none action g a b s t is stays none = let same : a ≡ b = cc in rw stays (ap (λ (v : RegistryValue). v.generation) (sym same) ∙ none)
+counted_none action g a b s t is stays none = let same : a ≡ b =
+    cc in rw stays (ap (λ (v : RegistryValue). v.generation) (sym same) ∙ none)
 
 pub row_counts : (row : PrRow) (r : RegistryValue) (n : Nexus) (q : PrOut) (new : RegistryValue) (told : List Told)
     → Fits row r n q → effect row r n q ≡ Done new told
@@ -118,19 +124,25 @@ row_counts ReleasesAnotherType r n q new told f is = absurd (cc)
 row_counts PreemptField r n q new told f is = absurd (cc)
 row_counts PreemptsKeyZero r n q new told f is = absurd (cc)
 row_counts PreemptsNobody r n q new told f is = absurd (cc)
-row_counts RegistersNothing r n q new told f is = counted_one q.action r.generation _ new _ told is (counting q.action f.1) refl
+row_counts RegistersNothing r n q new told f is =
+    counted_one q.action r.generation _ new _ told is (counting q.action f.1) refl
 row_counts Registers r n q new told f is = counted_one q.action r.generation _ new _ told is (counting q.action f.1) refl
 row_counts ChangesKey r n q new told f is = counted_one q.action r.generation _ new _ told is (counting q.action f.1) refl
-row_counts HolderUnregisters r n q new told f is = counted_one q.action r.generation _ new _ told is (counting q.action f.1) refl
-row_counts OtherUnregisters r n q new told f is = counted_one q.action r.generation _ new _ told is (counting q.action f.1) refl
+row_counts HolderUnregisters r n q new told f is =
+    counted_one q.action r.generation _ new _ told is (counting q.action f.1) refl
+row_counts OtherUnregisters r n q new told f is =
+    counted_one q.action r.generation _ new _ told is (counting q.action f.1) refl
 row_counts Reserves r n q new told f is = counted_none q.action r.generation _ new _ told is (ap is_counted f.1) refl
 row_counts ReservesAgain r n q new told f is = counted_none q.action r.generation _ new _ told is (ap is_counted f.1) refl
 row_counts ReleasesNothing r n q new told f is = counted_none q.action r.generation _ new _ told is (ap is_counted f.1) refl
 row_counts Releases r n q new told f is = counted_none q.action r.generation _ new _ told is (ap is_counted f.1) refl
 row_counts Clears r n q new told f is = counted_one q.action r.generation _ new _ told is (ap is_counted f.1) refl
-row_counts PreemptsHolder r n q new told f is = counted_one q.action r.generation _ new _ told is (counting_preempt q.action f.1) refl
-row_counts PreemptsAll r n q new told f is = counted_one q.action r.generation _ new _ told is (counting_preempt q.action f.1) refl
-row_counts PreemptsRegistrants r n q new told f is = counted_one q.action r.generation _ new _ told is (counting_preempt q.action f.1) refl
+row_counts PreemptsHolder r n q new told f is =
+    counted_one q.action r.generation _ new _ told is (counting_preempt q.action f.1) refl
+row_counts PreemptsAll r n q new told f is =
+    counted_one q.action r.generation _ new _ told is (counting_preempt q.action f.1) refl
+row_counts PreemptsRegistrants r n q new told f is =
+    counted_one q.action r.generation _ new _ told is (counting_preempt q.action f.1) refl
 
 -- ---- a preempted key
 
@@ -161,7 +173,8 @@ left_with n m key q xs keeps k =
     let it = found_passes (is_it m) (filter q xs) there.0 there.1 in
     sym (same_nexus_alike there.0.nexus m n it) ∙ keeps there.0 (found_kept (is_it m) q xs there.0 there.1) there.2
 
-keeps_without : (n : Nexus) (key : ℕ) (x : Registrant) → not (nat_eq x.key key) ≡ true → x.key ≡ key → same_nexus x.nexus n ≡ true
+keeps_without : (n : Nexus) (key : ℕ) (x : Registrant) → not (nat_eq x.key key) ≡ true → x.key ≡ key
+    → same_nexus x.nexus n ≡ true
 keeps_without n key x h is = absurd (let e = eq-eqb x.key key is in let f = rw e at h in cc)
 
 keeps_own : (n : Nexus) (key : ℕ) (x : Registrant) → same_nexus x.nexus n || not (nat_eq x.key key) ≡ true → x.key ≡ key

@@ -48,7 +48,8 @@ pub record AreRegistrants (xs : List Registrant) : Type 0 where
 pub listed_of : (xs : List Registrant) (res : Option Reservation) → IsSound xs res → AreRegistrants xs
 listed_of xs res s = record { ascending = s.ascending; few = s.few; keys = s.keys }
 
-pub sound_of : (xs : List Registrant) (res : Option Reservation) → AreRegistrants xs → is_sound_hold res xs ≡ true → IsSound xs res
+pub sound_of : (xs : List Registrant) (res : Option Reservation) → AreRegistrants xs → is_sound_hold res xs ≡ true
+    → IsSound xs res
 sound_of xs res l held = record { ascending = l.ascending; few = l.few; keys = l.keys; held = held }
 
 pub listed_filter : (p : Registrant → Bool) (xs : List Registrant) → AreRegistrants xs → AreRegistrants (filter p xs)
@@ -105,7 +106,8 @@ listed_joined n key xs l out nonzero room =
     record {
       ascending = ascending_joined n key xs l.ascending out;
       few = omega (arith, long, same, less);
-      keys = all_append P (before n xs) (it ∷ behind n xs) (all_filter P (λ (y : Registrant). is_lt (nexus_cmp y.nexus n)) xs l.keys)
+      keys = all_append P (before n xs) (it ∷ behind n xs)
+          (all_filter P (λ (y : Registrant). is_lt (nexus_cmp y.nexus n)) xs l.keys)
           (rw nonzero refl, all_filter P (λ (y : Registrant). is_gt (nexus_cmp y.nexus n)) xs l.keys);
     }
 

@@ -87,7 +87,8 @@ split b f g = ⊎_elim f g (cases_Bool b)
 abbrev SomeRow : RegistryValue → Nexus → PrOut → Type 0
 SomeRow r n q = (row : PrRow) × Fits row r n q
 
-row_registering : (r : RegistryValue) (n : Nexus) (q : PrOut) → Passes r n q → IsTrue (is_registering q.action) → SomeRow r n q
+row_registering : (r : RegistryValue) (n : Nexus) (q : PrOut) → Passes r n q
+    → IsTrue (is_registering q.action) → SomeRow r n q
 row_registering r n q p a =
     split (is_registered r.registrants n)
     (λ registered. split (nat_eq q.sakey 0)
@@ -135,7 +136,8 @@ row_preempting r n q p a =
     (λ victims. (PreemptsRegistrants, (p, a, reservation, none, victims)))
     (λ victims. (PreemptsNobody, (p, a, reservation, none, victims)))))
 
-row_of_passed : (action : PrOutAction) (r : RegistryValue) (n : Nexus) (q : PrOut) → q.action ≡ action → Passes r n q → SomeRow r n q
+row_of_passed : (action : PrOutAction) (r : RegistryValue) (n : Nexus) (q : PrOut) → q.action ≡ action
+    → Passes r n q → SomeRow r n q
 row_of_passed Register r n q is p = row_registering r n q p (rw is refl)
 row_of_passed Reserve r n q is p = row_reserving r n q p is
 row_of_passed Release r n q is p = row_releasing r n q p is

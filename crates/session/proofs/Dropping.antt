@@ -21,7 +21,8 @@ use Rattle.session.specs.Drops.{function_of, drops_by, found_unit}
 use Rattle.session.specs.TaskManagement.{there, drops_one, kept_by, management_of, IsManagedBy, IsManaged, reset_response, management_answer}
 use Rattle.session.proofs.TaskTurn.{keeps}
 
-pub no_r2t_managed : (n : Numbers) (x : ManagementHeader) (response : Option ℕ) → r2ts_of (management_answer n x response) ≡ []
+pub no_r2t_managed : (n : Numbers) (x : ManagementHeader) (response : Option ℕ)
+    → r2ts_of (management_answer n x response) ≡ []
 no_r2t_managed n x None = refl
 no_r2t_managed n x (Some response) = refl
 
@@ -70,7 +71,8 @@ module _ (x : ManagementHeader) (n : Numbers) where
   told Unserved one None call response k c = refl
   told Unserved one (Some unit) call response k c = refl
 
-  kept_so : (unit : Option ℕ) (cs : List Collecting) → filter (λ c. not (wanted (function_of x.function) unit c)) cs ≡ kept_by unit x cs
+  kept_so : (unit : Option ℕ) (cs : List Collecting)
+      → filter (λ c. not (wanted (function_of x.function) unit c)) cs ≡ kept_by unit x cs
   kept_so None cs = all_kept (λ c. not (wanted (function_of x.function) None c)) (λ c. refl) cs
   kept_so (Some unit) cs = refl
 
@@ -82,8 +84,10 @@ module _ (x : ManagementHeader) (n : Numbers) where
       (λ c. ap not (told (function_of x.function) (drops_one x cs) unit call response k c)) cs ∙ kept_so unit cs
 
 -- those that wait behind a request are those that its answer tells of
-pub kept_is : (units : ℕ) (cs : List Collecting) (x : ManagementHeader) (call : Option Asking) (response : Option ℕ) (kept : List Collecting)
+pub kept_is : (units : ℕ) (cs : List Collecting) (x : ManagementHeader) (call : Option Asking) (response : Option ℕ)
+    (kept : List Collecting)
     (n : Numbers) → IsManaged units cs x call response kept → filter (keeps x (management_answer n x response)) cs ≡ kept
 kept_is units cs x call response kept n k =
-    by_unit x n cs (there units k.comes_to.unit) call response (subst (λ (m : Management). IsManagedBy m call response) k.comes_to.is k.managed)
+    by_unit x n cs (there units k.comes_to.unit) call response
+        (subst (λ (m : Management). IsManagedBy m call response) k.comes_to.is k.managed)
     ∙ sym k.comes_to.kept_is

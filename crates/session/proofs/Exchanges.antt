@@ -25,7 +25,8 @@ use Rattle.session.proofs.Lawful.{at_each_more, at_each_none, at_each_of_more, a
 
 -- ---- lists
 
-pub all_more : {A : Type 0} (P : A → Type 0) (xs : List A) (x : A) → AllByRecursion P xs → P x → AllByRecursion P (xs ++ x ∷ [])
+pub all_more : {A : Type 0} (P : A → Type 0) (xs : List A) (x : A) → AllByRecursion P xs → P x
+    → AllByRecursion P (xs ++ x ∷ [])
 all_more P xs x k here = all_append P xs (x ∷ []) k (here, tt)
 
 -- ---- what stands behind one turn of a login more
@@ -43,7 +44,8 @@ or_assoc : (a b c : Option ℕ) → option_or a (option_or b c) ≡ option_or (o
 or_assoc None b c = refl
 or_assoc (Some n) b c = refl
 
-first_more : (ls : List LoginTurn) (l : LoginTurn) → first_cmd_sn (ls ++ l ∷ []) ≡ option_or (first_cmd_sn ls) (cmd_sn_in l.came)
+first_more : (ls : List LoginTurn) (l : LoginTurn)
+    → first_cmd_sn (ls ++ l ∷ []) ≡ option_or (first_cmd_sn ls) (cmd_sn_in l.came)
 first_more [] l = or_none (cmd_sn_in l.came)
 first_more (k ∷ ls) l =
     ap (option_or (cmd_sn_in k.came)) (first_more ls l) ∙ or_assoc (cmd_sn_in k.came) (first_cmd_sn ls) (cmd_sn_in l.came)
@@ -67,7 +69,8 @@ login_more target tag ls l =
 -- ---- what is known between two turns
 
 -- a login that goes on, of a session for which full feature phase waits
-pub record LogsIn (units : ℕ) (me : Identity) (opening : Opening) (c : Transcript) (v : LoginStanding) (s : Counters) : Type 0 where
+pub record LogsIn (units : ℕ) (me : Identity) (opening : Opening) (c : Transcript) (v : LoginStanding)
+    (s : Counters) : Type 0 where
   pub tag : ℕ
   pub opening_is : opening ≡ Login tag
   pub is_login : IsLogin me.target_name.now tag c.logins
@@ -89,7 +92,8 @@ HasBegun me (Login tag) ls kind start = IsBehindLogin me.target_name.now tag ls 
 HasBegun me (FullFeature kind' start') ls kind start = (kind ≡ kind') × (start ≡ start')
 
 lawful_behind : (units : ℕ) (me : Identity) (opening : Opening) (c : Transcript) (kind : Kind) (start : Start)
-    → HasLogin me opening c.logins → HasBegun me opening c.logins kind start → Lawful (setting_of units me kind start) c.turns
+    → HasLogin me opening c.logins → HasBegun me opening c.logins kind start
+    → Lawful (setting_of units me kind start) c.turns
     → IsLawful units me opening c
 lawful_behind units me (Login tag) c kind start login began lawful = (login, inr (kind, start, began, lawful))
 lawful_behind units me (FullFeature kind' start') c kind start login began lawful =
@@ -108,26 +112,32 @@ abbrev pub PhaseStands : ℕ → Identity → Opening → Transcript → Option 
 PhaseStands units me opening c None s = Serves units me opening c s
 PhaseStands units me opening c (Some v) s = LogsIn units me opening c v s
 
-pub lawful_now : (units : ℕ) (me : Identity) (opening : Opening) (c : Transcript) (login : Option LoginStanding) (s : Counters)
+pub lawful_now : (units : ℕ) (me : Identity) (opening : Opening) (c : Transcript)
+    (login : Option LoginStanding) (s : Counters)
     → PhaseStands units me opening c login s → IsLawful units me opening c
-lawful_now units me opening c None s k = lawful_behind units me opening c k.kind k.start k.has_login k.has_begun k.stands.lawful
+lawful_now units me opening c None s k =
+    lawful_behind units me opening c k.kind k.start k.has_login k.has_begun k.stands.lawful
 lawful_now units me opening c (Some v) s k =
     subst (λ (o : Opening). IsLawful units me o c) (sym k.opening_is) (k.is_login, inl k.no_turns)
 
 -- nothing waits while it logs in
-fresh_next : (b : Bool) (v : LoginStanding) (p p' : PhasesValue) → p.counters.standing.collecting ≡ [] → NextPhase b v p p' → IsFresh p'
+fresh_next : (b : Bool) (v : LoginStanding) (p p' : PhasesValue) → p.counters.standing.collecting ≡ []
+    → NextPhase b v p p' → IsFresh p'
 fresh_next false v p p' k next = rw next k
 fresh_next true v p p' k next = rw next.4 tt
 
 fresh_after : (login : Option LoginStanding) (s : Counters) (came : Incoming) (e : Exchange) (p' : PhasesValue)
-    → IsFresh (record { login = login; counters = s }) → ExchangeOf (record { login = login; counters = s }) came e p' → IsFresh p'
+    → IsFresh (record { login = login; counters = s })
+    → ExchangeOf (record { login = login; counters = s }) came e p' → IsFresh p'
 fresh_after None s came e p' k made = rw made.next tt
 fresh_after (Some v) s came e p' k made = fresh_next (begins made.turn.outcome) (login_after v came) _ p' k made.next
 
-pub fresh_more : (p : PhasesValue) (came : Incoming) (e : Exchange) (p' : PhasesValue) → IsFresh p → ExchangeOf p came e p' → IsFresh p'
+pub fresh_more : (p : PhasesValue) (came : Incoming) (e : Exchange) (p' : PhasesValue) → IsFresh p
+    → ExchangeOf p came e p' → IsFresh p'
 fresh_more p came e p' k made = fresh_after p.login p.counters came e p' k made
 
-pub fresh_opened : (units : ℕ) (me : Identity) (opening : Opening) (p : PhasesValue) → OpensWith units me opening p → IsFresh p
+pub fresh_opened : (units : ℕ) (me : Identity) (opening : Opening) (p : PhasesValue)
+    → OpensWith units me opening p → IsFresh p
 fresh_opened units me (Login tag) p k = rw k.0 (rw k.3 refl)
 fresh_opened units me (FullFeature kind start) p k = rw k.0 tt
 
@@ -153,7 +163,8 @@ module _ (units : ℕ) (me : Identity) (opening : Opening) (c : Transcript) (s :
     stands_now : Stands (setting_of units me k.kind k.start) (c.turns ++ t ∷ []) s'
     stands_now = stands_more (setting_of units me k.kind k.start) c.turns t came s s' k.stands k.goes_on made
 
-    serves_on : end_after t.verdict t.came t.call ≡ None → Serves units me opening (record c { turns = c.turns ++ t ∷ [] }) s'
+    serves_on : end_after t.verdict t.came t.call ≡ None
+        → Serves units me opening (record c { turns = c.turns ++ t ∷ [] }) s'
     serves_on on = record {
       has_login = k.has_login;
       kind = k.kind;
@@ -168,14 +179,16 @@ module _ (units : ℕ) (me : Identity) (opening : Opening) (c : Transcript) (s :
     served_more e p' is next = rw (is, next) (record {
       transcript = record c { turns = c.turns ++ t ∷ [] };
       exchanges_are = turn_exchanges;
-      lawful = lawful_behind units me opening (record c { turns = c.turns ++ t ∷ [] }) k.kind k.start k.has_login k.has_begun stands_now.lawful;
+      lawful = lawful_behind units me opening (record c { turns = c.turns ++ t ∷ [] }) k.kind k.start k.has_login
+          k.has_begun stands_now.lawful;
       stands = serves_on;
       came_is = made.came_is;
     })
 
 -- of a login
 module _ (units : ℕ) (me : Identity) (opening : Opening) (c : Transcript) (v : LoginStanding) (s : Counters)
-    (k : LogsIn units me opening c v s) (came : Incoming) (l : LoginTurn) (came_is : l.came ≡ came) (made : IsLoginTurn v l) where
+    (k : LogsIn units me opening c v s) (came : Incoming) (l : LoginTurn) (came_is : l.came ≡ came)
+        (made : IsLoginTurn v l) where
   abbrev logins_now : List LoginTurn
   logins_now = c.logins ++ l ∷ []
 
@@ -189,13 +202,17 @@ module _ (units : ℕ) (me : Identity) (opening : Opening) (c : Transcript) (v :
   login_exchanges =
       append-nil (map of_login logins_now) ∙ map_logins
       ∙ ap (λ (es : List Exchange). es ++ of_login l ∷ [])
-      (sym (ap (λ (ts : List Turn). map of_login c.logins ++ map of_turn ts) k.no_turns ∙ append-nil (map of_login c.logins)))
+      (sym (ap (λ (ts : List Turn). map of_login c.logins ++ map of_turn ts) k.no_turns
+          ∙ append-nil (map of_login c.logins)))
 
   login_now : IsLogin me.target_name.now k.tag logins_now
   login_now = record {
-    turns = at_each_of_more _ c.logins l k.is_login.turns (subst (λ (w : LoginStanding). IsLoginTurn w l) k.standing_is made);
-    none_begun = at_each_of_more (λ (before : List LoginTurn) (u : LoginTurn). NoneBegins before) c.logins l k.is_login.none_begun k.none_begins;
-    ends = at_each_of_more (λ (before : List LoginTurn) (u : LoginTurn). NoneEnds (map of_login before)) c.logins l k.is_login.ends k.none_ends;
+    turns = at_each_of_more _ c.logins l k.is_login.turns
+        (subst (λ (w : LoginStanding). IsLoginTurn w l) k.standing_is made);
+    none_begun = at_each_of_more (λ (before : List LoginTurn) (u : LoginTurn). NoneBegins before) c.logins l
+        k.is_login.none_begun k.none_begins;
+    ends = at_each_of_more (λ (before : List LoginTurn) (u : LoginTurn). NoneEnds (map of_login before)) c.logins l
+        k.is_login.ends k.none_ends;
   }
 
   standing_now : login_after v came ≡ login_standing me.target_name.now k.tag logins_now
@@ -204,10 +221,12 @@ module _ (units : ℕ) (me : Identity) (opening : Opening) (c : Transcript) (v :
       (sym k.standing_is) came_is (login_more me.target_name.now k.tag c.logins l)
 
   none_ends_now : login_end l.outcome ≡ None → NoneEnds (map of_login logins_now)
-  none_ends_now on = subst NoneEnds (sym map_logins) (all_more (λ (e : Exchange). e.end ≡ None) (map of_login c.logins) (of_login l) k.none_ends on)
+  none_ends_now on = subst NoneEnds (sym map_logins)
+      (all_more (λ (e : Exchange). e.end ≡ None) (map of_login c.logins) (of_login l) k.none_ends on)
 
   module _ (p' : PhasesValue) where
-    by_next : (b : Bool) → begins l.outcome ≡ b → NextPhase b (login_after v came) (record { login = Some v; counters = s }) p'
+    by_next : (b : Bool) → begins l.outcome ≡ b
+        → NextPhase b (login_after v came) (record { login = Some v; counters = s }) p'
         → login_end l.outcome ≡ None → PhaseStands units me opening logged p'.login p'.counters
     by_next false is next on = rw next (record {
       tag = k.tag;
@@ -224,20 +243,24 @@ module _ (units : ℕ) (me : Identity) (opening : Opening) (c : Transcript) (v :
     by_next true is next on =
         let behind = subst (λ (w : LoginStanding). IsStart w next.0) standing_now next.1 in
         let kind = kind_in (login_standing me.target_name.now k.tag logins_now).progress.kind in
-        let same : begun (record (s.setting) { kind = kind_in (login_after v came).progress.kind; start = next.0 }) ≡ begun (setting_of units me kind next.0) =
-        subst₂ (λ (m : Setting) (w : LoginStanding). begun (record m { kind = kind_in w.progress.kind; start = next.0 }) ≡ begun (setting_of units me kind next.0))
+        let same : begun (record (s.setting) { kind = kind_in (login_after v came).progress.kind;
+            start = next.0 }) ≡ begun (setting_of units me kind next.0) =
+        subst₂ (λ (m : Setting) (w : LoginStanding). begun
+            (record m { kind = kind_in w.progress.kind; start = next.0 }) ≡ begun (setting_of units me kind next.0))
         (sym (ap (λ (z : Counters). z.setting) k.waits)) (sym standing_now) refl in
         rw next.4 (record {
           has_login = subst (λ (o : Opening). HasLogin me o logins_now) (sym k.opening_is) login_now;
           kind = kind;
           start = next.0;
           has_begun = subst (λ (o : Opening). HasBegun me o logins_now kind next.0) (sym k.opening_is)
-              (record { began = record { front = c.logins; last = l; whole = refl; begun = is }; kind_is = refl; start_is = behind });
+              (record { began = record { front = c.logins; last = l; whole = refl; begun = is }; kind_is = refl;
+                  start_is = behind });
           stands = stands_none (setting_of units me kind next.0) _ next.2 next.3 same;
           goes_on = at_each_none (λ _ u. end_after u.verdict u.came u.call ≡ None);
         })
 
-    pub logged_more : (e : Exchange) → e ≡ of_login l → NextPhase (begins l.outcome) (login_after v came) (record { login = Some v; counters = s }) p'
+    pub logged_more : (e : Exchange) → e ≡ of_login l
+        → NextPhase (begins l.outcome) (login_after v came) (record { login = Some v; counters = s }) p'
         → More units me opening c came e p'
     logged_more e is next = rw is (record {
       transcript = logged;
@@ -251,8 +274,11 @@ module _ (units : ℕ) (me : Identity) (opening : Opening) (c : Transcript) (v :
 module _ (units : ℕ) (me : Identity) (opening : Opening) (c : Transcript) (came : Incoming) (e : Exchange) where
   by_phase : (login : Option LoginStanding) (s : Counters) (p' : PhasesValue) → PhaseStands units me opening c login s
       → ExchangeOf (record { login = login; counters = s }) came e p' → More units me opening c came e p'
-  by_phase None s p' k made = served_more units me opening c s k came made.turn p'.counters made.made e p' made.exchange_is (let is : p' ≡ record { login = None; counters = p'.counters } = rw made.next refl in is)
-  by_phase (Some v) s p' k made = logged_more units me opening c v s k came made.turn made.came_is made.made p' e made.exchange_is made.next
+  by_phase None s p' k made =
+      served_more units me opening c s k came made.turn p'.counters made.made e p' made.exchange_is
+          (let is : p' ≡ record { login = None; counters = p'.counters } = rw made.next refl in is)
+  by_phase (Some v) s p' k made =
+      logged_more units me opening c v s k came made.turn made.came_is made.made p' e made.exchange_is made.next
 
   pub one_more : (p p' : PhasesValue) → PhaseStands units me opening c p.login p.counters → ExchangeOf p came e p'
       → More units me opening c came e p'

@@ -86,7 +86,8 @@ module _ (s m : Counters) (came : Incoming) (v : Verdict) (call : Option Asking)
     sense = sense_part completion.sense
 
     abbrev the_response : ResponseHeader
-    the_response = response_for (numbers_at m.stat_sn m.standing) p transfer (length (data_ins_for (numbers_at 0 m.standing) p.task_tag m.setting.start.lengths sent_bytes)) completion
+    the_response = response_for (numbers_at m.stat_sn m.standing) p transfer
+        (length (data_ins_for (numbers_at 0 m.standing) p.task_tag m.setting.start.lengths sent_bytes)) completion
 
     abbrev the_outs : List Out
     the_outs = outs_of m.standing p.task_tag m.setting.start.lengths sent_bytes the_response sense (length sent_bytes) 0 0
@@ -97,7 +98,8 @@ module _ (s m : Counters) (came : Incoming) (v : Verdict) (call : Option Asking)
       last = the_response;
       segment = sense;
       own_is = refl;
-      no_other = outs_front m.standing p.task_tag m.setting.start.lengths sent_bytes the_response sense (length sent_bytes) 0 0;
+      no_other = outs_front m.standing p.task_tag m.setting.start.lengths sent_bytes the_response sense
+          (length sent_bytes) 0 0;
       tag = refl;
     }
 
@@ -110,28 +112,41 @@ module _ (s m : Counters) (came : Incoming) (v : Verdict) (call : Option Asking)
     reply_facts : outcome_of v call the_outs ≡ Some outcome → (HasOneResponse p the_outs → IsAnsweredAs p outcome the_outs)
         → IsToldAs outcome the_response sense → TurnFacts s (after_status m) came v call the_outs
     reply_facts outcome_is answered told =
-        let responses_are = outs_responses m.standing p.task_tag m.setting.start.lengths sent_bytes the_response sense (length sent_bytes) 0 0 in
-        let who : answered_in s.standing came v call the_outs ≡ Some the_answered = ap₂ (λ (o : Option CommandHeader) (w : Option Outcome). answered_by w o the_outs) t.who outcome_is in
+        let responses_are = outs_responses m.standing p.task_tag m.setting.start.lengths sent_bytes the_response sense
+            (length sent_bytes) 0 0 in
+        let who : answered_in s.standing came v call the_outs ≡ Some the_answered =
+            ap₂ (λ (o : Option CommandHeader) (w : Option Outcome). answered_by w o the_outs) t.who outcome_is in
         record {
           judged = t.judged;
-          windows = outs_windows m.standing p.task_tag m.setting.start.lengths sent_bytes the_response sense (length sent_bytes) 0 0 (record { expects = refl; reaches = refl });
+          windows = outs_windows m.standing p.task_tag m.setting.start.lengths sent_bytes the_response sense
+              (length sent_bytes) 0 0 (record { expects = refl; reaches = refl });
           transfers = rw no_r2ts tt;
           called = t.called;
           answered = rw who (answered one_response);
-          tiled = rw who (subst (λ (k : Setting). Tiles k.start.lengths p (data_ins the_outs) sent_bytes) t.setting (outs_tiled m.standing p.task_tag m.setting.start.lengths sent_bytes the_response sense p refl));
-          counted = rw (who, responses_are) (outs_count m.standing p.task_tag m.setting.start.lengths sent_bytes the_response sense (length sent_bytes) 0 0, tt);
-          residual = rw (who, responses_are) (asked, means, (record { underflow = less transfer (expected_transfer p); overflow = less (expected_transfer p) transfer; count = refl }, tt));
+          tiled = rw who (subst (λ (k : Setting). Tiles k.start.lengths p (data_ins the_outs) sent_bytes) t.setting
+              (outs_tiled m.standing p.task_tag m.setting.start.lengths sent_bytes the_response sense p refl));
+          counted = rw (who, responses_are)
+              (outs_count m.standing p.task_tag m.setting.start.lengths sent_bytes the_response sense
+                  (length sent_bytes) 0 0, tt);
+          residual = rw (who, responses_are)
+              (asked, means, (record { underflow = less transfer (expected_transfer p);
+                  overflow = less (expected_transfer p) transfer; count = refl }, tt));
           told = rw (who, responses_are) (told, tt);
-          rejected = t.kinds the_outs (outs_kinds m.standing p.task_tag m.setting.start.lengths sent_bytes the_response sense (length sent_bytes) 0 0) no_r2ts;
+          rejected = t.kinds the_outs
+              (outs_kinds m.standing p.task_tag m.setting.start.lengths sent_bytes the_response sense
+                  (length sent_bytes) 0 0) no_r2ts;
           requests = t.no_request the_outs;
           setting_is = t.setting;
           commands = t.commands;
-          statuses = inr (ap (λ (n : ℕ). wrap (n + 1)) t.status, outs_statuses m.standing p.task_tag m.setting.start.lengths sent_bytes the_response sense (length sent_bytes) 0 0 ∙ ap (λ (n : ℕ). n ∷ []) t.status);
+          statuses = inr (ap (λ (n : ℕ). wrap (n + 1)) t.status, outs_statuses m.standing p.task_tag
+              m.setting.start.lengths sent_bytes the_response sense (length sent_bytes) 0 0
+                  ∙ ap (λ (n : ℕ). n ∷ []) t.status);
           tags = inl (t.tag, no_r2ts);
         }
 
   gone_tiles : (r : Bool) → Tiles s.setting.start.lengths p [] (if r then take p.expected_length none_data else none_data)
-  gone_tiles true = rw (take_none p.expected_length) (record { joined = refl; each = λ k h e f. absurd (no_segment k (h, e) f) })
+  gone_tiles true = rw (take_none p.expected_length)
+      (record { joined = refl; each = λ k h e f. absurd (no_segment k (h, e) f) })
   gone_tiles false = record { joined = refl; each = λ k h e f. absurd (no_segment k (h, e) f) }
 
   abbrev gone_answered : Answered
@@ -139,7 +154,8 @@ module _ (s m : Counters) (came : Incoming) (v : Verdict) (call : Option Asking)
 
   gone_facts : outcome_of v call [] ≡ Some (by_target Gone) → TurnFacts s m came v call []
   gone_facts outcome_is =
-      let who : answered_in s.standing came v call [] ≡ Some gone_answered = ap₂ (λ (o : Option CommandHeader) (w : Option Outcome). answered_by w o []) t.who outcome_is in
+      let who : answered_in s.standing came v call [] ≡ Some gone_answered =
+          ap₂ (λ (o : Option CommandHeader) (w : Option Outcome). answered_by w o []) t.who outcome_is in
       record {
         judged = t.judged;
         windows = tt;
@@ -159,43 +175,63 @@ module _ (s m : Counters) (came : Incoming) (v : Verdict) (call : Option Asking)
       }
 
   -- by the target's answer
-  known : v ≡ Accepted → (answer : TargetAnswer) (unit : Option ℕ) (wants : Result Command CdbFault) (bytes : List ℕ) → call ≡ Some (served unit wants bytes answer)
+  known : v ≡ Accepted → (answer : TargetAnswer) (unit : Option ℕ) (wants : Result Command CdbFault) (bytes : List ℕ)
+      → call ≡ Some (served unit wants bytes answer)
       → (o : List Out) → outcome_of v call o ≡ Some (by_target answer)
   known accepted answer unit wants bytes is o = ap₂ (λ (w : Verdict) (c : Option Asking). outcome_of w c o) accepted is
 
-  by_target_facts : v ≡ Accepted → (answer : TargetAnswer) (unit : Option ℕ) (wants : Result Command CdbFault) (bytes : List ℕ)
+  by_target_facts : v ≡ Accepted
+      → (answer : TargetAnswer) (unit : Option ℕ) (wants : Result Command CdbFault) (bytes : List ℕ)
       → call ≡ Some (served unit wants bytes answer)
       → (outs : List Out) (s' : Counters) → TurnOnAnswer m p (need_of asked) answer outs s' → TurnFacts s s' came v call outs
   by_target_facts accepted (Replied a) unit wants bytes is outs s' k =
-      moved refl k.0 k.1 (reply_facts (by_target (Replied a)) (told COMPLETED a.status a.sense) (known accepted (Replied a) unit wants bytes is _) (λ o. o) (record { response = refl; status_is = refl; sense_is = refl }))
+      moved refl k.0 k.1 (reply_facts (by_target (Replied a)) (told COMPLETED a.status a.sense)
+          (known accepted (Replied a) unit wants bytes is _) (λ o. o)
+              (record { response = refl; status_is = refl; sense_is = refl }))
   by_target_facts accepted (Outside a) unit wants bytes is outs s' k =
-      moved refl k.0 k.1 (reply_facts (by_target (Outside a)) (told COMPLETED a.status a.sense) (known accepted (Outside a) unit wants bytes is _) (λ o. o) (record { response = refl; status_is = refl; sense_is = refl }))
+      moved refl k.0 k.1 (reply_facts (by_target (Outside a)) (told COMPLETED a.status a.sense)
+          (known accepted (Outside a) unit wants bytes is _) (λ o. o)
+              (record { response = refl; status_is = refl; sense_is = refl }))
   by_target_facts accepted Busy unit wants bytes is outs s' k =
-      moved refl k.0 k.1 (reply_facts (by_target Busy) busy (known accepted Busy unit wants bytes is _) (λ o. o) (record { response = refl; status_is = refl; sense_is = refl }))
+      moved refl k.0 k.1 (reply_facts (by_target Busy) busy (known accepted Busy unit wants bytes is _) (λ o. o)
+          (record { response = refl; status_is = refl; sense_is = refl }))
   by_target_facts accepted Halted unit wants bytes is outs s' k =
-      moved refl k.0 k.1 (reply_facts (by_target Halted) (told TARGET_FAILURE statuses.Good None) (known accepted Halted unit wants bytes is _) (λ o. o) (record { response = refl; status_is = refl; sense_is = refl }))
+      moved refl k.0 k.1 (reply_facts (by_target Halted) (told TARGET_FAILURE statuses.Good None)
+          (known accepted Halted unit wants bytes is _) (λ o. o)
+              (record { response = refl; status_is = refl; sense_is = refl }))
   by_target_facts accepted Gone unit wants bytes is outs s' k =
       moved refl k.0 k.1 (gone_facts (known accepted Gone unit wants bytes is []))
 
   -- without a call: there was no buffer, or the task set is full
-  no_buffer_facts : v ≡ Accepted → call ≡ None → (outs : List Out) (s' : Counters) → outs ≡ reply_with m p (need_of asked) [] busy → s' ≡ after_status m
+  no_buffer_facts : v ≡ Accepted → call ≡ None → (outs : List Out) (s' : Counters)
+      → outs ≡ reply_with m p (need_of asked) [] busy → s' ≡ after_status m
       → TurnFacts s s' came v call outs
   no_buffer_facts accepted none outs s' is next =
-      let ended : list_any (λ o. is_response o.header) (the_outs no_buffer busy) ≡ true = outs_ended m.standing p.task_tag m.setting.start.lengths (sent_bytes no_buffer busy) (the_response no_buffer busy) (sense no_buffer busy) (length (sent_bytes no_buffer busy)) 0 0 in
+      let ended : list_any (λ o. is_response o.header) (the_outs no_buffer busy) ≡ true =
+          outs_ended m.standing p.task_tag m.setting.start.lengths (sent_bytes no_buffer busy)
+              (the_response no_buffer busy) (sense no_buffer busy) (length (sent_bytes no_buffer busy)) 0 0 in
       let outcome_is : outcome_of v call (the_outs no_buffer busy) ≡ Some no_buffer =
-      ap₂ (λ (w : Verdict) (c : Option Asking). outcome_of w c (the_outs no_buffer busy)) accepted none ∙ ap (λ (b : Bool). if b then Some no_buffer else None) ended in
-      moved refl is next (reply_facts no_buffer busy outcome_is (λ o. o) (record { response = refl; status_is = refl; sense_is = refl }))
+      ap₂ (λ (w : Verdict) (c : Option Asking). outcome_of w c (the_outs no_buffer busy)) accepted none
+          ∙ ap (λ (b : Bool). if b then Some no_buffer else None) ended in
+      moved refl is next (reply_facts no_buffer busy outcome_is (λ o. o)
+          (record { response = refl; status_is = refl; sense_is = refl }))
 
-  full_facts : v ≡ Full → (outs : List Out) (s' : Counters) → outs ≡ reply_with m p (need_of asked) [] task_set_full → s' ≡ after_status m
+  full_facts : v ≡ Full → (outs : List Out) (s' : Counters) → outs ≡ reply_with m p (need_of asked) [] task_set_full
+      → s' ≡ after_status m
       → TurnFacts s s' came v call outs
   full_facts full outs s' is next =
-      moved refl is next (reply_facts set_full task_set_full (ap (λ (w : Verdict). outcome_of w call (the_outs set_full task_set_full)) full) (λ o. o) (record { response = refl; status_is = refl; sense_is = refl }))
+      moved refl is next (reply_facts set_full task_set_full
+          (ap (λ (w : Verdict). outcome_of w call (the_outs set_full task_set_full)) full) (λ o. o)
+              (record { response = refl; status_is = refl; sense_is = refl }))
 
   -- nothing, or the next R2T, goes out
-  waits_facts : (s' : Counters) → v ≡ Accepted → call ≡ None → s'.setting ≡ s.setting → s'.stat_sn ≡ s.stat_sn → s'.standing.exp_cmd_sn ≡ m.standing.exp_cmd_sn
+  waits_facts : (s' : Counters) → v ≡ Accepted → call ≡ None → s'.setting ≡ s.setting → s'.stat_sn ≡ s.stat_sn
+      → s'.standing.exp_cmd_sn ≡ m.standing.exp_cmd_sn
       → s'.standing.transfer_tag ≡ s.standing.transfer_tag → TurnFacts s s' came v call []
   waits_facts s' accepted none setting_same status_same cmd tag_same =
-      let who : answered_in s.standing came v call [] ≡ None = ap₂ (λ (o : Option CommandHeader) (w : Option Outcome). answered_by w o []) t.who (ap₂ (λ (w : Verdict) (c : Option Asking). outcome_of w c []) accepted none) in
+      let who : answered_in s.standing came v call [] ≡ None =
+          ap₂ (λ (o : Option CommandHeader) (w : Option Outcome). answered_by w o []) t.who
+              (ap₂ (λ (w : Verdict) (c : Option Asking). outcome_of w c []) accepted none) in
       record {
         judged = t.judged;
         windows = tt;
@@ -219,18 +255,23 @@ module _ (s n s' : Counters) (came : Incoming) (call : Option Asking) (p : Comma
     (called : IsCalled s.setting s.standing Accepted came call) (none : call ≡ None)
     (kinds : (outs : List Out) → AllByRecursion (λ o. IsOfCommand o.header) outs → IsRejected Accepted came outs)
     (no_request : (outs : List Out) → IsRequestAnswered s.setting s.standing Accepted came call outs)
-    (setting : n.setting ≡ s.setting) (status : n.stat_sn ≡ s.stat_sn) (tag : n.standing.transfer_tag ≡ s.standing.transfer_tag)
+    (setting : n.setting ≡ s.setting) (status : n.stat_sn ≡ s.stat_sn)
+        (tag : n.standing.transfer_tag ≡ s.standing.transfer_tag)
     (commands : ((n.standing.exp_cmd_sn ≡ s.standing.exp_cmd_sn) × (takes_number Accepted came ≡ false))
     ⊎ ((n.standing.exp_cmd_sn ≡ wrap (s.standing.exp_cmd_sn + 1)) × (takes_number Accepted came ≡ true))) where
-  asks_facts : (need bytes requests : ℕ) (outs : List Out) → TurnAsks n p need bytes requests next call outs → s' ≡ after_r2t n
+  asks_facts : (need bytes requests : ℕ) (outs : List Out) → TurnAsks n p need bytes requests next call outs
+      → s' ≡ after_r2t n
       → TurnFacts s s' came Accepted call outs
   asks_facts need bytes requests outs k after =
       let out : Out = record { header = R2t next; bytes = [] } in
-      let nobody : answered_in s.standing came Accepted call (out ∷ []) ≡ None = ap₂ (λ (o : Option CommandHeader) (w : Option Outcome). answered_by w o (out ∷ [])) who (ap (λ (c : Option Asking). outcome_of Accepted c (out ∷ [])) none) in
+      let nobody : answered_in s.standing came Accepted call (out ∷ []) ≡ None =
+          ap₂ (λ (o : Option CommandHeader) (w : Option Outcome). answered_by w o (out ∷ [])) who
+              (ap (λ (c : Option Asking). outcome_of Accepted c (out ∷ [])) none) in
       moved refl k.outs_are after (record {
         judged = judged;
         windows = (rw k.numbers (record { expects = refl; reaches = refl }), tt);
-        transfers = (record { transfer = k.transfer ∙ tag; status = ap (λ (z : Numbers). z.stat_sn) k.numbers ∙ status }, tt);
+        transfers = (record { transfer = k.transfer ∙ tag; status = ap (λ (z : Numbers). z.stat_sn) k.numbers
+            ∙ status }, tt);
         called = called;
         answered = rw nobody refl;
         tiled = rw nobody refl;
@@ -247,7 +288,8 @@ module _ (s n s' : Counters) (came : Incoming) (call : Option Asking) (p : Comma
 
 -- ---- a SCSI Command, and a Data-Out
 
-served_is : {call : Option Asking} {unit : Option ℕ} {wants : Result Command CdbFault} {bytes : List ℕ} {answer : TargetAnswer}
+served_is : {call : Option Asking} {unit : Option ℕ} {wants : Result Command CdbFault} {bytes : List ℕ}
+    {answer : TargetAnswer}
     → call ≡ Some (served unit wants bytes answer) → IsServed call
 served_is e = rw e tt
 
@@ -269,8 +311,10 @@ command_turn s b p d call serves judged = record {
   commands = commands_of p.immediate s.standing.exp_cmd_sn;
 }
 
-data_turn : (s : Counters) (b : List ℕ) (x : DataOutHeader) (d : List ℕ) (call : Option Asking) (this : Collecting) (cs : List Collecting) → IsServed call
-    → IsJudged s.setting s.standing (pdu b (Initiator (DataOut x)) d) Accepted → find (has_tag x.task_tag) s.standing.collecting ≡ Some this
+data_turn : (s : Counters) (b : List ℕ) (x : DataOutHeader) (d : List ℕ) (call : Option Asking) (this : Collecting)
+    (cs : List Collecting) → IsServed call
+    → IsJudged s.setting s.standing (pdu b (Initiator (DataOut x)) d) Accepted
+    → find (has_tag x.task_tag) s.standing.collecting ≡ Some this
     → IsTurnOf s (after_collecting cs s) (pdu b (Initiator (DataOut x)) d) Accepted call this.command
 data_turn s b x d call this cs serves judged found = record {
   judged = judged;
@@ -285,35 +329,50 @@ data_turn s b x d call this cs serves judged found = record {
 }
 
 opened_facts : (s s' : Counters) (b : List ℕ) (p : CommandHeader) (d : List ℕ) (call : Option Asking) (outs : List Out)
-    (asked : Result Command CdbFault) → Means p.cdb asked → IsJudged s.setting s.standing (pdu b (Initiator (ScsiCommand p)) d) Accepted
+    (asked : Result Command CdbFault) → Means p.cdb asked
+        → IsJudged s.setting s.standing (pdu b (Initiator (ScsiCommand p)) d) Accepted
     → TurnOpened s p asked d call outs s' → TurnFacts s s' (pdu b (Initiator (ScsiCommand p)) d) Accepted call outs
 opened_facts s s' b p d call outs asked means judged (calls h k) =
-    by_target_facts s (after_command p s) _ Accepted call p asked means (command_turn s b p d call (served_is k.call_is) judged) refl k.answer _ _ _ k.call_is outs s' k.answered
+    by_target_facts s (after_command p s) _ Accepted call p asked means
+        (command_turn s b p d call (served_is k.call_is) judged) refl k.answer _ _ _ k.call_is outs s' k.answered
 opened_facts s s' b p d call outs asked means judged (asks h next k after) =
-    asks_facts s _ s' (pdu b (Initiator (ScsiCommand p)) d) call p next judged refl (none_is k.no_call) k.no_call (λ os all. all) (λ os. tt) refl refl refl (commands_of p.immediate s.standing.exp_cmd_sn) _ _ _ outs k after
+    asks_facts s _ s' (pdu b (Initiator (ScsiCommand p)) d) call p next judged refl (none_is k.no_call) k.no_call
+        (λ os all. all) (λ os. tt) refl refl refl (commands_of p.immediate s.standing.exp_cmd_sn) _ _ _ outs k after
 opened_facts s s' b p d call outs asked means judged (turns_away h k) =
-    no_buffer_facts s (after_command p s) _ Accepted call p asked means (command_turn s b p d call (none_is k.no_call) judged) refl k.no_call outs s' k.outs_are k.next_is
+    no_buffer_facts s (after_command p s) _ Accepted call p asked means
+        (command_turn s b p d call (none_is k.no_call) judged) refl k.no_call outs s' k.outs_are k.next_is
 
-fed_facts : (s s' : Counters) (b : List ℕ) (x : DataOutHeader) (d : List ℕ) (call : Option Asking) (outs : List Out) (front : List Collecting) (this : Collecting) (back : List Collecting) (end : ℕ)
-    (asked : Result Command CdbFault) → Means this.command.cdb asked → IsJudged s.setting s.standing (pdu b (Initiator (DataOut x)) d) Accepted
+fed_facts : (s s' : Counters) (b : List ℕ) (x : DataOutHeader) (d : List ℕ) (call : Option Asking) (outs : List Out)
+    (front : List Collecting) (this : Collecting) (back : List Collecting) (end : ℕ)
+    (asked : Result Command CdbFault) → Means this.command.cdb asked
+        → IsJudged s.setting s.standing (pdu b (Initiator (DataOut x)) d) Accepted
     → find (has_tag x.task_tag) s.standing.collecting ≡ Some this
-    → TurnFed s front this back asked d end call outs s' → TurnFacts s s' (pdu b (Initiator (DataOut x)) d) Accepted call outs
+    → TurnFed s front this back asked d end call outs s'
+    → TurnFacts s s' (pdu b (Initiator (DataOut x)) d) Accepted call outs
 fed_facts s s' b x d call outs front this back end asked means judged found (fills h k) =
     moved refl k.outs_are k.next_is
-    (waits_facts s s _ Accepted call this.command asked means (data_turn s b x d call this s.standing.collecting (none_is k.no_call) judged found) (after_collecting (front ++ (fed this d ∷ back)) s) refl k.no_call refl refl refl refl)
+    (waits_facts s s _ Accepted call this.command asked means
+        (data_turn s b x d call this s.standing.collecting (none_is k.no_call) judged found)
+            (after_collecting (front ++ (fed this d ∷ back)) s) refl k.no_call refl refl refl refl)
 fed_facts s s' b x d call outs front this back end asked means judged found (asks_on all short next k after) =
-    asks_facts s _ s' (pdu b (Initiator (DataOut x)) d) call this.command next judged (ap (option_map (λ (c : Collecting). c.command)) found) (none_is k.no_call) k.no_call (λ os all. all) (λ os. tt) refl refl refl (inl (refl, refl)) _ _ _ outs k after
+    asks_facts s _ s' (pdu b (Initiator (DataOut x)) d) call this.command next judged
+        (ap (option_map (λ (c : Collecting). c.command)) found) (none_is k.no_call) k.no_call (λ os all. all)
+            (λ os. tt) refl refl refl (inl (refl, refl)) _ _ _ outs k after
 fed_facts s s' b x d call outs front this back end asked means judged found (calls_now h k) =
-    by_target_facts s _ _ Accepted call this.command asked means (data_turn s b x d call this (front ++ back) (served_is k.call_is) judged found) refl k.answer _ _ _ k.call_is outs s' k.answered
+    by_target_facts s _ _ Accepted call this.command asked means
+        (data_turn s b x d call this (front ++ back) (served_is k.call_is) judged found) refl k.answer _ _ _ k.call_is
+            outs s' k.answered
 
 accepted_facts : (came : Incoming) (s s' : Counters) (call : Option Asking) (outs : List Out)
-    → IsJudged s.setting s.standing came Accepted → TurnOnAccepted came s call outs s' → TurnFacts s s' came Accepted call outs
+    → IsJudged s.setting s.standing came Accepted → TurnOnAccepted came s call outs s'
+    → TurnFacts s s' came Accepted call outs
 accepted_facts (pdu b (Initiator (ScsiCommand p)) d) s s' call outs judged k =
     opened_facts s s' b p d call outs k.asked k.asked_by.means judged k.by
 accepted_facts (pdu b (Initiator (DataOut x)) d) s s' call outs judged k =
     fed_facts s s' b x d call outs k.front k.this k.back _ k.asked k.asked_by.means judged k.found k.by
 accepted_facts (pdu b (Initiator (NopOut p)) d) s s' call outs judged k = nop_facts b p d s s' call outs judged k
-accepted_facts (pdu b (Initiator (TaskManagementRequest p)) d) s s' call outs judged k = managed_facts b p d s s' call outs judged k
+accepted_facts (pdu b (Initiator (TaskManagementRequest p)) d) s s' call outs judged k =
+    managed_facts b p d s s' call outs judged k
 accepted_facts (pdu b (Initiator (TextRequest p)) d) s s' call outs judged k = text_facts b p d s s' call outs judged k
 accepted_facts (pdu b (Initiator (LogoutRequest p)) d) s s' call outs judged k = logout_facts b p d s s' call outs judged k
 accepted_facts came s s' call outs judged k = absurd k

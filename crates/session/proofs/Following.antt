@@ -42,7 +42,8 @@ consecutive setting ts k n next l here there =
 one_length : (p : CommandHeader) (own : List Out) → HasOneResponse p own → length (responses own) ≡ 1
 one_length p own k =
     let last : List Out = record { header = ScsiResponse k.last; bytes = k.segment } ∷ [] in
-    let parts : responses own ≡ responses k.front ++ responses last = ap responses k.own_is ∙ filter_map-append (λ o. response_with o.header o.bytes) k.front last in
+    let parts : responses own ≡ responses k.front ++ responses last = ap responses k.own_is
+        ∙ filter_map-append (λ o. response_with o.header o.bytes) k.front last in
     omega (arith, ap length parts, length-append (responses k.front) (responses last), ap length k.no_other)
 
 answered_length : (p : CommandHeader) (a : TargetAnswer) (own : List Out) → IsAnsweredBy p a own
@@ -53,7 +54,8 @@ answered_length p Busy own k = omega (arith, one_length p own k)
 answered_length p Halted own k = omega (arith, one_length p own k)
 answered_length p Gone own k = omega (arith, ap length k)
 
-outcome_length : (p : CommandHeader) (outcome : Outcome) (own : List Out) → IsAnsweredAs p outcome own → length (responses own) ≤ 1
+outcome_length : (p : CommandHeader) (outcome : Outcome) (own : List Out) → IsAnsweredAs p outcome own
+    → length (responses own) ≤ 1
 outcome_length p (by_target answer) own k = answered_length p answer own k
 outcome_length p no_buffer own k = omega (arith, one_length p own k)
 outcome_length p set_full own k = omega (arith, one_length p own k)
@@ -70,10 +72,12 @@ turn_count (Some outcome) (Some p) own k = outcome_length p outcome own k
 pub answered_once : (setting : Setting) (ts : List Turn) → Lawful setting ts
     → AtEach (λ before t. length (responses t.sent) ≤ 1) ts
 answered_once setting ts l before t behind e =
-    turn_count (outcome_of t.verdict t.call t.sent) (command_at (standing setting.start before) t.came) t.sent (l.answered before t behind e)
+    turn_count (outcome_of t.verdict t.call t.sent) (command_at (standing setting.start before) t.came) t.sent
+        (l.answered before t behind e)
 
 turn_unaccepted : (v : Verdict) (call : Option Asking) (p : Option CommandHeader) (own : List Out)
-    → IsAnsweredTask (answered_by (outcome_of v call own) p own) own → (v ≡ Accepted → ⊥) → (v ≡ Full → ⊥) → responses own ≡ []
+    → IsAnsweredTask (answered_by (outcome_of v call own) p own) own → (v ≡ Accepted → ⊥) → (v ≡ Full → ⊥)
+    → responses own ≡ []
 turn_unaccepted Accepted call p own k never full = absurd (never refl)
 turn_unaccepted Full call p own k never full = absurd (full refl)
 turn_unaccepted Ignored call p own k never full = k
@@ -83,13 +87,15 @@ turn_unaccepted (Refused reason) call p own k never full = k
 pub unaccepted : (setting : Setting) (ts : List Turn) → Lawful setting ts
     → AtEach (λ before t. (t.verdict ≡ Accepted → ⊥) → (t.verdict ≡ Full → ⊥) → responses t.sent ≡ []) ts
 unaccepted setting ts l before t behind e never full =
-    turn_unaccepted t.verdict t.call (command_at (standing setting.start before) t.came) t.sent (l.answered before t behind e) never full
+    turn_unaccepted t.verdict t.call (command_at (standing setting.start before) t.came) t.sent
+        (l.answered before t behind e) never full
 
 -- ---- one response at most in all turns of a command
 
 responses_more : (t : Turn) (ts : List Turn)
     → length (responses (sent (t ∷ ts))) ≡ length (responses t.sent) + length (responses (sent ts))
-responses_more t ts = ap length (filter_map-append (λ o. response_with o.header o.bytes) t.sent (sent ts)) ∙ length-append (responses t.sent) (responses (sent ts))
+responses_more t ts = ap length (filter_map-append (λ o. response_with o.header o.bytes) t.sent (sent ts))
+    ∙ length-append (responses t.sent) (responses (sent ts))
 
 no_one : (h : TargetHeader) (d : List ℕ) → is_response h ≡ false → response_with h d ≡ None
 no_one (NopIn r) d e = refl
@@ -125,12 +131,16 @@ through_one (t ∷ us) all = one (ends t) refl (through_one us all.1) where
   one : (b : Bool) → ends t ≡ b → length (responses (sent (through ends us))) ≤ 1
       → length (responses (sent (t ∷ (if b then [] else through ends us)))) ≤ 1
   one true e rest = omega (arith, responses_more t [], all.0)
-  one false e rest = omega (arith, responses_more t (through ends us), ap length (none_sent t.sent (or_left (list_any (λ o. is_response o.header) t.sent) (is_management t.came) (or_left (list_any (λ o. is_response o.header) t.sent || is_management t.came) (finds_gone t.call) e))), rest)
+  one false e rest = omega (arith, responses_more t (through ends us), ap length
+      (none_sent t.sent (or_left (list_any (λ o. is_response o.header) t.sent) (is_management t.came)
+          (or_left (list_any (λ o. is_response o.header) t.sent || is_management t.came) (finds_gone t.call) e))), rest)
 
-all_filter : (test : Turn → Bool) (us : List Turn) → AllByRecursion HasOneAtMost us → AllByRecursion HasOneAtMost (filter test us)
+all_filter : (test : Turn → Bool) (us : List Turn) → AllByRecursion HasOneAtMost us
+    → AllByRecursion HasOneAtMost (filter test us)
 all_filter test [] all = tt
 all_filter test (t ∷ us) all = one (test t) (all_filter test us all.1) where
-  one : (b : Bool) → AllByRecursion HasOneAtMost (filter test us) → AllByRecursion HasOneAtMost (if b then t ∷ filter test us else filter test us)
+  one : (b : Bool) → AllByRecursion HasOneAtMost (filter test us)
+      → AllByRecursion HasOneAtMost (if b then t ∷ filter test us else filter test us)
   one true rest = (all.0, rest)
   one false rest = rest
 
@@ -138,15 +148,20 @@ begun_once : (c : Option (CommandHeader × List ℕ)) (t : Turn) (behind : List 
     → AllByRecursion HasOneAtMost behind → AllByRecursion (λ k. length (responses (sent k.own)) ≤ 1) ks
     → AllByRecursion (λ k. length (responses (sent k.own)) ≤ 1) (cons_option (begun_by c t behind) ks)
 begun_once None t behind ks here all rest = rest
-begun_once (Some c) t behind ks here all rest = (through_one (t ∷ filter (touches c.0) behind) (here, all_filter (touches c.0) behind all), rest)
+begun_once (Some c) t behind ks here all rest =
+    (through_one (t ∷ filter (touches c.0) behind) (here, all_filter (touches c.0) behind all), rest)
 
-tasks_once : (ts : List Turn) → AllByRecursion HasOneAtMost ts → AllByRecursion (λ k. length (responses (sent k.own)) ≤ 1) (tasks ts)
+tasks_once : (ts : List Turn) → AllByRecursion HasOneAtMost ts
+    → AllByRecursion (λ k. length (responses (sent k.own)) ≤ 1) (tasks ts)
 tasks_once [] all = tt
-tasks_once (t ∷ behind) all = begun_once (accepted_command t.verdict t.came) t behind (tasks behind) all.0 all.1 (tasks_once behind all.1)
+tasks_once (t ∷ behind) all =
+    begun_once (accepted_command t.verdict t.came) t behind (tasks behind) all.0 all.1 (tasks_once behind all.1)
 
 each_of_all : (ts : List Turn) → AtEach (λ before t. HasOneAtMost t) ts → AllByRecursion HasOneAtMost ts
 each_of_all [] each = tt
-each_of_all (t ∷ ts) each = (each [] t ts refl, each_of_all ts (λ before u behind e. each (t ∷ before) u behind (ap (λ (us : List Turn). t ∷ us) e)))
+each_of_all (t ∷ ts) each =
+    (each [] t ts refl, each_of_all ts
+        (λ before u behind e. each (t ∷ before) u behind (ap (λ (us : List Turn). t ∷ us) e)))
 
 pub command_once : (setting : Setting) (ts : List Turn) → Lawful setting ts
     → AllByRecursion (λ k. length (responses (sent k.own)) ≤ 1) (tasks ts)
@@ -157,19 +172,26 @@ command_once setting ts l = tasks_once ts (each_of_all ts (answered_once setting
 sent_to_a_read : (p : CommandHeader) (bytes : List ℕ) → IsTrue p.read → sent_data p bytes ≡ take p.expected_length bytes
 sent_to_a_read p bytes e = ap (λ (r : Bool). if r then take p.expected_length bytes else []) e
 
-turn_data : (l : Lengths) (st : Standing) (v : Verdict) (came : Incoming) (asked : Option Asking) (own : List Out) (b : List ℕ) (p : CommandHeader) (d : List ℕ)
+turn_data : (l : Lengths) (st : Standing) (v : Verdict) (came : Incoming) (asked : Option Asking) (own : List Out)
+    (b : List ℕ) (p : CommandHeader) (d : List ℕ)
     (unit : Option ℕ) (means : Result Command CdbFault) (bytes : List ℕ) (answer : TargetAnswer)
-    → v ≡ Accepted → came ≡ pdu b (Initiator (ScsiCommand p)) d → asked ≡ Some (served unit means bytes answer) → IsTrue p.read
+    → v ≡ Accepted → came ≡ pdu b (Initiator (ScsiCommand p)) d
+    → asked ≡ Some (served unit means bytes answer) → IsTrue p.read
     → IsTiledTask l (answered_in st came v asked own) own
     → joined_data (data_ins own) ≡ take p.expected_length (reply_data answer)
-turn_data l st v came asked own b p d unit means bytes answer e f g r = rw (e, f, g) (λ k. k.joined ∙ sent_to_a_read p (reply_data answer) r)
+turn_data l st v came asked own b p d unit means bytes answer e f g r =
+    rw (e, f, g) (λ k. k.joined ∙ sent_to_a_read p (reply_data answer) r)
 
 pub read_data : (setting : Setting) (ts : List Turn) → Lawful setting ts
-    → AtEach (λ before t. (p : CommandHeader) (answer : TargetAnswer) → IsCallTurn t p answer → IsTrue p.read → joined_data (data_ins t.sent) ≡ take p.expected_length (reply_data answer)) ts
+    → AtEach (λ before t. (p : CommandHeader) (answer : TargetAnswer) → IsCallTurn t p answer → IsTrue p.read
+        → joined_data (data_ins t.sent) ≡ take p.expected_length (reply_data answer)) ts
 read_data setting ts l before t behind e p answer is reads =
-    turn_data setting.start.lengths (standing setting.start before) t.verdict t.came t.call t.sent is.bhs p is.segment is.unit is.asked is.bytes answer is.accepted is.came is.called reads (l.tiled before t behind e)
+    turn_data setting.start.lengths (standing setting.start before) t.verdict t.came t.call t.sent is.bhs p is.segment
+        is.unit is.asked is.bytes answer is.accepted is.came is.called reads (l.tiled before t behind e)
 
 pub read_size : (setting : Setting) (ts : List Turn) → Lawful setting ts
-    → AtEach (λ before t. (p : CommandHeader) (answer : TargetAnswer) → IsCallTurn t p answer → IsTrue p.read → length (joined_data (data_ins t.sent)) ≡ min p.expected_length (length (reply_data answer))) ts
+    → AtEach (λ before t. (p : CommandHeader) (answer : TargetAnswer) → IsCallTurn t p answer → IsTrue p.read
+        → length (joined_data (data_ins t.sent)) ≡ min p.expected_length (length (reply_data answer))) ts
 read_size setting ts l before t behind e p answer is reads =
-    ap length (read_data setting ts l before t behind e p answer is reads) ∙ length-take p.expected_length (reply_data answer)
+    ap length (read_data setting ts l before t behind e p answer is reads)
+        ∙ length-take p.expected_length (reply_data answer)

@@ -62,12 +62,15 @@ module _ (target : List ℕ) (tag : ℕ) where
       → status_numbers (login_sent (l ∷ ls)) ≡ wrap (1 + length before) ∷ status_numbers (login_sent ls)
   first_out before l ls each =
       status_append l.sent (login_sent ls)
-      ∙ ap (λ (ns : List ℕ). ns ++ status_numbers (login_sent ls)) (login_out (login_standing target tag before) l (each before l ls refl))
+      ∙ ap (λ (ns : List ℕ). ns ++ status_numbers (login_sent ls))
+          (login_out (login_standing target tag before) l (each before l ls refl))
 
-  behind_one : (before : List LoginTurn) (l : LoginTurn) (ls : List LoginTurn) → AreTurns (before ++ l ∷ ls) → AreTurns ((before ++ l ∷ []) ++ ls)
+  behind_one : (before : List LoginTurn) (l : LoginTurn) (ls : List LoginTurn) → AreTurns (before ++ l ∷ ls)
+      → AreTurns ((before ++ l ∷ []) ++ ls)
   behind_one before l ls each = subst AreTurns (sym (append_assoc before (l ∷ []) ls)) each
 
-  login_length : (before rest : List LoginTurn) → AreTurns (before ++ rest) → length (status_numbers (login_sent rest)) ≡ length rest
+  login_length : (before rest : List LoginTurn) → AreTurns (before ++ rest)
+      → length (status_numbers (login_sent rest)) ≡ length rest
   login_length before [] each = refl
   login_length before (l ∷ ls) each =
       ap length (first_out before l ls each) ∙ ap suc (login_length (before ++ l ∷ []) ls (behind_one before l ls each))
@@ -77,12 +80,15 @@ module _ (target : List ℕ) (tag : ℕ) where
   login_count before [] each zero n e = absurd (cc)
   login_count before [] each (suc k) n e = absurd (cc)
   login_count before (l ∷ ls) each zero n e =
-      let here : slice_get (wrap (1 + length before) ∷ status_numbers (login_sent ls)) zero ≡ Some n = subst (λ (ns : List ℕ). slice_get ns zero ≡ Some n) (first_out before l ls each) e in
+      let here : slice_get (wrap (1 + length before) ∷ status_numbers (login_sent ls)) zero ≡ Some n =
+          subst (λ (ns : List ℕ). slice_get ns zero ≡ Some n) (first_out before l ls each) e in
       let same : n ≡ wrap (1 + length before) = cc in
       same ∙ ap wrap (let f : 1 + length before ≡ 1 + length before + zero = omega arith in f)
   login_count before (l ∷ ls) each (suc k) n e =
-      login_count (before ++ l ∷ []) ls (behind_one before l ls each) k n (subst (λ (ns : List ℕ). slice_get ns (suc k) ≡ Some n) (first_out before l ls each) e)
-      ∙ ap wrap (let f : 1 + length (before ++ l ∷ []) + k ≡ 1 + length before + suc k = omega (arith, length-append before (l ∷ [])) in f)
+      login_count (before ++ l ∷ []) ls (behind_one before l ls each) k n
+          (subst (λ (ns : List ℕ). slice_get ns (suc k) ≡ Some n) (first_out before l ls each) e)
+      ∙ ap wrap (let f : 1 + length (before ++ l ∷ []) + k ≡ 1 + length before + suc k =
+          omega (arith, length-append before (l ∷ [])) in f)
 
 -- ---- both phases
 
@@ -90,7 +96,9 @@ get_append : (xs ys : List ℕ) (k n : ℕ) → slice_get (xs ++ ys) k ≡ Some 
     → (slice_get xs k ≡ Some n) ⊎ ((j : ℕ) × (k ≡ length xs + j) × (slice_get ys j ≡ Some n))
 get_append [] ys k n e = inr (k, (let f : k ≡ 0 + k = omega arith in f), e)
 get_append (x ∷ xs) ys zero n e = inl e
-get_append (x ∷ xs) ys (suc k) n e = elim (get_append xs ys k n e) [ inl w ↦ inl w | inr w ↦ inr (w.0, (let f : suc k ≡ suc (length xs) + w.0 = omega (arith, w.1) in f), w.2) ]
+get_append (x ∷ xs) ys (suc k) n e =
+    elim (get_append xs ys k n e) [ inl w ↦ inl w | inr w ↦
+        inr (w.0, (let f : suc k ≡ suc (length xs) + w.0 = omega (arith, w.1) in f), w.2) ]
 
 of_logins : (ls : List LoginTurn) → outgoing (map of_login ls) ≡ login_sent ls
 of_logins [] = refl
@@ -100,7 +108,8 @@ of_turns : (ts : List Turn) → outgoing (map of_turn ts) ≡ sent ts
 of_turns [] = refl
 of_turns (t ∷ ts) = ap (λ (o : List Out). t.sent ++ o) (of_turns ts)
 
-all_sent : (c : Transcript) → status_numbers (outgoing (exchanges c)) ≡ status_numbers (login_sent c.logins) ++ status_numbers (sent c.turns)
+all_sent : (c : Transcript)
+    → status_numbers (outgoing (exchanges c)) ≡ status_numbers (login_sent c.logins) ++ status_numbers (sent c.turns)
 all_sent c =
     ap status_numbers (flat_map-append (λ e. e.sent) (map of_login c.logins) (map of_turn c.turns))
     ∙ status_append (outgoing (map of_login c.logins)) (outgoing (map of_turn c.turns))
@@ -115,11 +124,14 @@ pub counts_on : (units : ℕ) (me : Identity) (tag : ℕ) (c : Transcript) → I
     → slice_get (status_numbers (outgoing (exchanges c))) k ≡ Some n → n ≡ wrap (1 + k)
 counts_on units me tag c lawful k n e =
     let target = me.target_name.now in
-    let long : length (status_numbers (login_sent c.logins)) ≡ length c.logins = login_length target tag [] c.logins lawful.0.turns in
-    elim (get_append (status_numbers (login_sent c.logins)) (status_numbers (sent c.turns)) k n (subst (λ (ns : List ℕ). slice_get ns k ≡ Some n) (all_sent c) e)) [
+    let long : length (status_numbers (login_sent c.logins)) ≡ length c.logins =
+        login_length target tag [] c.logins lawful.0.turns in
+    elim (get_append (status_numbers (login_sent c.logins)) (status_numbers (sent c.turns)) k n
+        (subst (λ (ns : List ℕ). slice_get ns k ≡ Some n) (all_sent c) e)) [
       | inl w ↦ login_count target tag [] c.logins lawful.0.turns k n w
       | inr w ↦ elim lawful.1 [
-        | inl none ↦ absurd (none_there w.0 n (subst (λ (ts : List Turn). slice_get (status_numbers (sent ts)) w.0 ≡ Some n) none w.2))
+        | inl none ↦ absurd (none_there w.0 n
+            (subst (λ (ts : List Turn). slice_get (status_numbers (sent ts)) w.0 ≡ Some n) none w.2))
         | inr behind ↦
             behind.3.numbered w.0 n w.2
             ∙ ap (λ (m : ℕ). wrap (m + w.0)) behind.2.start_is.stat_sn

@@ -30,57 +30,70 @@ use Rattle.session.specs.declared.verdict.Verdict.TheVariants.{Accepted, Ignored
 use Rattle.session.specs.declared.verdict.TheConstants.{PROTOCOL_ERROR}
 use Rattle.session.proofs.Places.{stands_one}
 
-pub count_append : (xs ys : List Collecting) → count_by shrinks_window (xs ++ ys) ≡ count_by shrinks_window xs + count_by shrinks_window ys
+pub count_append : (xs ys : List Collecting)
+    → count_by shrinks_window (xs ++ ys) ≡ count_by shrinks_window xs + count_by shrinks_window ys
 count_append xs ys = sum_by-append (λ c. cond (shrinks_window c) 1 0) xs ys
 
 unwrapped : (n : ℕ) → n < 4294967296 → n ≡ wrap n
 unwrapped n h = omega (arith, h)
 
 -- the call of a command whose data has all come
-pub called_on : (this f : Collecting) (d : List ℕ) (done : Collected) (bytes : CommandData) (a : Actions) → f ≡ fed this d → IsFinished f done
+pub called_on : (this f : Collecting) (d : List ℕ) (done : Collected) (bytes : CommandData) (a : Actions)
+    → f ≡ fed this d → IsFinished f done
     → call_data bytes ≡ done.bytes.items
-    → ((gathered : List ℕ) → call_data bytes ≡ data_for done.command (need_of done.asked) gathered → Calls done.command done.asked gathered a)
+    → ((gathered : List ℕ) → call_data bytes ≡ data_for done.command (need_of done.asked) gathered
+        → Calls done.command done.asked gathered a)
     → Calls this.command done.asked (this.bytes ++ d) a
 called_on this f d done bytes a fed_is finished same_bytes calls =
     let command_is : done.command ≡ this.command = finished.command_is ∙ ap (λ (c : Collecting). c.command) fed_is in
     let data_is : call_data bytes ≡ data_for this.command (need_of done.asked) (this.bytes ++ d) =
     same_bytes ∙ finished.bytes_are ∙ ap (λ (c : Collecting). data_for c.command (need_of done.asked) c.bytes) fed_is in
     subst (λ (p : CommandHeader). Calls p done.asked (this.bytes ++ d) a) command_is
-    (calls (this.bytes ++ d) (data_is ∙ ap (λ (p : CommandHeader). data_for p (need_of done.asked) (this.bytes ++ d)) (sym command_is)))
+    (calls (this.bytes ++ d) (data_is
+        ∙ ap (λ (p : CommandHeader). data_for p (need_of done.asked) (this.bytes ++ d)) (sym command_is)))
 
-pub asked_on_by : (this f : Collecting) (d : List ℕ) (asked : Result Command CdbFault) → f ≡ fed this d → IsAskedBy f.command asked → IsAskedBy this.command asked
+pub asked_on_by : (this f : Collecting) (d : List ℕ) (asked : Result Command CdbFault) → f ≡ fed this d
+    → IsAskedBy f.command asked → IsAskedBy this.command asked
 asked_on_by this f d asked e k = subst (λ (c : Collecting). IsAskedBy c.command asked) e k
 
-pub still_asked : (this f : Collecting) (d : List ℕ) (asked : Result Command CdbFault) → f ≡ fed this d → IsAskedBy this.command asked → IsAskedBy f.command asked
+pub still_asked : (this f : Collecting) (d : List ℕ) (asked : Result Command CdbFault) → f ≡ fed this d
+    → IsAskedBy this.command asked → IsAskedBy f.command asked
 still_asked this f d asked e k = subst (λ (c : Collecting). IsAskedBy c.command asked) (sym e) k
 
 abbrev pub view_of : ℕ → Setting → ℕ → List Collecting → ℕ → Counters
-view_of stat_sn setting exp_cmd_sn cs tag = record { setting = setting; stat_sn = stat_sn; standing = record { exp_cmd_sn = exp_cmd_sn; collecting = cs; transfer_tag = tag } }
+view_of stat_sn setting exp_cmd_sn cs tag =
+    record { setting = setting; stat_sn = stat_sn; standing =
+        record { exp_cmd_sn = exp_cmd_sn; collecting = cs; transfer_tag = tag } }
 
 -- what the one thing that the CDB asks for needs
 pub need_is_of : (p : CommandHeader) (asked : Result Command CdbFault) → IsAskedBy p asked → NeedIs p (need_of asked)
 need_is_of p asked k other means = ap need_of (sym (k.only other means))
 
 -- whether all that the R2T asks for has come
-not_filled : (this f : Collecting) (d : List ℕ) (request : R2tHeader) (b : Bool) → this.outstanding ≡ Some request → f ≡ fed this d
+not_filled : (this f : Collecting) (d : List ℕ) (request : R2tHeader) (b : Bool) → this.outstanding ≡ Some request
+    → f ≡ fed this d
     → IfSome f.outstanding (λ r. b ≡ nat_le (r.offset + r.desired_length) (length f.bytes)) → b ≡ false
     → length (this.bytes ++ d) < request.offset + request.desired_length
 not_filled this f d request b e g k unfilled =
     let told : IfSome (Some request) (λ r. b ≡ nat_le (r.offset + r.desired_length) (length (this.bytes ++ d))) =
     subst (λ (o : Option R2tHeader). IfSome o (λ r. b ≡ nat_le (r.offset + r.desired_length) (length (this.bytes ++ d)))) e
-    (subst (λ (c : Collecting). IfSome c.outstanding (λ r. b ≡ nat_le (r.offset + r.desired_length) (length c.bytes))) g k) in
+    (subst (λ (c : Collecting). IfSome c.outstanding
+        (λ r. b ≡ nat_le (r.offset + r.desired_length) (length c.bytes))) g k) in
     leb-false (request.offset + request.desired_length) (length (this.bytes ++ d)) (sym told ∙ unfilled)
 
-is_filled : (this f : Collecting) (d : List ℕ) (request : R2tHeader) (b : Bool) → this.outstanding ≡ Some request → f ≡ fed this d
+is_filled : (this f : Collecting) (d : List ℕ) (request : R2tHeader) (b : Bool) → this.outstanding ≡ Some request
+    → f ≡ fed this d
     → IfSome f.outstanding (λ r. b ≡ nat_le (r.offset + r.desired_length) (length f.bytes)) → b ≡ true
     → request.offset + request.desired_length ≤ length (this.bytes ++ d)
 is_filled this f d request b e g k full_of =
     let told : IfSome (Some request) (λ r. b ≡ nat_le (r.offset + r.desired_length) (length (this.bytes ++ d))) =
     subst (λ (o : Option R2tHeader). IfSome o (λ r. b ≡ nat_le (r.offset + r.desired_length) (length (this.bytes ++ d)))) e
-    (subst (λ (c : Collecting). IfSome c.outstanding (λ r. b ≡ nat_le (r.offset + r.desired_length) (length c.bytes))) g k) in
+    (subst (λ (c : Collecting). IfSome c.outstanding
+        (λ r. b ≡ nat_le (r.offset + r.desired_length) (length c.bytes))) g k) in
     leb-true (request.offset + request.desired_length) (length (this.bytes ++ d)) (sym told ∙ full_of)
 
-module _ (s : Counters) (at : ℕ) (x : DataOutHeader) (d : List ℕ) (can : CanTake s at x d) (this : Collecting) (w rest : List Collecting)
+module _ (s : Counters) (at : ℕ) (x : DataOutHeader) (d : List ℕ) (can : CanTake s at x d) (this : Collecting)
+    (w rest : List Collecting)
     (here : w ≡ s.standing.collecting) (removed : IsRemoved w rest at this) where
   abbrev r : IsRemoved s.standing.collecting rest at this
   r = subst (λ (z : List Collecting). IsRemoved z rest at this) here removed
@@ -119,37 +132,66 @@ module _ (s : Counters) (at : ℕ) (x : DataOutHeader) (d : List ℕ) (can : Can
   -- as many numbered ones wait as before
   count_same : (c : Collecting) → shrinks_window c ≡ shrinks_window this
       → count_by shrinks_window s.standing.collecting ≡ count_by shrinks_window (r.stands.front ++ (c ∷ r.stands.back))
-  count_same c e = ap (count_by shrinks_window) r.stands.whole ∙ omega (arith, count_append r.stands.front (this ∷ r.stands.back), count_append (this ∷ []) r.stands.back, count_append r.stands.front (c ∷ r.stands.back), count_append (c ∷ []) r.stands.back, ap {B = ℕ} (λ (b : Bool). cond b 1 0) e)
+  count_same c e = ap (count_by shrinks_window) r.stands.whole
+      ∙ omega (arith, count_append r.stands.front (this ∷ r.stands.back), count_append
+          (this ∷ []) r.stands.back, count_append r.stands.front (c ∷ r.stands.back), count_append
+              (c ∷ []) r.stands.back, ap {B = ℕ} (λ (b : Bool). cond b 1 0) e)
 
   module _ (f : Collecting) (b : Bool) (fed_is : f ≡ fed this d)
       (told : IfSome f.outstanding (λ q. b ≡ nat_le (q.offset + q.desired_length) (length f.bytes))) where
-    pub on_filling : b ≡ false → (asked : Result Command CdbFault) → IsAskedBy this.command asked → (a : Actions) (s' : Counters) (new : List Collecting)
+    pub on_filling : b ≡ false → (asked : Result Command CdbFault) → IsAskedBy this.command asked
+        → (a : Actions) (s' : Counters) (new : List Collecting)
         → IsSilent a → end_of a ≡ None → Inserts f new → s' ≡ after_collecting new s → OnData s x d a s'
     on_filling unfilled asked asked_by a s' new silent no_end insert after =
-        on_data asked asked_by a s' (fills (not_filled this f d continues.request b continues.outstanding fed_is told unfilled) silent no_end
-        (after ∙ ap (λ (cs : List Collecting). after_collecting cs s) (inserted f new insert ∙ ap (λ (c : Collecting). r.stands.front ++ (c ∷ r.stands.back)) fed_is)))
+        on_data asked asked_by a s'
+            (fills (not_filled this f d continues.request b continues.outstanding fed_is told unfilled) silent no_end
+        (after ∙ ap (λ (cs : List Collecting). after_collecting cs s) (inserted f new insert
+            ∙ ap (λ (c : Collecting). r.stands.front ++ (c ∷ r.stands.back)) fed_is)))
 
     pub on_calling : (asked : Result Command CdbFault) → IsAskedBy this.command asked → (a : Actions) (s' : Counters)
-        → need_of asked ≤ length f.bytes → Calls this.command asked (this.bytes ++ d) a → s' ≡ after_collecting rest s → OnData s x d a s'
+        → need_of asked ≤ length f.bytes → Calls this.command asked (this.bytes ++ d) a → s' ≡ after_collecting rest s
+        → OnData s x d a s'
     on_calling asked asked_by a s' enough called after =
-        on_data asked asked_by a s' (calls_now (omega (arith, enough, ap (λ (c : Collecting). length c.bytes) fed_is)) called (after ∙ ap (λ (cs : List Collecting). after_collecting cs s) r.after))
+        on_data asked asked_by a s'
+            (calls_now (omega (arith, enough, ap (λ (c : Collecting). length c.bytes) fed_is)) called (after
+                ∙ ap (λ (cs : List Collecting). after_collecting cs s) r.after))
 
-    pub on_asking : b ≡ true → (asked : Result Command CdbFault) → IsAskedBy this.command asked → (a : Actions) (s' : Counters) (new : List Collecting) (g : Collecting) (next : R2tHeader) (waiting : ℕ)
-        → this.requests < 4294967296 → length f.bytes < need_of asked → g ≡ asked_on f (need_of asked) (r2t_with_for s waiting) → waiting ≡ count_by shrinks_window w → g.outstanding ≡ Some next
-        → Inserts g new → pdus_of a ≡ pdus.R2t next → call_of a ≡ None → end_of a ≡ None → s' ≡ after_r2t (after_collecting new s) → OnData s x d a s'
-    on_asking full_of asked asked_by a s' new g next waiting fits short asked_is counted out insert pdus_are no_call no_end after =
+    pub on_asking : b ≡ true → (asked : Result Command CdbFault) → IsAskedBy this.command asked
+        → (a : Actions) (s' : Counters) (new : List Collecting) (g : Collecting) (next : R2tHeader) (waiting : ℕ)
+        → this.requests < 4294967296 → length f.bytes < need_of asked
+        → g ≡ asked_on f (need_of asked) (r2t_with_for s waiting) → waiting ≡ count_by shrinks_window w
+        → g.outstanding ≡ Some next
+        → Inserts g new → pdus_of a ≡ pdus.R2t next → call_of a ≡ None → end_of a ≡ None
+        → s' ≡ after_r2t (after_collecting new s) → OnData s x d a s'
+    on_asking full_of asked asked_by a s' new g next waiting fits short asked_is counted out insert pdus_are
+        no_call no_end after =
         let joined : List ℕ = this.bytes ++ d in
-        let cs : List Collecting = r.stands.front ++ (waits this.command joined next (wrap (this.requests + 1)) ∷ r.stands.back) in
-        let from : g ≡ asked_on (fed this d) (need_of asked) (r2t_with_for s waiting) = asked_is ∙ ap (λ (c : Collecting). asked_on c (need_of asked) (r2t_with_for s waiting)) fed_is in
-        let next_is : r2t_for this.command (need_of asked) (length joined) this.requests (r2t_with_for s waiting) ≡ next = let q : Some (r2t_for this.command (need_of asked) (length joined) this.requests (r2t_with_for s waiting)) ≡ Some next = sym (ap (λ (c : Collecting). c.outstanding) from) ∙ out in cc in
-        let waits_is : g ≡ waits this.command joined next (wrap (this.requests + 1)) = from ∙ ap (λ (q : R2tHeader). waits this.command joined q (wrap (this.requests + 1))) next_is in
-        let new_is : new ≡ cs = inserted g new insert ∙ ap (λ (c : Collecting). r.stands.front ++ (c ∷ r.stands.back)) waits_is in
-        let count_is : waiting ≡ count_by shrinks_window cs = counted ∙ ap (count_by shrinks_window) here ∙ count_same (waits this.command joined next (wrap (this.requests + 1))) refl in
-        let full : length joined ≡ continues.request.offset + continues.request.desired_length = omega (arith, is_filled this f d continues.request b continues.outstanding fed_is told full_of, continues.place, continues.within, length-append this.bytes d) in
-        on_data asked asked_by a s' (asks_on full (omega (arith, short, ap (λ (c : Collecting). length c.bytes) fed_is)) next (record {
-          is_next = subst (λ (q : R2tHeader). IsNext s.setting.start.lengths.burst this.command (need_of asked) (length joined) this.requests q) next_is (record { number = unwrapped this.requests fits; place = refl; size = refl; tag = refl; lun = refl });
+        let cs : List Collecting =
+            r.stands.front ++ (waits this.command joined next (wrap (this.requests + 1)) ∷ r.stands.back) in
+        let from : g ≡ asked_on (fed this d) (need_of asked) (r2t_with_for s waiting) = asked_is
+            ∙ ap (λ (c : Collecting). asked_on c (need_of asked) (r2t_with_for s waiting)) fed_is in
+        let next_is : r2t_for this.command (need_of asked) (length joined) this.requests
+            (r2t_with_for s waiting) ≡ next =
+                let q : Some (r2t_for this.command (need_of asked) (length joined) this.requests
+                    (r2t_with_for s waiting)) ≡ Some next =
+                        sym (ap (λ (c : Collecting). c.outstanding) from) ∙ out in cc in
+        let waits_is : g ≡ waits this.command joined next (wrap (this.requests + 1)) = from
+            ∙ ap (λ (q : R2tHeader). waits this.command joined q (wrap (this.requests + 1))) next_is in
+        let new_is : new ≡ cs = inserted g new insert
+            ∙ ap (λ (c : Collecting). r.stands.front ++ (c ∷ r.stands.back)) waits_is in
+        let count_is : waiting ≡ count_by shrinks_window cs = counted ∙ ap (count_by shrinks_window) here
+            ∙ count_same (waits this.command joined next (wrap (this.requests + 1))) refl in
+        let full : length joined ≡ continues.request.offset + continues.request.desired_length =
+            omega (arith, is_filled this f d continues.request b continues.outstanding fed_is told full_of,
+                continues.place, continues.within, length-append this.bytes d) in
+        on_data asked asked_by a s'
+            (asks_on full (omega (arith, short, ap (λ (c : Collecting). length c.bytes) fed_is)) next (record {
+          is_next = subst (λ (q : R2tHeader). IsNext s.setting.start.lengths.burst this.command (need_of asked)
+              (length joined) this.requests q) next_is (record { number = unwrapped this.requests fits; place =
+                  refl; size = refl; tag = refl; lun = refl });
           transfer = ap (λ (q : R2tHeader). q.transfer_tag) (sym next_is);
-          numbers = ap (λ (q : R2tHeader). q.numbers) (sym next_is) ∙ ap (λ (n : ℕ). numbers_for s.stat_sn s.standing.exp_cmd_sn n) count_is;
+          numbers = ap (λ (q : R2tHeader). q.numbers) (sym next_is)
+              ∙ ap (λ (n : ℕ). numbers_for s.stat_sn s.standing.exp_cmd_sn n) count_is;
           pdus_are = pdus_are;
           no_call = no_call;
           no_end = no_end;
@@ -157,7 +199,8 @@ module _ (s : Counters) (at : ℕ) (x : DataOutHeader) (d : List ℕ) (can : Can
 
 -- where the command stands that a Data-Out continues
 pub can_take : (s : Counters) (at : ℕ) (x : DataOutHeader) (d : List ℕ) (w : List Collecting) → w ≡ s.standing.collecting
-    → (found : (this : Collecting) × StandsAt w at this × (find (has_tag x.task_tag) w ≡ Some this)) → (here : Collecting) → StandsAt w at here
+    → (found : (this : Collecting) × StandsAt w at this × (find (has_tag x.task_tag) w ≡ Some this))
+    → (here : Collecting) → StandsAt w at here
     → Continues here x d → CanTake s at x d
 can_take s at x d w e found here stands continues = record {
   this = found.0;
@@ -166,30 +209,40 @@ can_take s at x d w e found here stands continues = record {
   continues = subst (λ (c : Collecting). Continues c x d) (stands_one w at here found.0 stands found.1) continues;
 }
 
-pub rejected_data : (s s' : Counters) (at : ℕ) (x : DataOutHeader) (d : List ℕ) (w : List Collecting) (a : Actions) → w ≡ s.standing.collecting
-    → (found : (this : Collecting) × StandsAt w at this × (find (has_tag x.task_tag) w ≡ Some this)) → (here : Collecting) → StandsAt w at here
+pub rejected_data : (s s' : Counters) (at : ℕ) (x : DataOutHeader) (d : List ℕ) (w : List Collecting) (a : Actions)
+    → w ≡ s.standing.collecting
+    → (found : (this : Collecting) × StandsAt w at this × (find (has_tag x.task_tag) w ≡ Some this))
+    → (here : Collecting) → StandsAt w at here
     → (Continues here x d → ⊥) → OnRefusal s PROTOCOL_ERROR a s' → OnPdu s (Initiator (DataOut x)) d a s'
 rejected_data s s' at x d w a e found here stands not_continues on = record {
   verdict = Refused PROTOCOL_ERROR;
-  judged = subst (λ (o : Option Collecting). MatchOption o (Refused PROTOCOL_ERROR ≡ Ignored) (λ c. (Continues c x d × (Refused PROTOCOL_ERROR ≡ Accepted)) ⊎ ((Continues c x d → ⊥) × (Refused PROTOCOL_ERROR ≡ Refused PROTOCOL_ERROR))))
+  judged = subst (λ (o : Option Collecting). MatchOption o (Refused PROTOCOL_ERROR ≡ Ignored) (λ c. (Continues c x d
+      × (Refused PROTOCOL_ERROR ≡ Accepted))
+          ⊎ ((Continues c x d → ⊥) × (Refused PROTOCOL_ERROR ≡ Refused PROTOCOL_ERROR))))
       (sym (subst (λ (z : List Collecting). find (has_tag x.task_tag) z ≡ Some found.0) e found.2))
-      (inr (subst (λ (c : Collecting). Continues c x d → ⊥) (stands_one w at here found.0 stands found.1) not_continues, refl));
+      (inr (subst (λ (c : Collecting). Continues c x d
+          → ⊥) (stands_one w at here found.0 stands found.1) not_continues, refl));
   made = on;
 }
 
 -- a command begins to wait
-pub begins : (s mid s' : Counters) (p : CommandHeader) (asked : Result Command CdbFault) (need : ℕ) (d : List ℕ) (next : R2tHeader) (a : Actions)
-    → IsAskedBy p asked → need ≡ need_of asked → HasToCollect p need (length d) → mid ≡ after_command p s → BeginsToWait mid p need d next s'
+pub begins : (s mid s' : Counters) (p : CommandHeader) (asked : Result Command CdbFault) (need : ℕ) (d : List ℕ)
+    (next : R2tHeader) (a : Actions)
+    → IsAskedBy p asked → need ≡ need_of asked → HasToCollect p need (length d) → mid ≡ after_command p s
+    → BeginsToWait mid p need d next s'
     → pdus_of a ≡ pdus.R2t next → call_of a ≡ None → end_of a ≡ None → OnAccepted s p d a s'
 begins s mid s' p asked need d next a asked_by need_is collects mid_is k pdus_are no_call no_end = record {
   asked = asked;
   asked_by = asked_by;
   by = asks (subst (λ (n : ℕ). HasToCollect p n (length d)) need_is collects) next (record {
-    is_next = subst₂ (λ (c : Counters) (n : ℕ). IsNext c.setting.start.lengths.burst p n (length d) 0 next) mid_is need_is k.is_next;
+    is_next = subst₂ (λ (c : Counters) (n : ℕ). IsNext c.setting.start.lengths.burst p n (length d) 0 next) mid_is
+        need_is k.is_next;
     transfer = k.transfer ∙ ap (λ (c : Counters). c.standing.transfer_tag) mid_is;
-    numbers = k.numbers ∙ ap (λ (c : Counters). next_numbers (after_collecting (c.standing.collecting ++ waits p d next 1 ∷ []) c)) mid_is;
+    numbers = k.numbers ∙ ap (λ (c : Counters). next_numbers
+        (after_collecting (c.standing.collecting ++ waits p d next 1 ∷ []) c)) mid_is;
     pdus_are = pdus_are;
     no_call = no_call;
     no_end = no_end;
-  }) (k.after ∙ ap (λ (c : Counters). after_r2t (after_collecting (c.standing.collecting ++ waits p d next 1 ∷ []) c)) mid_is);
+  }) (k.after ∙ ap (λ (c : Counters). after_r2t
+      (after_collecting (c.standing.collecting ++ waits p d next 1 ∷ []) c)) mid_is);
 }

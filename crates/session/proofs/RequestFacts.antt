@@ -49,12 +49,14 @@ pub record TurnFacts (s s' : Counters) (came : Incoming) (v : Verdict) (call : O
   pub setting_is : s'.setting ≡ s.setting
   pub commands : ((s'.standing.exp_cmd_sn ≡ s.standing.exp_cmd_sn) × (takes_number v came ≡ false))
       ⊎ ((s'.standing.exp_cmd_sn ≡ wrap (s.standing.exp_cmd_sn + 1)) × (takes_number v came ≡ true))
-  pub statuses : ((s'.stat_sn ≡ s.stat_sn) × (status_numbers outs ≡ [])) ⊎ ((s'.stat_sn ≡ wrap (s.stat_sn + 1)) × (status_numbers outs ≡ s.stat_sn ∷ []))
+  pub statuses : ((s'.stat_sn ≡ s.stat_sn) × (status_numbers outs ≡ []))
+      ⊎ ((s'.stat_sn ≡ wrap (s.stat_sn + 1)) × (status_numbers outs ≡ s.stat_sn ∷ []))
   pub tags : ((s'.standing.transfer_tag ≡ s.standing.transfer_tag) × (r2ts_of outs ≡ []))
       ⊎ ((s'.standing.transfer_tag ≡ (s.standing.transfer_tag + 1) % 4294967295) × (r : R2tHeader) × (r2ts_of outs ≡ r ∷ []))
 
 pub commands_of : (i : Bool) (e : ℕ)
-    → (((if i then e else wrap (e + 1)) ≡ e) × (not i ≡ false)) ⊎ (((if i then e else wrap (e + 1)) ≡ wrap (e + 1)) × (not i ≡ true))
+    → (((if i then e else wrap (e + 1)) ≡ e) × (not i ≡ false))
+    ⊎ (((if i then e else wrap (e + 1)) ≡ wrap (e + 1)) × (not i ≡ true))
 commands_of true e = inl (refl, refl)
 commands_of false e = inr (refl, refl)
 
@@ -64,7 +66,8 @@ moved e f g k = rw (e, f, g) k
 
 abbrev logout_out : Numbers → LogoutHeader → Out
 logout_out n p = record {
-  header = LogoutResponse (record { response = if closes p then CLOSED else RECOVERY_NOT_SUPPORTED; task_tag = p.task_tag; numbers = n; time_to_wait = TIME_TO_WAIT; time_to_retain = TIME_TO_RETAIN });
+  header = LogoutResponse (record { response = if closes p then CLOSED else RECOVERY_NOT_SUPPORTED;
+      task_tag = p.task_tag; numbers = n; time_to_wait = TIME_TO_WAIT; time_to_retain = TIME_TO_RETAIN });
   bytes = [];
 }
 
@@ -82,7 +85,8 @@ module _ (s : Counters) (cs : List Collecting) (came : Incoming) (immediate : Bo
   numbers_up : (e : ℕ) → ((exp_cmd_sn_behind immediate e ≡ e) × (takes_number Accepted came ≡ false))
       ⊎ ((exp_cmd_sn_behind immediate e ≡ wrap (e + 1)) × (takes_number Accepted came ≡ true))
   numbers_up e = subst
-      (λ (t : Bool). ((exp_cmd_sn_behind immediate e ≡ e) × (t ≡ false)) ⊎ ((exp_cmd_sn_behind immediate e ≡ wrap (e + 1)) × (t ≡ true)))
+      (λ (t : Bool). ((exp_cmd_sn_behind immediate e ≡ e) × (t ≡ false))
+          ⊎ ((exp_cmd_sn_behind immediate e ≡ wrap (e + 1)) × (t ≡ true)))
       (sym numbered) (commands_of immediate e)
 
   silent_facts : IsRequestAnswered s.setting s.standing Accepted came call [] → TurnFacts s behind came Accepted call []
@@ -137,7 +141,8 @@ no_command None own = refl
 no_command (Some outcome) own = refl
 
 module _ (s : Counters) (b : List ℕ) (p : ManagementHeader) (d : List ℕ) (call : Option Asking)
-    (judged : IsJudged s.setting s.standing (pdu b (Initiator (TaskManagementRequest p)) d) Accepted) (kept : List Collecting) where
+    (judged : IsJudged s.setting s.standing (pdu b (Initiator (TaskManagementRequest p)) d) Accepted)
+        (kept : List Collecting) where
   abbrev mid : Counters
   mid = after_collecting kept (after_number p.immediate s)
 
@@ -145,13 +150,17 @@ module _ (s : Counters) (b : List ℕ) (p : ManagementHeader) (d : List ℕ) (ca
   told_by response = management_answer (next_numbers mid) p response
 
   management_facts : (response : Option ℕ) → IsManaged s.setting.units s.standing.collecting p call response kept
-      → TurnFacts s (after_answer (told_by response) mid) (pdu b (Initiator (TaskManagementRequest p)) d) Accepted call (told_by response)
+      → TurnFacts s (after_answer (told_by response) mid)
+          (pdu b (Initiator (TaskManagementRequest p)) d) Accepted call (told_by response)
   management_facts None k =
-      silent_facts s kept (pdu b (Initiator (TaskManagementRequest p)) d) p.immediate call judged (None, kept, k) (λ own. no_command _ own) refl (λ own. tt)
+      silent_facts s kept (pdu b (Initiator (TaskManagementRequest p)) d) p.immediate call judged (None, kept, k)
+          (λ own. no_command _ own) refl (λ own. tt)
       (next_numbers mid, None, kept, k, refl)
   management_facts (Some response) k =
-      one_facts s kept (pdu b (Initiator (TaskManagementRequest p)) d) p.immediate call judged (Some response, kept, k) (λ own. no_command _ own) refl (λ own. tt)
-      (record { header = TaskManagementResponse (record { response = response; task_tag = p.task_tag; numbers = next_numbers mid }); bytes = [] })
+      one_facts s kept (pdu b (Initiator (TaskManagementRequest p)) d) p.immediate call judged
+          (Some response, kept, k) (λ own. no_command _ own) refl (λ own. tt)
+      (record { header = TaskManagementResponse
+          (record { response = response; task_tag = p.task_tag; numbers = next_numbers mid }); bytes = [] })
       (record { expects = refl; reaches = refl }) refl refl refl refl (next_numbers mid, Some response, kept, k, refl)
 
 pub nop_facts : (b : List ℕ) (p : NopOutHeader) (d : List ℕ) (s s' : Counters) (call : Option Asking) (outs : List Out)
@@ -161,11 +170,14 @@ pub nop_facts : (b : List ℕ) (p : NopOutHeader) (d : List ℕ) (s s' : Counter
 nop_facts b p d s s' call outs judged k =
     let n = next_numbers (after_number p.immediate s) in
     moved k.no_call k.outs_are k.next_is
-    (some_or_none s s.standing.collecting (pdu b (Initiator (NopOut p)) d) p.immediate None judged refl (λ own. no_command _ own) refl (λ own. tt)
-    (record { header = NopIn (record { lun = p.lun; task_tag = p.task_tag; transfer_tag = NO_TRANSFER_TAG; numbers = n }); bytes = take (min s.setting.start.lengths.data_segment MAX_DATA_SEGMENT_LENGTH) d })
+    (some_or_none s s.standing.collecting (pdu b (Initiator (NopOut p)) d) p.immediate None judged refl
+        (λ own. no_command _ own) refl (λ own. tt)
+    (record { header = NopIn (record { lun = p.lun; task_tag = p.task_tag; transfer_tag = NO_TRANSFER_TAG;
+        numbers = n }); bytes = take (min s.setting.start.lengths.data_segment MAX_DATA_SEGMENT_LENGTH) d })
     (record { expects = refl; reaches = refl }) refl refl refl refl (p.task_tag == RESERVED_TAG) (n, refl))
 
-pub managed_facts : (b : List ℕ) (p : ManagementHeader) (d : List ℕ) (s s' : Counters) (call : Option Asking) (outs : List Out)
+pub managed_facts : (b : List ℕ) (p : ManagementHeader) (d : List ℕ) (s s' : Counters) (call : Option Asking)
+    (outs : List Out)
     → IsJudged s.setting s.standing (pdu b (Initiator (TaskManagementRequest p)) d) Accepted
     → TurnOnAccepted (pdu b (Initiator (TaskManagementRequest p)) d) s call outs s'
     → TurnFacts s s' (pdu b (Initiator (TaskManagementRequest p)) d) Accepted call outs
@@ -179,8 +191,10 @@ pub text_facts : (b : List ℕ) (p : TextHeader) (d : List ℕ) (s s' : Counters
 text_facts b p d s s' call outs judged k =
     let n = next_numbers (after_number p.immediate s) in
     moved k.no_call k.outs_are k.next_is
-    (one_facts s s.standing.collecting (pdu b (Initiator (TextRequest p)) d) p.immediate None judged refl (λ own. no_command _ own) refl (λ own. tt)
-    (record { header = TextResponse (record { task_tag = p.task_tag; transfer_tag = NO_TRANSFER_TAG; numbers = n }); bytes = text_answer s.setting d })
+    (one_facts s s.standing.collecting (pdu b (Initiator (TextRequest p)) d) p.immediate None judged refl
+        (λ own. no_command _ own) refl (λ own. tt)
+    (record { header = TextResponse (record { task_tag = p.task_tag; transfer_tag = NO_TRANSFER_TAG; numbers = n });
+        bytes = text_answer s.setting d })
     (record { expects = refl; reaches = refl }) refl refl refl refl (n, refl))
 
 pub logout_facts : (b : List ℕ) (p : LogoutHeader) (d : List ℕ) (s s' : Counters) (call : Option Asking) (outs : List Out)
@@ -190,5 +204,6 @@ pub logout_facts : (b : List ℕ) (p : LogoutHeader) (d : List ℕ) (s s' : Coun
 logout_facts b p d s s' call outs judged k =
     let n = next_numbers (after_number p.immediate s) in
     moved k.no_call k.outs_are k.next_is
-    (one_facts s s.standing.collecting (pdu b (Initiator (LogoutRequest p)) d) p.immediate None judged refl (λ own. no_command _ own) refl (λ own. tt)
+    (one_facts s s.standing.collecting (pdu b (Initiator (LogoutRequest p)) d) p.immediate None judged refl
+        (λ own. no_command _ own) refl (λ own. tt)
     (logout_out n p) (record { expects = refl; reaches = refl }) refl refl refl refl (n, refl))

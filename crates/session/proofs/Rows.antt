@@ -24,7 +24,8 @@ module _ (numbers : Numbers) (tag : ℕ) (l : Lengths) (bytes : List ℕ) where
   pub counts_none : CountsTo (length (from (length bytes) 0 0)) 0 0
   counts_none = (length bytes, omega arith, omega arith)
 
-  pub counts_on : (whole k offset k' offset' : ℕ) → offset < length bytes → k' ≡ k + 1 → offset' ≡ offset + segment_size l offset (length bytes) → CountsTo whole k offset → CountsTo whole k' offset'
+  pub counts_on : (whole k offset k' offset' : ℕ) → offset < length bytes → k' ≡ k + 1
+      → offset' ≡ offset + segment_size l offset (length bytes) → CountsTo whole k offset → CountsTo whole k' offset'
   counts_on whole k offset k' offset' more e f c =
       let n = next numbers tag l bytes c.0 k offset more c.1 in
       rw (e, f) (n.0, n.1, omega (arith, c.2, ap length n.2))
@@ -35,17 +36,21 @@ module _ (numbers : Numbers) (tag : ℕ) (l : Lengths) (bytes : List ℕ) where
   -- those before this offset are queued
   abbrev pub QueuesTo : Option (List ℕ) → Option (List ℕ) → ℕ → ℕ → OutboxValue → OutboxValue → ℕ → ℕ → Type 0
   QueuesTo held held' before now o o' k offset =
-      (gone : List Out) × (most : ℕ) × (length bytes - offset ≤ most) × (gone ++ from most k offset ≡ from (length bytes) 0 0)
+      (gone : List Out) × (most : ℕ) × (length bytes - offset ≤ most)
+          × (gone ++ from most k offset ≡ from (length bytes) 0 0)
       × IsQueued held held' before now o o' (bytes_of gone)
 
   pub queues_none : (held : Option (List ℕ)) (n : ℕ) (o : OutboxValue) → QueuesTo held held n n o o 0 0
   queues_none held n o = ([], length bytes, omega arith, refl, queued_none held n o)
 
   bytes_more : (gone : List Out) (x : Out) → bytes_of gone ++ spelling (Target x.header) x.bytes ≡ bytes_of (gone ++ x ∷ [])
-  bytes_more gone x = sym (flat_map-append (λ (o : Out). spelling (Target o.header) o.bytes) gone (x ∷ []) ∙ ap (λ (z : List ℕ). bytes_of gone ++ z) (append-nil (spelling (Target x.header) x.bytes)))
+  bytes_more gone x = sym (flat_map-append (λ (o : Out). spelling (Target o.header) o.bytes) gone (x ∷ [])
+      ∙ ap (λ (z : List ℕ). bytes_of gone ++ z) (append-nil (spelling (Target x.header) x.bytes)))
 
-  pub queues_on : (held held1 held2 : Option (List ℕ)) (n0 n1 n2 : ℕ) (o o1 o2 : OutboxValue) (k offset k' offset' : ℕ) (x : Out)
-      → offset < length bytes → k' ≡ k + 1 → offset' ≡ offset + segment_size l offset (length bytes) → x ≡ data_in_at numbers tag l k offset bytes
+  pub queues_on : (held held1 held2 : Option (List ℕ)) (n0 n1 n2 : ℕ) (o o1 o2 : OutboxValue)
+      (k offset k' offset' : ℕ) (x : Out)
+      → offset < length bytes → k' ≡ k + 1 → offset' ≡ offset + segment_size l offset (length bytes)
+      → x ≡ data_in_at numbers tag l k offset bytes
       → QueuesTo held held1 n0 n1 o o1 k offset → IsQueued held1 held2 n1 n2 o1 o2 (spelling (Target x.header) x.bytes)
       → QueuesTo held held2 n0 n2 o o2 k' offset'
   queues_on held held1 held2 n0 n1 n2 o o1 o2 k offset k' offset' x more e f is c put =
@@ -57,11 +62,14 @@ module _ (numbers : Numbers) (tag : ℕ) (l : Lengths) (bytes : List ℕ) where
         append_assoc c.0 (x ∷ []) (from n.0 (k + 1) (offset + segment_size l offset (length bytes)))
             ∙ ap (λ (z : Out). c.0 ++ z ∷ from n.0 (k + 1) (offset + segment_size l offset (length bytes))) is
             ∙ ap (λ (z : List Out). c.0 ++ z) (sym n.2) ∙ c.3,
-        queued_both held held1 held2 n0 n1 n2 o o1 o2 (bytes_of c.0) (spelling (Target x.header) x.bytes) (bytes_of (c.0 ++ x ∷ [])) (bytes_more c.0 x) c.4 put,
+        queued_both held held1 held2 n0 n1 n2 o o1 o2 (bytes_of c.0) (spelling (Target x.header) x.bytes)
+            (bytes_of (c.0 ++ x ∷ [])) (bytes_more c.0 x) c.4 put,
       )
 
-  pub queues_all : (held held' : Option (List ℕ)) (before now : ℕ) (o o' : OutboxValue) (k offset : ℕ) → length bytes ≤ offset → QueuesTo held held' before now o o' k offset
+  pub queues_all : (held held' : Option (List ℕ)) (before now : ℕ) (o o' : OutboxValue) (k offset : ℕ)
+      → length bytes ≤ offset → QueuesTo held held' before now o o' k offset
       → IsQueued held held' before now o o' (bytes_of (from (length bytes) 0 0))
   queues_all held held' before now o o' k offset none c =
       subst (λ (z : List Out). IsQueued held held' before now o o' (bytes_of z))
-      (sym (append-nil c.0) ∙ ap (λ (z : List Out). c.0 ++ z) (sym (no_next numbers tag l bytes c.1 k offset none)) ∙ c.3) c.4
+      (sym (append-nil c.0) ∙ ap (λ (z : List Out). c.0 ++ z) (sym (no_next numbers tag l bytes c.1 k offset none))
+          ∙ c.3) c.4

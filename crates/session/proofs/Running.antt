@@ -46,10 +46,13 @@ use Rattle.session.proofs.Exchanges.{all_more, PhaseStands, lawful_now, More, on
 
 spells_more : (is : List Incoming) (b bhs front : List ℕ) (h : Header) (d : List ℕ) → Spells is b → IsPdu front h d
     → take BHS_LENGTH front ≡ bhs → Spells (is ++ pdu bhs h d ∷ []) (b ++ front)
-spells_more [] b bhs front h d k p e = ([], record { front = front; cut = ap (λ (z : List ℕ). z ++ front) k ∙ sym (append-nil front); is_pdu = p; bhs_is = e }, refl)
+spells_more [] b bhs front h d k p e =
+    ([], record { front = front; cut = ap (λ (z : List ℕ). z ++ front) k
+        ∙ sym (append-nil front); is_pdu = p; bhs_is = e }, refl)
 spells_more (pdu bhs' h' d' ∷ is) b bhs front h d k p e = (
   k.0 ++ front,
-  record { front = k.1.front; cut = ap (λ (z : List ℕ). z ++ front) k.1.cut ∙ append_assoc k.1.front k.0 front; is_pdu = k.1.is_pdu; bhs_is = k.1.bhs_is },
+  record { front = k.1.front; cut = ap (λ (z : List ℕ). z ++ front) k.1.cut
+      ∙ append_assoc k.1.front k.0 front; is_pdu = k.1.is_pdu; bhs_is = k.1.bhs_is },
   spells_more is k.0 bhs front h d k.2 p e,
 )
 spells_more (faulty f bhs' ∷ is) b bhs front h d k p e = spells_more is b bhs front h d k p e
@@ -64,7 +67,8 @@ regroup a w n = ap (λ (z : List ℕ). a ++ z) (sym (take-append-drop n w)) ∙ 
 
 -- ---- what went out
 
-bytes_more : (es : List Exchange) (e : Exchange) → bytes_of (outgoing (es ++ e ∷ [])) ≡ bytes_of (outgoing es) ++ bytes_of e.sent
+bytes_more : (es : List Exchange) (e : Exchange)
+    → bytes_of (outgoing (es ++ e ∷ [])) ≡ bytes_of (outgoing es) ++ bytes_of e.sent
 bytes_more es e =
     ap bytes_of (flat_map-append (λ u. u.sent) es (e ∷ []) ∙ ap (λ (o : List Out). outgoing es ++ o) (append-nil e.sent))
     ∙ flat_map-append (λ o. spelling (Target o.header) o.bytes) (outgoing es) e.sent
@@ -81,10 +85,14 @@ module _ {T : Type 0} (leads : T → Asking → T → Type 0) where
       → Leads leads (asked es) x m → IsLed leads call m y
       → Leads leads (asked (es ++ record { came = came; call = call; sent = outs; end = end } ∷ [])) x y
   led_by es x m y came None outs end k l =
-      let same : asked (es ++ record { came = came; call = None; sent = outs; end = end } ∷ []) ≡ asked es = filter_map-append (λ (e : Exchange). e.call) es (record { came = came; call = None; sent = outs; end = end } ∷ []) ∙ append-nil (asked es) in
+      let same : asked (es ++ record { came = came; call = None; sent = outs; end = end } ∷ []) ≡ asked es =
+          filter_map-append (λ (e : Exchange). e.call) es (record { came = came; call = None; sent = outs; end = end }
+              ∷ []) ∙ append-nil (asked es) in
       subst₂ (λ (cs : List Asking) (z : T). Leads leads cs x z) (sym same) (sym l) k
   led_by es x m y came (Some c) outs end k l =
-      let more : asked (es ++ record { came = came; call = Some c; sent = outs; end = end } ∷ []) ≡ asked es ++ c ∷ [] = filter_map-append (λ (e : Exchange). e.call) es (record { came = came; call = Some c; sent = outs; end = end } ∷ []) in
+      let more : asked (es ++ record { came = came; call = Some c; sent = outs; end = end } ∷ []) ≡ asked es ++ c
+          ∷ [] = filter_map-append (λ (e : Exchange). e.call) es
+              (record { came = came; call = Some c; sent = outs; end = end } ∷ []) in
       subst (λ (cs : List Asking). Leads leads cs x y) (sym more) (leads_more (asked es) x m y c k l)
 
   led_more : (es : List Exchange) (x m y : T) (e : Exchange) → Leads leads (asked es) x m → IsLed leads e.call m y
@@ -176,9 +184,12 @@ not_output end (inr (inr e)) f = let g : LoggedOut ≡ OutputFailed = sym e ∙ 
 -- an end that a turn called for, of a transcript that ends with it
 ends_by : (end : End) (es : List Exchange) (rest : List ℕ) (taken : ℕ) (at_end : Type 0) → IsCalledFor end
     → EndsWith es rest (Some end) → EndsBy es rest taken at_end end
-ends_by end es rest taken at_end (inl e) k = subst (EndsBy es rest taken at_end) (sym e) (subst (λ (z : End). EndsWith es rest (Some z)) e k)
-ends_by end es rest taken at_end (inr (inl e)) k = subst (EndsBy es rest taken at_end) (sym e) (subst (λ (z : End). EndsWith es rest (Some z)) e k)
-ends_by end es rest taken at_end (inr (inr e)) k = subst (EndsBy es rest taken at_end) (sym e) (subst (λ (z : End). EndsWith es rest (Some z)) e k)
+ends_by end es rest taken at_end (inl e) k =
+    subst (EndsBy es rest taken at_end) (sym e) (subst (λ (z : End). EndsWith es rest (Some z)) e k)
+ends_by end es rest taken at_end (inr (inl e)) k =
+    subst (EndsBy es rest taken at_end) (sym e) (subst (λ (z : End). EndsWith es rest (Some z)) e k)
+ends_by end es rest taken at_end (inr (inr e)) k =
+    subst (EndsBy es rest taken at_end) (sym e) (subst (λ (z : End). EndsWith es rest (Some z)) e k)
 
 written_all : (end : End) (held held' : Option (List ℕ)) (es : List Exchange) → IsCalledFor end
     → Appends held held' (bytes_of (outgoing es)) → Written end held held' es
@@ -197,9 +208,11 @@ module _ {T : Type 0} (leads : T → Asking → T → Type 0) (units : ℕ) (me 
       → (AppendsFront held held' bytes → IsPassed leads units me opening left left' held held' x x' OutputFailed)
       → IsClosed held held' before now bytes wanted end → Ended end
   closed bytes wanted end other all cut (inl w) =
-      (subst (IsPassed leads units me opening left left' held held' x x') (sym w.0) (all w.1), record { rises = λ f. absurd (other (sym w.0 ∙ f)); stays = λ _. w.2 })
+      (subst (IsPassed leads units me opening left left' held held' x x') (sym w.0)
+          (all w.1), record { rises = λ f. absurd (other (sym w.0 ∙ f)); stays = λ _. w.2 })
   closed bytes wanted end other all cut (inr w) =
-      (subst (IsPassed leads units me opening left left' held held' x x') (sym w.0) (cut w.1), record { rises = λ f. w.2; stays = λ o. absurd (o w.0) })
+      (subst (IsPassed leads units me opening left left' held held' x x') (sym w.0)
+          (cut w.1), record { rises = λ f. w.2; stays = λ o. absurd (o w.0) })
 
 module _ {T : Type 0} (leads : T → Asking → T → Type 0) (units : ℕ) (me : Identity) (opening : Opening)
     (left left' held held' : Option (List ℕ)) (before now : ℕ) (o : OutboxValue) (x x' : T) (p : PhasesValue)
@@ -221,16 +234,19 @@ module _ {T : Type 0} (leads : T → Asking → T → Type 0) (units : ℕ) (me 
     led_now = led_more leads so_far x x' x'' turned.exchange r.led turned.led
 
     came_now : incoming all_now ≡ incoming so_far ++ came ∷ []
-    came_now = map-append (λ (e : Exchange). e.came) so_far (turned.exchange ∷ []) ∙ ap (λ (c : Incoming). incoming so_far ++ c ∷ []) more_now.came_is
+    came_now = map-append (λ (e : Exchange). e.came) so_far (turned.exchange ∷ [])
+        ∙ ap (λ (c : Incoming). incoming so_far ++ c ∷ []) more_now.came_is
 
     out_now : IsOut held held'' before now' o' (bytes_of (outgoing all_now))
-    out_now = subst (IsOut held held'' before now' o') (sym (bytes_more so_far turned.exchange)) (turned.queued held before (bytes_of (outgoing so_far)) r.written)
+    out_now = subst (IsOut held held'' before now' o') (sym (bytes_more so_far turned.exchange))
+        (turned.queued held before (bytes_of (outgoing so_far)) r.written)
 
     one_of_three : (end : End) → wanted ≡ Some end → IsCalledFor end
     one_of_three end e = ends_so end p.login p.counters came turned.exchange p' turned.made (sym e ∙ turned.wanted_is)
 
     -- the reader did not fail
-    input_stays : (held3 : Option (List ℕ)) (now3 : ℕ) (end result : End) → IsCalledFor end → IsClosedAs held'' held3 now' now3 o' end result
+    input_stays : (held3 : Option (List ℕ)) (now3 : ℕ) (end result : End) → IsCalledFor end
+        → IsClosedAs held'' held3 now' now3 o' end result
         → result ≡ InputFailed → ⊥
     input_stays held3 now3 end result one close e = elim (close held before (bytes_of (outgoing all_now)) out_now) [
       | inl w ↦ not_input end one (sym w.0 ∙ e)
@@ -250,7 +266,8 @@ module _ {T : Type 0} (leads : T → Asking → T → Type 0) (units : ℕ) (me 
 
     -- the session ends with it
     module _ (spelled rest : List ℕ) (spells : Spells (incoming so_far ++ came ∷ []) spelled)
-        (read : Consumes left left' (spelled ++ rest)) (stands : StandsBehind came rest) (held3 : Option (List ℕ)) (now3 : ℕ) where
+        (read : Consumes left left' (spelled ++ rest)) (stands : StandsBehind came rest) (held3 : Option (List ℕ))
+            (now3 : ℕ) where
       ended : (end : End)
           → EndsBy all_now rest (length spelled + length rest) (IsAtEnd left') end
           → Written end held held3 all_now
@@ -260,7 +277,8 @@ module _ {T : Type 0} (leads : T → Asking → T → Type 0) (units : ℕ) (me 
         spelled = spelled;
         rest = rest;
         lawful = more_now.lawful;
-        ends = subst (λ (es : List Exchange). EndsBy es rest (length spelled + length rest) (IsAtEnd left') end) (sym more_now.exchanges_are) ends;
+        ends = subst (λ (es : List Exchange). EndsBy es rest (length spelled + length rest) (IsAtEnd left') end)
+            (sym more_now.exchanges_are) ends;
         spells = subst (λ (es : List Exchange). Spells (incoming es) spelled) (sym more_now.exchanges_are)
             (subst (λ (is : List Incoming). Spells is spelled) (sym came_now) spells);
         read = read;
@@ -272,26 +290,31 @@ module _ {T : Type 0} (leads : T → Asking → T → Type 0) (units : ℕ) (me 
           → IsClosedAs held'' held3 now' now3 o' end result
           → Ended leads units me opening left left' held held3 before now3 x x'' result
       ends_now end result e one close =
-          closed leads units me opening left left' held held3 before now3 x x'' (bytes_of (outgoing all_now)) end result (not_output end one)
-          (λ all. ended end (ends_by end all_now rest (length spelled + length rest) (IsAtEnd left') one (subst (EndsWith all_now rest) e (last_turn rest stands))) (written_all end held held3 all_now one all))
+          closed leads units me opening left left' held held3 before now3 x x''
+              (bytes_of (outgoing all_now)) end result (not_output end one)
+          (λ all. ended end (ends_by end all_now rest (length spelled + length rest) (IsAtEnd left') one
+              (subst (EndsWith all_now rest) e (last_turn rest stands))) (written_all end held held3 all_now one all))
           (λ cut. ended OutputFailed (inr (wanted, last_turn rest stands)) cut)
           (close held before (bytes_of (outgoing all_now)) out_now)
 
   -- a PDU comes, and the session goes on, or ends
   bhs_front : (n : ℕ) (bhs : List ℕ) (h : Header) (d : List ℕ) → bhs ≡ take BHS_LENGTH waiting → n ≤ length waiting
       → IsPdu (take n waiting) h d → take BHS_LENGTH (take n waiting) ≡ bhs
-  bhs_front n bhs h d e within p = take-take BHS_LENGTH n waiting (omega (arith, p.long, length-take-le n waiting within)) ∙ sym e
+  bhs_front n bhs h d e within p =
+      take-take BHS_LENGTH n waiting (omega (arith, p.long, length-take-le n waiting within)) ∙ sym e
 
   spells_now : (n : ℕ) (bhs : List ℕ) (h : Header) (d : List ℕ) → bhs ≡ take BHS_LENGTH waiting → n ≤ length waiting
       → IsPdu (take n waiting) h d
       → Spells (incoming so_far ++ pdu bhs h d ∷ []) (r.spelled ++ take n waiting)
-  spells_now n bhs h d e within p = spells_more (incoming so_far) r.spelled bhs (take n waiting) h d r.spells p (bhs_front n bhs h d e within p)
+  spells_now n bhs h d e within p =
+      spells_more (incoming so_far) r.spelled bhs (take n waiting) h d r.spells p (bhs_front n bhs h d e within p)
 
   read_now : (n : ℕ) → Consumes left left' ((r.spelled ++ take n waiting) ++ drop n waiting)
   read_now n = subst (Consumes left left') (regroup r.spelled waiting n) r.read
 
   many_now : (n : ℕ) → reads ≤ length (r.spelled ++ take n waiting) + length (drop n waiting)
-  many_now n = omega (arith, r.many, length-append r.spelled (take n waiting), ap length (take-append-drop n waiting), length-append (take n waiting) (drop n waiting))
+  many_now n = omega (arith, r.many, length-append r.spelled (take n waiting), ap length
+      (take-append-drop n waiting), length-append (take n waiting) (drop n waiting))
 
   module _ (p' : PhasesValue) (x'' : T) (held'' : Option (List ℕ)) (now' : ℕ) (o' : OutboxValue) (bhs : List ℕ) (h : Header)
       (d : List ℕ) (n : ℕ) (bhs_is : bhs ≡ take BHS_LENGTH waiting) (within : n ≤ length waiting)
@@ -305,37 +328,50 @@ module _ {T : Type 0} (leads : T → Asking → T → Type 0) (units : ℕ) (me 
           transcript = k.transcript;
           spelled = r.spelled ++ take n waiting;
           stands = k.stands (sym t.wanted_is);
-          none_ends = subst NoneEnds back (all_more (λ (e : Exchange). e.end ≡ None) so_far t.exchange r.none_ends (sym t.wanted_is));
+          none_ends = subst NoneEnds back
+              (all_more (λ (e : Exchange). e.end ≡ None) so_far t.exchange r.none_ends (sym t.wanted_is));
           spells = subst (λ (es : List Exchange). Spells (incoming es) (r.spelled ++ take n waiting)) back
-              (subst (λ (is : List Incoming). Spells is (r.spelled ++ take n waiting)) (sym (came_now p' x'' held'' now' o' (pdu bhs h d) None t)) (spells_now n bhs h d bhs_is within spelled));
+              (subst (λ (is : List Incoming). Spells is (r.spelled ++ take n waiting))
+                  (sym (came_now p' x'' held'' now' o' (pdu bhs h d) None t))
+                      (spells_now n bhs h d bhs_is within spelled));
           read = read_now n;
-          written = subst (λ (es : List Exchange). IsOut held held'' before now' o' (bytes_of (outgoing es))) back (out_now p' x'' held'' now' o' (pdu bhs h d) None t);
-          led = subst (λ (es : List Exchange). Leads leads (asked es) x x'') back (led_now p' x'' held'' now' o' (pdu bhs h d) None t);
+          written = subst (λ (es : List Exchange). IsOut held held'' before now' o' (bytes_of (outgoing es))) back
+              (out_now p' x'' held'' now' o' (pdu bhs h d) None t);
+          led = subst (λ (es : List Exchange). Leads leads (asked es) x x'') back
+              (led_now p' x'' held'' now' o' (pdu bhs h d) None t);
           many = many_now n;
         }
 
-    pub pdu_ends : (held3 : Option (List ℕ)) (now3 : ℕ) (end result : End) → MakesExchange leads p p' x' x'' held' held'' now now' o o' (pdu bhs h d) (Some end)
+    pub pdu_ends : (held3 : Option (List ℕ)) (now3 : ℕ) (end result : End)
+        → MakesExchange leads p p' x' x'' held' held'' now now' o o' (pdu bhs h d) (Some end)
         → IsClosedAs held'' held3 now' now3 o' end result
         → Ended leads units me opening left left' held held3 before now3 x x'' result
     pdu_ends held3 now3 end result t close =
-        ends_now p' x'' held'' now' o' (pdu bhs h d) (Some end) t (r.spelled ++ take n waiting) (drop n waiting) (spells_now n bhs h d bhs_is within spelled) (read_now n) tt held3 now3
+        ends_now p' x'' held'' now' o' (pdu bhs h d) (Some end) t (r.spelled ++ take n waiting) (drop n waiting)
+            (spells_now n bhs h d bhs_is within spelled) (read_now n) tt held3 now3
         end result refl (one_of_three p' x'' held'' now' o' (pdu bhs h d) (Some end) t end refl) close
 
-    pub pdu_ends_not_by_input : (held3 : Option (List ℕ)) (now3 : ℕ) (end result : End) → MakesExchange leads p p' x' x'' held' held'' now now' o o' (pdu bhs h d) (Some end)
+    pub pdu_ends_not_by_input : (held3 : Option (List ℕ)) (now3 : ℕ) (end result : End)
+        → MakesExchange leads p p' x' x'' held' held'' now now' o o' (pdu bhs h d) (Some end)
         → IsClosedAs held'' held3 now' now3 o' end result → result ≡ InputFailed → ⊥
     pdu_ends_not_by_input held3 now3 end result t close =
-        input_stays p' x'' held'' now' o' (pdu bhs h d) (Some end) t held3 now3 end result (one_of_three p' x'' held'' now' o' (pdu bhs h d) (Some end) t end refl) close
+        input_stays p' x'' held'' now' o' (pdu bhs h d) (Some end) t held3 now3 end result
+            (one_of_three p' x'' held'' now' o' (pdu bhs h d) (Some end) t end refl) close
 
-  pub fault_ends : (p' : PhasesValue) (held'' held3 : Option (List ℕ)) (now' now3 : ℕ) (o' : OutboxValue) (bhs : List ℕ) (f : PduFault) (result : End)
+  pub fault_ends : (p' : PhasesValue) (held'' held3 : Option (List ℕ)) (now' now3 : ℕ) (o' : OutboxValue)
+      (bhs : List ℕ) (f : PduFault) (result : End)
       → bhs ≡ take BHS_LENGTH waiting → length bhs ≡ BHS_LENGTH → FaultStands waiting f
       → MakesExchange leads p p' x' x' held' held'' now now' o o' (faulty f bhs) (Some Protocol)
       → IsClosedAs held'' held3 now' now3 o' Protocol result
       → Ended leads units me opening left left' held held3 before now3 x x' result
   fault_ends p' held'' held3 now' now3 o' bhs f result bhs_is long stands t close =
-      ends_now p' x' held'' now' o' (faulty f bhs) (Some Protocol) t r.spelled waiting (spells_fault (incoming so_far) r.spelled bhs f r.spells) r.read
-      (stands, omega (arith, ap length bhs_is, long, length-take BHS_LENGTH waiting), bhs_is) held3 now3 Protocol result refl (inl refl) close
+      ends_now p' x' held'' now' o' (faulty f bhs) (Some Protocol) t r.spelled waiting
+          (spells_fault (incoming so_far) r.spelled bhs f r.spells) r.read
+      (stands, omega (arith, ap length bhs_is, long, length-take BHS_LENGTH waiting), bhs_is) held3 now3 Protocol
+          result refl (inl refl) close
 
-  pub fault_ends_not_by_input : (p' : PhasesValue) (held'' held3 : Option (List ℕ)) (now' now3 : ℕ) (o' : OutboxValue) (bhs : List ℕ) (f : PduFault) (result : End)
+  pub fault_ends_not_by_input : (p' : PhasesValue) (held'' held3 : Option (List ℕ)) (now' now3 : ℕ) (o' : OutboxValue)
+      (bhs : List ℕ) (f : PduFault) (result : End)
       → bhs ≡ take BHS_LENGTH waiting → length bhs ≡ BHS_LENGTH → FaultStands waiting f
       → MakesExchange leads p p' x' x' held' held'' now now' o o' (faulty f bhs) (Some Protocol)
       → IsClosedAs held'' held3 now' now3 o' Protocol result → result ≡ InputFailed → ⊥
@@ -366,7 +402,8 @@ module _ {T : Type 0} (leads : T → Asking → T → Type 0) (units : ℕ) (me 
     stands = r.stands;
     none_ends = r.none_ends;
     spells = r.spells;
-    read = subst (Consumes left left'') (append_assoc r.spelled waiting f.more ∙ ap (λ (z : List ℕ). r.spelled ++ z) (sym f.grown)) (Consumes-trans _ _ _ _ _ r.read f.read);
+    read = subst (Consumes left left'') (append_assoc r.spelled waiting f.more
+        ∙ ap (λ (z : List ℕ). r.spelled ++ z) (sym f.grown)) (Consumes-trans _ _ _ _ _ r.read f.read);
     written = r.written;
     led = r.led;
     many = omega (arith, r.many, ap length f.grown, length-append waiting f.more, f.count);
@@ -391,7 +428,8 @@ module _ {T : Type 0} (leads : T → Asking → T → Type 0) (units : ℕ) (me 
   pub sink_failed : o.failed ≡ true → Ended leads units me opening left left' held held' before now x x' OutputFailed
   sink_failed failed =
       let b = broke o.failed held held' before now o.waiting (bytes_of (outgoing so_far)) failed r.written in
-      (stops_here OutputFailed left' held' waiting r.read (inl r.none_ends) b.0, record { rises = λ _. b.1; stays = λ other. absurd (other refl) })
+      (stops_here OutputFailed left' held' waiting r.read (inl r.none_ends) b.0, record { rises = λ _. b.1;
+          stays = λ other. absurd (other refl) })
 
   module _ (empty : o.waiting ≡ []) (serves : o.failed ≡ false) where
     all_out : Appends held held' (bytes_of (outgoing so_far)) × (now ≡ before)
@@ -402,7 +440,11 @@ module _ {T : Type 0} (leads : T → Asking → T → Type 0) (units : ℕ) (me 
         → Ended leads units me opening left left'' held held' before now x x' EndOfInput
     input_ended left'' waiting' n nothing f none =
         let no_more : f.more ≡ [] = nil_of f.more (f.count ∙ nothing) in (
-          stops_here EndOfInput left'' held' waiting (subst (Consumes left left'') (ap (λ (z : List ℕ). r.spelled ++ z) (ap (λ (m : List ℕ). waiting ++ m) no_more ∙ append-nil waiting)) (subst (Consumes left left'') (append_assoc r.spelled waiting f.more) (Consumes-trans _ _ _ _ _ r.read f.read)))
+          stops_here EndOfInput left'' held' waiting
+              (subst (Consumes left left'')
+                  (ap (λ (z : List ℕ). r.spelled ++ z) (ap (λ (m : List ℕ). waiting ++ m) no_more
+                      ∙ append-nil waiting)) (subst (Consumes left left'') (append_assoc r.spelled waiting f.more)
+                          (Consumes-trans _ _ _ _ _ r.read f.read)))
               (r.none_ends, inl (f.end nothing, none)) all_out.0,
           record { rises = λ (e : EndOfInput ≡ OutputFailed). absurd (cc); stays = λ _. all_out.1 },
         )
@@ -414,15 +456,19 @@ module _ {T : Type 0} (leads : T → Asking → T → Type 0) (units : ℕ) (me 
       record { rises = λ (e : InputFailed ≡ OutputFailed). absurd (cc); stays = λ _. all_out.1 },
     )
 
-  pub taken_all : (held'' : Option (List ℕ)) (now' : ℕ) (result : End) → most_bytes ≤ reads → IsClosedAs held' held'' now now' o EndOfInput result
+  pub taken_all : (held'' : Option (List ℕ)) (now' : ℕ) (result : End) → most_bytes ≤ reads
+      → IsClosedAs held' held'' now now' o EndOfInput result
       → Ended leads units me opening left left' held held'' before now' x x' result
   taken_all held'' now' result many close =
-      closed leads units me opening left left' held held'' before now' x x' (bytes_of (outgoing so_far)) EndOfInput result (λ (e : EndOfInput ≡ OutputFailed). let never : ⊥ = cc in never)
+      closed leads units me opening left left' held held'' before now' x x'
+          (bytes_of (outgoing so_far)) EndOfInput result
+              (λ (e : EndOfInput ≡ OutputFailed). let never : ⊥ = cc in never)
       (λ all. stops_here EndOfInput left' held'' waiting r.read (r.none_ends, inr (omega (arith, many, r.many))) all)
       (λ cut. stops_here OutputFailed left' held'' waiting r.read (inl r.none_ends) cut)
       (close held before (bytes_of (outgoing so_far)) r.written)
 
-  pub taken_all_not_by_input : (held'' : Option (List ℕ)) (now' : ℕ) (result : End) → IsClosedAs held' held'' now now' o EndOfInput result
+  pub taken_all_not_by_input : (held'' : Option (List ℕ)) (now' : ℕ) (result : End)
+      → IsClosedAs held' held'' now now' o EndOfInput result
       → result ≡ InputFailed → ⊥
   taken_all_not_by_input held'' now' result close e = elim (close held before (bytes_of (outgoing so_far)) r.written) [
     | inl w ↦ let g : EndOfInput ≡ InputFailed = sym w.0 ∙ e in cc
@@ -440,7 +486,9 @@ pub failed_so : {before here now : ℕ} → here ≡ before → Rises here now �
 failed_so {before} {here} {now} same rises =
     record { rises = λ _. subst (λ (n : ℕ). Rises n now) same rises; stays = λ other. absurd (other refl) }
 
-pub starts : {T : Type 0} (leads : T → Asking → T → Type 0) (units : ℕ) (me : Identity) (opening : Opening) (left held : Option (List ℕ)) (n : ℕ) (o : OutboxValue) (x : T) (p : PhasesValue) (waiting : List ℕ)
+pub starts : {T : Type 0} (leads : T → Asking → T
+    → Type 0) (units : ℕ) (me : Identity) (opening : Opening) (left held : Option (List ℕ)) (n : ℕ) (o : OutboxValue)
+        (x : T) (p : PhasesValue) (waiting : List ℕ)
     → PhaseStands units me opening (record { logins = []; turns = [] }) p.login p.counters
     → o ≡ record { waiting = []; failed = false } → waiting ≡ []
     → Running leads units me opening left left held held n n o x x p waiting 0
@@ -458,4 +506,5 @@ starts leads units me opening left held n o x p waiting stands o_is empty = reco
 
 -- fewer bytes than a header are no PDU
 pub too_short : (b : List ℕ) → length b < BHS_LENGTH → NoneWhole b
-too_short b short = record { no_pdu = λ n h d p within. absurd (omega (arith, p.long, length-take-le n b within)); no_fault = λ f stands. short }
+too_short b short = record { no_pdu = λ n h d p within. absurd (omega (arith, p.long, length-take-le n b within));
+    no_fault = λ f stands. short }

@@ -44,7 +44,8 @@ pub size_within : (l : Lengths) (offset total : ℕ) → offset < total → offs
 size_within l offset total h = omega (arith, h)
 
 -- behind a Data-In there is less left
-fewer : (l : Lengths) (t : Bool) (offset total most : ℕ) → nat_lt offset total ≡ t → total - offset ≤ suc most → total - (offset + segment_size l offset total) ≤ most
+fewer : (l : Lengths) (t : Bool) (offset total most : ℕ) → nat_lt offset total ≡ t → total - offset ≤ suc most
+    → total - (offset + segment_size l offset total) ≤ most
 fewer l true offset total most f enough = omega (arith, enough, size_some l offset total (ltb-true offset total f))
 fewer l false offset total most f enough = omega (arith, at_least offset total f)
 
@@ -57,18 +58,22 @@ module _ (numbers : Numbers) (tag : ℕ) (l : Lengths) (bytes : List ℕ) where
 
   -- the next one, while there is more; and none behind the last
   pub next : (most k offset : ℕ) → offset < length bytes → length bytes - offset ≤ most
-      → (fewer : ℕ) × (length bytes - (offset + size offset) ≤ fewer) × (from most k offset ≡ data_in_at numbers tag l k offset bytes ∷ from fewer (k + 1) (offset + size offset))
+      → (fewer : ℕ) × (length bytes - (offset + size offset) ≤ fewer)
+      × (from most k offset ≡ data_in_at numbers tag l k offset bytes ∷ from fewer (k + 1) (offset + size offset))
   next zero k offset more enough = absurd (omega (arith, more, enough))
   next (suc most) k offset more enough = (
     most,
     omega (arith, enough, more, size_some l offset (length bytes) more),
-    ap (λ (t : Bool). cons_if t (data_in_at numbers tag l k offset bytes) (from most (k + 1) (offset + size offset))) (less offset (length bytes) more),
+    ap (λ (t : Bool). cons_if t (data_in_at numbers tag l k offset bytes) (from most (k + 1) (offset + size offset)))
+        (less offset (length bytes) more),
   )
 
   pub no_next : (most k offset : ℕ) → length bytes ≤ offset → from most k offset ≡ []
   no_next zero k offset none = refl
   no_next (suc most) k offset none =
-      ap (λ (t : Bool). cons_if t (data_in_at numbers tag l k offset bytes) (from most (k + 1) (offset + size offset))) (not_less (nat_lt offset (length bytes)) offset (length bytes) refl none)
+      ap (λ (t : Bool). cons_if t (data_in_at numbers tag l k offset bytes)
+          (from most (k + 1) (offset + size offset)))
+              (not_less (nat_lt offset (length bytes)) offset (length bytes) refl none)
 
 module _ (e : Standing) (tag : ℕ) (l : Lengths) (bytes : List ℕ) (r : ResponseHeader) (sense : List ℕ) where
   abbrev some_of : ℕ → ℕ → ℕ → List Out
@@ -84,29 +89,39 @@ module _ (e : Standing) (tag : ℕ) (l : Lengths) (bytes : List ℕ) (r : Respon
   at k offset = data_in_at (numbers_at 0 e) tag l k offset bytes
 
   -- what holds of what follows holds with one Data-In in front
-  windows_if : (t : Bool) (k offset : ℕ) (xs : List Out) → IsWindow e r.numbers → HaveWindow e (xs ++ last_of ∷ []) → HaveWindow e (cons_if t (at k offset) xs ++ last_of ∷ [])
+  windows_if : (t : Bool) (k offset : ℕ) (xs : List Out) → IsWindow e r.numbers → HaveWindow e (xs ++ last_of ∷ [])
+      → HaveWindow e (cons_if t (at k offset) xs ++ last_of ∷ [])
   windows_if true k offset xs w rest = (record { expects = refl; reaches = refl }, rest)
   windows_if false k offset xs w rest = (w, tt)
 
   pub outs_windows : (most k offset : ℕ) → IsWindow e r.numbers → HaveWindow e (outs_of most k offset)
   outs_windows zero k offset w = (w, tt)
-  outs_windows (suc most) k offset w = windows_if (nat_lt offset (length bytes)) k offset _ w (outs_windows most (k + 1) (offset + segment_size l offset (length bytes)) w)
+  outs_windows (suc most) k offset w =
+      windows_if (nat_lt offset (length bytes)) k offset _ w
+          (outs_windows most (k + 1) (offset + segment_size l offset (length bytes)) w)
 
-  statuses_if : (t : Bool) (k offset : ℕ) (xs : List Out) → status_numbers (xs ++ last_of ∷ []) ≡ r.numbers.stat_sn ∷ [] → status_numbers (cons_if t (at k offset) xs ++ last_of ∷ []) ≡ r.numbers.stat_sn ∷ []
+  statuses_if : (t : Bool) (k offset : ℕ) (xs : List Out)
+      → status_numbers (xs ++ last_of ∷ []) ≡ r.numbers.stat_sn ∷ []
+      → status_numbers (cons_if t (at k offset) xs ++ last_of ∷ []) ≡ r.numbers.stat_sn ∷ []
   statuses_if true k offset xs rest = rest
   statuses_if false k offset xs rest = refl
 
   pub outs_statuses : (most k offset : ℕ) → status_numbers (outs_of most k offset) ≡ r.numbers.stat_sn ∷ []
   outs_statuses zero k offset = refl
-  outs_statuses (suc most) k offset = statuses_if (nat_lt offset (length bytes)) k offset _ (outs_statuses most (k + 1) (offset + segment_size l offset (length bytes)))
+  outs_statuses (suc most) k offset =
+      statuses_if (nat_lt offset (length bytes)) k offset _
+          (outs_statuses most (k + 1) (offset + segment_size l offset (length bytes)))
 
-  responses_if : (t : Bool) (k offset : ℕ) (xs : List Out) → responses (xs ++ last_of ∷ []) ≡ (r, sense) ∷ [] → responses (cons_if t (at k offset) xs ++ last_of ∷ []) ≡ (r, sense) ∷ []
+  responses_if : (t : Bool) (k offset : ℕ) (xs : List Out) → responses (xs ++ last_of ∷ []) ≡ (r, sense) ∷ []
+      → responses (cons_if t (at k offset) xs ++ last_of ∷ []) ≡ (r, sense) ∷ []
   responses_if true k offset xs rest = rest
   responses_if false k offset xs rest = refl
 
   pub outs_responses : (most k offset : ℕ) → responses (outs_of most k offset) ≡ (r, sense) ∷ []
   outs_responses zero k offset = refl
-  outs_responses (suc most) k offset = responses_if (nat_lt offset (length bytes)) k offset _ (outs_responses most (k + 1) (offset + segment_size l offset (length bytes)))
+  outs_responses (suc most) k offset =
+      responses_if (nat_lt offset (length bytes)) k offset _
+          (outs_responses most (k + 1) (offset + segment_size l offset (length bytes)))
 
   front_if : (t : Bool) (k offset : ℕ) (xs : List Out) → responses xs ≡ [] → responses (cons_if t (at k offset) xs) ≡ []
   front_if true k offset xs rest = rest
@@ -114,39 +129,55 @@ module _ (e : Standing) (tag : ℕ) (l : Lengths) (bytes : List ℕ) (r : Respon
 
   pub outs_front : (most k offset : ℕ) → responses (some_of most k offset) ≡ []
   outs_front zero k offset = refl
-  outs_front (suc most) k offset = front_if (nat_lt offset (length bytes)) k offset _ (outs_front most (k + 1) (offset + segment_size l offset (length bytes)))
+  outs_front (suc most) k offset =
+      front_if (nat_lt offset (length bytes)) k offset _
+          (outs_front most (k + 1) (offset + segment_size l offset (length bytes)))
 
-  count_if : (t : Bool) (k offset : ℕ) (xs : List Out) → length xs ≡ length (data_ins (xs ++ last_of ∷ [])) → length (cons_if t (at k offset) xs) ≡ length (data_ins (cons_if t (at k offset) xs ++ last_of ∷ []))
+  count_if : (t : Bool) (k offset : ℕ) (xs : List Out) → length xs ≡ length (data_ins (xs ++ last_of ∷ []))
+      → length (cons_if t (at k offset) xs) ≡ length (data_ins (cons_if t (at k offset) xs ++ last_of ∷ []))
   count_if true k offset xs rest = ap suc rest
   count_if false k offset xs rest = refl
 
   pub outs_count : (most k offset : ℕ) → length (some_of most k offset) ≡ length (data_ins (outs_of most k offset))
   outs_count zero k offset = refl
-  outs_count (suc most) k offset = count_if (nat_lt offset (length bytes)) k offset _ (outs_count most (k + 1) (offset + segment_size l offset (length bytes)))
+  outs_count (suc most) k offset =
+      count_if (nat_lt offset (length bytes)) k offset _
+          (outs_count most (k + 1) (offset + segment_size l offset (length bytes)))
 
-  kinds_if : (t : Bool) (k offset : ℕ) (xs : List Out) → AllByRecursion (λ o. IsOfCommand o.header) (xs ++ last_of ∷ []) → AllByRecursion (λ o. IsOfCommand o.header) (cons_if t (at k offset) xs ++ last_of ∷ [])
+  kinds_if : (t : Bool) (k offset : ℕ) (xs : List Out)
+      → AllByRecursion (λ o. IsOfCommand o.header) (xs ++ last_of ∷ [])
+      → AllByRecursion (λ o. IsOfCommand o.header) (cons_if t (at k offset) xs ++ last_of ∷ [])
   kinds_if true k offset xs rest = (tt, rest)
   kinds_if false k offset xs rest = (tt, tt)
 
   pub outs_kinds : (most k offset : ℕ) → AllByRecursion (λ o. IsOfCommand o.header) (outs_of most k offset)
   outs_kinds zero k offset = (tt, tt)
-  outs_kinds (suc most) k offset = kinds_if (nat_lt offset (length bytes)) k offset _ (outs_kinds most (k + 1) (offset + segment_size l offset (length bytes)))
+  outs_kinds (suc most) k offset =
+      kinds_if (nat_lt offset (length bytes)) k offset _
+          (outs_kinds most (k + 1) (offset + segment_size l offset (length bytes)))
 
-  r2ts_if : (t : Bool) (k offset : ℕ) (xs : List Out) → r2ts_of (xs ++ last_of ∷ []) ≡ [] → r2ts_of (cons_if t (at k offset) xs ++ last_of ∷ []) ≡ []
+  r2ts_if : (t : Bool) (k offset : ℕ) (xs : List Out) → r2ts_of (xs ++ last_of ∷ []) ≡ []
+      → r2ts_of (cons_if t (at k offset) xs ++ last_of ∷ []) ≡ []
   r2ts_if true k offset xs rest = rest
   r2ts_if false k offset xs rest = refl
 
   pub outs_r2ts : (most k offset : ℕ) → r2ts_of (outs_of most k offset) ≡ []
   outs_r2ts zero k offset = refl
-  outs_r2ts (suc most) k offset = r2ts_if (nat_lt offset (length bytes)) k offset _ (outs_r2ts most (k + 1) (offset + segment_size l offset (length bytes)))
+  outs_r2ts (suc most) k offset =
+      r2ts_if (nat_lt offset (length bytes)) k offset _
+          (outs_r2ts most (k + 1) (offset + segment_size l offset (length bytes)))
 
-  ended_if : (t : Bool) (k offset : ℕ) (xs : List Out) → list_any (λ o. is_response o.header) (xs ++ last_of ∷ []) ≡ true → list_any (λ o. is_response o.header) (cons_if t (at k offset) xs ++ last_of ∷ []) ≡ true
+  ended_if : (t : Bool) (k offset : ℕ) (xs : List Out)
+      → list_any (λ o. is_response o.header) (xs ++ last_of ∷ []) ≡ true
+      → list_any (λ o. is_response o.header) (cons_if t (at k offset) xs ++ last_of ∷ []) ≡ true
   ended_if true k offset xs rest = rest
   ended_if false k offset xs rest = refl
 
   pub outs_ended : (most k offset : ℕ) → list_any (λ o. is_response o.header) (outs_of most k offset) ≡ true
   outs_ended zero k offset = refl
-  outs_ended (suc most) k offset = ended_if (nat_lt offset (length bytes)) k offset _ (outs_ended most (k + 1) (offset + segment_size l offset (length bytes)))
+  outs_ended (suc most) k offset =
+      ended_if (nat_lt offset (length bytes)) k offset _
+          (outs_ended most (k + 1) (offset + segment_size l offset (length bytes)))
 
 -- ---- they tile the data
 
@@ -167,7 +198,8 @@ record IsSegmentFrom (l : Lengths) (tag total first start : ℕ) (segments : Lis
 
 record TilesFrom (l : Lengths) (tag : ℕ) (bytes : List ℕ) (first start : ℕ) (segments : List Segment) : Type 0 where
   pub joined : joined_data segments ≡ drop start bytes
-  pub each : (k : ℕ) (s : Segment) → slice_get segments k ≡ Some s → IsSegmentFrom l tag (length bytes) first start segments k s.0 s.1
+  pub each : (k : ℕ) (s : Segment) → slice_get segments k ≡ Some s
+      → IsSegmentFrom l tag (length bytes) first start segments k s.0 s.1
 
 abbrev pub no_segments : List Segment
 no_segments = []
@@ -184,12 +216,18 @@ drop_all (suc n) (x ∷ xs) h = drop_all n xs (omega (arith, h))
 
 module _ (e : Standing) (tag : ℕ) (l : Lengths) (bytes : List ℕ) (r : ResponseHeader) (sense : List ℕ) where
   abbrev head : ℕ → ℕ → Segment
-  head k offset = ((record { last = segment_size l offset (length bytes) == left_of_run l offset (length bytes); task_tag = tag; transfer_tag = NO_TRANSFER_TAG; numbers = numbers_at 0 e; data_sn = k; offset = offset }), take (segment_size l offset (length bytes)) (drop offset bytes))
+  head k offset = ((record { last = segment_size l offset (length bytes) == left_of_run l offset (length bytes);
+      task_tag = tag; transfer_tag = NO_TRANSFER_TAG; numbers = numbers_at 0 e; data_sn = k; offset = offset }), take
+          (segment_size l offset (length bytes)) (drop offset bytes))
 
-  head_length : (offset : ℕ) → offset < length bytes → length (take (segment_size l offset (length bytes)) (drop offset bytes)) ≡ segment_size l offset (length bytes)
-  head_length offset more = length-take-le (segment_size l offset (length bytes)) (drop offset bytes) (omega (arith, length-drop offset bytes, size_within l offset (length bytes) more))
+  head_length : (offset : ℕ) → offset < length bytes
+      → length (take (segment_size l offset (length bytes)) (drop offset bytes)) ≡ segment_size l offset (length bytes)
+  head_length offset more =
+      length-take-le (segment_size l offset (length bytes)) (drop offset bytes)
+          (omega (arith, length-drop offset bytes, size_within l offset (length bytes) more))
 
-  the_head : (k offset : ℕ) (segments : List Segment) → offset < length bytes → IsSegmentFrom l tag (length bytes) k offset segments 0 (head k offset).0 (head k offset).1
+  the_head : (k offset : ℕ) (segments : List Segment) → offset < length bytes
+      → IsSegmentFrom l tag (length bytes) k offset segments 0 (head k offset).0 (head k offset).1
   the_head k offset segments more =
       let long = head_length offset more in
       record {
@@ -197,7 +235,9 @@ module _ (e : Standing) (tag : ℕ) (l : Lengths) (bytes : List ℕ) (r : Respon
         place = let e : offset ≡ offset + 0 = omega arith in e;
         some = omega (arith, long, size_some l offset (length bytes) more);
         size = long;
-        last = (λ t. long ∙ eqb-true (segment_size l offset (length bytes)) (left_of_run l offset (length bytes)) t, λ h. eq-eqb (segment_size l offset (length bytes)) (left_of_run l offset (length bytes)) (sym long ∙ h));
+        last = (λ t. long ∙ eqb-true (segment_size l offset (length bytes))
+            (left_of_run l offset (length bytes)) t, λ h. eq-eqb (segment_size l offset (length bytes))
+                (left_of_run l offset (length bytes)) (sym long ∙ h));
         tag_is = refl;
         no_transfer = refl;
         no_status = refl;
@@ -223,16 +263,20 @@ module _ (e : Standing) (tag : ℕ) (l : Lengths) (bytes : List ℕ) (r : Respon
       → IsSegmentFrom l tag (length bytes) k offset (head k offset ∷ segments) j s.0 s.1
   segment_at k offset segments more rest zero s f =
       let same : head k offset ≡ s = cc in
-      subst (λ (z : Segment). IsSegmentFrom l tag (length bytes) k offset (head k offset ∷ segments) 0 z.0 z.1) same (the_head k offset (head k offset ∷ segments) more)
+      subst (λ (z : Segment). IsSegmentFrom l tag (length bytes) k offset (head k offset ∷ segments) 0 z.0 z.1) same
+          (the_head k offset (head k offset ∷ segments) more)
   segment_at k offset segments more rest (suc j) s f =
       let there : slice_get segments j ≡ Some s = f in
-      moved_on (head k offset) k offset (segment_size l offset (length bytes)) segments j s (head_length offset more) (rest.each j s there)
+      moved_on (head k offset) k offset (segment_size l offset (length bytes)) segments j s (head_length offset more)
+          (rest.each j s there)
 
   one_more : (k offset : ℕ) (segments : List Segment) → offset < length bytes
       → TilesFrom l tag bytes (k + 1) (offset + segment_size l offset (length bytes)) segments
       → TilesFrom l tag bytes k offset (head k offset ∷ segments)
   one_more k offset segments more rest = record {
-    joined = ap (λ (z : List ℕ). take (segment_size l offset (length bytes)) (drop offset bytes) ++ z) (rest.joined ∙ sym (drop-drop (segment_size l offset (length bytes)) offset bytes)) ∙ take-append-drop (segment_size l offset (length bytes)) (drop offset bytes);
+    joined = ap (λ (z : List ℕ). take (segment_size l offset (length bytes)) (drop offset bytes) ++ z) (rest.joined
+        ∙ sym (drop-drop (segment_size l offset (length bytes)) offset bytes))
+            ∙ take-append-drop (segment_size l offset (length bytes)) (drop offset bytes);
     each = segment_at k offset segments more rest;
   }
 
@@ -240,18 +284,25 @@ module _ (e : Standing) (tag : ℕ) (l : Lengths) (bytes : List ℕ) (r : Respon
   none_more k offset none = record { joined = drop_all offset bytes none; each = λ j s f. absurd (no_segment j s f) }
 
   tiles_if : (t : Bool) (k offset : ℕ) (xs : List Out) → nat_lt offset (length bytes) ≡ t
-      → TilesFrom l tag bytes (k + 1) (offset + segment_size l offset (length bytes)) (data_ins (xs ++ last_of e tag l bytes r sense ∷ []))
-      → TilesFrom l tag bytes k offset (data_ins (cons_if t (at e tag l bytes r sense k offset) xs ++ last_of e tag l bytes r sense ∷ []))
-  tiles_if true k offset xs f rest = one_more k offset (data_ins (xs ++ last_of e tag l bytes r sense ∷ [])) (ltb-true offset (length bytes) f) rest
+      → TilesFrom l tag bytes (k + 1) (offset + segment_size l offset (length bytes))
+          (data_ins (xs ++ last_of e tag l bytes r sense ∷ []))
+      → TilesFrom l tag bytes k offset
+          (data_ins (cons_if t (at e tag l bytes r sense k offset) xs ++ last_of e tag l bytes r sense ∷ []))
+  tiles_if true k offset xs f rest =
+      one_more k offset (data_ins (xs ++ last_of e tag l bytes r sense ∷ [])) (ltb-true offset (length bytes) f) rest
   tiles_if false k offset xs f rest = none_more k offset (at_least offset (length bytes) f)
 
-  tiled_from : (most k offset : ℕ) → length bytes - offset ≤ most → TilesFrom l tag bytes k offset (data_ins (outs_of e tag l bytes r sense most k offset))
+  tiled_from : (most k offset : ℕ) → length bytes - offset ≤ most
+      → TilesFrom l tag bytes k offset (data_ins (outs_of e tag l bytes r sense most k offset))
   tiled_from zero k offset enough = none_more k offset (omega (arith, enough))
   tiled_from (suc most) k offset enough =
-      tiles_if (nat_lt offset (length bytes)) k offset (some_of e tag l bytes r sense most (k + 1) (offset + segment_size l offset (length bytes))) refl
-      (tiled_from most (k + 1) (offset + segment_size l offset (length bytes)) (fewer l (nat_lt offset (length bytes)) offset (length bytes) most refl enough))
+      tiles_if (nat_lt offset (length bytes)) k offset
+          (some_of e tag l bytes r sense most (k + 1) (offset + segment_size l offset (length bytes))) refl
+      (tiled_from most (k + 1) (offset + segment_size l offset (length bytes))
+          (fewer l (nat_lt offset (length bytes)) offset (length bytes) most refl enough))
 
-  pub outs_tiled : (p : CommandHeader) → p.task_tag ≡ tag → Tiles l p (data_ins (outs_of e tag l bytes r sense (length bytes) 0 0)) bytes
+  pub outs_tiled : (p : CommandHeader) → p.task_tag ≡ tag
+      → Tiles l p (data_ins (outs_of e tag l bytes r sense (length bytes) 0 0)) bytes
   outs_tiled p same = let whole = tiled_from (length bytes) 0 0 (omega arith) in record {
     joined = whole.joined;
     each = λ k h d f. let i = whole.each k (h, d) f in record {

@@ -58,7 +58,9 @@ module _ (new : List Collecting) where
   replaced [] c back (inr w) u = rw w.1 (rw w.2 u.0, u.1)
   replaced (x ∷ front) c back p u =
       let n = none_front x.command.task_tag front (c ∷ back) u.0 in (
-        none_append x.command.task_tag front (new ++ back) n.0 (none_append x.command.task_tag new back (none_new c.command.task_tag x.command.task_tag new n.1.0 p) n.1.1),
+        none_append x.command.task_tag front (new ++ back) n.0
+            (none_append x.command.task_tag new back
+                (none_new c.command.task_tag x.command.task_tag new n.1.0 p) n.1.1),
         replaced front c back p u.1,
       )
 
@@ -85,13 +87,15 @@ module _ (test : Collecting → Bool) where
     one true rest = (none_kept c.command.task_tag cs u.0, rest)
     one false rest = rest
 
-opened_place : (burst : ℕ) (p : CommandHeader) (asked : Result Command CdbFault) (d : List ℕ) (call : Option Asking) (outs : List Out)
+opened_place : (burst : ℕ) (p : CommandHeader) (asked : Result Command CdbFault) (d : List ℕ) (call : Option Asking)
+    (outs : List Out)
     (new : List Collecting) → IsOpened burst p asked d call outs new → InPlace p.task_tag new
 opened_place burst p asked d call outs new (asks h w) = inr (_, w.one, refl)
 opened_place burst p asked d call outs new (busy h w) = inl w.none
 opened_place burst p asked d call outs new (called h w) = inl w.none
 
-fed_place : (burst : ℕ) (c : Collecting) (asked : Result Command CdbFault) (bytes : List ℕ) (end : ℕ) (call : Option Asking) (outs : List Out)
+fed_place : (burst : ℕ) (c : Collecting) (asked : Result Command CdbFault) (bytes : List ℕ) (end : ℕ)
+    (call : Option Asking) (outs : List Out)
     (new : List Collecting) → IsFed burst c asked bytes end call outs new → InPlace c.command.task_tag new
 fed_place burst c asked bytes end call outs new (filling w) = inr (_, w.one, refl)
 fed_place burst c asked bytes end call outs new (on w) = inr (_, w.one, refl)
@@ -100,11 +104,13 @@ fed_place burst c asked bytes end call outs new (now w) = inl w.1.none
 pub none_of_any : (g : ℕ) (cs : List Collecting) → list_any (has_tag g) cs ≡ false → HasNone g cs
 none_of_any g [] e = tt
 none_of_any g (c ∷ cs) e = one (has_tag g c) refl e (λ h. none_of_any g cs h) where
-  one : (b : Bool) → has_tag g c ≡ b → (b || list_any (has_tag g) cs) ≡ false → (list_any (has_tag g) cs ≡ false → HasNone g cs) → HasNone g (c ∷ cs)
+  one : (b : Bool) → has_tag g c ≡ b → (b || list_any (has_tag g) cs) ≡ false
+      → (list_any (has_tag g) cs ≡ false → HasNone g cs) → HasNone g (c ∷ cs)
   one true f h rest = absurd (let q : true ≡ false = h in cc)
   one false f h rest = (f, rest h)
 
-pub all_append : {A : Type 0} (P : A → Type 0) (xs ys : List A) → AllByRecursion P xs → AllByRecursion P ys → AllByRecursion P (xs ++ ys)
+pub all_append : {A : Type 0} (P : A → Type 0) (xs ys : List A) → AllByRecursion P xs → AllByRecursion P ys
+    → AllByRecursion P (xs ++ ys)
 all_append P [] ys h k = k
 all_append P (x ∷ xs) ys h k = (h.0, all_append P xs ys h.1 k)
 
@@ -118,7 +124,8 @@ pub record IsKept (burst : ℕ) (ks : List Task) (cs : List Collecting) : Type 0
 
 module _ (burst : ℕ) (some : 0 < burst) (ks : List Task) (cs : List Collecting) (kept : IsKept burst ks cs) where
   -- a turn that concerns none and begins none
-  pub nothing_comes : (u : Turn) → ((p : CommandHeader) → Rattle.session.specs.Tasks.touches p u ≡ false) → IsKept burst (map (extended u) ks) cs
+  pub nothing_comes : (u : Turn) → ((p : CommandHeader) → Rattle.session.specs.Tasks.touches p u ≡ false)
+      → IsKept burst (map (extended u) ks) cs
   nothing_comes u f = subst (λ (z : List Task). IsKept burst z cs) (sym (still u ks f)) kept
 
   pub command_comes : (b : List ℕ) (p : CommandHeader) (d : List ℕ) (asked : Result Command CdbFault) → Means p.cdb asked
@@ -132,41 +139,63 @@ module _ (burst : ℕ) (some : 0 < burst) (ks : List Task) (cs : List Collecting
       let same : map (extended u) ks ≡ ks = still u ks (λ q. refl) in
       let o = opened burst some b p d asked means call outs new k in
       record {
-        right = all_append (IsRightTask burst) (map (extended u) ks) _ (subst (AllByRecursion (IsRightTask burst)) (sym same) kept.right) (o.0, tt);
-        tied = filter_map-append collecting_of (map (extended u) ks) (record { command = p; segment = d; own = u ∷ [] } ∷ []) ∙ ap (λ (z : List Collecting). filter_map collecting_of (map (extended u) ks) ++ z) o.1
-            ∙ ap (λ (z : List Task). filter_map collecting_of z ++ new) same ∙ ap (λ (z : List Collecting). z ++ new) kept.tied;
+        right = all_append (IsRightTask burst) (map (extended u) ks) _
+            (subst (AllByRecursion (IsRightTask burst)) (sym same) kept.right) (o.0, tt);
+        tied = filter_map-append collecting_of (map (extended u) ks)
+            (record { command = p; segment = d; own = u ∷ [] } ∷ [])
+                ∙ ap (λ (z : List Collecting). filter_map collecting_of (map (extended u) ks) ++ z) o.1
+            ∙ ap (λ (z : List Task). filter_map collecting_of z ++ new) same
+            ∙ ap (λ (z : List Collecting). z ++ new) kept.tied;
         unique = added new p.task_tag cs (opened_place burst p asked d call outs new k) none kept.unique;
       }
 
-  pub data_comes : (b : List ℕ) (x : DataOutHeader) (d : List ℕ) (call : Option Asking) (outs : List Out) (cs' : List Collecting)
+  pub data_comes : (b : List ℕ) (x : DataOutHeader) (d : List ℕ) (call : Option Asking) (outs : List Out)
+      (cs' : List Collecting)
       → IsTakenData burst cs x d call outs cs'
-      → IsKept burst (map (extended (record { came = pdu b (Initiator (DataOut x)) d; verdict = Accepted; call = call; sent = outs })) ks) cs'
+      → IsKept burst (map (extended (record { came = pdu b (Initiator (DataOut x)) d; verdict = Accepted; call = call;
+          sent = outs })) ks) cs'
   data_comes b x d call outs cs' k =
       let u : Turn = record { came = pdu b (Initiator (DataOut x)) d; verdict = Accepted; call = call; sent = outs } in
       let whole : IsUnique (k.front ++ (k.this ∷ k.back)) = subst IsUnique k.whole kept.unique in
       let none = apart k.front k.this k.back whole in
       let w = walk burst u x.task_tag (λ p. refl) k.this k.back k.new
       (λ task right open_task is. subst (λ (z : Task). IsRightTask burst z × (cons_option (collecting_of z) [] ≡ k.new))
-      (sym (touched_is u task open_task (eq-eqb task.command.task_tag x.task_tag (ap (λ (c : Collecting). c.command.task_tag) is ∙ k.tag))))
+      (sym (touched_is u task open_task
+          (eq-eqb task.command.task_tag x.task_tag (ap (λ (c : Collecting). c.command.task_tag) is ∙ k.tag))))
       (touch task right open_task is))
-      (subst (λ (g : ℕ). HasNone g k.back) k.tag none.1) ks k.front kept.right (kept.tied ∙ k.whole) (subst (λ (g : ℕ). HasNone g k.front) k.tag none.0) in
+      (subst (λ (g : ℕ). HasNone g k.back) k.tag none.1) ks k.front kept.right (kept.tied
+          ∙ k.whole) (subst (λ (g : ℕ). HasNone g k.front) k.tag none.0) in
       record {
         right = w.0;
         tied = w.1 ∙ sym k.after;
-        unique = subst IsUnique (sym k.after) (replaced k.new k.front k.this k.back (fed_place burst k.this k.asked _ _ call outs k.new k.fed) whole);
+        unique = subst IsUnique (sym k.after)
+            (replaced k.new k.front k.this k.back (fed_place burst k.this k.asked _ _ call outs k.new k.fed) whole);
       } where
         touch : (task : Task) → IsRightTask burst task → has_ended task ≡ false → collected task ≡ k.this
-            → IsRightTask burst (with_turn task (record { came = pdu b (Initiator (DataOut x)) d; verdict = Accepted; call = call; sent = outs }))
-            × (cons_option (collecting_of (with_turn task (record { came = pdu b (Initiator (DataOut x)) d; verdict = Accepted; call = call; sent = outs }))) [] ≡ k.new)
+            → IsRightTask burst (with_turn task (record { came = pdu b (Initiator (DataOut x)) d; verdict = Accepted;
+                call = call; sent = outs }))
+            × (cons_option (collecting_of
+                (with_turn task (record { came = pdu b (Initiator (DataOut x)) d; verdict = Accepted; call = call;
+                    sent = outs }))) [] ≡ k.new)
         touch task right open_task is =
-            let f = subst (λ (c : Collecting). (q : Continues c x d) × IsFed burst c k.asked (c.bytes ++ d) (q.request.offset + q.request.desired_length) call outs k.new) (sym is) (k.continues, k.fed) in
-            let one : right.asked ≡ k.asked = k.only right.asked (subst (λ (c : Collecting). Means c.command.cdb right.asked) is right.means) in
+            let f = subst (λ (c : Collecting). (q : Continues c x d)
+                × IsFed burst c k.asked (c.bytes ++ d) (q.request.offset + q.request.desired_length) call outs k.new)
+                    (sym is) (k.continues, k.fed) in
+            let one : right.asked ≡ k.asked =
+                k.only right.asked (subst (λ (c : Collecting). Means c.command.cdb right.asked) is right.means) in
             fed burst some task open_task right b x d f.0 k.asked (sym one) call outs k.new f.1
 
-  pub management_comes : (b : List ℕ) (x : ManagementHeader) (d : List ℕ) (call : Option Asking) (outs : List Out) → r2ts_of outs ≡ []
-      → IsKept burst (map (extended (record { came = pdu b (Initiator (TaskManagementRequest x)) d; verdict = Accepted; call = call; sent = outs })) ks)
+  pub management_comes : (b : List ℕ) (x : ManagementHeader) (d : List ℕ) (call : Option Asking) (outs : List Out)
+      → r2ts_of outs ≡ []
+      → IsKept burst (map (extended
+          (record { came = pdu b (Initiator (TaskManagementRequest x)) d; verdict = Accepted; call = call;
+              sent = outs })) ks)
       (filter (keeps x outs) cs)
   management_comes b x d call outs no_r2t =
-      let u : Turn = record { came = pdu b (Initiator (TaskManagementRequest x)) d; verdict = Accepted; call = call; sent = outs } in
-      let w = drop_all burst u (λ p. drops x p && found_unit outs) (λ p. refl) (λ k right open_task. dropped burst k open_task right Accepted (pdu b (Initiator (TaskManagementRequest x)) d) call outs refl refl no_r2t) ks kept.right in
-      record { right = w.0; tied = w.1 ∙ ap (filter (keeps x outs)) kept.tied; unique = unique_kept (keeps x outs) cs kept.unique }
+      let u : Turn = record { came = pdu b (Initiator (TaskManagementRequest x)) d; verdict = Accepted; call =
+          call; sent = outs } in
+      let w = drop_all burst u (λ p. drops x p && found_unit outs) (λ p. refl)
+          (λ k right open_task. dropped burst k open_task right Accepted
+              (pdu b (Initiator (TaskManagementRequest x)) d) call outs refl refl no_r2t) ks kept.right in
+      record { right = w.0; tied = w.1 ∙ ap (filter (keeps x outs)) kept.tied; unique =
+          unique_kept (keeps x outs) cs kept.unique }

@@ -59,8 +59,10 @@ pub record IsCalledNow (p : CommandHeader) (asked : Result Command CdbFault) (by
 pub data IsFed (burst : ℕ) (c : Collecting) (asked : Result Command CdbFault) (bytes : List ℕ) (end : ℕ)
     (call : Option Asking) (outs : List Out) (new : List Collecting) : Type 0 where
   filling : IsFilling c bytes end call outs new → IsFed burst c asked bytes end call outs new
-  on : IsAskedOn burst c.command (need_of asked) bytes end c.requests call outs new → IsFed burst c asked bytes end call outs new
-  now : (need_of asked ≤ length bytes) × IsCalledNow c.command asked bytes call outs new → IsFed burst c asked bytes end call outs new
+  on : IsAskedOn burst c.command (need_of asked) bytes end c.requests call outs new
+      → IsFed burst c asked bytes end call outs new
+  now : (need_of asked ≤ length bytes) × IsCalledNow c.command asked bytes call outs new
+      → IsFed burst c asked bytes end call outs new
 
 -- there was no buffer for its data: it ends at once, with a response
 pub record IsTurnedAway (call : Option Asking) (outs : List Out) (new : List Collecting) : Type 0 where
@@ -75,7 +77,8 @@ pub data IsOpened (burst : ℕ) (p : CommandHeader) (asked : Result Command CdbF
   asks : HasToCollect p (need_of asked) (length d) → IsAskedOn burst p (need_of asked) d (length d) 0 call outs new
       → IsOpened burst p asked d call outs new
   busy : HasToCollect p (need_of asked) (length d) → IsTurnedAway call outs new → IsOpened burst p asked d call outs new
-  called : (HasToCollect p (need_of asked) (length d) → ⊥) → IsCalledNow p asked d call outs new → IsOpened burst p asked d call outs new
+  called : (HasToCollect p (need_of asked) (length d) → ⊥) → IsCalledNow p asked d call outs new
+      → IsOpened burst p asked d call outs new
 
 -- a Data-Out of the task that stands there among those that wait
 pub record IsTakenData (burst : ℕ) (cs : List Collecting) (x : DataOutHeader) (d : List ℕ) (call : Option Asking)
@@ -90,7 +93,8 @@ pub record IsTakenData (burst : ℕ) (cs : List Collecting) (x : DataOutHeader) 
   pub asked : Result Command CdbFault
   pub means : Means this.command.cdb asked
   pub only : (other : Result Command CdbFault) → Means this.command.cdb other → other ≡ asked
-  pub fed : IsFed burst this asked (this.bytes ++ d) (continues.request.offset + continues.request.desired_length) call outs new
+  pub fed : IsFed burst this asked (this.bytes ++ d)
+      (continues.request.offset + continues.request.desired_length) call outs new
   pub after : cs' ≡ front ++ (new ++ back)
 
 -- the tasks that a request does not drop, which is answered so

@@ -60,7 +60,8 @@ command_step p d own u true false e = ap (λ (z : List Turn). record { command =
 command_step p d own u false c e = ap (of_command p d) (append-nil own)
 
 command_more : (p : CommandHeader) (d : List ℕ) (t : Turn) (behind : List Turn) (u : Turn)
-    → of_command p d (t ∷ filter (touches p) (behind ++ u ∷ [])) ≡ extended u (of_command p d (t ∷ filter (touches p) behind))
+    → of_command p d (t ∷ filter (touches p) (behind ++ u ∷ [])) ≡ extended u
+        (of_command p d (t ∷ filter (touches p) behind))
 command_more p d t behind u =
     let own : List Turn = t ∷ filter (touches p) behind in
     ap (λ (z : List Turn). of_command p d (t ∷ z)) (filter-append (touches p) behind (u ∷ []))
@@ -81,7 +82,8 @@ last_task (Some k) = refl
 
 -- the tasks with a turn more: those before, each with this turn, and the one that it begins
 pub tasks_more : (ts : List Turn) (u : Turn)
-    → tasks (ts ++ u ∷ []) ≡ map (extended u) (tasks ts) ++ option_to_list (begun_by (accepted_command u.verdict u.came) u [])
+    → tasks (ts ++ u ∷ []) ≡ map (extended u) (tasks ts)
+    ++ option_to_list (begun_by (accepted_command u.verdict u.came) u [])
 tasks_more [] u = last_task (begun_by (accepted_command u.verdict u.came) u [])
 tasks_more (t ∷ behind) u =
     tasks_step (accepted_command t.verdict t.came) t behind u _

@@ -77,7 +77,8 @@ module _ (burst : ℕ) (u : Turn) (tag : ℕ) (by_tag : (p : CommandHeader) → 
         → HasNone tag front
         → ((f : List Collecting) → filter_map collecting_of ks ≡ f ++ (this ∷ back) → HasNone tag f → Touched ks f)
         → Touched (k ∷ ks) front
-    walk_one k ks front true e right all is none rec = passed k ks front front (ended_stays u k e) right (rec front is none) (rw e refl)
+    walk_one k ks front true e right all is none rec =
+        passed k ks front front (ended_stays u k e) right (rec front is none) (rw e refl)
     walk_one k ks [] false e right all is none rec =
         let one : collected k ≡ this = cc in
         let rest : filter_map collecting_of ks ≡ back = cc in
@@ -115,7 +116,8 @@ module _ (burst : ℕ) (u : Turn) (drops : CommandHeader → Bool) (by_test : (p
       × (filter_map collecting_of (map (extended u) ks) ≡ filter kept (filter_map collecting_of ks))
 
   drop_step : (k k' : Task) (ks : List Task) → k' ≡ extended u k → IsRightTask burst k'
-      → ((cs : List Collecting) → cons_option (collecting_of k') (filter kept cs) ≡ filter kept (cons_option (collecting_of k) cs))
+      → ((cs : List Collecting)
+          → cons_option (collecting_of k') (filter kept cs) ≡ filter kept (cons_option (collecting_of k) cs))
       → Dropped ks → Dropped (k ∷ ks)
   drop_step k k' ks same right step rest = (
     (subst (IsRightTask burst) same right, rest.0),
@@ -129,8 +131,10 @@ module _ (burst : ℕ) (u : Turn) (drops : CommandHeader → Bool) (by_test : (p
       drop_step k k ks (sym (ended_stays u k e)) right (λ cs. rw e refl) rest
   drop_one k ks false true e f right rest =
       let d = end k right e in
-      drop_step k (with_turn k u) ks (sym (touched_is u k e (by_test k.command ∙ f))) d.0 (λ cs. none_of (collecting_of (with_turn k u)) d.1 cs ∙ rw (e, f) refl) rest where
-        none_of : (o : Option Collecting) → cons_option o [] ≡ [] → (cs : List Collecting) → cons_option o (filter kept cs) ≡ filter kept cs
+      drop_step k (with_turn k u) ks (sym (touched_is u k e (by_test k.command ∙ f))) d.0
+          (λ cs. none_of (collecting_of (with_turn k u)) d.1 cs ∙ rw (e, f) refl) rest where
+        none_of : (o : Option Collecting) → cons_option o [] ≡ [] → (cs : List Collecting)
+            → cons_option o (filter kept cs) ≡ filter kept cs
         none_of None e cs = refl
         none_of (Some c) e cs = absurd (cc)
   drop_one k ks false false e f right rest =

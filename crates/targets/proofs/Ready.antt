@@ -25,20 +25,28 @@ use Rattle.unit_state.specs.CommandLaws.{next_after, count_after}
 use Rattle.targets.specs.OneUnit.{TargetValue, IsSame, IsCommand, IsAnsweredBy, IsResetBy}
 
 -- one that has its serial and is gone has no room
-pub gone_late : (c : ControlValue) (session serial : ℕ) → next_of c.sessions session ≡ Some serial → (IsNext c session serial → ⊥)
+pub gone_late : (c : ControlValue) (session serial : ℕ) → next_of c.sessions session ≡ Some serial
+    → (IsNext c session serial → ⊥)
     → LAST_COUNT ≤ c.count
-gone_late c session serial next gone = ⊎_elim (λ (lt : c.count < LAST_COUNT). absurd (gone (record { room = lt; next = next }))) (λ (le : LAST_COUNT ≤ c.count). le) (cases_lt c.count LAST_COUNT)
+gone_late c session serial next gone =
+    ⊎_elim (λ (lt : c.count < LAST_COUNT). absurd (gone (record { room = lt; next = next })))
+        (λ (le : LAST_COUNT ≤ c.count). le) (cases_lt c.count LAST_COUNT)
 
 -- behind a command its serial is the next again
-pub ready_next : (c new : ControlValue) (session serial : ℕ) (by_group : Group) (asked : Result ScsiCommand CdbFault) (bytes : List ℕ) (choice : Choice) → IsNext c session serial → new ≡ control_after c (Command session serial by_group asked bytes choice)
+pub ready_next : (c new : ControlValue) (session serial : ℕ) (by_group : Group) (asked : Result ScsiCommand CdbFault)
+    (bytes : List ℕ) (choice : Choice) → IsNext c session serial
+        → new ≡ control_after c (Command session serial by_group asked bytes choice)
     → next_of new.sessions session ≡ Some (serial + 1)
 ready_next c new session serial by_group asked bytes choice is after =
     ap (λ (d : ControlValue). next_of d.sessions session) after ∙ next_after c session serial by_group asked bytes choice is
 
-pub count_next : (c new : ControlValue) (session serial : ℕ) (by_group : Group) (asked : Result ScsiCommand CdbFault) (bytes : List ℕ) (choice : Choice) → serial ≤ c.count → new ≡ control_after c (Command session serial by_group asked bytes choice)
+pub count_next : (c new : ControlValue) (session serial : ℕ) (by_group : Group) (asked : Result ScsiCommand CdbFault)
+    (bytes : List ℕ) (choice : Choice) → serial ≤ c.count
+        → new ≡ control_after c (Command session serial by_group asked bytes choice)
     → serial + 1 ≤ new.count
 count_next c new session serial by_group asked bytes choice fits after =
-    let e : new.count ≡ c.count + 1 = ap (λ (d : ControlValue). d.count) after ∙ count_after c session serial by_group asked bytes choice in omega arith
+    let e : new.count ≡ c.count + 1 = ap (λ (d : ControlValue). d.count) after
+        ∙ count_after c session serial by_group asked bytes choice in omega arith
 
 -- behind a reset of its own its serial is the same
 next_reset : (sessions : List Attached) (by_session session : ℕ)
@@ -46,24 +54,32 @@ next_reset : (sessions : List Attached) (by_session session : ℕ)
 next_reset [] by_session session = refl
 next_reset (a ∷ rest) by_session session =
     ⊎_elim (λ (own : (nat_eq a.id by_session ≡ true) × (a.id ≡ by_session)). rw own.0
-    (⊎_elim (λ (t : (nat_eq a.id session ≡ true) × (a.id ≡ session)). rw t.0 refl) (λ (f : (nat_eq a.id session ≡ false) × (a.id ≢ session)). rw f.0 (next_reset rest by_session session)) (eqb_tells a.id session)))
+    (⊎_elim (λ (t : (nat_eq a.id session ≡ true) × (a.id ≡ session)). rw t.0 refl)
+        (λ (f : (nat_eq a.id session ≡ false) × (a.id ≢ session)). rw f.0 (next_reset rest by_session session))
+            (eqb_tells a.id session)))
     (λ (other : (nat_eq a.id by_session ≡ false) × (a.id ≢ by_session)). rw other.0
-    (⊎_elim (λ (t : (nat_eq a.id session ≡ true) × (a.id ≡ session)). rw t.0 refl) (λ (f : (nat_eq a.id session ≡ false) × (a.id ≢ session)). rw f.0 (next_reset rest by_session session)) (eqb_tells a.id session)))
+    (⊎_elim (λ (t : (nat_eq a.id session ≡ true) × (a.id ≡ session)). rw t.0 refl)
+        (λ (f : (nat_eq a.id session ≡ false) × (a.id ≢ session)). rw f.0 (next_reset rest by_session session))
+            (eqb_tells a.id session)))
     (eqb_tells a.id by_session)
 
 pub ready_reset : (c new : ControlValue) (session serial : ℕ) → next_of c.sessions session ≡ Some serial
     → new ≡ control_after c (Reset session) → next_of new.sessions session ≡ Some serial
-ready_reset c new session serial next after = ap (λ (d : ControlValue). next_of d.sessions session) after ∙ next_reset c.sessions session session ∙ next
+ready_reset c new session serial next after = ap (λ (d : ControlValue). next_of d.sessions session) after
+    ∙ next_reset c.sessions session session ∙ next
 
 -- one that is attached and cannot reset has no room
 is_attached : (o : Option Attached) (serial : ℕ) → option_map (λ a. a.next) o ≡ Some serial → IsSome o
 is_attached None serial next = absurd (cc)
 is_attached (Some a) serial next = refl
 
-pub reset_late : (c : ControlValue) (session serial : ℕ) → next_of c.sessions session ≡ Some serial → (IsAttached c session → ⊥)
+pub reset_late : (c : ControlValue) (session serial : ℕ) → next_of c.sessions session ≡ Some serial
+    → (IsAttached c session → ⊥)
     → LAST_COUNT ≤ c.count
 reset_late c session serial next gone =
-    ⊎_elim (λ (lt : c.count < LAST_COUNT). absurd (gone (record { room = lt; attached = is_attached (session_of c.sessions session) serial next }))) (λ (le : LAST_COUNT ≤ c.count). le) (cases_lt c.count LAST_COUNT)
+    ⊎_elim (λ (lt : c.count < LAST_COUNT). absurd
+        (gone (record { room = lt; attached = is_attached (session_of c.sessions session) serial next })))
+            (λ (le : LAST_COUNT ≤ c.count). le) (cases_lt c.count LAST_COUNT)
 
 -- ---- what a target answered
 
@@ -81,12 +97,14 @@ module _ {B : Type 0} (old new : TargetValue B) where
   -- and no serial passes the count of entries, which never falls
   pub fits_same : IsSame old new → old.at.serial ≤ old.unit.control.count → new.at.serial ≤ new.unit.control.count
   fits_same same fits =
-      let e : new.unit.control.count ≡ old.unit.control.count = ap (λ (u : UnitValue B KeepOpener MemBlocks). u.control.count) same.unit in
+      let e : new.unit.control.count ≡ old.unit.control.count =
+          ap (λ (u : UnitValue B KeepOpener MemBlocks). u.control.count) same.unit in
       let f : new.at.serial ≡ old.at.serial = same.serial in omega arith
 
   pub grows_same : IsSame old new → old.unit.control.count ≤ new.unit.control.count
   grows_same same =
-      let e : new.unit.control.count ≡ old.unit.control.count = ap (λ (u : UnitValue B KeepOpener MemBlocks). u.control.count) same.unit in omega arith
+      let e : new.unit.control.count ≡ old.unit.control.count =
+          ap (λ (u : UnitValue B KeepOpener MemBlocks). u.control.count) same.unit in omega arith
 
 module _ {B : Type 0} (claims : Bool) (contents : B → List (List ℕ)) (failures : B → ℕ) (old new : TargetValue B) where
   -- what one fact tells of a session that is gone, another tells that follows
@@ -101,7 +119,8 @@ module _ {B : Type 0} (claims : Bool) (contents : B → List (List ℕ)) (failur
   answered_over late also follows number asked bytes Halted k = k
 
   -- behind an answer the session's serial is the next still
-  pub ready_answered : (late : Type 0) (number : Option ℕ) (asked : Result ScsiCommand CdbFault) (bytes : List ℕ) (a : TargetAnswer)
+  pub ready_answered : (late : Type 0) (number : Option ℕ) (asked : Result ScsiCommand CdbFault) (bytes : List ℕ)
+      (a : TargetAnswer)
       → next_of old.unit.control.sessions old.at.session ≡ Some old.at.serial
       → IsAnsweredBy late claims contents failures old number asked bytes a new
       → next_of new.unit.control.sessions new.at.session ≡ Some new.at.serial
@@ -110,7 +129,8 @@ module _ {B : Type 0} (claims : Bool) (contents : B → List (List ℕ)) (failur
       let done = k.3 in
       let choice : Choice = choice_of reply (contents new.unit.device) new.unit.control.lasting in
       ap (λ (n : ℕ). next_of new.unit.control.sessions n) done.session
-      ∙ ready_next by_owner.unit.control new.unit.control by_owner.at.session by_owner.at.serial by_owner.at.by asked bytes choice done.step.possible.next done.step.control
+      ∙ ready_next by_owner.unit.control new.unit.control by_owner.at.session by_owner.at.serial by_owner.at.by asked
+          bytes choice done.step.possible.next done.step.control
       ∙ sym (ap some done.serial)
   ready_answered late number asked bytes (Outside reply) next k = ready_same old new k.2 next
   ready_answered late number asked bytes Busy next k = ready_same old new k.1 next
@@ -124,7 +144,8 @@ module _ {B : Type 0} (claims : Bool) (contents : B → List (List ℕ)) (failur
         → new.unit.control.count ≡ old.unit.control.count + 1
     counted reply by_owner same done =
         ap (λ (d : ControlValue). d.count) done.step.control
-        ∙ count_after by_owner.unit.control by_owner.at.session by_owner.at.serial by_owner.at.by asked bytes (choice_of reply (contents new.unit.device) new.unit.control.lasting)
+        ∙ count_after by_owner.unit.control by_owner.at.session by_owner.at.serial by_owner.at.by asked bytes
+            (choice_of reply (contents new.unit.device) new.unit.control.lasting)
         ∙ ap (λ (u : UnitValue B KeepOpener MemBlocks). u.control.count + 1) same.unit
 
     pub fits_answered : (a : TargetAnswer) → old.at.serial ≤ old.unit.control.count
@@ -147,12 +168,14 @@ module _ {B : Type 0} (claims : Bool) (contents : B → List (List ℕ)) (failur
     grows_answered Halted k = absurd k
 
 module _ {B : Type 0} (late : Type 0) (old new : TargetValue B) (number : ℕ) where
-  pub reset_over : (also : Type 0) → (late → also) → (a : ResetAnswer) → IsResetBy late old number a new → IsResetBy also old number a new
+  pub reset_over : (also : Type 0) → (late → also) → (a : ResetAnswer) → IsResetBy late old number a new
+      → IsResetBy also old number a new
   reset_over also follows resets.Done k = k
   reset_over also follows resets.Gone k = (k.0, k.1, follows k.2)
   reset_over also follows resets.Failed k = k
 
-  pub ready_reset_by : (a : ResetAnswer) → next_of old.unit.control.sessions old.at.session ≡ Some old.at.serial → new.at ≡ old.at
+  pub ready_reset_by : (a : ResetAnswer) → next_of old.unit.control.sessions old.at.session ≡ Some old.at.serial
+      → new.at ≡ old.at
       → IsResetBy late old number a new
       → next_of new.unit.control.sessions new.at.session ≡ Some new.at.serial
   ready_reset_by resets.Done next stays k =
@@ -161,6 +184,7 @@ module _ {B : Type 0} (late : Type 0) (old new : TargetValue B) (number : ℕ) w
   ready_reset_by resets.Failed next stays k = ready_same old new k.1 next
 
   pub grows_reset_by : (a : ResetAnswer) → IsResetBy late old number a new → old.unit.control.count ≤ new.unit.control.count
-  grows_reset_by resets.Done k = let e : new.unit.control.count ≡ old.unit.control.count + 1 = ap (λ (d : ControlValue). d.count) k.1.control in omega arith
+  grows_reset_by resets.Done k = let e : new.unit.control.count ≡ old.unit.control.count + 1 =
+      ap (λ (d : ControlValue). d.count) k.1.control in omega arith
   grows_reset_by resets.Gone k = grows_same old new k.1
   grows_reset_by resets.Failed k = grows_same old new k.1

@@ -22,16 +22,20 @@ later_at count later (Some at) le fits = omega arith
 -- nor does a number that was counted
 later_one : (count later begun more : ℕ) (s : LiveSession) → count ≤ later → begun ≤ more → IsCounted count begun s
     → IsCounted later more s
-later_one count later begun more s le grows fits = record { serial = later_at count later s.at le fits.serial; number = omega (arith, fits.number) }
+later_one count later begun more s le grows fits =
+    record { serial = later_at count later s.at le fits.serial; number = omega (arith, fits.number) }
 
 pub all_later : (count later begun more : ℕ) (live : List LiveSession) → count ≤ later → begun ≤ more
     → All (IsCounted count begun) live → All (IsCounted later more) live
 all_later count later begun more live le grows fits =
-    All-weaker (IsCounted count begun) (IsCounted later more) (λ s b. later_one count later begun more s le grows b) live fits
+    All-weaker (IsCounted count begun) (IsCounted later more)
+        (λ s b. later_one count later begun more s le grows b) live fits
 
 -- the session of the connection that asks
-found_at : (count : ℕ) (s : LiveSession) (rest : Option LiveSession) (at : Attachment) (b : Bool) → IfSome s.at (λ a. a.serial ≤ count)
-    → (option_and_then (λ x. x.at) rest ≡ Some at → at.serial ≤ count) → option_and_then (λ x. x.at) (cond b (Some s) rest) ≡ Some at
+found_at : (count : ℕ) (s : LiveSession) (rest : Option LiveSession) (at : Attachment) (b : Bool)
+    → IfSome s.at (λ a. a.serial ≤ count)
+    → (option_and_then (λ x. x.at) rest ≡ Some at → at.serial ≤ count)
+    → option_and_then (λ x. x.at) (cond b (Some s) rest) ≡ Some at
     → at.serial ≤ count
 found_at count s rest at true here others is = subst (λ (o : Option Attachment). IfSome o (λ a. a.serial ≤ count)) is here
 found_at count s rest at false here others is = others is
@@ -41,7 +45,8 @@ pub present_fits : (count begun : ℕ) (present : Option ℕ) (live : List LiveS
     → at.serial ≤ count
 present_fits count begun present [] at fits is = absurd (cc)
 present_fits count begun present (s ∷ live) at fits is =
-    found_at count s (find (is_present present) live) at (is_present present s) (All-head (IsCounted count begun) s live fits).serial
+    found_at count s (find (is_present present) live) at (is_present present s)
+        (All-head (IsCounted count begun) s live fits).serial
     (λ there. present_fits count begun present live at (All-tail (IsCounted count begun) s live fits) there) is
 
 -- it is kept
@@ -60,11 +65,13 @@ all_kept count later begun present at live le grows fits =
     (λ s b. kept_one count later begun present at s (is_present present s) le grows b) live fits)
 
 -- and written back
-pub all_written : (later begun n : ℕ) (kept old : List LiveSession) → All (IsCounted later begun) kept → All (IsCounted later begun) old
+pub all_written : (later begun n : ℕ) (kept old : List LiveSession) → All (IsCounted later begun) kept
+    → All (IsCounted later begun) old
     → All (IsCounted later begun) (take n (kept ++ drop (length kept) old))
 all_written later begun n kept old a b =
     All-take (IsCounted later begun) n (kept ++ drop (length kept) old)
-    (All-append (IsCounted later begun) kept (drop (length kept) old) a (All-drop (IsCounted later begun) (length kept) old b))
+    (All-append (IsCounted later begun) kept (drop (length kept) old) a
+        (All-drop (IsCounted later begun) (length kept) old b))
 
 -- others live on, and a new one does
 pub all_filtered : (later begun : ℕ) (test : LiveSession → Bool) (live : List LiveSession) → All (IsCounted later begun) live
@@ -102,21 +109,27 @@ none_fails true s none more is follows = absurd (cc)
 none_fails false s none more is follows = follows is
 
 module _ (test : LiveSession → Bool) where
-  none_append : (live : List LiveSession) (x : LiveSession) → test x ≡ false → find test live ≡ None → find test (live ++ x ∷ []) ≡ None
+  none_append : (live : List LiveSession) (x : LiveSession) → test x ≡ false → find test live ≡ None
+      → find test (live ++ x ∷ []) ≡ None
   none_append [] x fails none = rw fails refl
-  none_append (s ∷ live) x fails none = none_fails (test s) s (find test live) (find test (live ++ x ∷ [])) none (λ rest. none_append live x fails rest)
+  none_append (s ∷ live) x fails none =
+      none_fails (test s) s (find test live) (find test (live ++ x ∷ [])) none (λ rest. none_append live x fails rest)
 
   -- it is not among the first ones, and not the one behind them
-  pub none_more : (live : List LiveSession) (k : ℕ) (x : LiveSession) → k < length live → x ≡ get_or live k x → test x ≡ false
+  pub none_more : (live : List LiveSession) (k : ℕ) (x : LiveSession) → k < length live → x ≡ get_or live k x
+      → test x ≡ false
       → find test (take k live) ≡ None
       → find test (take (k + 1) live) ≡ None
   none_more live k x lt is fails none = rw (take_more live k x lt, ← is) (none_append (take k live) x fails none)
 
   -- it is at its place, and not before it
-  pub found_here : (live : List LiveSession) (k : ℕ) (x : LiveSession) → k < length live → x ≡ get_or live k x → test x ≡ true
+  pub found_here : (live : List LiveSession) (k : ℕ) (x : LiveSession) → k < length live
+      → x ≡ get_or live k x → test x ≡ true
       → find test (take k live) ≡ None
       → find test live ≡ Some x
   found_here [] k x lt is passes none = absurd (omega arith)
-  found_here (s ∷ live) zero x lt is passes none = subst (λ (y : LiveSession). cond (test y) (Some y) (find test live) ≡ Some x) is (rw passes refl)
+  found_here (s ∷ live) zero x lt is passes none =
+      subst (λ (y : LiveSession). cond (test y) (Some y) (find test live) ≡ Some x) is (rw passes refl)
   found_here (s ∷ live) (suc k) x lt is passes none =
-      test_fails (test s) s x (find test (take k live)) (find test live) none (λ rest. found_here live k x (omega arith) is passes rest)
+      test_fails (test s) s x (find test (take k live)) (find test live) none
+          (λ rest. found_here live k x (omega arith) is passes rest)

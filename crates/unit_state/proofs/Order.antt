@@ -82,7 +82,8 @@ quiet_conflict true = quiet_none
 quiet_conflict false = quiet_some Conflict (λ after lasting. refl)
 
 quiet_field : (asked : Result ScsiCommand CdbFault) (bytes : List ℕ) → IsQuiet (field_by asked bytes)
-quiet_field (Ok command) bytes = quiet_if (nat_lt (length bytes) (need_of (Ok command))) _ (quiet_some _ (λ after lasting. refl))
+quiet_field (Ok command) bytes =
+    quiet_if (nat_lt (length bytes) (need_of (Ok command))) _ (quiet_some _ (λ after lasting. refl))
 quiet_field (Err (BadField op)) bytes = quiet_some _ (λ after lasting. refl)
 quiet_field (Err UnknownOpcode) bytes = quiet_none
 
@@ -94,7 +95,8 @@ quiet_opcode : (kind : Option Op) → IsQuiet (opcode_by kind)
 quiet_opcode None = quiet_some _ (λ after lasting. refl)
 quiet_opcode (Some op) = quiet_none
 
-quiet_states : (served : Bool) (state : AccessState) → IsQuiet (option_map Check (if served then None else not_accessible state))
+quiet_states : (served : Bool) (state : AccessState)
+    → IsQuiet (option_map Check (if served then None else not_accessible state))
 quiet_states true state = quiet_none
 quiet_states false ActiveOptimized = quiet_none
 quiet_states false ActiveNonOptimized = quiet_none
@@ -164,17 +166,21 @@ module _ (c : ControlValue) (r : Request) (none : refusal c r ≡ None) where
   of_access = option_or (access_rule c r) (option_or (conflict_rule c r) of_field)
 
   behind_opcode : of_access ≡ None
-  behind_opcode = none_right (opcode_rule c r) of_access (none_right (attention_rule c r) (option_or (opcode_rule c r) of_access) none)
+  behind_opcode = none_right (opcode_rule c r) of_access
+      (none_right (attention_rule c r) (option_or (opcode_rule c r) of_access) none)
 
   behind_kind : of_field ≡ None
   behind_kind =
-      none_right (conflict_rule c r) of_field (none_right (access_rule c r) (option_or (conflict_rule c r) of_field) behind_opcode)
+      none_right (conflict_rule c r) of_field
+          (none_right (access_rule c r) (option_or (conflict_rule c r) of_field) behind_opcode)
 
   behind_saved : of_range ≡ None
-  behind_saved = none_right (saved_rule c r) of_range (none_right (field_rule c r) (option_or (saved_rule c r) of_range) behind_kind)
+  behind_saved = none_right (saved_rule c r) of_range
+      (none_right (field_rule c r) (option_or (saved_rule c r) of_range) behind_kind)
 
   pub known : opcode_rule c r ≡ None
-  known = none_left (opcode_rule c r) of_access (none_right (attention_rule c r) (option_or (opcode_rule c r) of_access) none)
+  known = none_left (opcode_rule c r) of_access
+      (none_right (attention_rule c r) (option_or (opcode_rule c r) of_access) none)
 
   pub whole : field_rule c r ≡ None
   whole = none_left (field_rule c r) (option_or (saved_rule c r) of_range) behind_kind
@@ -186,7 +192,8 @@ module _ (c : ControlValue) (r : Request) (none : refusal c r ≡ None) where
   listed = none_left (list_rule c r) None (none_right (range_rule c r) (option_or (list_rule c r) None) behind_saved)
 
 -- a CDB that asks for nothing is refused
-known_fault : (fault : CdbFault) (bytes : List ℕ) → opcode_by (kind_asked (Err fault)) ≡ None → field_by (Err fault) bytes ≡ None → ⊥
+known_fault : (fault : CdbFault) (bytes : List ℕ) → opcode_by (kind_asked (Err fault)) ≡ None
+    → field_by (Err fault) bytes ≡ None → ⊥
 known_fault UnknownOpcode bytes known whole = cc
 known_fault (BadField op) bytes known whole = cc
 
@@ -194,7 +201,8 @@ pub asks_something : (c : ControlValue) (session : ℕ) (asked : Result ScsiComm
     (fault : CdbFault) → None ≡ refusal c (request session asked bytes) → asked ≡ Err fault → ⊥
 asks_something c session asked bytes fault none is =
     let nothing : refusal c (request session (Err fault) bytes) ≡ None = rw is at (sym none) in
-    known_fault fault bytes (known c (request session (Err fault) bytes) nothing) (whole c (request session (Err fault) bytes) nothing)
+    known_fault fault bytes (known c (request session (Err fault) bytes) nothing)
+        (whole c (request session (Err fault) bytes) nothing)
 
 -- ---- what lets a command through
 
@@ -224,7 +232,8 @@ fitting total commands.ReadCapacity10 bytes le h = tt
 fitting total (commands.ReadCapacity16 n) bytes le h = tt
 fitting total (commands.Read lba n fua) bytes le h = within total (record { lba = lba; blocks = n }) h
 fitting total (commands.Write lba n fua) bytes le h = (within total (record { lba = lba; blocks = n }) h, omega arith)
-fitting total (commands.CompareAndWrite lba n fua) bytes le h = (within total (record { lba = lba; blocks = n }) h, omega arith)
+fitting total (commands.CompareAndWrite lba n fua) bytes le h =
+    (within total (record { lba = lba; blocks = n }) h, omega arith)
 fitting total (commands.SynchronizeCache lba n) bytes le h = tt
 fitting total (commands.PersistentReserveIn action n) bytes le h = tt
 fitting total (commands.PersistentReserveOut action scope kind n) bytes le h = tt

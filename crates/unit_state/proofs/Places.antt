@@ -21,7 +21,8 @@ use Rattle.unit_state.specs.Groups.{change_heard, hear_change}
 use Rattle.unit_state.specs.Reserve.{all_heard, hear}
 use Rattle.unit_state.specs.Places.{IsChangedAt, IsPlaceOf}
 
-absent_append : (xs ys : List Attached) (id : ℕ) → session_of xs id ≡ None → session_of ys id ≡ None → session_of (xs ++ ys) id ≡ None
+absent_append : (xs ys : List Attached) (id : ℕ) → session_of xs id ≡ None → session_of ys id ≡ None
+    → session_of (xs ++ ys) id ≡ None
 absent_append [] ys id none_x none_y = none_y
 absent_append (x ∷ xs) ys id none_x none_y =
     ⊎_elim (λ (t : (nat_eq x.id id ≡ true) × (x.id ≡ id)). absurd (let b = rw t.0 at none_x in cc))
@@ -37,7 +38,8 @@ absent_one a id other =
 pub absent_more : (sessions : List Attached) (id k : ℕ) (a : Attached) → a ≡ get_or sessions k a → k < length sessions
     → (a.id ≡ id → ⊥) → session_of (take k sessions) id ≡ None → session_of (take (k + 1) sessions) id ≡ None
 absent_more sessions id k a is lt other none =
-    rw (take_more sessions k a lt) (absent_append (take k sessions) (get_or sessions k a ∷ []) id none (rw (← is) (absent_one a id other)))
+    rw (take_more sessions k a lt)
+        (absent_append (take k sessions) (get_or sessions k a ∷ []) id none (rw (← is) (absent_one a id other)))
 
 -- one place further back
 behind : (f : Attached → Attached) (x : Attached) (xs : List Attached) (id k : ℕ) (o : Option Attached)
@@ -100,7 +102,8 @@ changed_twice : (f g : Attached → Attached) → ((a : Attached) → (f a).id �
 changed_twice f g keeps [] id = refl
 changed_twice f g keeps (x ∷ xs) id =
     ⊎_elim (λ (t : (nat_eq x.id id ≡ true) × (x.id ≡ id)). rw t.0 (rw (keeps x) (rw t.0 refl)))
-    (λ (n : (nat_eq x.id id ≡ false) × (x.id ≢ id)). rw n.0 (rw n.0 (ap (λ (ss : List Attached). x ∷ ss) (changed_twice f g keeps xs id))))
+    (λ (n : (nat_eq x.id id ≡ false)
+        × (x.id ≢ id)). rw n.0 (rw n.0 (ap (λ (ss : List Attached). x ∷ ss) (changed_twice f g keeps xs id))))
     (eqb_tells x.id id)
 
 got_set : (xs : List Attached) (k : ℕ) (a : Attached) → k < length xs → slice_get (set xs k a) k ≡ Some a
@@ -111,7 +114,8 @@ got_set (x ∷ xs) (suc k) a lt = got_set xs k a (omega arith)
 stays_with : (f : Attached → Attached) → ((a : Attached) → (f a).id ≡ a.id)
     → (xs new : List Attached) (id k : ℕ) (o : Option Attached) → IsSome o → k < length xs
     → session_of (take k xs) id ≡ None → session_of xs id ≡ o
-    → ((g : Attached → Attached) → IfSome o (λ a. changed g xs id ≡ set xs k (g a))) → new ≡ changed f xs id → IsPlaceOf new id k
+    → ((g : Attached → Attached) → IfSome o (λ a. changed g xs id ≡ set xs k (g a))) → new ≡ changed f xs id
+    → IsPlaceOf new id k
 stays_with f keeps xs new id k None there lt first found changes is = absurd (cc)
 stays_with f keeps xs new id k (Some a) there lt first found changes is =
     let here : new ≡ set xs k (f a) = is ∙ changes f in
@@ -122,7 +126,8 @@ stays_with f keeps xs new id k (Some a) there lt first found changes is =
       first =
           ap (λ (ss : List Attached). session_of (take k ss) id) here ∙ ap (λ (ss : List Attached). session_of ss id)
           (take-set xs k (f a)) ∙ first;
-      found = ap (λ (ss : List Attached). session_of ss id) is ∙ session_changed f keeps xs id ∙ ap (option_map f) found ∙ sym got;
+      found = ap (λ (ss : List Attached). session_of ss id) is ∙ session_changed f keeps xs id
+          ∙ ap (option_map f) found ∙ sym got;
       changes = λ g. rw got (ap (λ (ss : List Attached). changed g ss id) is ∙ changed_twice f g keeps xs id
           ∙ changes (λ b. g (f b)) ∙ sym (ap (λ (ss : List Attached). set ss k (g (f a))) here
           ∙ set-set xs k (f a) (g (f a))));
@@ -133,7 +138,8 @@ pub place_stays : (f : Attached → Attached) → ((a : Attached) → (f a).id �
     → (sessions new : List Attached) (id k : ℕ) → IsPlaceOf sessions id k → new ≡ changed f sessions id
     → IsPlaceOf new id k
 place_stays f keeps sessions new id k place is =
-    stays_with f keeps sessions new id k (slice_get sessions k) place.there place.below place.first place.found place.changes is
+    stays_with f keeps sessions new id k (slice_get sessions k) place.there place.below place.first place.found
+        place.changes is
 
 -- ---- changes of all sessions that keep their ids
 
@@ -154,7 +160,8 @@ session_mapped f keeps (x ∷ xs) id =
 pub has_id : (sessions : List Attached) (id : ℕ) (a : Attached) → session_of sessions id ≡ Some a → a.id ≡ id
 has_id [] id a h = absurd (cc)
 has_id (x ∷ xs) id a h =
-    ⊎_elim (λ (t : (nat_eq x.id id ≡ true) × (x.id ≡ id)). let e : Some x ≡ Some a = rw t.0 at h in let is : x ≡ a = cc in rw (sym is) t.1)
+    ⊎_elim (λ (t : (nat_eq x.id id ≡ true) × (x.id ≡ id)). let e : Some x ≡ Some a = rw t.0 at h in let is : x ≡ a =
+        cc in rw (sym is) t.1)
     (λ (n : (nat_eq x.id id ≡ false) × (x.id ≢ id)). has_id xs id a (rw n.0 at h))
     (eqb_tells x.id id)
 
@@ -163,9 +170,11 @@ mapped_with : (f : Attached → Attached) → ((a : Attached) → (f a).id ≡ a
     → session_of (take k xs) id ≡ None → session_of xs id ≡ o → IsPlaceOf (map f xs) id k
 mapped_with f keeps xs id k None there at lt first found = absurd (cc)
 mapped_with f keeps xs id k (Some a) there at lt first found =
-    let here : f a ≡ get_or (map f xs) k (f a) = sym (get_or-map f xs k a (f a) lt ∙ ap f (get_or_from_slice_get xs k a a at)) in
+    let here : f a ≡ get_or (map f xs) k (f a) =
+        sym (get_or-map f xs k a (f a) lt ∙ ap f (get_or_from_slice_get xs k a a at)) in
     let before : session_of (take k (map f xs)) id ≡ None =
-    ap (λ (ss : List Attached). session_of ss id) (take-map f k xs) ∙ session_mapped f keeps (take k xs) id ∙ ap (option_map f) first in
+    ap (λ (ss : List Attached). session_of ss id) (take-map f k xs) ∙ session_mapped f keeps (take k xs) id
+        ∙ ap (option_map f) first in
     is_place (map f xs) id k (f a) here (omega (arith, length-map xs f)) (keeps a ∙ has_id xs id a found) before
 
 pub place_mapped : (f : Attached → Attached) → ((a : Attached) → (f a).id ≡ a.id)
@@ -175,7 +184,8 @@ place_mapped f keeps sessions id k place =
 
 -- no more sessions stay than there are
 pub fewer : (nexus : Nexus) (sessions : List Attached) → length (without nexus sessions) ≤ length sessions
-fewer nexus sessions = omega (arith, length-filter_both (λ a. not (is_of nexus a)) (λ a. not (not (is_of nexus a))) (λ a. refl) sessions)
+fewer nexus sessions = omega
+    (arith, length-filter_both (λ a. not (is_of nexus a)) (λ a. not (not (is_of nexus a))) (λ a. refl) sessions)
 
 -- no serial passes the count, and each port has a name
 fit_later : (count : ℕ) (a : Attached) → IsFit count a → IsFit (count + 1) a
@@ -185,13 +195,15 @@ pub serials_fit : (nexus : Nexus) (sessions : List Attached) (count : ℕ) (new 
     → IsPortName new.port → All (IsFit count) sessions → All (IsFit (count + 1)) (without nexus sessions ++ new ∷ [])
 serials_fit nexus sessions count new first named fit =
     All-push (IsFit (count + 1)) (without nexus sessions) new
-    (All-filter (λ a. not (is_of nexus a)) (IsFit (count + 1)) sessions (λ k d lt. fit_later count (get_or sessions k d) (fit k d lt)))
+    (All-filter (λ a. not (is_of nexus a)) (IsFit (count + 1)) sessions
+        (λ k d lt. fit_later count (get_or sessions k d) (fit k d lt)))
     (record { next = omega arith; port = named })
 
 pub serials_fit_ended : (id : ℕ) (sessions : List Attached) (count : ℕ) → All (IsFit count) sessions
     → All (IsFit (count + 1)) (ended sessions id)
 serials_fit_ended id sessions count fit =
-    All-filter (λ a. not (nat_eq a.id id)) (IsFit (count + 1)) sessions (λ k d lt. fit_later count (get_or sessions k d) (fit k d lt))
+    All-filter (λ a. not (nat_eq a.id id)) (IsFit (count + 1)) sessions
+        (λ k d lt. fit_later count (get_or sessions k d) (fit k d lt))
 
 reset_keeps_fit : (id count : ℕ) (a : Attached) → IsFit count a → IsFit (count + 1) (heard_reset id a)
 reset_keeps_fit id count a h =
@@ -205,7 +217,8 @@ pub serials_fit_heard : (told : List Told) (sessions : List Attached) (count : �
 serials_fit_heard told sessions count fit =
     All-map (IsFit count) (hear told) sessions (λ k d lt. let h = fit k d lt in record { next = h.next; port = h.port })
 
-change_keeps_fit : (by_session : Option ℕ) (count : ℕ) (a : Attached) → IsFit count a → IsFit count (hear_change by_session a)
+change_keeps_fit : (by_session : Option ℕ) (count : ℕ) (a : Attached) → IsFit count a
+    → IsFit count (hear_change by_session a)
 change_keeps_fit None count a h = record { next = h.next; port = h.port }
 change_keeps_fit (Some id) count a h =
     ⊎_elim (λ (t : (nat_eq a.id id ≡ true) × (a.id ≡ id)). rw t.0 h)
@@ -215,7 +228,8 @@ change_keeps_fit (Some id) count a h =
 pub serials_fit_changed : (by_session : Option ℕ) (sessions : List Attached) (count : ℕ) → All (IsFit count) sessions
     → All (IsFit count) (map (hear_change by_session) sessions)
 serials_fit_changed by_session sessions count fit =
-    All-map (IsFit count) (hear_change by_session) sessions (λ k d lt. change_keeps_fit by_session count (get_or sessions k d) (fit k d lt))
+    All-map (IsFit count) (hear_change by_session) sessions
+        (λ k d lt. change_keeps_fit by_session count (get_or sessions k d) (fit k d lt))
 
 -- a session stays at its place where a change of access states is told
 pub place_told : (is : Bool) (by_session : Option ℕ) (sessions : List Attached) (id k : ℕ) → IsPlaceOf sessions id k
@@ -227,7 +241,8 @@ place_told false by_session sessions id k place = place
 pub serials_fit_reset : (id : ℕ) (sessions : List Attached) (count : ℕ) → All (IsFit count) sessions
     → All (IsFit (count + 1)) (all_reset sessions id)
 serials_fit_reset id sessions count fit =
-    All-map (IsFit (count + 1)) (heard_reset id) sessions (λ k d lt. reset_keeps_fit id count (get_or sessions k d) (fit k d lt))
+    All-map (IsFit (count + 1)) (heard_reset id) sessions
+        (λ k d lt. reset_keeps_fit id count (get_or sessions k d) (fit k d lt))
 
 -- ---- a change of all, one by one
 
@@ -246,7 +261,8 @@ next_changed f xs items k x so_far lt is =
     let here : x ≡ get_or (map f (take k xs) ++ drop k xs) k x = is ∙ ap (λ (ss : List Attached). get_or ss k x) so_far in
     rw add-one (ap (λ (ss : List Attached). set ss k (f x)) so_far ∙ one_changed f xs k x lt here)
 
-pub all_changed : (f : Attached → Attached) (xs : List Attached) (k : ℕ) → length xs ≤ k → map f (take k xs) ++ drop k xs ≡ map f xs
+pub all_changed : (f : Attached → Attached) (xs : List Attached) (k : ℕ) → length xs ≤ k
+    → map f (take k xs) ++ drop k xs ≡ map f xs
 all_changed f [] zero le = refl
 all_changed f [] (suc k) le = refl
 all_changed f (y ∷ ys) zero le = absurd (omega arith)

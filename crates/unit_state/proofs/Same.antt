@@ -11,5 +11,6 @@ more_same one other k a b is_a is_b lt long same so_far =
     ∙ ap (λ (xs : List Registrant). xs ++ get_or other k b ∷ []) so_far
     ∙ sym (take_more other k b (omega (arith, long)))
 
-pub all_same : (one other : List Registrant) (k : ℕ) → length one ≤ k → length one ≡ length other → take k one ≡ take k other → one ≡ other
+pub all_same : (one other : List Registrant) (k : ℕ) → length one ≤ k → length one ≡ length other
+    → take k one ≡ take k other → one ≡ other
 all_same one other k le long so_far = sym (take_all k one le) ∙ so_far ∙ take_all k other (omega (arith, long))

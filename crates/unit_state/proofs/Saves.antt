@@ -54,7 +54,8 @@ module _ (r : RecordValue) (rs : List RecordValue) (saved : RecordValue) where
 
 pub among_left : (fault : SaveFault) (records : List RecordValue) (saved : RecordValue) → 0 < length records
     → All (Contains (records ++ saved ∷ [])) (left_by fault records saved)
-among_left OldRoot records saved some = λ k d lt. Contains-append_left records (saved ∷ []) _ (All-contains_itself records k d lt)
+among_left OldRoot records saved some =
+    λ k d lt. Contains-append_left records (saved ∷ []) _ (All-contains_itself records k d lt)
 among_left IdleSlot [] saved some = absurd (omega arith)
 among_left IdleSlot (r ∷ rs) saved some = one_among r rs saved
 among_left NewRoot [] saved some = absurd (omega arith)

@@ -34,7 +34,8 @@ refused_answer claims old new before now r refused reply is told control same = 
 
 done_answer : (claims : Bool) (old new : UnitState) (command : ScsiCommand) (bytes : List ℕ) (reply : ReplyValue)
     (session : ℕ) → IsServed claims old new session command bytes reply
-    → IsAnswerWith claims old new (request session (Ok command) bytes) None (choice_of reply new.blocks new.control.lasting) reply
+    → IsAnswerWith claims old new (request session (Ok command) bytes) None
+        (choice_of reply new.blocks new.control.lasting) reply
 done_answer claims old new command bytes reply session done = record {
   chosen = done.chosen;
   torn = done.torn;
@@ -71,8 +72,10 @@ pub answered_step : (claims : Bool) (old mid new : UnitState) (session serial : 
 answered_step claims old mid new session serial by_group asked bytes reply next owner k same control =
     let last : new.control.lasting ≡ mid.control.lasting = ap (λ (c : ControlValue). c.lasting) control in
     let chose : choice_of reply mid.blocks mid.control.lasting ≡ choice_of reply new.blocks new.control.lasting =
-    ap (λ (b : List (List ℕ)). choice_of reply b mid.control.lasting) (sym same) ∙ ap (choice_of reply new.blocks) (sym last) in
-    subst (λ (choice : Choice). IsStep claims old new (Command session serial by_group asked bytes choice) reply) chose (record {
+    ap (λ (b : List (List ℕ)). choice_of reply b mid.control.lasting) (sym same)
+        ∙ ap (choice_of reply new.blocks) (sym last) in
+    subst (λ (choice : Choice). IsStep claims old new
+        (Command session serial by_group asked bytes choice) reply) chose (record {
       possible = record { next = next; owner = owner; chosen = k.chosen; torn = k.torn };
       control = control ∙ ap (λ (c : ControlValue). pass c session) k.control;
       blocks = λ h. same ∙ k.blocks h;
@@ -94,9 +97,11 @@ unasked_refused c r refused is = rw is.refuses refl
 pub asks_as : (c : ControlValue) (session : ℕ) (asked : Result ScsiCommand CdbFault) (bytes : List ℕ)
     (command : ScsiCommand) → IsAdmitted c (request session asked bytes) command
     → asks_opener c (request session asked bytes) ≡ is_opening c (Ok command) bytes
-asks_as c session asked bytes command is = rw is.unrefused (ap (λ (a : Result ScsiCommand CdbFault). is_opening c a bytes) is.asks)
+asks_as c session asked bytes command is =
+    rw is.unrefused (ap (λ (a : Result ScsiCommand CdbFault). is_opening c a bytes) is.asks)
 
-pub may_reach : (c : ControlValue) (r : Request) (command : ScsiCommand) (P : Type 0) → IsAdmitted c r command → OnRefusal (refusal c r) P
+pub may_reach : (c : ControlValue) (r : Request) (command : ScsiCommand) (P : Type 0) → IsAdmitted c r command
+    → OnRefusal (refusal c r) P
 may_reach c r command P is = rw is.unrefused tt
 
 -- ---- the parts of a unit, and its value
@@ -109,7 +114,8 @@ step_seen {B = B} {O = O} {R = R} claims contents inside seen new entry reply sa
 
 pub memory_seen : {B O R : Type 0} (inside seen : UnitValue B O R) (r : Request) → inside ≡ seen
     → TakesMemory inside.control r → TakesMemory seen.control r
-memory_seen {B = B} {O = O} {R = R} inside seen r same takes = subst (λ (u : UnitValue B O R). TakesMemory u.control r) same takes
+memory_seen {B = B} {O = O} {R = R} inside seen r same takes =
+    subst (λ (u : UnitValue B O R). TakesMemory u.control r) same takes
 
 pub unreached_seen : {B O R : Type 0} (inside seen : UnitValue B O R) (r : Request) (new : B) → inside ≡ seen
     → OnRefusal (refusal inside.control r) (new ≡ inside.device)
@@ -122,7 +128,8 @@ pub restarts : {B : Type 0} (size : B → ℕ) (may_hold : B → ℕ → List �
     (records said : List RecordValue) → LastsAmong size may_hold file records → said ≡ records
     → EachOutcomeHolds (size file.device) (may_hold file.device) said
 restarts size may_hold file records said lasts same =
-    subst (EachOutcomeHolds (size file.device) (may_hold file.device)) (sym same) (each_outcome_holds size may_hold file records lasts)
+    subst (EachOutcomeHolds (size file.device) (may_hold file.device)) (sym same)
+        (each_outcome_holds size may_hold file records lasts)
 
 pub restart_seen : {B O R : Type 0} (claims : Bool) (size : R → ℕ) (may_hold : R → ℕ → List ℕ → Type 0)
     (inside seen : UnitValue B O R) → inside ≡ seen →

@@ -33,7 +33,8 @@ pub taken_once : (c : ControlValue) (r : Request) (choice : Choice) (serial : �
     → next_of (passed (control_with (refusal c r) c r choice).sessions r.session) r.session ≡ Some serial → ⊥
 taken_once c r choice serial is again =
     let once : next_of (passed (control_with (refusal c r) c r choice).sessions r.session) r.session ≡ Some (serial + 1) =
-    next_passed (control_with (refusal c r) c r choice).sessions r.session serial (next_kept (refusal c r) c r choice ∙ is.next) in
+    next_passed (control_with (refusal c r) c r choice).sessions r.session serial
+        (next_kept (refusal c r) c r choice ∙ is.next) in
     let same : serial ≡ serial + 1 = cc in
     omega arith
 
@@ -45,9 +46,11 @@ pending_told_in None mid new is then_is = rw (then_is, is) refl
 pending_told_in (Some a) mid new is then_is = rw (then_is, is) refl
 
 -- a session that was told its first attention has the others
-pub pending_told : (sessions : List Attached) (id : ℕ) → pending_of (passed (told sessions id) id) id ≡ drop 1 (pending_of sessions id)
+pub pending_told : (sessions : List Attached) (id : ℕ)
+    → pending_of (passed (told sessions id) id) id ≡ drop 1 (pending_of sessions id)
 pending_told sessions id =
-    pending_told_in (session_of sessions id) (session_of (told sessions id) id) (session_of (passed (told sessions id) id) id)
+    pending_told_in (session_of sessions id) (session_of (told sessions id) id)
+        (session_of (passed (told sessions id) id) id)
     (session_changed tell_one (λ a. refl) sessions id) (session_changed pass_one (λ a. refl) (told sessions id) id)
 
 pub told_no_more : (codes : List UnitAttention) (attention : UnitAttention) → IsTrue (without_repeats codes)
@@ -92,7 +95,8 @@ reset_own_in sessions id (Some a) h = rw (same_id sessions id a h) refl
 -- who asks for a reset is told what it was to be told
 pub reset_own : (sessions : List Attached) (id : ℕ) → pending_of (all_reset sessions id) id ≡ pending_of sessions id
 reset_own sessions id =
-    ap pending_in (session_mapped (heard_reset id) (reset_keeps id) sessions id) ∙ reset_own_in sessions id (session_of sessions id) refl
+    ap pending_in (session_mapped (heard_reset id) (reset_keeps id) sessions id)
+        ∙ reset_own_in sessions id (session_of sessions id) refl
 
 other_id : (a : Attached) (id other : ℕ) → other ≢ id → nat_eq a.id other ≡ true → nat_eq a.id id ≡ false
 other_id a id other apart is =
@@ -131,20 +135,23 @@ change_own true sessions id =
     (session_of sessions id) refl
 change_own false sessions id = refl
 
-other_change_in : (sessions : List Attached) (id other : ℕ) (o : Option Attached) → other ≢ id → session_of sessions other ≡ o → IsSome o
+other_change_in : (sessions : List Attached) (id other : ℕ) (o : Option Attached) → other ≢ id
+    → session_of sessions other ≡ o → IsSome o
     → pending_in (option_map (hear_change (Some id)) o) ≡ established (pending_in o) AccessStateChanged
 other_change_in sessions id other None apart h there = absurd (cc)
 other_change_in sessions id other (Some a) apart h there = rw (other_id a id other apart (same_id sessions other a h)) refl
 
 -- every other session is told of it
-pub change_other : (is : Bool) (sessions : List Attached) (id other : ℕ) → other ≢ id → is ≡ true → IsSome (session_of sessions other)
+pub change_other : (is : Bool) (sessions : List Attached) (id other : ℕ) → other ≢ id → is ≡ true
+    → IsSome (session_of sessions other)
     → pending_of (change_heard is (Some id) sessions) other ≡ established (pending_of sessions other) AccessStateChanged
 change_other true sessions id other apart is_any there =
     ap pending_in (session_mapped (hear_change (Some id)) (hears_id (Some id)) sessions other)
     ∙ other_change_in sessions id other (session_of sessions other) apart refl there
 change_other false sessions id other apart is_any there = absurd (cc)
 
-moved_in : (o : Option Attached) → IsSome o → pending_in (option_map (hear_change None) o) ≡ established (pending_in o) AccessStateChanged
+moved_in : (o : Option Attached) → IsSome o
+    → pending_in (option_map (hear_change None) o) ≡ established (pending_in o) AccessStateChanged
 moved_in None there = absurd (cc)
 moved_in (Some a) there = refl
 
@@ -152,7 +159,8 @@ moved_in (Some a) there = refl
 pub change_moved : (is : Bool) (sessions : List Attached) (other : ℕ) → is ≡ true → IsSome (session_of sessions other)
     → pending_of (change_heard is None sessions) other ≡ established (pending_of sessions other) AccessStateChanged
 change_moved true sessions other is_any there =
-    ap pending_in (session_mapped (hear_change None) (hears_id None) sessions other) ∙ moved_in (session_of sessions other) there
+    ap pending_in (session_mapped (hear_change None) (hears_id None) sessions other)
+        ∙ moved_in (session_of sessions other) there
 change_moved false sessions other is_any there = absurd (cc)
 
 -- a session that ended is not attached

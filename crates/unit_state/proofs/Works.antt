@@ -41,10 +41,14 @@ told_choice ends.FlushFailed bytes new lasting = refl
 pub fine_end : (end : MediumEnd) (new : List (List ℕ)) (before now : ℕ) → Tells before now (IsUnfailed end)
     → Tells before now (IsFine (choice_at end new))
 fine_end ends.Done new before now t = record { later = t.later; stays = λ r d. t.stays r tt; rises = λ r f. absurd (f refl) }
-fine_end (ends.Miscompare at) new before now t = record { later = t.later; stays = λ r d. t.stays r tt; rises = λ r f. absurd (f refl) }
-fine_end ends.ReadFailed new before now t = record { later = t.later; stays = λ r d. absurd (cc); rises = λ r f. t.rises r (λ d. d) }
-fine_end ends.WriteFailed new before now t = record { later = t.later; stays = λ r d. absurd (cc); rises = λ r f. t.rises r (λ d. d) }
-fine_end ends.FlushFailed new before now t = record { later = t.later; stays = λ r d. absurd (cc); rises = λ r f. t.rises r (λ d. d) }
+fine_end (ends.Miscompare at) new before now t =
+    record { later = t.later; stays = λ r d. t.stays r tt; rises = λ r f. absurd (f refl) }
+fine_end ends.ReadFailed new before now t =
+    record { later = t.later; stays = λ r d. absurd (cc); rises = λ r f. t.rises r (λ d. d) }
+fine_end ends.WriteFailed new before now t =
+    record { later = t.later; stays = λ r d. absurd (cc); rises = λ r f. t.rises r (λ d. d) }
+fine_end ends.FlushFailed new before now t =
+    record { later = t.later; stays = λ r d. absurd (cc); rises = λ r f. t.rises r (λ d. d) }
 
 -- ---- a compare, and a write where nothing differs
 
@@ -88,7 +92,8 @@ module _ (claims : Bool) (old : List (List ℕ)) (r : Range) (bytes : List ℕ) 
       → OnMiscompare end (λ at. at < 512 * r.blocks) → (IsTrue claims → OnWriting end (held ≡ given))
       → (IsTrue claims → OnMiscompare end (λ at. first_difference held given ≡ Some at))
       → (IsTrue claims → OnUnwritten end (new ≡ old)) → (IsTrue claims → OnDone end (new ≡ after))
-      → (IsTrue claims → Between old r.lba (write_instance r.blocks bytes) new) → IsWorked claims old new (Compares r bytes fua) end []
+      → (IsTrue claims → Between old r.lba (write_instance r.blocks bytes) new)
+      → IsWorked claims old new (Compares r bytes fua) end []
   compare_worked ends.Done new is within same differs unwritten wrote between = equal_done new same wrote
   compare_worked (ends.Miscompare at) new is within same differs unwritten wrote between = record {
     chosen = tt;
@@ -124,7 +129,8 @@ module _ (claims : Bool) (old : List (List ℕ)) (r : Range) (bytes : List ℕ) 
 -- a flush alone
 pub sync_worked : (claims : Bool) (old new : List (List ℕ)) (r : Range) (end : MediumEnd) → IsSyncEnd end
     → (IsTrue claims → new ≡ old) → IsWorked claims old new (Flushes r) end []
-sync_worked claims old new r ends.Done is kept = record { chosen = tt; may = refl; torn = λ h. tt; told = λ h. refl; leaves = kept }
+sync_worked claims old new r ends.Done is kept =
+    record { chosen = tt; may = refl; torn = λ h. tt; told = λ h. refl; leaves = kept }
 sync_worked claims old new r ends.FlushFailed is kept =
     record { chosen = tt; may = refl; torn = kept; told = λ h. refl; leaves = λ h. refl }
 sync_worked claims old new r (ends.Miscompare at) is kept = absurd is
@@ -201,7 +207,8 @@ good_served claims c now blocks session command bytes told reply nothing returns
 
 -- ---- PERSISTENT RESERVE OUT
 
-pub effect_is_fine : (e : Effect) (blocks : List (List ℕ)) (lasting : List RecordValue) → choice_of (effect_reply e) blocks lasting ≡ Fine
+pub effect_is_fine : (e : Effect) (blocks : List (List ℕ)) (lasting : List RecordValue)
+    → choice_of (effect_reply e) blocks lasting ≡ Fine
 effect_is_fine (Reserved new told) blocks lasting = refl
 effect_is_fine Conflicting blocks lasting = refl
 effect_is_fine (Refused asc ascq) blocks lasting = refl
@@ -213,14 +220,16 @@ module _ (claims : Bool) (c now : ControlValue) (blocks : List (List ℕ)) (sess
   effect = effect_by c session (pr_out action scope kind bytes)
 
   reserved : (reply : ReplyValue) → now ≡ after_effect c effect → reply ≡ effect_reply effect
-      → IsServed claims (unit_of c blocks) (unit_of now blocks) session (commands.PersistentReserveOut action scope kind n) bytes reply
+      → IsServed claims (unit_of c blocks) (unit_of now blocks) session
+          (commands.PersistentReserveOut action scope kind n) bytes reply
   reserved reply leaves is =
       other_served claims c now blocks session (commands.PersistentReserveOut action scope kind n) bytes reply refl
       (rw is (effect_is_fine effect blocks now.lasting)) leaves is
 
   unsaved : (reply : ReplyValue) → MayFailToSave c effect now.lasting → now ≡ with_doubt c now.lasting
       → reply ≡ check internal_target_failure
-      → IsServed claims (unit_of c blocks) (unit_of now blocks) session (commands.PersistentReserveOut action scope kind n) bytes reply
+      → IsServed claims (unit_of c blocks) (unit_of now blocks) session
+          (commands.PersistentReserveOut action scope kind n) bytes reply
   unsaved reply may leaves is = rw is (record {
     finding = SaveError;
     chosen = may;
@@ -233,7 +242,8 @@ module _ (claims : Bool) (c now : ControlValue) (blocks : List (List ℕ)) (sess
   })
 
   pub reserved_served : (reply : ReplyValue) → IsReserved c effect now reply
-      → IsServed claims (unit_of c blocks) (unit_of now blocks) session (commands.PersistentReserveOut action scope kind n) bytes reply
+      → IsServed claims (unit_of c blocks) (unit_of now blocks) session
+          (commands.PersistentReserveOut action scope kind n) bytes reply
   reserved_served reply is = ⊎_elim
       (λ (done : (now ≡ after_effect c effect) × (reply ≡ effect_reply effect)). reserved reply done.0 done.1)
       (λ (lost : MayFailToSave c effect now.lasting × (now ≡ with_doubt c now.lasting)
@@ -243,7 +253,8 @@ module _ (claims : Bool) (c now : ControlValue) (blocks : List (List ℕ)) (sess
 -- a reply that tells of no failure, where none was
 pub unfailed : (reply : ReplyValue) (blocks : List (List ℕ)) (lasting : List RecordValue) (count : ℕ)
     → choice_of reply blocks lasting ≡ Fine → Tells count count (IsFine (choice_of reply blocks lasting))
-unfailed reply blocks lasting count fine = rw fine (record { later = omega arith; stays = λ r d. refl; rises = λ r f. absurd (f refl) })
+unfailed reply blocks lasting count fine =
+    rw fine (record { later = omega arith; stays = λ r d. refl; rises = λ r f. absurd (f refl) })
 
 -- ---- commands of which the unit only tells
 
@@ -268,7 +279,8 @@ described_served claims c blocks session (commands.ReportTargetPortGroups n) byt
 described_served claims c blocks session (commands.SetTargetPortGroups n) bytes told reply d is said = absurd (cc)
 described_served claims c blocks session commands.TestUnitReady bytes told reply d is said = absurd (cc)
 described_served claims c blocks session (commands.RequestSense n) bytes told reply d is said = absurd (cc)
-described_served claims c blocks session (commands.PersistentReserveOut action scope kind n) bytes told reply d is said = absurd (cc)
+described_served claims c blocks session (commands.PersistentReserveOut action scope kind n) bytes told reply d is
+    said = absurd (cc)
 described_served claims c blocks session (commands.Read lba n fua) bytes told reply d is said = absurd (cc)
 described_served claims c blocks session (commands.Write lba n fua) bytes told reply d is said = absurd (cc)
 described_served claims c blocks session (commands.CompareAndWrite lba n fua) bytes told reply d is said = absurd (cc)
@@ -293,7 +305,8 @@ told_else commands.ReadCapacity10 ready sense reserve read write compare sync gr
 told_else (commands.ReadCapacity16 n) ready sense reserve read write compare sync groups = refl
 told_else (commands.Read lba n fua) ready sense reserve read write compare sync groups = absurd (read lba n fua refl)
 told_else (commands.Write lba n fua) ready sense reserve read write compare sync groups = absurd (write lba n fua refl)
-told_else (commands.CompareAndWrite lba n fua) ready sense reserve read write compare sync groups = absurd (compare lba n fua refl)
+told_else (commands.CompareAndWrite lba n fua) ready sense reserve read write compare sync groups =
+    absurd (compare lba n fua refl)
 told_else (commands.SynchronizeCache lba n) ready sense reserve read write compare sync groups = absurd (sync lba n refl)
 told_else (commands.PersistentReserveIn action n) ready sense reserve read write compare sync groups = refl
 told_else (commands.ReportLuns select n) ready sense reserve read write compare sync groups = refl

@@ -18,4 +18,5 @@ returns-in_default c =
 pub returns-in_default-2 : goal.returns-in_default-2
 unfolding number_within
 returns-in_default-2 c =
-    sym (raised_none c.args.limits.low c.args.limits.high (number_in c.args.value.now) (sym c.number_at_most.ensures ∙ c.in_default.is))
+    sym (raised_none c.args.limits.low c.args.limits.high (number_in c.args.value.now) (sym c.number_at_most.ensures
+        ∙ c.in_default.is))

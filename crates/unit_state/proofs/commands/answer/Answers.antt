@@ -3,7 +3,8 @@ use Rattle.unit_state.proofs.Steps.{refused_answer, served_ok, takes_memory, may
 use Rattle.unit_state.proofs.commands.answer.Goals as goal
 
 pub returns-in-Err-clause-answered : goal.returns-in-Err-clause-answered
-returns-in-Err-clause-answered g c = refused_answer _ _ _ _ _ _ _ _ c.in-Err.ensures c.reply.ensures c.refuse.ensures.told refl
+returns-in-Err-clause-answered g c =
+    refused_answer _ _ _ _ _ _ _ _ c.in-Err.ensures c.reply.ensures c.refuse.ensures.told refl
 
 pub returns-clause-memory : goal.returns-clause-memory
 returns-clause-memory g c = takes_memory _ _ _ _ _ _ c.in-Ok.ensures c.serve.ensures.memory

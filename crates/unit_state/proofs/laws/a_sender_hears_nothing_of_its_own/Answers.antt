@@ -4,4 +4,5 @@ use Rattle.unit_state.proofs.Told.{own_after}
 use Rattle.unit_state.proofs.laws.a_sender_hears_nothing_of_its_own.Goals as goal
 
 pub returns : goal.returns
-returns c = λ control session asked. own_after c.the_sender_is_not_told.ensures control session asked (effect_by control session asked) refl
+returns c = λ control session asked. own_after c.the_sender_is_not_told.ensures control session asked
+    (effect_by control session asked) refl

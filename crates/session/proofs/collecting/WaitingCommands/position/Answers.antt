@@ -6,7 +6,8 @@ pub returns-then-index-tag : goal.returns-then-index-tag
 returns-then-index-tag c = (
   c.index.result.now,
   stands_there _ _ c.loop-i.i c.index.result.now c.self.view_is (search rules) c.index.ensures,
-  found_there _ _ _ c.loop-i.i c.index.result.now c.self.view_is (search rules) c.index.ensures c.loop-i.invariant (search rules),
+  found_there _ _ _ c.loop-i.i c.index.result.now c.self.view_is
+      (search rules) c.index.ensures c.loop-i.invariant (search rules),
 )
 
 pub returns : goal.returns

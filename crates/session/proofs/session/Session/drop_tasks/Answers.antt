@@ -6,6 +6,7 @@ use Rattle.session.proofs.session.Session.drop_tasks.Goals as goal
 pub returns : goal.returns
 returns c = (
   c.management_for.new.waiting,
-  subst (λ (s : Counters). IsManagement s.setting.units s.standing.collecting c.args.request.now c.management_for.result c.management_for.new.waiting) c.self.view_is c.management_for.ensures,
+  subst (λ (s : Counters). IsManagement s.setting.units s.standing.collecting c.args.request.now
+      c.management_for.result c.management_for.new.waiting) c.self.view_is c.management_for.ensures,
   ap (after_collecting c.management_for.new.waiting) c.self.view_is,
 )

@@ -12,5 +12,6 @@ invariant_of-self-2 g c =
     subst (λ (live : List LiveSession). All (IsCounted later (here.begun + 1)) live) (sym c.replace.ensures)
     (all_joined later (here.begun + 1) _ _ _ _
     (all_later count later here.begun (here.begun + 1) _ c.in_ok-at.ensures.grows (omega arith)
-    (subst (λ (live : List LiveSession). All (IsCounted count here.begun) live) (sym c.reserve.ensures.items) c.self.invariant))
+    (subst (λ (live : List LiveSession). All (IsCounted count here.begun) live)
+        (sym c.reserve.ensures.items) c.self.invariant))
     (record { serial = c.in_ok-at.ensures.fits; number = omega arith }))

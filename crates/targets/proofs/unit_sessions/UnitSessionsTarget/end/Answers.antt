@@ -9,4 +9,6 @@ invariant_of-self g c =
     let here = c.self.inside in
     let later = c.leave.new.unit.control.count in
     subst (λ (live : List LiveSession). All (IsCounted later here.begun) live) (sym c.remove.ensures)
-    (all_filtered later here.begun _ _ (all_later here.unit.control.count later here.begun here.begun _ c.leave.ensures.grows (omega arith) c.self.invariant))
+    (all_filtered later here.begun _ _
+        (all_later here.unit.control.count later here.begun here.begun _ c.leave.ensures.grows
+            (omega arith) c.self.invariant))

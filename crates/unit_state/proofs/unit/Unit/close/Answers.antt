@@ -2,4 +2,5 @@ use Rattle.unit_state.proofs.Steps.{restart_closed}
 use Rattle.unit_state.proofs.unit.Unit.close.Goals as goal
 
 pub returns-clause-restart : goal.returns-clause-restart
-returns-clause-restart g c = restart_closed _ g.R.Blocks.size g.R.Blocks.may_hold _ _ _ c.close.ensures c.self.view_is c.self.invariant.1
+returns-clause-restart g c =
+    restart_closed _ g.R.Blocks.size g.R.Blocks.may_hold _ _ _ c.close.ensures c.self.view_is c.self.invariant.1

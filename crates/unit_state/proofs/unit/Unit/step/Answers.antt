@@ -6,7 +6,8 @@ use Rattle.unit_state.proofs.unit.Unit.step.Goals as goal
 pub returns-clause-entry : goal.returns-clause-entry
 returns-clause-entry g c =
     step_seen _ g.B.Blocks.contents _ _ _ _ _ c.self.view_is
-    (answered_step _ _ _ _ _ _ _ _ _ _ c.in-At.ensures.0 c.in-At.ensures.1 c.in-Ok.ensures.answered refl c.pass.ensures.passed)
+    (answered_step _ _ _ _ _ _ _ _ _ _ c.in-At.ensures.0 c.in-At.ensures.1 c.in-Ok.ensures.answered refl
+        c.pass.ensures.passed)
 
 pub returns-in-Err-clause-memory : goal.returns-in-Err-clause-memory
 returns-in-Err-clause-memory g c = λ h. memory_seen _ _ _ c.self.view_is c.in-Err.ensures.memory
@@ -18,7 +19,8 @@ pub returns-in-Gone-clause-restart : goal.returns-in-Gone-clause-restart
 returns-in-Gone-clause-restart g c = restart_seen _ g.R.Blocks.size g.R.Blocks.may_hold _ _ c.self.view_is c.self.invariant.1
 
 pub returns-in-Moved-clause-restart : goal.returns-in-Moved-clause-restart
-returns-in-Moved-clause-restart g c = restart_seen _ g.R.Blocks.size g.R.Blocks.may_hold _ _ c.self.view_is c.self.invariant.1
+returns-in-Moved-clause-restart g c =
+    restart_seen _ g.R.Blocks.size g.R.Blocks.may_hold _ _ c.self.view_is c.self.invariant.1
 
 pub returns-in-Err-clause-restart : goal.returns-in-Err-clause-restart
 returns-in-Err-clause-restart g c =
@@ -26,4 +28,5 @@ returns-in-Err-clause-restart g c =
 
 pub returns-clause-restart : goal.returns-clause-restart
 returns-clause-restart g c =
-    λ h. restarts g.R.Blocks.size g.R.Blocks.may_hold _ _ _ (c.in-Ok.ensures.kept h (c.self.invariant.1 h)) c.pass.ensures.lasting
+    λ h. restarts g.R.Blocks.size g.R.Blocks.may_hold _ _ _
+        (c.in-Ok.ensures.kept h (c.self.invariant.1 h)) c.pass.ensures.lasting
