@@ -86,7 +86,7 @@ altered : (cause : Cause) (old : GroupAccess) (state : AccessState) → (altered
     → (altered_to cause old state).altered ≡ Some cause
 altered cause old state h =
     elim (same_state state old.state) as (λ b. same_state state old.state ≡ b
-        → (put cause old state b).altered ≡ Some cause) [
+    → (put cause old state b).altered ≡ Some cause) [
       | true ↦ λ e. absurd (h (altered_state cause old state ∙ same state old.state e))
       | false ↦ λ e. refl
     ] refl

@@ -123,10 +123,10 @@ one_slot First First e = refl
 one_slot Second Second e = refl
 one_slot First Second e =
     let n : 0 ≡ 1 = sym (root_slot First) ∙ ap (λ (b : List ℕ). slice_index b 10) e
-        ∙ root_slot Second in absurd (omega (arith, n))
+    ∙ root_slot Second in absurd (omega (arith, n))
 one_slot Second First e =
     let n : 1 ≡ 0 = sym (root_slot Second) ∙ ap (λ (b : List ℕ). slice_index b 10) e
-        ∙ root_slot First in absurd (omega (arith, n))
+    ∙ root_slot First in absurd (omega (arith, n))
 
 pub slot_held : (disk : List (List ℕ)) (slot : Slot) (r : RecordValue) → block_at disk 0 ≡ root_block slot → Holds disk r
     → HasSlot disk slot r

@@ -124,9 +124,9 @@ there (x ∷ xs) code h = elim (same_attention code x) as (λ b. same_attention 
 pub waits : (xs : List UnitAttention) (code : UnitAttention) → Contains (established xs code) code
 waits xs code = elim (is_pending xs code) as (λ b. is_pending xs code ≡ b
     → Contains (if b then xs else xs ++ code ∷ []) code) [
-  | true ↦ λ e. there xs code e
-  | false ↦ λ e. (length xs, grind (arith, length-append xs (code ∷ [])), grind (arith, common_steps))
-] refl
+      | true ↦ λ e. there xs code e
+      | false ↦ λ e. (length xs, grind (arith, length-append xs (code ∷ [])), grind (arith, common_steps))
+    ] refl
 
 pub rest_of : (xs : List UnitAttention) → without_repeats xs ≡ true → without_repeats (drop 1 xs) ≡ true
 rest_of [] h = refl

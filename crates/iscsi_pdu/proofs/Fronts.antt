@@ -99,7 +99,7 @@ padding-is b len =
 -- A PDU with this header stands at the front, where its padding is right.
 pub whole : (b : List ℕ) (h : Header) → HasBhs b → HasFields (take 48 b) h → 48 + padded (three_at b 5) ≤ length b
     → (IsTarget h → slice_range b (48 + three_at b 5) (48 + padded (three_at b 5)) ≡ zeros
-        (padded (three_at b 5) - three_at b 5))
+    (padded (three_at b 5) - three_at b 5))
     → IsPdu (take (48 + padded (three_at b 5)) b) h (take (48 + three_at b 5 - 48) (drop 48 b))
 whole b h front fields fits pad =
     let len : ℕ = three_at b 5 in
@@ -143,6 +143,6 @@ pad-to b n x y ex ey fits e =
 -- padding that is right where the header is a target's is not wrong
 pub bad-padding : (b : List ℕ) (h : Header) → HasFields (take 48 b) h → HasBadPadding b
     → (IsTarget h → slice_range b (48 + three_at b 5) (48 + padded (three_at b 5)) ≡ zeros
-        (padded (three_at b 5) - three_at b 5)) → ⊥
+    (padded (three_at b 5) - three_at b 5)) → ⊥
 bad-padding b (Initiator h) fields bad right = let op = opcode-initiator h b fields in omega (arith, op, bad.0)
 bad-padding b (Target h) fields bad right = bad.2 (right tt)

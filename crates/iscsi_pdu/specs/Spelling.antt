@@ -86,7 +86,8 @@ initiator_bhs (TaskManagementRequest p) len =
     (cells 8 p.lun) p.task_tag (word p.referenced_tag)
     (command_numbers p.numbers ++ word p.ref_cmd_sn ++ zeros 12)
 initiator_bhs (LoginRequest p) len =
-    bhs_with (0x43 ∷ login_flags p.transit p.continues p.current_stage p.next_stage ∷ p.version_max ∷ p.version_min ∷ []) len
+    bhs_with (0x43 ∷ login_flags p.transit p.continues p.current_stage p.next_stage ∷ p.version_max
+    ∷ p.version_min ∷ []) len
     (cells 6 p.isid ++ half p.tsih) p.task_tag (half p.cid ++ zeros 2)
     (command_numbers p.numbers ++ zeros 16)
 initiator_bhs (TextRequest p) len =

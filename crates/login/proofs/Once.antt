@@ -71,10 +71,10 @@ known s f text none whole =
     let first : is_none s.kind ≡ true → IsSome (kind_of (pairs t)) = λ n.
     let r : rules_for s f ≡ flags_rule ∷ checks_of_first =
     ap (λ (b : Bool). if b then rules_of_part else flags_rule
-        ∷ (if is_none s.kind then checks_of_first else checks_of_later)) whole
+    ∷ (if is_none s.kind then checks_of_first else checks_of_later)) whole
     ∙ ap (λ (b : Bool). flags_rule ∷ (if b then checks_of_first else checks_of_later)) n in
     kind_known s f t (behind flags_rule checks_of_first s f t
-        (sym (ap (λ (rs : List Rule). first_stop rs s f t) r) ∙ none)) in
+    (sym (ap (λ (rs : List Rule). first_stop rs s f t) r) ∙ none)) in
     let there : (after s f text).kind ≡ kind_after s.kind (pairs t) =
     ap (λ (o : Option Stop). (after_by o s f t).kind) none ∙ passed_kind s f t whole in
     subst IsSome (sym there) (kind_after_known s.kind (pairs t) first)

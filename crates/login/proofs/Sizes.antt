@@ -222,5 +222,5 @@ pub response_put : (s : Progress) (f : LoginFlags) (text out put : List ℕ) →
     → put ≡ out ++ response s f (pairs text) → length put ≤ 9216
 response_put s f text out put tag h e empty all =
     let k : length out + length (response s f (pairs text)) ≤ 9216 =
-        response_room s f text out 9216 tag h e empty (omega arith) in
+    response_room s f text out 9216 tag h e empty (omega arith) in
     omega (arith, ap length all, length-append out (response s f (pairs text)))

@@ -99,7 +99,7 @@ part_again part h =
     let hit : get_or part n 0 ≡ 61 = is_this 61 (get_or part n 0) (passes_at_first (is_byte 61) part 0 lt) in
     let tail : 61 ∷ drop (n + 1) part ≡ drop n part =
     sym (drop-cons part n 0 lt ∙ ap (λ (b : ℕ). b ∷ drop (suc n) part) hit
-        ∙ ap (λ (k : ℕ). 61 ∷ drop k part) (sym (add-one n))) in
+    ∙ ap (λ (k : ℕ). 61 ∷ drop k part) (sym (add-one n))) in
     ap (λ (x : List ℕ). take n part ++ x) tail ∙ take-append-drop n part
 
 both_parts : (a b : Bool) → (a && b) ≡ true → (a ≡ true) × (b ≡ true)

@@ -26,7 +26,7 @@ long_first rules s f t h =
 
 long_by : (continues first : Bool) (s : Progress) (f : LoginFlags) (t : List ℕ)
     → first_stop (if continues then rules_of_part else flags_rule
-        ∷ (if first then checks_of_first else checks_of_later)) s f t ≡ None
+    ∷ (if first then checks_of_first else checks_of_later)) s f t ≡ None
     → is_too_long s.said t ≡ false
 long_by true first s f t h = long_first [] s f t (behind flags_rule (length_rule ∷ []) s f t h)
 long_by false true s f t h =
@@ -43,7 +43,7 @@ not_long s f t h = long_by f.continues (is_none s.kind) s f t h
 -- the rules look at the joined text, and not at what stood there before
 same_by : (continues first : Bool) (s : Progress) (f : LoginFlags) (w t : List ℕ)
     → let rules : List Rule =
-        if continues then rules_of_part else flags_rule ∷ (if first then checks_of_first else checks_of_later) in
+    if continues then rules_of_part else flags_rule ∷ (if first then checks_of_first else checks_of_later) in
     first_stop rules (record s { unfinished = w }) f t ≡ first_stop rules s f t
 same_by true first s f w t = refl
 same_by false true s f w t = refl

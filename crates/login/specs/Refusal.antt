@@ -123,7 +123,8 @@ kind_rule s f text = when (is_none (kind_of (pairs text))) (Refused SessionTypeN
 
 abbrev pub target_rule : Rule
 target_rule s f text =
-    when (needs_target (kind_of (pairs text)) && is_none (value_said Of.TargetName (pairs text))) (Refused MissingParameter)
+    when (needs_target (kind_of (pairs text)) && is_none (value_said Of.TargetName (pairs text)))
+    (Refused MissingParameter)
 
 abbrev pub other_target_rule : Rule
 other_target_rule s f text = when (is_other s.target (value_said Of.TargetName (pairs text))) (Refused NotFound)

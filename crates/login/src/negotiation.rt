@@ -151,7 +151,8 @@ impl Negotiation {
     /// How a request is refused that is too long with those of its run, so that its text isn't looked at.
     #[tactic(auto, unfolding(crate::specs::Refusal::stop_of))]
     fn status_of_long(&self, flags: LoginFlags) -> LoginStatus
-        ensures { (whole : List ℕ) → MOST_BYTES < length whole → stop_of self.now flags whole ≡ Some (Stop.Refused result) }
+        ensures { (whole : List ℕ) → MOST_BYTES < length whole
+            → stop_of self.now flags whole ≡ Some (Stop.Refused result) }
     {
         if has_wrong_flags(self.stage, flags) || flags.continues || self.kind.is_some() {
             return LoginStatus::InitiatorError;

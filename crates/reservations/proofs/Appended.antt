@@ -8,4 +8,4 @@ pub appended_more : (f : Registrant → List ℕ) (xs : List Registrant) (i : �
     → i < length xs → x ≡ get_or xs i x → bytes ≡ flat_map f (take i xs) → bytes ++ f x ≡ flat_map f (take (i + 1) xs)
 appended_more f xs i x bytes lt is so_far =
     ap (λ (y : Registrant). bytes ++ f y) is
-        ∙ rw (take_more xs i x lt) (rw so_far (flat_map_more f [] (take i xs) (get_or xs i x)))
+    ∙ rw (take_more xs i x lt) (rw so_far (flat_map_more f [] (take i xs) (get_or xs i x)))

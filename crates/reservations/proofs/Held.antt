@@ -40,7 +40,7 @@ kept_found : (p q : Registrant → Bool) (xs : List Registrant) (x : Registrant)
 kept_found p q [] x is keeps = absurd (cc)
 kept_found p q (y ∷ ys) x is keeps =
     ⊎_elim (λ (t : p y ≡ true). let first = rw t at is in let here : y ≡ x = cc in let kept = ap q here
-        ∙ keeps in rw kept (rw t refl))
+    ∙ keeps in rw kept (rw t refl))
     (λ (f : p y ≡ false).
     let rest = kept_found p q ys x (rw f at is) keeps in
     ⊎_elim (λ (k : q y ≡ true). rw k (rw f rest)) (λ (k : q y ≡ false). rw k rest) (cases_Bool (q y)))
@@ -89,7 +89,7 @@ pub registered_without_key : (h : Nexus) (key : ℕ) (xs : List Registrant) → 
     → is_own (key_of xs h) key ≡ false → is_registered (without_key key xs) h ≡ true
 registered_without_key h key xs in_it other =
     registered_filter h (λ (x : Registrant). not (nat_eq x.key key)) xs in_it
-        (λ x is it. rw (own_of key xs h x is other) refl)
+    (λ x is it. rw (own_of key xs h x is other) refl)
 
 -- ---- joined and rekeyed
 
@@ -121,7 +121,7 @@ pub registered_joined : (h n : Nexus) (key : ℕ) (xs : List Registrant) → IsA
     → is_registered xs h ≡ true → is_registered (joined_by n key xs) h ≡ true
 registered_joined h n key xs a out in_it =
     let more = any_more (is_it h) (length (before n xs)) (record { nexus = n; key = key }) xs
-        (sym (registered_any h xs) ∙ in_it) in
+    (sym (registered_any h xs) ∙ in_it) in
     registered_any h (joined_by n key xs) ∙ ap (list_any (is_it h)) (sym (insert_is n key xs a out)) ∙ more
 
 any_rekeyed : (h n : Nexus) (key : ℕ) (xs : List Registrant)
@@ -199,6 +199,6 @@ left_held None xs [] held stays = refl
 left_held (Some r) xs [] held stays =
     ⊎_elim (λ (t : is_of_all_registrants r.kind ≡ true). rw t refl)
     (λ (f : is_of_all_registrants r.kind ≡ false). rw f
-        (left_none r.kind r.holder xs held f (λ h is there. stays r h refl is there)))
+    (left_none r.kind r.holder xs held f (λ h is there. stays r h refl is there)))
     (cases_Bool (is_of_all_registrants r.kind))
 left_held res xs (y ∷ ys) held stays = hold_kept res xs (y ∷ ys) held (λ any. refl) stays

@@ -40,14 +40,14 @@ pub found_first : (n x : Nexus) (xs : List Registrant) (r : Registrant) → r.ne
     → nexus_cmp x n ≡ Equal → ⊥
 found_first n x xs r is out tie =
     let same : same_nexus r.nexus n ≡ true = same_nexus_is r.nexus n ∙ ap (λ (m : Nexus). is_eq (nexus_cmp m n)) is
-        ∙ ap is_eq tie in
+    ∙ ap is_eq tie in
     absurd (let found = rw same at out in cc)
 
 pub out_of_rest : (n : Nexus) (xs : List Registrant) (r : Registrant) → is_registered (r ∷ xs) n ≡ false
     → is_registered xs n ≡ false
 out_of_rest n xs r out =
     ⊎_elim (λ (t : same_nexus r.nexus n ≡ true). absurd (let found = rw t at out in cc))
-        (λ (f : same_nexus r.nexus n ≡ false). rw f at out)
+    (λ (f : same_nexus r.nexus n ≡ false). rw f at out)
     (cases_Bool (same_nexus r.nexus n))
 
 place_by : (n : Nexus) (x : Registrant) (xs : List Registrant) (o : Ordering) → nexus_cmp x.nexus n ≡ o

@@ -68,7 +68,7 @@ by_tests s t a b h k = rw (h, k) (sym (both_equal a b))
 same_port_is : (p q : Port) → same_port p q ≡ is_eq (port_cmp p q)
 same_port_is p q =
     by_tests (pointwise nat_eq p.name q.name) (nat_eq p.isid q.isid) (slice_cmp nat_cmp p.name q.name)
-        (nat_cmp p.isid q.isid)
+    (nat_cmp p.isid q.isid)
     (lists_ties nat_cmp number_tie p.name q.name) (number_tie p.isid q.isid)
 
 pub same_nexus_is : (m n : Nexus) → same_nexus m n ≡ is_eq (nexus_cmp m n)

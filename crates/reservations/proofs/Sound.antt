@@ -69,7 +69,7 @@ not_its_key : (key : ℕ) (xs : List Registrant) (res : Option Reservation) (r :
     → is_holders_key res xs key ≡ false → res ≡ Some r → r.holder ≡ Some h → is_own (key_of xs h) key ≡ false
 not_its_key key xs res r h other is there =
     let named : is_holders_key (Some r) xs key ≡ false =
-        ap (λ (o : Option Reservation). is_holders_key o xs key) (sym is) ∙ other in
+    ap (λ (o : Option Reservation). is_holders_key o xs key) (sym is) ∙ other in
     ap (λ (o : Option Nexus). is_key_of o xs key) (sym there) ∙ named
 
 neither : (a b : Bool) → a || b ≡ false → a ≡ false
@@ -117,12 +117,12 @@ row_sound Registers r n q new told f is s =
     done_with _ new _ told is
     (sound_of (joined_by n q.sakey r.registrants) r.reservation (listed_joined n q.sakey r.registrants l f.2 f.3 f.4)
     (hold_kept r.reservation r.registrants (joined_by n q.sakey r.registrants) s.held
-        (λ any. any_joined n q.sakey r.registrants)
+    (λ any. any_joined n q.sakey r.registrants)
     (λ held h there is in_it. registered_joined h n q.sakey r.registrants s.ascending f.2 in_it)))
 row_sound ChangesKey r n q new told f is s =
     done_with _ new _ told is
     (sound_of (with_key_of n q.sakey r.registrants) r.reservation
-        (listed_rekeyed n q.sakey r.registrants (listed_of _ _ s) f.3)
+    (listed_rekeyed n q.sakey r.registrants (listed_of _ _ s) f.3)
     (hold_kept r.reservation r.registrants (with_key_of n q.sakey r.registrants) s.held (any_rekeyed n q.sakey r.registrants)
     (λ held h there is in_it. registered_rekeyed h n q.sakey r.registrants in_it)))
 row_sound HolderUnregisters r n q new told f is s =
@@ -147,12 +147,12 @@ row_sound PreemptsHolder r n q new told f is s =
     (sound_of (without_others_of_key n q.sakey r.registrants) _
     (listed_filter (λ (x : Registrant). same_nexus x.nexus n || not (nat_eq x.key q.sakey)) r.registrants (listed_of _ _ s))
     (made_held n (type_of q.kind) (without_others_of_key n q.sakey r.registrants)
-        (registered_preempting n q.sakey r.registrants in_it)))
+    (registered_preempting n q.sakey r.registrants in_it)))
 row_sound PreemptsAll r n q new told f is s =
     let in_it = own_preempting q.action (key_of r.registrants n) q.key f.0.key f.1 in
     done_with _ new _ told is
     (sound_of (only n r.registrants) _
-        (listed_filter (λ (x : Registrant). same_nexus x.nexus n) r.registrants (listed_of _ _ s))
+    (listed_filter (λ (x : Registrant). same_nexus x.nexus n) r.registrants (listed_of _ _ s))
     (made_held n (type_of q.kind) (only n r.registrants) (registered_only n r.registrants in_it)))
 row_sound PreemptsRegistrants r n q new told f is s =
     let other = neither (is_preempting_holder r q) (is_preempting_all r q) f.2 in

@@ -3,7 +3,8 @@ use Rattle.std.specs.Prelude.{◌≡◌, ◌⊎◌, ℕ, List, [], ◌∷◌, Op
 
 -- eight bytes that address this unit in the first level
 abbrev pub IsLunOf : List ℕ → ℕ → Type 0
-IsLunOf bytes unit = (bytes ≡ 0x00 ∷ unit ∷ 0 ∷ 0 ∷ 0 ∷ 0 ∷ 0 ∷ 0 ∷ []) ⊎ (bytes ≡ 0x40 ∷ unit ∷ 0 ∷ 0 ∷ 0 ∷ 0 ∷ 0 ∷ 0 ∷ [])
+IsLunOf bytes unit = (bytes ≡ 0x00 ∷ unit ∷ 0 ∷ 0 ∷ 0 ∷ 0 ∷ 0 ∷ 0 ∷ [])
+    ⊎ (bytes ≡ 0x40 ∷ unit ∷ 0 ∷ 0 ∷ 0 ∷ 0 ∷ 0 ∷ 0 ∷ [])
 
 -- the unit that the bytes name, or none where they name none
 abbrev pub NamesUnit : List ℕ → Option ℕ → Type 0

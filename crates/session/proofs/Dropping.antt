@@ -89,5 +89,5 @@ pub kept_is : (units : ℕ) (cs : List Collecting) (x : ManagementHeader) (call 
     (n : Numbers) → IsManaged units cs x call response kept → filter (keeps x (management_answer n x response)) cs ≡ kept
 kept_is units cs x call response kept n k =
     by_unit x n cs (there units k.comes_to.unit) call response
-        (subst (λ (m : Management). IsManagedBy m call response) k.comes_to.is k.managed)
+    (subst (λ (m : Management). IsManagedBy m call response) k.comes_to.is k.managed)
     ∙ sym k.comes_to.kept_is

@@ -188,7 +188,7 @@ module _ (units : ℕ) (me : Identity) (opening : Opening) (c : Transcript) (s :
 -- of a login
 module _ (units : ℕ) (me : Identity) (opening : Opening) (c : Transcript) (v : LoginStanding) (s : Counters)
     (k : LogsIn units me opening c v s) (came : Incoming) (l : LoginTurn) (came_is : l.came ≡ came)
-        (made : IsLoginTurn v l) where
+    (made : IsLoginTurn v l) where
   abbrev logins_now : List LoginTurn
   logins_now = c.logins ++ l ∷ []
 
@@ -203,7 +203,7 @@ module _ (units : ℕ) (me : Identity) (opening : Opening) (c : Transcript) (v :
       append-nil (map of_login logins_now) ∙ map_logins
       ∙ ap (λ (es : List Exchange). es ++ of_login l ∷ [])
       (sym (ap (λ (ts : List Turn). map of_login c.logins ++ map of_turn ts) k.no_turns
-          ∙ append-nil (map of_login c.logins)))
+      ∙ append-nil (map of_login c.logins)))
 
   login_now : IsLogin me.target_name.now k.tag logins_now
   login_now = record {
@@ -243,18 +243,23 @@ module _ (units : ℕ) (me : Identity) (opening : Opening) (c : Transcript) (v :
     by_next true is next on =
         let behind = subst (λ (w : LoginStanding). IsStart w next.0) standing_now next.1 in
         let kind = kind_in (login_standing me.target_name.now k.tag logins_now).progress.kind in
-        let same : begun (record (s.setting) { kind = kind_in (login_after v came).progress.kind;
-            start = next.0 }) ≡ begun (setting_of units me kind next.0) =
+        let same : begun (record (s.setting) {
+          kind = kind_in (login_after v came).progress.kind;
+          start = next.0;
+        }) ≡ begun (setting_of units me kind next.0) =
         subst₂ (λ (m : Setting) (w : LoginStanding). begun
-            (record m { kind = kind_in w.progress.kind; start = next.0 }) ≡ begun (setting_of units me kind next.0))
+        (record m { kind = kind_in w.progress.kind; start = next.0 }) ≡ begun (setting_of units me kind next.0))
         (sym (ap (λ (z : Counters). z.setting) k.waits)) (sym standing_now) refl in
         rw next.4 (record {
           has_login = subst (λ (o : Opening). HasLogin me o logins_now) (sym k.opening_is) login_now;
           kind = kind;
           start = next.0;
           has_begun = subst (λ (o : Opening). HasBegun me o logins_now kind next.0) (sym k.opening_is)
-              (record { began = record { front = c.logins; last = l; whole = refl; begun = is }; kind_is = refl;
-                  start_is = behind });
+              (record {
+                began = record { front = c.logins; last = l; whole = refl; begun = is };
+                kind_is = refl;
+                start_is = behind;
+              });
           stands = stands_none (setting_of units me kind next.0) _ next.2 next.3 same;
           goes_on = at_each_none (λ _ u. end_after u.verdict u.came u.call ≡ None);
         })
@@ -276,7 +281,7 @@ module _ (units : ℕ) (me : Identity) (opening : Opening) (c : Transcript) (cam
       → ExchangeOf (record { login = login; counters = s }) came e p' → More units me opening c came e p'
   by_phase None s p' k made =
       served_more units me opening c s k came made.turn p'.counters made.made e p' made.exchange_is
-          (let is : p' ≡ record { login = None; counters = p'.counters } = rw made.next refl in is)
+      (let is : p' ≡ record { login = None; counters = p'.counters } = rw made.next refl in is)
   by_phase (Some v) s p' k made =
       logged_more units me opening c v s k came made.turn made.came_is made.made p' e made.exchange_is made.next
 

@@ -113,9 +113,9 @@ module _ (s m : Counters) (came : Incoming) (v : Verdict) (call : Option Asking)
         → IsToldAs outcome the_response sense → TurnFacts s (after_status m) came v call the_outs
     reply_facts outcome_is answered told =
         let responses_are = outs_responses m.standing p.task_tag m.setting.start.lengths sent_bytes the_response sense
-            (length sent_bytes) 0 0 in
+        (length sent_bytes) 0 0 in
         let who : answered_in s.standing came v call the_outs ≡ Some the_answered =
-            ap₂ (λ (o : Option CommandHeader) (w : Option Outcome). answered_by w o the_outs) t.who outcome_is in
+        ap₂ (λ (o : Option CommandHeader) (w : Option Outcome). answered_by w o the_outs) t.who outcome_is in
         record {
           judged = t.judged;
           windows = outs_windows m.standing p.task_tag m.setting.start.lengths sent_bytes the_response sense
@@ -125,22 +125,36 @@ module _ (s m : Counters) (came : Incoming) (v : Verdict) (call : Option Asking)
           answered = rw who (answered one_response);
           tiled = rw who (subst (λ (k : Setting). Tiles k.start.lengths p (data_ins the_outs) sent_bytes) t.setting
               (outs_tiled m.standing p.task_tag m.setting.start.lengths sent_bytes the_response sense p refl));
-          counted = rw (who, responses_are)
-              (outs_count m.standing p.task_tag m.setting.start.lengths sent_bytes the_response sense
-                  (length sent_bytes) 0 0, tt);
-          residual = rw (who, responses_are)
-              (asked, means, (record { underflow = less transfer (expected_transfer p);
-                  overflow = less (expected_transfer p) transfer; count = refl }, tt));
+          counted = rw (who, responses_are) (
+            outs_count m.standing p.task_tag m.setting.start.lengths sent_bytes the_response sense
+                (length sent_bytes) 0 0,
+            tt,
+          );
+          residual = rw (who, responses_are) (
+            asked,
+            means,
+            (
+              record {
+                underflow = less transfer (expected_transfer p);
+                overflow = less (expected_transfer p) transfer;
+                count = refl;
+              },
+              tt,
+            ),
+          );
           told = rw (who, responses_are) (told, tt);
           rejected = t.kinds the_outs
               (outs_kinds m.standing p.task_tag m.setting.start.lengths sent_bytes the_response sense
-                  (length sent_bytes) 0 0) no_r2ts;
+              (length sent_bytes) 0 0) no_r2ts;
           requests = t.no_request the_outs;
           setting_is = t.setting;
           commands = t.commands;
-          statuses = inr (ap (λ (n : ℕ). wrap (n + 1)) t.status, outs_statuses m.standing p.task_tag
-              m.setting.start.lengths sent_bytes the_response sense (length sent_bytes) 0 0
-                  ∙ ap (λ (n : ℕ). n ∷ []) t.status);
+          statuses = inr (
+            ap (λ (n : ℕ). wrap (n + 1)) t.status,
+            outs_statuses m.standing p.task_tag
+                m.setting.start.lengths sent_bytes the_response sense (length sent_bytes) 0 0
+                ∙ ap (λ (n : ℕ). n ∷ []) t.status,
+          );
           tags = inl (t.tag, no_r2ts);
         }
 
@@ -155,7 +169,7 @@ module _ (s m : Counters) (came : Incoming) (v : Verdict) (call : Option Asking)
   gone_facts : outcome_of v call [] ≡ Some (by_target Gone) → TurnFacts s m came v call []
   gone_facts outcome_is =
       let who : answered_in s.standing came v call [] ≡ Some gone_answered =
-          ap₂ (λ (o : Option CommandHeader) (w : Option Outcome). answered_by w o []) t.who outcome_is in
+      ap₂ (λ (o : Option CommandHeader) (w : Option Outcome). answered_by w o []) t.who outcome_is in
       record {
         judged = t.judged;
         windows = tt;
@@ -186,19 +200,19 @@ module _ (s m : Counters) (came : Incoming) (v : Verdict) (call : Option Asking)
       → (outs : List Out) (s' : Counters) → TurnOnAnswer m p (need_of asked) answer outs s' → TurnFacts s s' came v call outs
   by_target_facts accepted (Replied a) unit wants bytes is outs s' k =
       moved refl k.0 k.1 (reply_facts (by_target (Replied a)) (told COMPLETED a.status a.sense)
-          (known accepted (Replied a) unit wants bytes is _) (λ o. o)
-              (record { response = refl; status_is = refl; sense_is = refl }))
+      (known accepted (Replied a) unit wants bytes is _) (λ o. o)
+      (record { response = refl; status_is = refl; sense_is = refl }))
   by_target_facts accepted (Outside a) unit wants bytes is outs s' k =
       moved refl k.0 k.1 (reply_facts (by_target (Outside a)) (told COMPLETED a.status a.sense)
-          (known accepted (Outside a) unit wants bytes is _) (λ o. o)
-              (record { response = refl; status_is = refl; sense_is = refl }))
+      (known accepted (Outside a) unit wants bytes is _) (λ o. o)
+      (record { response = refl; status_is = refl; sense_is = refl }))
   by_target_facts accepted Busy unit wants bytes is outs s' k =
       moved refl k.0 k.1 (reply_facts (by_target Busy) busy (known accepted Busy unit wants bytes is _) (λ o. o)
-          (record { response = refl; status_is = refl; sense_is = refl }))
+      (record { response = refl; status_is = refl; sense_is = refl }))
   by_target_facts accepted Halted unit wants bytes is outs s' k =
       moved refl k.0 k.1 (reply_facts (by_target Halted) (told TARGET_FAILURE statuses.Good None)
-          (known accepted Halted unit wants bytes is _) (λ o. o)
-              (record { response = refl; status_is = refl; sense_is = refl }))
+      (known accepted Halted unit wants bytes is _) (λ o. o)
+      (record { response = refl; status_is = refl; sense_is = refl }))
   by_target_facts accepted Gone unit wants bytes is outs s' k =
       moved refl k.0 k.1 (gone_facts (known accepted Gone unit wants bytes is []))
 
@@ -208,21 +222,21 @@ module _ (s m : Counters) (came : Incoming) (v : Verdict) (call : Option Asking)
       → TurnFacts s s' came v call outs
   no_buffer_facts accepted none outs s' is next =
       let ended : list_any (λ o. is_response o.header) (the_outs no_buffer busy) ≡ true =
-          outs_ended m.standing p.task_tag m.setting.start.lengths (sent_bytes no_buffer busy)
-              (the_response no_buffer busy) (sense no_buffer busy) (length (sent_bytes no_buffer busy)) 0 0 in
+      outs_ended m.standing p.task_tag m.setting.start.lengths (sent_bytes no_buffer busy)
+      (the_response no_buffer busy) (sense no_buffer busy) (length (sent_bytes no_buffer busy)) 0 0 in
       let outcome_is : outcome_of v call (the_outs no_buffer busy) ≡ Some no_buffer =
       ap₂ (λ (w : Verdict) (c : Option Asking). outcome_of w c (the_outs no_buffer busy)) accepted none
-          ∙ ap (λ (b : Bool). if b then Some no_buffer else None) ended in
+      ∙ ap (λ (b : Bool). if b then Some no_buffer else None) ended in
       moved refl is next (reply_facts no_buffer busy outcome_is (λ o. o)
-          (record { response = refl; status_is = refl; sense_is = refl }))
+      (record { response = refl; status_is = refl; sense_is = refl }))
 
   full_facts : v ≡ Full → (outs : List Out) (s' : Counters) → outs ≡ reply_with m p (need_of asked) [] task_set_full
       → s' ≡ after_status m
       → TurnFacts s s' came v call outs
   full_facts full outs s' is next =
       moved refl is next (reply_facts set_full task_set_full
-          (ap (λ (w : Verdict). outcome_of w call (the_outs set_full task_set_full)) full) (λ o. o)
-              (record { response = refl; status_is = refl; sense_is = refl }))
+      (ap (λ (w : Verdict). outcome_of w call (the_outs set_full task_set_full)) full) (λ o. o)
+      (record { response = refl; status_is = refl; sense_is = refl }))
 
   -- nothing, or the next R2T, goes out
   waits_facts : (s' : Counters) → v ≡ Accepted → call ≡ None → s'.setting ≡ s.setting → s'.stat_sn ≡ s.stat_sn
@@ -230,8 +244,8 @@ module _ (s m : Counters) (came : Incoming) (v : Verdict) (call : Option Asking)
       → s'.standing.transfer_tag ≡ s.standing.transfer_tag → TurnFacts s s' came v call []
   waits_facts s' accepted none setting_same status_same cmd tag_same =
       let who : answered_in s.standing came v call [] ≡ None =
-          ap₂ (λ (o : Option CommandHeader) (w : Option Outcome). answered_by w o []) t.who
-              (ap₂ (λ (w : Verdict) (c : Option Asking). outcome_of w c []) accepted none) in
+      ap₂ (λ (o : Option CommandHeader) (w : Option Outcome). answered_by w o []) t.who
+      (ap₂ (λ (w : Verdict) (c : Option Asking). outcome_of w c []) accepted none) in
       record {
         judged = t.judged;
         windows = tt;
@@ -256,7 +270,7 @@ module _ (s n s' : Counters) (came : Incoming) (call : Option Asking) (p : Comma
     (kinds : (outs : List Out) → AllByRecursion (λ o. IsOfCommand o.header) outs → IsRejected Accepted came outs)
     (no_request : (outs : List Out) → IsRequestAnswered s.setting s.standing Accepted came call outs)
     (setting : n.setting ≡ s.setting) (status : n.stat_sn ≡ s.stat_sn)
-        (tag : n.standing.transfer_tag ≡ s.standing.transfer_tag)
+    (tag : n.standing.transfer_tag ≡ s.standing.transfer_tag)
     (commands : ((n.standing.exp_cmd_sn ≡ s.standing.exp_cmd_sn) × (takes_number Accepted came ≡ false))
     ⊎ ((n.standing.exp_cmd_sn ≡ wrap (s.standing.exp_cmd_sn + 1)) × (takes_number Accepted came ≡ true))) where
   asks_facts : (need bytes requests : ℕ) (outs : List Out) → TurnAsks n p need bytes requests next call outs
@@ -265,13 +279,19 @@ module _ (s n s' : Counters) (came : Incoming) (call : Option Asking) (p : Comma
   asks_facts need bytes requests outs k after =
       let out : Out = record { header = R2t next; bytes = [] } in
       let nobody : answered_in s.standing came Accepted call (out ∷ []) ≡ None =
-          ap₂ (λ (o : Option CommandHeader) (w : Option Outcome). answered_by w o (out ∷ [])) who
-              (ap (λ (c : Option Asking). outcome_of Accepted c (out ∷ [])) none) in
+      ap₂ (λ (o : Option CommandHeader) (w : Option Outcome). answered_by w o (out ∷ [])) who
+      (ap (λ (c : Option Asking). outcome_of Accepted c (out ∷ [])) none) in
       moved refl k.outs_are after (record {
         judged = judged;
         windows = (rw k.numbers (record { expects = refl; reaches = refl }), tt);
-        transfers = (record { transfer = k.transfer ∙ tag; status = ap (λ (z : Numbers). z.stat_sn) k.numbers
-            ∙ status }, tt);
+        transfers = (
+          record {
+            transfer = k.transfer ∙ tag;
+            status = ap (λ (z : Numbers). z.stat_sn) k.numbers
+                ∙ status;
+          },
+          tt,
+        );
         called = called;
         answered = rw nobody refl;
         tiled = rw nobody refl;
@@ -330,38 +350,38 @@ data_turn s b x d call this cs serves judged found = record {
 
 opened_facts : (s s' : Counters) (b : List ℕ) (p : CommandHeader) (d : List ℕ) (call : Option Asking) (outs : List Out)
     (asked : Result Command CdbFault) → Means p.cdb asked
-        → IsJudged s.setting s.standing (pdu b (Initiator (ScsiCommand p)) d) Accepted
+    → IsJudged s.setting s.standing (pdu b (Initiator (ScsiCommand p)) d) Accepted
     → TurnOpened s p asked d call outs s' → TurnFacts s s' (pdu b (Initiator (ScsiCommand p)) d) Accepted call outs
 opened_facts s s' b p d call outs asked means judged (calls h k) =
     by_target_facts s (after_command p s) _ Accepted call p asked means
-        (command_turn s b p d call (served_is k.call_is) judged) refl k.answer _ _ _ k.call_is outs s' k.answered
+    (command_turn s b p d call (served_is k.call_is) judged) refl k.answer _ _ _ k.call_is outs s' k.answered
 opened_facts s s' b p d call outs asked means judged (asks h next k after) =
     asks_facts s _ s' (pdu b (Initiator (ScsiCommand p)) d) call p next judged refl (none_is k.no_call) k.no_call
-        (λ os all. all) (λ os. tt) refl refl refl (commands_of p.immediate s.standing.exp_cmd_sn) _ _ _ outs k after
+    (λ os all. all) (λ os. tt) refl refl refl (commands_of p.immediate s.standing.exp_cmd_sn) _ _ _ outs k after
 opened_facts s s' b p d call outs asked means judged (turns_away h k) =
     no_buffer_facts s (after_command p s) _ Accepted call p asked means
-        (command_turn s b p d call (none_is k.no_call) judged) refl k.no_call outs s' k.outs_are k.next_is
+    (command_turn s b p d call (none_is k.no_call) judged) refl k.no_call outs s' k.outs_are k.next_is
 
 fed_facts : (s s' : Counters) (b : List ℕ) (x : DataOutHeader) (d : List ℕ) (call : Option Asking) (outs : List Out)
     (front : List Collecting) (this : Collecting) (back : List Collecting) (end : ℕ)
     (asked : Result Command CdbFault) → Means this.command.cdb asked
-        → IsJudged s.setting s.standing (pdu b (Initiator (DataOut x)) d) Accepted
+    → IsJudged s.setting s.standing (pdu b (Initiator (DataOut x)) d) Accepted
     → find (has_tag x.task_tag) s.standing.collecting ≡ Some this
     → TurnFed s front this back asked d end call outs s'
     → TurnFacts s s' (pdu b (Initiator (DataOut x)) d) Accepted call outs
 fed_facts s s' b x d call outs front this back end asked means judged found (fills h k) =
     moved refl k.outs_are k.next_is
     (waits_facts s s _ Accepted call this.command asked means
-        (data_turn s b x d call this s.standing.collecting (none_is k.no_call) judged found)
-            (after_collecting (front ++ (fed this d ∷ back)) s) refl k.no_call refl refl refl refl)
+    (data_turn s b x d call this s.standing.collecting (none_is k.no_call) judged found)
+    (after_collecting (front ++ (fed this d ∷ back)) s) refl k.no_call refl refl refl refl)
 fed_facts s s' b x d call outs front this back end asked means judged found (asks_on all short next k after) =
     asks_facts s _ s' (pdu b (Initiator (DataOut x)) d) call this.command next judged
-        (ap (option_map (λ (c : Collecting). c.command)) found) (none_is k.no_call) k.no_call (λ os all. all)
-            (λ os. tt) refl refl refl (inl (refl, refl)) _ _ _ outs k after
+    (ap (option_map (λ (c : Collecting). c.command)) found) (none_is k.no_call) k.no_call (λ os all. all)
+    (λ os. tt) refl refl refl (inl (refl, refl)) _ _ _ outs k after
 fed_facts s s' b x d call outs front this back end asked means judged found (calls_now h k) =
     by_target_facts s _ _ Accepted call this.command asked means
-        (data_turn s b x d call this (front ++ back) (served_is k.call_is) judged found) refl k.answer _ _ _ k.call_is
-            outs s' k.answered
+    (data_turn s b x d call this (front ++ back) (served_is k.call_is) judged found) refl k.answer _ _ _ k.call_is
+    outs s' k.answered
 
 accepted_facts : (came : Incoming) (s s' : Counters) (call : Option Asking) (outs : List Out)
     → IsJudged s.setting s.standing came Accepted → TurnOnAccepted came s call outs s'

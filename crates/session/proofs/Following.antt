@@ -43,7 +43,7 @@ one_length : (p : CommandHeader) (own : List Out) → HasOneResponse p own → l
 one_length p own k =
     let last : List Out = record { header = ScsiResponse k.last; bytes = k.segment } ∷ [] in
     let parts : responses own ≡ responses k.front ++ responses last = ap responses k.own_is
-        ∙ filter_map-append (λ o. response_with o.header o.bytes) k.front last in
+    ∙ filter_map-append (λ o. response_with o.header o.bytes) k.front last in
     omega (arith, ap length parts, length-append (responses k.front) (responses last), ap length k.no_other)
 
 answered_length : (p : CommandHeader) (a : TargetAnswer) (own : List Out) → IsAnsweredBy p a own
@@ -73,7 +73,7 @@ pub answered_once : (setting : Setting) (ts : List Turn) → Lawful setting ts
     → AtEach (λ before t. length (responses t.sent) ≤ 1) ts
 answered_once setting ts l before t behind e =
     turn_count (outcome_of t.verdict t.call t.sent) (command_at (standing setting.start before) t.came) t.sent
-        (l.answered before t behind e)
+    (l.answered before t behind e)
 
 turn_unaccepted : (v : Verdict) (call : Option Asking) (p : Option CommandHeader) (own : List Out)
     → IsAnsweredTask (answered_by (outcome_of v call own) p own) own → (v ≡ Accepted → ⊥) → (v ≡ Full → ⊥)
@@ -88,7 +88,7 @@ pub unaccepted : (setting : Setting) (ts : List Turn) → Lawful setting ts
     → AtEach (λ before t. (t.verdict ≡ Accepted → ⊥) → (t.verdict ≡ Full → ⊥) → responses t.sent ≡ []) ts
 unaccepted setting ts l before t behind e never full =
     turn_unaccepted t.verdict t.call (command_at (standing setting.start before) t.came) t.sent
-        (l.answered before t behind e) never full
+    (l.answered before t behind e) never full
 
 -- ---- one response at most in all turns of a command
 
@@ -131,9 +131,14 @@ through_one (t ∷ us) all = one (ends t) refl (through_one us all.1) where
   one : (b : Bool) → ends t ≡ b → length (responses (sent (through ends us))) ≤ 1
       → length (responses (sent (t ∷ (if b then [] else through ends us)))) ≤ 1
   one true e rest = omega (arith, responses_more t [], all.0)
-  one false e rest = omega (arith, responses_more t (through ends us), ap length
-      (none_sent t.sent (or_left (list_any (λ o. is_response o.header) t.sent) (is_management t.came)
-          (or_left (list_any (λ o. is_response o.header) t.sent || is_management t.came) (finds_gone t.call) e))), rest)
+  one false e rest = omega (
+    arith,
+    responses_more t (through ends us),
+    ap length
+        (none_sent t.sent (or_left (list_any (λ o. is_response o.header) t.sent) (is_management t.came)
+        (or_left (list_any (λ o. is_response o.header) t.sent || is_management t.came) (finds_gone t.call) e))),
+    rest,
+  )
 
 all_filter : (test : Turn → Bool) (us : List Turn) → AllByRecursion HasOneAtMost us
     → AllByRecursion HasOneAtMost (filter test us)
@@ -159,9 +164,11 @@ tasks_once (t ∷ behind) all =
 
 each_of_all : (ts : List Turn) → AtEach (λ before t. HasOneAtMost t) ts → AllByRecursion HasOneAtMost ts
 each_of_all [] each = tt
-each_of_all (t ∷ ts) each =
-    (each [] t ts refl, each_of_all ts
-        (λ before u behind e. each (t ∷ before) u behind (ap (λ (us : List Turn). t ∷ us) e)))
+each_of_all (t ∷ ts) each = (
+  each [] t ts refl,
+  each_of_all ts
+      (λ before u behind e. each (t ∷ before) u behind (ap (λ (us : List Turn). t ∷ us) e)),
+)
 
 pub command_once : (setting : Setting) (ts : List Turn) → Lawful setting ts
     → AllByRecursion (λ k. length (responses (sent k.own)) ≤ 1) (tasks ts)
@@ -184,14 +191,14 @@ turn_data l st v came asked own b p d unit means bytes answer e f g r =
 
 pub read_data : (setting : Setting) (ts : List Turn) → Lawful setting ts
     → AtEach (λ before t. (p : CommandHeader) (answer : TargetAnswer) → IsCallTurn t p answer → IsTrue p.read
-        → joined_data (data_ins t.sent) ≡ take p.expected_length (reply_data answer)) ts
+    → joined_data (data_ins t.sent) ≡ take p.expected_length (reply_data answer)) ts
 read_data setting ts l before t behind e p answer is reads =
     turn_data setting.start.lengths (standing setting.start before) t.verdict t.came t.call t.sent is.bhs p is.segment
-        is.unit is.asked is.bytes answer is.accepted is.came is.called reads (l.tiled before t behind e)
+    is.unit is.asked is.bytes answer is.accepted is.came is.called reads (l.tiled before t behind e)
 
 pub read_size : (setting : Setting) (ts : List Turn) → Lawful setting ts
     → AtEach (λ before t. (p : CommandHeader) (answer : TargetAnswer) → IsCallTurn t p answer → IsTrue p.read
-        → length (joined_data (data_ins t.sent)) ≡ min p.expected_length (length (reply_data answer))) ts
+    → length (joined_data (data_ins t.sent)) ≡ min p.expected_length (length (reply_data answer))) ts
 read_size setting ts l before t behind e p answer is reads =
     ap length (read_data setting ts l before t behind e p answer is reads)
-        ∙ length-take p.expected_length (reply_data answer)
+    ∙ length-take p.expected_length (reply_data answer)

@@ -63,7 +63,7 @@ halted = record { response = TARGET_FAILURE; status = statuses.Good; sense = Non
 answered_ends : (m : Counters) (p : CommandHeader) (need : ℕ) (answer : TargetAnswer) (call : Option Asking)
     (unit : Option ℕ) (wants : Result Command CdbFault)
     (bytes : List ℕ) (outs : List Out) (s' : Counters) → call ≡ Some (served unit wants bytes answer)
-        → TurnOnAnswer m p need answer outs s' → Ends call outs
+    → TurnOnAnswer m p need answer outs s' → Ends call outs
 answered_ends m p need (Replied a) call unit wants bytes outs s' e k =
     rw k.0 (no_r2ts m p need a.bytes _, inl (is_ended m p need a.bytes _))
 answered_ends m p need (Outside a) call unit wants bytes outs s' e k =
@@ -96,20 +96,34 @@ opened_now : (s s' : Counters) (p : CommandHeader) (asked : Result Command CdbFa
     → TurnOpened s p asked d call outs s'
     → (new : List Collecting) × IsOpened s.setting.start.lengths.burst p asked d call outs new
     × (s'.standing.collecting ≡ s.standing.collecting ++ new)
-opened_now s s' p asked d call outs (calls h k) =
-    ([], task.called h (called_now (after_command p s) p asked d call outs s' k), keeps_waiting (after_command p s) p
-        (need_of asked) k.answer outs s' k.answered ∙ sym (append-nil s.standing.collecting))
+opened_now s s' p asked d call outs (calls h k) = (
+  [],
+  task.called h (called_now (after_command p s) p asked d call outs s' k),
+  keeps_waiting (after_command p s) p
+      (need_of asked) k.answer outs s' k.answered ∙ sym (append-nil s.standing.collecting),
+)
 opened_now s s' p asked d call outs (asks h next k after) = (
   _,
-  task.asks h (record { all = refl; short = h.short; next = next; is_next = k.is_next; no_call = k.no_call;
-      outs_are = k.outs_are; one = refl }),
+  task.asks h (record {
+    all = refl;
+    short = h.short;
+    next = next;
+    is_next = k.is_next;
+    no_call = k.no_call;
+    outs_are = k.outs_are;
+    one = refl;
+  }),
   ap (λ (z : Counters). z.standing.collecting) after,
 )
 opened_now s s' p asked d call outs (turns_away h k) = (
   [],
-  task.busy h (record { no_call = k.no_call;
-      no_r2t = rw k.outs_are (no_r2ts (after_command p s) p (need_of asked) [] busy); response =
-          rw k.outs_are (is_ended (after_command p s) p (need_of asked) [] busy); none = refl }),
+  task.busy h (record {
+    no_call = k.no_call;
+    no_r2t = rw k.outs_are (no_r2ts (after_command p s) p (need_of asked) [] busy);
+    response =
+        rw k.outs_are (is_ended (after_command p s) p (need_of asked) [] busy);
+    none = refl;
+  }),
   ap (λ (z : Counters). z.standing.collecting) k.next_is ∙ sym (append-nil s.standing.collecting),
 )
 
@@ -144,10 +158,10 @@ pub fresh_tag : (m : Setting) (s : Standing) (p : CommandHeader) (d : List ℕ) 
 fresh_tag m s p d e =
     let l : Lengths = m.start.lengths in
     let refused : is_refused l s p d ≡ false =
-        tag_of_refused (discovers m.kind) (is_refused l s p d)
-            (not_refused _ _ (discovers m.kind || is_refused l s p d) (not_full _ _ (sym e))) in
+    tag_of_refused (discovers m.kind) (is_refused l s p d)
+    (not_refused _ _ (discovers m.kind || is_refused l s p d) (not_full _ _ (sym e))) in
     tag_of_four (p.task_tag == RESERVED_TAG) (list_any (has_tag p.task_tag) s.collecting)
-        (nat_lt (expected_transfer p) (length d)) (nat_lt (most_immediate l) (length d)) refused
+    (nat_lt (expected_transfer p) (length d)) (nat_lt (most_immediate l) (length d)) refused
 
 -- ---- a Data-Out
 
@@ -163,14 +177,24 @@ fed_now s s' front this back asked d end call outs (fills h k) = (
 )
 fed_now s s' front this back asked d end call outs (asks_on all short next k after) = (
   _,
-  task.on (record { all = all; short = short; next = next; is_next = k.is_next; no_call = k.no_call;
-      outs_are = k.outs_are; one = refl }),
+  task.on (record {
+    all = all;
+    short = short;
+    next = next;
+    is_next = k.is_next;
+    no_call = k.no_call;
+    outs_are = k.outs_are;
+    one = refl;
+  }),
   ap (λ (z : Counters). z.standing.collecting) after,
 )
 fed_now s s' front this back asked d end call outs (calls_now h k) =
-    let m : Counters = after_collecting (front ++ back) s in
-    ([], task.now (h, called_now m this.command asked (this.bytes ++ d) call outs s' k), keeps_waiting m this.command
-        (need_of asked) k.answer outs s' k.answered)
+    let m : Counters = after_collecting (front ++ back) s in (
+      [],
+      task.now (h, called_now m this.command asked (this.bytes ++ d) call outs s' k),
+      keeps_waiting m this.command
+          (need_of asked) k.answer outs s' k.answered,
+    )
 
 found_tag : (tag : ℕ) (cs : List Collecting) (c : Collecting) → find (has_tag tag) cs ≡ Some c → c.command.task_tag ≡ tag
 found_tag tag [] c e = absurd (let f : None ≡ Some c = e in cc)
@@ -193,7 +217,7 @@ module _ (s s' : Counters) (some : 0 < s.setting.start.lengths.burst) (ks : List
   Keeps came v call outs =
       let t : Turn = record { came = came; verdict = v; call = call; sent = outs } in
       IsKept s.setting.start.lengths.burst
-          (map (extended t) ks ++ option_to_list (begun_by (accepted_command v came) t [])) s'.standing.collecting
+      (map (extended t) ks ++ option_to_list (begun_by (accepted_command v came) t [])) s'.standing.collecting
 
   quiet : (came : Incoming) (v : Verdict) (call : Option Asking) (outs : List Out) → accepted_command v came ≡ None
       → ((p : CommandHeader) → touches p (record { came = came; verdict = v; call = call; sent = outs }) ≡ false)
@@ -202,10 +226,10 @@ module _ (s s' : Counters) (some : 0 < s.setting.start.lengths.burst) (ks : List
   quiet came v call outs none untouched same =
       let t : Turn = record { came = came; verdict = v; call = call; sent = outs } in
       subst₂ (λ (o : Option (CommandHeader × List ℕ)) (cs : List Collecting). IsKept s.setting.start.lengths.burst
-          (map (extended t) ks ++ option_to_list (begun_by o t [])) cs) (sym none) (sym same)
+      (map (extended t) ks ++ option_to_list (begun_by o t [])) cs) (sym none) (sym same)
       (subst (λ (z : List Task). IsKept s.setting.start.lengths.burst z s.standing.collecting)
-          (sym (append-nil (map (extended t) ks)))
-              (nothing_comes s.setting.start.lengths.burst some ks s.standing.collecting kept t untouched))
+      (sym (append-nil (map (extended t) ks)))
+      (nothing_comes s.setting.start.lengths.burst some ks s.standing.collecting kept t untouched))
 
   accepted_keeps : (came : Incoming) (call : Option Asking) (outs : List Out) → IsJudged s.setting s.standing came Accepted
       → TurnOnAccepted came s call outs s' → Keeps came Accepted call outs
@@ -213,19 +237,19 @@ module _ (s s' : Counters) (some : 0 < s.setting.start.lengths.burst) (ks : List
       let t : Turn = record { came = pdu b (Initiator (ScsiCommand p)) d; verdict = Accepted; call = call; sent = outs } in
       let o = opened_now s s' p k.asked d call outs k.by in
       subst (λ (cs : List Collecting). IsKept s.setting.start.lengths.burst
-          (map (extended t) ks ++ option_to_list (begun_by (Some (p, d)) t [])) cs) (sym o.2)
+      (map (extended t) ks ++ option_to_list (begun_by (Some (p, d)) t [])) cs) (sym o.2)
       (subst (λ (own : List Turn). IsKept s.setting.start.lengths.burst
-          (map (extended t) ks ++ record { command = p; segment = d; own = own } ∷ []) (s.standing.collecting ++ o.0))
+      (map (extended t) ks ++ record { command = p; segment = d; own = own } ∷ []) (s.standing.collecting ++ o.0))
       (sym (no_more ends t (ends t)))
       (command_comes s.setting.start.lengths.burst some ks s.standing.collecting kept b p d k.asked k.asked_by.means
-          call outs o.0 (fresh_tag s.setting s.standing p d judged) o.1))
+      call outs o.0 (fresh_tag s.setting s.standing p d judged) o.1))
   accepted_keeps (pdu b (Initiator (DataOut x)) d) call outs judged k =
       let t : Turn = record { came = pdu b (Initiator (DataOut x)) d; verdict = Accepted; call = call; sent = outs } in
       let o = fed_now s s' k.front k.this k.back k.asked d _ call outs k.by in
       subst (λ (z : List Task). IsKept s.setting.start.lengths.burst z s'.standing.collecting)
-          (sym (append-nil (map (extended t) ks)))
+      (sym (append-nil (map (extended t) ks)))
       (data_comes s.setting.start.lengths.burst some ks s.standing.collecting kept b x d call outs
-          s'.standing.collecting (record {
+      s'.standing.collecting (record {
         front = k.front;
         this = k.this;
         back = k.back;
@@ -241,41 +265,46 @@ module _ (s s' : Counters) (some : 0 < s.setting.start.lengths.burst) (ks : List
       }))
   accepted_keeps (pdu b (Initiator (NopOut p)) d) call outs judged k =
       quiet (pdu b (Initiator (NopOut p)) d) Accepted call outs refl (λ q. refl)
-          (ap (λ (z : Counters). z.standing.collecting) k.next_is
-              ∙ answer_keeps (nop_answer (next_numbers (after_number p.immediate s)) s.setting.start.lengths p d)
-                  (after_number p.immediate s))
+      (ap (λ (z : Counters). z.standing.collecting) k.next_is
+      ∙ answer_keeps (nop_answer (next_numbers (after_number p.immediate s)) s.setting.start.lengths p d)
+      (after_number p.immediate s))
   accepted_keeps (pdu b (Initiator (LogoutRequest p)) d) call outs judged k =
       quiet (pdu b (Initiator (LogoutRequest p)) d) Accepted call outs refl (λ q. refl)
-          (ap (λ (z : Counters). z.standing.collecting) k.next_is
-              ∙ answer_keeps (logout_answer (next_numbers (after_number p.immediate s)) p) (after_number p.immediate s))
+      (ap (λ (z : Counters). z.standing.collecting) k.next_is
+      ∙ answer_keeps (logout_answer (next_numbers (after_number p.immediate s)) p) (after_number p.immediate s))
   accepted_keeps (pdu b (Initiator (TextRequest p)) d) call outs judged k =
       quiet (pdu b (Initiator (TextRequest p)) d) Accepted call outs refl (λ q. refl)
-          (ap (λ (z : Counters). z.standing.collecting) k.next_is
-              ∙ answer_keeps (text_outs (next_numbers (after_number p.immediate s)) s.setting p d)
-                  (after_number p.immediate s))
+      (ap (λ (z : Counters). z.standing.collecting) k.next_is
+      ∙ answer_keeps (text_outs (next_numbers (after_number p.immediate s)) s.setting p d)
+      (after_number p.immediate s))
   accepted_keeps (pdu b (Initiator (TaskManagementRequest x)) d) call outs judged k =
-      let t : Turn = record { came = pdu b (Initiator (TaskManagementRequest x)) d; verdict = Accepted; call =
-          call; sent = outs } in
+      let t : Turn = record {
+        came = pdu b (Initiator (TaskManagementRequest x)) d;
+        verdict = Accepted;
+        call =
+            call;
+        sent = outs;
+      } in
       let mid : Counters = after_collecting k.kept (after_number x.immediate s) in
       let waiting : s'.standing.collecting ≡ k.kept = ap (λ (z : Counters). z.standing.collecting) k.turned.next_is
-          ∙ answer_keeps (management_answer (next_numbers mid) x k.response) mid in
+      ∙ answer_keeps (management_answer (next_numbers mid) x k.response) mid in
       let dropped : filter (keeps x outs) s.standing.collecting ≡ k.kept =
-          ap (λ (z : List Out). filter (keeps x z) s.standing.collecting) k.turned.outs_are
-              ∙ kept_is s.setting.units s.standing.collecting x call k.response k.kept (next_numbers mid) k.managed in
+      ap (λ (z : List Out). filter (keeps x z) s.standing.collecting) k.turned.outs_are
+      ∙ kept_is s.setting.units s.standing.collecting x call k.response k.kept (next_numbers mid) k.managed in
       subst (λ (z : List Task). IsKept s.setting.start.lengths.burst z s'.standing.collecting)
-          (sym (append-nil (map (extended t) ks)))
+      (sym (append-nil (map (extended t) ks)))
       (subst (λ (cs : List Collecting). IsKept s.setting.start.lengths.burst (map (extended t) ks) cs)
-          (dropped ∙ sym waiting)
+      (dropped ∙ sym waiting)
       (management_comes s.setting.start.lengths.burst some ks s.standing.collecting kept b x d call outs
-          (subst (λ (z : List Out). r2ts_of z ≡ []) (sym k.turned.outs_are)
-              (no_r2t_managed (next_numbers mid) x k.response))))
+      (subst (λ (z : List Out). r2ts_of z ≡ []) (sym k.turned.outs_are)
+      (no_r2t_managed (next_numbers mid) x k.response))))
   accepted_keeps came call outs judged k = absurd k
 
   full_keeps : (came : Incoming) (call : Option Asking) (outs : List Out) → TurnOnFullPdu came s call outs s'
       → Keeps came Full call outs
   full_keeps (pdu b (Initiator (ScsiCommand p)) d) call outs k =
       quiet (pdu b (Initiator (ScsiCommand p)) d) Full call outs refl (λ q. refl)
-          (ap (λ (z : Counters). z.standing.collecting) k.turned.next_is)
+      (ap (λ (z : Counters). z.standing.collecting) k.turned.next_is)
   full_keeps came call outs k = absurd k
 
   turn_keeps : (v : Verdict) (came : Incoming) (call : Option Asking) (outs : List Out)
@@ -297,4 +326,4 @@ pub kept_more : (s s' : Counters) (some : 0 < s.setting.start.lengths.burst) (ts
     → IsKept s.setting.start.lengths.burst (tasks (ts ++ t ∷ [])) s'.standing.collecting
 kept_more s s' some ts t kept judged made =
     subst (λ (z : List Task). IsKept s.setting.start.lengths.burst z s'.standing.collecting) (sym (tasks_more ts t))
-        (turn_keeps s s' some (tasks ts) kept t.verdict t.came t.call t.sent judged made)
+    (turn_keeps s s' some (tasks ts) kept t.verdict t.came t.call t.sent judged made)

@@ -82,14 +82,14 @@ command_more : (first : ℕ) (ts : List Turn) (t : Turn) (s s' : Counters) → s
 command_more first ts t s s' tied (inl w) =
     let n : ℕ = count_by numbered ts in
     let same : count_by numbered (ts ++ t ∷ []) ≡ n = count_more ts t ∙ ap (λ (b : Bool). n + (0 + cond b 1 0)) w.1
-        ∙ (let e : n + (0 + 0) ≡ n = omega arith in e) in
+    ∙ (let e : n + (0 + 0) ≡ n = omega arith in e) in
     w.0 ∙ tied ∙ ap (λ (m : ℕ). wrap (first + m)) (sym same)
 command_more first ts t s s' tied (inr w) =
     let n : ℕ = count_by numbered ts in
     let more : count_by numbered (ts ++ t ∷ []) ≡ n + 1 = count_more ts t
-        ∙ ap (λ (b : Bool). n + (0 + cond b 1 0)) w.1 ∙ (let e : n + (0 + 1) ≡ n + 1 = omega arith in e) in
+    ∙ ap (λ (b : Bool). n + (0 + cond b 1 0)) w.1 ∙ (let e : n + (0 + 1) ≡ n + 1 = omega arith in e) in
     w.0 ∙ ap (λ (m : ℕ). wrap (m + 1)) tied ∙ mod-add-mod (first + n) 4294967296 1
-        ∙ ap wrap (let e : first + n + 1 ≡ first + count_by numbered (ts ++ t ∷ []) = omega (arith, more) in e)
+    ∙ ap wrap (let e : first + n + 1 ≡ first + count_by numbered (ts ++ t ∷ []) = omega (arith, more) in e)
 
 pub statuses_more : (ts : List Turn) (t : Turn)
     → status_numbers (sent (ts ++ t ∷ [])) ≡ status_numbers (sent ts) ++ status_numbers t.sent
@@ -102,15 +102,15 @@ module _ (first : ℕ) (ts : List Turn) (t : Turn) (s s' : Counters)
       → s'.stat_sn ≡ wrap (first + length (status_numbers (sent (ts ++ t ∷ []))))
   status_more (inl w) =
       let same : status_numbers (sent (ts ++ t ∷ [])) ≡ status_numbers (sent ts) = statuses_more ts t
-          ∙ ap (λ (x : List ℕ). status_numbers (sent ts) ++ x) w.1 ∙ append-nil (status_numbers (sent ts)) in
+      ∙ ap (λ (x : List ℕ). status_numbers (sent ts) ++ x) w.1 ∙ append-nil (status_numbers (sent ts)) in
       w.0 ∙ tied ∙ ap (λ (x : List ℕ). wrap (first + length x)) (sym same)
   status_more (inr w) =
       let n : ℕ = length (status_numbers (sent ts)) in
       let more : status_numbers (sent (ts ++ t ∷ [])) ≡ status_numbers (sent ts) ++ s.stat_sn ∷ [] =
-          statuses_more ts t ∙ ap (λ (x : List ℕ). status_numbers (sent ts) ++ x) w.1 in
+      statuses_more ts t ∙ ap (λ (x : List ℕ). status_numbers (sent ts) ++ x) w.1 in
       w.0 ∙ ap (λ (m : ℕ). wrap (m + 1)) tied ∙ mod-add-mod (first + n) 4294967296 1
       ∙ ap wrap (let e : first + n + 1 ≡ first + length (status_numbers (sent (ts ++ t ∷ []))) =
-          omega (arith, ap length more, length-append (status_numbers (sent ts)) (s.stat_sn ∷ [])) in e)
+      omega (arith, ap length more, length-append (status_numbers (sent ts)) (s.stat_sn ∷ [])) in e)
 
   numbered_more : ((k n : ℕ) → slice_get (status_numbers (sent ts)) k ≡ Some n → n ≡ wrap (first + k))
       → ((s'.stat_sn ≡ s.stat_sn) × (status_numbers t.sent ≡ []))
@@ -118,11 +118,11 @@ module _ (first : ℕ) (ts : List Turn) (t : Turn) (s s' : Counters)
       → (k n : ℕ) → slice_get (status_numbers (sent (ts ++ t ∷ []))) k ≡ Some n → n ≡ wrap (first + k)
   numbered_more each (inl w) k n e =
       let same : status_numbers (sent (ts ++ t ∷ [])) ≡ status_numbers (sent ts) = statuses_more ts t
-          ∙ ap (λ (x : List ℕ). status_numbers (sent ts) ++ x) w.1 ∙ append-nil (status_numbers (sent ts)) in
+      ∙ ap (λ (x : List ℕ). status_numbers (sent ts) ++ x) w.1 ∙ append-nil (status_numbers (sent ts)) in
       each k n (subst (λ (x : List ℕ). slice_get x k ≡ Some n) same e)
   numbered_more each (inr w) k n e =
       let more : status_numbers (sent (ts ++ t ∷ [])) ≡ status_numbers (sent ts) ++ s.stat_sn ∷ [] =
-          statuses_more ts t ∙ ap (λ (x : List ℕ). status_numbers (sent ts) ++ x) w.1 in
+      statuses_more ts t ∙ ap (λ (x : List ℕ). status_numbers (sent ts) ++ x) w.1 in
       elim (get_more (status_numbers (sent ts)) s.stat_sn k n (subst (λ (x : List ℕ). slice_get x k ≡ Some n) more e)) [
         | inl v ↦ each k n v
         | inr v ↦ v.1 ∙ tied ∙ ap (λ (m : ℕ). wrap (first + m)) (sym v.0)
@@ -141,19 +141,19 @@ tag_more : (ts : List Turn) (t : Turn) (old new : ℕ) → old ≡ transfer_at (
     → new ≡ transfer_at (length (r2ts (ts ++ t ∷ [])))
 tag_more ts t old new tied (inl w) =
     let same : r2ts (ts ++ t ∷ []) ≡ r2ts ts = r2ts_more ts t ∙ ap (λ (z : List R2tHeader). r2ts ts ++ z) w.1
-        ∙ append-nil (r2ts ts) in
+    ∙ append-nil (r2ts ts) in
     w.0 ∙ tied ∙ ap (λ (z : List R2tHeader). transfer_at (length z)) (sym same)
 tag_more ts t old new tied (inr w) =
     let more : length (r2ts (ts ++ t ∷ [])) ≡ length (r2ts ts) + 1 =
-        ap length (r2ts_more ts t ∙ ap (λ (z : List R2tHeader). r2ts ts ++ z) w.2)
-            ∙ length-append (r2ts ts) (w.1 ∷ []) in
+    ap length (r2ts_more ts t ∙ ap (λ (z : List R2tHeader). r2ts ts ++ z) w.2)
+    ∙ length-append (r2ts ts) (w.1 ∷ []) in
     w.0 ∙ ap (λ (n : ℕ). (n + 1) % 4294967295) tied ∙ tag_of_more (length (r2ts ts)) ∙ ap transfer_at (sym more)
 
 -- ---- one turn more
 
 same_parts : (x y : ℕ) (cs ds : List Collecting) (t u : ℕ) → x ≡ y → cs ≡ ds → t ≡ u
     → Path Standing (record { exp_cmd_sn = x; collecting = cs; transfer_tag = t })
-        (record { exp_cmd_sn = y; collecting = ds; transfer_tag = u })
+    (record { exp_cmd_sn = y; collecting = ds; transfer_tag = u })
 same_parts x y cs ds t u e f g = rw (e, f, g) refl
 
 same_standing : (a b : Standing) → a.exp_cmd_sn ≡ b.exp_cmd_sn → a.collecting ≡ b.collecting
@@ -185,8 +185,8 @@ kept_of setting ts t came s s' e kept m =
     let some : 0 < s.setting.start.lengths.burst = omega (arith, s.setting.start.lengths.bursts) in
     subst (λ (n : Setting). IsKept n.start.lengths.burst (tasks (ts ++ t ∷ [])) s'.standing.collecting) e
     (kept_more s s' some ts t
-        (subst (λ (n : Setting). IsKept n.start.lengths.burst (tasks ts) s.standing.collecting) (sym e) kept)
-            (judged_of s s' came t m) (made_of s s' came t m))
+    (subst (λ (n : Setting). IsKept n.start.lengths.burst (tasks ts) s.standing.collecting) (sym e) kept)
+    (judged_of s s' came t m) (made_of s s' came t m))
 
 pub stands_more : (setting : Setting) (ts : List Turn) (t : Turn) (came : Incoming) (s s' : Counters)
     → Stands setting ts s → GoesOn ts → TurnOf s came t s' → Stands setting (ts ++ t ∷ []) s'
@@ -196,9 +196,9 @@ stands_more setting ts t came s s' k on m =
     let kept = kept_of setting ts t came s s' k.tied.setting_is k.kept m in
     let command = command_more setting.start.exp_cmd_sn ts t s s' (ap (λ (z : Standing). z.exp_cmd_sn) here) f.commands in
     let tag = tag_more ts t s.standing.transfer_tag s'.standing.transfer_tag
-        (ap (λ (z : Standing). z.transfer_tag) here) f.tags in
+    (ap (λ (z : Standing). z.transfer_tag) here) f.tags in
     let there : s'.standing ≡ standing setting.start (ts ++ t ∷ []) =
-        same_standing s'.standing (standing setting.start (ts ++ t ∷ [])) command (sym kept.tied) tag in
+    same_standing s'.standing (standing setting.start (ts ++ t ∷ [])) command (sym kept.tied) tag in
     let old = k.lawful in
     record {
       lawful = record {
@@ -220,7 +220,7 @@ stands_more setting ts t came s s' k on m =
         tiled = at_each_more (λ before u. IsTiledTask setting.start.lengths
             (answer_at setting.start before u) u.sent) ts t old.tiled
             (subst₂ (λ (n : Setting) (e : Standing). IsTiledTask n.start.lengths
-                (answered_in e t.came t.verdict t.call t.sent) t.sent) k.tied.setting_is here f.tiled);
+            (answered_in e t.came t.verdict t.call t.sent) t.sent) k.tied.setting_is here f.tiled);
         counted = at_each_more (λ before u. IsCountedTask (answer_at setting.start before u)) ts t old.counted
             (subst (λ (e : Standing). IsCountedTask (answered_in e t.came t.verdict t.call t.sent)) here f.counted);
         residual = at_each_more (λ before u. HasResiduals (answer_at setting.start before u)) ts t old.residual
@@ -231,12 +231,16 @@ stands_more setting ts t came s s' k on m =
         requests = at_each_more (λ before u. IsRequestAnswered setting
             (standing setting.start before) u.verdict u.came u.call u.sent) ts t old.requests
             (subst₂ (λ (n : Setting) (e : Standing). IsRequestAnswered n e t.verdict t.came t.call t.sent)
-                k.tied.setting_is here f.requests);
+            k.tied.setting_is here f.requests);
         ends = at_each_more (λ before u. GoesOn before) ts t old.ends on;
       };
-      tied = record { standing_is = there; status =
-          status_more setting.start.stat_sn ts t s s' k.tied.status f.statuses; setting_is = f.setting_is
-              ∙ k.tied.setting_is };
+      tied = record {
+        standing_is = there;
+        status =
+            status_more setting.start.stat_sn ts t s s' k.tied.status f.statuses;
+        setting_is = f.setting_is
+            ∙ k.tied.setting_is;
+      };
       kept = kept;
     }
 
@@ -270,7 +274,7 @@ stands_none setting s cmd_fits stat_fits e = record {
   tied = record {
     standing_is = ap (λ (r : Counters). r.standing) e
         ∙ same_standing (begun setting).standing (standing setting.start [])
-            (let k : setting.start.exp_cmd_sn ≡ wrap (setting.start.exp_cmd_sn + 0) = omega arith in k) refl refl;
+        (let k : setting.start.exp_cmd_sn ≡ wrap (setting.start.exp_cmd_sn + 0) = omega arith in k) refl refl;
     status = ap (λ (r : Counters). r.stat_sn) e
         ∙ (let k : setting.start.stat_sn ≡ wrap (setting.start.stat_sn + 0) = omega arith in k);
     setting_is = ap (λ (r : Counters). r.setting) e;

@@ -11,7 +11,7 @@ pub moved_front : (xs : List ℕ) (start filled : ℕ) → start ≤ filled → 
 moved_front xs start filled h k =
     let e : start + (filled - start) ≡ filled = omega arith in
     take-paste xs 0 (drop start xs) (filled - start) (omega arith) (omega (arith, length-drop start xs))
-        ∙ sym (drop-take start (filled - start) xs) ∙ ap (λ (m : ℕ). drop start (take m xs)) e
+    ∙ sym (drop-take start (filled - start) xs) ∙ ap (λ (m : ℕ). drop start (take m xs)) e
 
 -- n bytes of the part behind `filled` come behind the waiting bytes
 pub grown_behind : (xs part rest : List ℕ) (start filled n : ℕ) → start ≤ filled → filled ≤ length xs
@@ -21,6 +21,6 @@ grown_behind xs part rest start filled n order within h =
     let e : length (take filled xs) ≡ filled = length-take-le filled xs within in
     let front : take (filled + n) (take filled xs ++ (part ++ rest)) ≡ take filled xs ++ take n part =
     ap (λ (m : ℕ). take (m + n) (take filled xs ++ (part ++ rest))) (sym e)
-        ∙ take-append-add (take filled xs) (part ++ rest) n
-        ∙ ap (λ (x : List ℕ). take filled xs ++ x) (take-append-le n part rest h) in
+    ∙ take-append-add (take filled xs) (part ++ rest) n
+    ∙ ap (λ (x : List ℕ). take filled xs ++ x) (take-append-le n part rest h) in
     ap (drop start) front ∙ drop-append-le start (take filled xs) (take n part) (omega (arith, e))

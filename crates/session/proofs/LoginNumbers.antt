@@ -63,7 +63,7 @@ module _ (target : List ℕ) (tag : ℕ) where
   first_out before l ls each =
       status_append l.sent (login_sent ls)
       ∙ ap (λ (ns : List ℕ). ns ++ status_numbers (login_sent ls))
-          (login_out (login_standing target tag before) l (each before l ls refl))
+      (login_out (login_standing target tag before) l (each before l ls refl))
 
   behind_one : (before : List LoginTurn) (l : LoginTurn) (ls : List LoginTurn) → AreTurns (before ++ l ∷ ls)
       → AreTurns ((before ++ l ∷ []) ++ ls)
@@ -81,14 +81,14 @@ module _ (target : List ℕ) (tag : ℕ) where
   login_count before [] each (suc k) n e = absurd (cc)
   login_count before (l ∷ ls) each zero n e =
       let here : slice_get (wrap (1 + length before) ∷ status_numbers (login_sent ls)) zero ≡ Some n =
-          subst (λ (ns : List ℕ). slice_get ns zero ≡ Some n) (first_out before l ls each) e in
+      subst (λ (ns : List ℕ). slice_get ns zero ≡ Some n) (first_out before l ls each) e in
       let same : n ≡ wrap (1 + length before) = cc in
       same ∙ ap wrap (let f : 1 + length before ≡ 1 + length before + zero = omega arith in f)
   login_count before (l ∷ ls) each (suc k) n e =
       login_count (before ++ l ∷ []) ls (behind_one before l ls each) k n
-          (subst (λ (ns : List ℕ). slice_get ns (suc k) ≡ Some n) (first_out before l ls each) e)
+      (subst (λ (ns : List ℕ). slice_get ns (suc k) ≡ Some n) (first_out before l ls each) e)
       ∙ ap wrap (let f : 1 + length (before ++ l ∷ []) + k ≡ 1 + length before + suc k =
-          omega (arith, length-append before (l ∷ [])) in f)
+      omega (arith, length-append before (l ∷ [])) in f)
 
 -- ---- both phases
 
@@ -97,8 +97,11 @@ get_append : (xs ys : List ℕ) (k n : ℕ) → slice_get (xs ++ ys) k ≡ Some 
 get_append [] ys k n e = inr (k, (let f : k ≡ 0 + k = omega arith in f), e)
 get_append (x ∷ xs) ys zero n e = inl e
 get_append (x ∷ xs) ys (suc k) n e =
-    elim (get_append xs ys k n e) [ inl w ↦ inl w | inr w ↦
-        inr (w.0, (let f : suc k ≡ suc (length xs) + w.0 = omega (arith, w.1) in f), w.2) ]
+    elim (get_append xs ys k n e) [
+      | inl w ↦ inl w
+      | inr w ↦
+          inr (w.0, (let f : suc k ≡ suc (length xs) + w.0 = omega (arith, w.1) in f), w.2)
+    ]
 
 of_logins : (ls : List LoginTurn) → outgoing (map of_login ls) ≡ login_sent ls
 of_logins [] = refl
@@ -125,9 +128,9 @@ pub counts_on : (units : ℕ) (me : Identity) (tag : ℕ) (c : Transcript) → I
 counts_on units me tag c lawful k n e =
     let target = me.target_name.now in
     let long : length (status_numbers (login_sent c.logins)) ≡ length c.logins =
-        login_length target tag [] c.logins lawful.0.turns in
+    login_length target tag [] c.logins lawful.0.turns in
     elim (get_append (status_numbers (login_sent c.logins)) (status_numbers (sent c.turns)) k n
-        (subst (λ (ns : List ℕ). slice_get ns k ≡ Some n) (all_sent c) e)) [
+    (subst (λ (ns : List ℕ). slice_get ns k ≡ Some n) (all_sent c) e)) [
       | inl w ↦ login_count target tag [] c.logins lawful.0.turns k n w
       | inr w ↦ elim lawful.1 [
         | inl none ↦ absurd (none_there w.0 n

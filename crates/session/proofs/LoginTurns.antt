@@ -49,14 +49,18 @@ module _ {T : Type 0} (leads : T → Asking → T → Type 0) (x y : T) (s : Pro
   accepted text e now is same k =
       let asked : leads x (began (port_of p (after s (flags_of p) d).said) (kind_in (after s (flags_of p) d).kind) k.0) y =
       subst (λ (z : Progress). leads x (began (port_of p z.said) (kind_in z.kind) k.0) y) same k.1 in
-      subst Comes is (Some (began (port_of p (after s (flags_of p) d).said)
-          (kind_in (after s (flags_of p) d).kind) k.0), asked, (k.0, refl, k.2, k.3))
+      subst Comes is (
+        Some (began (port_of p (after s (flags_of p) d).said)
+            (kind_in (after s (flags_of p) d).kind) k.0),
+        asked,
+        (k.0, refl, k.2, k.3),
+      )
 
   pub named : (e : Ending) (port : Port) → Stopped stops.NamesSession ≡ e → port ≡ port_of p (s.unfinished ++ d)
       → (answer : Bool) × leads x (lives p.tsih port answer) y × (o ≡ outcome_of_lives answer) → Comes e
   named e port is same k =
       let asked : leads x (lives p.tsih (port_of p (s.unfinished ++ d)) k.0) y =
-          subst (λ (z : Port). leads x (lives p.tsih z k.0) y) same k.1 in
+      subst (λ (z : Port). leads x (lives p.tsih z k.0) y) same k.1 in
       subst Comes is (Some (lives p.tsih (port_of p (s.unfinished ++ d)) k.0), asked, (k.0, refl, k.2))
 
 -- ---- a turn of a login, of its steps
@@ -79,17 +83,24 @@ module _ {T : Type 0} (leads : T → Asking → T → Type 0) (v mid : LoginStan
   logged v' h d outcome text stands pdus cmd comes state same_text has_text outs queued =
       let same : mid.progress ≡ v.progress = ap (λ (w : LoginStanding). w.progress) taken in
       let number : n ≡ login_numbers v (pdu bhs h d) = numbers
-          ∙ ap (λ (k : Option ℕ). numbers_for v.stat_sn (unwrap_or (option_or v.first k) 0) 0) cmd in
+      ∙ ap (λ (k : Option ℕ). numbers_for v.stat_sn (unwrap_or (option_or v.first k) 0) 0) cmd in
       let sends : sent_by bhs pdus ≡ login_outs (login_numbers v (pdu bhs h d)) v.progress (pdu bhs h d) outcome =
       outs v.progress bhs d (subst₂ (λ (s : Progress) (t : List ℕ). IsTextOf s h d outcome t) same (sym same_text) has_text)
       ∙ ap (λ (k : Numbers). login_outs k v.progress (pdu bhs h d) outcome) number in
       record {
-        turn = record { came = pdu bhs h d; call = comes.0; outcome = outcome; sent =
-            login_outs (login_numbers v (pdu bhs h d)) v.progress (pdu bhs h d) outcome };
+        turn = record {
+          came = pdu bhs h d;
+          call = comes.0;
+          outcome = outcome;
+          sent =
+              login_outs (login_numbers v (pdu bhs h d)) v.progress (pdu bhs h d) outcome;
+        };
         came_is = refl;
         outcome_is = refl;
-        made = record { comes_to = subst (λ (s : Progress). HasOutcome s (pdu bhs h d) comes.0 outcome) same comes.2;
-            answered = refl };
+        made = record {
+          comes_to = subst (λ (s : Progress). HasOutcome s (pdu bhs h d) comes.0 outcome) same comes.2;
+          answered = refl;
+        };
         next = state ∙ ap (λ (w : LoginStanding). record w { progress = progress_after w.progress (pdu bhs h d) }) taken
             ∙ ap (λ (k : Option ℕ). record (taken_by v k) { progress = progress_after v.progress (pdu bhs h d) }) cmd;
         led = comes.1;
@@ -99,14 +110,19 @@ module _ {T : Type 0} (leads : T → Asking → T → Type 0) (v mid : LoginStan
   -- of a fault
   pub faulted : (f : PduFault) (reason : ℕ) → m ≡ None → reason ≡ reason_of f → y ≡ x
       → IsQueued held held' before now o o'
-          (bytes_of (record { header = Reject (record { reason = reason; numbers = n }); bytes = bhs } ∷ []))
+      (bytes_of (record { header = Reject (record { reason = reason; numbers = n }); bytes = bhs } ∷ []))
       → MakesLoginTurn leads v mid x y held held' before now o o' (faulty f bhs) (Rejected (reason_of f))
   faulted f reason none is same queued =
       let number : n ≡ login_numbers v (faulty f bhs) = numbers
-          ∙ ap (λ (k : Option ℕ). numbers_for v.stat_sn (unwrap_or (option_or v.first k) 0) 0) none in
+      ∙ ap (λ (k : Option ℕ). numbers_for v.stat_sn (unwrap_or (option_or v.first k) 0) 0) none in
       record {
-        turn = record { came = faulty f bhs; call = None; outcome = Rejected (reason_of f); sent =
-            login_outs (login_numbers v (faulty f bhs)) v.progress (faulty f bhs) (Rejected (reason_of f)) };
+        turn = record {
+          came = faulty f bhs;
+          call = None;
+          outcome = Rejected (reason_of f);
+          sent =
+              login_outs (login_numbers v (faulty f bhs)) v.progress (faulty f bhs) (Rejected (reason_of f));
+        };
         came_is = refl;
         outcome_is = refl;
         made = record { comes_to = (refl, refl); answered = refl };
@@ -114,7 +130,7 @@ module _ {T : Type 0} (leads : T → Asking → T → Type 0) (v mid : LoginStan
         led = same;
         queued = subst₂ (λ (k : Numbers) (r : ℕ). IsQueued held held' before now o o'
             (bytes_of (record { header = Reject (record { reason = r; numbers = k }); bytes = bhs } ∷ [])))
-                number is queued;
+            number is queued;
       }
 
 -- ---- a turn of either phase
@@ -165,7 +181,7 @@ module _ {T : Type 0} (leads : T → Asking → T → Type 0) (x y : T) (held he
         → MakesExchange leads (phases_of (Some v) s) p' x y held held' before now o o' came wanted
     goes_on wanted is stays next =
         logs wanted is (subst (λ (b : Bool). NextPhase b v' (phases_of (Some v) s) p')
-            (sym (ap begins k.outcome_is ∙ stays)) next)
+        (sym (ap begins k.outcome_is ∙ stays)) next)
 
     pub begins_now : (wanted : Option End) (start : Start) (kind : Kind) (s' : Counters) → wanted ≡ login_end outcome
         → begins outcome ≡ true
@@ -173,10 +189,15 @@ module _ {T : Type 0} (leads : T → Asking → T → Type 0) (x y : T) (held he
         → s' ≡ begun (record (s.setting) { kind = kind; start = start }) → p' ≡ phases_of None s'
         → MakesExchange leads (phases_of (Some v) s) p' x y held held' before now o o' came wanted
     begins_now wanted start kind s' is begin behind cmd stat kind_is next here =
-        logs wanted is (subst (λ (b : Bool). NextPhase b v' (phases_of (Some v) s) p') (sym (ap begins k.outcome_is ∙ begin))
-        (start, behind, cmd, stat, here
-            ∙ ap (phases_of None) (next
-                ∙ ap (λ (z : Kind). begun (record (s.setting) { kind = z; start = start })) kind_is)))
+        logs wanted is (subst (λ (b : Bool). NextPhase b v' (phases_of (Some v) s) p') (sym (ap begins k.outcome_is ∙ begin)) (
+          start,
+          behind,
+          cmd,
+          stat,
+          here
+              ∙ ap (phases_of None) (next
+              ∙ ap (λ (z : Kind). begun (record (s.setting) { kind = z; start = start })) kind_is),
+        ))
 
     -- a fault ends it
     pub rejects : (reason : ℕ) → outcome ≡ Rejected reason → p' ≡ phases_of (Some v') s

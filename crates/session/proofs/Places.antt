@@ -23,9 +23,14 @@ pub stands_there : (items old : List Collecting) (i : ℕ) (x : Collecting) → 
     → StandsAt old i x
 stands_there items old i x same within there =
     let s = stands_at old i x within in
-    record { front = s.front; back = s.back; whole = s.whole
-        ∙ ap (λ (z : Collecting). s.front ++ (z ∷ s.back))
-            (sym (there ∙ ap (λ (z : List Collecting). get_or z i x) same)); place = s.place }
+    record {
+      front = s.front;
+      back = s.back;
+      whole = s.whole
+          ∙ ap (λ (z : Collecting). s.front ++ (z ∷ s.back))
+          (sym (there ∙ ap (λ (z : List Collecting). get_or z i x) same));
+      place = s.place;
+    }
 
 pub removed_at : (items old : List Collecting) (i : ℕ) (x : Collecting) → items ≡ old → i < length old → x ≡ get_or items i x
     → IsRemoved old (take i items ++ drop (suc i) items) i x
@@ -45,10 +50,10 @@ none_more tag cs i d within none here =
 
 pub count_more : (cs : List Collecting) (i : ℕ) (d : Collecting) → i < length cs
     → count_by shrinks_window (take (i + 1) cs) ≡ count_by shrinks_window (take i cs) +
-        (0 + cond (shrinks_window (get_or cs i d)) 1 0)
+    (0 + cond (shrinks_window (get_or cs i d)) 1 0)
 count_more cs i d within =
     ap (count_by shrinks_window) (take_more cs i d within)
-        ∙ sum_by-append (λ c. cond (shrinks_window c) 1 0) (take i cs) (get_or cs i d ∷ [])
+    ∙ sum_by-append (λ c. cond (shrinks_window c) 1 0) (take i cs) (get_or cs i d ∷ [])
 
 -- the first with this tag is the one before which none has it
 found_first : (tag : ℕ) (cs : List Collecting) (i : ℕ) (d : Collecting) → i < length cs
@@ -58,11 +63,11 @@ found_first tag [] i d within none here = absurd (omega (arith, within))
 found_first tag (c ∷ cs) zero d within none here = rw here refl
 found_first tag (c ∷ cs) (suc i) d within none here =
     one (has_tag tag c) none (λ rest. found_first tag cs i d (omega (arith, within)) rest here) where
-  one : (b : Bool) → (b || list_any (has_tag tag) (take i cs)) ≡ false
-      → (list_any (has_tag tag) (take i cs) ≡ false → find (has_tag tag) cs ≡ Some (get_or cs i d))
-      → (if b then Some c else find (has_tag tag) cs) ≡ Some (get_or cs i d)
-  one true e rest = absurd (let f : true ≡ false = e in cc)
-  one false e rest = rest e
+      one : (b : Bool) → (b || list_any (has_tag tag) (take i cs)) ≡ false
+          → (list_any (has_tag tag) (take i cs) ≡ false → find (has_tag tag) cs ≡ Some (get_or cs i d))
+          → (if b then Some c else find (has_tag tag) cs) ≡ Some (get_or cs i d)
+      one true e rest = absurd (let f : true ≡ false = e in cc)
+      one false e rest = rest e
 
 pub found_there : (tag : ℕ) (items old : List Collecting) (i : ℕ) (x : Collecting) → items ≡ old → i < length old
     → x ≡ get_or items i x
@@ -70,8 +75,8 @@ pub found_there : (tag : ℕ) (items old : List Collecting) (i : ℕ) (x : Colle
 found_there tag items old i x same within there none is =
     let here : get_or old i x ≡ x = sym (there ∙ ap (λ (z : List Collecting). get_or z i x) same) in
     found_first tag old i x within none
-        (eq-eqb (get_or old i x).command.task_tag tag (ap (λ (c : Collecting). c.command.task_tag) here ∙ is))
-            ∙ ap Some here
+    (eq-eqb (get_or old i x).command.task_tag tag (ap (λ (c : Collecting). c.command.task_tag) here ∙ is))
+    ∙ ap Some here
 
 none_there : (tag : ℕ) (cs : List Collecting) → list_any (has_tag tag) cs ≡ false → find (has_tag tag) cs ≡ None
 none_there tag [] e = refl
@@ -90,4 +95,4 @@ none_of_all tag cs n all none = none_there tag cs (ap (list_any (has_tag tag)) (
 pub stands_one : (cs : List Collecting) (i : ℕ) (x y : Collecting) → StandsAt cs i x → StandsAt cs i y → x ≡ y
 stands_one cs i x y a b =
     sym (get_or_at a.front x a.back x i a.place) ∙ ap (λ (z : List Collecting). get_or z i x) (sym a.whole ∙ b.whole)
-        ∙ get_or_at b.front y b.back x i b.place
+    ∙ get_or_at b.front y b.back x i b.place

@@ -19,9 +19,13 @@ front_more old new all more k = let w = front_in k.0 all more in (w.0, subst (Ap
 pub waits : (failed : Bool) (first held : Option (List ℕ)) (begun now : ℕ) (waiting waiting' all bytes : List ℕ)
     → waiting' ≡ waiting ++ bytes → IsOutBy failed first held begun now waiting all
     → IsOutBy failed first held begun now waiting' (all ++ bytes)
-waits false first held begun now waiting waiting' all bytes e k =
-    (k.0, k.1, k.2, ap (λ (z : List ℕ). k.1 ++ z) e ∙ sym (append_assoc k.1 waiting bytes)
-        ∙ ap (λ (z : List ℕ). z ++ bytes) k.3)
+waits false first held begun now waiting waiting' all bytes e k = (
+  k.0,
+  k.1,
+  k.2,
+  ap (λ (z : List ℕ). k.1 ++ z) e ∙ sym (append_assoc k.1 waiting bytes)
+      ∙ ap (λ (z : List ℕ). z ++ bytes) k.3,
+)
 waits true first held begun now waiting waiting' all bytes e k = (k.0, front_more first held all bytes k.1)
 
 -- what waits was written, or the sink failed at it
@@ -78,7 +82,7 @@ pub queued_both : (held held1 held2 : Option (List ℕ)) (n0 n1 n2 : ℕ) (o o1 
     → IsQueued held held2 n0 n2 o o2 whole
 queued_both held held1 held2 n0 n1 n2 o o1 o2 bytes more whole e k l =
     λ first begun all out. subst (IsOut first held2 begun n2 o2) (append_assoc all bytes more
-        ∙ ap (λ (z : List ℕ). all ++ z) e)
+    ∙ ap (λ (z : List ℕ). all ++ z) e)
     (l first begun (all ++ bytes) (k first begun all out))
 
 pub queued_none : (held : Option (List ℕ)) (n : ℕ) (o : OutboxValue) → IsQueued held held n n o o []

@@ -42,7 +42,7 @@ pub called_on : (this f : Collecting) (d : List ℕ) (done : Collected) (bytes :
     → f ≡ fed this d → IsFinished f done
     → call_data bytes ≡ done.bytes.items
     → ((gathered : List ℕ) → call_data bytes ≡ data_for done.command (need_of done.asked) gathered
-        → Calls done.command done.asked gathered a)
+    → Calls done.command done.asked gathered a)
     → Calls this.command done.asked (this.bytes ++ d) a
 called_on this f d done bytes a fed_is finished same_bytes calls =
     let command_is : done.command ≡ this.command = finished.command_is ∙ ap (λ (c : Collecting). c.command) fed_is in
@@ -50,7 +50,7 @@ called_on this f d done bytes a fed_is finished same_bytes calls =
     same_bytes ∙ finished.bytes_are ∙ ap (λ (c : Collecting). data_for c.command (need_of done.asked) c.bytes) fed_is in
     subst (λ (p : CommandHeader). Calls p done.asked (this.bytes ++ d) a) command_is
     (calls (this.bytes ++ d) (data_is
-        ∙ ap (λ (p : CommandHeader). data_for p (need_of done.asked) (this.bytes ++ d)) (sym command_is)))
+    ∙ ap (λ (p : CommandHeader). data_for p (need_of done.asked) (this.bytes ++ d)) (sym command_is)))
 
 pub asked_on_by : (this f : Collecting) (d : List ℕ) (asked : Result Command CdbFault) → f ≡ fed this d
     → IsAskedBy f.command asked → IsAskedBy this.command asked
@@ -62,8 +62,12 @@ still_asked this f d asked e k = subst (λ (c : Collecting). IsAskedBy c.command
 
 abbrev pub view_of : ℕ → Setting → ℕ → List Collecting → ℕ → Counters
 view_of stat_sn setting exp_cmd_sn cs tag =
-    record { setting = setting; stat_sn = stat_sn; standing =
-        record { exp_cmd_sn = exp_cmd_sn; collecting = cs; transfer_tag = tag } }
+    record {
+      setting = setting;
+      stat_sn = stat_sn;
+      standing =
+          record { exp_cmd_sn = exp_cmd_sn; collecting = cs; transfer_tag = tag };
+    }
 
 -- what the one thing that the CDB asks for needs
 pub need_is_of : (p : CommandHeader) (asked : Result Command CdbFault) → IsAskedBy p asked → NeedIs p (need_of asked)
@@ -78,7 +82,7 @@ not_filled this f d request b e g k unfilled =
     let told : IfSome (Some request) (λ r. b ≡ nat_le (r.offset + r.desired_length) (length (this.bytes ++ d))) =
     subst (λ (o : Option R2tHeader). IfSome o (λ r. b ≡ nat_le (r.offset + r.desired_length) (length (this.bytes ++ d)))) e
     (subst (λ (c : Collecting). IfSome c.outstanding
-        (λ r. b ≡ nat_le (r.offset + r.desired_length) (length c.bytes))) g k) in
+    (λ r. b ≡ nat_le (r.offset + r.desired_length) (length c.bytes))) g k) in
     leb-false (request.offset + request.desired_length) (length (this.bytes ++ d)) (sym told ∙ unfilled)
 
 is_filled : (this f : Collecting) (d : List ℕ) (request : R2tHeader) (b : Bool) → this.outstanding ≡ Some request
@@ -89,7 +93,7 @@ is_filled this f d request b e g k full_of =
     let told : IfSome (Some request) (λ r. b ≡ nat_le (r.offset + r.desired_length) (length (this.bytes ++ d))) =
     subst (λ (o : Option R2tHeader). IfSome o (λ r. b ≡ nat_le (r.offset + r.desired_length) (length (this.bytes ++ d)))) e
     (subst (λ (c : Collecting). IfSome c.outstanding
-        (λ r. b ≡ nat_le (r.offset + r.desired_length) (length c.bytes))) g k) in
+    (λ r. b ≡ nat_le (r.offset + r.desired_length) (length c.bytes))) g k) in
     leb-true (request.offset + request.desired_length) (length (this.bytes ++ d)) (sym told ∙ full_of)
 
 module _ (s : Counters) (at : ℕ) (x : DataOutHeader) (d : List ℕ) (can : CanTake s at x d) (this : Collecting)
@@ -133,9 +137,16 @@ module _ (s : Counters) (at : ℕ) (x : DataOutHeader) (d : List ℕ) (can : Can
   count_same : (c : Collecting) → shrinks_window c ≡ shrinks_window this
       → count_by shrinks_window s.standing.collecting ≡ count_by shrinks_window (r.stands.front ++ (c ∷ r.stands.back))
   count_same c e = ap (count_by shrinks_window) r.stands.whole
-      ∙ omega (arith, count_append r.stands.front (this ∷ r.stands.back), count_append
-          (this ∷ []) r.stands.back, count_append r.stands.front (c ∷ r.stands.back), count_append
-              (c ∷ []) r.stands.back, ap {B = ℕ} (λ (b : Bool). cond b 1 0) e)
+      ∙ omega (
+        arith,
+        count_append r.stands.front (this ∷ r.stands.back),
+        count_append
+            (this ∷ []) r.stands.back,
+        count_append r.stands.front (c ∷ r.stands.back),
+        count_append
+            (c ∷ []) r.stands.back,
+        ap {B = ℕ} (λ (b : Bool). cond b 1 0) e,
+      )
 
   module _ (f : Collecting) (b : Bool) (fed_is : f ≡ fed this d)
       (told : IfSome f.outstanding (λ q. b ≡ nat_le (q.offset + q.desired_length) (length f.bytes))) where
@@ -144,17 +155,17 @@ module _ (s : Counters) (at : ℕ) (x : DataOutHeader) (d : List ℕ) (can : Can
         → IsSilent a → end_of a ≡ None → Inserts f new → s' ≡ after_collecting new s → OnData s x d a s'
     on_filling unfilled asked asked_by a s' new silent no_end insert after =
         on_data asked asked_by a s'
-            (fills (not_filled this f d continues.request b continues.outstanding fed_is told unfilled) silent no_end
+        (fills (not_filled this f d continues.request b continues.outstanding fed_is told unfilled) silent no_end
         (after ∙ ap (λ (cs : List Collecting). after_collecting cs s) (inserted f new insert
-            ∙ ap (λ (c : Collecting). r.stands.front ++ (c ∷ r.stands.back)) fed_is)))
+        ∙ ap (λ (c : Collecting). r.stands.front ++ (c ∷ r.stands.back)) fed_is)))
 
     pub on_calling : (asked : Result Command CdbFault) → IsAskedBy this.command asked → (a : Actions) (s' : Counters)
         → need_of asked ≤ length f.bytes → Calls this.command asked (this.bytes ++ d) a → s' ≡ after_collecting rest s
         → OnData s x d a s'
     on_calling asked asked_by a s' enough called after =
         on_data asked asked_by a s'
-            (calls_now (omega (arith, enough, ap (λ (c : Collecting). length c.bytes) fed_is)) called (after
-                ∙ ap (λ (cs : List Collecting). after_collecting cs s) r.after))
+        (calls_now (omega (arith, enough, ap (λ (c : Collecting). length c.bytes) fed_is)) called (after
+        ∙ ap (λ (cs : List Collecting). after_collecting cs s) r.after))
 
     pub on_asking : b ≡ true → (asked : Result Command CdbFault) → IsAskedBy this.command asked
         → (a : Actions) (s' : Counters) (new : List Collecting) (g : Collecting) (next : R2tHeader) (waiting : ℕ)
@@ -167,28 +178,39 @@ module _ (s : Counters) (at : ℕ) (x : DataOutHeader) (d : List ℕ) (can : Can
         no_call no_end after =
         let joined : List ℕ = this.bytes ++ d in
         let cs : List Collecting =
-            r.stands.front ++ (waits this.command joined next (wrap (this.requests + 1)) ∷ r.stands.back) in
+        r.stands.front ++ (waits this.command joined next (wrap (this.requests + 1)) ∷ r.stands.back) in
         let from : g ≡ asked_on (fed this d) (need_of asked) (r2t_with_for s waiting) = asked_is
-            ∙ ap (λ (c : Collecting). asked_on c (need_of asked) (r2t_with_for s waiting)) fed_is in
+        ∙ ap (λ (c : Collecting). asked_on c (need_of asked) (r2t_with_for s waiting)) fed_is in
         let next_is : r2t_for this.command (need_of asked) (length joined) this.requests
-            (r2t_with_for s waiting) ≡ next =
-                let q : Some (r2t_for this.command (need_of asked) (length joined) this.requests
-                    (r2t_with_for s waiting)) ≡ Some next =
-                        sym (ap (λ (c : Collecting). c.outstanding) from) ∙ out in cc in
+        (r2t_with_for s waiting) ≡ next =
+        let q : Some (r2t_for this.command (need_of asked) (length joined) this.requests
+        (r2t_with_for s waiting)) ≡ Some next =
+        sym (ap (λ (c : Collecting). c.outstanding) from) ∙ out in cc in
         let waits_is : g ≡ waits this.command joined next (wrap (this.requests + 1)) = from
-            ∙ ap (λ (q : R2tHeader). waits this.command joined q (wrap (this.requests + 1))) next_is in
+        ∙ ap (λ (q : R2tHeader). waits this.command joined q (wrap (this.requests + 1))) next_is in
         let new_is : new ≡ cs = inserted g new insert
-            ∙ ap (λ (c : Collecting). r.stands.front ++ (c ∷ r.stands.back)) waits_is in
+        ∙ ap (λ (c : Collecting). r.stands.front ++ (c ∷ r.stands.back)) waits_is in
         let count_is : waiting ≡ count_by shrinks_window cs = counted ∙ ap (count_by shrinks_window) here
-            ∙ count_same (waits this.command joined next (wrap (this.requests + 1))) refl in
+        ∙ count_same (waits this.command joined next (wrap (this.requests + 1))) refl in
         let full : length joined ≡ continues.request.offset + continues.request.desired_length =
-            omega (arith, is_filled this f d continues.request b continues.outstanding fed_is told full_of,
-                continues.place, continues.within, length-append this.bytes d) in
+        omega (
+          arith,
+          is_filled this f d continues.request b continues.outstanding fed_is told full_of,
+          continues.place,
+          continues.within,
+          length-append this.bytes d,
+        ) in
         on_data asked asked_by a s'
-            (asks_on full (omega (arith, short, ap (λ (c : Collecting). length c.bytes) fed_is)) next (record {
+        (asks_on full (omega (arith, short, ap (λ (c : Collecting). length c.bytes) fed_is)) next (record {
           is_next = subst (λ (q : R2tHeader). IsNext s.setting.start.lengths.burst this.command (need_of asked)
-              (length joined) this.requests q) next_is (record { number = unwrapped this.requests fits; place =
-                  refl; size = refl; tag = refl; lun = refl });
+              (length joined) this.requests q) next_is (record {
+                number = unwrapped this.requests fits;
+                place =
+                    refl;
+                size = refl;
+                tag = refl;
+                lun = refl;
+              });
           transfer = ap (λ (q : R2tHeader). q.transfer_tag) (sym next_is);
           numbers = ap (λ (q : R2tHeader). q.numbers) (sym next_is)
               ∙ ap (λ (n : ℕ). numbers_for s.stat_sn s.standing.exp_cmd_sn n) count_is;
@@ -218,10 +240,13 @@ rejected_data s s' at x d w a e found here stands not_continues on = record {
   verdict = Refused PROTOCOL_ERROR;
   judged = subst (λ (o : Option Collecting). MatchOption o (Refused PROTOCOL_ERROR ≡ Ignored) (λ c. (Continues c x d
       × (Refused PROTOCOL_ERROR ≡ Accepted))
-          ⊎ ((Continues c x d → ⊥) × (Refused PROTOCOL_ERROR ≡ Refused PROTOCOL_ERROR))))
+      ⊎ ((Continues c x d → ⊥) × (Refused PROTOCOL_ERROR ≡ Refused PROTOCOL_ERROR))))
       (sym (subst (λ (z : List Collecting). find (has_tag x.task_tag) z ≡ Some found.0) e found.2))
-      (inr (subst (λ (c : Collecting). Continues c x d
-          → ⊥) (stands_one w at here found.0 stands found.1) not_continues, refl));
+      (inr (
+        subst (λ (c : Collecting). Continues c x d
+            → ⊥) (stands_one w at here found.0 stands found.1) not_continues,
+        refl,
+      ));
   made = on;
 }
 

@@ -66,8 +66,13 @@ moved e f g k = rw (e, f, g) k
 
 abbrev logout_out : Numbers → LogoutHeader → Out
 logout_out n p = record {
-  header = LogoutResponse (record { response = if closes p then CLOSED else RECOVERY_NOT_SUPPORTED;
-      task_tag = p.task_tag; numbers = n; time_to_wait = TIME_TO_WAIT; time_to_retain = TIME_TO_RETAIN });
+  header = LogoutResponse (record {
+    response = if closes p then CLOSED else RECOVERY_NOT_SUPPORTED;
+    task_tag = p.task_tag;
+    numbers = n;
+    time_to_wait = TIME_TO_WAIT;
+    time_to_retain = TIME_TO_RETAIN;
+  });
   bytes = [];
 }
 
@@ -86,7 +91,7 @@ module _ (s : Counters) (cs : List Collecting) (came : Incoming) (immediate : Bo
       ⊎ ((exp_cmd_sn_behind immediate e ≡ wrap (e + 1)) × (takes_number Accepted came ≡ true))
   numbers_up e = subst
       (λ (t : Bool). ((exp_cmd_sn_behind immediate e ≡ e) × (t ≡ false))
-          ⊎ ((exp_cmd_sn_behind immediate e ≡ wrap (e + 1)) × (t ≡ true)))
+      ⊎ ((exp_cmd_sn_behind immediate e ≡ wrap (e + 1)) × (t ≡ true)))
       (sym numbered) (commands_of immediate e)
 
   silent_facts : IsRequestAnswered s.setting s.standing Accepted came call [] → TurnFacts s behind came Accepted call []
@@ -142,7 +147,7 @@ no_command (Some outcome) own = refl
 
 module _ (s : Counters) (b : List ℕ) (p : ManagementHeader) (d : List ℕ) (call : Option Asking)
     (judged : IsJudged s.setting s.standing (pdu b (Initiator (TaskManagementRequest p)) d) Accepted)
-        (kept : List Collecting) where
+    (kept : List Collecting) where
   abbrev mid : Counters
   mid = after_collecting kept (after_number p.immediate s)
 
@@ -151,16 +156,19 @@ module _ (s : Counters) (b : List ℕ) (p : ManagementHeader) (d : List ℕ) (ca
 
   management_facts : (response : Option ℕ) → IsManaged s.setting.units s.standing.collecting p call response kept
       → TurnFacts s (after_answer (told_by response) mid)
-          (pdu b (Initiator (TaskManagementRequest p)) d) Accepted call (told_by response)
+      (pdu b (Initiator (TaskManagementRequest p)) d) Accepted call (told_by response)
   management_facts None k =
       silent_facts s kept (pdu b (Initiator (TaskManagementRequest p)) d) p.immediate call judged (None, kept, k)
-          (λ own. no_command _ own) refl (λ own. tt)
+      (λ own. no_command _ own) refl (λ own. tt)
       (next_numbers mid, None, kept, k, refl)
   management_facts (Some response) k =
       one_facts s kept (pdu b (Initiator (TaskManagementRequest p)) d) p.immediate call judged
-          (Some response, kept, k) (λ own. no_command _ own) refl (λ own. tt)
-      (record { header = TaskManagementResponse
-          (record { response = response; task_tag = p.task_tag; numbers = next_numbers mid }); bytes = [] })
+      (Some response, kept, k) (λ own. no_command _ own) refl (λ own. tt)
+      (record {
+        header = TaskManagementResponse
+            (record { response = response; task_tag = p.task_tag; numbers = next_numbers mid });
+        bytes = [];
+      })
       (record { expects = refl; reaches = refl }) refl refl refl refl (next_numbers mid, Some response, kept, k, refl)
 
 pub nop_facts : (b : List ℕ) (p : NopOutHeader) (d : List ℕ) (s s' : Counters) (call : Option Asking) (outs : List Out)
@@ -171,9 +179,16 @@ nop_facts b p d s s' call outs judged k =
     let n = next_numbers (after_number p.immediate s) in
     moved k.no_call k.outs_are k.next_is
     (some_or_none s s.standing.collecting (pdu b (Initiator (NopOut p)) d) p.immediate None judged refl
-        (λ own. no_command _ own) refl (λ own. tt)
-    (record { header = NopIn (record { lun = p.lun; task_tag = p.task_tag; transfer_tag = NO_TRANSFER_TAG;
-        numbers = n }); bytes = take (min s.setting.start.lengths.data_segment MAX_DATA_SEGMENT_LENGTH) d })
+    (λ own. no_command _ own) refl (λ own. tt)
+    (record {
+      header = NopIn (record {
+        lun = p.lun;
+        task_tag = p.task_tag;
+        transfer_tag = NO_TRANSFER_TAG;
+        numbers = n;
+      });
+      bytes = take (min s.setting.start.lengths.data_segment MAX_DATA_SEGMENT_LENGTH) d;
+    })
     (record { expects = refl; reaches = refl }) refl refl refl refl (p.task_tag == RESERVED_TAG) (n, refl))
 
 pub managed_facts : (b : List ℕ) (p : ManagementHeader) (d : List ℕ) (s s' : Counters) (call : Option Asking)
@@ -192,9 +207,11 @@ text_facts b p d s s' call outs judged k =
     let n = next_numbers (after_number p.immediate s) in
     moved k.no_call k.outs_are k.next_is
     (one_facts s s.standing.collecting (pdu b (Initiator (TextRequest p)) d) p.immediate None judged refl
-        (λ own. no_command _ own) refl (λ own. tt)
-    (record { header = TextResponse (record { task_tag = p.task_tag; transfer_tag = NO_TRANSFER_TAG; numbers = n });
-        bytes = text_answer s.setting d })
+    (λ own. no_command _ own) refl (λ own. tt)
+    (record {
+      header = TextResponse (record { task_tag = p.task_tag; transfer_tag = NO_TRANSFER_TAG; numbers = n });
+      bytes = text_answer s.setting d;
+    })
     (record { expects = refl; reaches = refl }) refl refl refl refl (n, refl))
 
 pub logout_facts : (b : List ℕ) (p : LogoutHeader) (d : List ℕ) (s s' : Counters) (call : Option Asking) (outs : List Out)
@@ -205,5 +222,5 @@ logout_facts b p d s s' call outs judged k =
     let n = next_numbers (after_number p.immediate s) in
     moved k.no_call k.outs_are k.next_is
     (one_facts s s.standing.collecting (pdu b (Initiator (LogoutRequest p)) d) p.immediate None judged refl
-        (λ own. no_command _ own) refl (λ own. tt)
+    (λ own. no_command _ own) refl (λ own. tt)
     (logout_out n p) (record { expects = refl; reaches = refl }) refl refl refl refl (n, refl))

@@ -51,9 +51,9 @@ module _ (burst : ℕ) (p : CommandHeader) (need immediate came : ℕ) (rs : Lis
   end_is r e =
       let w = last_is rs r e in
       let q = requested (length w.0) r
-          (subst (λ (z : List R2tHeader). slice_get z (length w.0) ≡ Some r) (sym w.1) (get_last w.0 r)) in
+      (subst (λ (z : List R2tHeader). slice_get z (length w.0) ≡ Some r) (sym w.1) (get_last w.0 r)) in
       let front : take (length w.0) rs ≡ w.0 = ap (take (length w.0)) w.1
-          ∙ take-append-le (length w.0) w.0 (r ∷ []) (omega arith) ∙ take_all (length w.0) w.0 (omega arith) in
+      ∙ take-append-le (length w.0) w.0 (r ∷ []) (omega arith) ∙ take_all (length w.0) w.0 (omega arith) in
       omega (arith, q.place, ap sizes front, ap sizes w.1, sizes_more w.0 r)
 
   -- they do not go beyond the need
@@ -61,7 +61,7 @@ module _ (burst : ℕ) (p : CommandHeader) (need immediate came : ℕ) (rs : Lis
   within_need r e =
       let w = last_is rs r e in
       let q = requested (length w.0) r
-          (subst (λ (z : List R2tHeader). slice_get z (length w.0) ≡ Some r) (sym w.1) (get_last w.0 r)) in
+      (subst (λ (z : List R2tHeader). slice_get z (length w.0) ≡ Some r) (sym w.1) (get_last w.0 r)) in
       omega (arith, end_is r e, q.size, q.some)
 
   -- more data
@@ -69,8 +69,15 @@ module _ (burst : ℕ) (p : CommandHeader) (need immediate came : ℕ) (rs : Lis
       → IsRequest burst p need immediate now rs i r
   more_data now less i r e =
       let q = requested i r e in
-      record { number = q.number; place = q.place; size = q.size; some = q.some; turn = omega (arith, q.turn, less);
-          tag = q.tag; lun = q.lun }
+      record {
+        number = q.number;
+        place = q.place;
+        size = q.size;
+        some = q.some;
+        turn = omega (arith, q.turn, less);
+        tag = q.tag;
+        lun = q.lun;
+      }
 
   -- one R2T more
   pub more_asked : (n : R2tHeader) → 0 < burst → came ≡ asked_to immediate rs → came < need
@@ -81,12 +88,19 @@ module _ (burst : ℕ) (p : CommandHeader) (need immediate came : ℕ) (rs : Lis
     | inl w ↦ (
         let q = requested i r w in
         let same : take i (rs ++ n ∷ []) ≡ take i rs =
-            take-append-le i rs (n ∷ []) (omega (arith, slice_get_within rs i r w)) in
-        record { number = q.number; place = q.place ∙ ap (λ (z : List R2tHeader). immediate + sizes z) (sym same);
-            size = q.size; some = q.some; turn = q.turn; tag = q.tag; lun = q.lun })
+        take-append-le i rs (n ∷ []) (omega (arith, slice_get_within rs i r w)) in
+        record {
+          number = q.number;
+          place = q.place ∙ ap (λ (z : List R2tHeader). immediate + sizes z) (sym same);
+          size = q.size;
+          some = q.some;
+          turn = q.turn;
+          tag = q.tag;
+          lun = q.lun;
+        })
     | inr w ↦ (
         let front : take i (rs ++ n ∷ []) ≡ rs = take-append-le i rs (n ∷ []) (omega (arith, w.0))
-            ∙ take_all i rs (omega (arith, w.0)) in
+        ∙ take_all i rs (omega (arith, w.0)) in
         subst (λ (z : R2tHeader). IsRequest burst p need immediate came (rs ++ n ∷ []) i z) (sym w.1) (record {
           number = next.number ∙ ap wrap (sym w.0);
           place = next.place ∙ all ∙ ap (λ (z : List R2tHeader). immediate + sizes z) (sym front);

@@ -37,7 +37,7 @@ module _ (numbers : Numbers) (tag : ℕ) (l : Lengths) (bytes : List ℕ) where
   abbrev pub QueuesTo : Option (List ℕ) → Option (List ℕ) → ℕ → ℕ → OutboxValue → OutboxValue → ℕ → ℕ → Type 0
   QueuesTo held held' before now o o' k offset =
       (gone : List Out) × (most : ℕ) × (length bytes - offset ≤ most)
-          × (gone ++ from most k offset ≡ from (length bytes) 0 0)
+      × (gone ++ from most k offset ≡ from (length bytes) 0 0)
       × IsQueued held held' before now o o' (bytes_of gone)
 
   pub queues_none : (held : Option (List ℕ)) (n : ℕ) (o : OutboxValue) → QueuesTo held held n n o o 0 0
@@ -72,4 +72,4 @@ module _ (numbers : Numbers) (tag : ℕ) (l : Lengths) (bytes : List ℕ) where
   queues_all held held' before now o o' k offset none c =
       subst (λ (z : List Out). IsQueued held held' before now o o' (bytes_of z))
       (sym (append-nil c.0) ∙ ap (λ (z : List Out). c.0 ++ z) (sym (no_next numbers tag l bytes c.1 k offset none))
-          ∙ c.3) c.4
+      ∙ c.3) c.4

@@ -46,13 +46,26 @@ use Rattle.session.proofs.Exchanges.{all_more, PhaseStands, lawful_now, More, on
 
 spells_more : (is : List Incoming) (b bhs front : List ℕ) (h : Header) (d : List ℕ) → Spells is b → IsPdu front h d
     → take BHS_LENGTH front ≡ bhs → Spells (is ++ pdu bhs h d ∷ []) (b ++ front)
-spells_more [] b bhs front h d k p e =
-    ([], record { front = front; cut = ap (λ (z : List ℕ). z ++ front) k
-        ∙ sym (append-nil front); is_pdu = p; bhs_is = e }, refl)
+spells_more [] b bhs front h d k p e = (
+  [],
+  record {
+    front = front;
+    cut = ap (λ (z : List ℕ). z ++ front) k
+        ∙ sym (append-nil front);
+    is_pdu = p;
+    bhs_is = e;
+  },
+  refl,
+)
 spells_more (pdu bhs' h' d' ∷ is) b bhs front h d k p e = (
   k.0 ++ front,
-  record { front = k.1.front; cut = ap (λ (z : List ℕ). z ++ front) k.1.cut
-      ∙ append_assoc k.1.front k.0 front; is_pdu = k.1.is_pdu; bhs_is = k.1.bhs_is },
+  record {
+    front = k.1.front;
+    cut = ap (λ (z : List ℕ). z ++ front) k.1.cut
+        ∙ append_assoc k.1.front k.0 front;
+    is_pdu = k.1.is_pdu;
+    bhs_is = k.1.bhs_is;
+  },
   spells_more is k.0 bhs front h d k.2 p e,
 )
 spells_more (faulty f bhs' ∷ is) b bhs front h d k p e = spells_more is b bhs front h d k p e
@@ -86,13 +99,13 @@ module _ {T : Type 0} (leads : T → Asking → T → Type 0) where
       → Leads leads (asked (es ++ record { came = came; call = call; sent = outs; end = end } ∷ [])) x y
   led_by es x m y came None outs end k l =
       let same : asked (es ++ record { came = came; call = None; sent = outs; end = end } ∷ []) ≡ asked es =
-          filter_map-append (λ (e : Exchange). e.call) es (record { came = came; call = None; sent = outs; end = end }
-              ∷ []) ∙ append-nil (asked es) in
+      filter_map-append (λ (e : Exchange). e.call) es (record { came = came; call = None; sent = outs; end = end }
+      ∷ []) ∙ append-nil (asked es) in
       subst₂ (λ (cs : List Asking) (z : T). Leads leads cs x z) (sym same) (sym l) k
   led_by es x m y came (Some c) outs end k l =
       let more : asked (es ++ record { came = came; call = Some c; sent = outs; end = end } ∷ []) ≡ asked es ++ c
-          ∷ [] = filter_map-append (λ (e : Exchange). e.call) es
-              (record { came = came; call = Some c; sent = outs; end = end } ∷ []) in
+      ∷ [] = filter_map-append (λ (e : Exchange). e.call) es
+      (record { came = came; call = Some c; sent = outs; end = end } ∷ []) in
       subst (λ (cs : List Asking). Leads leads cs x y) (sym more) (leads_more (asked es) x m y c k l)
 
   led_more : (es : List Exchange) (x m y : T) (e : Exchange) → Leads leads (asked es) x m → IsLed leads e.call m y
@@ -207,12 +220,16 @@ module _ {T : Type 0} (leads : T → Asking → T → Type 0) (units : ℕ) (me 
       → (Appends held held' bytes → IsPassed leads units me opening left left' held held' x x' wanted)
       → (AppendsFront held held' bytes → IsPassed leads units me opening left left' held held' x x' OutputFailed)
       → IsClosed held held' before now bytes wanted end → Ended end
-  closed bytes wanted end other all cut (inl w) =
-      (subst (IsPassed leads units me opening left left' held held' x x') (sym w.0)
-          (all w.1), record { rises = λ f. absurd (other (sym w.0 ∙ f)); stays = λ _. w.2 })
-  closed bytes wanted end other all cut (inr w) =
-      (subst (IsPassed leads units me opening left left' held held' x x') (sym w.0)
-          (cut w.1), record { rises = λ f. w.2; stays = λ o. absurd (o w.0) })
+  closed bytes wanted end other all cut (inl w) = (
+    subst (IsPassed leads units me opening left left' held held' x x') (sym w.0)
+        (all w.1),
+    record { rises = λ f. absurd (other (sym w.0 ∙ f)); stays = λ _. w.2 },
+  )
+  closed bytes wanted end other all cut (inr w) = (
+    subst (IsPassed leads units me opening left left' held held' x x') (sym w.0)
+        (cut w.1),
+    record { rises = λ f. w.2; stays = λ o. absurd (o w.0) },
+  )
 
 module _ {T : Type 0} (leads : T → Asking → T → Type 0) (units : ℕ) (me : Identity) (opening : Opening)
     (left left' held held' : Option (List ℕ)) (before now : ℕ) (o : OutboxValue) (x x' : T) (p : PhasesValue)
@@ -267,7 +284,7 @@ module _ {T : Type 0} (leads : T → Asking → T → Type 0) (units : ℕ) (me 
     -- the session ends with it
     module _ (spelled rest : List ℕ) (spells : Spells (incoming so_far ++ came ∷ []) spelled)
         (read : Consumes left left' (spelled ++ rest)) (stands : StandsBehind came rest) (held3 : Option (List ℕ))
-            (now3 : ℕ) where
+        (now3 : ℕ) where
       ended : (end : End)
           → EndsBy all_now rest (length spelled + length rest) (IsAtEnd left') end
           → Written end held held3 all_now
@@ -291,9 +308,9 @@ module _ {T : Type 0} (leads : T → Asking → T → Type 0) (units : ℕ) (me 
           → Ended leads units me opening left left' held held3 before now3 x x'' result
       ends_now end result e one close =
           closed leads units me opening left left' held held3 before now3 x x''
-              (bytes_of (outgoing all_now)) end result (not_output end one)
+          (bytes_of (outgoing all_now)) end result (not_output end one)
           (λ all. ended end (ends_by end all_now rest (length spelled + length rest) (IsAtEnd left') one
-              (subst (EndsWith all_now rest) e (last_turn rest stands))) (written_all end held held3 all_now one all))
+          (subst (EndsWith all_now rest) e (last_turn rest stands))) (written_all end held held3 all_now one all))
           (λ cut. ended OutputFailed (inr (wanted, last_turn rest stands)) cut)
           (close held before (bytes_of (outgoing all_now)) out_now)
 
@@ -313,8 +330,14 @@ module _ {T : Type 0} (leads : T → Asking → T → Type 0) (units : ℕ) (me 
   read_now n = subst (Consumes left left') (regroup r.spelled waiting n) r.read
 
   many_now : (n : ℕ) → reads ≤ length (r.spelled ++ take n waiting) + length (drop n waiting)
-  many_now n = omega (arith, r.many, length-append r.spelled (take n waiting), ap length
-      (take-append-drop n waiting), length-append (take n waiting) (drop n waiting))
+  many_now n = omega (
+    arith,
+    r.many,
+    length-append r.spelled (take n waiting),
+    ap length
+        (take-append-drop n waiting),
+    length-append (take n waiting) (drop n waiting),
+  )
 
   module _ (p' : PhasesValue) (x'' : T) (held'' : Option (List ℕ)) (now' : ℕ) (o' : OutboxValue) (bhs : List ℕ) (h : Header)
       (d : List ℕ) (n : ℕ) (bhs_is : bhs ≡ take BHS_LENGTH waiting) (within : n ≤ length waiting)
@@ -332,8 +355,8 @@ module _ {T : Type 0} (leads : T → Asking → T → Type 0) (units : ℕ) (me 
               (all_more (λ (e : Exchange). e.end ≡ None) so_far t.exchange r.none_ends (sym t.wanted_is));
           spells = subst (λ (es : List Exchange). Spells (incoming es) (r.spelled ++ take n waiting)) back
               (subst (λ (is : List Incoming). Spells is (r.spelled ++ take n waiting))
-                  (sym (came_now p' x'' held'' now' o' (pdu bhs h d) None t))
-                      (spells_now n bhs h d bhs_is within spelled));
+              (sym (came_now p' x'' held'' now' o' (pdu bhs h d) None t))
+              (spells_now n bhs h d bhs_is within spelled));
           read = read_now n;
           written = subst (λ (es : List Exchange). IsOut held held'' before now' o' (bytes_of (outgoing es))) back
               (out_now p' x'' held'' now' o' (pdu bhs h d) None t);
@@ -348,7 +371,7 @@ module _ {T : Type 0} (leads : T → Asking → T → Type 0) (units : ℕ) (me 
         → Ended leads units me opening left left' held held3 before now3 x x'' result
     pdu_ends held3 now3 end result t close =
         ends_now p' x'' held'' now' o' (pdu bhs h d) (Some end) t (r.spelled ++ take n waiting) (drop n waiting)
-            (spells_now n bhs h d bhs_is within spelled) (read_now n) tt held3 now3
+        (spells_now n bhs h d bhs_is within spelled) (read_now n) tt held3 now3
         end result refl (one_of_three p' x'' held'' now' o' (pdu bhs h d) (Some end) t end refl) close
 
     pub pdu_ends_not_by_input : (held3 : Option (List ℕ)) (now3 : ℕ) (end result : End)
@@ -356,7 +379,7 @@ module _ {T : Type 0} (leads : T → Asking → T → Type 0) (units : ℕ) (me 
         → IsClosedAs held'' held3 now' now3 o' end result → result ≡ InputFailed → ⊥
     pdu_ends_not_by_input held3 now3 end result t close =
         input_stays p' x'' held'' now' o' (pdu bhs h d) (Some end) t held3 now3 end result
-            (one_of_three p' x'' held'' now' o' (pdu bhs h d) (Some end) t end refl) close
+        (one_of_three p' x'' held'' now' o' (pdu bhs h d) (Some end) t end refl) close
 
   pub fault_ends : (p' : PhasesValue) (held'' held3 : Option (List ℕ)) (now' now3 : ℕ) (o' : OutboxValue)
       (bhs : List ℕ) (f : PduFault) (result : End)
@@ -366,9 +389,9 @@ module _ {T : Type 0} (leads : T → Asking → T → Type 0) (units : ℕ) (me 
       → Ended leads units me opening left left' held held3 before now3 x x' result
   fault_ends p' held'' held3 now' now3 o' bhs f result bhs_is long stands t close =
       ends_now p' x' held'' now' o' (faulty f bhs) (Some Protocol) t r.spelled waiting
-          (spells_fault (incoming so_far) r.spelled bhs f r.spells) r.read
+      (spells_fault (incoming so_far) r.spelled bhs f r.spells) r.read
       (stands, omega (arith, ap length bhs_is, long, length-take BHS_LENGTH waiting), bhs_is) held3 now3 Protocol
-          result refl (inl refl) close
+      result refl (inl refl) close
 
   pub fault_ends_not_by_input : (p' : PhasesValue) (held'' held3 : Option (List ℕ)) (now' now3 : ℕ) (o' : OutboxValue)
       (bhs : List ℕ) (f : PduFault) (result : End)
@@ -427,9 +450,13 @@ module _ {T : Type 0} (leads : T → Asking → T → Type 0) (units : ℕ) (me 
 
   pub sink_failed : o.failed ≡ true → Ended leads units me opening left left' held held' before now x x' OutputFailed
   sink_failed failed =
-      let b = broke o.failed held held' before now o.waiting (bytes_of (outgoing so_far)) failed r.written in
-      (stops_here OutputFailed left' held' waiting r.read (inl r.none_ends) b.0, record { rises = λ _. b.1;
-          stays = λ other. absurd (other refl) })
+      let b = broke o.failed held held' before now o.waiting (bytes_of (outgoing so_far)) failed r.written in (
+        stops_here OutputFailed left' held' waiting r.read (inl r.none_ends) b.0,
+        record {
+          rises = λ _. b.1;
+          stays = λ other. absurd (other refl);
+        },
+      )
 
   module _ (empty : o.waiting ≡ []) (serves : o.failed ≡ false) where
     all_out : Appends held held' (bytes_of (outgoing so_far)) × (now ≡ before)
@@ -442,9 +469,9 @@ module _ {T : Type 0} (leads : T → Asking → T → Type 0) (units : ℕ) (me 
         let no_more : f.more ≡ [] = nil_of f.more (f.count ∙ nothing) in (
           stops_here EndOfInput left'' held' waiting
               (subst (Consumes left left'')
-                  (ap (λ (z : List ℕ). r.spelled ++ z) (ap (λ (m : List ℕ). waiting ++ m) no_more
-                      ∙ append-nil waiting)) (subst (Consumes left left'') (append_assoc r.spelled waiting f.more)
-                          (Consumes-trans _ _ _ _ _ r.read f.read)))
+              (ap (λ (z : List ℕ). r.spelled ++ z) (ap (λ (m : List ℕ). waiting ++ m) no_more
+              ∙ append-nil waiting)) (subst (Consumes left left'') (append_assoc r.spelled waiting f.more)
+              (Consumes-trans _ _ _ _ _ r.read f.read)))
               (r.none_ends, inl (f.end nothing, none)) all_out.0,
           record { rises = λ (e : EndOfInput ≡ OutputFailed). absurd (cc); stays = λ _. all_out.1 },
         )
@@ -461,8 +488,8 @@ module _ {T : Type 0} (leads : T → Asking → T → Type 0) (units : ℕ) (me 
       → Ended leads units me opening left left' held held'' before now' x x' result
   taken_all held'' now' result many close =
       closed leads units me opening left left' held held'' before now' x x'
-          (bytes_of (outgoing so_far)) EndOfInput result
-              (λ (e : EndOfInput ≡ OutputFailed). let never : ⊥ = cc in never)
+      (bytes_of (outgoing so_far)) EndOfInput result
+      (λ (e : EndOfInput ≡ OutputFailed). let never : ⊥ = cc in never)
       (λ all. stops_here EndOfInput left' held'' waiting r.read (r.none_ends, inr (omega (arith, many, r.many))) all)
       (λ cut. stops_here OutputFailed left' held'' waiting r.read (inl r.none_ends) cut)
       (close held before (bytes_of (outgoing so_far)) r.written)
@@ -488,7 +515,7 @@ failed_so {before} {here} {now} same rises =
 
 pub starts : {T : Type 0} (leads : T → Asking → T
     → Type 0) (units : ℕ) (me : Identity) (opening : Opening) (left held : Option (List ℕ)) (n : ℕ) (o : OutboxValue)
-        (x : T) (p : PhasesValue) (waiting : List ℕ)
+    (x : T) (p : PhasesValue) (waiting : List ℕ)
     → PhaseStands units me opening (record { logins = []; turns = [] }) p.login p.counters
     → o ≡ record { waiting = []; failed = false } → waiting ≡ []
     → Running leads units me opening left left held held n n o x x p waiting 0
@@ -506,5 +533,7 @@ starts leads units me opening left held n o x p waiting stands o_is empty = reco
 
 -- fewer bytes than a header are no PDU
 pub too_short : (b : List ℕ) → length b < BHS_LENGTH → NoneWhole b
-too_short b short = record { no_pdu = λ n h d p within. absurd (omega (arith, p.long, length-take-le n b within));
-    no_fault = λ f stands. short }
+too_short b short = record {
+  no_pdu = λ n h d p within. absurd (omega (arith, p.long, length-take-le n b within));
+  no_fault = λ f stands. short;
+}

@@ -72,8 +72,8 @@ module _ (numbers : Numbers) (tag : ℕ) (l : Lengths) (bytes : List ℕ) where
   no_next zero k offset none = refl
   no_next (suc most) k offset none =
       ap (λ (t : Bool). cons_if t (data_in_at numbers tag l k offset bytes)
-          (from most (k + 1) (offset + size offset)))
-              (not_less (nat_lt offset (length bytes)) offset (length bytes) refl none)
+      (from most (k + 1) (offset + size offset)))
+      (not_less (nat_lt offset (length bytes)) offset (length bytes) refl none)
 
 module _ (e : Standing) (tag : ℕ) (l : Lengths) (bytes : List ℕ) (r : ResponseHeader) (sense : List ℕ) where
   abbrev some_of : ℕ → ℕ → ℕ → List Out
@@ -98,7 +98,7 @@ module _ (e : Standing) (tag : ℕ) (l : Lengths) (bytes : List ℕ) (r : Respon
   outs_windows zero k offset w = (w, tt)
   outs_windows (suc most) k offset w =
       windows_if (nat_lt offset (length bytes)) k offset _ w
-          (outs_windows most (k + 1) (offset + segment_size l offset (length bytes)) w)
+      (outs_windows most (k + 1) (offset + segment_size l offset (length bytes)) w)
 
   statuses_if : (t : Bool) (k offset : ℕ) (xs : List Out)
       → status_numbers (xs ++ last_of ∷ []) ≡ r.numbers.stat_sn ∷ []
@@ -110,7 +110,7 @@ module _ (e : Standing) (tag : ℕ) (l : Lengths) (bytes : List ℕ) (r : Respon
   outs_statuses zero k offset = refl
   outs_statuses (suc most) k offset =
       statuses_if (nat_lt offset (length bytes)) k offset _
-          (outs_statuses most (k + 1) (offset + segment_size l offset (length bytes)))
+      (outs_statuses most (k + 1) (offset + segment_size l offset (length bytes)))
 
   responses_if : (t : Bool) (k offset : ℕ) (xs : List Out) → responses (xs ++ last_of ∷ []) ≡ (r, sense) ∷ []
       → responses (cons_if t (at k offset) xs ++ last_of ∷ []) ≡ (r, sense) ∷ []
@@ -121,7 +121,7 @@ module _ (e : Standing) (tag : ℕ) (l : Lengths) (bytes : List ℕ) (r : Respon
   outs_responses zero k offset = refl
   outs_responses (suc most) k offset =
       responses_if (nat_lt offset (length bytes)) k offset _
-          (outs_responses most (k + 1) (offset + segment_size l offset (length bytes)))
+      (outs_responses most (k + 1) (offset + segment_size l offset (length bytes)))
 
   front_if : (t : Bool) (k offset : ℕ) (xs : List Out) → responses xs ≡ [] → responses (cons_if t (at k offset) xs) ≡ []
   front_if true k offset xs rest = rest
@@ -131,7 +131,7 @@ module _ (e : Standing) (tag : ℕ) (l : Lengths) (bytes : List ℕ) (r : Respon
   outs_front zero k offset = refl
   outs_front (suc most) k offset =
       front_if (nat_lt offset (length bytes)) k offset _
-          (outs_front most (k + 1) (offset + segment_size l offset (length bytes)))
+      (outs_front most (k + 1) (offset + segment_size l offset (length bytes)))
 
   count_if : (t : Bool) (k offset : ℕ) (xs : List Out) → length xs ≡ length (data_ins (xs ++ last_of ∷ []))
       → length (cons_if t (at k offset) xs) ≡ length (data_ins (cons_if t (at k offset) xs ++ last_of ∷ []))
@@ -142,7 +142,7 @@ module _ (e : Standing) (tag : ℕ) (l : Lengths) (bytes : List ℕ) (r : Respon
   outs_count zero k offset = refl
   outs_count (suc most) k offset =
       count_if (nat_lt offset (length bytes)) k offset _
-          (outs_count most (k + 1) (offset + segment_size l offset (length bytes)))
+      (outs_count most (k + 1) (offset + segment_size l offset (length bytes)))
 
   kinds_if : (t : Bool) (k offset : ℕ) (xs : List Out)
       → AllByRecursion (λ o. IsOfCommand o.header) (xs ++ last_of ∷ [])
@@ -154,7 +154,7 @@ module _ (e : Standing) (tag : ℕ) (l : Lengths) (bytes : List ℕ) (r : Respon
   outs_kinds zero k offset = (tt, tt)
   outs_kinds (suc most) k offset =
       kinds_if (nat_lt offset (length bytes)) k offset _
-          (outs_kinds most (k + 1) (offset + segment_size l offset (length bytes)))
+      (outs_kinds most (k + 1) (offset + segment_size l offset (length bytes)))
 
   r2ts_if : (t : Bool) (k offset : ℕ) (xs : List Out) → r2ts_of (xs ++ last_of ∷ []) ≡ []
       → r2ts_of (cons_if t (at k offset) xs ++ last_of ∷ []) ≡ []
@@ -165,7 +165,7 @@ module _ (e : Standing) (tag : ℕ) (l : Lengths) (bytes : List ℕ) (r : Respon
   outs_r2ts zero k offset = refl
   outs_r2ts (suc most) k offset =
       r2ts_if (nat_lt offset (length bytes)) k offset _
-          (outs_r2ts most (k + 1) (offset + segment_size l offset (length bytes)))
+      (outs_r2ts most (k + 1) (offset + segment_size l offset (length bytes)))
 
   ended_if : (t : Bool) (k offset : ℕ) (xs : List Out)
       → list_any (λ o. is_response o.header) (xs ++ last_of ∷ []) ≡ true
@@ -177,7 +177,7 @@ module _ (e : Standing) (tag : ℕ) (l : Lengths) (bytes : List ℕ) (r : Respon
   outs_ended zero k offset = refl
   outs_ended (suc most) k offset =
       ended_if (nat_lt offset (length bytes)) k offset _
-          (outs_ended most (k + 1) (offset + segment_size l offset (length bytes)))
+      (outs_ended most (k + 1) (offset + segment_size l offset (length bytes)))
 
 -- ---- they tile the data
 
@@ -216,15 +216,24 @@ drop_all (suc n) (x ∷ xs) h = drop_all n xs (omega (arith, h))
 
 module _ (e : Standing) (tag : ℕ) (l : Lengths) (bytes : List ℕ) (r : ResponseHeader) (sense : List ℕ) where
   abbrev head : ℕ → ℕ → Segment
-  head k offset = ((record { last = segment_size l offset (length bytes) == left_of_run l offset (length bytes);
-      task_tag = tag; transfer_tag = NO_TRANSFER_TAG; numbers = numbers_at 0 e; data_sn = k; offset = offset }), take
-          (segment_size l offset (length bytes)) (drop offset bytes))
+  head k offset = (
+    (record {
+      last = segment_size l offset (length bytes) == left_of_run l offset (length bytes);
+      task_tag = tag;
+      transfer_tag = NO_TRANSFER_TAG;
+      numbers = numbers_at 0 e;
+      data_sn = k;
+      offset = offset;
+    }),
+    take
+        (segment_size l offset (length bytes)) (drop offset bytes),
+  )
 
   head_length : (offset : ℕ) → offset < length bytes
       → length (take (segment_size l offset (length bytes)) (drop offset bytes)) ≡ segment_size l offset (length bytes)
   head_length offset more =
       length-take-le (segment_size l offset (length bytes)) (drop offset bytes)
-          (omega (arith, length-drop offset bytes, size_within l offset (length bytes) more))
+      (omega (arith, length-drop offset bytes, size_within l offset (length bytes) more))
 
   the_head : (k offset : ℕ) (segments : List Segment) → offset < length bytes
       → IsSegmentFrom l tag (length bytes) k offset segments 0 (head k offset).0 (head k offset).1
@@ -235,9 +244,12 @@ module _ (e : Standing) (tag : ℕ) (l : Lengths) (bytes : List ℕ) (r : Respon
         place = let e : offset ≡ offset + 0 = omega arith in e;
         some = omega (arith, long, size_some l offset (length bytes) more);
         size = long;
-        last = (λ t. long ∙ eqb-true (segment_size l offset (length bytes))
-            (left_of_run l offset (length bytes)) t, λ h. eq-eqb (segment_size l offset (length bytes))
-                (left_of_run l offset (length bytes)) (sym long ∙ h));
+        last = (
+          λ t. long ∙ eqb-true (segment_size l offset (length bytes))
+              (left_of_run l offset (length bytes)) t,
+          λ h. eq-eqb (segment_size l offset (length bytes))
+              (left_of_run l offset (length bytes)) (sym long ∙ h),
+        );
         tag_is = refl;
         no_transfer = refl;
         no_status = refl;
@@ -264,11 +276,11 @@ module _ (e : Standing) (tag : ℕ) (l : Lengths) (bytes : List ℕ) (r : Respon
   segment_at k offset segments more rest zero s f =
       let same : head k offset ≡ s = cc in
       subst (λ (z : Segment). IsSegmentFrom l tag (length bytes) k offset (head k offset ∷ segments) 0 z.0 z.1) same
-          (the_head k offset (head k offset ∷ segments) more)
+      (the_head k offset (head k offset ∷ segments) more)
   segment_at k offset segments more rest (suc j) s f =
       let there : slice_get segments j ≡ Some s = f in
       moved_on (head k offset) k offset (segment_size l offset (length bytes)) segments j s (head_length offset more)
-          (rest.each j s there)
+      (rest.each j s there)
 
   one_more : (k offset : ℕ) (segments : List Segment) → offset < length bytes
       → TilesFrom l tag bytes (k + 1) (offset + segment_size l offset (length bytes)) segments
@@ -276,7 +288,7 @@ module _ (e : Standing) (tag : ℕ) (l : Lengths) (bytes : List ℕ) (r : Respon
   one_more k offset segments more rest = record {
     joined = ap (λ (z : List ℕ). take (segment_size l offset (length bytes)) (drop offset bytes) ++ z) (rest.joined
         ∙ sym (drop-drop (segment_size l offset (length bytes)) offset bytes))
-            ∙ take-append-drop (segment_size l offset (length bytes)) (drop offset bytes);
+        ∙ take-append-drop (segment_size l offset (length bytes)) (drop offset bytes);
     each = segment_at k offset segments more rest;
   }
 
@@ -285,9 +297,9 @@ module _ (e : Standing) (tag : ℕ) (l : Lengths) (bytes : List ℕ) (r : Respon
 
   tiles_if : (t : Bool) (k offset : ℕ) (xs : List Out) → nat_lt offset (length bytes) ≡ t
       → TilesFrom l tag bytes (k + 1) (offset + segment_size l offset (length bytes))
-          (data_ins (xs ++ last_of e tag l bytes r sense ∷ []))
+      (data_ins (xs ++ last_of e tag l bytes r sense ∷ []))
       → TilesFrom l tag bytes k offset
-          (data_ins (cons_if t (at e tag l bytes r sense k offset) xs ++ last_of e tag l bytes r sense ∷ []))
+      (data_ins (cons_if t (at e tag l bytes r sense k offset) xs ++ last_of e tag l bytes r sense ∷ []))
   tiles_if true k offset xs f rest =
       one_more k offset (data_ins (xs ++ last_of e tag l bytes r sense ∷ [])) (ltb-true offset (length bytes) f) rest
   tiles_if false k offset xs f rest = none_more k offset (at_least offset (length bytes) f)
@@ -297,9 +309,9 @@ module _ (e : Standing) (tag : ℕ) (l : Lengths) (bytes : List ℕ) (r : Respon
   tiled_from zero k offset enough = none_more k offset (omega (arith, enough))
   tiled_from (suc most) k offset enough =
       tiles_if (nat_lt offset (length bytes)) k offset
-          (some_of e tag l bytes r sense most (k + 1) (offset + segment_size l offset (length bytes))) refl
+      (some_of e tag l bytes r sense most (k + 1) (offset + segment_size l offset (length bytes))) refl
       (tiled_from most (k + 1) (offset + segment_size l offset (length bytes))
-          (fewer l (nat_lt offset (length bytes)) offset (length bytes) most refl enough))
+      (fewer l (nat_lt offset (length bytes)) offset (length bytes) most refl enough))
 
   pub outs_tiled : (p : CommandHeader) → p.task_tag ≡ tag
       → Tiles l p (data_ins (outs_of e tag l bytes r sense (length bytes) 0 0)) bytes

@@ -77,10 +77,10 @@ gathered_more : (k : Task) (u : Turn)
 gathered_more k u =
     ap (λ (xs : List (DataOutHeader × List ℕ)). k.segment ++ flat_map (λ x. x.1) xs) (data_outs_more k.own u)
     ∙ ap (λ (b : List ℕ). k.segment ++ b)
-        (flat_map-append (λ (x : DataOutHeader × List ℕ). x.1) (data_outs k.own)
-            (cons_option (data_out_with u.came) []))
+    (flat_map-append (λ (x : DataOutHeader × List ℕ). x.1) (data_outs k.own)
+    (cons_option (data_out_with u.came) []))
     ∙ sym (append_assoc k.segment (flat_map (λ x. x.1) (data_outs k.own))
-        (flat_map (λ x. x.1) (cons_option (data_out_with u.came) [])))
+    (flat_map (λ x. x.1) (cons_option (data_out_with u.came) [])))
 
 -- what is known of a task that has not ended
 pub record IsOpen (burst : ℕ) (k : Task) (asked : Result Command CdbFault) : Type 0 where
@@ -100,7 +100,7 @@ pub open_of : (burst : ℕ) (k : Task) → has_ended k ≡ false → (right : Is
 open_of burst k e right =
     let w = waiting_of k.command right.asked (length k.segment) (gathered k) (r2ts k.own) (command_calls k.own)
     (subst (λ (b : Bool). HasCalls k.command right.asked (length k.segment) (gathered k) (r2ts k.own) b
-        (command_calls k.own)) e right.right.outcome) in
+    (command_calls k.own)) e right.right.outcome) in
     record { no_calls = w.0; requested = right.right.requested; uncalled = w.1 }
 
 -- ---- the touched task with one turn more
@@ -111,7 +111,7 @@ module _ (burst : ℕ) (k : Task) (open_task : has_ended k ≡ false) (u : Turn)
 
   right_now : (asked : Result Command CdbFault) → Means k.command.cdb asked
       → IsCollected burst k.command asked (length k.segment) (gathered k ++ bytes_in) (r2ts k.own ++ r2ts_of u.sent)
-          (ends u || false)
+      (ends u || false)
       (command_calls k.own ++ cons_option (command_call u) [])
       → IsRightTask burst (with_turn k u)
   right_now asked means right = record {
@@ -124,8 +124,13 @@ module _ (burst : ℕ) (k : Task) (open_task : has_ended k ≡ false) (u : Turn)
       → gathered k ++ bytes_in ≡ bytes
       → wrap (length (data_outs (behind_last sends_r2t (k.own ++ u ∷ [])))) ≡ n → ends u ≡ false
       → cons_option (collecting_of (with_turn k u)) []
-      ≡ record { command = k.command; bytes = bytes; outstanding = last_or None rs; requests = wrap (length rs);
-          data_sn = n } ∷ []
+      ≡ record {
+        command = k.command;
+        bytes = bytes;
+        outstanding = last_or None rs;
+        requests = wrap (length rs);
+        data_sn = n;
+      } ∷ []
   collected_is rs bytes n e f g h = rw (ended_more k.own u, open_task, h, r2ts_more k.own u, e, gathered_more k u, f, g) refl
 
   ended_is : ends u ≡ true → cons_option (collecting_of (with_turn k u)) [] ≡ []
@@ -192,46 +197,66 @@ module _ (burst : ℕ) (some : 0 < burst) (k : Task) (open_task : has_ended k �
 
   fed_filling : length joined < asked_to imm (r2ts k.own)
       → Step (data_turn None [])
-          (record { command = k.command; bytes = joined; outstanding = last_or None (r2ts k.own);
-              requests = wrap (length (r2ts k.own)); data_sn =
-                  wrap (length (data_outs (behind_last sends_r2t k.own)) + 1) } ∷ [])
+      (record {
+        command = k.command;
+        bytes = joined;
+        outstanding = last_or None (r2ts k.own);
+        requests = wrap (length (r2ts k.own));
+        data_sn =
+            wrap (length (data_outs (behind_last sends_r2t k.own)) + 1);
+      } ∷ [])
   fed_filling short =
       let t : Turn = data_turn None [] in (
         right_now burst k open_task t right.asked right.means
             (rw (append-nil (r2ts k.own), append-nil d, append-nil (command_calls k.own), known.no_calls) (record {
-          requested = requested_now;
-          outcome = record { collects = known.uncalled.collects; within = in_range; waits = λ e. short };
-        })),
+              requested = requested_now;
+              outcome = record { collects = known.uncalled.collects; within = in_range; waits = λ e. short };
+            })),
         collected_is burst k open_task t (r2ts k.own) joined
             (wrap (length (data_outs (behind_last sends_r2t k.own)) + 1)) (append-nil (r2ts k.own))
-                (ap (λ (z : List ℕ). gathered k ++ z) (append-nil d))
+            (ap (λ (z : List ℕ). gathered k ++ z) (append-nil d))
             (ap (λ (us : List Turn). wrap (length (data_outs us))) (behind_more k.own t)
-                ∙ ap (λ (z : List (DataOutHeader × List ℕ)). wrap (length z))
-                    (data_outs_more (behind_last sends_r2t k.own) t)
-                        ∙ ap wrap (length-append (data_outs (behind_last sends_r2t k.own)) ((x, d) ∷ []))) refl,
+            ∙ ap (λ (z : List (DataOutHeader × List ℕ)). wrap (length z))
+            (data_outs_more (behind_last sends_r2t k.own) t)
+            ∙ ap wrap (length-append (data_outs (behind_last sends_r2t k.own)) ((x, d) ∷ []))) refl,
       )
 
   fed_asked : (n : R2tHeader) → length joined ≡ asked_to imm (r2ts k.own) → length joined < need
       → IsNext burst k.command need (length joined) (length (r2ts k.own)) n
       → Step (data_turn None (record { header = R2t n; bytes = [] } ∷ []))
-          (record { command = k.command; bytes = joined; outstanding = Some n;
-              requests = wrap (length (r2ts k.own) + 1); data_sn = 0 } ∷ [])
+      (record {
+        command = k.command;
+        bytes = joined;
+        outstanding = Some n;
+        requests = wrap (length (r2ts k.own) + 1);
+        data_sn = 0;
+      } ∷ [])
   fed_asked n all short next =
       let t : Turn = data_turn None (record { header = R2t n; bytes = [] } ∷ []) in
       let now = more_asked burst k.command need imm (length joined) (r2ts k.own) requested_now n some all short next in
       let far = reaches burst k.command need imm (length joined) (r2ts k.own) requested_now n some all short next in (
         right_now burst k open_task t right.asked right.means
             (rw (append-nil d, append-nil (command_calls k.own), known.no_calls) (record {
-          requested = now;
-          outcome = record { collects = known.uncalled.collects; within = omega (arith, far); waits = λ e. far };
-        })),
+              requested = now;
+              outcome = record { collects = known.uncalled.collects; within = omega (arith, far); waits = λ e. far };
+            })),
         collected_is burst k open_task t (r2ts k.own ++ n ∷ []) joined 0 refl
             (ap (λ (z : List ℕ). gathered k ++ z) (append-nil d))
             (ap (λ (us : List Turn). wrap (length (data_outs us))) (behind_more k.own t)) refl
-            ∙ ap (λ (o : Option R2tHeader). record { command = k.command; bytes = joined; outstanding = o;
-                requests = wrap (length (r2ts k.own ++ n ∷ [])); data_sn = 0 } ∷ []) (last_push (r2ts k.own) None n)
-            ∙ ap (λ (m : ℕ). record { command = k.command; bytes = joined; outstanding = Some n; requests = wrap m;
-                data_sn = 0 } ∷ []) (length-append (r2ts k.own) (n ∷ [])),
+            ∙ ap (λ (o : Option R2tHeader). record {
+              command = k.command;
+              bytes = joined;
+              outstanding = o;
+              requests = wrap (length (r2ts k.own ++ n ∷ []));
+              data_sn = 0;
+            } ∷ []) (last_push (r2ts k.own) None n)
+            ∙ ap (λ (m : ℕ). record {
+              command = k.command;
+              bytes = joined;
+              outstanding = Some n;
+              requests = wrap m;
+              data_sn = 0;
+            } ∷ []) (length-append (r2ts k.own) (n ∷ [])),
       )
 
   fed_served : (call : Option Asking) (outs : List Out) (new : List Collecting) → need ≤ length joined
@@ -241,19 +266,25 @@ module _ (burst : ℕ) (some : 0 < burst) (k : Task) (open_task : has_ended k �
       let e : ends t ≡ true = or_true (list_any (λ o. is_response o.header) outs) (finds_gone call) s.ends in (
         right_now burst k open_task t right.asked right.means
             (rw (s.no_r2t, append-nil (r2ts k.own), append-nil d, known.no_calls, e, s.call_is) (record {
-          requested = requested_now;
-          outcome = record {
-            ends = refl;
-            unit = s.unit;
-            names = s.names;
-            answer = s.answer;
-            call_is = refl;
-            all = λ w h. all;
-            tiled = λ w h. omega (arith, known.uncalled.collects.short, in_range, all, within_need burst k.command
-                need imm (length joined) (r2ts k.own) requested_now continues.request continues.outstanding);
-            unasked = λ not_short. absurd (not_short known.uncalled.collects);
-          };
-        })),
+              requested = requested_now;
+              outcome = record {
+                ends = refl;
+                unit = s.unit;
+                names = s.names;
+                answer = s.answer;
+                call_is = refl;
+                all = λ w h. all;
+                tiled = λ w h. omega (
+                  arith,
+                  known.uncalled.collects.short,
+                  in_range,
+                  all,
+                  within_need burst k.command
+                      need imm (length joined) (r2ts k.own) requested_now continues.request continues.outstanding,
+                );
+                unasked = λ not_short. absurd (not_short known.uncalled.collects);
+              };
+            })),
         ended_is burst k open_task t e,
       )
 
@@ -264,19 +295,24 @@ module _ (burst : ℕ) (some : 0 < burst) (k : Task) (open_task : has_ended k �
       → Step (data_turn call outs) new
   fed asked e call outs new (filling w) =
       rw (w.no_call, w.outs_are, w.one, wrap_more (length (data_outs (behind_last sends_r2t k.own))))
-          (fed_filling (omega (arith, w.short, end_at)))
+      (fed_filling (omega (arith, w.short, end_at)))
   fed asked e call outs new (on w) =
       rw (w.no_call, w.outs_are, w.one)
-          (subst (λ (m : ℕ). Step (data_turn None (record { header = R2t w.next; bytes = [] } ∷ []))
-              (record { command = k.command; bytes = joined; outstanding = Some w.next; requests = m; data_sn = 0 }
-                  ∷ [])) (sym (wrap_more (length (r2ts k.own))))
+      (subst (λ (m : ℕ). Step (data_turn None (record { header = R2t w.next; bytes = [] } ∷ []))
+      (record { command = k.command; bytes = joined; outstanding = Some w.next; requests = m; data_sn = 0 }
+      ∷ [])) (sym (wrap_more (length (r2ts k.own))))
       (fed_asked w.next (w.all ∙ sym end_at) (omega (arith, w.short, ap need_of e))
-      (record { number = w.is_next.number ∙ wrap_wrap (length (r2ts k.own)); place = w.is_next.place;
-          size = w.is_next.size ∙ ap (λ (z : Result Command CdbFault). min burst (need_of z - length joined)) e; tag =
-              w.is_next.tag; lun = w.is_next.lun })))
+      (record {
+        number = w.is_next.number ∙ wrap_wrap (length (r2ts k.own));
+        place = w.is_next.place;
+        size = w.is_next.size ∙ ap (λ (z : Result Command CdbFault). min burst (need_of z - length joined)) e;
+        tag =
+            w.is_next.tag;
+        lun = w.is_next.lun;
+      })))
   fed asked e call outs new (now w) =
       rw w.1.none (fed_served call outs new (omega (arith, w.0, ap need_of e))
-          (subst (λ (z : Result Command CdbFault). IsCalledNow k.command z joined call outs new) e w.1))
+      (subst (λ (z : Result Command CdbFault). IsCalledNow k.command z joined call outs new) e w.1))
 
 -- ---- it is dropped
 
@@ -295,16 +331,29 @@ module _ (burst : ℕ) (k : Task) (open_task : has_ended k ≡ false) (right : I
   dropped managed no_data no_r2t =
       let o = open_of burst k open_task right in
       let e : ends drop_turn ≡ true =
-          ap (λ (b : Bool). list_any (λ (z : Out). is_response z.header) outs || b || finds_gone call) managed
-              ∙ any_or (list_any (λ (z : Out). is_response z.header) outs) (finds_gone call) in
+      ap (λ (b : Bool). list_any (λ (z : Out). is_response z.header) outs || b || finds_gone call) managed
+      ∙ any_or (list_any (λ (z : Out). is_response z.header) outs) (finds_gone call) in
       let none : command_call drop_turn ≡ None = ap (λ (b : Bool). if b then None else call) managed in (
         right_now burst k open_task drop_turn right.asked right.means
-            (rw (no_r2t, append-nil (r2ts k.own), no_data, append-nil (gathered k), none, append-nil
-                (command_calls k.own), o.no_calls, e) (record {
-          requested = o.requested;
-          outcome = record { collects = o.uncalled.collects; within = o.uncalled.within; waits =
-              λ f. absurd (let g : true ≡ false = f in cc) };
-        })),
+            (rw (
+              no_r2t,
+              append-nil (r2ts k.own),
+              no_data,
+              append-nil (gathered k),
+              none,
+              append-nil
+                  (command_calls k.own),
+              o.no_calls,
+              e,
+            ) (record {
+              requested = o.requested;
+              outcome = record {
+                collects = o.uncalled.collects;
+                within = o.uncalled.within;
+                waits =
+                    λ f. absurd (let g : true ≡ false = f in cc);
+              };
+            })),
         ended_is burst k open_task drop_turn e,
       )
 
@@ -313,8 +362,13 @@ module _ (burst : ℕ) (k : Task) (open_task : has_ended k ≡ false) (right : I
 module _ (burst : ℕ) (some : 0 < burst) (b : List ℕ) (p : CommandHeader) (d : List ℕ)
     (asked : Result Command CdbFault) (means : Means p.cdb asked) where
   abbrev command_turn : Option Asking → List Out → Turn
-  command_turn call outs = record { came = pdu b (Initiator (ScsiCommand p)) d; verdict = Accepted; call =
-      call; sent = outs }
+  command_turn call outs = record {
+    came = pdu b (Initiator (ScsiCommand p)) d;
+    verdict = Accepted;
+    call =
+        call;
+    sent = outs;
+  }
 
   abbrev opening : Option Asking → List Out → Task
   opening call outs = record { command = p; segment = d; own = command_turn call outs ∷ [] }
@@ -329,7 +383,7 @@ module _ (burst : ℕ) (some : 0 < burst) (b : List ℕ) (p : CommandHeader) (d 
 
   opened_asked : (n : R2tHeader) → HasToCollect p (need_of asked) (length d) → IsNext burst p (need_of asked) (length d) 0 n
       → Opened None (record { header = R2t n; bytes = [] } ∷ [])
-          (record { command = p; bytes = d; outstanding = Some n; requests = 1; data_sn = 0 } ∷ [])
+      (record { command = p; bytes = d; outstanding = Some n; requests = 1; data_sn = 0 } ∷ [])
   opened_asked n short next =
       let all : length d ≡ asked_to (length d) [] = omega arith in
       let far = reaches burst p (need_of asked) (length d) (length d) [] none_requested n some all short.short next in (
@@ -354,8 +408,12 @@ module _ (burst : ℕ) (some : 0 < burst) (b : List ℕ) (p : CommandHeader) (d 
           means = means;
           right = rw (append-nil d, append-nil outs, no_r2t, e) (record {
             requested = none_requested;
-            outcome = record { collects = short; within = omega arith; waits =
-                λ f. absurd (let g : true ≡ false = f in cc) };
+            outcome = record {
+              collects = short;
+              within = omega arith;
+              waits =
+                  λ f. absurd (let g : true ≡ false = f in cc);
+            };
           });
         },
         rw e refl,
@@ -366,11 +424,11 @@ module _ (burst : ℕ) (some : 0 < burst) (b : List ℕ) (p : CommandHeader) (d 
       → IsCalledNow p asked d call outs new → Opened call outs []
   opened_served call outs new not_short s =
       let e : ends (command_turn call outs) ≡ true =
-          or_true (list_any (λ o. is_response o.header) outs) (finds_gone call) s.ends in
+      or_true (list_any (λ o. is_response o.header) outs) (finds_gone call) s.ends in
       let enough : IsTrue p.write → need_of asked ≤ p.expected_length
-          → need_of asked ≤ length d =
-              λ w h. le_of_not (need_of asked) (length d)
-                  (λ short. not_short (record { writes = w; expected = h; short = short })) in (
+      → need_of asked ≤ length d =
+      λ w h. le_of_not (need_of asked) (length d)
+      (λ short. not_short (record { writes = w; expected = h; short = short })) in (
         record {
           asked = asked;
           means = means;

@@ -60,7 +60,7 @@ module _ (new : List Collecting) where
       let n = none_front x.command.task_tag front (c ∷ back) u.0 in (
         none_append x.command.task_tag front (new ++ back) n.0
             (none_append x.command.task_tag new back
-                (none_new c.command.task_tag x.command.task_tag new n.1.0 p) n.1.1),
+            (none_new c.command.task_tag x.command.task_tag new n.1.0 p) n.1.1),
         replaced front c back p u.1,
       )
 
@@ -143,7 +143,7 @@ module _ (burst : ℕ) (some : 0 < burst) (ks : List Task) (cs : List Collecting
             (subst (AllByRecursion (IsRightTask burst)) (sym same) kept.right) (o.0, tt);
         tied = filter_map-append collecting_of (map (extended u) ks)
             (record { command = p; segment = d; own = u ∷ [] } ∷ [])
-                ∙ ap (λ (z : List Collecting). filter_map collecting_of (map (extended u) ks) ++ z) o.1
+            ∙ ap (λ (z : List Collecting). filter_map collecting_of (map (extended u) ks) ++ z) o.1
             ∙ ap (λ (z : List Task). filter_map collecting_of z ++ new) same
             ∙ ap (λ (z : List Collecting). z ++ new) kept.tied;
         unique = added new p.task_tag cs (opened_place burst p asked d call outs new k) none kept.unique;
@@ -152,8 +152,12 @@ module _ (burst : ℕ) (some : 0 < burst) (ks : List Task) (cs : List Collecting
   pub data_comes : (b : List ℕ) (x : DataOutHeader) (d : List ℕ) (call : Option Asking) (outs : List Out)
       (cs' : List Collecting)
       → IsTakenData burst cs x d call outs cs'
-      → IsKept burst (map (extended (record { came = pdu b (Initiator (DataOut x)) d; verdict = Accepted; call = call;
-          sent = outs })) ks) cs'
+      → IsKept burst (map (extended (record {
+        came = pdu b (Initiator (DataOut x)) d;
+        verdict = Accepted;
+        call = call;
+        sent = outs;
+      })) ks) cs'
   data_comes b x d call outs cs' k =
       let u : Turn = record { came = pdu b (Initiator (DataOut x)) d; verdict = Accepted; call = call; sent = outs } in
       let whole : IsUnique (k.front ++ (k.this ∷ k.back)) = subst IsUnique k.whole kept.unique in
@@ -161,10 +165,10 @@ module _ (burst : ℕ) (some : 0 < burst) (ks : List Task) (cs : List Collecting
       let w = walk burst u x.task_tag (λ p. refl) k.this k.back k.new
       (λ task right open_task is. subst (λ (z : Task). IsRightTask burst z × (cons_option (collecting_of z) [] ≡ k.new))
       (sym (touched_is u task open_task
-          (eq-eqb task.command.task_tag x.task_tag (ap (λ (c : Collecting). c.command.task_tag) is ∙ k.tag))))
+      (eq-eqb task.command.task_tag x.task_tag (ap (λ (c : Collecting). c.command.task_tag) is ∙ k.tag))))
       (touch task right open_task is))
       (subst (λ (g : ℕ). HasNone g k.back) k.tag none.1) ks k.front kept.right (kept.tied
-          ∙ k.whole) (subst (λ (g : ℕ). HasNone g k.front) k.tag none.0) in
+      ∙ k.whole) (subst (λ (g : ℕ). HasNone g k.front) k.tag none.0) in
       record {
         right = w.0;
         tied = w.1 ∙ sym k.after;
@@ -172,30 +176,51 @@ module _ (burst : ℕ) (some : 0 < burst) (ks : List Task) (cs : List Collecting
             (replaced k.new k.front k.this k.back (fed_place burst k.this k.asked _ _ call outs k.new k.fed) whole);
       } where
         touch : (task : Task) → IsRightTask burst task → has_ended task ≡ false → collected task ≡ k.this
-            → IsRightTask burst (with_turn task (record { came = pdu b (Initiator (DataOut x)) d; verdict = Accepted;
-                call = call; sent = outs }))
+            → IsRightTask burst (with_turn task (record {
+              came = pdu b (Initiator (DataOut x)) d;
+              verdict = Accepted;
+              call = call;
+              sent = outs;
+            }))
             × (cons_option (collecting_of
-                (with_turn task (record { came = pdu b (Initiator (DataOut x)) d; verdict = Accepted; call = call;
-                    sent = outs }))) [] ≡ k.new)
+            (with_turn task (record {
+              came = pdu b (Initiator (DataOut x)) d;
+              verdict = Accepted;
+              call = call;
+              sent = outs;
+            }))) [] ≡ k.new)
         touch task right open_task is =
             let f = subst (λ (c : Collecting). (q : Continues c x d)
-                × IsFed burst c k.asked (c.bytes ++ d) (q.request.offset + q.request.desired_length) call outs k.new)
-                    (sym is) (k.continues, k.fed) in
+            × IsFed burst c k.asked (c.bytes ++ d) (q.request.offset + q.request.desired_length) call outs k.new)
+            (sym is) (k.continues, k.fed) in
             let one : right.asked ≡ k.asked =
-                k.only right.asked (subst (λ (c : Collecting). Means c.command.cdb right.asked) is right.means) in
+            k.only right.asked (subst (λ (c : Collecting). Means c.command.cdb right.asked) is right.means) in
             fed burst some task open_task right b x d f.0 k.asked (sym one) call outs k.new f.1
 
   pub management_comes : (b : List ℕ) (x : ManagementHeader) (d : List ℕ) (call : Option Asking) (outs : List Out)
       → r2ts_of outs ≡ []
       → IsKept burst (map (extended
-          (record { came = pdu b (Initiator (TaskManagementRequest x)) d; verdict = Accepted; call = call;
-              sent = outs })) ks)
+      (record {
+        came = pdu b (Initiator (TaskManagementRequest x)) d;
+        verdict = Accepted;
+        call = call;
+        sent = outs;
+      })) ks)
       (filter (keeps x outs) cs)
   management_comes b x d call outs no_r2t =
-      let u : Turn = record { came = pdu b (Initiator (TaskManagementRequest x)) d; verdict = Accepted; call =
-          call; sent = outs } in
+      let u : Turn = record {
+        came = pdu b (Initiator (TaskManagementRequest x)) d;
+        verdict = Accepted;
+        call =
+            call;
+        sent = outs;
+      } in
       let w = drop_all burst u (λ p. drops x p && found_unit outs) (λ p. refl)
-          (λ k right open_task. dropped burst k open_task right Accepted
-              (pdu b (Initiator (TaskManagementRequest x)) d) call outs refl refl no_r2t) ks kept.right in
-      record { right = w.0; tied = w.1 ∙ ap (filter (keeps x outs)) kept.tied; unique =
-          unique_kept (keeps x outs) cs kept.unique }
+      (λ k right open_task. dropped burst k open_task right Accepted
+      (pdu b (Initiator (TaskManagementRequest x)) d) call outs refl refl no_r2t) ks kept.right in
+      record {
+        right = w.0;
+        tied = w.1 ∙ ap (filter (keeps x outs)) kept.tied;
+        unique =
+            unique_kept (keeps x outs) cs kept.unique;
+      }

@@ -61,7 +61,7 @@ command_step p d own u false c e = ap (of_command p d) (append-nil own)
 
 command_more : (p : CommandHeader) (d : List ℕ) (t : Turn) (behind : List Turn) (u : Turn)
     → of_command p d (t ∷ filter (touches p) (behind ++ u ∷ [])) ≡ extended u
-        (of_command p d (t ∷ filter (touches p) behind))
+    (of_command p d (t ∷ filter (touches p) behind))
 command_more p d t behind u =
     let own : List Turn = t ∷ filter (touches p) behind in
     ap (λ (z : List Turn). of_command p d (t ∷ z)) (filter-append (touches p) behind (u ∷ []))

@@ -62,8 +62,14 @@ module _ {T : Type 0} (leads : T → Asking → T → Type 0) (s s' : Counters) 
   asks_alone : (mid : Counters) (p : CommandHeader) (need came requests : ℕ) (next : R2tHeader)
       → Asks mid p need came requests next a → TurnAsks mid p need came requests next None (sent_by b (pdus_of a))
   asks_alone mid p need came requests next k =
-      record { is_next = k.is_next; transfer = k.transfer; numbers = k.numbers; no_call = refl; outs_are =
-          ap (sent_by b) k.pdus_are }
+      record {
+        is_next = k.is_next;
+        transfer = k.transfer;
+        numbers = k.numbers;
+        no_call = refl;
+        outs_are =
+            ap (sent_by b) k.pdus_are;
+      }
 
   opened_alone : (p : CommandHeader) (asked : Result Command CdbFault) (d : List ℕ) → OnOpened s p asked d a s'
       → call_of a ≡ None
@@ -108,38 +114,70 @@ module _ {T : Type 0} (leads : T → Asking → T → Type 0) (s s' : Counters) 
       → call_of a ≡ None → MakesTurn leads s s' x x held held' before now o o' (pdu b h d) (end_of a)
   taken_alone (Initiator (NopOut p)) d judged k none =
       turn_alone (pdu b (Initiator (NopOut p)) d) Accepted
-          (record { came_is = refl; judged = judged;
-              made = record { no_call = refl; outs_are = k.pdus_are b; next_is = k.next } }) k.ends
+      (record {
+        came_is = refl;
+        judged = judged;
+        made = record { no_call = refl; outs_are = k.pdus_are b; next_is = k.next };
+      }) k.ends
   taken_alone (Initiator (TextRequest p)) d judged k none =
       turn_alone (pdu b (Initiator (TextRequest p)) d) Accepted
-          (record { came_is = refl; judged = judged;
-              made = record { no_call = refl; outs_are = k.pdus_are b; next_is = k.next } }) k.ends
+      (record {
+        came_is = refl;
+        judged = judged;
+        made = record { no_call = refl; outs_are = k.pdus_are b; next_is = k.next };
+      }) k.ends
   taken_alone (Initiator (TaskManagementRequest p)) d judged k none =
       managed_alone p d k.management k.kept judged k.comes_to k.managed none
   taken_alone (Initiator (LogoutRequest p)) d judged k none =
       turn_alone (pdu b (Initiator (LogoutRequest p)) d) Accepted
-          (record { came_is = refl; judged = judged;
-              made = record { no_call = refl; outs_are = k.pdus_are b; next_is = k.next } }) k.ends
+      (record {
+        came_is = refl;
+        judged = judged;
+        made = record { no_call = refl; outs_are = k.pdus_are b; next_is = k.next };
+      }) k.ends
   taken_alone (Initiator (ScsiCommand p)) d judged k none =
       let w = opened_alone p k.asked d k.by none in
       turn_alone (pdu b (Initiator (ScsiCommand p)) d) Accepted
-          (record { came_is = refl; judged = judged;
-              made = record { asked = k.asked; asked_by = k.asked_by; by = w.0 } }) w.1
+      (record {
+        came_is = refl;
+        judged = judged;
+        made = record { asked = k.asked; asked_by = k.asked_by; by = w.0 };
+      }) w.1
   taken_alone (Initiator (DataOut x)) d judged k none =
       let w = fed_alone k.front k.this k.back k.asked d _ k.by none in
       turn_alone (pdu b (Initiator (DataOut x)) d) Accepted
-          (record { came_is = refl; judged = judged;
-              made = record { front = k.front; this = k.this; back = k.back; whole = k.whole; found =
-                  k.found; continues = k.continues; asked = k.asked; asked_by = k.asked_by; by = w.0 } }) w.1
+      (record {
+        came_is = refl;
+        judged = judged;
+        made = record {
+          front = k.front;
+          this = k.this;
+          back = k.back;
+          whole = k.whole;
+          found =
+              k.found;
+          continues = k.continues;
+          asked = k.asked;
+          asked_by = k.asked_by;
+          by = w.0;
+        };
+      }) w.1
   taken_alone h d judged k none = absurd k
 
   full_alone : (h : Header) (d : List ℕ) → IsJudgedPdu s.setting s.standing h d Full → OnFullPdu s h a s'
       → MakesTurn leads s s' x x held held' before now o o' (pdu b h d) (end_of a)
   full_alone (Initiator (ScsiCommand p)) d judged k =
       turn_alone (pdu b (Initiator (ScsiCommand p)) d) Full
-          (record { came_is = refl; judged = judged;
-              made = record { asked = k.asked; means = k.means; turned =
-                  record { no_call = refl; outs_are = k.sends.pdus_are b; next_is = k.sends.next } } }) k.sends.no_end
+      (record {
+        came_is = refl;
+        judged = judged;
+        made = record {
+          asked = k.asked;
+          means = k.means;
+          turned =
+              record { no_call = refl; outs_are = k.sends.pdus_are b; next_is = k.sends.next };
+        };
+      }) k.sends.no_end
   full_alone h d judged k = absurd k
 
   alone_by : (v : Verdict) (h : Header) (d : List ℕ) → IsJudgedPdu s.setting s.standing h d v → OnVerdict v s h d a s'
@@ -148,16 +186,25 @@ module _ {T : Type 0} (leads : T → Asking → T → Type 0) (s s' : Counters) 
   alone_by Full h d judged k none = full_alone h d judged k
   alone_by Ignored h d judged k none =
       turn_alone (pdu b h d) Ignored
-          (record { came_is = refl; judged = judged;
-              made = record { no_call = refl; outs_are = ap (sent_by b) k.0.pdus_are; next_is = k.2 } }) k.1
+      (record {
+        came_is = refl;
+        judged = judged;
+        made = record { no_call = refl; outs_are = ap (sent_by b) k.0.pdus_are; next_is = k.2 };
+      }) k.1
   alone_by Gap h d judged k none =
       turn_alone (pdu b h d) Gap
-          (record { came_is = refl; judged = judged;
-              made = record { no_call = refl; outs_are = ap (sent_by b) k.0.pdus_are; next_is = k.2 } }) k.1
+      (record {
+        came_is = refl;
+        judged = judged;
+        made = record { no_call = refl; outs_are = ap (sent_by b) k.0.pdus_are; next_is = k.2 };
+      }) k.1
   alone_by (Refused reason) h d judged k none =
       turn_alone (pdu b h d) (Refused reason)
-          (record { came_is = refl; judged = judged;
-              made = record { no_call = refl; outs_are = ap (sent_by b) k.pdus_are; next_is = k.next } }) k.ends
+      (record {
+        came_is = refl;
+        judged = judged;
+        made = record { no_call = refl; outs_are = ap (sent_by b) k.pdus_are; next_is = k.next };
+      }) k.ends
 
   -- a PDU that calls for no call
   pub alone : (h : Header) (d : List ℕ) → OnPdu s h d a s' → call_of a ≡ None
@@ -169,8 +216,11 @@ module _ {T : Type 0} (leads : T → Asking → T → Type 0) (s s' : Counters) 
       → MakesTurn leads s s' x x held held' before now o o' (faulty f b) (Some Protocol)
   fault f k = subst (MakesTurn leads s s' x x held held' before now o o' (faulty f b)) k.ends
       (turn_alone (faulty f b) (Refused (reason_of f))
-          (record { came_is = refl; judged = refl;
-              made = record { no_call = refl; outs_are = ap (sent_by b) k.pdus_are; next_is = k.next } }) k.ends)
+      (record {
+        came_is = refl;
+        judged = refl;
+        made = record { no_call = refl; outs_are = ap (sent_by b) k.pdus_are; next_is = k.next };
+      }) k.ends)
 
 -- what is said of actions is said of what they are
 pub on_same : (s s' : Counters) (h : Header) (d : List ℕ) (a a' : Actions) → a ≡ a' → OnPdu s h d a s' → OnPdu s h d a' s'
@@ -193,14 +243,14 @@ managed_else : {A : Type 0} (s s' : Counters) (p : ManagementHeader) (a : Action
 managed_else s s' p a c (Respond response) k some = no_none (kinds.Serve c) (call_of a) k.no_call some
 managed_else s s' p a c (Reset unit) k some =
     absurd (let e : Some (kinds.Serve c) ≡ Some (kinds.Reset (record { request = p; unit = unit })) =
-        sym some ∙ k.call in cc)
+    sym some ∙ k.call in cc)
 
 -- a call of a command that was accepted, and its answer
 module _ {T : Type 0} (leads : T → Asking → T → Type 0) (s mid s' : Counters) (x x' : T)
     (held held' : Option (List ℕ)) (before now : ℕ) (o o' : OutboxValue) (b : List ℕ)
     (a a' : Actions) (c : ServeCall) (answer : TargetAnswer)
     (queued : IsQueued held held' before now o o' (bytes_of (sent_by b (pdus_of a'))))
-        (some : call_of a ≡ Some (kinds.Serve c))
+    (some : call_of a ≡ Some (kinds.Serve c))
     (led : leads x (served c.unit c.asked (call_data c.bytes) answer) x') where
   reply_is : (p : CommandHeader) (need : ℕ) (answer : TargetAnswer) → OnAnswer mid p need answer a' s'
       → TurnOnAnswer mid p need answer (sent_by b (pdus_of a')) s' × (end_of a' ≡ end_by answer)
@@ -214,7 +264,7 @@ module _ {T : Type 0} (leads : T → Asking → T → Type 0) (s mid s' : Counte
       → TurnOnAnswer mid q n answer outs s' → TurnOnAnswer next p m answer outs s'
   moved q p n m next outs e f g k =
       subst (λ (z : Counters). TurnOnAnswer z p m answer outs s') g
-          (subst₂ (λ (z : CommandHeader) (w : ℕ). TurnOnAnswer mid z w answer outs s') e f k)
+      (subst₂ (λ (z : CommandHeader) (w : ℕ). TurnOnAnswer mid z w answer outs s') e f k)
 
   abbrev call_is : Option Asking
   call_is = Some (served c.unit c.asked (call_data c.bytes) answer)
@@ -263,10 +313,19 @@ module _ {T : Type 0} (leads : T → Asking → T → Type 0) (s mid s' : Counte
   accepted_turn (Initiator (ScsiCommand p)) d judged k replied =
       let w = opened_turn p k.asked d k.by replied in
       record {
-        turn = record { came = pdu b (Initiator (ScsiCommand p)) d; verdict = Accepted; call = call_is; sent =
-            sent_by b (pdus_of a') };
-        made = record { came_is = refl; judged = judged; made =
-            record { asked = k.asked; asked_by = k.asked_by; by = w.0 } };
+        turn = record {
+          came = pdu b (Initiator (ScsiCommand p)) d;
+          verdict = Accepted;
+          call = call_is;
+          sent =
+              sent_by b (pdus_of a');
+        };
+        made = record {
+          came_is = refl;
+          judged = judged;
+          made =
+              record { asked = k.asked; asked_by = k.asked_by; by = w.0 };
+        };
         led = led;
         queued = queued;
         wanted_is = w.1;
@@ -274,11 +333,30 @@ module _ {T : Type 0} (leads : T → Asking → T → Type 0) (s mid s' : Counte
   accepted_turn (Initiator (DataOut x)) d judged k replied =
       let w = fed_turn k.front k.this k.back k.asked d _ k.by replied in
       record {
-        turn = record { came = pdu b (Initiator (DataOut x)) d; verdict = Accepted; call = call_is; sent =
-            sent_by b (pdus_of a') };
-        made = record { came_is = refl; judged = judged; made =
-            record { front = k.front; this = k.this; back = k.back; whole = k.whole; found = k.found; continues =
-                k.continues; asked = k.asked; asked_by = k.asked_by; by = w.0 } };
+        turn = record {
+          came = pdu b (Initiator (DataOut x)) d;
+          verdict = Accepted;
+          call = call_is;
+          sent =
+              sent_by b (pdus_of a');
+        };
+        made = record {
+          came_is = refl;
+          judged = judged;
+          made =
+              record {
+                front = k.front;
+                this = k.this;
+                back = k.back;
+                whole = k.whole;
+                found = k.found;
+                continues =
+                    k.continues;
+                asked = k.asked;
+                asked_by = k.asked_by;
+                by = w.0;
+              };
+        };
         led = led;
         queued = queued;
         wanted_is = w.1;
@@ -313,7 +391,7 @@ module _ {T : Type 0} (leads : T → Asking → T → Type 0) (s mid s' : Counte
     (held held' : Option (List ℕ)) (before now : ℕ) (o o' : OutboxValue) (b : List ℕ)
     (a a' : Actions) (c : ResetCall) (answer : ResetAnswer)
     (queued : IsQueued held held' before now o o' (bytes_of (sent_by b (pdus_of a'))))
-        (some : call_of a ≡ Some (kinds.Reset c))
+    (some : call_of a ≡ Some (kinds.Reset c))
     (led : leads x (reset c.unit answer) x') (answered : OnResetAnswer mid c.request answer a' s') where
   reset_call : (p : CommandHeader) (asked : Result Command CdbFault) (d : List ℕ) (call : Option Call)
       → call ≡ Some (kinds.Reset c)
@@ -333,18 +411,27 @@ module _ {T : Type 0} (leads : T → Asking → T → Type 0) (s mid s' : Counte
       let same : c ≡ asked = (let e : Some (kinds.Reset c) ≡ Some (kinds.Reset asked) = sym some ∙ k.call in cc) in
       let reply : OnResetAnswer (after_collecting kept (after_number p.immediate s)) p answer a' s' =
       subst₂ (λ (z : Counters) (q : ManagementHeader). OnResetAnswer z q answer a' s') k.next
-          (ap (λ (r : ResetCall). r.request) same) answered in
+      (ap (λ (r : ResetCall). r.request) same) answered in
       record {
-        turn = record { came = pdu b (Initiator (TaskManagementRequest p)) d; verdict = Accepted; call =
-            Some (reset c.unit answer); sent = sent_by b (pdus_of a') };
+        turn = record {
+          came = pdu b (Initiator (TaskManagementRequest p)) d;
+          verdict = Accepted;
+          call =
+              Some (reset c.unit answer);
+          sent = sent_by b (pdus_of a');
+        };
         made = record {
           came_is = refl;
           judged = judged;
           made = record {
             response = reset_response answer;
             kept = kept;
-            managed = record { management = Reset unit; comes_to = comes_to; managed =
-                (answer, ap (λ (r : ResetCall). Some (reset r.unit answer)) same, refl) };
+            managed = record {
+              management = Reset unit;
+              comes_to = comes_to;
+              managed =
+                  (answer, ap (λ (r : ResetCall). Some (reset r.unit answer)) same, refl);
+            };
             turned = record { outs_are = reply.pdus_are b; next_is = reply.next };
           };
         };

@@ -117,7 +117,7 @@ module _ (burst : ℕ) (u : Turn) (drops : CommandHeader → Bool) (by_test : (p
 
   drop_step : (k k' : Task) (ks : List Task) → k' ≡ extended u k → IsRightTask burst k'
       → ((cs : List Collecting)
-          → cons_option (collecting_of k') (filter kept cs) ≡ filter kept (cons_option (collecting_of k) cs))
+      → cons_option (collecting_of k') (filter kept cs) ≡ filter kept (cons_option (collecting_of k) cs))
       → Dropped ks → Dropped (k ∷ ks)
   drop_step k k' ks same right step rest = (
     (subst (IsRightTask burst) same right, rest.0),
@@ -132,7 +132,7 @@ module _ (burst : ℕ) (u : Turn) (drops : CommandHeader → Bool) (by_test : (p
   drop_one k ks false true e f right rest =
       let d = end k right e in
       drop_step k (with_turn k u) ks (sym (touched_is u k e (by_test k.command ∙ f))) d.0
-          (λ cs. none_of (collecting_of (with_turn k u)) d.1 cs ∙ rw (e, f) refl) rest where
+      (λ cs. none_of (collecting_of (with_turn k u)) d.1 cs ∙ rw (e, f) refl) rest where
         none_of : (o : Option Collecting) → cons_option o [] ≡ [] → (cs : List Collecting)
             → cons_option o (filter kept cs) ≡ filter kept cs
         none_of None e cs = refl

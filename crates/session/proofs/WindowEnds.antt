@@ -53,9 +53,15 @@ fewer : (u : Turn) (ks : List Task)
     → count (filter_map collecting_of (map (extended u) ks)) ≤ count (filter_map collecting_of ks)
 fewer u [] = omega arith
 fewer u (k ∷ ks) =
-    omega (arith, weight_cons (collecting_of (extended u k))
-        (filter_map collecting_of (map (extended u) ks)), weight_cons (collecting_of k)
-            (filter_map collecting_of ks), weight_less u k (touches k.command u) (has_ended k) refl, fewer u ks)
+    omega (
+      arith,
+      weight_cons (collecting_of (extended u k))
+          (filter_map collecting_of (map (extended u) ks)),
+      weight_cons (collecting_of k)
+          (filter_map collecting_of ks),
+      weight_less u k (touches k.command u) (has_ended k) refl,
+      fewer u ks,
+    )
 
 abbrev number : Verdict → Incoming → ℕ
 number v came = cond (takes_number v came) 1 0
@@ -71,7 +77,7 @@ begun_none n = omega arith
 -- a turn that begins a task takes a number for it, if it is numbered
 accepted_one : (came : Incoming) (t : Turn) (behind : List Turn)
     → count (filter_map collecting_of
-        (cons_option (begun_by (accepted_command Accepted came) t behind) [])) ≤ number Accepted came
+    (cons_option (begun_by (accepted_command Accepted came) t behind) [])) ≤ number Accepted came
 accepted_one (pdu b (Initiator (ScsiCommand p)) d) t behind =
     let k : Task = record { command = p; segment = d; own = through ends (t ∷ filter_of p t behind) } in
     begun_command (has_ended k) p (collected k) refl where
@@ -110,8 +116,13 @@ one_more ts u = omega (arith, waiting_grows ts u, taken_more ts u)
 pub never_falls : (before behind : List Turn) → window_end before ≤ window_end (before ++ behind)
 never_falls before [] = omega (arith, ap window_end (append-nil before))
 never_falls before (u ∷ behind) =
-    omega (arith, one_more before u, never_falls (before ++ u ∷ []) behind, ap window_end
-        (append_assoc before (u ∷ []) behind))
+    omega (
+      arith,
+      one_more before u,
+      never_falls (before ++ u ∷ []) behind,
+      ap window_end
+          (append_assoc before (u ∷ []) behind),
+    )
 
 -- no more wait than have taken a number
 count_place : (o : Option Task) (ks : List Task) → count (filter_map collecting_of (cons_option o ks))
@@ -126,8 +137,14 @@ taken_first t behind = sum_by-append (λ u. cond (takes_number u.verdict u.came)
 waiting_fits : (ts : List Turn) → waiting_in ts ≤ numbers_taken ts
 waiting_fits [] = omega arith
 waiting_fits (t ∷ behind) =
-    omega (arith, count_place (begun_by (accepted_command t.verdict t.came) t behind)
-        (tasks behind), one_place t.verdict t.came t behind, taken_first t behind, waiting_fits behind)
+    omega (
+      arith,
+      count_place (begun_by (accepted_command t.verdict t.came) t behind)
+          (tasks behind),
+      one_place t.verdict t.came t behind,
+      taken_first t behind,
+      waiting_fits behind,
+    )
 
 -- ---- no more than 32 wait
 
@@ -138,15 +155,15 @@ window_room : (s : Standing) (immediate : Bool) (cmd_sn : ℕ) (refused : Bool)
 window_room s true cmd_sn refused e f = absurd (cc)
 window_room s false cmd_sn refused e f =
     by_turn (ahead cmd_sn s.exp_cmd_sn == 0) (nat_lt 0 (window_size s)) refl
-        (nat_lt (ahead cmd_sn s.exp_cmd_sn) (window_size s)) e where
-  by_turn : (first free : Bool) → nat_lt 0 (window_size s) ≡ free → (gap : Bool)
-      → Accepted ≡ (if (first && free) then (if refused then Refused 4 else Accepted) else
+    (nat_lt (ahead cmd_sn s.exp_cmd_sn) (window_size s)) e where
+      by_turn : (first free : Bool) → nat_lt 0 (window_size s) ≡ free → (gap : Bool)
+          → Accepted ≡ (if (first && free) then (if refused then Refused 4 else Accepted) else
           (if gap then Gap else Ignored)) → numbered_waiting s < 32
-  by_turn true true g gap h = omega (arith, ltb-true 0 (window_size s) g)
-  by_turn true false g true h = absurd (let k : Accepted ≡ Gap = h in cc)
-  by_turn true false g false h = absurd (let k : Accepted ≡ Ignored = h in cc)
-  by_turn false free g true h = absurd (let k : Accepted ≡ Gap = h in cc)
-  by_turn false free g false h = absurd (let k : Accepted ≡ Ignored = h in cc)
+      by_turn true true g gap h = omega (arith, ltb-true 0 (window_size s) g)
+      by_turn true false g true h = absurd (let k : Accepted ≡ Gap = h in cc)
+      by_turn true false g false h = absurd (let k : Accepted ≡ Ignored = h in cc)
+      by_turn false free g true h = absurd (let k : Accepted ≡ Gap = h in cc)
+      by_turn false free g false h = absurd (let k : Accepted ≡ Ignored = h in cc)
 
 accepted_room : (m : Setting) (s : Standing) (came : Incoming) → IsJudged m s came Accepted
     → takes_number Accepted came ≡ true
@@ -154,9 +171,9 @@ accepted_room : (m : Setting) (s : Standing) (came : Incoming) → IsJudged m s 
 accepted_room m s (pdu b (Initiator (NopOut p)) d) judged e = window_room s p.immediate p.numbers.cmd_sn false judged e
 accepted_room m s (pdu b (Initiator (ScsiCommand p)) d) judged e =
     window_room s p.immediate p.numbers.cmd_sn (discovers m.kind || is_refused m.start.lengths s p d)
-        (sym (not_full (p.immediate && list_any is_immediate s.collecting)
-            (window_verdict s p.immediate p.numbers.cmd_sn (discovers m.kind || is_refused m.start.lengths s p d))
-                (sym judged))) e
+    (sym (not_full (p.immediate && list_any is_immediate s.collecting)
+    (window_verdict s p.immediate p.numbers.cmd_sn (discovers m.kind || is_refused m.start.lengths s p d))
+    (sym judged))) e
 accepted_room m s (pdu b (Initiator (LogoutRequest p)) d) judged e =
     window_room s p.immediate p.numbers.cmd_sn false judged e
 accepted_room m s (pdu b (Initiator (TaskManagementRequest p)) d) judged e =
@@ -177,20 +194,25 @@ few_step : (m : Setting) (ts : List Turn) (u : Turn) → waiting_in ts ≤ 32 �
     → waiting_in (ts ++ u ∷ []) ≤ 32
 few_step m ts u few judged = by_number (takes_number u.verdict u.came) refl where
   by_number : (b : Bool) → takes_number u.verdict u.came ≡ b → waiting_in (ts ++ u ∷ []) ≤ 32
-  by_number true e = omega (arith, waiting_grows ts u, ap {B = ℕ} (λ (b : Bool). cond b 1 0) e, room_of m
-      (standing m.start ts) u.verdict u.came judged e)
+  by_number true e = omega (
+    arith,
+    waiting_grows ts u,
+    ap {B = ℕ} (λ (b : Bool). cond b 1 0) e,
+    room_of m
+        (standing m.start ts) u.verdict u.came judged e,
+  )
   by_number false e = omega (arith, waiting_grows ts u, ap {B = ℕ} (λ (b : Bool). cond b 1 0) e, few)
 
 few_wait : (m : Setting) (before ts : List Turn) → waiting_in before ≤ 32
     → ((front : List Turn) (t : Turn) (behind : List Turn) → before ++ ts ≡ front ++ (t ∷ behind)
-        → IsJudged m (standing m.start front) t.came t.verdict)
+    → IsJudged m (standing m.start front) t.came t.verdict)
     → waiting_in (before ++ ts) ≤ 32
 few_wait m before [] few each = omega (arith, few, ap waiting_in (append-nil before))
 few_wait m before (u ∷ ts) few each =
     let whole : (before ++ u ∷ []) ++ ts ≡ before ++ (u ∷ ts) = append_assoc before (u ∷ []) ts in
     subst (λ (z : List Turn). waiting_in z ≤ 32) whole
     (few_wait m (before ++ u ∷ []) ts (few_step m before u few (each before u ts refl))
-        (λ front t behind e. each front t behind (sym whole ∙ e)))
+    (λ front t behind e. each front t behind (sym whole ∙ e)))
 
 -- ---- and MaxCmdSN tells it
 
@@ -207,9 +229,9 @@ pub max_counted : (m : Setting) (ts : List Turn) → Lawful m ts
 max_counted m ts l before t behind e =
     let now : List Turn = before ++ t ∷ [] in
     let few_now : waiting_in now ≤ 32 =
-        few_wait m [] now (omega arith) (λ front u rest f. l.judged front u (rest ++ behind) (whole front u rest f)) in
+    few_wait m [] now (omega arith) (λ front u rest f. l.judged front u (rest ++ behind) (whole front u rest f)) in
     subst (λ (n : ℕ). HaveMaxCmdSn n t.sent)
-        (last_is m.start.exp_cmd_sn (numbers_taken now) (waiting_in now) (waiting_fits now) (omega (arith, few_now)))
+    (last_is m.start.exp_cmd_sn (numbers_taken now) (waiting_in now) (waiting_fits now) (omega (arith, few_now)))
     (window_ends (standing m.start now) t.sent (l.windows before t behind e)) where
       whole : (front : List Turn) (u : Turn) (rest : List Turn) → before ++ t ∷ [] ≡ front ++ (u ∷ rest)
           → ts ≡ front ++ (u ∷ (rest ++ behind))

@@ -50,7 +50,8 @@ pub record IsCalledFor (p : CommandHeader) (asked : Result Command CdbFault) (im
   pub answer : TargetAnswer
   pub call_is : c ≡ served unit asked (data_for p (need_of asked) bytes) answer
   pub all : IsTrue p.write → need_of asked ≤ p.expected_length → need_of asked ≤ length bytes
-  pub tiled : IsTrue p.write → need_of asked ≤ p.expected_length → min immediate (need_of asked) + sizes rs ≡ need_of asked
+  pub tiled : IsTrue p.write → need_of asked ≤ p.expected_length
+      → min immediate (need_of asked) + sizes rs ≡ need_of asked
   pub unasked : (HasToCollect p (need_of asked) immediate → ⊥) → rs ≡ []
 
 -- A command that was not called is one that has to collect, and no byte came that was not asked for; while it collects an

@@ -45,7 +45,8 @@ pub record IsSegment (l : Lengths) (p : CommandHeader) (total : ℕ) (segments :
   pub no_status : h.numbers.stat_sn ≡ 0
 
 -- the Data-In segments tile these bytes, once and in order
-pub record Tiles (l : Lengths) (p : CommandHeader) (segments : List (DataInHeader × List ℕ)) (bytes : List ℕ) : Type 0 where
+pub record Tiles (l : Lengths) (p : CommandHeader) (segments : List (DataInHeader × List ℕ))
+    (bytes : List ℕ) : Type 0 where
   pub joined : joined_data segments ≡ bytes
   pub each : (k : ℕ) (h : DataInHeader) (d : List ℕ) → slice_get segments k ≡ Some (h, d)
       → IsSegment l p (length bytes) segments k h d

@@ -115,7 +115,8 @@ pub record Calls (p : CommandHeader) (asked : Result Command CdbFault) (bytes : 
   pub no_end : end_of a ≡ None
 
 -- the next R2T of a command goes out, where so much of its data has come and these are the counters
-pub record Asks (s : Counters) (p : CommandHeader) (need came requests : ℕ) (next : R2tHeader) (a : Actions) : Type 0 where
+pub record Asks (s : Counters) (p : CommandHeader) (need came requests : ℕ) (next : R2tHeader)
+    (a : Actions) : Type 0 where
   pub is_next : IsNext s.setting.start.lengths.burst p need came requests next
   pub transfer : next.transfer_tag ≡ s.standing.transfer_tag
   pub numbers : next.numbers ≡ next_numbers s

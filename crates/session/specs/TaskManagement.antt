@@ -75,7 +75,8 @@ IsManagedBy (Respond code) call response = (call ≡ None) × (response ≡ Some
 IsManagedBy (Reset unit) call response =
     (answer : ResetAnswer) × (call ≡ Some (reset unit answer)) × (response ≡ reset_response answer)
 
-pub record IsManaged (units : ℕ) (cs : List Collecting) (p : ManagementHeader) (call : Option Asking) (response : Option ℕ)
+pub record IsManaged (units : ℕ) (cs : List Collecting) (p : ManagementHeader) (call : Option Asking)
+    (response : Option ℕ)
     (kept : List Collecting) : Type 0 where
   pub management : Management
   pub comes_to : IsManagement units cs p management kept

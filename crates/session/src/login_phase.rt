@@ -157,7 +157,8 @@ impl LoginPhase {
         ensures outcome { (call : Option Asking) × IsLed T.leads call target.old target.new
             × IsNegotiated self.old.progress request.now text.now
             (answer_to self.old.progress (flags_of request.now) text.now) call result }
-        ensures state { self.new ≡ record self.old { progress = after self.old.progress (flags_of request.now) text.now } }
+        ensures state { self.new
+            ≡ record self.old { progress = after self.old.progress (flags_of request.now) text.now } }
         ensures text { HasText (answer_to self.old.progress (flags_of request.now) text.now) result room.new.items }
         ensures short { length room.new.items ≤ LONGEST_RESPONSE }
         ensures kept { LONGEST_RESPONSE ≤ vec_capacity room.new }

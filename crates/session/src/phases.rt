@@ -82,7 +82,8 @@ impl Phases {
         requires room { LONGEST_RESPONSE ≤ vec_capacity room.old }
         requires bhs { length bhs.now ≡ BHS_LENGTH }
         ensures kept { LONGEST_RESPONSE ≤ vec_capacity room.new }
-        ensures exchange { MakesExchange T.leads self.old self.new target.old target.new (K.held sink.old) (K.held sink.new)
+        ensures exchange { MakesExchange T.leads self.old self.new target.old target.new
+            (K.held sink.old) (K.held sink.new)
             (K.failures sink.old) (K.failures sink.new) outbox.old outbox.new
             (came bhs.now pdu.now.header pdu.now.data.now) result }
     {

@@ -33,10 +33,12 @@ module _ {B : Type 0} (claims : Bool) (contents : B → List (List ℕ)) (failur
   twice (Reply reply) same owner k = (mid, same, k)
   twice Gone same owner k = (joined same k.0, gone_here same k.1)
   twice (Moved to) same owner k = absurd (k.1 owner)
-  twice NoMemory same owner k =
-      (joined same k.0, subst (λ (u : UnitValue B KeepOpener MemBlocks). TakesMemory u.control
-          (request old.at.session asked bytes)) same.unit
-              (subst (λ (n : ℕ). TakesMemory mid.unit.control (request n asked bytes)) same.session k.1))
+  twice NoMemory same owner k = (
+    joined same k.0,
+    subst (λ (u : UnitValue B KeepOpener MemBlocks). TakesMemory u.control
+        (request old.at.session asked bytes)) same.unit
+        (subst (λ (n : ℕ). TakesMemory mid.unit.control (request n asked bytes)) same.session k.1),
+  )
 
   pub at_once : (end : StepEnd) → ((to : Group) → end ≡ Moved to → ⊥)
       → IsStepped claims contents failures old asked bytes end new

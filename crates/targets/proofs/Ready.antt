@@ -30,23 +30,23 @@ pub gone_late : (c : ControlValue) (session serial : ℕ) → next_of c.sessions
     → LAST_COUNT ≤ c.count
 gone_late c session serial next gone =
     ⊎_elim (λ (lt : c.count < LAST_COUNT). absurd (gone (record { room = lt; next = next })))
-        (λ (le : LAST_COUNT ≤ c.count). le) (cases_lt c.count LAST_COUNT)
+    (λ (le : LAST_COUNT ≤ c.count). le) (cases_lt c.count LAST_COUNT)
 
 -- behind a command its serial is the next again
 pub ready_next : (c new : ControlValue) (session serial : ℕ) (by_group : Group) (asked : Result ScsiCommand CdbFault)
     (bytes : List ℕ) (choice : Choice) → IsNext c session serial
-        → new ≡ control_after c (Command session serial by_group asked bytes choice)
+    → new ≡ control_after c (Command session serial by_group asked bytes choice)
     → next_of new.sessions session ≡ Some (serial + 1)
 ready_next c new session serial by_group asked bytes choice is after =
     ap (λ (d : ControlValue). next_of d.sessions session) after ∙ next_after c session serial by_group asked bytes choice is
 
 pub count_next : (c new : ControlValue) (session serial : ℕ) (by_group : Group) (asked : Result ScsiCommand CdbFault)
     (bytes : List ℕ) (choice : Choice) → serial ≤ c.count
-        → new ≡ control_after c (Command session serial by_group asked bytes choice)
+    → new ≡ control_after c (Command session serial by_group asked bytes choice)
     → serial + 1 ≤ new.count
 count_next c new session serial by_group asked bytes choice fits after =
     let e : new.count ≡ c.count + 1 = ap (λ (d : ControlValue). d.count) after
-        ∙ count_after c session serial by_group asked bytes choice in omega arith
+    ∙ count_after c session serial by_group asked bytes choice in omega arith
 
 -- behind a reset of its own its serial is the same
 next_reset : (sessions : List Attached) (by_session session : ℕ)
@@ -55,12 +55,12 @@ next_reset [] by_session session = refl
 next_reset (a ∷ rest) by_session session =
     ⊎_elim (λ (own : (nat_eq a.id by_session ≡ true) × (a.id ≡ by_session)). rw own.0
     (⊎_elim (λ (t : (nat_eq a.id session ≡ true) × (a.id ≡ session)). rw t.0 refl)
-        (λ (f : (nat_eq a.id session ≡ false) × (a.id ≢ session)). rw f.0 (next_reset rest by_session session))
-            (eqb_tells a.id session)))
+    (λ (f : (nat_eq a.id session ≡ false) × (a.id ≢ session)). rw f.0 (next_reset rest by_session session))
+    (eqb_tells a.id session)))
     (λ (other : (nat_eq a.id by_session ≡ false) × (a.id ≢ by_session)). rw other.0
     (⊎_elim (λ (t : (nat_eq a.id session ≡ true) × (a.id ≡ session)). rw t.0 refl)
-        (λ (f : (nat_eq a.id session ≡ false) × (a.id ≢ session)). rw f.0 (next_reset rest by_session session))
-            (eqb_tells a.id session)))
+    (λ (f : (nat_eq a.id session ≡ false) × (a.id ≢ session)). rw f.0 (next_reset rest by_session session))
+    (eqb_tells a.id session)))
     (eqb_tells a.id by_session)
 
 pub ready_reset : (c new : ControlValue) (session serial : ℕ) → next_of c.sessions session ≡ Some serial
@@ -78,8 +78,8 @@ pub reset_late : (c : ControlValue) (session serial : ℕ) → next_of c.session
     → LAST_COUNT ≤ c.count
 reset_late c session serial next gone =
     ⊎_elim (λ (lt : c.count < LAST_COUNT). absurd
-        (gone (record { room = lt; attached = is_attached (session_of c.sessions session) serial next })))
-            (λ (le : LAST_COUNT ≤ c.count). le) (cases_lt c.count LAST_COUNT)
+    (gone (record { room = lt; attached = is_attached (session_of c.sessions session) serial next })))
+    (λ (le : LAST_COUNT ≤ c.count). le) (cases_lt c.count LAST_COUNT)
 
 -- ---- what a target answered
 
@@ -98,13 +98,13 @@ module _ {B : Type 0} (old new : TargetValue B) where
   pub fits_same : IsSame old new → old.at.serial ≤ old.unit.control.count → new.at.serial ≤ new.unit.control.count
   fits_same same fits =
       let e : new.unit.control.count ≡ old.unit.control.count =
-          ap (λ (u : UnitValue B KeepOpener MemBlocks). u.control.count) same.unit in
+      ap (λ (u : UnitValue B KeepOpener MemBlocks). u.control.count) same.unit in
       let f : new.at.serial ≡ old.at.serial = same.serial in omega arith
 
   pub grows_same : IsSame old new → old.unit.control.count ≤ new.unit.control.count
   grows_same same =
       let e : new.unit.control.count ≡ old.unit.control.count =
-          ap (λ (u : UnitValue B KeepOpener MemBlocks). u.control.count) same.unit in omega arith
+      ap (λ (u : UnitValue B KeepOpener MemBlocks). u.control.count) same.unit in omega arith
 
 module _ {B : Type 0} (claims : Bool) (contents : B → List (List ℕ)) (failures : B → ℕ) (old new : TargetValue B) where
   -- what one fact tells of a session that is gone, another tells that follows
@@ -130,7 +130,7 @@ module _ {B : Type 0} (claims : Bool) (contents : B → List (List ℕ)) (failur
       let choice : Choice = choice_of reply (contents new.unit.device) new.unit.control.lasting in
       ap (λ (n : ℕ). next_of new.unit.control.sessions n) done.session
       ∙ ready_next by_owner.unit.control new.unit.control by_owner.at.session by_owner.at.serial by_owner.at.by asked
-          bytes choice done.step.possible.next done.step.control
+      bytes choice done.step.possible.next done.step.control
       ∙ sym (ap some done.serial)
   ready_answered late number asked bytes (Outside reply) next k = ready_same old new k.2 next
   ready_answered late number asked bytes Busy next k = ready_same old new k.1 next
@@ -145,7 +145,7 @@ module _ {B : Type 0} (claims : Bool) (contents : B → List (List ℕ)) (failur
     counted reply by_owner same done =
         ap (λ (d : ControlValue). d.count) done.step.control
         ∙ count_after by_owner.unit.control by_owner.at.session by_owner.at.serial by_owner.at.by asked bytes
-            (choice_of reply (contents new.unit.device) new.unit.control.lasting)
+        (choice_of reply (contents new.unit.device) new.unit.control.lasting)
         ∙ ap (λ (u : UnitValue B KeepOpener MemBlocks). u.control.count + 1) same.unit
 
     pub fits_answered : (a : TargetAnswer) → old.at.serial ≤ old.unit.control.count

@@ -29,7 +29,7 @@ pub all_later : (count later begun more : ℕ) (live : List LiveSession) → cou
     → All (IsCounted count begun) live → All (IsCounted later more) live
 all_later count later begun more live le grows fits =
     All-weaker (IsCounted count begun) (IsCounted later more)
-        (λ s b. later_one count later begun more s le grows b) live fits
+    (λ s b. later_one count later begun more s le grows b) live fits
 
 -- the session of the connection that asks
 found_at : (count : ℕ) (s : LiveSession) (rest : Option LiveSession) (at : Attachment) (b : Bool)
@@ -46,7 +46,7 @@ pub present_fits : (count begun : ℕ) (present : Option ℕ) (live : List LiveS
 present_fits count begun present [] at fits is = absurd (cc)
 present_fits count begun present (s ∷ live) at fits is =
     found_at count s (find (is_present present) live) at (is_present present s)
-        (All-head (IsCounted count begun) s live fits).serial
+    (All-head (IsCounted count begun) s live fits).serial
     (λ there. present_fits count begun present live at (All-tail (IsCounted count begun) s live fits) there) is
 
 -- it is kept
@@ -71,7 +71,7 @@ pub all_written : (later begun n : ℕ) (kept old : List LiveSession) → All (I
 all_written later begun n kept old a b =
     All-take (IsCounted later begun) n (kept ++ drop (length kept) old)
     (All-append (IsCounted later begun) kept (drop (length kept) old) a
-        (All-drop (IsCounted later begun) (length kept) old b))
+    (All-drop (IsCounted later begun) (length kept) old b))
 
 -- others live on, and a new one does
 pub all_filtered : (later begun : ℕ) (test : LiveSession → Bool) (live : List LiveSession) → All (IsCounted later begun) live
@@ -132,4 +132,4 @@ module _ (test : LiveSession → Bool) where
       subst (λ (y : LiveSession). cond (test y) (Some y) (find test live) ≡ Some x) is (rw passes refl)
   found_here (s ∷ live) (suc k) x lt is passes none =
       test_fails (test s) s x (find test (take k live)) (find test live) none
-          (λ rest. found_here live k x (omega arith) is passes rest)
+      (λ rest. found_here live k x (omega arith) is passes rest)

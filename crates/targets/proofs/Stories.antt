@@ -53,22 +53,25 @@ counted_more before mid now session serial by_group asked bytes Fine history t k
       k.at_most room in omega (arith, failed_more (Command session serial by_group asked bytes Fine) history);
   only = λ room none. let same : mid ≡ before =
       t.stays (omega (arith, t.later, k.later)) refl in let rest : now ≡ mid =
-          k.only room (omega (arith, failed_more (Command session serial by_group asked bytes Fine) history)) in omega
-              arith;
+      k.only room (omega (arith, failed_more (Command session serial by_group asked bytes Fine) history)) in omega
+      arith;
 }
 counted_more before mid now session serial by_group asked bytes ReadFailed history t k = record {
   later = omega (arith, t.later, k.later);
   at_most = λ room. let up : before < mid =
       t.rises (omega (arith, t.later, k.later)) (λ (e : false ≡ true). cc) in let rest =
-          k.at_most room in omega (arith, failed_more (Command session serial by_group asked bytes ReadFailed) history);
+      k.at_most room in omega (arith, failed_more (Command session serial by_group asked bytes ReadFailed) history);
   only = λ room none. absurd (omega (arith, failed_more (Command session serial by_group asked bytes ReadFailed) history));
 }
 counted_more before mid now session serial by_group asked bytes (WriteFailed after) history t k = record {
   later = omega (arith, t.later, k.later);
   at_most = λ room. let up : before < mid =
       t.rises (omega (arith, t.later, k.later)) (λ (e : false ≡ true). cc) in let rest =
-          k.at_most room in omega (arith, failed_more
-              (Command session serial by_group asked bytes (WriteFailed after)) history);
+      k.at_most room in omega (
+        arith,
+        failed_more
+            (Command session serial by_group asked bytes (WriteFailed after)) history,
+      );
   only = λ room none. absurd
       (omega (arith, failed_more (Command session serial by_group asked bytes (WriteFailed after)) history));
 }
@@ -76,15 +79,18 @@ counted_more before mid now session serial by_group asked bytes OpenFailed histo
   later = omega (arith, t.later, k.later);
   at_most = λ room. let up : before < mid =
       t.rises (omega (arith, t.later, k.later)) (λ (e : false ≡ true). cc) in let rest =
-          k.at_most room in omega (arith, failed_more (Command session serial by_group asked bytes OpenFailed) history);
+      k.at_most room in omega (arith, failed_more (Command session serial by_group asked bytes OpenFailed) history);
   only = λ room none. absurd (omega (arith, failed_more (Command session serial by_group asked bytes OpenFailed) history));
 }
 counted_more before mid now session serial by_group asked bytes (SaveFailed records) history t k = record {
   later = omega (arith, t.later, k.later);
   at_most = λ room. let up : before < mid =
       t.rises (omega (arith, t.later, k.later)) (λ (e : false ≡ true). cc) in let rest =
-          k.at_most room in omega (arith, failed_more
-              (Command session serial by_group asked bytes (SaveFailed records)) history);
+      k.at_most room in omega (
+        arith,
+        failed_more
+            (Command session serial by_group asked bytes (SaveFailed records)) history,
+      );
   only = λ room none. absurd
       (omega (arith, failed_more (Command session serial by_group asked bytes (SaveFailed records)) history));
 }
@@ -151,7 +157,7 @@ module _ {B : Type 0} (claims : Bool) (contents : B → List (List ℕ)) (failur
   module _ (s : UnitState) (cs : List Asking) (e : Entry) (this : Asking) (this_call : EnteredCall)
       (mine : IsEntryOf e this_call)
       (told : (c : RepliedCall) → this_call ≡ replied c
-          → IsReplyTo claims s e c.reply) (same : entered (this ∷ cs) ≡ this_call ∷ entered cs) where
+      → IsReplyTo claims s e c.reply) (same : entered (this ∷ cs) ≡ this_call ∷ entered cs) where
     entry_here : (history : List Entry) → AreCommands claims (after s e) cs history → (k : ℕ) (call : EnteredCall)
         → slice_get (this_call ∷ entered cs) k ≡ Some call
         → (f : Entry) × (slice_get (e ∷ history) k ≡ Some f) × IsEntryOf f call
@@ -176,7 +182,7 @@ module _ {B : Type 0} (claims : Bool) (contents : B → List (List ℕ)) (failur
 
   entered_more : (e : Entry) (s : UnitState) (c : Asking) (cs : List Asking) (history : List Entry)
       (call : EnteredCall) → entered_by c ≡ Some call → IsUnserved s c → AreUnserved (after s e) cs history
-          → AreUnserved s (c ∷ cs) (e ∷ history)
+      → AreUnserved s (c ∷ cs) (e ∷ history)
   entered_more e s c cs history call some here rest zero call' at =
       subst (λ (d : Asking). IsUnserved s d) (first_is c call' cs at) here
   entered_more e s c cs history call some here rest (suc k) call' at = rw some (rest k call' at)
@@ -221,8 +227,8 @@ module _ {B : Type 0} (claims : Bool) (contents : B → List (List ℕ)) (failur
       let entry : Entry = Command 0 by_owner.at.serial by_owner.at.by asked bytes choice in
       let step : IsStep claims (state_of contents by_owner.unit) (state_of contents mid.unit) entry reply =
       subst (λ (n : ℕ). IsStep claims (state_of contents by_owner.unit) (state_of contents mid.unit)
-          (entry_of n by_owner.at.serial by_owner.at.by asked bytes reply (state_of contents mid.unit)) reply)
-              mine done.step in
+      (entry_of n by_owner.at.serial by_owner.at.by asked bytes reply (state_of contents mid.unit)) reply)
+      mine done.step in
       let call : RepliedCall = record { asked = asked; bytes = bytes; reply = reply } in
       let k = rest (after s entry) (done.session ∙ mine) (matches_after s by_owner mid m' entry reply step) in
       record {
@@ -230,28 +236,28 @@ module _ {B : Type 0} (claims : Bool) (contents : B → List (List ℕ)) (failur
         legal = (possible_here s by_owner mid m' entry reply step, k.legal);
         commands = commands_more s cs entry (served unit asked bytes (Replied reply)) (replied call) (refl, refl, refl)
             (λ c same_call. let same_one : call ≡ c =
-                cc in subst (λ (z : RepliedCall). IsReplyTo claims s entry z.reply) same_one
-                    (replied_here s by_owner mid m' entry reply step)) refl k.history k.commands;
+            cc in subst (λ (z : RepliedCall). IsReplyTo claims s entry z.reply) same_one
+            (replied_here s by_owner mid m' entry reply step)) refl k.history k.commands;
         others = entered_more entry s (served unit asked bytes (Replied reply)) cs k.history (replied call) refl tt k.others;
         counted = counted_more (failures x.unit.device) (failures mid.unit.device)
             (failures x'.unit.device) 0 by_owner.at.serial by_owner.at.by asked bytes choice k.history
             (subst (λ (u : UnitValue B KeepOpener MemBlocks). Tells (failures u.device) (failures mid.unit.device)
-                (IsFine choice)) same.unit
-                    (tells_alone (failures by_owner.unit.device) (failures mid.unit.device)
-                        (IsFine choice) done.fine)) k.counted;
+            (IsFine choice)) same.unit
+            (tells_alone (failures by_owner.unit.device) (failures mid.unit.device)
+            (IsFine choice) done.fine)) k.counted;
         ends = k.ends;
       }
   next unit asked bytes (Outside reply) cs s x mid x' zero_is m led rest =
       past s x mid x' cs (served unit asked bytes (Outside reply)) refl (led.0, led.1) refl led.2
-          (rest s (led.2.session ∙ zero_is) (same_unit s x mid led.2.unit m))
+      (rest s (led.2.session ∙ zero_is) (same_unit s x mid led.2.unit m))
   next unit asked bytes Busy cs s x mid x' zero_is m led rest =
       past s x mid x' cs (served unit asked bytes Busy) refl
       (subst (λ (c : ControlValue). IsBusy c 0 unit asked bytes) (sym m.control)
-          (subst (λ (n : ℕ). IsBusy x.unit.control n unit asked bytes) zero_is led.0)) refl led.1
+      (subst (λ (n : ℕ). IsBusy x.unit.control n unit asked bytes) zero_is led.0)) refl led.1
       (rest s (led.1.session ∙ zero_is) (same_unit s x mid led.1.unit m))
   next unit asked bytes Gone cs s x mid x' zero_is m led rest =
       past s x mid x' cs (served unit asked bytes Gone) refl
-          (led.0, subst (λ (c : ControlValue). LAST_COUNT ≤ c.count) (sym m.control) led.2) refl led.1
+      (led.0, subst (λ (c : ControlValue). LAST_COUNT ≤ c.count) (sym m.control) led.2) refl led.1
       (rest s (led.1.session ∙ zero_is) (same_unit s x mid led.1.unit m))
   next unit asked bytes Halted cs s x mid x' zero_is m led rest = absurd led
 
@@ -274,13 +280,16 @@ module _ {B : Type 0} (claims : Bool) (contents : B → List (List ℕ)) (failur
       let control : s.control ≡ x.unit.control = m.control in
       let here : (after s (Reset 0)).control ≡ mid.unit.control =
       ap (λ (c : ControlValue). control_after c (Reset 0)) control
-          ∙ ap (λ (n : ℕ). control_after x.unit.control (Reset n)) (sym zero_is) ∙ sym done.control in
+      ∙ ap (λ (n : ℕ). control_after x.unit.control (Reset n)) (sym zero_is) ∙ sym done.control in
       let k = rest (after s (Reset 0)) (done.session
-          ∙ zero_is) (record { control = here; blocks = λ h. m.blocks h ∙ ap contents (sym done.device) }) in
+      ∙ zero_is) (record { control = here; blocks = λ h. m.blocks h ∙ ap contents (sym done.device) }) in
       record {
         history = Reset 0 ∷ k.history;
-        legal = (subst (λ (c : ControlValue). IsAttached c 0) (sym control)
-            (subst (λ (n : ℕ). IsAttached x.unit.control n) zero_is done.possible), k.legal);
+        legal = (
+          subst (λ (c : ControlValue). IsAttached c 0) (sym control)
+              (subst (λ (n : ℕ). IsAttached x.unit.control n) zero_is done.possible),
+          k.legal,
+        );
         commands = commands_more s cs (Reset 0) (reset unit resets.Done) was_reset refl
             (λ c same_call. absurd (cc)) refl k.history k.commands;
         others = entered_more (Reset 0) s (reset unit resets.Done) cs k.history was_reset refl tt k.others;
@@ -290,21 +299,21 @@ module _ {B : Type 0} (claims : Bool) (contents : B → List (List ℕ)) (failur
       }
   reset_next unit resets.Gone cs s x mid x' zero_is m led rest =
       past s x mid x' cs (reset unit resets.Gone) refl
-          (led.0, subst (λ (c : ControlValue). LAST_COUNT ≤ c.count) (sym m.control) led.2) refl led.1
+      (led.0, subst (λ (c : ControlValue). LAST_COUNT ≤ c.count) (sym m.control) led.2) refl led.1
       (rest s (led.1.session ∙ zero_is) (same_unit s x mid led.1.unit m))
   reset_next unit resets.Failed cs s x mid x' zero_is m led rest =
       past s x mid x' cs (reset unit resets.Failed) refl led.0 refl led.1 (rest s (led.1.session
-          ∙ zero_is) (same_unit s x mid led.1.unit m))
+      ∙ zero_is) (same_unit s x mid led.1.unit m))
 
   asked_next : (c : Asking) (cs : List Asking) (s : UnitState) (x mid x' : TargetValue B) → x.at.session ≡ 0 → Matches s x
       → LeadsOn claims contents failures x c mid
       → ((s' : UnitState) → mid.at.session ≡ 0 → Matches s' mid → Story s' mid x' cs) → Story s x x' (c ∷ cs)
   asked_next (began port kind a) cs s x mid x' zero_is m led rest =
       past s x mid x' cs (began port kind a) refl led.0 refl led.1 (rest s (led.1.session
-          ∙ zero_is) (same_unit s x mid led.1.unit m))
+      ∙ zero_is) (same_unit s x mid led.1.unit m))
   asked_next (lives tsih port a) cs s x mid x' zero_is m led rest =
       past s x mid x' cs (lives tsih port a) refl led.0 refl led.1 (rest s (led.1.session
-          ∙ zero_is) (same_unit s x mid led.1.unit m))
+      ∙ zero_is) (same_unit s x mid led.1.unit m))
   asked_next over cs s x mid x' zero_is m led rest =
       past s x mid x' cs over refl tt refl led (rest s (led.session ∙ zero_is) (same_unit s x mid led.unit m))
   asked_next (served unit asked bytes a) cs s x mid x' zero_is m led rest =
@@ -324,8 +333,12 @@ module _ {B : Type 0} (claims : Bool) (contents : B → List (List ℕ)) (failur
   story [] s x x' zero_is m same = record {
     history = [];
     legal = tt;
-    commands = record { as_many = refl; entry = λ k call at. absurd (none_at k call at); reply =
-        λ k call at. absurd (none_at k (replied call) at) };
+    commands = record {
+      as_many = refl;
+      entry = λ k call at. absurd (none_at k call at);
+      reply =
+          λ k call at. absurd (none_at k (replied call) at);
+    };
     others = λ k call at. absurd (no_call k call at);
     counted = rw same (record { later = omega arith; at_most = λ room. omega arith; only = λ room none. refl });
     ends = λ h. ap (λ (y : TargetValue B). contents y.unit.device) same ∙ sym (m.blocks h);
@@ -338,7 +351,7 @@ pub is_once : {B : Type 0} (me : Identity) (start : Start) (claims : Bool) (size
     → List (List ℕ)) (failures : B
     → ℕ) (blocks device : B) (x x' : TargetValue B) (left left' held held' : Option (List ℕ)) (end : End)
     → IsBegun size blocks x → IsTranscribed (LeadsOn claims contents failures) 1 me
-        (FullFeature Normal start) left left' held held' x x' end
+    (FullFeature Normal start) left left' held held' x x' end
     → device ≡ x'.unit.device
     → IsOnce (setting_of 1 me Normal start) claims size contents failures blocks device left left' held held' end
 is_once {B = B} me start claims size contents failures blocks device x x' left left' held held' end first t is_device =
@@ -352,9 +365,9 @@ is_once {B = B} me start claims size contents failures blocks device x x' left l
     ap (λ (ls : List LoginTurn). map of_login ls ++ map of_turn turns) passed.lawful.0 in
     let led = subst (λ (z : List Exchange). Leads (LeadsOn claims contents failures) (asked z) x t.at_end) es passed.led in
     let k = story claims contents failures (asked (map of_turn turns))
-        (begun size contents blocks) x t.at_end first.session begun_here led in
+    (begun size contents blocks) x t.at_end first.session begun_here led in
     let at_end : device ≡ t.at_end.unit.device = is_device
-        ∙ ap (λ (u : UnitValue B KeepOpener MemBlocks). u.device) t.told.unit in
+    ∙ ap (λ (u : UnitValue B KeepOpener MemBlocks). u.device) t.told.unit in
     record {
       transcript = turns;
       served = record {
@@ -368,9 +381,22 @@ is_once {B = B} me start claims size contents failures blocks device x x' left l
         written = subst (λ (z : List Exchange). Written end held held' z) es passed.written;
       };
       history = k.history;
-      legal = (record { room = omega arith;
-          sessions = omega arith }, (record { next = record { room = omega arith; next = refl }; owner =
-              refl; chosen = refl; torn = λ h. tt }, k.legal));
+      legal = (
+        record {
+          room = omega arith;
+          sessions = omega arith;
+        },
+        (
+          record {
+            next = record { room = omega arith; next = refl };
+            owner =
+                refl;
+            chosen = refl;
+            torn = λ h. tt;
+          },
+          k.legal,
+        ),
+      );
       commands = k.commands;
       others = k.others;
       counted = subst (λ (d : B). AreCounted (failures d) (failures device) k.history) first.device

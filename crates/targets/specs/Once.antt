@@ -156,7 +156,8 @@ pub record IsServed (m : Setting) (ts : List Turn) (left left' held held' : Opti
 
 -- Its calls are the commands of one legal history of the unit; the failures that this tells are those of the device;
 -- and where the device's type claims its contents, it has the blocks after that history.
-pub record IsOnce {B : Type 0} (m : Setting) (claims : Bool) (size : B → ℕ) (contents : B → List (List ℕ)) (failures : B → ℕ)
+pub record IsOnce {B : Type 0} (m : Setting) (claims : Bool) (size : B → ℕ)
+    (contents : B → List (List ℕ)) (failures : B → ℕ)
     (blocks device : B) (left left' held held' : Option (List ℕ)) (end : End) : Type 0 where
   pub transcript : List Turn
   pub served : IsServed m transcript left left' held held' end

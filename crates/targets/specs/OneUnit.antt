@@ -40,7 +40,8 @@ abbrev pub never_unsaved : MemBlocks → ℕ
 never_unsaved device = 0
 
 -- a command of the session was one step of the unit, which tells the truth of failures
-pub record IsCommand {B : Type 0} (claims : Bool) (contents : B → List (List ℕ)) (failures : B → ℕ) (old new : TargetValue B)
+pub record IsCommand {B : Type 0} (claims : Bool) (contents : B → List (List ℕ)) (failures : B → ℕ)
+    (old new : TargetValue B)
     (asked : Result ScsiCommand CdbFault) (bytes : List ℕ) (reply : ReplyValue) : Type 0 where
   pub session : new.at.session ≡ old.at.session
   pub serial : new.at.serial ≡ old.at.serial + 1

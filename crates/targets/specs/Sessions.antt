@@ -183,7 +183,8 @@ pub record IsOver {B : Type 0} (old new : SessionsValue B) : Type 0 where
 
 -- An attached session is answered as one that has the unit alone, but that it is gone where its serial is not its next at
 -- the unit, or the history has its last length. It lives on, with its next serial.
-pub record IsServedAt {B : Type 0} (claims : Bool) (contents : B → List (List ℕ)) (failures : B → ℕ) (old new : SessionsValue B)
+pub record IsServedAt {B : Type 0} (claims : Bool) (contents : B → List (List ℕ)) (failures : B → ℕ)
+    (old new : SessionsValue B)
     (at : Attachment) (number : Option ℕ) (asked : Result ScsiCommand CdbFault) (bytes : List ℕ) (answer : TargetAnswer)
     : Type 0 where
   pub after : Attachment
@@ -192,7 +193,8 @@ pub record IsServedAt {B : Type 0} (claims : Bool) (contents : B → List (List 
   pub rest : new ≡ record old { unit = new.unit; live = map (with_attachment old.present after) old.live }
 
 -- One that is not attached is turned away, and changes nothing.
-abbrev pub IsServed : {B : Type 0} → Bool → (B → List (List ℕ)) → (B → ℕ) → SessionsValue B → SessionsValue B → Option Attachment
+abbrev pub IsServed : {B : Type 0} → Bool → (B → List (List ℕ)) → (B → ℕ) → SessionsValue B → SessionsValue B
+    → Option Attachment
     → Option ℕ → Result ScsiCommand CdbFault → List ℕ → TargetAnswer → Type 0
 IsServed claims contents failures old new (Some at) number asked bytes answer =
     IsServedAt claims contents failures old new at number asked bytes answer

@@ -44,7 +44,7 @@ pub good_lasts : (c : ControlValue) (session : ℕ) (action : PrOutAction) (scop
     → Some (reply_with refused c (request session (Ok (PersistentReserveOut action scope kind n)) bytes)
     (found blocks Nothing choice)) ≡ Some (good [])
     → LastsAlone (pass (control_with refused c (request session (Ok (PersistentReserveOut action scope kind n)) bytes)
-        choice) session)
+    choice) session)
 good_lasts c session action scope kind n bytes choice blocks (Some refused) is =
     absurd (no_refusal refused (status_of (refusal_reply refused) is))
 good_lasts c session action scope kind n bytes choice blocks None is =

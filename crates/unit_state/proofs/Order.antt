@@ -172,7 +172,7 @@ module _ (c : ControlValue) (r : Request) (none : refusal c r ≡ None) where
   behind_kind : of_field ≡ None
   behind_kind =
       none_right (conflict_rule c r) of_field
-          (none_right (access_rule c r) (option_or (conflict_rule c r) of_field) behind_opcode)
+      (none_right (access_rule c r) (option_or (conflict_rule c r) of_field) behind_opcode)
 
   behind_saved : of_range ≡ None
   behind_saved = none_right (saved_rule c r) of_range
@@ -202,7 +202,7 @@ pub asks_something : (c : ControlValue) (session : ℕ) (asked : Result ScsiComm
 asks_something c session asked bytes fault none is =
     let nothing : refusal c (request session (Err fault) bytes) ≡ None = rw is at (sym none) in
     known_fault fault bytes (known c (request session (Err fault) bytes) nothing)
-        (whole c (request session (Err fault) bytes) nothing)
+    (whole c (request session (Err fault) bytes) nothing)
 
 -- ---- what lets a command through
 

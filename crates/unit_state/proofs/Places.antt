@@ -39,7 +39,7 @@ pub absent_more : (sessions : List Attached) (id k : ℕ) (a : Attached) → a �
     → (a.id ≡ id → ⊥) → session_of (take k sessions) id ≡ None → session_of (take (k + 1) sessions) id ≡ None
 absent_more sessions id k a is lt other none =
     rw (take_more sessions k a lt)
-        (absent_append (take k sessions) (get_or sessions k a ∷ []) id none (rw (← is) (absent_one a id other)))
+    (absent_append (take k sessions) (get_or sessions k a ∷ []) id none (rw (← is) (absent_one a id other)))
 
 -- one place further back
 behind : (f : Attached → Attached) (x : Attached) (xs : List Attached) (id k : ℕ) (o : Option Attached)
@@ -103,7 +103,7 @@ changed_twice f g keeps [] id = refl
 changed_twice f g keeps (x ∷ xs) id =
     ⊎_elim (λ (t : (nat_eq x.id id ≡ true) × (x.id ≡ id)). rw t.0 (rw (keeps x) (rw t.0 refl)))
     (λ (n : (nat_eq x.id id ≡ false)
-        × (x.id ≢ id)). rw n.0 (rw n.0 (ap (λ (ss : List Attached). x ∷ ss) (changed_twice f g keeps xs id))))
+    × (x.id ≢ id)). rw n.0 (rw n.0 (ap (λ (ss : List Attached). x ∷ ss) (changed_twice f g keeps xs id))))
     (eqb_tells x.id id)
 
 got_set : (xs : List Attached) (k : ℕ) (a : Attached) → k < length xs → slice_get (set xs k a) k ≡ Some a
@@ -139,7 +139,7 @@ pub place_stays : (f : Attached → Attached) → ((a : Attached) → (f a).id �
     → IsPlaceOf new id k
 place_stays f keeps sessions new id k place is =
     stays_with f keeps sessions new id k (slice_get sessions k) place.there place.below place.first place.found
-        place.changes is
+    place.changes is
 
 -- ---- changes of all sessions that keep their ids
 
@@ -161,7 +161,7 @@ pub has_id : (sessions : List Attached) (id : ℕ) (a : Attached) → session_of
 has_id [] id a h = absurd (cc)
 has_id (x ∷ xs) id a h =
     ⊎_elim (λ (t : (nat_eq x.id id ≡ true) × (x.id ≡ id)). let e : Some x ≡ Some a = rw t.0 at h in let is : x ≡ a =
-        cc in rw (sym is) t.1)
+    cc in rw (sym is) t.1)
     (λ (n : (nat_eq x.id id ≡ false) × (x.id ≢ id)). has_id xs id a (rw n.0 at h))
     (eqb_tells x.id id)
 
@@ -171,10 +171,10 @@ mapped_with : (f : Attached → Attached) → ((a : Attached) → (f a).id ≡ a
 mapped_with f keeps xs id k None there at lt first found = absurd (cc)
 mapped_with f keeps xs id k (Some a) there at lt first found =
     let here : f a ≡ get_or (map f xs) k (f a) =
-        sym (get_or-map f xs k a (f a) lt ∙ ap f (get_or_from_slice_get xs k a a at)) in
+    sym (get_or-map f xs k a (f a) lt ∙ ap f (get_or_from_slice_get xs k a a at)) in
     let before : session_of (take k (map f xs)) id ≡ None =
     ap (λ (ss : List Attached). session_of ss id) (take-map f k xs) ∙ session_mapped f keeps (take k xs) id
-        ∙ ap (option_map f) first in
+    ∙ ap (option_map f) first in
     is_place (map f xs) id k (f a) here (omega (arith, length-map xs f)) (keeps a ∙ has_id xs id a found) before
 
 pub place_mapped : (f : Attached → Attached) → ((a : Attached) → (f a).id ≡ a.id)
@@ -196,14 +196,14 @@ pub serials_fit : (nexus : Nexus) (sessions : List Attached) (count : ℕ) (new 
 serials_fit nexus sessions count new first named fit =
     All-push (IsFit (count + 1)) (without nexus sessions) new
     (All-filter (λ a. not (is_of nexus a)) (IsFit (count + 1)) sessions
-        (λ k d lt. fit_later count (get_or sessions k d) (fit k d lt)))
+    (λ k d lt. fit_later count (get_or sessions k d) (fit k d lt)))
     (record { next = omega arith; port = named })
 
 pub serials_fit_ended : (id : ℕ) (sessions : List Attached) (count : ℕ) → All (IsFit count) sessions
     → All (IsFit (count + 1)) (ended sessions id)
 serials_fit_ended id sessions count fit =
     All-filter (λ a. not (nat_eq a.id id)) (IsFit (count + 1)) sessions
-        (λ k d lt. fit_later count (get_or sessions k d) (fit k d lt))
+    (λ k d lt. fit_later count (get_or sessions k d) (fit k d lt))
 
 reset_keeps_fit : (id count : ℕ) (a : Attached) → IsFit count a → IsFit (count + 1) (heard_reset id a)
 reset_keeps_fit id count a h =
@@ -229,7 +229,7 @@ pub serials_fit_changed : (by_session : Option ℕ) (sessions : List Attached) (
     → All (IsFit count) (map (hear_change by_session) sessions)
 serials_fit_changed by_session sessions count fit =
     All-map (IsFit count) (hear_change by_session) sessions
-        (λ k d lt. change_keeps_fit by_session count (get_or sessions k d) (fit k d lt))
+    (λ k d lt. change_keeps_fit by_session count (get_or sessions k d) (fit k d lt))
 
 -- a session stays at its place where a change of access states is told
 pub place_told : (is : Bool) (by_session : Option ℕ) (sessions : List Attached) (id k : ℕ) → IsPlaceOf sessions id k
@@ -242,7 +242,7 @@ pub serials_fit_reset : (id : ℕ) (sessions : List Attached) (count : ℕ) → 
     → All (IsFit (count + 1)) (all_reset sessions id)
 serials_fit_reset id sessions count fit =
     All-map (IsFit (count + 1)) (heard_reset id) sessions
-        (λ k d lt. reset_keeps_fit id count (get_or sessions k d) (fit k d lt))
+    (λ k d lt. reset_keeps_fit id count (get_or sessions k d) (fit k d lt))
 
 -- ---- a change of all, one by one
 

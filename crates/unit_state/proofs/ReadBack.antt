@@ -26,7 +26,7 @@ module _ (s : UnitState) (session serial : ℕ) (by_group : Group) (reader next 
       → refusal s.control (request session (Ok (Write lba blocks fua)) bytes) ≡ None
       → refusal wrote.control (request reader (Ok (Read lba blocks past)) none) ≡ None
       → reply_to wrote (Command reader next through (Ok (Read lba blocks past)) none Fine) ≡ Some
-          (good (take (512 * blocks) bytes))
+      (good (take (512 * blocks) bytes))
   read_after whole h reads =
       let inside : lba + blocks ≤ s.control.total =
       within s.control.total range (ranged s.control (request session (Ok (Write lba blocks fua)) bytes) h) in

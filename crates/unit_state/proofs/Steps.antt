@@ -35,7 +35,7 @@ refused_answer claims old new before now r refused reply is told control same = 
 done_answer : (claims : Bool) (old new : UnitState) (command : ScsiCommand) (bytes : List ℕ) (reply : ReplyValue)
     (session : ℕ) → IsServed claims old new session command bytes reply
     → IsAnswerWith claims old new (request session (Ok command) bytes) None
-        (choice_of reply new.blocks new.control.lasting) reply
+    (choice_of reply new.blocks new.control.lasting) reply
 done_answer claims old new command bytes reply session done = record {
   chosen = done.chosen;
   torn = done.torn;
@@ -73,9 +73,9 @@ answered_step claims old mid new session serial by_group asked bytes reply next 
     let last : new.control.lasting ≡ mid.control.lasting = ap (λ (c : ControlValue). c.lasting) control in
     let chose : choice_of reply mid.blocks mid.control.lasting ≡ choice_of reply new.blocks new.control.lasting =
     ap (λ (b : List (List ℕ)). choice_of reply b mid.control.lasting) (sym same)
-        ∙ ap (choice_of reply new.blocks) (sym last) in
+    ∙ ap (choice_of reply new.blocks) (sym last) in
     subst (λ (choice : Choice). IsStep claims old new
-        (Command session serial by_group asked bytes choice) reply) chose (record {
+    (Command session serial by_group asked bytes choice) reply) chose (record {
       possible = record { next = next; owner = owner; chosen = k.chosen; torn = k.torn };
       control = control ∙ ap (λ (c : ControlValue). pass c session) k.control;
       blocks = λ h. same ∙ k.blocks h;
@@ -129,7 +129,7 @@ pub restarts : {B : Type 0} (size : B → ℕ) (may_hold : B → ℕ → List �
     → EachOutcomeHolds (size file.device) (may_hold file.device) said
 restarts size may_hold file records said lasts same =
     subst (EachOutcomeHolds (size file.device) (may_hold file.device)) (sym same)
-        (each_outcome_holds size may_hold file records lasts)
+    (each_outcome_holds size may_hold file records lasts)
 
 pub restart_seen : {B O R : Type 0} (claims : Bool) (size : R → ℕ) (may_hold : R → ℕ → List ℕ → Type 0)
     (inside seen : UnitValue B O R) → inside ≡ seen →

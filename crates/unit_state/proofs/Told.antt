@@ -34,7 +34,7 @@ pub taken_once : (c : ControlValue) (r : Request) (choice : Choice) (serial : �
 taken_once c r choice serial is again =
     let once : next_of (passed (control_with (refusal c r) c r choice).sessions r.session) r.session ≡ Some (serial + 1) =
     next_passed (control_with (refusal c r) c r choice).sessions r.session serial
-        (next_kept (refusal c r) c r choice ∙ is.next) in
+    (next_kept (refusal c r) c r choice ∙ is.next) in
     let same : serial ≡ serial + 1 = cc in
     omega arith
 
@@ -50,7 +50,7 @@ pub pending_told : (sessions : List Attached) (id : ℕ)
     → pending_of (passed (told sessions id) id) id ≡ drop 1 (pending_of sessions id)
 pending_told sessions id =
     pending_told_in (session_of sessions id) (session_of (told sessions id) id)
-        (session_of (passed (told sessions id) id) id)
+    (session_of (passed (told sessions id) id) id)
     (session_changed tell_one (λ a. refl) sessions id) (session_changed pass_one (λ a. refl) (told sessions id) id)
 
 pub told_no_more : (codes : List UnitAttention) (attention : UnitAttention) → IsTrue (without_repeats codes)
@@ -96,7 +96,7 @@ reset_own_in sessions id (Some a) h = rw (same_id sessions id a h) refl
 pub reset_own : (sessions : List Attached) (id : ℕ) → pending_of (all_reset sessions id) id ≡ pending_of sessions id
 reset_own sessions id =
     ap pending_in (session_mapped (heard_reset id) (reset_keeps id) sessions id)
-        ∙ reset_own_in sessions id (session_of sessions id) refl
+    ∙ reset_own_in sessions id (session_of sessions id) refl
 
 other_id : (a : Attached) (id other : ℕ) → other ≢ id → nat_eq a.id other ≡ true → nat_eq a.id id ≡ false
 other_id a id other apart is =
@@ -160,7 +160,7 @@ pub change_moved : (is : Bool) (sessions : List Attached) (other : ℕ) → is �
     → pending_of (change_heard is None sessions) other ≡ established (pending_of sessions other) AccessStateChanged
 change_moved true sessions other is_any there =
     ap pending_in (session_mapped (hear_change None) (hears_id None) sessions other)
-        ∙ moved_in (session_of sessions other) there
+    ∙ moved_in (session_of sessions other) there
 change_moved false sessions other is_any there = absurd (cc)
 
 -- a session that ended is not attached

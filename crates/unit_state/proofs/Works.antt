@@ -221,7 +221,7 @@ module _ (claims : Bool) (c now : ControlValue) (blocks : List (List ℕ)) (sess
 
   reserved : (reply : ReplyValue) → now ≡ after_effect c effect → reply ≡ effect_reply effect
       → IsServed claims (unit_of c blocks) (unit_of now blocks) session
-          (commands.PersistentReserveOut action scope kind n) bytes reply
+      (commands.PersistentReserveOut action scope kind n) bytes reply
   reserved reply leaves is =
       other_served claims c now blocks session (commands.PersistentReserveOut action scope kind n) bytes reply refl
       (rw is (effect_is_fine effect blocks now.lasting)) leaves is
@@ -229,7 +229,7 @@ module _ (claims : Bool) (c now : ControlValue) (blocks : List (List ℕ)) (sess
   unsaved : (reply : ReplyValue) → MayFailToSave c effect now.lasting → now ≡ with_doubt c now.lasting
       → reply ≡ check internal_target_failure
       → IsServed claims (unit_of c blocks) (unit_of now blocks) session
-          (commands.PersistentReserveOut action scope kind n) bytes reply
+      (commands.PersistentReserveOut action scope kind n) bytes reply
   unsaved reply may leaves is = rw is (record {
     finding = SaveError;
     chosen = may;
@@ -243,7 +243,7 @@ module _ (claims : Bool) (c now : ControlValue) (blocks : List (List ℕ)) (sess
 
   pub reserved_served : (reply : ReplyValue) → IsReserved c effect now reply
       → IsServed claims (unit_of c blocks) (unit_of now blocks) session
-          (commands.PersistentReserveOut action scope kind n) bytes reply
+      (commands.PersistentReserveOut action scope kind n) bytes reply
   reserved_served reply is = ⊎_elim
       (λ (done : (now ≡ after_effect c effect) × (reply ≡ effect_reply effect)). reserved reply done.0 done.1)
       (λ (lost : MayFailToSave c effect now.lasting × (now ≡ with_doubt c now.lasting)

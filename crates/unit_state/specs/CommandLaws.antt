@@ -89,7 +89,8 @@ next_groups : (c : ControlValue) (session list_length : ℕ) (bytes : List ℕ) 
     → next_of (left_groups c session list_length bytes choice).sessions session ≡ next_of c.sessions session
 next_groups c session list_length bytes OpenFailed = refl
 next_groups c session list_length bytes Fine = next_after_change c (Some session) (set_by c list_length bytes) session
-next_groups c session list_length bytes ReadFailed = next_after_change c (Some session) (set_by c list_length bytes) session
+next_groups c session list_length bytes ReadFailed =
+    next_after_change c (Some session) (set_by c list_length bytes) session
 next_groups c session list_length bytes (WriteFailed after) =
     next_after_change c (Some session) (set_by c list_length bytes) session
 next_groups c session list_length bytes (SaveFailed after) =
@@ -203,7 +204,8 @@ module _ (c : ControlValue) (session serial : ℕ) (by_group : Group) (asked : R
 
   -- behind a command its session's next serial is one more
   pub next_after : IsNext c session serial
-      → next_of (control_after c (Command session serial by_group asked bytes choice)).sessions session ≡ Some (serial + 1)
+      → next_of (control_after c (Command session serial by_group asked bytes choice)).sessions session
+      ≡ Some (serial + 1)
   next_after is =
       next_passed (control_with (refusal c r) c r choice).sessions session serial
       (next_kept (refusal c r) c r choice ∙ is.next)

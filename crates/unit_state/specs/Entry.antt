@@ -87,7 +87,8 @@ CanTear (Some refused) blocks work choice = Unit {0}
 CanTear None blocks work choice = IsTorn blocks work choice
 
 -- a command that is the session's next came by the owner, and the devices did this in it
-pub record CanCome (claims : Bool) (s : UnitState) (r : Request) (serial : ℕ) (by : Group) (choice : Choice) : Type 0 where
+pub record CanCome (claims : Bool) (s : UnitState) (r : Request) (serial : ℕ) (by : Group)
+    (choice : Choice) : Type 0 where
   pub next : IsNext s.control r.session serial
   pub owner : by ≡ owner_of s.control.access
   pub chosen : CanChoose (refusal s.control r) s.control r choice

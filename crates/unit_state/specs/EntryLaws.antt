@@ -25,7 +25,8 @@ module _ (claims : Bool) (c : ControlValue) (old new : List (List ℕ)) (same : 
         owner = is.owner;
         chosen = is.chosen;
         torn = λ h.
-            subst (λ (b : List (List ℕ)). CanTear (refusal c r) b (work_asked asked bytes) choice) (sym (same h)) (is.torn h);
+            subst (λ (b : List (List ℕ)). CanTear (refusal c r) b (work_asked asked bytes) choice)
+            (sym (same h)) (is.torn h);
       }
 
   reply_with_over : (refused : Option Refusal) (r : Request) (choice : Choice) (reply : ReplyValue)
@@ -38,7 +39,8 @@ module _ (claims : Bool) (c : ControlValue) (old new : List (List ℕ)) (same : 
     told = λ h. is.told h ∙ ap (λ (b : List (List ℕ)). found b (work_asked r.asked r.bytes) choice) (sym (same h));
   }
 
-  pub reply_over : (e : Entry) (reply : ReplyValue) → IsReplyTo claims (at old) e reply → IsReplyTo claims (at new) e reply
+  pub reply_over : (e : Entry) (reply : ReplyValue) → IsReplyTo claims (at old) e reply
+      → IsReplyTo claims (at new) e reply
   reply_over (Attach nexus) reply is = absurd is
   reply_over (Detach session) reply is = absurd is
   reply_over (Reset session) reply is = absurd is

@@ -19,7 +19,8 @@ state_after-snoc s (e ∷ history) entry = state_after-snoc (after s e) history 
 
 -- it is legal where that before is, and the last entry is possible in the state that it gives
 pub IsLegal-snoc : (claims : Bool) (s : UnitState) (history : List Entry) (entry : Entry)
-    → IsLegal claims s (history ++ entry ∷ []) ↔ (IsLegal claims s history × IsPossible claims (state_after s history) entry)
+    → IsLegal claims s (history ++ entry ∷ [])
+    ↔ (IsLegal claims s history × IsPossible claims (state_after s history) entry)
 IsLegal-snoc claims s [] entry = (λ legal. (tt, legal.0), λ both. (both.1, tt))
 IsLegal-snoc claims s (e ∷ history) entry =
     let rest = IsLegal-snoc claims (after s e) history entry in
@@ -53,7 +54,8 @@ decided_by s (Reset session) reply is = absurd is
 decided_by s (Move list choice) reply is = absurd is
 decided_by s (Command session serial by_group asked bytes choice) reply is =
     let r = request session asked bytes in
-    ap (λ (a : ReplyValue). let o : Option ReplyValue = Some a in o) (decided_with (refusal s.control r) s r choice reply is)
+    ap (λ (a : ReplyValue). let o : Option ReplyValue = Some a in o)
+    (decided_with (refusal s.control r) s r choice reply is)
 
 pub decided : (s : UnitState) (history : List Entry) (i : ℕ) (reply : ReplyValue) → IsReplyAt true s history i reply
     → reply_at s history i ≡ Some reply

@@ -105,7 +105,8 @@ pub data Finding : Type 0 where
 -- difference, is the medium's to say.
 abbrev pub MayFind : Work → Choice → Finding → Type 0
 MayFind Nothing Fine finding = finding ≡ Done []
-MayFind (Reads r flushed) Fine finding = (bytes : List ℕ) × (finding ≡ Done bytes) × (length bytes ≡ BLOCK_LENGTH * r.blocks)
+MayFind (Reads r flushed) Fine finding = (bytes : List ℕ) × (finding ≡ Done bytes)
+    × (length bytes ≡ BLOCK_LENGTH * r.blocks)
 MayFind (Writes r bytes flushed) Fine finding = finding ≡ Done []
 MayFind (Compares r bytes flushed) Fine finding =
     (finding ≡ Done []) ⊎ ((at : ℕ) × (finding ≡ Differs at) × (at < BLOCK_LENGTH * r.blocks))

@@ -167,7 +167,8 @@ pub record IsJudged (c : ControlValue) (session : ℕ) (asked : Result Command C
   pub kind : kind_asked asked ≡ Some op
 
 -- The ports of its group may not serve it.
-pub record IsUnserved (c : ControlValue) (session : ℕ) (asked : Result Command CdbFault) (op : Op) (s : Sense) : Type 0 where
+pub record IsUnserved (c : ControlValue) (session : ℕ) (asked : Result Command CdbFault) (op : Op)
+    (s : Sense) : Type 0 where
   pub judged : IsJudged c session asked op
   pub not_served : refusal_in (state_for c session) op ≡ Some s
 

@@ -20,7 +20,8 @@ abbrev pub IsRouteOf : ControlValue → ℕ → ℕ → Group → Route → Type
 IsRouteOf c session serial by Gone = IsNext c session serial → ⊥
 IsRouteOf c session serial by (Moved owner) =
     IsNext c session serial × (by ≢ owner_of c.access) × (owner ≡ owner_of c.access)
-IsRouteOf c session serial by (At at) = IsNext c session serial × (by ≡ owner_of c.access) × IsPlaceOf c.sessions session at
+IsRouteOf c session serial by (At at) = IsNext c session serial × (by ≡ owner_of c.access)
+    × IsPlaceOf c.sessions session at
 
 -- no rule refuses the command
 pub record IsAdmitted (c : ControlValue) (r : Request) (command : Command) : Type 0 where

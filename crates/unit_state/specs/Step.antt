@@ -32,7 +32,8 @@ OnNoReply NoMemory P = P
 abbrev pub IsRouted : ControlValue → ℕ → ℕ → Group → StepEnd → Type 0
 IsRouted c session serial by (Reply reply) = IsNext c session serial × (by ≡ owner_of c.access)
 IsRouted c session serial by Gone = IsNext c session serial → ⊥
-IsRouted c session serial by (Moved owner) = IsNext c session serial × (by ≢ owner_of c.access) × (owner ≡ owner_of c.access)
+IsRouted c session serial by (Moved owner) = IsNext c session serial × (by ≢ owner_of c.access)
+    × (owner ≡ owner_of c.access)
 IsRouted c session serial by NoMemory = IsNext c session serial × (by ≡ owner_of c.access)
 
 -- a command that asks what the unit is, who is registered with it, or what state each group is in

@@ -93,7 +93,8 @@ pub fn an_attention_is_told_once()
         (bytes : List ℕ) (attention : Condition)
         → first_pending s.control.sessions session ≡ Some attention → passes_attention (kind_asked asked) ≡ false
         → IsTrue (without_repeats (pending_of s.control.sessions session))
-        → is_pending (pending_of (after s (Command session serial by asked bytes Fine)).control.sessions session) attention
+        → is_pending (pending_of (after s (Command session serial by asked bytes Fine)).control.sessions session)
+        attention
         ≡ false }
 {}
 

@@ -261,7 +261,8 @@ impl<B: Blocks, O: Opener<B>, R: Blocks> Unit<B, O, R> {
     /// that the unit says.
     pub fn close(self) -> (B, O, R)
         ensures closed { result ≡ (self.device, self.opener, self.file.device) }
-        ensures restart { IsTrue R.claims → EachOutcomeHolds (R.size result.2) (R.may_hold result.2) self.control.lasting }
+        ensures restart { IsTrue R.claims
+            → EachOutcomeHolds (R.size result.2) (R.may_hold result.2) self.control.lasting }
     {
         (self.device, self.opener, self.file.close())
     }

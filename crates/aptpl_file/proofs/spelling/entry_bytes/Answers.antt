@@ -13,9 +13,9 @@ parts : (key isid isid' : ℕ) (group group' : Group) (name name' : List ℕ) �
 parts key isid isid' group group' name name' i g n =
     ap (λ (x : ℕ). padded 256 (big_bytes 8 key ++ big_bytes 2 (group_number group) ++ big_bytes 6 x ++ length name ∷ name)) i
     ∙ ap (λ (x : Group). padded 256 (big_bytes 8 key ++ big_bytes 2 (group_number x) ++ big_bytes 6 isid'
-        ++ length name ∷ name)) g
+    ++ length name ∷ name)) g
     ∙ ap (λ (x : List ℕ). padded 256 (big_bytes 8 key ++ big_bytes 2 (group_number group') ++ big_bytes 6 isid'
-        ++ length x ∷ x)) n
+    ++ length x ∷ x)) n
 
 pub returns : goal.returns
 unfolding entry_bytes

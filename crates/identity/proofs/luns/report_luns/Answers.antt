@@ -35,6 +35,6 @@ returns c =
     let all : c.loop-unit.unit ≡ c.how_many-units.result = omega (arith, c.loop-unit-test.false, c.loop-unit.invariant.0) in
     let list = whole c.how_many-units.result c.loop-unit.unit c.loop-unit.list all c.loop-unit.invariant.1 in
     let selected_units = ap (λ n. spell (Number "LUN LIST LENGTH" 4 (8 * n) ∷ Reserved 4 ∷ luns_below n))
-        c.how_many-units.ensures in
+    c.how_many-units.ensures in
     let P : List ℕ → Type 0 = λ s. IfOk c.cut_to.result (λ v. v.items ≡ cut c.args.allocation s) in
     subst P (list ∙ selected_units) c.cut_to.ensures

@@ -19,4 +19,4 @@ pub returns-in_default-2 : goal.returns-in_default-2
 unfolding number_within
 returns-in_default-2 c =
     sym (raised_none c.args.limits.low c.args.limits.high (number_in c.args.value.now) (sym c.number_at_most.ensures
-        ∙ c.in_default.is))
+    ∙ c.in_default.is))

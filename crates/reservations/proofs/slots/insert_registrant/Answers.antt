@@ -11,4 +11,4 @@ pub returns-clause-ok : goal.returns-clause-ok
 returns-clause-ok c =
     rw (c.in_ok-insert.ensures.items, c.place_of-place.ensures, c.deref.ensures.value, c.in_ok-nexus.ensures)
     (insert_is (through c.args.port.now c.args.group) c.args.key c.args.registrants.now.items
-        c.requires.ascending c.requires.new)
+    c.requires.ascending c.requires.new)

@@ -6,4 +6,4 @@ use Rattle.reservations.proofs.slots.rekey.Given as goal
 abbrev pub invariant-loop-x : goal.invariant-loop-x
 invariant-loop-x l =
     l.x-items ≡ with_key_of (through l.port l.group) l.key (take l.x-index l.initial.x-items)
-        ++ drop l.x-index l.initial.x-items
+    ++ drop l.x-index l.initial.x-items

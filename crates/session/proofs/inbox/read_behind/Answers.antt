@@ -11,7 +11,7 @@ filled_behind : (left left' : Option (List ℕ)) (xs part : List ℕ) (start fil
     → IfOk r (λ n. n ≤ length part) → IfOk r (λ n. Consumes left left' (take n part))
     → IfOk r (λ n. n ≡ 0 → room → IsAtEnd left')
     → IfOk r (λ n. Filled left left' (drop start (take filled xs))
-        (drop start (take (filled + n) (put_mid filled k xs part))) n)
+    (drop start (take (filled + n) (put_mid filled k xs part))) n)
 filled_behind left left' xs part start filled k (Ok n) room order within some bound ok end = record {
   more = take n part;
   grown = grown_behind xs part (post_of filled k xs) start filled n order (omega arith) bound;
@@ -24,5 +24,5 @@ filled_behind left left' xs part start filled k (Err e) room order within some b
 pub returns-clause-ok : goal.returns-clause-ok
 returns-clause-ok g c =
     filled_behind _ _ c.args.bytes.now c.read_some.new.buf c.args.start c.args.filled _ c.read_some.result _
-        c.requires.0 c.requires.1 (omega (arith, c.requires.1, length-take {A = ℕ}, length-drop {A = ℕ}))
-            c.read_some.ensures.bound c.read_some.ensures.ok c.read_some.ensures.end
+    c.requires.0 c.requires.1 (omega (arith, c.requires.1, length-take {A = ℕ}, length-drop {A = ℕ}))
+    c.read_some.ensures.bound c.read_some.ensures.ok c.read_some.ensures.end

@@ -12,7 +12,7 @@ abbrev pub invariant-loop-reads : goal.invariant-loop-reads
 invariant-loop-reads g l = record {
   running : (units : ℕ) (me : Identity) (opening : Opening) → OpensWith units me opening l.fn.phases
       → Running g.T.Target.leads units me opening (g.S.Source.left l.fn.source) (g.S.Source.left l.source)
-          (g.K.Sink.held l.fn.sink) (g.K.Sink.held l.sink)
+      (g.K.Sink.held l.fn.sink) (g.K.Sink.held l.sink)
       (g.K.Sink.failures l.fn.sink) (g.K.Sink.failures l.sink) l.outbox l.fn.target l.target l.phases l.inbox l.reads;
   fresh : IsFresh l.phases;
   room : LONGEST_RESPONSE ≤ vec_capacity l.room;

@@ -26,20 +26,20 @@ returns-in-CompareAndWrite-clause-served g c =
     rw c.in-CompareAndWrite.is
     (medium_served _ _ _ _ _ _ _ _ _ _ _ _ (λ f. refl)
     (λ d. refl) refl c.compare-end.ensures.worked c.new-in-CompareAndWrite.ensures.items
-        c.medium_reply-in-CompareAndWrite.ensures)
+    c.medium_reply-in-CompareAndWrite.ensures)
 
 pub returns-in-SynchronizeCache-clause-served : goal.returns-in-SynchronizeCache-clause-served
 returns-in-SynchronizeCache-clause-served g c =
     rw c.in-SynchronizeCache.is
     (medium_served _ _ _ _ _ _ _ _ _ _ _ _ (λ f. refl)
     (λ d. refl) refl (c.flush-end.ensures.worked _ _) c.new-in-SynchronizeCache.ensures.items
-        c.medium_reply-in-SynchronizeCache.ensures)
+    c.medium_reply-in-SynchronizeCache.ensures)
 
 pub returns-in_ok-sense-in-RequestSense-clause-served : goal.returns-in_ok-sense-in-RequestSense-clause-served
 returns-in_ok-sense-in-RequestSense-clause-served g c =
     let told = c.in_ok-sense-in-RequestSense.ensures in
     rw c.in-RequestSense.is (good_served _ _ _ _ _ _ _ _ _ refl refl told.told (c.good-in-RequestSense.ensures
-        ∙ ap good told.sense))
+    ∙ ap good told.sense))
 
 pub returns-in_ok-describe-in_default-clause-served : goal.returns-in_ok-describe-in_default-clause-served
 returns-in_ok-describe-in_default-clause-served g c =

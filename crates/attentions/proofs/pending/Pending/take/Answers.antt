@@ -19,4 +19,4 @@ returns-clause-later c =
     let fits : c.self.inside.count ≤ length c.self.inside.codes = omega (arith, c.self.invariant.0, c.self.invariant.1) in
     let some : 0 < c.self.inside.count = omega (arith, c.if-self-eq0.false) in
     ap (λ s. take (c.self.inside.count - 1) s) c.rotate_left.ensures.after ∙ rotated _ _ some fits
-        ∙ ap (λ s. drop 1 s) c.self.view_is
+    ∙ ap (λ s. drop 1 s) c.self.view_is

@@ -7,9 +7,9 @@ pub put_response-requires : goal.put_response-requires
 put_response-requires c = record {
   room =
       response_room c.args.self.now c.args.flags _ _ _
-          (subst (λ (s : Progress). s.tag < 65536) c.self.view_is c.self.invariant.3)
+      (subst (λ (s : Progress). s.tag < 65536) c.self.view_is c.self.invariant.3)
       c.requires.fits (c.deref.ensures.value
-          ∙ ap (λ (s : Progress). s.unfinished) c.self.view_is) c.requires.empty c.requires.room;
+      ∙ ap (λ (s : Progress). s.unfinished) c.self.view_is) c.requires.empty c.requires.room;
 }
 
 pub returns-clause-short : goal.returns-clause-short

@@ -6,5 +6,5 @@ use Rattle.reservations.proofs.registry.Registry.out.Goals as goal
 pub invariant_of-self : goal.invariant_of-self
 invariant_of-self c =
     stays_sound c.out.result (value_of c.self.inside.table) (value_of c.out.new.self)
-        (through c.args.port.now c.args.group) c.args.request
+    (through c.args.port.now c.args.group) c.args.request
     c.out.ensures c.self.invariant

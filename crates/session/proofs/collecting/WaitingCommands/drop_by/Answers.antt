@@ -8,5 +8,5 @@ use Rattle.session.proofs.collecting.WaitingCommands.drop_by.Goals as goal
 pub returns-clause-kept : goal.returns-clause-kept
 returns-clause-kept c =
     filter_same _ (λ (x : Collecting). not (drops c.args.request.now x.command)) _
-        (λ x b f' k. search rules) _ _ c.retain.ensures.filtered
+    (λ x b f' k. search rules) _ _ c.retain.ensures.filtered
     ∙ ap (λ (cs : List Collecting). filter (λ x. not (drops c.args.request.now x.command)) cs) c.self.view_is

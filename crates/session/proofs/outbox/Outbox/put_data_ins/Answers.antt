@@ -18,12 +18,12 @@ loop-offset-preserved g c = record {
   queued = queues_on c.args.data_ins.now.numbers c.args.data_ins.now.task_tag c.args.data_ins.now.lengths
       c.args.data_ins.now.bytes.now _ _ _ _ _ _ _ _ _
       c.loop-offset.data_sn c.loop-offset.offset _ _ (data_in_out c.segment_at-pdu.result)
-          (omega (arith, c.loop-offset-test.true)) refl
+      (omega (arith, c.loop-offset-test.true)) refl
       (ap (λ n. c.loop-offset.offset + n) c.segment_at-pdu.ensures.size) c.segment_at-pdu.ensures.pdu
-          c.loop-offset.invariant.queued c.put.ensures;
+      c.loop-offset.invariant.queued c.put.ensures;
 }
 
 pub returns : goal.returns
 returns g c = queues_all c.args.data_ins.now.numbers c.args.data_ins.now.task_tag c.args.data_ins.now.lengths
     c.args.data_ins.now.bytes.now _ _ _ _ _ _ c.loop-offset.data_sn c.loop-offset.offset
-        (omega (arith, c.loop-offset-test.false)) c.loop-offset.invariant.queued
+    (omega (arith, c.loop-offset-test.false)) c.loop-offset.invariant.queued

@@ -8,7 +8,7 @@ invariant-loop-offset g l = record {
   within : l.offset ≤ length l.data_ins.bytes.now;
   queued : QueuesTo l.data_ins.numbers l.data_ins.task_tag l.data_ins.lengths l.data_ins.bytes.now
       (g.K.Sink.held l.fn.sink) (g.K.Sink.held l.sink) (g.K.Sink.failures l.fn.sink)
-          (g.K.Sink.failures l.sink) l.fn.self l.self l.data_sn l.offset;
+      (g.K.Sink.failures l.sink) l.fn.self l.self l.data_sn l.offset;
 }
 
 abbrev pub decreases-loop-offset : goal.decreases-loop-offset

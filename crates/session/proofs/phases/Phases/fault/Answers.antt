@@ -9,4 +9,4 @@ returns-in-None g c =
 pub returns-in-Some : goal.returns-in-Some
 returns-in-Some g c =
     rw (← c.self.view_is, c.in-Some.is)
-        (rejects g.T.Target.leads _ _ _ _ _ _ _ _ _ _ _ _ _ _ c.login_fault_turn.ensures _ refl refl)
+    (rejects g.T.Target.leads _ _ _ _ _ _ _ _ _ _ _ _ _ _ c.login_fault_turn.ensures _ refl refl)

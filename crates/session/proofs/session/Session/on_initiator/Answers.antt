@@ -8,7 +8,7 @@ use Rattle.session.proofs.session.Session.on_initiator.Goals as goal
 pub returns-in-LoginRequest-clause-on : goal.returns-in-LoginRequest-clause-on
 returns-in-LoginRequest-clause-on c =
     refused _ _ (Initiator c.args.header.now) c.args.bytes.now (Send c.reject.result) PROTOCOL_ERROR
-        (rw c.in-LoginRequest.is refl) c.reject.ensures.on
+    (rw c.in-LoginRequest.is refl) c.reject.ensures.on
 
 pub returns-in-LogoutRequest-clause-on : goal.returns-in-LogoutRequest-clause-on
 returns-in-LogoutRequest-clause-on c = rw c.in-LogoutRequest.is (c.on_logout.ensures.on c.args.bytes.now)

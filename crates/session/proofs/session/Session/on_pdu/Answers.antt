@@ -7,4 +7,4 @@ use Rattle.session.proofs.session.Session.on_pdu.Goals as goal
 pub returns-in-Target-clause-on : goal.returns-in-Target-clause-on
 returns-in-Target-clause-on c =
     refused _ _ c.args.header.now c.args.bytes.now (Send c.reject.result) COMMAND_NOT_SUPPORTED
-        (rw c.in-Target.is refl) c.reject.ensures.on
+    (rw c.in-Target.is refl) c.reject.ensures.on

@@ -13,41 +13,50 @@ feed-requires c = continues _ _ _ _ c.requires _ _ _
     (ap (λ (s : Counters). s.standing.collecting) c.self.view_is) c.remove-command.ensures.removed
 
 pub insert-requires : goal.insert-requires
-insert-requires c = (at_within _ _ _ _ c.requires _ _ _
-    (ap (λ (s : Counters). s.standing.collecting) c.self.view_is) c.remove-command.ensures.removed,
-        c.remove-command.ensures.room)
+insert-requires c = (
+  at_within _ _ _ _ c.requires _ _ _
+      (ap (λ (s : Counters). s.standing.collecting) c.self.view_is) c.remove-command.ensures.removed,
+  c.remove-command.ensures.room,
+)
 
 pub insert-requires-2 : goal.insert-requires-2
-insert-requires-2 c = (at_within _ _ _ _ c.requires _ _ _
-    (ap (λ (s : Counters). s.standing.collecting) c.self.view_is) c.remove-command.ensures.removed,
-        c.remove-command.ensures.room)
+insert-requires-2 c = (
+  at_within _ _ _ _ c.requires _ _ _
+      (ap (λ (s : Counters). s.standing.collecting) c.self.view_is) c.remove-command.ensures.removed,
+  c.remove-command.ensures.room,
+)
 
 pub returns-then-not-is_filled-clause-on : goal.returns-then-not-is_filled-clause-on
 returns-then-not-is_filled-clause-on c =
     on_filling _ _ _ _ c.requires _ _ _
-        (ap (λ (s : Counters). s.standing.collecting) c.self.view_is) c.remove-command.ensures.removed
+    (ap (λ (s : Counters). s.standing.collecting) c.self.view_is) c.remove-command.ensures.removed
     c.feed.new.self c.is_filled.result c.feed.ensures.fed c.is_filled.ensures c.if-not-is_filled.true
-        c.feed.ensures.asked.0 c.feed.ensures.asked.1
+    c.feed.ensures.asked.0 c.feed.ensures.asked.1
     _ _ c.insert.new.self c.silence.ensures.silent c.silence.ensures.no_end c.insert.ensures
-        (ap (after_collecting c.insert.new.self) c.self.view_is)
+    (ap (after_collecting c.insert.new.self) c.self.view_is)
 
 pub returns-then-len-need-clause-on : goal.returns-then-len-need-clause-on
 returns-then-len-need-clause-on c =
     let asked_by = asked_on_by c.remove-command.result c.feed.new.self c.args.bytes.now c.finish-done.result.asked
-        c.feed.ensures.fed c.finish-done.ensures.asked_by in
+    c.feed.ensures.fed c.finish-done.ensures.asked_by in
     on_calling _ _ _ _ c.requires _ _ _
-        (ap (λ (s : Counters). s.standing.collecting) c.self.view_is) c.remove-command.ensures.removed
+    (ap (λ (s : Counters). s.standing.collecting) c.self.view_is) c.remove-command.ensures.removed
     c.feed.new.self c.is_filled.result c.feed.ensures.fed c.is_filled.ensures c.finish-done.result.asked asked_by
-    _ _ (omega (arith, c.if-len-need.true, c.len.ensures, c.need.ensures c.finish-done.result.asked
-        c.finish-done.ensures.asked_by.means))
+    _ _ (omega (
+      arith,
+      c.if-len-need.true,
+      c.len.ensures,
+      c.need.ensures c.finish-done.result.asked
+          c.finish-done.ensures.asked_by.means,
+    ))
     (called_on c.remove-command.result c.feed.new.self c.args.bytes.now c.finish-done.result
-        (Gathered c.finish-done.result.bytes) _ c.feed.ensures.fed c.finish-done.ensures refl c.call.ensures.calls)
+    (Gathered c.finish-done.result.bytes) _ c.feed.ensures.fed c.finish-done.ensures refl c.call.ensures.calls)
     (ap (after_collecting c.remove-command.new.self) c.self.view_is)
 
 pub ask-requires : goal.ask-requires
 ask-requires c =
     let asked_by = still_asked c.remove-command.result c.feed.new.self c.args.bytes.now c.feed.ensures.asked.0
-        c.feed.ensures.fed c.feed.ensures.asked.1 in (
+    c.feed.ensures.fed c.feed.ensures.asked.1 in (
       need_of c.feed.ensures.asked.0,
       need_is_of c.feed.new.self.command c.feed.ensures.asked.0 asked_by,
       omega (arith, c.if-len-need.false, c.len.ensures, c.need.ensures c.feed.ensures.asked.0 asked_by.means),
@@ -56,23 +65,28 @@ ask-requires c =
 pub returns-clause-on : goal.returns-clause-on
 returns-clause-on c =
     let asked_by = still_asked c.remove-command.result c.feed.new.self c.args.bytes.now c.feed.ensures.asked.0
-        c.feed.ensures.fed c.feed.ensures.asked.1 in
+    c.feed.ensures.fed c.feed.ensures.asked.1 in
     on_asking _ _ _ _ c.requires _ _ _
-        (ap (λ (s : Counters). s.standing.collecting) c.self.view_is) c.remove-command.ensures.removed
+    (ap (λ (s : Counters). s.standing.collecting) c.self.view_is) c.remove-command.ensures.removed
     c.feed.new.self c.is_filled.result c.feed.ensures.fed c.is_filled.ensures c.if-not-is_filled.false
-        c.feed.ensures.asked.0 c.feed.ensures.asked.1
+    c.feed.ensures.asked.0 c.feed.ensures.asked.1
     _ _ c.insert-2.new.self c.ask.new.self c.request-r2t.result c.numbered-waiting.result
     (omega (arith, c.ask.ensures.fits, ap (λ (k : Collecting). k.requests) c.feed.ensures.fed))
     (omega (arith, c.if-len-need.false, c.len.ensures, c.need.ensures c.feed.ensures.asked.0 asked_by.means))
     (c.ask.ensures.asked (need_of c.feed.ensures.asked.0)
-        (need_is_of c.feed.new.self.command c.feed.ensures.asked.0 asked_by)
+    (need_is_of c.feed.new.self.command c.feed.ensures.asked.0 asked_by)
     ∙ ap (asked_on c.feed.new.self (need_of c.feed.ensures.asked.0)) (c.r2t_with.ensures
-        ∙ ap (λ (s : Counters). r2t_with_for s c.numbered-waiting.result) c.self.view_is))
+    ∙ ap (λ (s : Counters). r2t_with_for s c.numbered-waiting.result) c.self.view_is))
     c.numbered-waiting.ensures.count c.request-r2t.ensures c.insert-2.ensures c.ask_for.ensures.asks refl
-        c.ask_for.ensures.no_end
+    c.ask_for.ensures.no_end
     (ap (λ (t : ℕ). view_of c.self.inside.stat_sn
-        (record { units = c.self.inside.units; kind = c.self.inside.kind;
-            target_name = c.self.inside.target_name.items; told = c.self.inside.told.items; start =
-                c.self.inside.start }) c.self.inside.exp_cmd_sn c.insert-2.new.self t)
-                    c.next_transfer_tag-self-inside.ensures
+    (record {
+      units = c.self.inside.units;
+      kind = c.self.inside.kind;
+      target_name = c.self.inside.target_name.items;
+      told = c.self.inside.told.items;
+      start =
+          c.self.inside.start;
+    }) c.self.inside.exp_cmd_sn c.insert-2.new.self t)
+    c.next_transfer_tag-self-inside.ensures
     ∙ ap (λ (s : Counters). after_r2t (after_collecting c.insert-2.new.self s)) c.self.view_is)

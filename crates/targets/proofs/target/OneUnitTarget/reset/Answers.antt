@@ -12,4 +12,4 @@ pub returns : goal.returns
 returns g c =
     rw (← c.self.view_is)
     (reset_over _ _ _ _ _ (reset_late c.self.inside.unit.control c.self.inside.at.session c.self.inside.at.serial
-        c.self.invariant.0) c.reset.result c.reset.ensures)
+    c.self.invariant.0) c.reset.result c.reset.ensures)

@@ -14,4 +14,4 @@ returns g c =
     rw (← c.self.view_is)
     (answered_over g.B.Blocks.claims g.B.Blocks.contents g.B.Blocks.failures _ _ _ _
     (gone_late c.self.inside.unit.control c.self.inside.at.session c.self.inside.at.serial c.self.invariant.0) _ _ _
-        c.answer.result c.answer.ensures)
+    c.answer.result c.answer.ensures)

@@ -13,5 +13,5 @@ invariant_of-self-2 g c =
     (all_joined later (here.begun + 1) _ _ _ _
     (all_later count later here.begun (here.begun + 1) _ c.in_ok-at.ensures.grows (omega arith)
     (subst (λ (live : List LiveSession). All (IsCounted count here.begun) live)
-        (sym c.reserve.ensures.items) c.self.invariant))
+    (sym c.reserve.ensures.items) c.self.invariant))
     (record { serial = c.in_ok-at.ensures.fits; number = omega arith }))

@@ -10,5 +10,5 @@ invariant_of-self g c =
     let later = c.leave.new.unit.control.count in
     subst (λ (live : List LiveSession). All (IsCounted later here.begun) live) (sym c.remove.ensures)
     (all_filtered later here.begun _ _
-        (all_later here.unit.control.count later here.begun here.begun _ c.leave.ensures.grows
-            (omega arith) c.self.invariant))
+    (all_later here.unit.control.count later here.begun here.begun _ c.leave.ensures.grows
+    (omega arith) c.self.invariant))

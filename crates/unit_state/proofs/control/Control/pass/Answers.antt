@@ -10,7 +10,7 @@ use Rattle.unit_state.proofs.control.Control.pass.Goals as goal
 pub returns-clause-passed : goal.returns-clause-passed
 returns-clause-passed c =
     let place : IsPlaceOf c.self.inside.sessions.items c.args.sender.session c.args.sender.at =
-        rw (← c.self.view_is) at c.requires.place in
+    rw (← c.self.view_is) at c.requires.place in
     let is : c.pass_at.new.sessions.items ≡ passed c.self.inside.sessions.items c.args.sender.session =
     changed_at pass_one _ _ _ _ place c.pass_at.ensures.passed in
     rw (← c.self.view_is)

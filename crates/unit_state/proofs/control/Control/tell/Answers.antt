@@ -10,7 +10,7 @@ use Rattle.unit_state.proofs.control.Control.tell.Goals as goal
 pub returns-clause-told : goal.returns-clause-told
 returns-clause-told c =
     let place : IsPlaceOf c.self.inside.sessions.items c.args.sender.session c.args.sender.at =
-        rw (← c.self.view_is) at c.requires in
+    rw (← c.self.view_is) at c.requires in
     let is : c.tell_at.new.sessions.items ≡ told c.self.inside.sessions.items c.args.sender.session =
     changed_at tell_one _ _ _ _ place c.tell_at.ensures.told in
     rw (← c.self.view_is)
@@ -28,7 +28,7 @@ returns-clause-told c =
 pub returns-clause-stays : goal.returns-clause-stays
 returns-clause-stays c =
     let place : IsPlaceOf c.self.inside.sessions.items c.args.sender.session c.args.sender.at =
-        rw (← c.self.view_is) at c.requires in
+    rw (← c.self.view_is) at c.requires in
     let is : c.tell_at.new.sessions.items ≡ told c.self.inside.sessions.items c.args.sender.session =
     changed_at tell_one _ _ _ _ place c.tell_at.ensures.told in
     rw (← c.self.view_is) (record { total = refl; count = refl; place = place_stays tell_one (λ a. refl) _ _ _ _ place is })

@@ -7,7 +7,7 @@ pub returns-clause-entry : goal.returns-clause-entry
 returns-clause-entry g c =
     step_seen _ g.B.Blocks.contents _ _ _ _ _ c.self.view_is
     (answered_step _ _ _ _ _ _ _ _ _ _ c.in-At.ensures.0 c.in-At.ensures.1 c.in-Ok.ensures.answered refl
-        c.pass.ensures.passed)
+    c.pass.ensures.passed)
 
 pub returns-in-Err-clause-memory : goal.returns-in-Err-clause-memory
 returns-in-Err-clause-memory g c = λ h. memory_seen _ _ _ c.self.view_is c.in-Err.ensures.memory
@@ -29,4 +29,4 @@ returns-in-Err-clause-restart g c =
 pub returns-clause-restart : goal.returns-clause-restart
 returns-clause-restart g c =
     λ h. restarts g.R.Blocks.size g.R.Blocks.may_hold _ _ _
-        (c.in-Ok.ensures.kept h (c.self.invariant.1 h)) c.pass.ensures.lasting
+    (c.in-Ok.ensures.kept h (c.self.invariant.1 h)) c.pass.ensures.lasting
