@@ -2,8 +2,12 @@
 //! session.
 use crate::life::{LOGIN_FIRST, Life, OTHER, run, serve_over, shared};
 use crate::pdus::{HOST_A, LOGIN, LOGIN_REFUSED, LOGIN_RESPONSE, POWER_ON, WELCOME};
+use block_file::MemBlocks;
 use session::{End, Target};
+use std::alloc::Global;
+use std::process::Abort;
 use std::test::*;
+use targets::UnitSessions;
 use test_streams::{CHECK_CONDITION, PduRow, Segment, TEST_UNIT_READY, WHOLE, spelled};
 
 const PORT: (&[u8], u64) = (b"iqn.2000-01.test:a", 0x4000_0137_0000);
@@ -98,29 +102,36 @@ fn logins_that_attach_nothing(rt: HostRuntime) -> Result<(), Fail> {
     run(&rt, rt.alloc(), ROWS)
 }
 
+// Serves a login and a command at this target, and compares.
+fn log_in(
+    rt: &impl Abort,
+    alloc: Global,
+    target: &mut UnitSessions<MemBlocks>,
+    output: &[PduRow],
+    end: End,
+) -> Result<(), Fail> {
+    let login = PduRow(&LOGIN, "7:56", Segment::Bytes(HOST_A));
+    let input = spelled(alloc, &[login, READY])?;
+    let told = serve_over(alloc, target, LOGIN_FIRST, &input, WHOLE)?;
+    let output = spelled(alloc, output)?;
+    assert_eq!(rt; (told.0, told.1.as_slice()), (end, output.as_slice()));
+    Ok(())
+}
+
 // The unit is full, so a login is refused, and uses up no TSIH; one session ends, and the next login passes.
 #[test]
 fn room_for_one_more(rt: HostRuntime) -> Result<(), Fail> {
     let alloc = rt.alloc();
     let mut target = shared(alloc, 16, 64)?;
-    let input = spelled(
-        alloc,
-        &[PduRow(&LOGIN, "7:56", Segment::Bytes(HOST_A)), READY],
-    )?;
-    let (end, told) = serve_over(alloc, &mut target, LOGIN_FIRST, &input, WHOLE)?;
-    let refused = [PduRow(&LOGIN_REFUSED, "36:0302", Segment::None)];
-    assert_eq!(rt; end, End::Protocol);
-    assert_eq!(rt; told.as_slice(), spelled(alloc, &refused)?.as_slice());
+    let refused = PduRow(&LOGIN_REFUSED, "36:0302", Segment::None);
+    log_in(&rt, alloc, &mut target, &[refused], End::Protocol)?;
     // The session that began last has the number 63.
     let _ = target.connect(Some(63));
     target.end();
     assert!(rt; !target.lives(64, OTHER, 63));
-    let (end, told) = serve_over(alloc, &mut target, LOGIN_FIRST, &input, WHOLE)?;
     let welcome = [
         PduRow(&LOGIN_RESPONSE, "7:36 15:41", Segment::Bytes(WELCOME)),
         PduRow(&CHECK_CONDITION, "27:02", Segment::Bytes(POWER_ON)),
     ];
-    assert_eq!(rt; end, End::EndOfInput);
-    assert_eq!(rt; told.as_slice(), spelled(alloc, &welcome)?.as_slice());
-    Ok(())
+    log_in(&rt, alloc, &mut target, &welcome, End::EndOfInput)
 }
