@@ -2,7 +2,7 @@
 ghost use Rattle.std.specs.Prelude.{◌≡◌, ◌<◌, ◌≤◌, IsErrOf, List, [], ◌∷◌, IfOk, IfErr, OnOk, OnErr, IsTrue, true, false, None};
 ghost use Rattle.block_file.specs.Disk.{or_new, Adds};
 ghost use Rattle.block_file.specs.Moment.{StopsAmong};
-ghost use Rattle.block_file.specs.Failures.{Counts, HasFailed, Tells};
+ghost use Rattle.block_file.specs.Failures.{CanFail, Counts, Tells};
 ghost use Rattle.reservations.specs.Registry.{RecordValue};
 ghost use Rattle.aptpl_file.specs.declared.spelling.TheConstants.{FILE_BLOCKS};
 
@@ -48,7 +48,7 @@ impl<B: Blocks> RegFile<B> {
         ensures lasts { IsTrue B.claims → IfOk result (λ file. LastsAmong B.size B.may_hold file
             (record { aptpl = false; registrants = []; reservation = None } ∷ [])) }
         ensures failures { IfOk result (λ file. Tells (B.failures device) (B.failures file.device) (Unit {0})) }
-        ensures failed { IfErr result (λ fault. HasFailed B.failures device) }
+        ensures failed { IfErr result (λ fault. CanFail B.failures device) }
     {
         let slot = Slot::First;
         save_slot(&mut device, slot, false, &[], &None)?;
@@ -72,7 +72,7 @@ impl<B: Blocks> RegFile<B> {
         ensures refused { IsTrue B.claims → IfErr result (IsRefusal (B.contents device)) }
         ensures few { B.size device < FILE_BLOCKS → IsErrOf result OpenFault.NotARegFile }
         ensures failures { IfOk result (λ found. Tells (B.failures device) (B.failures found.0.device) (Unit {0})) }
-        ensures failed { IsErrOf result OpenFault.DeviceFailed → HasFailed B.failures device }
+        ensures failed { IsErrOf result OpenFault.DeviceFailed → CanFail B.failures device }
     {
         if device.count() < FILE_BLOCKS {
             return Err(OpenFault::NotARegFile);

@@ -15,8 +15,8 @@ pub record Tells (before now : ℕ) (done : Type 0) : Type 0 where
 abbrev pub Counts : {T E : Type 0} → ℕ → ℕ → Result T E → Type 0
 Counts before now result = Tells before now (IsOk result)
 
--- The device has failed: in some state after this one its count is higher, its last value apart. A device that never
--- fails has no such state.
-pub record HasFailed {B : Type 0} (failures : B → ℕ) (before : B) : Type 0 where
+-- A device of this type can fail: there is a state in which its count is higher than in this one, its last value apart.
+-- One that never fails has no such state. The state need not be one that was reached.
+pub record CanFail {B : Type 0} (failures : B → ℕ) (before : B) : Type 0 where
   pub after : B
   pub told : Tells (failures before) (failures after) ⊥
