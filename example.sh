@@ -1,27 +1,22 @@
 #!/bin/sh
-# Builds arrayd, runs it on the worked example of three commands, shows what each answering PDU is, and compares the bytes
-# with the stored ones.
+# Builds arrayd, makes a disk of 1 MiB, starts the array on it with both controllers' portals on the loopback, and does with it
+# what a host does first: finds it, logs in through both controllers, writes, reads through the other one, compares.
+# bench/first_steps.py says each step; then the array is told `status` and `quit`. Wants python3.
 set -e
-cd "$(dirname "$0")/crates/arrayd"
-answer=$(mktemp)
-trap 'rm -f "$answer"' EXIT
-rt run -- --once < stdin > "$answer"
+cd "$(dirname "$0")"
+(cd crates/arrayd && rt run -- --once < stdin > /dev/null)
+place=$(mktemp -d)
+port=$((20000 + $$ % 10000))
+. bench/array.sh
+array_pid=
+trap 'test -z "$array_pid" || kill "$array_pid" 2> /dev/null || true; rm -rf "$place"' EXIT
 
-# what it is, its first byte, how many bytes
-show() {
-    printf '%s\n' "$1"
-    od -An -v -tx1 -j "$2" -N "$3" "$answer"
-}
-
-show 'SCSI Response to TEST UNIT READY (CmdSN 1): GOOD' 0 48
-show 'SCSI Response to WRITE (10) of block 5 (CmdSN 2): GOOD' 48 48
-show 'Data-In of READ (10) of block 5 (CmdSN 3): header' 96 48
-show '  and the first 32 of its 512 bytes, each 5Ah as written' 144 32
-show 'SCSI Response to READ (10): GOOD, behind one Data-In' 656 48
-
-if cmp -s "$answer" stdout; then
-    echo 'all 704 bytes are as stored'
-else
-    echo 'example.sh: the answer differs from the stored bytes' >&2
-    exit 1
-fi
+truncate -s 1M "$place/disk.img"
+start_array "$place/lines" --port "$port" "$place/disk.img"
+echo "arrayd listens at 127.0.0.1, ports $port and $((port + 4))"
+python3 bench/first_steps.py 127.0.0.1 "$port"
+tell_array status
+stop_array
+array_pid=
+sed -n '2,$p' "$place/lines"
+echo 'the array was told to quit, and has ended'

@@ -12,6 +12,7 @@ use Rattle.aptpl_file.specs.declared.fault.OpenFault.{OpenFault}
 use Rattle.aptpl_file.specs.declared.fault.OpenFault.TheVariants.{NotARegFile, Version, DeviceFailed, NoMemory}
 use Rattle.aptpl_file.specs.Holds.{Holds, HoldsSlot, IsRefusal}
 use Rattle.aptpl_file.specs.Reads.{HasBlock, TakesBlock, HasEntries, HasHeader, HasSlot, IsRefusalOf}
+use Rattle.aptpl_file.specs.Runs.{AreSlot, part_at}
 use Rattle.aptpl_file.proofs.Halves.{slice_get_take}
 use Rattle.aptpl_file.proofs.Header.{count_read}
 use Rattle.aptpl_file.proofs.Spelled.{root_slot, root_version}
@@ -50,6 +51,21 @@ has_block disk slot count k block old rs lt read has front = record {
   spelled = read ∙ has.blocks k lt;
 }
 
+-- ---- a slot's bytes
+
+-- a block behind the first
+pub behind_first : (disk : List (List ℕ)) (slot : Slot) (bytes block : List ℕ) (k : ℕ) → AreSlot disk slot bytes → k < 32
+    → block ≡ part_at bytes (1 + k) → block ≡ block_at disk (first_block slot + 1 + k)
+behind_first disk slot bytes block k are lt is =
+    let e : first_block slot + (1 + k) ≡ first_block slot + 1 + k = omega arith in
+    is ∙ are (1 + k) (omega arith) ∙ ap (block_at disk) e
+
+pub first_of_slot : (disk : List (List ℕ)) (slot : Slot) (bytes block : List ℕ) → AreSlot disk slot bytes
+    → block ≡ part_at bytes 0 → block ≡ block_at disk (first_block slot)
+first_of_slot disk slot bytes block are is =
+    let e : first_block slot + 0 ≡ first_block slot = omega arith in
+    is ∙ are 0 (omega arith) ∙ ap (block_at disk) e
+
 -- ---- a slot's record
 
 pub slot_entries : (disk : List (List ℕ)) (slot : Slot) (r : RecordValue) → HasSlot disk slot r
@@ -82,14 +98,13 @@ header_count header xs r has =
     ap (λ (h : List ℕ). slice_index h 9) has.spelled ∙ count_read r
 
 -- so many entries behind it
-pub entries_of : (disk later : List (List ℕ)) (slot : Slot) (count : ℕ) (r : RecordValue) (header : List ℕ) → later ≡ disk
+pub entries_of : (disk : List (List ℕ)) (slot : Slot) (count : ℕ) (r : RecordValue) (header : List ℕ)
     → header ≡ block_at disk (first_block slot) → count ≡ slice_index header 9 → HasSlot disk slot r
-    → HasEntries later slot count r.registrants
-entries_of disk later slot count r header same read is has =
+    → HasEntries disk slot count r.registrants
+entries_of disk slot count r header read is has =
     let n : count ≡ length r.registrants =
     is ∙ header_count header r.registrants r (slot_header disk slot r header read has) in
-    subst (λ (d : List (List ℕ)). HasEntries d slot count r.registrants) (sym same)
-    (subst (λ (m : ℕ). HasEntries disk slot m r.registrants) (sym n) (slot_entries disk slot r has))
+    subst (λ (m : ℕ). HasEntries disk slot m r.registrants) (sym n) (slot_entries disk slot r has)
 
 pub header_of : (disk : List (List ℕ)) (slot : Slot) (r : RecordValue) (header : List ℕ) (xs : List Registrant)
     → header ≡ block_at disk (first_block slot) → r.registrants ≡ xs → HasSlot disk slot r → HasHeader header xs r

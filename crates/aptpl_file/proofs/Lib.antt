@@ -1,4 +1,5 @@
 pub mod EntriesRead
+pub mod Formats
 pub mod Halves
 pub mod Header
 pub mod Holder

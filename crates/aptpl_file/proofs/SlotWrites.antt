@@ -1,36 +1,72 @@
--- The writes of a slot, one block after another.
-use Rattle.std.proofs.Common.{◌≡◌, inr, ⊎_elim, ℕ, ◌+◌, ◌-◌, ◌<◌, ◌≤◌, List, [], ◌∷◌, length, ◌∙◌, ap, arith}
+-- The writes of a slot and of a root.
+use Rattle.std.proofs.Common.{◌≡◌, inl, inr, ⊎_elim, ℕ, ◌+◌, ◌-◌, ◌*◌, ◌/◌, ◌<◌, ◌≤◌, List, [], ◌∷◌, ◌++◌, length}
+use Rattle.std.proofs.Common.{take, drop, sym, ◌∙◌, ap, arith}
 use Rattle.std.proofs.lemmas.Bool.{cases_lt}
 use Rattle.reservations.specs.Registry.{RecordValue}
+use Rattle.block_file.specs.Cut.{cut, run_of}
+use Rattle.block_file.specs.CutLaws.{cut_at, length-cut, run_of_one, write_run_is}
 use Rattle.block_file.specs.Disk.{block_at, written, IsNewAt, Adds, NoMore}
 use Rattle.block_file.specs.DiskLaws.{written_before, written_inside}
 use Rattle.aptpl_file.specs.declared.slot.Slot.{Slot}
 use Rattle.aptpl_file.specs.Format.{first_block, slot_block}
+use Rattle.aptpl_file.specs.Holds.{HoldsSlot}
+use Rattle.aptpl_file.specs.LastsLaws.{slot_within}
+use Rattle.aptpl_file.specs.Runs.{part_at}
 use Rattle.aptpl_file.specs.Writes.{beside_slot}
 
--- the blocks that were written so far, and one more
-pub slot_more : (old new : List (List ℕ)) (slot : Slot) (r : RecordValue) (k at : ℕ) (block : List ℕ)
-    → at ≡ first_block slot + k → at < length old → block ≡ slot_block r k → new ≡ written old at (block ∷ [])
-    → ((j : ℕ) → j < k → block_at old (first_block slot + j) ≡ slot_block r j)
-    → (j : ℕ) → j < k + 1 → block_at new (first_block slot + j) ≡ slot_block r j
-slot_more old new slot r k at block is lt spelled step so_far j below =
-    let fits : at + length (block ∷ []) ≤ length old = omega arith in
-    ap (λ (d : List (List ℕ)). block_at d (first_block slot + j)) step
+-- the blocks that were put so far, and one more
+pub parts_more : (f : ℕ → List ℕ) (n : ℕ) (old new block : List ℕ) (k at : ℕ) → length old ≡ 512 * n → k < n
+    → at ≡ 512 * k → length block ≡ 512 → block ≡ f k → new ≡ take at old ++ (block ++ drop (at + length block) old)
+    → ((j : ℕ) → j < k → part_at old j ≡ f j)
+    → (j : ℕ) → j < k + 1 → part_at new j ≡ f j
+parts_more f n old new block k at long lt at_is size spelled is so_far j below =
+    let step : cut n new ≡ written (cut n old) k (block ∷ []) =
+    write_run_is n k old new block long (record { whole = omega arith; within = omega arith })
+    (is ∙ ap (λ (m : ℕ). take m old ++ (block ++ drop (m + length block) old)) at_is)
+    ∙ ap (written (cut n old) k) (run_of_one block size) in
+    let fits : k + length (block ∷ []) ≤ length (cut n old) = omega (arith, length-cut n old) in
+    sym (cut_at n new j (omega arith)) ∙ ap (λ (d : List (List ℕ)). block_at d j) step
     ∙ ⊎_elim
-    (λ (before : j < k). written_before old (block ∷ []) at fits (first_block slot + j) (omega arith) ∙ so_far j before)
+    (λ (before : j < k).
+    written_before (cut n old) (block ∷ []) k fits j before ∙ cut_at n old j (omega arith) ∙ so_far j before)
     (λ (here : k ≤ j).
-    let same : first_block slot + j - at ≡ 0 = omega arith in
+    let same : j - k ≡ 0 = omega arith in
     let e : k ≡ j = omega arith in
-    written_inside old (block ∷ []) at fits (first_block slot + j) (omega arith) (omega arith)
-    ∙ ap (block_at (block ∷ [])) same ∙ spelled ∙ ap (slot_block r) e)
+    written_inside (cut n old) (block ∷ []) k fits j here (omega arith) ∙ ap (block_at (block ∷ [])) same ∙ spelled
+    ∙ ap f e)
     (cases_lt j k)
 
--- what a crash may leave beside the slot
-pub beside_more : (slot : Slot) (k at : ℕ) (block : List ℕ) (old mid new : ℕ → List ℕ → Type 0)
-    → at ≡ first_block slot + k → k < 33 → NoMore (beside_slot slot old) mid → Adds at (block ∷ []) mid new
-    → NoMore (beside_slot slot old) new
-beside_more slot k at block old mid new is lt so_far step j value may =
-    ⊎_elim (so_far j value)
-    (λ (n : IsNewAt at (block ∷ []) j value).
-    let b = n.below in let f = n.from in inr (record { from = omega arith; below = omega arith }))
-    (step j value may)
+module _ (slot : Slot) (bytes : List ℕ) (long : length bytes ≡ 16896) where
+  as_many : length (run_of bytes) ≡ 33
+  as_many = let e : length bytes / 512 ≡ 33 = omega (arith, long) in
+      ap (λ (m : ℕ). length (cut m bytes)) e ∙ length-cut 33 bytes
+
+  -- the slot's blocks were written
+  pub slot_written : (r : RecordValue) (old new : List (List ℕ)) → 67 ≤ length old
+      → new ≡ written old (first_block slot) (run_of bytes)
+      → ((k : ℕ) → k < 33 → part_at bytes k ≡ slot_block r k) → HoldsSlot new slot r
+  slot_written r old new room is spelled k lt =
+      let within : first_block slot + 32 < 67 = slot_within slot 32 (omega arith) in
+      let e : length bytes / 512 ≡ 33 = omega (arith, long) in
+      let at : first_block slot + k - first_block slot ≡ k = omega arith in
+      ap (λ (d : List (List ℕ)). block_at d (first_block slot + k)) is
+      ∙ written_inside old (run_of bytes) (first_block slot) (omega (arith, as_many)) (first_block slot + k)
+      (omega arith) (omega (arith, as_many))
+      ∙ ap (λ (m : ℕ). block_at (cut m bytes) (first_block slot + k - first_block slot)) e
+      ∙ ap (block_at (cut 33 bytes)) at ∙ cut_at 33 bytes k lt ∙ spelled k lt
+
+  -- what a crash may leave beside the slot
+  pub slot_adds : (old new : ℕ → List ℕ → Type 0) → Adds (first_block slot) (run_of bytes) old new
+      → NoMore (beside_slot slot old) new
+  slot_adds old new adds j value may =
+      ⊎_elim (λ m. inl m)
+      (λ (n : IsNewAt (first_block slot) (run_of bytes) j value).
+      let b = n.below in let f = n.from in inr (record { from = f; below = omega (arith, as_many, b) }))
+      (adds j value may)
+
+-- the root was written
+pub root_written : (root : List ℕ) (old new : List (List ℕ)) → length root ≡ 512 → 67 ≤ length old
+    → new ≡ written old 0 (run_of root) → block_at new 0 ≡ root
+root_written root old new size room is =
+    ap (λ (d : List (List ℕ)). block_at d 0) (is ∙ ap (written old 0) (run_of_one root size))
+    ∙ written_inside old (root ∷ []) 0 (omega arith) 0 (omega arith) (omega arith)

@@ -11,11 +11,11 @@ use Rattle.reservations.specs.declared.registrant.Registrant.{Registrant}
 use Rattle.reservations.specs.Registry.{IsListed}
 use Rattle.aptpl_file.specs.declared.slot.Slot.{Slot}
 use Rattle.aptpl_file.specs.declared.slot.Slot.TheVariants.{First, Second}
-use Rattle.aptpl_file.specs.declared.spelling.TheConstants.{ROOT_MAGIC}
+use Rattle.aptpl_file.specs.Format.{root_name}
 use Rattle.aptpl_file.specs.Format.{entry_bytes, group_number, root_block, slot_number}
 
 -- a root's name and version
-pub root_magic : (slot : Slot) → take 8 (root_block slot) ≡ ROOT_MAGIC
+pub root_magic : (slot : Slot) → take 8 (root_block slot) ≡ root_name
 unfolding root_block
 root_magic First = refl
 root_magic Second = refl

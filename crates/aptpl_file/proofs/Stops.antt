@@ -13,7 +13,7 @@ use Rattle.aptpl_file.specs.LastsLaws.{behind_root, among_holds}
 use Rattle.aptpl_file.specs.Writes.{IsInSlot, beside_slot}
 
 -- a root is written: of a slot nothing else may be held
-slot_beside : (may : ℕ → List ℕ → Type 0) (root : List ℕ) (slot : Slot) (r : RecordValue) → SlotLasts may slot r
+pub slot_beside : (may : ℕ → List ℕ → Type 0) (root : List ℕ) (slot : Slot) (r : RecordValue) → SlotLasts may slot r
     → SlotLasts (or_new 0 (root ∷ []) may) slot r
 slot_beside may root slot r spelled k value lt held = ⊎_elim
     (λ m. spelled k value lt m)

@@ -2,19 +2,18 @@
 use Rattle.std.specs.Prelude.{◌≡◌, ◌⊎◌, ℕ, ◌+◌, ◌<◌, ◌≤◌, List, [], ◌∷◌, length, take, drop}
 use Rattle.reservations.specs.Registry.{RecordValue, IsRecord}
 use Rattle.block_file.specs.Disk.{block_at}
-use Rattle.aptpl_file.specs.declared.spelling.TheConstants.{FILE_BLOCKS, ROOT_MAGIC, SLOT_BLOCKS}
 use Rattle.aptpl_file.specs.declared.slot.Slot.{Slot}
 use Rattle.aptpl_file.specs.declared.fault.OpenFault.{OpenFault}
 use Rattle.aptpl_file.specs.declared.fault.OpenFault.TheVariants.{NotARegFile, Version, DeviceFailed, NoMemory}
-use Rattle.aptpl_file.specs.Format.{first_block, root_block, slot_block}
+use Rattle.aptpl_file.specs.Format.{file_blocks, first_block, root_block, root_name, slot_block, slot_blocks, version_1}
 
 -- the slot's blocks are the spelling of the record
 abbrev pub HoldsSlot : List (List ℕ) → Slot → RecordValue → Type 0
-HoldsSlot disk slot r = (k : ℕ) → k < SLOT_BLOCKS → block_at disk (first_block slot + k) ≡ slot_block r k
+HoldsSlot disk slot r = (k : ℕ) → k < slot_blocks → block_at disk (first_block slot + k) ≡ slot_block r k
 
 -- the root names a slot, and that slot's blocks are the spelling of the record
 pub record Holds (disk : List (List ℕ)) (r : RecordValue) : Type 0 where
-  pub blocks : FILE_BLOCKS ≤ length disk
+  pub blocks : file_blocks ≤ length disk
   pub lasting : IsRecord r.aptpl r.registrants r.reservation
   pub slot : Slot
   pub root : block_at disk 0 ≡ root_block slot
@@ -32,11 +31,11 @@ HoldsNothing disk = (r : RecordValue) → Holds disk r → ⊥
 
 -- there are enough blocks, and the first begins with the name of a registration file
 pub record IsNamed (disk : List (List ℕ)) : Type 0 where
-  pub blocks : FILE_BLOCKS ≤ length disk
-  pub magic : take 8 (block_at disk 0) ≡ ROOT_MAGIC
+  pub blocks : file_blocks ≤ length disk
+  pub magic : take 8 (block_at disk 0) ≡ root_name
 
 abbrev pub IsOfVersion1 : List (List ℕ) → Type 0
-IsOfVersion1 disk = take 2 (drop 8 (block_at disk 0)) ≡ 0 ∷ 1 ∷ []
+IsOfVersion1 disk = take 2 (drop 8 (block_at disk 0)) ≡ version_1
 
 -- Another version is named only where the file has the name; and where it has the name and another version, nothing
 -- else is named.

@@ -3,11 +3,10 @@ use Rattle.std.specs.Prelude.{◌≡◌, ◌⊎◌, ℕ, ◌+◌, ◌<◌, ◌�
 use Rattle.reservations.specs.Registry.{RecordValue, IsRecord}
 use Rattle.block_file.specs.Disk.{MayLeave}
 use Rattle.block_file.specs.Moment.{Elapses}
-use Rattle.aptpl_file.specs.declared.spelling.TheConstants.{FILE_BLOCKS, SLOT_BLOCKS}
 use Rattle.aptpl_file.specs.declared.slot.Slot.{Slot}
 use Rattle.aptpl_file.specs.declared.fault.SaveFault.{SaveFault}
 use Rattle.aptpl_file.specs.declared.fault.SaveFault.TheVariants.{OldRoot, IdleSlot, NewRoot}
-use Rattle.aptpl_file.specs.Format.{first_block, other_slot, root_block, slot_block}
+use Rattle.aptpl_file.specs.Format.{file_blocks, first_block, other_slot, root_block, slot_block, slot_blocks}
 use Rattle.aptpl_file.specs.Holds.{HoldsOneOf}
 
 -- What contracts see of a file: its device as it is, the slot that its root names, and whether a root that names the
@@ -31,7 +30,7 @@ SomeRootLasts may_hold slot =
 -- the slot is the spelling of the record
 abbrev pub SlotLasts : (ℕ → List ℕ → Type 0) → Slot → RecordValue → Type 0
 SlotLasts may_hold slot r =
-    (k : ℕ) (value : List ℕ) → k < SLOT_BLOCKS → may_hold (first_block slot + k) value → value ≡ slot_block r k
+    (k : ℕ) (value : List ℕ) → k < slot_blocks → may_hold (first_block slot + k) value → value ≡ slot_block r k
 
 -- the root names the slot, which holds the record; of the other slot nothing is known
 pub record IsDecided (may_hold : ℕ → List ℕ → Type 0) (slot : Slot) (r : RecordValue) : Type 0 where
@@ -60,7 +59,7 @@ IsAmong may_hold slot undecided (r ∷ landed ∷ x ∷ xs) = ⊥
 -- A crash of the file's device leaves one of these records, and the file knows where.
 pub record LastsAmong {B : Type 0} (size : B → ℕ) (may_hold : B → ℕ → List ℕ → Type 0) (file : FileValue B)
     (records : List RecordValue) : Type 0 where
-  pub blocks : FILE_BLOCKS ≤ size file.device
+  pub blocks : file_blocks ≤ size file.device
   pub among : IsAmong (may_hold file.device) file.slot file.undecided records
 
 -- each outcome of a crash holds one of these records

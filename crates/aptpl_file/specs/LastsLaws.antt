@@ -19,7 +19,7 @@ behind_root Second = omega arith
 
 module _ (size : ℕ) (may_hold : ℕ → List ℕ → Type 0) (disk : List (List ℕ)) (room : 67 ≤ size)
     (left : MayLeave size may_hold disk) where
-  slot_left : (slot : Slot) (r : RecordValue) → SlotLasts may_hold slot r → (k : ℕ) → k < 33
+  pub slot_left : (slot : Slot) (r : RecordValue) → SlotLasts may_hold slot r → (k : ℕ) → k < 33
       → block_at disk (first_block slot + k) ≡ slot_block r k
   slot_left slot r spelled k lt =
       let within : first_block slot + k < 67 = slot_within slot k lt in

@@ -1,6 +1,8 @@
 pub mod Format
+pub mod Formatting
 pub mod Holds
 pub mod Lasts
 pub mod LastsLaws
 pub mod Reads
+pub mod Runs
 pub mod Writes

@@ -1,21 +1,20 @@
 -- What the blocks of a registration file are read as, part by part.
-use Rattle.std.specs.Prelude.{◌≡◌, ◌<◌, ℕ, ◌+◌, ◌*◌, not, nat_eq, IsTrue, List, [], ◌∷◌, length, min, take, drop, Result, Ok, Err}
+use Rattle.std.specs.Prelude.{◌≡◌, ◌<◌, ℕ, ◌+◌, ◌*◌, not, nat_eq, IsTrue, List, length, min, take, drop, Result, Ok, Err}
 use Rattle.std.specs.List.{AllByRecursion}
 use Rattle.reservations.specs.declared.registrant.Registrant.{Registrant}
 use Rattle.reservations.specs.Registry.{RecordValue, IsAscending, IsListed, IsRecord}
 use Rattle.block_file.specs.Disk.{block_at}
-use Rattle.aptpl_file.specs.declared.spelling.TheConstants.{ROOT_MAGIC}
 use Rattle.aptpl_file.specs.declared.slot.Slot.{Slot}
 use Rattle.aptpl_file.specs.declared.fault.OpenFault.{OpenFault}
 use Rattle.aptpl_file.specs.declared.fault.OpenFault.TheVariants.{NotARegFile, Version, DeviceFailed, NoMemory}
-use Rattle.aptpl_file.specs.Format.{entries_block, entry_at, first_block, header_block, place_byte, root_block, type_byte}
+use Rattle.aptpl_file.specs.Format.{entries_block, entry_at, first_block, header_block, place_byte, root_block, root_name, type_byte, version_1}
 use Rattle.aptpl_file.specs.Holds.{HoldsSlot}
 
 -- the block names no slot, or is the root of another version
 abbrev pub IsRootRefusal : List ℕ → OpenFault → Type 0
 IsRootRefusal root NotARegFile =
-    ((slot : Slot) → root ≡ root_block slot → ⊥) × (take 8 root ≡ ROOT_MAGIC → take 2 (drop 8 root) ≡ 0 ∷ 1 ∷ [])
-IsRootRefusal root Version = (take 8 root ≡ ROOT_MAGIC) × (take 2 (drop 8 root) ≡ 0 ∷ 1 ∷ [] → ⊥)
+    ((slot : Slot) → root ≡ root_block slot → ⊥) × (take 8 root ≡ root_name → take 2 (drop 8 root) ≡ version_1)
+IsRootRefusal root Version = (take 8 root ≡ root_name) × (take 2 (drop 8 root) ≡ version_1 → ⊥)
 IsRootRefusal root DeviceFailed = ⊥
 IsRootRefusal root NoMemory = ⊥
 

@@ -4,14 +4,14 @@ ghost use Rattle.block_file.specs.Disk.{or_new, Adds};
 ghost use Rattle.block_file.specs.Moment.{StopsAmong};
 ghost use Rattle.block_file.specs.Failures.{CanFail, Counts, Tells};
 ghost use Rattle.reservations.specs.Registry.{RecordValue};
-ghost use Rattle.aptpl_file.specs.declared.spelling.TheConstants.{FILE_BLOCKS};
+ghost use Rattle.aptpl_file.specs.Format.{file_blocks};
 
 use crate::reading::read_record;
 use crate::spelling::FILE_BLOCKS;
 use crate::writing::{save_root, save_slot};
 use crate::{OpenFault, SaveFault, Slot};
 use block_file::{Blocks, DeviceFailed};
-use reservations::Record;
+use reservations::{Lasting, Record};
 use std::alloc::Global;
 use std::marker::Model;
 
@@ -26,33 +26,45 @@ pub struct RegFile<B: Blocks> {
 
 impl<B: Blocks> Model for RegFile<B> {
     ghost use Rattle.std.specs.Prelude.{◌≤◌};
-    ghost use Rattle.aptpl_file.specs.declared.spelling.TheConstants.{FILE_BLOCKS};
+    ghost use Rattle.aptpl_file.specs.Format.{file_blocks};
     ghost use Rattle.aptpl_file.specs.Lasts.{FileValue};
 
     ghost Value = { FileValue B };
 
     ghost view = { λ f. record { device = f.device; slot = f.slot; undecided = f.undecided } };
 
-    ghost invariant = { λ f. FILE_BLOCKS ≤ B.size f.device };
+    ghost invariant = { λ f. file_blocks ≤ B.size f.device };
 }
 
 impl<B: Blocks> RegFile<B> {
     ghost use Rattle.aptpl_file.specs.Holds.{Holds, IsRefusal};
     ghost use Rattle.aptpl_file.specs.Format.{root_block};
+    ghost use Rattle.aptpl_file.specs.Formatting.{nothing, FailsAt, IsFormatted, StopsInFormat};
     ghost use Rattle.aptpl_file.specs.Lasts.{LastsAmong, RootLasts, StopsAt, left_by};
 
-    /// Makes a registration file of nothing on a device of at least 67 blocks. Refused, it drops the device.
-    pub fn format(mut device: B) -> Result<RegFile<B>, DeviceFailed>
-        requires { FILE_BLOCKS ≤ B.size device }
+    /// Makes a registration file of nothing on a device of at least 67 blocks: writes the first slot and makes it last,
+    /// and then the root that names it. Refused, it drops the device.
+    ///
+    /// What an older file left there is not taken up again: until the root is written the old one stands, and it is
+    /// written only over a slot that spells nothing.
+    pub fn format(mut device: B) -> Result<RegFile<B>, SaveFault>
+        requires { file_blocks ≤ B.size device }
         ensures size { IfOk result (λ file. B.size file.device ≡ B.size device) }
-        ensures lasts { IsTrue B.claims → IfOk result (λ file. LastsAmong B.size B.may_hold file
-            (record { aptpl = false; registrants = []; reservation = None } ∷ [])) }
+        ensures formatted { IfOk result (λ file. IsFormatted file) }
+        ensures lasts { IsTrue B.claims → IfOk result (λ file. LastsAmong B.size B.may_hold file (nothing ∷ [])) }
+        ensures stop { IsTrue B.claims → IsTrue B.claims_moments → IfOk result (λ file.
+            StopsInFormat B.moment B.left_since B.size B.may_hold device file.device) }
+        ensures left { IsTrue B.claims → IfErr result (FailsAt B.may_hold device) }
         ensures failures { IfOk result (λ file. Tells (B.failures device) (B.failures file.device) (Unit {0})) }
         ensures failed { IfErr result (λ fault. CanFail B.failures device) }
     {
         let slot = Slot::First;
-        save_slot(&mut device, slot, false, &[], &None)?;
-        save_root(&mut device, slot)?;
+        let Ok(()) = save_slot(&mut device, slot, false, &[], &None) else {
+            return Err(SaveFault::IdleSlot);
+        };
+        let Ok(()) = save_root(&mut device, slot) else {
+            return Err(SaveFault::NewRoot);
+        };
         Ok(RegFile {
             device,
             slot,
@@ -70,7 +82,7 @@ impl<B: Blocks> RegFile<B> {
         ensures lasts { IsTrue B.claims → IfOk result (λ found.
             LastsAmong B.size B.may_hold found.0 (found.1 ∷ [])) }
         ensures refused { IsTrue B.claims → IfErr result (IsRefusal (B.contents device)) }
-        ensures few { B.size device < FILE_BLOCKS → IsErrOf result OpenFault.NotARegFile }
+        ensures few { B.size device < file_blocks → IsErrOf result OpenFault.NotARegFile }
         ensures failures { IfOk result (λ found. Tells (B.failures device) (B.failures found.0.device) (Unit {0})) }
         ensures failed { IsErrOf result OpenFault.DeviceFailed → CanFail B.failures device }
     {
@@ -93,7 +105,7 @@ impl<B: Blocks> RegFile<B> {
     ///
     /// Done, a crash leaves this record alone. Failed, a crash leaves one that it might have left before, or this one;
     /// and so does a stop at any moment of the call.
-    pub fn save(&mut self, saved: &Record) -> Result<(), SaveFault>
+    pub fn save(&mut self, saved: &Lasting<'_>) -> Result<(), SaveFault>
         ensures size { B.size self.new.device ≡ B.size self.old.device }
         ensures saved { IsTrue B.claims → OnOk result (LastsAmong B.size B.may_hold self.new (saved.now ∷ [])) }
         ensures failed { IsTrue B.claims → IfErr result (λ fault. (records : List RecordValue)

@@ -7,6 +7,7 @@ mod file;
 pub mod laws;
 mod parsing;
 mod reading;
+mod runs;
 mod slot;
 mod spelling;
 mod writing;

@@ -6,8 +6,7 @@ ghost use Rattle.scsi_types.specs.declared.names.Group.{Group};
 ghost use Rattle.reservations.specs.declared.registrant.Registrant.{Registrant};
 ghost use Rattle.reservations.specs.Nexus.{nexus_cmp};
 ghost use Rattle.reservations.specs.Registry.{IsListed, RecordValue, is_lasting, is_sound_hold};
-ghost use Rattle.aptpl_file.specs.declared.spelling.TheConstants.{ENTRY_LENGTH};
-ghost use Rattle.aptpl_file.specs.Format.{entry_bytes, group_number, root_block};
+ghost use Rattle.aptpl_file.specs.Format.{entry_bytes, entry_length, group_number, root_block};
 ghost use Rattle.aptpl_file.specs.Reads.{AreEntries, HasBlock, HasEntry, HasHeader, HasReservation};
 ghost use Rattle.aptpl_file.specs.Reads.{IsRefusalOf, IsRootRefusal, IsUnfailed, TakesBlock, TakesEntry};
 
@@ -57,7 +56,7 @@ fn group_of_number(number: u8) -> Option<Group>
 
 // The registrant of an entry; none where it spells none.
 fn registrant_in(alloc: Global, entry: &[u8]) -> Result<Option<Registrant>, NoMemory>
-    requires { length entry.now ≡ ENTRY_LENGTH }
+    requires { length entry.now ≡ entry_length }
     ensures some { IfOk result (λ found. IfSome found (λ x.
         (entry.now ≡ entry_bytes x) × IsListed x × IsTrue (not (nat_eq x.key 0)))) }
     ensures none { IfOk result (λ found. IfNone found ((x : Registrant) → IsListed x
@@ -79,7 +78,8 @@ fn registrant_in(alloc: Global, entry: &[u8]) -> Result<Option<Registrant>, NoMe
     }
     let name = Vec::from_slice(alloc, &entry[17..17 + long])?;
     let isid = BigEndian::read_u48(&entry[10..]);
-    let nexus = Nexus::new(PortName::new(name, isid), group);
+    let port = PortName::new(name, isid);
+    let nexus = Nexus::new(&port, group);
     let x = Registrant { nexus, key };
     if entry_bytes(&x).as_slice() != entry {
         return Ok(None);
@@ -91,11 +91,9 @@ fn registrant_in(alloc: Global, entry: &[u8]) -> Result<Option<Registrant>, NoMe
 fn stands_behind(registrants: &[Registrant], x: &Registrant) -> bool
     ensures { IsTrue result ↔ AllByRecursion (λ (y : Registrant). nexus_cmp y.nexus x.now.nexus ≡ Less) registrants.now }
 {
-    let port = x.nexus.port();
-    let group = x.nexus.group();
     registrants
         .iter()
-        .all(|y| y.nexus.compare(port, group) == Ordering::Less)
+        .all(|y| y.nexus.compare(&x.nexus) == Ordering::Less)
 }
 
 // Takes an entry behind those that were taken, of so many in all.
@@ -106,7 +104,7 @@ fn take_entry(
     place: usize,
     entry: &[u8],
 ) -> Result<(), OpenFault>
-    requires long { length entry.now ≡ ENTRY_LENGTH }
+    requires long { length entry.now ≡ entry_length }
     requires entries { AreEntries registrants.old.items }
     requires taken { length registrants.old.items ≡ min place count }
     ensures taken { IfOk result (λ done. TakesEntry count place entry.now registrants.old.items registrants.new.items) }
@@ -161,7 +159,6 @@ pub fn take_block(
 
 // The reservation of a type's code and a holder's place; none for no type.
 fn reservation_in(
-    alloc: Global,
     code: u8,
     place: u8,
     registrants: &[Registrant],
@@ -185,12 +182,9 @@ fn reservation_in(
     let Some(x) = registrants.get(usize::from(place)) else {
         return Err(OpenFault::NotARegFile);
     };
-    let Ok(holder) = x.nexus.copy(alloc) else {
-        return Err(OpenFault::NoMemory);
-    };
     Ok(Some(Reservation {
         kind,
-        holder: Some(holder),
+        holder: Some(x.nexus.copy()),
     }))
 }
 
@@ -202,11 +196,7 @@ fn is_lasting(aptpl: bool, registrants: &[Registrant], reservation: &Option<Rese
 }
 
 /// The record of a slot's first block and of its registrants.
-pub fn record_in(
-    alloc: Global,
-    header: &[u8; 512],
-    registrants: Vec<Registrant>,
-) -> Result<Record, OpenFault>
+pub fn record_in(header: &[u8; 512], registrants: Vec<Registrant>) -> Result<Record, OpenFault>
     requires entries { AreEntries registrants.items }
     requires few { length registrants.items ≤ 64 }
     ensures found { IfOk result (HasHeader header.now registrants.items) }
@@ -216,7 +206,7 @@ pub fn record_in(
     ensures unfailed { IsUnfailed result }
 {
     let aptpl = header[8] == 1;
-    let reservation = match reservation_in(alloc, header[10], header[11], &registrants) {
+    let reservation = match reservation_in(header[10], header[11], &registrants) {
         Ok(reservation) => reservation,
         Err(fault) => return Err(fault),
     };

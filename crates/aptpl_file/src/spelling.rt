@@ -1,16 +1,16 @@
 //! The blocks that spell a record.
 ghost use Rattle.std.specs.Prelude.{◌≡◌, ◌+◌, ◌^◌, ◌≤◌, ◌<◌, Some, [], ◌∷◌, ◌++◌, IfSome, length, position, take, drop};
-ghost use Rattle.reservations.specs.Nexus.{same_nexus, through};
+ghost use Rattle.reservations.specs.Nexus.{same_nexus};
 ghost use Rattle.byteorder.specs.Endian.{big_bytes};
 ghost use Rattle.block_file.specs.declared.blocks.TheConstants.{BLOCK_LENGTH};
 ghost use Rattle.aptpl_file.specs.Format.{group_number, entries_block, entry_at, entry_bytes, header_block};
-ghost use Rattle.aptpl_file.specs.Format.{padded, place_byte, place_of, root_block, slot_block, type_byte};
+ghost use Rattle.aptpl_file.specs.Format.{padded, place_byte, place_of, root_block, slot_block, slot_blocks, type_byte};
 
 use crate::Slot;
 use block_file::BLOCK_LENGTH;
 use byteorder::{BigEndian, ByteOrder};
 use reservations::{Nexus, Registrant, Reservation};
-use scsi_types::{Group, PortName};
+use scsi_types::Group;
 
 /// How many blocks a registration file takes.
 pub const FILE_BLOCKS: u32 = 67;
@@ -24,14 +24,11 @@ pub const ROOT_MAGIC: [u8; 8] = [0x41, 0x4C, 0x55, 0x41, 0x52, 0x45, 0x47, 0x31]
 /// How a slot begins.
 pub const SLOT_MAGIC: [u8; 8] = [0x41, 0x4C, 0x55, 0x41, 0x53, 0x4C, 0x54, 0x31];
 
-/// The length of an entry, which is one registrant.
-pub const ENTRY_LENGTH: usize = 256;
-
 /// The holder's place where no holder is named.
 pub const NO_HOLDER: u8 = 0xFF;
 
-// Writes bytes over those from a place on.
-fn put(place: &mut [u8], at: usize, bytes: &[u8])
+/// Writes bytes over those from a place on.
+pub fn put(place: &mut [u8], at: usize, bytes: &[u8])
     requires { at + length bytes.now ≤ length place.old }
     ensures { place.new ≡ take at place.old ++ (bytes.now ++ drop (at + length bytes.now) place.old) }
 {
@@ -69,11 +66,11 @@ fn type_byte(reservation: &Option<Reservation>) -> u8
     }
 }
 
-fn position_of(registrants: &[Registrant], port: &PortName, group: Group) -> Option<usize>
-    ensures is { result ≡ position (λ x. same_nexus x.nexus (through port.now group)) registrants.now }
+fn position_of(registrants: &[Registrant], nexus: &Nexus) -> Option<usize>
+    ensures is { result ≡ position (λ x. same_nexus x.nexus nexus.now) registrants.now }
     ensures within { IfSome result (λ place. place < length registrants.now) }
 {
-    registrants.iter().position(|x| x.nexus.is(port, group))
+    registrants.iter().position(|x| x.nexus.same(nexus))
 }
 
 // The place of a nexus among at most 64 registrants.
@@ -81,7 +78,7 @@ fn place_of(holder: &Nexus, registrants: &[Registrant]) -> u8
     requires { length registrants.now ≤ 64 }
     ensures { result ≡ place_of (Some holder.now) registrants.now }
 {
-    match position_of(registrants, holder.port(), holder.group()) {
+    match position_of(registrants, holder) {
         Some(place) => place as u8,
         None => NO_HOLDER,
     }
@@ -148,9 +145,8 @@ fn entry_head(key: u64, group: Group, isid: u64, length_of_name: u8) -> [u8; 17]
 pub fn entry_bytes(x: &Registrant) -> [u8; 256]
     ensures { result ≡ entry_bytes x.now }
 {
-    let port = x.nexus.port();
-    let name = port.name();
-    let head = entry_head(x.key, x.nexus.group(), port.isid(), name.len() as u8);
+    let name = x.nexus.name();
+    let head = entry_head(x.key, x.nexus.group(), x.nexus.isid(), name.len() as u8);
     let mut entry = [0; 256];
     put(&mut entry, 0, &head);
     put(&mut entry, 17, name);
@@ -185,7 +181,7 @@ pub fn slot_block(
     block: u32,
 ) -> [u8; 512]
     requires few { length registrants.now ≤ 64 }
-    requires block { block < SLOT_BLOCKS }
+    requires block { block < slot_blocks }
     ensures { result ≡ slot_block
         (record { aptpl = aptpl; registrants = registrants.now; reservation = reservation.now }) block }
 {

@@ -1,15 +1,16 @@
 //! The writes of a save.
 ghost use Rattle.std.specs.Prelude.{◌≡◌, ◌≤◌, [], ◌∷◌, IsTrue, OnOk, length};
-ghost use Rattle.block_file.specs.Disk.{or_new, Adds, NoMore};
-ghost use Rattle.block_file.specs.Moment.{StopsAmong};
+ghost use Rattle.block_file.specs.Disk.{block_at, or_new, Adds, NoMore};
+ghost use Rattle.block_file.specs.Moment.{StopsAmong, TimePasses};
 ghost use Rattle.block_file.specs.Failures.{Counts};
-ghost use Rattle.aptpl_file.specs.Format.{root_block};
+ghost use Rattle.aptpl_file.specs.Format.{file_blocks, root_block};
 ghost use Rattle.aptpl_file.specs.Holds.{HoldsSlot};
 ghost use Rattle.aptpl_file.specs.Lasts.{RootLasts, SlotLasts};
 ghost use Rattle.aptpl_file.specs.Writes.{beside_slot};
 
 use crate::Slot;
-use crate::spelling::{FILE_BLOCKS, SLOT_BLOCKS, root_block, slot_block};
+use crate::runs::slot_bytes;
+use crate::spelling::root_block;
 use block_file::{Blocks, DeviceFailed};
 use reservations::{Registrant, Reservation};
 
@@ -21,7 +22,7 @@ pub fn save_slot<B: Blocks>(
     registrants: &[Registrant],
     reservation: &Option<Reservation>,
 ) -> Result<(), DeviceFailed>
-    requires blocks { FILE_BLOCKS ≤ B.size device.old }
+    requires blocks { file_blocks ≤ B.size device.old }
     requires few { length registrants.now ≤ 64 }
     ensures size { B.size device.new ≡ B.size device.old }
     ensures lasts { IsTrue B.claims → OnOk result (SlotLasts (B.may_hold device.new) slot
@@ -37,7 +38,7 @@ pub fn save_slot<B: Blocks>(
     device.flush()
 }
 
-// Writes a slot, block by block.
+// Writes a slot as one run.
 fn write_slot<B: Blocks>(
     device: &mut B,
     slot: Slot,
@@ -45,28 +46,25 @@ fn write_slot<B: Blocks>(
     registrants: &[Registrant],
     reservation: &Option<Reservation>,
 ) -> Result<(), DeviceFailed>
-    requires blocks { FILE_BLOCKS ≤ B.size device.old }
+    requires blocks { file_blocks ≤ B.size device.old }
     requires few { length registrants.now ≤ 64 }
     ensures size { B.size device.new ≡ B.size device.old }
     ensures written { IsTrue B.claims → OnOk result (HoldsSlot (B.contents device.new) slot
         (record { aptpl = aptpl; registrants = registrants.now; reservation = reservation.now })) }
     ensures crash { IsTrue B.claims → NoMore (beside_slot slot (B.may_hold device.old)) (B.may_hold device.new) }
-    ensures stop { IsTrue B.claims → IsTrue B.claims_moments → StopsAmong B.moment B.left_since B.size
-        (beside_slot slot (B.may_hold device.old)) device.old device.new }
+    ensures time { IsTrue B.claims_moments → TimePasses B.moment B.left_since B.size B.may_hold device.old device.new }
     ensures failures { Counts (B.failures device.old) (B.failures device.new) result }
 {
-    for k in 0..SLOT_BLOCKS {
-        let block = slot_block(aptpl, registrants, reservation, k);
-        let Ok(()) = device.write(slot.first_block() + k, &block) else {
-            return Err(DeviceFailed);
-        };
-    }
+    let bytes = slot_bytes(aptpl, registrants, reservation);
+    let Ok(()) = device.write_run(slot.first_block(), &bytes) else {
+        return Err(DeviceFailed);
+    };
     Ok(())
 }
 
 /// Writes the root that names a slot, and makes it last.
 pub fn save_root<B: Blocks>(device: &mut B, slot: Slot) -> Result<(), DeviceFailed>
-    requires { FILE_BLOCKS ≤ B.size device.old }
+    requires { file_blocks ≤ B.size device.old }
     ensures size { B.size device.new ≡ B.size device.old }
     ensures lasts { IsTrue B.claims → OnOk result (RootLasts (B.may_hold device.new) slot) }
     ensures crash { IsTrue B.claims
@@ -75,8 +73,24 @@ pub fn save_root<B: Blocks>(device: &mut B, slot: Slot) -> Result<(), DeviceFail
         (or_new 0 (root_block slot ∷ []) (B.may_hold device.old)) device.old device.new }
     ensures failures { Counts (B.failures device.old) (B.failures device.new) result }
 {
-    let Ok(()) = device.write(0, &root_block(slot)) else {
+    let Ok(()) = write_root(device, slot) else {
         return Err(DeviceFailed);
     };
     device.flush()
+}
+
+// Writes the root that names a slot.
+fn write_root<B: Blocks>(device: &mut B, slot: Slot) -> Result<(), DeviceFailed>
+    requires { file_blocks ≤ B.size device.old }
+    ensures size { B.size device.new ≡ B.size device.old }
+    ensures written { IsTrue B.claims → OnOk result (block_at (B.contents device.new) 0 ≡ root_block slot) }
+    ensures crash { IsTrue B.claims
+        → Adds 0 (root_block slot ∷ []) (B.may_hold device.old) (B.may_hold device.new) }
+    ensures time { IsTrue B.claims_moments → TimePasses B.moment B.left_since B.size B.may_hold device.old device.new }
+    ensures failures { Counts (B.failures device.old) (B.failures device.new) result }
+{
+    let Ok(()) = device.write_run(0, &root_block(slot)) else {
+        return Err(DeviceFailed);
+    };
+    Ok(())
 }

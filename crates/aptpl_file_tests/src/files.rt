@@ -66,7 +66,7 @@ pub fn formatted(alloc: Global) -> Result<Option<RegFile<MemBlocks>>, AllocError
 pub fn block_of<B: Blocks>(device: &mut B, index: u32) -> [u8; 512] {
     let mut block = [0; 512];
     if index < device.count() {
-        let _ = device.read(index, &mut block);
+        let _ = device.read_run(index, &mut block);
     }
     block
 }
@@ -76,6 +76,6 @@ pub fn set_byte<B: Blocks>(device: &mut B, index: u32, at: usize, value: u8) {
     let mut block = block_of(device, index);
     if index < device.count() && at < 512 {
         block[at] = value;
-        let _ = device.write(index, &block);
+        let _ = device.write_run(index, &block);
     }
 }

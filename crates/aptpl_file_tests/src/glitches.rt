@@ -16,7 +16,8 @@ struct Glitch<B: Blocks> {
     inner: B,
     calls: u64,
     fails_at: u64,
-    failed: u64,
+    failed_reads: u64,
+    failed_writes: u64,
 }
 
 impl<B: Blocks> Blocks for Glitch<B> {
@@ -34,9 +35,15 @@ impl<B: Blocks> Blocks for Glitch<B> {
 
     ghost left_since = { λ d t disk. Unit {0} };
 
-    ghost failures = { λ d. min (B.failures d.inner + d.failed) last_count };
+    ghost reads_failed = { λ d. min (B.reads_failed d.inner + d.failed_reads) last_count };
+
+    ghost writes_failed = { λ d. min (B.writes_failed d.inner + d.failed_writes) last_count };
+
+    ghost failures = { λ d. min (B.failures d.inner + (d.failed_reads + d.failed_writes)) last_count };
 
     ghost fits = { λ d. B.fits d.inner };
+
+    ghost summed = { λ d. Prim.omega (arith, B.summed d.inner) };
 
     ghost bounded = { λ d. Prim.omega arith };
 
@@ -54,31 +61,31 @@ impl<B: Blocks> Blocks for Glitch<B> {
         self.inner.count()
     }
 
-    fn read(&mut self, index: u32, block: &mut [u8; 512]) -> Result<(), DeviceFailed> {
+    fn read_run(&mut self, first: u32, bytes: &mut [u8]) -> Result<(), DeviceFailed> {
         if self.calls == self.fails_at {
             self.calls = self.calls.wrapping_add(1);
-            self.failed = self.failed.saturating_add(1);
+            self.failed_reads = self.failed_reads.saturating_add(1);
             return Err(DeviceFailed);
         }
         self.calls = self.calls.wrapping_add(1);
-        self.inner.read(index, block)
+        self.inner.read_run(first, bytes)
     }
 
-    fn write(&mut self, index: u32, block: &[u8; 512]) -> Result<(), DeviceFailed> {
+    fn write_run(&mut self, first: u32, bytes: &[u8]) -> Result<(), DeviceFailed> {
         if self.calls == self.fails_at {
             self.calls = self.calls.wrapping_add(1);
-            self.failed = self.failed.saturating_add(1);
-            let _ = self.inner.write(index, block);
+            self.failed_writes = self.failed_writes.saturating_add(1);
+            let _ = self.inner.write_run(first, bytes);
             return Err(DeviceFailed);
         }
         self.calls = self.calls.wrapping_add(1);
-        self.inner.write(index, block)
+        self.inner.write_run(first, bytes)
     }
 
     fn flush(&mut self) -> Result<(), DeviceFailed> {
         if self.calls == self.fails_at {
             self.calls = self.calls.wrapping_add(1);
-            self.failed = self.failed.saturating_add(1);
+            self.failed_writes = self.failed_writes.saturating_add(1);
             return Err(DeviceFailed);
         }
         self.calls = self.calls.wrapping_add(1);
@@ -86,7 +93,7 @@ impl<B: Blocks> Blocks for Glitch<B> {
     }
 }
 
-/// A save that fails at one of its 36 calls, counted from 0, its fault, and the calls of the save after it.
+/// A save that fails at one of its four calls, counted from 0, its fault, and the calls of the save after it.
 struct Row {
     fails_at: u64,
     fault: Option<SaveFault>,
@@ -97,27 +104,27 @@ const ROWS: &[Row] = &[
     Row {
         fails_at: 0,
         fault: Some(SaveFault::IdleSlot),
-        calls: 36,
+        calls: 4,
     },
     Row {
-        fails_at: 33,
+        fails_at: 1,
         fault: Some(SaveFault::IdleSlot),
-        calls: 36,
+        calls: 4,
     },
     Row {
-        fails_at: 34,
+        fails_at: 2,
         fault: Some(SaveFault::NewRoot),
-        calls: 38,
+        calls: 6,
     },
     Row {
-        fails_at: 35,
+        fails_at: 3,
         fault: Some(SaveFault::NewRoot),
-        calls: 38,
+        calls: 6,
     },
     Row {
         fails_at: 99,
         fault: None,
-        calls: 36,
+        calls: 4,
     },
 ];
 
@@ -131,24 +138,25 @@ fn an_undecided_root_is_written_again(rt: HostRuntime) -> Result<(), Fail> {
         let glitch = Glitch {
             inner: file.close(),
             calls: 0,
-            fails_at: 35 + row.fails_at,
-            failed: 0,
+            fails_at: 3 + row.fails_at,
+            failed_reads: 0,
+            failed_writes: 0,
         };
         let Ok((mut file, _)) = RegFile::open(alloc, glitch) else {
             panic!(rt; "{}", row.fails_at)
         };
-        let fault = file.save(&record_of(alloc, 0x11)?).err();
+        let fault = file.save(&record_of(alloc, 0x11)?.lasting()).err();
         assert_eq!(rt; fault, row.fault, "{}", row.fails_at);
         assert!(rt;
-            file.save(&record_of(alloc, 0x22)?).is_ok(),
+            file.save(&record_of(alloc, 0x22)?.lasting()).is_ok(),
             "{}",
             row.fails_at
         );
         let left = file.close();
         let before = if row.fault.is_none() {
-            35 + 36
+            3 + 4
         } else {
-            36 + row.fails_at
+            4 + row.fails_at
         };
         assert_eq!(rt;
             left.calls.wrapping_sub(before),

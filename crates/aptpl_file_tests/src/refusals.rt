@@ -175,7 +175,7 @@ fn rows(rt: HostRuntime) -> Result<(), Fail> {
             panic!(rt; "{}", row.name)
         };
         let record = registry_after(alloc, &requests)?.record()?;
-        assert!(rt; file.save(&record).is_ok(), "{}", row.name);
+        assert!(rt; file.save(&record.lasting()).is_ok(), "{}", row.name);
         let mut device = file.close();
         for (index, at, value) in row.puts {
             set_byte(&mut device, *index, *at, *value);

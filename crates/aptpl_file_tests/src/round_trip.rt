@@ -39,8 +39,8 @@ fn counts_and_types(rt: HostRuntime) -> Result<(), Fail> {
         let Some(mut file) = formatted(alloc)? else {
             panic!(rt; "{count}")
         };
-        assert!(rt; file.save(&registry.record()?).is_ok(), "{count}");
-        assert!(rt; file.save(&registry.record()?).is_ok(), "{count}");
+        assert!(rt; file.save(&registry.lasting()).is_ok(), "{count}");
+        assert!(rt; file.save(&registry.lasting()).is_ok(), "{count}");
         let Ok((_, record)) = RegFile::open(alloc, file.close()) else {
             panic!(rt; "{count}")
         };

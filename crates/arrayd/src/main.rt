@@ -1,66 +1,29 @@
 //! A disk array over iSCSI.
 #![tactic(auto)]
 
+ghost use Rattle.std.specs.Prelude.{◌≤◌, IfOk, IfSome, length};
+
+mod console;
+mod disks;
+mod fault;
+mod once;
+mod portals;
+mod serve;
 mod words;
 
-use block_file::MemBlocks;
-use scsi_types::NoMemory;
-use session::{End, Identity, Watched};
+use block_file::Blocks;
+use disk_files::{DiskLock, FileBlocks, FileOpener};
+use disks::{FileUnits, open_units};
+use fault::Fault;
+use serve::serve_units;
 use std::alloc::Global;
 use std::env::Env;
-use std::net::{Ipv4Addr, SocketAddrV4};
+use std::fs::File;
+use std::marker::Brand;
 use std::process::ExitCode;
+use std::rt::Files;
 use std::{env, io};
-use targets::once;
-use words::{Plan, WordsFault};
-
-/// How many blocks the unit of `--once` has.
-const BLOCKS: u32 = 2048;
-
-/// The name of the target of `--once`.
-const TARGET_NAME: &[u8] = b"iqn.2000-01.test:array";
-
-/// Why the program ends without having served.
-#[derive(Clone, Copy, Debug, PartialEq, Eq)]
-enum Fault {
-    WrongWords,
-    NoMemory,
-}
-
-impl From<NoMemory> for Fault {
-    fn from(_: NoMemory) -> Fault {
-        Fault::NoMemory
-    }
-}
-
-impl From<std::alloc::AllocError> for Fault {
-    fn from(_: std::alloc::AllocError) -> Fault {
-        Fault::NoMemory
-    }
-}
-
-impl From<WordsFault> for Fault {
-    fn from(fault: WordsFault) -> Fault {
-        match fault {
-            WordsFault::Wrong => Fault::WrongWords,
-            WordsFault::NoMemory => Fault::NoMemory,
-        }
-    }
-}
-
-// Says on standard error why the program ends, and with which status.
-fn complain(rt: &impl Eprint, fault: Fault) -> ExitCode {
-    match fault {
-        Fault::WrongWords => {
-            let _ = eprintln!(rt; "arrayd: wrong words");
-            ExitCode::from(2)
-        }
-        Fault::NoMemory => {
-            let _ = eprintln!(rt; "arrayd: no memory");
-            ExitCode::from(1)
-        }
-    }
-}
+use words::{MAX_UNITS, Options};
 
 // The program's words, its own name first.
 fn all_words(rt: &(impl Env + AllocGlobal)) -> Result<Vec<String>, Fault> {
@@ -71,35 +34,66 @@ fn all_words(rt: &(impl Env + AllocGlobal)) -> Result<Vec<String>, Fault> {
     }
 }
 
-// Does what the words ask for.
-fn run<R: Input + Print + Env + AllocGlobal>(rt: &R, alloc: Global) -> Result<(), Fault> {
-    let words = all_words(rt)?;
-    match words::read(alloc, words.as_slice())? {
-        Plan::Once => serve_once(rt, alloc),
+/// An array that is to be served.
+#[derive(Drop)]
+struct Prepared<'a, R: Files<File = File> + Drop> {
+    options: Options<'a>,
+    units: FileUnits<R>,
+    // They live as long as the array is served.
+    locks: Vec<DiskLock>,
+}
+
+// Does what the words ask for, but that it only opens the units of an array: it is to be served then.
+fn prepare<'a, R: Files<File = File> + Input + Print + Clone + Drop>(
+    rt: &R,
+    alloc: Global,
+    words: &'a [String],
+) -> Result<Option<Prepared<'a, R>>, Fault>
+    ensures { IfOk result (λ p. IfSome p (λ prepared. length prepared.units.items ≤ MAX_UNITS)) }
+{
+    let options = words::read(alloc, words)?;
+    if options.is_once {
+        once::serve_once(rt, alloc)?;
+        return Ok(None);
     }
+    let (units, locks) = open_units(rt, alloc, &options)?;
+    Ok(Some(Prepared {
+        options,
+        units,
+        locks,
+    }))
 }
 
-// The one portal of a controller, at this port of the host itself.
-fn portal(port: u16) -> [SocketAddrV4; 1] {
-    [SocketAddrV4::new(Ipv4Addr::new(127, 0, 0, 1), port)]
-}
-
-// Serves standard input to standard output over one unit in memory.
-fn serve_once<R: Input + Print>(rt: &R, alloc: Global) -> Result<(), Fault> {
-    let blocks = MemBlocks::new(alloc, BLOCKS)?;
-    let mut source = Watched::new(rt.reader());
-    let mut sink = Watched::new(io::writer(rt));
-    let me = Identity {
-        target_name: TARGET_NAME,
-        first: &portal(3260),
-        second: &portal(3264),
-    };
-    let (_end, _blocks): (End, MemBlocks) = once::once(alloc, &mut source, &mut sink, blocks, &me)?;
-    Ok(())
+// Says why the program ends, and with which status.
+fn complain(rt: &impl Eprint, fault: Fault) -> ExitCode {
+    let _ = eprintln!(rt; "arrayd: {fault}");
+    fault.status()
 }
 
 fn main(rt: HostRuntime) -> ExitCode {
-    match run(&rt, rt.alloc()) {
+    let alloc = rt.alloc();
+    let words = match all_words(&rt) {
+        Ok(words) => words,
+        Err(fault) => return complain(&rt, fault),
+    };
+    let Prepared {
+        options,
+        units,
+        locks,
+    } = match prepare(&rt, alloc, words.as_slice()) {
+        Ok(Some(prepared)) => prepared,
+        Ok(None) => return ExitCode::SUCCESS,
+        Err(fault) => return complain(&rt, fault),
+    };
+    let served = serve_units::<
+        Brand,
+        FileBlocks<File>,
+        FileBlocks<File>,
+        FileOpener<HostRuntime>,
+        HostRuntime,
+    >(&rt, alloc, &options, units);
+    drop(locks);
+    match served {
         Ok(()) => ExitCode::SUCCESS,
         Err(fault) => complain(&rt, fault),
     }

@@ -1,6 +1,6 @@
 -- One call of a device after another, and the count of failures over them.
-use Rattle.std.proofs.Common.{◌≡◌, ℕ, ◌<◌, ◌∙◌, arith}
-use Rattle.block_file.specs.Failures.{Tells}
+use Rattle.std.proofs.Common.{◌≡◌, ℕ, ◌<◌, ◌∙◌, Result, Ok, Err, OnOk, true, false, arith}
+use Rattle.block_file.specs.Failures.{Counts, Tells, last_count}
 
 -- calls of which none failed, and then more: the count over all of them tells what it tells over the later ones
 pub then_tells : (before mid now : ℕ) (done : Type 0) → Tells before mid (Unit {0}) → Tells mid now done
@@ -21,3 +21,10 @@ tells_of before now done other to from a = record {
   stays = λ room d. a.stays room (from d);
   rises = λ room failed. a.rises room (λ (d : done). failed (to d));
 }
+
+-- a call that the count does not tell as failed was done
+pub was_done : {T E P : Type 0} (before now : ℕ) (result : Result T E) → Counts before now result → before < last_count
+    → now ≡ before → OnOk result P → P
+was_done before now (Ok t) counts room same p = p
+was_done before now (Err e) counts room same p =
+    let up : before < now = counts.rises room (λ (done : false ≡ true). cc) in absurd (omega arith)

@@ -1,4 +1,5 @@
 pub mod Cut
+pub mod CutLaws
 pub mod Disk
 pub mod DiskLaws
 pub mod FailureLaws

@@ -30,6 +30,18 @@ leaves_within size size' values may_hold disk same within left = record {
 }
 
 module _ {D : Type 0} (moment : D → ℕ) (left_since : D → ℕ → List (List ℕ) → Type 0) (size : D → ℕ) where
+  -- a call
+  pub stops_in : (may_hold : D → ℕ → List ℕ → Type 0) (old new : D) (values : ℕ → List ℕ → Type 0)
+      → TimePasses moment left_since size may_hold old new → size new ≡ size old → NoMore values (may_hold new)
+      → StopsAmong moment left_since size values old new
+  stops_in may_hold old new values time same within = record {
+    later = time.later;
+    nothing_else = λ t disk le left.
+        ⊎_elim (λ p. inl p) (λ now. inr (leaves_within (size old) (size new) values (may_hold new) disk same within now))
+        (time.nothing_else t disk le left);
+    keeps = time.keeps;
+  }
+
   -- a call more
   pub stops_on : (may_hold : D → ℕ → List ℕ → Type 0) (old mid new : D) (values : ℕ → List ℕ → Type 0)
       → StopsAmong moment left_since size values old mid → TimePasses moment left_since size may_hold mid new

@@ -1,6 +1,7 @@
-ghost use Rattle.std.specs.Prelude.{◌≡◌, ◌<◌, ◌≤◌, ◌^◌, [], ◌∷◌, List, ℕ, Bool, length, IsTrue, OnOk};
+ghost use Rattle.std.specs.Prelude.{◌≡◌, ◌<◌, ◌≤◌, ◌+◌, ◌/◌, ◌^◌, List, ℕ, Bool, length, min, IsTrue, OnOk};
 ghost use Rattle.block_file.specs.declared.blocks.TheConstants.{BLOCK_LENGTH};
-ghost use Rattle.block_file.specs.Disk.{block_at, written, Between, NoMore, Adds, Only, MayLeave};
+ghost use Rattle.block_file.specs.Cut.{run_of, IsRun};
+ghost use Rattle.block_file.specs.Disk.{block_at, written, range_bytes, Between, NoMore, Adds, Only, MayLeave};
 ghost use Rattle.block_file.specs.Moment.{TimePasses};
 ghost use Rattle.block_file.specs.Failures.{Counts, last_count};
 
@@ -40,6 +41,12 @@ pub trait Blocks: Drop {
     /// What a crash at some moment from this one on may have left.
     ghost left_since: { Self → ℕ → List (List ℕ) → Type 0 };
 
+    /// How often a read has failed.
+    ghost reads_failed: { Self → ℕ };
+
+    /// How often a write or a flush has failed.
+    ghost writes_failed: { Self → ℕ };
+
     /// How often the device has failed.
     ghost failures: { Self → ℕ };
 
@@ -47,26 +54,32 @@ pub trait Blocks: Drop {
     fn count(&self) -> u32
         ensures { result ≡ size self.now };
 
-    /// Reads a block. After a failure nothing is known of what `block` holds.
-    fn read(&mut self, index: u32, block: &mut [u8; 512]) -> Result<(), DeviceFailed>
-        requires { index < size self.old }
+    /// Reads a run of whole blocks, which lies in the device. After a failure nothing is known of what `bytes` holds.
+    fn read_run(&mut self, first: u32, bytes: &mut [u8]) -> Result<(), DeviceFailed>
+        requires { IsRun (size self.old) first (length bytes.old) }
         ensures size { size self.new ≡ size self.old }
-        ensures read { IsTrue claims → OnOk result (block.new ≡ block_at (contents self.old) index) }
+        ensures read { IsTrue claims → OnOk result
+            (bytes.new ≡ range_bytes (contents self.old) first (length bytes.old / BLOCK_LENGTH)) }
         ensures contents { IsTrue claims → contents self.new ≡ contents self.old }
         ensures crash { IsTrue claims → NoMore (may_hold self.old) (may_hold self.new) }
         ensures time { IsTrue claims_moments → TimePasses moment left_since size may_hold self.old self.new }
-        ensures failures { Counts (failures self.old) (failures self.new) result };
+        ensures failures { Counts (failures self.old) (failures self.new) result }
+        ensures failed_reads { Counts (reads_failed self.old) (reads_failed self.new) result }
+        ensures failed_writes { writes_failed self.new ≡ writes_failed self.old };
 
-    /// Writes a block. After a failure it is the old one or the new one.
-    fn write(&mut self, index: u32, block: &[u8; 512]) -> Result<(), DeviceFailed>
-        requires { index < size self.old }
+    /// Writes a run of whole blocks, which lies in the device. After a failure each of them is the old one or the new
+    /// one.
+    fn write_run(&mut self, first: u32, bytes: &[u8]) -> Result<(), DeviceFailed>
+        requires { IsRun (size self.old) first (length bytes.now) }
         ensures size { size self.new ≡ size self.old }
         ensures written { IsTrue claims
-            → OnOk result (contents self.new ≡ written (contents self.old) index (block.now ∷ [])) }
-        ensures torn { IsTrue claims → Between (contents self.old) index (block.now ∷ []) (contents self.new) }
-        ensures crash { IsTrue claims → Adds index (block.now ∷ []) (may_hold self.old) (may_hold self.new) }
+            → OnOk result (contents self.new ≡ written (contents self.old) first (run_of bytes.now)) }
+        ensures torn { IsTrue claims → Between (contents self.old) first (run_of bytes.now) (contents self.new) }
+        ensures crash { IsTrue claims → Adds first (run_of bytes.now) (may_hold self.old) (may_hold self.new) }
         ensures time { IsTrue claims_moments → TimePasses moment left_since size may_hold self.old self.new }
-        ensures failures { Counts (failures self.old) (failures self.new) result };
+        ensures failures { Counts (failures self.old) (failures self.new) result }
+        ensures failed_reads { reads_failed self.new ≡ reads_failed self.old }
+        ensures failed_writes { Counts (writes_failed self.old) (writes_failed self.new) result };
 
     /// Makes what was written last: after a success a crash leaves the contents.
     fn flush(&mut self) -> Result<(), DeviceFailed>
@@ -75,10 +88,15 @@ pub trait Blocks: Drop {
         ensures durable { IsTrue claims → OnOk result (Only (contents self.old) (may_hold self.new)) }
         ensures crash { IsTrue claims → NoMore (may_hold self.old) (may_hold self.new) }
         ensures time { IsTrue claims_moments → TimePasses moment left_since size may_hold self.old self.new }
-        ensures failures { Counts (failures self.old) (failures self.new) result };
+        ensures failures { Counts (failures self.old) (failures self.new) result }
+        ensures failed_reads { reads_failed self.new ≡ reads_failed self.old }
+        ensures failed_writes { Counts (writes_failed self.old) (writes_failed self.new) result };
 
     /// The number of blocks fits 32 bits.
     ghost fits: { (d : Self) → size d < 2 ^ 32 };
+
+    /// The failures are those of reads and those of writes.
+    ghost summed: { (d : Self) → failures d ≡ min (reads_failed d + writes_failed d) last_count };
 
     /// The count of failures has an end.
     ghost bounded: { (d : Self) → failures d ≤ last_count };

@@ -1,11 +1,14 @@
-ghost use Rattle.std.specs.Prelude.{◌≡◌, ◌+◌, ◌<◌, ◌≤◌, [], ◌∷◌, List, ℕ, min, length, true, false, IsTrue, IsErr, OnOk};
+ghost use Rattle.std.specs.Prelude.{◌≡◌, ◌+◌, ◌/◌, ◌<◌, ◌≤◌, List, ℕ, min, length, take, IsTrue, IsErr, OnOk};
 ghost use Rattle.std.proofs.Common.{arith};
-ghost use Rattle.block_file.specs.Disk.{block_at, written, Between, NoMore, Adds, Only};
+ghost use Rattle.block_file.specs.declared.blocks.TheConstants.{BLOCK_LENGTH};
+ghost use Rattle.block_file.specs.Cut.{run_of, IsRun};
+ghost use Rattle.block_file.specs.Disk.{written, range_bytes, Between, NoMore, Adds, Only};
 ghost use Rattle.block_file.specs.Moment.{TimePasses};
 ghost use Rattle.block_file.specs.Failures.{Counts, last_count};
-ghost use Rattle.block_file.specs.Fuse.{intact, all_failures, Passes, Fails, Lands};
+ghost use Rattle.block_file.specs.Fuse.{intact, all_failures, all_reads_failed, all_writes_failed};
+ghost use Rattle.block_file.specs.Fuse.{Passes, FailsRead, FailsWrite, Lands};
 
-use crate::{Blocks, DeviceFailed};
+use crate::{BLOCK_LENGTH, Blocks, DeviceFailed};
 use std::marker::Model;
 
 /// A device that passes on some calls of read, write and flush, and fails each one after them.
@@ -13,8 +16,9 @@ use std::marker::Model;
 pub struct FusedBlocks<B: Blocks> {
     inner: B,
     left: u64,
-    lands: bool,
-    failed: u64,
+    lands: u32,
+    failed_reads: u64,
+    failed_writes: u64,
 }
 
 impl<B: Blocks> Model for FusedBlocks<B> {
@@ -22,31 +26,33 @@ impl<B: Blocks> Model for FusedBlocks<B> {
 
     ghost Value = { Fuse B };
 
-    ghost view = { λ d. record { inner = d.inner; left = d.left; lands = d.lands; failed = d.failed } };
+    ghost view = { λ d. record {
+      inner = d.inner;
+      left = d.left;
+      lands = d.lands;
+      failed_reads = d.failed_reads;
+      failed_writes = d.failed_writes;
+    } };
 }
 
 impl<B: Blocks> FusedBlocks<B> {
     /// Passes on `calls` calls, then fails each without reaching the device.
     pub fn new(inner: B, calls: u64) -> Self
-        ensures { result ≡ intact inner calls false }
+        ensures { result ≡ intact inner calls 0 }
     {
-        FusedBlocks {
-            inner,
-            left: calls,
-            lands: false,
-            failed: 0,
-        }
+        FusedBlocks::inside(inner, calls, 0)
     }
 
-    /// As `new`, but a write that fails has been written.
-    pub fn landing(inner: B, calls: u64) -> Self
-        ensures { result ≡ intact inner calls true }
+    /// As `new`, but where the first call that fails is a write, the first `blocks` blocks of its run are written.
+    pub fn inside(inner: B, calls: u64, blocks: u32) -> Self
+        ensures { result ≡ intact inner calls blocks }
     {
         FusedBlocks {
             inner,
             left: calls,
-            lands: true,
-            failed: 0,
+            lands: blocks,
+            failed_reads: 0,
+            failed_writes: 0,
         }
     }
 
@@ -74,9 +80,15 @@ impl<B: Blocks> Blocks for FusedBlocks<B> {
 
     ghost left_since = { λ d. B.left_since d.inner };
 
+    ghost reads_failed = { λ d. all_reads_failed B.reads_failed d };
+
+    ghost writes_failed = { λ d. all_writes_failed B.writes_failed d };
+
     ghost failures = { λ d. all_failures B.failures d };
 
     ghost fits = { λ d. B.fits d.inner };
+
+    ghost summed = { λ d. Prim.omega (arith, B.summed d.inner) };
 
     ghost bounded = { λ d. Prim.omega arith };
 
@@ -94,52 +106,59 @@ impl<B: Blocks> Blocks for FusedBlocks<B> {
         self.inner.count()
     }
 
-    fn read(&mut self, index: u32, block: &mut [u8; 512]) -> Result<(), DeviceFailed>
-        requires { index < B.size self.old.inner }
+    fn read_run(&mut self, first: u32, bytes: &mut [u8]) -> Result<(), DeviceFailed>
+        requires { IsRun (B.size self.old.inner) first (length bytes.old) }
         ensures size { B.size self.new.inner ≡ B.size self.old.inner }
-        ensures read { IsTrue B.claims → OnOk result (block.new ≡ block_at (B.contents self.old.inner) index) }
+        ensures read { IsTrue B.claims → OnOk result
+            (bytes.new ≡ range_bytes (B.contents self.old.inner) first (length bytes.old / BLOCK_LENGTH)) }
         ensures contents { IsTrue B.claims → B.contents self.new.inner ≡ B.contents self.old.inner }
         ensures crash { IsTrue B.claims → NoMore (B.may_hold self.old.inner) (B.may_hold self.new.inner) }
         ensures time { IsTrue B.claims_moments
             → TimePasses B.moment B.left_since B.size B.may_hold self.old.inner self.new.inner }
         ensures failures { Counts (all_failures B.failures self.old) (all_failures B.failures self.new) result }
+        ensures failed_reads { Counts
+            (all_reads_failed B.reads_failed self.old) (all_reads_failed B.reads_failed self.new) result }
+        ensures failed_writes { all_writes_failed B.writes_failed self.new ≡ all_writes_failed B.writes_failed self.old }
         ensures passed { 0 < self.old.left → Passes B.failures self.old self.new result }
-        ensures failed { self.old.left ≡ 0 → Fails self.old self.new result }
+        ensures failed { self.old.left ≡ 0 → FailsRead self.old self.new result }
         ensures unreached { self.old.left ≡ 0 → self.new.inner ≡ self.old.inner }
     {
         if self.left == 0 {
-            return refused(&mut self.failed);
+            self.lands = 0;
+            return refused(&mut self.failed_reads);
         }
         self.left -= 1;
-        self.inner.read(index, block)
+        self.inner.read_run(first, bytes)
     }
 
-    fn write(&mut self, index: u32, block: &[u8; 512]) -> Result<(), DeviceFailed>
-        requires { index < B.size self.old.inner }
+    fn write_run(&mut self, first: u32, bytes: &[u8]) -> Result<(), DeviceFailed>
+        requires { IsRun (B.size self.old.inner) first (length bytes.now) }
         ensures size { B.size self.new.inner ≡ B.size self.old.inner }
         ensures written { IsTrue B.claims → OnOk result
-            (B.contents self.new.inner ≡ written (B.contents self.old.inner) index (block.now ∷ [])) }
+            (B.contents self.new.inner ≡ written (B.contents self.old.inner) first (run_of bytes.now)) }
         ensures torn { IsTrue B.claims
-            → Between (B.contents self.old.inner) index (block.now ∷ []) (B.contents self.new.inner) }
+            → Between (B.contents self.old.inner) first (run_of bytes.now) (B.contents self.new.inner) }
         ensures crash { IsTrue B.claims
-            → Adds index (block.now ∷ []) (B.may_hold self.old.inner) (B.may_hold self.new.inner) }
+            → Adds first (run_of bytes.now) (B.may_hold self.old.inner) (B.may_hold self.new.inner) }
         ensures time { IsTrue B.claims_moments
             → TimePasses B.moment B.left_since B.size B.may_hold self.old.inner self.new.inner }
         ensures failures { Counts (all_failures B.failures self.old) (all_failures B.failures self.new) result }
+        ensures failed_reads { all_reads_failed B.reads_failed self.new ≡ all_reads_failed B.reads_failed self.old }
+        ensures failed_writes { Counts
+            (all_writes_failed B.writes_failed self.old) (all_writes_failed B.writes_failed self.new) result }
         ensures passed { 0 < self.old.left → Passes B.failures self.old self.new result }
-        ensures failed { self.old.left ≡ 0 → Fails self.old self.new result }
-        ensures unreached { self.old.left ≡ 0 → self.old.lands ≡ false → self.new.inner ≡ self.old.inner }
-        ensures landed { self.old.left ≡ 0 → self.old.lands ≡ true → IsTrue B.claims
-            → Lands B.failures B.contents self.old.inner self.new.inner index block.now }
+        ensures failed { self.old.left ≡ 0 → FailsWrite self.old self.new result }
+        ensures unreached { self.old.left ≡ 0 → self.old.lands ≡ 0 → self.new.inner ≡ self.old.inner }
+        ensures landed { self.old.left ≡ 0 → IsTrue B.claims
+            → Lands B.failures B.contents self.old.inner self.new.inner self.old.lands first bytes.now }
     {
         if self.left == 0 {
-            if self.lands {
-                let _ = self.inner.write(index, block);
-            }
-            return refused(&mut self.failed);
+            land(&mut self.inner, first, bytes, self.lands);
+            self.lands = 0;
+            return refused(&mut self.failed_writes);
         }
         self.left -= 1;
-        self.inner.write(index, block)
+        self.inner.write_run(first, bytes)
     }
 
     fn flush(&mut self) -> Result<(), DeviceFailed>
@@ -150,12 +169,16 @@ impl<B: Blocks> Blocks for FusedBlocks<B> {
         ensures time { IsTrue B.claims_moments
             → TimePasses B.moment B.left_since B.size B.may_hold self.old.inner self.new.inner }
         ensures failures { Counts (all_failures B.failures self.old) (all_failures B.failures self.new) result }
+        ensures failed_reads { all_reads_failed B.reads_failed self.new ≡ all_reads_failed B.reads_failed self.old }
+        ensures failed_writes { Counts
+            (all_writes_failed B.writes_failed self.old) (all_writes_failed B.writes_failed self.new) result }
         ensures passed { 0 < self.old.left → Passes B.failures self.old self.new result }
-        ensures failed { self.old.left ≡ 0 → Fails self.old self.new result }
+        ensures failed { self.old.left ≡ 0 → FailsWrite self.old self.new result }
         ensures unreached { self.old.left ≡ 0 → self.new.inner ≡ self.old.inner }
     {
         if self.left == 0 {
-            return refused(&mut self.failed);
+            self.lands = 0;
+            return refused(&mut self.failed_writes);
         }
         self.left -= 1;
         self.inner.flush()
@@ -169,4 +192,25 @@ fn refused(failed: &mut u64) -> Result<(), DeviceFailed>
 {
     *failed = failed.saturating_add(1);
     Err(DeviceFailed)
+}
+
+// Writes the first blocks of a run, so many or all.
+fn land<B: Blocks>(device: &mut B, first: u32, bytes: &[u8], lands: u32)
+    requires { IsRun (B.size device.old) first (length bytes.now) }
+    ensures size { B.size device.new ≡ B.size device.old }
+    ensures none { lands ≡ 0 → device.new ≡ device.old }
+    ensures landed { IsTrue B.claims
+        → Lands B.failures B.contents device.old device.new lands first bytes.now }
+    ensures torn { IsTrue B.claims
+        → Between (B.contents device.old) first (run_of bytes.now) (B.contents device.new) }
+    ensures crash { IsTrue B.claims → Adds first (run_of bytes.now) (B.may_hold device.old) (B.may_hold device.new) }
+    ensures time { IsTrue B.claims_moments → TimePasses B.moment B.left_since B.size B.may_hold device.old device.new }
+    ensures failures { B.failures device.old ≤ B.failures device.new }
+    ensures failed_reads { B.reads_failed device.new ≡ B.reads_failed device.old }
+    ensures failed_writes { B.writes_failed device.old ≤ B.writes_failed device.new }
+{
+    let blocks = (lands as usize).min(bytes.len() / BLOCK_LENGTH);
+    if blocks > 0 {
+        let _ = device.write_run(first, &bytes[..BLOCK_LENGTH * blocks]);
+    }
 }

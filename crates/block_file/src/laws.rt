@@ -1,9 +1,15 @@
 //! What the definitions of disks and writes say, in other words, and which devices claim them.
-ghost use Rattle.std.specs.Prelude.{◌≡◌, ◌⊎◌, ◌+◌, ◌-◌, ◌*◌, ◌<◌, ◌≤◌, ℕ, List, length, take, IsTrue};
+ghost use Rattle.std.specs.Prelude.{◌≡◌, ◌⊎◌, ◌+◌, ◌-◌, ◌*◌, ◌<◌, ◌≤◌, ℕ, List, length, min, take, IsTrue};
 ghost use Rattle.block_file.specs.Cut.{cut};
+ghost use Rattle.block_file.specs.Failures.{last_count};
 ghost use Rattle.block_file.specs.Disk.{block_at, written, range_bytes, Between};
 
 use crate::{BLOCK_LENGTH, Blocks, FusedBlocks, FusedOpener, KeepOpener, MemBlocks, Opener};
+
+/// A block has 512 bytes (SBC-3, READ CAPACITY (10): LOGICAL BLOCK LENGTH IN BYTES).
+pub fn a_block_has_512_bytes()
+    ensures { BLOCK_LENGTH ≡ 512 }
+{}
 
 /// Outside its range a write that may have stopped leaves each block as it was.
 pub fn outside_the_range()
@@ -32,6 +38,21 @@ pub fn memory_claims()
 pub fn a_fuse_claims_what_its_device_claims<B: Blocks>()
     ensures now { ⟦<FusedBlocks<B> as Blocks>⟧.claims ≡ B.claims }
     ensures moments { ⟦<FusedBlocks<B> as Blocks>⟧.claims_moments ≡ B.claims_moments }
+{}
+
+/// The failures of a device are those of its reads and those of its writes and flushes, up to the count's end.
+pub fn failures_are_of_two_kinds<B: Blocks>()
+    ensures { (d : B) → B.failures d ≡ min (B.reads_failed d + B.writes_failed d) last_count }
+{}
+
+/// An opener that keeps the device says of two that the second is the first.
+pub fn a_kept_device_is_the_same<B: Blocks>()
+    ensures { (old new : B) → ⟦<KeepOpener as Opener<B>>⟧.opened old new → new ≡ old }
+{}
+
+/// A fuse before an opener says opened where that says so.
+pub fn a_fuse_opens_what_its_opener_opens<B: Blocks, O: Opener<B>>()
+    ensures { (old new : B) → ⟦<FusedOpener<O> as Opener<B>>⟧.opened old new → O.opened old new }
 {}
 
 /// An opener that keeps the device keeps what is said of it, and a fuse before an opener claims what that claims.

@@ -1,10 +1,10 @@
-ghost use Rattle.std.specs.Prelude.{◌≡◌, ◌<◌, ◌≤◌, ◌+◌, ◌*◌, ◌^◌, ◌++◌, [], ◌∷◌, List, ℕ, length, take, drop, replicate};
+ghost use Rattle.std.specs.Prelude.{◌≡◌, ◌<◌, ◌≤◌, ◌+◌, ◌*◌, ◌/◌, ◌^◌, ◌++◌, [], ◌∷◌, List, ℕ, length, take, drop, replicate};
 ghost use Rattle.std.specs.Prelude.{true, false, refl, IfOk, IsOk, IsTrue, OnOk};
 ghost use Rattle.std.proofs.Common.{arith};
 ghost use Rattle.block_file.specs.declared.blocks.TheConstants.{BLOCK_LENGTH};
-ghost use Rattle.block_file.specs.Cut.{length-cut_at, cut, length-cut};
-ghost use Rattle.block_file.specs.Disk.{block_at, written, Between, NoMore, Adds, Only};
-ghost use Rattle.block_file.specs.Failures.{Counts};
+ghost use Rattle.block_file.specs.Cut.{cut, run_of, IsRun};
+ghost use Rattle.block_file.specs.CutLaws.{length-cut_at, length-cut};
+ghost use Rattle.block_file.specs.Disk.{block_at, written, range_bytes, Between, NoMore, Adds, Only};
 
 use crate::{BLOCK_LENGTH, Blocks, DeviceFailed};
 use std::alloc::{AllocError, Global};
@@ -45,9 +45,15 @@ impl Blocks for MemBlocks {
 
     ghost left_since = { λ d t disk. Unit {0} };
 
+    ghost reads_failed = { λ d. 0 };
+
+    ghost writes_failed = { λ d. 0 };
+
     ghost failures = { λ d. 0 };
 
     ghost fits = { λ d. d.fits };
+
+    ghost summed = { λ d. refl };
 
     ghost bounded = { λ d. Prim.omega arith };
 
@@ -65,29 +71,30 @@ impl Blocks for MemBlocks {
         self.count
     }
 
-    fn read(&mut self, index: u32, block: &mut [u8; 512]) -> Result<(), DeviceFailed>
-        requires { index < ⟦<MemBlocks as Blocks>⟧.size self.old }
+    fn read_run(&mut self, first: u32, bytes: &mut [u8]) -> Result<(), DeviceFailed>
+        requires { IsRun (⟦<MemBlocks as Blocks>⟧.size self.old) first (length bytes.old) }
         ensures ok { IsOk result }
         ensures unchanged { self.new ≡ self.old }
-        ensures read { block.new ≡ block_at (⟦<MemBlocks as Blocks>⟧.contents self.old) index }
+        ensures read { bytes.new
+            ≡ range_bytes (⟦<MemBlocks as Blocks>⟧.contents self.old) first (length bytes.old / BLOCK_LENGTH) }
     {
-        let from = BLOCK_LENGTH * index as usize;
-        block.copy_from_slice(&self.bytes[from..from + BLOCK_LENGTH]);
+        let from = BLOCK_LENGTH * first as usize;
+        bytes.copy_from_slice(&self.bytes[from..from + bytes.len()]);
         Ok(())
     }
 
-    fn write(&mut self, index: u32, block: &[u8; 512]) -> Result<(), DeviceFailed>
-        requires { index < ⟦<MemBlocks as Blocks>⟧.size self.old }
+    fn write_run(&mut self, first: u32, bytes: &[u8]) -> Result<(), DeviceFailed>
+        requires { IsRun (⟦<MemBlocks as Blocks>⟧.size self.old) first (length bytes.now) }
         ensures ok { IsOk result }
         ensures size { ⟦<MemBlocks as Blocks>⟧.size self.new ≡ ⟦<MemBlocks as Blocks>⟧.size self.old }
         ensures written { ⟦<MemBlocks as Blocks>⟧.contents self.new
-            ≡ written (⟦<MemBlocks as Blocks>⟧.contents self.old) index (block.now ∷ []) }
-        ensures torn { Between (⟦<MemBlocks as Blocks>⟧.contents self.old) index (block.now ∷ [])
+            ≡ written (⟦<MemBlocks as Blocks>⟧.contents self.old) first (run_of bytes.now) }
+        ensures torn { Between (⟦<MemBlocks as Blocks>⟧.contents self.old) first (run_of bytes.now)
             (⟦<MemBlocks as Blocks>⟧.contents self.new) }
-        ensures crash { Adds index (block.now ∷ []) (⟦<MemBlocks as Blocks>⟧.may_hold self.old)
+        ensures crash { Adds first (run_of bytes.now) (⟦<MemBlocks as Blocks>⟧.may_hold self.old)
             (⟦<MemBlocks as Blocks>⟧.may_hold self.new) }
     {
-        put(&mut self.bytes, BLOCK_LENGTH * index as usize, block);
+        put(&mut self.bytes, BLOCK_LENGTH * first as usize, bytes);
         Ok(())
     }
 
@@ -100,10 +107,11 @@ impl Blocks for MemBlocks {
     }
 }
 
-// Writes a block over the bytes from a place on.
-fn put(bytes: &mut Vec<u8>, from: usize, block: &[u8; 512])
-    requires { from + BLOCK_LENGTH ≤ length bytes.old.items }
-    ensures { bytes.new.items ≡ take from bytes.old.items ++ (block.now ++ drop (from + BLOCK_LENGTH) bytes.old.items) }
+// Writes bytes over those from a place on.
+fn put(bytes: &mut Vec<u8>, from: usize, part: &[u8])
+    requires { from + length part.now ≤ length bytes.old.items }
+    ensures { bytes.new.items
+        ≡ take from bytes.old.items ++ (part.now ++ drop (from + length part.now) bytes.old.items) }
 {
-    bytes[from..from + BLOCK_LENGTH].copy_from_slice(block);
+    bytes[from..from + part.len()].copy_from_slice(part);
 }

@@ -1,4 +1,4 @@
-ghost use Rattle.std.specs.Prelude.{◌≡◌, ◌+◌, ◌<◌, ◌≤◌, ℕ, Bool, true, min, IsTrue, IsOk, IsErr, OnErr};
+ghost use Rattle.std.specs.Prelude.{◌≡◌, ◌+◌, ◌<◌, ◌≤◌, ℕ, Bool, true, min, IsTrue, IsOk, IsErr, OnOk, OnErr};
 ghost use Rattle.std.proofs.Common.{arith};
 ghost use Rattle.block_file.specs.Disk.{HoldsTheSame};
 ghost use Rattle.block_file.specs.Moment.{LeavesTheSame};
@@ -15,14 +15,20 @@ pub trait Opener<B: Blocks>: Drop {
     /// Whether the type keeps what is said of the device that it opens.
     ghost claims: { Bool };
 
+    /// The second device is the first one, opened anew. Nothing but `open` says so.
+    ghost opened: { B → B → Type 0 };
+
     /// How often an open has failed.
     ghost opens_failed: { Self → ℕ };
 
     /// Puts the device, opened anew, in the place of the one that is there: it has the contents, what a crash may
     /// leave of it and the count of failures of that one. After a failure that one stays.
     fn open(&mut self, device: &mut B) -> Result<(), DeviceFailed>
+        ensures opened { OnOk result (opened device.old device.new) }
         ensures size { B.size device.new ≡ B.size device.old }
         ensures device_failures { B.failures device.new ≡ B.failures device.old }
+        ensures device_reads { B.reads_failed device.new ≡ B.reads_failed device.old }
+        ensures device_writes { B.writes_failed device.new ≡ B.writes_failed device.old }
         ensures contents { IsTrue claims → B.contents device.new ≡ B.contents device.old }
         ensures crash { IsTrue claims → HoldsTheSame (B.may_hold device.old) (B.may_hold device.new) }
         ensures moment { IsTrue claims → B.moment device.new ≡ B.moment device.old }
@@ -40,6 +46,8 @@ pub struct KeepOpener;
 
 impl<B: Blocks> Opener<B> for KeepOpener {
     ghost claims = { true };
+
+    ghost opened = { λ old new. new ≡ old };
 
     ghost opens_failed = { λ o. 0 };
 
@@ -86,13 +94,18 @@ impl<O: Drop> FusedOpener<O> {
 impl<B: Blocks, O: Opener<B>> Opener<B> for FusedOpener<O> {
     ghost claims = { O.claims };
 
+    ghost opened = { O.opened };
+
     ghost opens_failed = { λ o. all_opens_failed O.opens_failed o };
 
     ghost bounded = { λ o. Prim.omega arith };
 
     fn open(&mut self, device: &mut B) -> Result<(), DeviceFailed>
+        ensures opened { OnOk result (O.opened device.old device.new) }
         ensures size { B.size device.new ≡ B.size device.old }
         ensures device_failures { B.failures device.new ≡ B.failures device.old }
+        ensures device_reads { B.reads_failed device.new ≡ B.reads_failed device.old }
+        ensures device_writes { B.writes_failed device.new ≡ B.writes_failed device.old }
         ensures contents { IsTrue O.claims → B.contents device.new ≡ B.contents device.old }
         ensures crash { IsTrue O.claims → HoldsTheSame (B.may_hold device.old) (B.may_hold device.new) }
         ensures moment { IsTrue O.claims → B.moment device.new ≡ B.moment device.old }

@@ -1,6 +1,6 @@
 -- Where runs of bytes differ first, and where they do not.
-use Rattle.std.proofs.Common.{◌≡◌, ◌≢◌, ⊎_elim, MatchOption, ℕ, zero, suc, ◌+◌, ◌-◌, ◌<◌, true, false, nat_eq}
-use Rattle.std.proofs.Common.{List, [], ◌∷◌, ◌++◌, length, get_or, Option, Some, None, refl, sym, ◌∙◌, ap, arith}
+use Rattle.std.proofs.Common.{◌≡◌, ◌≢◌, ⊎_elim, MatchOption, ℕ, zero, suc, ◌-◌, ◌<◌, true, false, nat_eq}
+use Rattle.std.proofs.Common.{List, [], ◌∷◌, length, get_or, Option, Some, None, refl, sym, arith}
 use Rattle.std.proofs.lemmas.Bool.Decides.{eqb_tells, nat_tests}
 use Rattle.std.proofs.lemmas.Grind.{common_steps}
 use Rattle.compare_write.specs.Difference.{first_difference}
@@ -27,32 +27,6 @@ some_at_once x y xs ys at ne h = grind (arith, common_steps, nat_tests)
 none_of_empty : (xs : List ℕ) (at : ℕ) → first_difference xs [] ≡ Some at → ⊥
 none_of_empty [] at h = absurd (cc)
 none_of_empty (x ∷ xs) at h = absurd (cc)
-
--- equal bytes in front of both
-pub first_difference-append : (front xs ys : List ℕ) (at : ℕ) → first_difference xs ys ≡ Some at
-    → first_difference (front ++ xs) (front ++ ys) ≡ Some (length front + at)
-first_difference-append [] xs ys at h = let e : at ≡ 0 + at = omega arith in h
-    ∙ ap (λ (n : ℕ). let o : Option ℕ = Some n in o) e
-first_difference-append (x ∷ front) xs ys at h =
-    let e : suc (length front + at) ≡ suc (length front) + at = omega arith in
-    behind_equal x x (front ++ xs) (front ++ ys) (length front + at) refl (first_difference-append front xs ys at h)
-    ∙ ap (λ (n : ℕ). let o : Option ℕ = Some n in o) e
-
--- what stands behind the difference does not matter
-pub difference_in_front : (xs ys rest more : List ℕ) (at : ℕ) → first_difference xs ys ≡ Some at
-    → first_difference (xs ++ rest) (ys ++ more) ≡ Some at
-difference_in_front [] ys rest more at h = absurd (cc)
-difference_in_front (x ∷ xs) [] rest more at h = absurd (cc)
-difference_in_front (x ∷ xs) (y ∷ ys) rest more at h =
-    ⊎_elim
-    (λ (t : (nat_eq x y ≡ true) × (x ≡ y)).
-    let back = some_behind x y xs ys at t.1 h in
-    behind_equal x y (xs ++ rest) (ys ++ more) (at - 1) t.1 (difference_in_front xs ys rest more (at - 1) back.1)
-    ∙ ap (λ (n : ℕ). let o : Option ℕ = Some n in o) (sym back.0))
-    (λ (f : (nat_eq x y ≡ false) × (x ≢ y)).
-    at_once x y (xs ++ rest) (ys ++ more) f.1
-    ∙ ap (λ (n : ℕ). let o : Option ℕ = Some n in o) (sym (some_at_once x y xs ys at f.1 h)))
-    (eqb_tells x y)
 
 -- runs of one length that differ nowhere are equal
 pub none_differs : (xs ys : List ℕ) → length xs ≡ length ys → first_difference xs ys ≡ None → xs ≡ ys

@@ -11,6 +11,22 @@ IsUnfailed ReadFailed = ⊥
 IsUnfailed WriteFailed = ⊥
 IsUnfailed FlushFailed = ⊥
 
+-- no read failed
+abbrev pub IsRead : MediumEnd → Type 0
+IsRead Done = Unit {0}
+IsRead (Miscompare at) = Unit {0}
+IsRead ReadFailed = ⊥
+IsRead WriteFailed = Unit {0}
+IsRead FlushFailed = Unit {0}
+
+-- no write and no flush failed
+abbrev pub IsWritten : MediumEnd → Type 0
+IsWritten Done = Unit {0}
+IsWritten (Miscompare at) = Unit {0}
+IsWritten ReadFailed = Unit {0}
+IsWritten WriteFailed = ⊥
+IsWritten FlushFailed = ⊥
+
 -- the ends of a READ
 abbrev pub IsReadEnd : MediumEnd → Type 0
 IsReadEnd Done = Unit {0}

@@ -1,13 +1,13 @@
 //! COMPARE AND WRITE.
 ghost use Rattle.std.specs.Prelude.{◌≡◌, ◌+◌, ◌*◌, ◌<◌, ◌≤◌, Option, Some, IsTrue, IfOk, IfSome, MatchOption, length};
-ghost use Rattle.block_file.specs.Disk.{block_at, written, range_bytes, or_new, Between, NoMore, Adds};
-ghost use Rattle.block_file.specs.Moment.{StopsAmong, TimePasses};
+ghost use Rattle.block_file.specs.Disk.{written, range_bytes, or_new, Between, NoMore, Adds};
+ghost use Rattle.block_file.specs.Moment.{StopsAmong};
 ghost use Rattle.block_file.specs.Failures.{Counts, Tells};
 ghost use Rattle.compare_write.specs.Difference.{first_difference};
-ghost use Rattle.compare_write.specs.Ends.{IsUnfailed, IsCompareEnd, OnDone, OnMiscompare, OnUnwritten, OnWriting};
+ghost use Rattle.compare_write.specs.Ends.{IsUnfailed, IsRead, IsWritten, IsCompareEnd, OnDone, OnMiscompare, OnUnwritten, OnWriting};
 ghost use Rattle.compare_write.specs.Instances.{compare_instance, write_instance};
 
-use crate::{MediumEnd, write_range};
+use crate::{MediumEnd, read_range, write_range};
 use block_file::{BLOCK_LENGTH, Blocks, DeviceFailed};
 
 /// The most blocks of one COMPARE AND WRITE (SBC-3, Block Limits page: MAXIMUM COMPARE AND WRITE LENGTH).
@@ -15,6 +15,7 @@ pub const MOST_COMPARED: u16 = 32;
 
 /// Compares a range with the first half of `bytes`, and where the whole range is equal writes the second half to it
 /// (SBC-3, COMPARE AND WRITE command). Each half has as many bytes as the range; what stands behind is not looked at.
+/// One read of the device, and one write where it is equal; none for a range of no block.
 ///
 /// Done, or Miscompare with the offset of the first byte that differs, or ReadFailed: after these two no block has
 /// changed. After WriteFailed the range was equal, and each of its blocks is the old one or the new one.
@@ -24,11 +25,15 @@ pub fn compare_and_write<B: Blocks>(
     blocks: u16,
     bytes: &[u8],
 ) -> MediumEnd
+    requires few { blocks ≤ MOST_COMPARED }
     requires range { lba + blocks ≤ B.size device.old }
     requires given { 2 * BLOCK_LENGTH * blocks ≤ length bytes.now }
     ensures size { B.size device.new ≡ B.size device.old }
     ensures ends { IsCompareEnd result }
     ensures failures { Tells (B.failures device.old) (B.failures device.new) (IsUnfailed result) }
+    ensures failed_reads { Tells (B.reads_failed device.old) (B.reads_failed device.new) (IsRead result) }
+    ensures failed_writes { Tells (B.writes_failed device.old) (B.writes_failed device.new) (IsWritten result) }
+    ensures idle { blocks ≡ 0 → device.new ≡ device.old }
     ensures offset { OnMiscompare result (λ at. at < BLOCK_LENGTH * blocks) }
     ensures equal { IsTrue B.claims → OnWriting result
         (range_bytes (B.contents device.old) lba blocks ≡ compare_instance blocks bytes.now) }
@@ -65,10 +70,14 @@ fn find_difference<B: Blocks>(
     blocks: u16,
     given: &[u8],
 ) -> Result<Option<u32>, DeviceFailed>
+    requires few { blocks ≤ MOST_COMPARED }
     requires range { lba + blocks ≤ B.size device.old }
     requires given { length given.now ≡ BLOCK_LENGTH * blocks }
     ensures size { B.size device.new ≡ B.size device.old }
     ensures failures { Counts (B.failures device.old) (B.failures device.new) result }
+    ensures failed_reads { Counts (B.reads_failed device.old) (B.reads_failed device.new) result }
+    ensures failed_writes { B.writes_failed device.new ≡ B.writes_failed device.old }
+    ensures idle { blocks ≡ 0 → device.new ≡ device.old }
     ensures offset { IfOk result (λ found. IfSome found (λ at. at < BLOCK_LENGTH * blocks)) }
     ensures compared { IsTrue B.claims → IfOk result (λ found. MatchOption found
         (range_bytes (B.contents device.old) lba blocks ≡ given.now)
@@ -78,52 +87,33 @@ fn find_difference<B: Blocks>(
     ensures stop { IsTrue B.claims → IsTrue B.claims_moments
         → StopsAmong B.moment B.left_since B.size (B.may_hold device.old) device.old device.new }
 {
-    for k in 0..blocks {
-        let at = BLOCK_LENGTH * usize::from(k);
-        let part = &given[at..at + BLOCK_LENGTH];
-        let Ok(found) = compare_block(device, lba + u32::from(k), part) else {
-            return Err(DeviceFailed);
-        };
-        if let Some(offset) = found {
-            return Ok(Some((at + offset) as u32));
-        }
-    }
-    Ok(None)
-}
-
-/// Compares one block with as many bytes: the offset of the first one that differs.
-fn compare_block<B: Blocks>(
-    device: &mut B,
-    index: u32,
-    given: &[u8],
-) -> Result<Option<usize>, DeviceFailed>
-    requires index { index < B.size device.old }
-    requires given { length given.now ≡ BLOCK_LENGTH }
-    ensures size { B.size device.new ≡ B.size device.old }
-    ensures failures { Counts (B.failures device.old) (B.failures device.new) result }
-    ensures offset { IfOk result (λ found. IfSome found (λ at. at < BLOCK_LENGTH)) }
-    ensures compared { IsTrue B.claims → IfOk result (λ found. MatchOption found
-        (block_at (B.contents device.old) index ≡ given.now)
-        (λ at. first_difference (block_at (B.contents device.old) index) given.now ≡ Some at)) }
-    ensures contents { IsTrue B.claims → B.contents device.new ≡ B.contents device.old }
-    ensures crash { IsTrue B.claims → NoMore (B.may_hold device.old) (B.may_hold device.new) }
-    ensures time { IsTrue B.claims_moments → TimePasses B.moment B.left_since B.size B.may_hold device.old device.new }
-{
-    let mut block = [0; 512];
-    let Ok(()) = device.read(index, &mut block) else {
+    let mut room = [0; BLOCK_LENGTH * MOST_COMPARED as usize];
+    let held = &mut room[..given.len()];
+    let MediumEnd::Done = read_range(device, lba, blocks, held) else {
         return Err(DeviceFailed);
     };
-    Ok(difference(&block, given))
+    Ok(difference(held, given))
 }
 
-/// The offset of the first byte that differs.
-fn difference(block: &[u8; 512], given: &[u8]) -> Option<usize>
-    requires { length given.now ≡ BLOCK_LENGTH }
-    ensures is { result ≡ first_difference block.now given.now }
-    ensures offset { IfSome result (λ at. at < BLOCK_LENGTH) }
+/// The offset of the first byte that differs, where there are as many on both sides.
+fn difference(held: &[u8], given: &[u8]) -> Option<u32>
+    requires long { length held.now ≡ length given.now }
+    requires few { length given.now ≤ BLOCK_LENGTH * MOST_COMPARED }
+    ensures compared { MatchOption result (held.now ≡ given.now)
+        (λ at. first_difference held.now given.now ≡ Some at) }
+    ensures offset { IfSome result (λ at. at < length given.now) }
 {
-    block
-        .iter()
+    match first_differing(held, given) {
+        Some(at) => Some(at as u32),
+        None => None,
+    }
+}
+
+fn first_differing(held: &[u8], given: &[u8]) -> Option<usize>
+    ensures is { result ≡ first_difference held.now given.now }
+    ensures offset { IfSome result (λ at. at < length given.now) }
+{
+    held.iter()
         .zip(given)
         .position(|(held, wanted)| held != wanted)
 }

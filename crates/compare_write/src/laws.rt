@@ -1,6 +1,12 @@
 //! What the definitions of a compare say, in other words.
 ghost use Rattle.std.specs.Prelude.{◌≡◌, ◌≢◌, ◌<◌, ◌↔◌, ℕ, List, length, slice_index, Option, Some, None};
+ghost use Rattle.compare_write.specs.declared.compare.TheConstants.{MOST_COMPARED};
 ghost use Rattle.compare_write.specs.Difference.{first_difference};
+
+/// A comparison is of 32 blocks at most.
+pub fn a_comparison_is_of_32_blocks()
+    ensures { MOST_COMPARED ≡ 32 }
+{}
 
 /// The first difference is the least: the bytes differ there, and agree at each place before it. There is none
 /// just where runs of one length are equal.

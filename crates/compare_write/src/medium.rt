@@ -11,54 +11,45 @@ use block_file::{BLOCK_LENGTH, Blocks, DeviceFailed};
 
 /// Reads the blocks of a range into `out`, which has as many bytes (SBC-3, READ (10) command).
 ///
-/// Done, or ReadFailed where the device failed: then nothing is known of what `out` holds. No block changes.
+/// One call of the device, and none for a range of no block. Done, or ReadFailed where the device failed: then nothing is
+/// known of what `out` holds. No block changes.
 pub fn read_range<B: Blocks>(device: &mut B, lba: u32, blocks: u16, out: &mut [u8]) -> MediumEnd
     requires range { lba + blocks ≤ B.size device.old }
     requires room { length out.old ≡ BLOCK_LENGTH * blocks }
     ensures size { B.size device.new ≡ B.size device.old }
     ensures ends { IsReadEnd result }
     ensures failures { Tells (B.failures device.old) (B.failures device.new) (IsUnfailed result) }
+    ensures failed_reads { Tells (B.reads_failed device.old) (B.reads_failed device.new) (IsUnfailed result) }
+    ensures failed_writes { B.writes_failed device.new ≡ B.writes_failed device.old }
+    ensures idle { blocks ≡ 0 → device.new ≡ device.old }
     ensures read { IsTrue B.claims → OnDone result (out.new ≡ range_bytes (B.contents device.old) lba blocks) }
     ensures contents { IsTrue B.claims → B.contents device.new ≡ B.contents device.old }
     ensures crash { IsTrue B.claims → NoMore (B.may_hold device.old) (B.may_hold device.new) }
     ensures stop { IsTrue B.claims → IsTrue B.claims_moments
         → StopsAmong B.moment B.left_since B.size (B.may_hold device.old) device.old device.new }
 {
-    for k in 0..blocks {
-        let at = BLOCK_LENGTH * usize::from(k);
-        let Ok(()) = read_block(device, lba + u32::from(k), &mut out[at..at + BLOCK_LENGTH]) else {
-            return MediumEnd::ReadFailed;
-        };
+    if blocks == 0 {
+        return MediumEnd::Done;
     }
-    MediumEnd::Done
-}
-
-/// Reads one block into its place.
-fn read_block<B: Blocks>(device: &mut B, index: u32, place: &mut [u8]) -> Result<(), DeviceFailed>
-    requires index { index < B.size device.old }
-    requires room { length place.old ≡ BLOCK_LENGTH }
-    ensures size { B.size device.new ≡ B.size device.old }
-    ensures failures { Counts (B.failures device.old) (B.failures device.new) result }
-    ensures read { IsTrue B.claims → OnOk result (place.new ≡ block_at (B.contents device.old) index) }
-    ensures contents { IsTrue B.claims → B.contents device.new ≡ B.contents device.old }
-    ensures crash { IsTrue B.claims → NoMore (B.may_hold device.old) (B.may_hold device.new) }
-    ensures time { IsTrue B.claims_moments → TimePasses B.moment B.left_since B.size B.may_hold device.old device.new }
-{
-    let Some(block) = place.as_mut_array::<512>() else {
-        unreachable!()
+    let Ok(()) = device.read_run(lba, out) else {
+        return MediumEnd::ReadFailed;
     };
-    device.read(index, block)
+    MediumEnd::Done
 }
 
 /// Writes the first of `bytes`, as many as the range has, to it (SBC-3, WRITE (10) command).
 ///
-/// Done, or WriteFailed where the device failed: then each block of the range is the old one or the new one.
+/// One call of the device, and none for a range of no block. Done, or WriteFailed where the device failed: then each
+/// block of the range is the old one or the new one.
 pub fn write_range<B: Blocks>(device: &mut B, lba: u32, blocks: u16, bytes: &[u8]) -> MediumEnd
     requires range { lba + blocks ≤ B.size device.old }
     requires given { BLOCK_LENGTH * blocks ≤ length bytes.now }
     ensures size { B.size device.new ≡ B.size device.old }
     ensures ends { IsWriteEnd result }
     ensures failures { Tells (B.failures device.old) (B.failures device.new) (IsUnfailed result) }
+    ensures failed_reads { B.reads_failed device.new ≡ B.reads_failed device.old }
+    ensures failed_writes { Tells (B.writes_failed device.old) (B.writes_failed device.new) (IsUnfailed result) }
+    ensures idle { blocks ≡ 0 → device.new ≡ device.old }
     ensures written { IsTrue B.claims → OnDone result
         (B.contents device.new ≡ written (B.contents device.old) lba (cut blocks bytes.now)) }
     ensures torn { IsTrue B.claims
@@ -68,16 +59,36 @@ pub fn write_range<B: Blocks>(device: &mut B, lba: u32, blocks: u16, bytes: &[u8
         → StopsAmong B.moment B.left_since B.size (or_new lba (cut blocks bytes.now) (B.may_hold device.old))
         device.old device.new }
 {
-    for k in 0..blocks {
-        let at = BLOCK_LENGTH * usize::from(k);
-        let Some(block) = bytes[at..at + BLOCK_LENGTH].as_array::<512>() else {
-            unreachable!()
-        };
-        let Ok(()) = device.write(lba + u32::from(k), block) else {
-            return MediumEnd::WriteFailed;
-        };
+    if blocks == 0 {
+        return MediumEnd::Done;
     }
+    let Ok(()) = write_front(device, lba, blocks, bytes) else {
+        return MediumEnd::WriteFailed;
+    };
     MediumEnd::Done
+}
+
+/// Writes the first of `bytes`, so many blocks, as one run.
+fn write_front<B: Blocks>(
+    device: &mut B,
+    lba: u32,
+    blocks: u16,
+    bytes: &[u8],
+) -> Result<(), DeviceFailed>
+    requires range { lba + blocks ≤ B.size device.old }
+    requires given { BLOCK_LENGTH * blocks ≤ length bytes.now }
+    ensures size { B.size device.new ≡ B.size device.old }
+    ensures failures { Counts (B.failures device.old) (B.failures device.new) result }
+    ensures failed_reads { B.reads_failed device.new ≡ B.reads_failed device.old }
+    ensures failed_writes { Counts (B.writes_failed device.old) (B.writes_failed device.new) result }
+    ensures written { IsTrue B.claims → OnOk result
+        (B.contents device.new ≡ written (B.contents device.old) lba (cut blocks bytes.now)) }
+    ensures torn { IsTrue B.claims
+        → Between (B.contents device.old) lba (cut blocks bytes.now) (B.contents device.new) }
+    ensures crash { IsTrue B.claims → Adds lba (cut blocks bytes.now) (B.may_hold device.old) (B.may_hold device.new) }
+    ensures time { IsTrue B.claims_moments → TimePasses B.moment B.left_since B.size B.may_hold device.old device.new }
+{
+    device.write_run(lba, &bytes[..BLOCK_LENGTH * usize::from(blocks)])
 }
 
 /// Makes what was written last (SBC-3, SYNCHRONIZE CACHE (10) command).
@@ -87,6 +98,8 @@ pub fn sync<B: Blocks>(device: &mut B) -> MediumEnd
     ensures size { B.size device.new ≡ B.size device.old }
     ensures ends { IsSyncEnd result }
     ensures failures { Tells (B.failures device.old) (B.failures device.new) (IsUnfailed result) }
+    ensures failed_reads { B.reads_failed device.new ≡ B.reads_failed device.old }
+    ensures failed_writes { Tells (B.writes_failed device.old) (B.writes_failed device.new) (IsUnfailed result) }
     ensures contents { IsTrue B.claims → B.contents device.new ≡ B.contents device.old }
     ensures durable { IsTrue B.claims → OnDone result (Only (B.contents device.old) (B.may_hold device.new)) }
     ensures crash { IsTrue B.claims → NoMore (B.may_hold device.old) (B.may_hold device.new) }

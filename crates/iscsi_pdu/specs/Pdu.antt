@@ -2,8 +2,7 @@
 use Rattle.std.specs.Prelude.{◌≡◌, ℕ, ◌+◌, ◌-◌, ◌≤◌, List, length, take, drop, slice_index, slice_range}
 use Rattle.iscsi_pdu.specs.declared.header.Header.{Header}
 use Rattle.iscsi_pdu.specs.declared.header.Header.TheVariants.{Initiator, Target}
-use Rattle.iscsi_pdu.specs.declared.TheConstants.{BHS_LENGTH, MAX_DATA_SEGMENT_LENGTH}
-use Rattle.iscsi_pdu.specs.Number.{three_at}
+use Rattle.iscsi_pdu.specs.Number.{three_at, bhs_length, max_data_segment_length}
 use Rattle.iscsi_pdu.specs.Fields.{HasBadFlags, HasInitiatorFields, HasTargetFields}
 use Rattle.iscsi_pdu.specs.Spelling.{target_bhs, padded, pdu_length, zeros}
 
@@ -20,10 +19,10 @@ HasFields b (Target h) = HasTargetFields b h × (b ≡ target_bhs h (three_at b 
 -- The bytes spell this PDU: its BHS, no additional segment, the data, and padding up to a multiple of four, which
 -- is zeros from a target.
 pub record IsPdu (b : List ℕ) (header : Header) (d : List ℕ) : Type 0 where
-  pub long : BHS_LENGTH ≤ length b
+  pub long : bhs_length ≤ length b
   pub no_ahs : slice_index b 4 ≡ 0
-  pub limit : three_at b 5 ≤ MAX_DATA_SEGMENT_LENGTH
+  pub limit : three_at b 5 ≤ max_data_segment_length
   pub size : length b ≡ pdu_length (three_at b 5)
-  pub fields : HasFields (take BHS_LENGTH b) header
-  pub same_data : d ≡ slice_range b BHS_LENGTH (BHS_LENGTH + three_at b 5)
-  pub padding : IsTarget header → drop (BHS_LENGTH + three_at b 5) b ≡ zeros (padded (three_at b 5) - three_at b 5)
+  pub fields : HasFields (take bhs_length b) header
+  pub same_data : d ≡ slice_range b bhs_length (bhs_length + three_at b 5)
+  pub padding : IsTarget header → drop (bhs_length + three_at b 5) b ≡ zeros (padded (three_at b 5) - three_at b 5)

@@ -27,7 +27,7 @@ use Rattle.iscsi_pdu.specs.declared.header.TargetHeader.TheVariants.{
   Reject,
 }
 use Rattle.iscsi_pdu.specs.declared.header.Header.{Header}
-use Rattle.iscsi_pdu.specs.declared.TheConstants.{BHS_LENGTH}
+use Rattle.iscsi_pdu.specs.Number.{bhs_length}
 use Rattle.iscsi_pdu.specs.declared.header.Header.TheVariants.{Initiator, Target}
 
 -- a flag's value in its byte
@@ -152,7 +152,7 @@ padded n = (n + 3) / 4 * 4
 
 -- the length of a PDU with so many bytes of data
 abbrev pub pdu_length : ℕ → ℕ
-pdu_length n = BHS_LENGTH + padded n
+pdu_length n = bhs_length + padded n
 
 unfoldable pub spelling : Header → List ℕ → List ℕ
 spelling h d = bhs h (length d) ++ d ++ zeros (padded (length d) - length d)

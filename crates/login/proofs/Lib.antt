@@ -1,4 +1,5 @@
 pub mod Agreed
+mod Announced
 pub mod Cuts
 pub mod InRange
 pub mod Numbers

@@ -11,7 +11,7 @@ use Rattle.login.specs.Text.{Pair, spelled, is_byte, pair_of, pairs_of, pairs}
 use Rattle.login.specs.Number.{number_within, flag_in, is_listed}
 use Rattle.login.specs.Value.{agreed, value_text, word_text}
 use Rattle.login.specs.Answer.{verdict, verdict_on, verdict_of, answer_text, answers}
-use Rattle.login.specs.Table.{row_of, keys, key_named, has_name}
+use Rattle.login.specs.Table.{own_data_segment, row_of, keys, key_named, has_name}
 use Rattle.login.specs.Progress.{Progress}
 use Rattle.login.specs.Refusal.{is_too_long}
 use Rattle.login.specs.Request.{response, group_text, length_text, tells_length, kind_after}
@@ -186,7 +186,10 @@ group_short tag None None h = omega arith
 group_short tag (Some kind) now h = omega arith
 
 length_short : (tells : Bool) → length (length_text tells) ≤ 31
-length_short true = omega arith
+length_short true =
+    let k : length (decimal own_data_segment) ≤ 5 =
+    length-decimal-le 5 own_data_segment (omega arith) (omega arith) (omega arith) in
+    omega (arith, length-append (decimal own_data_segment) (0 ∷ []))
 length_short false = omega arith
 
 long_test : (said text nulls more : ℕ) → (nat_lt 8192 (said + text) || nat_lt 64 (nulls + more)) ≡ false

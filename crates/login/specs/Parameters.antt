@@ -1,5 +1,6 @@
 -- The values in force in a session (RFC 7143, 13).
-use Rattle.std.specs.Prelude.{◌≡◌, ℕ, Bool, true, false, List}
+use Rattle.std.specs.Prelude.{◌≡◌, ◌⊎◌, ℕ, Bool, true, false, codes, List}
+use Rattle.login.specs.Value.{value_text}
 use Rattle.login.specs.Text.{Pair}
 use Rattle.login.specs.Table.{in_force}
 use Rattle.login.specs.declared.key.Key.TheVariants as Of
@@ -35,6 +36,13 @@ parameters_of ps = record {
   data_pdu_in_order = flag_of (in_force Of.DataPDUInOrder ps);
   data_sequence_in_order = flag_of (in_force Of.DataSequenceInOrder ps);
 }
+
+-- what an offer is answered with tells the value in force; or it is rejected, and the default stands
+abbrev pub IsInForce : List ℕ → List ℕ → Type 0 → Type 0
+IsInForce told value stands = (told ≡ value) ⊎ ((told ≡ codes "Reject") × stands)
+
+abbrev pub flag_text : Bool → List ℕ
+flag_text b = value_text (Flag b)
 
 -- What a session relies on: every write asks for its data by R2T, one at a time, data comes in order, over one connection,
 -- and nothing that was lost is recovered.

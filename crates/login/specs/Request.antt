@@ -3,6 +3,7 @@ use Rattle.std.specs.Prelude.{ℕ, Bool, not, ◌&&◌, ◌||◌, ◌==◌, code
 use Rattle.std.specs.Prelude.{List, [], ◌++◌, Option, Some, None, unwrap_or}
 use Rattle.login.specs.Text.{Pair, pairs, spelled}
 use Rattle.login.specs.Answer.{answers}
+use Rattle.login.specs.Table.{own_data_segment}
 use Rattle.login.specs.Progress.{Progress}
 use Rattle.login.specs.Refusal.{stop_of, kind_of, value_said}
 use Rattle.login.specs.declared.key.Key.TheVariants as Of
@@ -38,7 +39,7 @@ group_text tag (Some kind) now = []
 
 -- MaxRecvDataSegmentLength, in the first response of stage 1
 abbrev pub length_text : Bool → List ℕ
-length_text tells = if tells then spelled (codes "MaxRecvDataSegmentLength") (codes "65536") else []
+length_text tells = if tells then spelled (codes "MaxRecvDataSegmentLength") (decimal own_data_segment) else []
 
 abbrev pub tells_length : Progress → LoginFlags → Bool
 tells_length s f = not s.declared && f.current_stage == 1

@@ -20,6 +20,10 @@ pub record Row : Type 0 where
 abbrev pub limits : ℕ → ℕ → ℕ → Limits
 limits low high own = record { low = low; high = high; own = own }
 
+-- the most bytes of a data segment that the target takes: what it declares (13.12)
+abbrev pub own_data_segment : ℕ
+own_data_segment = 65536
+
 abbrev pub row : List ℕ → Rule → Value → Row
 row name rule default = record { name = name; rule = rule; default = default }
 
@@ -34,7 +38,7 @@ row_of Of.ImmediateData = row (codes "ImmediateData") (Both true) (Flag true)
 row_of Of.MaxBurstLength = row (codes "MaxBurstLength") (Least (limits 512 16777215 262144)) (Number 262144)
 row_of Of.FirstBurstLength = row (codes "FirstBurstLength") (Least (limits 512 16777215 65536)) (Number 65536)
 row_of Of.MaxRecvDataSegmentLength =
-    row (codes "MaxRecvDataSegmentLength") (Declared (limits 512 16777215 65536)) (Number 8192)
+    row (codes "MaxRecvDataSegmentLength") (Declared (limits 512 16777215 own_data_segment)) (Number 8192)
 row_of Of.MaxConnections = row (codes "MaxConnections") (Least (limits 1 65535 1)) (Number 1)
 row_of Of.MaxOutstandingR2T = row (codes "MaxOutstandingR2T") (Least (limits 1 65535 1)) (Number 1)
 row_of Of.DefaultTime2Wait = row (codes "DefaultTime2Wait") (Greatest (limits 0 3600 2)) (Number 2)

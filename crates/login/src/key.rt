@@ -34,6 +34,9 @@ pub enum Key {
     TargetPortalGroupTag,
 }
 
+/// The most bytes of a data segment that the target takes, as it declares (RFC 7143, 13.12).
+pub const DATA_SEGMENT_LENGTH: u32 = 65536;
+
 /// The greatest length that a key may name.
 const LONGEST: u32 = 16777215;
 
@@ -138,7 +141,7 @@ impl Key {
             ),
             Key::MaxRecvDataSegmentLength => entry(
                 b"MaxRecvDataSegmentLength",
-                declared(512, LONGEST, 65536),
+                declared(512, LONGEST, DATA_SEGMENT_LENGTH),
                 Value::Number(8192),
             ),
             Key::MaxConnections => entry(b"MaxConnections", least(1, 65535, 1), Value::Number(1)),

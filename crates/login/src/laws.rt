@@ -1,10 +1,10 @@
 //! What the definitions say, in the words of RFC 7143.
-ghost use Rattle.std.specs.Prelude.{◌≡◌, ◌≤◌, ◌⊎◌, ◌↔◌, ◌++◌, ℕ, List, Bool, true, false, IsTrue, Some, None, IsSome};
-ghost use Rattle.login.specs.Parameters.{parameters_of, IsReliedOn};
-ghost use Rattle.login.specs.Text.{Pair, ArePairs, is_text, pairs, text_of};
+ghost use Rattle.std.specs.Prelude.{◌≡◌, ◌≤◌, ◌⊎◌, ◌↔◌, ◌++◌, ℕ, List, Bool, true, false, IsTrue, Some, None, IsSome, codes, decimal};
+ghost use Rattle.login.specs.Parameters.{parameters_of, flag_text, IsInForce, IsReliedOn};
+ghost use Rattle.login.specs.Text.{Pair, ArePairs, is_text, pairs, text_of, found};
 ghost use Rattle.login.specs.Number.{number_within, flag_in};
 ghost use Rattle.login.specs.Value.{agreed};
-ghost use Rattle.login.specs.Answer.{answers};
+ghost use Rattle.login.specs.Answer.{answers, verdict_of};
 ghost use Rattle.login.specs.Progress.{Progress};
 ghost use Rattle.login.specs.Refusal.{stop_of};
 ghost use Rattle.login.specs.Request.{after, response, length_text, tells_length};
@@ -51,6 +51,20 @@ pub fn what_the_target_says_once()
     ensures tag { (s : Progress) (f : LoginFlags) (ps : List Pair) (kind : Kind) → s.kind ≡ Some kind
         → response s f ps ≡ length_text (tells_length s f) ++ answers ps }
     ensures length { (s : Progress) (f : LoginFlags) → s.declared ≡ true → tells_length s f ≡ false }
+{}
+
+/// What is answered to an offer of MaxBurstLength, FirstBurstLength or ImmediateData is the value in force, or Reject: then
+/// the default stands (RFC 7143, 6.2). So each length that a login announces is the one by which data is cut.
+pub fn what_is_announced_is_in_force()
+    ensures burst { (ps : List Pair) (offer told : List ℕ) → found (codes "MaxBurstLength") ps ≡ Some offer
+        → verdict_of (codes "MaxBurstLength") offer ≡ Some told
+        → IsInForce told (decimal (parameters_of ps).max_burst_length) ((parameters_of ps).max_burst_length ≡ 262144) }
+    ensures first_burst { (ps : List Pair) (offer told : List ℕ) → found (codes "FirstBurstLength") ps ≡ Some offer
+        → verdict_of (codes "FirstBurstLength") offer ≡ Some told
+        → IsInForce told (decimal (parameters_of ps).first_burst_length) ((parameters_of ps).first_burst_length ≡ 65536) }
+    ensures immediate_data { (ps : List Pair) (offer told : List ℕ) → found (codes "ImmediateData") ps ≡ Some offer
+        → verdict_of (codes "ImmediateData") offer ≡ Some told
+        → IsInForce told (flag_text (parameters_of ps).immediate_data) ((parameters_of ps).immediate_data ≡ true) }
 {}
 
 /// Whatever is offered, a negotiation comes to the values that a session relies on: InitialR2T, DataPDUInOrder and

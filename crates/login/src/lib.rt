@@ -16,7 +16,7 @@ mod within;
 pub use key::{Key, Row};
 pub use laws::{
     a_text_and_its_pairs, booleans_that_are_negotiated, numbers_that_are_negotiated,
-    what_every_negotiation_comes_to, what_the_target_says_once,
+    what_every_negotiation_comes_to, what_is_announced_is_in_force, what_the_target_says_once,
 };
 pub use negotiation::{LONGEST_RESPONSE, LoginEnd, Negotiation};
 pub use parameters::{Parameters, in_force};

@@ -6,11 +6,12 @@ ghost use Rattle.login.specs.Text.{pairs};
 ghost use Rattle.login.specs.Parameters.{parameters_of};
 ghost use Rattle.login.specs.Progress.{Progress, beginning};
 
-use crate::answer::{put_answers, put_bytes, put_number, put_pair};
+use crate::answer::{put_answers, put_bytes, put_number};
 use crate::checks::{
     MOST_BYTES, has_bad_name, has_repeated, has_wrong_flags, is_too_long, kind_of, names_other,
     wants_authentication,
 };
+use crate::key::DATA_SEGMENT_LENGTH;
 use crate::parameters::Parameters;
 use crate::status::{Kind, LoginFlags, LoginStatus, Stop};
 use crate::text::{found, is_text};
@@ -101,7 +102,7 @@ impl Negotiation {
         ensures named { result ≡ LoginEnd.NamesSession
             → out.new.items ≡ initiator_of (pairs (self.old.unfinished ++ text.now)) }
         ensures short { length out.new.items ≤ LONGEST_RESPONSE }
-        ensures kept { LONGEST_RESPONSE ≤ vec_capacity out.new }
+        ensures kept { vec_capacity out.old ≤ vec_capacity out.new }
     {
         out.clear();
         if MOST_BYTES - self.unfinished.len() < text.len() {
@@ -264,7 +265,7 @@ impl Negotiation {
         ensures state { self.new ≡ passed self.old flags self.old.unfinished }
         ensures going { result ≡ LoginEnd.NamesSession → ⊥ }
         ensures short { length out.new.items ≤ LONGEST_RESPONSE }
-        ensures kept { LONGEST_RESPONSE ≤ vec_capacity out.new }
+        ensures kept { vec_capacity out.old ≤ vec_capacity out.new }
     {
         if flags.continues {
             self.stage = Some(flags.current_stage);
@@ -316,7 +317,7 @@ impl Negotiation {
         ensures kept { vec_capacity out.old ≤ vec_capacity out.new }
     {
         if !self.declared && flags.current_stage == 1 {
-            put_pair(out, b"MaxRecvDataSegmentLength", b"65536");
+            put_number(out, b"MaxRecvDataSegmentLength", DATA_SEGMENT_LENGTH);
         }
     }
 }

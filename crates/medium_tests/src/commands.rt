@@ -2,7 +2,7 @@
 ghost use Rattle.std.specs.Prelude.{◌+◌, ◌≤◌, IsTrue};
 
 use crate::disks::{Kind, contents, fused, memory};
-use block_file::{BLOCK_LENGTH, Blocks};
+use block_file::{BLOCK_LENGTH, Blocks, MemBlocks};
 use compare_write::MediumEnd::{self, Done, FlushFailed, Miscompare, ReadFailed, WriteFailed};
 use compare_write::{MOST_COMPARED, compare_and_write, read_range, sync, write_range};
 use std::alloc::{AllocError, Global};
@@ -116,7 +116,7 @@ fn run<B: Blocks>(
     }
 }
 
-/// Each call of a device is one block's read or write, or a flush.
+/// Each call of a device is the read or write of a run, or a flush.
 const ROWS: &[Row] = &[
     Row {
         name: "READ of a range",
@@ -133,23 +133,23 @@ const ROWS: &[Row] = &[
         after: [1, 2, 3, 4],
     },
     Row {
-        name: "READ, its first call fails",
+        name: "READ, its call fails",
         device: Kind::Fused(0),
         command: Read(1, 2, &[2, 3]),
         end: ReadFailed,
         after: [1, 2, 3, 4],
     },
     Row {
-        name: "READ, its second call fails",
+        name: "READ is one call",
         device: Kind::Fused(1),
-        command: Read(1, 2, &[2, 3]),
-        end: ReadFailed,
+        command: Read(0, 4, &[1, 2, 3, 4]),
+        end: Done,
         after: [1, 2, 3, 4],
     },
     Row {
-        name: "READ behind a fuse of as many calls",
-        device: Kind::Fused(2),
-        command: Read(1, 2, &[2, 3]),
+        name: "READ of no block makes no call",
+        device: Kind::Fused(0),
+        command: Read(2, 0, &[]),
         end: Done,
         after: [1, 2, 3, 4],
     },
@@ -175,39 +175,39 @@ const ROWS: &[Row] = &[
         after: [1, 2, 3, 4],
     },
     Row {
-        name: "WRITE, its first call fails",
+        name: "WRITE, its call fails",
         device: Kind::Fused(0),
         command: Write(1, 2, &[8, 9]),
         end: WriteFailed,
         after: [1, 2, 3, 4],
     },
     Row {
-        name: "WRITE, its first call fails and lands",
-        device: Kind::Landing(0),
+        name: "WRITE, one of its blocks lands",
+        device: Kind::Inside(0, 1),
         command: Write(1, 2, &[8, 9]),
         end: WriteFailed,
         after: [1, 8, 3, 4],
     },
     Row {
-        name: "WRITE, its second call fails",
+        name: "WRITE, two of its four blocks land",
+        device: Kind::Inside(0, 2),
+        command: Write(0, 4, &[5, 6, 7, 8]),
+        end: WriteFailed,
+        after: [5, 6, 3, 4],
+    },
+    Row {
+        name: "WRITE, each of its blocks lands",
+        device: Kind::Inside(0, 2),
+        command: Write(1, 2, &[8, 9]),
+        end: WriteFailed,
+        after: [1, 8, 9, 4],
+    },
+    Row {
+        name: "WRITE is one call",
         device: Kind::Fused(1),
-        command: Write(1, 2, &[8, 9]),
-        end: WriteFailed,
-        after: [1, 8, 3, 4],
-    },
-    Row {
-        name: "WRITE, its second call fails and lands",
-        device: Kind::Landing(1),
-        command: Write(1, 2, &[8, 9]),
-        end: WriteFailed,
-        after: [1, 8, 9, 4],
-    },
-    Row {
-        name: "WRITE behind a fuse of as many calls",
-        device: Kind::Fused(2),
-        command: Write(1, 2, &[8, 9]),
+        command: Write(0, 4, &[5, 6, 7, 8]),
         end: Done,
-        after: [1, 8, 9, 4],
+        after: [5, 6, 7, 8],
     },
     Row {
         name: "COMPARE AND WRITE of an equal range",
@@ -259,59 +259,45 @@ const ROWS: &[Row] = &[
         after: [1, 2, 3, 4],
     },
     Row {
-        name: "COMPARE AND WRITE, its first read fails",
-        device: Kind::Landing(0),
+        name: "COMPARE AND WRITE, its read fails",
+        device: Kind::Inside(0, 2),
         command: CompareAndWrite(1, 2, &[2, 3, 8, 9]),
         end: ReadFailed,
         after: [1, 2, 3, 4],
     },
     Row {
-        name: "COMPARE AND WRITE, its second read fails",
-        device: Kind::Landing(1),
-        command: CompareAndWrite(1, 2, &[2, 3, 8, 9]),
-        end: ReadFailed,
-        after: [1, 2, 3, 4],
-    },
-    Row {
-        name: "COMPARE AND WRITE, its first write fails",
-        device: Kind::Fused(2),
+        name: "COMPARE AND WRITE, its write fails",
+        device: Kind::Fused(1),
         command: CompareAndWrite(1, 2, &[2, 3, 8, 9]),
         end: WriteFailed,
         after: [1, 2, 3, 4],
     },
     Row {
-        name: "COMPARE AND WRITE, its first write fails and lands",
-        device: Kind::Landing(2),
+        name: "COMPARE AND WRITE, its write fails and one block lands",
+        device: Kind::Inside(1, 1),
         command: CompareAndWrite(1, 2, &[2, 3, 8, 9]),
         end: WriteFailed,
         after: [1, 8, 3, 4],
     },
     Row {
-        name: "COMPARE AND WRITE, its second write fails",
-        device: Kind::Fused(3),
-        command: CompareAndWrite(1, 2, &[2, 3, 8, 9]),
-        end: WriteFailed,
-        after: [1, 8, 3, 4],
-    },
-    Row {
-        name: "COMPARE AND WRITE, its second write fails and lands",
-        device: Kind::Landing(3),
+        name: "COMPARE AND WRITE, its write fails and lands",
+        device: Kind::Inside(1, 2),
         command: CompareAndWrite(1, 2, &[2, 3, 8, 9]),
         end: WriteFailed,
         after: [1, 8, 9, 4],
     },
     Row {
-        name: "COMPARE AND WRITE behind a fuse of as many calls",
-        device: Kind::Fused(4),
+        name: "COMPARE AND WRITE is two calls",
+        device: Kind::Fused(2),
         command: CompareAndWrite(1, 2, &[2, 3, 8, 9]),
         end: Done,
         after: [1, 8, 9, 4],
     },
     Row {
-        name: "COMPARE AND WRITE, a difference before the read that would fail",
-        device: Kind::Fused(1),
-        command: Differing(1, 2, &[2, 3, 8, 9], 5),
-        end: Miscompare(5),
+        name: "COMPARE AND WRITE, a difference and no call behind it",
+        device: Kind::Inside(1, 2),
+        command: Differing(1, 2, &[2, 3, 8, 9], 517),
+        end: Miscompare(517),
         after: [1, 2, 3, 4],
     },
     Row {
@@ -355,5 +341,27 @@ fn each_command_has_its_end(rt: HostRuntime) -> Result<(), Fail> {
         let wanted = (Some(row.end), row.after.map(Some));
         assert_eq!(rt; outcome(rt.alloc(), row)?, wanted, "{}", row.name);
     }
+    Ok(())
+}
+
+/// A COMPARE AND WRITE of the most blocks that there may be, where the byte at this offset differs.
+fn largest(alloc: Global, differs_at: Option<usize>) -> Result<Option<MediumEnd>, AllocError> {
+    let mut device = MemBlocks::new(alloc, u32::from(MOST_COMPARED))?;
+    let mut bytes = vec![in alloc; 0u8; 2 * BLOCK_LENGTH * usize::from(MOST_COMPARED)]?;
+    if let Some(at) = differs_at
+        && let Some(byte) = bytes.get_mut(at)
+    {
+        *byte = 1;
+    }
+    Ok(compare(&mut device, 0, MOST_COMPARED, &bytes))
+}
+
+#[test]
+fn a_comparison_of_16384_bytes(rt: HostRuntime) -> Result<(), Fail> {
+    let alloc = rt.alloc();
+    assert_eq!(rt; largest(alloc, None)?, Some(Done));
+    assert_eq!(rt; largest(alloc, Some(0))?, Some(Miscompare(0)));
+    assert_eq!(rt; largest(alloc, Some(16383))?, Some(Miscompare(16383)));
+    assert_eq!(rt; largest(alloc, Some(16384))?, Some(Done));
     Ok(())
 }

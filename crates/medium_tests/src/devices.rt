@@ -1,13 +1,14 @@
 //! Scripts of calls on one device.
-use crate::disks::{Kind, contents, fused, memory, read, write};
+use crate::disks::{Kind, contents, fused, memory, reads, writes};
 use block_file::{Blocks, DeviceFailed, MemBlocks};
 use std::alloc::{AllocError, Global};
 use std::test::Fail;
 
-/// A call and its answer: the byte that fills the block that was read, or whether the call was done.
+/// A call and its answer. The bytes fill the blocks of a run, from a place on.
 enum Call {
-    Read(u32, Option<u8>),
-    Write(u32, u8, bool),
+    /// What was read, or, where the call is to fail, so many blocks.
+    Read(u32, &'static [u8], bool),
+    Write(u32, &'static [u8], bool),
     Flush(bool),
     Count(u32),
 }
@@ -26,59 +27,79 @@ const ROWS: &[Row] = &[
         device: Kind::Memory,
         calls: &[
             Call::Count(4),
-            Call::Read(0, Some(1)),
-            Call::Read(3, Some(4)),
-            Call::Write(0, 7, true),
-            Call::Write(3, 8, true),
-            Call::Write(3, 9, true),
-            Call::Read(0, Some(7)),
-            Call::Read(2, Some(3)),
-            Call::Read(3, Some(9)),
+            Call::Read(0, &[1], true),
+            Call::Read(3, &[4], true),
+            Call::Read(0, &[1, 2, 3, 4], true),
+            Call::Write(0, &[7], true),
+            Call::Write(2, &[8, 8], true),
+            Call::Write(3, &[9], true),
+            Call::Read(0, &[7, 2, 8], true),
+            Call::Read(1, &[2, 8, 9], true),
+            Call::Read(4, &[], true),
+            Call::Write(4, &[], true),
             Call::Flush(true),
         ],
-        after: [7, 2, 3, 9],
+        after: [7, 2, 8, 9],
     },
     Row {
-        name: "a fuse passes on two calls and fails each one after them",
+        name: "a fuse passes on two runs and fails each call after them",
         device: Kind::Fused(2),
         calls: &[
-            Call::Write(0, 7, true),
+            Call::Write(0, &[7, 7], true),
             Call::Count(4),
-            Call::Write(1, 8, true),
-            Call::Write(2, 9, false),
-            Call::Read(0, None),
+            Call::Write(1, &[8, 8], true),
+            Call::Write(2, &[9], false),
+            Call::Read(0, &[7], false),
             Call::Flush(false),
             Call::Count(4),
-            Call::Write(3, 9, false),
+            Call::Write(3, &[9], false),
         ],
-        after: [7, 8, 3, 4],
+        after: [7, 8, 8, 4],
     },
     Row {
         name: "a read and a flush are calls too",
         device: Kind::Fused(2),
         calls: &[
-            Call::Read(0, Some(1)),
+            Call::Read(0, &[1, 2], true),
             Call::Flush(true),
-            Call::Write(0, 7, false),
+            Call::Write(0, &[7], false),
         ],
         after: [1, 2, 3, 4],
     },
     Row {
-        name: "a landing fuse writes what it fails",
-        device: Kind::Landing(1),
+        name: "two blocks of the write that fails first",
+        device: Kind::Inside(1, 2),
         calls: &[
-            Call::Write(0, 7, true),
-            Call::Write(1, 8, false),
-            Call::Read(1, None),
+            Call::Write(0, &[7], true),
+            Call::Write(1, &[8, 9, 5], false),
+            Call::Read(1, &[8], false),
             Call::Flush(false),
-            Call::Write(2, 9, false),
+            Call::Write(0, &[6], false),
         ],
         after: [7, 8, 9, 4],
     },
     Row {
+        name: "the whole of a run that is shorter",
+        device: Kind::Inside(0, 9),
+        calls: &[Call::Write(1, &[8, 9], false), Call::Write(0, &[7], false)],
+        after: [1, 8, 9, 4],
+    },
+    Row {
+        name: "the call that fails first is no write",
+        device: Kind::Inside(0, 2),
+        calls: &[Call::Read(0, &[1], false), Call::Write(0, &[7, 8], false)],
+        after: [1, 2, 3, 4],
+    },
+    Row {
+        name: "the call that fails first is a flush",
+        device: Kind::Inside(0, 2),
+        calls: &[Call::Flush(false), Call::Write(0, &[7, 8], false)],
+        after: [1, 2, 3, 4],
+    },
+    Row {
         name: "a fuse of no call",
         device: Kind::Fused(0),
-        calls: &[Call::Write(0, 7, false), Call::Read(0, None)],
+        calls: &[Call::Write(0, &[7], false), Call::Read(0, &[1], false)],
         after: [1, 2, 3, 4],
     },
 ];
@@ -86,8 +107,8 @@ const ROWS: &[Row] = &[
 /// Whether a call has its answer.
 fn answers<B: Blocks>(device: &mut B, call: &Call) -> bool {
     match call {
-        Call::Read(index, byte) => read(device, *index) == *byte,
-        Call::Write(index, byte, done) => write(device, *index, *byte) == *done,
+        Call::Read(first, bytes, done) => reads(device, *first, bytes) == *done,
+        Call::Write(first, bytes, done) => writes(device, *first, bytes) == *done,
         Call::Flush(done) => device.flush().is_ok() == *done,
         Call::Count(count) => device.count() == *count,
     }

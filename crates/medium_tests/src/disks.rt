@@ -2,20 +2,19 @@
 use block_file::{Blocks, DeviceFailed, FusedBlocks, MemBlocks};
 use std::alloc::{AllocError, Global};
 
-/// The device of a row: memory, or memory behind a fuse that passes on so many calls.
+/// The device of a row: memory, or memory behind a fuse that passes on so many calls; of the first write that it fails
+/// so many blocks may land.
 #[derive(Clone, Copy)]
 pub enum Kind {
     Memory,
     Fused(u64),
-    Landing(u64),
+    Inside(u64, u32),
 }
 
 /// Memory of four blocks that hold 1, 2, 3 and 4.
 pub fn memory(alloc: Global) -> Result<MemBlocks, AllocError> {
     let mut device = MemBlocks::new(alloc, 4)?;
-    for byte in 1u8..5 {
-        let _ = write(&mut device, u32::from(byte) - 1, byte);
-    }
+    let _ = writes(&mut device, 0, &[1, 2, 3, 4]);
     Ok(device)
 }
 
@@ -25,7 +24,7 @@ pub fn fused(alloc: Global, kind: Kind) -> Result<FusedBlocks<MemBlocks>, AllocE
     Ok(match kind {
         Kind::Memory => FusedBlocks::new(device, u64::MAX),
         Kind::Fused(calls) => FusedBlocks::new(device, calls),
-        Kind::Landing(calls) => FusedBlocks::landing(device, calls),
+        Kind::Inside(calls, blocks) => FusedBlocks::inside(device, calls, blocks),
     })
 }
 
@@ -35,15 +34,39 @@ pub fn read<B: Blocks>(device: &mut B, index: u32) -> Option<u8> {
         return None;
     }
     let mut block = [0xEE; 512];
-    match device.read(index, &mut block) {
+    match device.read_run(index, &mut block) {
         Ok(()) if block == [block[0]; 512] => Some(block[0]),
         Ok(()) | Err(DeviceFailed) => None,
     }
 }
 
-/// Whether a block of this byte was written.
-pub fn write<B: Blocks>(device: &mut B, index: u32, byte: u8) -> bool {
-    index < device.count() && device.write(index, &[byte; 512]).is_ok()
+/// Four blocks, which these bytes fill in turn.
+fn filled(bytes: &[u8]) -> [u8; 2048] {
+    let mut blocks = [0xEE; 2048];
+    for (block, byte) in blocks.chunks_exact_mut(512).zip(bytes) {
+        block.fill(*byte);
+    }
+    blocks
+}
+
+/// Whether a run of blocks was read that these bytes fill.
+pub fn reads<B: Blocks>(device: &mut B, first: u32, bytes: &[u8]) -> bool {
+    let n = bytes.len();
+    if n > 4 || first > 4 || first as usize + n > device.count() as usize {
+        return false;
+    }
+    let mut run = [0xDD; 2048];
+    device.read_run(first, &mut run[..512 * n]).is_ok()
+        && run[..512 * n] == filled(bytes)[..512 * n]
+}
+
+/// Whether a run of blocks that these bytes fill was written.
+pub fn writes<B: Blocks>(device: &mut B, first: u32, bytes: &[u8]) -> bool {
+    let n = bytes.len();
+    n <= 4
+        && first <= 4
+        && first as usize + n <= device.count() as usize
+        && device.write_run(first, &filled(bytes)[..512 * n]).is_ok()
 }
 
 /// The bytes that fill the four blocks.

@@ -3,7 +3,7 @@ use Rattle.std.proofs.Common.{◌≡◌, ⊎_elim, ℕ, ◌+◌, ◌%◌, ◌^�
 use Rattle.std.proofs.Common.{eq-eqb, if◌then◌else◌, List, [], ◌∷◌, filter, refl, sym, ◌∙◌, ap, Option, Some}
 use Rattle.std.proofs.Common.{None, IsFalse}
 use Rattle.std.proofs.lemmas.Bool.{cases_Bool}
-use Rattle.std.specs.List.{cons_option, find}
+use Rattle.std.specs.List.{cons_option, filter_map, find}
 use Rattle.std.specs.Option.{option_map}
 use Rattle.scsi_types.specs.Nexus.{Nexus}
 use Rattle.scsi_types.specs.declared.reservation.PrOutAction.{PrOutAction}
@@ -16,17 +16,18 @@ use Rattle.reservations.specs.declared.notice.Notice.{Notice}
 use Rattle.reservations.specs.declared.notice.Notice.TheVariants.{ToAll, OfPreempted}
 use Rattle.reservations.specs.declared.registrant.Registrant.{Registrant}
 use Rattle.reservations.specs.declared.request.PrOut.{PrOut}
-use Rattle.reservations.specs.declared.request.Told.{Told}
 use Rattle.reservations.specs.Nexus.{same_nexus}
-use Rattle.reservations.specs.Notice.{code_for, code_told, telling, told_of}
+use Rattle.reservations.specs.Notice.{Told, code_for, code_told, telling_of, told_as, told_of}
 use Rattle.reservations.specs.Registry.{RegistryValue, is_of_code, key_of}
 use Rattle.reservations.specs.Rows.{PrRow, ReserveField, ParameterField, KeyConflict, RegistersNothing}
 use Rattle.reservations.specs.Rows.{RegistersNobodyMore, Registers, ChangesKey, HolderUnregisters}
-use Rattle.reservations.specs.Rows.{OtherUnregisters, Reserves, ReservesAgain, ReservesBesideAnother}
+use Rattle.reservations.specs.Rows.{OtherUnregisters, PortsRegisterNothing, PortsRegisterNobodyMore, PortsRegister}
+use Rattle.reservations.specs.Rows.{PortsOfHolderUnregister, PortsUnregister, Reserves, ReservesAgain, ReservesBesideAnother}
 use Rattle.reservations.specs.Rows.{ReleasesNothing, ReleasesAnotherType, Releases, Clears, PreemptField}
 use Rattle.reservations.specs.Rows.{PreemptsHolder, PreemptsAll, PreemptsKeyZero, PreemptsNobody}
 use Rattle.reservations.specs.Rows.{PreemptsRegistrants, Done, Fits, IsPreempting, effect, is_counted}
 use Rattle.reservations.specs.Rows.{is_registering}
+use Rattle.reservations.proofs.Hearing.{told_are}
 use Rattle.reservations.proofs.Held.{found_passes, is_it}
 use Rattle.reservations.proofs.Order.{same_nexus_alike}
 
@@ -34,17 +35,23 @@ use Rattle.reservations.proofs.Order.{same_nexus_alike}
 
 untold_one : (n : Nexus) (x : Registrant) (code : Option UnitAttention) (rest : List Told)
     → same_nexus x.nexus n ≡ false → code_told rest n ≡ None
-    → code_told (cons_option (telling x.nexus code) rest) n ≡ None
+    → code_told (cons_option (option_map (told_as x.nexus) code) rest) n ≡ None
 untold_one n x None rest other none = none
 untold_one n x (Some code) rest other none = rw other none
 
-pub sender_untold : (n : Nexus) (notice : Notice) (xs : List Registrant) → code_told (told_of n notice xs) n ≡ None
-sender_untold n notice [] = refl
-sender_untold n notice (x ∷ xs) =
-    let rest = sender_untold n notice xs in
+untold_all : (n : Nexus) (notice : Notice) (xs : List Registrant)
+    → code_told (filter_map (telling_of n notice) xs) n ≡ None
+untold_all n notice [] = refl
+untold_all n notice (x ∷ xs) =
+    let rest = untold_all n notice xs in
     ⊎_elim (λ (t : same_nexus x.nexus n ≡ true). rw t rest)
-    (λ (f : same_nexus x.nexus n ≡ false). rw f (untold_one n x (code_for notice x.key) (told_of n notice xs) f rest))
+    (λ (f : same_nexus x.nexus n ≡ false).
+    rw f (untold_one n x (code_for n notice x) (filter_map (telling_of n notice) xs) f rest))
     (cases_Bool (same_nexus x.nexus n))
+
+pub sender_untold : (n : Nexus) (notice : Notice) (xs : List Registrant) → code_told (told_of n notice xs) n ≡ None
+sender_untold n notice xs =
+    ap (λ (ts : List Told). code_told ts n) (told_are n notice xs) ∙ untold_all n notice xs
 
 same_told : (n : Nexus) (a b : RegistryValue) (s t : List Told) → Done a s ≡ Done b t → code_told s n ≡ None
     → code_told t n ≡ None
@@ -56,12 +63,14 @@ row_untold ReserveField r n q new told is = absurd (cc)
 row_untold ParameterField r n q new told is = absurd (cc)
 row_untold KeyConflict r n q new told is = absurd (cc)
 row_untold RegistersNobodyMore r n q new told is = absurd (cc)
+row_untold PortsRegisterNobodyMore r n q new told is = absurd (cc)
 row_untold ReservesBesideAnother r n q new told is = absurd (cc)
 row_untold ReleasesAnotherType r n q new told is = absurd (cc)
 row_untold PreemptField r n q new told is = absurd (cc)
 row_untold PreemptsKeyZero r n q new told is = absurd (cc)
 row_untold PreemptsNobody r n q new told is = absurd (cc)
 row_untold HolderUnregisters r n q new told is = same_told n _ new _ told is (sender_untold n _ r.registrants)
+row_untold PortsOfHolderUnregister r n q new told is = same_told n _ new _ told is (sender_untold n _ r.registrants)
 row_untold Releases r n q new told is = same_told n _ new _ told is (sender_untold n _ r.registrants)
 row_untold Clears r n q new told is =
     same_told n _ new _ told is (sender_untold n (ToAll ReservationsPreempted) r.registrants)
@@ -75,6 +84,9 @@ row_untold RegistersNothing r n q new told is = same_told n _ new _ told is refl
 row_untold Registers r n q new told is = same_told n _ new _ told is refl
 row_untold ChangesKey r n q new told is = same_told n _ new _ told is refl
 row_untold OtherUnregisters r n q new told is = same_told n _ new _ told is refl
+row_untold PortsRegisterNothing r n q new told is = same_told n _ new _ told is refl
+row_untold PortsRegister r n q new told is = same_told n _ new _ told is refl
+row_untold PortsUnregister r n q new told is = same_told n _ new _ told is refl
 row_untold Reserves r n q new told is = same_told n _ new _ told is refl
 row_untold ReservesAgain r n q new told is = same_told n _ new _ told is refl
 row_untold ReleasesNothing r n q new told is = same_told n _ new _ told is refl
@@ -119,6 +131,7 @@ row_counts ReserveField r n q new told f is = absurd (cc)
 row_counts ParameterField r n q new told f is = absurd (cc)
 row_counts KeyConflict r n q new told f is = absurd (cc)
 row_counts RegistersNobodyMore r n q new told f is = absurd (cc)
+row_counts PortsRegisterNobodyMore r n q new told f is = absurd (cc)
 row_counts ReservesBesideAnother r n q new told f is = absurd (cc)
 row_counts ReleasesAnotherType r n q new told f is = absurd (cc)
 row_counts PreemptField r n q new told f is = absurd (cc)
@@ -131,6 +144,14 @@ row_counts ChangesKey r n q new told f is = counted_one q.action r.generation _ 
 row_counts HolderUnregisters r n q new told f is =
     counted_one q.action r.generation _ new _ told is (counting q.action f.1) refl
 row_counts OtherUnregisters r n q new told f is =
+    counted_one q.action r.generation _ new _ told is (counting q.action f.1) refl
+row_counts PortsRegisterNothing r n q new told f is =
+    counted_one q.action r.generation _ new _ told is (counting q.action f.1) refl
+row_counts PortsRegister r n q new told f is =
+    counted_one q.action r.generation _ new _ told is (counting q.action f.1) refl
+row_counts PortsOfHolderUnregister r n q new told f is =
+    counted_one q.action r.generation _ new _ told is (counting q.action f.1) refl
+row_counts PortsUnregister r n q new told f is =
     counted_one q.action r.generation _ new _ told is (counting q.action f.1) refl
 row_counts Reserves r n q new told f is = counted_none q.action r.generation _ new _ told is (ap is_counted f.1) refl
 row_counts ReservesAgain r n q new told f is = counted_none q.action r.generation _ new _ told is (ap is_counted f.1) refl
@@ -207,6 +228,7 @@ key_gone ReserveField r n q new told m f p z is k = absurd (cc)
 key_gone ParameterField r n q new told m f p z is k = absurd (cc)
 key_gone KeyConflict r n q new told m f p z is k = absurd (cc)
 key_gone RegistersNobodyMore r n q new told m f p z is k = absurd (cc)
+key_gone PortsRegisterNobodyMore r n q new told m f p z is k = absurd (cc)
 key_gone ReservesBesideAnother r n q new told m f p z is k = absurd (cc)
 key_gone ReleasesAnotherType r n q new told m f p z is k = absurd (cc)
 key_gone PreemptField r n q new told m f p z is k = absurd (cc)
@@ -217,6 +239,10 @@ key_gone Registers r n q new told m f p z is k = absurd (not_both q.action f.1 p
 key_gone ChangesKey r n q new told m f p z is k = absurd (not_both q.action f.1 p)
 key_gone HolderUnregisters r n q new told m f p z is k = absurd (not_both q.action f.1 p)
 key_gone OtherUnregisters r n q new told m f p z is k = absurd (not_both q.action f.1 p)
+key_gone PortsRegisterNothing r n q new told m f p z is k = absurd (not_both q.action f.1 p)
+key_gone PortsRegister r n q new told m f p z is k = absurd (not_both q.action f.1 p)
+key_gone PortsOfHolderUnregister r n q new told m f p z is k = absurd (not_both q.action f.1 p)
+key_gone PortsUnregister r n q new told m f p z is k = absurd (not_both q.action f.1 p)
 key_gone Reserves r n q new told m f p z is k = absurd (let a = rw f.1 at p in a)
 key_gone ReservesAgain r n q new told m f p z is k = absurd (let a = rw f.1 at p in a)
 key_gone ReleasesNothing r n q new told m f p z is k = absurd (let a = rw f.1 at p in a)

@@ -17,7 +17,7 @@ use Rattle.reservations.specs.declared.registrant.Reservation.{Reservation}
 use Rattle.reservations.specs.Kind.{is_of_all_registrants}
 use Rattle.reservations.specs.Nexus.{same_nexus}
 use Rattle.reservations.specs.Registry.{IsAscending, key_of, is_registered, is_own, is_any, is_rightly_held}
-use Rattle.reservations.specs.Registry.{is_sound_hold, joined_by, left_to, made_by, only, others, with_key_of}
+use Rattle.reservations.specs.Registry.{is_sound_hold, joined_by, left_to, made_by, only, others, registered_by, with_key_of}
 use Rattle.reservations.specs.Registry.{without_key, without_others_of_key}
 use Rattle.reservations.proofs.Insert.{before, insert_is}
 use Rattle.reservations.proofs.Listed.{rekeyed_nexus}
@@ -51,19 +51,19 @@ some_of None = refl
 some_of (Some x) = refl
 
 -- who is registered stays so behind a filter that keeps it
-registered_by : (h : Nexus) (q : Registrant → Bool) (xs : List Registrant) (o : Option Registrant)
+stays_by : (h : Nexus) (q : Registrant → Bool) (xs : List Registrant) (o : Option Registrant)
     → find (is_it h) xs ≡ o → is_some o ≡ true
     → ((x : Registrant) → find (is_it h) xs ≡ Some x → is_it h x ≡ true → q x ≡ true)
     → is_registered (filter q xs) h ≡ true
-registered_by h q xs None is some keeps = absurd (cc)
-registered_by h q xs (Some x) is some keeps =
+stays_by h q xs None is some keeps = absurd (cc)
+stays_by h q xs (Some x) is some keeps =
     some_of (find (is_it h) (filter q xs)) ∙ kept_found (is_it h) q xs x is (keeps x is (found_passes (is_it h) xs x is))
 
 pub registered_filter : (h : Nexus) (q : Registrant → Bool) (xs : List Registrant) → is_registered xs h ≡ true
     → ((x : Registrant) → find (is_it h) xs ≡ Some x → is_it h x ≡ true → q x ≡ true)
     → is_registered (filter q xs) h ≡ true
 registered_filter h q xs in_it keeps =
-    registered_by h q xs (find (is_it h) xs) refl (sym (some_of (find (is_it h) xs)) ∙ in_it) keeps
+    stays_by h q xs (find (is_it h) xs) refl (sym (some_of (find (is_it h) xs)) ∙ in_it) keeps
 
 -- ---- by each change
 
@@ -134,6 +134,33 @@ pub registered_rekeyed : (h n : Nexus) (key : ℕ) (xs : List Registrant) → is
     → is_registered (with_key_of n key xs) h ≡ true
 registered_rekeyed h n key xs in_it =
     registered_any h (with_key_of n key xs) ∙ any_rekeyed h n key xs ∙ sym (registered_any h xs) ∙ in_it
+
+pub registered_registered : (h n : Nexus) (key : ℕ) (xs : List Registrant) → IsAscending xs → is_registered xs h ≡ true
+    → is_registered (registered_by n key xs) h ≡ true
+registered_registered h n key xs a in_it =
+    ⊎_elim (λ (t : is_registered xs n ≡ true). rw t (registered_rekeyed h n key xs in_it))
+    (λ (f : is_registered xs n ≡ false). rw f (registered_joined h n key xs a f in_it)) (cases_Bool (is_registered xs n))
+
+or_less : (a b c : Bool) → b ≡ false → a || (b || c) ≡ a || c
+or_less true b c h = refl
+or_less false b c h = rw h refl
+
+any_joined : (p : Registrant → Bool) (k : ℕ) (it : Registrant) (xs : List Registrant) → p it ≡ false
+    → list_any p (insert xs k it) ≡ list_any p xs
+any_joined p k it xs none =
+    any_append p (take k xs) (it ∷ drop k xs) ∙ or_less (list_any p (take k xs)) (p it) (list_any p (drop k xs)) none
+    ∙ sym (any_append p (take k xs) (drop k xs)) ∙ ap (list_any p) (take-append-drop k xs)
+
+-- another nexus is registered as it was
+pub registered_beside : (h n : Nexus) (key : ℕ) (xs : List Registrant) → IsAscending xs → same_nexus n h ≡ false
+    → is_registered (registered_by n key xs) h ≡ is_registered xs h
+registered_beside h n key xs a two =
+    ⊎_elim (λ (t : is_registered xs n ≡ true).
+    rw t (registered_any h (with_key_of n key xs) ∙ any_rekeyed h n key xs ∙ sym (registered_any h xs)))
+    (λ (f : is_registered xs n ≡ false).
+    rw f (registered_any h (joined_by n key xs) ∙ ap (list_any (is_it h)) (sym (insert_is n key xs a f))
+    ∙ any_joined (is_it h) (length (before n xs)) (record { nexus = n; key = key }) xs two ∙ sym (registered_any h xs)))
+    (cases_Bool (is_registered xs n))
 
 -- ---- who holds
 

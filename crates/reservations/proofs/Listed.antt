@@ -1,6 +1,6 @@
 -- Registrants that are listed in order, few and with keys: what keeps them so.
 use Rattle.std.proofs.Common.{◌≡◌, ⊎_elim, ℕ, suc, ◌≤◌, Bool, true, false, not, nat_eq, nat_lt, List, [], ◌∷◌}
-use Rattle.std.proofs.Common.{◌++◌, length, filter, refl, ◌∙◌, ap, arith, Option, IsTrue}
+use Rattle.std.proofs.Common.{◌+◌, ◌++◌, if◌then◌else◌, length, filter, refl, ◌∙◌, ap, arith, Option, IsTrue}
 use Rattle.std.proofs.lemmas.Bool.{cases_Bool, ltb-true}
 use Rattle.std.proofs.lemmas.List.Edits.{length-insert}
 use Rattle.std.specs.List.{AllByRecursion}
@@ -10,9 +10,9 @@ use Rattle.std.specs.declared.cmp.Ordering.TheVariants.{Less, Equal, Greater}
 use Rattle.scsi_types.specs.Nexus.{Nexus}
 use Rattle.reservations.specs.declared.registrant.Registrant.{Registrant}
 use Rattle.reservations.specs.declared.registrant.Reservation.{Reservation}
-use Rattle.reservations.specs.declared.table.TheConstants.{MOST_REGISTRANTS}
 use Rattle.reservations.specs.Nexus.{same_nexus, nexus_cmp}
-use Rattle.reservations.specs.Registry.{IsAscending, IsSound, is_registered, is_sound_hold, joined_by, rekeyed, with_key_of}
+use Rattle.reservations.specs.Registry.{IsAscending, IsSound, is_registered, is_sound_hold, joined_by, most_registrants}
+use Rattle.reservations.specs.Registry.{registered_by, rekeyed, with_key_of}
 use Rattle.reservations.proofs.Insert.{before, behind, insert_is, length_before, found_first, out_of_rest, none_before}
 use Rattle.reservations.proofs.Order.{nexus_total}
 
@@ -42,7 +42,7 @@ length_filter p (x ∷ xs) =
 -- what is true of the registrants whoever holds
 pub record AreRegistrants (xs : List Registrant) : Type 0 where
   pub ascending : IsAscending xs
-  pub few : length xs ≤ MOST_REGISTRANTS
+  pub few : length xs ≤ most_registrants
   pub keys : AllByRecursion (λ (x : Registrant). IsTrue (not (nat_eq x.key 0))) xs
 
 pub listed_of : (xs : List Registrant) (res : Option Reservation) → IsSound xs res → AreRegistrants xs
@@ -95,14 +95,14 @@ ascending_joined n key (x ∷ xs) a out =
     ascending_by n key x xs (nexus_cmp x.nexus n) refl a out (ascending_joined n key xs a.1 (out_of_rest n xs x out))
 
 pub listed_joined : (n : Nexus) (key : ℕ) (xs : List Registrant) → AreRegistrants xs → is_registered xs n ≡ false
-    → nat_eq key 0 ≡ false → nat_lt (length xs) MOST_REGISTRANTS ≡ true → AreRegistrants (joined_by n key xs)
+    → nat_eq key 0 ≡ false → nat_lt (length xs) most_registrants ≡ true → AreRegistrants (joined_by n key xs)
 listed_joined n key xs l out nonzero room =
     let P : Registrant → Type 0 = λ (x : Registrant). IsTrue (not (nat_eq x.key 0)) in
     let it : Registrant = record { nexus = n; key = key } in
     let place = length_before n xs in
     let long = length-insert xs (length (before n xs)) it place in
     let same = ap (length {A = Registrant}) (insert_is n key xs l.ascending out) in
-    let less = ltb-true (length xs) MOST_REGISTRANTS room in
+    let less = ltb-true (length xs) most_registrants room in
     record {
       ascending = ascending_joined n key xs l.ascending out;
       few = omega (arith, long, same, less);
@@ -151,3 +151,43 @@ listed_rekeyed n key xs l nonzero =
       few = rw (length_rekeyed n key xs) l.few;
       keys = keys_rekeyed n key xs nonzero l.keys;
     }
+
+-- ---- registered, whatever key it had
+
+pub ascending_registered : (n : Nexus) (key : ℕ) (xs : List Registrant) → IsAscending xs
+    → IsAscending (registered_by n key xs)
+ascending_registered n key xs a =
+    ⊎_elim (λ (t : is_registered xs n ≡ true). rw t (ascending_rekeyed n key xs a))
+    (λ (f : is_registered xs n ≡ false). rw f (ascending_joined n key xs a f)) (cases_Bool (is_registered xs n))
+
+abbrev pub HaveKeys : List Registrant → Type 0
+HaveKeys xs = AllByRecursion (λ (x : Registrant). IsTrue (not (nat_eq x.key 0))) xs
+
+keys_joined : (n : Nexus) (key : ℕ) (xs : List Registrant) → nat_eq key 0 ≡ false → HaveKeys xs
+    → HaveKeys (joined_by n key xs)
+keys_joined n key xs nonzero all =
+    let P : Registrant → Type 0 = λ (x : Registrant). IsTrue (not (nat_eq x.key 0)) in
+    all_append P (before n xs) (record { nexus = n; key = key } ∷ behind n xs)
+    (all_filter P (λ (y : Registrant). is_lt (nexus_cmp y.nexus n)) xs all)
+    (rw nonzero refl, all_filter P (λ (y : Registrant). is_gt (nexus_cmp y.nexus n)) xs all)
+
+pub keys_registered : (n : Nexus) (key : ℕ) (xs : List Registrant) → nat_eq key 0 ≡ false → HaveKeys xs
+    → HaveKeys (registered_by n key xs)
+keys_registered n key xs nonzero all =
+    ⊎_elim (λ (t : is_registered xs n ≡ true). rw t (keys_rekeyed n key xs nonzero all))
+    (λ (f : is_registered xs n ≡ false). rw f (keys_joined n key xs nonzero all)) (cases_Bool (is_registered xs n))
+
+-- how many a nexus adds
+abbrev pub missing : List Registrant → Nexus → ℕ
+missing xs n = if is_registered xs n then 0 else 1
+
+pub length_registered : (n : Nexus) (key : ℕ) (xs : List Registrant) → IsAscending xs
+    → length (registered_by n key xs) ≡ length xs + missing xs n
+length_registered n key xs a =
+    ⊎_elim (λ (t : is_registered xs n ≡ true). rw t (omega (arith, length_rekeyed n key xs)))
+    (λ (f : is_registered xs n ≡ false).
+    let it : Registrant = record { nexus = n; key = key } in
+    let long = length-insert xs (length (before n xs)) it (length_before n xs) in
+    let same = ap (length {A = Registrant}) (insert_is n key xs a f) in
+    rw f (omega (arith, long, same)))
+    (cases_Bool (is_registered xs n))

@@ -1,30 +1,39 @@
 -- One row of the table fits each request.
-use Rattle.std.proofs.Common.{◌≡◌, ⊎_elim, Bool, true, false, nat_eq, nat_lt, ◌&&◌, ◌||◌, length, is_some, refl, IsTrue}
+use Rattle.std.proofs.Common.{◌≡◌, ⊎_elim, Bool, true, false, nat_eq, nat_lt, ◌&&◌, ◌||◌, ◌∙◌, if◌then◌else◌, length, is_some, refl, sym, IsTrue, IsFalse}
 use Rattle.std.proofs.lemmas.Bool.{cases_Bool}
 use Rattle.scsi_types.specs.Nexus.{Nexus}
 use Rattle.scsi_types.specs.declared.reservation.PrOutAction.{PrOutAction}
 use Rattle.scsi_types.specs.declared.reservation.PrOutAction.TheVariants.{Register, Reserve, Release, Clear}
 use Rattle.scsi_types.specs.declared.reservation.PrOutAction.TheVariants.{Preempt, PreemptAndAbort}
 use Rattle.scsi_types.specs.declared.reservation.PrOutAction.TheVariants.{RegisterAndIgnoreExistingKey}
-use Rattle.reservations.specs.declared.table.TheConstants.{MOST_REGISTRANTS}
 use Rattle.reservations.specs.declared.request.PrOut.{PrOut}
-use Rattle.reservations.specs.Registry.{RegistryValue, key_of, is_registered, is_key, is_held_by, is_sole_holder, is_of_code}
+use Rattle.reservations.specs.Registry.{RegistryValue, key_of, is_registered, is_key, is_held_by, is_sole_holder, is_of_code, most_registrants}
 use Rattle.reservations.specs.Rows.{PrRow, ReserveField, ParameterField, KeyConflict, RegistersNothing}
 use Rattle.reservations.specs.Rows.{RegistersNobodyMore, Registers, ChangesKey, HolderUnregisters}
-use Rattle.reservations.specs.Rows.{OtherUnregisters, Reserves, ReservesAgain, ReservesBesideAnother}
+use Rattle.reservations.specs.Rows.{OtherUnregisters, PortsRegisterNothing, PortsRegisterNobodyMore, PortsRegister}
+use Rattle.reservations.specs.Rows.{PortsOfHolderUnregister, PortsUnregister, Reserves, ReservesAgain, ReservesBesideAnother}
 use Rattle.reservations.specs.Rows.{ReleasesNothing, ReleasesAnotherType, Releases, Clears, PreemptField}
 use Rattle.reservations.specs.Rows.{PreemptsHolder, PreemptsAll, PreemptsKeyZero, PreemptsNobody}
 use Rattle.reservations.specs.Rows.{PreemptsRegistrants, Fits, Passes, IsPreempting, names_type}
-use Rattle.reservations.specs.Rows.{is_registering, is_bad_reserve, is_bad_parameter, shows_key}
+use Rattle.reservations.specs.Rows.{is_registering, is_bad_reserve, shows_key, has_room_for, ports_with, is_port_in, is_port_holder}
 use Rattle.reservations.specs.Rows.{is_preempting_holder, is_preempting_all}
 use Rattle.reservations.specs.Table.{row_of, row_of_action, row_of_register, row_of_preempt}
 
 -- ---- a row that fits is the one
 
+third : (a b c : Bool) (x y z w : PrRow) → a ≡ false → b ≡ false → c ≡ true
+    → (if a then x else if b then y else if c then z else w) ≡ z
+third true b c x y z w f g h = absurd (cc)
+third false true c x y z w f g h = absurd (cc)
+third false false true x y z w f g h = refl
+third false false false x y z w f g h = absurd (cc)
+
 -- what passes the checks of every action goes by its action
 by_action : (r : RegistryValue) (n : Nexus) (q : PrOut) (row : PrRow) → Passes r n q
     → row ≡ row_of_action q.action r n q → row ≡ row_of r n q
-by_action r n q row p is = rw (p.reserve, p.parameter, p.key) is
+by_action r n q row p is =
+    is ∙ sym (third (is_bad_reserve q.action q) q.spec_i_pt (shows_key q.action (key_of r.registrants n) q.key)
+    ReserveField ParameterField (row_of_action q.action r n q) KeyConflict p.reserve p.parameter p.key)
 
 registering : (action : PrOutAction) (r : RegistryValue) (n : Nexus) (q : PrOut) (row : PrRow)
     → IsTrue (is_registering action) → row ≡ row_of_register r n q → row ≡ row_of_action action r n q
@@ -57,12 +66,28 @@ pub only_row : (row : PrRow) (r : RegistryValue) (n : Nexus) (q : PrOut) → Fit
 only_row ReserveField r n q f = rw f refl
 only_row ParameterField r n q f = rw (f.0, f.1) refl
 only_row KeyConflict r n q f = rw (f.0, f.1, f.2) refl
-only_row RegistersNothing r n q f = by_action r n q _ f.0 (registering q.action r n q _ f.1 (rw (f.2, f.3) refl))
-only_row RegistersNobodyMore r n q f = by_action r n q _ f.0 (registering q.action r n q _ f.1 (rw (f.2, f.3, f.4) refl))
-only_row Registers r n q f = by_action r n q _ f.0 (registering q.action r n q _ f.1 (rw (f.2, f.3, f.4) refl))
-only_row ChangesKey r n q f = by_action r n q _ f.0 (registering q.action r n q _ f.1 (rw (f.2, f.3) refl))
-only_row HolderUnregisters r n q f = by_action r n q _ f.0 (registering q.action r n q _ f.1 (rw (f.2, f.3, f.4) refl))
-only_row OtherUnregisters r n q f = by_action r n q _ f.0 (registering q.action r n q _ f.1 (rw (f.2, f.3, f.4) refl))
+only_row RegistersNothing r n q f =
+    by_action r n q _ f.0 (registering q.action r n q _ f.1 (rw (f.2, f.3, f.4) refl))
+only_row RegistersNobodyMore r n q f =
+    by_action r n q _ f.0 (registering q.action r n q _ f.1 (rw (f.2, f.3, f.4, f.5) refl))
+only_row Registers r n q f =
+    by_action r n q _ f.0 (registering q.action r n q _ f.1 (rw (f.2, f.3, f.4, f.5) refl))
+only_row ChangesKey r n q f =
+    by_action r n q _ f.0 (registering q.action r n q _ f.1 (rw (f.2, f.3, f.4) refl))
+only_row HolderUnregisters r n q f =
+    by_action r n q _ f.0 (registering q.action r n q _ f.1 (rw (f.2, f.3, f.4, f.5) refl))
+only_row OtherUnregisters r n q f =
+    by_action r n q _ f.0 (registering q.action r n q _ f.1 (rw (f.2, f.3, f.4, f.5) refl))
+only_row PortsRegisterNothing r n q f =
+    by_action r n q _ f.0 (registering q.action r n q _ f.1 (rw (f.2, f.4, f.3) refl))
+only_row PortsRegisterNobodyMore r n q f =
+    by_action r n q _ f.0 (registering q.action r n q _ f.1 (rw (f.2, f.3, f.4) refl))
+only_row PortsRegister r n q f =
+    by_action r n q _ f.0 (registering q.action r n q _ f.1 (rw (f.2, f.3, f.4) refl))
+only_row PortsOfHolderUnregister r n q f =
+    by_action r n q _ f.0 (registering q.action r n q _ f.1 (rw (f.2, f.4, f.3, f.5) refl))
+only_row PortsUnregister r n q f =
+    by_action r n q _ f.0 (registering q.action r n q _ f.1 (rw (f.2, f.4, f.3, f.5) refl))
 only_row Reserves r n q f = by_action r n q _ f.0 (rw f.1 (rw f.2 refl))
 only_row ReservesAgain r n q f = by_action r n q _ f.0 (rw f.1 (rw (f.2, f.3) refl))
 only_row ReservesBesideAnother r n q f = by_action r n q _ f.0 (rw f.1 (rw (f.2, f.3) refl))
@@ -87,20 +112,37 @@ split b f g = ⊎_elim f g (cases_Bool b)
 abbrev SomeRow : RegistryValue → Nexus → PrOut → Type 0
 SomeRow r n q = (row : PrRow) × Fits row r n q
 
-row_registering : (r : RegistryValue) (n : Nexus) (q : PrOut) → Passes r n q
-    → IsTrue (is_registering q.action) → SomeRow r n q
-row_registering r n q p a =
+row_of_port : (r : RegistryValue) (n : Nexus) (q : PrOut) → Passes r n q → IsTrue (is_registering q.action)
+    → IsTrue q.all_tg_pt → SomeRow r n q
+row_of_port r n q p a all =
+    split (nat_eq q.sakey 0)
+    (λ leaves. split (is_port_in r n)
+    (λ registered. split (is_port_holder r n)
+    (λ holder. (PortsOfHolderUnregister, (p, a, all, registered, leaves, holder)))
+    (λ holder. (PortsUnregister, (p, a, all, registered, leaves, holder))))
+    (λ registered. (PortsRegisterNothing, (p, a, all, registered, leaves))))
+    (λ leaves. split (has_room_for (ports_with n q.sakey r.registrants))
+    (λ room. (PortsRegister, (p, a, all, leaves, room)))
+    (λ room. (PortsRegisterNobodyMore, (p, a, all, leaves, room))))
+
+row_of_nexus : (r : RegistryValue) (n : Nexus) (q : PrOut) → Passes r n q → IsTrue (is_registering q.action)
+    → IsFalse q.all_tg_pt → SomeRow r n q
+row_of_nexus r n q p a one =
     split (is_registered r.registrants n)
     (λ registered. split (nat_eq q.sakey 0)
     (λ leaves. split (is_sole_holder r.reservation n)
-    (λ holder. (HolderUnregisters, (p, a, registered, leaves, holder)))
-    (λ holder. (OtherUnregisters, (p, a, registered, leaves, holder))))
-    (λ leaves. (ChangesKey, (p, a, registered, leaves))))
+    (λ holder. (HolderUnregisters, (p, a, one, registered, leaves, holder)))
+    (λ holder. (OtherUnregisters, (p, a, one, registered, leaves, holder))))
+    (λ leaves. (ChangesKey, (p, a, one, registered, leaves))))
     (λ registered. split (nat_eq q.sakey 0)
-    (λ none. (RegistersNothing, (p, a, registered, none)))
-    (λ none. split (nat_lt (length r.registrants) MOST_REGISTRANTS)
-    (λ room. (Registers, (p, a, registered, none, room)))
-    (λ room. (RegistersNobodyMore, (p, a, registered, none, room)))))
+    (λ none. (RegistersNothing, (p, a, one, registered, none)))
+    (λ none. split (nat_lt (length r.registrants) most_registrants)
+    (λ room. (Registers, (p, a, one, registered, none, room)))
+    (λ room. (RegistersNobodyMore, (p, a, one, registered, none, room)))))
+
+row_registering : (r : RegistryValue) (n : Nexus) (q : PrOut) → Passes r n q
+    → IsTrue (is_registering q.action) → SomeRow r n q
+row_registering r n q p a = split q.all_tg_pt (row_of_port r n q p a) (row_of_nexus r n q p a)
 
 row_reserving : (r : RegistryValue) (n : Nexus) (q : PrOut) → Passes r n q → q.action ≡ Reserve → SomeRow r n q
 row_reserving r n q p a =
@@ -150,7 +192,7 @@ some_row : (r : RegistryValue) (n : Nexus) (q : PrOut) → SomeRow r n q
 some_row r n q =
     split (is_bad_reserve q.action q)
     (λ reserve. (ReserveField, reserve))
-    (λ reserve. split (is_bad_parameter q)
+    (λ reserve. split q.spec_i_pt
     (λ parameter. (ParameterField, (reserve, parameter)))
     (λ parameter. split (shows_key q.action (key_of r.registrants n) q.key)
     (λ key. row_of_passed q.action r n q refl (record { reserve = reserve; parameter = parameter; key = key }))

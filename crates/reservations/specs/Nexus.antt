@@ -32,6 +32,14 @@ group_cmp Two Two = Equal
 abbrev pub nexus_cmp : Nexus → Nexus → Ordering
 nexus_cmp m n = ordering_then (port_cmp m.port n.port) (group_cmp m.group n.group)
 
+-- the nexus of the same port through the other group
+abbrev pub other_group : Group → Group
+other_group One = Two
+other_group Two = One
+
+abbrev pub other_nexus : Nexus → Nexus
+other_nexus n = record { port = n.port; group = other_group n.group }
+
 -- the nexus of a port through a group
 abbrev pub through : Port → Group → Nexus
 through port group = record { port = port; group = group }

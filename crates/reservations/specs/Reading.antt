@@ -10,7 +10,7 @@ use Rattle.scsi_types.specs.declared.names.Group.TheVariants.{One, Two}
 use Rattle.reservations.specs.declared.registrant.Registrant.{Registrant}
 use Rattle.reservations.specs.declared.registrant.Reservation.{Reservation}
 use Rattle.reservations.specs.Kind.{type_code}
-use Rattle.reservations.specs.Registry.{RegistryValue, key_of, is_held_by}
+use Rattle.reservations.specs.Registry.{RegistryValue, key_in, is_held_by}
 
 -- PRGENERATION, ADDITIONAL LENGTH, and the bytes that it counts
 abbrev pub counted_bytes : ℕ → List ℕ → List ℕ
@@ -25,21 +25,17 @@ keys_bytes r = counted_bytes r.generation (flat_map key_bytes r.registrants)
 
 -- READ RESERVATION: the holder's key, where types 7 and 8 name none and have 0; obsolete and reserved bytes; SCOPE, which
 -- is 0, and TYPE; obsolete bytes
-abbrev pub holders_key : Option Nexus → List Registrant → ℕ
-holders_key None registrants = 0
-holders_key (Some holder) registrants = unwrap_or (key_of registrants holder) 0
-
 abbrev pub reservation_bytes_of : Option Reservation → List Registrant → List ℕ
 reservation_bytes_of None registrants = []
 reservation_bytes_of (Some held) registrants =
-    big_bytes 8 (holders_key held.holder registrants) ++ 0 ∷ 0 ∷ 0 ∷ 0 ∷ 0 ∷ type_code held.kind ∷ 0 ∷ 0 ∷ []
+    big_bytes 8 (unwrap_or (key_in registrants held.holder) 0) ++ 0 ∷ 0 ∷ 0 ∷ 0 ∷ 0 ∷ type_code held.kind ∷ 0 ∷ 0 ∷ []
 
 abbrev pub reservation_bytes : RegistryValue → List ℕ
 reservation_bytes r = counted_bytes r.generation (reservation_bytes_of r.reservation r.registrants)
 
--- REPORT CAPABILITIES: LENGTH 8; PTPL_C; TMV with PTPL_A; the mask of the six types; reserved bytes
+-- REPORT CAPABILITIES: LENGTH 8; ATP_C and PTPL_C; TMV with PTPL_A; the mask of the six types; reserved bytes
 abbrev pub capabilities_bytes : Bool → List ℕ
-capabilities_bytes aptpl = 0x00 ∷ 0x08 ∷ 0x01 ∷ (if aptpl then 0x81 else 0x80) ∷ 0xEA ∷ 0x01 ∷ 0x00 ∷ 0x00 ∷ []
+capabilities_bytes aptpl = 0x00 ∷ 0x08 ∷ 0x05 ∷ (if aptpl then 0x81 else 0x80) ∷ 0xEA ∷ 0x01 ∷ 0x00 ∷ 0x00 ∷ []
 
 -- ---- READ FULL STATUS
 

@@ -7,12 +7,15 @@ use Rattle.std.specs.Option.{option_map}
 use Rattle.std.specs.Ordering.{is_lt, is_gt}
 use Rattle.std.specs.declared.cmp.Ordering.TheVariants.{Less}
 use Rattle.scsi_types.specs.Nexus.{Nexus}
-use Rattle.reservations.specs.declared.table.TheConstants.{MOST_REGISTRANTS}
 use Rattle.reservations.specs.declared.kind.ReservationType.{ReservationType}
 use Rattle.reservations.specs.declared.registrant.Registrant.{Registrant}
 use Rattle.reservations.specs.declared.registrant.Reservation.{Reservation}
 use Rattle.reservations.specs.Kind.{is_of_all_registrants, type_code}
 use Rattle.reservations.specs.Nexus.{IsPortName, same_nexus, nexus_cmp}
+
+-- the most registrants of a unit
+abbrev pub most_registrants : ℕ
+most_registrants = 64
 
 -- The registrants are a map from nexus to key by its entries, in ascending order of nexuses. `generation` is
 -- PRGENERATION.
@@ -36,41 +39,38 @@ is_key registrants key = list_any (λ (x : Registrant). nat_eq x.key key) regist
 
 -- ---- who holds
 
--- a named holder is the one; a reservation that names none is held by every registrant
-abbrev pub is_named_or_any : Option Nexus → List Registrant → Nexus → Bool
-is_named_or_any (Some holder) registrants nexus = same_nexus holder nexus
-is_named_or_any None registrants nexus = is_registered registrants nexus
+-- the nexus that alone holds the reservation: the holder of types 1, 3, 5 and 6
+abbrev pub holder_of : Option Reservation → Option Nexus
+holder_of None = None
+holder_of (Some held) = held.holder
 
-abbrev pub is_held_by : Option Reservation → List Registrant → Nexus → Bool
-is_held_by None registrants nexus = false
-is_held_by (Some held) registrants nexus = is_named_or_any held.holder registrants nexus
-
--- the nexus is the only holder: types 1, 3, 5 and 6
-abbrev pub is_named : Option Nexus → Nexus → Bool
-is_named None nexus = false
-is_named (Some holder) nexus = same_nexus holder nexus
+abbrev pub is_the : Option Nexus → Nexus → Bool
+is_the None nexus = false
+is_the (Some holder) nexus = same_nexus holder nexus
 
 abbrev pub is_sole_holder : Option Reservation → Nexus → Bool
-is_sole_holder None nexus = false
-is_sole_holder (Some held) nexus = is_named held.holder nexus
-
--- the key of the only holder is this one
-abbrev pub is_own : Option ℕ → ℕ → Bool
-is_own None key = false
-is_own (Some own) key = nat_eq own key
-
-abbrev pub is_key_of : Option Nexus → List Registrant → ℕ → Bool
-is_key_of None registrants key = false
-is_key_of (Some holder) registrants key = is_own (key_of registrants holder) key
-
-abbrev pub is_holders_key : Option Reservation → List Registrant → ℕ → Bool
-is_holders_key None registrants key = false
-is_holders_key (Some held) registrants key = is_key_of held.holder registrants key
+is_sole_holder reservation nexus = is_the (holder_of reservation) nexus
 
 -- every registrant holds: types 7 and 8
 abbrev pub is_held_by_all : Option Reservation → Bool
 is_held_by_all None = false
 is_held_by_all (Some held) = is_of_all_registrants held.kind
+
+abbrev pub is_held_by : Option Reservation → List Registrant → Nexus → Bool
+is_held_by reservation registrants nexus =
+    is_sole_holder reservation nexus || (is_held_by_all reservation && is_registered registrants nexus)
+
+-- the key of the nexus that alone holds
+abbrev pub key_in : List Registrant → Option Nexus → Option ℕ
+key_in registrants None = None
+key_in registrants (Some holder) = key_of registrants holder
+
+abbrev pub is_own : Option ℕ → ℕ → Bool
+is_own None key = false
+is_own (Some own) key = nat_eq own key
+
+abbrev pub is_holders_key : Option Reservation → List Registrant → ℕ → Bool
+is_holders_key reservation registrants key = is_own (key_in registrants (holder_of reservation)) key
 
 abbrev pub reserved_type : Option Reservation → Option ReservationType
 reserved_type reservation = option_map (λ (held : Reservation). held.kind) reservation
@@ -98,6 +98,11 @@ rekeyed nexus key x = if same_nexus x.nexus nexus then record x { key = key } el
 
 abbrev pub with_key_of : Nexus → ℕ → List Registrant → List Registrant
 with_key_of nexus key registrants = map {A = Registrant} (rekeyed nexus key) registrants
+
+-- the nexus is registered with this key, whatever key it had
+abbrev pub registered_by : Nexus → ℕ → List Registrant → List Registrant
+registered_by nexus key registrants =
+    if is_registered registrants nexus then with_key_of nexus key registrants else joined_by nexus key registrants
 
 -- all but the nexus
 abbrev pub others : Nexus → List Registrant → List Registrant
@@ -148,7 +153,7 @@ is_sound_hold (Some held) registrants = is_rightly_held held.kind held.holder re
 
 pub record IsSound (registrants : List Registrant) (reservation : Option Reservation) : Type 0 where
   pub ascending : IsAscending registrants
-  pub few : length registrants ≤ MOST_REGISTRANTS
+  pub few : length registrants ≤ most_registrants
   pub keys : AllByRecursion (λ (x : Registrant). IsTrue (not (nat_eq x.key 0))) registrants
   pub held : IsTrue (is_sound_hold reservation registrants)
 

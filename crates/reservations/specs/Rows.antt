@@ -11,19 +11,18 @@ use Rattle.scsi_types.specs.declared.reservation.PrOutAction.TheVariants.{Regist
 use Rattle.scsi_types.specs.declared.attention.UnitAttention.TheVariants.{ReservationsPreempted}
 use Rattle.scsi_types.specs.declared.attention.UnitAttention.TheVariants.{ReservationsReleased}
 use Rattle.scsi_types.specs.declared.attention.UnitAttention.TheVariants.{RegistrationsPreempted}
-use Rattle.reservations.specs.declared.table.TheConstants.{MOST_REGISTRANTS}
 use Rattle.reservations.specs.declared.notice.Notice.{Notice}
-use Rattle.reservations.specs.declared.notice.Notice.TheVariants.{Nothing, ToAll, OfPreempted}
+use Rattle.reservations.specs.declared.notice.Notice.TheVariants.{Nothing, ToAll, ToOtherPorts, OfPreempted}
 use Rattle.reservations.specs.declared.registrant.Registrant.{Registrant}
 use Rattle.reservations.specs.declared.registrant.Reservation.{Reservation}
 use Rattle.reservations.specs.declared.request.PrOut.{PrOut}
-use Rattle.reservations.specs.declared.request.Told.{Told}
 use Rattle.reservations.specs.Kind.{is_of_registrants, type_of}
-use Rattle.reservations.specs.Notice.{told_of}
+use Rattle.reservations.specs.Nexus.{other_nexus}
+use Rattle.reservations.specs.Notice.{Told, told_of}
 use Rattle.reservations.specs.Registry.{RegistryValue, key_of, is_registered, is_key, is_held_by}
 use Rattle.reservations.specs.Registry.{is_sole_holder, is_holders_key, is_held_by_all, is_of_code, made_by}
 use Rattle.reservations.specs.Registry.{joined_by, with_key_of, others, only, without_key}
-use Rattle.reservations.specs.Registry.{without_others_of_key, left_to, counted}
+use Rattle.reservations.specs.Registry.{most_registrants, registered_by, without_others_of_key, left_to, counted}
 
 -- ---- words of the conditions
 
@@ -61,10 +60,6 @@ is_bad_reserve Preempt q = false
 is_bad_reserve PreemptAndAbort q = false
 is_bad_reserve RegisterAndIgnoreExistingKey q = false
 
--- SPEC_I_PT, and for the two that register ALL_TG_PT, are not supported
-abbrev pub is_bad_parameter : PrOut → Bool
-is_bad_parameter q = q.spec_i_pt || (is_registering q.action && q.all_tg_pt)
-
 -- The RESERVATION KEY that an action must show, by the key with which its nexus is registered: REGISTER of an
 -- unregistered nexus shows 0, REGISTER AND IGNORE EXISTING KEY anything, and every other action the nexus's own key.
 abbrev pub shows_key : PrOutAction → Option ℕ → ℕ → Bool
@@ -76,7 +71,12 @@ shows_key Release None key = false
 shows_key Clear None key = false
 shows_key Preempt None key = false
 shows_key PreemptAndAbort None key = false
-shows_key action (Some own) key = nat_eq key own
+shows_key Register (Some own) key = nat_eq key own
+shows_key Reserve (Some own) key = nat_eq key own
+shows_key Release (Some own) key = nat_eq key own
+shows_key Clear (Some own) key = nat_eq key own
+shows_key Preempt (Some own) key = nat_eq key own
+shows_key PreemptAndAbort (Some own) key = nat_eq key own
 
 abbrev pub IsPreempting : PrOutAction → Type 0
 IsPreempting Register = ⊥
@@ -90,7 +90,7 @@ IsPreempting RegisterAndIgnoreExistingKey = ⊥
 -- no field is refused, and the key is the right one
 pub record Passes (r : RegistryValue) (n : Nexus) (q : PrOut) : Type 0 where
   pub reserve : IsFalse (is_bad_reserve q.action q)
-  pub parameter : IsFalse (is_bad_parameter q)
+  pub parameter : IsFalse q.spec_i_pt
   pub key : IsTrue (shows_key q.action (key_of r.registrants n) q.key)
 
 -- PREEMPT of the reservation: its only holder's key, or 0 where every registrant holds
@@ -119,7 +119,51 @@ names_it r q = nat_eq q.scope 0 && is_of_code r.reservation q.kind
 
 -- one more can register
 abbrev pub has_room : RegistryValue → Bool
-has_room r = nat_lt (length r.registrants) MOST_REGISTRANTS
+has_room r = nat_lt (length r.registrants) most_registrants
+
+-- ---- ALL_TG_PT: the nexus of each target port group with the sender's port
+
+abbrev pub ports_with : Nexus → ℕ → List Registrant → List Registrant
+ports_with n key registrants = registered_by (other_nexus n) key (registered_by n key registrants)
+
+abbrev pub has_room_for : List Registrant → Bool
+has_room_for registrants = not (nat_lt most_registrants (length registrants))
+
+abbrev pub other_ports : Nexus → List Registrant → List Registrant
+other_ports n registrants = others (other_nexus n) (others n registrants)
+
+abbrev pub is_port_in : RegistryValue → Nexus → Bool
+is_port_in r n = is_registered r.registrants n || is_registered r.registrants (other_nexus n)
+
+abbrev pub is_port_holder : RegistryValue → Nexus → Bool
+is_port_holder r n = is_sole_holder r.reservation n || is_sole_holder r.reservation (other_nexus n)
+
+-- ---- the words of the effects
+
+-- GOOD, with the registry afterwards and who is told what; or a refusal, after which the registry is as it was
+pub data Effect : Type 0 where
+  Done : RegistryValue → List Told → Effect
+  Conflicting : Effect
+  Refused : ℕ → ℕ → Effect
+  Full : Effect
+
+-- the reservation of the request's type, made by the nexus
+abbrev pub asked_for : Nexus → PrOut → Option Reservation
+asked_for n q = option_map (made_by n) (type_of q.kind)
+
+-- the other registered nexuses hear of the end of a reservation of types 5 to 8
+abbrev pub of_end : Option Reservation → Notice
+of_end None = Nothing
+of_end (Some held) = if is_of_registrants held.kind then ToAll ReservationsReleased else Nothing
+
+-- the same where the sender's port goes whole: each registrant of another port, which is who is registered afterwards
+abbrev pub of_end_elsewhere : Option Reservation → Notice
+of_end_elsewhere None = Nothing
+of_end_elsewhere (Some held) = if is_of_registrants held.kind then ToOtherPorts ReservationsReleased else Nothing
+
+-- the registry in which just these registrants are left
+abbrev pub left_with : List Registrant → RegistryValue → RegistryValue
+left_with xs r = record r { registrants = xs; reservation = left_to xs r.reservation }
 
 -- ---- the rows
 
@@ -135,6 +179,12 @@ pub data PrRow : Type 0 where
   ChangesKey : PrRow
   HolderUnregisters : PrRow
   OtherUnregisters : PrRow
+  -- the same with ALL_TG_PT
+  PortsRegisterNothing : PrRow
+  PortsRegisterNobodyMore : PrRow
+  PortsRegister : PrRow
+  PortsOfHolderUnregister : PrRow
+  PortsUnregister : PrRow
   -- RESERVE
   Reserves : PrRow
   ReservesAgain : PrRow
@@ -153,130 +203,176 @@ pub data PrRow : Type 0 where
   PreemptsNobody : PrRow
   PreemptsRegistrants : PrRow
 
--- the condition of each row
-abbrev pub Fits : PrRow → RegistryValue → Nexus → PrOut → Type 0
-Fits ReserveField r n q = IsTrue (is_bad_reserve q.action q)
-Fits ParameterField r n q = IsFalse (is_bad_reserve q.action q) × IsTrue (is_bad_parameter q)
-Fits KeyConflict r n q =
-    IsFalse (is_bad_reserve q.action q) × IsFalse (is_bad_parameter q)
-    × IsFalse (shows_key q.action (key_of r.registrants n) q.key)
+-- a row: when it fits, and what it does then
+pub record Row : Type 1 where
+  pub fits : Type 0
+  pub effect : Effect
+
+abbrev pub says : PrRow → RegistryValue → Nexus → PrOut → Row
+-- RESERVE with a scope or type that it may not have
+says ReserveField r n q = record {
+  fits = IsTrue (is_bad_reserve q.action q);
+  effect = Refused 0x24 0x00;
+}
+-- SPEC_I_PT
+says ParameterField r n q = record {
+  fits = IsFalse (is_bad_reserve q.action q) × IsTrue q.spec_i_pt;
+  effect = Refused 0x26 0x00;
+}
+-- the key is not the one that the action must show
+says KeyConflict r n q = record {
+  fits = IsFalse (is_bad_reserve q.action q) × IsFalse q.spec_i_pt
+      × IsFalse (shows_key q.action (key_of r.registrants n) q.key);
+  effect = Conflicting;
+}
 -- an unregistered nexus registers the key 0
-Fits RegistersNothing r n q =
-    Passes r n q × IsTrue (is_registering q.action) × IsFalse (is_in r n) × IsTrue (nat_eq q.sakey 0)
+says RegistersNothing r n q = record {
+  fits = Passes r n q × IsTrue (is_registering q.action) × IsFalse q.all_tg_pt × IsFalse (is_in r n)
+      × IsTrue (nat_eq q.sakey 0);
+  effect = Done (counted r) [];
+}
 -- the table of registrants is full
-Fits RegistersNobodyMore r n q =
-    Passes r n q × IsTrue (is_registering q.action) × IsFalse (is_in r n) × IsFalse (nat_eq q.sakey 0)
-    × IsFalse (has_room r)
+says RegistersNobodyMore r n q = record {
+  fits = Passes r n q × IsTrue (is_registering q.action) × IsFalse q.all_tg_pt × IsFalse (is_in r n)
+      × IsFalse (nat_eq q.sakey 0) × IsFalse (has_room r);
+  effect = Full;
+}
 -- an unregistered nexus registers a key
-Fits Registers r n q =
-    Passes r n q × IsTrue (is_registering q.action) × IsFalse (is_in r n) × IsFalse (nat_eq q.sakey 0)
-    × IsTrue (has_room r)
+says Registers r n q = record {
+  fits = Passes r n q × IsTrue (is_registering q.action) × IsFalse q.all_tg_pt × IsFalse (is_in r n)
+      × IsFalse (nat_eq q.sakey 0) × IsTrue (has_room r);
+  effect = Done (counted (record r { registrants = joined_by n q.sakey r.registrants; aptpl = q.aptpl })) [];
+}
 -- a registered nexus registers another key, or the same
-Fits ChangesKey r n q =
-    Passes r n q × IsTrue (is_registering q.action) × IsTrue (is_in r n) × IsFalse (nat_eq q.sakey 0)
+says ChangesKey r n q = record {
+  fits = Passes r n q × IsTrue (is_registering q.action) × IsFalse q.all_tg_pt × IsTrue (is_in r n)
+      × IsFalse (nat_eq q.sakey 0);
+  effect = Done (counted (record r { registrants = with_key_of n q.sakey r.registrants; aptpl = q.aptpl })) [];
+}
 -- the only holder registers the key 0, and is registered no more
-Fits HolderUnregisters r n q =
-    Passes r n q × IsTrue (is_registering q.action) × IsTrue (is_in r n) × IsTrue (nat_eq q.sakey 0)
-    × IsTrue (is_sole_holder r.reservation n)
+says HolderUnregisters r n q = record {
+  fits = Passes r n q × IsTrue (is_registering q.action) × IsFalse q.all_tg_pt × IsTrue (is_in r n)
+      × IsTrue (nat_eq q.sakey 0) × IsTrue (is_sole_holder r.reservation n);
+  effect = Done (counted (record r { registrants = others n r.registrants; reservation = None; aptpl = q.aptpl }))
+      (told_of n (of_end r.reservation) r.registrants);
+}
 -- another registered nexus does, or one of all registrants that hold
-Fits OtherUnregisters r n q =
-    Passes r n q × IsTrue (is_registering q.action) × IsTrue (is_in r n) × IsTrue (nat_eq q.sakey 0)
-    × IsFalse (is_sole_holder r.reservation n)
+says OtherUnregisters r n q = record {
+  fits = Passes r n q × IsTrue (is_registering q.action) × IsFalse q.all_tg_pt × IsTrue (is_in r n)
+      × IsTrue (nat_eq q.sakey 0) × IsFalse (is_sole_holder r.reservation n);
+  effect = Done (counted (record (left_with (others n r.registrants) r) { aptpl = q.aptpl })) [];
+}
+-- no nexus of the port is registered, and the port registers the key 0
+says PortsRegisterNothing r n q = record {
+  fits = Passes r n q × IsTrue (is_registering q.action) × IsTrue q.all_tg_pt × IsFalse (is_port_in r n)
+      × IsTrue (nat_eq q.sakey 0);
+  effect = Done (counted r) [];
+}
+-- the table of registrants has no room for every nexus of the port
+says PortsRegisterNobodyMore r n q = record {
+  fits = Passes r n q × IsTrue (is_registering q.action) × IsTrue q.all_tg_pt × IsFalse (nat_eq q.sakey 0)
+      × IsFalse (has_room_for (ports_with n q.sakey r.registrants));
+  effect = Full;
+}
+-- every nexus of the port is registered with a key, whatever key it had
+says PortsRegister r n q = record {
+  fits = Passes r n q × IsTrue (is_registering q.action) × IsTrue q.all_tg_pt × IsFalse (nat_eq q.sakey 0)
+      × IsTrue (has_room_for (ports_with n q.sakey r.registrants));
+  effect = Done (counted (record r { registrants = ports_with n q.sakey r.registrants; aptpl = q.aptpl })) [];
+}
+-- the port of the only holder registers the key 0, and is registered no more: who is registered then is told
+says PortsOfHolderUnregister r n q = record {
+  fits = Passes r n q × IsTrue (is_registering q.action) × IsTrue q.all_tg_pt × IsTrue (is_port_in r n)
+      × IsTrue (nat_eq q.sakey 0) × IsTrue (is_port_holder r n);
+  effect = Done (counted (record r { registrants = other_ports n r.registrants; reservation = None; aptpl = q.aptpl }))
+      (told_of n (of_end_elsewhere r.reservation) r.registrants);
+}
+-- the port of another registrant does
+says PortsUnregister r n q = record {
+  fits = Passes r n q × IsTrue (is_registering q.action) × IsTrue q.all_tg_pt × IsTrue (is_port_in r n)
+      × IsTrue (nat_eq q.sakey 0) × IsFalse (is_port_holder r n);
+  effect = Done (counted (record (left_with (other_ports n r.registrants) r) { aptpl = q.aptpl })) [];
+}
 -- nobody holds
-Fits Reserves r n q = Passes r n q × (q.action ≡ Reserve) × IsFalse (is_some r.reservation)
+says Reserves r n q = record {
+  fits = Passes r n q × (q.action ≡ Reserve) × IsFalse (is_some r.reservation);
+  effect = Done (record r { reservation = asked_for n q }) [];
+}
 -- a holder reserves with the same type
-Fits ReservesAgain r n q =
-    Passes r n q × (q.action ≡ Reserve) × IsTrue (is_some r.reservation) × IsTrue (holds_its_type r n q)
+says ReservesAgain r n q = record {
+  fits = Passes r n q × (q.action ≡ Reserve) × IsTrue (is_some r.reservation) × IsTrue (holds_its_type r n q);
+  effect = Done r [];
+}
 -- another holds, or the type is another
-Fits ReservesBesideAnother r n q =
-    Passes r n q × (q.action ≡ Reserve) × IsTrue (is_some r.reservation) × IsFalse (holds_its_type r n q)
+says ReservesBesideAnother r n q = record {
+  fits = Passes r n q × (q.action ≡ Reserve) × IsTrue (is_some r.reservation)
+      × IsFalse (holds_its_type r n q);
+  effect = Conflicting;
+}
 -- there is no reservation, or another holds it
-Fits ReleasesNothing r n q = Passes r n q × (q.action ≡ Release) × IsFalse (holds r n)
+says ReleasesNothing r n q = record {
+  fits = Passes r n q × (q.action ≡ Release) × IsFalse (holds r n);
+  effect = Done r [];
+}
 -- a holder names another scope or type
-Fits ReleasesAnotherType r n q =
-    Passes r n q × (q.action ≡ Release) × IsTrue (holds r n) × IsFalse (names_it r q)
+says ReleasesAnotherType r n q = record {
+  fits = Passes r n q × (q.action ≡ Release) × IsTrue (holds r n) × IsFalse (names_it r q);
+  effect = Refused 0x26 0x04;
+}
 -- a holder names the reservation's type
-Fits Releases r n q =
-    Passes r n q × (q.action ≡ Release) × IsTrue (holds r n) × IsTrue (names_it r q)
+says Releases r n q = record {
+  fits = Passes r n q × (q.action ≡ Release) × IsTrue (holds r n) × IsTrue (names_it r q);
+  effect = Done (record r { reservation = None }) (told_of n (of_end r.reservation) r.registrants);
+}
 -- a registered nexus clears
-Fits Clears r n q = Passes r n q × (q.action ≡ Clear)
+says Clears r n q = record {
+  fits = Passes r n q × (q.action ≡ Clear);
+  effect = Done (counted (record r { registrants = []; reservation = None }))
+      (told_of n (ToAll ReservationsPreempted) r.registrants);
+}
 -- the reservation is preempted with a scope or type that it may not have
-Fits PreemptField r n q =
-    Passes r n q × IsPreempting q.action × IsTrue (is_preempting_reservation r q) × IsFalse (names_type q)
+says PreemptField r n q = record {
+  fits = Passes r n q × IsPreempting q.action × IsTrue (is_preempting_reservation r q)
+      × IsFalse (names_type q);
+  effect = Refused 0x24 0x00;
+}
 -- the key is that of the only holder
-Fits PreemptsHolder r n q =
-    Passes r n q × IsPreempting q.action × IsTrue (is_preempting_holder r q) × IsTrue (names_type q)
+says PreemptsHolder r n q = record {
+  fits = Passes r n q × IsPreempting q.action × IsTrue (is_preempting_holder r q) × IsTrue (names_type q);
+  effect = Done (counted (record r {
+    registrants = without_others_of_key n q.sakey r.registrants;
+    reservation = asked_for n q;
+  })) (told_of n (OfPreempted q.sakey (not (is_of_code r.reservation q.kind))) r.registrants);
+}
 -- the key is 0, and all registrants hold
-Fits PreemptsAll r n q =
-    Passes r n q × IsPreempting q.action × IsFalse (is_preempting_holder r q) × IsTrue (is_preempting_all r q)
-    × IsTrue (names_type q)
+says PreemptsAll r n q = record {
+  fits = Passes r n q × IsPreempting q.action × IsFalse (is_preempting_holder r q)
+      × IsTrue (is_preempting_all r q) × IsTrue (names_type q);
+  effect = Done (counted (record r { registrants = only n r.registrants; reservation = asked_for n q }))
+      (told_of n (ToAll RegistrationsPreempted) r.registrants);
+}
 -- the key is 0 otherwise
-Fits PreemptsKeyZero r n q =
-    Passes r n q × IsPreempting q.action × IsFalse (is_preempting_reservation r q) × IsTrue (nat_eq q.sakey 0)
+says PreemptsKeyZero r n q = record {
+  fits = Passes r n q × IsPreempting q.action × IsFalse (is_preempting_reservation r q)
+      × IsTrue (nat_eq q.sakey 0);
+  effect = Refused 0x26 0x00;
+}
 -- nobody is registered with the key
-Fits PreemptsNobody r n q =
-    Passes r n q × IsPreempting q.action × IsFalse (is_preempting_reservation r q)
-    × IsFalse (nat_eq q.sakey 0) × IsFalse (is_key r.registrants q.sakey)
+says PreemptsNobody r n q = record {
+  fits = Passes r n q × IsPreempting q.action × IsFalse (is_preempting_reservation r q)
+      × IsFalse (nat_eq q.sakey 0) × IsFalse (is_key r.registrants q.sakey);
+  effect = Conflicting;
+}
 -- somebody is, and is not the only holder
-Fits PreemptsRegistrants r n q =
-    Passes r n q × IsPreempting q.action × IsFalse (is_preempting_reservation r q)
-    × IsFalse (nat_eq q.sakey 0) × IsTrue (is_key r.registrants q.sakey)
+says PreemptsRegistrants r n q = record {
+  fits = Passes r n q × IsPreempting q.action × IsFalse (is_preempting_reservation r q)
+      × IsFalse (nat_eq q.sakey 0) × IsTrue (is_key r.registrants q.sakey);
+  effect = Done (counted (left_with (without_key q.sakey r.registrants) r))
+      (told_of n (OfPreempted q.sakey false) r.registrants);
+}
 
--- ---- the effects
-
--- GOOD, with the registry afterwards and who is told what; or a refusal, after which the registry is as it was
-pub data Effect : Type 0 where
-  Done : RegistryValue → List Told → Effect
-  Conflicting : Effect
-  Refused : ℕ → ℕ → Effect
-  Full : Effect
-
--- the reservation of the request's type, made by the nexus
-abbrev pub asked_for : Nexus → PrOut → Option Reservation
-asked_for n q = option_map (made_by n) (type_of q.kind)
-
--- the other registered nexuses hear of the end of a reservation of types 5 to 8
-abbrev pub of_end : Option Reservation → Notice
-of_end None = Nothing
-of_end (Some held) = if is_of_registrants held.kind then ToAll ReservationsReleased else Nothing
-
--- the registry in which just these registrants are left
-abbrev pub left_with : List Registrant → RegistryValue → RegistryValue
-left_with xs r = record r { registrants = xs; reservation = left_to xs r.reservation }
+abbrev pub Fits : PrRow → RegistryValue → Nexus → PrOut → Type 0
+Fits row r n q = (says row r n q).fits
 
 abbrev pub effect : PrRow → RegistryValue → Nexus → PrOut → Effect
-effect ReserveField r n q = Refused 0x24 0x00
-effect ParameterField r n q = Refused 0x26 0x00
-effect KeyConflict r n q = Conflicting
-effect RegistersNothing r n q = Done (counted r) []
-effect RegistersNobodyMore r n q = Full
-effect Registers r n q =
-    Done (counted (record r { registrants = joined_by n q.sakey r.registrants; aptpl = q.aptpl })) []
-effect ChangesKey r n q =
-    Done (counted (record r { registrants = with_key_of n q.sakey r.registrants; aptpl = q.aptpl })) []
-effect HolderUnregisters r n q =
-    Done (counted (record r { registrants = others n r.registrants; reservation = None; aptpl = q.aptpl }))
-    (told_of n (of_end r.reservation) r.registrants)
-effect OtherUnregisters r n q =
-    Done (counted (record (left_with (others n r.registrants) r) { aptpl = q.aptpl })) []
-effect Reserves r n q = Done (record r { reservation = asked_for n q }) []
-effect ReservesAgain r n q = Done r []
-effect ReservesBesideAnother r n q = Conflicting
-effect ReleasesNothing r n q = Done r []
-effect ReleasesAnotherType r n q = Refused 0x26 0x04
-effect Releases r n q = Done (record r { reservation = None }) (told_of n (of_end r.reservation) r.registrants)
-effect Clears r n q =
-    Done (counted (record r { registrants = []; reservation = None }))
-    (told_of n (ToAll ReservationsPreempted) r.registrants)
-effect PreemptField r n q = Refused 0x24 0x00
-effect PreemptsHolder r n q =
-    Done (counted (record r { registrants = without_others_of_key n q.sakey r.registrants; reservation = asked_for n q }))
-    (told_of n (OfPreempted q.sakey (not (is_of_code r.reservation q.kind))) r.registrants)
-effect PreemptsAll r n q =
-    Done (counted (record r { registrants = only n r.registrants; reservation = asked_for n q }))
-    (told_of n (ToAll RegistrationsPreempted) r.registrants)
-effect PreemptsKeyZero r n q = Refused 0x26 0x00
-effect PreemptsNobody r n q = Conflicting
-effect PreemptsRegistrants r n q =
-    Done (counted (left_with (without_key q.sakey r.registrants) r))
-    (told_of n (OfPreempted q.sakey false) r.registrants)
+effect row r n q = (says row r n q).effect

@@ -15,7 +15,7 @@ value_of t = record {
   generation = t.generation;
 }
 
--- the call did what this row says, or changed nothing for want of memory
+-- the call did what this row says
 abbrev pub Does : PrRow → Table → Table → Nexus → PrOut → PrEnd → Type 0
 Does row old new n q end = IsAnswer end (effect row (value_of old) n q) (value_of old) (value_of new)
 

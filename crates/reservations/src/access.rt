@@ -2,6 +2,7 @@
 ghost use Rattle.std.specs.Prelude.{◌≡◌, if◌then◌else◌};
 ghost use Rattle.reservations.specs.Access.{is_let_through, party_of, permits, Neither, Registered};
 ghost use Rattle.reservations.specs.Nexus.{through};
+ghost use Rattle.reservations.specs.Registry.{key_of};
 ghost use Rattle.reservations.specs.Seen.{value_of};
 
 use crate::table::Table;
@@ -32,6 +33,14 @@ fn lets_read(kind: ReservationType) -> bool
 }
 
 impl Table {
+    // The key with which the nexus of a port through a group is registered.
+    fn key_through(&self, port: &PortName, group: Group) -> Option<u64>
+        ensures { result ≡ key_of self.now.registrants.items (through port.now group) }
+    {
+        let found = self.registrants.iter().find(|x| x.nexus.is(port, group));
+        found.map(|x| x.key)
+    }
+
     /// Whether a nexus may use the medium so.
     pub fn allows(&self, port: &PortName, group: Group, access: Access) -> bool
         ensures { result ≡ is_let_through self.now.reservation
@@ -40,11 +49,13 @@ impl Table {
         let Some(held) = &self.reservation else {
             return true;
         };
-        let is_registered = self.key_of(port, group).is_some();
+        let is_registered = self.key_through(port, group).is_some();
         let holds = match &held.holder {
             Some(holder) => holder.is(port, group),
-            None => is_registered,
+            None => false,
         };
-        holds || lets_in(held.kind, is_registered, access)
+        holds
+            || is_registered && held.kind.is_of_all_registrants()
+            || lets_in(held.kind, is_registered, access)
     }
 }

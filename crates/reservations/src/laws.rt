@@ -2,9 +2,8 @@
 ghost use Rattle.std.specs.Prelude.{◌≡◌, ◌+◌, ◌%◌, ◌^◌, nat_eq, if◌then◌else◌, IsTrue, IsFalse, List, Some, None};
 ghost use Rattle.scsi_types.specs.Nexus.{Nexus};
 ghost use Rattle.reservations.specs.declared.request.PrOut.{PrOut};
-ghost use Rattle.reservations.specs.declared.request.Told.{Told};
 ghost use Rattle.reservations.specs.Nexus.{same_nexus};
-ghost use Rattle.reservations.specs.Notice.{code_told};
+ghost use Rattle.reservations.specs.Notice.{Told, code_told};
 ghost use Rattle.reservations.specs.Registry.{IsSound, RegistryValue, key_of};
 ghost use Rattle.reservations.specs.Rows.{Done, Fits, IsPreempting, PrRow, is_counted};
 ghost use Rattle.reservations.specs.Table.{effect_of, row_of};

@@ -8,6 +8,7 @@ mod laws;
 mod nexus;
 mod notice;
 mod out;
+mod ports;
 mod preempt;
 mod reading;
 mod record;
@@ -26,8 +27,8 @@ pub use laws::{
     the_sender_is_not_told,
 };
 pub use nexus::Nexus;
-pub use notice::Notice;
-pub use record::Record;
+pub use notice::{Notice, Telling};
+pub use record::{Lasting, Record};
 pub use registrant::{Registrant, Reservation};
 pub use registry::Registry;
-pub use request::{Access, PrEnd, PrOut, Told};
+pub use request::{Access, PrEnd, PrOut};

@@ -1,45 +1,78 @@
 //! I_T nexuses.
-ghost use Rattle.std.specs.Prelude.{◌≡◌, IfOk};
-ghost use Rattle.reservations.specs.Nexus.{IsPortName, nexus_cmp, same_nexus};
+ghost use Rattle.std.specs.Prelude.{◌≡◌, ◌↔◌, ◌<◌, ◌≤◌, ◌^◌, IsTrue, length};
+ghost use Rattle.reservations.specs.Nexus.{IsPortName, nexus_cmp, other_nexus, same_nexus, same_port};
 
 use scsi_types::{Group, PortName};
-use std::alloc::{AllocError, Global};
 use std::cmp::Ordering;
 use std::marker::Model;
 
-/// An I_T nexus (SAM-5, 4.6): an initiator port, and the target port group through which it comes.
+// The most bytes of an InitiatorName (RFC 7143, 4.2.7.1).
+const LONGEST_NAME: usize = 223;
+
+/// An I_T nexus (SAM-5, 4.6): an initiator port, and the target port group through which it comes. The name stands in the
+/// nexus itself, so a copy takes no memory.
 #[derive(Debug, Drop)]
 pub struct Nexus {
-    port: PortName,
+    name: [u8; LONGEST_NAME],
+    length_of_name: u8,
+    isid: u64,
     group: Group,
 }
 
 impl Model for Nexus {
+    ghost use Rattle.std.specs.Prelude.{◌≤◌, take};
     ghost use Rattle.scsi_types.specs.Nexus.{Nexus as NexusValue};
     ghost use Rattle.reservations.specs.Nexus.{IsPortName};
 
     ghost Value = { NexusValue };
 
-    ghost view = { λ n. record { port = n.port; group = n.group } };
+    ghost view = { λ n. record {
+      port = record { name = take n.length_of_name n.name; isid = n.isid };
+      group = n.group;
+    } };
 
-    ghost invariant = { λ n. IsPortName n.port };
+    ghost invariant = { λ n. IsPortName (record { name = take n.length_of_name n.name; isid = n.isid })
+        × (n.length_of_name ≤ 223) };
 }
 
 impl Nexus {
-    /// The nexus of this initiator port through this group.
-    pub fn new(port: PortName, group: Group) -> Self
-        requires { IsPortName port }
-        ensures { result ≡ record { port = port; group = group } }
+    /// The nexus of this initiator port through this group. Takes no memory.
+    pub fn new(port: &PortName, group: Group) -> Self
+        requires { IsPortName port.now }
+        ensures { result ≡ record { port = port.now; group = group } }
     {
-        Nexus { port, group }
+        Nexus::named(port.name(), port.isid(), group)
     }
 
-    /// The initiator port. Its name has 1 to 223 bytes, and its ISID fits six.
-    pub fn port(&self) -> &PortName
-        ensures port { result.now ≡ self.now.port }
+    /// The nexus of the initiator port of this name, of 1 to 223 bytes, and this ISID, of six. Takes no memory.
+    pub fn named(name: &[u8], isid: u64, group: Group) -> Self
+        requires { IsPortName (record { name = name.now; isid = isid }) }
+        ensures { result ≡ record { port = record { name = name.now; isid = isid }; group = group } }
+    {
+        let mut kept = [0; LONGEST_NAME];
+        kept[..name.len()].copy_from_slice(name);
+        Nexus {
+            name: kept,
+            length_of_name: name.len() as u8,
+            isid,
+            group,
+        }
+    }
+
+    /// The InitiatorName's bytes, 1 to 223.
+    pub fn name(&self) -> &[u8]
+        ensures name { result.now ≡ self.now.port.name }
         ensures named { IsPortName self.now.port }
     {
-        &self.port
+        &self.name[..usize::from(self.length_of_name)]
+    }
+
+    /// The ISID, six bytes read as a number.
+    pub fn isid(&self) -> u64
+        ensures isid { result ≡ self.now.port.isid }
+        ensures named { IsPortName self.now.port }
+    {
+        self.isid
     }
 
     /// The target port group.
@@ -49,35 +82,60 @@ impl Nexus {
         self.group
     }
 
-    /// Another value of the same nexus.
-    pub fn copy(&self, alloc: Global) -> Result<Nexus, AllocError>
-        ensures equal { IfOk result (λ nexus. nexus ≡ self.now) }
-        ensures named { IsPortName self.now.port }
+    /// The nexus of the same port through the other group. Takes no memory.
+    pub(crate) fn through_other(&self) -> Nexus
+        ensures { result ≡ other_nexus self.now }
     {
-        Nexus::copied(alloc, &self.port, self.group)
+        let mut other = self.copy();
+        other.group = match self.group {
+            Group::One => Group::Two,
+            Group::Two => Group::One,
+        };
+        other
     }
 
-    /// A nexus made of copies.
-    pub(crate) fn copied(alloc: Global, port: &PortName, group: Group) -> Result<Nexus, AllocError>
-        requires { IsPortName port.now }
-        ensures { IfOk result (λ nexus. nexus ≡ record { port = port.now; group = group }) }
+    /// Whether this nexus is of the same port.
+    pub(crate) fn is_of_port(&self, other: &Nexus) -> bool
+        ensures { result ≡ same_port self.now.port other.now.port }
     {
-        let name = Vec::from_slice(alloc, port.name())?;
-        let port = PortName::new(name, port.isid());
-        Ok(Nexus { port, group })
+        self.isid == other.isid && self.name() == other.name()
+    }
+
+    /// Another value of the same nexus. Takes no memory.
+    pub fn copy(&self) -> Nexus
+        ensures equal { result ≡ self.now }
+        ensures named { IsPortName self.now.port }
+    {
+        Nexus {
+            name: self.name,
+            length_of_name: self.length_of_name,
+            isid: self.isid,
+            group: self.group,
+        }
     }
 
     /// Whether this is the nexus of that port through that group.
     pub fn is(&self, port: &PortName, group: Group) -> bool
         ensures { result ≡ same_nexus self.now (record { port = port.now; group = group }) }
     {
-        self.group == group && self.port.same(port)
+        self.group == group && self.isid == port.isid() && self.name() == port.name()
     }
 
-    /// Where this nexus stands beside that of a port through a group, in the order of nexuses.
-    pub fn compare(&self, port: &PortName, group: Group) -> Ordering
-        ensures { result ≡ nexus_cmp self.now (record { port = port.now; group = group }) }
+    /// Whether both are one nexus.
+    pub fn same(&self, other: &Nexus) -> bool
+        ensures same { result ≡ same_nexus self.now other.now }
+        ensures one { IsTrue result ↔ (self.now ≡ other.now) }
     {
-        self.port.compare(port).then(self.group.cmp(&group))
+        self.group == other.group && self.is_of_port(other)
+    }
+
+    /// Where this nexus stands beside another in the order of nexuses.
+    pub fn compare(&self, other: &Nexus) -> Ordering
+        ensures { result ≡ nexus_cmp self.now other.now }
+    {
+        let by_name = self.name().cmp(other.name());
+        by_name
+            .then(self.isid.cmp(&other.isid))
+            .then(self.group.cmp(&other.group))
     }
 }

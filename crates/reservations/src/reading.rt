@@ -1,8 +1,10 @@
 //! PERSISTENT RESERVE IN.
 ghost use Rattle.std.specs.Prelude.{◌≡◌, ◌++◌, IfOk, OnOk, take};
+ghost use Rattle.std.specs.Option.{unwrap_or};
 ghost use Rattle.reservations.specs.Reading.{capabilities_bytes, counted_bytes, descriptor_bytes};
-ghost use Rattle.reservations.specs.Reading.{descriptor_of, full_status_bytes, held_type, holders_key};
+ghost use Rattle.reservations.specs.Reading.{descriptor_of, full_status_bytes, held_type};
 ghost use Rattle.reservations.specs.Reading.{holding_or, keys_bytes, relative_port, reservation_bytes};
+ghost use Rattle.reservations.specs.Registry.{key_in};
 ghost use Rattle.reservations.specs.Seen.{value_of};
 
 use crate::table::Table;
@@ -57,7 +59,7 @@ impl Table {
 
     // The key of a named holder, and 0 where none is named.
     fn key_of_holder(&self, holder: &Option<Nexus>) -> u64
-        ensures { result ≡ holders_key holder.now self.now.registrants.items }
+        ensures { result ≡ unwrap_or (key_in self.now.registrants.items holder.now) 0 }
     {
         match holder {
             Some(nexus) => self.key_or_zero(nexus),
@@ -70,7 +72,7 @@ impl Table {
         ensures { IfOk result (λ v. v.items ≡ take allocation (capabilities_bytes self.now.aptpl)) }
     {
         let ptpl_a = if self.aptpl { 0x81 } else { 0x80 };
-        let mut bytes = [0x00, 0x08, 0x01, ptpl_a, 0xEA, 0x01, 0x00, 0x00].to_vec(self.alloc)?;
+        let mut bytes = [0x00, 0x08, 0x05, ptpl_a, 0xEA, 0x01, 0x00, 0x00].to_vec(self.alloc)?;
         bytes.truncate(allocation as usize);
         Ok(bytes)
     }
@@ -90,7 +92,7 @@ impl Table {
     fn push_descriptor(&self, bytes: &mut Vec<u8>, x: &Registrant) -> Result<(), AllocError>
         ensures { OnOk result (bytes.new.items ≡ bytes.old.items ++ descriptor_of (value_of self.now) x.now) }
     {
-        let id = transport_id(self.alloc, x.nexus.port())?;
+        let id = transport_id(self.alloc, &x.nexus)?;
         let r_holder = self.holding_or_zero(1, x);
         let held_type = self.holding_or_zero(self.held_type(), x);
         let port = relative_port(x.nexus.group());
@@ -101,7 +103,7 @@ impl Table {
     fn holding_or_zero(&self, value: u8, x: &Registrant) -> u8
         ensures { result ≡ holding_or value (value_of self.now) x.now }
     {
-        if self.is_holder(&x.nexus) { value } else { 0 }
+        if self.is_held_by(&x.nexus) { value } else { 0 }
     }
 
     // The code of the reservation's type, 0 where there is none.

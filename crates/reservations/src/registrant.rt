@@ -1,5 +1,5 @@
 //! Registrants, and reservations.
-ghost use Rattle.std.specs.Prelude.{◌≡◌, IfOk};
+ghost use Rattle.std.specs.Prelude.{◌≡◌, ◌≤◌, ◌++◌, ◌∷◌, ◌<◌, [], IfOk, length, vec_capacity};
 ghost use Rattle.std.specs.List.{AllByRecursion};
 ghost use Rattle.reservations.specs.Registry.{IsListed};
 
@@ -22,28 +22,28 @@ pub struct Reservation {
 }
 
 impl Registrant {
-    /// Another value of the same registrant.
-    pub fn copy(&self, alloc: Global) -> Result<Registrant, AllocError>
-        ensures equal { IfOk result (λ x. x ≡ self.now) }
-        ensures listed { IfOk result (λ x. IsListed x) }
+    /// Another value of the same registrant. Takes no memory.
+    pub fn copy(&self) -> Registrant
+        ensures equal { result ≡ self.now }
+        ensures listed { IsListed result }
     {
-        Ok(listed(self.nexus.copy(alloc)?, self.key))
+        listed(self.nexus.copy(), self.key)
     }
 }
 
 impl Reservation {
-    /// Another value of the same reservation.
-    pub fn copy(&self, alloc: Global) -> Result<Reservation, AllocError>
-        ensures { IfOk result (λ held. held ≡ self.now) }
+    /// Another value of the same reservation. Takes no memory.
+    pub fn copy(&self) -> Reservation
+        ensures { result ≡ self.now }
     {
         let holder = match &self.holder {
-            Some(nexus) => Some(nexus.copy(alloc)?),
+            Some(nexus) => Some(nexus.copy()),
             None => None,
         };
-        Ok(Reservation {
+        Reservation {
             kind: self.kind,
             holder,
-        })
+        }
     }
 }
 
@@ -52,8 +52,30 @@ fn listed(nexus: Nexus, key: u64) -> Registrant
     ensures is { result ≡ record { nexus = nexus; key = key } }
     ensures listed { IsListed result }
 {
-    let _port = nexus.port();
+    let _isid = nexus.isid();
     Registrant { nexus, key }
+}
+
+/// What the types of registrants say of each.
+pub(crate) fn are_listed(registrants: &[Registrant])
+    ensures { AllByRecursion IsListed registrants.now }
+{
+    for x in registrants {
+        let _listed = x.copy();
+    }
+}
+
+/// Makes registrants equal to others, of which there is room for as many. Takes no memory.
+pub(crate) fn set_registrants(kept: &mut Vec<Registrant>, registrants: &[Registrant])
+    requires room { length registrants.now ≤ vec_capacity kept.old }
+    ensures equal { kept.new.items ≡ registrants.now }
+    ensures listed { AllByRecursion IsListed registrants.now }
+    ensures capacity { vec_capacity kept.new ≡ vec_capacity kept.old }
+{
+    kept.clear();
+    for x in registrants {
+        kept.push_reserved(x.copy());
+    }
 }
 
 /// Another value of the same registrants.
@@ -65,21 +87,16 @@ pub(crate) fn copy_registrants(
     ensures listed { IfOk result (λ v. AllByRecursion IsListed registrants.now) }
 {
     let mut copies = Vec::with_capacity(alloc, registrants.len())?;
-    for x in registrants {
-        copies.push(x.copy(alloc)?)?;
-    }
+    set_registrants(&mut copies, registrants);
     Ok(copies)
 }
 
-/// Another value of the same reservation, if there is one.
-pub(crate) fn copy_reservation(
-    alloc: Global,
-    reservation: &Option<Reservation>,
-) -> Result<Option<Reservation>, AllocError>
-    ensures { IfOk result (λ o. o ≡ reservation.now) }
+/// Another value of the same reservation, if there is one. Takes no memory.
+pub(crate) fn copy_reservation(reservation: &Option<Reservation>) -> Option<Reservation>
+    ensures { result ≡ reservation.now }
 {
     match reservation {
-        Some(held) => Ok(Some(held.copy(alloc)?)),
-        None => Ok(None),
+        Some(held) => Some(held.copy()),
+        None => None,
     }
 }

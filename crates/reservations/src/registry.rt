@@ -2,14 +2,15 @@
 ghost use Rattle.std.specs.Prelude.{◌≡◌, ◌↔◌, IfOk, IsTrue, length, take};
 ghost use Rattle.reservations.specs.Access.{MayAccess};
 ghost use Rattle.reservations.specs.Nexus.{IsPortName, through};
+ghost use Rattle.reservations.specs.Notice.{code_told, tellings};
 ghost use Rattle.reservations.specs.Reading.{capabilities_bytes, full_status_bytes, keys_bytes, reservation_bytes};
 ghost use Rattle.reservations.specs.Registry.{IsSound, empty, powered_on, reserved_type, to_last};
 ghost use Rattle.reservations.specs.Table.{IsAnswer, effect_of};
 
-use crate::registrant::{copy_registrants, copy_reservation};
+use crate::registrant::{are_listed, copy_registrants, copy_reservation, set_registrants};
 use crate::table::{MOST_REGISTRANTS, Table};
-use crate::{Access, PrEnd, PrOut, Record, ReservationType};
-use scsi_types::{Group, NoMemory, PortName};
+use crate::{Access, Lasting, Nexus, PrEnd, PrOut, Record, ReservationType, Telling};
+use scsi_types::{Group, NoMemory, PortName, UnitAttention};
 use std::alloc::Global;
 use std::marker::Model;
 
@@ -17,9 +18,12 @@ use std::marker::Model;
 #[derive(Drop)]
 pub struct Registry {
     table: Table,
+    // What is to last without APTPL.
+    nothing: Record,
 }
 
 impl Model for Registry {
+    ghost use Rattle.std.specs.Prelude.{◌≡◌, ◌≤◌, [], false, None, vec_capacity};
     ghost use Rattle.reservations.specs.Registry.{IsSound, RegistryValue};
     ghost use Rattle.reservations.specs.Seen.{value_of};
 
@@ -27,7 +31,9 @@ impl Model for Registry {
 
     ghost view = { λ r. value_of r.table };
 
-    ghost invariant = { λ r. IsSound r.table.registrants.items r.table.reservation };
+    ghost invariant = { λ r. IsSound r.table.registrants.items r.table.reservation
+        × (64 ≤ vec_capacity r.table.registrants)
+        × (r.nothing ≡ record { aptpl = false; registrants = []; reservation = None }) };
 }
 
 impl Registry {
@@ -42,7 +48,8 @@ impl Registry {
             aptpl: false,
             generation: 0,
         };
-        Ok(Registry { table })
+        let nothing = Record::empty(alloc);
+        Ok(Registry { table, nothing })
     }
 
     /// The registry after a power on that found this record (SPC-4, 5.13.5): PRGENERATION begins at 0.
@@ -58,22 +65,36 @@ impl Registry {
             aptpl,
             generation: 0,
         };
-        Ok(Registry { table })
+        let nothing = Record::empty(alloc);
+        Ok(Registry { table, nothing })
     }
 
-    /// An equal registry, to be kept while what changes this one may still be undone.
+    /// An equal registry, with room for as many registrants as a unit takes.
     pub fn copy(&self) -> Result<Registry, NoMemory>
         ensures { IfOk result (λ registry. registry ≡ self.now) }
     {
         let alloc = self.table.alloc;
+        let mut registrants = Vec::with_capacity(alloc, MOST_REGISTRANTS)?;
+        set_registrants(&mut registrants, &self.table.registrants);
         let table = Table {
             alloc,
-            registrants: copy_registrants(alloc, &self.table.registrants)?,
-            reservation: copy_reservation(alloc, &self.table.reservation)?,
+            registrants,
+            reservation: copy_reservation(&self.table.reservation),
             aptpl: self.table.aptpl,
             generation: self.table.generation,
         };
-        Ok(Registry { table })
+        let nothing = Record::empty(alloc);
+        Ok(Registry { table, nothing })
+    }
+
+    /// Becomes equal to another. Takes no memory.
+    pub fn set(&mut self, other: &Registry)
+        ensures { self.new ≡ other.now }
+    {
+        set_registrants(&mut self.table.registrants, &other.table.registrants);
+        self.table.reservation = copy_reservation(&other.table.reservation);
+        self.table.aptpl = other.table.aptpl;
+        self.table.generation = other.table.generation;
     }
 
     /// What is to outlast a loss of power (SPC-4, 5.13.5): nothing where the last registration was without APTPL.
@@ -85,17 +106,38 @@ impl Registry {
             return Ok(Record::empty(alloc));
         }
         let registrants = copy_registrants(alloc, &self.table.registrants)?;
-        let reservation = copy_reservation(alloc, &self.table.reservation)?;
+        let reservation = copy_reservation(&self.table.reservation);
         Ok(Record::new(true, registrants, reservation))
     }
 
-    /// Does a PERSISTENT RESERVE OUT (SPC-4, 6.16) of the nexus of a port through a group. A refusal, and a want of
-    /// memory, changes nothing. The port has a name of 1 to 223 bytes, and its ISID fits six.
+    /// The same, borrowed. Takes no memory.
+    pub fn lasting(&self) -> Lasting<'_>
+        ensures { result ≡ to_last self.now }
+    {
+        if !self.table.aptpl {
+            return self.nothing.lasting();
+        }
+        are_listed(&self.table.registrants);
+        Lasting::new(true, &self.table.registrants, &self.table.reservation)
+    }
+
+    /// Does a PERSISTENT RESERVE OUT (SPC-4, 6.16) of the nexus of a port through a group. A refusal changes nothing. The
+    /// port has a name of 1 to 223 bytes, and its ISID fits six. Takes no memory, so that nothing that fences can fail for
+    /// want of it.
     pub fn out(&mut self, port: &PortName, group: Group, request: PrOut) -> PrEnd
         requires { IsPortName port.now }
         ensures { IsAnswer result (effect_of self.old (through port.now group) request) self.old self.new }
     {
-        self.table.out(port, group, request)
+        let sender = Nexus::new(port, group);
+        self.table.out(&sender, request)
+    }
+
+    /// What the nexus of a port through a group is told by a PERSISTENT RESERVE OUT that was GOOD: this is the registry as
+    /// it was when the request came. Takes no memory.
+    pub fn told(&self, telling: &Telling, port: &PortName, group: Group) -> Option<UnitAttention>
+        ensures { result ≡ code_told (tellings telling.now self.now.registrants) (through port.now group) }
+    {
+        self.table.told(telling, port, group)
     }
 
     /// Whether the nexus of a port through a group may use the medium so (SPC-4, 5.13.2). Takes no memory; looks at no

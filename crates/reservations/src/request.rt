@@ -1,10 +1,10 @@
 //! What PERSISTENT RESERVE OUT asks, and what it is answered.
 ghost use Rattle.std.specs.Prelude.{◌≡◌, if◌then◌else◌, nat_eq};
 ghost use Rattle.reservations.specs.Kind.{type_of};
-ghost use Rattle.reservations.specs.Rows.{is_bad_parameter, is_bad_reserve, shows_key};
+ghost use Rattle.reservations.specs.Rows.{is_bad_reserve, shows_key};
 
-use crate::{Nexus, ReservationType};
-use scsi_types::{PrOutAction, UnitAttention};
+use crate::{ReservationType, Telling};
+use scsi_types::PrOutAction;
 
 /// A PERSISTENT RESERVE OUT: the fields of its CDB and of its parameter list (SPC-4, 6.16).
 #[derive(Clone, Copy, Debug, PartialEq, Eq)]
@@ -27,26 +27,17 @@ pub struct PrOut {
     pub aptpl: bool,
 }
 
-/// A unit attention condition that is to be established for a nexus.
-#[derive(Debug, Drop)]
-pub struct Told {
-    pub nexus: Nexus,
-    pub code: UnitAttention,
-}
-
 /// How a PERSISTENT RESERVE OUT ends.
 #[derive(Debug, Drop)]
 pub enum PrEnd {
-    /// GOOD; these nexuses are told.
-    Good(Vec<Told>),
+    /// GOOD; who is told what.
+    Good(Telling),
     /// RESERVATION CONFLICT.
     Conflict,
     /// ILLEGAL REQUEST with this additional sense code and qualifier.
     Illegal(u8, u8),
     /// ILLEGAL REQUEST, INSUFFICIENT REGISTRATION RESOURCES (05 55/04).
     TableFull,
-    /// There was no memory; nothing has changed.
-    NoMemory,
 }
 
 /// How a command uses the medium, as reservations see it (SPC-4, 5.13.2).
@@ -76,19 +67,13 @@ pub fn is_bad_reserve(request: PrOut) -> bool
 {
     match request.action {
         PrOutAction::Reserve => type_asked(request).is_none(),
-        _ => false,
+        PrOutAction::Register
+        | PrOutAction::Release
+        | PrOutAction::Clear
+        | PrOutAction::Preempt
+        | PrOutAction::PreemptAndAbort
+        | PrOutAction::RegisterAndIgnoreExistingKey => false,
     }
-}
-
-/// Whether the parameter list asks for what is not supported.
-pub fn is_bad_parameter(request: PrOut) -> bool
-    ensures { result ≡ is_bad_parameter request }
-{
-    let registers = matches!(
-        request.action,
-        PrOutAction::Register | PrOutAction::RegisterAndIgnoreExistingKey
-    );
-    request.spec_i_pt || registers && request.all_tg_pt
 }
 
 /// Whether the reservation key is the one that the action must show, by the key with which its nexus is registered.
@@ -101,7 +86,11 @@ pub fn shows_key(action: PrOutAction, own: Option<u64>, key: u64) -> bool
             None => key == 0,
             Some(own) => key == own,
         },
-        _ => match own {
+        PrOutAction::Reserve
+        | PrOutAction::Release
+        | PrOutAction::Clear
+        | PrOutAction::Preempt
+        | PrOutAction::PreemptAndAbort => match own {
             None => false,
             Some(own) => key == own,
         },

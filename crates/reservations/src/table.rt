@@ -1,15 +1,16 @@
 //! The table of registrants and its look-ups.
-ghost use Rattle.std.specs.Prelude.{◌≡◌, ◌+◌, ◌%◌, ◌^◌, IfOk, OnErr, length};
+ghost use Rattle.std.specs.Prelude.{◌≡◌, ◌+◌, ◌%◌, ◌^◌, vec_capacity};
 ghost use Rattle.std.specs.Option.{unwrap_or};
 ghost use Rattle.reservations.specs.Nexus.{through};
-ghost use Rattle.reservations.specs.Notice.{telling_of, told_of};
-ghost use Rattle.reservations.specs.Registry.{is_held_by, is_held_by_all, is_holders_key, is_key, is_of_code};
+ghost use Rattle.reservations.specs.Notice.{code_told, tellings};
+ghost use Rattle.reservations.specs.Registry.{is_held_by, is_held_by_all, is_holders_key, is_key, is_of_code, is_registered};
 ghost use Rattle.reservations.specs.Registry.{is_own, is_sole_holder, key_of, left_to};
-ghost use Rattle.reservations.specs.Rows.{of_end};
+ghost use Rattle.reservations.specs.Rows.{of_end, of_end_elsewhere};
 
-use crate::{Nexus, Notice, Registrant, Reservation, Told};
+use crate::slots::key_of;
+use crate::{Nexus, Notice, Registrant, Reservation, Telling};
 use scsi_types::{Group, PortName, UnitAttention};
-use std::alloc::{AllocError, Global};
+use std::alloc::Global;
 
 /// The most registrants of a unit.
 pub const MOST_REGISTRANTS: usize = 64;
@@ -26,18 +27,17 @@ pub struct Table {
 
 impl Table {
     /// The key with which a nexus is registered.
-    pub fn key_of(&self, port: &PortName, group: Group) -> Option<u64>
-        ensures { result ≡ key_of self.now.registrants.items (through port.now group) }
+    pub fn key_of(&self, nexus: &Nexus) -> Option<u64>
+        ensures { result ≡ key_of self.now.registrants.items nexus.now }
     {
-        let found = self.registrants.iter().find(|x| x.nexus.is(port, group));
-        found.map(|x| x.key)
+        key_of(&self.registrants, nexus)
     }
 
     /// Whether a nexus is registered with this key.
-    fn has_key(&self, port: &PortName, group: Group, key: u64) -> bool
-        ensures { result ≡ is_own (key_of self.now.registrants.items (through port.now group)) key }
+    fn has_key(&self, nexus: &Nexus, key: u64) -> bool
+        ensures { result ≡ is_own (key_of self.now.registrants.items nexus.now) key }
     {
-        match self.key_of(port, group) {
+        match self.key_of(nexus) {
             Some(own) => own == key,
             None => false,
         }
@@ -47,14 +47,7 @@ impl Table {
     pub fn key_or_zero(&self, nexus: &Nexus) -> u64
         ensures { result ≡ unwrap_or (key_of self.now.registrants.items nexus.now) 0 }
     {
-        self.key_of(nexus.port(), nexus.group()).unwrap_or(0)
-    }
-
-    /// Whether a nexus, given whole, holds the reservation.
-    pub fn is_holder(&self, nexus: &Nexus) -> bool
-        ensures { result ≡ is_held_by self.now.reservation self.now.registrants.items nexus.now }
-    {
-        self.is_held_by(nexus.port(), nexus.group())
+        self.key_of(nexus).unwrap_or(0)
     }
 
     /// Whether some nexus is registered with this key.
@@ -65,26 +58,27 @@ impl Table {
     }
 
     /// Whether a nexus holds the reservation.
-    pub fn is_held_by(&self, port: &PortName, group: Group) -> bool
-        ensures { result ≡ is_held_by self.now.reservation self.now.registrants.items (through port.now group) }
+    pub fn is_held_by(&self, nexus: &Nexus) -> bool
+        ensures { result ≡ is_held_by self.now.reservation self.now.registrants.items nexus.now }
     {
-        match &self.reservation {
-            None => false,
-            Some(held) => match &held.holder {
-                Some(holder) => holder.is(port, group),
-                None => self.key_of(port, group).is_some(),
-            },
-        }
+        self.is_sole_holder(nexus) || self.is_held_by_all() && self.is_registered(nexus)
+    }
+
+    /// Whether a nexus is registered.
+    pub fn is_registered(&self, nexus: &Nexus) -> bool
+        ensures { result ≡ is_registered self.now.registrants.items nexus.now }
+    {
+        self.key_of(nexus).is_some()
     }
 
     /// Whether a nexus is the only holder of the reservation.
-    pub fn is_sole_holder(&self, port: &PortName, group: Group) -> bool
-        ensures { result ≡ is_sole_holder self.now.reservation (through port.now group) }
+    pub fn is_sole_holder(&self, nexus: &Nexus) -> bool
+        ensures { result ≡ is_sole_holder self.now.reservation nexus.now }
     {
         match &self.reservation {
             None => false,
             Some(held) => match &held.holder {
-                Some(holder) => holder.is(port, group),
+                Some(holder) => holder.same(nexus),
                 None => false,
             },
         }
@@ -97,7 +91,7 @@ impl Table {
         match &self.reservation {
             None => false,
             Some(held) => match &held.holder {
-                Some(holder) => self.has_key(holder.port(), holder.group(), key),
+                Some(holder) => self.has_key(holder, key),
                 None => false,
             },
         }
@@ -139,27 +133,40 @@ impl Table {
         }
     }
 
-    /// Who is told what: every registrant but the sender what the notice has for it.
-    pub fn tell(
-        &self,
-        port: &PortName,
-        group: Group,
-        notice: Notice,
-    ) -> Result<Vec<Told>, AllocError>
-        ensures { IfOk result (λ told. told.items ≡ told_of (through port.now group) notice self.now.registrants.items) }
+    /// What the registrants of the other ports are told when it ends with the port of its holder.
+    pub fn notice_of_end_elsewhere(&self) -> Notice
+        ensures { result ≡ of_end_elsewhere self.now.reservation }
     {
-        let mut told = Vec::new(self.alloc);
-        for x in &self.registrants {
-            if let Some(one) = telling(x, self.alloc, port, group, notice)? {
-                told.push(one)?;
+        match &self.reservation {
+            None => Notice::Nothing,
+            Some(held) => {
+                if held.kind.is_of_registrants() {
+                    Notice::ToOtherPorts(UnitAttention::ReservationsReleased)
+                } else {
+                    Notice::Nothing
+                }
             }
         }
-        Ok(told)
+    }
+
+    /// What a nexus is told by a request that found this table.
+    pub fn told(&self, telling: &Telling, port: &PortName, group: Group) -> Option<UnitAttention>
+        ensures { result ≡ code_told (tellings telling.now self.now.registrants.items) (through port.now group) }
+    {
+        for x in &self.registrants {
+            if x.nexus.is(port, group) {
+                if let Some(code) = telling.code_for(x) {
+                    return Some(code);
+                }
+            }
+        }
+        None
     }
 
     /// Ends a reservation that every registrant held, once the last of them has gone.
     pub fn end_if_left(&mut self)
-        ensures { self.new ≡ record self.old { reservation = left_to self.old.registrants.items self.old.reservation } }
+        ensures left { self.new ≡ record self.old { reservation = left_to self.old.registrants.items self.old.reservation } }
+        ensures room { vec_capacity self.new.registrants ≡ vec_capacity self.old.registrants }
     {
         if self.registrants.is_empty() && self.is_held_by_all() {
             self.reservation = None;
@@ -168,28 +175,9 @@ impl Table {
 
     /// Counts one more change of registrations.
     pub fn count(&mut self)
-        ensures { self.new ≡ record self.old { generation = (self.old.generation + 1) % 2 ^ 32 } }
+        ensures counted { self.new ≡ record self.old { generation = (self.old.generation + 1) % 2 ^ 32 } }
+        ensures room { vec_capacity self.new.registrants ≡ vec_capacity self.old.registrants }
     {
         self.generation = self.generation.wrapping_add(1);
     }
-}
-
-// What one registrant is told.
-fn telling(
-    x: &Registrant,
-    alloc: Global,
-    port: &PortName,
-    group: Group,
-    notice: Notice,
-) -> Result<Option<Told>, AllocError>
-    ensures { IfOk result (λ told. told ≡ telling_of (through port.now group) notice x.now) }
-{
-    if x.nexus.is(port, group) {
-        return Ok(None);
-    }
-    let Some(code) = notice.code_for(x.key) else {
-        return Ok(None);
-    };
-    let nexus = x.nexus.copy(alloc)?;
-    Ok(Some(Told { nexus, code }))
 }

@@ -3,15 +3,15 @@ ghost use Rattle.std.specs.Prelude.{◌≡◌, ◌<◌, ◌++◌, IfOk, OnOk};
 ghost use Rattle.std.specs.List.{flat_map};
 ghost use Rattle.reservations.specs.Reading.{digit, padded, port_text, transport_id, two_digits};
 
-use scsi_types::PortName;
+use crate::Nexus;
 use std::alloc::{AllocError, Global};
 
-/// The TransportID of a port (SPC-4, 7.6.4.6).
+/// The TransportID of the port of a nexus (SPC-4, 7.6.4.6).
 #[tactic(auto, unfolding(crate::specs::Reading::transport_id))]
-pub fn transport_id(alloc: Global, port: &PortName) -> Result<Vec<u8>, AllocError>
-    ensures { IfOk result (λ v. v.items ≡ transport_id port.now) }
+pub fn transport_id(alloc: Global, nexus: &Nexus) -> Result<Vec<u8>, AllocError>
+    ensures { IfOk result (λ v. v.items ≡ transport_id nexus.now.port) }
 {
-    let mut text = port_text(alloc, port)?;
+    let mut text = port_text(alloc, nexus)?;
     pad(&mut text)?;
     let length = (text.len() as u64).to_be_bytes();
     let mut id = Vec::new(alloc);
@@ -23,11 +23,11 @@ pub fn transport_id(alloc: Global, port: &PortName) -> Result<Vec<u8>, AllocErro
 
 // The port's name.
 #[tactic(auto, unfolding(crate::specs::Reading::port_text))]
-fn port_text(alloc: Global, port: &PortName) -> Result<Vec<u8>, AllocError>
-    ensures { IfOk result (λ v. v.items ≡ port_text port.now) }
+fn port_text(alloc: Global, nexus: &Nexus) -> Result<Vec<u8>, AllocError>
+    ensures { IfOk result (λ v. v.items ≡ port_text nexus.now.port) }
 {
-    let isid = port.isid().to_be_bytes();
-    let mut text = Vec::from_slice(alloc, port.name())?;
+    let isid = nexus.isid().to_be_bytes();
+    let mut text = Vec::from_slice(alloc, nexus.name())?;
     text.extend_from_slice(b",i,0x")?;
     push_digits(&mut text, &isid[2..])?;
     text.push(0)?;

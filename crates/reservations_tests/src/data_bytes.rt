@@ -1,9 +1,9 @@
 //! The data of PERSISTENT RESERVE IN, byte for byte; flags; the table's end; and what lasts.
 ghost use Rattle.reservations.specs.Nexus.{IsPortName};
 
-use crate::script::{A, Want, ends_so, port_of};
-use reservations::{PrEnd, PrOut, Registry};
-use scsi_types::{Group, NoMemory, PortName, PrOutAction};
+use crate::script::{A, Want, ends_so, port_of, told_to};
+use reservations::{PrOut, Registry};
+use scsi_types::{Group, NoMemory, PortName, PrOutAction, UnitAttention};
 use std::alloc::Global;
 
 const REGISTER: PrOut = PrOut {
@@ -34,9 +34,7 @@ fn after(alloc: Global, port: &PortName, requests: &[PrOut]) -> Result<Registry,
 {
     let mut registry = Registry::new(alloc)?;
     for request in requests {
-        if let PrEnd::NoMemory = registry.out(port, Group::One, *request) {
-            return Err(NoMemory);
-        }
+        let _ = registry.out(port, Group::One, *request);
     }
     Ok(registry)
 }
@@ -73,6 +71,27 @@ fn full_status_of_a_registrant(rt: HostRuntime) -> Result<(), NoMemory> {
 }
 
 #[test]
+fn full_status_of_every_port(rt: HostRuntime) -> Result<(), NoMemory> {
+    let alloc = rt.alloc();
+    let name = Vec::from_slice(alloc, b"iqn.2000-01.test:a")?;
+    let port = PortName::new(name, 0x4000_0137_0000);
+    let asked = PrOut {
+        all_tg_pt: true,
+        ..REGISTER
+    };
+    let registry = after(alloc, &port, &[asked])?;
+    let mut data = Vec::from_slice(alloc, &[0, 0, 0, 1, 0, 0, 0, 0x80])?;
+    for relative_port in [1, 2] {
+        data.extend_from_slice(&[0, 0, 0, 0, 0, 0, 0, 0x11, 0, 0, 0, 0, 0, 0, 0, 0, 0, 0, 0])?;
+        data.extend_from_slice(&[relative_port, 0, 0, 0, 0x28, 0x45, 0, 0, 0x24])?;
+        data.extend_from_slice(b"iqn.2000-01.test:a,i,0x400001370000")?;
+        data.push(0)?;
+    }
+    assert_eq!(rt; registry.full_status(65535)?, data);
+    Ok(())
+}
+
+#[test]
 fn full_status_of_a_holder(rt: HostRuntime) -> Result<(), NoMemory> {
     let alloc = rt.alloc();
     let registry = after(alloc, &port_of(alloc, A)?, &[REGISTER, RESERVE])?;
@@ -92,12 +111,17 @@ fn capabilities(rt: HostRuntime) -> Result<(), NoMemory> {
         aptpl: true,
         ..REGISTER
     };
+    let fresh = Registry::new(alloc)?.capabilities(8)?;
+    assert_eq!(rt;
+        fresh.as_slice(),
+        [0x00, 0x08, 0x05, 0x80, 0xEA, 0x01, 0x00, 0x00].as_slice()
+    );
     for (name, request, ptpl_a) in [
         ("without APTPL", REGISTER, 0x80),
         ("with APTPL", lasting, 0x81),
     ] {
         let registry = after(alloc, &port_of(alloc, A)?, &[request])?;
-        let data = Vec::from_slice(alloc, &[0x00, 0x08, 0x01, ptpl_a, 0xEA, 0x01, 0x00, 0x00])?;
+        let data = Vec::from_slice(alloc, &[0x00, 0x08, 0x05, ptpl_a, 0xEA, 0x01, 0x00, 0x00])?;
         assert_eq!(rt; registry.capabilities(8)?, data, "{name}");
     }
     Ok(())
@@ -109,7 +133,7 @@ fn flags(rt: HostRuntime) -> Result<(), NoMemory> {
     let port = port_of(alloc, A)?;
     for (name, request, spec_i_pt, all_tg_pt, want) in [
         ("SPEC_I_PT", REGISTER, true, false, Want::Illegal(0x26, 0)),
-        ("ALL_TG_PT", REGISTER, false, true, Want::Illegal(0x26, 0)),
+        ("ALL_TG_PT", REGISTER, false, true, Want::Good),
         (
             "SPEC_I_PT comes before the key",
             RESERVE,
@@ -151,6 +175,46 @@ fn a_65th_registrant(rt: HostRuntime) -> Result<(), NoMemory> {
     }
     assert_eq!(rt; registry.generation(), 64);
     assert_eq!(rt; registry.registrant_count(), 64);
+    Ok(())
+}
+
+const OTHERS: PrOut = PrOut {
+    sakey: 0x22,
+    ..REGISTER
+};
+
+// Initiator ports of the same name, by their ISIDs; the first preempts the other 63.
+#[test]
+fn sixty_three_are_preempted(rt: HostRuntime) -> Result<(), NoMemory> {
+    let alloc = rt.alloc();
+    let mut registry = Registry::new(alloc)?;
+    for isid in 0..64 {
+        let request = if isid == 0 { REGISTER } else { OTHERS };
+        let port = port_of(alloc, (b'a', isid, Group::One))?;
+        assert!(rt;
+            ends_so(&registry.out(&port, Group::One, request), Want::Good),
+            "{isid}"
+        );
+    }
+    let found = registry.copy()?;
+    let asked = PrOut {
+        action: PrOutAction::Preempt,
+        key: 0x11,
+        sakey: 0x22,
+        ..REGISTER
+    };
+    let end = registry.out(&port_of(alloc, A)?, Group::One, asked);
+    assert!(rt; ends_so(&end, Want::Good), "{end:?}");
+    assert_eq!(rt; registry.registrant_count(), 1);
+    for isid in 0..64 {
+        let want = if isid > 0 {
+            Some(UnitAttention::RegistrationsPreempted)
+        } else {
+            None
+        };
+        let told = told_to(alloc, &found, &end, (b'a', isid, Group::One))?;
+        assert_eq!(rt; told, want, "{isid}");
+    }
     Ok(())
 }
 

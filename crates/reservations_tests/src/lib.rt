@@ -8,6 +8,8 @@ mod actions;
 #[cfg(test)]
 mod data_bytes;
 #[cfg(test)]
+mod every_port;
+#[cfg(test)]
 mod model;
 #[cfg(test)]
 mod script;

@@ -3,14 +3,15 @@
 ghost use Rattle.std.specs.Prelude.{◌<◌};
 
 use crate::script::{
-    A, A_ISID, A_TWO, B, Want, Who, asking, ends_so, held_data, keys_data, port_of, tells,
+    A, A_TWO, B, B_TWO, Want, Who, asking, ends_so, held_data, keys_data, port_of, tells,
 };
-use reservations::Registry;
+use reservations::{PrOut, Registry};
 use scsi_types::{NoMemory, PrOutAction, UnitAttention};
 use std::alloc::Global;
 use std::process::Abort;
 
-const NEXUSES: [Who; 4] = [A, A_TWO, A_ISID, B];
+// Two ports, each through both groups.
+const NEXUSES: [Who; 4] = [A, A_TWO, B, B_TWO];
 
 const ACTIONS: [PrOutAction; 7] = [
     PrOutAction::Register,
@@ -32,6 +33,7 @@ struct Model {
     keys: [u64; 4],
     kind: u8,
     holder: usize,
+    aptpl: bool,
     generation: u32,
 }
 
@@ -69,22 +71,27 @@ impl Model {
         }
     }
 
-    fn set_key(&mut self, by: usize, sakey: u64) -> Codes
-        requires { by < 4 }
-    {
+    // Whether some of these nexuses alone hold the reservation.
+    fn is_held_by_some(&self, these: [bool; 4]) -> bool {
+        self.kind != 0 && !self.is_all() && these.get(self.holder).copied().unwrap_or(false)
+    }
+
+    // These nexuses register the key; who is registered afterwards hears of a reservation that ends by it.
+    fn set_keys(&mut self, these: [bool; 4], sakey: u64, aptpl: bool) -> Codes {
+        let ends = sakey == 0 && self.is_held_by_some(these);
+        for place in 0..4 {
+            if these[place] && (sakey != 0 || self.keys[place] != 0) {
+                self.keys[place] = sakey;
+                self.aptpl = aptpl;
+            }
+        }
         let mut codes = [None; 4];
-        if self.keys[by] != 0
-            && sakey == 0
-            && self.holder == by
-            && self.kind != 0
-            && !self.is_all()
-        {
+        if ends {
             if self.kind == 5 || self.kind == 6 {
-                codes = self.tell_all(by, UnitAttention::ReservationsReleased);
+                codes = self.tell_all(4, UnitAttention::ReservationsReleased);
             }
             self.kind = 0;
         }
-        self.keys[by] = sakey;
         self.end_if_nobody_is_left();
         self.generation = self.generation.wrapping_add(1);
         codes
@@ -186,6 +193,8 @@ impl Model {
         kind: u8,
         key: u64,
         sakey: u64,
+        all_tg_pt: bool,
+        aptpl: bool,
     ) -> (Want, Codes)
         requires { by < 4 }
     {
@@ -199,9 +208,11 @@ impl Model {
         {
             return (Want::Conflict, [None; 4]);
         }
+        let these = senders(by, all_tg_pt);
         match action {
-            PrOutAction::Register => (Want::Good, self.set_key(by, sakey)),
-            PrOutAction::RegisterAndIgnoreExistingKey => (Want::Good, self.set_key(by, sakey)),
+            PrOutAction::Register | PrOutAction::RegisterAndIgnoreExistingKey => {
+                (Want::Good, self.set_keys(these, sakey, aptpl))
+            }
             PrOutAction::Reserve => (self.reserve(by, kind), [None; 4]),
             PrOutAction::Release => self.release(by, kind),
             PrOutAction::Clear => (Want::Good, self.clear(by)),
@@ -217,6 +228,15 @@ impl Model {
         }
         (self.keys.get(self.holder).copied().unwrap_or(0), self.kind)
     }
+}
+
+// Whom a registration of a nexus concerns: of the first two, or of the last two, with ALL_TG_PT both.
+fn senders(by: usize, all_tg_pt: bool) -> [bool; 4] {
+    let mut these = [false; 4];
+    for place in 0..4 {
+        these[place] = place == by || all_tg_pt && place / 2 == by / 2;
+    }
+    these
 }
 
 fn is_type(kind: u8) -> bool {
@@ -278,16 +298,24 @@ fn one_step<R: AllocGlobal + Abort>(
         model.keys[by]
     };
     let sakey = KEYS[draws.below(4)];
-    let (want, codes) = model.step(by, action, kind, key, sakey);
+    let all_tg_pt = draws.below(2) == 0;
+    let aptpl = draws.below(2) == 0;
+    let (want, codes) = model.step(by, action, kind, key, sakey, all_tg_pt, aptpl);
     let who = NEXUSES[by];
+    let found = registry.copy()?;
     let end = registry.out(
         &port_of(alloc, who)?,
         who.2,
-        asking(action, kind, key, sakey),
+        PrOut {
+            all_tg_pt,
+            aptpl,
+            ..asking(action, kind, key, sakey)
+        },
     );
+    assert_eq!(rt; registry.lasting().aptpl(), model.aptpl, "step {place}");
     assert!(rt; ends_so(&end, want), "step {place}: {end:?}, not {want:?}");
     assert!(rt;
-        tells(alloc, &end, &told_of(alloc, codes)?)?,
+        tells(alloc, &found, &end, &told_of(alloc, codes)?)?,
         "step {place}: {end:?}"
     );
     let keys = keys_data(alloc, model.generation, &registered_keys(alloc, model)?)?;
@@ -305,6 +333,7 @@ fn a_thousand_requests(rt: HostRuntime) -> Result<(), NoMemory> {
         keys: [0; 4],
         kind: 0,
         holder: 0,
+        aptpl: false,
         generation: 0,
     };
     for place in 0..1000 {

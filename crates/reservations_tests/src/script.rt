@@ -2,7 +2,7 @@
 ghost use Rattle.std.specs.Prelude.{IfOk};
 ghost use Rattle.reservations.specs.Nexus.{IsPortName};
 
-use reservations::{Nexus, PrEnd, PrOut, Registry, Told};
+use reservations::{PrEnd, PrOut, Registry};
 use scsi_types::{Group, NoMemory, PortName, PrOutAction, UnitAttention};
 use std::alloc::Global;
 use std::process::Abort;
@@ -20,6 +20,9 @@ pub const A_ISID: Who = (b'a', 1, Group::One);
 
 pub const B: Who = (b'b', 0, Group::One);
 
+/// The same port through the other group.
+pub const B_TWO: Who = (b'b', 0, Group::Two);
+
 pub const C: Who = (b'c', 0, Group::One);
 
 pub const D: Who = (b'd', 0, Group::One);
@@ -33,8 +36,7 @@ pub enum Want {
     Full,
 }
 
-/// A step of a script: who asks for what, and what must come of it. `told` is in the order of the registrants, `keys`
-/// in the order of the nexuses, and `held` the holder's key and the type, both 0 without a reservation.
+/// A step of a script: who asks for what, and what must come of it. `keys` is in the order of the nexuses, and `held` the holder's key and the type, both 0 without a reservation.
 #[derive(Clone, Copy)]
 pub struct Step {
     pub by: Who,
@@ -103,13 +105,29 @@ pub fn run<R: AllocGlobal + Abort>(
     name: &str,
     steps: &[Step],
 ) -> Result<(), NoMemory> {
+    run_with(rt, registry, name, steps, false)
+}
+
+/// The same where each request has ALL_TG_PT, or none has.
+pub fn run_with<R: AllocGlobal + Abort>(
+    rt: &R,
+    registry: &mut Registry,
+    name: &str,
+    steps: &[Step],
+    all_tg_pt: bool,
+) -> Result<(), NoMemory> {
     let alloc = rt.alloc();
     for (place, step) in steps.iter().enumerate() {
         let port = port_of(alloc, step.by)?;
-        let end = registry.out(&port, step.by.2, step.request);
+        let found = registry.copy()?;
+        let asked = PrOut {
+            all_tg_pt,
+            ..step.request
+        };
+        let end = registry.out(&port, step.by.2, asked);
         assert!(rt; ends_so(&end, step.want), "{name}, step {place}: {end:?}");
         assert!(rt;
-            tells(alloc, &end, step.told)?,
+            tells(alloc, &found, &end, step.told)?,
             "{name}, step {place}: {end:?}"
         );
         let keys = keys_data(alloc, step.generation, step.keys)?;
@@ -127,26 +145,44 @@ pub fn ends_so(end: &PrEnd, want: Want) -> bool {
         PrEnd::Conflict => want == Want::Conflict,
         PrEnd::Illegal(asc, ascq) => want == Want::Illegal(*asc, *ascq),
         PrEnd::TableFull => want == Want::Full,
-        PrEnd::NoMemory => false,
     }
 }
 
-/// Whether a call that is GOOD tells these, in this order.
-pub fn tells(alloc: Global, end: &PrEnd, want: &[(Who, UnitAttention)]) -> Result<bool, NoMemory> {
-    match end {
-        PrEnd::Good(told) => are(alloc, told, want),
-        _ => Ok(want.is_empty()),
-    }
-}
-
-fn are(alloc: Global, told: &[Told], want: &[(Who, UnitAttention)]) -> Result<bool, NoMemory> {
-    for (one, (who, code)) in told.iter().zip(want) {
-        let port = port_of(alloc, *who)?;
-        if !one.nexus.is(&port, who.2) || one.code != *code {
+/// Whether a call that found this registry tells these, and no other nexus of a script.
+pub fn tells(
+    alloc: Global,
+    found: &Registry,
+    end: &PrEnd,
+    want: &[(Who, UnitAttention)],
+) -> Result<bool, NoMemory> {
+    for who in &[A, A_TWO, A_ISID, B, B_TWO, C, D] {
+        if told_to(alloc, found, end, *who)? != wanted(want, *who) {
             return Ok(false);
         }
     }
-    Ok(told.len() == want.len())
+    Ok(true)
+}
+
+/// What a call that found this registry tells a nexus.
+pub fn told_to(
+    alloc: Global,
+    found: &Registry,
+    end: &PrEnd,
+    who: Who,
+) -> Result<Option<UnitAttention>, NoMemory> {
+    match end {
+        PrEnd::Good(telling) => Ok(found.told(telling, &port_of(alloc, who)?, who.2)),
+        PrEnd::Conflict | PrEnd::Illegal(..) | PrEnd::TableFull => Ok(None),
+    }
+}
+
+fn wanted(want: &[(Who, UnitAttention)], who: Who) -> Option<UnitAttention> {
+    for (one, code) in want {
+        if *one == who {
+            return Some(*code);
+        }
+    }
+    None
 }
 
 /// The data of READ KEYS.

@@ -1,24 +1,16 @@
 -- What a request for task management drops.
-use Rattle.std.proofs.Common.{◌≡◌, ℕ, Bool, true, false, not, List, [], ◌∷◌, Option, Some, None, refl, sym, ap, subst, ◌∙◌}
-use Rattle.std.specs.Prelude.{◌&&◌, if◌then◌else◌}
+use Rattle.std.proofs.Common.{◌≡◌, ◌⊎◌, ℕ, Bool, true, false, not, List, [], ◌∷◌, Option, Some, None, inl, inr, refl, sym, ap, subst, ◌∙◌}
+use Rattle.std.specs.Prelude.{◌==◌, ◌&&◌, ◌||◌, nat_lt, bytes_eq, slice_index, is_some, if◌then◌else◌}
 use Rattle.std.specs.List.{filter}
+use Rattle.std.proofs.lemmas.Bool.{eqb-true}
+use Rattle.std.proofs.lemmas.Slice.Eq.{bytes_eq-Decides}
+use Rattle.scsi_types.specs.Lun.{IsLunOf, NamesUnit}
 use Rattle.iscsi_pdu.specs.declared.header.TaskManagementRequest.{TaskManagementRequest as ManagementHeader}
 use Rattle.iscsi_pdu.specs.declared.header.Numbers.{Numbers}
-use Rattle.session.specs.declared.target.ResetAnswer.{ResetAnswer}
-use Rattle.session.specs.declared.target.ResetAnswer.TheVariants.{Done, Gone, Failed}
-use Rattle.session.specs.declared.task_management.TaskFunction.{TaskFunction}
-use Rattle.session.specs.declared.task_management.TaskFunction.TheVariants.{
-  AbortTask,
-  AbortTaskSet,
-  LogicalUnitReset,
-  TaskReassign,
-  Unserved,
-}
 use Rattle.session.specs.declared.task_management.Management.{Management}
-use Rattle.session.specs.Asking.{Asking}
 use Rattle.session.specs.Tasks.{Collecting, r2ts_of}
-use Rattle.session.specs.Drops.{function_of, drops_by, found_unit}
-use Rattle.session.specs.TaskManagement.{there, drops_one, kept_by, management_of, IsManagedBy, IsManaged, reset_response, management_answer}
+use Rattle.session.specs.Drops.{drops, names_one_of}
+use Rattle.session.specs.TaskManagement.{there, kept_by, IsManagement, management_answer}
 use Rattle.session.proofs.TaskTurn.{keeps}
 
 pub no_r2t_managed : (n : Numbers) (x : ManagementHeader) (response : Option ℕ)
@@ -26,68 +18,68 @@ pub no_r2t_managed : (n : Numbers) (x : ManagementHeader) (response : Option ℕ
 no_r2t_managed n x None = refl
 no_r2t_managed n x (Some response) = refl
 
-and_true : (b : Bool) → (b && true) ≡ b
-and_true true = refl
-and_true false = refl
+-- ---- a LUN names one of the units just where its unit is there
+
+abbrev no_more : List ℕ
+no_more = 0 ∷ 0 ∷ 0 ∷ 0 ∷ 0 ∷ 0 ∷ []
+
+lun_of : (a unit : ℕ) (rest : List ℕ) → (a == 0x00 || a == 0x40) ≡ true → rest ≡ no_more → IsLunOf (a ∷ unit ∷ rest) unit
+lun_of a unit rest e f = by_first (a == 0x00) refl e where
+  by_first : (b : Bool) → (a == 0x00) ≡ b → (b || a == 0x40) ≡ true → IsLunOf (a ∷ unit ∷ rest) unit
+  by_first true g h = inl (rw (eqb-true a 0x00 g, f) refl)
+  by_first false g h = inr (rw (eqb-true a 0x40 h, f) refl)
 
 and_false : (b : Bool) → (b && false) ≡ false
 and_false true = refl
 and_false false = refl
 
-module _ (x : ManagementHeader) (n : Numbers) where
-  -- a list of which all is kept
-  all_kept : (test : Collecting → Bool) → ((c : Collecting) → test c ≡ true) → (cs : List Collecting) → filter test cs ≡ cs
-  all_kept test all [] = refl
-  all_kept test all (c ∷ cs) = rw (all c) (ap (λ (z : List Collecting). c ∷ z) (all_kept test all cs))
+and_true : (b : Bool) → (b && true) ≡ b
+and_true true = refl
+and_true false = refl
 
-  same_kept : (f g : Collecting → Bool) → ((c : Collecting) → f c ≡ g c) → (cs : List Collecting) → filter f cs ≡ filter g cs
-  same_kept f g same [] = refl
-  same_kept f g same (c ∷ cs) = rw (same c) (ap (λ (z : List Collecting). if g c then c ∷ z else z) (same_kept f g same cs))
+none_named : (units : ℕ) (lun : List ℕ) → ((unit : ℕ) → IsLunOf lun unit → ⊥) → names_one_of units lun ≡ false
+none_named units [] none = refl
+none_named units (a ∷ []) none =
+    ap (λ (b : Bool). b && nat_lt (slice_index (a ∷ []) 1) units) (and_false (a == 0x00 || a == 0x40))
+none_named units (a ∷ (unit ∷ rest)) none =
+    by_form (a == 0x00 || a == 0x40) refl (bytes_eq rest no_more) refl where
+      by_form : (b : Bool) → (a == 0x00 || a == 0x40) ≡ b → (c : Bool) → bytes_eq rest no_more ≡ c
+          → (b && c && nat_lt unit units) ≡ false
+      by_form true e true f = absurd (none unit (lun_of a unit rest e ((bytes_eq-Decides rest no_more).0 f)))
+      by_form true e false f = refl
+      by_form false e c f = refl
 
-  -- what is dropped: nothing where the unit is not there
-  abbrev wanted : TaskFunction → Option ℕ → Collecting → Bool
-  wanted f None c = false
-  wanted f (Some unit) c = drops_by f x c.command
+some_if : (unit : ℕ) (b : Bool) → b ≡ is_some (if b then Some unit else None)
+some_if unit true = refl
+some_if unit false = refl
 
-  abbrev Dropped : TaskFunction → Option ℕ → Option ℕ → Collecting → Type 0
-  Dropped f unit response c = (drops_by f x c.command && found_unit (management_answer n x response)) ≡ wanted f unit c
+found_is : (units : ℕ) (lun : List ℕ) (unit : Option ℕ) → NamesUnit lun unit
+    → names_one_of units lun ≡ is_some (there units unit)
+found_is units lun None none = none_named units lun none
+found_is units lun (Some unit) (inl e) = ap (names_one_of units) e ∙ some_if unit (nat_lt unit units)
+found_is units lun (Some unit) (inr e) = ap (names_one_of units) e ∙ some_if unit (nat_lt unit units)
 
-  reset_told : (a : ResetAnswer) (b : Bool) → (b && found_unit (management_answer n x (reset_response a))) ≡ b
-  reset_told Done b = and_true b
-  reset_told Gone b = and_true b
-  reset_told Failed b = and_true b
+-- ---- and so drops
 
-  told : (f : TaskFunction) (one : Bool) (unit : Option ℕ) (call : Option Asking) (response : Option ℕ)
-      → IsManagedBy (management_of f one unit) call response → (c : Collecting) → Dropped f unit response c
-  told AbortTask one None call response k c = rw k.1 (and_false (drops_by AbortTask x c.command))
-  told AbortTask true (Some unit) call response k c = rw k.1 (and_true (drops_by AbortTask x c.command))
-  told AbortTask false (Some unit) call response k c = rw k.1 (and_true (drops_by AbortTask x c.command))
-  told AbortTaskSet one None call response k c = rw k.1 (and_false (drops_by AbortTaskSet x c.command))
-  told AbortTaskSet one (Some unit) call response k c = rw k.1 (and_true (drops_by AbortTaskSet x c.command))
-  told LogicalUnitReset one None call response k c = rw k.1 (and_false (drops_by LogicalUnitReset x c.command))
-  told LogicalUnitReset one (Some unit) call response k c = rw k.2 (reset_told k.0 (drops_by LogicalUnitReset x c.command))
-  told TaskReassign one None call response k c = refl
-  told TaskReassign one (Some unit) call response k c = refl
-  told Unserved one None call response k c = refl
-  told Unserved one (Some unit) call response k c = refl
+-- a list of which all is kept
+all_kept : (test : Collecting → Bool) → ((c : Collecting) → test c ≡ true) → (cs : List Collecting) → filter test cs ≡ cs
+all_kept test all [] = refl
+all_kept test all (c ∷ cs) = rw (all c) (ap (λ (z : List Collecting). c ∷ z) (all_kept test all cs))
 
-  kept_so : (unit : Option ℕ) (cs : List Collecting)
-      → filter (λ c. not (wanted (function_of x.function) unit c)) cs ≡ kept_by unit x cs
-  kept_so None cs = all_kept (λ c. not (wanted (function_of x.function) None c)) (λ c. refl) cs
-  kept_so (Some unit) cs = refl
+same_kept : (f g : Collecting → Bool) → ((c : Collecting) → f c ≡ g c) → (cs : List Collecting) → filter f cs ≡ filter g cs
+same_kept f g same [] = refl
+same_kept f g same (c ∷ cs) = rw (same c) (ap (λ (z : List Collecting). if g c then c ∷ z else z) (same_kept f g same cs))
 
-  by_unit : (cs : List Collecting) (unit : Option ℕ) (call : Option Asking) (response : Option ℕ)
-      → IsManagedBy (management_of (function_of x.function) (drops_one x cs) unit) call response
-      → filter (keeps x (management_answer n x response)) cs ≡ kept_by unit x cs
-  by_unit cs unit call response k =
-      same_kept (keeps x (management_answer n x response)) (λ c. not (wanted (function_of x.function) unit c))
-      (λ c. ap not (told (function_of x.function) (drops_one x cs) unit call response k c)) cs ∙ kept_so unit cs
+kept_so : (x : ManagementHeader) (unit : Option ℕ) (cs : List Collecting)
+    → filter (λ c. not (drops x c.command && is_some unit)) cs ≡ kept_by unit x cs
+kept_so x None cs = all_kept (λ c. not (drops x c.command && false)) (λ c. ap not (and_false (drops x c.command))) cs
+kept_so x (Some unit) cs =
+    same_kept (λ c. not (drops x c.command && true)) (λ c. not (drops x c.command))
+    (λ c. ap not (and_true (drops x c.command))) cs
 
--- those that wait behind a request are those that its answer tells of
-pub kept_is : (units : ℕ) (cs : List Collecting) (x : ManagementHeader) (call : Option Asking) (response : Option ℕ)
-    (kept : List Collecting)
-    (n : Numbers) → IsManaged units cs x call response kept → filter (keeps x (management_answer n x response)) cs ≡ kept
-kept_is units cs x call response kept n k =
-    by_unit x n cs (there units k.comes_to.unit) call response
-    (subst (λ (m : Management). IsManagedBy m call response) k.comes_to.is k.managed)
-    ∙ sym k.comes_to.kept_is
+-- those that wait behind a request are those that it does not drop
+pub kept_is : (units : ℕ) (cs : List Collecting) (x : ManagementHeader) (m : Management) (kept : List Collecting)
+    → IsManagement units cs x m kept → filter (keeps units x) cs ≡ kept
+kept_is units cs x m kept k =
+    ap (λ (b : Bool). filter (λ c. not (drops x c.command && b)) cs) (found_is units x.lun k.unit k.names)
+    ∙ kept_so x (there units k.unit) cs ∙ sym k.kept_is

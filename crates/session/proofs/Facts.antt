@@ -20,9 +20,8 @@ use Rattle.iscsi_pdu.specs.declared.header.InitiatorHeader.TheVariants.{NopOut, 
 use Rattle.iscsi_pdu.specs.declared.header.InitiatorHeader.TheVariants.{TaskManagementRequest, TextRequest, LogoutRequest}
 use Rattle.iscsi_pdu.specs.declared.header.TargetHeader.TheVariants.{R2t}
 use Rattle.session.specs.declared.response.Completion.{Completion}
-use Rattle.session.specs.declared.response.TheConstants.{COMPLETED, TARGET_FAILURE}
 use Rattle.session.specs.declared.target.TargetAnswer.{TargetAnswer}
-use Rattle.session.specs.declared.target.TargetAnswer.TheVariants.{Replied, Outside, Busy, Gone, Halted}
+use Rattle.session.specs.declared.target.TargetAnswer.TheVariants.{Replied, Outside, Busy, Gone}
 use Rattle.session.specs.declared.verdict.Verdict.{Verdict}
 use Rattle.session.specs.declared.verdict.Verdict.TheVariants.{Accepted, Full, Ignored, Gap, Refused}
 use Rattle.session.specs.Asking.{Asking, served}
@@ -36,14 +35,14 @@ use Rattle.session.specs.Slots.{fed}
 use Rattle.session.specs.Requests.{IsRequestAnswered}
 use Rattle.session.specs.Verdict.{IsJudged}
 use Rattle.session.specs.Transfer.{expected_transfer, transfer_of, sent_data}
-use Rattle.session.specs.Answered.{Outcome, by_target, no_buffer, set_full, outcome_of, command_at, Answered, answered_by, answered_in, IsServed, IsCalled, outcome_data}
+use Rattle.session.specs.Answered.{Outcome, by_target, no_buffer, set_full, outcome_uncalled, outcome_of, command_at, Answered, answered_by, answered_in, IsServed, IsCalled, outcome_data}
 use Rattle.session.specs.Response.{HasOneResponse, IsAnsweredAs, IsToldAs, sense_part}
 use Rattle.session.specs.DataIn.{data_ins, Tiles}
-use Rattle.session.specs.Legal.{IsOfCommand, IsRejected}
+use Rattle.session.specs.Legal.{IsOfCommand, IsSentFor}
 use Rattle.session.specs.Counters.{Counters, after_status, after_command, after_collecting, after_r2t, next_numbers}
 use Rattle.session.specs.AnswerPdus.{data_ins_for, response_for, reply_with, busy, task_set_full}
 use Rattle.session.specs.MachineTurn.{TurnOnAnswer, TurnAsks, TurnOpened, calls, asks, turns_away, TurnFed, fills, asks_on, calls_now, TurnOnAccepted, TurnOnFullPdu, TurnOnVerdict}
-use Rattle.session.proofs.Segments.{outs_of, outs_windows, outs_statuses, outs_responses, outs_front, outs_count, outs_kinds, outs_r2ts, outs_ended, outs_tiled, no_segment}
+use Rattle.session.proofs.Segments.{outs_of, outs_windows, outs_statuses, outs_responses, outs_front, outs_count, outs_kinds, outs_data, outs_r2ts, outs_ended, outs_tiled, no_segment}
 
 abbrev none_data : List ℕ
 none_data = []
@@ -55,8 +54,8 @@ take_none : (n : ℕ) → take n none_data ≡ none_data
 take_none zero = refl
 take_none (suc n) = refl
 
-abbrev told : ℕ → Status → Option Sense → Completion
-told response status sense = record { response = response; status = status; sense = sense }
+abbrev told : Status → Option Sense → Completion
+told status sense = record { status = status; sense = sense }
 
 -- ---- a command is answered: by what is known of the turn, and by the PDUs that go out
 
@@ -65,7 +64,7 @@ record IsTurnOf (s m : Counters) (came : Incoming) (v : Verdict) (call : Option 
   judged : IsJudged s.setting s.standing came v
   who : command_at s.standing came ≡ Some p
   called : IsCalled s.setting s.standing v came call
-  kinds : (outs : List Out) → AllByRecursion (λ o. IsOfCommand o.header) outs → r2ts_of outs ≡ [] → IsRejected v came outs
+  kinds : (outs : List Out) → AllByRecursion (λ o. IsOfCommand o.header) outs → r2ts_of outs ≡ [] → IsSentFor v came outs
   no_request : (outs : List Out) → IsRequestAnswered s.setting s.standing v came call outs
   setting : m.setting ≡ s.setting
   status : m.stat_sn ≡ s.stat_sn
@@ -109,7 +108,7 @@ module _ (s m : Counters) (came : Incoming) (v : Verdict) (call : Option Asking)
     no_r2ts : r2ts_of the_outs ≡ []
     no_r2ts = outs_r2ts m.standing p.task_tag m.setting.start.lengths sent_bytes the_response sense (length sent_bytes) 0 0
 
-    reply_facts : outcome_of v call the_outs ≡ Some outcome → (HasOneResponse p the_outs → IsAnsweredAs p outcome the_outs)
+    reply_facts : outcome_of v came call the_outs ≡ Some outcome → (HasOneResponse p the_outs → IsAnsweredAs p outcome the_outs)
         → IsToldAs outcome the_response sense → TurnFacts s (after_status m) came v call the_outs
     reply_facts outcome_is answered told =
         let responses_are = outs_responses m.standing p.task_tag m.setting.start.lengths sent_bytes the_response sense
@@ -143,9 +142,11 @@ module _ (s m : Counters) (came : Incoming) (v : Verdict) (call : Option Asking)
             ),
           );
           told = rw (who, responses_are) (told, tt);
-          rejected = t.kinds the_outs
+          kinds = t.kinds the_outs
               (outs_kinds m.standing p.task_tag m.setting.start.lengths sent_bytes the_response sense
               (length sent_bytes) 0 0) no_r2ts;
+          carried = outs_data m.standing p.task_tag m.setting.start.lengths sent_bytes the_response sense s.setting came
+              (completion.sense, refl) (length sent_bytes) 0 0;
           requests = t.no_request the_outs;
           setting_is = t.setting;
           commands = t.commands;
@@ -166,7 +167,7 @@ module _ (s m : Counters) (came : Incoming) (v : Verdict) (call : Option Asking)
   abbrev gone_answered : Answered
   gone_answered = record { command = p; outcome = by_target Gone; own = [] }
 
-  gone_facts : outcome_of v call [] ≡ Some (by_target Gone) → TurnFacts s m came v call []
+  gone_facts : outcome_of v came call [] ≡ Some (by_target Gone) → TurnFacts s m came v call []
   gone_facts outcome_is =
       let who : answered_in s.standing came v call [] ≡ Some gone_answered =
       ap₂ (λ (o : Option CommandHeader) (w : Option Outcome). answered_by w o []) t.who outcome_is in
@@ -180,7 +181,8 @@ module _ (s m : Counters) (came : Incoming) (v : Verdict) (call : Option Asking)
         counted = rw who tt;
         residual = rw who (asked, means, tt);
         told = rw who tt;
-        rejected = t.kinds [] tt refl;
+        kinds = t.kinds [] tt refl;
+        carried = tt;
         requests = t.no_request [];
         setting_is = t.setting;
         commands = t.commands;
@@ -191,42 +193,40 @@ module _ (s m : Counters) (came : Incoming) (v : Verdict) (call : Option Asking)
   -- by the target's answer
   known : v ≡ Accepted → (answer : TargetAnswer) (unit : Option ℕ) (wants : Result Command CdbFault) (bytes : List ℕ)
       → call ≡ Some (served unit wants bytes answer)
-      → (o : List Out) → outcome_of v call o ≡ Some (by_target answer)
-  known accepted answer unit wants bytes is o = ap₂ (λ (w : Verdict) (c : Option Asking). outcome_of w c o) accepted is
+      → (o : List Out) → outcome_of v came call o ≡ Some (by_target answer)
+  known accepted answer unit wants bytes is o = ap₂ (λ (w : Verdict) (c : Option Asking). outcome_of w came c o) accepted is
 
   by_target_facts : v ≡ Accepted
       → (answer : TargetAnswer) (unit : Option ℕ) (wants : Result Command CdbFault) (bytes : List ℕ)
       → call ≡ Some (served unit wants bytes answer)
       → (outs : List Out) (s' : Counters) → TurnOnAnswer m p (need_of asked) answer outs s' → TurnFacts s s' came v call outs
   by_target_facts accepted (Replied a) unit wants bytes is outs s' k =
-      moved refl k.0 k.1 (reply_facts (by_target (Replied a)) (told COMPLETED a.status a.sense)
+      moved refl k.0 k.1 (reply_facts (by_target (Replied a)) (told a.status a.sense)
       (known accepted (Replied a) unit wants bytes is _) (λ o. o)
       (record { response = refl; status_is = refl; sense_is = refl }))
   by_target_facts accepted (Outside a) unit wants bytes is outs s' k =
-      moved refl k.0 k.1 (reply_facts (by_target (Outside a)) (told COMPLETED a.status a.sense)
+      moved refl k.0 k.1 (reply_facts (by_target (Outside a)) (told a.status a.sense)
       (known accepted (Outside a) unit wants bytes is _) (λ o. o)
       (record { response = refl; status_is = refl; sense_is = refl }))
   by_target_facts accepted Busy unit wants bytes is outs s' k =
       moved refl k.0 k.1 (reply_facts (by_target Busy) busy (known accepted Busy unit wants bytes is _) (λ o. o)
       (record { response = refl; status_is = refl; sense_is = refl }))
-  by_target_facts accepted Halted unit wants bytes is outs s' k =
-      moved refl k.0 k.1 (reply_facts (by_target Halted) (told TARGET_FAILURE statuses.Good None)
-      (known accepted Halted unit wants bytes is _) (λ o. o)
-      (record { response = refl; status_is = refl; sense_is = refl }))
   by_target_facts accepted Gone unit wants bytes is outs s' k =
       moved refl k.0 k.1 (gone_facts (known accepted Gone unit wants bytes is []))
 
   -- without a call: there was no buffer, or the task set is full
-  no_buffer_facts : v ≡ Accepted → call ≡ None → (outs : List Out) (s' : Counters)
+  no_buffer_facts : v ≡ Accepted → call ≡ None
+      → ((outs : List Out)
+      → outcome_uncalled came outs ≡ (if list_any (λ o. is_response o.header) outs then Some no_buffer else None)) → (outs : List Out) (s' : Counters)
       → outs ≡ reply_with m p (need_of asked) [] busy → s' ≡ after_status m
       → TurnFacts s s' came v call outs
-  no_buffer_facts accepted none outs s' is next =
+  no_buffer_facts accepted none own_turn outs s' is next =
       let ended : list_any (λ o. is_response o.header) (the_outs no_buffer busy) ≡ true =
       outs_ended m.standing p.task_tag m.setting.start.lengths (sent_bytes no_buffer busy)
       (the_response no_buffer busy) (sense no_buffer busy) (length (sent_bytes no_buffer busy)) 0 0 in
-      let outcome_is : outcome_of v call (the_outs no_buffer busy) ≡ Some no_buffer =
-      ap₂ (λ (w : Verdict) (c : Option Asking). outcome_of w c (the_outs no_buffer busy)) accepted none
-      ∙ ap (λ (b : Bool). if b then Some no_buffer else None) ended in
+      let outcome_is : outcome_of v came call (the_outs no_buffer busy) ≡ Some no_buffer =
+      ap₂ (λ (w : Verdict) (c : Option Asking). outcome_of w came c (the_outs no_buffer busy)) accepted none
+      ∙ own_turn (the_outs no_buffer busy) ∙ ap (λ (b : Bool). if b then Some no_buffer else None) ended in
       moved refl is next (reply_facts no_buffer busy outcome_is (λ o. o)
       (record { response = refl; status_is = refl; sense_is = refl }))
 
@@ -235,17 +235,17 @@ module _ (s m : Counters) (came : Incoming) (v : Verdict) (call : Option Asking)
       → TurnFacts s s' came v call outs
   full_facts full outs s' is next =
       moved refl is next (reply_facts set_full task_set_full
-      (ap (λ (w : Verdict). outcome_of w call (the_outs set_full task_set_full)) full) (λ o. o)
+      (ap (λ (w : Verdict). outcome_of w came call (the_outs set_full task_set_full)) full) (λ o. o)
       (record { response = refl; status_is = refl; sense_is = refl }))
 
   -- nothing, or the next R2T, goes out
-  waits_facts : (s' : Counters) → v ≡ Accepted → call ≡ None → s'.setting ≡ s.setting → s'.stat_sn ≡ s.stat_sn
+  waits_facts : (s' : Counters) → v ≡ Accepted → call ≡ None → outcome_uncalled came [] ≡ None → s'.setting ≡ s.setting → s'.stat_sn ≡ s.stat_sn
       → s'.standing.exp_cmd_sn ≡ m.standing.exp_cmd_sn
       → s'.standing.transfer_tag ≡ s.standing.transfer_tag → TurnFacts s s' came v call []
-  waits_facts s' accepted none setting_same status_same cmd tag_same =
+  waits_facts s' accepted none unanswered setting_same status_same cmd tag_same =
       let who : answered_in s.standing came v call [] ≡ None =
       ap₂ (λ (o : Option CommandHeader) (w : Option Outcome). answered_by w o []) t.who
-      (ap₂ (λ (w : Verdict) (c : Option Asking). outcome_of w c []) accepted none) in
+      (ap₂ (λ (w : Verdict) (c : Option Asking). outcome_of w came c []) accepted none ∙ unanswered) in
       record {
         judged = t.judged;
         windows = tt;
@@ -256,7 +256,8 @@ module _ (s m : Counters) (came : Incoming) (v : Verdict) (call : Option Asking)
         counted = rw who tt;
         residual = rw who tt;
         told = rw who tt;
-        rejected = t.kinds [] tt refl;
+        kinds = t.kinds [] tt refl;
+        carried = tt;
         requests = t.no_request [];
         setting_is = setting_same;
         commands = rw cmd t.commands;
@@ -267,7 +268,8 @@ module _ (s m : Counters) (came : Incoming) (v : Verdict) (call : Option Asking)
 module _ (s n s' : Counters) (came : Incoming) (call : Option Asking) (p : CommandHeader) (next : R2tHeader)
     (judged : IsJudged s.setting s.standing came Accepted) (who : command_at s.standing came ≡ Some p)
     (called : IsCalled s.setting s.standing Accepted came call) (none : call ≡ None)
-    (kinds : (outs : List Out) → AllByRecursion (λ o. IsOfCommand o.header) outs → IsRejected Accepted came outs)
+    (unanswered : outcome_uncalled came (record { header = R2t next; bytes = [] } ∷ []) ≡ None)
+    (kinds : (outs : List Out) → AllByRecursion (λ o. IsOfCommand o.header) outs → IsSentFor Accepted came outs)
     (no_request : (outs : List Out) → IsRequestAnswered s.setting s.standing Accepted came call outs)
     (setting : n.setting ≡ s.setting) (status : n.stat_sn ≡ s.stat_sn)
     (tag : n.standing.transfer_tag ≡ s.standing.transfer_tag)
@@ -280,7 +282,7 @@ module _ (s n s' : Counters) (came : Incoming) (call : Option Asking) (p : Comma
       let out : Out = record { header = R2t next; bytes = [] } in
       let nobody : answered_in s.standing came Accepted call (out ∷ []) ≡ None =
       ap₂ (λ (o : Option CommandHeader) (w : Option Outcome). answered_by w o (out ∷ [])) who
-      (ap (λ (c : Option Asking). outcome_of Accepted c (out ∷ [])) none) in
+      (ap (λ (c : Option Asking). outcome_of Accepted came c (out ∷ [])) none ∙ unanswered) in
       moved refl k.outs_are after (record {
         judged = judged;
         windows = (rw k.numbers (record { expects = refl; reaches = refl }), tt);
@@ -298,7 +300,8 @@ module _ (s n s' : Counters) (came : Incoming) (call : Option Asking) (p : Comma
         counted = rw nobody tt;
         residual = rw nobody tt;
         told = rw nobody tt;
-        rejected = kinds (out ∷ []) (tt, tt);
+        kinds = kinds (out ∷ []) (tt, tt);
+        carried = (refl, tt);
         requests = no_request (out ∷ []);
         setting_is = setting;
         commands = commands;
@@ -357,10 +360,10 @@ opened_facts s s' b p d call outs asked means judged (calls h k) =
     (command_turn s b p d call (served_is k.call_is) judged) refl k.answer _ _ _ k.call_is outs s' k.answered
 opened_facts s s' b p d call outs asked means judged (asks h next k after) =
     asks_facts s _ s' (pdu b (Initiator (ScsiCommand p)) d) call p next judged refl (none_is k.no_call) k.no_call
-    (λ os all. all) (λ os. tt) refl refl refl (commands_of p.immediate s.standing.exp_cmd_sn) _ _ _ outs k after
+    refl (λ os all. all) (λ os. tt) refl refl refl (commands_of p.immediate s.standing.exp_cmd_sn) _ _ _ outs k after
 opened_facts s s' b p d call outs asked means judged (turns_away h k) =
     no_buffer_facts s (after_command p s) _ Accepted call p asked means
-    (command_turn s b p d call (none_is k.no_call) judged) refl k.no_call outs s' k.outs_are k.next_is
+    (command_turn s b p d call (none_is k.no_call) judged) refl k.no_call (λ os. refl) outs s' k.outs_are k.next_is
 
 fed_facts : (s s' : Counters) (b : List ℕ) (x : DataOutHeader) (d : List ℕ) (call : Option Asking) (outs : List Out)
     (front : List Collecting) (this : Collecting) (back : List Collecting) (end : ℕ)
@@ -373,10 +376,10 @@ fed_facts s s' b x d call outs front this back end asked means judged found (fil
     moved refl k.outs_are k.next_is
     (waits_facts s s _ Accepted call this.command asked means
     (data_turn s b x d call this s.standing.collecting (none_is k.no_call) judged found)
-    (after_collecting (front ++ (fed this d ∷ back)) s) refl k.no_call refl refl refl refl)
+    (after_collecting (front ++ (fed this d ∷ back)) s) refl k.no_call refl refl refl refl refl)
 fed_facts s s' b x d call outs front this back end asked means judged found (asks_on all short next k after) =
     asks_facts s _ s' (pdu b (Initiator (DataOut x)) d) call this.command next judged
-    (ap (option_map (λ (c : Collecting). c.command)) found) (none_is k.no_call) k.no_call (λ os all. all)
+    (ap (option_map (λ (c : Collecting). c.command)) found) (none_is k.no_call) k.no_call refl (λ os all. all)
     (λ os. tt) refl refl refl (inl (refl, refl)) _ _ _ outs k after
 fed_facts s s' b x d call outs front this back end asked means judged found (calls_now h k) =
     by_target_facts s _ _ Accepted call this.command asked means
@@ -427,7 +430,8 @@ made_facts s s' came Ignored call outs judged k = moved k.no_call k.outs_are k.n
   counted = tt;
   residual = tt;
   told = tt;
-  rejected = refl;
+  kinds = refl;
+  carried = tt;
   requests = tt;
   setting_is = refl;
   commands = inl (refl, refl);
@@ -444,7 +448,8 @@ made_facts s s' came Gap call outs judged k = moved k.no_call k.outs_are k.next_
   counted = tt;
   residual = tt;
   told = tt;
-  rejected = refl;
+  kinds = refl;
+  carried = tt;
   requests = tt;
   setting_is = refl;
   commands = inl (refl, refl);
@@ -461,7 +466,8 @@ made_facts s s' came (Refused reason) call outs judged k = moved k.no_call k.out
   counted = tt;
   residual = tt;
   told = tt;
-  rejected = (next_numbers s, refl);
+  kinds = (next_numbers s, refl);
+  carried = (refl, tt);
   requests = tt;
   setting_is = refl;
   commands = inl (refl, refl);

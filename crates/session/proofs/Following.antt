@@ -12,7 +12,7 @@ use Rattle.iscsi_pdu.specs.declared.header.ScsiCommand.{ScsiCommand as CommandHe
 use Rattle.session.specs.declared.lengths.Lengths.{Lengths}
 use Rattle.session.specs.Setting.{Setting}
 use Rattle.session.specs.declared.target.TargetAnswer.{TargetAnswer}
-use Rattle.session.specs.declared.target.TargetAnswer.TheVariants.{Replied, Outside, Busy, Gone, Halted}
+use Rattle.session.specs.declared.target.TargetAnswer.TheVariants.{Replied, Outside, Busy, Gone}
 use Rattle.session.specs.declared.verdict.Verdict.{Verdict}
 use Rattle.session.specs.declared.verdict.Verdict.TheVariants.{Accepted, Full, Ignored, Gap, Refused}
 use Rattle.scsi_types.specs.declared.command.Command.{Command}
@@ -51,7 +51,6 @@ answered_length : (p : CommandHeader) (a : TargetAnswer) (own : List Out) → Is
 answered_length p (Replied r) own k = omega (arith, one_length p own k)
 answered_length p (Outside r) own k = omega (arith, one_length p own k)
 answered_length p Busy own k = omega (arith, one_length p own k)
-answered_length p Halted own k = omega (arith, one_length p own k)
 answered_length p Gone own k = omega (arith, ap length k)
 
 outcome_length : (p : CommandHeader) (outcome : Outcome) (own : List Out) → IsAnsweredAs p outcome own
@@ -72,22 +71,22 @@ turn_count (Some outcome) (Some p) own k = outcome_length p outcome own k
 pub answered_once : (setting : Setting) (ts : List Turn) → Lawful setting ts
     → AtEach (λ before t. length (responses t.sent) ≤ 1) ts
 answered_once setting ts l before t behind e =
-    turn_count (outcome_of t.verdict t.call t.sent) (command_at (standing setting.start before) t.came) t.sent
+    turn_count (outcome_of t.verdict t.came t.call t.sent) (command_at (standing setting before) t.came) t.sent
     (l.answered before t behind e)
 
-turn_unaccepted : (v : Verdict) (call : Option Asking) (p : Option CommandHeader) (own : List Out)
-    → IsAnsweredTask (answered_by (outcome_of v call own) p own) own → (v ≡ Accepted → ⊥) → (v ≡ Full → ⊥)
+turn_unaccepted : (v : Verdict) (came : Incoming) (call : Option Asking) (p : Option CommandHeader) (own : List Out)
+    → IsAnsweredTask (answered_by (outcome_of v came call own) p own) own → (v ≡ Accepted → ⊥) → (v ≡ Full → ⊥)
     → responses own ≡ []
-turn_unaccepted Accepted call p own k never full = absurd (never refl)
-turn_unaccepted Full call p own k never full = absurd (full refl)
-turn_unaccepted Ignored call p own k never full = k
-turn_unaccepted Gap call p own k never full = k
-turn_unaccepted (Refused reason) call p own k never full = k
+turn_unaccepted Accepted came call p own k never full = absurd (never refl)
+turn_unaccepted Full came call p own k never full = absurd (full refl)
+turn_unaccepted Ignored came call p own k never full = k
+turn_unaccepted Gap came call p own k never full = k
+turn_unaccepted (Refused reason) came call p own k never full = k
 
 pub unaccepted : (setting : Setting) (ts : List Turn) → Lawful setting ts
     → AtEach (λ before t. (t.verdict ≡ Accepted → ⊥) → (t.verdict ≡ Full → ⊥) → responses t.sent ≡ []) ts
 unaccepted setting ts l before t behind e never full =
-    turn_unaccepted t.verdict t.call (command_at (standing setting.start before) t.came) t.sent
+    turn_unaccepted t.verdict t.came t.call (command_at (standing setting before) t.came) t.sent
     (l.answered before t behind e) never full
 
 -- ---- one response at most in all turns of a command
@@ -149,18 +148,18 @@ all_filter test (t ∷ us) all = one (test t) (all_filter test us all.1) where
   one true rest = (all.0, rest)
   one false rest = rest
 
-begun_once : (c : Option (CommandHeader × List ℕ)) (t : Turn) (behind : List Turn) (ks : List Task) → HasOneAtMost t
+begun_once : (units : ℕ) (c : Option (CommandHeader × List ℕ)) (t : Turn) (behind : List Turn) (ks : List Task) → HasOneAtMost t
     → AllByRecursion HasOneAtMost behind → AllByRecursion (λ k. length (responses (sent k.own)) ≤ 1) ks
-    → AllByRecursion (λ k. length (responses (sent k.own)) ≤ 1) (cons_option (begun_by c t behind) ks)
-begun_once None t behind ks here all rest = rest
-begun_once (Some c) t behind ks here all rest =
-    (through_one (t ∷ filter (touches c.0) behind) (here, all_filter (touches c.0) behind all), rest)
+    → AllByRecursion (λ k. length (responses (sent k.own)) ≤ 1) (cons_option (begun_by units c t behind) ks)
+begun_once units None t behind ks here all rest = rest
+begun_once units (Some c) t behind ks here all rest =
+    (through_one (t ∷ filter (touches units c.0) behind) (here, all_filter (touches units c.0) behind all), rest)
 
-tasks_once : (ts : List Turn) → AllByRecursion HasOneAtMost ts
-    → AllByRecursion (λ k. length (responses (sent k.own)) ≤ 1) (tasks ts)
-tasks_once [] all = tt
-tasks_once (t ∷ behind) all =
-    begun_once (accepted_command t.verdict t.came) t behind (tasks behind) all.0 all.1 (tasks_once behind all.1)
+tasks_once : (units : ℕ) (ts : List Turn) → AllByRecursion HasOneAtMost ts
+    → AllByRecursion (λ k. length (responses (sent k.own)) ≤ 1) (tasks units ts)
+tasks_once units [] all = tt
+tasks_once units (t ∷ behind) all =
+    begun_once units (accepted_command t.verdict t.came) t behind (tasks units behind) all.0 all.1 (tasks_once units behind all.1)
 
 each_of_all : (ts : List Turn) → AtEach (λ before t. HasOneAtMost t) ts → AllByRecursion HasOneAtMost ts
 each_of_all [] each = tt
@@ -171,8 +170,8 @@ each_of_all (t ∷ ts) each = (
 )
 
 pub command_once : (setting : Setting) (ts : List Turn) → Lawful setting ts
-    → AllByRecursion (λ k. length (responses (sent k.own)) ≤ 1) (tasks ts)
-command_once setting ts l = tasks_once ts (each_of_all ts (answered_once setting ts l))
+    → AllByRecursion (λ k. length (responses (sent k.own)) ≤ 1) (tasks setting.units ts)
+command_once setting ts l = tasks_once setting.units ts (each_of_all ts (answered_once setting ts l))
 
 -- ---- the data of a read
 
@@ -193,7 +192,7 @@ pub read_data : (setting : Setting) (ts : List Turn) → Lawful setting ts
     → AtEach (λ before t. (p : CommandHeader) (answer : TargetAnswer) → IsCallTurn t p answer → IsTrue p.read
     → joined_data (data_ins t.sent) ≡ take p.expected_length (reply_data answer)) ts
 read_data setting ts l before t behind e p answer is reads =
-    turn_data setting.start.lengths (standing setting.start before) t.verdict t.came t.call t.sent is.bhs p is.segment
+    turn_data setting.start.lengths (standing setting before) t.verdict t.came t.call t.sent is.bhs p is.segment
     is.unit is.asked is.bytes answer is.accepted is.came is.called reads (l.tiled before t behind e)
 
 pub read_size : (setting : Setting) (ts : List Turn) → Lawful setting ts

@@ -14,7 +14,7 @@ use Rattle.iscsi_pdu.specs.declared.header.InitiatorHeader.TheVariants.{NopOut, 
 use Rattle.iscsi_pdu.specs.declared.header.InitiatorHeader.TheVariants.{TaskManagementRequest, TextRequest, LogoutRequest}
 use Rattle.session.specs.declared.lengths.Lengths.{Lengths}
 use Rattle.session.specs.declared.target.TargetAnswer.{TargetAnswer}
-use Rattle.session.specs.declared.target.TargetAnswer.TheVariants.{Replied, Outside, Busy, Gone, Halted}
+use Rattle.session.specs.declared.target.TargetAnswer.TheVariants.{Replied, Outside, Busy, Gone}
 use Rattle.session.specs.declared.verdict.Verdict.{Verdict}
 use Rattle.session.specs.declared.verdict.Verdict.TheVariants.{Accepted, Full, Ignored, Gap, Refused}
 use Rattle.session.specs.declared.verdict.TheConstants.{RESERVED_TAG}
@@ -30,7 +30,6 @@ use Rattle.session.specs.Verdict.{IsJudged, is_refused, unless_full, verdict_of,
 use Rattle.session.specs.AnswerPdus.{reply_with, busy}
 use Rattle.session.specs.Response.{sense_part}
 use Rattle.session.specs.declared.response.Completion.{Completion}
-use Rattle.session.specs.declared.response.TheConstants.{TARGET_FAILURE}
 use Rattle.scsi_types.specs.declared.status.Status.TheVariants as statuses
 use Rattle.session.specs.Counters.{Counters, after_number, after_command, after_collecting, after_answer, next_numbers}
 use Rattle.session.specs.Nop.{nop_answer}
@@ -57,9 +56,6 @@ module _ (m : Counters) (p : CommandHeader) (need : ℕ) (bytes : List ℕ) (com
 abbrev Ends : Option Asking → List Out → Type 0
 Ends call outs = (r2ts_of outs ≡ []) × ((list_any (λ o. is_response o.header) outs ≡ true) ⊎ (finds_gone call ≡ true))
 
-abbrev halted : Completion
-halted = record { response = TARGET_FAILURE; status = statuses.Good; sense = None }
-
 answered_ends : (m : Counters) (p : CommandHeader) (need : ℕ) (answer : TargetAnswer) (call : Option Asking)
     (unit : Option ℕ) (wants : Result Command CdbFault)
     (bytes : List ℕ) (outs : List Out) (s' : Counters) → call ≡ Some (served unit wants bytes answer)
@@ -70,8 +66,6 @@ answered_ends m p need (Outside a) call unit wants bytes outs s' e k =
     rw k.0 (no_r2ts m p need a.bytes _, inl (is_ended m p need a.bytes _))
 answered_ends m p need Busy call unit wants bytes outs s' e k =
     rw k.0 (no_r2ts m p need [] busy, inl (is_ended m p need [] busy))
-answered_ends m p need Halted call unit wants bytes outs s' e k =
-    rw k.0 (no_r2ts m p need [] halted, inl (is_ended m p need [] halted))
 answered_ends m p need Gone call unit wants bytes outs s' e k = rw k.0 (refl, inr (rw e refl))
 
 keeps_waiting : (m : Counters) (p : CommandHeader) (need : ℕ) (answer : TargetAnswer) (outs : List Out) (s' : Counters)
@@ -79,7 +73,6 @@ keeps_waiting : (m : Counters) (p : CommandHeader) (need : ℕ) (answer : Target
 keeps_waiting m p need (Replied a) outs s' r = ap (λ (z : Counters). z.standing.collecting) r.1
 keeps_waiting m p need (Outside a) outs s' r = ap (λ (z : Counters). z.standing.collecting) r.1
 keeps_waiting m p need Busy outs s' r = ap (λ (z : Counters). z.standing.collecting) r.1
-keeps_waiting m p need Halted outs s' r = ap (λ (z : Counters). z.standing.collecting) r.1
 keeps_waiting m p need Gone outs s' r = ap (λ (z : Counters). z.standing.collecting) r.1
 
 called_now : (m : Counters) (p : CommandHeader) (asked : Result Command CdbFault) (bytes : List ℕ)
@@ -217,19 +210,19 @@ module _ (s s' : Counters) (some : 0 < s.setting.start.lengths.burst) (ks : List
   Keeps came v call outs =
       let t : Turn = record { came = came; verdict = v; call = call; sent = outs } in
       IsKept s.setting.start.lengths.burst
-      (map (extended t) ks ++ option_to_list (begun_by (accepted_command v came) t [])) s'.standing.collecting
+      (map (extended s.setting.units t) ks ++ option_to_list (begun_by s.setting.units (accepted_command v came) t [])) s'.standing.collecting
 
   quiet : (came : Incoming) (v : Verdict) (call : Option Asking) (outs : List Out) → accepted_command v came ≡ None
-      → ((p : CommandHeader) → touches p (record { came = came; verdict = v; call = call; sent = outs }) ≡ false)
+      → ((p : CommandHeader) → touches s.setting.units p (record { came = came; verdict = v; call = call; sent = outs }) ≡ false)
       → s'.standing.collecting ≡ s.standing.collecting
       → Keeps came v call outs
   quiet came v call outs none untouched same =
       let t : Turn = record { came = came; verdict = v; call = call; sent = outs } in
       subst₂ (λ (o : Option (CommandHeader × List ℕ)) (cs : List Collecting). IsKept s.setting.start.lengths.burst
-      (map (extended t) ks ++ option_to_list (begun_by o t [])) cs) (sym none) (sym same)
+      (map (extended s.setting.units t) ks ++ option_to_list (begun_by s.setting.units o t [])) cs) (sym none) (sym same)
       (subst (λ (z : List Task). IsKept s.setting.start.lengths.burst z s.standing.collecting)
-      (sym (append-nil (map (extended t) ks)))
-      (nothing_comes s.setting.start.lengths.burst some ks s.standing.collecting kept t untouched))
+      (sym (append-nil (map (extended s.setting.units t) ks)))
+      (nothing_comes s.setting.units s.setting.start.lengths.burst some ks s.standing.collecting kept t untouched))
 
   accepted_keeps : (came : Incoming) (call : Option Asking) (outs : List Out) → IsJudged s.setting s.standing came Accepted
       → TurnOnAccepted came s call outs s' → Keeps came Accepted call outs
@@ -237,18 +230,18 @@ module _ (s s' : Counters) (some : 0 < s.setting.start.lengths.burst) (ks : List
       let t : Turn = record { came = pdu b (Initiator (ScsiCommand p)) d; verdict = Accepted; call = call; sent = outs } in
       let o = opened_now s s' p k.asked d call outs k.by in
       subst (λ (cs : List Collecting). IsKept s.setting.start.lengths.burst
-      (map (extended t) ks ++ option_to_list (begun_by (Some (p, d)) t [])) cs) (sym o.2)
+      (map (extended s.setting.units t) ks ++ option_to_list (begun_by s.setting.units (Some (p, d)) t [])) cs) (sym o.2)
       (subst (λ (own : List Turn). IsKept s.setting.start.lengths.burst
-      (map (extended t) ks ++ record { command = p; segment = d; own = own } ∷ []) (s.standing.collecting ++ o.0))
+      (map (extended s.setting.units t) ks ++ record { command = p; segment = d; own = own } ∷ []) (s.standing.collecting ++ o.0))
       (sym (no_more ends t (ends t)))
-      (command_comes s.setting.start.lengths.burst some ks s.standing.collecting kept b p d k.asked k.asked_by.means
+      (command_comes s.setting.units s.setting.start.lengths.burst some ks s.standing.collecting kept b p d k.asked k.asked_by.means
       call outs o.0 (fresh_tag s.setting s.standing p d judged) o.1))
   accepted_keeps (pdu b (Initiator (DataOut x)) d) call outs judged k =
       let t : Turn = record { came = pdu b (Initiator (DataOut x)) d; verdict = Accepted; call = call; sent = outs } in
       let o = fed_now s s' k.front k.this k.back k.asked d _ call outs k.by in
       subst (λ (z : List Task). IsKept s.setting.start.lengths.burst z s'.standing.collecting)
-      (sym (append-nil (map (extended t) ks)))
-      (data_comes s.setting.start.lengths.burst some ks s.standing.collecting kept b x d call outs
+      (sym (append-nil (map (extended s.setting.units t) ks)))
+      (data_comes s.setting.units s.setting.start.lengths.burst some ks s.standing.collecting kept b x d call outs
       s'.standing.collecting (record {
         front = k.front;
         this = k.this;
@@ -288,14 +281,13 @@ module _ (s s' : Counters) (some : 0 < s.setting.start.lengths.burst) (ks : List
       let mid : Counters = after_collecting k.kept (after_number x.immediate s) in
       let waiting : s'.standing.collecting ≡ k.kept = ap (λ (z : Counters). z.standing.collecting) k.turned.next_is
       ∙ answer_keeps (management_answer (next_numbers mid) x k.response) mid in
-      let dropped : filter (keeps x outs) s.standing.collecting ≡ k.kept =
-      ap (λ (z : List Out). filter (keeps x z) s.standing.collecting) k.turned.outs_are
-      ∙ kept_is s.setting.units s.standing.collecting x call k.response k.kept (next_numbers mid) k.managed in
+      let dropped : filter (keeps s.setting.units x) s.standing.collecting ≡ k.kept =
+      kept_is s.setting.units s.standing.collecting x k.managed.management k.kept k.managed.comes_to in
       subst (λ (z : List Task). IsKept s.setting.start.lengths.burst z s'.standing.collecting)
-      (sym (append-nil (map (extended t) ks)))
-      (subst (λ (cs : List Collecting). IsKept s.setting.start.lengths.burst (map (extended t) ks) cs)
+      (sym (append-nil (map (extended s.setting.units t) ks)))
+      (subst (λ (cs : List Collecting). IsKept s.setting.start.lengths.burst (map (extended s.setting.units t) ks) cs)
       (dropped ∙ sym waiting)
-      (management_comes s.setting.start.lengths.burst some ks s.standing.collecting kept b x d call outs
+      (management_comes s.setting.units s.setting.start.lengths.burst some ks s.standing.collecting kept b x d call outs
       (subst (λ (z : List Out). r2ts_of z ≡ []) (sym k.turned.outs_are)
       (no_r2t_managed (next_numbers mid) x k.response))))
   accepted_keeps came call outs judged k = absurd k
@@ -321,9 +313,9 @@ module _ (s s' : Counters) (some : 0 < s.setting.start.lengths.burst) (ks : List
 
 -- the tasks behind a turn more, and those that wait
 pub kept_more : (s s' : Counters) (some : 0 < s.setting.start.lengths.burst) (ts : List Turn) (t : Turn)
-    → IsKept s.setting.start.lengths.burst (tasks ts) s.standing.collecting
+    → IsKept s.setting.start.lengths.burst (tasks s.setting.units ts) s.standing.collecting
     → IsJudged s.setting s.standing t.came t.verdict → TurnOnVerdict t.verdict s t.came t.call t.sent s'
-    → IsKept s.setting.start.lengths.burst (tasks (ts ++ t ∷ [])) s'.standing.collecting
+    → IsKept s.setting.start.lengths.burst (tasks s.setting.units (ts ++ t ∷ [])) s'.standing.collecting
 kept_more s s' some ts t kept judged made =
-    subst (λ (z : List Task). IsKept s.setting.start.lengths.burst z s'.standing.collecting) (sym (tasks_more ts t))
-    (turn_keeps s s' some (tasks ts) kept t.verdict t.came t.call t.sent judged made)
+    subst (λ (z : List Task). IsKept s.setting.start.lengths.burst z s'.standing.collecting) (sym (tasks_more s.setting.units ts t))
+    (turn_keeps s s' some (tasks s.setting.units ts) kept t.verdict t.came t.call t.sent judged made)

@@ -20,7 +20,7 @@ use Rattle.session.proofs.Right.{get_more}
 use Rattle.session.proofs.Steps.{sent_more}
 use Rattle.session.proofs.Table.{IsKept}
 use Rattle.session.proofs.Gathering.{kept_more}
-use Rattle.session.specs.Legal.{AtEachOf, AtEach, status_number, status_numbers, HaveWindow, HaveNextR2t, IsAnsweredTask, IsTiledTask, IsCountedTask, HasResiduals, IsToldTask, answer_at, GoesOn, Lawful}
+use Rattle.session.specs.Legal.{AtEachOf, AtEach, status_number, status_numbers, HaveWindow, HaveNextR2t, HaveTheirData, IsAnsweredTask, IsTiledTask, IsCountedTask, HasResiduals, IsToldTask, answer_at, GoesOn, Lawful}
 use Rattle.session.specs.Answered.{answered_in, IsCalled}
 use Rattle.session.specs.Counters.{Counters, begun}
 use Rattle.session.specs.MachineTurn.{TurnOf, TurnOnVerdict}
@@ -64,7 +64,7 @@ at_each_none P = at_each_of_none P
 
 -- the counters are those of the transcript
 pub record IsTied (setting : Setting) (ts : List Turn) (s : Counters) : Type 0 where
-  pub standing_is : s.standing ≡ standing setting.start ts
+  pub standing_is : s.standing ≡ standing setting ts
   pub status : s.stat_sn ≡ wrap (setting.start.stat_sn + length (status_numbers (sent ts)))
   pub setting_is : s.setting ≡ setting
 
@@ -164,7 +164,7 @@ same_standing a b e f g = same_parts a.exp_cmd_sn b.exp_cmd_sn a.collecting b.co
 pub record Stands (setting : Setting) (ts : List Turn) (s : Counters) : Type 0 where
   pub lawful : Lawful setting ts
   pub tied : IsTied setting ts s
-  pub kept : IsKept setting.start.lengths.burst (tasks ts) s.standing.collecting
+  pub kept : IsKept setting.start.lengths.burst (tasks setting.units ts) s.standing.collecting
 
 judged_of : (s s' : Counters) (came : Incoming) (t : Turn) → TurnOf s came t s'
     → IsJudged s.setting s.standing t.came t.verdict
@@ -179,13 +179,13 @@ facts_of : (s s' : Counters) (came : Incoming) (t : Turn) → TurnOf s came t s'
 facts_of s s' came t m = made_facts s s' t.came t.verdict t.call t.sent (judged_of s s' came t m) (made_of s s' came t m)
 
 kept_of : (setting : Setting) (ts : List Turn) (t : Turn) (came : Incoming) (s s' : Counters) → s.setting ≡ setting
-    → IsKept setting.start.lengths.burst (tasks ts) s.standing.collecting → TurnOf s came t s'
-    → IsKept setting.start.lengths.burst (tasks (ts ++ t ∷ [])) s'.standing.collecting
+    → IsKept setting.start.lengths.burst (tasks setting.units ts) s.standing.collecting → TurnOf s came t s'
+    → IsKept setting.start.lengths.burst (tasks setting.units (ts ++ t ∷ [])) s'.standing.collecting
 kept_of setting ts t came s s' e kept m =
     let some : 0 < s.setting.start.lengths.burst = omega (arith, s.setting.start.lengths.bursts) in
-    subst (λ (n : Setting). IsKept n.start.lengths.burst (tasks (ts ++ t ∷ [])) s'.standing.collecting) e
+    subst (λ (n : Setting). IsKept n.start.lengths.burst (tasks n.units (ts ++ t ∷ [])) s'.standing.collecting) e
     (kept_more s s' some ts t
-    (subst (λ (n : Setting). IsKept n.start.lengths.burst (tasks ts) s.standing.collecting) (sym e) kept)
+    (subst (λ (n : Setting). IsKept n.start.lengths.burst (tasks n.units ts) s.standing.collecting) (sym e) kept)
     (judged_of s s' came t m) (made_of s s' came t m))
 
 pub stands_more : (setting : Setting) (ts : List Turn) (t : Turn) (came : Incoming) (s s' : Counters)
@@ -197,39 +197,41 @@ stands_more setting ts t came s s' k on m =
     let command = command_more setting.start.exp_cmd_sn ts t s s' (ap (λ (z : Standing). z.exp_cmd_sn) here) f.commands in
     let tag = tag_more ts t s.standing.transfer_tag s'.standing.transfer_tag
     (ap (λ (z : Standing). z.transfer_tag) here) f.tags in
-    let there : s'.standing ≡ standing setting.start (ts ++ t ∷ []) =
-    same_standing s'.standing (standing setting.start (ts ++ t ∷ [])) command (sym kept.tied) tag in
+    let there : s'.standing ≡ standing setting (ts ++ t ∷ []) =
+    same_standing s'.standing (standing setting (ts ++ t ∷ [])) command (sym kept.tied) tag in
     let old = k.lawful in
     record {
       lawful = record {
-        judged = at_each_more (λ before u. IsJudged setting (standing setting.start before) u.came u.verdict) ts t old.judged
+        judged = at_each_more (λ before u. IsJudged setting (standing setting before) u.came u.verdict) ts t old.judged
             (subst₂ (λ (n : Setting) (e : Standing). IsJudged n e t.came t.verdict) k.tied.setting_is here f.judged);
         numbered = numbered_more setting.start.stat_sn ts t s s' k.tied.status old.numbered f.statuses;
-        windows = at_each_more (λ before u. HaveWindow (standing setting.start (before ++ u ∷ [])) u.sent) ts t old.windows
+        windows = at_each_more (λ before u. HaveWindow (standing setting (before ++ u ∷ [])) u.sent) ts t old.windows
             (subst (λ (e : Standing). HaveWindow e t.sent) there f.windows);
-        transfers = at_each_more (λ before u. HaveNextR2t (standing setting.start before)
+        transfers = at_each_more (λ before u. HaveNextR2t (standing setting before)
             (wrap (setting.start.stat_sn + length (status_numbers (sent before)))) u.sent) ts t old.transfers
             (subst₂ (λ (e : Standing) (n : ℕ). HaveNextR2t e n t.sent) here k.tied.status f.transfers);
         collected = at_each_more (λ before u. AllByRecursion (IsRightTask setting.start.lengths.burst)
-            (tasks (before ++ u ∷ []))) ts t old.collected kept.right;
+            (tasks setting.units (before ++ u ∷ []))) ts t old.collected kept.right;
         called = at_each_more (λ before u. IsCalled setting
-            (standing setting.start before) u.verdict u.came u.call) ts t old.called
+            (standing setting before) u.verdict u.came u.call) ts t old.called
             (subst₂ (λ (n : Setting) (e : Standing). IsCalled n e t.verdict t.came t.call) k.tied.setting_is here f.called);
-        answered = at_each_more (λ before u. IsAnsweredTask (answer_at setting.start before u) u.sent) ts t old.answered
+        answered = at_each_more (λ before u. IsAnsweredTask (answer_at setting before u) u.sent) ts t old.answered
             (subst (λ (e : Standing). IsAnsweredTask (answered_in e t.came t.verdict t.call t.sent) t.sent) here f.answered);
         tiled = at_each_more (λ before u. IsTiledTask setting.start.lengths
-            (answer_at setting.start before u) u.sent) ts t old.tiled
+            (answer_at setting before u) u.sent) ts t old.tiled
             (subst₂ (λ (n : Setting) (e : Standing). IsTiledTask n.start.lengths
             (answered_in e t.came t.verdict t.call t.sent) t.sent) k.tied.setting_is here f.tiled);
-        counted = at_each_more (λ before u. IsCountedTask (answer_at setting.start before u)) ts t old.counted
+        counted = at_each_more (λ before u. IsCountedTask (answer_at setting before u)) ts t old.counted
             (subst (λ (e : Standing). IsCountedTask (answered_in e t.came t.verdict t.call t.sent)) here f.counted);
-        residual = at_each_more (λ before u. HasResiduals (answer_at setting.start before u)) ts t old.residual
+        residual = at_each_more (λ before u. HasResiduals (answer_at setting before u)) ts t old.residual
             (subst (λ (e : Standing). HasResiduals (answered_in e t.came t.verdict t.call t.sent)) here f.residual);
-        told = at_each_more (λ before u. IsToldTask (answer_at setting.start before u)) ts t old.told
+        told = at_each_more (λ before u. IsToldTask (answer_at setting before u)) ts t old.told
             (subst (λ (e : Standing). IsToldTask (answered_in e t.came t.verdict t.call t.sent)) here f.told);
-        rejected = at_each_more _ ts t old.rejected f.rejected;
+        kinds = at_each_more _ ts t old.kinds f.kinds;
+        carried = at_each_more (λ before u. HaveTheirData setting u.came u.sent) ts t old.carried
+            (subst (λ (n : Setting). HaveTheirData n t.came t.sent) k.tied.setting_is f.carried);
         requests = at_each_more (λ before u. IsRequestAnswered setting
-            (standing setting.start before) u.verdict u.came u.call u.sent) ts t old.requests
+            (standing setting before) u.verdict u.came u.call u.sent) ts t old.requests
             (subst₂ (λ (n : Setting) (e : Standing). IsRequestAnswered n e t.verdict t.came t.call t.sent)
             k.tied.setting_is here f.requests);
         ends = at_each_more (λ before u. GoesOn before) ts t old.ends on;
@@ -260,20 +262,21 @@ stands_none setting s cmd_fits stat_fits e = record {
     windows = at_each_none _;
     transfers = at_each_none _;
     collected = at_each_none (λ before u. AllByRecursion (IsRightTask setting.start.lengths.burst)
-        (tasks (before ++ u ∷ [])));
+        (tasks setting.units (before ++ u ∷ [])));
     called = at_each_none _;
     answered = at_each_none _;
     tiled = at_each_none _;
     counted = at_each_none _;
     residual = at_each_none _;
     told = at_each_none _;
-    rejected = at_each_none _;
+    kinds = at_each_none _;
+    carried = at_each_none _;
     requests = at_each_none _;
     ends = at_each_none (λ before u. GoesOn before);
   };
   tied = record {
     standing_is = ap (λ (r : Counters). r.standing) e
-        ∙ same_standing (begun setting).standing (standing setting.start [])
+        ∙ same_standing (begun setting).standing (standing setting [])
         (let k : setting.start.exp_cmd_sn ≡ wrap (setting.start.exp_cmd_sn + 0) = omega arith in k) refl refl;
     status = ap (λ (r : Counters). r.stat_sn) e
         ∙ (let k : setting.start.stat_sn ≡ wrap (setting.start.stat_sn + 0) = omega arith in k);

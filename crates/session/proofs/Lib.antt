@@ -1,3 +1,4 @@
+pub mod Announced
 pub mod Dropping
 pub mod Exchanges
 pub mod Facts
@@ -15,11 +16,14 @@ pub mod Right
 pub mod Rows
 pub mod Running
 pub mod Segments
+pub mod ShortTranscripts
 pub mod Steps
 pub mod Table
 pub mod TaskTurn
 pub mod Tasks
 pub mod Turns
+pub mod Uncalled
 pub mod Unserved
 pub mod Walk
 pub mod WindowEnds
+pub mod WindowTold

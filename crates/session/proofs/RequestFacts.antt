@@ -10,12 +10,10 @@ use Rattle.iscsi_pdu.specs.declared.header.TaskManagementRequest.{TaskManagement
 use Rattle.iscsi_pdu.specs.declared.header.LogoutRequest.{LogoutRequest as LogoutHeader}
 use Rattle.iscsi_pdu.specs.declared.header.R2t.{R2t as R2tHeader}
 use Rattle.iscsi_pdu.specs.declared.header.Numbers.{Numbers}
-use Rattle.iscsi_pdu.specs.declared.TheConstants.{MAX_DATA_SEGMENT_LENGTH}
-use Rattle.session.specs.declared.data_in.TheConstants.{NO_TRANSFER_TAG}
-use Rattle.session.specs.declared.logout.TheConstants.{CLOSED, RECOVERY_NOT_SUPPORTED, TIME_TO_WAIT, TIME_TO_RETAIN}
+use Rattle.session.specs.Codes.{reserved_tag, no_transfer_tag, closed, recovery_not_supported, time_to_wait, time_to_retain}
+use Rattle.session.specs.Nop.{echo}
 use Rattle.session.specs.declared.verdict.Verdict.{Verdict}
 use Rattle.session.specs.declared.verdict.Verdict.TheVariants.{Accepted}
-use Rattle.session.specs.declared.verdict.TheConstants.{RESERVED_TAG}
 use Rattle.session.specs.Asking.{Asking}
 use Rattle.session.specs.Turn.{Incoming, pdu, Out}
 use Rattle.session.specs.Window.{wrap, numbers_of, exp_cmd_sn_behind, takes_number}
@@ -28,7 +26,7 @@ use Rattle.session.specs.Verdict.{IsJudged}
 use Rattle.session.specs.Answered.{Outcome, answered_by, answered_in, IsCalled}
 use Rattle.session.specs.Response.{response_with}
 use Rattle.session.specs.DataIn.{data_in_with}
-use Rattle.session.specs.Legal.{status_number, status_numbers, IsWindow, HaveWindow, HaveNextR2t, IsRejected, IsAnsweredTask, IsTiledTask, IsCountedTask, HasResiduals, IsToldTask}
+use Rattle.session.specs.Legal.{status_number, status_numbers, IsWindow, HaveWindow, HaveNextR2t, IsSentFor, HasItsData, HaveTheirData, IsAnsweredTask, IsTiledTask, IsCountedTask, HasResiduals, IsToldTask}
 use Rattle.session.specs.Counters.{Counters, after_status, after_number, after_collecting, after_answer, next_numbers}
 use Rattle.session.specs.MachineTurn.{TurnOnAccepted}
 
@@ -44,7 +42,8 @@ pub record TurnFacts (s s' : Counters) (came : Incoming) (v : Verdict) (call : O
   pub counted : IsCountedTask (answered_in s.standing came v call outs)
   pub residual : HasResiduals (answered_in s.standing came v call outs)
   pub told : IsToldTask (answered_in s.standing came v call outs)
-  pub rejected : IsRejected v came outs
+  pub kinds : IsSentFor v came outs
+  pub carried : HaveTheirData s.setting came outs
   pub requests : IsRequestAnswered s.setting s.standing v came call outs
   pub setting_is : s'.setting ≡ s.setting
   pub commands : ((s'.standing.exp_cmd_sn ≡ s.standing.exp_cmd_sn) × (takes_number v came ≡ false))
@@ -67,11 +66,11 @@ moved e f g k = rw (e, f, g) k
 abbrev logout_out : Numbers → LogoutHeader → Out
 logout_out n p = record {
   header = LogoutResponse (record {
-    response = if closes p then CLOSED else RECOVERY_NOT_SUPPORTED;
+    response = if closes p then closed else recovery_not_supported;
     task_tag = p.task_tag;
     numbers = n;
-    time_to_wait = TIME_TO_WAIT;
-    time_to_retain = TIME_TO_RETAIN;
+    time_to_wait = time_to_wait;
+    time_to_retain = time_to_retain;
   });
   bytes = [];
 }
@@ -83,7 +82,7 @@ module _ (s : Counters) (cs : List Collecting) (came : Incoming) (immediate : Bo
     (judged : IsJudged s.setting s.standing came Accepted) (called : IsCalled s.setting s.standing Accepted came call)
     (no_task : (own : List Out) → answered_in s.standing came Accepted call own ≡ None)
     (numbered : takes_number Accepted came ≡ not immediate)
-    (of_accepted : (outs : List Out) → IsRejected Accepted came outs) where
+    (of_accepted : (outs : List Out) → IsSentFor Accepted came outs) where
   abbrev behind : Counters
   behind = after_collecting cs (after_number immediate s)
 
@@ -105,7 +104,8 @@ module _ (s : Counters) (cs : List Collecting) (came : Incoming) (immediate : Bo
     counted = rw (no_task []) tt;
     residual = rw (no_task []) tt;
     told = rw (no_task []) tt;
-    rejected = of_accepted [];
+    kinds = of_accepted [];
+    carried = tt;
     requests = answer;
     setting_is = refl;
     commands = numbers_up s.standing.exp_cmd_sn;
@@ -115,7 +115,8 @@ module _ (s : Counters) (cs : List Collecting) (came : Incoming) (immediate : Bo
 
   module _ (o : Out) (window : IsWindow behind.standing (numbers_of o.header))
       (status : status_number o.header ≡ Some s.stat_sn) (no_response : response_with o.header o.bytes ≡ None)
-      (no_data : data_in_with o.header o.bytes ≡ None) (no_r2t : r2t_with o.header ≡ None) where
+      (no_data : data_in_with o.header o.bytes ≡ None) (no_r2t : r2t_with o.header ≡ None)
+      (its_data : HasItsData s.setting came o.header o.bytes) where
     one_facts : IsRequestAnswered s.setting s.standing Accepted came call (o ∷ [])
         → TurnFacts s (after_status behind) came Accepted call (o ∷ [])
     one_facts answer = record {
@@ -128,7 +129,8 @@ module _ (s : Counters) (cs : List Collecting) (came : Incoming) (immediate : Bo
       counted = rw (no_task (o ∷ [])) tt;
       residual = rw (no_task (o ∷ [])) tt;
       told = rw (no_task (o ∷ [])) tt;
-      rejected = of_accepted (o ∷ []);
+      kinds = of_accepted (o ∷ []);
+      carried = (its_data, tt);
       requests = answer;
       setting_is = refl;
       commands = numbers_up s.standing.exp_cmd_sn;
@@ -169,7 +171,7 @@ module _ (s : Counters) (b : List ℕ) (p : ManagementHeader) (d : List ℕ) (ca
             (record { response = response; task_tag = p.task_tag; numbers = next_numbers mid });
         bytes = [];
       })
-      (record { expects = refl; reaches = refl }) refl refl refl refl (next_numbers mid, Some response, kept, k, refl)
+      (record { expects = refl; reaches = refl }) refl refl refl refl refl (next_numbers mid, Some response, kept, k, refl)
 
 pub nop_facts : (b : List ℕ) (p : NopOutHeader) (d : List ℕ) (s s' : Counters) (call : Option Asking) (outs : List Out)
     → IsJudged s.setting s.standing (pdu b (Initiator (NopOut p)) d) Accepted
@@ -179,17 +181,17 @@ nop_facts b p d s s' call outs judged k =
     let n = next_numbers (after_number p.immediate s) in
     moved k.no_call k.outs_are k.next_is
     (some_or_none s s.standing.collecting (pdu b (Initiator (NopOut p)) d) p.immediate None judged refl
-    (λ own. no_command _ own) refl (λ own. tt)
+    (λ own. no_command None own) refl (λ own. tt)
     (record {
       header = NopIn (record {
         lun = p.lun;
         task_tag = p.task_tag;
-        transfer_tag = NO_TRANSFER_TAG;
+        transfer_tag = no_transfer_tag;
         numbers = n;
       });
-      bytes = take (min s.setting.start.lengths.data_segment MAX_DATA_SEGMENT_LENGTH) d;
+      bytes = echo s.setting.start.lengths d;
     })
-    (record { expects = refl; reaches = refl }) refl refl refl refl (p.task_tag == RESERVED_TAG) (n, refl))
+    (record { expects = refl; reaches = refl }) refl refl refl refl refl (p.task_tag == reserved_tag) (n, refl))
 
 pub managed_facts : (b : List ℕ) (p : ManagementHeader) (d : List ℕ) (s s' : Counters) (call : Option Asking)
     (outs : List Out)
@@ -207,12 +209,12 @@ text_facts b p d s s' call outs judged k =
     let n = next_numbers (after_number p.immediate s) in
     moved k.no_call k.outs_are k.next_is
     (one_facts s s.standing.collecting (pdu b (Initiator (TextRequest p)) d) p.immediate None judged refl
-    (λ own. no_command _ own) refl (λ own. tt)
+    (λ own. no_command None own) refl (λ own. tt)
     (record {
-      header = TextResponse (record { task_tag = p.task_tag; transfer_tag = NO_TRANSFER_TAG; numbers = n });
+      header = TextResponse (record { task_tag = p.task_tag; transfer_tag = no_transfer_tag; numbers = n });
       bytes = text_answer s.setting d;
     })
-    (record { expects = refl; reaches = refl }) refl refl refl refl (n, refl))
+    (record { expects = refl; reaches = refl }) refl refl refl refl refl (n, refl))
 
 pub logout_facts : (b : List ℕ) (p : LogoutHeader) (d : List ℕ) (s s' : Counters) (call : Option Asking) (outs : List Out)
     → IsJudged s.setting s.standing (pdu b (Initiator (LogoutRequest p)) d) Accepted
@@ -222,5 +224,5 @@ logout_facts b p d s s' call outs judged k =
     let n = next_numbers (after_number p.immediate s) in
     moved k.no_call k.outs_are k.next_is
     (one_facts s s.standing.collecting (pdu b (Initiator (LogoutRequest p)) d) p.immediate None judged refl
-    (λ own. no_command _ own) refl (λ own. tt)
-    (logout_out n p) (record { expects = refl; reaches = refl }) refl refl refl refl (n, refl))
+    (λ own. no_command None own) refl (λ own. tt)
+    (logout_out n p) (record { expects = refl; reaches = refl }) refl refl refl refl refl (n, refl))

@@ -17,13 +17,14 @@ use Rattle.iscsi_pdu.specs.declared.fault.PduFault.{PduFault}
 use Rattle.session.specs.declared.end.End.{End}
 use Rattle.session.specs.declared.end.End.TheVariants.{EndOfInput, InputFailed, OutputFailed, Protocol, Reinstated, LoggedOut}
 use Rattle.session.specs.declared.target.TargetAnswer.{TargetAnswer}
-use Rattle.session.specs.declared.target.TargetAnswer.TheVariants.{Replied, Outside, Busy, Gone, Halted}
+use Rattle.session.specs.declared.target.TargetAnswer.TheVariants.{Replied, Outside, Busy, Gone}
 use Rattle.session.specs.declared.verdict.Verdict.{Verdict}
 use Rattle.session.specs.declared.verdict.Verdict.TheVariants.{Accepted, Full, Ignored, Gap, Refused}
 use Rattle.session.specs.declared.target.ResetAnswer.{ResetAnswer}
 use Rattle.session.specs.declared.target.ResetAnswer.TheVariants as resets
 use Rattle.session.specs.Asking.{Asking, served, reset}
-use Rattle.session.specs.Source.{AppendsFront, Rises}
+use Rattle.session.specs.declared.outbox.TheConstants.{ENOUGH_TO_WRITE}
+use Rattle.session.specs.Source.{AppendsFrom, Rises}
 use Rattle.session.specs.Inbox.{Filled}
 use Rattle.session.specs.Turn.{Incoming, pdu, faulty, Out, bytes_of, Spells, Leads}
 use Rattle.iscsi_pdu.specs.declared.TheConstants.{BHS_LENGTH}
@@ -38,8 +39,8 @@ use Rattle.session.specs.declared.login_phase.LoginOutcome.TheVariants as outcom
 use Rattle.session.specs.Counters.{Counters}
 use Rattle.session.specs.Outbox.{OutboxValue, IsOut, IsWritten, IsClosed, IsClosedAs}
 use Rattle.session.specs.Stream.{IsLed, PhasesValue, ExchangeOf, MakesExchange}
-use Rattle.session.specs.Transcript.{Written, IsPassed, IsFailureOf}
-use Rattle.session.proofs.Queues.{all_out_at_last, broke}
+use Rattle.session.specs.Transcript.{but_last, IsCut, Written, IsPassed, IsFailureOf}
+use Rattle.session.proofs.Queues.{took, all_out_at_last, broke}
 use Rattle.session.proofs.Exchanges.{all_more, PhaseStands, lawful_now, More, one_more}
 
 -- ---- what was read
@@ -114,6 +115,24 @@ module _ {T : Type 0} (leads : T → Asking → T → Type 0) where
 
 -- ---- between two turns
 
+-- so many bytes are all that the turns before the last sent, but what may wait
+abbrev pub Covers : ℕ → List Exchange → Type 0
+Covers least es = length (bytes_of (outgoing (but_last es))) < least + ENOUGH_TO_WRITE
+
+but_last_of : (es : List Exchange) (e : Exchange) → but_last (es ++ e ∷ []) ≡ es
+but_last_of [] e = refl
+but_last_of (x ∷ []) e = refl
+but_last_of (x ∷ (y ∷ es)) e = ap (λ (z : List Exchange). x ∷ z) (but_last_of (y ∷ es) e)
+
+cut_at : (held held' : Option (List ℕ)) (least : ℕ) (es : List Exchange) → Covers least es
+    → AppendsFrom held held' least (bytes_of (outgoing es)) → IsCut held held' es
+cut_at held held' least es covers k = record {
+  taken = k.0;
+  within = k.2;
+  went_out = k.3;
+  not_before = omega (arith, covers, k.1);
+}
+
 pub record Running {T : Type 0} (leads : T → Asking → T → Type 0) (units : ℕ) (me : Identity) (opening : Opening)
     (left left' held held' : Option (List ℕ)) (before now : ℕ) (o : OutboxValue) (target target' : T) (p : PhasesValue)
     (waiting : List ℕ) (reads : ℕ) : Type 0 where
@@ -123,7 +142,9 @@ pub record Running {T : Type 0} (leads : T → Asking → T → Type 0) (units :
   pub none_ends : NoneEnds (exchanges transcript)
   pub spells : Spells (incoming (exchanges transcript)) spelled
   pub read : Consumes left left' (spelled ++ waiting)
-  pub written : IsOut held held' before now o (bytes_of (outgoing (exchanges transcript)))
+  pub least : ℕ
+  pub written : IsOut held held' before now o least (bytes_of (outgoing (exchanges transcript)))
+  pub covers : Covers least (exchanges transcript)
   pub led : Leads leads (asked (exchanges transcript)) target target'
   pub many : reads ≤ length spelled + length waiting
 
@@ -140,7 +161,6 @@ ends_by_answer end (Replied r) e = absurd (cc)
 ends_by_answer end (Outside r) e = absurd (cc)
 ends_by_answer end Busy e = absurd (cc)
 ends_by_answer end Gone e = inr (inl cc)
-ends_by_answer end Halted e = absurd (cc)
 
 ends_by_reset : (end : End) (a : ResetAnswer) → Some end ≡ end_by_reset a → IsCalledFor end
 ends_by_reset end resets.Done e = absurd (cc)
@@ -216,16 +236,16 @@ module _ {T : Type 0} (leads : T → Asking → T → Type 0) (units : ℕ) (me 
   abbrev Ended : End → Type 0
   Ended end = IsPassed leads units me opening left left' held held' x x' end × IsFailureOf OutputFailed before now end
 
-  closed : (bytes : List ℕ) (wanted end : End) → (wanted ≡ OutputFailed → ⊥)
+  closed : (least : ℕ) (bytes : List ℕ) (wanted end : End) → (wanted ≡ OutputFailed → ⊥)
       → (Appends held held' bytes → IsPassed leads units me opening left left' held held' x x' wanted)
-      → (AppendsFront held held' bytes → IsPassed leads units me opening left left' held held' x x' OutputFailed)
-      → IsClosed held held' before now bytes wanted end → Ended end
-  closed bytes wanted end other all cut (inl w) = (
+      → (AppendsFrom held held' least bytes → IsPassed leads units me opening left left' held held' x x' OutputFailed)
+      → IsClosed held held' before now least bytes wanted end → Ended end
+  closed least bytes wanted end other all cut (inl w) = (
     subst (IsPassed leads units me opening left left' held held' x x') (sym w.0)
         (all w.1),
     record { rises = λ f. absurd (other (sym w.0 ∙ f)); stays = λ _. w.2 },
   )
-  closed bytes wanted end other all cut (inr w) = (
+  closed least bytes wanted end other all cut (inr w) = (
     subst (IsPassed leads units me opening left left' held held' x x') (sym w.0)
         (cut w.1),
     record { rises = λ f. w.2; stays = λ o. absurd (o w.0) },
@@ -238,8 +258,8 @@ module _ {T : Type 0} (leads : T → Asking → T → Type 0) (units : ℕ) (me 
   abbrev so_far : List Exchange
   so_far = exchanges r.transcript
 
-  -- what the whole is with one turn more, where these bytes of what waits spell its PDU
-  module _ (p' : PhasesValue) (x'' : T) (held'' : Option (List ℕ)) (now' : ℕ) (o' : OutboxValue) (came : Incoming)
+  -- what the whole is with one turn more, while the sink serves
+  module _ (serves : o.failed ≡ false) (few : length o.waiting < ENOUGH_TO_WRITE) (p' : PhasesValue) (x'' : T) (held'' : Option (List ℕ)) (now' : ℕ) (o' : OutboxValue) (came : Incoming)
       (wanted : Option End) (turned : MakesExchange leads p p' x' x'' held' held'' now now' o o' came wanted) where
     abbrev all_now : List Exchange
     all_now = so_far ++ turned.exchange ∷ []
@@ -254,9 +274,20 @@ module _ {T : Type 0} (leads : T → Asking → T → Type 0) (units : ℕ) (me 
     came_now = map-append (λ (e : Exchange). e.came) so_far (turned.exchange ∷ [])
         ∙ ap (λ (c : Incoming). incoming so_far ++ c ∷ []) more_now.came_is
 
-    out_now : IsOut held held'' before now' o' (bytes_of (outgoing all_now))
-    out_now = subst (IsOut held held'' before now' o') (sym (bytes_more so_far turned.exchange))
-        (turned.queued held before (bytes_of (outgoing so_far)) r.written)
+    took_so_far : (most : ℕ) × IsOut held held' before now o most (bytes_of (outgoing so_far))
+        × (length (bytes_of (outgoing so_far)) ≡ most + length o.waiting)
+    took_so_far = took o.failed held held' before now o.waiting r.least (bytes_of (outgoing so_far)) serves r.written
+
+    abbrev least_now : ℕ
+    least_now = took_so_far.0
+
+    out_now : IsOut held held'' before now' o' least_now (bytes_of (outgoing all_now))
+    out_now = subst (IsOut held held'' before now' o' least_now) (sym (bytes_more so_far turned.exchange))
+        (turned.queued held before least_now (bytes_of (outgoing so_far)) took_so_far.1)
+
+    covers_now : Covers least_now all_now
+    covers_now = subst (λ (es : List Exchange). length (bytes_of (outgoing es)) < least_now + ENOUGH_TO_WRITE)
+        (sym (but_last_of so_far turned.exchange)) (omega (arith, took_so_far.2, few))
 
     one_of_three : (end : End) → wanted ≡ Some end → IsCalledFor end
     one_of_three end e = ends_so end p.login p.counters came turned.exchange p' turned.made (sym e ∙ turned.wanted_is)
@@ -265,7 +296,7 @@ module _ {T : Type 0} (leads : T → Asking → T → Type 0) (units : ℕ) (me 
     input_stays : (held3 : Option (List ℕ)) (now3 : ℕ) (end result : End) → IsCalledFor end
         → IsClosedAs held'' held3 now' now3 o' end result
         → result ≡ InputFailed → ⊥
-    input_stays held3 now3 end result one close e = elim (close held before (bytes_of (outgoing all_now)) out_now) [
+    input_stays held3 now3 end result one close e = elim (close held before least_now (bytes_of (outgoing all_now)) out_now) [
       | inl w ↦ not_input end one (sym w.0 ∙ e)
       | inr w ↦ let g : OutputFailed ≡ InputFailed = sym w.0 ∙ e in cc
     ]
@@ -308,11 +339,11 @@ module _ {T : Type 0} (leads : T → Asking → T → Type 0) (units : ℕ) (me 
           → Ended leads units me opening left left' held held3 before now3 x x'' result
       ends_now end result e one close =
           closed leads units me opening left left' held held3 before now3 x x''
-          (bytes_of (outgoing all_now)) end result (not_output end one)
+          least_now (bytes_of (outgoing all_now)) end result (not_output end one)
           (λ all. ended end (ends_by end all_now rest (length spelled + length rest) (IsAtEnd left') one
           (subst (EndsWith all_now rest) e (last_turn rest stands))) (written_all end held held3 all_now one all))
-          (λ cut. ended OutputFailed (inr (wanted, last_turn rest stands)) cut)
-          (close held before (bytes_of (outgoing all_now)) out_now)
+          (λ cut. ended OutputFailed (inr (wanted, last_turn rest stands)) (cut_at held held3 least_now all_now covers_now cut))
+          (close held before least_now (bytes_of (outgoing all_now)) out_now)
 
   -- a PDU comes, and the session goes on, or ends
   bhs_front : (n : ℕ) (bhs : List ℕ) (h : Header) (d : List ℕ) → bhs ≡ take BHS_LENGTH waiting → n ≤ length waiting
@@ -339,13 +370,14 @@ module _ {T : Type 0} (leads : T → Asking → T → Type 0) (units : ℕ) (me 
     length-append (take n waiting) (drop n waiting),
   )
 
-  module _ (p' : PhasesValue) (x'' : T) (held'' : Option (List ℕ)) (now' : ℕ) (o' : OutboxValue) (bhs : List ℕ) (h : Header)
+  module _ (serves : o.failed ≡ false) (few : length o.waiting < ENOUGH_TO_WRITE) (p' : PhasesValue) (x'' : T)
+      (held'' : Option (List ℕ)) (now' : ℕ) (o' : OutboxValue) (bhs : List ℕ) (h : Header)
       (d : List ℕ) (n : ℕ) (bhs_is : bhs ≡ take BHS_LENGTH waiting) (within : n ≤ length waiting)
       (spelled : IsPdu (take n waiting) h d) where
     pub pdu_goes_on : MakesExchange leads p p' x' x'' held' held'' now now' o o' (pdu bhs h d) None
         → Running leads units me opening left left' held held'' before now' o' x x'' p' (drop n waiting) reads
     pdu_goes_on t =
-        let k = more_now p' x'' held'' now' o' (pdu bhs h d) None t in
+        let k = more_now serves few p' x'' held'' now' o' (pdu bhs h d) None t in
         let back = sym k.exchanges_are in
         record {
           transcript = k.transcript;
@@ -355,13 +387,17 @@ module _ {T : Type 0} (leads : T → Asking → T → Type 0) (units : ℕ) (me 
               (all_more (λ (e : Exchange). e.end ≡ None) so_far t.exchange r.none_ends (sym t.wanted_is));
           spells = subst (λ (es : List Exchange). Spells (incoming es) (r.spelled ++ take n waiting)) back
               (subst (λ (is : List Incoming). Spells is (r.spelled ++ take n waiting))
-              (sym (came_now p' x'' held'' now' o' (pdu bhs h d) None t))
+              (sym (came_now serves few p' x'' held'' now' o' (pdu bhs h d) None t))
               (spells_now n bhs h d bhs_is within spelled));
           read = read_now n;
-          written = subst (λ (es : List Exchange). IsOut held held'' before now' o' (bytes_of (outgoing es))) back
-              (out_now p' x'' held'' now' o' (pdu bhs h d) None t);
+          least = least_now serves few p' x'' held'' now' o' (pdu bhs h d) None t;
+          written = subst (λ (es : List Exchange). IsOut held held'' before now' o'
+              (least_now serves few p' x'' held'' now' o' (pdu bhs h d) None t) (bytes_of (outgoing es))) back
+              (out_now serves few p' x'' held'' now' o' (pdu bhs h d) None t);
+          covers = subst (Covers (least_now serves few p' x'' held'' now' o' (pdu bhs h d) None t)) back
+              (covers_now serves few p' x'' held'' now' o' (pdu bhs h d) None t);
           led = subst (λ (es : List Exchange). Leads leads (asked es) x x'') back
-              (led_now p' x'' held'' now' o' (pdu bhs h d) None t);
+              (led_now serves few p' x'' held'' now' o' (pdu bhs h d) None t);
           many = many_now n;
         }
 
@@ -370,36 +406,36 @@ module _ {T : Type 0} (leads : T → Asking → T → Type 0) (units : ℕ) (me 
         → IsClosedAs held'' held3 now' now3 o' end result
         → Ended leads units me opening left left' held held3 before now3 x x'' result
     pdu_ends held3 now3 end result t close =
-        ends_now p' x'' held'' now' o' (pdu bhs h d) (Some end) t (r.spelled ++ take n waiting) (drop n waiting)
+        ends_now serves few p' x'' held'' now' o' (pdu bhs h d) (Some end) t (r.spelled ++ take n waiting) (drop n waiting)
         (spells_now n bhs h d bhs_is within spelled) (read_now n) tt held3 now3
-        end result refl (one_of_three p' x'' held'' now' o' (pdu bhs h d) (Some end) t end refl) close
+        end result refl (one_of_three serves few p' x'' held'' now' o' (pdu bhs h d) (Some end) t end refl) close
 
     pub pdu_ends_not_by_input : (held3 : Option (List ℕ)) (now3 : ℕ) (end result : End)
         → MakesExchange leads p p' x' x'' held' held'' now now' o o' (pdu bhs h d) (Some end)
         → IsClosedAs held'' held3 now' now3 o' end result → result ≡ InputFailed → ⊥
     pdu_ends_not_by_input held3 now3 end result t close =
-        input_stays p' x'' held'' now' o' (pdu bhs h d) (Some end) t held3 now3 end result
-        (one_of_three p' x'' held'' now' o' (pdu bhs h d) (Some end) t end refl) close
+        input_stays serves few p' x'' held'' now' o' (pdu bhs h d) (Some end) t held3 now3 end result
+        (one_of_three serves few p' x'' held'' now' o' (pdu bhs h d) (Some end) t end refl) close
 
-  pub fault_ends : (p' : PhasesValue) (held'' held3 : Option (List ℕ)) (now' now3 : ℕ) (o' : OutboxValue)
+  pub fault_ends : (serves : o.failed ≡ false) (few : length o.waiting < ENOUGH_TO_WRITE) (p' : PhasesValue) (held'' held3 : Option (List ℕ)) (now' now3 : ℕ) (o' : OutboxValue)
       (bhs : List ℕ) (f : PduFault) (result : End)
       → bhs ≡ take BHS_LENGTH waiting → length bhs ≡ BHS_LENGTH → FaultStands waiting f
       → MakesExchange leads p p' x' x' held' held'' now now' o o' (faulty f bhs) (Some Protocol)
       → IsClosedAs held'' held3 now' now3 o' Protocol result
       → Ended leads units me opening left left' held held3 before now3 x x' result
-  fault_ends p' held'' held3 now' now3 o' bhs f result bhs_is long stands t close =
-      ends_now p' x' held'' now' o' (faulty f bhs) (Some Protocol) t r.spelled waiting
+  fault_ends serves few p' held'' held3 now' now3 o' bhs f result bhs_is long stands t close =
+      ends_now serves few p' x' held'' now' o' (faulty f bhs) (Some Protocol) t r.spelled waiting
       (spells_fault (incoming so_far) r.spelled bhs f r.spells) r.read
       (stands, omega (arith, ap length bhs_is, long, length-take BHS_LENGTH waiting), bhs_is) held3 now3 Protocol
       result refl (inl refl) close
 
-  pub fault_ends_not_by_input : (p' : PhasesValue) (held'' held3 : Option (List ℕ)) (now' now3 : ℕ) (o' : OutboxValue)
+  pub fault_ends_not_by_input : (serves : o.failed ≡ false) (few : length o.waiting < ENOUGH_TO_WRITE) (p' : PhasesValue) (held'' held3 : Option (List ℕ)) (now' now3 : ℕ) (o' : OutboxValue)
       (bhs : List ℕ) (f : PduFault) (result : End)
       → bhs ≡ take BHS_LENGTH waiting → length bhs ≡ BHS_LENGTH → FaultStands waiting f
       → MakesExchange leads p p' x' x' held' held'' now now' o o' (faulty f bhs) (Some Protocol)
       → IsClosedAs held'' held3 now' now3 o' Protocol result → result ≡ InputFailed → ⊥
-  fault_ends_not_by_input p' held'' held3 now' now3 o' bhs f result bhs_is long stands t close =
-      input_stays p' x' held'' now' o' (faulty f bhs) (Some Protocol) t held3 now3 Protocol result (inl refl) close
+  fault_ends_not_by_input serves few p' held'' held3 now' now3 o' bhs f result bhs_is long stands t close =
+      input_stays serves few p' x' held'' now' o' (faulty f bhs) (Some Protocol) t held3 now3 Protocol result (inl refl) close
 
   -- what waits to go out is written
   pub flushed : (held'' : Option (List ℕ)) (now' : ℕ) (o' : OutboxValue) → IsWritten held' held'' now now' o o'
@@ -411,7 +447,9 @@ module _ {T : Type 0} (leads : T → Asking → T → Type 0) (units : ℕ) (me 
     none_ends = r.none_ends;
     spells = r.spells;
     read = r.read;
-    written = w held before (bytes_of (outgoing so_far)) r.written;
+    least = r.least;
+    written = w held before r.least (bytes_of (outgoing so_far)) r.written;
+    covers = r.covers;
     led = r.led;
     many = r.many;
   }
@@ -427,7 +465,9 @@ module _ {T : Type 0} (leads : T → Asking → T → Type 0) (units : ℕ) (me 
     spells = r.spells;
     read = subst (Consumes left left'') (append_assoc r.spelled waiting f.more
         ∙ ap (λ (z : List ℕ). r.spelled ++ z) (sym f.grown)) (Consumes-trans _ _ _ _ _ r.read f.read);
+    least = r.least;
     written = r.written;
+    covers = r.covers;
     led = r.led;
     many = omega (arith, r.many, ap length f.grown, length-append waiting f.more, f.count);
   }
@@ -450,8 +490,8 @@ module _ {T : Type 0} (leads : T → Asking → T → Type 0) (units : ℕ) (me 
 
   pub sink_failed : o.failed ≡ true → Ended leads units me opening left left' held held' before now x x' OutputFailed
   sink_failed failed =
-      let b = broke o.failed held held' before now o.waiting (bytes_of (outgoing so_far)) failed r.written in (
-        stops_here OutputFailed left' held' waiting r.read (inl r.none_ends) b.0,
+      let b = broke o.failed held held' before now o.waiting r.least (bytes_of (outgoing so_far)) failed r.written in (
+        stops_here OutputFailed left' held' waiting r.read (inl r.none_ends) (cut_at held held' r.least so_far r.covers b.0),
         record {
           rises = λ _. b.1;
           stays = λ other. absurd (other refl);
@@ -460,7 +500,7 @@ module _ {T : Type 0} (leads : T → Asking → T → Type 0) (units : ℕ) (me 
 
   module _ (empty : o.waiting ≡ []) (serves : o.failed ≡ false) where
     all_out : Appends held held' (bytes_of (outgoing so_far)) × (now ≡ before)
-    all_out = all_out_at_last o.failed held held' before now o.waiting (bytes_of (outgoing so_far)) empty serves r.written
+    all_out = all_out_at_last o.failed held held' before now o.waiting r.least (bytes_of (outgoing so_far)) empty serves r.written
 
     pub input_ended : (left'' : Option (List ℕ)) (waiting' : List ℕ) (n : ℕ) → n ≡ 0
         → Filled left' left'' waiting waiting' n → NoneWhole waiting
@@ -488,16 +528,17 @@ module _ {T : Type 0} (leads : T → Asking → T → Type 0) (units : ℕ) (me 
       → Ended leads units me opening left left' held held'' before now' x x' result
   taken_all held'' now' result many close =
       closed leads units me opening left left' held held'' before now' x x'
-      (bytes_of (outgoing so_far)) EndOfInput result
+      r.least (bytes_of (outgoing so_far)) EndOfInput result
       (λ (e : EndOfInput ≡ OutputFailed). let never : ⊥ = cc in never)
       (λ all. stops_here EndOfInput left' held'' waiting r.read (r.none_ends, inr (omega (arith, many, r.many))) all)
-      (λ cut. stops_here OutputFailed left' held'' waiting r.read (inl r.none_ends) cut)
-      (close held before (bytes_of (outgoing so_far)) r.written)
+      (λ cut. stops_here OutputFailed left' held'' waiting r.read (inl r.none_ends)
+      (cut_at held held'' r.least so_far r.covers cut))
+      (close held before r.least (bytes_of (outgoing so_far)) r.written)
 
   pub taken_all_not_by_input : (held'' : Option (List ℕ)) (now' : ℕ) (result : End)
       → IsClosedAs held' held'' now now' o EndOfInput result
       → result ≡ InputFailed → ⊥
-  taken_all_not_by_input held'' now' result close e = elim (close held before (bytes_of (outgoing so_far)) r.written) [
+  taken_all_not_by_input held'' now' result close e = elim (close held before r.least (bytes_of (outgoing so_far)) r.written) [
     | inl w ↦ let g : EndOfInput ≡ InputFailed = sym w.0 ∙ e in cc
     | inr w ↦ let g : OutputFailed ≡ InputFailed = sym w.0 ∙ e in cc
   ]
@@ -526,7 +567,9 @@ starts leads units me opening left held n o x p waiting stands o_is empty = reco
   none_ends = tt;
   spells = refl;
   read = subst (Consumes left left) (sym empty) (Consumes-nil left);
-  written = subst (λ (z : OutboxValue). IsOut held held n n z []) (sym o_is) (refl, [], Appends-nil held, refl);
+  least = 0;
+  written = subst (λ (z : OutboxValue). IsOut held held n n z 0 []) (sym o_is) (refl, [], Appends-nil held, refl, omega arith);
+  covers = omega arith;
   led = refl;
   many = omega arith;
 }

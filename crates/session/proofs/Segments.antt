@@ -12,13 +12,15 @@ use Rattle.iscsi_pdu.specs.declared.header.Numbers.{Numbers}
 use Rattle.iscsi_pdu.specs.declared.header.TargetHeader.TheVariants.{ScsiResponse}
 use Rattle.session.specs.declared.data_in.TheConstants.{NO_TRANSFER_TAG}
 use Rattle.session.specs.declared.lengths.Lengths.{Lengths}
-use Rattle.session.specs.Turn.{Out}
+use Rattle.session.specs.Turn.{Incoming, Out}
 use Rattle.session.specs.Standing.{Standing, numbers_at}
 use Rattle.session.specs.Tasks.{r2ts_of, is_response}
 use Rattle.std.specs.List.{list_any}
 use Rattle.session.specs.Response.{responses}
 use Rattle.session.specs.DataIn.{data_ins, joined_data, left_of_run, segment_size, Tiles}
-use Rattle.session.specs.Legal.{status_numbers, IsWindow, HaveWindow, IsOfCommand}
+use Rattle.session.specs.Legal.{status_numbers, IsWindow, HaveWindow, IsOfCommand, HasItsData, HaveTheirData}
+use Rattle.iscsi_pdu.specs.Number.{max_data_segment_length}
+use Rattle.session.specs.Setting.{Setting}
 use Rattle.session.specs.AnswerPdus.{data_in_at, cons_if, data_ins_from}
 
 less : (a b : ℕ) → a < b → nat_lt a b ≡ true
@@ -155,6 +157,30 @@ module _ (e : Standing) (tag : ℕ) (l : Lengths) (bytes : List ℕ) (r : Respon
   outs_kinds (suc most) k offset =
       kinds_if (nat_lt offset (length bytes)) k offset _
       (outs_kinds most (k + 1) (offset + segment_size l offset (length bytes)))
+
+  -- each has its data: a Data-In some of the bytes, and no more than a segment
+  data_size : (offset : ℕ) → offset < length bytes
+      → (0 < length (at 0 offset).bytes) × (length (at 0 offset).bytes ≤ max_data_segment_length)
+  data_size offset more =
+      let size : ℕ = segment_size l offset (length bytes) in
+      let all : length (take size (drop offset bytes)) ≡ size = length-take-le size (drop offset bytes)
+      (omega (arith, length-drop offset bytes, size_within l offset (length bytes) more)) in (
+        omega (arith, all, size_some l offset (length bytes) more),
+        omega (arith, all),
+      )
+
+  data_if : (m : Setting) (came : Incoming) → HasItsData m came (ScsiResponse r) sense → (t : Bool) (k offset : ℕ)
+      → nat_lt offset (length bytes) ≡ t → (xs : List Out) → HaveTheirData m came (xs ++ last_of ∷ [])
+      → HaveTheirData m came (cons_if t (at k offset) xs ++ last_of ∷ [])
+  data_if m came last true k offset more xs rest = (data_size offset (ltb-true offset (length bytes) more), rest)
+  data_if m came last false k offset more xs rest = (last, tt)
+
+  pub outs_data : (m : Setting) (came : Incoming) → HasItsData m came (ScsiResponse r) sense → (most k offset : ℕ)
+      → HaveTheirData m came (outs_of most k offset)
+  outs_data m came last zero k offset = (last, tt)
+  outs_data m came last (suc most) k offset =
+      data_if m came last (nat_lt offset (length bytes)) k offset refl _
+      (outs_data m came last most (k + 1) (offset + segment_size l offset (length bytes)))
 
   r2ts_if : (t : Bool) (k offset : ℕ) (xs : List Out) → r2ts_of (xs ++ last_of ∷ []) ≡ []
       → r2ts_of (cons_if t (at k offset) xs ++ last_of ∷ []) ≡ []

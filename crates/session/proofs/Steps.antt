@@ -23,7 +23,7 @@ use Rattle.session.specs.Asking.{Asking}
 use Rattle.session.specs.Turn.{Incoming, pdu, Out, Turn, sent}
 use Rattle.session.specs.Window.{wrap}
 use Rattle.session.specs.Tasks.{data_out_with, is_management, r2t_with, r2ts_of, ends, Task, has_ended, data_outs, r2ts, command_call, command_calls, gathered, is_response, sends_r2t, behind_last, finds_gone, Collecting, collected, collecting_of}
-use Rattle.session.specs.Collecting.{asked_to, IsRequest, IsUncalled, HasCalls, IsCollected, IsRightTask, IsNext, Continues, HasToCollect}
+use Rattle.session.specs.Collecting.{asked_to, IsRequest, IsUncalled, HasCalls, IsCollected, IsTurnedAwayAtOnce, IsRightTask, IsNext, Continues, HasToCollect}
 use Rattle.session.proofs.Right.{last_push, end_is, within_need, more_data, more_asked, reaches}
 use Rattle.session.proofs.Tasks.{with_turn}
 
@@ -45,6 +45,27 @@ data_outs_more own u = filter_map-append (λ t. data_out_with t.came) own (u ∷
 
 ended_more : (own : List Turn) (u : Turn) → list_any ends (own ++ u ∷ []) ≡ (list_any ends own || (ends u || false))
 ended_more own u = list_any-append ends own (u ∷ [])
+
+abbrev manages : Turn → Bool
+manages t = is_management t.came
+
+dropped_more : (own : List Turn) (u : Turn)
+    → list_any manages (own ++ u ∷ []) ≡ (list_any manages own || (manages u || false))
+dropped_more own u = list_any-append manages own (u ∷ [])
+
+-- one that was called has a call
+has_call : (cs : List Asking) (call : Option Asking) (c : Asking) → call ≡ Some c → cs ++ cons_option call [] ≡ [] → ⊥
+has_call [] None c e f = cc
+has_call [] (Some d) c e f = cc
+has_call (x ∷ cs) call c e f = cc
+
+is_dropped : (a b : Bool) → b ≡ true → (a || (b || false)) ≡ false → ⊥
+is_dropped true b e f = cc
+is_dropped false true e f = cc
+is_dropped false false e f = cc
+
+never_ends : {A : Type 0} → false ≡ true → A
+never_ends e = absurd (cc)
 
 or_false : (b : Bool) → (b || false) ≡ b
 or_false true = refl
@@ -113,11 +134,14 @@ module _ (burst : ℕ) (k : Task) (open_task : has_ended k ≡ false) (u : Turn)
       → IsCollected burst k.command asked (length k.segment) (gathered k ++ bytes_in) (r2ts k.own ++ r2ts_of u.sent)
       (ends u || false)
       (command_calls k.own ++ cons_option (command_call u) [])
+      → IsTurnedAwayAtOnce (ends u || false) (list_any manages k.own || (manages u || false))
+      (command_calls k.own ++ cons_option (command_call u) []) (r2ts k.own ++ r2ts_of u.sent)
       → IsRightTask burst (with_turn k u)
-  right_now asked means right = record {
+  right_now asked means right away = record {
     asked = asked;
     means = means;
     right = rw (r2ts_more k.own u, gathered_more k u, calls_more k.own u, ended_more k.own u, open_task) right;
+    turned_away = rw (r2ts_more k.own u, calls_more k.own u, ended_more k.own u, dropped_more k.own u, open_task) away;
   }
 
   collected_is : (rs : List R2tHeader) (bytes : List ℕ) (n : ℕ) → r2ts k.own ++ r2ts_of u.sent ≡ rs
@@ -211,7 +235,7 @@ module _ (burst : ℕ) (some : 0 < burst) (k : Task) (open_task : has_ended k �
             (rw (append-nil (r2ts k.own), append-nil d, append-nil (command_calls k.own), known.no_calls) (record {
               requested = requested_now;
               outcome = record { collects = known.uncalled.collects; within = in_range; waits = λ e. short };
-            })),
+            })) (λ e f g. never_ends e),
         collected_is burst k open_task t (r2ts k.own) joined
             (wrap (length (data_outs (behind_last sends_r2t k.own)) + 1)) (append-nil (r2ts k.own))
             (ap (λ (z : List ℕ). gathered k ++ z) (append-nil d))
@@ -239,7 +263,7 @@ module _ (burst : ℕ) (some : 0 < burst) (k : Task) (open_task : has_ended k �
             (rw (append-nil d, append-nil (command_calls k.own), known.no_calls) (record {
               requested = now;
               outcome = record { collects = known.uncalled.collects; within = omega (arith, far); waits = λ e. far };
-            })),
+            })) (λ e f g. never_ends e),
         collected_is burst k open_task t (r2ts k.own ++ n ∷ []) joined 0 refl
             (ap (λ (z : List ℕ). gathered k ++ z) (append-nil d))
             (ap (λ (us : List Turn). wrap (length (data_outs us))) (behind_more k.own t)) refl
@@ -284,7 +308,7 @@ module _ (burst : ℕ) (some : 0 < burst) (k : Task) (open_task : has_ended k �
                 );
                 unasked = λ not_short. absurd (not_short known.uncalled.collects);
               };
-            })),
+            })) (λ _ f g. absurd (has_call (command_calls k.own) call _ s.call_is g)),
         ended_is burst k open_task t e,
       )
 
@@ -353,7 +377,7 @@ module _ (burst : ℕ) (k : Task) (open_task : has_ended k ≡ false) (right : I
                 waits =
                     λ f. absurd (let g : true ≡ false = f in cc);
               };
-            })),
+            })) (λ _ f g. absurd (is_dropped (list_any manages k.own) (is_management came) managed f)),
         ended_is burst k open_task drop_turn e,
       )
 
@@ -395,6 +419,7 @@ module _ (burst : ℕ) (some : 0 < burst) (b : List ℕ) (p : CommandHeader) (d 
                 (length d) [] none_requested n some all short.short next;
             outcome = record { collects = short; within = omega (arith, far); waits = λ e. far };
           });
+          turned_away = λ e f g. never_ends e;
         },
         rw (append-nil d) refl,
       )
@@ -415,6 +440,7 @@ module _ (burst : ℕ) (some : 0 < burst) (b : List ℕ) (p : CommandHeader) (d 
                   λ f. absurd (let g : true ≡ false = f in cc);
             };
           });
+          turned_away = λ _ f g. ap r2ts_of (append-nil outs) ∙ no_r2t;
         },
         rw e refl,
       )
@@ -445,6 +471,7 @@ module _ (burst : ℕ) (some : 0 < burst) (b : List ℕ) (p : CommandHeader) (d 
               unasked = λ f. refl;
             };
           });
+          turned_away = λ _ f g. ap r2ts_of (append-nil outs) ∙ s.no_r2t;
         },
         rw e refl,
       )

@@ -15,7 +15,7 @@ use Rattle.iscsi_pdu.specs.declared.header.InitiatorHeader.TheVariants.{ScsiComm
 use Rattle.session.specs.declared.verdict.Verdict.TheVariants.{Accepted}
 use Rattle.session.specs.Asking.{Asking}
 use Rattle.session.specs.Turn.{pdu, Out, Turn}
-use Rattle.session.specs.Drops.{drops, found_unit}
+use Rattle.session.specs.Drops.{drops, names_one_of}
 use Rattle.session.specs.Tasks.{ends, r2ts_of, Task, accepted_command, begun_by, tasks, has_ended, Collecting, collected, collecting_of, collecting, has_tag}
 use Rattle.session.specs.Collecting.{IsRightTask, Continues}
 use Rattle.session.proofs.TaskTurn.{IsOpened, asks, busy, called, IsFed, filling, on, now, IsTakenData, keeps}
@@ -122,28 +122,28 @@ pub record IsKept (burst : ℕ) (ks : List Task) (cs : List Collecting) : Type 0
   pub tied : filter_map collecting_of ks ≡ cs
   pub unique : IsUnique cs
 
-module _ (burst : ℕ) (some : 0 < burst) (ks : List Task) (cs : List Collecting) (kept : IsKept burst ks cs) where
+module _ (units burst : ℕ) (some : 0 < burst) (ks : List Task) (cs : List Collecting) (kept : IsKept burst ks cs) where
   -- a turn that concerns none and begins none
-  pub nothing_comes : (u : Turn) → ((p : CommandHeader) → Rattle.session.specs.Tasks.touches p u ≡ false)
-      → IsKept burst (map (extended u) ks) cs
-  nothing_comes u f = subst (λ (z : List Task). IsKept burst z cs) (sym (still u ks f)) kept
+  pub nothing_comes : (u : Turn) → ((p : CommandHeader) → Rattle.session.specs.Tasks.touches units p u ≡ false)
+      → IsKept burst (map (extended units u) ks) cs
+  nothing_comes u f = subst (λ (z : List Task). IsKept burst z cs) (sym (still units u ks f)) kept
 
   pub command_comes : (b : List ℕ) (p : CommandHeader) (d : List ℕ) (asked : Result Command CdbFault) → Means p.cdb asked
       → (call : Option Asking) (outs : List Out) (new : List Collecting) → list_any (has_tag p.task_tag) cs ≡ false
       → IsOpened burst p asked d call outs new
       → let u : Turn = record { came = pdu b (Initiator (ScsiCommand p)) d; verdict = Accepted; call = call; sent = outs } in
-      IsKept burst (map (extended u) ks ++ record { command = p; segment = d; own = u ∷ [] } ∷ []) (cs ++ new)
+      IsKept burst (map (extended units u) ks ++ record { command = p; segment = d; own = u ∷ [] } ∷ []) (cs ++ new)
   command_comes b p d asked means call outs new fresh k =
       let u : Turn = record { came = pdu b (Initiator (ScsiCommand p)) d; verdict = Accepted; call = call; sent = outs } in
       let none = none_of_any p.task_tag cs fresh in
-      let same : map (extended u) ks ≡ ks = still u ks (λ q. refl) in
+      let same : map (extended units u) ks ≡ ks = still units u ks (λ q. refl) in
       let o = opened burst some b p d asked means call outs new k in
       record {
-        right = all_append (IsRightTask burst) (map (extended u) ks) _
+        right = all_append (IsRightTask burst) (map (extended units u) ks) _
             (subst (AllByRecursion (IsRightTask burst)) (sym same) kept.right) (o.0, tt);
-        tied = filter_map-append collecting_of (map (extended u) ks)
+        tied = filter_map-append collecting_of (map (extended units u) ks)
             (record { command = p; segment = d; own = u ∷ [] } ∷ [])
-            ∙ ap (λ (z : List Collecting). filter_map collecting_of (map (extended u) ks) ++ z) o.1
+            ∙ ap (λ (z : List Collecting). filter_map collecting_of (map (extended units u) ks) ++ z) o.1
             ∙ ap (λ (z : List Task). filter_map collecting_of z ++ new) same
             ∙ ap (λ (z : List Collecting). z ++ new) kept.tied;
         unique = added new p.task_tag cs (opened_place burst p asked d call outs new k) none kept.unique;
@@ -152,7 +152,7 @@ module _ (burst : ℕ) (some : 0 < burst) (ks : List Task) (cs : List Collecting
   pub data_comes : (b : List ℕ) (x : DataOutHeader) (d : List ℕ) (call : Option Asking) (outs : List Out)
       (cs' : List Collecting)
       → IsTakenData burst cs x d call outs cs'
-      → IsKept burst (map (extended (record {
+      → IsKept burst (map (extended units (record {
         came = pdu b (Initiator (DataOut x)) d;
         verdict = Accepted;
         call = call;
@@ -162,9 +162,9 @@ module _ (burst : ℕ) (some : 0 < burst) (ks : List Task) (cs : List Collecting
       let u : Turn = record { came = pdu b (Initiator (DataOut x)) d; verdict = Accepted; call = call; sent = outs } in
       let whole : IsUnique (k.front ++ (k.this ∷ k.back)) = subst IsUnique k.whole kept.unique in
       let none = apart k.front k.this k.back whole in
-      let w = walk burst u x.task_tag (λ p. refl) k.this k.back k.new
+      let w = walk units burst u x.task_tag (λ p. refl) k.this k.back k.new
       (λ task right open_task is. subst (λ (z : Task). IsRightTask burst z × (cons_option (collecting_of z) [] ≡ k.new))
-      (sym (touched_is u task open_task
+      (sym (touched_is units u task open_task
       (eq-eqb task.command.task_tag x.task_tag (ap (λ (c : Collecting). c.command.task_tag) is ∙ k.tag))))
       (touch task right open_task is))
       (subst (λ (g : ℕ). HasNone g k.back) k.tag none.1) ks k.front kept.right (kept.tied
@@ -199,14 +199,14 @@ module _ (burst : ℕ) (some : 0 < burst) (ks : List Task) (cs : List Collecting
 
   pub management_comes : (b : List ℕ) (x : ManagementHeader) (d : List ℕ) (call : Option Asking) (outs : List Out)
       → r2ts_of outs ≡ []
-      → IsKept burst (map (extended
+      → IsKept burst (map (extended units
       (record {
         came = pdu b (Initiator (TaskManagementRequest x)) d;
         verdict = Accepted;
         call = call;
         sent = outs;
       })) ks)
-      (filter (keeps x outs) cs)
+      (filter (keeps units x) cs)
   management_comes b x d call outs no_r2t =
       let u : Turn = record {
         came = pdu b (Initiator (TaskManagementRequest x)) d;
@@ -215,12 +215,12 @@ module _ (burst : ℕ) (some : 0 < burst) (ks : List Task) (cs : List Collecting
             call;
         sent = outs;
       } in
-      let w = drop_all burst u (λ p. drops x p && found_unit outs) (λ p. refl)
+      let w = drop_all units burst u (λ p. drops x p && names_one_of units x.lun) (λ p. refl)
       (λ k right open_task. dropped burst k open_task right Accepted
       (pdu b (Initiator (TaskManagementRequest x)) d) call outs refl refl no_r2t) ks kept.right in
       record {
         right = w.0;
-        tied = w.1 ∙ ap (filter (keeps x outs)) kept.tied;
+        tied = w.1 ∙ ap (filter (keeps units x)) kept.tied;
         unique =
-            unique_kept (keeps x outs) cs kept.unique;
+            unique_kept (keeps units x) cs kept.unique;
       }

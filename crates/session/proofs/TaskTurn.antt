@@ -15,7 +15,7 @@ use Rattle.session.specs.Asking.{Asking, served}
 use Rattle.session.specs.Turn.{Out}
 use Rattle.session.specs.Transfer.{data_for}
 use Rattle.session.specs.Window.{wrap}
-use Rattle.session.specs.Drops.{drops, found_unit}
+use Rattle.session.specs.Drops.{drops, names_one_of}
 use Rattle.session.specs.Tasks.{Collecting, r2ts_of, is_response, finds_gone}
 use Rattle.session.specs.Collecting.{IsNext, HasToCollect, Continues}
 
@@ -97,6 +97,6 @@ pub record IsTakenData (burst : ℕ) (cs : List Collecting) (x : DataOutHeader) 
       (continues.request.offset + continues.request.desired_length) call outs new
   pub after : cs' ≡ front ++ (new ++ back)
 
--- the tasks that a request does not drop, which is answered so
-abbrev pub keeps : ManagementHeader → List Out → Collecting → Bool
-keeps x outs c = not (drops x c.command && found_unit outs)
+-- the tasks that a request does not drop, where there are so many units
+abbrev pub keeps : ℕ → ManagementHeader → Collecting → Bool
+keeps units x c = not (drops x c.command && names_one_of units x.lun)

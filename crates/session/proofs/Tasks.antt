@@ -45,8 +45,8 @@ extended_by u true true k = k
 extended_by u true false k = with_turn k u
 extended_by u false ended k = k
 
-abbrev pub extended : Turn → Task → Task
-extended u k = extended_by u (touches k.command u) (has_ended k) k
+abbrev pub extended : ℕ → Turn → Task → Task
+extended units u k = extended_by u (touches units k.command u) (has_ended k) k
 
 abbrev pub of_command : CommandHeader → List ℕ → List Turn → Task
 of_command p d own = record { command = p; segment = d; own = through ends own }
@@ -59,32 +59,33 @@ command_step p d own u true true e = ap (λ (z : List Turn). record { command = 
 command_step p d own u true false e = ap (λ (z : List Turn). record { command = p; segment = d; own = z }) e
 command_step p d own u false c e = ap (of_command p d) (append-nil own)
 
-command_more : (p : CommandHeader) (d : List ℕ) (t : Turn) (behind : List Turn) (u : Turn)
-    → of_command p d (t ∷ filter (touches p) (behind ++ u ∷ [])) ≡ extended u
-    (of_command p d (t ∷ filter (touches p) behind))
-command_more p d t behind u =
-    let own : List Turn = t ∷ filter (touches p) behind in
-    ap (λ (z : List Turn). of_command p d (t ∷ z)) (filter-append (touches p) behind (u ∷ []))
-    ∙ command_step p d own u (touches p u) (list_any ends own) (through_more ends own u)
-    ∙ ap (λ (c : Bool). extended_by u (touches p u) c (of_command p d own)) (sym (any_through ends own))
-
-tasks_step : (o : Option (CommandHeader × List ℕ)) (t : Turn) (behind : List Turn) (u : Turn) (more rest front : List Task)
-    → more ≡ map (extended u) front ++ rest
-    → cons_option (begun_by o t (behind ++ u ∷ [])) more ≡ map (extended u) (cons_option (begun_by o t behind) front) ++ rest
-tasks_step None t behind u more rest front e = e
-tasks_step (Some c) t behind u more rest front e =
-    ap (λ (k : Task). k ∷ more) (command_more c.0 c.1 t behind u)
-    ∙ ap (λ (ks : List Task). extended u (of_command c.0 c.1 (t ∷ filter (touches c.0) behind)) ∷ ks) e
-
 pub last_task : (o : Option Task) → cons_option o [] ≡ option_to_list o
 last_task None = refl
 last_task (Some k) = refl
 
--- the tasks with a turn more: those before, each with this turn, and the one that it begins
-pub tasks_more : (ts : List Turn) (u : Turn)
-    → tasks (ts ++ u ∷ []) ≡ map (extended u) (tasks ts)
-    ++ option_to_list (begun_by (accepted_command u.verdict u.came) u [])
-tasks_more [] u = last_task (begun_by (accepted_command u.verdict u.came) u [])
-tasks_more (t ∷ behind) u =
-    tasks_step (accepted_command t.verdict t.came) t behind u _
-    (option_to_list (begun_by (accepted_command u.verdict u.came) u [])) (tasks behind) (tasks_more behind u)
+module _ (units : ℕ) where
+  command_more : (p : CommandHeader) (d : List ℕ) (t : Turn) (behind : List Turn) (u : Turn)
+      → of_command p d (t ∷ filter (touches units p) (behind ++ u ∷ [])) ≡ extended units u
+      (of_command p d (t ∷ filter (touches units p) behind))
+  command_more p d t behind u =
+      let own : List Turn = t ∷ filter (touches units p) behind in
+      ap (λ (z : List Turn). of_command p d (t ∷ z)) (filter-append (touches units p) behind (u ∷ []))
+      ∙ command_step p d own u (touches units p u) (list_any ends own) (through_more ends own u)
+      ∙ ap (λ (c : Bool). extended_by u (touches units p u) c (of_command p d own)) (sym (any_through ends own))
+
+  tasks_step : (o : Option (CommandHeader × List ℕ)) (t : Turn) (behind : List Turn) (u : Turn) (more rest front : List Task)
+      → more ≡ map (extended units u) front ++ rest
+      → cons_option (begun_by units o t (behind ++ u ∷ [])) more ≡ map (extended units u) (cons_option (begun_by units o t behind) front) ++ rest
+  tasks_step None t behind u more rest front e = e
+  tasks_step (Some c) t behind u more rest front e =
+      ap (λ (k : Task). k ∷ more) (command_more c.0 c.1 t behind u)
+      ∙ ap (λ (ks : List Task). extended units u (of_command c.0 c.1 (t ∷ filter (touches units c.0) behind)) ∷ ks) e
+
+  -- the tasks with a turn more: those before, each with this turn, and the one that it begins
+  pub tasks_more : (ts : List Turn) (u : Turn)
+      → tasks units (ts ++ u ∷ []) ≡ map (extended units u) (tasks units ts)
+      ++ option_to_list (begun_by units (accepted_command u.verdict u.came) u [])
+  tasks_more [] u = last_task (begun_by units (accepted_command u.verdict u.came) u [])
+  tasks_more (t ∷ behind) u =
+      tasks_step (accepted_command t.verdict t.came) t behind u _
+      (option_to_list (begun_by units (accepted_command u.verdict u.came) u [])) (tasks units behind) (tasks_more behind u)

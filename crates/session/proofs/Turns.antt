@@ -22,7 +22,7 @@ use Rattle.session.specs.declared.target.ResetAnswer.{ResetAnswer}
 use Rattle.session.specs.declared.task_management.Management.{Management}
 use Rattle.session.specs.declared.task_management.Management.TheVariants.{Respond, Reset}
 use Rattle.session.specs.declared.target.TargetAnswer.{TargetAnswer}
-use Rattle.session.specs.declared.target.TargetAnswer.TheVariants.{Replied, Outside, Busy, Gone, Halted}
+use Rattle.session.specs.declared.target.TargetAnswer.TheVariants.{Replied, Outside, Busy, Gone}
 use Rattle.session.specs.declared.verdict.Verdict.{Verdict}
 use Rattle.session.specs.declared.verdict.Verdict.TheVariants.{Accepted, Full, Ignored, Gap, Refused}
 use Rattle.session.specs.Asking.{Asking, served, reset}
@@ -257,7 +257,6 @@ module _ {T : Type 0} (leads : T → Asking → T → Type 0) (s mid s' : Counte
   reply_is p need (Replied r) k = ((k.pdus_are b, k.next), k.no_end)
   reply_is p need (Outside r) k = ((k.pdus_are b, k.next), k.no_end)
   reply_is p need Busy k = ((k.pdus_are b, k.next), k.no_end)
-  reply_is p need Halted k = ((k.pdus_are b, k.next), k.no_end)
   reply_is p need Gone k = ((ap (sent_by b) k.silent.pdus_are, k.next), k.ends)
 
   moved : (q p : CommandHeader) (n m : ℕ) (next : Counters) (outs : List Out) → q ≡ p → n ≡ m → mid ≡ next

@@ -10,13 +10,12 @@ use Rattle.session.specs.declared.actions.Pdus.{Pdus}
 use Rattle.session.specs.declared.actions.Pdus.TheVariants as pdus
 use Rattle.session.specs.declared.actions.DataInPdu.{DataInPdu}
 use Rattle.session.specs.declared.actions.DataIns.{DataIns}
-use Rattle.iscsi_pdu.specs.declared.TheConstants.{MAX_DATA_SEGMENT_LENGTH}
+use Rattle.iscsi_pdu.specs.Number.{max_data_segment_length}
 use Rattle.session.specs.declared.lengths.Lengths.{Lengths}
-use Rattle.session.specs.declared.data_in.TheConstants.{NO_TRANSFER_TAG}
 use Rattle.session.specs.declared.response.Completion.{Completion}
-use Rattle.session.specs.declared.response.TheConstants.{COMPLETED, TARGET_FAILURE}
+use Rattle.session.specs.Codes.{completed, no_transfer_tag}
 use Rattle.session.specs.declared.target.TargetAnswer.{TargetAnswer}
-use Rattle.session.specs.declared.target.TargetAnswer.TheVariants.{Replied, Outside, Busy, Gone, Halted}
+use Rattle.session.specs.declared.target.TargetAnswer.TheVariants.{Replied, Outside, Busy, Gone}
 use Rattle.session.specs.Turn.{Out}
 use Rattle.session.specs.Transfer.{expected_transfer, sent_data, transfer_of, residual_count}
 use Rattle.session.specs.Response.{sense_part}
@@ -29,7 +28,7 @@ abbrev pub AreInReach : Pdus → Type 0
 AreInReach pdus.Nothing = Unit {0}
 AreInReach (pdus.Reject r) = Unit {0}
 AreInReach (pdus.R2t r) = Unit {0}
-AreInReach (pdus.Response x) = length x.bytes.now ≤ MAX_DATA_SEGMENT_LENGTH
+AreInReach (pdus.Response x) = length x.bytes.now ≤ max_data_segment_length
 AreInReach (pdus.Answer x r s) = length x.bytes.now ≤ 4294967295
 
 -- a Data-In that goes out
@@ -42,7 +41,7 @@ data_in_at numbers tag l k offset bytes = record {
   header = DataIn (record {
     last = segment_size l offset (length bytes) == left_of_run l offset (length bytes);
     task_tag = tag;
-    transfer_tag = NO_TRANSFER_TAG;
+    transfer_tag = no_transfer_tag;
     numbers = numbers;
     data_sn = k;
     offset = offset;
@@ -74,7 +73,7 @@ abbrev pub response_for : Numbers → CommandHeader → ℕ → ℕ → Completi
 response_for numbers p transfer data_ins completion = record {
   overflow = nat_lt (expected_transfer p) transfer;
   underflow = nat_lt transfer (expected_transfer p);
-  response = completion.response;
+  response = completed;
   status = status_code completion.status;
   task_tag = p.task_tag;
   numbers = numbers;
@@ -92,15 +91,14 @@ reply_with s p need bytes completion =
 
 -- what a SCSI Response tells of an answer; there is none where the session is gone
 abbrev pub completion_of : TargetAnswer → Option Completion
-completion_of (Replied a) = Some (record { response = COMPLETED; status = a.status; sense = a.sense })
-completion_of (Outside a) = Some (record { response = COMPLETED; status = a.status; sense = a.sense })
-completion_of Busy = Some (record { response = COMPLETED; status = statuses.Busy; sense = None })
-completion_of Halted = Some (record { response = TARGET_FAILURE; status = statuses.Good; sense = None })
+completion_of (Replied a) = Some (record { status = a.status; sense = a.sense })
+completion_of (Outside a) = Some (record { status = a.status; sense = a.sense })
+completion_of Busy = Some (record { status = statuses.Busy; sense = None })
 completion_of Gone = None
 
 -- and of a command for whose data there is no buffer, or that finds the task set full
 abbrev pub busy : Completion
-busy = record { response = COMPLETED; status = statuses.Busy; sense = None }
+busy = record { status = statuses.Busy; sense = None }
 
 abbrev pub task_set_full : Completion
-task_set_full = record { response = COMPLETED; status = statuses.TaskSetFull; sense = None }
+task_set_full = record { status = statuses.TaskSetFull; sense = None }

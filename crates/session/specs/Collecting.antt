@@ -13,7 +13,7 @@ use Rattle.session.specs.declared.target.TargetAnswer.{TargetAnswer}
 use Rattle.session.specs.Asking.{Asking, served}
 use Rattle.session.specs.Transfer.{data_for}
 use Rattle.session.specs.Window.{wrap}
-use Rattle.session.specs.Tasks.{Task, Collecting, has_ended, gathered, r2ts, command_calls}
+use Rattle.session.specs.Tasks.{Task, Collecting, has_ended, was_dropped, gathered, r2ts, command_calls}
 
 -- a write that expects to send all that it needs, and whose immediate data is less
 pub record HasToCollect (p : CommandHeader) (need immediate : ℕ) : Type 0 where
@@ -74,12 +74,18 @@ pub record IsCollected (burst : ℕ) (p : CommandHeader) (asked : Result Command
       → IsRequest burst p (need_of asked) immediate (length bytes) rs i r
   pub outcome : HasCalls p asked immediate bytes rs ended cs
 
+-- one that ended without a call, and that was not dropped, had no R2T: it was turned away before any of its data was asked
+-- for
+abbrev pub IsTurnedAwayAtOnce : Bool → Bool → List Asking → List R2tHeader → Type 0
+IsTurnedAwayAtOnce ended dropped cs rs = ended ≡ true → dropped ≡ false → cs ≡ [] → rs ≡ []
+
 -- a task is right: by what its CDB asks for
 pub record IsRightTask (burst : ℕ) (k : Task) : Type 0 where
   pub asked : Result Command CdbFault
   pub means : Means k.command.cdb asked
   pub right : IsCollected burst k.command asked (length k.segment) (gathered k) (r2ts k.own) (has_ended k)
       (command_calls k.own)
+  pub turned_away : IsTurnedAwayAtOnce (has_ended k) (was_dropped k) (command_calls k.own) (r2ts k.own)
 
 -- A Data-Out continues the R2T that is outstanding (11.7): its Target Transfer Tag, the next DataSN, the next byte, and
 -- none past its range.

@@ -5,8 +5,8 @@ use Rattle.iscsi_pdu.specs.declared.header.ScsiCommand.{ScsiCommand as CommandHe
 use Rattle.iscsi_pdu.specs.declared.header.DataIn.{DataIn as DataInHeader}
 use Rattle.iscsi_pdu.specs.declared.header.TargetHeader.{TargetHeader}
 use Rattle.iscsi_pdu.specs.declared.header.TargetHeader.TheVariants.{DataIn}
-use Rattle.iscsi_pdu.specs.declared.TheConstants.{MAX_DATA_SEGMENT_LENGTH}
-use Rattle.session.specs.declared.data_in.TheConstants.{NO_TRANSFER_TAG}
+use Rattle.iscsi_pdu.specs.Number.{max_data_segment_length}
+use Rattle.session.specs.Codes.{no_transfer_tag}
 use Rattle.session.specs.declared.lengths.Lengths.{Lengths}
 use Rattle.session.specs.Turn.{Out}
 
@@ -29,7 +29,7 @@ left_of_run l offset total = min (l.burst - offset % l.burst) (total - offset)
 -- how many bytes the Data-In at an offset carries: as many as are left, up to the initiator's
 -- MaxRecvDataSegmentLength and our own limit
 abbrev pub segment_size : Lengths → ℕ → ℕ → ℕ
-segment_size l offset total = min (min (left_of_run l offset total) l.data_segment) MAX_DATA_SEGMENT_LENGTH
+segment_size l offset total = min (min (left_of_run l offset total) l.data_segment) max_data_segment_length
 
 -- the Data-In at a place among those of a command that returns so many bytes: DataSN counts, the offset is where it
 -- lies, and F stands where it ends its run or the data
@@ -41,7 +41,7 @@ pub record IsSegment (l : Lengths) (p : CommandHeader) (total : ℕ) (segments :
   pub size : length d ≡ segment_size l h.offset total
   pub last : IsTrue h.last ↔ (length d ≡ left_of_run l h.offset total)
   pub tag : h.task_tag ≡ p.task_tag
-  pub no_transfer : h.transfer_tag ≡ NO_TRANSFER_TAG
+  pub no_transfer : h.transfer_tag ≡ no_transfer_tag
   pub no_status : h.numbers.stat_sn ≡ 0
 
 -- the Data-In segments tile these bytes, once and in order

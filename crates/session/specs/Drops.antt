@@ -1,10 +1,7 @@
 -- Which tasks a task management function drops (RFC 7143, 11.5.1).
-use Rattle.std.specs.Prelude.{ℕ, ◌==◌, ◌&&◌, ◌||◌, not, bytes_eq, drop, slice_index, Bool, false, if◌then◌else◌, List}
-use Rattle.std.specs.List.{list_any}
+use Rattle.std.specs.Prelude.{ℕ, ◌==◌, ◌&&◌, ◌||◌, nat_lt, bytes_eq, drop, slice_index, Bool, false, if◌then◌else◌, List, [], ◌∷◌}
 use Rattle.iscsi_pdu.specs.declared.header.ScsiCommand.{ScsiCommand as CommandHeader}
 use Rattle.iscsi_pdu.specs.declared.header.TaskManagementRequest.{TaskManagementRequest as ManagementHeader}
-use Rattle.iscsi_pdu.specs.declared.header.TargetHeader.{TargetHeader}
-use Rattle.iscsi_pdu.specs.declared.header.TargetHeader.TheVariants.{TaskManagementResponse}
 use Rattle.session.specs.declared.task_management.TaskFunction.{TaskFunction}
 use Rattle.session.specs.declared.task_management.TaskFunction.TheVariants.{
   AbortTask,
@@ -13,8 +10,6 @@ use Rattle.session.specs.declared.task_management.TaskFunction.TheVariants.{
   TaskReassign,
   Unserved,
 }
-use Rattle.session.specs.declared.task_management.TheConstants.{LUN_DOES_NOT_EXIST}
-use Rattle.session.specs.Turn.{Out}
 
 -- the functions by their numbers (11.5.1)
 abbrev pub function_of : ℕ → TaskFunction
@@ -40,10 +35,8 @@ drops_by Unserved x p = false
 abbrev pub drops : ManagementHeader → CommandHeader → Bool
 drops x p = drops_by (function_of x.function) x p
 
--- a request whose unit is not there is answered so, and drops none
-abbrev pub tells_of_no_unit : TargetHeader → Bool
-tells_of_no_unit (TaskManagementResponse p) = p.response == LUN_DOES_NOT_EXIST
-tells_of_no_unit h = false
-
-abbrev pub found_unit : List Out → Bool
-found_unit outs = not (list_any (λ o. tells_of_no_unit o.header) outs)
+-- a LUN that names one of so many units, from unit 0 on, by peripheral or flat addressing
+abbrev pub names_one_of : ℕ → List ℕ → Bool
+names_one_of units lun =
+    (slice_index lun 0 == 0x00 || slice_index lun 0 == 0x40)
+    && bytes_eq (drop 2 lun) (0 ∷ 0 ∷ 0 ∷ 0 ∷ 0 ∷ 0 ∷ []) && nat_lt (slice_index lun 1) units

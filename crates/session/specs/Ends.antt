@@ -4,7 +4,7 @@ use Rattle.iscsi_pdu.specs.Pdu.{IsPdu}
 use Rattle.iscsi_pdu.specs.Fault.{Stands}
 use Rattle.iscsi_pdu.specs.declared.header.Header.{Header}
 use Rattle.iscsi_pdu.specs.declared.fault.PduFault.{PduFault}
-use Rattle.iscsi_pdu.specs.declared.TheConstants.{BHS_LENGTH}
+use Rattle.iscsi_pdu.specs.Number.{bhs_length}
 use Rattle.session.specs.declared.end.End.{End}
 use Rattle.session.specs.declared.end.End.TheVariants.{EndOfInput, InputFailed, OutputFailed, Protocol, Reinstated, LoggedOut}
 use Rattle.session.specs.Turn.{Incoming, pdu, faulty}
@@ -13,12 +13,12 @@ use Rattle.session.specs.Phases.{Exchange, NoneEnds}
 -- no PDU and no fault with its whole header segment stands at the front of these bytes
 pub record NoneWhole (rest : List ℕ) : Type 0 where
   pub no_pdu : (n : ℕ) (h : Header) (d : List ℕ) → IsPdu (take n rest) h d → n ≤ length rest → ⊥
-  pub no_fault : (f : PduFault) → Stands rest f → length rest < BHS_LENGTH
+  pub no_fault : (f : PduFault) → Stands rest f → length rest < bhs_length
 
 -- a fault can only be the last that comes: it stands at the front of what was read behind the PDUs
 abbrev pub StandsBehind : Incoming → List ℕ → Type 0
 StandsBehind (pdu bhs h d) rest = Unit {0}
-StandsBehind (faulty f bhs) rest = Stands rest f × (BHS_LENGTH ≤ length rest) × (bhs ≡ take BHS_LENGTH rest)
+StandsBehind (faulty f bhs) rest = Stands rest f × (bhs_length ≤ length rest) × (bhs ≡ take bhs_length rest)
 
 -- the last turn calls for this end, and none before it does
 pub record EndsWith (es : List Exchange) (rest : List ℕ) (end : Option End) : Type 0 where

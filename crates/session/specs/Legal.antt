@@ -1,13 +1,23 @@
 -- Which turns of full feature phase are legal (RFC 7143, sections 4 and 7). They are a list; each fact is judged
 -- of the turn at each place, with the turns before it, so what holds of a transcript holds of each beginning.
-use Rattle.std.specs.Prelude.{◌≡◌, ℕ, ◌+◌, if◌then◌else◌, List, [], ◌∷◌, ◌++◌, length}
+use Rattle.std.specs.Prelude.{◌≡◌, ℕ, ◌+◌, ◌<◌, ◌≤◌, if◌then◌else◌, List, [], ◌∷◌, ◌++◌, length}
 use Rattle.std.specs.Prelude.{Option, Some, None, Result, IfSome, MatchOption, slice_get}
 use Rattle.std.specs.List.{filter_map, AllByRecursion}
 use Rattle.scsi_types.specs.Cdb.{Means}
 use Rattle.scsi_types.specs.declared.command.Command.{Command}
 use Rattle.scsi_types.specs.declared.command.CdbFault.{CdbFault}
-use Rattle.iscsi_pdu.specs.declared.header.Header.TheVariants.{Initiator}
-use Rattle.iscsi_pdu.specs.declared.header.InitiatorHeader.TheVariants.{ScsiCommand, DataOut, LogoutRequest}
+use Rattle.scsi_types.specs.declared.sense.Sense.{Sense}
+use Rattle.iscsi_pdu.specs.Number.{max_data_segment_length}
+use Rattle.iscsi_pdu.specs.declared.header.Header.TheVariants.{Initiator, Target}
+use Rattle.iscsi_pdu.specs.declared.header.InitiatorHeader.TheVariants.{
+  NopOut,
+  ScsiCommand,
+  TaskManagementRequest,
+  LoginRequest,
+  TextRequest,
+  DataOut,
+  LogoutRequest,
+}
 use Rattle.iscsi_pdu.specs.declared.header.TargetHeader.{TargetHeader}
 use Rattle.iscsi_pdu.specs.declared.header.TargetHeader.TheVariants.{NopIn, ScsiResponse, TaskManagementResponse, LoginResponse}
 use Rattle.iscsi_pdu.specs.declared.header.TargetHeader.TheVariants.{TextResponse, DataIn, LogoutResponse, R2t, Reject}
@@ -16,14 +26,13 @@ use Rattle.iscsi_pdu.specs.declared.header.Numbers.{Numbers}
 use Rattle.session.specs.declared.end.End.{End}
 use Rattle.session.specs.declared.end.End.TheVariants.{Protocol, Reinstated, LoggedOut}
 use Rattle.session.specs.declared.lengths.Lengths.{Lengths}
-use Rattle.session.specs.declared.session.Start.{Start}
 use Rattle.session.specs.declared.target.TargetAnswer.{TargetAnswer}
-use Rattle.session.specs.declared.target.TargetAnswer.TheVariants.{Replied, Outside, Busy, Gone, Halted}
+use Rattle.session.specs.declared.target.TargetAnswer.TheVariants.{Replied, Outside, Busy, Gone}
 use Rattle.session.specs.declared.target.ResetAnswer.{ResetAnswer}
 use Rattle.session.specs.declared.target.ResetAnswer.TheVariants as resets
 use Rattle.session.specs.declared.verdict.Verdict.{Verdict}
 use Rattle.session.specs.declared.verdict.Verdict.TheVariants.{Accepted, Full, Ignored, Gap, Refused}
-use Rattle.session.specs.Asking.{Asking, served, reset}
+use Rattle.session.specs.Asking.{Asking, began, lives, served, reset, over}
 use Rattle.session.specs.Setting.{Setting}
 use Rattle.session.specs.Turn.{Incoming, pdu, faulty, Out, Turn, sent}
 use Rattle.session.specs.Window.{wrap, numbers_of}
@@ -33,8 +42,10 @@ use Rattle.session.specs.Standing.{Standing, standing, last_in_window}
 use Rattle.session.specs.Verdict.{IsJudged}
 use Rattle.session.specs.Transfer.{expected_transfer, sent_data}
 use Rattle.session.specs.Answered.{Answered, answered_in, IsCalled, outcome_data, needed}
-use Rattle.session.specs.Response.{responses, IsAnsweredAs, IsResidual, IsToldAs}
+use Rattle.session.specs.Response.{responses, sense_part, IsAnsweredAs, IsResidual, IsToldAs}
 use Rattle.session.specs.DataIn.{data_ins, Tiles}
+use Rattle.session.specs.Nop.{echo}
+use Rattle.session.specs.Text.{text_answer}
 use Rattle.session.specs.Logout.{closes}
 use Rattle.session.specs.Requests.{IsRequestAnswered}
 
@@ -55,7 +66,8 @@ status_number (LoginResponse p) = Some p.numbers.stat_sn
 status_number (TextResponse p) = Some p.numbers.stat_sn
 status_number (LogoutResponse p) = Some p.numbers.stat_sn
 status_number (Reject p) = Some p.numbers.stat_sn
-status_number h = None
+status_number (DataIn p) = None
+status_number (R2t p) = None
 
 abbrev pub status_numbers : List Out → List ℕ
 status_numbers outs = filter_map (λ o. status_number o.header) outs
@@ -81,7 +93,12 @@ abbrev pub IsOfCommand : TargetHeader → Type 0
 IsOfCommand (ScsiResponse p) = Unit {0}
 IsOfCommand (DataIn p) = Unit {0}
 IsOfCommand (R2t p) = Unit {0}
-IsOfCommand h = ⊥
+IsOfCommand (NopIn p) = ⊥
+IsOfCommand (TaskManagementResponse p) = ⊥
+IsOfCommand (LoginResponse p) = ⊥
+IsOfCommand (TextResponse p) = ⊥
+IsOfCommand (LogoutResponse p) = ⊥
+IsOfCommand (Reject p) = ⊥
 
 -- a PDU that is rejected has a Reject with its basic header segment, and nothing else; one that is ignored or out of
 -- order has nothing
@@ -89,19 +106,48 @@ abbrev pub bhs_of : Incoming → List ℕ
 bhs_of (pdu bhs h d) = bhs
 bhs_of (faulty f bhs) = bhs
 
-abbrev pub IsOfAccepted : Incoming → List Out → Type 0
-IsOfAccepted (pdu b (Initiator (ScsiCommand p)) d) outs = AllByRecursion (λ o. IsOfCommand o.header) outs
-IsOfAccepted (pdu b (Initiator (DataOut x)) d) outs = AllByRecursion (λ o. IsOfCommand o.header) outs
-IsOfAccepted came outs = Unit {0}
+-- for a command, and for its data, that are accepted go out PDUs of a command; `requests` says what goes out for the others
+abbrev pub IsSentForAccepted : Incoming → List Out → Type 0
+IsSentForAccepted (pdu b (Initiator (NopOut p)) d) outs = Unit {0}
+IsSentForAccepted (pdu b (Initiator (ScsiCommand p)) d) outs = AllByRecursion (λ o. IsOfCommand o.header) outs
+IsSentForAccepted (pdu b (Initiator (TaskManagementRequest p)) d) outs = Unit {0}
+IsSentForAccepted (pdu b (Initiator (LoginRequest p)) d) outs = ⊥
+IsSentForAccepted (pdu b (Initiator (TextRequest p)) d) outs = Unit {0}
+IsSentForAccepted (pdu b (Initiator (DataOut x)) d) outs = AllByRecursion (λ o. IsOfCommand o.header) outs
+IsSentForAccepted (pdu b (Initiator (LogoutRequest p)) d) outs = Unit {0}
+IsSentForAccepted (pdu b (Target h) d) outs = ⊥
+IsSentForAccepted (faulty f b) outs = ⊥
 
-abbrev pub IsRejected : Verdict → Incoming → List Out → Type 0
-IsRejected Accepted came outs = IsOfAccepted came outs
-IsRejected Full came outs = AllByRecursion (λ o. IsOfCommand o.header) outs × (r2ts_of outs ≡ [])
-IsRejected Ignored came outs = outs ≡ []
-IsRejected Gap came outs = outs ≡ []
-IsRejected (Refused reason) came outs =
+abbrev pub IsSentFor : Verdict → Incoming → List Out → Type 0
+IsSentFor Accepted came outs = IsSentForAccepted came outs
+IsSentFor Full came outs = AllByRecursion (λ o. IsOfCommand o.header) outs × (r2ts_of outs ≡ [])
+IsSentFor Ignored came outs = outs ≡ []
+IsSentFor Gap came outs = outs ≡ []
+IsSentFor (Refused reason) came outs =
     (n : Numbers)
     × (outs ≡ record { header = Reject (record { reason = reason; numbers = n }); bytes = bhs_of came } ∷ [])
+
+-- The data that a PDU of each kind carries. An R2T, and the response to a Logout or to task management, have none; a NOP-In
+-- has what came with its NOP-Out, a Text Response the answer to the text of its request, a SCSI Response its sense or none,
+-- a Reject the header segment of what is rejected; a Data-In has some of what the target answered, by `tiled`. No Login
+-- Response goes out any more.
+abbrev pub segment_of : Incoming → List ℕ
+segment_of (pdu bhs h d) = d
+segment_of (faulty f bhs) = []
+
+abbrev pub HasItsData : Setting → Incoming → TargetHeader → List ℕ → Type 0
+HasItsData m came (NopIn p) d = d ≡ echo m.start.lengths (segment_of came)
+HasItsData m came (ScsiResponse p) d = (sense : Option Sense) × (d ≡ sense_part sense)
+HasItsData m came (TaskManagementResponse p) d = d ≡ []
+HasItsData m came (LoginResponse p) d = ⊥
+HasItsData m came (TextResponse p) d = d ≡ text_answer m (segment_of came)
+HasItsData m came (DataIn p) d = (0 < length d) × (length d ≤ max_data_segment_length)
+HasItsData m came (LogoutResponse p) d = d ≡ []
+HasItsData m came (R2t p) d = d ≡ []
+HasItsData m came (Reject p) d = d ≡ bhs_of came
+
+abbrev pub HaveTheirData : Setting → Incoming → List Out → Type 0
+HaveTheirData m came outs = AllByRecursion (λ o. HasItsData m came o.header o.bytes) outs
 
 -- what is judged of a turn's answer to a command; a turn that answers none has no response and no data
 abbrev pub IsAnsweredTask : Option Answered → List Out → Type 0
@@ -126,8 +172,8 @@ abbrev pub IsToldTask : Option Answered → Type 0
 IsToldTask answered = IfSome answered (λ a. AllByRecursion (λ r. IsToldAs a.outcome r.0 r.1) (responses a.own))
 
 -- what is judged of the answer in a turn, by what stands before it
-abbrev pub answer_at : Start → List Turn → Turn → Option Answered
-answer_at start before t = answered_in (standing start before) t.came t.verdict t.call t.sent
+abbrev pub answer_at : Setting → List Turn → Turn → Option Answered
+answer_at m before t = answered_in (standing m before) t.came t.verdict t.call t.sent
 
 -- the end that a turn calls for: a PDU that is rejected or out of order, a session that is gone, or a logout
 abbrev pub end_by : TargetAnswer → Option End
@@ -135,7 +181,6 @@ end_by (Replied a) = None
 end_by (Outside a) = None
 end_by Busy = None
 end_by Gone = Some Reinstated
-end_by Halted = None
 
 abbrev pub end_by_reset : ResetAnswer → Option End
 end_by_reset resets.Done = None
@@ -146,11 +191,20 @@ abbrev pub end_of_call : Option Asking → Option End
 end_of_call None = None
 end_of_call (Some (served unit asked bytes answer)) = end_by answer
 end_of_call (Some (reset unit answer)) = end_by_reset answer
-end_of_call (Some other) = None
+end_of_call (Some (began port kind answer)) = None
+end_of_call (Some (lives tsih port answer)) = None
+end_of_call (Some over) = None
 
 abbrev pub end_of_accepted : Incoming → Option Asking → Option End
+end_of_accepted (pdu b (Initiator (NopOut p)) d) call = end_of_call call
+end_of_accepted (pdu b (Initiator (ScsiCommand p)) d) call = end_of_call call
+end_of_accepted (pdu b (Initiator (TaskManagementRequest p)) d) call = end_of_call call
+end_of_accepted (pdu b (Initiator (LoginRequest p)) d) call = end_of_call call
+end_of_accepted (pdu b (Initiator (TextRequest p)) d) call = end_of_call call
+end_of_accepted (pdu b (Initiator (DataOut x)) d) call = end_of_call call
 end_of_accepted (pdu b (Initiator (LogoutRequest p)) d) call = if closes p then Some LoggedOut else None
-end_of_accepted came call = end_of_call call
+end_of_accepted (pdu b (Target h) d) call = end_of_call call
+end_of_accepted (faulty f b) call = end_of_call call
 
 abbrev pub end_after : Verdict → Incoming → Option Asking → Option End
 end_after Accepted came call = end_of_accepted came call
@@ -166,34 +220,36 @@ GoesOn ts = AtEach (λ before t. end_after t.verdict t.came t.call ≡ None) ts
 -- The facts of the turns of full feature phase, of a session with this setting.
 pub record Lawful (m : Setting) (ts : List Turn) : Type 0 where
   -- what becomes of each PDU is what stands before it, and the rules, say
-  pub judged : AtEach (λ before t. IsJudged m (standing m.start before) t.came t.verdict) ts
+  pub judged : AtEach (λ before t. IsJudged m (standing m before) t.came t.verdict) ts
   -- the k-th PDU that uses up a StatSN has the first one + k
   pub numbered : (k n : ℕ) → slice_get (status_numbers (sent ts)) k ≡ Some n → n ≡ wrap (m.start.stat_sn + k)
   -- each PDU that goes out has ExpCmdSN and MaxCmdSN as they are at the end of its turn
-  pub windows : AtEach (λ before t. HaveWindow (standing m.start (before ++ t ∷ [])) t.sent) ts
+  pub windows : AtEach (λ before t. HaveWindow (standing m (before ++ t ∷ [])) t.sent) ts
   -- each R2T has the next transfer tag, and uses up no StatSN
   pub transfers : AtEach (λ before t.
-      HaveNextR2t (standing m.start before) (wrap (m.start.stat_sn + length (status_numbers (sent before)))) t.sent) ts
+      HaveNextR2t (standing m before) (wrap (m.start.stat_sn + length (status_numbers (sent before)))) t.sent) ts
   -- at the end of each turn each command so far is right: its R2Ts tile what it has to collect, and it is called once,
   -- with its data
-  pub collected : AtEach (λ before t. AllByRecursion (IsRightTask m.start.lengths.burst) (tasks (before ++ t ∷ []))) ts
+  pub collected : AtEach (λ before t. AllByRecursion (IsRightTask m.start.lengths.burst) (tasks m.units (before ++ t ∷ []))) ts
   -- the target serves nothing else; each reset of a unit that is there has its one Reset, and nothing else has any
-  pub called : AtEach (λ before t. IsCalled m (standing m.start before) t.verdict t.came t.call) ts
+  pub called : AtEach (λ before t. IsCalled m (standing m before) t.verdict t.came t.call) ts
   -- each command that is answered has its one SCSI Response, behind its data, unless its session is gone; nothing else
   -- has one
-  pub answered : AtEach (λ before t. IsAnsweredTask (answer_at m.start before t) t.sent) ts
+  pub answered : AtEach (λ before t. IsAnsweredTask (answer_at m before t) t.sent) ts
   -- the Data-In of a read tile the bytes of its Call in runs of MaxBurstLength; nothing else has any
-  pub tiled : AtEach (λ before t. IsTiledTask m.start.lengths (answer_at m.start before t) t.sent) ts
+  pub tiled : AtEach (λ before t. IsTiledTask m.start.lengths (answer_at m before t) t.sent) ts
   -- ExpDataSN is their number
-  pub counted : AtEach (λ before t. IsCountedTask (answer_at m.start before t)) ts
+  pub counted : AtEach (λ before t. IsCountedTask (answer_at m before t)) ts
   -- the residual is what lies between what is expected and what is needed
-  pub residual : AtEach (λ before t. HasResiduals (answer_at m.start before t)) ts
+  pub residual : AtEach (λ before t. HasResiduals (answer_at m before t)) ts
   -- status and sense are those of the Call's answer; without one, BUSY or TASK SET FULL
-  pub told : AtEach (λ before t. IsToldTask (answer_at m.start before t)) ts
+  pub told : AtEach (λ before t. IsToldTask (answer_at m before t)) ts
   -- what is rejected has a Reject, and nothing else has one; no turn has a PDU of another kind
-  pub rejected : AtEach (λ before t. IsRejected t.verdict t.came t.sent) ts
+  pub kinds : AtEach (λ before t. IsSentFor t.verdict t.came t.sent) ts
+  -- each PDU that goes out has the data that its kind has
+  pub carried : AtEach (λ before t. HaveTheirData m t.came t.sent) ts
   -- each other request that is accepted has its one answer, and nothing else
   pub requests : AtEach (λ before t.
-      IsRequestAnswered m (standing m.start before) t.verdict t.came t.call t.sent) ts
+      IsRequestAnswered m (standing m before) t.verdict t.came t.call t.sent) ts
   -- nothing comes behind a turn that calls for an end
   pub ends : AtEach (λ before t. GoesOn before) ts

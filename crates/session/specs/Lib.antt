@@ -1,11 +1,13 @@
 pub mod AnswerPdus
 pub mod Answered
 pub mod Asking
+pub mod Codes
 pub mod Collecting
 pub mod Counters
 pub mod DataIn
 pub mod Drops
 pub mod Ends
+pub mod Examples
 pub mod Following
 pub mod Front
 pub mod Handle

@@ -37,7 +37,7 @@ use Rattle.session.specs.declared.login_phase.LoginOutcome.TheVariants.{GoesOn, 
 use Rattle.session.specs.declared.session.Start.{Start}
 use Rattle.session.specs.declared.target.BeginAnswer.{BeginAnswer}
 use Rattle.session.specs.declared.target.BeginAnswer.TheVariants as begin_answers
-use Rattle.session.specs.declared.verdict.TheConstants.{COMMAND_NOT_SUPPORTED}
+use Rattle.session.specs.Codes.{command_not_supported}
 use Rattle.session.specs.Asking.{Asking, began, lives}
 use Rattle.session.specs.Handle.{HasHandle}
 use Rattle.session.specs.Turn.{Incoming, pdu, faulty, Out}
@@ -139,7 +139,7 @@ IsNegotiated s p d (Stopped stops.NamesSession) call o =
 abbrev pub HasOutcome : Progress → Incoming → Option Asking → LoginOutcome → Type 0
 HasOutcome s (pdu b (Initiator (LoginRequest p)) d) call o = IsNegotiated s p d (answer_to s (flags_of p) d) call o
 HasOutcome s (pdu b (Initiator h) d) call o = (call ≡ None) × (o ≡ Refused InvalidDuringLogin)
-HasOutcome s (pdu b (Target h) d) call o = (call ≡ None) × (o ≡ Rejected COMMAND_NOT_SUPPORTED)
+HasOutcome s (pdu b (Target h) d) call o = (call ≡ None) × (o ≡ Rejected command_not_supported)
 HasOutcome s (faulty f b) call o = (call ≡ None) × (o ≡ Rejected (reason_of f))
 
 -- ---- what goes out

@@ -3,7 +3,7 @@ use Rattle.std.specs.Prelude.{Bool, nat_le, if◌then◌else◌, List, [], ◌�
 use Rattle.iscsi_pdu.specs.declared.header.LogoutRequest.{LogoutRequest as LogoutHeader}
 use Rattle.iscsi_pdu.specs.declared.header.Numbers.{Numbers}
 use Rattle.iscsi_pdu.specs.declared.header.TargetHeader.TheVariants.{LogoutResponse}
-use Rattle.session.specs.declared.logout.TheConstants.{CLOSED, RECOVERY_NOT_SUPPORTED, TIME_TO_WAIT, TIME_TO_RETAIN}
+use Rattle.session.specs.Codes.{closed, recovery_not_supported, time_to_wait, time_to_retain}
 use Rattle.session.specs.Turn.{Out}
 
 -- reason 0 closes the session, and 1 its connection, which is its only one
@@ -14,11 +14,11 @@ closes p = nat_le p.reason 1
 abbrev pub logout_answer : Numbers → LogoutHeader → List Out
 logout_answer n p = record {
   header = LogoutResponse (record {
-    response = if closes p then CLOSED else RECOVERY_NOT_SUPPORTED;
+    response = if closes p then closed else recovery_not_supported;
     task_tag = p.task_tag;
     numbers = n;
-    time_to_wait = TIME_TO_WAIT;
-    time_to_retain = TIME_TO_RETAIN;
+    time_to_wait = time_to_wait;
+    time_to_retain = time_to_retain;
   });
   bytes = [];
 } ∷ []

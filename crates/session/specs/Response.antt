@@ -10,9 +10,8 @@ use Rattle.iscsi_pdu.specs.declared.header.ScsiResponse.{ScsiResponse as Respons
 use Rattle.iscsi_pdu.specs.declared.header.TargetHeader.{TargetHeader}
 use Rattle.iscsi_pdu.specs.declared.header.TargetHeader.TheVariants.{ScsiResponse}
 use Rattle.session.specs.declared.target.TargetAnswer.{TargetAnswer}
-use Rattle.session.specs.declared.target.TargetAnswer.TheVariants.{Replied, Outside, Busy, Gone, Halted}
-use Rattle.session.specs.declared.outbox.TheConstants.{SENSE_LENGTH}
-use Rattle.session.specs.declared.response.TheConstants.{COMPLETED, TARGET_FAILURE}
+use Rattle.session.specs.declared.target.TargetAnswer.TheVariants.{Replied, Outside, Busy, Gone}
+use Rattle.session.specs.Codes.{completed, sense_length}
 use Rattle.session.specs.Turn.{Out}
 use Rattle.session.specs.Transfer.{residual_count}
 use Rattle.session.specs.Answered.{Outcome, by_target, no_buffer, set_full}
@@ -39,7 +38,6 @@ abbrev pub IsAnsweredBy : CommandHeader → TargetAnswer → List Out → Type 0
 IsAnsweredBy p (Replied a) own = HasOneResponse p own
 IsAnsweredBy p (Outside a) own = HasOneResponse p own
 IsAnsweredBy p Busy own = HasOneResponse p own
-IsAnsweredBy p Halted own = HasOneResponse p own
 IsAnsweredBy p Gone own = responses own ≡ []
 
 abbrev pub IsAnsweredAs : CommandHeader → Outcome → List Out → Type 0
@@ -56,24 +54,23 @@ pub record IsResidual (expected_length transfer : ℕ) (r : ResponseHeader) : Ty
 -- the sense in a response's data: its length, and its bytes (11.4.7)
 abbrev pub sense_part : Option Sense → List ℕ
 sense_part None = []
-sense_part (Some s) = 0 ∷ SENSE_LENGTH ∷ sense_bytes s
+sense_part (Some s) = 0 ∷ sense_length ∷ sense_bytes s
 
--- response code, status and sense of a response are these
-pub record IsTelling (code status : ℕ) (sense : List ℕ) (r : ResponseHeader) (d : List ℕ) : Type 0 where
-  pub response : r.response ≡ code
+-- status and sense of a response are these: each command was completed at the target
+pub record IsTelling (status : ℕ) (sense : List ℕ) (r : ResponseHeader) (d : List ℕ) : Type 0 where
+  pub response : r.response ≡ completed
   pub status_is : r.status ≡ status
   pub sense_is : d ≡ sense
 
 -- status and sense of a response are those of the answer
 abbrev pub IsTold : TargetAnswer → ResponseHeader → List ℕ → Type 0
-IsTold (Replied a) r d = IsTelling COMPLETED (status_code a.status) (sense_part a.sense) r d
-IsTold (Outside a) r d = IsTelling COMPLETED (status_code a.status) (sense_part a.sense) r d
-IsTold Busy r d = IsTelling COMPLETED (status_code statuses.Busy) [] r d
-IsTold Halted r d = IsTelling TARGET_FAILURE 0 [] r d
+IsTold (Replied a) r d = IsTelling (status_code a.status) (sense_part a.sense) r d
+IsTold (Outside a) r d = IsTelling (status_code a.status) (sense_part a.sense) r d
+IsTold Busy r d = IsTelling (status_code statuses.Busy) [] r d
 IsTold Gone r d = ⊥
 
 -- and BUSY where there was no buffer, TASK SET FULL where that is so
 abbrev pub IsToldAs : Outcome → ResponseHeader → List ℕ → Type 0
 IsToldAs (by_target answer) r d = IsTold answer r d
-IsToldAs no_buffer r d = IsTelling COMPLETED (status_code statuses.Busy) [] r d
-IsToldAs set_full r d = IsTelling COMPLETED (status_code statuses.TaskSetFull) [] r d
+IsToldAs no_buffer r d = IsTelling (status_code statuses.Busy) [] r d
+IsToldAs set_full r d = IsTelling (status_code statuses.TaskSetFull) [] r d

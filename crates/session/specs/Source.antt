@@ -1,5 +1,5 @@
 -- Readers and writers that count their failures.
-use Rattle.std.specs.Prelude.{◌≡◌, ℕ, ◌<◌, ◌≤◌, List, Option, take, Result, Ok, Err}
+use Rattle.std.specs.Prelude.{◌≡◌, ℕ, ◌<◌, ◌≤◌, List, length, Option, take, Result, Ok, Err}
 use Rattle.std.specs.Io.KnownBytes.{Appends}
 
 -- where a count of failures ends: there it stays, and says nothing any more
@@ -16,6 +16,10 @@ abbrev pub Counted : {T E : Type 0} → ℕ → ℕ → Result T E → Type 0
 Counted before now (Ok x) = now ≡ before
 Counted before now (Err e) = Rises before now
 
--- the bytes of a writer, where they are known, grow by a beginning of these
+-- the bytes of a writer, where they are known, grow by a beginning of these: by so many at least
+abbrev pub AppendsFrom : Option (List ℕ) → Option (List ℕ) → ℕ → List ℕ → Type 0
+AppendsFrom old new least bytes = (n : ℕ) × (least ≤ n) × (n ≤ length bytes) × Appends old new (take n bytes)
+
+-- or by any
 abbrev pub AppendsFront : Option (List ℕ) → Option (List ℕ) → List ℕ → Type 0
 AppendsFront old new bytes = (n : ℕ) × Appends old new (take n bytes)

@@ -3,9 +3,9 @@
 use Rattle.std.specs.Prelude.{ℕ, ◌+◌, ◌-◌, ◌%◌, List, length}
 use Rattle.std.specs.List.{count_by}
 use Rattle.iscsi_pdu.specs.declared.header.Numbers.{Numbers}
-use Rattle.session.specs.declared.session.Start.{Start}
+use Rattle.session.specs.Setting.{Setting}
 use Rattle.session.specs.declared.window.Window.{Window}
-use Rattle.session.specs.declared.window.TheConstants.{WINDOW}
+use Rattle.session.specs.Codes.{window_width}
 use Rattle.session.specs.Turn.{Turn}
 use Rattle.session.specs.Window.{wrap, exp_cmd_sn_after}
 use Rattle.session.specs.Tasks.{Collecting, collecting, r2ts}
@@ -20,10 +20,10 @@ pub record Standing : Type 0 where
 abbrev pub transfer_at : ℕ → ℕ
 transfer_at n = n % 4294967295
 
-abbrev pub standing : Start → List Turn → Standing
-standing start ts = record {
-  exp_cmd_sn = exp_cmd_sn_after start.exp_cmd_sn ts;
-  collecting = collecting ts;
+abbrev pub standing : Setting → List Turn → Standing
+standing m ts = record {
+  exp_cmd_sn = exp_cmd_sn_after m.start.exp_cmd_sn ts;
+  collecting = collecting m.units ts;
   transfer_tag = transfer_at (length (r2ts ts));
 }
 
@@ -33,14 +33,14 @@ numbered_waiting s = count_by shrinks_window s.collecting
 
 -- how many commands the window takes
 abbrev pub window_size : Standing → ℕ
-window_size s = WINDOW - numbered_waiting s
+window_size s = window_width - numbered_waiting s
 
 abbrev pub window_of : Standing → Window
 window_of s = record { exp_cmd_sn = s.exp_cmd_sn; size = window_size s }
 
 -- MaxCmdSN: ExpCmdSN + 31, less those that wait
 abbrev pub last_behind : ℕ → ℕ → ℕ
-last_behind exp_cmd_sn waiting = wrap (exp_cmd_sn + (WINDOW - 1) + (4294967296 - waiting))
+last_behind exp_cmd_sn waiting = wrap (exp_cmd_sn + (window_width - 1) + (4294967296 - waiting))
 
 abbrev pub last_in_window : Standing → ℕ
 last_in_window s = last_behind s.exp_cmd_sn (numbered_waiting s)

@@ -17,13 +17,13 @@ use Rattle.session.specs.declared.task_management.TaskFunction.TheVariants.{
 }
 use Rattle.session.specs.declared.task_management.Management.{Management}
 use Rattle.session.specs.declared.task_management.Management.TheVariants.{Respond, Reset}
-use Rattle.session.specs.declared.task_management.TheConstants.{
-  FUNCTION_COMPLETE,
-  TASK_DOES_NOT_EXIST,
-  LUN_DOES_NOT_EXIST,
-  REASSIGNMENT_NOT_SUPPORTED,
-  FUNCTION_NOT_SUPPORTED,
-  FUNCTION_REJECTED,
+use Rattle.session.specs.Codes.{
+  function_complete,
+  task_does_not_exist,
+  lun_does_not_exist,
+  reassignment_not_supported,
+  function_not_supported,
+  function_rejected,
 }
 use Rattle.session.specs.Turn.{Out}
 use Rattle.session.specs.Asking.{Asking, reset}
@@ -46,14 +46,14 @@ kept_by (Some unit) x cs = filter (λ c. not (drops x c.command)) cs
 
 -- what a function comes to, on the unit of its LUN where that is there: a response, or a reset of the unit
 abbrev pub management_of : TaskFunction → Bool → Option ℕ → Management
-management_of AbortTask dropped None = Respond LUN_DOES_NOT_EXIST
-management_of AbortTask dropped (Some unit) = Respond (if dropped then FUNCTION_COMPLETE else TASK_DOES_NOT_EXIST)
-management_of AbortTaskSet dropped None = Respond LUN_DOES_NOT_EXIST
-management_of AbortTaskSet dropped (Some unit) = Respond FUNCTION_COMPLETE
-management_of LogicalUnitReset dropped None = Respond LUN_DOES_NOT_EXIST
+management_of AbortTask dropped None = Respond lun_does_not_exist
+management_of AbortTask dropped (Some unit) = Respond (if dropped then function_complete else task_does_not_exist)
+management_of AbortTaskSet dropped None = Respond lun_does_not_exist
+management_of AbortTaskSet dropped (Some unit) = Respond function_complete
+management_of LogicalUnitReset dropped None = Respond lun_does_not_exist
 management_of LogicalUnitReset dropped (Some unit) = Reset unit
-management_of TaskReassign dropped unit = Respond REASSIGNMENT_NOT_SUPPORTED
-management_of Unserved dropped unit = Respond FUNCTION_NOT_SUPPORTED
+management_of TaskReassign dropped unit = Respond reassignment_not_supported
+management_of Unserved dropped unit = Respond function_not_supported
 
 -- what a request comes to, where there are so many units and these commands wait, and which of them wait behind it
 pub record IsManagement (units : ℕ) (cs : List Collecting) (p : ManagementHeader) (m : Management)
@@ -65,9 +65,9 @@ pub record IsManagement (units : ℕ) (cs : List Collecting) (p : ManagementHead
 
 -- the response that tells of a reset; none where the session is gone
 abbrev pub reset_response : ResetAnswer → Option ℕ
-reset_response Done = Some FUNCTION_COMPLETE
+reset_response Done = Some function_complete
 reset_response Gone = None
-reset_response Failed = Some FUNCTION_REJECTED
+reset_response Failed = Some function_rejected
 
 -- the target is asked for a reset just where the request comes to one, and this is the response
 abbrev pub IsManagedBy : Management → Option Asking → Option ℕ → Type 0

@@ -5,20 +5,28 @@ use Rattle.std.specs.List.{filter, filter_map, flat_map, cons_option, list_any, 
 use Rattle.iscsi_pdu.specs.declared.header.ScsiCommand.{ScsiCommand as CommandHeader}
 use Rattle.iscsi_pdu.specs.declared.header.DataOut.{DataOut as DataOutHeader}
 use Rattle.iscsi_pdu.specs.declared.header.R2t.{R2t as R2tHeader}
-use Rattle.iscsi_pdu.specs.declared.header.Header.TheVariants.{Initiator}
-use Rattle.iscsi_pdu.specs.declared.header.InitiatorHeader.TheVariants.{ScsiCommand, DataOut, TaskManagementRequest}
+use Rattle.iscsi_pdu.specs.declared.header.Header.TheVariants.{Initiator, Target}
+use Rattle.iscsi_pdu.specs.declared.header.InitiatorHeader.TheVariants.{
+  NopOut,
+  ScsiCommand,
+  TaskManagementRequest,
+  LoginRequest,
+  TextRequest,
+  DataOut,
+  LogoutRequest,
+}
 use Rattle.iscsi_pdu.specs.declared.header.TargetHeader.{TargetHeader}
 use Rattle.iscsi_pdu.specs.declared.header.TargetHeader.TheVariants.{ScsiResponse, R2t}
 use Rattle.session.specs.declared.target.TargetAnswer.{TargetAnswer}
-use Rattle.session.specs.declared.target.TargetAnswer.TheVariants.{Replied, Outside, Busy, Gone, Halted}
+use Rattle.session.specs.declared.target.TargetAnswer.TheVariants.{Replied, Outside, Busy, Gone}
 use Rattle.session.specs.declared.verdict.Verdict.{Verdict}
 use Rattle.session.specs.declared.verdict.Verdict.TheVariants.{Accepted, Full, Ignored, Gap, Refused}
 use Rattle.session.specs.declared.target.ResetAnswer.{ResetAnswer}
 use Rattle.session.specs.declared.target.ResetAnswer.TheVariants as resets
-use Rattle.session.specs.Asking.{Asking, served, reset}
-use Rattle.session.specs.Turn.{Incoming, pdu, Out, Turn, sent}
+use Rattle.session.specs.Asking.{Asking, began, lives, served, reset, over}
+use Rattle.session.specs.Turn.{Incoming, pdu, faulty, Out, Turn, sent}
 use Rattle.session.specs.Window.{wrap}
-use Rattle.session.specs.Drops.{drops, found_unit}
+use Rattle.session.specs.Drops.{drops, names_one_of}
 
 -- ---- what of a turn concerns a task
 
@@ -43,15 +51,21 @@ abbrev pub is_management : Incoming → Bool
 is_management (pdu b (Initiator (TaskManagementRequest x)) d) = true
 is_management came = false
 
--- what concerns a command behind its own turn: a Data-Out with its tag, and a request that drops it, of a unit that is
--- there
-abbrev pub concerns : CommandHeader → Incoming → List Out → Bool
-concerns p (pdu b (Initiator (DataOut x)) d) outs = p.task_tag == x.task_tag
-concerns p (pdu b (Initiator (TaskManagementRequest x)) d) outs = drops x p && found_unit outs
-concerns p came outs = false
+-- what concerns a command behind its own turn, where there are so many units: a Data-Out with its tag, and a request that
+-- drops it, of a unit that is there
+abbrev pub concerns : ℕ → CommandHeader → Incoming → Bool
+concerns units p (pdu b (Initiator (NopOut x)) d) = false
+concerns units p (pdu b (Initiator (ScsiCommand x)) d) = false
+concerns units p (pdu b (Initiator (TaskManagementRequest x)) d) = drops x p && names_one_of units x.lun
+concerns units p (pdu b (Initiator (LoginRequest x)) d) = false
+concerns units p (pdu b (Initiator (TextRequest x)) d) = false
+concerns units p (pdu b (Initiator (DataOut x)) d) = p.task_tag == x.task_tag
+concerns units p (pdu b (Initiator (LogoutRequest x)) d) = false
+concerns units p (pdu b (Target h) d) = false
+concerns units p (faulty f b) = false
 
-abbrev pub touches : CommandHeader → Turn → Bool
-touches p t = is_accepted t.verdict && concerns p t.came t.sent
+abbrev pub touches : ℕ → CommandHeader → Turn → Bool
+touches units p t = is_accepted t.verdict && concerns units p t.came
 
 -- the R2Ts and SCSI Responses among what went out
 abbrev pub r2t_with : TargetHeader → Option R2tHeader
@@ -74,7 +88,6 @@ is_gone (Replied a) = false
 is_gone (Outside a) = false
 is_gone Busy = false
 is_gone Gone = true
-is_gone Halted = false
 
 abbrev pub is_gone_by_reset : ResetAnswer → Bool
 is_gone_by_reset resets.Done = false
@@ -85,7 +98,9 @@ abbrev pub finds_gone : Option Asking → Bool
 finds_gone None = false
 finds_gone (Some (served unit asked bytes answer)) = is_gone answer
 finds_gone (Some (reset unit answer)) = is_gone_by_reset answer
-finds_gone (Some other) = false
+finds_gone (Some (began port kind answer)) = false
+finds_gone (Some (lives tsih port answer)) = false
+finds_gone (Some over) = false
 
 -- a turn of a task that ends it: its SCSI Response goes out, it is dropped, or the session is gone
 abbrev pub ends : Turn → Bool
@@ -108,18 +123,23 @@ pub record Task : Type 0 where
 abbrev pub accepted_command : Verdict → Incoming → Option (CommandHeader × List ℕ)
 accepted_command v came = if is_accepted v then command_with came else None
 
-abbrev pub begun_by : Option (CommandHeader × List ℕ) → Turn → List Turn → Option Task
-begun_by None t behind = None
-begun_by (Some c) t behind =
-    Some (record { command = c.0; segment = c.1; own = through ends (t ∷ filter (touches c.0) behind) })
+abbrev pub begun_by : ℕ → Option (CommandHeader × List ℕ) → Turn → List Turn → Option Task
+begun_by units None t behind = None
+begun_by units (Some c) t behind =
+    Some (record { command = c.0; segment = c.1; own = through ends (t ∷ filter (touches units c.0) behind) })
 
--- the tasks of these turns, in the order in which their commands came
-abbrev pub tasks : List Turn → List Task
-tasks [] = []
-tasks (t ∷ behind) = cons_option (begun_by (accepted_command t.verdict t.came) t behind) (tasks behind)
+-- the tasks of these turns, in the order in which their commands came, where there are so many units
+abbrev pub tasks : ℕ → List Turn → List Task
+tasks units [] = []
+tasks units (t ∷ behind) =
+    cons_option (begun_by units (accepted_command t.verdict t.came) t behind) (tasks units behind)
 
 abbrev pub has_ended : Task → Bool
 has_ended k = list_any ends k.own
+
+-- a request for task management dropped it
+abbrev pub was_dropped : Task → Bool
+was_dropped k = list_any (λ t. is_management t.came) k.own
 
 -- ---- what passed in a task
 
@@ -171,8 +191,8 @@ collected k = record {
 abbrev pub collecting_of : Task → Option Collecting
 collecting_of k = if has_ended k then None else Some (collected k)
 
-abbrev pub collecting : List Turn → List Collecting
-collecting ts = filter_map collecting_of (tasks ts)
+abbrev pub collecting : ℕ → List Turn → List Collecting
+collecting units ts = filter_map collecting_of (tasks units ts)
 
 abbrev pub has_tag : ℕ → Collecting → Bool
 has_tag tag c = c.command.task_tag == tag

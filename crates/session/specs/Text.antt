@@ -8,8 +8,8 @@ use Rattle.iscsi_pdu.specs.declared.header.Header.TheVariants.{Initiator}
 use Rattle.iscsi_pdu.specs.declared.header.InitiatorHeader.TheVariants.{TextRequest}
 use Rattle.iscsi_pdu.specs.declared.header.Numbers.{Numbers}
 use Rattle.iscsi_pdu.specs.declared.header.TargetHeader.TheVariants.{TextResponse}
-use Rattle.session.specs.declared.data_in.TheConstants.{NO_TRANSFER_TAG}
-use Rattle.session.specs.declared.text.TheConstants.{LONGEST_TEXT}
+use Rattle.session.specs.Codes.{no_transfer_tag}
+use Rattle.iscsi_pdu.specs.Number.{max_data_segment_length}
 use Rattle.session.specs.declared.text.MadeText.{MadeText}
 use Rattle.session.specs.Setting.{Setting}
 use Rattle.session.specs.Turn.{Out}
@@ -18,9 +18,9 @@ use Rattle.session.specs.Turn.{Out}
 abbrev pub text_answer : Setting → List ℕ → List ℕ
 text_answer m d = answers_of m.target_name m.kind m.told (pairs d)
 
--- how long the answer to a text may be: as the initiator takes, and no longer than the one that the target has memory for
+-- how long the answer to a text may be: as the initiator takes, and as a data segment has at all
 abbrev pub most_text : Setting → ℕ
-most_text m = min m.start.lengths.data_segment LONGEST_TEXT
+most_text m = min m.start.lengths.data_segment max_data_segment_length
 
 -- a text that is no list of pairs, or one of more than 64, or one whose answer is too long
 abbrev pub is_unanswerable : Setting → List ℕ → Bool
@@ -28,14 +28,14 @@ is_unanswerable m d = is_bad_request d || nat_lt (most_text m) (length (text_ans
 
 -- a request that goes on in another (no F, or C), or that asks for more of an answer (a Target Transfer Tag)
 abbrev pub is_part : TextHeader → Bool
-is_part p = not p.last || p.continues || not (p.transfer_tag == NO_TRANSFER_TAG)
+is_part p = not p.last || p.continues || not (p.transfer_tag == no_transfer_tag)
 
 abbrev pub is_text_refused : Setting → TextHeader → List ℕ → Bool
 is_text_refused m p d = is_part p || is_unanswerable m d
 
 abbrev pub text_outs : Numbers → Setting → TextHeader → List ℕ → List Out
 text_outs n m p d = record {
-  header = TextResponse (record { task_tag = p.task_tag; transfer_tag = NO_TRANSFER_TAG; numbers = n });
+  header = TextResponse (record { task_tag = p.task_tag; transfer_tag = no_transfer_tag; numbers = n });
   bytes = text_answer m d;
 } ∷ []
 

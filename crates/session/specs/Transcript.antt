@@ -1,19 +1,30 @@
 -- Bytes to bytes: what a session makes of a stream.
-use Rattle.std.specs.Prelude.{◌≡◌, ℕ, ◌+◌, List, ◌++◌, length, Option}
+use Rattle.std.specs.Prelude.{◌≡◌, ℕ, ◌+◌, ◌<◌, ◌≤◌, List, [], ◌∷◌, ◌++◌, length, take, Option}
 use Rattle.std.specs.Io.KnownBytes.{Appends, Consumes, IsAtEnd}
 use Rattle.session.specs.declared.end.End.{End}
 use Rattle.session.specs.declared.end.End.TheVariants.{EndOfInput, InputFailed, OutputFailed, Protocol, Reinstated, LoggedOut}
 use Rattle.session.specs.declared.identity.Identity.{Identity}
 use Rattle.session.specs.declared.opening.Opening.{Opening}
 use Rattle.session.specs.Asking.{Asking, over}
-use Rattle.session.specs.Source.{AppendsFront, Rises}
+use Rattle.session.specs.declared.outbox.TheConstants.{ENOUGH_TO_WRITE}
+use Rattle.session.specs.Source.{Rises}
 use Rattle.session.specs.Turn.{bytes_of, Spells, Leads}
 use Rattle.session.specs.Phases.{Transcript, Exchange, exchanges, incoming, asked, outgoing, IsLawful}
 use Rattle.session.specs.Ends.{EndsBy}
 
--- the writer failed: a beginning of the bytes of all turns went out
-abbrev pub IsCut : Option (List ℕ) → Option (List ℕ) → List Exchange → Type 0
-IsCut held held' es = AppendsFront held held' (bytes_of (outgoing es))
+-- the turns before the last
+abbrev pub but_last : List Exchange → List Exchange
+but_last [] = []
+but_last (e ∷ []) = []
+but_last (e ∷ (f ∷ es)) = e ∷ but_last (f ∷ es)
+
+-- The writer failed: a beginning of the bytes of all turns went out. It had not failed before the last turn: of what the
+-- turns before that one sent all went out, but what waits for the next write, so that no command is served behind a failure.
+pub record IsCut (held held' : Option (List ℕ)) (es : List Exchange) : Type 0 where
+  pub taken : ℕ
+  pub within : taken ≤ length (bytes_of (outgoing es))
+  pub went_out : Appends held held' (take taken (bytes_of (outgoing es)))
+  pub not_before : length (bytes_of (outgoing (but_last es))) < taken + ENOUGH_TO_WRITE
 
 -- the bytes that went out are those of the PDUs of all turns, up to where the writer failed
 abbrev pub Written : End → Option (List ℕ) → Option (List ℕ) → List Exchange → Type 0

@@ -9,7 +9,7 @@ use Rattle.iscsi_pdu.specs.declared.header.TargetHeader.{TargetHeader}
 use Rattle.iscsi_pdu.specs.declared.fault.PduFault.{PduFault}
 use Rattle.session.specs.Asking.{Asking}
 use Rattle.session.specs.declared.verdict.Verdict.{Verdict}
-use Rattle.iscsi_pdu.specs.declared.TheConstants.{BHS_LENGTH}
+use Rattle.iscsi_pdu.specs.Number.{bhs_length}
 
 -- a PDU: the bytes of its basic header segment (BHS), what they say, and its data; or a fault and the BHS
 pub data Incoming : Type 0 where
@@ -43,7 +43,7 @@ pub record Begins (bytes bhs : List ℕ) (h : Header) (d rest : List ℕ) : Type
   pub front : List ℕ
   pub cut : bytes ≡ front ++ rest
   pub is_pdu : IsPdu front h d
-  pub bhs_is : take BHS_LENGTH front ≡ bhs
+  pub bhs_is : take bhs_length front ≡ bhs
 
 -- the bytes are spellings of the PDUs that came, one after another; a fault takes none
 abbrev pub Spells : List Incoming → List ℕ → Type 0

@@ -15,11 +15,17 @@ use Rattle.iscsi_pdu.specs.declared.header.InitiatorHeader.TheVariants.{
   LogoutRequest,
 }
 use Rattle.iscsi_pdu.specs.declared.fault.PduFault.{PduFault}
-use Rattle.iscsi_pdu.specs.declared.fault.PduFault.TheVariants.{UnknownOpcode}
+use Rattle.iscsi_pdu.specs.declared.fault.PduFault.TheVariants.{
+  UnknownOpcode,
+  HasAhs,
+  TooLong,
+  BadFlags,
+  BadReserved,
+  NonZeroPad,
+}
 use Rattle.session.specs.declared.verdict.Verdict.{Verdict}
 use Rattle.session.specs.declared.verdict.Verdict.TheVariants.{Accepted, Full, Ignored, Gap, Refused}
-use Rattle.session.specs.declared.verdict.TheConstants.{RESERVED_TAG}
-use Rattle.session.specs.declared.verdict.TheConstants.{PROTOCOL_ERROR, COMMAND_NOT_SUPPORTED, INVALID_PDU_FIELD}
+use Rattle.session.specs.Codes.{reserved_tag, protocol_error, command_not_supported, invalid_pdu_field}
 use Rattle.session.specs.declared.lengths.Lengths.{Lengths}
 use Rattle.session.specs.Turn.{Incoming, pdu, faulty}
 use Rattle.session.specs.Transfer.{expected_transfer}
@@ -38,7 +44,7 @@ most_immediate l = if l.immediate_data then l.first_burst else 0
 -- length that it expects or than may come with a command
 abbrev pub is_refused : Lengths → Standing → CommandHeader → List ℕ → Bool
 is_refused l s p d =
-    (p.task_tag == RESERVED_TAG)
+    (p.task_tag == reserved_tag)
     || list_any (has_tag p.task_tag) s.collecting
     || nat_lt (expected_transfer p) (length d)
     || nat_lt (most_immediate l) (length d)
@@ -52,7 +58,7 @@ has_its_turn s immediate cmd_sn =
 abbrev pub window_verdict : Standing → Bool → ℕ → Bool → Verdict
 window_verdict s immediate cmd_sn refused =
     if has_its_turn s immediate cmd_sn
-    then (if refused then Refused PROTOCOL_ERROR else Accepted)
+    then (if refused then Refused protocol_error else Accepted)
     else (if nat_lt (ahead cmd_sn s.exp_cmd_sn) (window_size s) then Gap else Ignored)
 
 -- an immediate command that would be accepted finds the task set full, where another one waits for data
@@ -71,7 +77,7 @@ verdict_of m s p d =
 abbrev pub IsJudgedData : Standing → DataOutHeader → List ℕ → Verdict → Type 0
 IsJudgedData s x d v =
     MatchOption (find (has_tag x.task_tag) s.collecting) (v ≡ Ignored)
-    (λ c. (Continues c x d × (v ≡ Accepted)) ⊎ ((Continues c x d → ⊥) × (v ≡ Refused PROTOCOL_ERROR)))
+    (λ c. (Continues c x d × (v ≡ Accepted)) ⊎ ((Continues c x d → ⊥) × (v ≡ Refused protocol_error)))
 
 -- what becomes of a PDU: a kind that is not served, and a PDU of a target, count as an unknown opcode
 abbrev pub IsJudgedPdu : Setting → Standing → Header → List ℕ → Verdict → Type 0
@@ -79,16 +85,20 @@ IsJudgedPdu m s (Initiator (NopOut p)) d v = v ≡ window_verdict s p.immediate 
 IsJudgedPdu m s (Initiator (ScsiCommand p)) d v = v ≡ verdict_of m s p d
 IsJudgedPdu m s (Initiator (TaskManagementRequest p)) d v =
     v ≡ window_verdict s p.immediate p.numbers.cmd_sn (discovers m.kind)
-IsJudgedPdu m s (Initiator (LoginRequest p)) d v = v ≡ Refused PROTOCOL_ERROR
+IsJudgedPdu m s (Initiator (LoginRequest p)) d v = v ≡ Refused protocol_error
 IsJudgedPdu m s (Initiator (TextRequest p)) d v =
     v ≡ window_verdict s p.immediate p.numbers.cmd_sn (is_text_refused m p d)
 IsJudgedPdu m s (Initiator (DataOut p)) d v = IsJudgedData s p d v
 IsJudgedPdu m s (Initiator (LogoutRequest p)) d v = v ≡ window_verdict s p.immediate p.numbers.cmd_sn false
-IsJudgedPdu m s (Target p) d v = v ≡ Refused COMMAND_NOT_SUPPORTED
+IsJudgedPdu m s (Target p) d v = v ≡ Refused command_not_supported
 
 abbrev pub reason_of : PduFault → ℕ
-reason_of UnknownOpcode = COMMAND_NOT_SUPPORTED
-reason_of f = INVALID_PDU_FIELD
+reason_of UnknownOpcode = command_not_supported
+reason_of HasAhs = invalid_pdu_field
+reason_of TooLong = invalid_pdu_field
+reason_of BadFlags = invalid_pdu_field
+reason_of BadReserved = invalid_pdu_field
+reason_of NonZeroPad = invalid_pdu_field
 
 abbrev pub IsJudged : Setting → Standing → Incoming → Verdict → Type 0
 IsJudged m s (pdu b h d) v = IsJudgedPdu m s h d v

@@ -1,12 +1,14 @@
 -- The command window and the numbers of a session (RFC 7143, 4.2.2).
 use Rattle.std.specs.Prelude.{ℕ, ◌+◌, ◌-◌, ◌%◌, Bool, false, not, if◌then◌else◌, List}
 use Rattle.std.specs.List.{count_by}
-use Rattle.iscsi_pdu.specs.declared.header.Header.TheVariants.{Initiator}
+use Rattle.iscsi_pdu.specs.declared.header.Header.TheVariants.{Initiator, Target}
 use Rattle.iscsi_pdu.specs.declared.header.InitiatorHeader.TheVariants.{
   NopOut,
   ScsiCommand,
   TaskManagementRequest,
+  LoginRequest,
   TextRequest,
+  DataOut,
   LogoutRequest,
 }
 use Rattle.iscsi_pdu.specs.declared.header.TargetHeader.{TargetHeader}
@@ -24,7 +26,7 @@ use Rattle.iscsi_pdu.specs.declared.header.TargetHeader.TheVariants.{
 use Rattle.iscsi_pdu.specs.declared.header.Numbers.{Numbers}
 use Rattle.session.specs.declared.verdict.Verdict.{Verdict}
 use Rattle.session.specs.declared.verdict.Verdict.TheVariants.{Accepted, Full, Ignored, Gap, Refused}
-use Rattle.session.specs.Turn.{Incoming, pdu, Turn}
+use Rattle.session.specs.Turn.{Incoming, pdu, faulty, Turn}
 
 -- numbers count modulo 2^32 (RFC 1982)
 abbrev pub wrap : ℕ → ℕ
@@ -57,7 +59,10 @@ is_numbered (pdu b (Initiator (ScsiCommand p)) d) = not p.immediate
 is_numbered (pdu b (Initiator (TaskManagementRequest p)) d) = not p.immediate
 is_numbered (pdu b (Initiator (TextRequest p)) d) = not p.immediate
 is_numbered (pdu b (Initiator (LogoutRequest p)) d) = not p.immediate
-is_numbered i = false
+is_numbered (pdu b (Initiator (LoginRequest p)) d) = false
+is_numbered (pdu b (Initiator (DataOut p)) d) = false
+is_numbered (pdu b (Target h) d) = false
+is_numbered (faulty f b) = false
 
 abbrev pub takes_number : Verdict → Incoming → Bool
 takes_number Accepted came = is_numbered came

@@ -1,5 +1,11 @@
 //! What follows of a legal transcript, in the words of the protocol (RFC 7143).
-ghost use Rattle.std.specs.Prelude.{◌≡◌, ◌+◌, ◌≤◌, ℕ, List, [], ◌∷◌, ◌++◌, IsTrue, Some, length, min, slice_get, take};
+ghost use Rattle.std.specs.Prelude.{◌≡◌, ◌+◌, ◌<◌, ◌≤◌, ℕ, List, [], ◌∷◌, ◌++◌, IsTrue, Some, length, min, slice_get, take};
+ghost use Rattle.login.specs.Table.{own_data_segment};
+ghost use Rattle.iscsi_pdu.specs.Number.{max_data_segment_length, three_at};
+ghost use Rattle.iscsi_pdu.specs.Pdu.{IsPdu};
+ghost use Rattle.iscsi_pdu.specs.Fault.{Stands};
+ghost use Rattle.iscsi_pdu.specs.declared.header.Header.{Header};
+ghost use Rattle.iscsi_pdu.specs.declared.fault.PduFault.TheVariants.{TooLong};
 ghost use Rattle.iscsi_pdu.specs.declared.header.ScsiCommand.{ScsiCommand as CommandHeader};
 ghost use Rattle.session.specs.declared.target.TargetAnswer.{TargetAnswer};
 ghost use Rattle.session.specs.declared.verdict.Verdict.TheVariants.{Accepted, Full};
@@ -15,7 +21,7 @@ ghost use Rattle.session.specs.Answered.{reply_data};
 ghost use Rattle.session.specs.Response.{responses};
 ghost use Rattle.session.specs.DataIn.{data_ins, joined_data};
 ghost use Rattle.session.specs.Legal.{AtEach, Lawful, status_numbers};
-ghost use Rattle.session.specs.Following.{HaveMaxCmdSn, IsCallTurn, window_end};
+ghost use Rattle.session.specs.Following.{HaveMaxCmdSn, IsCallTurn, window_end, IgnoresOutside, HadNoR2t};
 
 /// Of two PDUs that go out one behind the other, among those that use up a StatSN, the second has the next one
 /// (RFC 7143, 4.2.2.2). So none has a StatSN that was used, until 2^32 of them went out.
@@ -41,7 +47,7 @@ pub fn no_command_is_answered_twice()
     ensures accepted { (m : Setting) (ts : List Turn) → Lawful m ts
         → AtEach (λ before t. (t.verdict ≡ Accepted → ⊥) → (t.verdict ≡ Full → ⊥) → responses t.sent ≡ []) ts }
     ensures command { (m : Setting) (ts : List Turn) → Lawful m ts
-        → AllByRecursion (λ k. length (responses (sent k.own)) ≤ 1) (tasks ts) }
+        → AllByRecursion (λ k. length (responses (sent k.own)) ≤ 1) (tasks m.units ts) }
 {}
 
 /// The Data-In PDUs of an accepted command with the R bit carry the beginning of the data of its one answer, as
@@ -60,6 +66,27 @@ pub fn a_read_gets_the_data_of_its_answer()
 /// (RFC 7143, 4.2.2.1).
 pub fn the_window_never_falls()
     ensures counted { (m : Setting) (ts : List Turn) → Lawful m ts
-        → AtEach (λ before t. HaveMaxCmdSn (wrap (m.start.exp_cmd_sn + window_end (before ++ t ∷ []) + 31)) t.sent) ts }
-    ensures grows { (before behind : List Turn) → window_end before ≤ window_end (before ++ behind) }
+        → AtEach (λ before t. HaveMaxCmdSn (wrap (m.start.exp_cmd_sn + window_end m.units (before ++ t ∷ []) + 31)) t.sent) ts }
+    ensures grows { (units : ℕ) (before behind : List Turn) → window_end units before ≤ window_end units (before ++ behind) }
+{}
+
+/// A PDU with a CmdSN is ignored just where it lies outside ExpCmdSN to MaxCmdSN as a PDU that went out in the turn before told
+/// them: the window by which the session judges is the one that it tells (RFC 7143, 4.2.2.1).
+pub fn a_pdu_is_ignored_just_outside_the_window_that_was_told()
+    ensures { (m : Setting) (before behind : List Turn) (t u : Turn) → Lawful m (before ++ (t ∷ (u ∷ behind)))
+        → IgnoresOutside t.sent u }
+{}
+
+/// A command that ended without a call, and that no request for task management dropped, had no R2T: where there is no buffer
+/// for its data, BUSY comes before any of it was asked for.
+pub fn a_write_that_was_asked_for_its_data_is_called()
+    ensures { (m : Setting) (ts : List Turn) → Lawful m ts → AllByRecursion HadNoR2t (tasks m.units ts) }
+{}
+
+/// The length that a target announces in a login, as its MaxRecvDataSegmentLength, is the one by which it reads: a PDU of that
+/// much data is not too long, and a longer one is (RFC 7143, 13.12).
+pub fn the_length_that_is_announced_is_taken()
+    ensures announced { own_data_segment ≡ max_data_segment_length }
+    ensures taken { (b d : List ℕ) (h : Header) → IsPdu b h d → length d ≤ own_data_segment }
+    ensures no_less { (b : List ℕ) → Stands b TooLong → own_data_segment < three_at b 5 }
 {}

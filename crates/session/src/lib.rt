@@ -22,6 +22,7 @@ mod actions;
 mod collecting;
 mod data_in;
 mod end;
+mod examples;
 mod identity;
 mod inbox;
 mod laws;
@@ -52,10 +53,16 @@ pub use actions::{
     Sending, ServeCall,
 };
 pub use end::End;
+pub use examples::{
+    a_nop_out_has_one_legal_answer, a_pdu_of_a_target_has_one_legal_answer,
+    a_read_has_one_legal_answer, a_write_has_one_legal_r2t, nothing_comes_behind_a_logout,
+};
 pub use identity::Identity;
 pub use laws::{
-    a_read_gets_the_data_of_its_answer, no_command_is_answered_twice,
-    status_numbers_are_consecutive, status_numbers_count_on_behind_a_login, the_window_never_falls,
+    a_pdu_is_ignored_just_outside_the_window_that_was_told, a_read_gets_the_data_of_its_answer,
+    a_write_that_was_asked_for_its_data_is_called, no_command_is_answered_twice,
+    status_numbers_are_consecutive, status_numbers_count_on_behind_a_login,
+    the_length_that_is_announced_is_taken, the_window_never_falls,
 };
 pub use lengths::Lengths;
 pub use opening::Opening;

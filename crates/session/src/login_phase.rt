@@ -128,7 +128,7 @@ impl LoginPhase {
         } }
         ensures text { IsTextOf self.old.progress pdu.now.header pdu.now.data.now result room.new.items }
         ensures short { length room.new.items ≤ LONGEST_RESPONSE }
-        ensures kept { LONGEST_RESPONSE ≤ vec_capacity room.new }
+        ensures kept { vec_capacity room.old ≤ vec_capacity room.new }
     {
         match pdu.header {
             Header::Initiator(InitiatorHeader::LoginRequest(request)) => {
@@ -161,7 +161,7 @@ impl LoginPhase {
             ≡ record self.old { progress = after self.old.progress (flags_of request.now) text.now } }
         ensures text { HasText (answer_to self.old.progress (flags_of request.now) text.now) result room.new.items }
         ensures short { length room.new.items ≤ LONGEST_RESPONSE }
-        ensures kept { LONGEST_RESPONSE ≤ vec_capacity room.new }
+        ensures kept { vec_capacity room.old ≤ vec_capacity room.new }
     {
         match self.negotiation.request(room, flags_of(request), text) {
             LoginEnd::Answer => LoginOutcome::GoesOn,

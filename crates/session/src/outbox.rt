@@ -1,4 +1,4 @@
-ghost use Rattle.std.specs.Prelude.{◌≡◌, ◌+◌, ◌++◌, ◌≤◌, [], false, length, vec_capacity, IfOk, Some};
+ghost use Rattle.std.specs.Prelude.{◌≡◌, ◌+◌, ◌++◌, ◌<◌, ◌≤◌, [], false, length, vec_capacity, IfOk, Some};
 ghost use Rattle.session.specs.AnswerPdus.{AreInReach, data_ins_of};
 ghost use Rattle.session.specs.Outbox.{OutboxValue, IsQueued, IsWritten};
 ghost use Rattle.session.specs.Response.{sense_part};
@@ -87,8 +87,9 @@ impl Outbox {
     pub fn fill<K: Sink>(&mut self, sink: &mut K, bhs: &[u8], pdus: &Pdus<'_>)
         requires bhs { length bhs.now ≡ BHS_LENGTH }
         requires reach { AreInReach pdus.now }
-        ensures { IsQueued (K.held sink.old) (K.held sink.new) (K.failures sink.old) (K.failures sink.new)
+        ensures queued { IsQueued (K.held sink.old) (K.held sink.new) (K.failures sink.old) (K.failures sink.new)
             self.old self.new (bytes_of (sent_by bhs.now pdus.now)) }
+        ensures few { length self.new.waiting < ENOUGH_TO_WRITE }
     {
         self.take_in(sink, bhs, pdus);
         if self.bytes.len() >= ENOUGH_TO_WRITE {

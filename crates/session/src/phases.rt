@@ -1,9 +1,9 @@
 //! A whole session without bytes: its login, and full feature phase behind it.
-ghost use Rattle.std.specs.Prelude.{◌≡◌, ◌≤◌, length, vec_capacity, IfOk, Some};
-ghost use Rattle.login.specs.declared.negotiation.TheConstants.{LONGEST_RESPONSE};
+ghost use Rattle.std.specs.Prelude.{◌≡◌, ◌<◌, ◌≤◌, length, vec_capacity, IfOk, Some};
 ghost use Rattle.session.specs.declared.end.End.TheVariants.{Protocol};
 ghost use Rattle.session.specs.Turn.{pdu as came, faulty};
 ghost use Rattle.session.specs.Stream.{OpensWith, IsFresh, MakesExchange};
+ghost use Rattle.session.specs.declared.outbox.TheConstants.{ENOUGH_TO_WRITE};
 
 use crate::end::End;
 use crate::identity::Identity;
@@ -14,9 +14,10 @@ use crate::outbox::Outbox;
 use crate::session::{Session, Start};
 use crate::source::Sink;
 use crate::target::Target;
+use crate::text::LONGEST_TEXT;
 use crate::turn::{fault_turn, login_fault_turn, login_turn, turn};
 use iscsi_pdu::{BHS_LENGTH, Pdu, PduFault};
-use login::{Kind, LONGEST_RESPONSE};
+use login::Kind;
 use scsi_types::NoMemory;
 use std::alloc::Global;
 use std::marker::Model;
@@ -79,9 +80,10 @@ impl Phases {
         pdu: &Pdu<'_>,
     ) -> Option<End>
         requires fresh { IsFresh self.old }
-        requires room { LONGEST_RESPONSE ≤ vec_capacity room.old }
+        requires room { LONGEST_TEXT ≤ vec_capacity room.old }
         requires bhs { length bhs.now ≡ BHS_LENGTH }
-        ensures kept { LONGEST_RESPONSE ≤ vec_capacity room.new }
+        ensures kept { LONGEST_TEXT ≤ vec_capacity room.new }
+        ensures few { length outbox.new.waiting < ENOUGH_TO_WRITE }
         ensures exchange { MakesExchange T.leads self.old self.new target.old target.new
             (K.held sink.old) (K.held sink.new)
             (K.failures sink.old) (K.failures sink.new) outbox.old outbox.new

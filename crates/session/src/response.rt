@@ -8,16 +8,12 @@ use crate::transfer::{expected_data_length, residual};
 use iscsi_pdu::{Numbers, ScsiResponse};
 use scsi_types::{Reply, Sense, Status};
 
-/// Response codes (RFC 7143, 11.4.3): the command was completed at the target, with a status.
+/// The response code of each command (RFC 7143, 11.4.3): it was completed at the target, with a status.
 pub const COMPLETED: u8 = 0x00;
-
-/// The target failed: there is no status.
-pub const TARGET_FAILURE: u8 = 0x01;
 
 /// What a SCSI Response tells of an answer.
 #[derive(Clone, Copy, Debug)]
 pub struct Completion {
-    pub response: u8,
     pub status: Status,
     pub sense: Option<Sense>,
 }
@@ -25,21 +21,19 @@ pub struct Completion {
 impl Completion {
     /// What a reply tells.
     pub fn of(reply: &Reply) -> Completion
-        ensures { result ≡ record { response = COMPLETED; status = reply.now.status; sense = reply.now.sense } }
+        ensures { result ≡ record { status = reply.now.status; sense = reply.now.sense } }
     {
         Completion {
-            response: COMPLETED,
             status: reply.status(),
             sense: reply.sense(),
         }
     }
 
-    /// A response code and a status, without sense.
-    pub fn bare(response: u8, status: Status) -> Completion
-        ensures { result ≡ record { response = response; status = status; sense = None } }
+    /// A status without sense.
+    pub fn bare(status: Status) -> Completion
+        ensures { result ≡ record { status = status; sense = None } }
     {
         Completion {
-            response,
             status,
             sense: None,
         }
@@ -66,7 +60,7 @@ pub fn scsi_response(
     ScsiResponse {
         overflow: expected_length < transfer,
         underflow: transfer < expected_length,
-        response: completion.response,
+        response: COMPLETED,
         status: completion.status.code(),
         task_tag: task.command.task_tag,
         numbers,

@@ -28,7 +28,7 @@ use crate::data_in::count;
 use crate::end::End;
 use crate::identity::Identity;
 use crate::lengths::Lengths;
-use crate::response::{COMPLETED, Completion, TARGET_FAILURE, scsi_response};
+use crate::response::{Completion, scsi_response};
 use crate::target::TargetAnswer;
 use crate::task_management::{Management, management_for};
 use crate::text::{LONGEST_TEXT, MadeText, discovers};
@@ -315,7 +315,7 @@ impl Session {
         ensures within { AreInReach result.pdus }
     {
         let need = data_needed(&decode(&command.cdb));
-        let full = Completion::bare(COMPLETED, Status::TaskSetFull);
+        let full = Completion::bare(Status::TaskSetFull);
         let task = OpenTask {
             command: *command,
             need,
@@ -338,7 +338,7 @@ impl Session {
         match self.wait(*command, asked, need, bytes) {
             Some(r2t) => Actions::Send(ask_for(r2t)),
             None => {
-                let busy = Completion::bare(COMPLETED, Status::Busy);
+                let busy = Completion::bare(Status::Busy);
                 let task = OpenTask {
                     command: *command,
                     need,
@@ -462,12 +462,7 @@ impl Session {
             TargetAnswer::Replied(reply) | TargetAnswer::Outside(reply) => {
                 self.respond(task, reply.bytes(), Completion::of(reply))
             }
-            TargetAnswer::Busy => {
-                self.respond(task, &[], Completion::bare(COMPLETED, Status::Busy))
-            }
-            TargetAnswer::Halted => {
-                self.respond(task, &[], Completion::bare(TARGET_FAILURE, Status::Good))
-            }
+            TargetAnswer::Busy => self.respond(task, &[], Completion::bare(Status::Busy)),
             TargetAnswer::Gone => Sending {
                 pdus: Pdus::Nothing,
                 end: Some(End::Reinstated),

@@ -17,9 +17,9 @@ use crate::outbox::Outbox;
 use crate::phases::Phases;
 use crate::source::{Failed, Sink, Source};
 use crate::target::Target;
+use crate::text::LONGEST_TEXT;
 use crate::waiting::{Front, front_of};
 use iscsi_pdu::LONGEST_PDU;
-use login::LONGEST_RESPONSE;
 use scsi_types::NoMemory;
 use std::alloc::Global;
 
@@ -69,7 +69,7 @@ pub fn serve_stream<S: Source, K: Sink, T: Target>(
     let mut inbox = Inbox::new(alloc)?;
     let mut outbox = Outbox::new(alloc)?;
     let mut phases = Phases::new(alloc, opening, target.units(), me)?;
-    let mut room = Vec::with_capacity(alloc, LONGEST_RESPONSE as usize)?;
+    let mut room = Vec::with_capacity(alloc, LONGEST_TEXT as usize)?;
     let end = pass(
         source,
         sink,
@@ -96,7 +96,7 @@ fn pass<S: Source, K: Sink, T: Target>(
     requires empty { inbox.old ≡ [] }
     requires unwritten { outbox.old ≡ record { waiting = []; failed = false } }
     requires fresh { IsFresh phases.old }
-    requires room { LONGEST_RESPONSE ≤ vec_capacity room.old }
+    requires room { LONGEST_TEXT ≤ vec_capacity room.old }
     ensures { (units : ℕ) (me : Identity) (opening : Opening) → OpensWith units me opening phases.old
         → HasPassed T.leads units me opening (S.left source.old) (S.left source.new) (K.held sink.old) (K.held sink.new)
         (S.failures source.old) (S.failures source.new) (K.failures sink.old) (K.failures sink.new)

@@ -25,8 +25,6 @@ pub enum TargetAnswer {
     Busy,
     /// The session is attached no more: nothing happened.
     Gone,
-    /// The unit serves nothing more. The response code is 01h, target failure (RFC 7143, 11.4.3).
-    Halted,
 }
 
 /// What a target answers to a LOGICAL UNIT RESET (SAM-5, 7.7).

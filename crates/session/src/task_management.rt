@@ -113,20 +113,20 @@ fn there(units: u16, unit: Option<u8>) -> Option<u8>
 fn managed(function: TaskFunction, dropped: bool, unit: Option<u8>) -> Management
     ensures { result ≡ management_of function dropped unit }
 {
-    match function {
-        TaskFunction::TaskReassign => Management::Respond(REASSIGNMENT_NOT_SUPPORTED),
-        TaskFunction::Unserved => Management::Respond(FUNCTION_NOT_SUPPORTED),
-        _ => {
-            let Some(unit) = unit else {
-                return Management::Respond(LUN_DOES_NOT_EXIST);
-            };
-            match function {
-                TaskFunction::LogicalUnitReset => Management::Reset(unit),
-                TaskFunction::AbortTaskSet => Management::Respond(FUNCTION_COMPLETE),
-                _ if dropped => Management::Respond(FUNCTION_COMPLETE),
-                _ => Management::Respond(TASK_DOES_NOT_EXIST),
-            }
-        }
+    match (function, unit) {
+        (TaskFunction::TaskReassign, _) => Management::Respond(REASSIGNMENT_NOT_SUPPORTED),
+        (TaskFunction::Unserved, _) => Management::Respond(FUNCTION_NOT_SUPPORTED),
+        (
+            TaskFunction::AbortTask | TaskFunction::AbortTaskSet | TaskFunction::LogicalUnitReset,
+            None,
+        ) => Management::Respond(LUN_DOES_NOT_EXIST),
+        (TaskFunction::AbortTask, Some(_)) => Management::Respond(if dropped {
+            FUNCTION_COMPLETE
+        } else {
+            TASK_DOES_NOT_EXIST
+        }),
+        (TaskFunction::AbortTaskSet, Some(_)) => Management::Respond(FUNCTION_COMPLETE),
+        (TaskFunction::LogicalUnitReset, Some(unit)) => Management::Reset(unit),
     }
 }
 
@@ -147,7 +147,7 @@ pub fn reset_end(answer: ResetAnswer) -> Option<End>
 {
     match answer {
         ResetAnswer::Gone => Some(End::Reinstated),
-        _ => None,
+        ResetAnswer::Done | ResetAnswer::Failed => None,
     }
 }
 

@@ -5,11 +5,12 @@ ghost use Rattle.session.specs.Text.{is_part};
 
 use crate::actions::ResponsePdu;
 use crate::data_in::NO_TRANSFER_TAG;
-use iscsi_pdu::{Numbers, TargetHeader, TextRequest, TextResponse};
+use iscsi_pdu::{MAX_DATA_SEGMENT_LENGTH, Numbers, TargetHeader, TextRequest, TextResponse};
 use login::Kind;
 
-/// The longest answer to a Text Request, in bytes.
-pub const LONGEST_TEXT: u32 = 8192;
+/// The longest answer to a Text Request, in bytes: what a data segment has at most. The length that the initiator takes is
+/// known only behind its login.
+pub const LONGEST_TEXT: u32 = MAX_DATA_SEGMENT_LENGTH as u32;
 
 /// What was made of the text of a Text Request: its answer, if it has one that the initiator takes.
 #[derive(Clone, Copy, Debug)]

@@ -1,11 +1,11 @@
 //! A turn of a session: what came, what the target answers, and what goes out for it.
-ghost use Rattle.std.specs.Prelude.{◌≡◌, ◌≤◌, length, vec_capacity, Some};
+ghost use Rattle.std.specs.Prelude.{◌≡◌, ◌<◌, ◌≤◌, length, vec_capacity, Some};
 ghost use Rattle.session.specs.declared.end.End.TheVariants.{Protocol};
 ghost use Rattle.session.specs.Turn.{pdu as came, faulty};
 ghost use Rattle.session.specs.Verdict.{reason_of};
 ghost use Rattle.session.specs.Stream.{MakesTurn, MakesLoginTurn};
 ghost use Rattle.session.specs.LoginPhase.{login_end};
-ghost use Rattle.login.specs.declared.negotiation.TheConstants.{LONGEST_RESPONSE};
+ghost use Rattle.session.specs.declared.outbox.TheConstants.{ENOUGH_TO_WRITE};
 
 use crate::actions::{Actions, Call, Pdus};
 use crate::end::End;
@@ -17,7 +17,6 @@ use crate::target::Target;
 use crate::text::{LONGEST_TEXT, MadeText};
 use crate::verdict::reject_reason;
 use iscsi_pdu::{BHS_LENGTH, Pdu, PduFault, Reject};
-use login::LONGEST_RESPONSE;
 
 /// One turn of full feature phase: what a PDU calls for, with the target's answer, put into the outbox; the end that it
 /// calls for.
@@ -33,6 +32,7 @@ pub fn turn<K: Sink, T: Target>(
     requires room { LONGEST_TEXT ≤ vec_capacity room.old }
     requires bhs { length bhs.now ≡ BHS_LENGTH }
     ensures kept { vec_capacity room.old ≤ vec_capacity room.new }
+    ensures few { length outbox.new.waiting < ENOUGH_TO_WRITE }
     ensures turn { MakesTurn T.leads session.old session.new target.old target.new (K.held sink.old) (K.held sink.new)
         (K.failures sink.old) (K.failures sink.new) outbox.old outbox.new
         (came bhs.now pdu.now.header pdu.now.data.now) result }
@@ -92,9 +92,10 @@ pub fn login_turn<K: Sink, T: Target>(
     bhs: &[u8],
     pdu: &Pdu<'_>,
 ) -> LoginOutcome
-    requires room { LONGEST_RESPONSE ≤ vec_capacity room.old }
+    requires room { LONGEST_TEXT ≤ vec_capacity room.old }
     requires bhs { length bhs.now ≡ BHS_LENGTH }
-    ensures kept { LONGEST_RESPONSE ≤ vec_capacity room.new }
+    ensures kept { vec_capacity room.old ≤ vec_capacity room.new }
+    ensures few { length outbox.new.waiting < ENOUGH_TO_WRITE }
     ensures turn { MakesLoginTurn T.leads login.old login.new target.old target.new (K.held sink.old) (K.held sink.new)
         (K.failures sink.old) (K.failures sink.new) outbox.old outbox.new
         (came bhs.now pdu.now.header pdu.now.data.now) result }

@@ -110,6 +110,10 @@ pub fn reject_reason(fault: PduFault) -> u8
 {
     match fault {
         PduFault::UnknownOpcode => COMMAND_NOT_SUPPORTED,
-        _ => INVALID_PDU_FIELD,
+        PduFault::HasAhs
+        | PduFault::TooLong
+        | PduFault::BadFlags
+        | PduFault::BadReserved
+        | PduFault::NonZeroPad => INVALID_PDU_FIELD,
     }
 }

@@ -17,16 +17,6 @@ answer gone
 asked 0 Ok(TestUnitReady)
 end Reinstated
 
-# The response code 01h, target failure (RFC 7143, 11.4.3).
-halted
-answer halted
-> TEST_UNIT_READY
-> TEST_UNIT_READY 24:00000002
-< GOOD 2:01
-< GOOD 2:01 24:000000020000000300000022
-asked 0 Ok(TestUnitReady)
-asked 0 Ok(TestUnitReady)
-
 # INVALID FIELD IN CDB, to a LUN that names no unit: its byte 2 is not 0.
 sense
 answer check 052400

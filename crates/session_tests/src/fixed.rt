@@ -17,7 +17,6 @@ pub enum Answer<'a> {
     Check(u8, u8, u8),
     Busy,
     Gone,
-    Halted,
 }
 
 /// What a target answers to a command, to a reset, where a session is to begin, and whether one lives.
@@ -82,7 +81,7 @@ impl<'a> Fixed<'a> {
                 let data = datas.split('|').nth(self.commands.checked_sub(1)?)?;
                 Some(bytes_of(self.alloc, TEXTS, data))
             }
-            Answer::Check(_, _, _) | Answer::Busy | Answer::Gone | Answer::Halted => None,
+            Answer::Check(_, _, _) | Answer::Busy | Answer::Gone => None,
         }
     }
 }
@@ -146,7 +145,6 @@ impl Target for Fixed<'_> {
                 TargetAnswer::Outside(Reply::check(self.alloc, sense))
             }
             Answer::Gone => TargetAnswer::Gone,
-            Answer::Halted => TargetAnswer::Halted,
             Answer::Good(_) | Answer::InTurn(_) | Answer::Busy => match self.data() {
                 Some(Ok(bytes)) => TargetAnswer::Replied(Reply::good(bytes)),
                 Some(Err(_)) | None => TargetAnswer::Busy,

@@ -27,7 +27,7 @@
 //! - What the target answers. To a command: `answer good PARTS`, GOOD with these bytes, which are spelled as a PDU's data
 //!   segment (`bytes_of`), else GOOD with none; `answer in-turn PARTS | PARTS`, the same of each command in its turn, and
 //!   BUSY behind the last; `answer check 052400`, CHECK CONDITION with this sense key, code and qualifier, for a unit that
-//!   is not there; `answer busy`, `answer gone`, `answer halted`. To a reset: `reset failed`, `reset gone`, else done.
+//!   is not there; `answer busy`, `answer gone`. To a reset: `reset failed`, `reset gone`, else done.
 //!   Where a session is to begin: `begin 65535`, begun with this TSIH, `begin refused`, else begun with the TSIH 1.
 //!   `lives`: the session that a login names lives, else it does not.
 //! - What the target is asked, in this order, and nothing else: `asked begin NAME ISID Normal`, to begin a session of
@@ -61,6 +61,11 @@ pub const TEXTS: Texts = &[
     (
         "TOLD",
         r"TargetName=iqn.2000-01.test:array\0TargetAddress=127.0.0.1:3260,1\0TargetAddress=127.0.0.1:3264,2\0",
+    ),
+    (
+        "TOLD_OF_FOUR",
+        "TargetName=iqn.2000-01.test:array\\0TargetAddress=127.0.0.1:3260,1\\0\
+         TargetAddress=127.0.0.1:3264,2\\0TargetAddress=127.0.0.1:3265,2\\0TargetAddress=127.0.0.1:3266,2\\0",
     ),
 ];
 
@@ -281,7 +286,6 @@ fn command_answer(alloc: Global, text: &str) -> Result<Answer<'_>, RowError> {
         }
         "busy" if rest.is_empty() => Ok(Answer::Busy),
         "gone" if rest.is_empty() => Ok(Answer::Gone),
-        "halted" if rest.is_empty() => Ok(Answer::Halted),
         _ => Err(RowError::Word),
     }
 }

@@ -57,6 +57,13 @@ discovery
 64 pairs
 > TEXT_REQUEST 7:C0 64*"a=\0"
 < TEXT_RESPONSE 6:0400 64*"a=NotUnderstood\0"
+
+# One answer has 158 bytes.
+an answer of 8216 bytes, where the initiator takes as many
+MaxRecvDataSegmentLength 8216
+portals 3
+> TEXT_REQUEST 6:02A4 52*"SendTargets=\0"
+< TEXT_RESPONSE 6:2018 52*TOLD_OF_FOUR
 "#;
 
 // Each is rejected with its header segment, and ends the session.
@@ -110,8 +117,14 @@ end Protocol
 < REJECT 2:04 rejected TEXT_REQUEST 6:00C3
 end Protocol
 
-# One answer has 158 bytes.
-an answer of 8216 bytes
+an answer of 8216 bytes, where the initiator takes 8192
+portals 3
+> TEXT_REQUEST 6:02A4 52*"SendTargets=\0"
+< REJECT 2:04 rejected TEXT_REQUEST 6:02A4
+end Protocol
+
+an answer of 8216 bytes, where the initiator takes 8215
+MaxRecvDataSegmentLength 8215
 portals 3
 > TEXT_REQUEST 6:02A4 52*"SendTargets=\0"
 < REJECT 2:04 rejected TEXT_REQUEST 6:02A4

@@ -15,14 +15,14 @@ use Rattle.unit_state.specs.declared.control.TheConstants.{LAST_COUNT}
 use Rattle.session.specs.declared.target.ResetAnswer.{ResetAnswer}
 use Rattle.session.specs.declared.target.ResetAnswer.TheVariants as resets
 use Rattle.session.specs.declared.target.TargetAnswer.{TargetAnswer}
-use Rattle.session.specs.declared.target.TargetAnswer.TheVariants.{Replied, Outside, Busy, Gone, Halted}
+use Rattle.session.specs.declared.target.TargetAnswer.TheVariants.{Replied, Outside, Busy, Gone}
 use Rattle.unit_state.specs.State.{ControlValue, UnitValue}
 use Rattle.unit_state.specs.Choice.{Choice, choice_of}
 use Rattle.unit_state.specs.declared.sessions.Attached.{Attached}
 use Rattle.unit_state.specs.Sessions.{session_of, next_of, all_reset}
 use Rattle.unit_state.specs.Entry.{Reset, Command, IsNext, IsAttached, control_after}
 use Rattle.unit_state.specs.CommandLaws.{next_after, count_after}
-use Rattle.targets.specs.OneUnit.{TargetValue, IsSame, IsCommand, IsAnsweredBy, IsResetBy}
+use Rattle.targets.specs.OneUnit.{Call, Device, TargetValue, IsSame, IsCommand, IsAnsweredBy, IsResetBy}
 
 -- one that has its serial and is gone has no room
 pub gone_late : (c : ControlValue) (session serial : ℕ) → next_of c.sessions session ≡ Some serial
@@ -91,81 +91,74 @@ module _ {B : Type 0} (old new : TargetValue B) where
   pub ready_same : IsSame old new → next_of old.unit.control.sessions old.at.session ≡ Some old.at.serial
       → next_of new.unit.control.sessions new.at.session ≡ Some new.at.serial
   ready_same same next =
-      ap (λ (u : UnitValue B KeepOpener MemBlocks). next_of u.control.sessions new.at.session) same.unit
+      ap (λ (u : UnitValue B MemBlocks KeepOpener). next_of u.control.sessions new.at.session) same.unit
       ∙ ap (λ (n : ℕ). next_of old.unit.control.sessions n) same.session ∙ next ∙ sym (ap some same.serial)
 
   -- and no serial passes the count of entries, which never falls
   pub fits_same : IsSame old new → old.at.serial ≤ old.unit.control.count → new.at.serial ≤ new.unit.control.count
   fits_same same fits =
       let e : new.unit.control.count ≡ old.unit.control.count =
-      ap (λ (u : UnitValue B KeepOpener MemBlocks). u.control.count) same.unit in
+      ap (λ (u : UnitValue B MemBlocks KeepOpener). u.control.count) same.unit in
       let f : new.at.serial ≡ old.at.serial = same.serial in omega arith
 
   pub grows_same : IsSame old new → old.unit.control.count ≤ new.unit.control.count
   grows_same same =
       let e : new.unit.control.count ≡ old.unit.control.count =
-      ap (λ (u : UnitValue B KeepOpener MemBlocks). u.control.count) same.unit in omega arith
+      ap (λ (u : UnitValue B MemBlocks KeepOpener). u.control.count) same.unit in omega arith
 
-module _ {B : Type 0} (claims : Bool) (contents : B → List (List ℕ)) (failures : B → ℕ) (old new : TargetValue B) where
+module _ {B : Type 0} (d : Device B) (f : Device MemBlocks) (old new : TargetValue B) where
   -- what one fact tells of a session that is gone, another tells that follows
-  pub answered_over : (late also : Type 0) → (late → also)
-      → (number : Option ℕ) (asked : Result ScsiCommand CdbFault) (bytes : List ℕ) (a : TargetAnswer)
-      → IsAnsweredBy late claims contents failures old number asked bytes a new
-      → IsAnsweredBy also claims contents failures old number asked bytes a new
-  answered_over late also follows number asked bytes (Replied reply) k = k
-  answered_over late also follows number asked bytes (Outside reply) k = k
-  answered_over late also follows number asked bytes Busy k = k
-  answered_over late also follows number asked bytes Gone k = (k.0, k.1, follows k.2)
-  answered_over late also follows number asked bytes Halted k = k
+  pub answered_over : (late also : Type 0) → (late → also) → (call : Call) (a : TargetAnswer)
+      → IsAnsweredBy late d f old call a new → IsAnsweredBy also d f old call a new
+  answered_over late also follows call (Replied reply) k = k
+  answered_over late also follows call (Outside reply) k = k
+  answered_over late also follows call Busy k = k
+  answered_over late also follows call Gone k = (k.0, k.1, follows k.2)
 
   -- behind an answer the session's serial is the next still
-  pub ready_answered : (late : Type 0) (number : Option ℕ) (asked : Result ScsiCommand CdbFault) (bytes : List ℕ)
-      (a : TargetAnswer)
+  pub ready_answered : (late : Type 0) (call : Call) (a : TargetAnswer)
       → next_of old.unit.control.sessions old.at.session ≡ Some old.at.serial
-      → IsAnsweredBy late claims contents failures old number asked bytes a new
+      → IsAnsweredBy late d f old call a new
       → next_of new.unit.control.sessions new.at.session ≡ Some new.at.serial
-  ready_answered late number asked bytes (Replied reply) next k =
+  ready_answered late call (Replied reply) next k =
       let by_owner : TargetValue B = k.1 in
       let done = k.3 in
-      let choice : Choice = choice_of reply (contents new.unit.device) new.unit.control.lasting in
+      let choice : Choice = choice_of reply (d.contents new.unit.device) new.unit.control.lasting in
       ap (λ (n : ℕ). next_of new.unit.control.sessions n) done.session
-      ∙ ready_next by_owner.unit.control new.unit.control by_owner.at.session by_owner.at.serial by_owner.at.by asked
-      bytes choice done.step.possible.next done.step.control
+      ∙ ready_next by_owner.unit.control new.unit.control by_owner.at.session by_owner.at.serial by_owner.at.by
+      call.asked call.bytes choice done.step.possible.next done.step.control
       ∙ sym (ap some done.serial)
-  ready_answered late number asked bytes (Outside reply) next k = ready_same old new k.2 next
-  ready_answered late number asked bytes Busy next k = ready_same old new k.1 next
-  ready_answered late number asked bytes Gone next k = ready_same old new k.1 next
-  ready_answered late number asked bytes Halted next k = absurd k
+  ready_answered late call (Outside reply) next k = ready_same old new k.2 next
+  ready_answered late call Busy next k = ready_same old new k.1 next
+  ready_answered late call Gone next k = ready_same old new k.1 next
 
   -- no serial passes the count of entries, which never falls
-  module _ (late : Type 0) (number : Option ℕ) (asked : Result ScsiCommand CdbFault) (bytes : List ℕ) where
+  module _ (late : Type 0) (call : Call) where
     counted : (reply : ReplyValue) → (by_owner : TargetValue B) → IsSame old by_owner
-        → IsCommand claims contents failures by_owner new asked bytes reply
+        → IsCommand d f by_owner new call reply
         → new.unit.control.count ≡ old.unit.control.count + 1
     counted reply by_owner same done =
-        ap (λ (d : ControlValue). d.count) done.step.control
-        ∙ count_after by_owner.unit.control by_owner.at.session by_owner.at.serial by_owner.at.by asked bytes
-        (choice_of reply (contents new.unit.device) new.unit.control.lasting)
-        ∙ ap (λ (u : UnitValue B KeepOpener MemBlocks). u.control.count + 1) same.unit
+        ap (λ (c : ControlValue). c.count) done.step.control
+        ∙ count_after by_owner.unit.control by_owner.at.session by_owner.at.serial by_owner.at.by call.asked call.bytes
+        (choice_of reply (d.contents new.unit.device) new.unit.control.lasting)
+        ∙ ap (λ (u : UnitValue B MemBlocks KeepOpener). u.control.count + 1) same.unit
 
     pub fits_answered : (a : TargetAnswer) → old.at.serial ≤ old.unit.control.count
-        → IsAnsweredBy late claims contents failures old number asked bytes a new
+        → IsAnsweredBy late d f old call a new
         → new.at.serial ≤ new.unit.control.count
     fits_answered (Replied reply) fits k =
         let e = counted reply k.1 k.2 k.3 in
-        let f : new.at.serial ≡ old.at.serial + 1 = k.3.serial ∙ ap (λ (n : ℕ). n + 1) k.2.serial in omega arith
+        let g : new.at.serial ≡ old.at.serial + 1 = k.3.serial ∙ ap (λ (n : ℕ). n + 1) k.2.serial in omega arith
     fits_answered (Outside reply) fits k = fits_same old new k.2 fits
     fits_answered Busy fits k = fits_same old new k.1 fits
     fits_answered Gone fits k = fits_same old new k.1 fits
-    fits_answered Halted fits k = absurd k
 
-    pub grows_answered : (a : TargetAnswer) → IsAnsweredBy late claims contents failures old number asked bytes a new
+    pub grows_answered : (a : TargetAnswer) → IsAnsweredBy late d f old call a new
         → old.unit.control.count ≤ new.unit.control.count
     grows_answered (Replied reply) k = let e = counted reply k.1 k.2 k.3 in omega arith
     grows_answered (Outside reply) k = grows_same old new k.2
     grows_answered Busy k = grows_same old new k.1
     grows_answered Gone k = grows_same old new k.1
-    grows_answered Halted k = absurd k
 
 module _ {B : Type 0} (late : Type 0) (old new : TargetValue B) (number : ℕ) where
   pub reset_over : (also : Type 0) → (late → also) → (a : ResetAnswer) → IsResetBy late old number a new

@@ -1,7 +1,9 @@
 -- The calls of a session are the commands of one legal history of its unit.
 use Rattle.std.proofs.Common.{◌≡◌, ℕ, zero, suc, ◌+◌, ◌<◌, ◌≤◌, List, [], ◌∷◌, length, Bool, true, false, Option, Some, None, refl, sym, ap, subst, ◌∙◌, arith, cond}
-use Rattle.std.specs.Prelude.{IsTrue, slice_get, Result}
+use Rattle.std.specs.Prelude.{IsTrue, IsSome, slice_get, Result, take, drop}
 use Rattle.std.proofs.lemmas.List.Sums.{sum_by-cons}
+use Rattle.aptpl_file.specs.Lasts.{EachOutcomeHolds}
+use Rattle.block_file.specs.Disk.{Only}
 use Rattle.block_file.specs.Failures.{Tells}
 use Rattle.block_file.specs.declared.mem.MemBlocks.{MemBlocks}
 use Rattle.block_file.specs.declared.opener.KeepOpener.{KeepOpener}
@@ -13,7 +15,7 @@ use Rattle.session.specs.Asking.{Asking, began, lives, served, reset, over}
 use Rattle.session.specs.declared.target.ResetAnswer.{ResetAnswer}
 use Rattle.session.specs.declared.target.ResetAnswer.TheVariants as resets
 use Rattle.session.specs.declared.target.TargetAnswer.{TargetAnswer}
-use Rattle.session.specs.declared.target.TargetAnswer.TheVariants.{Replied, Outside, Busy, Gone, Halted}
+use Rattle.session.specs.declared.target.TargetAnswer.TheVariants.{Replied, Outside, Busy, Gone}
 use Rattle.session.specs.declared.end.End.{End}
 use Rattle.std.specs.Prelude.{map, ◌++◌}
 use Rattle.std.specs.Io.KnownBytes.{IsAtEnd}
@@ -34,8 +36,13 @@ use Rattle.unit_state.specs.Entry.{Entry, Reset, Command, IsAttached, IsPossible
 use Rattle.unit_state.specs.EntryLaws.{possible_over, reply_over}
 use Rattle.unit_state.specs.History.{state_after, IsLegal, IsReplyAt, has_failed, failed_entries}
 use Rattle.unit_state.specs.Step.{IsStep, entry_of}
-use Rattle.targets.specs.OneUnit.{TargetValue, IsSame, IsBusy, IsAnsweredBy, IsResetBy, LeadsOn}
-use Rattle.targets.specs.Once.{RepliedCall, EnteredCall, replied, was_reset, entered_by, entered, IsEntryOf, AreCommands, IsUnserved, AreUnserved, AreCounted, IsBegun, IsOnce, begun}
+use Rattle.unit_state.specs.declared.refusal.Refusal.{Refusal}
+use Rattle.unit_state.specs.Refusal.{refusal, request}
+use Rattle.unit_state.specs.Step.{OnRefusal}
+use Rattle.targets.specs.OneUnit.{Call, Device, TargetValue, IsSame, IsCommand, IsBusy, IsAnsweredBy, IsResetBy, LeadsOn}
+use Rattle.targets.specs.Once.{RepliedCall, EnteredCall, replied, was_reset, entered_by, entered, IsEntryOf, AreCommands}
+use Rattle.targets.specs.Once.{IsAnswerable, AreAnswerable, AreCounted, AreUnreached, IsUnreached, IsFlushed}
+use Rattle.targets.specs.Once.{Streams, IsBegun, IsOnce, begun}
 
 -- ---- failures: one command more in front
 
@@ -106,29 +113,29 @@ tells_alone before now done t = record {
 abbrev none_asked : List Asking
 none_asked = []
 
-module _ {B : Type 0} (claims : Bool) (contents : B → List (List ℕ)) (failures : B → ℕ) where
+module _ {B : Type 0} (d : Device B) (f : Device MemBlocks) where
   -- the model's state is the unit's
   pub record Matches (s : UnitState) (x : TargetValue B) : Type 0 where
     pub control : s.control ≡ x.unit.control
-    pub blocks : IsTrue claims → s.blocks ≡ contents x.unit.device
+    pub blocks : IsTrue d.claims → s.blocks ≡ d.contents x.unit.device
 
   same_unit : (s : UnitState) (x mid : TargetValue B) → mid.unit ≡ x.unit → Matches s x → Matches s mid
   same_unit s x mid e m = record {
-    control = m.control ∙ ap (λ (u : UnitValue B KeepOpener MemBlocks). u.control) (sym e);
-    blocks = λ h. m.blocks h ∙ ap (λ (u : UnitValue B KeepOpener MemBlocks). contents u.device) (sym e);
+    control = m.control ∙ ap (λ (u : UnitValue B MemBlocks KeepOpener). u.control) (sym e);
+    blocks = λ h. m.blocks h ∙ ap (λ (u : UnitValue B MemBlocks KeepOpener). d.contents u.device) (sym e);
   }
 
   module _ (s : UnitState) (x mid : TargetValue B) (m : Matches s x) (e : Entry) (reply : ReplyValue)
-      (step : IsStep claims (state_of contents x.unit) (state_of contents mid.unit) e reply) where
-    possible_here : IsPossible claims s e
-    possible_here = subst (λ (c : ControlValue). IsPossible claims
+      (step : IsStep d.claims (state_of d.contents x.unit) (state_of d.contents mid.unit) e reply) where
+    possible_here : IsPossible d.claims s e
+    possible_here = subst (λ (c : ControlValue). IsPossible d.claims
         (record { control = c; blocks = s.blocks }) e) (sym m.control)
-        (possible_over claims x.unit.control (contents x.unit.device) s.blocks m.blocks e step.possible)
+        (possible_over d.claims x.unit.control (d.contents x.unit.device) s.blocks m.blocks e step.possible)
 
-    replied_here : IsReplyTo claims s e reply
-    replied_here = subst (λ (c : ControlValue). IsReplyTo claims
+    replied_here : IsReplyTo d.claims s e reply
+    replied_here = subst (λ (c : ControlValue). IsReplyTo d.claims
         (record { control = c; blocks = s.blocks }) e reply) (sym m.control)
-        (reply_over claims x.unit.control (contents x.unit.device) s.blocks m.blocks e reply step.answer)
+        (reply_over d.claims x.unit.control (d.contents x.unit.device) s.blocks m.blocks e reply step.answer)
 
     matches_after : Matches (after s e) mid
     matches_after = record {
@@ -139,14 +146,24 @@ module _ {B : Type 0} (claims : Bool) (contents : B → List (List ℕ)) (failur
           ∙ sym (step.blocks h);
     }
 
+  -- behind a call that is flushed, while no later entry reaches the device, it holds what it made to last
+  abbrev Lasting : UnitState → List Asking → List Entry → B → Type 0
+  Lasting s cs history device = IsTrue d.claims → (k : ℕ) (call : RepliedCall)
+      → slice_get (entered cs) k ≡ Some (replied call)
+      → IsFlushed call → AreUnreached (state_after s (take (suc k) history)) (drop (suc k) history)
+      → Only (d.contents device) (d.may_hold device)
+
   -- a legal history from this state of the model, of which these calls are the commands
   pub record Story (s : UnitState) (x x' : TargetValue B) (cs : List Asking) : Type 0 where
     pub history : List Entry
-    pub legal : IsLegal claims s history
-    pub commands : AreCommands claims s cs history
-    pub others : AreUnserved s cs history
-    pub counted : AreCounted (failures x.unit.device) (failures x'.unit.device) history
-    pub ends : IsTrue claims → contents x'.unit.device ≡ (state_after s history).blocks
+    pub legal : IsLegal d.claims s history
+    pub commands : AreCommands d.claims s cs history
+    pub answers : AreAnswerable s cs history
+    pub counted : AreCounted (d.failures x.unit.device) (d.failures x'.unit.device) history
+    pub unreached : AreUnreached s history → x'.unit.device ≡ x.unit.device
+    pub control : (state_after s history).control ≡ x'.unit.control
+    pub ends : IsTrue d.claims → d.contents x'.unit.device ≡ (state_after s history).blocks
+    pub lasting : Lasting s cs history x'.unit.device
 
   -- the first of the calls
   first_is : (c call : Asking) (cs : List Asking) → slice_get (c ∷ cs) 0 ≡ Some call → c ≡ call
@@ -157,21 +174,21 @@ module _ {B : Type 0} (claims : Bool) (contents : B → List (List ℕ)) (failur
   module _ (s : UnitState) (cs : List Asking) (e : Entry) (this : Asking) (this_call : EnteredCall)
       (mine : IsEntryOf e this_call)
       (told : (c : RepliedCall) → this_call ≡ replied c
-      → IsReplyTo claims s e c.reply) (same : entered (this ∷ cs) ≡ this_call ∷ entered cs) where
-    entry_here : (history : List Entry) → AreCommands claims (after s e) cs history → (k : ℕ) (call : EnteredCall)
+      → IsReplyTo d.claims s e c.reply) (same : entered (this ∷ cs) ≡ this_call ∷ entered cs) where
+    entry_here : (history : List Entry) → AreCommands d.claims (after s e) cs history → (k : ℕ) (call : EnteredCall)
         → slice_get (this_call ∷ entered cs) k ≡ Some call
-        → (f : Entry) × (slice_get (e ∷ history) k ≡ Some f) × IsEntryOf f call
+        → (g : Entry) × (slice_get (e ∷ history) k ≡ Some g) × IsEntryOf g call
     entry_here history rest zero call at = let eq : this_call ≡ call = cc in (e, refl, subst (IsEntryOf e) eq mine)
     entry_here history rest (suc k) call at = rest.entry k call at
 
-    reply_here : (history : List Entry) → AreCommands claims (after s e) cs history → (k : ℕ) (call : RepliedCall)
+    reply_here : (history : List Entry) → AreCommands d.claims (after s e) cs history → (k : ℕ) (call : RepliedCall)
         → slice_get (this_call ∷ entered cs) k ≡ Some (replied call)
-        → IsReplyAt claims s (e ∷ history) k call.reply
+        → IsReplyAt d.claims s (e ∷ history) k call.reply
     reply_here history rest zero call at = let eq : this_call ≡ replied call = cc in told call eq
     reply_here history rest (suc k) call at = rest.reply k call at
 
-    commands_more : (history : List Entry) → AreCommands claims (after s e) cs history
-        → AreCommands claims s (this ∷ cs) (e ∷ history)
+    commands_more : (history : List Entry) → AreCommands d.claims (after s e) cs history
+        → AreCommands d.claims s (this ∷ cs) (e ∷ history)
     commands_more history rest = record {
       as_many = ap suc rest.as_many ∙ sym (ap length same);
       entry = λ k call at. entry_here history rest k call
@@ -180,24 +197,36 @@ module _ {B : Type 0} (claims : Bool) (contents : B → List (List ℕ)) (failur
           (subst (λ (xs : List EnteredCall). slice_get xs k ≡ Some (replied call)) same at);
     }
 
+    -- this call is flushed, or a later one is
+    lasting_more : (history : List Entry) (device : B)
+        → ((call : RepliedCall) → this_call ≡ replied call → IsTrue d.claims → IsFlushed call
+        → AreUnreached (after s e) history → Only (d.contents device) (d.may_hold device))
+        → Lasting (after s e) cs history device → Lasting s (this ∷ cs) (e ∷ history) device
+    lasting_more history device here rest h zero call at flushed left =
+        let at' : slice_get (this_call ∷ entered cs) 0 ≡ Some (replied call) =
+        subst (λ (xs : List EnteredCall). slice_get xs 0 ≡ Some (replied call)) same at in
+        let eq : this_call ≡ replied call = cc in here call eq h flushed left
+    lasting_more history device here rest h (suc k) call at flushed left =
+        rest h k call (subst (λ (xs : List EnteredCall). slice_get xs (suc k) ≡ Some (replied call)) same at) flushed left
+
   entered_more : (e : Entry) (s : UnitState) (c : Asking) (cs : List Asking) (history : List Entry)
-      (call : EnteredCall) → entered_by c ≡ Some call → IsUnserved s c → AreUnserved (after s e) cs history
-      → AreUnserved s (c ∷ cs) (e ∷ history)
+      (call : EnteredCall) → entered_by c ≡ Some call → IsAnswerable s c → AreAnswerable (after s e) cs history
+      → AreAnswerable s (c ∷ cs) (e ∷ history)
   entered_more e s c cs history call some here rest zero call' at =
-      subst (λ (d : Asking). IsUnserved s d) (first_is c call' cs at) here
+      subst (λ (a : Asking). IsAnswerable s a) (first_is c call' cs at) here
   entered_more e s c cs history call some here rest (suc k) call' at = rw some (rest k call' at)
 
   -- ---- any other call is none
 
   others_past : (s : UnitState) (c : Asking) (cs : List Asking) (history : List Entry) → entered_by c ≡ None
-      → IsUnserved s c → AreUnserved s cs history → AreUnserved s (c ∷ cs) history
+      → IsAnswerable s c → AreAnswerable s cs history → AreAnswerable s (c ∷ cs) history
   others_past s c cs history none here rest zero call at =
-      subst (λ (d : Asking). IsUnserved s d) (first_is c call cs at) here
+      subst (λ (a : Asking). IsAnswerable s a) (first_is c call cs at) here
   others_past s c cs history none here rest (suc k) call at = rw none (rest k call at)
 
   -- such a call leaves all as it was
   past : (s : UnitState) (x mid x' : TargetValue B) (cs : List Asking) (c : Asking) → entered_by c ≡ None
-      → IsUnserved s c → entered (c ∷ cs) ≡ entered cs → IsSame x mid → Story s mid x' cs → Story s x x' (c ∷ cs)
+      → IsAnswerable s c → entered (c ∷ cs) ≡ entered cs → IsSame x mid → Story s mid x' cs → Story s x x' (c ∷ cs)
   past s x mid x' cs c none here same_calls same k = record {
     history = k.history;
     legal = k.legal;
@@ -206,15 +235,37 @@ module _ {B : Type 0} (claims : Bool) (contents : B → List (List ℕ)) (failur
       entry = rw same_calls k.commands.entry;
       reply = rw same_calls k.commands.reply;
     };
-    others = others_past s c cs k.history none here k.others;
-    counted = subst (λ (u : UnitValue B KeepOpener MemBlocks). AreCounted (failures u.device)
-        (failures x'.unit.device) k.history) same.unit k.counted;
+    answers = others_past s c cs k.history none here k.answers;
+    counted = subst (λ (u : UnitValue B MemBlocks KeepOpener). AreCounted (d.failures u.device)
+        (d.failures x'.unit.device) k.history) same.unit k.counted;
+    unreached = λ left. k.unreached left ∙ ap (λ (u : UnitValue B MemBlocks KeepOpener). u.device) same.unit;
+    control = k.control;
     ends = k.ends;
+    lasting = rw same_calls k.lasting;
   }
+
+  -- a command that a rule refuses did not reach the device
+  left_alone : (o : Option Refusal) (P : Type 0) → OnRefusal o P → IsSome o → P
+  left_alone (Some refused) P k some = k
+  left_alone None P k some = absurd (cc)
+
+  module _ (asked : Result ScsiCommand CdbFault) (bytes : List ℕ) (reply : ReplyValue) (s : UnitState)
+      (x mid : TargetValue B) (zero_is : x.at.session ≡ 0) (m : Matches s x) where
+    abbrev call_here : Call
+    call_here = record { unit = Some 0; asked = asked; bytes = bytes }
+
+    unreached_here : (unit : Option ℕ)
+        → IsCommand d f x mid (record { unit = unit; asked = asked; bytes = bytes }) reply
+        → IsSome (refusal s.control (request 0 asked bytes)) → mid.unit.device ≡ x.unit.device
+    unreached_here unit done some =
+        left_alone (refusal x.unit.control (request 0 asked bytes)) (mid.unit.device ≡ x.unit.device)
+        (subst (λ (n : ℕ). OnRefusal (refusal x.unit.control (request n asked bytes))
+        (mid.unit.device ≡ x.unit.device)) zero_is done.lasting.unreached)
+        (subst (λ (c : ControlValue). IsSome (refusal c (request 0 asked bytes))) m.control some)
 
   next : (unit : Option ℕ) (asked : Result ScsiCommand CdbFault) (bytes : List ℕ) (a : TargetAnswer)
       (cs : List Asking) (s : UnitState) (x mid x' : TargetValue B) → x.at.session ≡ 0 → Matches s x
-      → IsAnsweredBy (LAST_COUNT ≤ x.unit.control.count) claims contents failures x unit asked bytes a mid
+      → IsAnsweredBy (LAST_COUNT ≤ x.unit.control.count) d f x (record { unit = unit; asked = asked; bytes = bytes }) a mid
       → ((s' : UnitState) → mid.at.session ≡ 0 → Matches s' mid → Story s' mid x' cs)
       → Story s x x' (served unit asked bytes a ∷ cs)
   next unit asked bytes (Replied reply) cs s x mid x' zero_is m led rest =
@@ -223,43 +274,52 @@ module _ {B : Type 0} (claims : Bool) (contents : B → List (List ℕ)) (failur
       let done = led.3 in
       let m' : Matches s by_owner = same_unit s x by_owner same.unit m in
       let mine : by_owner.at.session ≡ 0 = same.session ∙ zero_is in
-      let choice : Choice = choice_of reply (contents mid.unit.device) mid.unit.control.lasting in
+      let choice : Choice = choice_of reply (d.contents mid.unit.device) mid.unit.control.lasting in
       let entry : Entry = Command 0 by_owner.at.serial by_owner.at.by asked bytes choice in
-      let step : IsStep claims (state_of contents by_owner.unit) (state_of contents mid.unit) entry reply =
-      subst (λ (n : ℕ). IsStep claims (state_of contents by_owner.unit) (state_of contents mid.unit)
-      (entry_of n by_owner.at.serial by_owner.at.by asked bytes reply (state_of contents mid.unit)) reply)
+      let step : IsStep d.claims (state_of d.contents by_owner.unit) (state_of d.contents mid.unit) entry reply =
+      subst (λ (n : ℕ). IsStep d.claims (state_of d.contents by_owner.unit) (state_of d.contents mid.unit)
+      (entry_of n by_owner.at.serial by_owner.at.by asked bytes reply (state_of d.contents mid.unit)) reply)
       mine done.step in
       let call : RepliedCall = record { asked = asked; bytes = bytes; reply = reply } in
+      let here : Asking = served unit asked bytes (Replied reply) in
+      let told : (c : RepliedCall) → replied call ≡ replied c → IsReplyTo d.claims s entry c.reply =
+      (λ c same_call. let same_one : call ≡ c =
+      cc in subst (λ (z : RepliedCall). IsReplyTo d.claims s entry z.reply) same_one
+      (replied_here s by_owner mid m' entry reply step)) in
       let k = rest (after s entry) (done.session ∙ mine) (matches_after s by_owner mid m' entry reply step) in
       record {
         history = entry ∷ k.history;
         legal = (possible_here s by_owner mid m' entry reply step, k.legal);
-        commands = commands_more s cs entry (served unit asked bytes (Replied reply)) (replied call) (refl, refl, refl)
-            (λ c same_call. let same_one : call ≡ c =
-            cc in subst (λ (z : RepliedCall). IsReplyTo claims s entry z.reply) same_one
-            (replied_here s by_owner mid m' entry reply step)) refl k.history k.commands;
-        others = entered_more entry s (served unit asked bytes (Replied reply)) cs k.history (replied call) refl tt k.others;
-        counted = counted_more (failures x.unit.device) (failures mid.unit.device)
-            (failures x'.unit.device) 0 by_owner.at.serial by_owner.at.by asked bytes choice k.history
-            (subst (λ (u : UnitValue B KeepOpener MemBlocks). Tells (failures u.device) (failures mid.unit.device)
-            (IsFine choice)) same.unit
-            (tells_alone (failures by_owner.unit.device) (failures mid.unit.device)
+        commands = commands_more s cs entry here (replied call) (refl, refl, refl) told refl k.history k.commands;
+        answers = entered_more entry s here cs k.history (replied call) refl led.0 k.answers;
+        counted = counted_more (d.failures x.unit.device) (d.failures mid.unit.device)
+            (d.failures x'.unit.device) 0 by_owner.at.serial by_owner.at.by asked bytes choice k.history
+            (subst (λ (u : UnitValue B MemBlocks KeepOpener). Tells (d.failures u.device) (d.failures mid.unit.device)
+            (IsFine choice)) same.unit (tells_alone (d.failures by_owner.unit.device) (d.failures mid.unit.device)
             (IsFine choice) done.fine)) k.counted;
+        unreached = λ left. k.unreached left.1 ∙ unreached_here asked bytes reply s by_owner mid mine m' unit done left.0
+            ∙ ap (λ (u : UnitValue B MemBlocks KeepOpener). u.device) same.unit;
+        control = k.control;
         ends = k.ends;
+        lasting = lasting_more s cs entry here (replied call) (refl, refl, refl) told refl k.history x'.unit.device
+            (λ c same_call h flushed left. let same_one : call ≡ c = cc in let g : IsFlushed call =
+            subst (λ (z : RepliedCall). IsFlushed z) (sym same_one) flushed in
+            subst (λ (b : B). Only (d.contents b) (d.may_hold b)) (sym (k.unreached left))
+            ((done.lasting.lasts h).good g.good g.flushed)) k.lasting;
       }
   next unit asked bytes (Outside reply) cs s x mid x' zero_is m led rest =
       past s x mid x' cs (served unit asked bytes (Outside reply)) refl (led.0, led.1) refl led.2
       (rest s (led.2.session ∙ zero_is) (same_unit s x mid led.2.unit m))
   next unit asked bytes Busy cs s x mid x' zero_is m led rest =
+      let call : Call = record { unit = unit; asked = asked; bytes = bytes } in
       past s x mid x' cs (served unit asked bytes Busy) refl
-      (subst (λ (c : ControlValue). IsBusy c 0 unit asked bytes) (sym m.control)
-      (subst (λ (n : ℕ). IsBusy x.unit.control n unit asked bytes) zero_is led.0)) refl led.1
+      (subst (λ (c : ControlValue). IsBusy c 0 call) (sym m.control)
+      (subst (λ (n : ℕ). IsBusy x.unit.control n call) zero_is led.0)) refl led.1
       (rest s (led.1.session ∙ zero_is) (same_unit s x mid led.1.unit m))
   next unit asked bytes Gone cs s x mid x' zero_is m led rest =
       past s x mid x' cs (served unit asked bytes Gone) refl
       (led.0, subst (λ (c : ControlValue). LAST_COUNT ≤ c.count) (sym m.control) led.2) refl led.1
       (rest s (led.1.session ∙ zero_is) (same_unit s x mid led.1.unit m))
-  next unit asked bytes Halted cs s x mid x' zero_is m led rest = absurd led
 
   -- ---- a reset is the next entry
 
@@ -281,8 +341,9 @@ module _ {B : Type 0} (claims : Bool) (contents : B → List (List ℕ)) (failur
       let here : (after s (Reset 0)).control ≡ mid.unit.control =
       ap (λ (c : ControlValue). control_after c (Reset 0)) control
       ∙ ap (λ (n : ℕ). control_after x.unit.control (Reset n)) (sym zero_is) ∙ sym done.control in
+      let this : Asking = reset unit resets.Done in
       let k = rest (after s (Reset 0)) (done.session
-      ∙ zero_is) (record { control = here; blocks = λ h. m.blocks h ∙ ap contents (sym done.device) }) in
+      ∙ zero_is) (record { control = here; blocks = λ h. m.blocks h ∙ ap d.contents (sym done.device) }) in
       record {
         history = Reset 0 ∷ k.history;
         legal = (
@@ -290,12 +351,15 @@ module _ {B : Type 0} (claims : Bool) (contents : B → List (List ℕ)) (failur
               (subst (λ (n : ℕ). IsAttached x.unit.control n) zero_is done.possible),
           k.legal,
         );
-        commands = commands_more s cs (Reset 0) (reset unit resets.Done) was_reset refl
-            (λ c same_call. absurd (cc)) refl k.history k.commands;
-        others = entered_more (Reset 0) s (reset unit resets.Done) cs k.history was_reset refl tt k.others;
-        counted = counted_reset 0 (failures x.unit.device) (failures x'.unit.device) k.history
-            (subst (λ (d : B). AreCounted (failures d) (failures x'.unit.device) k.history) done.device k.counted);
+        commands = commands_more s cs (Reset 0) this was_reset refl (λ c same_call. absurd (cc)) refl k.history k.commands;
+        answers = entered_more (Reset 0) s this cs k.history was_reset refl led.0 k.answers;
+        counted = counted_reset 0 (d.failures x.unit.device) (d.failures x'.unit.device) k.history
+            (subst (λ (b : B). AreCounted (d.failures b) (d.failures x'.unit.device) k.history) done.device k.counted);
+        unreached = λ left. k.unreached left.1 ∙ done.device;
+        control = k.control;
         ends = k.ends;
+        lasting = lasting_more s cs (Reset 0) this was_reset refl (λ c same_call. absurd (cc)) refl k.history
+            x'.unit.device (λ c same_call h flushed left. absurd (cc)) k.lasting;
       }
   reset_next unit resets.Gone cs s x mid x' zero_is m led rest =
       past s x mid x' cs (reset unit resets.Gone) refl
@@ -306,7 +370,7 @@ module _ {B : Type 0} (claims : Bool) (contents : B → List (List ℕ)) (failur
       ∙ zero_is) (same_unit s x mid led.1.unit m))
 
   asked_next : (c : Asking) (cs : List Asking) (s : UnitState) (x mid x' : TargetValue B) → x.at.session ≡ 0 → Matches s x
-      → LeadsOn claims contents failures x c mid
+      → LeadsOn d f x c mid
       → ((s' : UnitState) → mid.at.session ≡ 0 → Matches s' mid → Story s' mid x' cs) → Story s x x' (c ∷ cs)
   asked_next (began port kind a) cs s x mid x' zero_is m led rest =
       past s x mid x' cs (began port kind a) refl led.0 refl led.1 (rest s (led.1.session
@@ -329,7 +393,7 @@ module _ {B : Type 0} (claims : Bool) (contents : B → List (List ℕ)) (failur
   none_at (suc k) call at = cc
 
   pub story : (cs : List Asking) (s : UnitState) (x x' : TargetValue B) → x.at.session ≡ 0 → Matches s x
-      → Leads (LeadsOn claims contents failures) cs x x' → Story s x x' cs
+      → Leads (LeadsOn d f) cs x x' → Story s x x' cs
   story [] s x x' zero_is m same = record {
     history = [];
     legal = tt;
@@ -339,35 +403,41 @@ module _ {B : Type 0} (claims : Bool) (contents : B → List (List ℕ)) (failur
       reply =
           λ k call at. absurd (none_at k (replied call) at);
     };
-    others = λ k call at. absurd (no_call k call at);
+    answers = λ k call at. absurd (no_call k call at);
     counted = rw same (record { later = omega arith; at_most = λ room. omega arith; only = λ room none. refl });
-    ends = λ h. ap (λ (y : TargetValue B). contents y.unit.device) same ∙ sym (m.blocks h);
+    unreached = λ left. ap (λ (y : TargetValue B). y.unit.device) same;
+    control = m.control ∙ sym (ap (λ (y : TargetValue B). y.unit.control) same);
+    ends = λ h. ap (λ (y : TargetValue B). d.contents y.unit.device) same ∙ sym (m.blocks h);
+    lasting = λ h k call at flushed left. absurd (none_at k (replied call) at);
   }
   story (c ∷ cs) s x x' zero_is m led =
       asked_next c cs s x led.0 x' zero_is m led.1 (λ s' z m'. story cs s' led.0 x' z m' led.2)
 
 -- the whole of it
-pub is_once : {B : Type 0} (me : Identity) (start : Start) (claims : Bool) (size : B → ℕ) (contents : B
-    → List (List ℕ)) (failures : B
-    → ℕ) (blocks device : B) (x x' : TargetValue B) (left left' held held' : Option (List ℕ)) (end : End)
-    → IsBegun size blocks x → IsTranscribed (LeadsOn claims contents failures) 1 me
-    (FullFeature Normal start) left left' held held' x x' end
-    → device ≡ x'.unit.device
-    → IsOnce (setting_of 1 me Normal start) claims size contents failures blocks device left left' held held' end
-is_once {B = B} me start claims size contents failures blocks device x x' left left' held held' end first t is_device =
-    let begun_here : Matches claims contents failures (begun size contents blocks) x = record {
+pub is_once : {B : Type 0} (me : Identity) (start : Start) (d : Device B) (f : Device MemBlocks) (streams : Streams)
+    (blocks : B) (handed : B × MemBlocks) (x x' : TargetValue B) (end : End)
+    → IsBegun d f blocks x
+    → IsTranscribed (LeadsOn d f) 1 me (FullFeature Normal start) streams.left streams.left_after streams.held
+    streams.held_after x x' end
+    → handed ≡ (x'.unit.device, x'.unit.file.device)
+    → EachOutcomeHolds (f.size handed.1) (f.may_hold handed.1) x'.unit.control.lasting
+    → IsOnce (setting_of 1 me Normal start) d f streams blocks end handed.0 handed.1
+is_once {B = B} me start d f streams blocks handed x x' end first t closed restart =
+    let device : B = handed.0 in
+    let file : MemBlocks = handed.1 in
+    let begun_here : Matches d f (begun d blocks) x = record {
       control = sym first.control;
-      blocks = λ h. ap contents (sym first.device);
+      blocks = λ h. ap d.contents (sym first.device);
     } in
     let passed = t.passed in
     let turns = passed.transcript.turns in
     let es : exchanges passed.transcript ≡ map of_turn turns =
     ap (λ (ls : List LoginTurn). map of_login ls ++ map of_turn turns) passed.lawful.0 in
-    let led = subst (λ (z : List Exchange). Leads (LeadsOn claims contents failures) (asked z) x t.at_end) es passed.led in
-    let k = story claims contents failures (asked (map of_turn turns))
-    (begun size contents blocks) x t.at_end first.session begun_here led in
-    let at_end : device ≡ t.at_end.unit.device = is_device
-    ∙ ap (λ (u : UnitValue B KeepOpener MemBlocks). u.device) t.told.unit in
+    let led = subst (λ (z : List Exchange). Leads (LeadsOn d f) (asked z) x t.at_end) es passed.led in
+    let k = story d f (asked (map of_turn turns)) (begun d blocks) x t.at_end first.session begun_here led in
+    let same : x'.unit ≡ t.at_end.unit = t.told.unit in
+    let at_end : device ≡ t.at_end.unit.device =
+    ap (λ (h : B × MemBlocks). h.0) closed ∙ ap (λ (u : UnitValue B MemBlocks KeepOpener). u.device) same in
     record {
       transcript = turns;
       served = record {
@@ -375,10 +445,18 @@ is_once {B = B} me start claims size contents failures blocks device x x' left l
         rest = passed.rest;
         lawful = passed.lawful.1;
         ends = subst (λ (z : List Exchange). EndsBy z passed.rest (length passed.spelled + length passed.rest)
-            (IsAtEnd left') end) es passed.ends;
+            (IsAtEnd streams.left_after) end) es passed.ends;
         spells = subst (λ (z : List Exchange). Spells (incoming z) passed.spelled) es passed.spells;
         read = passed.read;
-        written = subst (λ (z : List Exchange). Written end held held' z) es passed.written;
+        written = subst (λ (z : List Exchange). Written end streams.held streams.held_after z) es passed.written;
+      };
+      run = record {
+        first = x;
+        last = t.at_end;
+        begins = first;
+        led = led;
+        device_is = at_end;
+        file_is = ap (λ (h : B × MemBlocks). h.1) closed ∙ ap (λ (u : UnitValue B MemBlocks KeepOpener). u.file.device) same;
       };
       history = k.history;
       legal = (
@@ -398,8 +476,15 @@ is_once {B = B} me start claims size contents failures blocks device x x' left l
         ),
       );
       commands = k.commands;
-      others = k.others;
-      counted = subst (λ (d : B). AreCounted (failures d) (failures device) k.history) first.device
-          (subst (λ (d : B). AreCounted (failures x.unit.device) (failures d) k.history) (sym at_end) k.counted);
-      blocks_after = λ h. ap contents at_end ∙ k.ends h;
+      answers = k.answers;
+      counted = subst (λ (b : B). AreCounted (d.failures b) (d.failures device) k.history) first.device
+          (subst (λ (b : B). AreCounted (d.failures x.unit.device) (d.failures b) k.history) (sym at_end) k.counted);
+      unreached = λ left. at_end ∙ k.unreached left ∙ first.device;
+      blocks_after = λ h. ap d.contents at_end ∙ k.ends h;
+      lasting = record {
+        blocks = λ h n call at flushed left. subst (λ (b : B). Only (d.contents b) (d.may_hold b)) (sym at_end)
+            (k.lasting h n call at flushed left);
+        records = λ h. subst (λ (c : ControlValue). EachOutcomeHolds (f.size file) (f.may_hold file) c.lasting)
+            (ap (λ (u : UnitValue B MemBlocks KeepOpener). u.control) same ∙ sym k.control) restart;
+      };
     }

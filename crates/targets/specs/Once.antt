@@ -1,15 +1,19 @@
 -- What one session over one unit is, from bytes to bytes and from blocks to blocks.
-use Rattle.std.specs.Prelude.{◌≡◌, ◌≢◌, ℕ, ◌+◌, ◌<◌, ◌≤◌, Bool, false, IsTrue, List, [], ◌∷◌}
-use Rattle.std.specs.Prelude.{◌++◌, length, map, take, codes, Option, Some, None, Result, Ok, slice_get}
+use Rattle.std.specs.Prelude.{◌≡◌, ◌≢◌, ℕ, suc, ◌+◌, ◌<◌, ◌≤◌, Bool, false, IsTrue, IsSome, List, [], ◌∷◌}
+use Rattle.std.specs.Prelude.{◌++◌, length, map, take, drop, codes, Option, Some, None, Result, Ok, slice_get}
 use Rattle.std.specs.List.{filter_map}
 use Rattle.std.specs.Io.KnownBytes.{Consumes, IsAtEnd}
+use Rattle.aptpl_file.specs.Lasts.{EachOutcomeHolds}
+use Rattle.block_file.specs.Disk.{Only}
 use Rattle.block_file.specs.Failures.{last_count}
+use Rattle.block_file.specs.declared.mem.MemBlocks.{MemBlocks}
 use Rattle.identity.specs.Absent.{absent_reply}
 use Rattle.reservations.specs.Registry.{RecordValue}
 use Rattle.scsi_types.specs.ReplyValue.{ReplyValue}
 use Rattle.scsi_types.specs.Nexus.{Nexus}
 use Rattle.scsi_types.specs.declared.names.Group.TheVariants.{One}
 use Rattle.scsi_types.specs.declared.names.Place.{Place}
+use Rattle.scsi_types.specs.declared.status.Status.TheVariants.{Good}
 use Rattle.scsi_types.specs.declared.command.Command.{Command as ScsiCommand}
 use Rattle.scsi_types.specs.declared.command.Command.TheVariants as commands
 use Rattle.scsi_types.specs.declared.command.CdbFault.{CdbFault}
@@ -19,9 +23,9 @@ use Rattle.session.specs.Lengths.{default_lengths}
 use Rattle.session.specs.Setting.{Setting}
 use Rattle.session.specs.declared.session.Start.{Start}
 use Rattle.session.specs.declared.end.End.{End}
-use Rattle.session.specs.declared.target.TargetAnswer.TheVariants.{Replied, Outside, Busy, Gone, Halted}
+use Rattle.session.specs.declared.target.TargetAnswer.TheVariants.{Replied, Outside, Busy, Gone}
 use Rattle.session.specs.declared.target.ResetAnswer.TheVariants as resets
-use Rattle.session.specs.Turn.{Turn, Spells}
+use Rattle.session.specs.Turn.{Turn, Leads, Spells}
 use Rattle.session.specs.Legal.{Lawful}
 use Rattle.session.specs.Phases.{of_turn, incoming, asked}
 use Rattle.session.specs.Ends.{EndsBy}
@@ -29,9 +33,11 @@ use Rattle.session.specs.Transcript.{Written}
 use Rattle.unit_state.specs.declared.control.TheConstants.{LAST_COUNT}
 use Rattle.unit_state.specs.State.{UnitState, opening}
 use Rattle.unit_state.specs.Choice.{Fine}
-use Rattle.unit_state.specs.Entry.{Entry, Attach, Reset, Command}
+use Rattle.unit_state.specs.Entry.{Entry, Attach, Detach, Reset, Move, Command, after}
 use Rattle.unit_state.specs.History.{state_after, IsLegal, IsReplyAt, failed_entries}
-use Rattle.targets.specs.OneUnit.{TargetValue, IsBusy}
+use Rattle.unit_state.specs.Medium.{is_flushed, work_asked}
+use Rattle.unit_state.specs.Refusal.{refusal, request}
+use Rattle.targets.specs.OneUnit.{Device, TargetValue, IsBusy, LeadsOn}
 
 -- the nexus of the one session
 abbrev pub host : Nexus
@@ -55,14 +61,16 @@ abbrev pub first_entries : List Entry
 first_entries = Attach host ∷ Command 0 1 One (Ok commands.TestUnitReady) [] Fine ∷ []
 
 -- the unit over these blocks behind them
-abbrev pub begun : {B : Type 0} → (B → ℕ) → (B → List (List ℕ)) → B → UnitState
-begun size contents blocks = state_after (opening place (size blocks) (contents blocks) nothing) first_entries
+abbrev pub begun : {B : Type 0} → Device B → B → UnitState
+begun d blocks = state_after (opening place (d.size blocks) (d.contents blocks) nothing) first_entries
 
--- such a unit, and its session
-pub record IsBegun {B : Type 0} (size : B → ℕ) (blocks : B) (target : TargetValue B) : Type 0 where
+-- such a unit, and its session; of its registration file a crash leaves a record that it names
+pub record IsBegun {B : Type 0} (d : Device B) (f : Device MemBlocks) (blocks : B) (target : TargetValue B) : Type 0 where
   pub session : target.at.session ≡ 0
   pub device : target.unit.device ≡ blocks
-  pub control : target.unit.control ≡ (begun size (λ b. []) blocks).control
+  pub control : target.unit.control ≡ (begun d blocks).control
+  pub restart : IsTrue f.claims → EachOutcomeHolds (f.size target.unit.file.device) (f.may_hold target.unit.file.device)
+      target.unit.control.lasting
 
 -- ---- the calls that the unit replied to, and its resets, are the entries of its history
 
@@ -85,7 +93,6 @@ entered_by (served unit asked bytes (Replied reply)) =
 entered_by (served unit asked bytes (Outside reply)) = None
 entered_by (served unit asked bytes Busy) = None
 entered_by (served unit asked bytes Gone) = None
-entered_by (served unit asked bytes Halted) = None
 entered_by (reset unit resets.Done) = Some was_reset
 entered_by (reset unit resets.Gone) = None
 entered_by (reset unit resets.Failed) = None
@@ -109,28 +116,29 @@ pub record AreCommands (claims : Bool) (s : UnitState) (cs : List Asking) (histo
   pub reply : (k : ℕ) (call : RepliedCall) → slice_get (entered cs) k ≡ Some (replied call)
       → IsReplyAt claims s history k call.reply
 
--- ---- the calls that were answered otherwise
+-- ---- which answers there are
 
--- In this state of the unit a call may be answered so without a step: a unit that is not there; no memory for the data
--- of a reply; a history of the last length. The unit serves on for good. No other session begins or lives, and the end
--- of this one is no entry.
-abbrev pub IsUnserved : UnitState → Asking → Type 0
-IsUnserved s (began port kind answer) = answer ≡ Refused
-IsUnserved s (lives tsih port answer) = answer ≡ false
-IsUnserved s (served unit asked bytes (Replied reply)) = Unit {0}
-IsUnserved s (served unit asked bytes (Outside reply)) = (unit ≢ Some 0) × (reply ≡ absent_reply asked)
-IsUnserved s (served unit asked bytes Busy) = IsBusy s.control 0 unit asked bytes
-IsUnserved s (served unit asked bytes Gone) = (unit ≡ Some 0) × (LAST_COUNT ≤ s.control.count)
-IsUnserved s (served unit asked bytes Halted) = ⊥
-IsUnserved s (reset unit resets.Done) = Unit {0}
-IsUnserved s (reset unit resets.Gone) = (unit ≡ 0) × (LAST_COUNT ≤ s.control.count)
-IsUnserved s (reset unit resets.Failed) = unit ≢ 0
-IsUnserved s over = Unit {0}
+-- In this state of the unit a question may have this answer. The unit is 0: it alone replies to a command, and is reset. A
+-- command of any other is answered that the unit is not there, and its reset failed. There may be no memory for the data of a
+-- reply; the session is gone only where the history has its last length; the unit serves on for good. No other session begins
+-- or lives.
+abbrev pub IsAnswerable : UnitState → Asking → Type 0
+IsAnswerable s (began port kind answer) = answer ≡ Refused
+IsAnswerable s (lives tsih port answer) = answer ≡ false
+IsAnswerable s (served unit asked bytes (Replied reply)) = unit ≡ Some 0
+IsAnswerable s (served unit asked bytes (Outside reply)) = (unit ≢ Some 0) × (reply ≡ absent_reply asked)
+IsAnswerable s (served unit asked bytes Busy) =
+    IsBusy s.control 0 (record { unit = unit; asked = asked; bytes = bytes })
+IsAnswerable s (served unit asked bytes Gone) = (unit ≡ Some 0) × (LAST_COUNT ≤ s.control.count)
+IsAnswerable s (reset unit resets.Done) = unit ≡ 0
+IsAnswerable s (reset unit resets.Gone) = (unit ≡ 0) × (LAST_COUNT ≤ s.control.count)
+IsAnswerable s (reset unit resets.Failed) = unit ≢ 0
+IsAnswerable s over = Unit {0}
 
--- each call that was answered otherwise, in the state behind the entries before it
-abbrev pub AreUnserved : UnitState → List Asking → List Entry → Type 0
-AreUnserved s cs history = (k : ℕ) (call : Asking) → slice_get cs k ≡ Some call
-    → IsUnserved (state_after s (take (length (entered (take k cs))) history)) call
+-- each question, in the state behind the entries before it
+abbrev pub AreAnswerable : UnitState → List Asking → List Entry → Type 0
+AreAnswerable s cs history = (k : ℕ) (asking : Asking) → slice_get cs k ≡ Some asking
+    → IsAnswerable (state_after s (take (length (entered (take k cs))) history)) asking
 
 -- ---- failures
 
@@ -141,29 +149,82 @@ pub record AreCounted (before now : ℕ) (history : List Entry) : Type 0 where
   pub at_most : now < last_count → failed_entries history + before ≤ now
   pub only : now < last_count → failed_entries history ≡ 0 → now ≡ before
 
+-- ---- what lasts
+
+-- The entry leaves the device of the blocks alone: it is no move, and no command that is served.
+abbrev pub IsUnreached : UnitState → Entry → Type 0
+IsUnreached s (Attach nexus) = Unit {0}
+IsUnreached s (Detach session) = Unit {0}
+IsUnreached s (Reset session) = Unit {0}
+IsUnreached s (Move list choice) = ⊥
+IsUnreached s (Command session serial by_group asked bytes choice) =
+    IsSome (refusal s.control (request session asked bytes))
+
+-- so does each of these, from this state on
+abbrev pub AreUnreached : UnitState → List Entry → Type 0
+AreUnreached s [] = Unit {0}
+AreUnreached s (e ∷ history) = IsUnreached s e × AreUnreached (after s e) history
+
+-- GOOD of SYNCHRONIZE CACHE, or of a command with FUA
+pub record IsFlushed (call : RepliedCall) : Type 0 where
+  pub good : call.reply.status ≡ Good
+  pub flushed : IsTrue (is_flushed (work_asked call.asked call.bytes))
+
+-- What a crash leaves of the devices that are handed back: behind a call that is flushed, where no entry reached the blocks'
+-- device since, the blocks that it holds; and of the registration file one of the records that the unit names at last.
+pub record AreMadeToLast {B : Type 0} (d : Device B) (f : Device MemBlocks) (s : UnitState) (cs : List Asking)
+    (history : List Entry) (device : B) (file : MemBlocks) : Type 0 where
+  pub blocks : IsTrue d.claims → (k : ℕ) (call : RepliedCall) → slice_get (entered cs) k ≡ Some (replied call)
+      → IsFlushed call → AreUnreached (state_after s (take (suc k) history)) (drop (suc k) history)
+      → Only (d.contents device) (d.may_hold device)
+  pub records : IsTrue f.claims
+      → EachOutcomeHolds (f.size file) (f.may_hold file) (state_after s history).control.lasting
+
 -- ---- the whole
+
+-- The bytes of a session's streams, where they tell them: what the source has left, and what the sink took, before the
+-- session and after it.
+pub record Streams : Type 0 where
+  pub left : Option (List ℕ)
+  pub left_after : Option (List ℕ)
+  pub held : Option (List ℕ)
+  pub held_after : Option (List ℕ)
 
 -- The bytes that were read spell the PDUs of a legal transcript, and the bytes written those that it sends: of every
 -- device.
-pub record IsServed (m : Setting) (ts : List Turn) (left left' held held' : Option (List ℕ)) (end : End) : Type 0 where
+pub record IsServed (m : Setting) (streams : Streams) (ts : List Turn) (end : End) : Type 0 where
   pub spelled : List ℕ
   pub rest : List ℕ
   pub lawful : Lawful m ts
-  pub ends : EndsBy (map of_turn ts) rest (length spelled + length rest) (IsAtEnd left') end
+  pub ends : EndsBy (map of_turn ts) rest (length spelled + length rest) (IsAtEnd streams.left_after) end
   pub spells : Spells (incoming (map of_turn ts)) spelled
-  pub read : Consumes left left' (spelled ++ rest)
-  pub written : Written end held held' (map of_turn ts)
+  pub read : Consumes streams.left streams.left_after (spelled ++ rest)
+  pub written : Written end streams.held streams.held_after (map of_turn ts)
 
--- Its calls are the commands of one legal history of the unit; the failures that this tells are those of the device;
--- and where the device's type claims its contents, it has the blocks after that history.
-pub record IsOnce {B : Type 0} (m : Setting) (claims : Bool) (size : B → ℕ)
-    (contents : B → List (List ℕ)) (failures : B → ℕ)
-    (blocks device : B) (left left' held held' : Option (List ℕ)) (end : End) : Type 0 where
+-- The questions, in order, lead the target from its opening to these devices: so each of its words holds of each question at
+-- its place.
+pub record HasRun {B : Type 0} (d : Device B) (f : Device MemBlocks) (blocks : B) (cs : List Asking) (device : B)
+    (file : MemBlocks) : Type 0 where
+  pub first : TargetValue B
+  pub last : TargetValue B
+  pub begins : IsBegun d f blocks first
+  pub led : Leads (LeadsOn d f) cs first last
+  pub device_is : device ≡ last.unit.device
+  pub file_is : file ≡ last.unit.file.device
+
+-- Its calls are the commands of one legal history of the unit, and each is one to the unit that is there; the failures that
+-- this tells are those of the device; a device that no entry reached is as it was; and where the device's type claims its
+-- contents, it has the blocks after that history, and those that were made to last.
+pub record IsOnce {B : Type 0} (m : Setting) (d : Device B) (f : Device MemBlocks) (streams : Streams) (blocks : B)
+    (end : End) (device : B) (file : MemBlocks) : Type 0 where
   pub transcript : List Turn
-  pub served : IsServed m transcript left left' held held' end
+  pub served : IsServed m streams transcript end
+  pub run : HasRun d f blocks (asked (map of_turn transcript)) device file
   pub history : List Entry
-  pub legal : IsLegal claims (opening place (size blocks) (contents blocks) nothing) (first_entries ++ history)
-  pub commands : AreCommands claims (begun size contents blocks) (asked (map of_turn transcript)) history
-  pub others : AreUnserved (begun size contents blocks) (asked (map of_turn transcript)) history
-  pub counted : AreCounted (failures blocks) (failures device) history
-  pub blocks_after : IsTrue claims → contents device ≡ (state_after (begun size contents blocks) history).blocks
+  pub legal : IsLegal d.claims (opening place (d.size blocks) (d.contents blocks) nothing) (first_entries ++ history)
+  pub commands : AreCommands d.claims (begun d blocks) (asked (map of_turn transcript)) history
+  pub answers : AreAnswerable (begun d blocks) (asked (map of_turn transcript)) history
+  pub counted : AreCounted (d.failures blocks) (d.failures device) history
+  pub unreached : AreUnreached (begun d blocks) history → device ≡ blocks
+  pub blocks_after : IsTrue d.claims → d.contents device ≡ (state_after (begun d blocks) history).blocks
+  pub lasting : AreMadeToLast d f (begun d blocks) (asked (map of_turn transcript)) history device file

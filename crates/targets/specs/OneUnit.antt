@@ -1,7 +1,9 @@
 -- What the target of one unit answers.
-use Rattle.std.specs.Prelude.{◌≡◌, ◌≢◌, ◌⊎◌, ℕ, ◌+◌, ◌≤◌, Bool, false, List, Option, Some, Result}
+use Rattle.std.specs.Prelude.{◌≡◌, ◌≢◌, ◌⊎◌, ℕ, ◌+◌, ◌≤◌, IsTrue, false, List, Option, Some, Result}
 use Rattle.access_states.specs.AccessMap.{owner_of}
+use Rattle.aptpl_file.specs.Lasts.{EachOutcomeHolds}
 use Rattle.block_file.specs.Failures.{Tells}
+use Rattle.block_file.specs.declared.blocks.Blocks.{Ghosts}
 use Rattle.block_file.specs.declared.mem.MemBlocks.{MemBlocks}
 use Rattle.block_file.specs.declared.opener.KeepOpener.{KeepOpener}
 use Rattle.identity.specs.Absent.{absent_reply}
@@ -12,24 +14,37 @@ use Rattle.scsi_types.specs.declared.command.CdbFault.{CdbFault}
 use Rattle.session.specs.Asking.{Asking, began, lives, served, reset, over}
 use Rattle.session.specs.declared.target.BeginAnswer.TheVariants.{Refused}
 use Rattle.session.specs.declared.target.TargetAnswer.{TargetAnswer}
-use Rattle.session.specs.declared.target.TargetAnswer.TheVariants.{Replied, Outside, Busy, Gone, Halted}
+use Rattle.session.specs.declared.target.TargetAnswer.TheVariants.{Replied, Outside, Busy, Gone}
 use Rattle.session.specs.declared.target.ResetAnswer.{ResetAnswer}
 use Rattle.session.specs.declared.target.ResetAnswer.TheVariants as resets
 use Rattle.unit_state.specs.declared.control.TheConstants.{LAST_COUNT}
 use Rattle.unit_state.specs.State.{ControlValue, UnitValue, state_of, failures_of}
+use Rattle.unit_state.specs.Answer.{Lasts}
 use Rattle.unit_state.specs.Choice.{IsFine, choice_of}
 use Rattle.unit_state.specs.Entry.{Reset, IsAttached, IsNext, control_after}
-use Rattle.unit_state.specs.Refusal.{request}
-use Rattle.unit_state.specs.Step.{IsStep, TakesMemory, entry_of}
+use Rattle.unit_state.specs.Medium.{work_asked}
+use Rattle.unit_state.specs.Refusal.{Request, refusal, request}
+use Rattle.unit_state.specs.Step.{IsStep, OnRefusal, TakesMemory, asks_file, entry_of}
 use Rattle.unit_state.specs.declared.unit.StepEnd.{StepEnd}
 use Rattle.unit_state.specs.declared.unit.StepEnd.TheVariants as ends
 use Rattle.targets.specs.declared.attachment.Attachment.{Attachment}
 
+-- What a type of devices says of itself, by the names of the trait `Blocks`: what it claims, and of each of its devices the
+-- size, the contents, what a crash may leave and how often it has failed.
+abbrev pub Device : Type 0 → Type 1
+Device B = Ghosts B
+
 -- What contracts see of the target: its unit, and how the session that is attached to it submits its commands: the
 -- unit's session, the serial of its next command, and the group that is believed to own the unit.
 pub record TargetValue (B : Type 0) : Type 0 where
-  pub unit : UnitValue B KeepOpener MemBlocks
+  pub unit : UnitValue B MemBlocks KeepOpener
   pub at : Attachment
+
+-- what is asked of a target: the unit that the LUN names, what the CDB asks for, and the data that came
+pub record Call : Type 0 where
+  pub unit : Option ℕ
+  pub asked : Result ScsiCommand CdbFault
+  pub bytes : List ℕ
 
 -- Both controllers reach the one device, which is never opened anew, and the registration file is in memory: neither
 -- ever fails.
@@ -39,17 +54,33 @@ never_unopened opener = 0
 abbrev pub never_unsaved : MemBlocks → ℕ
 never_unsaved device = 0
 
--- a command of the session was one step of the unit, which tells the truth of failures
-pub record IsCommand {B : Type 0} (claims : Bool) (contents : B → List (List ℕ)) (failures : B → ℕ)
-    (old new : TargetValue B)
-    (asked : Result ScsiCommand CdbFault) (bytes : List ℕ) (reply : ReplyValue) : Type 0 where
+-- what the session asks, as its unit judges it
+abbrev pub request_of : {B : Type 0} → TargetValue B → Call → Request
+request_of old call = request old.at.session call.asked call.bytes
+
+-- What a crash leaves: after GOOD of SYNCHRONIZE CACHE, or of a command with FUA, the blocks that the unit holds; and of the
+-- registration file one of the records that the unit names. A command that a rule refuses does not reach the device of the
+-- blocks, and no other than PERSISTENT RESERVE OUT the registration file.
+pub record IsLasting {B : Type 0} (d : Device B) (f : Device MemBlocks) (old new : TargetValue B) (call : Call)
+    (reply : ReplyValue) : Type 0 where
+  pub lasts : IsTrue d.claims
+      → Lasts (d.contents new.unit.device) (d.may_hold new.unit.device) (work_asked call.asked call.bytes) reply
+  pub restart : IsTrue f.claims → EachOutcomeHolds (f.size new.unit.file.device) (f.may_hold new.unit.file.device)
+      new.unit.control.lasting
+  pub unreached : OnRefusal (refusal old.unit.control (request_of old call)) (new.unit.device ≡ old.unit.device)
+  pub unsaved : asks_file old.unit.control (request_of old call) ≡ false → new.unit.file ≡ old.unit.file
+
+-- A command of the session was one step of the unit, which tells the truth of failures, and makes what it says last.
+pub record IsCommand {B : Type 0} (d : Device B) (f : Device MemBlocks) (old new : TargetValue B) (call : Call)
+    (reply : ReplyValue) : Type 0 where
   pub session : new.at.session ≡ old.at.session
   pub serial : new.at.serial ≡ old.at.serial + 1
-  pub step : IsStep claims (state_of contents old.unit) (state_of contents new.unit)
-      (entry_of old.at.session old.at.serial old.at.by asked bytes reply (state_of contents new.unit)) reply
-  pub fine : Tells (failures_of failures never_unopened never_unsaved old.unit)
-      (failures_of failures never_unopened never_unsaved new.unit)
-      (IsFine (choice_of reply (contents new.unit.device) new.unit.control.lasting))
+  pub step : IsStep d.claims (state_of d.contents old.unit) (state_of d.contents new.unit)
+      (entry_of old.at.session old.at.serial old.at.by call.asked call.bytes reply (state_of d.contents new.unit)) reply
+  pub fine : Tells (failures_of d.failures never_unopened never_unsaved old.unit)
+      (failures_of d.failures never_unopened never_unsaved new.unit)
+      (IsFine (choice_of reply (d.contents new.unit.device) new.unit.control.lasting))
+  pub lasting : IsLasting d f old new call reply
 
 -- nothing happened to the unit
 pub record IsSame {B : Type 0} (old new : TargetValue B) : Type 0 where
@@ -58,48 +89,39 @@ pub record IsSame {B : Type 0} (old new : TargetValue B) : Type 0 where
   pub unit : new.unit ≡ old.unit
 
 -- What one step of the target's unit leaves.
-abbrev pub IsStepped : {B : Type 0} → Bool → (B → List (List ℕ)) → (B → ℕ) → TargetValue B → Result ScsiCommand CdbFault
-    → List ℕ → StepEnd → TargetValue B → Type 0
-IsStepped claims contents failures old asked bytes (ends.Reply reply) new =
-    IsCommand claims contents failures old new asked bytes reply
-IsStepped claims contents failures old asked bytes ends.Gone new =
+abbrev pub IsStepped : {B : Type 0} → Device B → Device MemBlocks → TargetValue B → Call → StepEnd → TargetValue B → Type 0
+IsStepped d f old call (ends.Reply reply) new = IsCommand d f old new call reply
+IsStepped d f old call ends.Gone new =
     IsSame old new × (IsNext old.unit.control old.at.session old.at.serial → ⊥)
-IsStepped claims contents failures old asked bytes (ends.Moved owner) new =
+IsStepped d f old call (ends.Moved owner) new =
     IsSame old new × (old.at.by ≢ owner_of old.unit.control.access) × (new.at.by ≡ owner_of new.unit.control.access)
-IsStepped claims contents failures old asked bytes ends.NoMemory new =
-    IsSame old new × TakesMemory old.unit.control (request old.at.session asked bytes)
+IsStepped d f old call ends.NoMemory new = IsSame old new × TakesMemory old.unit.control (request_of old call)
 
 -- What such a step leaves that is made once more by the owner where it came by another group.
-abbrev pub IsOwnStep : {B : Type 0} → Bool → (B → List (List ℕ)) → (B → ℕ) → TargetValue B → Result ScsiCommand CdbFault
-    → List ℕ → StepEnd → TargetValue B → Type 0
-IsOwnStep {B} claims contents failures old asked bytes (ends.Reply reply) new =
-    (by_owner : TargetValue B) × IsSame old by_owner × IsCommand claims contents failures by_owner new asked bytes reply
-IsOwnStep claims contents failures old asked bytes ends.Gone new =
+abbrev pub IsOwnStep : {B : Type 0} → Device B → Device MemBlocks → TargetValue B → Call → StepEnd → TargetValue B → Type 0
+IsOwnStep {B} d f old call (ends.Reply reply) new =
+    (by_owner : TargetValue B) × IsSame old by_owner × IsCommand d f by_owner new call reply
+IsOwnStep d f old call ends.Gone new =
     IsSame old new × (IsNext old.unit.control old.at.session old.at.serial → ⊥)
-IsOwnStep claims contents failures old asked bytes (ends.Moved owner) new = ⊥
-IsOwnStep claims contents failures old asked bytes ends.NoMemory new =
-    IsSame old new × TakesMemory old.unit.control (request old.at.session asked bytes)
+IsOwnStep d f old call (ends.Moved owner) new = ⊥
+IsOwnStep d f old call ends.NoMemory new = IsSame old new × TakesMemory old.unit.control (request_of old call)
 
 -- There was no memory for the data of a reply: of the unit, or of one that is not there.
-abbrev pub IsBusy : ControlValue → ℕ → Option ℕ → Result ScsiCommand CdbFault → List ℕ → Type 0
-IsBusy c session unit asked bytes =
-    ((unit ≡ Some 0) × TakesMemory c (request session asked bytes))
-    ⊎ ((unit ≢ Some 0) × ((absent_reply asked).status ≡ Good))
+abbrev pub IsBusy : ControlValue → ℕ → Call → Type 0
+IsBusy c session call =
+    ((call.unit ≡ Some 0) × TakesMemory c (request session call.asked call.bytes))
+    ⊎ ((call.unit ≢ Some 0) × ((absent_reply call.asked).status ≡ Good))
 
 -- What the target answers to a command: of its unit a command's step; that there was no memory for it, or that its
 -- session is gone, which tells the first of these facts, and nothing happened; of another unit that it is not there.
-abbrev pub IsAnsweredBy : {B : Type 0} → Type 0 → Bool → (B → List (List ℕ)) → (B → ℕ) → TargetValue B → Option ℕ
-    → Result ScsiCommand CdbFault → List ℕ → TargetAnswer → TargetValue B → Type 0
-IsAnsweredBy {B} late claims contents failures old unit asked bytes (Replied reply) new =
-    (unit ≡ Some 0) × (by_owner : TargetValue B) × IsSame old by_owner
-    × IsCommand claims contents failures by_owner new asked bytes reply
-IsAnsweredBy late claims contents failures old unit asked bytes (Outside reply) new =
-    (unit ≢ Some 0) × (reply ≡ absent_reply asked) × IsSame old new
-IsAnsweredBy late claims contents failures old unit asked bytes Busy new =
-    IsBusy old.unit.control old.at.session unit asked bytes × IsSame old new
-IsAnsweredBy late claims contents failures old unit asked bytes Gone new =
-    (unit ≡ Some 0) × IsSame old new × late
-IsAnsweredBy late claims contents failures old unit asked bytes Halted new = ⊥
+abbrev pub IsAnsweredBy : {B : Type 0} → Type 0 → Device B → Device MemBlocks → TargetValue B → Call → TargetAnswer
+    → TargetValue B → Type 0
+IsAnsweredBy {B} late d f old call (Replied reply) new =
+    (call.unit ≡ Some 0) × (by_owner : TargetValue B) × IsSame old by_owner × IsCommand d f by_owner new call reply
+IsAnsweredBy late d f old call (Outside reply) new =
+    (call.unit ≢ Some 0) × (reply ≡ absent_reply call.asked) × IsSame old new
+IsAnsweredBy late d f old call Busy new = IsBusy old.unit.control old.at.session call × IsSame old new
+IsAnsweredBy late d f old call Gone new = (call.unit ≡ Some 0) × IsSame old new × late
 
 -- What a session is answered that is attached to no unit, and so changes none: it is gone; of a unit that is not there as
 -- any other.
@@ -108,14 +130,14 @@ IsTurnedAway unit asked (Replied reply) = ⊥
 IsTurnedAway unit asked (Outside reply) = (unit ≢ Some 0) × (reply ≡ absent_reply asked)
 IsTurnedAway unit asked Busy = (unit ≢ Some 0) × ((absent_reply asked).status ≡ Good)
 IsTurnedAway unit asked Gone = unit ≡ Some 0
-IsTurnedAway unit asked Halted = ⊥
 
--- the session reset the unit, which its other sessions are to be told
+-- The session reset the unit, which its other sessions are to be told. Its devices are as they were.
 pub record IsReset {B : Type 0} (old new : TargetValue B) : Type 0 where
   pub session : new.at.session ≡ old.at.session
   pub possible : IsAttached old.unit.control old.at.session
   pub control : new.unit.control ≡ control_after old.unit.control (Reset old.at.session)
   pub device : new.unit.device ≡ old.unit.device
+  pub file : new.unit.file ≡ old.unit.file
 
 -- What the target answers to a reset: its unit was reset; its session is gone, which tells the first of these facts, and
 -- nothing happened; of another unit that it failed.
@@ -126,11 +148,10 @@ IsResetBy late old unit resets.Failed new = (unit ≢ 0) × IsSame old new
 
 -- Where a question with its answer leads the target. Its session was attached before it asks anything and stays so:
 -- no other session begins or lives, and it is gone only where the history has its last length.
-abbrev pub LeadsOn : {B : Type 0} → Bool → (B → List (List ℕ)) → (B → ℕ) → TargetValue B → Asking → TargetValue B → Type 0
-LeadsOn claims contents failures old (began port kind answer) new = (answer ≡ Refused) × IsSame old new
-LeadsOn claims contents failures old (lives tsih port answer) new = (answer ≡ false) × IsSame old new
-LeadsOn claims contents failures old (served unit asked bytes answer) new =
-    IsAnsweredBy (LAST_COUNT ≤ old.unit.control.count) claims contents failures old unit asked bytes answer new
-LeadsOn claims contents failures old (reset unit answer) new =
-    IsResetBy (LAST_COUNT ≤ old.unit.control.count) old unit answer new
-LeadsOn claims contents failures old over new = IsSame old new
+abbrev pub LeadsOn : {B : Type 0} → Device B → Device MemBlocks → TargetValue B → Asking → TargetValue B → Type 0
+LeadsOn d f old (began port kind answer) new = (answer ≡ Refused) × IsSame old new
+LeadsOn d f old (lives tsih port answer) new = (answer ≡ false) × IsSame old new
+LeadsOn d f old (served unit asked bytes answer) new = IsAnsweredBy (LAST_COUNT ≤ old.unit.control.count) d f old
+    (record { unit = unit; asked = asked; bytes = bytes }) answer new
+LeadsOn d f old (reset unit answer) new = IsResetBy (LAST_COUNT ≤ old.unit.control.count) old unit answer new
+LeadsOn d f old over new = IsSame old new

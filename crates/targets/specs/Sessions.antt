@@ -25,13 +25,13 @@ use Rattle.targets.specs.declared.live.TheConstants.{LAST_NUMBER, LAST_TSIH}
 use Rattle.targets.specs.declared.live.BeginFault.{BeginFault}
 use Rattle.targets.specs.declared.live.BeginFault.TheVariants as faults
 use Rattle.targets.specs.Once.{nothing, place}
-use Rattle.targets.specs.OneUnit.{IsAnsweredBy, IsResetBy, IsTurnedAway}
+use Rattle.targets.specs.OneUnit.{Call, Device, IsAnsweredBy, IsResetBy, IsTurnedAway}
 
 -- What contracts see: the unit; the target port group by whose portals it is reached; the sessions that live, in the
 -- order in which they began; the TSIH that was given last, 0 before the first; how many sessions have begun, which is the
 -- number of the next one; and the number of the session of the connection that asks, where one has begun.
 pub record SessionsValue (B : Type 0) : Type 0 where
-  pub unit : UnitValue B KeepOpener MemBlocks
+  pub unit : UnitValue B MemBlocks KeepOpener
   pub group : Group
   pub live : List LiveSession
   pub last : ℕ
@@ -108,7 +108,7 @@ pub record IsFirstFree (live : List LiveSession) (above to tsih : ℕ) : Type 0 
 
 -- A normal session is attached to the unit, where the older one of its nexus ends in the same step; its id is the
 -- count of entries before, and no command of it was served. The devices are as they were.
-pub record IsAttachedAnew {B : Type 0} (old new : UnitValue B KeepOpener MemBlocks) (nexus : Nexus)
+pub record IsAttachedAnew {B : Type 0} (old new : UnitValue B MemBlocks KeepOpener) (nexus : Nexus)
     (at : Option Attachment) : Type 0 where
   pub room : HasRoom old.control nexus
   pub control : new.control ≡ control_after old.control (Attach nexus)
@@ -117,7 +117,7 @@ pub record IsAttachedAnew {B : Type 0} (old new : UnitValue B KeepOpener MemBloc
   pub first : at ≡ Some (record { session = old.control.count; serial = 1; by = nexus.group })
 
 -- A discovery session serves no commands, and is attached to none (RFC 7143, 4.3).
-abbrev pub IsJoined : {B : Type 0} → Kind → UnitValue B KeepOpener MemBlocks → UnitValue B KeepOpener MemBlocks → Nexus
+abbrev pub IsJoined : {B : Type 0} → Kind → UnitValue B MemBlocks KeepOpener → UnitValue B MemBlocks KeepOpener → Nexus
     → Option Attachment → Type 0
 IsJoined Normal old new nexus at = IsAttachedAnew old new nexus at
 IsJoined Discovery old new nexus at = (new ≡ old) × (at ≡ None)
@@ -158,13 +158,13 @@ pub record IsRefused {B : Type 0} (old new : SessionsValue B) (port : Port) (kin
 -- ---- a session is over
 
 -- What its end leaves of the unit: where it is attached still, it is detached.
-pub record IsDetached {B : Type 0} (old new : UnitValue B KeepOpener MemBlocks) (session : ℕ) : Type 0 where
+pub record IsDetached {B : Type 0} (old new : UnitValue B MemBlocks KeepOpener) (session : ℕ) : Type 0 where
   pub ended : IsAttached old.control session → new.control ≡ control_after old.control (Detach session)
   pub gone : (IsAttached old.control session → ⊥) → new ≡ old
   pub device : new.device ≡ old.device
   pub file : new.file ≡ old.file
 
-abbrev pub IsLeft : {B : Type 0} → UnitValue B KeepOpener MemBlocks → UnitValue B KeepOpener MemBlocks → Option Attachment
+abbrev pub IsLeft : {B : Type 0} → UnitValue B MemBlocks KeepOpener → UnitValue B MemBlocks KeepOpener → Option Attachment
     → Type 0
 IsLeft old new None = new ≡ old
 IsLeft old new (Some at) = IsDetached old new at.session
@@ -183,22 +183,18 @@ pub record IsOver {B : Type 0} (old new : SessionsValue B) : Type 0 where
 
 -- An attached session is answered as one that has the unit alone, but that it is gone where its serial is not its next at
 -- the unit, or the history has its last length. It lives on, with its next serial.
-pub record IsServedAt {B : Type 0} (claims : Bool) (contents : B → List (List ℕ)) (failures : B → ℕ)
-    (old new : SessionsValue B)
-    (at : Attachment) (number : Option ℕ) (asked : Result ScsiCommand CdbFault) (bytes : List ℕ) (answer : TargetAnswer)
-    : Type 0 where
+pub record IsServedAt {B : Type 0} (d : Device B) (f : Device MemBlocks) (old new : SessionsValue B) (at : Attachment)
+    (call : Call) (answer : TargetAnswer) : Type 0 where
   pub after : Attachment
-  pub answered : IsAnsweredBy (IsNext old.unit.control at.session at.serial → ⊥) claims contents failures
-      (record { unit = old.unit; at = at }) number asked bytes answer (record { unit = new.unit; at = after })
+  pub answered : IsAnsweredBy (IsNext old.unit.control at.session at.serial → ⊥) d f
+      (record { unit = old.unit; at = at }) call answer (record { unit = new.unit; at = after })
   pub rest : new ≡ record old { unit = new.unit; live = map (with_attachment old.present after) old.live }
 
 -- One that is not attached is turned away, and changes nothing.
-abbrev pub IsServed : {B : Type 0} → Bool → (B → List (List ℕ)) → (B → ℕ) → SessionsValue B → SessionsValue B
-    → Option Attachment
-    → Option ℕ → Result ScsiCommand CdbFault → List ℕ → TargetAnswer → Type 0
-IsServed claims contents failures old new (Some at) number asked bytes answer =
-    IsServedAt claims contents failures old new at number asked bytes answer
-IsServed claims contents failures old new None number asked bytes answer = (new ≡ old) × IsTurnedAway number asked answer
+abbrev pub IsServed : {B : Type 0} → Device B → Device MemBlocks → SessionsValue B → SessionsValue B → Option Attachment
+    → Call → TargetAnswer → Type 0
+IsServed d f old new (Some at) call answer = IsServedAt d f old new at call answer
+IsServed d f old new None call answer = (new ≡ old) × IsTurnedAway call.unit call.asked answer
 
 abbrev pub IsUnreset : ℕ → ResetAnswer → Type 0
 IsUnreset number resets.Done = ⊥
@@ -215,17 +211,15 @@ IsResetAt old new None number answer = (new ≡ old) × IsUnreset number answer
 -- ---- the whole
 
 -- where a question with its answer leads the target
-abbrev pub LeadsSessionsOn : {B : Type 0} → Bool → (B → List (List ℕ)) → (B → ℕ) → SessionsValue B → Asking
-    → SessionsValue B → Type 0
-LeadsSessionsOn claims contents failures old (began port kind (Begun tsih)) new = HasBegun old new port kind tsih
-LeadsSessionsOn claims contents failures old (began port kind Refused) new = IsRefused old new port kind
-LeadsSessionsOn claims contents failures old (lives tsih port answer) new =
+abbrev pub LeadsSessionsOn : {B : Type 0} → Device B → Device MemBlocks → SessionsValue B → Asking → SessionsValue B → Type 0
+LeadsSessionsOn d f old (began port kind (Begun tsih)) new = HasBegun old new port kind tsih
+LeadsSessionsOn d f old (began port kind Refused) new = IsRefused old new port kind
+LeadsSessionsOn d f old (lives tsih port answer) new =
     (answer ≡ list_any (λ s. nat_eq s.tsih tsih && same_port s.port port) old.live) × (new ≡ old)
-LeadsSessionsOn claims contents failures old (served number asked bytes answer) new =
-    IsServed claims contents failures old new (attachment_of old.present old.live) number asked bytes answer
-LeadsSessionsOn claims contents failures old (reset number answer) new =
-    IsResetAt old new (attachment_of old.present old.live) number answer
-LeadsSessionsOn claims contents failures old over new = IsOver old new
+LeadsSessionsOn d f old (served number asked bytes answer) new = IsServed d f old new
+    (attachment_of old.present old.live) (record { unit = number; asked = asked; bytes = bytes }) answer
+LeadsSessionsOn d f old (reset number answer) new = IsResetAt old new (attachment_of old.present old.live) number answer
+LeadsSessionsOn d f old over new = IsOver old new
 
 -- no serial passes the unit's count of entries, and each session has begun
 pub record IsCounted (count begun : ℕ) (s : LiveSession) : Type 0 where

@@ -1,5 +1,5 @@
 //! A session at a unit: how its commands are submitted, and what a target answers for them.
-ghost use Rattle.std.specs.Prelude.{◌≡◌, ◌≤◌, IfOk};
+ghost use Rattle.std.specs.Prelude.{◌≡◌, ◌<◌, ◌≤◌, IfOk, Some};
 ghost use Rattle.targets.specs.Once.{nothing, place};
 ghost use Rattle.targets.specs.OneUnit.{IsStepped, IsOwnStep, IsAnsweredBy, IsResetBy, IsTurnedAway};
 ghost use Rattle.unit_state.specs.Entry.{IsAttached, IsNext};
@@ -28,9 +28,10 @@ pub struct Attachment {
     pub by: Group,
 }
 
-/// The only unit of array 1, over these blocks, to which nobody is attached. The registration file is formatted in
+/// The only unit of array 1, over these blocks, one at least, to which nobody is attached. The registration file is formatted in
 /// memory. Refused, it drops the blocks.
-pub fn open<B: Blocks>(alloc: Global, blocks: B) -> Result<Unit<B, KeepOpener, MemBlocks>, NoMemory>
+pub fn open<B: Blocks>(alloc: Global, blocks: B) -> Result<Unit<B, MemBlocks, KeepOpener>, NoMemory>
+    requires { 0 < B.size blocks }
     ensures device { IfOk result (λ u. u.device ≡ blocks) }
     ensures control { IfOk result (λ u. u.control ≡ opening_control place (B.size blocks) nothing) }
 {
@@ -50,14 +51,14 @@ pub fn open<B: Blocks>(alloc: Global, blocks: B) -> Result<Unit<B, KeepOpener, M
 // One step of the unit, by the group that is believed to own it.
 fn step<B: Blocks>(
     alloc: Global,
-    unit: &mut Unit<B, KeepOpener, MemBlocks>,
+    unit: &mut Unit<B, MemBlocks, KeepOpener>,
     at: &mut Attachment,
     asked: Asked,
     bytes: &[u8],
 ) -> StepEnd
     requires { at.old.serial ≤ unit.old.control.count }
-    ensures { IsStepped B.claims B.contents B.failures (record { unit = unit.old; at = at.old }) asked bytes.now result
-        (record { unit = unit.new; at = at.new }) }
+    ensures { IsStepped B.Blocks ⟦<MemBlocks as Blocks>⟧ (record { unit = unit.old; at = at.old })
+        (record { unit = Some 0; asked = asked; bytes = bytes.now }) result (record { unit = unit.new; at = at.new }) }
 {
     match unit.step(alloc, at.session, at.serial, at.by, asked, bytes) {
         StepEnd::Reply(reply) => {
@@ -75,14 +76,14 @@ fn step<B: Blocks>(
 // One step of the unit, by its owner: a command that came by another group is submitted once more.
 fn step_by_owner<B: Blocks>(
     alloc: Global,
-    unit: &mut Unit<B, KeepOpener, MemBlocks>,
+    unit: &mut Unit<B, MemBlocks, KeepOpener>,
     at: &mut Attachment,
     asked: Asked,
     bytes: &[u8],
 ) -> StepEnd
     requires { at.old.serial ≤ unit.old.control.count }
-    ensures { IsOwnStep B.claims B.contents B.failures (record { unit = unit.old; at = at.old }) asked bytes.now result
-        (record { unit = unit.new; at = at.new }) }
+    ensures { IsOwnStep B.Blocks ⟦<MemBlocks as Blocks>⟧ (record { unit = unit.old; at = at.old })
+        (record { unit = Some 0; asked = asked; bytes = bytes.now }) result (record { unit = unit.new; at = at.new }) }
 {
     match step(alloc, unit, at, asked, bytes) {
         StepEnd::Moved(_) => step(alloc, unit, at, asked, bytes),
@@ -106,16 +107,16 @@ pub fn turn_away(alloc: Global, number: Option<u8>, asked: &Asked) -> TargetAnsw
 /// What a session is answered to a command of the unit with this number, of which there is unit 0 alone.
 pub fn answer<B: Blocks>(
     alloc: Global,
-    unit: &mut Unit<B, KeepOpener, MemBlocks>,
+    unit: &mut Unit<B, MemBlocks, KeepOpener>,
     at: &mut Attachment,
     number: Option<u8>,
     asked: Asked,
     bytes: &[u8],
 ) -> TargetAnswer
     requires { at.old.serial ≤ unit.old.control.count }
-    ensures { IsAnsweredBy (IsNext unit.old.control at.old.session at.old.serial → ⊥) B.claims B.contents B.failures
-        (record { unit = unit.old; at = at.old }) number asked bytes.now result
-        (record { unit = unit.new; at = at.new }) }
+    ensures { IsAnsweredBy (IsNext unit.old.control at.old.session at.old.serial → ⊥) B.Blocks
+        ⟦<MemBlocks as Blocks>⟧ (record { unit = unit.old; at = at.old })
+        (record { unit = number; asked = asked; bytes = bytes.now }) result (record { unit = unit.new; at = at.new }) }
 {
     if number != Some(UNIT) {
         return turn_away(alloc, number, &asked);
@@ -130,7 +131,7 @@ pub fn answer<B: Blocks>(
 
 /// What a session is answered to a reset of the unit with this number.
 pub fn reset<B: Blocks>(
-    unit: &mut Unit<B, KeepOpener, MemBlocks>,
+    unit: &mut Unit<B, MemBlocks, KeepOpener>,
     at: Attachment,
     number: u8,
 ) -> ResetAnswer

@@ -5,6 +5,7 @@
 #![tactic(auto)]
 
 mod attachment;
+pub mod laws;
 mod live;
 pub mod once;
 mod target;

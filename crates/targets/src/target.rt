@@ -1,5 +1,6 @@
 //! The target of a session that alone has a unit.
-ghost use Rattle.std.specs.Prelude.{◌≡◌, IfOk};
+ghost use Rattle.std.specs.Prelude.{◌≡◌, ◌<◌, IfOk};
+ghost use Rattle.aptpl_file.specs.Lasts.{EachOutcomeHolds};
 ghost use Rattle.targets.specs.Once.{IsBegun};
 
 use crate::attachment::{Attachment, answer, open, reset};
@@ -18,7 +19,7 @@ const INITIATOR: &[u8] = b"iqn.2000-01.test:host";
 #[derive(Drop)]
 pub struct OneUnit<B: Blocks> {
     alloc: Global,
-    unit: Unit<B, KeepOpener, MemBlocks>,
+    unit: Unit<B, MemBlocks, KeepOpener>,
     at: Attachment,
 }
 
@@ -36,11 +37,12 @@ impl<B: Blocks> Model for OneUnit<B> {
 }
 
 impl<B: Blocks> OneUnit<B> {
-    /// A unit over these blocks, to which a session of `iqn.2000-01.test:host` with ISID 0 through the first group is
+    /// A unit over these blocks, one at least, to which a session of `iqn.2000-01.test:host` with ISID 0 through the first group is
     /// attached, which was told of the power on. The registration file is formatted in memory. Refused, it drops the
     /// blocks.
     pub fn over(alloc: Global, blocks: B) -> Result<OneUnit<B>, NoMemory>
-        ensures { IfOk result (IsBegun B.size blocks) }
+        requires { 0 < B.size blocks }
+        ensures { IfOk result (IsBegun B.Blocks ⟦<MemBlocks as Blocks>⟧ blocks) }
     {
         let name = INITIATOR.to_vec(alloc)?;
         let mut unit = open(alloc, blocks)?;
@@ -63,19 +65,21 @@ impl<B: Blocks> OneUnit<B> {
         }
     }
 
-    /// Hands the device back.
-    pub fn close(self) -> B
-        ensures { result ≡ self.unit.device }
+    /// Hands the device back, and that of the registration file, of which a crash leaves a record that the unit names.
+    pub fn close(self) -> (B, MemBlocks)
+        ensures closed { result ≡ (self.unit.device, self.unit.file.device) }
+        ensures restart { EachOutcomeHolds (⟦<MemBlocks as Blocks>⟧.size result.1)
+            (⟦<MemBlocks as Blocks>⟧.may_hold result.1) self.unit.control.lasting }
     {
-        let (blocks, KeepOpener, _registrations) = self.unit.close();
-        blocks
+        let (blocks, registrations, KeepOpener) = self.unit.close();
+        (blocks, registrations)
     }
 }
 
 impl<B: Blocks> Target for OneUnit<B> {
     ghost use Rattle.targets.specs.OneUnit.{LeadsOn};
 
-    ghost leads = { LeadsOn B.claims B.contents B.failures };
+    ghost leads = { LeadsOn B.Blocks ⟦<MemBlocks as Blocks>⟧ };
 
     ghost unit_count = { λ t. 1 };
 

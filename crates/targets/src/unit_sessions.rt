@@ -1,5 +1,5 @@
 //! The target of sessions that share a unit.
-ghost use Rattle.std.specs.Prelude.{◌≡◌, ◌≤◌, ◌⊎◌, Err, IfOk, IfErr, IfSome, OnErr};
+ghost use Rattle.std.specs.Prelude.{◌≡◌, ◌<◌, ◌≤◌, ◌⊎◌, Err, IfOk, IfErr, IfSome, OnErr};
 ghost use Rattle.reservations.specs.Nexus.{IsPortName, through};
 ghost use Rattle.targets.specs.Sessions.{IsJoined, IsLeft, IsUnbegun};
 ghost use Rattle.unit_state.specs.Entry.{HasRoom};
@@ -23,7 +23,7 @@ use unit_state::Unit;
 #[derive(Drop)]
 pub struct UnitSessions<B: Blocks> {
     alloc: Global,
-    unit: Unit<B, KeepOpener, MemBlocks>,
+    unit: Unit<B, MemBlocks, KeepOpener>,
     group: Group,
     live: Vec<LiveSession>,
     // The TSIH that was given last, 0 before the first.
@@ -55,7 +55,7 @@ impl<B: Blocks> Model for UnitSessions<B> {
 // Attaches a normal session to the unit; a discovery session is attached to none (RFC 7143, 4.3).
 fn join<B: Blocks>(
     alloc: Global,
-    unit: &mut Unit<B, KeepOpener, MemBlocks>,
+    unit: &mut Unit<B, MemBlocks, KeepOpener>,
     name: &[u8],
     isid: u64,
     group: Group,
@@ -88,7 +88,7 @@ fn join<B: Blocks>(
 }
 
 // Detaches a session from the unit, where it is attached still.
-fn leave<B: Blocks>(unit: &mut Unit<B, KeepOpener, MemBlocks>, at: Option<Attachment>)
+fn leave<B: Blocks>(unit: &mut Unit<B, MemBlocks, KeepOpener>, at: Option<Attachment>)
     ensures left { IsLeft unit.old unit.new at }
     ensures grows { unit.old.control.count ≤ unit.new.control.count }
 {
@@ -100,9 +100,10 @@ fn leave<B: Blocks>(unit: &mut Unit<B, KeepOpener, MemBlocks>, at: Option<Attach
 impl<B: Blocks> UnitSessions<B> {
     ghost use Rattle.targets.specs.Sessions.{HasBegun, IsCauseOf};
 
-    /// A unit over these blocks, of which no session has begun, reached through the portals of this group. The
+    /// A unit over these blocks, one at least, of which no session has begun, reached through the portals of this group. The
     /// registration file is formatted in memory. Refused, it drops the blocks.
     pub fn over(alloc: Global, blocks: B, group: Group) -> Result<UnitSessions<B>, NoMemory>
+        requires { 0 < B.size blocks }
         ensures { IfOk result (IsUnbegun B.size blocks group) }
     {
         let unit = open(alloc, blocks)?;
@@ -168,7 +169,7 @@ impl<B: Blocks> UnitSessions<B> {
 impl<B: Blocks> Target for UnitSessions<B> {
     ghost use Rattle.targets.specs.Sessions.{LeadsSessionsOn};
 
-    ghost leads = { LeadsSessionsOn B.claims B.contents B.failures };
+    ghost leads = { LeadsSessionsOn B.Blocks ⟦<MemBlocks as Blocks>⟧ };
 
     ghost unit_count = { λ t. 1 };
 

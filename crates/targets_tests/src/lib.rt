@@ -1,5 +1,5 @@
-//! Tests of the targets over their public calls, from the bytes that come to the bytes that go out: each table has rows of
-//! PDUs, or of what connections ask.
+//! Tests of the targets over their public calls, from the bytes that come to the bytes that go out: each table is a text with
+//! rows of PDUs, or of what connections ask.
 #![tactic(auto)]
 
 #[cfg(test)]
@@ -21,14 +21,14 @@ mod medium;
 #[cfg(test)]
 mod open_iscsi;
 #[cfg(test)]
-mod pdus;
-#[cfg(test)]
-mod questions;
-#[cfg(test)]
 mod refused_logins;
 #[cfg(test)]
 mod reinstated;
 #[cfg(test)]
+mod row;
+#[cfg(test)]
 mod run;
+#[cfg(test)]
+mod script;
 #[cfg(test)]
 mod sessions;

@@ -1,4 +1,5 @@
-//! The runner of the tables.
+//! The runner of the tables of one session over one unit.
+use crate::row::{Fuse, Row, rows_of};
 use block_file::{Blocks, DeviceFailed, FusedBlocks, MemBlocks};
 use session::{End, Identity, Watched};
 use std::alloc::Global;
@@ -6,7 +7,7 @@ use std::net::{Ipv4Addr, SocketAddrV4};
 use std::process::Abort;
 use std::test::Fail;
 use targets::once::once;
-use test_streams::{Calls, FakeReader, FakeWriter, ONE_BYTE, PduRow, WHOLE, spelled};
+use test_streams::{Calls, FakeReader, FakeWriter, ONE_BYTE, WHOLE};
 
 /// The name of the target.
 pub const TARGET_NAME: &[u8] = b"iqn.2000-01.test:array";
@@ -17,32 +18,8 @@ pub const BLOCKS: u32 = 2048;
 /// How many it has where an input is cut at each place: more than these rows write, in less time.
 const FEW_BLOCKS: u32 = 16;
 
-/// How the device fails: after so many calls, where a write that fails may land.
-#[derive(Clone, Copy, Debug)]
-pub struct Fuse {
-    pub calls: u64,
-    pub lands: bool,
-}
-
-/// A device that does not fail.
-pub const SOUND: Fuse = Fuse {
-    calls: u64::MAX,
-    lands: false,
-};
-
-/// A session over a unit of zeros as a row of a table.
-#[derive(Clone, Copy, Debug)]
-pub struct Row {
-    pub name: &'static str,
-    pub fuse: Fuse,
-    /// What comes, and what goes out.
-    pub input: &'static [PduRow<'static>],
-    pub output: &'static [PduRow<'static>],
-    /// The blocks that are of this byte afterwards; all others are of zeros.
-    pub written: &'static [(u32, u8)],
-    /// Whether it is the same over few blocks, so that the input can be cut at each place.
-    pub small: bool,
-}
+/// The words of these tables.
+pub const WORDS: &[&str] = &["fails", "lands", "all-blocks"];
 
 /// The one portal of a controller, at this port of the host itself.
 pub fn portal(port: u16) -> [SocketAddrV4; 1] {
@@ -55,7 +32,7 @@ fn block_at<B: Blocks>(device: &mut B, index: u32) -> Option<[u8; 512]> {
         return None;
     }
     let mut block = [0xEE; 512];
-    match device.read(index, &mut block) {
+    match device.read_run(index, &mut block) {
         Ok(()) => Some(block),
         Err(DeviceFailed) => None,
     }
@@ -82,21 +59,20 @@ fn keeps<B: Blocks>(device: &mut B, count: u32, written: &[(u32, u8)]) -> bool {
     device.count() == count
 }
 
-/// Serves this input, which comes in these pieces, over so many blocks: the end, the output, and whether the blocks
-/// are as the row says.
+/// Serves this input, which comes in these pieces, over so many blocks of zeros that fail so: the end, the output, and
+/// whether just these blocks are written.
 pub fn serve(
     alloc: Global,
-    row: &Row,
     input: &[u8],
     reads: Calls,
-    count: u32,
+    fuse: Fuse,
+    (count, written): (u32, &[(u32, u8)]),
 ) -> Result<(End, Vec<u8>, bool), Fail> {
+    if count == 0 {
+        return Err("a unit of one block at least".into());
+    }
     let blocks = MemBlocks::new(alloc, count)?;
-    let fused = if row.fuse.lands {
-        FusedBlocks::landing(blocks, row.fuse.calls)
-    } else {
-        FusedBlocks::new(blocks, row.fuse.calls)
-    };
+    let fused = FusedBlocks::inside(blocks, fuse.calls, fuse.lands);
     let mut source = Watched::new(FakeReader::new(input, reads));
     let mut sink = Watched::new(FakeWriter::new(alloc, WHOLE));
     let me = Identity {
@@ -104,8 +80,8 @@ pub fn serve(
         first: &portal(3260),
         second: &portal(3264),
     };
-    let (end, device) = once(alloc, &mut source, &mut sink, fused, &me)?;
-    let kept = keeps(&mut device.into_inner(), count, row.written);
+    let (end, device, _registrations) = once(alloc, &mut source, &mut sink, fused, &me)?;
+    let kept = keeps(&mut device.into_inner(), count, written);
     Ok((end, sink.into_inner().into_bytes(), kept))
 }
 
@@ -113,30 +89,43 @@ pub fn serve(
 fn compare(
     rt: &impl Abort,
     alloc: Global,
-    row: &Row,
-    (input, output): (&[u8], &[u8]),
+    row: &Row<'_>,
     reads: Calls,
     count: u32,
 ) -> Result<(), Fail> {
-    let (end, written, kept) = serve(alloc, row, input, reads, count)?;
-    assert_eq!(rt; end, End::EndOfInput, "{}", row.name);
-    assert_eq!(rt; written.as_slice(), output, "{}", row.name);
+    let stream = row.stream(0)?;
+    let input = stream.input.bytes.as_slice();
+    let (end, output, kept) = serve(alloc, input, reads, row.fuse, (count, &row.written))?;
+    expect_end(rt, alloc, end, (row.name, stream.end()))?;
+    assert_eq!(rt; output.as_slice(), stream.output.as_slice(), "{}", row.name);
     assert!(rt; kept, "{}", row.name);
     Ok(())
 }
 
+/// A stream of this row ended so, as `Debug` spells it.
+pub fn expect_end(
+    rt: &impl Abort,
+    alloc: Global,
+    end: End,
+    (name, want): (&str, &str),
+) -> Result<(), Fail> {
+    let end = format!(in alloc; "{end:?}")?;
+    assert_eq!(rt; end.as_str(), want, "{name}");
+    Ok(())
+}
+
 /// Serves each row with its input whole, in single bytes, and cut after each byte, and compares.
-pub fn run(rt: &impl Abort, alloc: Global, rows: &[Row]) -> Result<(), Fail> {
-    for row in rows {
-        let input = spelled(alloc, row.input)?;
-        let output = spelled(alloc, row.output)?;
-        let bytes = (input.as_slice(), output.as_slice());
-        compare(rt, alloc, row, bytes, WHOLE, BLOCKS)?;
-        compare(rt, alloc, row, bytes, ONE_BYTE, BLOCKS)?;
-        let places = if row.small { input.len() } else { 0 };
+pub fn run(rt: &impl Abort, alloc: Global, table: &str) -> Result<(), Fail> {
+    for row in &rows_of(alloc, table, WORDS)? {
+        compare(rt, alloc, row, WHOLE, BLOCKS)?;
+        compare(rt, alloc, row, ONE_BYTE, BLOCKS)?;
+        let places = if row.all_blocks {
+            0
+        } else {
+            row.stream(0)?.input.bytes.len()
+        };
         for first in 1..places {
-            let reads = Calls { first, ..WHOLE };
-            compare(rt, alloc, row, bytes, reads, FEW_BLOCKS)?;
+            compare(rt, alloc, row, Calls { first, ..WHOLE }, FEW_BLOCKS)?;
         }
     }
     Ok(())

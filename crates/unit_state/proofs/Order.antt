@@ -1,5 +1,5 @@
 -- Rules that refuse a command, or do not.
-use Rattle.std.proofs.Common.{◌≡◌, ℕ, ◌+◌, ◌≤◌, Bool, true, false, nat_lt, nat_eq, if◌then◌else◌, List}
+use Rattle.std.proofs.Common.{◌≡◌, ℕ, ◌+◌, ◌≤◌, Bool, true, false, ◌||◌, nat_lt, nat_eq, if◌then◌else◌, List}
 use Rattle.std.proofs.Common.{length, Option, Some, None, Result, Ok, Err, refl, sym, arith}
 use Rattle.std.specs.Option.{option_map, option_or}
 use Rattle.std.proofs.lemmas.Bool.Decides.{nat_tests}
@@ -27,7 +27,7 @@ use Rattle.unit_state.specs.declared.refusal.Refusal.{Refusal}
 use Rattle.unit_state.specs.declared.refusal.Refusal.TheVariants.{Attention, Conflict, Check}
 use Rattle.unit_state.specs.State.{ControlValue}
 use Rattle.unit_state.specs.Choice.{Fine, choice_of}
-use Rattle.unit_state.specs.Medium.{Range, Fits, range_of, work_of, work_asked}
+use Rattle.unit_state.specs.Medium.{Range, Fits, is_too_long, range_of, work_of, work_asked}
 use Rattle.unit_state.specs.Groups.{IsTaken, set_by}
 use Rattle.unit_state.specs.Ops.{kind_asked}
 use Rattle.unit_state.specs.Reserve.{HasList}
@@ -83,7 +83,7 @@ quiet_conflict false = quiet_some Conflict (λ after lasting. refl)
 
 quiet_field : (asked : Result ScsiCommand CdbFault) (bytes : List ℕ) → IsQuiet (field_by asked bytes)
 quiet_field (Ok command) bytes =
-    quiet_if (nat_lt (length bytes) (need_of (Ok command))) _ (quiet_some _ (λ after lasting. refl))
+    quiet_if (nat_lt (length bytes) (need_of (Ok command)) || is_too_long (work_of command bytes)) _ (quiet_some _ (λ after lasting. refl))
 quiet_field (Err (BadField op)) bytes = quiet_some _ (λ after lasting. refl)
 quiet_field (Err UnknownOpcode) bytes = quiet_none
 
@@ -217,29 +217,41 @@ not_unless : (test : Bool) (a : Refusal) (b : Option Refusal) → (if test then 
 not_unless true a b h = refl
 not_unless false a b h = absurd (cc)
 
+neither : (a b : Bool) → (a || b) ≡ false → (a ≡ false) × (b ≡ false)
+neither true b h = absurd (cc)
+neither false b h = (refl, h)
+
+not_bad : (command : ScsiCommand) (bytes : List ℕ) → field_by (Ok command) bytes ≡ None
+    → (nat_lt (length bytes) (need_of (Ok command)) ≡ false) × (is_too_long (work_of command bytes) ≡ false)
+not_bad command bytes h = neither _ _ (not_if _ _ h)
+
 enough : (command : ScsiCommand) (bytes : List ℕ) → field_by (Ok command) bytes ≡ None → need_of (Ok command) ≤ length bytes
 enough command bytes h =
-    let not_short : nat_lt (length bytes) (need_of (Ok command)) ≡ false = not_if _ _ h in
+    let not_short : nat_lt (length bytes) (need_of (Ok command)) ≡ false = (not_bad command bytes h).0 in
     grind (arith, nat_tests)
 
+few : (most n : ℕ) → nat_lt most n ≡ false → n ≤ most
+few most n h = grind (arith, nat_tests)
+
 fitting : (total : ℕ) (command : ScsiCommand) (bytes : List ℕ) → need_of (Ok command) ≤ length bytes
+    → is_too_long (work_of command bytes) ≡ false
     → range_by total (range_of (work_of command bytes)) ≡ None → Fits total (work_of command bytes)
-fitting total commands.TestUnitReady bytes le h = tt
-fitting total (commands.RequestSense n) bytes le h = tt
-fitting total (commands.Inquiry page n) bytes le h = tt
-fitting total (commands.ModeSense header control page n) bytes le h = tt
-fitting total commands.ReadCapacity10 bytes le h = tt
-fitting total (commands.ReadCapacity16 n) bytes le h = tt
-fitting total (commands.Read lba n fua) bytes le h = within total (record { lba = lba; blocks = n }) h
-fitting total (commands.Write lba n fua) bytes le h = (within total (record { lba = lba; blocks = n }) h, omega arith)
-fitting total (commands.CompareAndWrite lba n fua) bytes le h =
-    (within total (record { lba = lba; blocks = n }) h, omega arith)
-fitting total (commands.SynchronizeCache lba n) bytes le h = tt
-fitting total (commands.PersistentReserveIn action n) bytes le h = tt
-fitting total (commands.PersistentReserveOut action scope kind n) bytes le h = tt
-fitting total (commands.ReportLuns select n) bytes le h = tt
-fitting total (commands.ReportTargetPortGroups n) bytes le h = tt
-fitting total (commands.SetTargetPortGroups n) bytes le h = tt
+fitting total commands.TestUnitReady bytes le short h = tt
+fitting total (commands.RequestSense n) bytes le short h = tt
+fitting total (commands.Inquiry page n) bytes le short h = tt
+fitting total (commands.ModeSense header control page n) bytes le short h = tt
+fitting total commands.ReadCapacity10 bytes le short h = tt
+fitting total (commands.ReadCapacity16 n) bytes le short h = tt
+fitting total (commands.Read lba n fua) bytes le short h = within total (record { lba = lba; blocks = n }) h
+fitting total (commands.Write lba n fua) bytes le short h = (within total (record { lba = lba; blocks = n }) h, omega arith)
+fitting total (commands.CompareAndWrite lba n fua) bytes le short h =
+    (within total (record { lba = lba; blocks = n }) h, omega arith, few 32 n short)
+fitting total (commands.SynchronizeCache lba n) bytes le short h = tt
+fitting total (commands.PersistentReserveIn action n) bytes le short h = tt
+fitting total (commands.PersistentReserveOut action scope kind n) bytes le short h = tt
+fitting total (commands.ReportLuns select n) bytes le short h = tt
+fitting total (commands.ReportTargetPortGroups n) bytes le short h = tt
+fitting total (commands.SetTargetPortGroups n) bytes le short h = tt
 
 taken : (r : Result AccessMapValue AsetFault) → groups_list_by r ≡ None → IsTaken r
 taken (Ok new) h = tt
@@ -275,7 +287,7 @@ admitted c session asked bytes command none is =
     record {
       asks = is;
       unrefused = sym none;
-      fits = fitting c.total command bytes le (ranged c r nothing);
+      fits = fitting c.total command bytes le (not_bad command bytes (whole c r nothing)).1 (ranged c r nothing);
       list = listing c command bytes le (listed c r nothing);
     }
 

@@ -7,10 +7,10 @@ use Rattle.aptpl_file.specs.Lasts.{left_by}
 use Rattle.aptpl_file.specs.declared.fault.SaveFault.{SaveFault}
 use Rattle.aptpl_file.specs.declared.fault.SaveFault.TheVariants.{OldRoot, IdleSlot, NewRoot}
 use Rattle.block_file.specs.Failures.{Tells}
+use Rattle.reservations.specs.Notice.{Told}
 use Rattle.reservations.specs.Registry.{RecordValue, RegistryValue, to_last}
 use Rattle.reservations.specs.Rows.{Effect, Done}
 use Rattle.reservations.specs.declared.request.PrOut.{PrOut}
-use Rattle.reservations.specs.declared.request.Told.{Told}
 use Rattle.scsi_types.specs.ReplyValue.{ReplyValue, check}
 use Rattle.scsi_types.specs.Sense.{internal_target_failure}
 use Rattle.scsi_types.specs.declared.command.Command.{Command}
@@ -85,22 +85,20 @@ lost c now e registry told saved fault reply does is needed some leaves says =
 
 -- ---- as it is served
 
-pub reserved_ok : {E : Type 0} (claims : Bool) (c now : ControlValue) (blocks : List (List ℕ)) (session : ℕ)
+pub reserved_ok : (claims : Bool) (c now : ControlValue) (blocks : List (List ℕ)) (session : ℕ)
     (command : Command) (action : PrOutAction) (scope kind n : ℕ) (bytes : List ℕ) (asked : PrOut)
-    (result : Result ReplyValue E) → command ≡ PersistentReserveOut action scope kind n
-    → asked ≡ pr_out action scope kind bytes → IfOk result (IsReserved c (effect_by c session asked) now)
-    → IfOk result (IsServed claims (unit_of c blocks) (unit_of now blocks) session command bytes)
-reserved_ok claims c now blocks session command action scope kind n bytes asked (Err e) is same ends = tt
-reserved_ok claims c now blocks session command action scope kind n bytes asked (Ok reply) is same ends =
+    (reply : ReplyValue) → command ≡ PersistentReserveOut action scope kind n
+    → asked ≡ pr_out action scope kind bytes → IsReserved c (effect_by c session asked) now reply
+    → IsServed claims (unit_of c blocks) (unit_of now blocks) session command bytes reply
+reserved_ok claims c now blocks session command action scope kind n bytes asked reply is same ends =
     rw is (reserved_served claims c now blocks session action scope kind n bytes reply
     (subst (λ (q : PrOut). IsReserved c (effect_by c session q) now reply) same ends))
 
 -- the other counts stay
-pub counts_beside : {E : Type 0} (others before after : ℕ) (blocks : List (List ℕ)) (lasting : List RecordValue)
-    (result : Result ReplyValue E) → IfOk result (λ reply. Tells before after (IsFine (choice_of reply blocks lasting)))
-    → IfOk result (λ reply. Tells (others + before) (others + after) (IsFine (choice_of reply blocks lasting)))
-counts_beside others before after blocks lasting (Err e) t = tt
-counts_beside others before after blocks lasting (Ok reply) t = record {
+pub counts_beside : (others before after : ℕ) (blocks : List (List ℕ)) (lasting : List RecordValue)
+    (reply : ReplyValue) → Tells before after (IsFine (choice_of reply blocks lasting))
+    → Tells (others + before) (others + after) (IsFine (choice_of reply blocks lasting))
+counts_beside others before after blocks lasting reply t = record {
   later = let le = t.later in omega arith;
   stays = λ room d. let same : after ≡ before = t.stays (omega arith) d in omega arith;
   rises = λ room failed. let up : before < after = t.rises (omega arith) failed in omega arith;

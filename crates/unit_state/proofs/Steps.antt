@@ -1,21 +1,25 @@
 -- A step of the unit is an entry of the model.
 use Rattle.std.specs.Prelude.{IsTrue}
-use Rattle.std.proofs.Common.{◌≡◌, ℕ, Bool, false, List, None, Ok, Err, Result, IfOk, OnErr, refl, sym, subst, ap, ◌∙◌}
+use Rattle.std.proofs.Common.{◌≡◌, ℕ, Bool, false, List, [], None, Ok, Err, Result, IfOk, OnErr, refl, sym, subst, ap, ◌∙◌}
 use Rattle.access_states.specs.AccessMap.{owner_of}
 use Rattle.aptpl_file.specs.Lasts.{EachOutcomeHolds, FileValue, LastsAmong}
 use Rattle.aptpl_file.specs.LastsLaws.{each_outcome_holds}
 use Rattle.reservations.specs.Registry.{RecordValue}
-use Rattle.scsi_types.specs.ReplyValue.{ReplyValue}
+use Rattle.scsi_types.specs.ReplyValue.{ReplyValue, check}
+use Rattle.scsi_types.specs.Sense.{unrecovered_read_error}
+use Rattle.scsi_types.specs.declared.status.Status.TheVariants.{Good}
 use Rattle.scsi_types.specs.declared.names.Group.{Group}
 use Rattle.scsi_types.specs.declared.command.Command.{Command as ScsiCommand}
 use Rattle.scsi_types.specs.declared.command.CdbFault.{CdbFault}
 use Rattle.unit_state.specs.declared.refusal.Refusal.{Refusal}
+use Rattle.unit_state.specs.declared.refusal.Refusal.TheVariants.{Attention, Conflict, Check}
 use Rattle.unit_state.specs.State.{ControlValue, UnitState, UnitValue, state_of, unit_of}
-use Rattle.unit_state.specs.Choice.{Choice, choice_of}
+use Rattle.unit_state.specs.Choice.{Choice, Fine, choice_of}
+use Rattle.unit_state.specs.Medium.{Work}
 use Rattle.unit_state.specs.Refusal.{Request, request, refusal, refusal_reply, refusal_control}
 use Rattle.unit_state.specs.Route.{IsAdmitted, IsRefused}
 use Rattle.unit_state.specs.Entry.{Entry, Command, IsNext, pass}
-use Rattle.unit_state.specs.Answer.{IsAnswerWith, IsAnswer, IsServed}
+use Rattle.unit_state.specs.Answer.{IsAnswerWith, IsAnswer, IsServed, Lasts}
 use Rattle.unit_state.specs.Groups.{is_opening}
 use Rattle.unit_state.specs.Step.{IsStep, OnRefusal, asks_opener, MayTake, TakesMemory, entry_of}
 
@@ -106,22 +110,22 @@ may_reach c r command P is = rw is.unrefused tt
 
 -- ---- the parts of a unit, and its value
 
-pub step_seen : {B O R : Type 0} (claims : Bool) (contents : B → List (List ℕ)) (inside seen : UnitValue B O R)
+pub step_seen : {B R O : Type 0} (claims : Bool) (contents : B → List (List ℕ)) (inside seen : UnitValue B R O)
     (new : UnitState) (entry : Entry) (reply : ReplyValue) → inside ≡ seen → IsStep claims
     (state_of contents inside) new entry reply → IsStep claims (state_of contents seen) new entry reply
-step_seen {B = B} {O = O} {R = R} claims contents inside seen new entry reply same step =
-    subst (λ (u : UnitValue B O R). IsStep claims (state_of contents u) new entry reply) same step
+step_seen {B = B} {R = R} {O = O} claims contents inside seen new entry reply same step =
+    subst (λ (u : UnitValue B R O). IsStep claims (state_of contents u) new entry reply) same step
 
-pub memory_seen : {B O R : Type 0} (inside seen : UnitValue B O R) (r : Request) → inside ≡ seen
+pub memory_seen : {B R O : Type 0} (inside seen : UnitValue B R O) (r : Request) → inside ≡ seen
     → TakesMemory inside.control r → TakesMemory seen.control r
-memory_seen {B = B} {O = O} {R = R} inside seen r same takes =
-    subst (λ (u : UnitValue B O R). TakesMemory u.control r) same takes
+memory_seen {B = B} {R = R} {O = O} inside seen r same takes =
+    subst (λ (u : UnitValue B R O). TakesMemory u.control r) same takes
 
-pub unreached_seen : {B O R : Type 0} (inside seen : UnitValue B O R) (r : Request) (new : B) → inside ≡ seen
+pub unreached_seen : {B R O : Type 0} (inside seen : UnitValue B R O) (r : Request) (new : B) → inside ≡ seen
     → OnRefusal (refusal inside.control r) (new ≡ inside.device)
     → OnRefusal (refusal seen.control r) (new ≡ seen.device)
-unreached_seen {B = B} {O = O} {R = R} inside seen r new same is =
-    subst (λ (u : UnitValue B O R). OnRefusal (refusal u.control r) (new ≡ u.device)) same is
+unreached_seen {B = B} {R = R} {O = O} inside seen r new same is =
+    subst (λ (u : UnitValue B R O). OnRefusal (refusal u.control r) (new ≡ u.device)) same is
 
 -- a crash leaves one of the records that the unit says
 pub restarts : {B : Type 0} (size : B → ℕ) (may_hold : B → ℕ → List ℕ → Type 0) (file : FileValue B)
@@ -131,20 +135,38 @@ restarts size may_hold file records said lasts same =
     subst (EachOutcomeHolds (size file.device) (may_hold file.device)) (sym same)
     (each_outcome_holds size may_hold file records lasts)
 
-pub restart_seen : {B O R : Type 0} (claims : Bool) (size : R → ℕ) (may_hold : R → ℕ → List ℕ → Type 0)
-    (inside seen : UnitValue B O R) → inside ≡ seen →
+pub restart_seen : {B R O : Type 0} (claims : Bool) (size : R → ℕ) (may_hold : R → ℕ → List ℕ → Type 0)
+    (inside seen : UnitValue B R O) → inside ≡ seen →
     (IsTrue claims → LastsAmong size may_hold inside.file inside.control.lasting)
     → IsTrue claims → EachOutcomeHolds (size seen.file.device) (may_hold seen.file.device) seen.control.lasting
-restart_seen {B = B} {O = O} {R = R} claims size may_hold inside seen same lasts h =
-    subst (λ (u : UnitValue B O R). EachOutcomeHolds (size u.file.device)
+restart_seen {B = B} {R = R} {O = O} claims size may_hold inside seen same lasts h =
+    subst (λ (u : UnitValue B R O). EachOutcomeHolds (size u.file.device)
     (may_hold u.file.device) u.control.lasting) same
     (each_outcome_holds size may_hold inside.file inside.control.lasting (lasts h))
 
-pub restart_closed : {B O R : Type 0} (claims : Bool) (size : R → ℕ) (may_hold : R → ℕ → List ℕ → Type 0)
-    (inside seen : UnitValue B O R) (device : R) → device ≡ inside.file.device → inside ≡ seen →
+pub restart_closed : {B R O : Type 0} (claims : Bool) (size : R → ℕ) (may_hold : R → ℕ → List ℕ → Type 0)
+    (inside seen : UnitValue B R O) (device : R) → device ≡ inside.file.device → inside ≡ seen →
     (IsTrue claims → LastsAmong size may_hold inside.file inside.control.lasting)
     → IsTrue claims → EachOutcomeHolds (size device) (may_hold device) seen.control.lasting
-restart_closed {B = B} {O = O} {R = R} claims size may_hold inside seen device is same lasts h =
+restart_closed {B = B} {R = R} {O = O} claims size may_hold inside seen device is same lasts h =
     subst (λ (d : R). EachOutcomeHolds (size d) (may_hold d) seen.control.lasting)
-    (sym (is ∙ ap (λ (u : UnitValue B O R). u.file.device) same))
+    (sym (is ∙ ap (λ (u : UnitValue B R O). u.file.device) same))
     (restart_seen claims size may_hold inside seen same lasts h)
+
+-- ---- a refusal is no reply that tells of the medium
+
+not_good : (refused : Refusal) → (refusal_reply refused).status ≡ Good → ⊥
+not_good (Attention attention) is = absurd (cc)
+not_good Conflict is = absurd (cc)
+not_good (Check s) is = absurd (cc)
+
+pub refused_lasts : (blocks : List (List ℕ)) (may_hold : ℕ → List ℕ → Type 0) (work : Work) (refused : Refusal)
+    (reply : ReplyValue)
+    → ((after : List (List ℕ)) (lasting : List RecordValue) → choice_of (refusal_reply refused) after lasting ≡ Fine)
+    → reply ≡ refusal_reply refused → Lasts blocks may_hold work reply
+refused_lasts blocks may_hold work refused reply fine says = record {
+  good = λ status flushed. absurd (not_good refused (ap (λ (a : ReplyValue). a.status) (sym says) ∙ status));
+  unread = λ is first.
+      absurd (let same : choice_of (check unrecovered_read_error) [] [] ≡ Fine =
+      ap (λ (a : ReplyValue). choice_of a [] []) (sym is ∙ says) ∙ fine [] [] in cc);
+}

@@ -5,9 +5,8 @@ use Rattle.std.specs.Prelude.{IsTrue}
 use Rattle.std.specs.Option.{option_map}
 use Rattle.std.proofs.lemmas.Bool.Decides.{eqb_tells}
 use Rattle.attentions.specs.Queue.{established, is_pending, without_repeats}
-use Rattle.reservations.specs.declared.request.Told.{Told}
 use Rattle.reservations.specs.declared.request.PrOut.{PrOut}
-use Rattle.reservations.specs.Notice.{code_told}
+use Rattle.reservations.specs.Notice.{Told, code_told}
 use Rattle.reservations.specs.Registry.{RegistryValue}
 use Rattle.reservations.specs.Table.{effect_of}
 use Rattle.scsi_types.specs.Nexus.{Nexus}

@@ -7,7 +7,7 @@ use Rattle.compare_write.specs.Difference.{first_difference}
 use Rattle.compare_write.specs.DifferenceLaws.{differs_nowhere}
 use Rattle.compare_write.specs.declared.end.MediumEnd.{MediumEnd}
 use Rattle.compare_write.specs.declared.end.MediumEnd.TheVariants as ends
-use Rattle.compare_write.specs.Ends.{IsUnfailed, IsCompareEnd, IsSyncEnd, OnDone, OnMiscompare, OnUnwritten, OnWriting}
+use Rattle.compare_write.specs.Ends.{IsCompareEnd, IsSyncEnd, OnDone, OnMiscompare, OnUnwritten, OnWriting}
 use Rattle.compare_write.specs.Instances.{compare_instance, write_instance}
 use Rattle.reservations.specs.Rows.{Effect, Done as Reserved, Conflicting, Refused, Full}
 use Rattle.scsi_types.specs.declared.reservation.PrOutAction.{PrOutAction}
@@ -20,7 +20,7 @@ use Rattle.scsi_types.specs.declared.command.Command.{Command}
 use Rattle.scsi_types.specs.declared.command.Command.TheVariants as commands
 use Rattle.unit_state.specs.Answer.{IsServed}
 use Rattle.unit_state.specs.State.{ControlValue, unit_of}
-use Rattle.unit_state.specs.Choice.{Choice, Fine, ReadFailed, WriteFailed, OpenFailed, SaveFailed, IsFine, choice_of}
+use Rattle.unit_state.specs.Choice.{Choice, Fine, ReadFailed, WriteFailed, OpenFailed, SaveFailed, choice_of}
 use Rattle.unit_state.specs.Entry.{MayCome, described, left_by, returned_by}
 use Rattle.unit_state.specs.Step.{is_describing, MayTake}
 use Rattle.unit_state.specs.Medium.{Work, MayChoose, Range, Nothing, Reads, Writes, Compares, Flushes}
@@ -36,19 +36,6 @@ told_choice (ends.Miscompare at) bytes new lasting = refl
 told_choice ends.ReadFailed bytes new lasting = refl
 told_choice ends.WriteFailed bytes new lasting = refl
 told_choice ends.FlushFailed bytes new lasting = refl
-
--- which is fine just where no call failed
-pub fine_end : (end : MediumEnd) (new : List (List ℕ)) (before now : ℕ) → Tells before now (IsUnfailed end)
-    → Tells before now (IsFine (choice_at end new))
-fine_end ends.Done new before now t = record { later = t.later; stays = λ r d. t.stays r tt; rises = λ r f. absurd (f refl) }
-fine_end (ends.Miscompare at) new before now t =
-    record { later = t.later; stays = λ r d. t.stays r tt; rises = λ r f. absurd (f refl) }
-fine_end ends.ReadFailed new before now t =
-    record { later = t.later; stays = λ r d. absurd (cc); rises = λ r f. t.rises r (λ d. d) }
-fine_end ends.WriteFailed new before now t =
-    record { later = t.later; stays = λ r d. absurd (cc); rises = λ r f. t.rises r (λ d. d) }
-fine_end ends.FlushFailed new before now t =
-    record { later = t.later; stays = λ r d. absurd (cc); rises = λ r f. t.rises r (λ d. d) }
 
 -- ---- a compare, and a write where nothing differs
 
@@ -250,12 +237,6 @@ module _ (claims : Bool) (c now : ControlValue) (blocks : List (List ℕ)) (sess
       × (reply ≡ check internal_target_failure)). unsaved reply lost.0 lost.1 lost.2)
       is
 
--- a reply that tells of no failure, where none was
-pub unfailed : (reply : ReplyValue) (blocks : List (List ℕ)) (lasting : List RecordValue) (count : ℕ)
-    → choice_of reply blocks lasting ≡ Fine → Tells count count (IsFine (choice_of reply blocks lasting))
-unfailed reply blocks lasting count fine =
-    rw fine (record { later = omega arith; stays = λ r d. refl; rises = λ r f. absurd (f refl) })
-
 -- ---- commands of which the unit only tells
 
 pub described_served : (claims : Bool) (c : ControlValue) (blocks : List (List ℕ)) (session : ℕ) (command : Command)
@@ -286,37 +267,10 @@ described_served claims c blocks session (commands.Write lba n fua) bytes told r
 described_served claims c blocks session (commands.CompareAndWrite lba n fua) bytes told reply d is said = absurd (cc)
 described_served claims c blocks session (commands.SynchronizeCache lba n) bytes told reply d is said = absurd (cc)
 
--- which is any command but these
-pub told_else : (command : Command) → (command ≡ commands.TestUnitReady → ⊥)
-    → ((n : ℕ) → command ≡ commands.RequestSense n → ⊥)
-    → ((action : PrOutAction) (scope kind n : ℕ) → command ≡ commands.PersistentReserveOut action scope kind n → ⊥)
-    → ((lba n : ℕ) (fua : Bool) → command ≡ commands.Read lba n fua → ⊥)
-    → ((lba n : ℕ) (fua : Bool) → command ≡ commands.Write lba n fua → ⊥)
-    → ((lba n : ℕ) (fua : Bool) → command ≡ commands.CompareAndWrite lba n fua → ⊥)
-    → ((lba n : ℕ) → command ≡ commands.SynchronizeCache lba n → ⊥)
-    → ((n : ℕ) → command ≡ commands.SetTargetPortGroups n → ⊥) → IsTrue (is_describing command)
-told_else commands.TestUnitReady ready sense reserve read write compare sync groups = absurd (ready refl)
-told_else (commands.RequestSense n) ready sense reserve read write compare sync groups = absurd (sense n refl)
-told_else (commands.PersistentReserveOut action scope kind n) ready sense reserve read write compare sync groups =
-    absurd (reserve action scope kind n refl)
-told_else (commands.Inquiry page n) ready sense reserve read write compare sync groups = refl
-told_else (commands.ModeSense header control page n) ready sense reserve read write compare sync groups = refl
-told_else commands.ReadCapacity10 ready sense reserve read write compare sync groups = refl
-told_else (commands.ReadCapacity16 n) ready sense reserve read write compare sync groups = refl
-told_else (commands.Read lba n fua) ready sense reserve read write compare sync groups = absurd (read lba n fua refl)
-told_else (commands.Write lba n fua) ready sense reserve read write compare sync groups = absurd (write lba n fua refl)
-told_else (commands.CompareAndWrite lba n fua) ready sense reserve read write compare sync groups =
-    absurd (compare lba n fua refl)
-told_else (commands.SynchronizeCache lba n) ready sense reserve read write compare sync groups = absurd (sync lba n refl)
-told_else (commands.PersistentReserveIn action n) ready sense reserve read write compare sync groups = refl
-told_else (commands.ReportLuns select n) ready sense reserve read write compare sync groups = refl
-told_else (commands.ReportTargetPortGroups n) ready sense reserve read write compare sync groups = refl
-told_else (commands.SetTargetPortGroups n) ready sense reserve read write compare sync groups = absurd (groups n refl)
-
 pub describing_takes : (command : Command) → IsTrue (is_describing command) → MayTake (Ok command)
 describing_takes commands.TestUnitReady d = absurd (cc)
 describing_takes (commands.RequestSense n) d = refl
-describing_takes (commands.PersistentReserveOut action scope kind n) d = refl
+describing_takes (commands.PersistentReserveOut action scope kind n) d = absurd (cc)
 describing_takes (commands.Inquiry page n) d = refl
 describing_takes (commands.ModeSense header control page n) d = refl
 describing_takes commands.ReadCapacity10 d = refl

@@ -1,13 +1,14 @@
 -- What a command is answered before its session and the history count it.
 use Rattle.std.specs.Prelude.{◌≡◌, ℕ, Bool, IsTrue, List, Ok, Option}
-use Rattle.scsi_types.specs.ReplyValue.{ReplyValue}
+use Rattle.scsi_types.specs.ReplyValue.{ReplyValue, check}
+use Rattle.scsi_types.specs.Sense.{unrecovered_read_error}
 use Rattle.block_file.specs.Disk.{Only}
 use Rattle.scsi_types.specs.declared.status.Status.TheVariants.{Good}
 use Rattle.scsi_types.specs.declared.command.Command.{Command}
 use Rattle.unit_state.specs.declared.refusal.Refusal.{Refusal}
 use Rattle.unit_state.specs.State.{UnitState}
 use Rattle.unit_state.specs.Choice.{Choice, choice_of}
-use Rattle.unit_state.specs.Medium.{Work, Finding, MayFind, IsTorn, found, left, is_flushed, work_asked, work_of}
+use Rattle.unit_state.specs.Medium.{Work, Finding, MayFind, IsTorn, found, left, is_flushed, is_flushed_first, work_asked, work_of}
 use Rattle.unit_state.specs.Refusal.{Request, refusal}
 use Rattle.unit_state.specs.Entry.{CanChoose, CanTear, MayCome, IsReplyWith, control_with, blocks_with, left_by, returned_by}
 
@@ -40,6 +41,8 @@ abbrev pub IsServed : Bool → UnitState → UnitState → ℕ → Command → L
 IsServed claims old new session command bytes reply =
     IsServedSo claims old new session command bytes (choice_of reply new.blocks new.control.lasting) reply
 
--- after GOOD of a work with a flush, a crash leaves the blocks that the unit holds
-abbrev pub Lasts : List (List ℕ) → (ℕ → List ℕ → Type 0) → Work → ReplyValue → Type 0
-Lasts blocks may_hold work reply = reply.status ≡ Good → IsTrue (is_flushed work) → Only blocks may_hold
+-- After GOOD of a work with a flush a crash leaves the blocks that the unit holds, and after a read that failed behind its
+-- flush.
+pub record Lasts (blocks : List (List ℕ)) (may_hold : ℕ → List ℕ → Type 0) (work : Work) (reply : ReplyValue) : Type 0 where
+  pub good : reply.status ≡ Good → IsTrue (is_flushed work) → Only blocks may_hold
+  pub unread : reply ≡ check unrecovered_read_error → IsTrue (is_flushed_first work) → Only blocks may_hold

@@ -1,10 +1,10 @@
 -- Laws of commands, for those who serve them.
 use Rattle.std.proofs.Common.{◌≡◌, ◌≢◌, ⊎_elim, ℕ, ◌+◌, Bool, true, false, nat_eq, map, List, [], ◌∷◌, Option}
-use Rattle.std.proofs.Common.{Some, None, Result, Ok, Err, refl, ap, ◌∙◌}
+use Rattle.std.proofs.Common.{Some, None, Result, Ok, Err, refl, sym, ap, if◌then◌else◌, ◌∙◌}
 use Rattle.std.proofs.lemmas.Bool.Decides.{eqb_tells}
 use Rattle.access_states.specs.AccessMap.{AccessMapValue}
 use Rattle.access_states.specs.declared.list.AsetFault.{AsetFault}
-use Rattle.reservations.specs.declared.request.Told.{Told}
+use Rattle.reservations.specs.Notice.{Told}
 use Rattle.reservations.specs.Rows.{Effect, Done, Conflicting, Refused, Full}
 use Rattle.scsi_types.specs.declared.names.Group.{Group}
 use Rattle.scsi_types.specs.declared.command.Command.{Command as ScsiCommand}
@@ -17,7 +17,7 @@ use Rattle.unit_state.specs.State.{ControlValue}
 use Rattle.unit_state.specs.Choice.{Choice, Fine, ReadFailed, WriteFailed, OpenFailed, SaveFailed}
 use Rattle.unit_state.specs.Groups.{after_change, change_heard, hear_change, is_any_changed, set_by}
 use Rattle.unit_state.specs.Refusal.{Request, request, refusal}
-use Rattle.unit_state.specs.Reserve.{all_heard, after_effect, after_saved, effect_by, pr_out}
+use Rattle.unit_state.specs.Reserve.{all_heard, after_effect, after_saved, effect_by, hear, pr_out}
 use Rattle.unit_state.specs.Sessions.{next_of, passed, told}
 use Rattle.unit_state.specs.Entry.{Command, IsNext, control_with, control_after, left_asked, left_groups}
 
@@ -34,38 +34,48 @@ next_passed (a ∷ rest) id serial h =
     (λ (f : (nat_eq a.id id ≡ false) × (a.id ≢ id)). rw f.0 (rw f.0 (next_passed rest id serial (rw f.0 at h))))
     (eqb_tells a.id id)
 
--- one that was told an attention keeps its own
-next_told : (sessions : List Attached) (id : ℕ) → next_of (told sessions id) id ≡ next_of sessions id
-next_told [] id = refl
-next_told (a ∷ rest) id =
-    ⊎_elim (λ (t : (nat_eq a.id id ≡ true) × (a.id ≡ id)). rw t.0 (rw t.0 refl))
-    (λ (f : (nat_eq a.id id ≡ false) × (a.id ≢ id)). rw f.0 (rw f.0 (next_told rest id)))
+-- ---- serials that stay
+
+-- the sessions by their ids and the serials of their next commands
+abbrev pub serials : List Attached → List (ℕ × ℕ)
+serials [] = []
+serials (a ∷ rest) = (a.id, a.next) ∷ serials rest
+
+abbrev pub serial_in : List (ℕ × ℕ) → ℕ → Option ℕ
+serial_in [] id = None
+serial_in (p ∷ rest) id = if nat_eq p.0 id then Some p.1 else serial_in rest id
+
+pub next_in : (sessions : List Attached) (id : ℕ) → next_of sessions id ≡ serial_in (serials sessions) id
+next_in [] id = refl
+next_in (a ∷ rest) id =
+    ⊎_elim (λ (t : (nat_eq a.id id ≡ true) × (a.id ≡ id)). rw t.0 refl)
+    (λ (f : (nat_eq a.id id ≡ false) × (a.id ≢ id)). rw f.0 (next_in rest id))
     (eqb_tells a.id id)
 
--- as does one that hears of a PERSISTENT RESERVE OUT
-next_heard : (codes : List Told) (sessions : List Attached) (id : ℕ)
-    → next_of (all_heard codes sessions) id ≡ next_of sessions id
-next_heard codes [] id = refl
-next_heard codes (a ∷ rest) id =
+same_front : (i j m n : ℕ) (xs ys : List (ℕ × ℕ)) → i ≡ j → m ≡ n → xs ≡ ys → (i, m) ∷ xs ≡ (j, n) ∷ ys
+same_front i j m n xs ys ids nexts rest = rw (ids, nexts, rest) refl
+
+-- one that was told an attention keeps its own
+serials_told : (sessions : List Attached) (id : ℕ) → serials (told sessions id) ≡ serials sessions
+serials_told [] id = refl
+serials_told (a ∷ rest) id =
     ⊎_elim (λ (t : (nat_eq a.id id ≡ true) × (a.id ≡ id)). rw t.0 refl)
-    (λ (f : (nat_eq a.id id ≡ false) × (a.id ≢ id)). rw f.0 (next_heard codes rest id))
+    (λ (f : (nat_eq a.id id ≡ false) × (a.id ≢ id)).
+    rw f.0 (same_front a.id a.id a.next a.next _ _ refl refl (serials_told rest id)))
     (eqb_tells a.id id)
 
 -- as does every session where all keep their ids and serials
-next_mapped : (f : Attached → Attached) → ((a : Attached) → ((f a).id ≡ a.id) × ((f a).next ≡ a.next))
-    → (sessions : List Attached) (id : ℕ) → next_of (map f sessions) id ≡ next_of sessions id
-next_mapped f keeps [] id = refl
-next_mapped f keeps (a ∷ rest) id =
-    ⊎_elim
-    (λ (t : (nat_eq a.id id ≡ true) × (a.id ≡ id)).
-    let test : nat_eq (f a).id id ≡ true = ap (λ (i : ℕ). nat_eq i id) (keeps a).0 ∙ t.0 in
-    rw (t.0, test) (ap (λ (n : ℕ). let o : Option ℕ = Some n in o) (keeps a).1))
-    (λ (n : (nat_eq a.id id ≡ false) × (a.id ≢ id)).
-    let test : nat_eq (f a).id id ≡ false = ap (λ (i : ℕ). nat_eq i id) (keeps a).0 ∙ n.0 in
-    rw (n.0, test) (next_mapped f keeps rest id))
-    (eqb_tells a.id id)
+pub serials_mapped : (f : Attached → Attached) → ((a : Attached) → ((f a).id ≡ a.id) × ((f a).next ≡ a.next))
+    → (sessions : List Attached) → serials (map f sessions) ≡ serials sessions
+serials_mapped f keeps [] = refl
+serials_mapped f keeps (a ∷ rest) =
+    same_front _ _ _ _ _ _ (keeps a).0 (keeps a).1 (serials_mapped f keeps rest)
 
--- one that hears of a change of access states does
+-- one that hears of a PERSISTENT RESERVE OUT does
+serials_heard : (codes : List Told) (sessions : List Attached) → serials (all_heard codes sessions) ≡ serials sessions
+serials_heard codes sessions = serials_mapped (hear codes) (λ a. (refl, refl)) sessions
+
+-- and one that hears of a change of access states
 pub change_keeps : (by_session : Option ℕ) (a : Attached)
     → ((hear_change by_session a).id ≡ a.id) × ((hear_change by_session a).next ≡ a.next)
 change_keeps None a = (refl, refl)
@@ -75,70 +85,75 @@ change_keeps (Some id) a =
     (λ (f : (nat_eq a.id id ≡ false) × (a.id ≢ id)). rw f.0 (refl, refl))
     (eqb_tells a.id id)
 
-next_changed : (is : Bool) (by_session : Option ℕ) (sessions : List Attached) (id : ℕ)
-    → next_of (change_heard is by_session sessions) id ≡ next_of sessions id
-next_changed true by_session sessions id = next_mapped (hear_change by_session) (change_keeps by_session) sessions id
-next_changed false by_session sessions id = refl
+serials_changed : (is : Bool) (by_session : Option ℕ) (sessions : List Attached)
+    → serials (change_heard is by_session sessions) ≡ serials sessions
+serials_changed true by_session sessions = serials_mapped (hear_change by_session) (change_keeps by_session) sessions
+serials_changed false by_session sessions = refl
 
-next_after_change : (c : ControlValue) (by_session : Option ℕ) (r : Result AccessMapValue AsetFault) (session : ℕ)
-    → next_of (after_change c by_session r).sessions session ≡ next_of c.sessions session
-next_after_change c by_session (Ok new) session = next_changed (is_any_changed c.access new) by_session c.sessions session
-next_after_change c by_session (Err fault) session = refl
+pub serials_after_change : (c : ControlValue) (by_session : Option ℕ) (r : Result AccessMapValue AsetFault)
+    → serials (after_change c by_session r).sessions ≡ serials c.sessions
+serials_after_change c by_session (Ok new) = serials_changed (is_any_changed c.access new) by_session c.sessions
+serials_after_change c by_session (Err fault) = refl
 
-next_groups : (c : ControlValue) (session list_length : ℕ) (bytes : List ℕ) (choice : Choice)
-    → next_of (left_groups c session list_length bytes choice).sessions session ≡ next_of c.sessions session
-next_groups c session list_length bytes OpenFailed = refl
-next_groups c session list_length bytes Fine = next_after_change c (Some session) (set_by c list_length bytes) session
-next_groups c session list_length bytes ReadFailed =
-    next_after_change c (Some session) (set_by c list_length bytes) session
-next_groups c session list_length bytes (WriteFailed after) =
-    next_after_change c (Some session) (set_by c list_length bytes) session
-next_groups c session list_length bytes (SaveFailed after) =
-    next_after_change c (Some session) (set_by c list_length bytes) session
+serials_groups : (c : ControlValue) (session list_length : ℕ) (bytes : List ℕ) (choice : Choice)
+    → serials (left_groups c session list_length bytes choice).sessions ≡ serials c.sessions
+serials_groups c session list_length bytes OpenFailed = refl
+serials_groups c session list_length bytes Fine = serials_after_change c (Some session) (set_by c list_length bytes)
+serials_groups c session list_length bytes ReadFailed = serials_after_change c (Some session) (set_by c list_length bytes)
+serials_groups c session list_length bytes (WriteFailed after) =
+    serials_after_change c (Some session) (set_by c list_length bytes)
+serials_groups c session list_length bytes (SaveFailed after) =
+    serials_after_change c (Some session) (set_by c list_length bytes)
 
-next_after_effect : (c : ControlValue) (session : ℕ) (e : Effect)
-    → next_of (after_effect c e).sessions session ≡ next_of c.sessions session
-next_after_effect c session (Done new codes) = next_heard codes c.sessions session
-next_after_effect c session Conflicting = refl
-next_after_effect c session (Refused asc ascq) = refl
-next_after_effect c session Full = refl
+serials_after_effect : (c : ControlValue) (e : Effect) → serials (after_effect c e).sessions ≡ serials c.sessions
+serials_after_effect c (Done new codes) = serials_heard codes c.sessions
+serials_after_effect c Conflicting = refl
+serials_after_effect c (Refused asc ascq) = refl
+serials_after_effect c Full = refl
 
-next_saved : (c : ControlValue) (session : ℕ) (e : Effect) (choice : Choice)
-    → next_of (after_saved c e choice).sessions session ≡ next_of c.sessions session
-next_saved c session e Fine = next_after_effect c session e
-next_saved c session e ReadFailed = next_after_effect c session e
-next_saved c session e (WriteFailed after) = next_after_effect c session e
-next_saved c session e OpenFailed = next_after_effect c session e
-next_saved c session e (SaveFailed after) = refl
+serials_saved : (c : ControlValue) (e : Effect) (choice : Choice)
+    → serials (after_saved c e choice).sessions ≡ serials c.sessions
+serials_saved c e Fine = serials_after_effect c e
+serials_saved c e ReadFailed = serials_after_effect c e
+serials_saved c e (WriteFailed after) = serials_after_effect c e
+serials_saved c e OpenFailed = serials_after_effect c e
+serials_saved c e (SaveFailed after) = refl
 
-next_left : (c : ControlValue) (session : ℕ) (asked : Result ScsiCommand CdbFault) (bytes : List ℕ) (choice : Choice)
-    → next_of (left_asked c session asked bytes choice).sessions session ≡ next_of c.sessions session
-next_left c session (Err fault) bytes choice = refl
-next_left c session (Ok (commands.RequestSense allocation)) bytes choice = next_told c.sessions session
-next_left c session (Ok (commands.PersistentReserveOut action scope kind list_length)) bytes choice =
-    next_saved c session (effect_by c session (pr_out action scope kind bytes)) choice
-next_left c session (Ok commands.TestUnitReady) bytes choice = refl
-next_left c session (Ok (commands.Inquiry page allocation)) bytes choice = refl
-next_left c session (Ok (commands.ModeSense header control page allocation)) bytes choice = refl
-next_left c session (Ok commands.ReadCapacity10) bytes choice = refl
-next_left c session (Ok (commands.ReadCapacity16 allocation)) bytes choice = refl
-next_left c session (Ok (commands.Read lba blocks fua)) bytes choice = refl
-next_left c session (Ok (commands.Write lba blocks fua)) bytes choice = refl
-next_left c session (Ok (commands.CompareAndWrite lba blocks fua)) bytes choice = refl
-next_left c session (Ok (commands.SynchronizeCache lba blocks)) bytes choice = refl
-next_left c session (Ok (commands.PersistentReserveIn action allocation)) bytes choice = refl
-next_left c session (Ok (commands.ReportLuns select allocation)) bytes choice = refl
-next_left c session (Ok (commands.ReportTargetPortGroups allocation)) bytes choice = refl
-next_left c session (Ok (commands.SetTargetPortGroups list_length)) bytes choice =
-    next_groups c session list_length bytes choice
+serials_left : (c : ControlValue) (session : ℕ) (asked : Result ScsiCommand CdbFault) (bytes : List ℕ) (choice : Choice)
+    → serials (left_asked c session asked bytes choice).sessions ≡ serials c.sessions
+serials_left c session (Err fault) bytes choice = refl
+serials_left c session (Ok (commands.RequestSense allocation)) bytes choice = serials_told c.sessions session
+serials_left c session (Ok (commands.PersistentReserveOut action scope kind list_length)) bytes choice =
+    serials_saved c (effect_by c session (pr_out action scope kind bytes)) choice
+serials_left c session (Ok commands.TestUnitReady) bytes choice = refl
+serials_left c session (Ok (commands.Inquiry page allocation)) bytes choice = refl
+serials_left c session (Ok (commands.ModeSense header control page allocation)) bytes choice = refl
+serials_left c session (Ok commands.ReadCapacity10) bytes choice = refl
+serials_left c session (Ok (commands.ReadCapacity16 allocation)) bytes choice = refl
+serials_left c session (Ok (commands.Read lba blocks fua)) bytes choice = refl
+serials_left c session (Ok (commands.Write lba blocks fua)) bytes choice = refl
+serials_left c session (Ok (commands.CompareAndWrite lba blocks fua)) bytes choice = refl
+serials_left c session (Ok (commands.SynchronizeCache lba blocks)) bytes choice = refl
+serials_left c session (Ok (commands.PersistentReserveIn action allocation)) bytes choice = refl
+serials_left c session (Ok (commands.ReportLuns select allocation)) bytes choice = refl
+serials_left c session (Ok (commands.ReportTargetPortGroups allocation)) bytes choice = refl
+serials_left c session (Ok (commands.SetTargetPortGroups list_length)) bytes choice =
+    serials_groups c session list_length bytes choice
 
--- what a command leaves before it is counted has its serial still
+-- what a command leaves before it is counted has all ids and serials still
+pub serials_kept : (refused : Option Refusal) (c : ControlValue) (r : Request) (choice : Choice)
+    → serials (control_with refused c r choice).sessions ≡ serials c.sessions
+serials_kept (Some (Attention a)) c r choice = serials_told c.sessions r.session
+serials_kept (Some Conflict) c r choice = refl
+serials_kept (Some (Check s)) c r choice = refl
+serials_kept None c r choice = serials_left c r.session r.asked r.bytes choice
+
 pub next_kept : (refused : Option Refusal) (c : ControlValue) (r : Request) (choice : Choice)
     → next_of (control_with refused c r choice).sessions r.session ≡ next_of c.sessions r.session
-next_kept (Some (Attention a)) c r choice = next_told c.sessions r.session
-next_kept (Some Conflict) c r choice = refl
-next_kept (Some (Check s)) c r choice = refl
-next_kept None c r choice = next_left c r.session r.asked r.bytes choice
+next_kept refused c r choice =
+    next_in (control_with refused c r choice).sessions r.session
+    ∙ ap (λ (ps : List (ℕ × ℕ)). serial_in ps r.session) (serials_kept refused c r choice)
+    ∙ sym (next_in c.sessions r.session)
 
 -- and the count of entries
 count_after_effect : (c : ControlValue) (e : Effect) → (after_effect c e).count ≡ c.count
@@ -147,7 +162,7 @@ count_after_effect c Conflicting = refl
 count_after_effect c (Refused asc ascq) = refl
 count_after_effect c Full = refl
 
-count_after_change : (c : ControlValue) (by_session : Option ℕ) (r : Result AccessMapValue AsetFault)
+pub count_after_change : (c : ControlValue) (by_session : Option ℕ) (r : Result AccessMapValue AsetFault)
     → (after_change c by_session r).count ≡ c.count
 count_after_change c by_session (Ok new) = refl
 count_after_change c by_session (Err fault) = refl
@@ -190,7 +205,7 @@ count_left c session (Ok (commands.ReportTargetPortGroups allocation)) bytes cho
 count_left c session (Ok (commands.SetTargetPortGroups list_length)) bytes choice =
     count_groups c session list_length bytes choice
 
-kept_count : (refused : Option Refusal) (c : ControlValue) (r : Request) (choice : Choice)
+pub kept_count : (refused : Option Refusal) (c : ControlValue) (r : Request) (choice : Choice)
     → (control_with refused c r choice).count ≡ c.count
 kept_count (Some (Attention a)) c r choice = refl
 kept_count (Some Conflict) c r choice = refl

@@ -18,8 +18,7 @@ use Rattle.scsi_types.specs.declared.command.Command.{Command as ScsiCommand}
 use Rattle.scsi_types.specs.declared.command.Command.TheVariants as commands
 use Rattle.scsi_types.specs.declared.command.CdbFault.{CdbFault}
 use Rattle.unit_state.specs.declared.refusal.Refusal.{Refusal}
-use Rattle.unit_state.specs.declared.control.TheConstants.{LAST_COUNT}
-use Rattle.unit_state.specs.declared.sessions.TheConstants.{MOST_SESSIONS}
+use Rattle.unit_state.specs.Limits.{last_length, most_sessions}
 use Rattle.unit_state.specs.State.{ControlValue, UnitState}
 use Rattle.unit_state.specs.Sessions.{attached, session_of, next_of, sender_of, first_pending, passed, ended, all_reset, without}
 use Rattle.unit_state.specs.Groups.{IsTaken, set_by, move_by, is_opening, after_change, report_by}
@@ -42,31 +41,45 @@ pub data Entry : Type 0 where
 
 -- this serial is the session's next, and the history has room
 pub record IsNext (c : ControlValue) (session serial : ℕ) : Type 0 where
-  pub room : c.count < LAST_COUNT
+  pub room : c.count < last_length
   pub next : next_of c.sessions session ≡ Some serial
 
 -- this session is attached, and the history has room
 pub record IsAttached (c : ControlValue) (session : ℕ) : Type 0 where
-  pub room : c.count < LAST_COUNT
+  pub room : c.count < last_length
   pub attached : IsSome (session_of c.sessions session)
 
 -- a new session has room; that of its nexus ends
 pub record HasRoom (c : ControlValue) (nexus : Nexus) : Type 0 where
-  pub room : c.count < LAST_COUNT
-  pub sessions : length (without nexus c.sessions) < MOST_SESSIONS
+  pub room : c.count < last_length
+  pub sessions : length (without nexus c.sessions) < most_sessions
 
 -- The unit takes this list, and the history has room. A list that it does not take, and a move whose open fails, is no
 -- entry.
 pub record CanMove (c : ControlValue) (list : List ℕ) (choice : Choice) : Type 0 where
-  pub room : c.count < LAST_COUNT
+  pub room : c.count < last_length
   pub taken : IsTaken (move_by c list)
   pub fine : choice ≡ Fine
 
 -- a PERSISTENT RESERVE OUT may fail to save what is to last
 abbrev pub MayLose : ControlValue → ℕ → Result ScsiCommand CdbFault → List ℕ → List RecordValue → Type 0
+MayLose c session (Err fault) bytes after = ⊥
+MayLose c session (Ok commands.TestUnitReady) bytes after = ⊥
+MayLose c session (Ok (commands.RequestSense allocation)) bytes after = ⊥
+MayLose c session (Ok (commands.Inquiry page allocation)) bytes after = ⊥
+MayLose c session (Ok (commands.ModeSense header control page allocation)) bytes after = ⊥
+MayLose c session (Ok commands.ReadCapacity10) bytes after = ⊥
+MayLose c session (Ok (commands.ReadCapacity16 allocation)) bytes after = ⊥
+MayLose c session (Ok (commands.Read lba blocks fua)) bytes after = ⊥
+MayLose c session (Ok (commands.Write lba blocks fua)) bytes after = ⊥
+MayLose c session (Ok (commands.CompareAndWrite lba blocks fua)) bytes after = ⊥
+MayLose c session (Ok (commands.SynchronizeCache lba blocks)) bytes after = ⊥
+MayLose c session (Ok (commands.PersistentReserveIn action allocation)) bytes after = ⊥
 MayLose c session (Ok (commands.PersistentReserveOut action scope kind list_length)) bytes after =
     MayFailToSave c (effect_by c session (pr_out action scope kind bytes)) after
-MayLose c session asked bytes after = ⊥
+MayLose c session (Ok (commands.ReportLuns select allocation)) bytes after = ⊥
+MayLose c session (Ok (commands.ReportTargetPortGroups allocation)) bytes after = ⊥
+MayLose c session (Ok (commands.SetTargetPortGroups list_length)) bytes after = ⊥
 
 -- What a command may come to, of every device: a failure of the medium where its work meets it, an open that fails where
 -- the command changes the owner, and a save that fails where it is asked for.
@@ -117,7 +130,14 @@ described c session commands.ReadCapacity10 = spell (capacity_10 c.total)
 described c session (commands.ReadCapacity16 allocation) = cut allocation (spell (capacity_16 c.total))
 described c session (commands.PersistentReserveIn action allocation) = cut allocation (in_data c.registry action)
 described c session (commands.ReportTargetPortGroups allocation) = cut allocation (report_by c)
-described c session command = []
+described c session commands.TestUnitReady = []
+described c session (commands.RequestSense allocation) = []
+described c session (commands.Read lba blocks fua) = []
+described c session (commands.Write lba blocks fua) = []
+described c session (commands.CompareAndWrite lba blocks fua) = []
+described c session (commands.SynchronizeCache lba blocks) = []
+described c session (commands.PersistentReserveOut action scope kind list_length) = []
+described c session (commands.SetTargetPortGroups list_length) = []
 
 -- What a command returns that no rule refuses, where the devices told this: REQUEST SENSE its session's first
 -- attention as data, or that there is none (SPC-4, 6.39); PERSISTENT RESERVE OUT what its row of the table says, unless
@@ -133,7 +153,20 @@ returned_by c session (commands.CompareAndWrite lba blocks fua) bytes finding = 
 returned_by c session (commands.SynchronizeCache lba blocks) bytes finding = reply_by finding
 returned_by c session (commands.SetTargetPortGroups list_length) bytes finding = reply_by finding
 returned_by c session commands.TestUnitReady bytes finding = good []
-returned_by c session command bytes finding = good (described c session command)
+returned_by c session (commands.Inquiry page allocation) bytes finding =
+    good (described c session (commands.Inquiry page allocation))
+returned_by c session (commands.ModeSense header control page allocation) bytes finding =
+    good (described c session (commands.ModeSense header control page allocation))
+returned_by c session commands.ReadCapacity10 bytes finding =
+    good (described c session commands.ReadCapacity10)
+returned_by c session (commands.ReadCapacity16 allocation) bytes finding =
+    good (described c session (commands.ReadCapacity16 allocation))
+returned_by c session (commands.PersistentReserveIn action allocation) bytes finding =
+    good (described c session (commands.PersistentReserveIn action allocation))
+returned_by c session (commands.ReportLuns select allocation) bytes finding =
+    good (described c session (commands.ReportLuns select allocation))
+returned_by c session (commands.ReportTargetPortGroups allocation) bytes finding =
+    good (described c session (commands.ReportTargetPortGroups allocation))
 
 -- a CDB that asks for nothing is refused
 abbrev pub returned_asked : ControlValue → ℕ → Result ScsiCommand CdbFault → List ℕ → Finding → ReplyValue
@@ -146,7 +179,10 @@ returned c r finding = returned_asked c r.session r.asked r.bytes finding
 -- SET TARGET PORT GROUPS does its change unless the open failed
 abbrev pub left_groups : ControlValue → ℕ → ℕ → List ℕ → Choice → ControlValue
 left_groups c session list_length bytes OpenFailed = c
-left_groups c session list_length bytes choice = after_change c (Some session) (set_by c list_length bytes)
+left_groups c session list_length bytes Fine = after_change c (Some session) (set_by c list_length bytes)
+left_groups c session list_length bytes ReadFailed = after_change c (Some session) (set_by c list_length bytes)
+left_groups c session list_length bytes (WriteFailed after) = after_change c (Some session) (set_by c list_length bytes)
+left_groups c session list_length bytes (SaveFailed after) = after_change c (Some session) (set_by c list_length bytes)
 
 -- And what it leaves of all but the blocks: REQUEST SENSE has told an attention, PERSISTENT RESERVE OUT did its row
 -- unless its save failed, SET TARGET PORT GROUPS its change unless the open failed, and any other leaves all as it was.
@@ -155,7 +191,18 @@ left_by c session (commands.RequestSense allocation) bytes choice = tell c sessi
 left_by c session (commands.PersistentReserveOut action scope kind list_length) bytes choice =
     after_saved c (effect_by c session (pr_out action scope kind bytes)) choice
 left_by c session (commands.SetTargetPortGroups list_length) bytes choice = left_groups c session list_length bytes choice
-left_by c session command bytes choice = c
+left_by c session commands.TestUnitReady bytes choice = c
+left_by c session (commands.Inquiry page allocation) bytes choice = c
+left_by c session (commands.ModeSense header control page allocation) bytes choice = c
+left_by c session commands.ReadCapacity10 bytes choice = c
+left_by c session (commands.ReadCapacity16 allocation) bytes choice = c
+left_by c session (commands.Read lba blocks fua) bytes choice = c
+left_by c session (commands.Write lba blocks fua) bytes choice = c
+left_by c session (commands.CompareAndWrite lba blocks fua) bytes choice = c
+left_by c session (commands.SynchronizeCache lba blocks) bytes choice = c
+left_by c session (commands.PersistentReserveIn action allocation) bytes choice = c
+left_by c session (commands.ReportLuns select allocation) bytes choice = c
+left_by c session (commands.ReportTargetPortGroups allocation) bytes choice = c
 
 abbrev pub left_asked : ControlValue → ℕ → Result ScsiCommand CdbFault → List ℕ → Choice → ControlValue
 left_asked c session (Ok command) bytes choice = left_by c session command bytes choice

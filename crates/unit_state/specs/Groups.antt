@@ -11,10 +11,10 @@ use Rattle.attentions.specs.Queue.{established}
 use Rattle.scsi_types.specs.Cdb.{is_group_list}
 use Rattle.scsi_types.specs.declared.attention.UnitAttention.TheVariants.{AccessStateChanged}
 use Rattle.scsi_types.specs.declared.command.Command.{Command}
-use Rattle.scsi_types.specs.declared.command.Command.TheVariants.{SetTargetPortGroups}
 use Rattle.scsi_types.specs.declared.command.CdbFault.{CdbFault}
 use Rattle.scsi_types.specs.declared.names.Group.TheVariants.{One, Two}
 use Rattle.unit_state.specs.declared.sessions.Attached.{Attached}
+use Rattle.unit_state.specs.Ops.{ParameterList, NoList, ReserveList, GroupsList, list_asked}
 use Rattle.unit_state.specs.State.{ControlValue, preferred}
 
 -- ---- what a list makes of the access states
@@ -43,9 +43,13 @@ is_moved_by old (Ok new) = is_moved old new
 is_moved_by old (Err fault) = false
 
 -- the command changes the owner: the blocks are opened for the new one first
+abbrev pub opens_by : ControlValue → ParameterList → List ℕ → Bool
+opens_by c NoList bytes = false
+opens_by c (ReserveList list_length) bytes = false
+opens_by c (GroupsList list_length) bytes = is_moved_by c.access (set_by c list_length bytes)
+
 abbrev pub is_opening : ControlValue → Result Command CdbFault → List ℕ → Bool
-is_opening c (Ok (SetTargetPortGroups list_length)) bytes = is_moved_by c.access (set_by c list_length bytes)
-is_opening c asked bytes = false
+is_opening c asked bytes = opens_by c (list_asked asked) bytes
 
 -- ---- who hears of it, and what is left
 

@@ -1,15 +1,19 @@
 -- Histories with one entry more.
 use Rattle.std.proofs.Common.{◌≡◌, ◌↔◌, ℕ, zero, suc, Bool, true, List, [], ◌∷◌, ◌++◌, length, ◌<◌, Option}
-use Rattle.std.proofs.Common.{Some, None, refl, sym, ap, ◌∙◌, arith}
+use Rattle.std.proofs.Common.{Some, None, refl, sym, ap, ◌∙◌, ◌+◌, ◌≤◌, if◌then◌else◌, arith}
+use Rattle.std.proofs.lemmas.List.Sums.{count_by-le-length, sum_by_push}
+use Rattle.scsi_types.specs.Nexus.{Nexus}
 use Rattle.scsi_types.specs.ReplyValue.{ReplyValue}
 use Rattle.unit_state.specs.declared.refusal.Refusal.{Refusal}
-use Rattle.unit_state.specs.State.{UnitState}
+use Rattle.unit_state.specs.declared.sessions.Attached.{Attached}
+use Rattle.unit_state.specs.Sessions.{attached, last_nexus, nexus_of, without}
+use Rattle.unit_state.specs.State.{ControlValue, UnitState}
 use Rattle.unit_state.specs.Choice.{Choice}
 use Rattle.unit_state.specs.Medium.{found, work_asked}
 use Rattle.unit_state.specs.Refusal.{Request, request, refusal}
 use Rattle.unit_state.specs.Entry.{Entry, Attach, Detach, Reset, Move, Command, IsPossible, IsReplyTo}
-use Rattle.unit_state.specs.Entry.{IsReplyWith, after, reply_to, reply_with, returned}
-use Rattle.unit_state.specs.History.{state_after, IsLegal, reply_at, IsReplyAt}
+use Rattle.unit_state.specs.Entry.{IsReplyWith, after, control_after, reply_to, reply_with, returned}
+use Rattle.unit_state.specs.History.{state_after, IsLegal, reply_at, IsReplyAt, has_failed, failed_entries}
 
 -- its state is that after the last entry
 pub state_after-snoc : (s : UnitState) (history : List Entry) (entry : Entry)
@@ -62,3 +66,25 @@ pub decided : (s : UnitState) (history : List Entry) (i : ℕ) (reply : ReplyVal
 decided s [] i reply is = absurd is
 decided s (e ∷ history) zero reply is = decided_by s e reply is
 decided s (e ∷ history) (suc i) reply is = decided (after s e) history i reply is
+
+-- ---- the entries that failed
+
+-- one more, where the last entry did
+pub failed-snoc : (history : List Entry) (entry : Entry)
+    → failed_entries (history ++ entry ∷ []) ≡ failed_entries history + (if has_failed entry then 1 else 0)
+failed-snoc history entry = sum_by_push (λ (e : Entry). if has_failed e then 1 else 0) history entry
+
+-- and no more than there are entries
+pub failed-le-length : (history : List Entry) → failed_entries history ≤ length history
+failed-le-length history = count_by-le-length has_failed history
+
+-- ---- the session that attached last
+
+pub last_nexus-snoc : (sessions : List Attached) (a : Attached) → last_nexus (sessions ++ a ∷ []) ≡ nexus_of a
+last_nexus-snoc [] a = refl
+last_nexus-snoc (x ∷ []) a = refl
+last_nexus-snoc (x ∷ y ∷ sessions) a = last_nexus-snoc (y ∷ sessions) a
+
+pub last_attached : (c : ControlValue) (nexus : Nexus)
+    → last_nexus (control_after c (Attach nexus)).sessions ≡ nexus
+last_attached c nexus = last_nexus-snoc (without nexus c.sessions) (attached nexus c.count)

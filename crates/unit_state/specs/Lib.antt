@@ -1,11 +1,13 @@
 pub mod Answer
 pub mod Choice
 pub mod CommandLaws
+pub mod Counts
 pub mod Entry
 pub mod EntryLaws
 pub mod Groups
 pub mod History
 pub mod HistoryLaws
+pub mod Limits
 pub mod Medium
 pub mod Moves
 pub mod Ops
@@ -13,7 +15,10 @@ pub mod Places
 pub mod Refusal
 pub mod Reserve
 pub mod Route
+pub mod Row
 pub mod Saving
+pub mod SerialLaws
+pub mod Serials
 pub mod Sessions
 pub mod State
 pub mod Step

@@ -1,8 +1,8 @@
 -- What a command is to the medium, and what that finds and leaves (SBC-3, READ, WRITE, COMPARE AND WRITE and SYNCHRONIZE
 -- CACHE commands).
-use Rattle.std.specs.Prelude.{◌≡◌, ◌⊎◌, ℕ, ◌+◌, ◌*◌, ◌<◌, ◌≤◌, Bool, false, true, IsTrue, List, [], length}
+use Rattle.std.specs.Prelude.{◌≡◌, ◌⊎◌, ℕ, ◌+◌, ◌*◌, ◌<◌, ◌≤◌, Bool, false, true, IsTrue, nat_lt, List, [], length}
 use Rattle.std.specs.Prelude.{Option, Some, None, Result, Ok, Err}
-use Rattle.block_file.specs.declared.blocks.TheConstants.{BLOCK_LENGTH}
+use Rattle.identity.specs.Capacity.{block_length}
 use Rattle.block_file.specs.Cut.{cut}
 use Rattle.block_file.specs.Disk.{written, range_bytes, Between}
 use Rattle.compare_write.specs.Difference.{first_difference}
@@ -13,6 +13,7 @@ use Rattle.scsi_types.specs.Sense.{unrecovered_read_error, write_error, miscompa
 use Rattle.scsi_types.specs.declared.command.Command.{Command}
 use Rattle.scsi_types.specs.declared.command.Command.TheVariants as commands
 use Rattle.scsi_types.specs.declared.command.CdbFault.{CdbFault}
+use Rattle.unit_state.specs.Limits.{most_compared, most_transferred}
 use Rattle.unit_state.specs.Choice.{Choice, Fine, ReadFailed, WriteFailed, OpenFailed, SaveFailed}
 
 -- the blocks of a command: the first, and how many
@@ -66,12 +67,37 @@ is_flushed (Writes r bytes flushed) = flushed
 is_flushed (Compares r bytes flushed) = flushed
 is_flushed (Flushes r) = true
 
--- the work lies within so many blocks, and its data are there
+-- a work whose flush comes before its read
+abbrev pub is_flushed_first : Work → Bool
+is_flushed_first Nothing = false
+is_flushed_first (Reads r flushed) = flushed
+is_flushed_first (Writes r bytes flushed) = false
+is_flushed_first (Compares r bytes flushed) = false
+is_flushed_first (Flushes r) = false
+
+-- a work that calls the device
+abbrev pub is_medium : Work → Bool
+is_medium Nothing = false
+is_medium (Reads r flushed) = true
+is_medium (Writes r bytes flushed) = true
+is_medium (Compares r bytes flushed) = true
+is_medium (Flushes r) = true
+
+-- a work of more blocks than a command may have
+abbrev pub is_too_long : Work → Bool
+is_too_long Nothing = false
+is_too_long (Reads r flushed) = nat_lt most_transferred r.blocks
+is_too_long (Writes r bytes flushed) = nat_lt most_transferred r.blocks
+is_too_long (Compares r bytes flushed) = nat_lt most_compared r.blocks
+is_too_long (Flushes r) = false
+
+-- the work lies within so many blocks, and its data are there; and a comparison has few enough
 abbrev pub Fits : ℕ → Work → Type 0
 Fits total Nothing = Unit {0}
 Fits total (Reads r flushed) = r.lba + r.blocks ≤ total
-Fits total (Writes r bytes flushed) = (r.lba + r.blocks ≤ total) × (BLOCK_LENGTH * r.blocks ≤ length bytes)
-Fits total (Compares r bytes flushed) = (r.lba + r.blocks ≤ total) × (2 * BLOCK_LENGTH * r.blocks ≤ length bytes)
+Fits total (Writes r bytes flushed) = (r.lba + r.blocks ≤ total) × (block_length * r.blocks ≤ length bytes)
+Fits total (Compares r bytes flushed) = (r.lba + r.blocks ≤ total) × (2 * block_length * r.blocks ≤ length bytes)
+    × (r.blocks ≤ most_compared)
 Fits total (Flushes r) = Unit {0}
 
 -- What a work may come to, of every device: a read may fail where the work reads, a write or a flush where it writes
@@ -106,10 +132,10 @@ pub data Finding : Type 0 where
 abbrev pub MayFind : Work → Choice → Finding → Type 0
 MayFind Nothing Fine finding = finding ≡ Done []
 MayFind (Reads r flushed) Fine finding = (bytes : List ℕ) × (finding ≡ Done bytes)
-    × (length bytes ≡ BLOCK_LENGTH * r.blocks)
+    × (length bytes ≡ block_length * r.blocks)
 MayFind (Writes r bytes flushed) Fine finding = finding ≡ Done []
 MayFind (Compares r bytes flushed) Fine finding =
-    (finding ≡ Done []) ⊎ ((at : ℕ) × (finding ≡ Differs at) × (at < BLOCK_LENGTH * r.blocks))
+    (finding ≡ Done []) ⊎ ((at : ℕ) × (finding ≡ Differs at) × (at < block_length * r.blocks))
 MayFind (Flushes r) Fine finding = finding ≡ Done []
 MayFind work ReadFailed finding = finding ≡ ReadError
 MayFind work (WriteFailed after) finding = finding ≡ WriteError

@@ -2,11 +2,11 @@
 use Rattle.std.specs.Prelude.{◌≡◌, ℕ, ◌<◌, ◌≤◌, Bool, true, IsTrue, List, Result, Ok, Err}
 use Rattle.access_states.specs.Change.{change_between}
 use Rattle.access_states.specs.declared.change.Change.{Change}
-use Rattle.unit_state.specs.declared.control.TheConstants.{LAST_COUNT}
+use Rattle.unit_state.specs.Limits.{last_length}
 use Rattle.unit_state.specs.declared.unit.MoveFault.{MoveFault}
 use Rattle.unit_state.specs.declared.unit.MoveFault.TheVariants as faults
 use Rattle.unit_state.specs.State.{UnitState}
-use Rattle.unit_state.specs.Choice.{Fine}
+use Rattle.unit_state.specs.Choice.{Choice, Fine, OpenFailed}
 use Rattle.unit_state.specs.Groups.{is_moved_by, move_by}
 use Rattle.unit_state.specs.Entry.{Move, IsPossible, control_after, blocks_after}
 
@@ -21,8 +21,15 @@ pub record IsMoved (claims : Bool) (old new : UnitState) (list : List ℕ) (told
 -- group would have owned the unit, for which the device was not opened.
 abbrev pub IsMove : Bool → UnitState → UnitState → List ℕ → Result Change MoveFault → Type 0
 IsMove claims old new list (Ok told) = IsMoved claims old new list told
-IsMove claims old new list (Err faults.Gone) = LAST_COUNT ≤ old.control.count
+IsMove claims old new list (Err faults.Gone) = last_length ≤ old.control.count
 IsMove claims old new list (Err (faults.List fault)) =
-    (old.control.count < LAST_COUNT) × (move_by old.control list ≡ Err fault)
+    (old.control.count < last_length) × (move_by old.control list ≡ Err fault)
 IsMove claims old new list (Err faults.OpenFailed) =
-    (old.control.count < LAST_COUNT) × (is_moved_by old.control.access (move_by old.control list) ≡ true)
+    (old.control.count < last_length) × (is_moved_by old.control.access (move_by old.control list) ≡ true)
+
+-- the choice that a move tells: only its open may fail
+abbrev pub choice_of_move : Result Change MoveFault → Choice
+choice_of_move (Ok told) = Fine
+choice_of_move (Err faults.Gone) = Fine
+choice_of_move (Err (faults.List fault)) = Fine
+choice_of_move (Err faults.OpenFailed) = OpenFailed

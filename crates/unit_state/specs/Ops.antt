@@ -1,5 +1,5 @@
 -- The kind of a command, also of one with a bad field, and what the kind alone decides.
-use Rattle.std.specs.Prelude.{Bool, true, false, Option, Some, None, Result, Ok, Err}
+use Rattle.std.specs.Prelude.{ℕ, Bool, true, false, Option, Some, None, Result, Ok, Err}
 use Rattle.reservations.specs.declared.request.Access.{Access}
 use Rattle.reservations.specs.declared.request.Access.TheVariants.{Read, Write, Other}
 use Rattle.scsi_types.specs.declared.command.Command.{Command}
@@ -34,17 +34,65 @@ kind_asked (Err UnknownOpcode) = None
 
 -- a command that a pending attention lets pass (SAM-5, 5.14)
 abbrev pub passes_attention : Option Op → Bool
-passes_attention (Some ops.Inquiry) = true
-passes_attention (Some ops.ReportLuns) = true
+passes_attention None = false
+passes_attention (Some ops.TestUnitReady) = false
 passes_attention (Some ops.RequestSense) = true
-passes_attention kind = false
+passes_attention (Some ops.Inquiry) = true
+passes_attention (Some ops.ModeSense) = false
+passes_attention (Some ops.ReadCapacity) = false
+passes_attention (Some ops.Read) = false
+passes_attention (Some ops.Write) = false
+passes_attention (Some ops.CompareAndWrite) = false
+passes_attention (Some ops.SynchronizeCache) = false
+passes_attention (Some ops.PersistentReserveIn) = false
+passes_attention (Some ops.PersistentReserveOut) = false
+passes_attention (Some ops.ReportLuns) = true
+passes_attention (Some ops.ReportTargetPortGroups) = false
+passes_attention (Some ops.SetTargetPortGroups) = false
 
 -- what a command does with the medium, as a reservation sees it (SPC-4, 5.13.2): a flush counts as a write, and so does a
 -- change of access states
 abbrev pub access_of : Option Op → Access
+access_of None = Other
+access_of (Some ops.TestUnitReady) = Other
+access_of (Some ops.RequestSense) = Other
+access_of (Some ops.Inquiry) = Other
+access_of (Some ops.ModeSense) = Other
+access_of (Some ops.ReadCapacity) = Other
 access_of (Some ops.Read) = Read
 access_of (Some ops.Write) = Write
 access_of (Some ops.CompareAndWrite) = Write
 access_of (Some ops.SynchronizeCache) = Write
+access_of (Some ops.PersistentReserveIn) = Other
+access_of (Some ops.PersistentReserveOut) = Other
+access_of (Some ops.ReportLuns) = Other
+access_of (Some ops.ReportTargetPortGroups) = Other
 access_of (Some ops.SetTargetPortGroups) = Write
-access_of kind = Other
+
+-- the parameter list of a command, with its PARAMETER LIST LENGTH: that of PERSISTENT RESERVE OUT (SPC-4, 6.16.3), or of SET
+-- TARGET PORT GROUPS (SPC-4, 6.45)
+pub data ParameterList : Type 0 where
+  NoList : ParameterList
+  ReserveList : ℕ → ParameterList
+  GroupsList : ℕ → ParameterList
+
+abbrev pub list_of : Command → ParameterList
+list_of commands.TestUnitReady = NoList
+list_of (commands.RequestSense allocation) = NoList
+list_of (commands.Inquiry page allocation) = NoList
+list_of (commands.ModeSense header control page allocation) = NoList
+list_of commands.ReadCapacity10 = NoList
+list_of (commands.ReadCapacity16 allocation) = NoList
+list_of (commands.Read lba blocks fua) = NoList
+list_of (commands.Write lba blocks fua) = NoList
+list_of (commands.CompareAndWrite lba blocks fua) = NoList
+list_of (commands.SynchronizeCache lba blocks) = NoList
+list_of (commands.PersistentReserveIn action allocation) = NoList
+list_of (commands.PersistentReserveOut action scope kind list_length) = ReserveList list_length
+list_of (commands.ReportLuns select allocation) = NoList
+list_of (commands.ReportTargetPortGroups allocation) = NoList
+list_of (commands.SetTargetPortGroups list_length) = GroupsList list_length
+
+abbrev pub list_asked : Result Command CdbFault → ParameterList
+list_asked (Ok command) = list_of command
+list_asked (Err fault) = NoList

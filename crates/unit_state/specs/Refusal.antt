@@ -1,6 +1,6 @@
 -- Why a command is refused: rules in order, of which the first that applies decides. They look at what does not rest
 -- on the medium, and at the request.
-use Rattle.std.specs.Prelude.{◌≡◌, ℕ, ◌+◌, ◌&&◌, Bool, nat_eq, true, false, nat_lt, nat_le, if◌then◌else◌}
+use Rattle.std.specs.Prelude.{◌≡◌, ℕ, ◌+◌, ◌&&◌, ◌||◌, Bool, nat_eq, true, false, nat_lt, nat_le, if◌then◌else◌}
 use Rattle.std.specs.Prelude.{List, [], ◌∷◌, length, Option, Some, None, Result, Ok, Err}
 use Rattle.std.specs.Option.{option_map, option_or}
 use Rattle.access_states.specs.AccessMap.{AccessMapValue, group_access}
@@ -19,7 +19,7 @@ use Rattle.scsi_types.specs.Sense.{saving_parameters_not_supported, parameter_li
 use Rattle.scsi_types.specs.declared.attention.UnitAttention.{UnitAttention}
 use Rattle.scsi_types.specs.declared.command.Op.{Op}
 use Rattle.scsi_types.specs.declared.command.Command.{Command}
-use Rattle.scsi_types.specs.declared.command.Command.TheVariants.{ModeSense, PersistentReserveOut, SetTargetPortGroups}
+use Rattle.scsi_types.specs.declared.command.Command.TheVariants.{ModeSense}
 use Rattle.scsi_types.specs.declared.sense.Sense.{Sense}
 use Rattle.scsi_types.specs.declared.command.CdbFault.{CdbFault}
 use Rattle.scsi_types.specs.declared.command.CdbFault.TheVariants.{UnknownOpcode, BadField}
@@ -29,9 +29,10 @@ use Rattle.unit_state.specs.declared.refusal.Refusal.TheVariants.{Attention, Con
 use Rattle.unit_state.specs.State.{ControlValue}
 use Rattle.unit_state.specs.Sessions.{first_pending, sender_of, told}
 use Rattle.unit_state.specs.Groups.{set_by}
-use Rattle.unit_state.specs.Ops.{kind_asked, access_of, passes_attention}
-use Rattle.unit_state.specs.declared.reserve.TheConstants.{LIST_LENGTH}
-use Rattle.unit_state.specs.Medium.{Range, range_of, work_asked}
+use Rattle.unit_state.specs.Ops.{ParameterList, NoList, ReserveList, GroupsList, kind_asked, list_asked}
+use Rattle.unit_state.specs.Ops.{access_of, passes_attention}
+use Rattle.unit_state.specs.Limits.{reserve_list_length}
+use Rattle.unit_state.specs.Medium.{Range, is_too_long, range_of, work_asked, work_of}
 
 -- a command as the rules judge it: who sent it, what it asks, and the data that came
 pub record Request : Type 0 where
@@ -102,10 +103,10 @@ conflict_by false = Some Conflict
 abbrev pub conflict_rule : Rule
 conflict_rule c r = conflict_by (is_let c (sender_of c.sessions r.session) (access_of (kind_asked r.asked)))
 
--- a field of the CDB is bad, or less data came than the command needs
+-- a field of the CDB is bad, such as more blocks than the command may have, or less data came than it needs
 abbrev pub field_by : Result Command CdbFault → List ℕ → Option Refusal
 field_by (Ok command) bytes =
-    if nat_lt (length bytes) (need_of (Ok command)) then Some (Check invalid_field_in_cdb) else None
+    if nat_lt (length bytes) (need_of (Ok command)) || is_too_long (work_of command bytes) then Some (Check invalid_field_in_cdb) else None
 field_by (Err (BadField op)) bytes = Some (Check invalid_field_in_cdb)
 field_by (Err UnknownOpcode) bytes = None
 
@@ -133,17 +134,20 @@ range_rule c r = range_by c.total (range_of (work_asked r.asked r.bytes))
 
 -- the parameter list of PERSISTENT RESERVE OUT has 24 bytes (SPC-4, 6.16.1)
 abbrev pub reserve_list_by : ℕ → Option Refusal
-reserve_list_by list_length = if nat_eq list_length LIST_LENGTH then None else Some (Check parameter_list_length_error)
+reserve_list_by list_length = if nat_eq list_length reserve_list_length then None else Some (Check parameter_list_length_error)
 
 -- that of SET TARGET PORT GROUPS is one that the access states can follow (SPC-4, 6.45)
 abbrev pub groups_list_by : Result AccessMapValue AsetFault → Option Refusal
 groups_list_by (Ok new) = None
 groups_list_by (Err fault) = Some (Check (fault_sense fault))
 
+abbrev pub refused_list : ControlValue → ParameterList → List ℕ → Option Refusal
+refused_list c NoList bytes = None
+refused_list c (ReserveList list_length) bytes = reserve_list_by list_length
+refused_list c (GroupsList list_length) bytes = groups_list_by (set_by c list_length bytes)
+
 abbrev pub list_by : ControlValue → Result Command CdbFault → List ℕ → Option Refusal
-list_by c (Ok (PersistentReserveOut action scope kind list_length)) bytes = reserve_list_by list_length
-list_by c (Ok (SetTargetPortGroups list_length)) bytes = groups_list_by (set_by c list_length bytes)
-list_by c asked bytes = None
+list_by c asked bytes = refused_list c (list_asked asked) bytes
 
 abbrev pub list_rule : Rule
 list_rule c r = list_by c r.asked r.bytes

@@ -5,8 +5,7 @@ use Rattle.std.specs.Prelude.{map, length, slice_index, All, Contains, Option, S
 use Rattle.byteorder.specs.Endian.{big_number}
 use Rattle.attentions.specs.Queue.{established}
 use Rattle.reservations.specs.declared.request.PrOut.{PrOut}
-use Rattle.reservations.specs.declared.request.Told.{Told}
-use Rattle.reservations.specs.Notice.{code_told}
+use Rattle.reservations.specs.Notice.{Told, code_told}
 use Rattle.reservations.specs.Reading.{keys_bytes, reservation_bytes, capabilities_bytes, full_status_bytes}
 use Rattle.reservations.specs.Registry.{RecordValue, RegistryValue, to_last}
 use Rattle.reservations.specs.Rows.{Effect, Done, Conflicting, Refused, Full}
@@ -15,15 +14,15 @@ use Rattle.scsi_types.specs.ReplyValue.{ReplyValue, good, check, conflict}
 use Rattle.scsi_types.specs.Sense.{sense, insufficient_registration_resources}
 use Rattle.scsi_types.specs.declared.attention.UnitAttention.{UnitAttention}
 use Rattle.scsi_types.specs.declared.command.Command.{Command}
-use Rattle.scsi_types.specs.declared.command.Command.TheVariants.{PersistentReserveOut, SetTargetPortGroups}
 use Rattle.scsi_types.specs.declared.reservation.PrInAction.{PrInAction}
 use Rattle.scsi_types.specs.declared.reservation.PrInAction.TheVariants.{ReadKeys, ReadReservation, ReportCapabilities, ReadFullStatus}
 use Rattle.scsi_types.specs.declared.reservation.PrOutAction.{PrOutAction}
-use Rattle.unit_state.specs.declared.reserve.TheConstants.{ALL_TG_PT, APTPL, LIST_LENGTH, SPEC_I_PT}
+use Rattle.unit_state.specs.Limits.{all_tg_pt_flag, aptpl_flag, reserve_list_length, spec_i_pt_flag}
 use Rattle.unit_state.specs.declared.sessions.Attached.{Attached}
 use Rattle.unit_state.specs.Groups.{IsTaken, set_by}
-use Rattle.unit_state.specs.Choice.{Choice, SaveFailed}
-use Rattle.unit_state.specs.Medium.{Finding, SaveError, reply_by}
+use Rattle.unit_state.specs.Choice.{Choice, Fine, ReadFailed, WriteFailed, OpenFailed, SaveFailed}
+use Rattle.unit_state.specs.Medium.{Finding, Done as Found, Differs, ReadError, WriteError, OpenError, SaveError, reply_by}
+use Rattle.unit_state.specs.Ops.{ParameterList, NoList, ReserveList, GroupsList, list_of}
 use Rattle.unit_state.specs.State.{ControlValue}
 use Rattle.unit_state.specs.Sessions.{nexus_of, sender_of}
 
@@ -42,16 +41,19 @@ pr_out action scope kind list =
       kind = kind;
       key = big_number 8 list;
       sakey = big_number 8 (drop 8 list);
-      spec_i_pt = flag_of SPEC_I_PT list;
-      all_tg_pt = flag_of ALL_TG_PT list;
-      aptpl = flag_of APTPL list;
+      spec_i_pt = flag_of spec_i_pt_flag list;
+      all_tg_pt = flag_of all_tg_pt_flag list;
+      aptpl = flag_of aptpl_flag list;
     }
 
 -- the list of the command came whole, and is one that is taken
+abbrev pub IsWhole : ControlValue → ParameterList → List ℕ → Type 0
+IsWhole c NoList bytes = Unit {0}
+IsWhole c (ReserveList list_length) bytes = reserve_list_length ≤ length bytes
+IsWhole c (GroupsList list_length) bytes = IsTaken (set_by c list_length bytes)
+
 abbrev pub HasList : ControlValue → Command → List ℕ → Type 0
-HasList c (PersistentReserveOut action scope kind list_length) bytes = LIST_LENGTH ≤ length bytes
-HasList c (SetTargetPortGroups list_length) bytes = IsTaken (set_by c list_length bytes)
-HasList c command bytes = Unit {0}
+HasList c command bytes = IsWhole c (list_of command) bytes
 
 -- ---- what it does
 
@@ -103,11 +105,18 @@ MayFailToSave c Full after = ⊥
 -- the record is saved first
 abbrev pub after_saved : ControlValue → Effect → Choice → ControlValue
 after_saved c effect (SaveFailed after) = record c { lasting = after; doubt = true }
-after_saved c effect choice = after_effect c effect
+after_saved c effect Fine = after_effect c effect
+after_saved c effect ReadFailed = after_effect c effect
+after_saved c effect (WriteFailed after) = after_effect c effect
+after_saved c effect OpenFailed = after_effect c effect
 
 abbrev pub saved_reply : Effect → Finding → ReplyValue
 saved_reply effect SaveError = reply_by SaveError
-saved_reply effect finding = effect_reply effect
+saved_reply effect (Found bytes) = effect_reply effect
+saved_reply effect (Differs at) = effect_reply effect
+saved_reply effect ReadError = effect_reply effect
+saved_reply effect WriteError = effect_reply effect
+saved_reply effect OpenError = effect_reply effect
 
 -- ---- the data of PERSISTENT RESERVE IN (SPC-4, 6.15)
 

@@ -1,5 +1,5 @@
 -- Where a command goes, and what lets it through.
-use Rattle.std.specs.Prelude.{◌≡◌, ◌≢◌, ℕ, List, Some, None, Ok}
+use Rattle.std.specs.Prelude.{◌≡◌, ◌≢◌, ℕ, ◌≤◌, List, Some, None, Ok}
 use Rattle.access_states.specs.AccessMap.{owner_of}
 use Rattle.reservations.specs.Registry.{RecordValue}
 use Rattle.scsi_types.specs.declared.names.Group.{Group}
@@ -15,13 +15,13 @@ use Rattle.unit_state.specs.Refusal.{Request, refusal, refusal_reply}
 use Rattle.unit_state.specs.Entry.{IsNext}
 use Rattle.unit_state.specs.Reserve.{HasList}
 
--- to nobody, to the owner, or to the unit
+-- to nobody, to the owner, or to the unit: no serial passes the count of entries
 abbrev pub IsRouteOf : ControlValue → ℕ → ℕ → Group → Route → Type 0
 IsRouteOf c session serial by Gone = IsNext c session serial → ⊥
 IsRouteOf c session serial by (Moved owner) =
     IsNext c session serial × (by ≢ owner_of c.access) × (owner ≡ owner_of c.access)
 IsRouteOf c session serial by (At at) = IsNext c session serial × (by ≡ owner_of c.access)
-    × IsPlaceOf c.sessions session at
+    × IsPlaceOf c.sessions session at × (serial ≤ c.count)
 
 -- no rule refuses the command
 pub record IsAdmitted (c : ControlValue) (r : Request) (command : Command) : Type 0 where

@@ -10,18 +10,18 @@ use Rattle.unit_state.specs.Reserve.{MayFailToSave, after_effect, effect_reply}
 use Rattle.unit_state.specs.State.{ControlValue}
 
 -- the records of which a crash leaves one: the record to last, and one that may have landed
-abbrev pub landed_by : LastSave → List RecordValue
-landed_by Done = []
-landed_by Failed = []
-landed_by (Undecided landed) = landed ∷ []
+abbrev pub landed_by : LastSave → RegistryValue → List RecordValue
+landed_by Done landed = []
+landed_by Failed landed = []
+landed_by Undecided landed = to_last landed ∷ []
 
-abbrev pub records_left : RegistryValue → LastSave → List RecordValue
-records_left registry save = to_last registry ∷ landed_by save
+abbrev pub records_left : RegistryValue → LastSave → RegistryValue → List RecordValue
+records_left registry save landed = to_last registry ∷ landed_by save landed
 
 abbrev pub is_doubtful : LastSave → Bool
 is_doubtful Done = false
 is_doubtful Failed = true
-is_doubtful (Undecided landed) = true
+is_doubtful Undecided = true
 
 -- the save failed, of which a crash leaves one of these records
 abbrev pub with_doubt : ControlValue → List RecordValue → ControlValue

@@ -48,6 +48,12 @@ nexus_in (Some a) = nexus_of a
 abbrev pub sender_of : List Attached → ℕ → Nexus
 sender_of sessions id = nexus_in (session_of sessions id)
 
+-- the nexus of the session that attached last
+abbrev pub last_nexus : List Attached → Nexus
+last_nexus [] = nexus_in None
+last_nexus (a ∷ []) = nexus_of a
+last_nexus (a ∷ b ∷ rest) = last_nexus (b ∷ rest)
+
 -- no serial passes the count of entries, and the port is one as iSCSI names it
 pub record IsFit (count : ℕ) (a : Attached) : Type 0 where
   pub next : a.next ≤ count

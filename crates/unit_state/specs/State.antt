@@ -58,17 +58,17 @@ opening place total blocks lasted = record { control = opening_control place tot
 
 -- What contracts see of a unit: its devices as they are, and the rest of its state. The opener opens the device for the
 -- controller that takes it over; what is to outlast a loss of power is saved in the registration file.
-pub record UnitValue (B O R : Type 0) : Type 0 where
+pub record UnitValue (B R O : Type 0) : Type 0 where
   pub device : B
   pub opener : O
   pub file : FileValue R
   pub control : ControlValue
 
 -- the state of a unit whose device has these contents
-abbrev pub state_of : {B O R : Type 0} → (B → List (List ℕ)) → UnitValue B O R → UnitState
+abbrev pub state_of : {B R O : Type 0} → (B → List (List ℕ)) → UnitValue B R O → UnitState
 state_of contents u = record { control = u.control; blocks = contents u.device }
 
 -- how often one of its devices has failed: what is counted as a failure is named here alone
-abbrev pub failures_of : {B O R : Type 0} → (B → ℕ) → (O → ℕ) → (R → ℕ) → UnitValue B O R → ℕ
+abbrev pub failures_of : {B R O : Type 0} → (B → ℕ) → (O → ℕ) → (R → ℕ) → UnitValue B R O → ℕ
 failures_of failures opens_failed file_failures u =
     failures u.device + opens_failed u.opener + file_failures u.file.device

@@ -10,6 +10,8 @@ use Rattle.unit_state.specs.declared.refusal.Refusal.{Refusal}
 use Rattle.unit_state.specs.State.{ControlValue, UnitState}
 use Rattle.unit_state.specs.Choice.{choice_of}
 use Rattle.unit_state.specs.Groups.{is_opening}
+use Rattle.unit_state.specs.Medium.{is_medium, work_asked}
+use Rattle.unit_state.specs.Ops.{ParameterList, NoList, ReserveList, GroupsList, list_asked}
 use Rattle.unit_state.specs.Refusal.{Request, refusal}
 use Rattle.unit_state.specs.Entry.{Entry, Command, IsNext, IsPossible, IsReplyTo, control_after, blocks_after}
 use Rattle.unit_state.specs.declared.unit.StepEnd.{StepEnd}
@@ -45,14 +47,32 @@ is_describing commands.ReadCapacity10 = true
 is_describing (commands.ReadCapacity16 allocation) = true
 is_describing (commands.PersistentReserveIn action allocation) = true
 is_describing (commands.ReportTargetPortGroups allocation) = true
-is_describing command = false
+is_describing commands.TestUnitReady = false
+is_describing (commands.RequestSense allocation) = false
+is_describing (commands.Read lba blocks fua) = false
+is_describing (commands.Write lba blocks fua) = false
+is_describing (commands.CompareAndWrite lba blocks fua) = false
+is_describing (commands.SynchronizeCache lba blocks) = false
+is_describing (commands.PersistentReserveOut action scope kind list_length) = false
+is_describing (commands.SetTargetPortGroups list_length) = false
 
--- a command takes memory for the data of its reply, and PERSISTENT RESERVE OUT for registrants and for who is told
+-- a command takes memory for the data of its reply, and none for anything else: nothing that fences can lack it
 abbrev pub takes_memory : ScsiCommand → Bool
-takes_memory (commands.Read lba blocks fua) = true
+takes_memory commands.TestUnitReady = false
 takes_memory (commands.RequestSense allocation) = true
-takes_memory (commands.PersistentReserveOut action scope kind list_length) = true
-takes_memory command = is_describing command
+takes_memory (commands.Inquiry page allocation) = true
+takes_memory (commands.ModeSense header control page allocation) = true
+takes_memory commands.ReadCapacity10 = true
+takes_memory (commands.ReadCapacity16 allocation) = true
+takes_memory (commands.Read lba blocks fua) = true
+takes_memory (commands.Write lba blocks fua) = false
+takes_memory (commands.CompareAndWrite lba blocks fua) = false
+takes_memory (commands.SynchronizeCache lba blocks) = false
+takes_memory (commands.PersistentReserveIn action allocation) = true
+takes_memory (commands.PersistentReserveOut action scope kind list_length) = false
+takes_memory (commands.ReportLuns select allocation) = true
+takes_memory (commands.ReportTargetPortGroups allocation) = true
+takes_memory (commands.SetTargetPortGroups list_length) = false
 
 abbrev pub MayTake : Result ScsiCommand CdbFault → Type 0
 MayTake (Ok command) = IsTrue (takes_memory command)
@@ -85,9 +105,13 @@ abbrev pub asks_opener : ControlValue → Request → Bool
 asks_opener c r = opens_with (refusal c r) c r
 
 -- the registration file is asked: no rule refuses the command, and it is a PERSISTENT RESERVE OUT
+abbrev pub is_reserve_list : ParameterList → Bool
+is_reserve_list NoList = false
+is_reserve_list (ReserveList list_length) = true
+is_reserve_list (GroupsList list_length) = false
+
 abbrev pub is_reserving : Result ScsiCommand CdbFault → Bool
-is_reserving (Ok (commands.PersistentReserveOut action scope kind list_length)) = true
-is_reserving asked = false
+is_reserving asked = is_reserve_list (list_asked asked)
 
 abbrev pub saves_with : Option Refusal → Request → Bool
 saves_with (Some refused) r = false
@@ -95,6 +119,14 @@ saves_with None r = is_reserving r.asked
 
 abbrev pub asks_file : ControlValue → Request → Bool
 asks_file c r = saves_with (refusal c r) r
+
+-- the medium is worked on: no rule refuses the command, and it is one that reads, writes, compares or flushes
+abbrev pub works_with : Option Refusal → Request → Bool
+works_with (Some refused) r = false
+works_with None r = is_medium (work_asked r.asked r.bytes)
+
+abbrev pub asks_medium : ControlValue → Request → Bool
+asks_medium c r = works_with (refusal c r) r
 
 -- a command that a rule refuses does not reach the device
 abbrev pub OnRefusal : Option Refusal → Type 0 → Type 0

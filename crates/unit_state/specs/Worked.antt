@@ -24,3 +24,11 @@ finding_at ends.FlushFailed bytes = WriteError
 -- a device did this work, which ended so
 abbrev pub IsWorked : Bool → List (List ℕ) → List (List ℕ) → Work → MediumEnd → List ℕ → Type 0
 IsWorked claims old new work end bytes = IsDone claims old new work (choice_at end new) (finding_at end bytes)
+
+-- where the range was to be read, whether it could be or not
+abbrev pub OnReading : MediumEnd → Type 0 → Type 0
+OnReading ends.Done P = P
+OnReading (ends.Miscompare at) P = Unit {0}
+OnReading ends.ReadFailed P = P
+OnReading ends.WriteFailed P = Unit {0}
+OnReading ends.FlushFailed P = Unit {0}

@@ -1,9 +1,11 @@
 //! What a command is answered.
-ghost use Rattle.std.specs.Prelude.{◌≡◌, ◌+◌, ◌&&◌, ℕ, List, [], false, true, Bool, IsTrue, IfOk, OnErr, Ok, length};
+ghost use Rattle.std.specs.Prelude.{◌≡◌, ◌≢◌, ◌+◌, ◌&&◌, ℕ, List, [], false, true, Bool, IsTrue, IfOk, OnErr, Ok, length};
 ghost use Rattle.block_file.specs.Failures.{Tells};
 ghost use Rattle.unit_state.specs.Answer.{IsAnswer, IsServed, Lasts};
+ghost use Rattle.access_states.specs.AccessMap.{owner_of};
 ghost use Rattle.unit_state.specs.Choice.{IsFine, choice_of};
-ghost use Rattle.unit_state.specs.Medium.{Done, Fits, reply_by, work_of, work_asked};
+ghost use Rattle.unit_state.specs.Counts.{AreCounted, counters};
+ghost use Rattle.unit_state.specs.Medium.{Done, Fits, is_medium, reply_by, work_of, work_asked};
 ghost use Rattle.identity.specs.SenseData.{told_sense};
 ghost use Rattle.identity.specs.Table.{cut};
 ghost use Rattle.scsi_types.specs.Sense.{sense_bytes};
@@ -17,7 +19,7 @@ ghost use Rattle.unit_state.specs.Sessions.{first_pending};
 ghost use Rattle.unit_state.specs.Places.{IsPlaceOf, Stays};
 ghost use Rattle.unit_state.specs.Refusal.{refusal, refusal_control, request, tell};
 ghost use Rattle.unit_state.specs.State.{unit_of};
-ghost use Rattle.unit_state.specs.Step.{MayTake, OnRefusal, asks_file, asks_opener, is_describing};
+ghost use Rattle.unit_state.specs.Step.{MayTake, OnRefusal, asks_file, asks_medium, asks_opener, is_describing};
 ghost use Rattle.unit_state.specs.Step.{is_reserving, TakesMemory};
 ghost use Rattle.unit_state.specs.Worked.{finding_at};
 
@@ -35,15 +37,17 @@ use compare_write::MediumEnd;
 use identity::{
     inquiry, mode_sense, read_capacity_10, read_capacity_16, report_luns, request_sense,
 };
+use reservations::Registry;
 use scsi_types::{Asked, Command, NoMemory, Reply, Sense};
 use std::alloc::Global;
 
 /// Answers a command: the refusal of the first rule that applies, else what the command returns. Memory is taken for
-/// the data of a reply and for a PERSISTENT RESERVE OUT alone, before anything changes.
+/// the data of a reply alone, before anything changes.
 pub fn answer<B: Blocks, O: Opener<B>, R: Blocks>(
     device: &mut B,
     opener: &mut O,
     file: &mut RegFile<R>,
+    made: &mut Registry,
     control: &mut Control,
     alloc: Global,
     sender: Sender,
@@ -64,9 +68,18 @@ pub fn answer<B: Blocks, O: Opener<B>, R: Blocks>(
         (request sender.session asked bytes.now)) }
     ensures unreached { OnRefusal (refusal control.old (request sender.session asked bytes.now))
         (device.new ≡ device.old) }
+    ensures idle { asks_medium control.old (request sender.session asked bytes.now) ≡ false
+        → asks_opener control.old (request sender.session asked bytes.now) ≡ false → device.new ≡ device.old }
     ensures unopened { asks_opener control.old (request sender.session asked bytes.now) ≡ false
         → opener.new ≡ opener.old }
     ensures unsaved { asks_file control.old (request sender.session asked bytes.now) ≡ false → file.new ≡ file.old }
+    ensures counted { IfOk result (λ reply. AreCounted
+        (counters (B.reads_failed device.old) (B.writes_failed device.old) (O.opens_failed opener.old)
+        (R.failures file.old.device))
+        (counters (B.reads_failed device.new) (B.writes_failed device.new) (O.opens_failed opener.new)
+        (R.failures file.new.device))
+        (choice_of reply (B.contents device.new) control.new.lasting)) }
+    ensures opened { owner_of control.new.access ≢ owner_of control.old.access → O.opened device.old device.new }
     ensures fine { IfOk result (λ reply. Tells
         (B.failures device.old + O.opens_failed opener.old + R.failures file.old.device)
         (B.failures device.new + O.opens_failed opener.new + R.failures file.new.device)
@@ -81,13 +94,16 @@ pub fn answer<B: Blocks, O: Opener<B>, R: Blocks>(
             return Ok(refusal.reply(alloc));
         }
     };
-    serve(device, opener, file, control, alloc, sender, command, bytes)
+    serve(
+        device, opener, file, made, control, alloc, sender, command, bytes,
+    )
 }
 
 /// What telling a refusal changes.
 fn refuse(control: &mut Control, sender: Sender, refusal: Refusal)
     requires { IsPlaceOf control.old.sessions sender.session sender.at }
     ensures told { control.new ≡ refusal_control control.old sender.session refusal }
+    ensures access { control.new.access ≡ control.old.access }
     ensures lasting { control.new.lasting ≡ control.old.lasting }
     ensures stays { Stays control.old control.new sender.session sender.at }
 {
@@ -102,6 +118,7 @@ fn serve<B: Blocks, O: Opener<B>, R: Blocks>(
     device: &mut B,
     opener: &mut O,
     file: &mut RegFile<R>,
+    made: &mut Registry,
     control: &mut Control,
     alloc: Global,
     sender: Sender,
@@ -120,8 +137,17 @@ fn serve<B: Blocks, O: Opener<B>, R: Blocks>(
     ensures memory { OnErr result (MayTake (Ok command)) }
     ensures served { IfOk result (IsServed (O.claims && B.claims) (unit_of control.old (B.contents device.old))
         (unit_of control.new (B.contents device.new)) sender.session command bytes.now) }
+    ensures idle { is_medium (work_of command bytes.now) ≡ false → is_opening control.old (Ok command) bytes.now ≡ false
+        → device.new ≡ device.old }
     ensures unopened { is_opening control.old (Ok command) bytes.now ≡ false → opener.new ≡ opener.old }
     ensures unsaved { is_reserving (Ok command) ≡ false → file.new ≡ file.old }
+    ensures counted { IfOk result (λ reply. AreCounted
+        (counters (B.reads_failed device.old) (B.writes_failed device.old) (O.opens_failed opener.old)
+        (R.failures file.old.device))
+        (counters (B.reads_failed device.new) (B.writes_failed device.new) (O.opens_failed opener.new)
+        (R.failures file.new.device))
+        (choice_of reply (B.contents device.new) control.new.lasting)) }
+    ensures opened { owner_of control.new.access ≢ owner_of control.old.access → O.opened device.old device.new }
     ensures fine { IfOk result (λ reply. Tells
         (B.failures device.old + O.opens_failed opener.old + R.failures file.old.device)
         (B.failures device.new + O.opens_failed opener.new + R.failures file.new.device)
@@ -144,14 +170,29 @@ fn serve<B: Blocks, O: Opener<B>, R: Blocks>(
             scope,
             kind,
             ..
-        } => reserve(
+        } => Ok(reserve(
             file,
             control,
+            made,
             alloc,
             sender,
             pr_out(action, scope, kind, bytes),
-        ),
-        other => perform(device, control, alloc, sender, other, bytes),
+        )),
+        Command::TestUnitReady
+        | Command::RequestSense { .. }
+        | Command::Read { .. }
+        | Command::Write { .. }
+        | Command::CompareAndWrite { .. }
+        | Command::SynchronizeCache { .. }
+        | Command::Inquiry { .. }
+        | Command::ModeSense { .. }
+        | Command::ReportLuns { .. }
+        | Command::PersistentReserveIn { .. }
+        | Command::ReportTargetPortGroups { .. }
+        | Command::ReadCapacity10
+        | Command::ReadCapacity16 { .. } => {
+            perform(device, control, alloc, sender, command, bytes)
+        }
     }
 }
 
@@ -173,9 +214,15 @@ fn perform<B: Blocks>(
     ensures lasting { control.new.lasting ≡ control.old.lasting }
     ensures stays { Stays control.old control.new sender.session sender.at }
     ensures err { OnErr result ((device.new ≡ device.old) × (control.new ≡ control.old)) }
+    ensures idle { is_medium (work_of command bytes.now) ≡ false → device.new ≡ device.old }
     ensures memory { OnErr result (MayTake (Ok command)) }
     ensures served { IfOk result (IsServed B.claims (unit_of control.old (B.contents device.old))
         (unit_of control.new (B.contents device.new)) sender.session command bytes.now) }
+    ensures access { control.new.access ≡ control.old.access }
+    ensures counted { (opens saves : ℕ) → IfOk result (λ reply. AreCounted
+        (counters (B.reads_failed device.old) (B.writes_failed device.old) opens saves)
+        (counters (B.reads_failed device.new) (B.writes_failed device.new) opens saves)
+        (choice_of reply (B.contents device.new) control.new.lasting)) }
     ensures fine { IfOk result (λ reply. Tells (B.failures device.old) (B.failures device.new)
         (IsFine (choice_of reply (B.contents device.new) control.new.lasting))) }
     ensures lasts { IsTrue B.claims → IfOk result (Lasts (B.contents device.new) (B.may_hold device.new)
@@ -203,7 +250,18 @@ fn perform<B: Blocks>(
             let end = flush(device);
             Ok(medium_reply(alloc, end, Vec::new(alloc)))
         }
-        other => Ok(Reply::good(describe(control, alloc, sender, other)?)),
+        Command::Inquiry { .. }
+        | Command::ModeSense { .. }
+        | Command::ReportLuns { .. }
+        | Command::PersistentReserveIn { .. }
+        | Command::ReportTargetPortGroups { .. }
+        | Command::ReadCapacity10
+        | Command::ReadCapacity16 { .. } => {
+            Ok(Reply::good(describe(control, alloc, sender, command)?))
+        }
+        Command::PersistentReserveOut { .. } | Command::SetTargetPortGroups { .. } => {
+            unreachable!()
+        }
     }
 }
 
@@ -218,6 +276,7 @@ fn sense(
     ensures sense { IfOk result (λ v. v.items ≡ cut allocation
         (sense_bytes (told_sense (first_pending control.old.sessions sender.session)))) }
     ensures told { IfOk result (λ v. control.new ≡ tell control.old sender.session) }
+    ensures access { control.new.access ≡ control.old.access }
     ensures lasting { control.new.lasting ≡ control.old.lasting }
     ensures stays { Stays control.old control.new sender.session sender.at }
     ensures err { OnErr result (control.new ≡ control.old) }
@@ -269,7 +328,14 @@ fn describe(
         Command::ReadCapacity16 { allocation } => {
             read_capacity_16(alloc, control.total(), allocation)
         }
-        _ => Ok(Vec::new(alloc)),
+        Command::TestUnitReady
+        | Command::RequestSense { .. }
+        | Command::Read { .. }
+        | Command::Write { .. }
+        | Command::CompareAndWrite { .. }
+        | Command::SynchronizeCache { .. }
+        | Command::PersistentReserveOut { .. }
+        | Command::SetTargetPortGroups { .. } => Ok(Vec::new(alloc)),
     }
 }
 

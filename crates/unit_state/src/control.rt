@@ -1,10 +1,11 @@
 //! All of a unit but its devices.
 ghost use Rattle.std.specs.Prelude.{◌≡◌, ◌+◌, ℕ, ◌<◌, ◌≤◌, ◌↔◌, length, [], ◌∷◌, true, false, IfNone, IfOk};
-ghost use Rattle.std.specs.Prelude.{IfSome, OnErr, IsErr, IsTrue};
+ghost use Rattle.std.specs.Prelude.{OnErr, IsErr, IsFalse, IsTrue};
 ghost use Rattle.unit_state.specs.Places.{IsPlaceOf};
 ghost use Rattle.unit_state.specs.State.{preferred};
 
 use crate::records::{LastSave, same_record};
+use crate::row::Row;
 use crate::sessions::{
     Attached, MOST_SESSIONS, Sender, SessionId, end, hear_all, hear_change_all, pass_at, place_of,
     replace, reset, staying, tell_at,
@@ -12,10 +13,11 @@ use crate::sessions::{
 use access_states::AccessMap;
 use aptpl_file::SaveFault;
 use attentions::Pending;
-use reservations::{Access, PrEnd, PrOut, Record, Registry, Told};
+use reservations::{Access, PrEnd, PrOut, Record, Registry, Telling};
 use scsi_types::{Group, NoMemory, Place, PortName, UnitAttention};
 use std::alloc::Global;
 use std::marker::Model;
+use std::mem;
 use thiserror::Error;
 
 /// The last count of entries: there no entry joins.
@@ -54,6 +56,8 @@ pub struct Control {
     access: AccessMap,
     registry: Registry,
     save: LastSave,
+    // What was being saved, where that is undecided; else room for it.
+    landed: Registry,
     sessions: Vec<Attached>,
     count: u64,
 }
@@ -71,7 +75,7 @@ impl Model for Control {
       total = u.total;
       access = u.access;
       registry = u.registry;
-      lasting = records_left u.registry u.save;
+      lasting = records_left u.registry u.save u.landed;
       doubt = is_doubtful u.save;
       sessions = u.sessions.items;
       count = u.count;
@@ -90,12 +94,14 @@ impl Control {
     ghost use Rattle.unit_state.specs.Refusal.{is_let, tell};
     ghost use Rattle.aptpl_file.specs.Lasts.{left_by};
     ghost use Rattle.reservations.specs.Nexus.{IsPortName};
+    ghost use Rattle.reservations.specs.Notice.{tellings};
     ghost use Rattle.reservations.specs.Registry.{to_last};
     ghost use Rattle.reservations.specs.Rows.{Done};
     ghost use Rattle.reservations.specs.Table.{IsAnswer};
     ghost use Rattle.unit_state.specs.Reserve.{after_effect, effect_by};
     ghost use Rattle.unit_state.specs.Saving.{with_doubt};
     ghost use Rattle.unit_state.specs.Route.{IsRouteOf};
+    ghost use Rattle.unit_state.specs.Row.{row_of};
     ghost use Rattle.unit_state.specs.Sessions.{first_pending, sender_of};
 
     /// As a unit of so many blocks opens: its preferred group owns it, what lasted is registered, and no session is
@@ -105,12 +111,14 @@ impl Control {
     {
         let sessions = Vec::with_capacity(alloc, MOST_SESSIONS)?;
         let registry = Registry::from_record(alloc, lasted)?;
+        let landed = Registry::new(alloc)?;
         Ok(Control {
             place,
             total,
             access: AccessMap::opening(preferred(place.unit)),
             registry,
             save: LastSave::Done,
+            landed,
             sessions,
             count: 0,
         })
@@ -121,6 +129,7 @@ impl Control {
     pub fn attach(&mut self, port: PortName, group: Group) -> Result<SessionId, AttachFault>
         requires { IsPortName port }
         ensures room { IsErr result ↔ (HasRoom self.old (record { port = port; group = group }) → ⊥) }
+        ensures had { IfOk result (λ id. HasRoom self.old (record { port = port; group = group })) }
         ensures id { IfOk result (λ id. id ≡ self.old.count) }
         ensures after { IfOk result (λ id. self.new
             ≡ control_after self.old (Attach (record { port = port; group = group }))) }
@@ -151,6 +160,7 @@ impl Control {
     /// Ends a session. Takes no memory.
     pub fn detach(&mut self, session: SessionId) -> Result<(), Gone>
         ensures gone { IsErr result ↔ (IsAttached self.old session → ⊥) }
+        ensures was { IfOk result (λ done. IsAttached self.old session) }
         ensures after { IfOk result (λ done. self.new ≡ control_after self.old (Detach session)) }
         ensures total { self.new.total ≡ self.old.total }
         ensures lasting { self.new.lasting ≡ self.old.lasting }
@@ -165,6 +175,7 @@ impl Control {
     /// Tells every other session of a reset that this session asked for. Takes no memory.
     pub fn reset(&mut self, session: SessionId) -> Result<(), Gone>
         ensures gone { IsErr result ↔ (IsAttached self.old session → ⊥) }
+        ensures was { IfOk result (λ done. IsAttached self.old session) }
         ensures after { IfOk result (λ done. self.new ≡ control_after self.old (Reset session)) }
         ensures total { self.new.total ≡ self.old.total }
         ensures lasting { self.new.lasting ≡ self.old.lasting }
@@ -180,6 +191,7 @@ impl Control {
     fn find(&self, session: SessionId) -> Result<usize, Gone>
         ensures gone { IsErr result ↔ (IsAttached self.now session → ⊥) }
         ensures place { IfOk result (IsPlaceOf self.now.sessions session) }
+        ensures attached { IfOk result (λ at. IsAttached self.now session) }
         ensures room { IfOk result (λ at. self.now.count < LAST_COUNT) }
     {
         let Some(at) = place_of(&self.sessions, session) else {
@@ -206,6 +218,23 @@ impl Control {
             return Route::Moved(owner);
         }
         Route::At(at)
+    }
+
+    /// What the status board shows of it.
+    pub fn row(&self) -> Row
+        ensures { result ≡ row_of self.now }
+    {
+        Row {
+            entries: self.count,
+            owner: self.access.owner(),
+            states: [self.access.state(Group::One), self.access.state(Group::Two)],
+            generation: self.registry.generation(),
+            registrants: self.registry.registrant_count(),
+            kind: match self.registry.reserved_type() {
+                None => 0,
+                Some(kind) => kind.code(),
+            },
+        }
     }
 
     /// The place of the unit.
@@ -285,58 +314,58 @@ impl Control {
         tell_at(&mut self.sessions, sender.at);
     }
 
-    /// What a PERSISTENT RESERVE OUT of a session makes of a copy of the registry.
-    pub fn attempt(&self, sender: Sender, asked: PrOut) -> Result<(Registry, PrEnd), NoMemory>
+    /// What a PERSISTENT RESERVE OUT of a session makes of the registry, in a registry of its own. Takes no memory.
+    pub fn attempt(&self, made: &mut Registry, sender: Sender, asked: PrOut) -> PrEnd
         requires { IsPlaceOf self.now.sessions sender.session sender.at }
-        ensures { IfOk result (λ r. IsAnswer r.1 (effect_by self.now sender.session asked) self.now.registry r.0) }
+        ensures { IsAnswer result (effect_by self.now sender.session asked) self.now.registry made.new }
     {
         let attached = &self.sessions[sender.at];
-        let mut registry = self.registry.copy()?;
-        let end = registry.out(&attached.port, attached.group, asked);
-        Ok((registry, end))
+        made.set(&self.registry);
+        made.out(&attached.port, attached.group, asked)
     }
 
-    /// What is to be saved before such a registry is in force: its record to last; nothing where a crash leaves just that
-    /// already, and the last save did not fail.
-    pub fn to_save(&self, new: &Registry) -> Result<Option<Record>, NoMemory>
-        ensures some { IfOk result (λ o. IfSome o (λ saved. (saved ≡ to_last new.now)
-            × (self.now.lasting ≡ saved ∷ [] → self.now.doubt ≡ true))) }
-        ensures none { IfOk result (λ o. IfNone o ((self.now.lasting ≡ to_last new.now ∷ [])
-            × (self.now.doubt ≡ false))) }
+    /// Whether the record to last of such a registry is to be saved before it is in force: not where a crash leaves just
+    /// that already, and the last save did not fail.
+    pub fn is_to_save(&self, made: &Registry) -> bool
+        ensures needed { IsTrue result → self.now.lasting ≡ to_last made.now ∷ [] → self.now.doubt ≡ true }
+        ensures saved { IsFalse result → (self.now.lasting ≡ to_last made.now ∷ []) × (self.now.doubt ≡ false) }
     {
-        let saved = new.record()?;
-        let last = self.registry.record()?;
-        match &self.save {
-            LastSave::Done if same_record(&last, &saved) => Ok(None),
-            _ => Ok(Some(saved)),
+        match self.save {
+            LastSave::Done => !same_record(&self.registry.lasting(), &made.lasting()),
+            LastSave::Failed | LastSave::Undecided => true,
         }
     }
 
-    /// A save of this record has failed.
-    pub fn fail(&mut self, fault: SaveFault, saved: Record)
+    /// A save of the record to last of such a registry has failed. Takes no memory.
+    pub fn fail(&mut self, fault: SaveFault, made: &mut Registry)
         ensures ever { 0 < length self.old.lasting }
-        ensures failed { self.new ≡ with_doubt self.old (left_by fault self.old.lasting saved) }
+        ensures failed { self.new ≡ with_doubt self.old (left_by fault self.old.lasting (to_last made.old)) }
         ensures stays { StaysAll self.old self.new }
     {
         match fault {
             SaveFault::OldRoot => {
-                if let LastSave::Done = self.save {
+                if self.save == LastSave::Done {
                     self.save = LastSave::Failed;
                 }
             }
             SaveFault::IdleSlot => self.save = LastSave::Failed,
-            SaveFault::NewRoot => self.save = LastSave::Undecided(saved),
+            SaveFault::NewRoot => {
+                mem::swap(&mut self.landed, made);
+                self.save = LastSave::Undecided;
+            }
         }
     }
 
-    /// Puts a registry in force, the record to last of which is what a crash leaves, and tells who is to hear of it.
-    pub fn settle(&mut self, registry: Registry, told: &[Told])
-        ensures settled { self.new ≡ after_effect self.old (Done registry told.now) }
+    /// Puts a registry in force, the record to last of which is what a crash leaves, and tells who is to hear of it. Takes
+    /// no memory.
+    pub fn settle(&mut self, made: &mut Registry, telling: &Telling)
+        ensures settled { self.new
+            ≡ after_effect self.old (Done made.old (tellings telling.now self.old.registry.registrants)) }
         ensures stays { StaysAll self.old self.new }
     {
-        self.registry = registry;
+        hear_all(&mut self.sessions, &self.registry, telling);
+        mem::swap(&mut self.registry, made);
         self.save = LastSave::Done;
-        hear_all(&mut self.sessions, told);
     }
 
     /// Puts these access states in the place of those that are there. Where the state of a group is another, every session

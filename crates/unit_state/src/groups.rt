@@ -1,8 +1,10 @@
 //! SET TARGET PORT GROUPS (SPC-4, 6.45), and what it shares with a move.
-ghost use Rattle.std.specs.Prelude.{◌≡◌, ◌+◌, ◌&&◌, false, true, length, Ok, OnOk, OnErr, IsTrue};
+ghost use Rattle.std.specs.Prelude.{◌≡◌, ◌≢◌, ◌+◌, ◌&&◌, ℕ, false, true, length, Ok, OnOk, OnErr, IsTrue};
 ghost use Rattle.block_file.specs.Failures.{Counts, Tells};
 ghost use Rattle.unit_state.specs.Answer.{IsServed};
+ghost use Rattle.access_states.specs.AccessMap.{owner_of};
 ghost use Rattle.unit_state.specs.Choice.{IsFine, choice_of};
+ghost use Rattle.unit_state.specs.Counts.{AreCounted, counters};
 ghost use Rattle.unit_state.specs.Groups.{IsTaken, is_moved, is_opening, set_by, with_access};
 ghost use Rattle.unit_state.specs.Places.{IsPlaceOf, StaysAll, Stays};
 ghost use Rattle.unit_state.specs.State.{unit_of};
@@ -40,7 +42,10 @@ pub fn change<B: Blocks, O: Opener<B>>(
     access: AccessMap,
 ) -> Result<(), DeviceFailed>
     ensures size { B.size device.new ≡ B.size device.old }
+    ensures opened { owner_of control.new.access ≢ owner_of control.old.access → O.opened device.old device.new }
     ensures device_failures { B.failures device.new ≡ B.failures device.old }
+    ensures failed_reads { B.reads_failed device.new ≡ B.reads_failed device.old }
+    ensures failed_writes { B.writes_failed device.new ≡ B.writes_failed device.old }
     ensures contents { IsTrue O.claims → B.contents device.new ≡ B.contents device.old }
     ensures changed { OnOk result (control.new ≡ with_access control.old by access) }
     ensures lasting { control.new.lasting ≡ control.old.lasting }
@@ -77,7 +82,16 @@ pub fn set_groups<B: Blocks, O: Opener<B>>(
         (unit_of control.new (B.contents device.new)) sender.session (SetTargetPortGroups list_length) bytes.now result }
     ensures unopened { is_opening control.old (Ok (SetTargetPortGroups list_length)) bytes.now ≡ false
         → opener.new ≡ opener.old }
+    ensures idle { is_opening control.old (Ok (SetTargetPortGroups list_length)) bytes.now ≡ false
+        → device.new ≡ device.old }
+    ensures opened { owner_of control.new.access ≢ owner_of control.old.access → O.opened device.old device.new }
     ensures device_failures { B.failures device.new ≡ B.failures device.old }
+    ensures failed_reads { B.reads_failed device.new ≡ B.reads_failed device.old }
+    ensures failed_writes { B.writes_failed device.new ≡ B.writes_failed device.old }
+    ensures counted { (saves : ℕ) → AreCounted
+        (counters (B.reads_failed device.old) (B.writes_failed device.old) (O.opens_failed opener.old) saves)
+        (counters (B.reads_failed device.new) (B.writes_failed device.new) (O.opens_failed opener.new) saves)
+        (choice_of result (B.contents device.new) control.new.lasting) }
     ensures fine { Tells (O.opens_failed opener.old) (O.opens_failed opener.new)
         (IsFine (choice_of result (B.contents device.new) control.new.lasting)) }
 {

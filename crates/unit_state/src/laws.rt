@@ -1,5 +1,5 @@
 //! What the model of a unit says, in a storage engineer's words.
-ghost use Rattle.std.specs.Prelude.{◌≡◌, ◌≢◌, IsSome, IsTrue, false, ◌*◌, ◌<◌, ◌↔◌, ℕ, Bool, true, List, [], ◌∷◌};
+ghost use Rattle.std.specs.Prelude.{◌≡◌, ◌≢◌, IsSome, IsTrue, false, ◌+◌, ◌*◌, ◌<◌, ◌≤◌, if◌then◌else◌, ◌↔◌, ℕ, Bool, true, List, [], ◌∷◌};
 ghost use Rattle.std.specs.Prelude.{◌++◌, length, take, Option, Some, None, Ok, Result};
 ghost use Rattle.scsi_types.specs.ReplyValue.{ReplyValue, check, conflict, good};
 ghost use Rattle.scsi_types.specs.declared.names.Group.{Group};
@@ -22,14 +22,17 @@ ghost use Rattle.scsi_types.specs.declared.command.Op.{Op};
 ghost use Rattle.scsi_types.specs.declared.sense.Sense.{Sense};
 ghost use Rattle.unit_state.specs.Refusal.{IsKeptOut, IsUnserved};
 ghost use Rattle.unit_state.specs.Reserve.{after_effect, effect_by};
-ghost use Rattle.unit_state.specs.Sessions.{session_of, first_pending, pending_of};
-ghost use Rattle.unit_state.specs.State.{ControlValue, UnitState};
+ghost use Rattle.unit_state.specs.Sessions.{session_of, first_pending, last_nexus, pending_of};
+ghost use Rattle.unit_state.specs.State.{ControlValue, UnitState, opening_control};
 ghost use Rattle.unit_state.specs.Choice.{Choice, Fine, OpenFailed, SaveFailed};
 ghost use Rattle.unit_state.specs.Groups.{is_any_changed, with_access};
 ghost use Rattle.unit_state.specs.Refusal.{refusal, request};
-ghost use Rattle.unit_state.specs.Entry.{Entry, Command, Detach, Reset, IsPossible, IsNext, after, blocks_after};
+ghost use Rattle.unit_state.specs.Entry.{Entry, Attach, Command, Detach, Reset, IsPossible, IsNext, after, blocks_after};
 ghost use Rattle.unit_state.specs.Entry.{control_after, pass, reply_to};
-ghost use Rattle.unit_state.specs.History.{state_after, IsLegal, IsReplyAt, reply_at};
+ghost use Rattle.unit_state.specs.History.{state_after, IsLegal, IsReplyAt, reply_at, failed_entries, has_failed};
+ghost use Rattle.unit_state.specs.Serials.{IsNumbered, IsOpening};
+ghost use Rattle.scsi_types.specs.Nexus.{Nexus};
+ghost use Rattle.scsi_types.specs.declared.names.Place.{Place};
 
 use reservations::the_sender_is_not_told;
 
@@ -45,6 +48,30 @@ pub fn one_entry_more()
         → reply_at s (history ++ entry ∷ []) (length history) ≡ reply_to (state_after s history) entry }
     ensures before { (s : UnitState) (history : List Entry) (entry : Entry) (i : ℕ) → i < length history
         → reply_at s (history ++ entry ∷ []) i ≡ reply_at s history i }
+{}
+
+/// At most as many entries tell of a failure as there are; with one entry more it is one more where that does.
+pub fn failures_are_counted()
+    ensures most { (history : List Entry) → failed_entries history ≤ length history }
+    ensures more { (history : List Entry) (entry : Entry) → failed_entries (history ++ entry ∷ [])
+        ≡ failed_entries history + (if has_failed entry then 1 else 0) }
+{}
+
+/// Behind a legal history of a unit since it opened the count of entries is the history's length; of each session that is
+/// attached the next serial is one more than the number of its commands in it; and ids are places of entries.
+pub fn serials_count_commands()
+    ensures { (claims : Bool) (s : UnitState) (history : List Entry) → IsOpening s.control → IsLegal claims s history
+        → IsNumbered history (state_after s history).control }
+{}
+
+/// A unit opens so that this law holds of it.
+pub fn nobody_is_attached_at_first()
+    ensures { (place : Place) (total : ℕ) (lasted : RecordValue) → IsOpening (opening_control place total lasted) }
+{}
+
+/// Behind an attach the last session is that of the nexus which attached.
+pub fn who_attached_is_last()
+    ensures { (c : ControlValue) (nexus : Nexus) → last_nexus (control_after c (Attach nexus)).sessions ≡ nexus }
 {}
 
 /// Over a disk that keeps what it claims there is one reply to each command: the one that the model computes.

@@ -2,12 +2,12 @@
 ghost use Rattle.std.specs.Prelude.{◌≡◌, ◌+◌, ◌*◌, ◌≤◌, ℕ, [], true, length, IsTrue};
 ghost use Rattle.block_file.specs.Disk.{Only};
 ghost use Rattle.block_file.specs.Failures.{Tells};
-ghost use Rattle.compare_write.specs.Ends.{IsUnfailed, OnDone};
+ghost use Rattle.compare_write.specs.Ends.{IsRead, IsUnfailed, IsWritten, OnDone};
 ghost use Rattle.unit_state.specs.Medium.{Reads, Writes, Compares, Flushes};
-ghost use Rattle.unit_state.specs.Worked.{IsWorked};
+ghost use Rattle.unit_state.specs.Worked.{IsWorked, OnReading};
 
 use block_file::{BLOCK_LENGTH, Blocks};
-use compare_write::{MediumEnd, compare_and_write, read_range, sync, write_range};
+use compare_write::{MOST_COMPARED, MediumEnd, compare_and_write, read_range, sync, write_range};
 
 /// READ: with FUA what was written is made to last first, so that it comes from the medium.
 pub fn read<B: Blocks>(
@@ -23,7 +23,9 @@ pub fn read<B: Blocks>(
     ensures worked { IsWorked B.claims (B.contents device.old) (B.contents device.new)
         (Reads (record { lba = lba; blocks = blocks }) fua) result out.new }
     ensures failures { Tells (B.failures device.old) (B.failures device.new) (IsUnfailed result) }
-    ensures durable { IsTrue B.claims → fua ≡ true → OnDone result
+    ensures failed_reads { Tells (B.reads_failed device.old) (B.reads_failed device.new) (IsRead result) }
+    ensures failed_writes { Tells (B.writes_failed device.old) (B.writes_failed device.new) (IsWritten result) }
+    ensures durable { IsTrue B.claims → fua ≡ true → OnReading result
         (Only (B.contents device.new) (B.may_hold device.new)) }
 {
     if !fua {
@@ -43,6 +45,8 @@ pub fn write<B: Blocks>(device: &mut B, lba: u32, blocks: u16, fua: bool, bytes:
     ensures worked { IsWorked B.claims (B.contents device.old) (B.contents device.new)
         (Writes (record { lba = lba; blocks = blocks }) bytes.now fua) result [] }
     ensures failures { Tells (B.failures device.old) (B.failures device.new) (IsUnfailed result) }
+    ensures failed_reads { Tells (B.reads_failed device.old) (B.reads_failed device.new) (IsRead result) }
+    ensures failed_writes { Tells (B.writes_failed device.old) (B.writes_failed device.new) (IsWritten result) }
     ensures durable { IsTrue B.claims → fua ≡ true → OnDone result
         (Only (B.contents device.new) (B.may_hold device.new)) }
 {
@@ -60,12 +64,15 @@ pub fn compare<B: Blocks>(
     fua: bool,
     bytes: &[u8],
 ) -> MediumEnd
+    requires few { blocks ≤ MOST_COMPARED }
     requires range { lba + blocks ≤ B.size device.old }
     requires given { 2 * BLOCK_LENGTH * blocks ≤ length bytes.now }
     ensures size { B.size device.new ≡ B.size device.old }
     ensures worked { IsWorked B.claims (B.contents device.old) (B.contents device.new)
         (Compares (record { lba = lba; blocks = blocks }) bytes.now fua) result [] }
     ensures failures { Tells (B.failures device.old) (B.failures device.new) (IsUnfailed result) }
+    ensures failed_reads { Tells (B.reads_failed device.old) (B.reads_failed device.new) (IsRead result) }
+    ensures failed_writes { Tells (B.writes_failed device.old) (B.writes_failed device.new) (IsWritten result) }
     ensures durable { IsTrue B.claims → fua ≡ true → OnDone result
         (Only (B.contents device.new) (B.may_hold device.new)) }
 {
@@ -81,6 +88,8 @@ pub fn flush<B: Blocks>(device: &mut B) -> MediumEnd
     ensures worked { (lba blocks : ℕ) → IsWorked B.claims (B.contents device.old) (B.contents device.new)
         (Flushes (record { lba = lba; blocks = blocks })) result [] }
     ensures failures { Tells (B.failures device.old) (B.failures device.new) (IsUnfailed result) }
+    ensures failed_reads { Tells (B.reads_failed device.old) (B.reads_failed device.new) (IsRead result) }
+    ensures failed_writes { Tells (B.writes_failed device.old) (B.writes_failed device.new) (IsWritten result) }
     ensures durable { IsTrue B.claims → OnDone result (Only (B.contents device.new) (B.may_hold device.new)) }
 {
     sync(device)

@@ -43,7 +43,18 @@ pub fn passes_attention(kind: Option<Op>) -> bool
 {
     match kind {
         Some(Op::Inquiry) | Some(Op::ReportLuns) | Some(Op::RequestSense) => true,
-        _ => false,
+        None
+        | Some(Op::TestUnitReady)
+        | Some(Op::ModeSense)
+        | Some(Op::ReadCapacity)
+        | Some(Op::Read)
+        | Some(Op::Write)
+        | Some(Op::CompareAndWrite)
+        | Some(Op::SynchronizeCache)
+        | Some(Op::PersistentReserveIn)
+        | Some(Op::PersistentReserveOut)
+        | Some(Op::ReportTargetPortGroups)
+        | Some(Op::SetTargetPortGroups) => false,
     }
 }
 
@@ -57,6 +68,15 @@ pub fn access_of(kind: Option<Op>) -> Access
         | Some(Op::CompareAndWrite)
         | Some(Op::SynchronizeCache)
         | Some(Op::SetTargetPortGroups) => Access::Write,
-        _ => Access::Other,
+        None
+        | Some(Op::TestUnitReady)
+        | Some(Op::RequestSense)
+        | Some(Op::Inquiry)
+        | Some(Op::ModeSense)
+        | Some(Op::ReadCapacity)
+        | Some(Op::PersistentReserveIn)
+        | Some(Op::PersistentReserveOut)
+        | Some(Op::ReportLuns)
+        | Some(Op::ReportTargetPortGroups) => Access::Other,
     }
 }

@@ -1,21 +1,21 @@
 //! The records to last.
 ghost use Rattle.std.specs.Prelude.{◌≡◌, ◌↔◌, IsTrue};
 
-use reservations::{Nexus, Record, Registrant, Reservation};
+use reservations::{Lasting, Nexus, Registrant, Reservation};
 
 /// What the last save left besides the record to last.
-#[derive(Drop)]
+#[derive(Clone, Copy, Debug, PartialEq, Eq)]
 pub enum LastSave {
     /// It was done: a crash leaves the record to last.
     Done,
     /// It failed before its root: a crash leaves the record to last still.
     Failed,
-    /// It failed at its root: a crash leaves the record to last, or this one.
-    Undecided(Record),
+    /// It failed at its root: a crash leaves the record to last, or the one that was being saved.
+    Undecided,
 }
 
 /// Whether both are one record.
-pub fn same_record(one: &Record, other: &Record) -> bool
+pub fn same_record(one: &Lasting<'_>, other: &Lasting<'_>) -> bool
     ensures { IsTrue result ↔ (one.now ≡ other.now) }
 {
     one.aptpl() == other.aptpl()
@@ -40,13 +40,7 @@ fn same_registrants(one: &[Registrant], other: &[Registrant]) -> bool
 fn same_registrant(one: &Registrant, other: &Registrant) -> bool
     ensures { IsTrue result ↔ (one.now ≡ other.now) }
 {
-    one.key == other.key && same_nexus(&one.nexus, &other.nexus)
-}
-
-fn same_nexus(one: &Nexus, other: &Nexus) -> bool
-    ensures { IsTrue result ↔ (one.now ≡ other.now) }
-{
-    one.group() == other.group() && one.port().same(other.port())
+    one.key == other.key && one.nexus.same(&other.nexus)
 }
 
 fn same_reservation(one: &Option<Reservation>, other: &Option<Reservation>) -> bool
@@ -57,7 +51,7 @@ fn same_reservation(one: &Option<Reservation>, other: &Option<Reservation>) -> b
         (Some(one), Some(other)) => {
             one.kind == other.kind && same_holder(&one.holder, &other.holder)
         }
-        _ => false,
+        (None, Some(_)) | (Some(_), None) => false,
     }
 }
 
@@ -66,7 +60,7 @@ fn same_holder(one: &Option<Nexus>, other: &Option<Nexus>) -> bool
 {
     match (one, other) {
         (None, None) => true,
-        (Some(one), Some(other)) => same_nexus(one, other),
-        _ => false,
+        (Some(one), Some(other)) => one.same(other),
+        (None, Some(_)) | (Some(_), None) => false,
     }
 }

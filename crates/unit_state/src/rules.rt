@@ -1,7 +1,7 @@
 //! The rules that refuse a command, in their order.
 ghost use Rattle.std.specs.Prelude.{◌≡◌, ◌+◌, ◌&&◌, ℕ, List, Ok, Some, None, nat_lt, nat_le, if◌then◌else◌};
 ghost use Rattle.std.specs.Prelude.{MatchResult};
-ghost use Rattle.unit_state.specs.Medium.{range_of, work_asked};
+ghost use Rattle.unit_state.specs.Medium.{is_too_long, range_of, work_asked, work_of};
 ghost use Rattle.unit_state.specs.Ops.{access_of, passes_attention};
 ghost use Rattle.unit_state.specs.Places.{IsPlaceOf};
 ghost use Rattle.unit_state.specs.Groups.{set_by};
@@ -21,7 +21,11 @@ use crate::refusal::Refusal;
 use crate::reserve::LIST_LENGTH;
 use crate::sessions::Sender;
 use access_states::permits;
+use compare_write::MOST_COMPARED;
 use scsi_types::{Asked, CdbFault, Command, Op, PageControl, Sense, need};
+
+/// The most blocks of a READ or a WRITE (SBC-3, Block Limits page: MAXIMUM TRANSFER LENGTH).
+const MOST_TRANSFERRED: u16 = 2048;
 
 /// The command, where no rule refuses it.
 pub fn admit(
@@ -105,16 +109,38 @@ fn conflict(control: &Control, sender: Sender, kind: Option<Op>) -> Option<Refus
     Some(Refusal::Conflict)
 }
 
-/// A field of the CDB is bad, or less data came than the command needs.
+/// A field of the CDB is bad, such as more blocks than the command may have, or less data came than it needs.
 fn field(asked: &Asked, bytes: &[u8]) -> Option<Refusal>
     ensures { result ≡ field_by asked.now bytes.now }
 {
     match asked {
-        Ok(command) if (bytes.len() as u64) < u64::from(need(command)) => {
+        Ok(command) if (bytes.len() as u64) < u64::from(need(command)) || is_too_long(command) => {
             Some(Refusal::Check(Sense::INVALID_FIELD_IN_CDB))
         }
         Err(CdbFault::BadField(_)) => Some(Refusal::Check(Sense::INVALID_FIELD_IN_CDB)),
         Ok(_) | Err(CdbFault::UnknownOpcode) => None,
+    }
+}
+
+/// The command has more blocks than it may have.
+fn is_too_long(command: &Command) -> bool
+    ensures { (bytes : List ℕ) → result ≡ is_too_long (work_of command.now bytes) }
+{
+    match command {
+        Command::Read { blocks, .. } | Command::Write { blocks, .. } => *blocks > MOST_TRANSFERRED,
+        Command::CompareAndWrite { blocks, .. } => *blocks > MOST_COMPARED,
+        Command::TestUnitReady
+        | Command::RequestSense { .. }
+        | Command::Inquiry { .. }
+        | Command::ModeSense { .. }
+        | Command::ReadCapacity10
+        | Command::ReadCapacity16 { .. }
+        | Command::SynchronizeCache { .. }
+        | Command::PersistentReserveIn { .. }
+        | Command::PersistentReserveOut { .. }
+        | Command::ReportLuns { .. }
+        | Command::ReportTargetPortGroups { .. }
+        | Command::SetTargetPortGroups { .. } => false,
     }
 }
 
@@ -144,7 +170,18 @@ fn range(asked: &Asked, total: u32) -> Option<Refusal>
             outside(*lba, u32::from(*blocks), total)
         }
         Ok(Command::SynchronizeCache { lba, blocks }) => outside(*lba, *blocks, total),
-        _ => None,
+        Ok(Command::TestUnitReady)
+        | Ok(Command::RequestSense { .. })
+        | Ok(Command::Inquiry { .. })
+        | Ok(Command::ModeSense { .. })
+        | Ok(Command::ReadCapacity10)
+        | Ok(Command::ReadCapacity16 { .. })
+        | Ok(Command::PersistentReserveIn { .. })
+        | Ok(Command::PersistentReserveOut { .. })
+        | Ok(Command::ReportLuns { .. })
+        | Ok(Command::ReportTargetPortGroups { .. })
+        | Ok(Command::SetTargetPortGroups { .. })
+        | Err(_) => None,
     }
 }
 
@@ -167,7 +204,20 @@ fn list(control: &Control, asked: &Asked, bytes: &[u8]) -> Option<Refusal>
         Ok(Command::SetTargetPortGroups { list_length }) => {
             groups_list(control, *list_length, bytes)
         }
-        _ => None,
+        Ok(Command::TestUnitReady)
+        | Ok(Command::RequestSense { .. })
+        | Ok(Command::Inquiry { .. })
+        | Ok(Command::ModeSense { .. })
+        | Ok(Command::ReadCapacity10)
+        | Ok(Command::ReadCapacity16 { .. })
+        | Ok(Command::Read { .. })
+        | Ok(Command::Write { .. })
+        | Ok(Command::CompareAndWrite { .. })
+        | Ok(Command::SynchronizeCache { .. })
+        | Ok(Command::PersistentReserveIn { .. })
+        | Ok(Command::ReportLuns { .. })
+        | Ok(Command::ReportTargetPortGroups { .. })
+        | Err(_) => None,
     }
 }
 

@@ -5,12 +5,12 @@ ghost use Rattle.std.specs.Prelude.{vec_capacity};
 ghost use Rattle.unit_state.specs.Places.{IsChangedAt, IsPlaceOf};
 ghost use Rattle.unit_state.specs.Sessions.{all_reset, ended, heard_reset, is_of, nexus_of, pass_one, session_of};
 ghost use Rattle.unit_state.specs.Sessions.{tell_one, without};
-ghost use Rattle.reservations.specs.Notice.{code_told};
+ghost use Rattle.reservations.specs.Notice.{tellings};
 ghost use Rattle.unit_state.specs.Groups.{hear_change};
 ghost use Rattle.unit_state.specs.Reserve.{all_heard, hear};
 
 use attentions::Pending;
-use reservations::Told;
+use reservations::{Registry, Telling};
 use scsi_types::{Group, PortName, UnitAttention};
 
 /// A session's id: the place of its attach among the unit's entries.
@@ -115,31 +115,23 @@ fn hear_change(attached: &mut Attached, by: Option<SessionId>)
     }
 }
 
-/// Tells each session what is told to its nexus, behind what it is to be told already.
-pub fn hear_all(sessions: &mut Vec<Attached>, told: &[Told])
-    ensures items { sessions.new.items ≡ all_heard told.now sessions.old.items }
+/// Tells each session what is told to its nexus, behind what it is to be told already: by a PERSISTENT RESERVE OUT that
+/// found this registry.
+pub fn hear_all(sessions: &mut Vec<Attached>, found: &Registry, telling: &Telling)
+    ensures items { sessions.new.items ≡ all_heard (tellings telling.now found.now.registrants) sessions.old.items }
     ensures capacity { vec_capacity sessions.new ≡ vec_capacity sessions.old }
 {
     for attached in sessions.iter_mut() {
-        hear(attached, told);
+        hear(attached, found, telling);
     }
 }
 
-fn hear(attached: &mut Attached, told: &[Told])
-    ensures { attached.new ≡ hear told.now attached.old }
+fn hear(attached: &mut Attached, found: &Registry, telling: &Telling)
+    ensures { attached.new ≡ hear (tellings telling.now found.now.registrants) attached.old }
 {
-    if let Some(code) = code_told(told, &attached.port, attached.group) {
+    if let Some(code) = found.told(telling, &attached.port, attached.group) {
         attached.pending.establish(code);
     }
-}
-
-/// What is told to a nexus.
-fn code_told(told: &[Told], port: &PortName, group: Group) -> Option<UnitAttention>
-    ensures { result ≡ code_told told.now (record { port = port.now; group = group }) }
-{
-    told.iter()
-        .find(|told| told.nexus.is(port, group))
-        .map(|told| told.code)
 }
 
 /// Whether a session is that of a nexus.

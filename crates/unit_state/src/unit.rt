@@ -1,18 +1,19 @@
-ghost use Rattle.std.specs.Prelude.{IfSome, ◌≡◌, ◌≢◌, ◌<◌, ◌&&◌, ◌↔◌, false, Err, [], ◌∷◌, IfOk, OnOk, OnErr, IsErr};
+ghost use Rattle.std.specs.Prelude.{IfSome, ◌≡◌, ◌≢◌, ◌<◌, ◌≤◌, ◌&&◌, ◌↔◌, false, Err, [], ◌∷◌, IfOk, OnOk, OnErr, IsErr};
 ghost use Rattle.block_file.specs.Disk.{Only};
 ghost use Rattle.block_file.specs.Failures.{Counts, Tells};
 ghost use Rattle.aptpl_file.specs.Lasts.{EachOutcomeHolds, LastsAmong};
 ghost use Rattle.reservations.specs.Nexus.{IsPortName};
-ghost use Rattle.unit_state.specs.declared.control.TheConstants.{LAST_COUNT};
+ghost use Rattle.unit_state.specs.Limits.{last_length};
 
 use crate::commands::answer;
 use crate::control::{AttachFault, Control, Gone, Route};
 use crate::groups::change;
+use crate::row::Row;
 use crate::sessions::{Sender, SessionId};
 use access_states::{AsetFault, Cause, Change};
 use aptpl_file::RegFile;
 use block_file::{Blocks, DeviceFailed, Opener};
-use reservations::Record;
+use reservations::{Record, Registry};
 use scsi_types::{Asked, Group, NoMemory, Place, PortName, Reply};
 use std::alloc::Global;
 use std::marker::Model;
@@ -46,45 +47,50 @@ pub enum MoveFault {
 }
 
 /// A logical unit over a device, with an opener that opens the device for the controller that takes it over, and a
-/// registration file on a device of its own. Of every unit it is known that a crash of that device leaves one of the
-/// records that `lasting` names, where its type claims what is said of a crash.
+/// registration file on a device of its own. Of every unit it is known that it has one block at least, and that a crash of
+/// that device leaves one of the records that `lasting` names, where its type claims what is said of a crash.
 #[derive(Drop)]
-pub struct Unit<B: Blocks, O: Opener<B>, R: Blocks> {
+pub struct Unit<B: Blocks, R: Blocks, O: Opener<B>> {
     device: B,
     opener: O,
     file: RegFile<R>,
     control: Control,
+    // Where a PERSISTENT RESERVE OUT makes its registry.
+    made: Registry,
 }
 
-impl<B: Blocks, O: Opener<B>, R: Blocks> Model for Unit<B, O, R> {
-    ghost use Rattle.std.specs.Prelude.{◌≡◌, IsTrue};
+impl<B: Blocks, R: Blocks, O: Opener<B>> Model for Unit<B, R, O> {
+    ghost use Rattle.std.specs.Prelude.{◌≡◌, ◌<◌, IsTrue};
     ghost use Rattle.aptpl_file.specs.Lasts.{LastsAmong};
     ghost use Rattle.unit_state.specs.State.{UnitValue};
 
-    ghost Value = { UnitValue B O R };
+    ghost Value = { UnitValue B R O };
 
     ghost view = { λ u. record { device = u.device; opener = u.opener; file = u.file; control = u.control } };
 
     ghost invariant = { λ u. (u.control.total ≡ B.size u.device)
-        × (IsTrue R.claims → LastsAmong R.size R.may_hold u.file u.control.lasting) };
+        × (IsTrue R.claims → LastsAmong R.size R.may_hold u.file u.control.lasting) × (0 < B.size u.device) };
 }
 
-impl<B: Blocks, O: Opener<B>, R: Blocks> Unit<B, O, R> {
+impl<B: Blocks, R: Blocks, O: Opener<B>> Unit<B, R, O> {
     ghost use Rattle.scsi_types.specs.Nexus.{Port, Nexus};
     ghost use Rattle.unit_state.specs.State.{UnitState, UnitValue, opening_control, state_of, failures_of};
+    ghost use Rattle.access_states.specs.AccessMap.{owner_of};
     ghost use Rattle.unit_state.specs.Choice.{IsFine, choice_of};
+    ghost use Rattle.unit_state.specs.Counts.{AreCounted, counters_of};
     ghost use Rattle.unit_state.specs.Refusal.{refusal, request};
     ghost use Rattle.unit_state.specs.Entry.{Attach, Detach, Reset, HasRoom, IsAttached, control_after};
     ghost use Rattle.std.specs.Prelude.{IsTrue};
     ghost use Rattle.unit_state.specs.Answer.{Lasts};
+    ghost use Rattle.unit_state.specs.Row.{row_of};
     ghost use Rattle.unit_state.specs.Medium.{work_asked};
     ghost use Rattle.unit_state.specs.Groups.{is_moved_by, move_by};
-    ghost use Rattle.unit_state.specs.Moves.{IsMove};
+    ghost use Rattle.unit_state.specs.Moves.{IsMove, choice_of_move};
     ghost use Rattle.unit_state.specs.Step.{OnReply, OnNoReply, OnRefusal, IsRouted, IsStep, TakesMemory};
-    ghost use Rattle.unit_state.specs.Step.{asks_file, asks_opener, entry_of};
+    ghost use Rattle.unit_state.specs.Step.{asks_file, asks_medium, asks_opener, entry_of};
 
-    /// Opens a unit over its blocks, with this registration file and the record that it holds; its preferred group owns it.
-    /// Refused, it drops the devices and the opener.
+    /// Opens a unit over its blocks, of which there is one at least, with this registration file and the record that it
+    /// holds; its preferred group owns it. Refused, it drops the devices and the opener.
     pub fn open(
         alloc: Global,
         place: Place,
@@ -92,7 +98,8 @@ impl<B: Blocks, O: Opener<B>, R: Blocks> Unit<B, O, R> {
         opener: O,
         file: RegFile<R>,
         lasted: Record,
-    ) -> Result<Unit<B, O, R>, NoMemory>
+    ) -> Result<Unit<B, R, O>, NoMemory>
+        requires blocks { 0 < B.size blocks }
         requires lasts { IsTrue R.claims → LastsAmong R.size R.may_hold file (lasted ∷ []) }
         ensures { IfOk result (λ u. u ≡ record {
           device = blocks;
@@ -102,11 +109,13 @@ impl<B: Blocks, O: Opener<B>, R: Blocks> Unit<B, O, R> {
         }) }
     {
         let control = Control::new(alloc, place, blocks.count(), lasted)?;
+        let made = Registry::new(alloc)?;
         Ok(Unit {
             device: blocks,
             opener,
             file,
             control,
+            made,
         })
     }
 
@@ -115,10 +124,12 @@ impl<B: Blocks, O: Opener<B>, R: Blocks> Unit<B, O, R> {
     pub fn attach(&mut self, port: PortName, group: Group) -> Result<SessionId, AttachFault>
         requires { IsPortName port }
         ensures room { IsErr result ↔ (HasRoom self.old.control (record { port = port; group = group }) → ⊥) }
+        ensures had { IfOk result (λ id. HasRoom self.old.control (record { port = port; group = group })) }
         ensures id { IfOk result (λ id. id ≡ self.old.control.count) }
         ensures control { IfOk result (λ id. self.new.control
             ≡ control_after self.old.control (Attach (record { port = port; group = group }))) }
         ensures device { self.new.device ≡ self.old.device }
+        ensures opener { self.new.opener ≡ self.old.opener }
         ensures file { self.new.file ≡ self.old.file }
         ensures err { OnErr result (self.new ≡ self.old) }
     {
@@ -128,8 +139,10 @@ impl<B: Blocks, O: Opener<B>, R: Blocks> Unit<B, O, R> {
     /// Ends a session. Takes no memory.
     pub fn detach(&mut self, session: SessionId) -> Result<(), Gone>
         ensures gone { IsErr result ↔ (IsAttached self.old.control session → ⊥) }
+        ensures was { IfOk result (λ done. IsAttached self.old.control session) }
         ensures control { IfOk result (λ done. self.new.control ≡ control_after self.old.control (Detach session)) }
         ensures device { self.new.device ≡ self.old.device }
+        ensures opener { self.new.opener ≡ self.old.opener }
         ensures file { self.new.file ≡ self.old.file }
         ensures err { OnErr result (self.new ≡ self.old) }
     {
@@ -140,12 +153,21 @@ impl<B: Blocks, O: Opener<B>, R: Blocks> Unit<B, O, R> {
     /// memory.
     pub fn reset(&mut self, session: SessionId) -> Result<(), Gone>
         ensures gone { IsErr result ↔ (IsAttached self.old.control session → ⊥) }
+        ensures was { IfOk result (λ done. IsAttached self.old.control session) }
         ensures control { IfOk result (λ done. self.new.control ≡ control_after self.old.control (Reset session)) }
         ensures device { self.new.device ≡ self.old.device }
+        ensures opener { self.new.opener ≡ self.old.opener }
         ensures file { self.new.file ≡ self.old.file }
         ensures err { OnErr result (self.new ≡ self.old) }
     {
         self.control.reset(session)
+    }
+
+    /// What the status board shows of the unit.
+    pub fn row(&self) -> Row
+        ensures { result ≡ row_of self.now.control }
+    {
+        self.control.row()
     }
 
     /// Serves one command of a session, with the data that came for it.
@@ -159,6 +181,8 @@ impl<B: Blocks, O: Opener<B>, R: Blocks> Unit<B, O, R> {
         bytes: &[u8],
     ) -> StepEnd
         ensures routed { IsRouted self.old.control session serial by result }
+        // No session has had more commands than the unit has had entries.
+        ensures fits { OnReply result (λ reply. serial ≤ self.old.control.count) }
         ensures unchanged { OnNoReply result (self.new ≡ self.old) }
         ensures memory { result ≡ StepEnd.NoMemory → TakesMemory self.old.control (request session asked bytes.now) }
         // Over all devices one entry of the model, as far as the medium does not decide it; over a device and an opener that
@@ -166,12 +190,17 @@ impl<B: Blocks, O: Opener<B>, R: Blocks> Unit<B, O, R> {
         ensures entry { OnReply result (λ reply. IsStep (O.claims && B.claims) (state_of B.contents self.old)
             (state_of B.contents self.new)
             (entry_of session serial by asked bytes.now reply (state_of B.contents self.new)) reply) }
-        // After GOOD of a SYNCHRONIZE CACHE or of a command with FUA a crash leaves the blocks that the unit holds.
+        // After GOOD of a SYNCHRONIZE CACHE or of a command with FUA a crash leaves the blocks that the unit holds, and after
+        // a READ with FUA whose read failed.
         ensures lasts { IsTrue B.claims → OnReply result
             (Lasts (B.contents self.new.device) (B.may_hold self.new.device) (work_asked asked bytes.now)) }
         // A command that a rule refuses does not reach the device.
         ensures unreached { OnReply result (λ reply. OnRefusal
             (refusal self.old.control (request session asked bytes.now)) (self.new.device ≡ self.old.device)) }
+        // Nor does one that neither works on the medium nor changes the owner.
+        ensures idle { asks_medium self.old.control (request session asked bytes.now) ≡ false
+            → asks_opener self.old.control (request session asked bytes.now) ≡ false
+            → self.new.device ≡ self.old.device }
         // The opener is asked only by a command that changes the owner.
         ensures unopened { asks_opener self.old.control (request session asked bytes.now) ≡ false
             → self.new.opener ≡ self.old.opener }
@@ -181,6 +210,15 @@ impl<B: Blocks, O: Opener<B>, R: Blocks> Unit<B, O, R> {
         // A crash leaves one of the records that the unit then says.
         ensures restart { IsTrue R.claims → EachOutcomeHolds (R.size self.new.file.device)
             (R.may_hold self.new.file.device) self.new.control.lasting }
+        // Where another group owns the unit then, the device was opened for it.
+        ensures opened { owner_of self.new.control.access ≢ owner_of self.old.control.access
+            → O.opened self.old.device self.new.device }
+        // Each count of failures rose exactly where the choice tells of that failure: of a read, of a write or a flush, of an
+        // open, or of a save.
+        ensures counted { OnReply result (λ reply. AreCounted
+            (counters_of B.reads_failed B.writes_failed O.opens_failed R.failures self.old)
+            (counters_of B.reads_failed B.writes_failed O.opens_failed R.failures self.new)
+            (choice_of reply (B.contents self.new.device) self.new.control.lasting)) }
         // The choice is Fine exactly where no count of failures rose.
         ensures fine { OnReply result (λ reply. Tells (failures_of B.failures O.opens_failed R.failures self.old)
             (failures_of B.failures O.opens_failed R.failures self.new)
@@ -195,6 +233,7 @@ impl<B: Blocks, O: Opener<B>, R: Blocks> Unit<B, O, R> {
             &mut self.device,
             &mut self.opener,
             &mut self.file,
+            &mut self.made,
             &mut self.control,
             alloc,
             sender,
@@ -217,7 +256,11 @@ impl<B: Blocks, O: Opener<B>, R: Blocks> Unit<B, O, R> {
         ensures file { self.new.file ≡ self.old.file }
         ensures unopened { is_moved_by self.old.control.access (move_by self.old.control list.now) ≡ false
             → self.new.opener ≡ self.old.opener }
-        ensures unasked { self.old.control.count ≡ LAST_COUNT → self.new ≡ self.old }
+        ensures unasked { self.old.control.count ≡ last_length → self.new ≡ self.old }
+        ensures opened { owner_of self.new.control.access ≢ owner_of self.old.control.access
+            → O.opened self.old.device self.new.device }
+        ensures counted { AreCounted (counters_of B.reads_failed B.writes_failed O.opens_failed R.failures self.old)
+            (counters_of B.reads_failed B.writes_failed O.opens_failed R.failures self.new) (choice_of_move result) }
         ensures failures { Tells (failures_of B.failures O.opens_failed R.failures self.old)
             (failures_of B.failures O.opens_failed R.failures self.new) (result ≢ Err MoveFault.OpenFailed) }
     {
@@ -257,13 +300,14 @@ impl<B: Blocks, O: Opener<B>, R: Blocks> Unit<B, O, R> {
         self.device.flush()
     }
 
-    /// Hands the device, the opener and the device of the registration file back. A crash of that leaves one of the records
-    /// that the unit says.
-    pub fn close(self) -> (B, O, R)
-        ensures closed { result ≡ (self.device, self.opener, self.file.device) }
+    /// Hands the device, the device of the registration file and the opener back. A crash of the second leaves one of the
+    /// records that the unit says.
+    pub fn close(self) -> (B, R, O)
+        ensures closed { result ≡ (self.device, self.file.device, self.opener) }
+        ensures blocks { 0 < B.size result.0 }
         ensures restart { IsTrue R.claims
-            → EachOutcomeHolds (R.size result.2) (R.may_hold result.2) self.control.lasting }
+            → EachOutcomeHolds (R.size result.1) (R.may_hold result.1) self.control.lasting }
     {
-        (self.device, self.opener, self.file.close())
+        (self.device, self.file.close(), self.opener)
     }
 }

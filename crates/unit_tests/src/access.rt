@@ -79,6 +79,8 @@ const TAKEN_OVER: &[Row] = table! {
 const NOT_TAKEN_OVER: &[Row] = table! {
     "the second makes its group active/optimized": Forward(1, SET, TO_TWO) =>
         Told("70 00 04 00 00 00 00 0A 00 00 00 00 67 0A 00 00 00 00");
+    "it takes over, and the first is unavailable": Forward(1, SET_BOTH, ONE_DOWN) => Check(0x04, 0x67, 0x0A);
+    "a move that does the same": Move(ONE_DOWN) => NotMoved(MoveFault::OpenFailed);
     "the states are as they were": Send(0, REPORT, &[]) => FRESH;
     "the first owns it still": Send(1, TEST, &[]) => Moved(One);
     "the first hears nothing": Send(0, TEST, &[]) => Good(&[]);

@@ -14,10 +14,10 @@ use unit_state::{AttachFault, Gone, MoveFault, SessionId, StepEnd, Unit};
 #[derive(Clone, Copy, Debug)]
 pub enum Fuse {
     Never,
-    /// Behind so many calls of read, write and flush.
+    /// Behind so many calls: each is the read or the write of a run, or a flush.
     After(u64),
-    /// The same, but a write that fails has been written.
-    Landing(u64),
+    /// The same, but where the first that fails is a write, so many blocks of its run have been written.
+    Inside(u64, u32),
 }
 
 /// A call of a unit. Sessions go by the order in which they were attached: 0, 1, 2, ..
@@ -59,16 +59,16 @@ struct Attached {
     next: u64,
 }
 
-/// The calls of the registration file's device in which it is formatted: the 33 blocks of a slot, a flush, the root, and a
-/// flush. A save makes as many.
-pub const SAVE: u64 = 36;
+/// The calls of the registration file's device in which it is formatted: the run of a slot, a flush, the root, and a flush.
+/// A save makes as many.
+pub const SAVE: u64 = 4;
 
 /// A unit over memory behind a fuse, with an opener and a registration file behind a fuse each, and the sessions that were
 /// attached to it.
 #[derive(Drop)]
 pub struct Bench {
     alloc: Global,
-    unit: Unit<FusedBlocks<MemBlocks>, FusedOpener<KeepOpener>, FusedBlocks<MemBlocks>>,
+    unit: Unit<FusedBlocks<MemBlocks>, FusedBlocks<MemBlocks>, FusedOpener<KeepOpener>>,
     sessions: Vec<Attached>,
 }
 
@@ -88,11 +88,14 @@ impl Bench {
         let Ok(file) = RegFile::format(fused) else {
             return Err(Fail::from("a registration file"));
         };
+        if blocks == 0 {
+            return Err(Fail::from("a unit of one block at least"));
+        }
         let memory = MemBlocks::new(alloc, blocks)?;
         let device = match fuse {
             Fuse::Never => FusedBlocks::new(memory, u64::MAX),
             Fuse::After(calls) => FusedBlocks::new(memory, calls),
-            Fuse::Landing(calls) => FusedBlocks::landing(memory, calls),
+            Fuse::Inside(calls, landed) => FusedBlocks::inside(memory, calls, landed),
         };
         Ok(Bench {
             alloc,
@@ -139,7 +142,7 @@ impl Bench {
     /// The unit as it opens after a power loss: with the blocks and the registration file that were left. No call fails.
     pub fn restart(self, place: Place) -> Result<Bench, Fail> {
         let Bench { alloc, unit, .. } = self;
-        let (device, _opener, registrations) = unit.close();
+        let (device, registrations, _opener) = unit.close();
         let fused = FusedBlocks::new(registrations.into_inner(), u64::MAX);
         let Ok((file, lasted)) = RegFile::open(alloc, fused) else {
             return Err(Fail::from("a record that lasted"));
@@ -161,7 +164,7 @@ impl Bench {
     /// Hands the memory back.
     pub fn close(self) -> MemBlocks {
         let Bench { unit, .. } = self;
-        let (device, _opener, _registrations) = unit.close();
+        let (device, _registrations, _opener) = unit.close();
         device.into_inner()
     }
 
@@ -219,7 +222,7 @@ pub fn filled_by(device: &mut MemBlocks, index: u32) -> Option<u8> {
         return None;
     }
     let mut block = [0xEE; 512];
-    match device.read(index, &mut block) {
+    match device.read_run(index, &mut block) {
         Ok(()) if block == [block[0]; 512] => Some(block[0]),
         Ok(()) | Err(DeviceFailed) => None,
     }

@@ -98,7 +98,7 @@ const ALL_REGISTRANTS: &[Row] = table! {
 };
 
 const FIELDS: &[Row] = table! {
-    "what a fresh unit can": Send(0, "5E 02 0000000000 00FF", &[]) => Good(&[(1, "00 08 01 80 EA 01 00 00")]);
+    "what a fresh unit can": Send(0, "5E 02 0000000000 00FF", &[]) => Good(&[(1, "00 08 05 80 EA 01 00 00")]);
     "no key": Send(0, READ_KEYS, &[]) => Good(&[(8, "00")]);
     "a list of 23 bytes": Send(0, "5F 00 00 0000 00000017", &[(23, "00")]) => Check(0x05, 0x1A, 0x00);
     "a list that came short": Send(0, REGISTER, &[(23, "00")]) => Check(0x05, 0x24, 0x00);
@@ -139,4 +139,51 @@ fn who_is_fenced(rt: HostRuntime) -> Result<(), Fail> {
         run(&rt, rt.alloc(), &script)?;
     }
     Ok(())
+}
+
+/// The first has key 11h, 63 others have 22h, and the first preempts these.
+#[test]
+fn all_others_are_preempted(rt: HostRuntime) -> Result<(), Fail> {
+    let mut rows: Vec<Row> = Vec::new(rt.alloc());
+    for session in 0..64_usize {
+        let isid = session as u64;
+        let list = if session == 0 {
+            REGISTER_11
+        } else {
+            REGISTER_22
+        };
+        rows.push(("a session", Attach(isid, One), Attached(3 * isid)))?;
+        rows.push((
+            "its power on",
+            Send(session, TEST, &[]),
+            Check(0x06, 0x29, 0x00),
+        ))?;
+        rows.push(("it registers", Send(session, REGISTER, list), Good(&[])))?;
+    }
+    let preempt: Runs = &[(7, "00"), (1, "11"), (7, "00"), (1, "22"), (8, "00")];
+    rows.push((
+        "the first preempts",
+        Send(0, "5F 04 05 0000 00000018", preempt),
+        Good(&[]),
+    ))?;
+    let keys: Runs = &[(1, "00 00 00 41 00 00 00 08"), (7, "00"), (1, "11")];
+    rows.push(("its key alone", Send(0, READ_KEYS, &[]), Good(keys)))?;
+    for session in 1..64 {
+        rows.push((
+            "another hears of it",
+            Send(session, TEST, &[]),
+            Check(0x06, 0x2A, 0x05),
+        ))?;
+    }
+    let script = Script {
+        name: "64 registrants",
+        place: FIRST,
+        blocks: 16,
+        fuse: Fuse::Never,
+        opens: ALWAYS,
+        saves: UNSAVED,
+        tables: &[&rows],
+        after: &[],
+    };
+    run(&rt, rt.alloc(), &script)
 }

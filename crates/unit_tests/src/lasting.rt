@@ -38,9 +38,9 @@ const PREEMPT_22: Runs = &[(7, "00"), (1, "11"), (7, "00"), (1, "22"), (8, "00")
 
 /// A restart begins with PRGENERATION 0, and with the sessions that attach then.
 const LASTS: &[Row] = table! {
-    "what a fresh unit can": Send(0, CAPABILITIES, &[]) => Good(&[(1, "00 08 01 80 EA 01 00 00")]);
+    "what a fresh unit can": Send(0, CAPABILITIES, &[]) => Good(&[(1, "00 08 05 80 EA 01 00 00")]);
     "it registers, to last": Send(0, REGISTER, REGISTER_11) => Good(&[]);
-    "what the unit says then": Send(0, CAPABILITIES, &[]) => Good(&[(1, "00 08 01 81 EA 01 00 00")]);
+    "what the unit says then": Send(0, CAPABILITIES, &[]) => Good(&[(1, "00 08 05 81 EA 01 00 00")]);
     "it reserves": Send(0, RESERVE, KEY_11) => Good(&[]);
     "the power is lost": Restart => Done;
     "it attaches": Attach(1, One) => Attached(0);
@@ -48,19 +48,19 @@ const LASTS: &[Row] = table! {
     "its key": Send(0, READ_KEYS, &[]) => Good(&[(7, "00"), (1, "08"), (7, "00"), (1, "11")]);
     "its reservation": Send(0, READ_RESERVATION, &[]) =>
         Good(&[(7, "00"), (1, "10"), (7, "00"), (1, "11"), (5, "00"), (1, "05 00 00")]);
-    "what the unit says": Send(0, CAPABILITIES, &[]) => Good(&[(1, "00 08 01 81 EA 01 00 00")]);
+    "what the unit says": Send(0, CAPABILITIES, &[]) => Good(&[(1, "00 08 05 81 EA 01 00 00")]);
     "another attaches": Attach(2, One) => Attached(5);
     "the power on": Send(1, TEST, &[]) => Check(0x06, 0x29, 0x00);
     "its write is fenced": Send(1, WRITE, &[(512, "11")]) => Conflict;
     "the first writes": Send(0, WRITE, &[(512, "5A")]) => Good(&[]);
     "it registers again, not to last": Send(0, REGISTER, REGISTER_11_AGAIN) => Good(&[]);
-    "what the unit says then": Send(0, CAPABILITIES, &[]) => Good(&[(1, "00 08 01 80 EA 01 00 00")]);
+    "what the unit says then": Send(0, CAPABILITIES, &[]) => Good(&[(1, "00 08 05 80 EA 01 00 00")]);
     "it still holds the reservation": Send(1, WRITE, &[(512, "11")]) => Conflict;
     "the power is lost": Restart => Done;
     "it attaches": Attach(1, One) => Attached(0);
     "the power on": Send(0, TEST, &[]) => Check(0x06, 0x29, 0x00);
     "nobody is registered": Send(0, READ_KEYS, &[]) => Good(&[(8, "00")]);
-    "what the unit says": Send(0, CAPABILITIES, &[]) => Good(&[(1, "00 08 01 80 EA 01 00 00")]);
+    "what the unit says": Send(0, CAPABILITIES, &[]) => Good(&[(1, "00 08 05 80 EA 01 00 00")]);
 };
 
 /// Two saves are done, and then none. What saves nothing calls no device, until a save has failed.
@@ -141,7 +141,7 @@ const FAILS: &[Row] = table! {
     "it registers, to last": Send(0, REGISTER, REGISTER_11) =>
         Told("70 00 04 00 00 00 00 0A 00 00 00 00 44 00 00 00 00 00");
     "nobody is registered": Send(0, READ_KEYS, &[]) => Good(&[(8, "00")]);
-    "what the unit says": Send(0, CAPABILITIES, &[]) => Good(&[(1, "00 08 01 80 EA 01 00 00")]);
+    "what the unit says": Send(0, CAPABILITIES, &[]) => Good(&[(1, "00 08 05 80 EA 01 00 00")]);
 };
 
 const SUCCEEDS: &[Row] = table! {

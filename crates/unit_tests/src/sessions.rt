@@ -151,6 +151,10 @@ fn faults_are_named(rt: HostRuntime) -> Result<(), Fail> {
 #[test]
 fn the_laws_can_be_called() {
     laws::one_entry_more();
+    laws::failures_are_counted();
+    laws::serials_count_commands();
+    laws::nobody_is_attached_at_first();
+    laws::who_attached_is_last();
     laws::a_disk_decides_the_reply();
     laws::a_read_gives_what_was_written();
     laws::a_serial_is_taken_once();

@@ -37,7 +37,7 @@ new-nexus-requires c =
     name_long c.args.entry.now c.in_ok-name.name.items c.from-long.result c.requires c.if-long-gt223.false
     c.in_ok-name.ensures.items in
     let below : (k : ℕ) → get_or c.args.entry.now k 0 < 256 = λ (k : ℕ). let h = c.type_inv.entry k in omega (arith, h) in
-    subst IsPortName (sym c.new.ensures) (record {
+    subst IsPortName (sym c.new-port.ensures) (record {
       some = omega (arith, long, c.if-long-eq0.false);
       short = omega (arith, long, c.if-long-gt223.false);
       isid = isid_fits c.args.entry.now c.read_u48-isid.result c.requires below c.read_u48-isid.ensures;
@@ -49,9 +49,9 @@ returns-then-ne-clause-none c = λ x listed keyed is.
     let same : y ≡ x =
     read_is y x c.args.entry.now listed is c.read_u64-key.ensures
     (c.in-Some.ensures.some ∙ ap (λ (n : Nexus). group_number n.group) (sym c.new-nexus.ensures))
-    (ap (λ (n : Nexus). n.port.isid) c.new-nexus.ensures ∙ ap (λ (p : Port). p.isid) c.new.ensures
+    (ap (λ (n : Nexus). n.port.isid) c.new-nexus.ensures ∙ ap (λ (p : Port). p.isid) c.new-port.ensures
     ∙ isid_read_whole c.args.entry.now c.read_u48-isid.result c.read_u48-isid.ensures)
-    (ap (λ (n : Nexus). n.port.name) c.new-nexus.ensures ∙ ap (λ (p : Port). p.name) c.new.ensures
+    (ap (λ (n : Nexus). n.port.name) c.new-nexus.ensures ∙ ap (λ (p : Port). p.name) c.new-port.ensures
     ∙ name_read_whole c.args.entry.now c.in_ok-name.name.items c.from-long.result c.from-long.ensures
     c.in_ok-name.ensures.items) in
     differ c.as_slice.result.now c.args.entry.now c.ne.result c.ne.ensures c.if-ne.true

@@ -19,7 +19,7 @@ returns-clause-sound c =
     let h = c.in-Some-get.ensures.lookup in
     let one = sym c.is_of_all_registrants.ensures ∙ c.if-is_of_all_registrants.false in
     let there = slice_get_read c.args.registrants.now _ c.from.result c.in-Some-get.x.now refl h.3.0 h.1 in
-    rw (one, c.in-Ok.ensures.equal, registered_at c.args.registrants.now c.from.result c.in-Some-get.x.now there) refl
+    rw (one, c.copy.ensures.equal, registered_at c.args.registrants.now c.from.result c.in-Some-get.x.now there) refl
 
 pub returns-clause-read : goal.returns-clause-read
 returns-clause-read c = λ r has.
@@ -30,5 +30,5 @@ returns-clause-read c = λ r has.
     let both : Some at.x ≡ Some c.in-Some-get.x.now =
     sym at.there ∙ ap (slice_get c.args.registrants.now) (sym c.from.ensures) ∙ there in
     let same : at.x ≡ c.in-Some-get.x.now = cc in
-    let holder : at.x.nexus ≡ c.in-Ok.holder = ap (λ (x : Registrant). x.nexus) same ∙ sym c.in-Ok.ensures.equal in
+    let holder : at.x.nexus ≡ c.copy.result = ap (λ (x : Registrant). x.nexus) same ∙ sym c.copy.ensures.equal in
     at.is ∙ ap (λ (n : Nexus). Some (record { kind = c.in-Some.kind; holder = Some n })) holder

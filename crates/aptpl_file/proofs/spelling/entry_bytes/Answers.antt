@@ -1,6 +1,5 @@
 use Rattle.std.proofs.Common.{◌≡◌, ◌∙◌, ◌++◌, ◌∷◌, List, ℕ, length, ap, arith}
 use Rattle.byteorder.specs.Endian.{big_bytes}
-use Rattle.scsi_types.specs.Nexus.{Port}
 use Rattle.scsi_types.specs.declared.names.Group.{Group}
 use Rattle.aptpl_file.specs.Format.{entry_bytes, group_number, padded}
 use Rattle.aptpl_file.proofs.Padding.{put_name}
@@ -24,5 +23,4 @@ returns c =
     c.entry_head-head.result c.name-name.result.now c.put.new.place _ (omega arith) c.entry_head-head.ensures
     c.put.ensures c.put-2.ensures
     ∙ parts c.args.x.now.key c.isid.result _ c.group.result _ c.name-name.result.now _
-    (c.isid.ensures ∙ ap (λ (p : Port). p.isid) c.port-port.ensures.port) c.group.ensures
-    (c.name-name.ensures ∙ ap (λ (p : Port). p.name) c.port-port.ensures.port)
+    c.isid.ensures.isid c.group.ensures c.name-name.ensures.name

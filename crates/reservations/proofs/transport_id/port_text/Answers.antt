@@ -10,8 +10,8 @@ returns c =
       c.in_ok-push_digits.ensures,
       c.in_ok-extend_from_slice.ensures.items,
       c.in_ok-text.ensures.items,
-      c.name.ensures,
+      c.name.ensures.name,
       c.to_be_bytes-isid.ensures,
-      c.isid.ensures,
+      c.isid.ensures.isid,
       append_assoc,
     )

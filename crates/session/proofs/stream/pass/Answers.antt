@@ -1,4 +1,5 @@
-use Rattle.std.proofs.Common.{◌∙◌, ℕ, List, arith, subst, sym, refl}
+use Rattle.std.proofs.Common.{◌∙◌, ℕ, List, length, arith, ap, subst, sym, refl}
+use Rattle.session.specs.Outbox.{OutboxValue}
 use Rattle.session.specs.Ends.{NoneWhole}
 use Rattle.session.specs.Front.{IsWhole, IsFaulty}
 use Rattle.session.proofs.Exchanges.{stands_opened, fresh_more}
@@ -11,6 +12,8 @@ loop-reads-init g c = record {
       (stands_opened units me opening _ k) c.requires.unwritten c.requires.empty;
   fresh = c.requires.fresh;
   room = c.requires.room;
+  serves = ap (λ (z : OutboxValue). z.failed) c.requires.unwritten;
+  few = omega (arith, ap (λ (z : OutboxValue). length z.waiting) c.requires.unwritten);
   source_served = refl;
 }
 
@@ -19,10 +22,12 @@ returns-in-Some g c units me opening k =
     let w = subst (λ (b : List ℕ). IsWhole b c.in-Whole.bhs.now c.in-Whole.pdu c.in-Whole.taken) c.bytes.ensures
     c.in-Whole.ensures in
     let r = c.loop-reads.invariant.running units me opening k in
-    let both = pdu_ends g.T.Target.leads units me opening _ _ _ _ _ _ _ _ _ _ _ _ r c.turn.new.self c.turn.new.target
+    let both = pdu_ends g.T.Target.leads units me opening _ _ _ _ _ _ _ _ _ _ _ _ r c.loop-reads.invariant.serves
+    c.loop-reads.invariant.few c.turn.new.self c.turn.new.target
     _ _ _ c.in-Whole.bhs.now _ _ c.in-Whole.taken w.bhs_is w.within w.spelled _ _ c.in-Some.end c.finish.result
     c.in-Some.ensures.exchange c.finish.ensures in
-    let other = pdu_ends_not_by_input g.T.Target.leads units me opening _ _ _ _ _ _ _ _ _ _ _ _ r c.turn.new.self
+    let other = pdu_ends_not_by_input g.T.Target.leads units me opening _ _ _ _ _ _ _ _ _ _ _ _ r c.loop-reads.invariant.serves
+    c.loop-reads.invariant.few c.turn.new.self
     c.turn.new.target _ _ _ c.in-Whole.bhs.now _ _ c.in-Whole.taken w.bhs_is w.within w.spelled _ _ c.in-Some.end
     c.finish.result c.in-Some.ensures.exchange c.finish.ensures in
     record {
@@ -36,10 +41,12 @@ pub returns-in-Faulty : goal.returns-in-Faulty
 returns-in-Faulty g c units me opening k =
     let w = subst (λ (b : List ℕ). IsFaulty b c.in-Faulty.bhs.now c.in-Faulty.fault) c.bytes.ensures c.in-Faulty.ensures in
     let r = c.loop-reads.invariant.running units me opening k in
-    let both = fault_ends g.T.Target.leads units me opening _ _ _ _ _ _ _ _ _ _ _ _ r c.fault.new.self _ _ _ _ _
+    let both = fault_ends g.T.Target.leads units me opening _ _ _ _ _ _ _ _ _ _ _ _ r c.loop-reads.invariant.serves
+    c.loop-reads.invariant.few c.fault.new.self _ _ _ _ _
     c.in-Faulty.bhs.now c.in-Faulty.fault c.finish-in-Faulty.result w.bhs_is w.long w.stands c.fault.ensures
     c.finish-in-Faulty.ensures in
-    let other = fault_ends_not_by_input g.T.Target.leads units me opening _ _ _ _ _ _ _ _ _ _ _ _ r c.fault.new.self _
+    let other = fault_ends_not_by_input g.T.Target.leads units me opening _ _ _ _ _ _ _ _ _ _ _ _ r c.loop-reads.invariant.serves
+    c.loop-reads.invariant.few c.fault.new.self _
     _ _ _ _ c.in-Faulty.bhs.now c.in-Faulty.fault c.finish-in-Faulty.result w.bhs_is w.long w.stands
     c.fault.ensures c.finish-in-Faulty.ensures in
     record {
@@ -55,7 +62,8 @@ returns-then-has_failed g c units me opening k =
     c.in-Whole.ensures in
     let both = sink_failed g.T.Target.leads units me opening _ _ _ _ _ _ _ _ _ _ _ _
     (pdu_goes_on g.T.Target.leads units me opening _ _ _ _ _ _ _ _ _ _ _ _
-    (c.loop-reads.invariant.running units me opening k) c.turn.new.self c.turn.new.target _ _ _ c.in-Whole.bhs.now
+    (c.loop-reads.invariant.running units me opening k) c.loop-reads.invariant.serves c.loop-reads.invariant.few
+    c.turn.new.self c.turn.new.target _ _ _ c.in-Whole.bhs.now
     _ _ c.in-Whole.taken w.bhs_is w.within w.spelled c.in-None.ensures.exchange)
     (sym c.has_failed.ensures ∙ c.if-has_failed.true) in
     record { passed = both.0; input_failed = output_not_input c.loop-reads.invariant.source_served; output_failed = both.1 }
@@ -67,10 +75,13 @@ loop-reads-preserved-else-has_failed g c =
     record {
       running = λ units me opening k. rw c.consume.ensures
           (pdu_goes_on g.T.Target.leads units me opening _ _ _ _ _ _ _ _ _ _ _ _
-          (c.loop-reads.invariant.running units me opening k) c.turn.new.self c.turn.new.target _ _ _
+          (c.loop-reads.invariant.running units me opening k) c.loop-reads.invariant.serves c.loop-reads.invariant.few
+          c.turn.new.self c.turn.new.target _ _ _
           c.in-Whole.bhs.now _ _ c.in-Whole.taken w.bhs_is w.within w.spelled c.in-None.ensures.exchange);
       fresh = fresh_more _ _ _ _ c.loop-reads.invariant.fresh c.in-None.ensures.exchange.made;
       room = c.in-None.ensures.kept;
+      serves = sym c.has_failed.ensures ∙ c.if-has_failed.false;
+      few = c.in-None.ensures.few;
       source_served = c.loop-reads.invariant.source_served;
     }
 
@@ -105,6 +116,8 @@ loop-reads-preserved g c = record {
       _ _ c.in-Ok.field-0 c.in-Ok.ensures.ok (omega (arith, c.in-Ok.field-0-test));
   fresh = c.loop-reads.invariant.fresh;
   room = c.loop-reads.invariant.room;
+  serves = sym c.has_failed-in-Partial.ensures ∙ c.if-has_failed-2.false;
+  few = omega (arith, ap (λ (z : List ℕ). length z) c.flush.ensures.all_written);
   source_served = c.in-Ok.ensures.failures ∙ c.loop-reads.invariant.source_served;
 }
 

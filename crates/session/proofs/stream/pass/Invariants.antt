@@ -1,6 +1,7 @@
-use Rattle.std.proofs.Common.{◌≡◌, ◌+◌, ◌-◌, ◌*◌, ◌≤◌, ℕ, vec_capacity, length}
-use Rattle.login.specs.declared.negotiation.TheConstants.{LONGEST_RESPONSE}
+use Rattle.std.proofs.Common.{◌≡◌, ◌+◌, ◌-◌, ◌*◌, ◌<◌, ◌≤◌, ℕ, false, vec_capacity, length}
+use Rattle.session.specs.declared.text.TheConstants.{LONGEST_TEXT}
 use Rattle.session.specs.declared.inbox.TheConstants.{INBOX_CAPACITY}
+use Rattle.session.specs.declared.outbox.TheConstants.{ENOUGH_TO_WRITE}
 use Rattle.session.specs.declared.identity.Identity.{Identity}
 use Rattle.session.specs.declared.opening.Opening.{Opening}
 use Rattle.session.specs.Ends.{most_bytes}
@@ -15,7 +16,9 @@ invariant-loop-reads g l = record {
       (g.K.Sink.held l.fn.sink) (g.K.Sink.held l.sink)
       (g.K.Sink.failures l.fn.sink) (g.K.Sink.failures l.sink) l.outbox l.fn.target l.target l.phases l.inbox l.reads;
   fresh : IsFresh l.phases;
-  room : LONGEST_RESPONSE ≤ vec_capacity l.room;
+  room : LONGEST_TEXT ≤ vec_capacity l.room;
+  serves : l.outbox.failed ≡ false;
+  few : length l.outbox.waiting < ENOUGH_TO_WRITE;
   source_served : g.S.Source.failures l.source ≡ g.S.Source.failures l.fn.source;
 }
 

@@ -9,4 +9,4 @@ returns-clause-turn g c =
     (c.login_cmd_sn.ensures c.args.bhs.now c.args.pdu.now.data.now)
     (c.on_pdu-outcome.ensures.outcome c.args.bhs.now) (c.on_pdu-outcome.ensures.state c.args.bhs.now)
     c.deref.ensures.value c.on_pdu-outcome.ensures.text
-    c.login_pdus-pdus.ensures.pdus c.fill.ensures
+    c.login_pdus-pdus.ensures.pdus c.fill.ensures.queued

@@ -1,5 +1,5 @@
 use Rattle.std.proofs.Common.{refl}
-use Rattle.unit_state.proofs.Steps.{refused_answer, served_ok, takes_memory, may_reach}
+use Rattle.unit_state.proofs.Steps.{refused_answer, refused_lasts, served_ok, takes_memory, may_reach}
 use Rattle.unit_state.proofs.commands.answer.Goals as goal
 
 pub returns-in-Err-clause-answered : goal.returns-in-Err-clause-answered
@@ -14,3 +14,7 @@ returns-clause-answered g c = served_ok _ _ _ _ _ _ _ _ c.in-Ok.ensures c.serve.
 
 pub returns-clause-unreached : goal.returns-clause-unreached
 returns-clause-unreached g c = may_reach _ _ _ _ c.in-Ok.ensures
+
+pub returns-in-Err-clause-lasts : goal.returns-in-Err-clause-lasts
+returns-in-Err-clause-lasts g c = λ claims.
+    refused_lasts _ _ _ c.in-Err.refusal c.reply.result c.in-Err.ensures.fine c.reply.ensures

@@ -1,7 +1,9 @@
-use Rattle.std.proofs.Common.{◌≡◌, ◌∙◌, ap, length, refl, arith}
+use Rattle.std.proofs.Common.{◌≡◌, ◌∙◌, ap, length, refl, arith, inl, inr}
+use Rattle.std.specs.Prelude.{IsTrue}
+use Rattle.unit_state.specs.Step.{is_describing}
 use Rattle.std.proofs.lemmas.List.{take_at}
 use Rattle.scsi_types.specs.ReplyValue.{good}
-use Rattle.unit_state.proofs.Works.{medium_served, good_served, described_served, told_else}
+use Rattle.unit_state.proofs.Works.{medium_served, good_served, described_served}
 use Rattle.unit_state.proofs.commands.perform.Goals as goal
 
 pub returns-in-TestUnitReady-clause-served : goal.returns-in-TestUnitReady-clause-served
@@ -41,9 +43,26 @@ returns-in_ok-sense-in-RequestSense-clause-served g c =
     rw c.in-RequestSense.is (good_served _ _ _ _ _ _ _ _ _ refl refl told.told (c.good-in-RequestSense.ensures
     ∙ ap good told.sense))
 
-pub returns-in_ok-describe-in_default-clause-served : goal.returns-in_ok-describe-in_default-clause-served
-returns-in_ok-describe-in_default-clause-served g c =
-    let d = c.in_default in
-    described_served _ _ _ _ _ _ _ _
-    (told_else _ d.not-TestUnitReady d.not-RequestSense c.requires.no_save d.not-Read d.not-Write d.not-CompareAndWrite
-    d.not-SynchronizeCache c.requires.no_change) c.in_ok-describe-in_default.ensures.described c.good-in_default.ensures
+pub returns-in_ok-describe-in-Inquiry-clause-served : goal.returns-in_ok-describe-in-Inquiry-clause-served
+returns-in_ok-describe-in-Inquiry-clause-served g c =
+    let tells : IsTrue (is_describing c.args.command) =
+    elim c.in-Inquiry.is as (λ any. IsTrue (is_describing c.args.command)) [
+      | inl inquiry ↦ rw inquiry.2 refl
+      | inr other ↦ elim other as (λ any. IsTrue (is_describing c.args.command)) [
+        | inl mode ↦ rw mode.4 refl
+        | inr other ↦ elim other as (λ any. IsTrue (is_describing c.args.command)) [
+          | inl luns ↦ rw luns.2 refl
+          | inr other ↦ elim other as (λ any. IsTrue (is_describing c.args.command)) [
+            | inl reserve ↦ rw reserve.2 refl
+            | inr other ↦ elim other as (λ any. IsTrue (is_describing c.args.command)) [
+              | inl groups ↦ rw groups.1 refl
+              | inr other ↦ elim other as (λ any. IsTrue (is_describing c.args.command)) [
+                | inl ten ↦ rw ten refl
+                | inr sixteen ↦ rw sixteen.1 refl
+              ]
+            ]
+          ]
+        ]
+      ]
+    ] in
+    described_served _ _ _ _ _ _ _ _ tells c.in_ok-describe-in-Inquiry.ensures.described c.good-in-Inquiry.ensures

@@ -1,4 +1,5 @@
 use Rattle.std.proofs.Common.{refl}
+use Rattle.reservations.specs.Notice.{tellings}
 use Rattle.unit_state.specs.Reserve.{hear}
 use Rattle.unit_state.proofs.Places.{next_changed, written_back}
 use Rattle.unit_state.proofs.sessions.hear_all.Goals as goal
@@ -9,12 +10,12 @@ loop-attached-init c = refl
 pub loop-attached-preserved : goal.loop-attached-preserved
 loop-attached-preserved c =
     rw (c.hear.ensures, ← c.attached-item.is)
-    (next_changed (hear c.args.told.now) c.deref_mut-attached-items.result.now c.loop-attached.attached-items
+    (next_changed (hear (tellings c.args.telling.now c.args.found.now.registrants)) c.deref_mut-attached-items.result.now c.loop-attached.attached-items
     c.loop-attached.attached-index c.attached-item.result c.loop-attached.invariant c.loop-attached-test.true
     c.attached-item.is)
 
 pub returns-clause-items : goal.returns-clause-items
 returns-clause-items c =
     let of = c.deref_mut-attached-items in
-    written_back (hear c.args.told.now) _ of.result.now _ _ _ of.ensures.value of.ensures.len c.loop-attached.invariant
+    written_back (hear (tellings c.args.telling.now c.args.found.now.registrants)) _ of.result.now _ _ _ of.ensures.value of.ensures.len c.loop-attached.invariant
     c.loop-attached.auto.attached-items c.loop-attached-test.false

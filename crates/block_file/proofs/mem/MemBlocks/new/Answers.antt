@@ -1,5 +1,6 @@
 use Rattle.std.proofs.Common.{◌∙◌, ap}
-use Rattle.block_file.specs.Cut.{cut, cut_zeros}
+use Rattle.block_file.specs.Cut.{cut}
+use Rattle.block_file.specs.CutLaws.{cut_zeros}
 use Rattle.block_file.proofs.mem.MemBlocks.new.Goals as goal
 
 pub returns-clause-zeros : goal.returns-clause-zeros

@@ -3,15 +3,13 @@ use Rattle.targets.proofs.target.OneUnitTarget.serve.Goals as goal
 
 pub invariant_of-self : goal.invariant_of-self
 invariant_of-self g c = (
-  ready_answered g.B.Blocks.claims g.B.Blocks.contents g.B.Blocks.failures _ _ _ _ _ _ c.answer.result
-      c.self.invariant.0 c.answer.ensures,
-  fits_answered g.B.Blocks.claims g.B.Blocks.contents g.B.Blocks.failures _ _ _ _ _ _ c.answer.result
-      c.self.invariant.1 c.answer.ensures,
+  ready_answered _ _ _ _ _ _ c.answer.result c.self.invariant.0 c.answer.ensures,
+  fits_answered _ _ _ _ _ _ c.answer.result c.self.invariant.1 c.answer.ensures,
 )
 
 pub returns : goal.returns
 returns g c =
     rw (← c.self.view_is)
-    (answered_over g.B.Blocks.claims g.B.Blocks.contents g.B.Blocks.failures _ _ _ _
-    (gone_late c.self.inside.unit.control c.self.inside.at.session c.self.inside.at.serial c.self.invariant.0) _ _ _
+    (answered_over _ _ _ _ _ _
+    (gone_late c.self.inside.unit.control c.self.inside.at.session c.self.inside.at.serial c.self.invariant.0) _
     c.answer.result c.answer.ensures)

@@ -22,13 +22,11 @@ invariant_of-self g c =
     (ap (λ (live : List LiveSession). attachment_of here.present live) (sym c.deref.ensures.value)
     ∙ sym c.attachment_of.ensures ∙ c.in-Some.is) in
     let grows : count ≤ later =
-    grows_answered g.B.Blocks.claims g.B.Blocks.contents g.B.Blocks.failures _ _ _ _ _ _ c.answer-told.result
-    c.answer-told.ensures in
+    grows_answered _ _ _ _ _ _ c.answer-told.result c.answer-told.ensures in
     all_written later here.begun here.live.len c.keep.new.live here.live.items
     (subst (λ (live : List LiveSession). All (IsCounted later here.begun) live) (sym c.keep.ensures)
     (all_kept count later here.begun here.present c.answer-told.new.at _
-    (fits_answered g.B.Blocks.claims g.B.Blocks.contents g.B.Blocks.failures _ _ _ _ _ _ c.answer-told.result fits
-    c.answer-told.ensures) grows
+    (fits_answered _ _ _ _ _ _ c.answer-told.result fits c.answer-told.ensures) grows
     (subst (λ (live : List LiveSession). All (IsCounted count here.begun) live)
     (sym c.deref_mut.ensures.value) c.self.invariant)))
     (all_later count later here.begun here.begun here.live.items grows (omega arith) c.self.invariant)

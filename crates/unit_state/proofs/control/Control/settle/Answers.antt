@@ -21,5 +21,5 @@ returns-clause-stays c =
       count = refl;
       place = λ session at place.
           subst (λ (ss : List Attached). IsPlaceOf ss session at) (sym c.hear_all.ensures.items)
-          (place_mapped (hear c.args.told.now) (λ a. refl) _ _ _ place);
+          (place_mapped (hear _) (λ a. refl) _ _ _ place);
     })

@@ -1,0 +1,118 @@
+#!/usr/bin/env python3
+"""How fast arrayd is beside tgt: both serve the same file on tmpfs in turn, to the same client on the loopback. Prints a line
+for each kind of command, with the medians of the runs, how the two compare, and the time of the processor that arrayd took
+for a command. It wants the Debian package tgt, and rustc, by which it builds the client.
+
+usage: bench/beside_tgt.py [--seconds N] [--runs N] [--only WORDS] [--size MIB]
+"""
+
+import argparse
+import os
+import statistics
+import subprocess
+import sys
+import tempfile
+import time
+
+TOP = os.path.dirname(os.path.dirname(os.path.abspath(__file__)))
+ARRAYD = os.environ.get("ARRAYD", os.path.join(TOP, "crates", "arrayd", "out", "arrayd"))
+PORT = 3900
+NAME = "iqn.2000-01.test:array"
+TICKS = os.sysconf("SC_CLK_TCK")
+
+
+def processor_seconds(pid):
+    """User and system time that a process has taken."""
+    with open(f"/proc/{pid}/stat") as file:
+        fields = file.read().rsplit(")", 1)[1].split()
+    return int(fields[11]) / TICKS, int(fields[12]) / TICKS
+
+
+class Arrayd:
+    unit = 0
+
+    def __init__(self, disk):
+        words = [ARRAYD, "--port", str(PORT), "--target", NAME, disk]
+        self.process = subprocess.Popen(words, stdin=subprocess.PIPE, stdout=subprocess.PIPE, text=True)
+        if self.process.stdout.readline() != "arrayd: ready\n":
+            sys.exit("arrayd does not get ready")
+
+    def end(self):
+        self.process.communicate("quit\n")
+
+
+class Tgt:
+    unit = 1
+
+    def __init__(self, disk):
+        self.process = subprocess.Popen(["tgtd", "-f", "--iscsi", f"portal=127.0.0.1:{PORT}"],
+                                        stdout=subprocess.DEVNULL, stderr=subprocess.DEVNULL)
+        self.ask("target", "new", "-T", NAME, patience=50)
+        self.ask("logicalunit", "new", "--lun", "1", "-b", disk)
+        self.ask("target", "bind", "-I", "ALL")
+
+    def ask(self, mode, what, *words, patience=1):
+        asked = ["tgtadm", "--lld", "iscsi", "--op", what, "--mode", mode, "--tid", "1", *words]
+        for _ in range(patience):
+            if subprocess.run(asked, stderr=subprocess.DEVNULL).returncode == 0:
+                return
+            time.sleep(0.1)
+        sys.exit(f"tgt refuses {asked}")
+
+    def end(self):
+        self.process.kill()
+        self.process.wait()
+
+
+def measure(server, disk, client, words):
+    """Commands a second, and the microseconds of the processor that each took, user's and system's."""
+    server = server(disk)
+    try:
+        before = processor_seconds(server.process.pid)
+        began = time.perf_counter()
+        out = subprocess.run([client, f"127.0.0.1:{PORT}", NAME, str(server.unit), *words], capture_output=True,
+                             text=True, timeout=120)
+        took = time.perf_counter() - began
+        if out.returncode != 0:
+            sys.exit(out.stderr)
+        rate = float(out.stdout)
+        user, system = (b - a for a, b in zip(before, processor_seconds(server.process.pid)))
+        return rate, user / (rate * took) * 1e6, system / (rate * took) * 1e6
+    finally:
+        server.end()
+
+
+def main():
+    words = argparse.ArgumentParser(description="How fast arrayd is beside tgt.")
+    words.add_argument("--seconds", type=float, default=1.0, help="how long a run is")
+    words.add_argument("--runs", type=int, default=5, help="runs of each, of which the median counts")
+    words.add_argument("--size", type=int, default=256, help="MiB of the disk")
+    words.add_argument("--only", default="", help="only lines with these words")
+    asked = words.parse_args()
+    with tempfile.TemporaryDirectory(dir="/dev/shm") as place:
+        client = os.path.join(place, "client")
+        source = os.path.join(TOP, "bench", "client.rs")
+        subprocess.run(["rustc", "-O", "--edition", "2021", "-o", client, source], check=True)
+        disk = os.path.join(place, "disk.img")
+        with open(disk, "wb") as file:
+            file.truncate(asked.size << 20)
+        for size in (512, 4096, 262144):
+            for work in ("read", "write"):
+                for depth in (1, 32):
+                    for sessions in (1, 4):
+                        line = f"{work} {size} bytes, {depth} deep, {sessions} session{'s'[sessions == 1:]}"
+                        if asked.only not in line:
+                            continue
+                        run = [work, str(size), str(depth), str(sessions), str(asked.seconds)]
+                        got = {Arrayd: [], Tgt: []}
+                        for _ in range(asked.runs):
+                            for server in got:
+                                got[server].append(measure(server, disk, client, run))
+                        ours, theirs = (statistics.median(g[0] for g in got[s]) for s in (Arrayd, Tgt))
+                        user, system = (statistics.median(g[k] for g in got[Arrayd]) for k in (1, 2))
+                        print(f"{line}: arrayd {ours:,.0f} a second, tgt {theirs:,.0f}: {ours / theirs:.2f}; "
+                              f"arrayd's processor {user:.1f} us user, {system:.1f} us system", flush=True)
+
+
+if __name__ == "__main__":
+    main()

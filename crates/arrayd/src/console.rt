@@ -1,0 +1,76 @@
+//! The lines by which a person, or the program that started the array, asks it something.
+
+use std::alloc::Global;
+use std::fmt::{self, Display, Formatter};
+use std::io::{self, BufRead, Write};
+
+/// What `status` tells of a unit.
+#[derive(Clone, Copy, Debug, PartialEq, Eq)]
+pub struct UnitStatus {
+    /// The unit's number.
+    pub unit: u8,
+    /// The active/optimized target port group.
+    pub owner: u64,
+    /// The asymmetric access states of groups 1 and 2 (SPC-4, 6.27).
+    pub states: (u64, u64),
+    /// PRGENERATION.
+    pub generation: u64,
+    /// How many registrants there are.
+    pub keys: u64,
+    /// The type of the persistent reservation, 0 where there is none.
+    pub kind: u64,
+    /// How many entries the unit's history has.
+    pub entries: u64,
+}
+
+impl Display for UnitStatus {
+    fn fmt<W: fmt::Write>(&self, f: &mut Formatter<W>) -> fmt::Result {
+        write!(f, "unit {} owner {} ", self.unit, self.owner)?;
+        write!(f, "states {} {} ", self.states.0, self.states.1)?;
+        write!(f, "generation {} keys {} ", self.generation, self.keys)?;
+        write!(f, "type {} entries {}", self.kind, self.entries)
+    }
+}
+
+/// The array as the console sees it.
+pub trait Array {
+    /// What is to be told of this unit, where there is one.
+    fn status(&mut self, unit: u8) -> Option<UnitStatus>;
+
+    /// Makes all that each unit holds last, as far as it can.
+    fn flush(&mut self);
+}
+
+// Writes a line for each unit.
+fn say_status<W: Write, A: Array>(writer: &mut W, array: &mut A) -> io::Result<()> {
+    for unit in 0..=u8::MAX {
+        let Some(status) = array.status(unit) else {
+            break;
+        };
+        writeln!(writer, "{status}")?;
+    }
+    Ok(())
+}
+
+/// Obeys lines until `quit`, the end of the input, or a failure of either; then flushes the units.
+pub fn console<I: BufRead + Drop, W: Write, A: Array>(
+    alloc: Global,
+    reader: I,
+    writer: &mut W,
+    array: &mut A,
+) {
+    for line in reader.lines(alloc) {
+        let Ok(line) = line else {
+            break;
+        };
+        let said = match line.as_str() {
+            "quit" => break,
+            "status" => say_status(writer, array),
+            _ => writeln!(writer, "?"),
+        };
+        if said.is_err() {
+            break;
+        }
+    }
+    array.flush();
+}

@@ -1,0 +1,110 @@
+//! The array: its units, its portals, its console.
+
+ghost use Rattle.std.specs.Prelude.{◌≡◌, ◌≤◌, length};
+ghost use Rattle.unit_history.specs.Naming.{IsNamed};
+
+use crate::console::{Array, UnitStatus, console};
+use crate::fault::Fault;
+use crate::portals::{self, Portal, Ports};
+use crate::words::{MAX_UNITS, Options};
+use block_file::{Blocks, Opener};
+use numbering::Array as Naming;
+use portal::{Open, Server, TargetDevice, listen};
+use scsi_types::Group;
+use std::alloc::Global;
+use std::io;
+use std::net::{Net, TcpListener, TcpStream};
+use std::sync::{Arc, Wait};
+use std::thread::Threads;
+use std::time::Clock;
+use unit_history::{NewUnit, Opened, Pass, Units};
+
+/// The array as its console sees it.
+#[derive(Drop)]
+struct Watched<'a, R: Wait, B: Blocks, F: Blocks, O: Opener<B>, N: Naming<Opened>> {
+    rt: &'a R,
+    units: &'a Units<B, F, O, N>,
+}
+
+impl<R: Wait, B: Blocks, F: Blocks, O: Opener<B>, N: Naming<Opened>> Array
+    for Watched<'_, R, B, F, O, N> {
+    fn status(&mut self, unit: u8) -> Option<UnitStatus> {
+        let place = usize::from(unit);
+        if place >= self.units.count() {
+            return None;
+        }
+        let row = self.units.read(self.rt, place);
+        Some(UnitStatus {
+            unit,
+            owner: row.owner,
+            states: row.states,
+            generation: row.generation,
+            keys: row.registrants,
+            kind: row.kind,
+            entries: row.entries,
+        })
+    }
+
+    fn flush(&mut self) {
+        for place in 0..self.units.count() {
+            let _ = self.units.flush(self.rt, place);
+        }
+    }
+}
+
+/// Serves these units at the portals that the words ask for, until the console ends. The names of the units are picked
+/// where it is called.
+pub fn serve_units<
+    N: Naming<Opened> + Send + Sync + 'static,
+    B: Blocks + Drop + Send + Sync + 'static,
+    F: Blocks + Drop + Send + Sync + 'static,
+    O: Opener<B> + Drop + Send + Sync + 'static,
+    R: Threads
+        + Wait
+        + Clock
+        + Net<Listener = TcpListener, Stream = TcpStream>
+        + Input
+        + Print
+        + Clone
+        + Drop
+        + Send
+        + 'static,
+>(rt: &R, alloc: Global, options: &Options<'_>, units: Vec<NewUnit<B, F, O>>) -> Result<(), Fault>
+    requires named { IsNamed N.book N.table N.opening B.contents units.items }
+    requires count { length units.items ≤ MAX_UNITS }
+{
+    let ports = Ports {
+        host: options.host,
+        first: options.port,
+        count: options.portals,
+    };
+    let portals = portals::open(rt, alloc, ports)?;
+    let units = Units::<B, F, O, N>::new(rt, alloc, units)?;
+    let server = Server {
+        device: TargetDevice::new(alloc, units, Open),
+        target_name: Vec::from_slice(alloc, options.target.as_bytes())?,
+        first: ports.of(Group::One).addresses(alloc)?,
+        second: ports.of(Group::Two).addresses(alloc)?,
+    };
+    let Ok(server) = Arc::new(alloc, server) else {
+        return Err(Fault::NoMemory);
+    };
+    for Portal { listener, group } in portals {
+        let loops = listen::<R, Units<B, F, O, N>, Open, Pass<B, F, O, N>>(
+            rt, alloc, listener, &server, group,
+        );
+        let Ok(loops) = loops else {
+            return Err(Fault::NoMemory);
+        };
+        drop(loops);
+    }
+    if rt.println("arrayd: ready").is_err() {
+        return Ok(());
+    }
+    let mut watched = Watched {
+        rt,
+        units: &server.device.units,
+    };
+    console(alloc, rt.reader(), &mut io::writer(rt), &mut watched);
+    Ok(())
+}

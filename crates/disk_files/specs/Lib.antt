@@ -1,0 +1,2 @@
+pub mod FileDisk
+pub mod Lengths

@@ -1,0 +1,217 @@
+//! A file as a device of blocks.
+ghost use Rattle.std.specs.Prelude.{◌≡◌, ◌≢◌, ◌<◌, ◌≤◌, ◌+◌, ◌*◌, ◌^◌, [], length, min, true, false, IfOk, IfErr, IsErr, OnOk, OnErr};
+ghost use Rattle.std.proofs.Common.{arith};
+ghost use Rattle.block_file.specs.Cut.{IsRun};
+ghost use Rattle.block_file.specs.Failures.{Counts, last_count};
+ghost use Rattle.disk_files.specs.FileDisk.{all_failures, IsSameDisk, IsUnused};
+ghost use Rattle.disk_files.specs.Lengths.{IsLengthFault};
+
+use crate::FileFault;
+use block_file::{BLOCK_LENGTH, Blocks, DeviceFailed};
+use std::fs::{File, OpenFile};
+use std::io::{ErrorKind, Seek, SeekFrom};
+use std::marker::Model;
+use std::os::unix::fs::FileExt;
+use std::rt::Files;
+
+/// A file as a device of blocks: each run is one read or write at its place, and a flush is `fdatasync`.
+///
+/// Of what it holds nothing is claimed. Its number of blocks is that of its length when it was opened; where the file has
+/// become shorter a call that reaches behind its end fails.
+///
+/// A flush that failed is not made good by the next one: the system drops what it could not write. So each later flush
+/// fails too, also through a handle that was opened anew.
+#[derive(Drop)]
+pub struct FileBlocks<F: FileExt + OpenFile + Seek + Drop> {
+    file: F,
+    count: u32,
+    failed_reads: u64,
+    failed_writes: u64,
+    is_lost: bool,
+    ghost fits: { count < 2 ^ 32 },
+    ghost some: { 0 < count },
+}
+
+impl<F: FileExt + OpenFile + Seek + Drop> Model for FileBlocks<F> {
+    ghost use Rattle.std.specs.Prelude.{◌<◌, ◌^◌};
+    ghost use Rattle.disk_files.specs.FileDisk.{FileDisk};
+
+    ghost Value = { FileDisk F };
+
+    ghost view = { λ d. record {
+      file = d.file;
+      count = d.count;
+      failed_reads = d.failed_reads;
+      failed_writes = d.failed_writes;
+      is_lost = d.is_lost;
+      some = d.some;
+      fits = d.fits;
+    } };
+}
+
+/// How many blocks a file of so many bytes has.
+pub fn blocks_in(bytes: u64) -> Result<u32, FileFault>
+    ensures ok { IfOk result (λ count. (BLOCK_LENGTH * count ≡ bytes) × (0 < count)) }
+    ensures err { IfErr result (IsLengthFault bytes) }
+{
+    if bytes % BLOCK_LENGTH as u64 != 0 {
+        return Err(FileFault::Length);
+    }
+    if bytes == 0 {
+        return Err(FileFault::Empty);
+    }
+    match u32::try_from(bytes / BLOCK_LENGTH as u64) {
+        Ok(count) => Ok(count),
+        Err(_) => Err(FileFault::TooLong),
+    }
+}
+
+impl<F: FileExt + OpenFile + Seek + Drop> FileBlocks<F> {
+    /// A file that is open for reading and writing. Its length is where it ends, which a block device has too.
+    pub fn of(mut file: F) -> Result<FileBlocks<F>, FileFault>
+        ensures { IfOk result (λ d. IsUnused d) }
+    {
+        let Ok(end) = file.seek(SeekFrom::End(0)) else {
+            return Err(FileFault::NotOpened);
+        };
+        let count = match blocks_in(end) {
+            Ok(count) => count,
+            Err(fault) => return Err(fault),
+        };
+        Ok(FileBlocks {
+            file,
+            count,
+            failed_reads: 0,
+            failed_writes: 0,
+            is_lost: false,
+        })
+    }
+
+    /// The handle.
+    pub(crate) fn file(&self) -> &F {
+        &self.file
+    }
+
+    /// Takes a handle that was opened anew, of a file of the same length.
+    pub(crate) fn renew(&mut self, mut file: F) -> Result<(), DeviceFailed>
+        ensures ok { OnOk result (IsSameDisk self.old self.new) }
+        ensures err { OnErr result (self.new ≡ self.old) }
+    {
+        if !ends_at(&mut file, self.count) {
+            return Err(DeviceFailed);
+        }
+        self.file = file;
+        Ok(())
+    }
+}
+
+impl FileBlocks<File> {
+    /// Opens a file for reading and writing, as long as it is.
+    pub fn open<R: Files<File = File>>(rt: &R, path: &str) -> Result<FileBlocks<File>, FileFault>
+        ensures { IfOk result (λ d. IsUnused d) }
+    {
+        match File::options().read(true).write(true).open(rt, path) {
+            Ok(file) => FileBlocks::of(file),
+            Err(e) if e.kind() == ErrorKind::NotFound => Err(FileFault::NotThere),
+            Err(_) => Err(FileFault::NotOpened),
+        }
+    }
+}
+
+// Whether a file still has so many blocks.
+fn ends_at<F: Seek>(file: &mut F, count: u32) -> bool {
+    match file.seek(SeekFrom::End(0)) {
+        Ok(end) => end == BLOCK_LENGTH as u64 * u64::from(count),
+        Err(_) => false,
+    }
+}
+
+impl<F: FileExt + OpenFile + Seek + Drop> Blocks for FileBlocks<F> {
+    ghost claims = { false };
+
+    ghost claims_moments = { false };
+
+    ghost size = { λ d. d.count };
+
+    ghost contents = { λ d. [] };
+
+    ghost may_hold = { λ d k value. Unit {0} };
+
+    ghost moment = { λ d. 0 };
+
+    ghost left_since = { λ d t disk. Unit {0} };
+
+    ghost reads_failed = { λ d. min d.failed_reads last_count };
+
+    ghost writes_failed = { λ d. min d.failed_writes last_count };
+
+    ghost failures = { λ d. all_failures d };
+
+    ghost fits = { λ d. d.fits };
+
+    ghost summed = { λ d. Prim.omega arith };
+
+    ghost bounded = { λ d. Prim.omega arith };
+
+    ghost sized = { λ d h. Prim.cc };
+
+    ghost wide = { λ d k h. Prim.cc };
+
+    ghost is_outcome = { λ d k h lt. tt };
+
+    ghost counts_now = { λ d t disk h. Prim.cc };
+
+    ghost only_now = { λ d disk h. Prim.cc };
+
+    fn count(&self) -> u32 {
+        self.count
+    }
+
+    fn read_run(&mut self, first: u32, bytes: &mut [u8]) -> Result<(), DeviceFailed> {
+        match self.file.read_exact_at(bytes, at(first)) {
+            Ok(()) => Ok(()),
+            Err(_) => failed(&mut self.failed_reads),
+        }
+    }
+
+    fn write_run(&mut self, first: u32, bytes: &[u8]) -> Result<(), DeviceFailed> {
+        // A write behind the end would make the file longer, with zeros in place of what was there.
+        if !ends_at(&mut self.file, self.count) {
+            return failed(&mut self.failed_writes);
+        }
+        match self.file.write_all_at(bytes, at(first)) {
+            Ok(()) => Ok(()),
+            Err(_) => failed(&mut self.failed_writes),
+        }
+    }
+
+    fn flush(&mut self) -> Result<(), DeviceFailed>
+        ensures size { self.new.count ≡ self.old.count }
+        ensures failures { Counts (all_failures self.old) (all_failures self.new) result }
+        ensures failed_reads { self.new.failed_reads ≡ self.old.failed_reads }
+        ensures failed_writes { Counts (min self.old.failed_writes last_count) (min self.new.failed_writes last_count)
+            result }
+        ensures lost { self.old.is_lost ≡ true → IsErr result }
+        ensures loses { OnErr result (self.new.is_lost ≡ true) }
+    {
+        if !self.is_lost && self.file.sync_data().is_ok() {
+            return Ok(());
+        }
+        self.is_lost = true;
+        failed(&mut self.failed_writes)
+    }
+}
+
+// The place of a block in its file.
+fn at(first: u32) -> u64 {
+    BLOCK_LENGTH as u64 * u64::from(first)
+}
+
+// Counts a call that failed.
+fn failed(count: &mut u64) -> Result<(), DeviceFailed>
+    ensures err { IsErr result }
+    ensures count { count.new ≡ min (count.old + 1) last_count }
+{
+    *count = count.saturating_add(1);
+    Err(DeviceFailed)
+}

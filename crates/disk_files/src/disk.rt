@@ -1,0 +1,77 @@
+//! The disk of a unit.
+ghost use Rattle.std.specs.Prelude.{IfOk};
+ghost use Rattle.disk_files.specs.FileDisk.{IsUnused};
+
+use crate::opener::{Node, node_of};
+use crate::{DiskFault, FileBlocks, FileFault, FileOpener};
+use std::alloc::Global;
+use std::fs::{File, TryLockError};
+use std::rt::Files;
+
+/// The right to be the one server of a disk, until it is dropped: an exclusive lock of the system on a handle of its own,
+/// which is no part of the device. It is on the file, whatever its names.
+#[derive(Drop)]
+pub struct DiskLock {
+    _handle: File,
+    node: Node,
+}
+
+impl DiskLock {
+    // Locks a file.
+    fn take<R: Files<File = File>>(rt: &R, path: &str) -> Result<DiskLock, DiskFault> {
+        let Ok(handle) = File::open(rt, path) else {
+            return Err(DiskFault::NotLocked);
+        };
+        match handle.try_lock() {
+            Ok(()) => {}
+            Err(TryLockError::WouldBlock) => return Err(DiskFault::InUse),
+            Err(TryLockError::Error(_)) => return Err(DiskFault::NotLocked),
+        }
+        let Some(node) = node_of(&handle) else {
+            return Err(DiskFault::NotLocked);
+        };
+        Ok(DiskLock {
+            _handle: handle,
+            node,
+        })
+    }
+}
+
+/// A file as the disk of a unit: its device, its opener for the other controller, and its lock, which has to live as
+/// long as the unit does.
+#[derive(Drop)]
+pub struct Disk<R: Files<File = File> + Drop> {
+    pub blocks: FileBlocks<File>,
+    pub opener: FileOpener<R>,
+    pub lock: DiskLock,
+}
+
+/// Opens the file of a unit's blocks, for one server alone.
+pub fn open_disk<R: Files<File = File> + Drop>(
+    rt: R,
+    alloc: Global,
+    path: &str,
+) -> Result<Disk<R>, DiskFault>
+    ensures { IfOk result (λ disk. IsUnused disk.blocks) }
+{
+    let blocks = match FileBlocks::open(&rt, path) {
+        Ok(blocks) => blocks,
+        Err(fault) => return Err(DiskFault::File(fault)),
+    };
+    let lock = match DiskLock::take(&rt, path) {
+        Ok(lock) => lock,
+        Err(fault) => return Err(fault),
+    };
+    // Another file may have taken the name in between.
+    if node_of(blocks.file()) != Some(lock.node) {
+        return Err(DiskFault::File(FileFault::NotOpened));
+    }
+    let Ok(opener) = FileOpener::new(rt, alloc, path, lock.node) else {
+        return Err(DiskFault::NoMemory);
+    };
+    Ok(Disk {
+        blocks,
+        opener,
+        lock,
+    })
+}

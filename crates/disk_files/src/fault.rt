@@ -1,0 +1,57 @@
+//! Why the files of a unit are not used.
+use aptpl_file::OpenFault;
+use thiserror::Error;
+
+/// Why a file is no device of blocks.
+#[derive(Clone, Copy, Debug, PartialEq, Eq, Error)]
+pub enum FileFault {
+    /// There is none.
+    #[error("there is no such file")]
+    NotThere,
+    /// It is there and cannot be opened for reading and writing, or its end cannot be found.
+    #[error("the file cannot be opened")]
+    NotOpened,
+    /// Its length is no multiple of 512.
+    #[error("the length of the file is no multiple of 512")]
+    Length,
+    /// It has no block.
+    #[error("the file is empty")]
+    Empty,
+    /// It has 2^32 blocks or more.
+    #[error("the file is too long")]
+    TooLong,
+}
+
+/// Why a disk is not used.
+#[derive(Clone, Copy, Debug, PartialEq, Eq, Error)]
+pub enum DiskFault {
+    /// Its file is no device of blocks.
+    #[error("{0}")]
+    File(FileFault),
+    /// Another server has it, or another unit of this one.
+    #[error("the disk is in use")]
+    InUse,
+    /// It cannot be locked.
+    #[error("the disk cannot be locked")]
+    NotLocked,
+    /// There was no memory for its name.
+    #[error("no memory")]
+    NoMemory,
+}
+
+/// Why a registration file is not used.
+#[derive(Clone, Copy, Debug, PartialEq, Eq, Error)]
+pub enum RegistrationsFault {
+    /// Its file is no device of blocks.
+    #[error("{0}")]
+    File(FileFault),
+    /// It is not there and could not be made.
+    #[error("the registration file cannot be made")]
+    NotMade,
+    /// It is there and is no registration file that can be read.
+    #[error("{0}")]
+    Held(OpenFault),
+    /// There was no memory for its name.
+    #[error("no memory")]
+    NoMemory,
+}

@@ -1,0 +1,16 @@
+//! Disks and registration files that are files of the system. What a file holds cannot be said: of these devices it is
+//! proved that they keep their number of blocks, and that a call fails just where its count of failures rises.
+#![tactic(auto)]
+
+mod blocks;
+mod disk;
+mod fault;
+pub mod laws;
+mod opener;
+mod registrations;
+
+pub use blocks::{FileBlocks, blocks_in};
+pub use disk::{Disk, DiskLock, open_disk};
+pub use fault::{DiskFault, FileFault, RegistrationsFault};
+pub use opener::FileOpener;
+pub use registrations::open_registrations;

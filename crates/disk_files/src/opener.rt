@@ -1,0 +1,96 @@
+//! The same file, opened again.
+ghost use Rattle.std.specs.Prelude.{◌≡◌, ◌+◌, min, false, OnOk, OnErr};
+ghost use Rattle.std.proofs.Common.{arith};
+ghost use Rattle.block_file.specs.Failures.{Counts, last_count};
+ghost use Rattle.disk_files.specs.FileDisk.{IsSameDisk};
+
+use crate::FileBlocks;
+use block_file::{DeviceFailed, Opener};
+use std::alloc::{AllocError, Global};
+use std::fs::{File, OpenFile};
+use std::os::unix::fs::MetadataExt;
+use std::rt::Files;
+
+/// Opens the file of a disk again by its name, for the other controller.
+///
+/// What is there by then has to be the same file, of the same length: else the open fails, and the old handle stays.
+/// The counts of failures go over to the new handle, and that a flush failed.
+#[derive(Drop)]
+pub struct FileOpener<R: Files<File = File> + Drop> {
+    rt: R,
+    path: String,
+    node: Node,
+    failed: u64,
+}
+
+/// What a file is by, whatever its names: its device and its number there.
+#[derive(Clone, Copy, PartialEq, Eq)]
+pub(crate) struct Node {
+    device: u64,
+    number: u64,
+}
+
+/// What an open file is.
+pub(crate) fn node_of(file: &File) -> Option<Node> {
+    match file.metadata() {
+        Ok(metadata) => Some(Node {
+            device: metadata.dev(),
+            number: metadata.ino(),
+        }),
+        Err(_) => None,
+    }
+}
+
+impl<R: Files<File = File> + Drop> FileOpener<R> {
+    /// The opener of a file that has this name.
+    pub(crate) fn new(
+        rt: R,
+        alloc: Global,
+        path: &str,
+        node: Node,
+    ) -> Result<FileOpener<R>, AllocError> {
+        let path = String::from_str(alloc, path)?;
+        Ok(FileOpener {
+            rt,
+            path,
+            node,
+            failed: 0,
+        })
+    }
+
+    // Opens the file again and puts its handle into the device.
+    fn renew(&self, device: &mut FileBlocks<File>) -> Result<(), DeviceFailed>
+        ensures ok { OnOk result (IsSameDisk device.old device.new) }
+        ensures err { OnErr result (device.new ≡ device.old) }
+    {
+        let Ok(file) = File::options()
+            .read(true)
+            .write(true)
+            .open(&self.rt, self.path.as_str())
+        else {
+            return Err(DeviceFailed);
+        };
+        if node_of(&file) != Some(self.node) {
+            return Err(DeviceFailed);
+        }
+        device.renew(file)
+    }
+}
+
+impl<R: Files<File = File> + Drop> Opener<FileBlocks<File>> for FileOpener<R> {
+    ghost claims = { false };
+
+    ghost opened = { IsSameDisk };
+
+    ghost opens_failed = { λ o. min o.failed last_count };
+
+    ghost bounded = { λ o. Prim.omega arith };
+
+    fn open(&mut self, device: &mut FileBlocks<File>) -> Result<(), DeviceFailed> {
+        let Ok(()) = self.renew(device) else {
+            self.failed = self.failed.saturating_add(1);
+            return Err(DeviceFailed);
+        };
+        Ok(())
+    }
+}

@@ -1,0 +1,3 @@
+pub mod Trade
+pub mod Numbering
+pub mod Beginnings

@@ -1,0 +1,227 @@
+-- What calls one after another add to what a session's pass has seen.
+use Rattle.std.proofs.Common.{◌≡◌, ◌≢◌, ℕ, ◌+◌, Bool, true, false, nat_eq, List, [], ◌∷◌, ◌++◌, length, filter, cond}
+use Rattle.std.proofs.Common.{Result, Ok, Err, refl, sym, ap, ◌∙◌, subst, append_assoc, append-nil, ⊎_elim, arith}
+use Rattle.std.proofs.lemmas.Bool.Decides.{eqb_tells}
+use Rattle.std.proofs.lemmas.List.Sums.{sum_by-append}
+use Rattle.std.specs.Prelude.{MatchBool, ◌⊎◌}
+use Rattle.scsi_types.specs.ReplyValue.{ReplyValue}
+use Rattle.scsi_types.specs.declared.names.Group.{Group}
+use Rattle.scsi_types.specs.declared.command.Command.{Command as ScsiCommand}
+use Rattle.scsi_types.specs.declared.command.CdbFault.{CdbFault}
+use Rattle.session.specs.declared.target.TargetAnswer.{TargetAnswer}
+use Rattle.session.specs.declared.target.ResetAnswer.{ResetAnswer}
+use Rattle.session.specs.declared.target.ResetAnswer.TheVariants as resets
+use Rattle.unit_state.specs.State.{UnitState}
+use Rattle.status.specs.Views.{counted}
+use Rattle.locked_unit.specs.Calls.{Known, IsRefused}
+use Rattle.locked_unit.specs.declared.machine.Refused.{Refused}
+use Rattle.locked_unit.specs.declared.machine.Refused.TheVariants as refusals
+use Rattle.unit_state.specs.Entry.{Entry, Reset, Command}
+use Rattle.unit_history.specs.Histories.{IsHistory, IsCommand, IsToldBehind, is_own, own}
+use Rattle.unit_history.specs.Calls.{HasServed}
+use Rattle.portal.specs.Units.{IsSubmitted, IsResetBy}
+use Rattle.portal.specs.Submitted.{At, IsOnce, IsTwice, IsServed, IsResetAt, IsResetAnswer, answer_of, is_moved}
+use Rattle.portal.specs.Entries.{Done, replied, was_reset, done_by, reset_by, AreEntries, IsEntry, IsNextDone}
+
+same : (n : ℕ) → nat_eq n n ≡ true
+same n = ⊎_elim (λ (t : (nat_eq n n ≡ true) × (n ≡ n)). t.0)
+    (λ (f : (nat_eq n n ≡ false) × (n ≢ n)). absurd (f.1 refl)) (eqb_tells n n)
+
+one_more : (session : ℕ) (e : Entry) (more : List Entry) → counted own session (e ∷ more) ≡ own session e + counted own session more
+one_more session e more = let q = sum_by-append (own session) (e ∷ []) more in omega arith
+
+module _ (claims : Bool) (s : UnitState) (session : ℕ) where
+  -- entries of others alone are none of its own
+  pub none_of : (before more : List Entry) → counted own session more ≡ 0 → AreEntries claims s session before [] more
+  none_of before [] none = refl
+  none_of before (e ∷ more) none =
+      by (is_own session e) refl (λ (others : counted own session more ≡ 0). none_of (before ++ e ∷ []) more others)
+    where
+      by : (b : Bool) → is_own session e ≡ b
+          → (counted own session more ≡ 0 → AreEntries claims s session (before ++ e ∷ []) [] more)
+          → MatchBool b
+          (IsNextDone claims s before e [] (λ rest. AreEntries claims s session (before ++ e ∷ []) rest more))
+          (AreEntries claims s session (before ++ e ∷ []) [] more)
+      by true is rest =
+          let one : own session e ≡ 1 = ap (λ (b : Bool). cond b 1 0) is in
+          let q = one_more session e more in absurd (omega (arith, none))
+      by false is rest = let q = one_more session e more in rest (omega (arith, none))
+
+  -- two rows of entries, one behind the other
+  pub both_of : (before : List Entry) (done : List Done) (one : List Entry) (after : List Done) (two : List Entry)
+      → AreEntries claims s session before done one → AreEntries claims s session (before ++ one) after two
+      → AreEntries claims s session before (done ++ after) (one ++ two)
+  both_of before done [] after two is next =
+      subst (λ (ds : List Done). AreEntries claims s session before (ds ++ after) two) (sym is)
+      (subst (λ (h : List Entry). AreEntries claims s session h after two) (append-nil before) next)
+  both_of before done (e ∷ one) after two is next =
+      by (is_own session e) done is
+      (λ (ds : List Done) (those : AreEntries claims s session (before ++ e ∷ []) ds one).
+      both_of (before ++ e ∷ []) ds one after two those
+      (subst (λ (h : List Entry). AreEntries claims s session h after two) (sym (append_assoc before (e ∷ []) one)) next))
+    where
+      by : (b : Bool) (ds : List Done)
+          → MatchBool b
+          (IsNextDone claims s before e ds (λ rest. AreEntries claims s session (before ++ e ∷ []) rest one))
+          (AreEntries claims s session (before ++ e ∷ []) ds one)
+          → ((some : List Done) → AreEntries claims s session (before ++ e ∷ []) some one
+          → AreEntries claims s session (before ++ e ∷ []) (some ++ after) (one ++ two))
+          → MatchBool b
+          (IsNextDone claims s before e (ds ++ after) (λ rest. AreEntries claims s session (before ++ e ∷ []) rest (one ++ two)))
+          (AreEntries claims s session (before ++ e ∷ []) (ds ++ after) (one ++ two))
+      by true [] first rest = absurd first
+      by true (d ∷ ds) first rest = (first.0, rest ds first.1)
+      by false ds first rest = rest ds first
+
+  -- one of its own
+  pub one_of : (before : List Entry) (e : Entry) (d : Done) → is_own session e ≡ true → IsEntry claims s before e d
+      → AreEntries claims s session before (d ∷ []) (e ∷ [])
+  one_of before e d own is =
+      subst (λ (b : Bool). MatchBool b
+      (IsNextDone claims s before e (d ∷ []) (λ rest. AreEntries claims s session (before ++ e ∷ []) rest []))
+      (AreEntries claims s session (before ++ e ∷ []) (d ∷ []) [])) (sym own) (is, refl)
+
+module _ (claims : Bool) (s : UnitState) where
+  -- the pass has seen more, of which these are the session's own
+  pub record Grows (old new : Known Entry) (done : List Done) : Type 0 where
+    pub more : List Entry
+    pub seen : new.seen ≡ old.seen ++ more
+    pub legal : IsHistory claims s new.seen
+    pub session : new.session ≡ old.session
+    pub entries : AreEntries claims s old.session old.seen done more
+
+  pub grows_twice : (a b c : Known Entry) (done after : List Done) → Grows a b done → Grows b c after → Grows a c (done ++ after)
+  grows_twice a b c done after first next =
+      record {
+        more = first.more ++ next.more;
+        seen = next.seen ∙ ap (λ (h : List Entry). h ++ next.more) first.seen ∙ append_assoc a.seen first.more next.more;
+        legal = next.legal;
+        session = next.session ∙ first.session;
+        entries = both_of claims s a.session a.seen done first.more after next.more first.entries
+            (subst (λ (h : List Entry). AreEntries claims s a.session h after next.more) first.seen
+            (subst (λ (n : ℕ). AreEntries claims s n b.seen after next.more) first.session next.entries));
+      }
+
+  pub grows_later : (old new : Known Entry) → IsRefused own (IsHistory claims s) old new → Grows old new []
+  grows_later old new is =
+      let q = sum_by-append (own old.session) old.seen is.0.0 in
+      let r = ap (counted own old.session) is.0.1 in
+      let c = is.1 in
+      let none : counted own old.session is.0.0 ≡ 0 = omega arith in
+      record {
+        more = is.0.0;
+        seen = sym is.0.1;
+        legal = is.2;
+        session = is.3;
+        entries = none_of claims s old.session old.seen is.0.0 none;
+      }
+
+  grows_added : (old new : Known Entry) (between : List Entry) (e : Entry) (d : Done) → counted own old.session between ≡ 0
+      → new.seen ≡ (old.seen ++ between) ++ e ∷ [] → IsHistory claims s new.seen → new.session ≡ old.session
+      → is_own old.session e ≡ true → IsEntry claims s (old.seen ++ between) e d
+      → Grows old new (d ∷ [])
+  grows_added old new between e d none seen legal session is_its entry =
+      record {
+        more = between ++ e ∷ [];
+        seen = seen ∙ append_assoc old.seen between (e ∷ []);
+        legal = legal;
+        session = session;
+        entries = both_of claims s old.session old.seen [] between (d ∷ []) (e ∷ [])
+            (none_of claims s old.session old.seen between none)
+            (one_of claims s old.session (old.seen ++ between) e d is_its entry);
+      }
+
+  module _ (asked : Result ScsiCommand CdbFault) (bytes : List ℕ) where
+    -- the entry is this command, with this reply
+    command_is : (before : List Entry) (session serial : ℕ) (by_group : Group) (reply : ReplyValue) (e : Entry)
+        → IsCommand session serial by_group asked bytes e → IsToldBehind claims s before e reply
+        → IsEntry claims s before e (replied asked bytes reply)
+    command_is before session serial by_group reply e is told =
+        let c : Entry = Command session serial by_group asked bytes is.0 in
+        subst (λ (x : Entry). IsEntry claims s before x (replied asked bytes reply)) (sym is.1)
+        (refl, refl, subst (λ (x : Entry). IsToldBehind claims s before x reply) is.1 told)
+
+    own_command : (session serial : ℕ) (by_group : Group) (e : Entry) → IsCommand session serial by_group asked bytes e
+        → is_own session e ≡ true
+    own_command session serial by_group e is = subst (λ (x : Entry). is_own session x ≡ true) (sym is.1) (same session)
+
+    grows_replied : (old new : Known Entry) (by_group : Group) (reply : ReplyValue)
+        → HasServed claims s old new by_group asked bytes reply
+        → Grows old new (replied asked bytes reply ∷ [])
+    grows_replied old new by_group reply is =
+        let a = is.0 in
+        grows_added old new a.0 a.1 (replied asked bytes reply) a.2 a.3 a.4 is.1.0
+        (own_command old.session old.serial by_group a.1 a.5.0)
+        (command_is (old.seen ++ a.0) old.session old.serial by_group reply a.1 a.5.0 a.5.1)
+
+    pub grows_submitted : (old new : Known Entry) (by_group : Group) (end : Result ReplyValue (Refused Group))
+        → IsSubmitted claims s old by_group asked bytes end new
+        → Grows old new (done_by asked bytes (answer_of end))
+    grows_submitted old new by_group (Ok reply) is = grows_replied old new by_group reply is
+    grows_submitted old new by_group (Err refusals.Gone) is = grows_later old new is.0
+    grows_submitted old new by_group (Err (refusals.Moved owner)) is = grows_later old new is.0
+    grows_submitted old new by_group (Err refusals.NoMemory) is = grows_later old new is.0
+
+    -- what has moved has done nothing
+    pub nothing_moved : (end : Result ReplyValue (Refused Group)) → is_moved end ≡ true → done_by asked bytes (answer_of end) ≡ []
+    nothing_moved (Ok reply) is = absurd (cc)
+    nothing_moved (Err refusals.Gone) is = refl
+    nothing_moved (Err (refusals.Moved owner)) is = refl
+    nothing_moved (Err refusals.NoMemory) is = refl
+
+  pub grows_reset : (old new : Known Entry) (done : Bool) → IsResetBy claims s old done new
+      → Grows old new (reset_by (cond done resets.Done resets.Gone))
+  grows_reset old new true is =
+      let a = is.0 in
+      grows_added old new a.0 a.1 was_reset a.2 a.3 a.4 is.1
+      (subst (λ (x : Entry). is_own old.session x ≡ true) (sym a.5) (same old.session))
+      (subst (λ (x : Entry). IsEntry claims s (old.seen ++ a.0) x was_reset) (sym a.5) tt)
+  grows_reset old new false is = grows_later old new is.0
+
+module _ (claims : Bool) (opening : ℕ → UnitState) where
+  -- a session at one unit, which stays the same
+  pub record GrowsAt (old new : At) (done : List Done) : Type 0 where
+    pub place : new.place ≡ old.place
+    pub grown : Grows claims (opening old.place) old.pass new.pass done
+
+  grows_once : (old new : At) (asked : Result ScsiCommand CdbFault) (bytes : List ℕ) (end : Result ReplyValue (Refused Group))
+      → IsOnce claims opening old asked bytes end new
+      → GrowsAt old new (done_by asked bytes (answer_of end))
+  grows_once old new asked bytes end is =
+      record {
+        place = is.place;
+        grown = grows_submitted claims (opening old.place) asked bytes old.pass new.pass old.by_group end is.call;
+      }
+
+  grows_again : (old new : At) (asked : Result ScsiCommand CdbFault) (bytes : List ℕ) (end : Result ReplyValue (Refused Group))
+      → IsTwice claims opening old asked bytes end new
+      → GrowsAt old new (done_by asked bytes (answer_of end))
+  grows_again old new asked bytes end is =
+      let one = grows_once old is.between asked bytes is.first is.once in
+      let two = grows_once is.between new asked bytes end is.again in
+      record {
+        place = two.place ∙ one.place;
+        grown = grows_twice claims (opening old.place) old.pass is.between.pass new.pass [] (done_by asked bytes (answer_of end))
+            (subst (λ (ds : List Done). Grows claims (opening old.place) old.pass is.between.pass ds)
+            (nothing_moved claims (opening old.place) asked bytes is.first is.moved) one.grown)
+            (subst (λ (n : ℕ). Grows claims (opening n) is.between.pass new.pass (done_by asked bytes (answer_of end))) one.place
+            two.grown);
+      }
+
+  pub grows_served : (old new : At) (asked : Result ScsiCommand CdbFault) (bytes : List ℕ) (answer : TargetAnswer)
+      → IsServed claims opening old asked bytes answer new
+      → GrowsAt old new (done_by asked bytes answer)
+  grows_served old new asked bytes answer is =
+      subst (λ (a : TargetAnswer). GrowsAt old new (done_by asked bytes a)) (sym is.answer_is)
+      (⊎_elim (λ (once : IsOnce claims opening old asked bytes is.end new × (is_moved is.end ≡ false)).
+      grows_once old new asked bytes is.end once.0)
+      (λ (twice : IsTwice claims opening old asked bytes is.end new). grows_again old new asked bytes is.end twice)
+      is.calls)
+
+  pub grows_reset_at : (old new : At) (answer : ResetAnswer) → IsResetAnswer claims opening old answer new
+      → GrowsAt old new (reset_by answer)
+  grows_reset_at old new resets.Done is =
+      record { place = is.place; grown = grows_reset claims (opening old.place) old.pass new.pass true is.call }
+  grows_reset_at old new resets.Gone is =
+      record { place = is.place; grown = grows_reset claims (opening old.place) old.pass new.pass false is.call }
+  grows_reset_at old new resets.Failed is = absurd is

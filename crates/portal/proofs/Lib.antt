@@ -1,0 +1,5 @@
+pub mod Answering
+pub mod Attaching
+pub mod Chains
+pub mod Retiring
+pub mod Slots

@@ -1,0 +1,11 @@
+use Rattle.std.proofs.Common.{◌≡◌, ◌<◌, ◌≤◌, All, length, vec_capacity}
+use Rattle.reservations.specs.Nexus.{through}
+use Rattle.portal.specs.Target.{AreAttached}
+use Rattle.portal.proofs.target.attach_all.Given as goal
+
+abbrev pub invariant-loop-unit : goal.invariant-loop-unit
+invariant-loop-unit g l =
+    (length l.attached.items ≡ l.unit) × (l.count ≤ vec_capacity l.attached)
+    × AreAttached g.U.LogicalUnits.claims g.U.LogicalUnits.opening
+    (through (record { name = l.name; isid = l.isid }) l.group) 0 l.attached.items
+    × All (λ a. a.place < g.U.LogicalUnits.unit_count l.units) l.attached.items

@@ -1,0 +1,106 @@
+-- Which of what a session asked are entries of a unit's history, and that these are all of its own there, in order.
+use Rattle.std.specs.Prelude.{◌≡◌, ◌⊎◌, ℕ, ◌<◌, ◌≤◌, Bool, nat_eq, if◌then◌else◌, List, [], ◌∷◌, ◌++◌, length, MatchBool}
+use Rattle.std.specs.Prelude.{Option, Some, None, Result}
+use Rattle.std.specs.List.{flat_map}
+use Rattle.login.specs.declared.status.Kind.TheVariants.{Normal}
+use Rattle.reservations.specs.Nexus.{through}
+use Rattle.scsi_types.specs.ReplyValue.{ReplyValue}
+use Rattle.scsi_types.specs.Nexus.{Port, Nexus}
+use Rattle.scsi_types.specs.declared.names.Group.{Group}
+use Rattle.scsi_types.specs.declared.command.Command.{Command as ScsiCommand}
+use Rattle.scsi_types.specs.declared.command.CdbFault.{CdbFault}
+use Rattle.session.specs.Asking.{Asking, began, lives, served, reset, over}
+use Rattle.session.specs.declared.target.BeginAnswer.TheVariants.{Begun}
+use Rattle.session.specs.declared.target.TargetAnswer.{TargetAnswer}
+use Rattle.session.specs.declared.target.TargetAnswer.TheVariants.{Replied, Outside, Busy, Gone}
+use Rattle.session.specs.declared.target.ResetAnswer.{ResetAnswer}
+use Rattle.session.specs.declared.target.ResetAnswer.TheVariants as resets
+use Rattle.unit_state.specs.State.{UnitState}
+use Rattle.unit_state.specs.Entry.{Entry, Attach, Detach, Reset, Move, Command}
+use Rattle.unit_history.specs.Histories.{IsHistory, IsToldBehind, is_own}
+
+-- a command that a unit replied to, or a reset of it that was done
+pub data Done : Type 0 where
+  replied : Result ScsiCommand CdbFault → List ℕ → ReplyValue → Done
+  was_reset : Done
+
+abbrev pub done_by : Result ScsiCommand CdbFault → List ℕ → TargetAnswer → List Done
+done_by asked bytes (Replied reply) = replied asked bytes reply ∷ []
+done_by asked bytes (Outside reply) = []
+done_by asked bytes Busy = []
+done_by asked bytes Gone = []
+
+abbrev pub reset_by : ResetAnswer → List Done
+reset_by resets.Done = was_reset ∷ []
+reset_by resets.Gone = []
+reset_by resets.Failed = []
+
+-- what of it was asked of this unit
+abbrev pub of_unit : ℕ → ℕ → List Done → List Done
+of_unit unit named done = if nat_eq named unit then done else []
+
+abbrev pub done_in : ℕ → Asking → List Done
+done_in unit (began port kind answer) = []
+done_in unit (lives tsih port answer) = []
+done_in unit (served None asked bytes answer) = []
+done_in unit (served (Some named) asked bytes answer) = of_unit unit named (done_by asked bytes answer)
+done_in unit (reset named answer) = of_unit unit named (reset_by answer)
+done_in unit over = []
+
+-- what was done at a unit, in order
+abbrev pub done_at : ℕ → List Asking → List Done
+done_at unit asks = flat_map (done_in unit) asks
+
+-- a unit that opened in this state, over devices whose types claim what is said of a disk or not
+module _ (claims : Bool) (s : UnitState) where
+  -- The entry behind this history is this command, and the reply is what the model gives there; or it is the reset.
+  abbrev pub IsEntry : List Entry → Entry → Done → Type 0
+  IsEntry before (Attach nexus) done = ⊥
+  IsEntry before (Detach session) done = ⊥
+  IsEntry before (Reset session) (replied asked bytes reply) = ⊥
+  IsEntry before (Reset session) was_reset = Unit {0}
+  IsEntry before (Move list choice) done = ⊥
+  IsEntry before (Command session serial by asked bytes choice) (replied told came reply) =
+      (told ≡ asked) × (came ≡ bytes)
+      × IsToldBehind claims s before (Command session serial by asked bytes choice) reply
+  IsEntry before (Command session serial by asked bytes choice) was_reset = ⊥
+
+  abbrev pub IsNextDone : List Entry → Entry → List Done → (List Done → Type 0) → Type 0
+  IsNextDone before e [] rest = ⊥
+  IsNextDone before e (done ∷ more) rest = IsEntry before e done × rest more
+
+  -- A session's own entries behind a beginning of a history are what it has done there, in order, and nothing else.
+  abbrev pub AreEntries : ℕ → List Entry → List Done → List Entry → Type 0
+  AreEntries session before done [] = done ≡ []
+  AreEntries session before done (e ∷ behind) =
+      MatchBool (is_own session e)
+      (IsNextDone before e done (λ more. AreEntries session (before ++ e ∷ []) more behind))
+      (AreEntries session (before ++ e ∷ []) done behind)
+
+  -- A session of this nexus has attached in a legal history, in which its own entries since are what it has done at the unit,
+  -- in order. Its number is the place of its Attach.
+  pub record HasDone (nexus : Nexus) (done : List Done) : Type 0 where
+    pub before : List Entry
+    pub behind : List Entry
+    pub legal : IsHistory claims s ((before ++ Attach nexus ∷ []) ++ behind)
+    pub entries : AreEntries (length before) (before ++ Attach nexus ∷ []) done behind
+
+-- it has done nothing at any unit
+abbrev pub HasDoneNothing : List Asking → Type 0
+HasDoneNothing asks = (unit : ℕ) → done_at unit asks ≡ []
+
+-- A normal session has begun, and at each of the units it has done what stands in the unit's history: through the group of its
+-- portal, as the port that its login named.
+pub record IsNormal (claims : Bool) (opening : ℕ → UnitState) (units : ℕ) (group : Group) (asks : List Asking) : Type 0 where
+  pub port : Port
+  pub tsih : ℕ
+  pub front : List Asking
+  pub rest : List Asking
+  pub began_is : asks ≡ front ++ began port Normal (Begun tsih) ∷ rest
+  pub done : (unit : ℕ) → unit < units → HasDone claims (opening unit) (through port group) (done_at unit asks)
+  pub none : (unit : ℕ) → units ≤ unit → done_at unit asks ≡ []
+
+-- What a session has asked: it has done nothing at any unit, as where it is a discovery session or its login is refused; or it is a
+-- normal session, whose commands that were replied to and whose resets are its entries of these histories, in order.
+abbrev pub AreAnswered : Bool → (ℕ → UnitState) → ℕ → Group → List Asking → Type 0
+AreAnswered claims opening units group asks = HasDoneNothing asks ⊎ IsNormal claims opening units group asks

@@ -1,0 +1,33 @@
+-- What the calls of a session at a unit promise, said of the unit's one history (`unit_history`).
+use Rattle.std.specs.Prelude.{◌⊎◌, ℕ, Bool, List, MatchBool, Result, Ok, Err}
+use Rattle.locked_unit.specs.Calls.{Known}
+use Rattle.locked_unit.specs.declared.machine.Refused.{Refused}
+use Rattle.scsi_types.specs.Nexus.{Nexus}
+use Rattle.scsi_types.specs.ReplyValue.{ReplyValue}
+use Rattle.scsi_types.specs.declared.names.Group.{Group}
+use Rattle.scsi_types.specs.declared.command.Command.{Command as ScsiCommand}
+use Rattle.scsi_types.specs.declared.command.CdbFault.{CdbFault}
+use Rattle.unit_state.specs.State.{UnitState}
+use Rattle.unit_state.specs.Entry.{Entry}
+use Rattle.unit_history.specs.Calls.{HasNoRoom, HasServed, HasRefused, HasReset, WasGone, HasRetired}
+
+-- a unit that opened in this state, over devices whose types claim what is said of a disk or not
+module _ (claims : Bool) (s : UnitState) where
+  -- there was a legal history behind which no session of this nexus has room
+  abbrev pub IsFull : Nexus → Type 0
+  IsFull nexus = (history : List Entry) × HasNoRoom claims s nexus history
+
+  -- what a command comes to that is submitted by this group
+  abbrev pub IsSubmitted : Known Entry → Group → Result ScsiCommand CdbFault → List ℕ → Result ReplyValue (Refused Group)
+      → Known Entry → Type 0
+  IsSubmitted old by asked bytes (Ok reply) new = HasServed claims s old new by asked bytes reply
+  IsSubmitted old by asked bytes (Err why) new = HasRefused claims s old new by asked bytes why
+
+  -- the session has reset the unit, or it is gone
+  abbrev pub IsResetBy : Known Entry → Bool → Known Entry → Type 0
+  IsResetBy old done new = MatchBool done (HasReset claims s old new) (WasGone claims s old new)
+
+  -- The session has ended at the unit: there was a legal history, later than all that it had seen, behind which it is not
+  -- attached; or it was gone before.
+  abbrev pub IsRetired : Known Entry → Type 0
+  IsRetired old = ((history : List Entry) × HasRetired claims s old history) ⊎ ((new : Known Entry) × WasGone claims s old new)

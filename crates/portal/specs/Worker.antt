@@ -1,0 +1,26 @@
+-- A whole session, from the first byte of its login to its end.
+use Rattle.std.specs.Prelude.{ℕ, Bool, List, Option}
+use Rattle.scsi_types.specs.declared.names.Group.{Group}
+use Rattle.scsi_types.specs.declared.names.Group.TheVariants.{One, Two}
+use Rattle.session.specs.declared.end.End.{End}
+use Rattle.session.specs.declared.identity.Identity.{Identity}
+use Rattle.session.specs.declared.opening.Opening.TheVariants.{Login}
+use Rattle.session.specs.Phases.{asked, exchanges}
+use Rattle.session.specs.Transcript.{IsTranscribed}
+use Rattle.unit_state.specs.State.{UnitState}
+use Rattle.portal.specs.Entries.{AreAnswered}
+use Rattle.portal.specs.Target.{TargetValue, LeadsOn, unbegun}
+
+-- the tag of a target port group
+abbrev pub tag_of : Group → ℕ
+tag_of One = 1
+tag_of Two = 2
+
+-- What was written spells a legal transcript of what was read, of a login by a portal of this group, and what the session
+-- asked led its target from where it is at no unit to its end. What it asked of units is answered by their histories.
+pub record IsSession (claims : Bool) (opening : ℕ → UnitState) (units : ℕ) (group : Group) (me : Identity)
+    (left left' held held' : Option (List ℕ)) (end : End) : Type 0 where
+  pub after : TargetValue
+  pub transcribed : IsTranscribed (LeadsOn claims opening) units me (Login (tag_of group)) left left' held held'
+      (unbegun units group) after end
+  pub answered : AreAnswered claims opening units group (asked (exchanges transcribed.passed.transcript))

@@ -1,0 +1,134 @@
+//! A session at one unit.
+ghost use Rattle.std.specs.Prelude.{◌≡◌, ◌<◌};
+ghost use Rattle.portal.specs.Submitted.{IsOnce, IsServed, IsResetAnswer, answer_of};
+
+use crate::gate::Gate;
+use crate::units::{LogicalUnits, Pass};
+use scsi_types::{Asked, Group, Reply};
+use session::{ResetAnswer, TargetAnswer};
+use std::alloc::Global;
+use std::marker::Model;
+use std::sync::Wait;
+use unit_history::Refused;
+
+/// A session that is attached to a unit, and the group that it believes to own the unit.
+#[derive(Drop)]
+pub struct Attached<P: Pass> {
+    // The pass; out only while a call has it.
+    pass: Option<P>,
+    by_group: Group,
+}
+
+impl<P: Pass> Model for Attached<P> {
+    ghost use Rattle.std.specs.Prelude.{IsSome, Some};
+    ghost use Rattle.portal.specs.Submitted.{At};
+    ghost use Rattle.portal.specs.Passes.{at_of};
+
+    ghost Value = { At };
+
+    ghost view = { λ a. at_of P.held a.pass a.by_group };
+
+    ghost invariant = { λ a. IsSome a.pass };
+}
+
+/// What a session is answered where a command came to this.
+fn answered(end: Result<Reply, Refused<Group>>) -> TargetAnswer
+    ensures { result ≡ answer_of end }
+{
+    match end {
+        Ok(reply) => TargetAnswer::Replied(reply),
+        Err(Refused::Gone) => TargetAnswer::Gone,
+        Err(Refused::Moved(_)) => TargetAnswer::Busy,
+        Err(Refused::NoMemory) => TargetAnswer::Busy,
+    }
+}
+
+impl<P: Pass> Attached<P> {
+    /// A session that was attached to a unit through this group, which it believes to own it.
+    pub fn new(pass: P, by_group: Group) -> Attached<P>
+        ensures place { result.place ≡ (P.held pass).place }
+        ensures pass { result.pass ≡ (P.held pass).pass }
+        ensures by { result.by_group ≡ by_group }
+    {
+        Attached {
+            pass: Some(pass),
+            by_group,
+        }
+    }
+
+    /// The pass.
+    pub fn into_pass(self) -> P
+        ensures place { (P.held result).place ≡ self.place }
+        ensures pass { (P.held result).pass ≡ self.pass }
+    {
+        let Some(pass) = self.pass else {
+            unreachable!()
+        };
+        pass
+    }
+
+    // Submits a command once, to the group that is believed to own the unit.
+    fn submit<R: Wait, U: LogicalUnits<P>, G: Gate>(
+        &mut self,
+        rt: &R,
+        alloc: Global,
+        units: &U,
+        gate: &G,
+        unit: u8,
+        asked: &Asked,
+        bytes: &[u8],
+    ) -> Result<Reply, Refused<Group>>
+        requires { self.old.place < U.unit_count units.now }
+        ensures { IsOnce U.claims U.opening self.old asked.now bytes.now result self.new }
+    {
+        let Some(pass) = self.pass.take() else {
+            unreachable!()
+        };
+        gate.pass(unit, pass.next_serial());
+        let (pass, end) = units.serve(rt, alloc, pass, self.by_group, asked, bytes);
+        self.pass = Some(pass);
+        if let Err(Refused::Moved(owner)) = end {
+            self.by_group = owner;
+        }
+        end
+    }
+
+    /// Serves a command of the session: once more where the unit has moved.
+    pub fn serve<R: Wait, U: LogicalUnits<P>, G: Gate>(
+        &mut self,
+        rt: &R,
+        alloc: Global,
+        units: &U,
+        gate: &G,
+        unit: u8,
+        asked: &Asked,
+        bytes: &[u8],
+    ) -> TargetAnswer
+        requires { self.old.place < U.unit_count units.now }
+        ensures { IsServed U.claims U.opening self.old asked.now bytes.now result self.new }
+    {
+        match self.submit(rt, alloc, units, gate, unit, asked, bytes) {
+            Err(Refused::Moved(_)) => {
+                answered(self.submit(rt, alloc, units, gate, unit, asked, bytes))
+            }
+            end => answered(end),
+        }
+    }
+
+    /// Resets the unit for the session.
+    pub fn reset<R: Wait, U: LogicalUnits<P>>(&mut self, rt: &R, units: &U) -> ResetAnswer
+        requires { self.old.place < U.unit_count units.now }
+        ensures { IsResetAnswer U.claims U.opening self.old result self.new }
+    {
+        let Some(pass) = self.pass.take() else {
+            unreachable!()
+        };
+        let (pass, is_reset) = units.reset(rt, pass);
+        self.pass = Some(pass);
+        if is_reset {
+            ResetAnswer::Done
+        } else {
+            ResetAnswer::Gone
+        }
+    }
+}

@@ -1,0 +1,24 @@
+//! The portals of an array: sessions of iSCSI over sockets, each served by a worker of its own through its passes of all
+//! units.
+#![tactic(auto)]
+
+mod array;
+mod attached;
+mod connection;
+mod device;
+mod gate;
+mod live;
+mod server;
+mod target;
+mod units;
+mod worker;
+
+pub use attached::Attached;
+pub use connection::Connection;
+pub use device::TargetDevice;
+pub use gate::{Gate, Open};
+pub use live::{EnterFault, LAST_NUMBER, LAST_TSIH, LiveSession, Table};
+pub use server::{Server, Socket, Stop, accept, listen};
+pub use target::{BeginFault, SessionTarget};
+pub use units::{Full, LogicalUnits, Pass};
+pub use worker::{serve_session, tag_of};

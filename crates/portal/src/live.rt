@@ -1,0 +1,221 @@
+//! The sessions that live at an array, and their handles.
+ghost use Rattle.std.specs.Prelude.{◌≡◌, ◌<◌, ◌≤◌, ◌++◌, ◌∷◌, [], length, vec_capacity, IfOk, IfErr, OnErr, MatchOption};
+ghost use Rattle.reservations.specs.Nexus.{through, same_port};
+ghost use Rattle.portal.specs.Live.{AreAllTaken, AreTaken, HasEntered, IsCauseOf, IsFirstFree, IsNextTsih, has_tsih, is_live};
+ghost use Rattle.portal.specs.Live.{others, without};
+
+use crate::connection::Connection;
+use login::Kind;
+use scsi_types::{Group, PortName};
+use std::alloc::{AllocError, Global};
+use std::marker::Model;
+use thiserror::Error;
+
+/// The greatest TSIH, which 1 follows (RFC 7143, 11.12.9).
+pub const LAST_TSIH: u16 = 65535;
+
+/// So many sessions begin; then none does.
+pub const LAST_NUMBER: u64 = 18_446_744_073_709_551_615;
+
+/// A session that has begun and is not over.
+#[derive(Drop)]
+pub struct LiveSession<C> {
+    /// How many sessions began before it.
+    pub number: u64,
+    /// Its Target Session Identifying Handle.
+    pub tsih: u16,
+    /// Its initiator port.
+    pub port: PortName,
+    /// The group of the portals by which it came.
+    pub group: Group,
+    /// What it is for.
+    pub kind: Kind,
+    /// What it runs over.
+    pub connection: C,
+}
+
+/// Why a session does not begin to live. Nothing has changed.
+#[derive(Clone, Copy, Debug, PartialEq, Eq, Error)]
+pub enum EnterFault {
+    /// A session has each TSIH.
+    #[error("no TSIH is free")]
+    NoTsih,
+    /// As many sessions have begun as are counted.
+    #[error("too many sessions have begun")]
+    NoNumber,
+    /// There was no memory.
+    #[error("no memory")]
+    NoMemory,
+}
+
+impl From<AllocError> for EnterFault {
+    ghost use Rattle.portal.specs.declared.live.EnterFault.TheVariants.{NoMemory};
+
+    ghost from_gives = { λ _ fault. fault ≡ NoMemory };
+
+    fn from(_: AllocError) -> EnterFault {
+        EnterFault::NoMemory
+    }
+}
+
+/// The sessions that live.
+#[derive(Drop)]
+pub struct Table<C> {
+    live: Vec<LiveSession<C>>,
+    // The TSIH that was given last, 0 before the first.
+    last: u16,
+    // How many sessions have begun.
+    begun: u64,
+}
+
+impl<C> Model for Table<C> {
+    ghost use Rattle.portal.specs.Live.{TableValue};
+
+    ghost Value = { TableValue C };
+
+    ghost view = { λ t. record { live = t.live.items; last = t.last; begun = t.begun } };
+}
+
+// Whether a session is of this port.
+fn is_of_port<C>(session: &LiveSession<C>, name: &[u8], isid: u64) -> bool
+    ensures { result ≡ same_port session.now.port (record { name = name.now; isid = isid }) }
+{
+    session.port.isid() == isid && session.port.name() == name
+}
+
+// Ends the connection of the session whose place a new one takes.
+fn shut_older<C: Connection>(live: &[LiveSession<C>], new: &LiveSession<C>) {
+    for session in live {
+        if session.kind == new.kind && session.group == new.group && session.port.same(&new.port) {
+            session.connection.shut();
+        }
+    }
+}
+
+// Puts a new session in the place of the one that its nexus had of its kind. Takes no memory.
+fn replace<C: Drop>(live: &mut Vec<LiveSession<C>>, new: LiveSession<C>)
+    requires { length live.old.items < vec_capacity live.old }
+    ensures { live.new.items ≡ others (through new.port new.group) new.kind live.old.items ++ new ∷ [] }
+{
+    live.retain(|session| {
+        !(session.kind == new.kind && session.group == new.group && session.port.same(&new.port))
+    });
+    live.push_reserved(new);
+}
+
+// Takes the session with this number out.
+fn remove<C: Drop>(live: &mut Vec<LiveSession<C>>, number: u64)
+    ensures { live.new.items ≡ without number live.old.items }
+{
+    live.retain(|session| session.number != number);
+}
+
+fn has_tsih<C>(live: &[LiveSession<C>], tsih: u16) -> bool
+    ensures { result ≡ has_tsih live.now tsih }
+{
+    live.iter().any(|session| session.tsih == tsih)
+}
+
+// The first TSIH above one number and up to another that no session has.
+fn first_free<C>(live: &[LiveSession<C>], above: u16, to: u16) -> Option<u16>
+    ensures { MatchOption result (AreTaken live.now above to) (IsFirstFree live.now above to) }
+{
+    for before in above..to {
+        let tsih = before + 1;
+        if !has_tsih(live, tsih) {
+            return Some(tsih);
+        }
+    }
+    None
+}
+
+// The next TSIH behind the one that was given last that no session has.
+fn next_tsih<C>(live: &[LiveSession<C>], last: u16) -> Option<u16>
+    ensures { MatchOption result (AreAllTaken live.now) (IsNextTsih last live.now) }
+{
+    match first_free(live, last, LAST_TSIH) {
+        Some(tsih) => Some(tsih),
+        None => first_free(live, 0, last),
+    }
+}
+
+impl<C> Table<C> {
+    /// No session lives yet.
+    pub fn new(alloc: Global) -> Table<C>
+        ensures { result ≡ record { live = []; last = 0; begun = 0 } }
+    {
+        Table {
+            live: Vec::new(alloc),
+            last: 0,
+            begun: 0,
+        }
+    }
+
+    /// A session of this port, group and kind begins to live: its number and its TSIH. An older one of the same port, group
+    /// and kind is over, and its connection ends (RFC 7143, 6.3.5).
+    pub fn enter(
+        &mut self,
+        port: PortName,
+        group: Group,
+        kind: Kind,
+        connection: C,
+    ) -> Result<(u64, u16), EnterFault>
+    where
+        C: Connection + Drop,
+        ensures entered { IfOk result (λ r. HasEntered self.old self.new (record {
+          number = r.0;
+          tsih = r.1;
+          port = port;
+          group = group;
+          kind = kind;
+          connection = connection;
+        })) }
+        ensures cause { IfErr result (IsCauseOf self.old) }
+        ensures unchanged { OnErr result (self.new ≡ self.old) }
+    {
+        let Some(tsih) = next_tsih(&self.live, self.last) else {
+            return Err(EnterFault::NoTsih);
+        };
+        let number = self.begun;
+        if number == LAST_NUMBER {
+            return Err(EnterFault::NoNumber);
+        }
+        self.live.reserve(1)?;
+        let session = LiveSession {
+            number,
+            tsih,
+            port,
+            group,
+            kind,
+            connection,
+        };
+        shut_older(&self.live, &session);
+        replace(&mut self.live, session);
+        self.last = tsih;
+        self.begun = number + 1;
+        Ok((number, tsih))
+    }
+
+    /// The session with this number is over. The others live on.
+    pub fn leave(&mut self, number: u64)
+    where
+        C: Drop,
+        ensures { self.new ≡ record self.old { live = without number self.old.live } }
+    {
+        remove(&mut self.live, number);
+    }
+
+    /// Whether the session with this TSIH lives, and is of this port.
+    pub fn lives(&self, tsih: u16, name: &[u8], isid: u64) -> bool
+        ensures { result ≡ is_live self.now.live tsih (record { name = name.now; isid = isid }) }
+    {
+        self.live.iter().any(|session| session.tsih == tsih && is_of_port(session, name, isid))
+    }
+
+    /// How many sessions live.
+    pub fn count(&self) -> usize
+        ensures { result ≡ length self.now.live }
+    {
+        self.live.len()
+    }
+}

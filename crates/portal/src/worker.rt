@@ -1,0 +1,63 @@
+//! What a session's worker runs.
+ghost use Rattle.std.specs.Prelude.{◌≡◌, [], IfOk, OnErr};
+ghost use Rattle.session.specs.declared.end.End.TheVariants.{InputFailed, OutputFailed};
+ghost use Rattle.session.specs.Transcript.{IsFailureOf};
+ghost use Rattle.portal.specs.Worker.{IsSession, tag_of};
+
+use crate::connection::Connection;
+use crate::device::TargetDevice;
+use crate::gate::Gate;
+use crate::target::SessionTarget;
+use crate::units::{LogicalUnits, Pass};
+use scsi_types::{Group, NoMemory};
+use session::{End, Identity, Opening, Sink, Source, serve_stream};
+use std::alloc::Global;
+use std::sync::Wait;
+
+/// The tag of a target port group, which is that of the portals of its controller (RFC 7143, 13.9).
+pub fn tag_of(group: Group) -> u16
+    ensures { result ≡ tag_of group }
+{
+    match group {
+        Group::One => 1,
+        Group::Two => 2,
+    }
+}
+
+/// Serves a session that comes by the portals of a group over a connection, from the first byte of its login to its end.
+/// Refused for want of memory, it has read, written and asked nothing.
+#[tactic(auto, using(crate::proofs::Answering::session_of))]
+pub fn serve_session<
+    R: Wait,
+    U: LogicalUnits<P> + Drop,
+    G: Gate + Drop,
+    C: Connection + Drop,
+    P: Pass,
+    S: Source,
+    K: Sink,
+>(
+    rt: &R,
+    alloc: Global,
+    device: &TargetDevice<U, G, C>,
+    group: Group,
+    connection: C,
+    source: &mut S,
+    sink: &mut K,
+    me: &Identity<'_>,
+) -> Result<End, NoMemory>
+    ensures served { IfOk result (IsSession U.claims U.opening (U.unit_count device.now.units) group me.now
+        (S.left source.old) (S.left source.new) (K.held sink.old) (K.held sink.new)) }
+    ensures input_failed { IfOk result (IsFailureOf InputFailed (S.failures source.old) (S.failures source.new)) }
+    ensures output_failed { IfOk result (IsFailureOf OutputFailed (K.failures sink.old) (K.failures sink.new)) }
+    ensures no_memory { OnErr result ((source.new ≡ source.old) × (sink.new ≡ sink.old)) }
+{
+    let mut target = SessionTarget::<R, U, G, C, P>::new(rt, alloc, device, group, connection);
+    serve_stream(
+        alloc,
+        source,
+        sink,
+        &mut target,
+        Opening::Login(tag_of(group)),
+        me,
+    )
+}

@@ -1,0 +1,3 @@
+pub mod Behind
+pub mod Ends
+pub mod Naming

@@ -1,0 +1,13 @@
+use Rattle.std.proofs.Common.{◌&&◌}
+use Rattle.unit_history.proofs.Behind.{opens_behind, opens_history}
+use Rattle.unit_history.proofs.shared.opens.Goals as goal
+
+pub returns-clause-legal : goal.returns-clause-legal
+returns-clause-legal g c =
+    opens_history (g.O.Opener.claims && g.B.Blocks.claims) g.B.Blocks.contents g.B.Blocks.failures
+    g.O.Opener.opens_failed g.R.Blocks.failures (g.N.Array.opening g.row.U) c.args.unit.now c.requires.state c.requires.opens
+
+pub returns-clause-behind : goal.returns-clause-behind
+returns-clause-behind g c =
+    opens_behind (g.O.Opener.claims && g.B.Blocks.claims) g.B.Blocks.contents g.B.Blocks.failures
+    g.O.Opener.opens_failed g.R.Blocks.failures (g.N.Array.opening g.row.U) c.args.unit.now c.requires.state

@@ -1,0 +1,7 @@
+use Rattle.std.proofs.Common.{◌≡◌, length, drop}
+use Rattle.unit_history.specs.Places.{AreInOrder}
+use Rattle.unit_history.proofs.units.Units.new.Given as goal
+
+abbrev pub invariant-loop-place : goal.invariant-loop-place
+invariant-loop-place g l = (l.new.items ≡ drop l.place l.initial.new.items) × (length l.units.items ≡ l.place)
+    × AreInOrder l.units.items

@@ -1,0 +1,55 @@
+-- Why a call adds no entry, as the history shows it.
+use Rattle.std.specs.Prelude.{◌≡◌, ◌≤◌, ◌⊎◌, ℕ, true, List, [], ◌∷◌, ◌++◌, None, Result, Err}
+use Rattle.access_states.specs.AccessMap.{owner_of}
+use Rattle.access_states.specs.Change.{change_between}
+use Rattle.access_states.specs.declared.change.Change.{Change}
+use Rattle.scsi_types.specs.Nexus.{Nexus}
+use Rattle.scsi_types.specs.declared.names.Group.{Group}
+use Rattle.scsi_types.specs.declared.command.Command.{Command as ScsiCommand}
+use Rattle.scsi_types.specs.declared.command.CdbFault.{CdbFault}
+use Rattle.unit_state.specs.declared.control.TheConstants.{LAST_COUNT}
+use Rattle.unit_state.specs.declared.unit.MoveFault.{MoveFault}
+use Rattle.unit_state.specs.declared.unit.MoveFault.TheVariants as faults
+use Rattle.unit_state.specs.State.{ControlValue, UnitState}
+use Rattle.unit_state.specs.Choice.{Fine}
+use Rattle.unit_state.specs.Sessions.{session_of}
+use Rattle.unit_state.specs.Groups.{is_moved_by, move_by}
+use Rattle.unit_state.specs.Refusal.{request}
+use Rattle.unit_state.specs.Step.{TakesMemory}
+use Rattle.unit_state.specs.Entry.{Entry, HasRoom, Move}
+use Rattle.unit_state.specs.History.{state_after}
+
+-- behind the history no session of this nexus has room
+abbrev pub IsFull : UnitState → List Entry → Nexus → Type 0
+IsFull s history nexus = HasRoom (state_after s history).control nexus → ⊥
+
+-- behind the history this session is not attached
+abbrev pub IsAbsent : UnitState → List Entry → ℕ → Type 0
+IsAbsent s history session = session_of (state_after s history).control.sessions session ≡ None
+
+-- behind it this session is not attached, or it has its last length
+abbrev pub IsGone : UnitState → List Entry → ℕ → Type 0
+IsGone s history session = IsAbsent s history session ⊎ (LAST_COUNT ≤ (state_after s history).control.count)
+
+-- behind the history this group owns the unit
+abbrev pub IsOwner : UnitState → List Entry → Group → Type 0
+IsOwner s history group = group ≡ owner_of (state_after s history).control.access
+
+-- behind the history this command takes memory
+abbrev pub WantsMemory : UnitState → List Entry → ℕ → Result ScsiCommand CdbFault → List ℕ → Type 0
+WantsMemory s history session asked bytes = TakesMemory (state_after s history).control (request session asked bytes)
+
+-- The unit does not move as the list says: the history has its last length; the list is one that the access states cannot
+-- follow; or it changes the owner, and the blocks could not be opened for the other.
+abbrev pub StaysAt : ControlValue → List ℕ → MoveFault → Type 0
+StaysAt c list faults.Gone = LAST_COUNT ≤ c.count
+StaysAt c list (faults.List fault) = move_by c list ≡ Err fault
+StaysAt c list faults.OpenFailed = is_moved_by c.access (move_by c list) ≡ true
+
+abbrev pub IsStay : UnitState → List Entry → List ℕ → MoveFault → Type 0
+IsStay s history list why = StaysAt (state_after s history).control list why
+
+-- what a move told is what changed
+abbrev pub IsMoveTold : UnitState → List Entry → List ℕ → Change → Type 0
+IsMoveTold s history list told = told ≡ change_between (state_after s history).control.access
+    (state_after s (history ++ Move list Fine ∷ [])).control.access

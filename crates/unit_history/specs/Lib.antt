@@ -1,0 +1,6 @@
+pub mod Histories
+pub mod Causes
+pub mod RowOf
+pub mod Calls
+pub mod Naming
+pub mod Places

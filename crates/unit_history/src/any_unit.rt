@@ -1,0 +1,176 @@
+//! A unit at a place that is known when it runs.
+ghost use Rattle.std.specs.Prelude.{◌≡◌, ◌≤◌, ◌&&◌, ℕ, [], length, IfOk, IfErr, IsTrue, MatchBool, All, List};
+ghost use mathlib.Core.List.{IsPrefix};
+ghost use Rattle.reservations.specs.Nexus.{IsPortName, through};
+ghost use Rattle.unit_history.specs.Calls.{HasAttached, HasNoRoom, HasServed, HasRefused, HasReset, WasGone, HasRetired};
+ghost use Rattle.unit_history.specs.Calls.{HasFlushed, HasMoved, HasStayed, HaveMet, IsShown};
+ghost use Rattle.unit_history.specs.Places.{place_of};
+
+use crate::entry::Opened;
+use crate::shared::{LegalHistory, Pass, Seat, SharedUnit};
+use access_states::Change;
+use block_file::{Blocks, DeviceFailed, Opener};
+use locked_unit::Refused;
+use numbering::Array;
+use scsi_types::{Asked, Group, PortName, Reply};
+use status::Row;
+use std::alloc::Global;
+use std::sync::{Mutex, Wait};
+use unit_state::MoveFault;
+
+/// A shared unit, and a reader's seat at its board.
+#[derive(Drop)]
+pub struct Seated<B: Blocks, R: Blocks, O: Opener<B>, N: Array<Opened>, const U: usize> {
+    pub(crate) unit: SharedUnit<B, R, O, N, U>,
+    pub(crate) seat: Mutex<Seat<B, R, O, N, U>>,
+}
+
+impl<B: Blocks, R: Blocks, O: Opener<B>, N: Array<Opened>, const U: usize> Seated<B, R, O, N, U> {
+    /// What the board shows. The lock is the reader's own.
+    fn read<W: Wait>(&self, rt: &W) -> Row
+        ensures { IsShown (O.claims && B.claims) (N.opening U) result }
+    {
+        let mut seat = self.seat.lock(rt);
+        self.unit.board().read(rt, &mut seat)
+    }
+}
+
+/// A shared unit, by its place.
+#[derive(Drop)]
+pub enum AnyUnit<B: Blocks, R: Blocks, O: Opener<B>, N: Array<Opened>> {
+    Zero(Seated<B, R, O, N, 0>),
+    One(Seated<B, R, O, N, 1>),
+    Two(Seated<B, R, O, N, 2>),
+    Three(Seated<B, R, O, N, 3>),
+    Four(Seated<B, R, O, N, 4>),
+    Five(Seated<B, R, O, N, 5>),
+    Six(Seated<B, R, O, N, 6>),
+    Seven(Seated<B, R, O, N, 7>),
+}
+
+/// The call of the unit, whichever it is.
+macro_rules! each {
+    ($self:expr, $unit:ident, $call:expr) => {
+        match $self {
+            AnyUnit::Zero($unit) => $call,
+            AnyUnit::One($unit) => $call,
+            AnyUnit::Two($unit) => $call,
+            AnyUnit::Three($unit) => $call,
+            AnyUnit::Four($unit) => $call,
+            AnyUnit::Five($unit) => $call,
+            AnyUnit::Six($unit) => $call,
+            AnyUnit::Seven($unit) => $call,
+        }
+    };
+}
+
+impl<B: Blocks, R: Blocks, O: Opener<B>, N: Array<Opened>> AnyUnit<B, R, O, N> {
+    /// Attaches a session of this port by this group, as [`SharedUnit::attach`].
+    pub(crate) fn attach<W: Wait>(
+        &self,
+        rt: &W,
+        port: PortName,
+        group: Group,
+    ) -> Result<Pass<B, R, O, N>, LegalHistory<B, R, O, N>>
+        requires { IsPortName port }
+        ensures attached { IfOk result (λ p. (p.place ≡ place_of self.now)
+            × HasAttached (O.claims && B.claims) (N.opening (place_of self.now)) (through port group) p.pass) }
+        ensures full { IfErr result (λ f. (f.0 ≡ place_of self.now)
+            × HasNoRoom (O.claims && B.claims) (N.opening (place_of self.now)) (through port group) f.1) }
+    {
+        each!(self, seated, seated.unit.attach(rt, port, group))
+    }
+
+    /// Serves a command of the session, as [`SharedUnit::serve`].
+    pub(crate) fn serve<W: Wait>(
+        &self,
+        rt: &W,
+        pass: Pass<B, R, O, N>,
+        alloc: Global,
+        by_group: &Group,
+        asked: &Asked,
+        bytes: &[u8],
+    ) -> (Pass<B, R, O, N>, Result<Reply, Refused<Group>>)
+        requires { pass.place ≡ place_of self.now }
+        ensures place { result.0.place ≡ place_of self.now }
+        ensures served { IfOk result.1 (λ reply. HasServed (O.claims && B.claims) (N.opening (place_of self.now)) pass.pass
+            result.0.pass by_group.now asked.now bytes.now reply) }
+        ensures refused { IfErr result.1 (λ why. HasRefused (O.claims && B.claims) (N.opening (place_of self.now)) pass.pass
+            result.0.pass by_group.now asked.now bytes.now why) }
+    {
+        each!(
+            self,
+            seated,
+            seated.unit.serve(rt, pass, alloc, by_group, asked, bytes)
+        )
+    }
+
+    /// Resets the unit for the session, as [`SharedUnit::reset`].
+    pub(crate) fn reset<W: Wait>(&self, rt: &W, pass: Pass<B, R, O, N>) -> (Pass<B, R, O, N>, bool)
+        requires { pass.place ≡ place_of self.now }
+        ensures place { result.0.place ≡ place_of self.now }
+        ensures done { MatchBool result.1
+            (HasReset (O.claims && B.claims) (N.opening (place_of self.now)) pass.pass result.0.pass)
+            (WasGone (O.claims && B.claims) (N.opening (place_of self.now)) pass.pass result.0.pass) }
+    {
+        each!(self, seated, seated.unit.reset(rt, pass))
+    }
+
+    /// Ends the session, as [`SharedUnit::retire`].
+    pub(crate) fn retire<W: Wait>(
+        &self,
+        rt: &W,
+        pass: Pass<B, R, O, N>,
+    ) -> Result<LegalHistory<B, R, O, N>, Pass<B, R, O, N>>
+        requires { pass.place ≡ place_of self.now }
+        ensures done { IfOk result (λ f. (f.0 ≡ place_of self.now)
+            × HasRetired (O.claims && B.claims) (N.opening (place_of self.now)) pass.pass f.1) }
+        ensures gone { IfErr result (λ p. (p.place ≡ place_of self.now)
+            × WasGone (O.claims && B.claims) (N.opening (place_of self.now)) pass.pass p.pass) }
+    {
+        each!(self, seated, seated.unit.retire(rt, pass))
+    }
+
+    /// Moves the unit as a list says, as [`SharedUnit::move_to`].
+    pub(crate) fn move_to<W: Wait>(
+        &self,
+        rt: &W,
+        list: &[u8],
+    ) -> (LegalHistory<B, R, O, N>, Result<Change, MoveFault>)
+        ensures place { result.0.0 ≡ place_of self.now }
+        ensures moved { IfOk result.1 (λ told.
+            HasMoved (O.claims && B.claims) (N.opening (place_of self.now)) list.now result.0.1 told) }
+        ensures stays { IfErr result.1 (λ why.
+            HasStayed (O.claims && B.claims) (N.opening (place_of self.now)) list.now result.0.1 why) }
+    {
+        each!(self, seated, seated.unit.move_to(rt, list))
+    }
+
+    /// Both sessions have then seen what either had, as [`SharedUnit::meet`].
+    pub(crate) fn meet(
+        &self,
+        one: Pass<B, R, O, N>,
+        two: Pass<B, R, O, N>,
+    ) -> (Pass<B, R, O, N>, Pass<B, R, O, N>)
+        requires { (one.place ≡ place_of self.now) × (two.place ≡ place_of self.now) }
+        ensures places { (result.0.place ≡ place_of self.now) × (result.1.place ≡ place_of self.now) }
+        ensures met { HaveMet (O.claims && B.claims) (N.opening (place_of self.now)) one.pass two.pass result.0.pass result.1.pass }
+    {
+        each!(self, seated, seated.unit.meet(one, two))
+    }
+
+    /// Makes what was written last, as [`SharedUnit::flush`].
+    pub(crate) fn flush<W: Wait>(&self, rt: &W) -> Result<(), DeviceFailed>
+        ensures { IfOk result (λ done. HasFlushed (O.claims && B.claims) B.claims B.contents B.may_hold B.failures O.opens_failed
+            R.failures (N.opening (place_of self.now))) }
+    {
+        each!(self, seated, seated.unit.flush(rt))
+    }
+
+    /// What the board shows.
+    pub(crate) fn read<W: Wait>(&self, rt: &W) -> Row
+        ensures { IsShown (O.claims && B.claims) (N.opening (place_of self.now)) result }
+    {
+        each!(self, seated, seated.read(rt))
+    }
+}

@@ -1,0 +1,31 @@
+//! Units before they have names.
+ghost use Rattle.std.specs.Prelude.{◌≡◌, ◌<◌, ◌+◌, IfOk};
+ghost use Rattle.unit_state.specs.Serials.{IsOpening};
+
+use crate::entry::{Noted, Opened};
+use block_file::{Blocks, Opener};
+use locked_unit::NewUnit as Posted;
+use scsi_types::NoMemory;
+use std::alloc::Global;
+use unit_state::Unit;
+
+/// A unit of which nothing was asked yet, before it has a name.
+#[derive(Drop)]
+pub struct NewUnit<B: Blocks, R: Blocks, O: Opener<B>> {
+    pub posted: Posted<Noted, Opened, Unit<B, R, O>>,
+    pub unit: Unit<B, R, O>,
+    pub ghost opens: { IsOpening unit.control },
+}
+
+impl<B: Blocks, R: Blocks, O: Opener<B>> NewUnit<B, R, O> {
+    /// A unit as it opened. Refused, it is dropped.
+    pub fn new(alloc: Global, unit: Unit<B, R, O>) -> Result<NewUnit<B, R, O>, NoMemory>
+        requires { IsOpening unit.control }
+        ensures { IfOk result (λ new. new.unit ≡ unit) }
+    {
+        let Ok(posted) = Posted::new(alloc) else {
+            return Err(NoMemory);
+        };
+        Ok(NewUnit { posted, unit })
+    }
+}

@@ -1,0 +1,189 @@
+//! One unit that threads share.
+ghost use Rattle.std.specs.Prelude.{◌≡◌, ◌≤◌, ◌&&◌, [], length, IfOk, IfErr, IsTrue, MatchBool, All, List};
+ghost use mathlib.Core.List.{IsPrefix};
+ghost use Rattle.reservations.specs.Nexus.{IsPortName, through};
+ghost use Rattle.unit_state.specs.State.{state_of};
+ghost use Rattle.unit_state.specs.Serials.{IsOpening};
+ghost use Rattle.unit_history.specs.Histories.{IsBehind, IsHistory};
+ghost use Rattle.unit_history.specs.Calls.{HasAttached, HasNoRoom, HasServed, HasRefused, HasReset, WasGone, HasRetired};
+ghost use Rattle.unit_history.specs.Calls.{HasFlushed, HasMoved, HasStayed, HaveMet};
+ghost use Rattle.unit_history.specs.Naming.{IsNamedAt};
+
+use crate::entry::{Arrival, Noted, Opened};
+use crate::new_unit::NewUnit;
+use access_states::Change;
+use block_file::{Blocks, DeviceFailed, Opener};
+use locked_unit::{LegalHistory as Seen, Pass as SessionPass, Refused};
+use numbering::{Array, At};
+use scsi_types::{Asked, Group, NoMemory, PortName, Reply};
+use status::{Board as StatusBoard, MOST_SEATS, Seat as BoardSeat};
+use std::alloc::Global;
+use std::sync::Wait;
+use unit_state::{MoveFault, Unit};
+
+/// A session of a unit: what it has seen of the unit's history, and the one right to add the session's entries. Contracts see
+/// the unit's place, the session's number, the serial of its next command, and the entries that it has seen.
+pub type Pass<B, R, O, N> = SessionPass<Noted, Opened, Unit<B, R, O>, N>;
+
+/// A legal history that was seen of a unit. Contracts see the unit's place and the entries.
+pub type LegalHistory<B, R, O, N> = Seen<Noted, Opened, Unit<B, R, O>, N>;
+
+/// The board that shows a unit.
+pub type Board<B, R, O, N, const U: usize> = StatusBoard<
+    Noted,
+    Opened,
+    Unit<B, R, O>,
+    At<Opened, N, U>,
+>;
+
+/// A reader's seat at the board of a unit. Contracts see the history whose row it read last.
+pub type Seat<B, R, O, N, const U: usize> = BoardSeat<
+    Noted,
+    Opened,
+    Unit<B, R, O>,
+    At<Opened, N, U>,
+>;
+
+/// The unit at a place of an array, which all threads share: each call of any session is one step of it, at one point of one
+/// history.
+#[derive(Drop)]
+pub struct SharedUnit<B: Blocks, R: Blocks, O: Opener<B>, N: Array<Opened>, const U: usize> {
+    unit: locked_unit::SharedUnit<Noted, Opened, Unit<B, R, O>, N, U>,
+}
+
+/// A unit of which nothing was asked yet is what the history without an entry leaves.
+fn opens<B: Blocks, R: Blocks, O: Opener<B>, N: Array<Opened>, const U: usize>(unit: &Unit<B, R, O>)
+    requires state { N.opening U ≡ state_of B.contents unit.now }
+    requires opens { IsOpening unit.now.control }
+    ensures legal { IsHistory (O.claims && B.claims) (N.opening U) [] }
+    ensures behind { IsBehind (O.claims && B.claims) B.contents B.failures O.opens_failed R.failures (N.opening U) [] unit.now }
+{
+    let _ = unit;
+}
+
+impl<B: Blocks, R: Blocks, O: Opener<B>, N: Array<Opened>, const U: usize> SharedUnit<
+    B,
+    R,
+    O,
+    N,
+    U,
+> {
+    /// The unit under its name, and so many readers' seats at its board, which shows that it has no entry.
+    pub fn new<W: Wait>(
+        rt: &W,
+        alloc: Global,
+        new: NewUnit<B, R, O>,
+        seats: usize,
+    ) -> Result<(SharedUnit<B, R, O, N, U>, Vec<Seat<B, R, O, N, U>>), NoMemory>
+        requires named { IsNamedAt N.book N.table N.opening B.contents U new }
+        requires seats { seats ≤ MOST_SEATS }
+        ensures { IfOk result (λ r. (length r.1.items ≡ seats) × All (λ seat. seat ≡ []) r.1.items) }
+    {
+        let NewUnit { posted, unit } = new;
+        opens::<B, R, O, N, U>(&unit);
+        match locked_unit::SharedUnit::new(rt, alloc, posted, unit, seats) {
+            Ok((unit, seats)) => Ok((SharedUnit { unit }, seats)),
+            Err(_) => Err(NoMemory),
+        }
+    }
+
+    /// The board that shows the unit.
+    pub fn board(&self) -> &Board<B, R, O, N, U> {
+        self.unit.board()
+    }
+
+    /// Attaches a session of this port by this group, and ends one that the nexus had. The port has a name of 1 to 223 bytes,
+    /// and its ISID fits six. Refused, 64 sessions of other nexuses are attached, or the history has its last length.
+    pub fn attach<W: Wait>(
+        &self,
+        rt: &W,
+        port: PortName,
+        group: Group,
+    ) -> Result<Pass<B, R, O, N>, LegalHistory<B, R, O, N>>
+        requires { IsPortName port }
+        ensures attached { IfOk result (λ p. (p.place ≡ U)
+            × HasAttached (O.claims && B.claims) (N.opening U) (through port group) p.pass) }
+        ensures full { IfErr result (λ f. (f.0 ≡ U)
+            × HasNoRoom (O.claims && B.claims) (N.opening U) (through port group) f.1) }
+    {
+        self.unit.attach(rt, Arrival { port, group })
+    }
+
+    /// Serves a command of the session that came by this group, with the data that came for it.
+    pub fn serve<W: Wait>(
+        &self,
+        rt: &W,
+        pass: Pass<B, R, O, N>,
+        alloc: Global,
+        by_group: &Group,
+        asked: &Asked,
+        bytes: &[u8],
+    ) -> (Pass<B, R, O, N>, Result<Reply, Refused<Group>>)
+        requires { pass.place ≡ U }
+        ensures place { result.0.place ≡ U }
+        ensures served { IfOk result.1 (λ reply. HasServed (O.claims && B.claims) (N.opening U) pass.pass result.0.pass
+            by_group.now asked.now bytes.now reply) }
+        ensures refused { IfErr result.1 (λ why. HasRefused (O.claims && B.claims) (N.opening U) pass.pass result.0.pass
+            by_group.now asked.now bytes.now why) }
+    {
+        self.unit.serve(rt, pass, alloc, by_group, asked, bytes)
+    }
+
+    /// Resets the unit for the session (SAM-5, logical unit reset). False: the session is gone.
+    pub fn reset<W: Wait>(&self, rt: &W, pass: Pass<B, R, O, N>) -> (Pass<B, R, O, N>, bool)
+        requires { pass.place ≡ U }
+        ensures place { result.0.place ≡ U }
+        ensures done { MatchBool result.1 (HasReset (O.claims && B.claims) (N.opening U) pass.pass result.0.pass)
+            (WasGone (O.claims && B.claims) (N.opening U) pass.pass result.0.pass) }
+    {
+        self.unit.reset(rt, pass)
+    }
+
+    /// Ends the session. Refused, it is gone.
+    pub fn retire<W: Wait>(
+        &self,
+        rt: &W,
+        pass: Pass<B, R, O, N>,
+    ) -> Result<LegalHistory<B, R, O, N>, Pass<B, R, O, N>>
+        requires { pass.place ≡ U }
+        ensures done { IfOk result (λ f. (f.0 ≡ U) × HasRetired (O.claims && B.claims) (N.opening U) pass.pass f.1) }
+        ensures gone { IfErr result (λ p. (p.place ≡ U) × WasGone (O.claims && B.claims) (N.opening U) pass.pass p.pass) }
+    {
+        self.unit.retire(rt, pass)
+    }
+
+    /// Moves the unit as a parameter list of SET TARGET PORT GROUPS says, without a session, or tells why it stays.
+    pub fn move_to<W: Wait>(
+        &self,
+        rt: &W,
+        list: &[u8],
+    ) -> (LegalHistory<B, R, O, N>, Result<Change, MoveFault>)
+        ensures place { result.0.0 ≡ U }
+        ensures moved { IfOk result.1 (λ told. HasMoved (O.claims && B.claims) (N.opening U) list.now result.0.1 told) }
+        ensures stays { IfErr result.1 (λ why. HasStayed (O.claims && B.claims) (N.opening U) list.now result.0.1 why) }
+    {
+        self.unit.move_to(rt, list)
+    }
+
+    /// Both sessions have then seen what either had: one legal history. It waits for nobody.
+    pub fn meet(
+        &self,
+        one: Pass<B, R, O, N>,
+        two: Pass<B, R, O, N>,
+    ) -> (Pass<B, R, O, N>, Pass<B, R, O, N>)
+        requires { (one.place ≡ U) × (two.place ≡ U) }
+        ensures places { (result.0.place ≡ U) × (result.1.place ≡ U) }
+        ensures met { HaveMet (O.claims && B.claims) (N.opening U) one.pass two.pass result.0.pass result.1.pass }
+    {
+        self.unit.meet(one, two)
+    }
+
+    /// Makes what was written last: after a success there was a legal history behind which a crash left the blocks that the
+    /// unit held. It is no entry.
+    pub fn flush<W: Wait>(&self, rt: &W) -> Result<(), DeviceFailed>
+        ensures { IfOk result (λ done. HasFlushed (O.claims && B.claims) B.claims B.contents B.may_hold B.failures O.opens_failed
+            R.failures (N.opening U)) }
+    {
+        self.unit.flush(rt)
+    }
+}

@@ -1,0 +1,223 @@
+//! The units of an array.
+ghost use Rattle.std.specs.Prelude.{◌≡◌, ◌<◌, ◌≤◌, ◌&&◌, length, IfOk, IfErr, IsTrue, MatchBool, List};
+ghost use Rattle.reservations.specs.Nexus.{IsPortName, through};
+ghost use Rattle.unit_history.specs.Calls.{HasAttached, HasNoRoom, HasServed, HasRefused, HasReset, WasGone, HasRetired};
+ghost use Rattle.unit_history.specs.Calls.{HasFlushed, HasMoved, HasStayed, HaveMet, IsShown};
+ghost use Rattle.unit_history.specs.Naming.{IsNamed, IsNamedAt};
+ghost use Rattle.unit_history.specs.Places.{place_of};
+
+use crate::any_unit::{AnyUnit, Seated};
+use crate::entry::Opened;
+use crate::new_unit::NewUnit;
+use crate::shared::{LegalHistory, Pass, SharedUnit};
+use access_states::Change;
+use block_file::{Blocks, DeviceFailed, Opener};
+use locked_unit::Refused;
+use numbering::Array;
+use scsi_types::{Asked, Group, NoMemory, PortName, Reply};
+use status::Row;
+use std::alloc::Global;
+use std::marker::Model;
+use std::sync::{Mutex, Wait};
+use unit_state::MoveFault;
+
+/// The most units of an array.
+pub const MOST_UNITS: usize = 8;
+
+/// Units 0 to n-1 of an array, which all threads share. Contracts see how many there are.
+#[derive(Drop)]
+pub struct Units<B: Blocks, R: Blocks, O: Opener<B>, N: Array<Opened>> {
+    units: Vec<AnyUnit<B, R, O, N>>,
+}
+
+impl<B: Blocks, R: Blocks, O: Opener<B>, N: Array<Opened>> Model for Units<B, R, O, N> {
+    ghost use Rattle.std.specs.Prelude.{ℕ, ◌≤◌, length};
+    ghost use Rattle.unit_history.specs.Places.{AreInOrder};
+
+    ghost Value = { ℕ };
+
+    ghost view = { λ u. length u.units.items };
+
+    ghost invariant = { λ u. AreInOrder u.units.items × (length u.units.items ≤ 8) };
+}
+
+/// The unit at a place under its name, with a reader's seat at its board.
+fn seated<B: Blocks, R: Blocks, O: Opener<B>, N: Array<Opened>, const U: usize, W: Wait>(
+    rt: &W,
+    alloc: Global,
+    new: NewUnit<B, R, O>,
+) -> Result<Seated<B, R, O, N, U>, NoMemory>
+    requires { IsNamedAt N.book N.table N.opening B.contents U new }
+{
+    let (unit, mut seats) = SharedUnit::new(rt, alloc, new, 1)?;
+    let Some(seat) = seats.pop() else {
+        unreachable!()
+    };
+    Ok(Seated {
+        unit,
+        seat: Mutex::new(seat),
+    })
+}
+
+/// The unit at a place that is known when it runs.
+fn any_seated<B: Blocks, R: Blocks, O: Opener<B>, N: Array<Opened>, W: Wait>(
+    rt: &W,
+    alloc: Global,
+    place: usize,
+    new: NewUnit<B, R, O>,
+) -> Result<AnyUnit<B, R, O, N>, NoMemory>
+    requires named { IsNamedAt N.book N.table N.opening B.contents place new }
+    requires place { place < 8 }
+    ensures { IfOk result (λ unit. place_of unit ≡ place) }
+{
+    match place {
+        0 => Ok(AnyUnit::Zero(seated(rt, alloc, new)?)),
+        1 => Ok(AnyUnit::One(seated(rt, alloc, new)?)),
+        2 => Ok(AnyUnit::Two(seated(rt, alloc, new)?)),
+        3 => Ok(AnyUnit::Three(seated(rt, alloc, new)?)),
+        4 => Ok(AnyUnit::Four(seated(rt, alloc, new)?)),
+        5 => Ok(AnyUnit::Five(seated(rt, alloc, new)?)),
+        6 => Ok(AnyUnit::Six(seated(rt, alloc, new)?)),
+        7 => Ok(AnyUnit::Seven(seated(rt, alloc, new)?)),
+        _ => unreachable!(),
+    }
+}
+
+impl<B: Blocks, R: Blocks, O: Opener<B>, N: Array<Opened>> Units<B, R, O, N> {
+    /// These units under their names, in their order. Refused, they are dropped.
+    pub fn new<W: Wait>(
+        rt: &W,
+        alloc: Global,
+        new: Vec<NewUnit<B, R, O>>,
+    ) -> Result<Units<B, R, O, N>, NoMemory>
+        requires named { IsNamed N.book N.table N.opening B.contents new.items }
+        requires count { length new.items ≤ 8 }
+        ensures { IfOk result (λ units. units ≡ length new.items) }
+    {
+        let mut new = new;
+        let mut units = Vec::new(alloc);
+        for place in 0..new.len() {
+            let unit = any_seated(rt, alloc, place, new.remove(0))?;
+            units.push(unit)?;
+        }
+        Ok(Units { units })
+    }
+
+    /// How many units there are.
+    pub fn count(&self) -> usize
+        ensures count { result ≡ self.now }
+        ensures few { result ≤ 8 }
+    {
+        self.units.len()
+    }
+
+    /// The unit at a place.
+    fn at(&self, place: usize) -> &AnyUnit<B, R, O, N>
+        requires { place < self.now }
+        ensures { place_of result.now ≡ place }
+    {
+        &self.units[place]
+    }
+
+    /// Attaches a session of this port by this group to the unit at a place, as [`crate::SharedUnit::attach`].
+    pub fn attach<W: Wait>(
+        &self,
+        rt: &W,
+        place: usize,
+        port: PortName,
+        group: Group,
+    ) -> Result<Pass<B, R, O, N>, LegalHistory<B, R, O, N>>
+        requires name { IsPortName port }
+        requires place { place < self.now }
+        ensures attached { IfOk result (λ p. (p.place ≡ place)
+            × HasAttached (O.claims && B.claims) (N.opening place) (through port group) p.pass) }
+        ensures full { IfErr result (λ f. (f.0 ≡ place)
+            × HasNoRoom (O.claims && B.claims) (N.opening place) (through port group) f.1) }
+    {
+        self.at(place).attach(rt, port, group)
+    }
+
+    /// Serves a command of the session, as [`crate::SharedUnit::serve`].
+    pub fn serve<W: Wait>(
+        &self,
+        rt: &W,
+        pass: Pass<B, R, O, N>,
+        alloc: Global,
+        by_group: &Group,
+        asked: &Asked,
+        bytes: &[u8],
+    ) -> (Pass<B, R, O, N>, Result<Reply, Refused<Group>>)
+        requires { pass.place < self.now }
+        ensures place { result.0.place ≡ pass.place }
+        ensures served { IfOk result.1 (λ reply. HasServed (O.claims && B.claims) (N.opening pass.place) pass.pass
+            result.0.pass by_group.now asked.now bytes.now reply) }
+        ensures refused { IfErr result.1 (λ why. HasRefused (O.claims && B.claims) (N.opening pass.place) pass.pass
+            result.0.pass by_group.now asked.now bytes.now why) }
+    {
+        let place = pass.place();
+        self.at(place)
+            .serve(rt, pass, alloc, by_group, asked, bytes)
+    }
+
+    /// Resets the unit of the session, as [`crate::SharedUnit::reset`].
+    pub fn reset<W: Wait>(&self, rt: &W, pass: Pass<B, R, O, N>) -> (Pass<B, R, O, N>, bool)
+        requires { pass.place < self.now }
+        ensures place { result.0.place ≡ pass.place }
+        ensures done { MatchBool result.1
+            (HasReset (O.claims && B.claims) (N.opening pass.place) pass.pass result.0.pass)
+            (WasGone (O.claims && B.claims) (N.opening pass.place) pass.pass result.0.pass) }
+    {
+        let place = pass.place();
+        self.at(place).reset(rt, pass)
+    }
+
+    /// Ends the session, as [`crate::SharedUnit::retire`].
+    pub fn retire<W: Wait>(
+        &self,
+        rt: &W,
+        pass: Pass<B, R, O, N>,
+    ) -> Result<LegalHistory<B, R, O, N>, Pass<B, R, O, N>>
+        requires { pass.place < self.now }
+        ensures done { IfOk result (λ f. (f.0 ≡ pass.place)
+            × HasRetired (O.claims && B.claims) (N.opening pass.place) pass.pass f.1) }
+        ensures gone { IfErr result (λ p. (p.place ≡ pass.place)
+            × WasGone (O.claims && B.claims) (N.opening pass.place) pass.pass p.pass) }
+    {
+        let place = pass.place();
+        self.at(place).retire(rt, pass)
+    }
+
+    /// Moves the unit at a place as a list says, as [`crate::SharedUnit::move_to`].
+    pub fn move_to<W: Wait>(
+        &self,
+        rt: &W,
+        place: usize,
+        list: &[u8],
+    ) -> (LegalHistory<B, R, O, N>, Result<Change, MoveFault>)
+        requires { place < self.now }
+        ensures place { result.0.0 ≡ place }
+        ensures moved { IfOk result.1 (λ told.
+            HasMoved (O.claims && B.claims) (N.opening place) list.now result.0.1 told) }
+        ensures stays { IfErr result.1 (λ why.
+            HasStayed (O.claims && B.claims) (N.opening place) list.now result.0.1 why) }
+    {
+        self.at(place).move_to(rt, list)
+    }
+
+    /// Makes what was written to the unit at a place last, as [`crate::SharedUnit::flush`].
+    pub fn flush<W: Wait>(&self, rt: &W, place: usize) -> Result<(), DeviceFailed>
+        requires { place < self.now }
+        ensures { IfOk result (λ done. HasFlushed (O.claims && B.claims) B.claims B.contents B.may_hold B.failures O.opens_failed
+            R.failures (N.opening place)) }
+    {
+        self.at(place).flush(rt)
+    }
+
+    /// What the board of the unit at a place shows: the row of a legal history. It does not wait for the unit's lock.
+    pub fn read<W: Wait>(&self, rt: &W, place: usize) -> Row
+        requires { place < self.now }
+        ensures { IsShown (O.claims && B.claims) (N.opening place) result }
+    {
+        self.at(place).read(rt)
+    }
+}
