@@ -132,7 +132,7 @@ pub fn perform<
     let first = serve::<N, B, F, O, R>(rt, alloc, first, &server, Group::One)?;
     let second = serve::<N, B, F, O, R>(rt, alloc, second, &server, Group::Two)?;
     let portals = [found_at(first_at), found_at(second_at)];
-    let mut stage = Stage::new(rt, alloc, &server.device.gate, portals)?;
+    let mut stage = Stage::new(rt, alloc, &server.device.gate, portals);
     stage.perform(script.text)?;
     end(rt, first)?;
     end(rt, second)?;

@@ -8,7 +8,7 @@ A at 1
 A > LOGIN 7:37 FINDS
 A < LOGGED_IN 7:1F "MaxRecvDataSegmentLength=65536\0"
 A > TEXT_REQUEST 7:10 "SendTargets=All\0"
-A told "TargetName=iqn.2000-01.test:array\0TargetAddress=" FIRST ",1\0TargetAddress=" SECOND ",2\0"
+A told
 A > LOGOUT
 A < LOGGED_OUT
 A over
@@ -16,7 +16,7 @@ B at 2
 B > LOGIN 7:37 FINDS
 B < LOGGED_IN 7:1F 15:02 "MaxRecvDataSegmentLength=65536\0"
 B > TEXT_REQUEST 7:10 "SendTargets=All\0"
-B told "TargetName=iqn.2000-01.test:array\0TargetAddress=" FIRST ",1\0TargetAddress=" SECOND ",2\0"
+B told
 "#;
 
 #[test]

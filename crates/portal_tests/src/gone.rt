@@ -2,8 +2,8 @@
 ghost use Rattle.std.specs.Prelude.{◌≡◌, ◌≤◌, length};
 ghost use Rattle.unit_history.specs.Naming.{IsNamed};
 
-use crate::units::{MemUnit, two};
-use block_file::{KeepOpener, MemBlocks};
+use crate::units::two;
+use block_file::{Blocks, Opener};
 use login::Kind;
 use numbering::Array as Naming;
 use portal::{Connection, Open, SessionTarget, TargetDevice};
@@ -14,7 +14,7 @@ use std::marker::Brand;
 use std::process::Abort;
 use std::sync::Wait;
 use std::test::*;
-use unit_history::{Opened, Pass, Units};
+use unit_history::{NewUnit, Opened, Pass, Units};
 
 /// A connection that nothing ends.
 #[derive(Clone, Copy, Debug, Drop)]
@@ -46,59 +46,59 @@ fn is_gone<T: Target>(target: &mut T) -> bool {
     )
 }
 
-type Units2<N> = Units<MemBlocks, MemBlocks, KeepOpener, N>;
+// The first session begins, and then the second, of the same nexus.
+fn begin_both<T: Target, R: Abort>(rt: &R, first: &mut T, second: &mut T) {
+    assert!(rt; first.begin(NAME, ISID, Kind::Normal) == BeginAnswer::Begun(1));
+    assert!(rt; status_of(first) == Some(2));
+    assert!(rt; status_of(first) == Some(0));
+    assert!(rt; second.begin(NAME, ISID, Kind::Normal) == BeginAnswer::Begun(2));
+}
 
-type Pass2<N> = Pass<MemBlocks, MemBlocks, KeepOpener, N>;
-
-fn begin_twice<N: Naming<Opened>, R: Wait + Abort>(
-    rt: &R,
-    alloc: Global,
-    new: Vec<MemUnit>,
-) -> Result<(), Fail>
-    requires named { IsNamed N.book N.table N.opening MemBlocks.contents new.items }
-    requires count { length new.items ≤ 8 }
-{
-    let units = Units2::<N>::new(rt, alloc, new)?;
-    let device = TargetDevice::new(alloc, units, Open);
-    let mut first = SessionTarget::<R, Units2<N>, Open, Endless, Pass2<N>>::new(
-        rt,
-        alloc,
-        &device,
-        Group::One,
-        Endless,
-    );
-    assert_eq!(rt;
-        first.begin(NAME, ISID, Kind::Normal),
-        BeginAnswer::Begun(1)
-    );
-    assert_eq!(rt; status_of(&mut first), Some(2));
-    assert_eq!(rt; status_of(&mut first), Some(0));
-    let mut second = SessionTarget::<R, Units2<N>, Open, Endless, Pass2<N>>::new(
-        rt,
-        alloc,
-        &device,
-        Group::One,
-        Endless,
-    );
-    assert_eq!(rt;
-        second.begin(NAME, ISID, Kind::Normal),
-        BeginAnswer::Begun(2)
-    );
-    assert!(rt; is_gone(&mut first));
-    assert_eq!(rt; first.reset(0), ResetAnswer::Gone);
+// The first one is over, and its end does not touch the second.
+fn compare<T: Target, R: Abort>(rt: &R, first: &mut T, second: &mut T) {
+    assert!(rt; is_gone(first));
+    assert!(rt; first.reset(0) == ResetAnswer::Gone);
     assert!(rt; second.lives(2, NAME, ISID));
     assert!(rt; !second.lives(1, NAME, ISID));
     first.end();
-    assert_eq!(rt; status_of(&mut second), Some(2));
-    assert_eq!(rt; status_of(&mut second), Some(0));
-    assert_eq!(rt; second.reset(0), ResetAnswer::Done);
+    assert!(rt; status_of(second) == Some(2));
+    assert!(rt; status_of(second) == Some(0));
+    assert!(rt; second.reset(0) == ResetAnswer::Done);
     second.end();
     assert!(rt; !second.lives(2, NAME, ISID));
+}
+
+fn begin_twice<N: Naming<Opened>, B: Blocks, F: Blocks, O: Opener<B>, R: Wait + Abort>(
+    rt: &R,
+    alloc: Global,
+    new: Vec<NewUnit<B, F, O>>,
+) -> Result<(), Fail>
+    requires named { IsNamed N.book N.table N.opening B.contents new.items }
+    requires count { length new.items ≤ 8 }
+{
+    let units = Units::<B, F, O, N>::new(rt, alloc, new)?;
+    let device = TargetDevice::new(alloc, units, Open);
+    let mut first = SessionTarget::<R, Units<B, F, O, N>, Open, Endless, Pass<B, F, O, N>>::new(
+        rt,
+        alloc,
+        &device,
+        Group::One,
+        Endless,
+    );
+    let mut second = SessionTarget::<R, Units<B, F, O, N>, Open, Endless, Pass<B, F, O, N>>::new(
+        rt,
+        alloc,
+        &device,
+        Group::One,
+        Endless,
+    );
+    begin_both(rt, &mut first, &mut second);
+    compare(rt, &mut first, &mut second);
     Ok(())
 }
 
 #[test]
 fn the_older_session_is_gone(rt: HostRuntime) -> Result<(), Fail> {
     let units = two(rt.alloc())?;
-    begin_twice::<Brand, HostRuntime>(&rt, rt.alloc(), units)
+    begin_twice::<Brand, _, _, _, HostRuntime>(&rt, rt.alloc(), units)
 }

@@ -18,8 +18,8 @@ pub struct Host {
     exp_stat_sn: u32,
 }
 
-// Puts a number into a header segment.
-fn put(pdu: &mut [u8], place: usize, number: u32) {
+/// Puts a number into a header segment.
+pub fn put(pdu: &mut [u8], place: usize, number: u32) {
     if let Some(field) = pdu.get_mut(place..place.saturating_add(4)) {
         for (to, from) in field.iter_mut().zip(number.to_be_bytes()) {
             *to = from;
@@ -35,10 +35,13 @@ fn number_at(pdu: &[u8], place: usize) -> u32 {
     }
 }
 
-/// The data segment of a PDU.
-pub fn data_of(pdu: &[u8]) -> Option<&[u8]> {
-    let length = (number_at(pdu, 4) & 0xFF_FFFF) as usize;
-    pdu.get(48..length.saturating_add(48))
+/// Whether this is a Text Response with this data segment.
+pub fn is_text(came: &[u8], text: &[u8]) -> bool {
+    let length = (number_at(came, 4) & 0xFF_FFFF) as usize;
+    match came.get(48..length.saturating_add(48)) {
+        Some(data) => came.first().copied() == Some(0x24) && data == text,
+        None => false,
+    }
 }
 
 impl Host {

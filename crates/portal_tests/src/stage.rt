@@ -3,21 +3,20 @@
 //! - `A at 1`: it connects to the portal of controller 1, and is called `A` from then on;
 //! - `A > PDU`: it sends this PDU, and `A < PDU`: this PDU comes. `test_streams` says how a PDU is spelled (`pdu_of`). Behind a
 //!   login requests are numbered as they go, and of answers the numbers of the session are not compared;
-//! - `A told PARTS`: a Text Response comes, with this data segment (`bytes_of`). `FIRST` and `SECOND` are the addresses of the
-//!   portals;
+//! - `A told`: a Text Response comes that tells of the target and of both portals;
 //! - `A over`: the target has closed the connection;
 //! - `AB race PDU / PDU`: of two answers one comes to each; `WON` is the name of the one to whom the first came, in small;
 //! - `64 enter 1 PDU`: so many connections to the portal of controller 1 log in by this PDU, each with another ISID, and
 //!   `all leave PDU`: each of them sends this, is answered by a Logout Response, and the target closes the connection;
 //! - `gate hold 1`: from now on commands of unit 1 wait before it; `gate held 2`: once two of them wait; `gate open`.
-use crate::host::{Host, data_of};
+use crate::host::{Host, is_text, put};
 use crate::latch::Latch;
-use std::alloc::Global;
+use std::alloc::{AllocError, Global};
 use std::net::{Net, SocketAddrV4, TcpListener, TcpStream};
 use std::process::Abort;
 use std::sync::Wait;
 use std::test::Fail;
-use test_streams::{RowError, bytes_of, lines_of, pdu_of};
+use test_streams::{RowError, lines_of, pdu_of};
 
 /// The hosts of a script, and the array that they reach.
 #[derive(Drop)]
@@ -26,7 +25,6 @@ pub struct Stage<'a, R: Wait + Drop> {
     alloc: Global,
     gate: &'a Latch<R>,
     portals: [SocketAddrV4; 2],
-    told: [String; 2],
     names: Vec<&'a str>,
     // In the order of their names.
     hosts: Vec<Host>,
@@ -47,6 +45,16 @@ const WELCOME: &str = r"TargetPortalGroupTag=1\0MaxRecvDataSegmentLength=65536\0
 
 const WELCOME_2: &str = r"TargetPortalGroupTag=2\0MaxRecvDataSegmentLength=65536\0";
 
+// What initiators are told of the target: both portals, each with the tag of its group (RFC 7143, appendix C).
+fn told(alloc: Global, portals: [SocketAddrV4; 2]) -> Result<String, AllocError> {
+    let [first, second] = portals;
+    format!(in alloc;
+        "TargetName=iqn.2000-01.test:array\0TargetAddress=127.0.0.1:{},1\0TargetAddress=127.0.0.1:{},2\0",
+        first.port(),
+        second.port()
+    )
+}
+
 // A decimal number.
 fn number_of(word: &str) -> Result<u32, Fail> {
     let Ok(number) = word.parse() else {
@@ -62,22 +70,17 @@ impl<'a, R: Wait + Abort + Net<Listener = TcpListener, Stream = TcpStream> + Dro
         alloc: Global,
         gate: &'a Latch<R>,
         portals: [SocketAddrV4; 2],
-    ) -> Result<Stage<'a, R>, Fail> {
-        let told = [
-            format!(in alloc; "127.0.0.1:{}", portals[0].port())?,
-            format!(in alloc; "127.0.0.1:{}", portals[1].port())?,
-        ];
-        Ok(Stage {
+    ) -> Stage<'a, R> {
+        Stage {
             rt,
             alloc,
             gate,
             portals,
-            told,
             names: Vec::new(alloc),
             hosts: Vec::new(alloc),
             crowd: Vec::new(alloc),
             won: "",
-        })
+        }
     }
 
     /// Does what the lines of a script say.
@@ -107,7 +110,7 @@ impl<'a, R: Wait + Abort + Net<Listener = TcpListener, Stream = TcpStream> + Dro
             "at" => self.connect(who, rest),
             ">" => self.send(who, rest),
             "<" => self.compare(who, rest),
-            "told" => self.compare_text(who, rest),
+            "told" => self.compare_text(who),
             "over" => self.end(who),
             "race" => self.race(who, rest),
             "enter" => self.enter(number_of(who)?, rest),
@@ -177,20 +180,12 @@ impl<'a, R: Wait + Abort + Net<Listener = TcpListener, Stream = TcpStream> + Dro
         Ok(())
     }
 
-    fn compare_text(&mut self, name: &str, line: &str) -> Result<(), Fail> {
+    fn compare_text(&mut self, name: &str) -> Result<(), Fail> {
         let alloc = self.alloc;
-        let texts = [
-            ("FIRST", self.told[0].as_str()),
-            ("SECOND", self.told[1].as_str()),
-        ];
-        let wanted = bytes_of(alloc, &texts, line)?;
+        let wanted = told(alloc, self.portals)?;
         let came = self.host(name)?.receive(alloc)?;
-        assert_eq!(self.rt; came.first(), Some(&0x24), "{name} told {line}");
-        assert_eq!(self.rt;
-            data_of(came.as_slice()),
-            Some(wanted.as_slice()),
-            "{name} told {line}"
-        );
+        let is_told = is_text(came.as_slice(), wanted.as_bytes());
+        assert!(self.rt; is_told, "{name} told {wanted}, and not {came:?}");
         Ok(())
     }
 
@@ -234,7 +229,7 @@ impl<'a, R: Wait + Abort + Net<Listener = TcpListener, Stream = TcpStream> + Dro
     }
 }
 
-// A host that logs in by this PDU, and the qualifier of its ISID is this number and more.
+// A host that logs in by this PDU, with another ISID for each number.
 fn entered<R: Abort + Net<Listener = TcpListener, Stream = TcpStream>>(
     rt: &R,
     alloc: Global,
@@ -243,10 +238,7 @@ fn entered<R: Abort + Net<Listener = TcpListener, Stream = TcpStream>>(
     number: u32,
 ) -> Result<Host, Fail> {
     let mut host = Host::connect(rt, portal)?;
-    if let Some([high, low]) = pdu.get_mut(12..14) {
-        *high = 1;
-        *low = number as u8;
-    }
+    put(pdu, 10, 0x0137_0100 | number);
     host.send(pdu)?;
     let came = host.receive(alloc)?;
     assert_eq!(rt; came.first(), Some(&0x23), "{number}");
