@@ -45,6 +45,14 @@ const WELCOME: &str = r"TargetPortalGroupTag=1\0MaxRecvDataSegmentLength=65536\0
 
 const WELCOME_2: &str = r"TargetPortalGroupTag=2\0MaxRecvDataSegmentLength=65536\0";
 
+// A unit's place.
+fn unit_of(word: &str) -> Result<u8, Fail> {
+    let Ok(unit) = word.parse() else {
+        return Err("a unit".into());
+    };
+    Ok(unit)
+}
+
 // What initiators are told of the target: both portals, each with the tag of its group (RFC 7143, appendix C).
 fn told(alloc: Global, portals: [SocketAddrV4; 2]) -> Result<String, AllocError> {
     let [first, second] = portals;
@@ -116,7 +124,7 @@ impl<'a, R: Wait + Abort + Net<Listener = TcpListener, Stream = TcpStream> + Dro
             "enter" => self.enter(number_of(who)?, rest),
             "leave" => self.leave(rest),
             "hold" => {
-                self.gate.hold(Some(number_of(rest)? as u8));
+                self.gate.hold(Some(unit_of(rest)?));
                 Ok(())
             }
             "held" => {
