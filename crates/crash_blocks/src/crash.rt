@@ -35,6 +35,7 @@ pub struct CrashBlocks {
 impl CrashBlocks {
     /// A device of the blocks of this one, as after a flush.
     pub fn new(alloc: Global, mut inner: MemBlocks) -> Result<CrashBlocks, AllocError>
+        ensures size { IfOk result (λ d. ⟦<CrashBlocks as Blocks>⟧.size d ≡ ⟦<MemBlocks as Blocks>⟧.size inner) }
         ensures contents { IfOk result (λ d.
             ⟦<CrashBlocks as Blocks>⟧.contents d ≡ ⟦<MemBlocks as Blocks>⟧.contents inner) }
         ensures lasts { IfOk result (λ d. Only (⟦<MemBlocks as Blocks>⟧.contents inner)
