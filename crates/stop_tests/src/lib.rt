@@ -6,6 +6,8 @@ mod bench;
 #[cfg(test)]
 mod examples;
 #[cfg(test)]
+mod picks;
+#[cfg(test)]
 mod restart;
 #[cfg(test)]
 mod script;

@@ -8,3 +8,4 @@ pub mod Saves
 pub mod Steps
 pub mod Told
 pub mod Works
+pub mod PowerLoss
