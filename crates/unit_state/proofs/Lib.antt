@@ -9,3 +9,4 @@ pub mod Steps
 pub mod Told
 pub mod Works
 pub mod PowerLoss
+pub mod Restart
