@@ -4,6 +4,7 @@
  *   REFUSED_AT=N        the N-th allocation of the process is refused, counted from 1: its function returns null. 0: none is
  *   REFUSED_COUNTS=F    F, a file of PLACES numbers of 64 bits, is kept up to date: [0] allocations so far, a refused one
  *                       too; [1] reads of standard input so far; [1 + k] the allocations before the k-th of these reads
+ *   REFUSED_FROM_ACCEPT allocations are counted only behind the first connection that was accepted
  *
  * Without REFUSED_AT it does nothing. It stands on the names that the GNU C library gives its own heap.
  */
@@ -15,6 +16,7 @@
 #include <stdint.h>
 #include <stdlib.h>
 #include <sys/mman.h>
+#include <sys/socket.h>
 #include <sys/syscall.h>
 #include <unistd.h>
 
@@ -25,10 +27,11 @@ extern void *__libc_calloc(size_t, size_t);
 extern void *__libc_realloc(void *, size_t);
 extern void *__libc_memalign(size_t, size_t);
 
-static uint64_t at = UINT64_MAX; /* none, until the environment was read */
+static uint64_t at;
 static _Atomic uint64_t allocations;
 static _Atomic uint64_t reads;
 static _Atomic uint64_t *counts;
+static _Atomic int counting;
 
 __attribute__((constructor)) static void begin(void)
 {
@@ -45,14 +48,15 @@ __attribute__((constructor)) static void begin(void)
         close(file);
         counts = map;
     }
-    atomic_store(&allocations, 0);
     at = strtoull(word, NULL, 10);
+    if (!getenv("REFUSED_FROM_ACCEPT"))
+        atomic_store(&counting, 1);
 }
 
 /* Counts an allocation: whether it is the one to be refused. */
 static int is_refused(void)
 {
-    if (at == UINT64_MAX)
+    if (!atomic_load(&counting))
         return 0;
     uint64_t n = atomic_fetch_add(&allocations, 1) + 1;
     if (counts)
@@ -106,4 +110,12 @@ ssize_t read(int file, void *bytes, size_t size)
             atomic_store(&counts[k + 1], atomic_load(&allocations));
     }
     return syscall(SYS_read, file, bytes, size);
+}
+
+int accept4(int listener, struct sockaddr *peer, socklen_t *length, int flags)
+{
+    int file = syscall(SYS_accept4, listener, peer, length, flags);
+    if (file >= 0 && counts)
+        atomic_store(&counting, 1);
+    return file;
 }

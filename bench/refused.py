@@ -5,7 +5,8 @@ same command sent again is answered as in the example, with all behind it; or to
 with nothing read and nothing written. Prints a table, and ends with status 1 where a run does anything else.
 
 Then, with nothing refused, counts the allocations between two reads of a session: none but for a reply's data and the data
-of a write that waits.
+of a write that waits. Then it does the first again with examples of logins and of several sessions, through both controllers
+of the array: each allocation behind the first connection (bench/sessions.py).
 
 With --tests it does the same with the proved tests of these crates: each test passes, or ends for want of memory (its own
 fixture's), or shows BUSY or a login refused by 0302 where the example has an answer. A word behind a colon picks tests.
@@ -25,6 +26,8 @@ import subprocess
 import sys
 import tempfile
 import time
+
+from sessions import EXAMPLES as OF_SESSIONS, Wrong, serve
 
 TOP = os.path.dirname(os.path.dirname(os.path.abspath(__file__)))
 BUILT = os.path.join(TOP, "crates", "arrayd", "out", "arrayd")
@@ -369,18 +372,14 @@ class Refuser:
         subprocess.run(["cc", "-O2", "-shared", "-fPIC", "-o", self.library, source], check=True)
         self.counts = Counts(os.path.join(folder, "counts"))
 
-    def environment(self, at):
+    def environment(self, at, **more):
         self.counts.clear()
-        return {"LD_PRELOAD": self.library, "REFUSED_AT": str(at), "REFUSED_COUNTS": self.counts.path}
+        return {"LD_PRELOAD": self.library, "REFUSED_AT": str(at), "REFUSED_COUNTS": self.counts.path, **more}
 
     def run(self, words, came, at):
         """Status, output and errors of a run, how many allocations it asked for, and how often it read."""
         ran = subprocess.run(words, input=bytes(came), capture_output=True, env=self.environment(at), timeout=60)
         return ran.returncode, ran.stdout, ran.stderr, self.counts.at(0), self.counts.at(1)
-
-
-class Wrong(Exception):
-    """A run that did something else."""
 
 
 def pdus(data):
@@ -481,6 +480,41 @@ def wait_for_reads(refuser, array, reads):
     return True
 
 
+def refuse_each_of_sessions(refuser, program, folder, example):
+    """Refuses each allocation behind the first connection; how many there are, and how many runs came to what."""
+    counted = {"example": 0, "BUSY": 0, "0302": 0, "closed": 0}
+    at = 0
+    while True:
+        try:
+            what = serve(program, folder, refuser.environment(at, REFUSED_FROM_ACCEPT="1"), example)
+        except Wrong as wrong:
+            raise Wrong(f"allocation {at} refused: {wrong}") from None
+        if at == 0 and what != "example":
+            raise Wrong(f"with ample memory it comes to {what}")
+        if at > refuser.counts.at(0):
+            return at - 1, counted
+        if at > 0:
+            counted[what] += 1
+        at += 1
+
+
+def sessions_table(refuser, program, folder):
+    print(f"\n{'example of sessions':34} {'allocations':>11} {'example':>8} {'BUSY':>6} {'0302':>5} {'closed':>7}")
+    tried = 0
+    for name, example in OF_SESSIONS.items():
+        try:
+            allocations, counted = refuse_each_of_sessions(refuser, program, folder, example)
+        except Wrong as wrong:
+            raise Wrong(f"{name}: {wrong}") from None
+        tried += allocations
+        print(
+            f"{name:34} {allocations:11} {counted['example']:8} {counted['BUSY']:6} {counted['0302']:5} "
+            f"{counted['closed']:7}",
+            flush=True,
+        )
+    print(f"{tried} runs with an allocation refused; asked again, each went on as in the example")
+
+
 # ---- the proved tests
 
 
@@ -510,6 +544,11 @@ def judge_test(status, output, errors):
     left, right = bytes_in(text, "left"), bytes_in(text, "right")
     if left is not None and right is not None:
         return shown(left, right)
+    # The end of a session whose login was refused, and a login that a target refused.
+    if re.search('left: "Protocol"\\s+right: "(LoggedOut|EndOfInput)"', text):
+        return "0302"
+    if re.search('left: "(Refused|Not\\(NoMemory\\))"\\s+right: "Begun', text):
+        return "0302"
     if re.search("OutOfMemory|NoMemory|AllocError|AllocFailed|no memory", text):
         return "no memory"
     return None
@@ -606,6 +645,7 @@ def main():
             stored(refuser, words.program)
             table(refuser, words.program)
             count_between_reads(refuser, words.program)
+            sessions_table(refuser, words.program, folder)
         except Wrong as wrong:
             sys.exit(f"refused.py: {wrong}")
 
