@@ -13,8 +13,8 @@ fixture's), or shows BUSY or a login refused by 0302 where the example has an an
 
 usage: bench/refused.py [--tests CRATE[:WORD]..] [PROGRAM]
 
-PROGRAM is crates/arrayd/out/arrayd where none is given; `./example.sh` builds it. `rt test` in its folder builds the tests of
-a crate. Wants a C compiler and the GNU C library.
+PROGRAM is crates/arrayd/out/arrayd where none is given; `./example.sh` builds it. `rt test` in its folder builds the tests
+of a crate. Wants a C compiler and the GNU C library.
 """
 
 import argparse
@@ -85,7 +85,7 @@ class Script:
         return self.cmd_sn, self.cmd_sn + 31 - self.waiting
 
     def respond(self, tag, status=GOOD, told=b"", data_ins=0, left=0):
-        """A SCSI Response: so many Data-In went before, and so many bytes of what was expected are left; below 0, wanting."""
+        """A SCSI Response behind so many Data-In; so many bytes of what was expected are left, or below 0 wanting."""
         flags = 0x80 | (0x02 if left > 0 else 0x04 if left < 0 else 0)
         data = struct.pack(">H", len(told)) + told if told else b""
         self.told += struct.pack(
@@ -544,6 +544,9 @@ def judge_test(status, output, errors):
     left, right = bytes_in(text, "left"), bytes_in(text, "right")
     if left is not None and right is not None:
         return shown(left, right)
+    # A test's writer keeps in memory what it took.
+    if 'left: "OutputFailed"' in text:
+        return "no memory"
     # The end of a session whose login was refused, and a login that a target refused.
     if re.search('left: "Protocol"\\s+right: "(LoggedOut|EndOfInput)"', text):
         return "0302"
