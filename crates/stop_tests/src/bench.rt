@@ -63,7 +63,13 @@ impl Bench {
         registrations: Fuse,
         opens: u64,
     ) -> Result<Bench, Fail> {
-        let file = file(alloc, registrations)?;
+        let memory = CrashBlocks::new(alloc, MemBlocks::new(alloc, FILE_BLOCKS)?)?;
+        let window = FusedBlocks::window(memory, registrations.alone.saturating_add(SAVE), 1);
+        let calls = registrations.calls.saturating_add(SAVE);
+        let Ok(file) = RegFile::format(FusedBlocks::inside(window, calls, registrations.landed))
+        else {
+            return Err(Fail::from("a registration file"));
+        };
         let memory = CrashBlocks::new(alloc, MemBlocks::new(alloc, BLOCKS)?)?;
         let window = FusedBlocks::window(memory, blocks.alone, 1);
         let mut unit = Unit::open(
@@ -113,17 +119,6 @@ impl Bench {
             device.into_inner().into_inner(),
             registrations.into_inner().into_inner(),
         )
-    }
-}
-
-/// A registration file of nothing.
-fn file(alloc: Global, fuse: Fuse) -> Result<RegFile<Disk>, Fail> {
-    let memory = CrashBlocks::new(alloc, MemBlocks::new(alloc, FILE_BLOCKS)?)?;
-    let window = FusedBlocks::window(memory, fuse.alone.saturating_add(SAVE), 1);
-    let device = FusedBlocks::inside(window, fuse.calls.saturating_add(SAVE), fuse.landed);
-    match RegFile::format(device) {
-        Ok(file) => Ok(file),
-        Err(_) => Err(Fail::from("a registration file")),
     }
 }
 

@@ -9,12 +9,7 @@ use std::process::Abort;
 use std::test::Fail;
 use test_streams::bytes_of_digits;
 
-const PICKS: [Pick; 4] = [
-    Pick::Oldest,
-    Pick::Newest,
-    Pick::Turn(0),
-    Pick::Turn(1),
-];
+const PICKS: [Pick; 4] = [Pick::Oldest, Pick::Newest, Pick::Turn(0), Pick::Turn(1)];
 
 const REGISTER: &str = "5F 00 00 0000 00000018";
 
@@ -95,7 +90,10 @@ fn a_second_register_after_a_failed_flush(rt: HostRuntime) -> Result<(), Fail> {
         };
         let (good, blocks, registrations) = register_twice(rt.alloc(), fuse)?;
         assert!(rt; good, "the second save is done");
-        assert!(rt; finds(rt.alloc(), blocks, registrations, pick, &[WITH_22])?, "22h alone");
+        assert!(rt;
+            finds(rt.alloc(), blocks, registrations, pick, &[WITH_22])?,
+            "22h alone"
+        );
     }
     Ok(())
 }
@@ -111,11 +109,17 @@ fn a_set_whose_open_fails(rt: HostRuntime) -> Result<(), Fail> {
         let set = bench.send("A4 0A 00000000 00000008", &bytes_of_digits(alloc, TO_TWO)?)?;
         assert_eq!(rt; set.sense(), Some(Sense::new(0x04, 0x67, 0x0A)));
         let read = bench.send("28 00 00000000 00 0001", &[])?;
-        assert!(rt; read.status() == Status::Good && read.bytes() == [0; 512].as_slice(), "group 1 reads");
+        assert!(rt;
+            read.status() == Status::Good && read.bytes() == [0; 512].as_slice(),
+            "group 1 reads"
+        );
         let (blocks, registrations) = bench.stop();
         let mut unit = Restarted::open(alloc, blocks.crash(pick), registrations.crash(pick))?;
         let seen = Seen::new(alloc)?;
-        assert!(rt; unit.is_opening()? && unit.has_blocks(&seen)?, "as it opens");
+        assert!(rt;
+            unit.is_opening()? && unit.has_blocks(&seen)?,
+            "as it opens"
+        );
     }
     Ok(())
 }

@@ -46,7 +46,11 @@ fn what_a_crash_leaves(rt: HostRuntime) -> Result<(), Fail> {
         let mut left = device(rt.alloc())?.crash(*pick);
         let mut block = 0u32;
         for byte in bytes {
-            assert_eq!(rt; filled_by(&mut left, block), Some(*byte), "{pick:?}, block {block}");
+            assert_eq!(rt;
+                filled_by(&mut left, block),
+                Some(*byte),
+                "{pick:?}, block {block}"
+            );
             block = block.saturating_add(1);
         }
     }

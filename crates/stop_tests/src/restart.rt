@@ -76,7 +76,9 @@ impl Restarted {
 
     fn send(&mut self, cdb: &str) -> Result<Reply, Fail> {
         let asked = decode(&cdb_of(self.alloc, cdb)?);
-        let end = self.unit.step(self.alloc, 0, self.next, Group::One, asked, &[]);
+        let end = self
+            .unit
+            .step(self.alloc, 0, self.next, Group::One, asked, &[]);
         self.next = self.next.wrapping_add(1);
         match end {
             StepEnd::Reply(reply) => Ok(reply),

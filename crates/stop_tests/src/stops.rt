@@ -9,12 +9,7 @@ use std::alloc::Global;
 use std::process::Abort;
 use std::test::Fail;
 
-const PICKS: [Pick; 4] = [
-    Pick::Oldest,
-    Pick::Newest,
-    Pick::Turn(0),
-    Pick::Turn(1),
-];
+const PICKS: [Pick; 4] = [Pick::Oldest, Pick::Newest, Pick::Turn(0), Pick::Turn(1)];
 
 /// Makes the calls of the script until one is not GOOD, and says which that was.
 fn run(bench: &mut Bench, alloc: Global, seen: &mut Seen) -> Result<Option<Does>, Fail> {
@@ -54,9 +49,7 @@ fn is_left(
     seen: &Seen,
 ) -> Result<bool, Fail> {
     let mut unit = Restarted::open(alloc, device.crash(pick), registrations.crash(pick))?;
-    Ok(
-        unit.is_opening()? && unit.has_record(seen.records())? && unit.has_blocks(seen)?,
-    )
+    Ok(unit.is_opening()? && unit.has_record(seen.records())? && unit.has_blocks(seen)?)
 }
 
 /// Loses the power where the devices fail so, and says whether one did.
@@ -71,8 +64,14 @@ fn stop(
     let mut seen = Seen::new(alloc)?;
     let last = run(&mut bench, alloc, &mut seen)?;
     let (mut device, registrations) = bench.stop();
-    assert!(rt; seen.is_stopped_at(&mut device, last)?, "the blocks where the power is lost");
-    assert!(rt; is_left(alloc, device, registrations, pick, &seen)?, "what a restart finds");
+    assert!(rt;
+        seen.is_stopped_at(&mut device, last)?,
+        "the blocks where the power is lost"
+    );
+    assert!(rt;
+        is_left(alloc, device, registrations, pick, &seen)?,
+        "what a restart finds"
+    );
     Ok(last.is_some())
 }
 
@@ -105,7 +104,12 @@ fn stop_in(
 }
 
 /// Stops a device at each of its calls, and counts the stops. Behind the last nothing fails.
-fn stop_at_each(rt: &impl Abort, alloc: Global, runs: &[u32], of_blocks: bool) -> Result<u64, Fail> {
+fn stop_at_each(
+    rt: &impl Abort,
+    alloc: Global,
+    runs: &[u32],
+    of_blocks: bool,
+) -> Result<u64, Fail> {
     let mut stops = 0u64;
     let mut call = 0u64;
     for run in runs {
