@@ -4,7 +4,8 @@
  *   REFUSED_AT=N        the N-th allocation of the process is refused, counted from 1: its function returns null. 0: none is
  *   REFUSED_COUNTS=F    F, a file of PLACES numbers of 64 bits, is kept up to date: [0] allocations so far, a refused one
  *                       too; [1] reads of standard input so far; [1 + k] the allocations before the k-th of these reads
- *   REFUSED_FROM_ACCEPT allocations are counted only behind the first connection that was accepted
+ *   REFUSED_FROM_ACCEPT allocations are counted only behind the first connection that was accepted, and reads are those of
+ *                       connections
  *
  * Without REFUSED_AT it does nothing. It stands on the names that the GNU C library gives its own heap.
  */
@@ -32,6 +33,7 @@ static _Atomic uint64_t allocations;
 static _Atomic uint64_t reads;
 static _Atomic uint64_t *counts;
 static _Atomic int counting;
+static int from_accept;
 
 __attribute__((constructor)) static void begin(void)
 {
@@ -49,7 +51,8 @@ __attribute__((constructor)) static void begin(void)
         counts = map;
     }
     at = strtoull(word, NULL, 10);
-    if (!getenv("REFUSED_FROM_ACCEPT"))
+    from_accept = getenv("REFUSED_FROM_ACCEPT") != NULL;
+    if (!from_accept)
         atomic_store(&counting, 1);
 }
 
@@ -101,15 +104,26 @@ int posix_memalign(void **place, size_t alignment, size_t size)
     return 0;
 }
 
+static void count_read(void)
+{
+    uint64_t k = atomic_fetch_add(&reads, 1) + 1;
+    if (k + 1 < PLACES)
+        atomic_store(&counts[k + 1], atomic_load(&allocations));
+    atomic_store(&counts[1], k);
+}
+
 ssize_t read(int file, void *bytes, size_t size)
 {
-    if (file == 0 && counts) {
-        uint64_t k = atomic_fetch_add(&reads, 1) + 1;
-        atomic_store(&counts[1], k);
-        if (k + 1 < PLACES)
-            atomic_store(&counts[k + 1], atomic_load(&allocations));
-    }
+    if (file == 0 && counts && !from_accept)
+        count_read();
     return syscall(SYS_read, file, bytes, size);
+}
+
+ssize_t recv(int file, void *bytes, size_t size, int flags)
+{
+    if (counts && from_accept)
+        count_read();
+    return syscall(SYS_recvfrom, file, bytes, size, flags, NULL, NULL);
 }
 
 int accept4(int listener, struct sockaddr *peer, socklen_t *length, int flags)

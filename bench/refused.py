@@ -27,7 +27,7 @@ import sys
 import tempfile
 import time
 
-from sessions import EXAMPLES as OF_SESSIONS, Wrong, serve
+from sessions import EXAMPLES as OF_SESSIONS, STEPS, Wrong, serve, step_by_step
 
 TOP = os.path.dirname(os.path.dirname(os.path.abspath(__file__)))
 BUILT = os.path.join(TOP, "crates", "arrayd", "out", "arrayd")
@@ -468,6 +468,20 @@ def between_reads(refuser, program, example):
     return took
 
 
+def count_in_a_session(refuser, program, folder):
+    """Prints how many allocations a session takes before its first read, and behind each PDU of its life."""
+    serve(program, folder, refuser.environment(0, REFUSED_FROM_ACCEPT="1"), step_by_step)
+    reads = refuser.counts.at(1)
+    if reads != len(STEPS) + 1:
+        raise Wrong(f"{reads} reads of a session of {len(STEPS) + 1} PDUs")
+    before = [refuser.counts.at(place) for place in range(2, 2 + reads)]
+    print(f"\nin a session of the array\n{'before its first read':26} {before[0]}")
+    for (what, most), begun, ended in zip(STEPS, before, before[1:]):
+        print(f"{what:26} {ended - begun}")
+        if ended - begun > most:
+            raise Wrong(f"{what}: {ended - begun} allocations between two reads of a session")
+
+
 def wait_for_reads(refuser, array, reads):
     """Waits until the program has begun so many reads; not, where it has come to its end."""
     until = time.monotonic() + 10
@@ -648,6 +662,7 @@ def main():
             stored(refuser, words.program)
             table(refuser, words.program)
             count_between_reads(refuser, words.program)
+            count_in_a_session(refuser, words.program, folder)
             sessions_table(refuser, words.program, folder)
         except Wrong as wrong:
             sys.exit(f"refused.py: {wrong}")

@@ -206,6 +206,33 @@ EXAMPLES = {
 }
 
 
+def step_by_step(run):
+    """A session of which each PDU comes when the one before is answered: what they are."""
+    session = run.log_in()
+    session.test_unit_ready(0)
+    run.ask(session, "00" * 6)
+    session.ping(b"ping")
+    session.text([("SendTargets", TARGET)])
+    run.ask(session, write_10(5), out=b"\x5a" * BLOCK)
+    run.ask(session, read_10(5), expected=BLOCK, data=b"\x5a" * BLOCK)
+    session.manage(5)
+    session.logout()
+
+
+# How many allocations come behind each of its PDUs at most.
+STEPS = (
+    ("first Login Request", 0),
+    ("last Login Request", 99),
+    ("TEST UNIT READY, 06 29/00", 0),
+    ("TEST UNIT READY", 0),
+    ("NOP-Out", 0),
+    ("Text Request", 0),
+    ("WRITE (10)", 0),
+    ("READ (10)", 1),
+    ("LOGICAL UNIT RESET", 0),
+)
+
+
 def serve(program, folder, environment, example):
     """Starts the array on a new disk of 2048 blocks, and does what an example says; what became of a refused allocation."""
     port = next(PORTS)
