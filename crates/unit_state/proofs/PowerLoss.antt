@@ -69,9 +69,9 @@ module _ {D : Type 0} (claims_moments : Bool) (moment : D → ℕ) (left_since :
   within_after blocks (Reads r flushed) choice may = λ k v h. h
   within_after blocks (Writes r bytes flushed) choice may = λ k v h. inl h
   within_after blocks (Compares r bytes flushed) Fine may = by_difference (difference_in blocks r bytes) where
-      by_difference : (o : Option ℕ) → NoMore (holds_compared o r bytes may) may
-      by_difference None = λ k v h. inl h
-      by_difference (Some at) = λ k v h. h
+    by_difference : (o : Option ℕ) → NoMore (holds_compared o r bytes may) may
+    by_difference None = λ k v h. inl h
+    by_difference (Some at) = λ k v h. h
   within_after blocks (Compares r bytes flushed) ReadFailed may = λ k v h. h
   within_after blocks (Compares r bytes flushed) (WriteFailed after) may = λ k v h. inl h
   within_after blocks (Compares r bytes flushed) OpenFailed may = λ k v h. h

@@ -46,6 +46,6 @@ pub returns-clause-same : goal.returns-clause-same
 returns-clause-same g c = λ none h. c.serve.ensures.same (sym (works_as _ _ _ _ _ c.in-Ok.ensures) ∙ none) h
 
 pub returns-clause-stop : goal.returns-clause-stop
-returns-clause-stop g c = λ h m lasts. 
+returns-clause-stop g c = λ h m lasts.
     served_stop g.R.Blocks.moment g.R.Blocks.left_since _ _ _ _ _ c.args.file.now.device c.serve.new.file.device
     c.in-Ok.ensures (c.serve.ensures.stop h m lasts)
