@@ -63,7 +63,8 @@ pub fn first_entry<'a>(
 /// How many entries registrants have.
 pub fn entry_count(version: FileVersion, registrants: &[Registrant]) -> usize
     requires { length registrants.now ≤ 64 }
-    ensures { result ≡ length (entries_of version registrants.now) }
+    ensures count { result ≡ length (entries_of version registrants.now) }
+    ensures few { result ≤ 64 }
 {
     let mut rest = registrants;
     let mut count = 0;

@@ -11,7 +11,7 @@ ghost use Rattle.reservations.specs.Registry.{IsListed, IsRecord, RecordValue, i
 ghost use Rattle.aptpl_file.specs.declared.entry.Entry.{Entry};
 ghost use Rattle.aptpl_file.specs.Format.{entry_bytes, entry_length, group_code, root_block, slot_bytes, version_bytes};
 ghost use Rattle.aptpl_file.specs.Reads.{AreEntries, HasReservation, IsEntry, IsRefusalOf, IsRootRefusal, IsUnfailed};
-ghost use Rattle.aptpl_file.specs.Reads.{IsVersion, Spells, SpellsEntries, covered, holder_in};
+ghost use Rattle.aptpl_file.specs.Reads.{IsVersion, Spells, SpellsEntries, covered, entry_part, holder_in};
 
 use crate::entry::{Entry, MOST_ENTRIES, place_of};
 use crate::spelling::{ENTRY_LENGTH, ROOT_MAGIC, SLOT_LENGTH, group_of, root_block, slot_bytes};
@@ -93,9 +93,14 @@ fn entry_in(entry: &[u8]) -> Option<Entry>
     ensures only { IfSome result (λ found. (e : Entry) → IsEntry e → entry.now ≡ entry_bytes e → found ≡ e) }
     ensures none { IfNone result ((e : Entry) → IsEntry e → entry.now ≡ entry_bytes e → ⊥) }
 {
-    let (group, both) = groups_of_code(entry[9])?;
+    let Some((group, both)) = groups_of_code(entry[9]) else {
+        return None;
+    };
     let long = usize::from(entry[16]);
-    if long == 0 || long > 223 {
+    if long == 0 {
+        return None;
+    }
+    if long > 223 {
         return None;
     }
     let key = BigEndian::read_u64(entry);
@@ -178,6 +183,16 @@ fn take_entry(registrants: &mut Vec<Registrant>, entry: &[u8]) -> Result<(), Ope
     }
 }
 
+// The entry at a place of a slot.
+fn entry_at(bytes: &[u8; SLOT_LENGTH], i: usize) -> &[u8]
+    requires { i < 64 }
+    ensures is { result.now ≡ entry_part bytes.now i }
+    ensures long { length result.now ≡ entry_length }
+{
+    let at = BLOCK_LENGTH + ENTRY_LENGTH * i;
+    &bytes[at..at + ENTRY_LENGTH]
+}
+
 // The registrants of a slot's entries, so many in all.
 fn registrants_in(
     alloc: Global,
@@ -194,8 +209,7 @@ fn registrants_in(
 {
     let mut registrants = Vec::new(alloc);
     for i in 0..count {
-        let at = BLOCK_LENGTH + ENTRY_LENGTH * i;
-        match take_entry(&mut registrants, &bytes[at..at + ENTRY_LENGTH]) {
+        match take_entry(&mut registrants, entry_at(bytes, i)) {
             Ok(()) => {}
             Err(fault) => return Err(fault),
         }

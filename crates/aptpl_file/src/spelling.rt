@@ -189,11 +189,12 @@ pub fn slot_bytes(
     put(&mut bytes, 0, &header);
     let mut rest = registrants;
     for k in 0..MOST_ENTRIES {
-        if let Some((x, both, behind)) = first_entry(version, rest) {
-            let at = BLOCK_LENGTH + ENTRY_LENGTH * k;
-            put(&mut bytes, at, &entry_bytes(x, both));
-            rest = behind;
-        }
+        let Some((x, both, behind)) = first_entry(version, rest) else {
+            return bytes;
+        };
+        let at = BLOCK_LENGTH + ENTRY_LENGTH * k;
+        put(&mut bytes, at, &entry_bytes(x, both));
+        rest = behind;
     }
     bytes
 }
