@@ -45,8 +45,8 @@ loop-k-preserved c =
       rest = sym (drop_next c.loop-k.k es rest e here) ∙ ap (λ (m : ℕ). drop m es) next;
       long = λ h. put_length c.loop-k.k es rest e c.entry_bytes.result here c.entry_bytes.ensures (omega arith) so_far;
       spelled = put_entry 16896 (512 + 256 * c.loop-k.k) c.loop-k.k (header_block c.args.version r) es rest e
-          c.loop-k.bytes c.entry_bytes.result c.put-in-Some.new.place c.loop-k.invariant.spelled at here
-          c.entry_bytes.ensures c.put-in-Some.ensures;
+          c.loop-k.bytes c.entry_bytes.result c.put-in-loop-k.new.place c.loop-k.invariant.spelled at here
+          c.entry_bytes.ensures c.put-in-loop-k.ensures;
     }
 
 -- all entries stand there
