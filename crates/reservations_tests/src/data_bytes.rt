@@ -1,8 +1,8 @@
 //! The data of PERSISTENT RESERVE IN, byte for byte; flags; the table's end; and what lasts.
 ghost use Rattle.reservations.specs.Nexus.{IsPortName};
 
-use crate::script::{A, Want, ends_so, port_of, told_to};
-use reservations::{PrOut, Registry};
+use crate::script::{A, Want, ended, fresh, port_of, told_to};
+use reservations::{PrEnd, PrOut, Registry};
 use scsi_types::{Group, NoMemory, PortName, PrOutAction, UnitAttention};
 use std::alloc::Global;
 
@@ -29,10 +29,10 @@ const RESERVE: PrOut = PrOut {
 };
 
 // A registry that A did these requests to.
-fn after(alloc: Global, port: &PortName, requests: &[PrOut]) -> Result<Registry, NoMemory>
+fn after(alloc: Global, port: &PortName, requests: &[PrOut]) -> Result<Box<Registry>, NoMemory>
     requires { IsPortName port.now }
 {
-    let mut registry = Registry::new(alloc)?;
+    let mut registry = fresh(alloc)?;
     for request in requests {
         let _ = registry.out(port, Group::One, *request);
     }
@@ -111,9 +111,9 @@ fn capabilities(rt: HostRuntime) -> Result<(), NoMemory> {
         aptpl: true,
         ..REGISTER
     };
-    let fresh = Registry::new(alloc)?.capabilities(8)?;
+    let nobody = fresh(alloc)?.capabilities(8)?;
     assert_eq!(rt;
-        fresh.as_slice(),
+        nobody.as_slice(),
         [0x00, 0x08, 0x05, 0x80, 0xEA, 0x01, 0x00, 0x00].as_slice()
     );
     for (name, request, ptpl_a) in [
@@ -154,8 +154,9 @@ fn flags(rt: HostRuntime) -> Result<(), NoMemory> {
             all_tg_pt,
             ..request
         };
-        let end = Registry::new(alloc)?.out(&port, Group::One, asked);
-        assert!(rt; ends_so(&end, want), "{name}: {end:?}");
+        let mut registry = fresh(alloc)?;
+        let end = ended(&mut registry, &port, Group::One, asked);
+        assert_eq!(rt; end, want, "{name}");
     }
     Ok(())
 }
@@ -163,15 +164,12 @@ fn flags(rt: HostRuntime) -> Result<(), NoMemory> {
 #[test]
 fn a_65th_registrant(rt: HostRuntime) -> Result<(), NoMemory> {
     let alloc = rt.alloc();
-    let mut registry = Registry::new(alloc)?;
+    let mut registry = fresh(alloc)?;
     for isid in 0..65 {
         let want = if isid < 64 { Want::Good } else { Want::Full };
-        let end = registry.out(
-            &port_of(alloc, (b'a', isid, Group::Two))?,
-            Group::Two,
-            REGISTER,
-        );
-        assert!(rt; ends_so(&end, want), "{isid}: {end:?}");
+        let port = port_of(alloc, (b'a', isid, Group::Two))?;
+        let end = ended(&mut registry, &port, Group::Two, REGISTER);
+        assert_eq!(rt; end, want, "{isid}");
     }
     assert_eq!(rt; registry.generation(), 64);
     assert_eq!(rt; registry.registrant_count(), 64);
@@ -183,39 +181,72 @@ const OTHERS: PrOut = PrOut {
     ..REGISTER
 };
 
-// Initiator ports of the same name, by their ISIDs; the first preempts the other 63.
-#[test]
-fn sixty_three_are_preempted(rt: HostRuntime) -> Result<(), NoMemory> {
-    let alloc = rt.alloc();
-    let mut registry = Registry::new(alloc)?;
-    for isid in 0..64 {
+// So many initiator ports of the same name, by their ISIDs, of which the first has the key 11h and the others 22h.
+fn ports_registered(alloc: Global, ports: u32) -> Result<Box<Registry>, NoMemory> {
+    let mut registry = fresh(alloc)?;
+    for isid in 0..ports {
         let request = if isid == 0 { REGISTER } else { OTHERS };
         let port = port_of(alloc, (b'a', isid, Group::One))?;
-        assert!(rt;
-            ends_so(&registry.out(&port, Group::One, request), Want::Good),
-            "{isid}"
-        );
+        let _ = ended(&mut registry, &port, Group::One, request);
     }
-    let found = registry.copy()?;
+    Ok(registry)
+}
+
+// The first of them that is not told as it must be: the others lost their registration.
+fn told_otherwise(
+    alloc: Global,
+    found: &Registry,
+    end: &PrEnd,
+    ports: u32,
+) -> Result<Option<u32>, NoMemory> {
+    for isid in 0..ports {
+        let want = if isid > 0 {
+            Some(UnitAttention::RegistrationsPreempted)
+        } else {
+            None
+        };
+        if told_to(alloc, found, end, (b'a', isid, Group::One))? != want {
+            return Ok(Some(isid));
+        }
+    }
+    Ok(None)
+}
+
+// The first preempts the others.
+fn preempted(alloc: Global, registry: &mut Registry, ports: u32) -> Result<Option<u32>, NoMemory> {
     let asked = PrOut {
         action: PrOutAction::Preempt,
         key: 0x11,
         sakey: 0x22,
         ..REGISTER
     };
-    let end = registry.out(&port_of(alloc, A)?, Group::One, asked);
-    assert!(rt; ends_so(&end, Want::Good), "{end:?}");
+    let port = port_of(alloc, A)?;
+    let found = registry.copy()?;
+    let end = registry.out(&port, Group::One, asked);
+    told_otherwise(alloc, &found, &end, ports)
+}
+
+#[test]
+fn sixty_three_are_preempted(rt: HostRuntime) -> Result<(), NoMemory> {
+    let alloc = rt.alloc();
+    let mut registry = ports_registered(alloc, 64)?;
+    assert_eq!(rt; registry.registrant_count(), 64);
+    assert_eq!(rt; preempted(alloc, &mut registry, 64)?, None);
     assert_eq!(rt; registry.registrant_count(), 1);
-    for isid in 0..64 {
-        let want = if isid > 0 {
-            Some(UnitAttention::RegistrationsPreempted)
-        } else {
-            None
-        };
-        let told = told_to(alloc, &found, &end, (b'a', isid, Group::One))?;
-        assert_eq!(rt; told, want, "{isid}");
-    }
+    assert_eq!(rt; registry.generation(), 65);
     Ok(())
+}
+
+// The registry that a restart makes of another.
+fn restarted(alloc: Global, registry: &Registry) -> Result<Box<Registry>, NoMemory> {
+    let again = Box::new(alloc, Registry::from_record(alloc, registry.record()?)?)?;
+    Ok(again)
+}
+
+// Whether a copy tells the same.
+fn copy_is_alike(registry: &Registry) -> Result<bool, NoMemory> {
+    let copied = registry.copy()?.full_status(999)?;
+    Ok(copied == registry.full_status(999)?)
 }
 
 #[test]
@@ -225,15 +256,11 @@ fn what_lasts(rt: HostRuntime) -> Result<(), NoMemory> {
     for (name, aptpl, registrants) in [("with APTPL", true, 1), ("without APTPL", false, 0)] {
         let request = PrOut { aptpl, ..REGISTER };
         let registry = after(alloc, &port, &[request, RESERVE])?;
-        let again = Registry::from_record(alloc, registry.record()?)?;
+        let again = restarted(alloc, &registry)?;
         assert_eq!(rt; again.registrant_count(), registrants, "{name}");
         assert_eq!(rt; again.generation(), 0, "{name}");
         assert_eq!(rt; again.reserved_type().is_some(), aptpl, "{name}");
-        assert_eq!(rt;
-            registry.copy()?.full_status(999)?,
-            registry.full_status(999)?,
-            "{name}"
-        );
+        assert!(rt; copy_is_alike(&registry)?, "{name}");
     }
     Ok(())
 }
