@@ -1,21 +1,24 @@
-ghost use Rattle.std.specs.Prelude.{◌≡◌, ◌+◌, ◌/◌, ◌<◌, ◌≤◌, List, ℕ, min, length, take, IsTrue, IsErr, OnOk};
+ghost use Rattle.std.specs.Prelude.{◌≡◌, ◌+◌, ◌/◌, ◌<◌, ◌≤◌, List, ℕ, min, length, take, IsTrue, IsErr, OnOk, true, false};
 ghost use Rattle.std.proofs.Common.{arith};
 ghost use Rattle.block_file.specs.declared.blocks.TheConstants.{BLOCK_LENGTH};
 ghost use Rattle.block_file.specs.Cut.{run_of, IsRun};
 ghost use Rattle.block_file.specs.Disk.{written, range_bytes, Between, NoMore, Adds, Only};
 ghost use Rattle.block_file.specs.Moment.{TimePasses};
 ghost use Rattle.block_file.specs.Failures.{Counts, last_count};
-ghost use Rattle.block_file.specs.Fuse.{intact, all_failures, all_reads_failed, all_writes_failed};
+ghost use Rattle.block_file.specs.Fuse.{intact, windowed, passes, one_fewer};
+ghost use Rattle.block_file.specs.Fuse.{all_failures, all_reads_failed, all_writes_failed};
 ghost use Rattle.block_file.specs.Fuse.{Passes, FailsRead, FailsWrite, Lands};
 
 use crate::{BLOCK_LENGTH, Blocks, DeviceFailed};
 use std::marker::Model;
 
-/// A device that passes on some calls of read, write and flush, and fails each one after them.
+/// A device that passes on some calls of read, write and flush, and fails each one after them, or only some of these.
 #[derive(Drop)]
 pub struct FusedBlocks<B: Blocks> {
     inner: B,
     left: u64,
+    // How many calls are to fail then: each one where there is no number.
+    fails: Option<u64>,
     lands: u32,
     failed_reads: u64,
     failed_writes: u64,
@@ -29,6 +32,7 @@ impl<B: Blocks> Model for FusedBlocks<B> {
     ghost view = { λ d. record {
       inner = d.inner;
       left = d.left;
+      fails = d.fails;
       lands = d.lands;
       failed_reads = d.failed_reads;
       failed_writes = d.failed_writes;
@@ -50,10 +54,32 @@ impl<B: Blocks> FusedBlocks<B> {
         FusedBlocks {
             inner,
             left: calls,
+            fails: None,
             lands: blocks,
             failed_reads: 0,
             failed_writes: 0,
         }
+    }
+
+    /// Passes on `calls` calls, then fails so many, as `new` does, and passes on each one behind them.
+    pub fn window(inner: B, calls: u64, fails: u64) -> Self
+        ensures { result ≡ windowed inner calls fails }
+    {
+        FusedBlocks {
+            inner,
+            left: calls,
+            fails: Some(fails),
+            lands: 0,
+            failed_reads: 0,
+            failed_writes: 0,
+        }
+    }
+
+    // Whether the next call is passed on.
+    fn passes(&self) -> bool
+        ensures { result ≡ passes self.now }
+    {
+        self.left > 0 || self.fails == Some(0)
     }
 
     /// The device, without the fuse.
@@ -119,16 +145,17 @@ impl<B: Blocks> Blocks for FusedBlocks<B> {
         ensures failed_reads { Counts
             (all_reads_failed B.reads_failed self.old) (all_reads_failed B.reads_failed self.new) result }
         ensures failed_writes { all_writes_failed B.writes_failed self.new ≡ all_writes_failed B.writes_failed self.old }
-        ensures passed { 0 < self.old.left → Passes B.failures self.old self.new result }
-        ensures failed { self.old.left ≡ 0 → FailsRead self.old self.new result }
-        ensures unreached { self.old.left ≡ 0 → self.new.inner ≡ self.old.inner }
+        ensures passed { passes self.old ≡ true → Passes B.failures self.old self.new result }
+        ensures failed { passes self.old ≡ false → FailsRead self.old self.new result }
+        ensures unreached { passes self.old ≡ false → self.new.inner ≡ self.old.inner }
     {
-        if self.left == 0 {
-            self.lands = 0;
-            return refused(&mut self.failed_reads);
+        if self.passes() {
+            self.left = self.left.saturating_sub(1);
+            return self.inner.read_run(first, bytes);
         }
-        self.left -= 1;
-        self.inner.read_run(first, bytes)
+        self.lands = 0;
+        spend(&mut self.fails);
+        refused(&mut self.failed_reads)
     }
 
     fn write_run(&mut self, first: u32, bytes: &[u8]) -> Result<(), DeviceFailed>
@@ -146,19 +173,20 @@ impl<B: Blocks> Blocks for FusedBlocks<B> {
         ensures failed_reads { all_reads_failed B.reads_failed self.new ≡ all_reads_failed B.reads_failed self.old }
         ensures failed_writes { Counts
             (all_writes_failed B.writes_failed self.old) (all_writes_failed B.writes_failed self.new) result }
-        ensures passed { 0 < self.old.left → Passes B.failures self.old self.new result }
-        ensures failed { self.old.left ≡ 0 → FailsWrite self.old self.new result }
-        ensures unreached { self.old.left ≡ 0 → self.old.lands ≡ 0 → self.new.inner ≡ self.old.inner }
-        ensures landed { self.old.left ≡ 0 → IsTrue B.claims
+        ensures passed { passes self.old ≡ true → Passes B.failures self.old self.new result }
+        ensures failed { passes self.old ≡ false → FailsWrite self.old self.new result }
+        ensures unreached { passes self.old ≡ false → self.old.lands ≡ 0 → self.new.inner ≡ self.old.inner }
+        ensures landed { passes self.old ≡ false → IsTrue B.claims
             → Lands B.failures B.contents self.old.inner self.new.inner self.old.lands first bytes.now }
     {
-        if self.left == 0 {
-            land(&mut self.inner, first, bytes, self.lands);
-            self.lands = 0;
-            return refused(&mut self.failed_writes);
+        if self.passes() {
+            self.left = self.left.saturating_sub(1);
+            return self.inner.write_run(first, bytes);
         }
-        self.left -= 1;
-        self.inner.write_run(first, bytes)
+        land(&mut self.inner, first, bytes, self.lands);
+        self.lands = 0;
+        spend(&mut self.fails);
+        refused(&mut self.failed_writes)
     }
 
     fn flush(&mut self) -> Result<(), DeviceFailed>
@@ -172,17 +200,28 @@ impl<B: Blocks> Blocks for FusedBlocks<B> {
         ensures failed_reads { all_reads_failed B.reads_failed self.new ≡ all_reads_failed B.reads_failed self.old }
         ensures failed_writes { Counts
             (all_writes_failed B.writes_failed self.old) (all_writes_failed B.writes_failed self.new) result }
-        ensures passed { 0 < self.old.left → Passes B.failures self.old self.new result }
-        ensures failed { self.old.left ≡ 0 → FailsWrite self.old self.new result }
-        ensures unreached { self.old.left ≡ 0 → self.new.inner ≡ self.old.inner }
+        ensures passed { passes self.old ≡ true → Passes B.failures self.old self.new result }
+        ensures failed { passes self.old ≡ false → FailsWrite self.old self.new result }
+        ensures unreached { passes self.old ≡ false → self.new.inner ≡ self.old.inner }
     {
-        if self.left == 0 {
-            self.lands = 0;
-            return refused(&mut self.failed_writes);
+        if self.passes() {
+            self.left = self.left.saturating_sub(1);
+            return self.inner.flush();
         }
-        self.left -= 1;
-        self.inner.flush()
+        self.lands = 0;
+        spend(&mut self.fails);
+        refused(&mut self.failed_writes)
     }
+}
+
+// One call fewer is to fail.
+fn spend(fails: &mut Option<u64>)
+    ensures { fails.new ≡ one_fewer fails.old }
+{
+    *fails = match *fails {
+        None => None,
+        Some(fails) => Some(fails.saturating_sub(1)),
+    };
 }
 
 // Counts a call that the fuse fails.

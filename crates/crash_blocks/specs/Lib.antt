@@ -1,2 +1,4 @@
 pub mod Events
 pub mod Moments
+pub mod Values
+pub mod ValuesLaws

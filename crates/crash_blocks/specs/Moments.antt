@@ -33,7 +33,7 @@ elapsed size start events e = record {
 pub stands : (now : ℕ) (past : ℕ → List (List ℕ) → Type 0) (may : List (List ℕ) → Type 0) → Elapses now now past past may
 stands now past may = record { later = omega arith; nothing_else = λ t c le left. inl left; keeps = λ t c le left. left }
 
-write_fits : (size first : ℕ) (bytes : Vec ℕ Global) (older : List Event) → IsTrue (runs_fit size (Write first bytes ∷ older)) → (first + length bytes.items / 512 ≤ size) × IsTrue (runs_fit size older)
+pub write_fits : (size first : ℕ) (bytes : Vec ℕ Global) (older : List Event) → IsTrue (runs_fit size (Write first bytes ∷ older)) → (first + length bytes.items / 512 ≤ size) × IsTrue (runs_fit size older)
 write_fits size first bytes older fit = search rules
 
 pub length-contents : (size : ℕ) (start : List (List ℕ)) (events : List Event) → length start ≡ size → IsTrue (runs_fit size events) → length (contents_of start events) ≡ size
@@ -43,7 +43,7 @@ length-contents size start (Write first bytes ∷ older) long fit =
     let rest = length-contents size start older long (write_fits size first bytes older fit).1 in
     (between_written (contents_of start older) (run_of bytes.items) first (omega (arith, rest, (write_fits size first bytes older fit).0, length-cut (length bytes.items / 512) bytes.items))).as_long ∙ rest
 
-held_at : (size : ℕ) (start : List (List ℕ)) (events : List Event) → length start ≡ size → IsTrue (runs_fit size events) → (k : ℕ) → Held start events k (block_at (contents_of start events) k)
+pub held_at : (size : ℕ) (start : List (List ℕ)) (events : List Event) → length start ≡ size → IsTrue (runs_fit size events) → (k : ℕ) → Held start events k (block_at (contents_of start events) k)
 held_at size start [] long fit k = refl
 held_at size start (Flush ∷ older) long fit k = (held_at size start older long fit k, refl)
 held_at size start (Write first bytes ∷ older) long fit k =

@@ -1,13 +1,17 @@
-ghost use Rattle.std.specs.Prelude.{◌≡◌, ◌<◌, ◌≤◌, ◌+◌, length, true, refl, ℕ, reverse, min, IfOk, IsTrue};
+ghost use Rattle.std.specs.Prelude.{◌≡◌, ◌<◌, ◌≤◌, ◌+◌, ◌*◌, length, true, refl, ℕ, reverse, min, IfOk, IsTrue};
 ghost use Rattle.std.proofs.Common.{arith};
+ghost use Rattle.block_file.specs.declared.blocks.TheConstants.{BLOCK_LENGTH};
 ghost use Rattle.block_file.specs.Cut.{cut};
 ghost use Rattle.block_file.specs.CutLaws.{length-cut, length-cut_at};
-ghost use Rattle.block_file.specs.Disk.{Only};
+ghost use Rattle.block_file.specs.Disk.{block_at, MayLeave, Only};
 ghost use Rattle.block_file.specs.Failures.{last_count};
 ghost use Rattle.crash_blocks.specs.Events.{Held, LeftSince, IsWrite, contents_of, runs_fit};
 ghost use Rattle.crash_blocks.specs.Moments.{now_counts, now_only, held_now};
+ghost use Rattle.crash_blocks.specs.Values.{IsPicked};
 
+use crate::Pick;
 use crate::event::Event;
+use crate::outcome::left_of;
 use block_file::{BLOCK_LENGTH, Blocks, DeviceFailed, MemBlocks};
 use std::alloc::{AllocError, Global};
 
@@ -24,12 +28,14 @@ pub struct CrashBlocks {
     failed: u64,
     ghost is: { ⟦<MemBlocks as Blocks>⟧.contents inner
         ≡ contents_of (cut (⟦<MemBlocks as Blocks>⟧.size inner) start.items) (reverse events.items) },
+    ghost long: { length start.items ≡ BLOCK_LENGTH * ⟦<MemBlocks as Blocks>⟧.size inner },
     ghost runs: { IsTrue (runs_fit (⟦<MemBlocks as Blocks>⟧.size inner) (reverse events.items)) },
 }
 
 impl CrashBlocks {
     /// A device of the blocks of this one, as after a flush.
     pub fn new(alloc: Global, mut inner: MemBlocks) -> Result<CrashBlocks, AllocError>
+        ensures size { IfOk result (λ d. ⟦<CrashBlocks as Blocks>⟧.size d ≡ ⟦<MemBlocks as Blocks>⟧.size inner) }
         ensures contents { IfOk result (λ d.
             ⟦<CrashBlocks as Blocks>⟧.contents d ≡ ⟦<MemBlocks as Blocks>⟧.contents inner) }
         ensures lasts { IfOk result (λ d. Only (⟦<MemBlocks as Blocks>⟧.contents inner)
@@ -44,11 +50,37 @@ impl CrashBlocks {
             failed: 0,
         })
     }
+
+    /// What a crash leaves of it: of each block the value that is picked among those that it had since the last flush that
+    /// was done, that one included.
+    pub fn crash(self, pick: Pick) -> MemBlocks
+        ensures size { ⟦<MemBlocks as Blocks>⟧.size result ≡ ⟦<CrashBlocks as Blocks>⟧.size self }
+        ensures outcome { MayLeave (⟦<CrashBlocks as Blocks>⟧.size self) (⟦<CrashBlocks as Blocks>⟧.may_hold self)
+            (⟦<MemBlocks as Blocks>⟧.contents result) }
+        ensures newest { pick ≡ Pick.Newest → (k : ℕ) → k < ⟦<CrashBlocks as Blocks>⟧.size self
+            → block_at (⟦<MemBlocks as Blocks>⟧.contents result) k ≡ block_at (⟦<CrashBlocks as Blocks>⟧.contents self) k }
+        ensures picked { IsPicked pick (⟦<CrashBlocks as Blocks>⟧.size self)
+            (cut (⟦<CrashBlocks as Blocks>⟧.size self) self.start.items) (reverse self.events.items)
+            (⟦<MemBlocks as Blocks>⟧.contents result) }
+    {
+        let CrashBlocks {
+            mut inner,
+            start,
+            events,
+            ..
+        } = self;
+        for k in 0..inner.count() {
+            let left = left_of(&start, &events, k, pick);
+            let _ = inner.write_run(k, &left);
+        }
+        inner
+    }
 }
 
 // The bytes of all blocks.
 fn bytes_of(alloc: Global, device: &mut MemBlocks) -> Result<Vec<u8>, AllocError>
     ensures device { device.new ≡ device.old }
+    ensures long { IfOk result (λ bytes. length bytes.items ≡ BLOCK_LENGTH * ⟦<MemBlocks as Blocks>⟧.size device.old) }
     ensures contents { IfOk result (λ bytes. ⟦<MemBlocks as Blocks>⟧.contents device.old
         ≡ cut (⟦<MemBlocks as Blocks>⟧.size device.old) bytes.items) }
 {

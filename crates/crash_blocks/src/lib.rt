@@ -5,5 +5,7 @@
 mod crash;
 mod event;
 pub mod laws;
+mod outcome;
 
 pub use crash::CrashBlocks;
+pub use outcome::Pick;

@@ -1,5 +1,5 @@
 //! What a session has seen, and its right to add to it.
-ghost use Rattle.std.specs.Prelude.{◌≡◌, length};
+ghost use Rattle.std.specs.Prelude.{◌≡◌, length, MatchBool};
 ghost use mathlib.Core.List.{IsPrefix};
 
 use numbering::{AnyHistory, Array, At, History};
@@ -48,6 +48,13 @@ impl<E, S, P: Published<E, S>, N: Array<S>> LegalHistory<E, S, P, N> {
         ensures { result ≡ length self.now.1 }
     {
         self.seen.len()
+    }
+
+    /// Whether it is of the same unit and as long: then it is the same history.
+    pub fn is_same(&self, other: &LegalHistory<E, S, P, N>) -> bool
+        ensures { MatchBool result (self.now ≡ other.now) (Unit {0}) }
+    {
+        self.seen.is_same(&other.seen)
     }
 }
 
@@ -136,6 +143,16 @@ impl<E, S, P: Published<E, S>, N: Array<S>> Pass<E, S, P, N> {
         ensures { result ≡ length self.now.pass.seen }
     {
         self.seen.len()
+    }
+
+    /// A copy of what it has seen, which takes no memory.
+    pub fn history(&self) -> LegalHistory<E, S, P, N>
+        ensures { (result.0 ≡ self.now.place) × (result.1 ≡ self.now.pass.seen) }
+    {
+        LegalHistory {
+            seen: self.seen.again(),
+            of: PhantomData,
+        }
     }
 
     /// As a session of the unit at its place.

@@ -123,3 +123,83 @@ fn a_write_of_a_login_fails(rt: HostRuntime) -> Result<(), Fail> {
     let wanted = answered(ALL, End::EndOfInput);
     run_front(&rt, rt.alloc(), &row, ALL, (ONE_BYTE, forties(7)), wanted)
 }
+
+// 136 bytes, and 104 are written.
+const ONE_REQUEST: &str = r#"
+one request
+login 1
+> LOGIN 7:56 NAMES_AND_TYPE
+< LOGGED_IN 7:36 SAID
+asked begin iqn.2000-01.test:a 400001370000 Normal
+"#;
+
+const WHOLE_REQUEST: usize = 136;
+
+const WHOLE_RESPONSE: usize = 104;
+
+// What so many bytes of it come to, where no stream fails.
+fn responded(came: usize, end: End) -> (End, usize, usize) {
+    if came < WHOLE_REQUEST {
+        (end, 0, 0)
+    } else {
+        (end, WHOLE_RESPONSE, 1)
+    }
+}
+
+// One byte a call.
+fn ones(fail_at: u64) -> Calls {
+    Calls {
+        first: 1,
+        later: 1,
+        fail_at,
+        kind: ErrorKind::BrokenPipe,
+    }
+}
+
+#[test]
+fn a_login_of_one_request_ends_anywhere(rt: HostRuntime) -> Result<(), Fail> {
+    let row = first_row(rt.alloc(), ONE_REQUEST)?;
+    for came in 0..=WHOLE_REQUEST {
+        let wanted = responded(came, End::EndOfInput);
+        run_front(&rt, rt.alloc(), &row, came, (WHOLE, WHOLE), wanted)?;
+    }
+    Ok(())
+}
+
+#[test]
+fn any_read_of_a_login_fails(rt: HostRuntime) -> Result<(), Fail> {
+    let row = first_row(rt.alloc(), ONE_REQUEST)?;
+    // The last call but one finds the end.
+    for k in 1..=WHOLE_REQUEST + 2 {
+        let end = if k <= WHOLE_REQUEST + 1 {
+            End::InputFailed
+        } else {
+            End::EndOfInput
+        };
+        let how = (ones(k as u64), WHOLE);
+        run_front(
+            &rt,
+            rt.alloc(),
+            &row,
+            WHOLE_REQUEST,
+            how,
+            responded(k - 1, end),
+        )?;
+    }
+    Ok(())
+}
+
+#[test]
+fn any_write_of_a_login_fails(rt: HostRuntime) -> Result<(), Fail> {
+    let row = first_row(rt.alloc(), ONE_REQUEST)?;
+    for k in 1..=WHOLE_RESPONSE + 1 {
+        let wanted = if k <= WHOLE_RESPONSE {
+            (End::OutputFailed, k - 1, 1)
+        } else {
+            (End::EndOfInput, WHOLE_RESPONSE, 1)
+        };
+        let how = (WHOLE, ones(k as u64));
+        run_front(&rt, rt.alloc(), &row, WHOLE_REQUEST, how, wanted)?;
+    }
+    Ok(())
+}

@@ -10,6 +10,11 @@ an opcode that no PDU has
 < REJECT 2:05 rejected TEST_UNIT_READY 0:07
 end Protocol
 
+the opcode 07h, and 47 zeros behind it
+> TEST_UNIT_READY 0:0700 16:00000000000000000000000000000000
+< REJECT 2:05 rejected TEST_UNIT_READY 0:0700 16:00000000000000000000000000000000
+end Protocol
+
 a Login request, behind the login
 > TEST_UNIT_READY 0:4387
 > TEST_UNIT_READY
@@ -22,6 +27,12 @@ a PDU of a target
 < REJECT 2:05 rejected GOOD
 end Protocol
 
+a NOP-In, which is a target's
+> NOP_IN
+> TEST_UNIT_READY
+< REJECT 2:05 rejected NOP_IN
+end Protocol
+
 R and W
 > TEST_UNIT_READY 1:E1
 > TEST_UNIT_READY
@@ -32,6 +43,12 @@ without F
 > TEST_UNIT_READY 1:01
 > TEST_UNIT_READY
 < REJECT 2:09 rejected TEST_UNIT_READY 1:01
+end Protocol
+
+R without F
+> TEST_UNIT_READY 1:41
+> TEST_UNIT_READY
+< REJECT 2:09 rejected TEST_UNIT_READY 1:41
 end Protocol
 
 an additional header segment

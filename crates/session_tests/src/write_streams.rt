@@ -115,3 +115,23 @@ fn a_write_fails(rt: HostRuntime) -> Result<(), Fail> {
     }
     Ok(())
 }
+
+#[test]
+fn a_write_of_one_byte_fails(rt: HostRuntime) -> Result<(), Fail> {
+    let row = first_row(rt.alloc(), SESSION)?;
+    for k in 1..=97u64 {
+        let wanted = if k <= 96 {
+            (End::OutputFailed, k as usize - 1)
+        } else {
+            (End::EndOfInput, 96)
+        };
+        let ones = Calls {
+            first: 1,
+            later: 1,
+            fail_at: k,
+            kind: ErrorKind::BrokenPipe,
+        };
+        expect(&rt, rt.alloc(), &row, ALL, (WHOLE, ones), wanted)?;
+    }
+    Ok(())
+}

@@ -21,10 +21,12 @@ use Rattle.unit_state.specs.declared.control.TheConstants.{LAST_COUNT}
 use Rattle.unit_state.specs.State.{ControlValue, UnitValue, state_of, failures_of}
 use Rattle.unit_state.specs.Answer.{Lasts}
 use Rattle.unit_state.specs.Choice.{IsFine, choice_of}
+use Rattle.unit_state.specs.Counts.{AreCounted, counters_of}
+use Rattle.unit_state.specs.Crash.{HoldsAsBefore, LeavesAmong, holds_with}
 use Rattle.unit_state.specs.Entry.{Reset, IsAttached, IsNext, control_after}
 use Rattle.unit_state.specs.Medium.{work_asked}
 use Rattle.unit_state.specs.Refusal.{Request, refusal, request}
-use Rattle.unit_state.specs.Step.{IsStep, OnRefusal, TakesMemory, asks_file, entry_of}
+use Rattle.unit_state.specs.Step.{IsStep, OnRefusal, TakesMemory, asks_file, asks_medium, entry_of}
 use Rattle.unit_state.specs.declared.unit.StepEnd.{StepEnd}
 use Rattle.unit_state.specs.declared.unit.StepEnd.TheVariants as ends
 use Rattle.targets.specs.declared.attachment.Attachment.{Attachment}
@@ -58,19 +60,28 @@ never_unsaved device = 0
 abbrev pub request_of : {B : Type 0} → TargetValue B → Call → Request
 request_of old call = request old.at.session call.asked call.bytes
 
--- What a crash leaves: after GOOD of SYNCHRONIZE CACHE, or of a command with FUA, the blocks that the unit holds; and of the
--- registration file one of the records that the unit names. A command that a rule refuses does not reach the device of the
--- blocks, and no other than PERSISTENT RESERVE OUT the registration file.
+-- What a crash leaves: after GOOD of SYNCHRONIZE CACHE, or of a command with FUA, the blocks that the unit holds; after any
+-- command, and inside it, of each block a value that might be left before, or in a range that it wrote the new block; of a
+-- device that it does not work on just what was left before; and of the registration file one of the records that the unit
+-- names. A command that a rule refuses does not reach the device of the blocks, and no other than PERSISTENT RESERVE OUT the
+-- registration file.
 pub record IsLasting {B : Type 0} (d : Device B) (f : Device MemBlocks) (old new : TargetValue B) (call : Call)
     (reply : ReplyValue) : Type 0 where
   pub lasts : IsTrue d.claims
       → Lasts (d.contents new.unit.device) (d.may_hold new.unit.device) (work_asked call.asked call.bytes) reply
+  pub left : IsTrue d.claims → LeavesAmong d.claims_moments d.moment d.left_since d.size d.may_hold
+      (holds_with (refusal old.unit.control (request_of old call)) (d.contents old.unit.device)
+      (work_asked call.asked call.bytes) (choice_of reply (d.contents new.unit.device) new.unit.control.lasting)
+      (d.may_hold old.unit.device)) old.unit.device new.unit.device
+  pub same : asks_medium old.unit.control (request_of old call) ≡ false
+      → HoldsAsBefore d.moment d.left_since d.may_hold old.unit.device new.unit.device
   pub restart : IsTrue f.claims → EachOutcomeHolds (f.size new.unit.file.device) (f.may_hold new.unit.file.device)
       new.unit.control.lasting
   pub unreached : OnRefusal (refusal old.unit.control (request_of old call)) (new.unit.device ≡ old.unit.device)
   pub unsaved : asks_file old.unit.control (request_of old call) ≡ false → new.unit.file ≡ old.unit.file
 
--- A command of the session was one step of the unit, which tells the truth of failures, and makes what it says last.
+-- A command of the session was one step of the unit, which tells the truth of failures, also of each kind by itself, and makes
+-- what it says last. Another owner has the device as it was.
 pub record IsCommand {B : Type 0} (d : Device B) (f : Device MemBlocks) (old new : TargetValue B) (call : Call)
     (reply : ReplyValue) : Type 0 where
   pub session : new.at.session ≡ old.at.session
@@ -80,6 +91,10 @@ pub record IsCommand {B : Type 0} (d : Device B) (f : Device MemBlocks) (old new
   pub fine : Tells (failures_of d.failures never_unopened never_unsaved old.unit)
       (failures_of d.failures never_unopened never_unsaved new.unit)
       (IsFine (choice_of reply (d.contents new.unit.device) new.unit.control.lasting))
+  pub counted : AreCounted (counters_of d.reads_failed d.writes_failed never_unopened never_unsaved old.unit)
+      (counters_of d.reads_failed d.writes_failed never_unopened never_unsaved new.unit)
+      (choice_of reply (d.contents new.unit.device) new.unit.control.lasting)
+  pub kept : owner_of new.unit.control.access ≢ owner_of old.unit.control.access → new.unit.device ≡ old.unit.device
   pub lasting : IsLasting d f old new call reply
 
 -- nothing happened to the unit

@@ -182,7 +182,7 @@ impl<'a> Row<'a> {
     // Fails where it has another word than these, or nothing comes.
     fn check(&self, words: &[&str]) -> Result<(), Fail> {
         for word in &self.words {
-            if !words.contains(word) {
+            if !is_among(word, words) {
                 return Err(Fail::new(format_args!("{}: {word}", self.name)));
             }
         }
@@ -345,6 +345,15 @@ impl<'a> Row<'a> {
         let line = format!(in alloc; "LOGGED_OUT 16:{tag:08X} 24:{stat_sn:08X}{window}")?;
         self.goes_out(alloc, &line)
     }
+}
+
+fn is_among(word: &str, words: &[&str]) -> bool {
+    for each in words {
+        if *each == word {
+            return true;
+        }
+    }
+    false
 }
 
 // ExpCmdSN, and MaxCmdSN 31 behind it.

@@ -8,3 +8,5 @@ pub mod Saves
 pub mod Steps
 pub mod Told
 pub mod Works
+pub mod PowerLoss
+pub mod Restart

@@ -2,6 +2,7 @@ pub mod Answer
 pub mod Choice
 pub mod CommandLaws
 pub mod Counts
+pub mod Crash
 pub mod Entry
 pub mod EntryLaws
 pub mod Groups

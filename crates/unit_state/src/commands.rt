@@ -1,17 +1,18 @@
 //! What a command is answered.
-ghost use Rattle.std.specs.Prelude.{◌≡◌, ◌≢◌, ◌+◌, ◌&&◌, ℕ, List, [], false, true, Bool, IsTrue, IfOk, OnErr, Ok, length};
+ghost use Rattle.std.specs.Prelude.{◌≡◌, ◌≢◌, ◌+◌, ◌++◌, ◌&&◌, ℕ, List, [], false, true, Bool, IsTrue, IfOk, OnErr, Ok, length};
 ghost use Rattle.block_file.specs.Failures.{Tells};
 ghost use Rattle.unit_state.specs.Answer.{IsAnswer, IsServed, Lasts};
 ghost use Rattle.access_states.specs.AccessMap.{owner_of};
 ghost use Rattle.unit_state.specs.Choice.{IsFine, choice_of};
 ghost use Rattle.unit_state.specs.Counts.{AreCounted, counters};
+ghost use Rattle.unit_state.specs.Crash.{HoldsAsBefore, LeavesAmong, holds_after, holds_with, saved_of, saved_with};
 ghost use Rattle.unit_state.specs.Medium.{Done, Fits, is_medium, reply_by, work_of, work_asked};
 ghost use Rattle.identity.specs.SenseData.{told_sense};
 ghost use Rattle.identity.specs.Table.{cut};
 ghost use Rattle.scsi_types.specs.Sense.{sense_bytes};
 ghost use Rattle.unit_state.specs.Entry.{described};
 ghost use Rattle.unit_state.specs.Groups.{is_opening};
-ghost use Rattle.aptpl_file.specs.Lasts.{LastsAmong};
+ghost use Rattle.aptpl_file.specs.Lasts.{LastsAmong, StopsAt};
 ghost use Rattle.scsi_types.specs.declared.command.Command.TheVariants.{PersistentReserveOut, SetTargetPortGroups};
 ghost use Rattle.scsi_types.specs.declared.reservation.PrOutAction.{PrOutAction};
 ghost use Rattle.unit_state.specs.Reserve.{HasList};
@@ -86,6 +87,16 @@ pub fn answer<B: Blocks, O: Opener<B>, R: Blocks>(
         (IsFine (choice_of reply (B.contents device.new) control.new.lasting))) }
     ensures lasts { IsTrue B.claims → IfOk result (Lasts (B.contents device.new) (B.may_hold device.new)
         (work_asked asked bytes.now)) }
+    ensures left { IsTrue (O.claims && B.claims) → IfOk result (λ reply. LeavesAmong B.claims_moments B.moment B.left_since B.size B.may_hold
+        (holds_with (refusal control.old (request sender.session asked bytes.now)) (B.contents device.old)
+        (work_asked asked bytes.now) (choice_of reply (B.contents device.new) control.new.lasting)
+        (B.may_hold device.old)) device.old device.new) }
+    ensures same { asks_medium control.old (request sender.session asked bytes.now) ≡ false → IsTrue O.claims
+        → HoldsAsBefore B.moment B.left_since B.may_hold device.old device.new }
+    ensures stop { IsTrue R.claims → IsTrue R.claims_moments
+        → LastsAmong R.size R.may_hold file.old control.old.lasting → StopsAt R.moment R.left_since
+        (saved_with (refusal control.old (request sender.session asked bytes.now)) control.old
+        (request sender.session asked bytes.now) ++ control.old.lasting) file.old.device file.new.device }
 {
     let command = match admit(control, sender, asked, bytes) {
         Ok(command) => command,
@@ -154,6 +165,15 @@ fn serve<B: Blocks, O: Opener<B>, R: Blocks>(
         (IsFine (choice_of reply (B.contents device.new) control.new.lasting))) }
     ensures lasts { IsTrue B.claims → IfOk result (Lasts (B.contents device.new) (B.may_hold device.new)
         (work_of command bytes.now)) }
+    ensures left { IsTrue (O.claims && B.claims) → IfOk result (λ reply. LeavesAmong B.claims_moments B.moment B.left_since B.size B.may_hold
+        (holds_after (B.contents device.old) (work_of command bytes.now)
+        (choice_of reply (B.contents device.new) control.new.lasting) (B.may_hold device.old)) device.old device.new) }
+    ensures same { is_medium (work_of command bytes.now) ≡ false → IsTrue O.claims
+        → HoldsAsBefore B.moment B.left_since B.may_hold device.old device.new }
+    ensures stop { IsTrue R.claims → IsTrue R.claims_moments
+        → LastsAmong R.size R.may_hold file.old control.old.lasting → StopsAt R.moment R.left_since
+        (saved_of control.old sender.session command bytes.now ++ control.old.lasting)
+        file.old.device file.new.device }
 {
     match command {
         Command::SetTargetPortGroups { list_length } => Ok(set_groups(
@@ -227,6 +247,9 @@ fn perform<B: Blocks>(
         (IsFine (choice_of reply (B.contents device.new) control.new.lasting))) }
     ensures lasts { IsTrue B.claims → IfOk result (Lasts (B.contents device.new) (B.may_hold device.new)
         (work_of command bytes.now)) }
+    ensures left { IsTrue B.claims → IfOk result (λ reply. LeavesAmong B.claims_moments B.moment B.left_since B.size B.may_hold
+        (holds_after (B.contents device.old) (work_of command bytes.now)
+        (choice_of reply (B.contents device.new) control.new.lasting) (B.may_hold device.old)) device.old device.new) }
 {
     match command {
         Command::TestUnitReady => Ok(Reply::good(Vec::new(alloc))),

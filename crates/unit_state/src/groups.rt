@@ -5,6 +5,7 @@ ghost use Rattle.unit_state.specs.Answer.{IsServed};
 ghost use Rattle.access_states.specs.AccessMap.{owner_of};
 ghost use Rattle.unit_state.specs.Choice.{IsFine, choice_of};
 ghost use Rattle.unit_state.specs.Counts.{AreCounted, counters};
+ghost use Rattle.unit_state.specs.Crash.{HoldsAsBefore};
 ghost use Rattle.unit_state.specs.Groups.{IsTaken, is_moved, is_opening, set_by, with_access};
 ghost use Rattle.unit_state.specs.Places.{IsPlaceOf, StaysAll, Stays};
 ghost use Rattle.unit_state.specs.State.{unit_of};
@@ -47,6 +48,7 @@ pub fn change<B: Blocks, O: Opener<B>>(
     ensures failed_reads { B.reads_failed device.new ≡ B.reads_failed device.old }
     ensures failed_writes { B.writes_failed device.new ≡ B.writes_failed device.old }
     ensures contents { IsTrue O.claims → B.contents device.new ≡ B.contents device.old }
+    ensures kept { IsTrue O.claims → HoldsAsBefore B.moment B.left_since B.may_hold device.old device.new }
     ensures changed { OnOk result (control.new ≡ with_access control.old by access) }
     ensures lasting { control.new.lasting ≡ control.old.lasting }
     ensures stays { StaysAll control.old control.new }
@@ -88,6 +90,7 @@ pub fn set_groups<B: Blocks, O: Opener<B>>(
     ensures device_failures { B.failures device.new ≡ B.failures device.old }
     ensures failed_reads { B.reads_failed device.new ≡ B.reads_failed device.old }
     ensures failed_writes { B.writes_failed device.new ≡ B.writes_failed device.old }
+    ensures kept { IsTrue O.claims → HoldsAsBefore B.moment B.left_since B.may_hold device.old device.new }
     ensures counted { (saves : ℕ) → AreCounted
         (counters (B.reads_failed device.old) (B.writes_failed device.old) (O.opens_failed opener.old) saves)
         (counters (B.reads_failed device.new) (B.writes_failed device.new) (O.opens_failed opener.new) saves)

@@ -12,6 +12,11 @@ ghost use Rattle.scsi_types.specs.Attention.{attention_sense};
 ghost use Rattle.scsi_types.specs.declared.attention.UnitAttention.{UnitAttention as Condition};
 ghost use Rattle.scsi_types.specs.declared.attention.UnitAttention.TheVariants.{AccessStateChanged, PowerOn};
 ghost use Rattle.scsi_types.specs.Sense.{internal_target_failure, set_target_port_groups_command_failed};
+ghost use Rattle.std.specs.Prelude.{Contains};
+ghost use Rattle.access_states.specs.AccessMap.{opening_access};
+ghost use Rattle.aptpl_file.specs.Holds.{Holds};
+ghost use Rattle.aptpl_file.specs.Lasts.{EachOutcomeHolds};
+ghost use Rattle.block_file.specs.Disk.{MayLeave};
 ghost use Rattle.reservations.specs.Registry.{RecordValue};
 ghost use Rattle.unit_state.specs.Saving.{LastsAlone, with_doubt};
 ghost use Rattle.access_states.specs.AccessMap.{AccessMapValue};
@@ -23,7 +28,7 @@ ghost use Rattle.scsi_types.specs.declared.sense.Sense.{Sense};
 ghost use Rattle.unit_state.specs.Refusal.{IsKeptOut, IsUnserved};
 ghost use Rattle.unit_state.specs.Reserve.{after_effect, effect_by};
 ghost use Rattle.unit_state.specs.Sessions.{session_of, first_pending, last_nexus, pending_of};
-ghost use Rattle.unit_state.specs.State.{ControlValue, UnitState, opening_control};
+ghost use Rattle.unit_state.specs.State.{ControlValue, UnitState, opening_control, preferred};
 ghost use Rattle.unit_state.specs.Choice.{Choice, Fine, OpenFailed, SaveFailed};
 ghost use Rattle.unit_state.specs.Groups.{is_any_changed, with_access};
 ghost use Rattle.unit_state.specs.Refusal.{refusal, request};
@@ -34,6 +39,8 @@ ghost use Rattle.unit_state.specs.Serials.{IsNumbered, IsOpening};
 ghost use Rattle.scsi_types.specs.Nexus.{Nexus};
 ghost use Rattle.scsi_types.specs.declared.names.Place.{Place};
 
+use aptpl_file::laws::one_record_is_held;
+use block_file::Blocks;
 use reservations::the_sender_is_not_told;
 
 /// One entry more of a history changes the state that the history gives, and is possible and answered in that
@@ -230,4 +237,25 @@ pub fn a_failed_save_changes_nothing_else()
 /// A session that ended is not attached.
 pub fn an_ended_session_is_gone()
     ensures { (c : ControlValue) (session : ℕ) → session_of (control_after c (Detach session)).sessions session ≡ None }
+{}
+
+/// Of a registration file that a crash left a restart finds a record that the unit named before.
+pub fn a_restart_finds_a_record_that_was_named<B: Blocks>()
+    ensures { (device : B) (named : List RecordValue) (disk : List (List ℕ)) (found : RecordValue)
+        → EachOutcomeHolds (B.size device) (B.may_hold device) named
+        → MayLeave (B.size device) (B.may_hold device) disk → Holds disk found → Contains named found }
+{
+    one_record_is_held();
+}
+
+/// A unit that opens again with a record that lasted has no session and no entry, PRGENERATION 0, and the access states of a
+/// unit that was not altered.
+pub fn a_restart_begins_anew()
+    ensures sessions { (place : Place) (total : ℕ) (lasted : RecordValue)
+        → (opening_control place total lasted).sessions ≡ [] }
+    ensures entries { (place : Place) (total : ℕ) (lasted : RecordValue) → (opening_control place total lasted).count ≡ 0 }
+    ensures generation { (place : Place) (total : ℕ) (lasted : RecordValue)
+        → (opening_control place total lasted).registry.generation ≡ 0 }
+    ensures access { (place : Place) (total : ℕ) (lasted : RecordValue)
+        → (opening_control place total lasted).access ≡ opening_access (preferred place.unit) }
 {}

@@ -1,10 +1,12 @@
 //! The commands on the medium, with their flushes.
 ghost use Rattle.std.specs.Prelude.{◌≡◌, ◌+◌, ◌*◌, ◌≤◌, ℕ, [], true, length, IsTrue};
-ghost use Rattle.block_file.specs.Disk.{Only};
+ghost use Rattle.block_file.specs.Cut.{cut};
+ghost use Rattle.block_file.specs.Disk.{Only, or_new};
 ghost use Rattle.block_file.specs.Failures.{Tells};
 ghost use Rattle.compare_write.specs.Ends.{IsRead, IsUnfailed, IsWritten, OnDone};
+ghost use Rattle.unit_state.specs.Crash.{LeavesAmong, holds_after};
 ghost use Rattle.unit_state.specs.Medium.{Reads, Writes, Compares, Flushes};
-ghost use Rattle.unit_state.specs.Worked.{IsWorked, OnReading};
+ghost use Rattle.unit_state.specs.Worked.{IsWorked, OnReading, choice_at};
 
 use block_file::{BLOCK_LENGTH, Blocks};
 use compare_write::{MOST_COMPARED, MediumEnd, compare_and_write, read_range, sync, write_range};
@@ -27,6 +29,8 @@ pub fn read<B: Blocks>(
     ensures failed_writes { Tells (B.writes_failed device.old) (B.writes_failed device.new) (IsWritten result) }
     ensures durable { IsTrue B.claims → fua ≡ true → OnReading result
         (Only (B.contents device.new) (B.may_hold device.new)) }
+    ensures left { IsTrue B.claims → LeavesAmong B.claims_moments B.moment B.left_since B.size B.may_hold
+        (B.may_hold device.old) device.old device.new }
 {
     if !fua {
         return read_range(device, lba, blocks, out);
@@ -49,6 +53,8 @@ pub fn write<B: Blocks>(device: &mut B, lba: u32, blocks: u16, fua: bool, bytes:
     ensures failed_writes { Tells (B.writes_failed device.old) (B.writes_failed device.new) (IsWritten result) }
     ensures durable { IsTrue B.claims → fua ≡ true → OnDone result
         (Only (B.contents device.new) (B.may_hold device.new)) }
+    ensures left { IsTrue B.claims → LeavesAmong B.claims_moments B.moment B.left_since B.size B.may_hold
+        (or_new lba (cut blocks bytes.now) (B.may_hold device.old)) device.old device.new }
 {
     match write_range(device, lba, blocks, bytes) {
         MediumEnd::Done if fua => sync(device),
@@ -75,6 +81,9 @@ pub fn compare<B: Blocks>(
     ensures failed_writes { Tells (B.writes_failed device.old) (B.writes_failed device.new) (IsWritten result) }
     ensures durable { IsTrue B.claims → fua ≡ true → OnDone result
         (Only (B.contents device.new) (B.may_hold device.new)) }
+    ensures left { IsTrue B.claims → LeavesAmong B.claims_moments B.moment B.left_since B.size B.may_hold
+        (holds_after (B.contents device.old) (Compares (record { lba = lba; blocks = blocks }) bytes.now fua)
+        (choice_at result (B.contents device.new)) (B.may_hold device.old)) device.old device.new }
 {
     match compare_and_write(device, lba, blocks, bytes) {
         MediumEnd::Done if fua => sync(device),
@@ -91,6 +100,8 @@ pub fn flush<B: Blocks>(device: &mut B) -> MediumEnd
     ensures failed_reads { Tells (B.reads_failed device.old) (B.reads_failed device.new) (IsRead result) }
     ensures failed_writes { Tells (B.writes_failed device.old) (B.writes_failed device.new) (IsWritten result) }
     ensures durable { IsTrue B.claims → OnDone result (Only (B.contents device.new) (B.may_hold device.new)) }
+    ensures left { IsTrue B.claims → LeavesAmong B.claims_moments B.moment B.left_since B.size B.may_hold
+        (B.may_hold device.old) device.old device.new }
 {
     sync(device)
 }

@@ -1,10 +1,11 @@
 //! PERSISTENT RESERVE OUT with the save that it needs (SPC-4, 5.13.5): what is to outlast a loss of power is saved before
 //! the registrations change.
-ghost use Rattle.std.specs.Prelude.{◌≡◌, ℕ, List, IsTrue};
-ghost use Rattle.aptpl_file.specs.Lasts.{LastsAmong};
+ghost use Rattle.std.specs.Prelude.{◌≡◌, ◌++◌, ℕ, List, IsTrue};
+ghost use Rattle.aptpl_file.specs.Lasts.{LastsAmong, StopsAt};
 ghost use Rattle.block_file.specs.Failures.{Tells};
 ghost use Rattle.unit_state.specs.Choice.{IsFine, choice_of};
 ghost use Rattle.unit_state.specs.Counts.{AreCounted, counters};
+ghost use Rattle.unit_state.specs.Crash.{saved_by};
 ghost use Rattle.unit_state.specs.Places.{IsPlaceOf, Stays};
 ghost use Rattle.unit_state.specs.Reserve.{effect_by};
 ghost use Rattle.unit_state.specs.Saving.{IsReserved};
@@ -33,6 +34,10 @@ pub fn reserve<R: Blocks>(
     ensures reserved { IsReserved control.old (effect_by control.old sender.session asked) control.new result }
     ensures kept { IsTrue R.claims → LastsAmong R.size R.may_hold file.old control.old.lasting
         → LastsAmong R.size R.may_hold file.new control.new.lasting }
+    ensures stop { IsTrue R.claims → IsTrue R.claims_moments
+        → LastsAmong R.size R.may_hold file.old control.old.lasting
+        → StopsAt R.moment R.left_since (saved_by (effect_by control.old sender.session asked) ++ control.old.lasting)
+        file.old.device file.new.device }
     ensures access { control.new.access ≡ control.old.access }
     ensures counted { (blocks : List (List ℕ)) (reads writes opens : ℕ) → AreCounted
         (counters reads writes opens (R.failures file.old.device))

@@ -1,7 +1,7 @@
-ghost use Rattle.std.specs.Prelude.{IfSome, ◌≡◌, ◌≢◌, ◌<◌, ◌≤◌, ◌&&◌, ◌↔◌, false, Err, [], ◌∷◌, IfOk, OnOk, OnErr, IsErr};
+ghost use Rattle.std.specs.Prelude.{IfSome, ◌≡◌, ◌≢◌, ◌<◌, ◌≤◌, ◌++◌, ◌&&◌, ◌↔◌, false, Err, [], ◌∷◌, IfOk, OnOk, OnErr, IsErr};
 ghost use Rattle.block_file.specs.Disk.{Only};
 ghost use Rattle.block_file.specs.Failures.{Counts, Tells};
-ghost use Rattle.aptpl_file.specs.Lasts.{EachOutcomeHolds, LastsAmong};
+ghost use Rattle.aptpl_file.specs.Lasts.{EachOutcomeHolds, LastsAmong, StopsAt};
 ghost use Rattle.reservations.specs.Nexus.{IsPortName};
 ghost use Rattle.unit_state.specs.Limits.{last_length};
 
@@ -78,6 +78,7 @@ impl<B: Blocks, R: Blocks, O: Opener<B>> Unit<B, R, O> {
     ghost use Rattle.access_states.specs.AccessMap.{owner_of};
     ghost use Rattle.unit_state.specs.Choice.{IsFine, choice_of};
     ghost use Rattle.unit_state.specs.Counts.{AreCounted, counters_of};
+    ghost use Rattle.unit_state.specs.Crash.{HoldsAsBefore, LeavesAmong, holds_with, saved_with};
     ghost use Rattle.unit_state.specs.Refusal.{refusal, request};
     ghost use Rattle.unit_state.specs.Entry.{Attach, Detach, Reset, HasRoom, IsAttached, control_after};
     ghost use Rattle.std.specs.Prelude.{IsTrue};
@@ -194,6 +195,20 @@ impl<B: Blocks, R: Blocks, O: Opener<B>> Unit<B, R, O> {
         // a READ with FUA whose read failed.
         ensures lasts { IsTrue B.claims → OnReply result
             (Lasts (B.contents self.new.device) (B.may_hold self.new.device) (work_asked asked bytes.now)) }
+        // A crash after it, and a stop anywhere inside it, leaves each block with a value that it might have left before, or,
+        // in a range that the command wrote, with the new block.
+        ensures left { IsTrue (O.claims && B.claims) → OnReply result (λ reply. LeavesAmong B.claims_moments B.moment B.left_since B.size B.may_hold
+            (holds_with (refusal self.old.control (request session asked bytes.now)) (B.contents self.old.device)
+            (work_asked asked bytes.now)
+            (choice_of reply (B.contents self.new.device) self.new.control.lasting) (B.may_hold self.old.device))
+            self.old.device self.new.device) }
+        // A device that the command does not work on, also one that was opened for another owner, holds the same.
+        ensures same { asks_medium self.old.control (request session asked bytes.now) ≡ false → IsTrue O.claims
+            → HoldsAsBefore B.moment B.left_since B.may_hold self.old.device self.new.device }
+        // A stop anywhere inside it leaves a record of those that the unit said before, or the one that it saves.
+        ensures stop { IsTrue R.claims → IsTrue R.claims_moments → StopsAt R.moment R.left_since
+            (saved_with (refusal self.old.control (request session asked bytes.now)) self.old.control
+            (request session asked bytes.now) ++ self.old.control.lasting) self.old.file.device self.new.file.device }
         // A command that a rule refuses does not reach the device.
         ensures unreached { OnReply result (λ reply. OnRefusal
             (refusal self.old.control (request session asked bytes.now)) (self.new.device ≡ self.old.device)) }
@@ -254,6 +269,9 @@ impl<B: Blocks, R: Blocks, O: Opener<B>> Unit<B, R, O> {
             list.now result }
         ensures err { OnErr result ((self.new.control ≡ self.old.control) × (self.new.device ≡ self.old.device)) }
         ensures file { self.new.file ≡ self.old.file }
+        // The device, opened for another owner or not, holds the same.
+        ensures same { IsTrue O.claims
+            → HoldsAsBefore B.moment B.left_since B.may_hold self.old.device self.new.device }
         ensures unopened { is_moved_by self.old.control.access (move_by self.old.control list.now) ≡ false
             → self.new.opener ≡ self.old.opener }
         ensures unasked { self.old.control.count ≡ last_length → self.new ≡ self.old }
@@ -294,6 +312,8 @@ impl<B: Blocks, R: Blocks, O: Opener<B>> Unit<B, R, O> {
         ensures blocks { IsTrue B.claims → B.contents self.new.device ≡ B.contents self.old.device }
         ensures lasts { IsTrue B.claims → OnOk result
             (Only (B.contents self.new.device) (B.may_hold self.new.device)) }
+        ensures left { IsTrue B.claims → LeavesAmong B.claims_moments B.moment B.left_since B.size B.may_hold
+            (B.may_hold self.old.device) self.old.device self.new.device }
         ensures failures { Counts (failures_of B.failures O.opens_failed R.failures self.old)
             (failures_of B.failures O.opens_failed R.failures self.new) result }
     {

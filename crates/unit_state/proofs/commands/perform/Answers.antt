@@ -4,6 +4,8 @@ use Rattle.unit_state.specs.Step.{is_describing}
 use Rattle.std.proofs.lemmas.List.{take_at}
 use Rattle.scsi_types.specs.ReplyValue.{good}
 use Rattle.unit_state.proofs.Works.{medium_served, good_served, described_served}
+use Rattle.unit_state.proofs.PowerLoss.{compared_left, idle_left}
+use Rattle.unit_state.specs.Medium.{work_of}
 use Rattle.unit_state.proofs.commands.perform.Goals as goal
 
 pub returns-in-TestUnitReady-clause-served : goal.returns-in-TestUnitReady-clause-served
@@ -66,3 +68,31 @@ returns-in_ok-describe-in-Inquiry-clause-served g c =
       ]
     ] in
     described_served _ _ _ _ _ _ _ _ tells c.in_ok-describe-in-Inquiry.ensures.described c.good-in-Inquiry.ensures
+
+pub returns-in-TestUnitReady-clause-left : goal.returns-in-TestUnitReady-clause-left
+returns-in-TestUnitReady-clause-left g c = λ h.
+    idle_left _ _ _ _ _ (g.B.Blocks.contents c.args.device.now) (work_of c.args.command c.args.bytes.now) _ c.args.device.now
+
+pub returns-in_ok-out-in-Read-clause-left : goal.returns-in_ok-out-in-Read-clause-left
+returns-in_ok-out-in-Read-clause-left g c = rw c.in-Read.is c.read-end.ensures.left
+
+pub returns-in-Write-clause-left : goal.returns-in-Write-clause-left
+returns-in-Write-clause-left g c = rw c.in-Write.is c.write-end.ensures.left
+
+pub returns-in-CompareAndWrite-clause-left : goal.returns-in-CompareAndWrite-clause-left
+returns-in-CompareAndWrite-clause-left g c =
+    rw c.in-CompareAndWrite.is (λ h.
+    compared_left _ _ _ _ _ (g.B.Blocks.contents c.args.device.now)
+    (record { lba = c.in-CompareAndWrite.lba; blocks = c.in-CompareAndWrite.blocks }) c.args.bytes.now
+    c.in-CompareAndWrite.fua _ _ _ _ _ _ _ c.medium_reply-in-CompareAndWrite.ensures (c.compare-end.ensures.left h))
+
+pub returns-in-SynchronizeCache-clause-left : goal.returns-in-SynchronizeCache-clause-left
+returns-in-SynchronizeCache-clause-left g c = rw c.in-SynchronizeCache.is c.flush-end.ensures.left
+
+pub returns-in_ok-sense-in-RequestSense-clause-left : goal.returns-in_ok-sense-in-RequestSense-clause-left
+returns-in_ok-sense-in-RequestSense-clause-left g c = λ h.
+    idle_left _ _ _ _ _ (g.B.Blocks.contents c.args.device.now) (work_of c.args.command c.args.bytes.now) _ c.args.device.now
+
+pub returns-in_ok-describe-in-Inquiry-clause-left : goal.returns-in_ok-describe-in-Inquiry-clause-left
+returns-in_ok-describe-in-Inquiry-clause-left g c = λ h.
+    idle_left _ _ _ _ _ (g.B.Blocks.contents c.args.device.now) (work_of c.args.command c.args.bytes.now) _ c.args.device.now

@@ -1,6 +1,9 @@
 use Rattle.std.proofs.Common.{refl}
 use Rattle.aptpl_file.specs.LastsLaws.{each_outcome_holds}
 use Rattle.unit_state.proofs.Steps.{answered_step, step_seen, memory_seen, restart_seen, restarts, unreached_seen}
+use Rattle.unit_state.specs.Medium.{work_asked}
+use Rattle.unit_state.specs.Refusal.{request}
+use Rattle.unit_state.proofs.PowerLoss.{as_before, no_stop, same_seen, step_left, stop_seen}
 use Rattle.unit_state.proofs.unit.Unit.step.Goals as goal
 
 pub returns-clause-entry : goal.returns-clause-entry
@@ -30,3 +33,33 @@ pub returns-clause-restart : goal.returns-clause-restart
 returns-clause-restart g c =
     λ h. restarts g.R.Blocks.size g.R.Blocks.may_hold _ _ _
     (c.in-Ok.ensures.kept h (c.self.invariant.1 h)) c.pass.ensures.lasting
+
+pub returns-clause-left : goal.returns-clause-left
+returns-clause-left g c =
+    step_left g.B.Blocks.claims_moments g.B.Blocks.moment g.B.Blocks.left_since g.B.Blocks.size g.B.Blocks.may_hold _ g.B.Blocks.contents _ _
+    (request c.args.session c.args.asked c.args.bytes.now) (work_asked c.args.asked c.args.bytes.now) c.in-Ok.reply _ _ _
+    c.self.view_is c.pass.ensures.lasting c.in-Ok.ensures.left
+
+pub returns-in-Gone-clause-same : goal.returns-in-Gone-clause-same
+returns-in-Gone-clause-same g c = λ none h. as_before g.B.Blocks.claims_moments g.B.Blocks.moment g.B.Blocks.left_since g.B.Blocks.size g.B.Blocks.may_hold _ _ refl
+
+pub returns-in-Moved-clause-same : goal.returns-in-Moved-clause-same
+returns-in-Moved-clause-same g c = λ none h. as_before g.B.Blocks.claims_moments g.B.Blocks.moment g.B.Blocks.left_since g.B.Blocks.size g.B.Blocks.may_hold _ _ refl
+
+pub returns-in-Err-clause-same : goal.returns-in-Err-clause-same
+returns-in-Err-clause-same g c = same_seen g.B.Blocks.claims_moments g.B.Blocks.moment g.B.Blocks.left_since g.B.Blocks.size g.B.Blocks.may_hold _ _ _ _ _ c.self.view_is c.in-Err.ensures.same
+
+pub returns-clause-same : goal.returns-clause-same
+returns-clause-same g c = same_seen g.B.Blocks.claims_moments g.B.Blocks.moment g.B.Blocks.left_since g.B.Blocks.size g.B.Blocks.may_hold _ _ _ _ _ c.self.view_is c.in-Ok.ensures.same
+
+pub returns-in-Gone-clause-stop : goal.returns-in-Gone-clause-stop
+returns-in-Gone-clause-stop g c = λ h m. no_stop g.R.Blocks.moment g.R.Blocks.left_since _ _ _ refl
+
+pub returns-in-Moved-clause-stop : goal.returns-in-Moved-clause-stop
+returns-in-Moved-clause-stop g c = λ h m. no_stop g.R.Blocks.moment g.R.Blocks.left_since _ _ _ refl
+
+pub returns-in-Err-clause-stop : goal.returns-in-Err-clause-stop
+returns-in-Err-clause-stop g c = stop_seen _ _ g.R.Blocks.moment g.R.Blocks.left_since g.R.Blocks.size g.R.Blocks.may_hold _ _ _ _ c.self.view_is c.in-Err.ensures.stop c.self.invariant.1
+
+pub returns-clause-stop : goal.returns-clause-stop
+returns-clause-stop g c = stop_seen _ _ g.R.Blocks.moment g.R.Blocks.left_since g.R.Blocks.size g.R.Blocks.may_hold _ _ _ _ c.self.view_is c.in-Ok.ensures.stop c.self.invariant.1

@@ -1,0 +1,88 @@
+//! Moves of an array's units between its controllers, without a session that asks for them.
+#![tactic(auto)]
+
+ghost use Rattle.std.specs.Prelude.{◌≡◌, ◌<◌, ◌&&◌, IfOk, IfErr};
+ghost use Rattle.unit_history.specs.Calls.{HasMoved, HasStayed};
+ghost use Rattle.failover.specs.Down.{AreDown, IsStopped, down_list};
+
+use access_states::Change;
+use block_file::{Blocks, Opener};
+use numbering::Array;
+use scsi_types::Group;
+use std::sync::Wait;
+use unit_history::{LegalHistory, MOST_UNITS, Opened, Units};
+use unit_state::MoveFault;
+
+/// What was seen of each unit as it moved, by the units' places.
+pub type Moves<B, R, O, N> = [Option<LegalHistory<B, R, O, N>>; MOST_UNITS];
+
+/// A unit did not move.
+#[derive(Drop)]
+pub struct NotMoved<B: Blocks, R: Blocks, O: Opener<B>, N: Array<Opened>> {
+    /// The place of the first that did not. Those before it moved, and those behind it were not asked.
+    pub unit: usize,
+    /// What was seen of it.
+    pub seen: LegalHistory<B, R, O, N>,
+    /// Why it stays.
+    pub why: MoveFault,
+}
+
+/// The parameter list by which a controller goes down (SPC-4, 6.45): the other group becomes active/optimized, and its own
+/// unavailable.
+fn down_list(controller: Group) -> [u8; 12]
+    ensures { result ≡ down_list controller }
+{
+    match controller {
+        Group::One => [0, 0, 0, 0, 0, 0, 0, 2, 3, 0, 0, 1],
+        Group::Two => [0, 0, 0, 0, 0, 0, 0, 1, 3, 0, 0, 2],
+    }
+}
+
+/// Moves the unit at a place as a parameter list of SET TARGET PORT GROUPS says (SPC-4, 6.45), or tells why it stays. The
+/// change counts as implicit (SPC-4, 5.15.2.8): every attached session hears of it. Where the blocks cannot be opened for the
+/// new owner, the unit is as it was.
+pub fn set_groups<B: Blocks, R: Blocks, O: Opener<B>, N: Array<Opened>, W: Wait>(
+    rt: &W,
+    units: &Units<B, R, O, N>,
+    place: usize,
+    list: &[u8],
+) -> (LegalHistory<B, R, O, N>, Result<Change, MoveFault>)
+    requires { place < units.now }
+    ensures place { result.0.0 ≡ place }
+    ensures moved { IfOk result.1 (λ told.
+        HasMoved (O.claims && B.claims) (N.opening place) list.now result.0.1 told) }
+    ensures stays { IfErr result.1 (λ why.
+        HasStayed (O.claims && B.claims) (N.opening place) list.now result.0.1 why) }
+{
+    units.move_to(rt, place, list)
+}
+
+/// Takes a controller down, unit by unit: the other group becomes active/optimized, and its own unavailable. It stops at the
+/// first unit that does not move; those before it stay moved. What was seen of each unit that moved is handed out. The
+/// controller's portals stay open, and SET TARGET PORT GROUPS brings it back.
+pub fn take_down<B: Blocks, R: Blocks, O: Opener<B>, N: Array<Opened>, W: Wait>(
+    rt: &W,
+    units: &Units<B, R, O, N>,
+    controller: Group,
+) -> (Moves<B, R, O, N>, Result<(), NotMoved<B, R, O, N>>)
+    ensures down { IfOk result.1 (λ done. AreDown (O.claims && B.claims) N.opening controller units.now result.0) }
+    ensures stopped { IfErr result.1 (λ end. (end.unit < units.now)
+        × AreDown (O.claims && B.claims) N.opening controller end.unit result.0
+        × IsStopped (O.claims && B.claims) (N.opening end.unit) controller end.unit end.seen end.why) }
+{
+    let list = down_list(controller);
+    let mut moves = [None, None, None, None, None, None, None, None];
+    for place in 0..units.count() {
+        let (seen, end) = set_groups(rt, units, place, &list);
+        if let Err(why) = end {
+            let stopped = NotMoved {
+                unit: place,
+                seen,
+                why,
+            };
+            return (moves, Err(stopped));
+        }
+        moves[place] = Some(seen);
+    }
+    (moves, Ok(()))
+}
