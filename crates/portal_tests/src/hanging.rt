@@ -1,0 +1,37 @@
+//! A unit that does not answer.
+use crate::array::{Script, run};
+use std::test::*;
+
+// A's command waits before unit 1; meanwhile B is served by unit 0, and C logs in.
+const HELD: &str = r#"
+A at 1
+A > LOGIN 7:56 HOST_A
+A < LOGGED_IN 7:36 WELCOME
+A > TEST_UNIT_READY 9:01
+A < CHECK_CONDITION 0012 70000600000000 0A00000000 2900 00000000
+B at 2
+B > LOGIN 7:56 HOST_B
+B < LOGGED_IN 7:36 15:02 WELCOME_2
+B > TEST_UNIT_READY
+B < CHECK_CONDITION 0012 70000600000000 0A00000000 2900 00000000
+gate hold 1
+A > TEST_UNIT_READY 9:01
+gate held 1
+B > WRITE 5:000200 pattern 512
+B < GOOD
+B > TEST_UNIT_READY 1:C1 20:00000200 32:28000000000500000100
+B < DATA_IN 5:000200 pattern 512
+B < GOOD 36:00000001
+C at 1
+C > LOGIN 7:56 HOST_B
+C < LOGGED_IN 7:36 15:03 WELCOME
+C > TEST_UNIT_READY
+C < CHECK_CONDITION 0012 70000600000000 0A00000000 2900 00000000
+gate open
+A < GOOD
+"#;
+
+#[test]
+fn a_unit_that_hangs_holds_no_other(rt: HostRuntime) -> Result<(), Fail> {
+    run(&rt, rt.alloc(), &Script::new(HELD))
+}

@@ -1,0 +1,28 @@
+//! Tests of the portals over the loopback: an array, its portals and its initiators in threads of one process. Each test is a
+//! script of what the initiators do and are answered.
+#![tactic(auto)]
+
+#[cfg(test)]
+mod array;
+#[cfg(test)]
+mod discovery;
+#[cfg(test)]
+mod fencing;
+#[cfg(test)]
+mod gone;
+#[cfg(test)]
+mod hanging;
+#[cfg(test)]
+mod host;
+#[cfg(test)]
+mod latch;
+#[cfg(test)]
+mod logins;
+#[cfg(test)]
+mod medium;
+#[cfg(test)]
+mod restart;
+#[cfg(test)]
+mod stage;
+#[cfg(test)]
+mod units;
