@@ -1,5 +1,5 @@
 //! Who may read and write beside a reservation of each type.
-use crate::script::{A, B, C, Want, Who, asking, ended, fresh, port_of};
+use crate::script::{A, B, C, Want, Who, asking, ends_so, port_of};
 use reservations::{Access, Registry};
 use scsi_types::{NoMemory, PrOutAction};
 use std::process::Abort;
@@ -15,17 +15,20 @@ const ROWS: [(u8, &[u8; 3], &[u8; 3], &[u8; 3]); 6] = [
 ];
 
 // A and B are registered, and A has made a reservation of this type.
-fn reserved<R: AllocGlobal + Abort>(rt: &R, kind: u8) -> Result<Box<Registry>, NoMemory> {
+fn reserved<R: AllocGlobal + Abort>(rt: &R, kind: u8) -> Result<Registry, NoMemory> {
     let alloc = rt.alloc();
-    let mut registry = fresh(alloc)?;
+    let mut registry = Registry::new(alloc)?;
     for (who, action, key, sakey) in [
         (A, PrOutAction::Register, 0, 0x11),
         (B, PrOutAction::Register, 0, 0x22),
         (A, PrOutAction::Reserve, 0x11, 0),
     ] {
-        let asked = asking(action, kind, key, sakey);
-        let end = ended(&mut registry, &port_of(alloc, who)?, who.2, asked);
-        assert_eq!(rt; end, Want::Good, "{who:?}");
+        let end = registry.out(
+            &port_of(alloc, who)?,
+            who.2,
+            asking(action, kind, key, sakey),
+        );
+        assert!(rt; ends_so(&end, Want::Good), "{end:?}");
     }
     Ok(registry)
 }
@@ -58,7 +61,7 @@ fn beside_each_type(rt: HostRuntime) -> Result<(), NoMemory> {
             );
         }
     }
-    let free = fresh(rt.alloc())?;
+    let free = Registry::new(rt.alloc())?;
     assert_eq!(rt; allowed(&rt, &free, C)?, *b"rwo", "no reservation");
     Ok(())
 }

@@ -1,8 +1,8 @@
 //! The data of PERSISTENT RESERVE IN, byte for byte; flags; the table's end; and what lasts.
 ghost use Rattle.reservations.specs.Nexus.{IsPortName};
 
-use crate::script::{A, Want, ended, fresh, port_of, told_to};
-use reservations::{PrEnd, PrOut, Registry};
+use crate::script::{A, Want, ends_so, port_of, told_to};
+use reservations::{PrOut, Registry};
 use scsi_types::{Group, NoMemory, PortName, PrOutAction, UnitAttention};
 use std::alloc::Global;
 
@@ -29,10 +29,10 @@ const RESERVE: PrOut = PrOut {
 };
 
 // A registry that A did these requests to.
-fn after(alloc: Global, port: &PortName, requests: &[PrOut]) -> Result<Box<Registry>, NoMemory>
+fn after(alloc: Global, port: &PortName, requests: &[PrOut]) -> Result<Registry, NoMemory>
     requires { IsPortName port.now }
 {
-    let mut registry = fresh(alloc)?;
+    let mut registry = Registry::new(alloc)?;
     for request in requests {
         let _ = registry.out(port, Group::One, *request);
     }
@@ -111,9 +111,9 @@ fn capabilities(rt: HostRuntime) -> Result<(), NoMemory> {
         aptpl: true,
         ..REGISTER
     };
-    let nobody = fresh(alloc)?.capabilities(8)?;
+    let fresh = Registry::new(alloc)?.capabilities(8)?;
     assert_eq!(rt;
-        nobody.as_slice(),
+        fresh.as_slice(),
         [0x00, 0x08, 0x05, 0x80, 0xEA, 0x01, 0x00, 0x00].as_slice()
     );
     for (name, request, ptpl_a) in [
@@ -154,9 +154,8 @@ fn flags(rt: HostRuntime) -> Result<(), NoMemory> {
             all_tg_pt,
             ..request
         };
-        let mut registry = fresh(alloc)?;
-        let end = ended(&mut registry, &port, Group::One, asked);
-        assert_eq!(rt; end, want, "{name}");
+        let end = Registry::new(alloc)?.out(&port, Group::One, asked);
+        assert!(rt; ends_so(&end, want), "{name}: {end:?}");
     }
     Ok(())
 }
@@ -164,12 +163,15 @@ fn flags(rt: HostRuntime) -> Result<(), NoMemory> {
 #[test]
 fn a_65th_registrant(rt: HostRuntime) -> Result<(), NoMemory> {
     let alloc = rt.alloc();
-    let mut registry = fresh(alloc)?;
+    let mut registry = Registry::new(alloc)?;
     for isid in 0..65 {
         let want = if isid < 64 { Want::Good } else { Want::Full };
-        let port = port_of(alloc, (b'a', isid, Group::Two))?;
-        let end = ended(&mut registry, &port, Group::Two, REGISTER);
-        assert_eq!(rt; end, want, "{isid}");
+        let end = registry.out(
+            &port_of(alloc, (b'a', isid, Group::Two))?,
+            Group::Two,
+            REGISTER,
+        );
+        assert!(rt; ends_so(&end, want), "{isid}: {end:?}");
     }
     assert_eq!(rt; registry.generation(), 64);
     assert_eq!(rt; registry.registrant_count(), 64);
@@ -181,72 +183,39 @@ const OTHERS: PrOut = PrOut {
     ..REGISTER
 };
 
-// So many initiator ports of the same name, by their ISIDs, of which the first has the key 11h and the others 22h.
-fn ports_registered(alloc: Global, ports: u32) -> Result<Box<Registry>, NoMemory> {
-    let mut registry = fresh(alloc)?;
-    for isid in 0..ports {
+// Initiator ports of the same name, by their ISIDs; the first preempts the other 63.
+#[test]
+fn sixty_three_are_preempted(rt: HostRuntime) -> Result<(), NoMemory> {
+    let alloc = rt.alloc();
+    let mut registry = Registry::new(alloc)?;
+    for isid in 0..64 {
         let request = if isid == 0 { REGISTER } else { OTHERS };
         let port = port_of(alloc, (b'a', isid, Group::One))?;
-        let _ = ended(&mut registry, &port, Group::One, request);
+        assert!(rt;
+            ends_so(&registry.out(&port, Group::One, request), Want::Good),
+            "{isid}"
+        );
     }
-    Ok(registry)
-}
-
-// The first of them that is not told as it must be: the others lost their registration.
-fn told_otherwise(
-    alloc: Global,
-    found: &Registry,
-    end: &PrEnd,
-    ports: u32,
-) -> Result<Option<u32>, NoMemory> {
-    for isid in 0..ports {
-        let want = if isid > 0 {
-            Some(UnitAttention::RegistrationsPreempted)
-        } else {
-            None
-        };
-        if told_to(alloc, found, end, (b'a', isid, Group::One))? != want {
-            return Ok(Some(isid));
-        }
-    }
-    Ok(None)
-}
-
-// The first preempts the others.
-fn preempted(alloc: Global, registry: &mut Registry, ports: u32) -> Result<Option<u32>, NoMemory> {
+    let found = registry.copy()?;
     let asked = PrOut {
         action: PrOutAction::Preempt,
         key: 0x11,
         sakey: 0x22,
         ..REGISTER
     };
-    let port = port_of(alloc, A)?;
-    let found = registry.copy()?;
-    let end = registry.out(&port, Group::One, asked);
-    told_otherwise(alloc, &found, &end, ports)
-}
-
-#[test]
-fn sixty_three_are_preempted(rt: HostRuntime) -> Result<(), NoMemory> {
-    let alloc = rt.alloc();
-    let mut registry = ports_registered(alloc, 64)?;
-    assert_eq!(rt; registry.registrant_count(), 64);
-    assert_eq!(rt; preempted(alloc, &mut registry, 64)?, None);
+    let end = registry.out(&port_of(alloc, A)?, Group::One, asked);
+    assert!(rt; ends_so(&end, Want::Good), "{end:?}");
     assert_eq!(rt; registry.registrant_count(), 1);
-    assert_eq!(rt; registry.generation(), 65);
+    for isid in 0..64 {
+        let want = if isid > 0 {
+            Some(UnitAttention::RegistrationsPreempted)
+        } else {
+            None
+        };
+        let told = told_to(alloc, &found, &end, (b'a', isid, Group::One))?;
+        assert_eq!(rt; told, want, "{isid}");
+    }
     Ok(())
-}
-
-// The registry that a restart makes of another.
-fn restarted(alloc: Global, registry: &Registry) -> Result<Box<Registry>, NoMemory> {
-    let again = Box::new(alloc, Registry::from_record(alloc, registry.record()?)?)?;
-    Ok(again)
-}
-
-// Whether a copy tells the same.
-fn copy_is_alike(registry: &Registry) -> Result<bool, NoMemory> {
-    let copied = registry.copy()?.full_status(999)?;
-    Ok(copied == registry.full_status(999)?)
 }
 
 #[test]
@@ -256,11 +225,15 @@ fn what_lasts(rt: HostRuntime) -> Result<(), NoMemory> {
     for (name, aptpl, registrants) in [("with APTPL", true, 1), ("without APTPL", false, 0)] {
         let request = PrOut { aptpl, ..REGISTER };
         let registry = after(alloc, &port, &[request, RESERVE])?;
-        let again = restarted(alloc, &registry)?;
+        let again = Registry::from_record(alloc, registry.record()?)?;
         assert_eq!(rt; again.registrant_count(), registrants, "{name}");
         assert_eq!(rt; again.generation(), 0, "{name}");
         assert_eq!(rt; again.reserved_type().is_some(), aptpl, "{name}");
-        assert!(rt; copy_is_alike(&registry)?, "{name}");
+        assert_eq!(rt;
+            registry.copy()?.full_status(999)?,
+            registry.full_status(999)?,
+            "{name}"
+        );
     }
     Ok(())
 }

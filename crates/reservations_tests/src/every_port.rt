@@ -1,35 +1,36 @@
 //! ALL_TG_PT: one registration for every port. Each request of these scripts has the bit, which all actions but the two that
 //! register ignore, unless its script is run without it.
-use crate::script::{A, B, Want, ended, fresh, port_of, run, run_with};
+use crate::script::{B, Step, Want, ends_so, port_of, run, run_with, steps};
 use reservations::{Access, PrOut, Registry};
 use scsi_types::{Group, NoMemory, PrOutAction};
 use std::process::Abort;
 
-const B_REGISTERS: &str = "
-    B Register 0 0 22 | Good |  | 2 | 11 11 22 | 11 5
-";
+const B_REGISTERS: &[Step] = steps! {
+    B Register (0, 0, 0x22) => Want::Good; []; 2; [0x11, 0x11, 0x22]; (0x11, 5),
+};
 
-const A_HOLDS: &str = "
-    A Register 0 0 11 | Good |  | 1 | 11 11 | 0 0
-    A Reserve 5 11 0 | Good |  | 1 | 11 11 | 11 5
-    A_TWO Release 5 11 0 | Good |  | 1 | 11 11 | 11 5
-";
+const A_HOLDS: &[Step] = steps! {
+    A Register (0, 0, 0x11) => Want::Good; []; 1; [0x11, 0x11]; (0, 0),
+    A Reserve (5, 0x11, 0) => Want::Good; []; 1; [0x11, 0x11]; (0x11, 5),
+    A_TWO Release (5, 0x11, 0) => Want::Good; []; 1; [0x11, 0x11]; (0x11, 5),
+};
 
-const B_PREEMPTS: &str = "
-    B Preempt 5 22 11 | Good | A RegistrationsPreempted A_TWO RegistrationsPreempted | 3 | 22 | 22 5
-";
+const B_PREEMPTS: &[Step] = steps! {
+    B Preempt (5, 0x22, 0x11) => Want::Good;
+        [A RegistrationsPreempted, A_TWO RegistrationsPreempted]; 3; [0x22]; (0x22, 5),
+};
 
 // The holder writes through either port, until both are preempted.
 #[test]
 fn a_holder_and_its_other_port(rt: HostRuntime) -> Result<(), NoMemory> {
-    let port = port_of(rt.alloc(), A)?;
-    let mut registry = fresh(rt.alloc())?;
-    run_with(&rt, &mut registry, A_HOLDS, true)?;
+    let port = port_of(rt.alloc(), crate::script::A)?;
+    let mut registry = Registry::new(rt.alloc())?;
+    run_with(&rt, &mut registry, "A holds", A_HOLDS, true)?;
     for group in [Group::One, Group::Two] {
         assert!(rt; registry.allows(&port, group, Access::Write), "{group:?}");
     }
-    run(&rt, &mut registry, B_REGISTERS)?;
-    run_with(&rt, &mut registry, B_PREEMPTS, true)?;
+    run(&rt, &mut registry, "B registers", B_REGISTERS)?;
+    run_with(&rt, &mut registry, "B preempts", B_PREEMPTS, true)?;
     for group in [Group::One, Group::Two] {
         assert!(rt; !registry.allows(&port, group, Access::Write), "{group:?}");
     }
@@ -37,52 +38,52 @@ fn a_holder_and_its_other_port(rt: HostRuntime) -> Result<(), NoMemory> {
 }
 
 // Without the bit: the holder is A through the other group, and B is registered.
-const A_TWO_HOLDS: &str = "
-    A Register 0 0 11 | Good |  | 1 | 11 | 0 0
-    A_TWO Register 0 0 44 | Good |  | 2 | 11 44 | 0 0
-    B Register 0 0 22 | Good |  | 3 | 11 44 22 | 0 0
-    A_TWO Reserve 6 44 0 | Good |  | 3 | 11 44 22 | 44 6
-";
+const A_TWO_HOLDS: &[Step] = steps! {
+    A Register (0, 0, 0x11) => Want::Good; []; 1; [0x11]; (0, 0),
+    A_TWO Register (0, 0, 0x44) => Want::Good; []; 2; [0x11, 0x44]; (0, 0),
+    B Register (0, 0, 0x22) => Want::Good; []; 3; [0x11, 0x44, 0x22]; (0, 0),
+    A_TWO Reserve (6, 0x44, 0) => Want::Good; []; 3; [0x11, 0x44, 0x22]; (0x44, 6),
+};
 
 // With it, each on a registry of its own.
-const ROWS: &str = "
-    A Register 0 11 0 | Good | B ReservationsReleased | 4 | 22 | 0 0
-    A Register 0 11 33 | Good |  | 4 | 33 33 22 | 33 6
-    A Register 0 44 33 | Conflict |  | 3 | 11 44 22 | 44 6
-    A Register 0 0 33 | Conflict |  | 3 | 11 44 22 | 44 6
-    A_TWO Register 0 44 0 | Good | B ReservationsReleased | 4 | 22 | 0 0
-    A_TWO RegisterAndIgnoreExistingKey 0 99 44 | Good |  | 4 | 44 44 22 | 44 6
-    B Register 0 22 0 | Good |  | 4 | 11 44 | 44 6
-    B Register 0 22 55 | Good |  | 4 | 11 44 55 55 | 44 6
-    B_TWO Register 0 0 55 | Good |  | 4 | 11 44 55 55 | 44 6
-    C Register 0 0 0 | Good |  | 4 | 11 44 22 | 44 6
-    C Register 0 0 33 | Good |  | 4 | 11 44 22 33 33 | 44 6
-    A_TWO Release 6 44 0 | Good | A ReservationsReleased B ReservationsReleased | 3 | 11 44 22 | 0 0
-    B Clear 0 22 0 | Good | A ReservationsPreempted A_TWO ReservationsPreempted | 4 |  | 0 0
-";
+const ROWS: &[Step] = steps! {
+    A Register (0, 0x11, 0) => Want::Good; [B ReservationsReleased]; 4; [0x22]; (0, 0),
+    A Register (0, 0x11, 0x33) => Want::Good; []; 4; [0x33, 0x33, 0x22]; (0x33, 6),
+    A Register (0, 0x44, 0x33) => Want::Conflict; []; 3; [0x11, 0x44, 0x22]; (0x44, 6),
+    A Register (0, 0, 0x33) => Want::Conflict; []; 3; [0x11, 0x44, 0x22]; (0x44, 6),
+    A_TWO Register (0, 0x44, 0) => Want::Good; [B ReservationsReleased]; 4; [0x22]; (0, 0),
+    A_TWO RegisterAndIgnoreExistingKey (0, 0x99, 0x44) => Want::Good; []; 4; [0x44, 0x44, 0x22]; (0x44, 6),
+    B Register (0, 0x22, 0) => Want::Good; []; 4; [0x11, 0x44]; (0x44, 6),
+    B Register (0, 0x22, 0x55) => Want::Good; []; 4; [0x11, 0x44, 0x55, 0x55]; (0x44, 6),
+    B_TWO Register (0, 0, 0x55) => Want::Good; []; 4; [0x11, 0x44, 0x55, 0x55]; (0x44, 6),
+    C Register (0, 0, 0) => Want::Good; []; 4; [0x11, 0x44, 0x22]; (0x44, 6),
+    C Register (0, 0, 0x33) => Want::Good; []; 4; [0x11, 0x44, 0x22, 0x33, 0x33]; (0x44, 6),
+    A_TWO Release (6, 0x44, 0) => Want::Good; [A ReservationsReleased, B ReservationsReleased]; 3; [0x11, 0x44, 0x22]; (0, 0),
+    B Clear (0, 0x22, 0) => Want::Good; [A ReservationsPreempted, A_TWO ReservationsPreempted]; 4; []; (0, 0),
+};
 
 #[test]
 fn each_kind_of_sender(rt: HostRuntime) -> Result<(), NoMemory> {
-    for row in ROWS.lines() {
-        let mut registry = fresh(rt.alloc())?;
-        run(&rt, &mut registry, A_TWO_HOLDS)?;
-        run_with(&rt, &mut registry, row, true)?;
+    for row in ROWS {
+        let mut registry = Registry::new(rt.alloc())?;
+        run(&rt, &mut registry, "A_TWO holds", A_TWO_HOLDS)?;
+        run_with(&rt, &mut registry, "every port", &[*row], true)?;
     }
     Ok(())
 }
 
-const ALL_REGISTRANTS: &str = "
-    A Register 0 0 11 | Good |  | 1 | 11 11 | 0 0
-    A Reserve 7 11 0 | Good |  | 1 | 11 11 | 0 7
-    B Register 0 0 22 | Good |  | 2 | 11 11 22 22 | 0 7
-    A_TWO Register 0 11 0 | Good |  | 3 | 22 22 | 0 7
-    B Register 0 22 0 | Good |  | 4 |  | 0 0
-";
+const ALL_REGISTRANTS: &[Step] = steps! {
+    A Register (0, 0, 0x11) => Want::Good; []; 1; [0x11, 0x11]; (0, 0),
+    A Reserve (7, 0x11, 0) => Want::Good; []; 1; [0x11, 0x11]; (0, 7),
+    B Register (0, 0, 0x22) => Want::Good; []; 2; [0x11, 0x11, 0x22, 0x22]; (0, 7),
+    A_TWO Register (0, 0x11, 0) => Want::Good; []; 3; [0x22, 0x22]; (0, 7),
+    B Register (0, 0x22, 0) => Want::Good; []; 4; []; (0, 0),
+};
 
 #[test]
 fn the_last_port_of_all_registrants(rt: HostRuntime) -> Result<(), NoMemory> {
-    let mut registry = fresh(rt.alloc())?;
-    run_with(&rt, &mut registry, ALL_REGISTRANTS, true)
+    let mut registry = Registry::new(rt.alloc())?;
+    run_with(&rt, &mut registry, "all registrants", ALL_REGISTRANTS, true)
 }
 
 const REGISTER: PrOut = PrOut {
@@ -97,12 +98,12 @@ const REGISTER: PrOut = PrOut {
 };
 
 // So many initiator ports of a name register through the first group.
-fn registered<R: AllocGlobal + Abort>(rt: &R, ports: u32) -> Result<Box<Registry>, NoMemory> {
-    let mut registry = fresh(rt.alloc())?;
+fn registered<R: AllocGlobal + Abort>(rt: &R, ports: u32) -> Result<Registry, NoMemory> {
+    let mut registry = Registry::new(rt.alloc())?;
     for isid in 0..ports {
         let port = port_of(rt.alloc(), (b'a', isid, Group::One))?;
-        let end = ended(&mut registry, &port, Group::One, REGISTER);
-        assert_eq!(rt; end, Want::Good, "{isid}");
+        let end = registry.out(&port, Group::One, REGISTER);
+        assert!(rt; ends_so(&end, Want::Good), "{isid}: {end:?}");
     }
     Ok(registry)
 }
@@ -117,13 +118,13 @@ fn room_for_every_port(rt: HostRuntime) -> Result<(), NoMemory> {
         (64, false, Want::Full, 64),
     ] {
         let mut registry = registered(&rt, ports)?;
-        let who = if by_b { B } else { A };
+        let who = if by_b { B } else { crate::script::A };
         let asked = PrOut {
             all_tg_pt: true,
             ..REGISTER
         };
-        let end = ended(&mut registry, &port_of(rt.alloc(), who)?, Group::One, asked);
-        assert_eq!(rt; end, want, "{ports}");
+        let end = registry.out(&port_of(rt.alloc(), who)?, Group::One, asked);
+        assert!(rt; ends_so(&end, want), "{ports}: {end:?}");
         assert_eq!(rt; registry.registrant_count(), after, "{ports}");
     }
     Ok(())

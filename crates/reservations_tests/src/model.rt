@@ -2,14 +2,13 @@
 //! requests drawn by a fixed seed that runs on both.
 ghost use Rattle.std.specs.Prelude.{◌<◌};
 
-use crate::script;
 use crate::script::{
-    A, A_TWO, B, B_TWO, EVERYBODY, Want, Who, Wrong, asking, call_differs, data_differs, fresh,
-    keys_data,
+    A, A_TWO, B, B_TWO, Want, Who, asking, ends_so, held_data, keys_data, port_of, tells,
 };
 use reservations::{PrOut, Registry};
 use scsi_types::{NoMemory, PrOutAction, UnitAttention};
 use std::alloc::Global;
+use std::process::Abort;
 
 // Two ports, each through both groups.
 const NEXUSES: [Who; 4] = [A, A_TWO, B, B_TWO];
@@ -187,24 +186,32 @@ impl Model {
         codes
     }
 
-    fn step(&mut self, by: usize, q: PrOut) -> (Want, Codes)
+    fn step(
+        &mut self,
+        by: usize,
+        action: PrOutAction,
+        kind: u8,
+        key: u64,
+        sakey: u64,
+        all_tg_pt: bool,
+        aptpl: bool,
+    ) -> (Want, Codes)
         requires { by < 4 }
     {
-        let (action, kind, sakey) = (q.action, q.kind, q.sakey);
         if action == PrOutAction::Reserve && !is_type(kind) {
             return (Want::Illegal(0x24, 0), [None; 4]);
         }
         let own = self.keys[by];
         let must_be_registered = action != PrOutAction::Register;
         if action != PrOutAction::RegisterAndIgnoreExistingKey
-            && (q.key != own || own == 0 && must_be_registered)
+            && (key != own || own == 0 && must_be_registered)
         {
             return (Want::Conflict, [None; 4]);
         }
-        let these = senders(by, q.all_tg_pt);
+        let these = senders(by, all_tg_pt);
         match action {
             PrOutAction::Register | PrOutAction::RegisterAndIgnoreExistingKey => {
-                (Want::Good, self.set_keys(these, sakey, q.aptpl))
+                (Want::Good, self.set_keys(these, sakey, aptpl))
             }
             PrOutAction::Reserve => (self.reserve(by, kind), [None; 4]),
             PrOutAction::Release => self.release(by, kind),
@@ -251,17 +258,15 @@ impl Draws {
     }
 }
 
-// What each nexus of a script is told.
-fn told_of(codes: Codes) -> script::Codes {
-    let mut told = [None; 7];
-    for (place, one) in EVERYBODY.iter().enumerate() {
-        for (who, code) in NEXUSES.iter().zip(&codes) {
-            if one == who {
-                told[place] = *code;
-            }
+// Those who are told, in their order.
+fn told_of(alloc: Global, codes: Codes) -> Result<Vec<(Who, UnitAttention)>, NoMemory> {
+    let mut told = Vec::new(alloc);
+    for (who, code) in NEXUSES.iter().zip(&codes) {
+        if let Some(code) = code {
+            told.push((*who, *code))?;
         }
     }
-    told
+    Ok(told)
 }
 
 fn registered_keys(alloc: Global, model: &Model) -> Result<Vec<u64>, NoMemory> {
@@ -274,61 +279,55 @@ fn registered_keys(alloc: Global, model: &Model) -> Result<Vec<u64>, NoMemory> {
     Ok(keys)
 }
 
-/// A request that is drawn.
-#[derive(Drop)]
-struct Drawn {
-    by: usize,
-    request: PrOut,
-}
-
-impl Draws {
-    // A request of one of the four, mostly with its own key.
-    fn request(&mut self, keys: [u64; 4]) -> Drawn
-        ensures { result.by < 4 }
-    {
-        let by = self.below(4);
-        let action = ACTIONS[self.below(7)];
-        let kind = TYPES[self.below(8)];
-        let drawn = KEYS[self.below(4)];
-        let is_drawn = self.below(8) == 0;
-        let key = if is_drawn { drawn } else { keys[by] };
-        let sakey = KEYS[self.below(4)];
-        let all_tg_pt = self.below(2) == 0;
-        let aptpl = self.below(2) == 0;
-        let request = PrOut {
+// One request that is drawn, on both.
+fn one_step<R: AllocGlobal + Abort>(
+    rt: &R,
+    place: u32,
+    draws: &mut Draws,
+    model: &mut Model,
+    registry: &mut Registry,
+) -> Result<(), NoMemory> {
+    let alloc = rt.alloc();
+    let by = draws.below(4);
+    let action = ACTIONS[draws.below(7)];
+    let kind = TYPES[draws.below(8)];
+    let drawn = KEYS[draws.below(4)];
+    let key = if draws.below(8) == 0 {
+        drawn
+    } else {
+        model.keys[by]
+    };
+    let sakey = KEYS[draws.below(4)];
+    let all_tg_pt = draws.below(2) == 0;
+    let aptpl = draws.below(2) == 0;
+    let (want, codes) = model.step(by, action, kind, key, sakey, all_tg_pt, aptpl);
+    let who = NEXUSES[by];
+    let found = registry.copy()?;
+    let end = registry.out(
+        &port_of(alloc, who)?,
+        who.2,
+        PrOut {
             all_tg_pt,
             aptpl,
             ..asking(action, kind, key, sakey)
-        };
-        Drawn { by, request }
-    }
-}
-
-// What the registry does otherwise than the model.
-fn differs(
-    alloc: Global,
-    drawn: &Drawn,
-    model: &mut Model,
-    registry: &mut Registry,
-) -> Result<Option<Wrong>, NoMemory>
-    requires { drawn.now.by < 4 }
-{
-    let (want, codes) = model.step(drawn.by, drawn.request);
-    let told = told_of(codes);
-    let who = NEXUSES[drawn.by];
-    if let Some(wrong) = call_differs(alloc, registry, who, drawn.request, want, &told)? {
-        return Ok(Some(wrong));
-    }
-    if registry.lasting().aptpl() != model.aptpl {
-        return Ok(Some(Wrong::Aptpl));
-    }
+        },
+    );
+    assert_eq!(rt; registry.lasting().aptpl(), model.aptpl, "step {place}");
+    assert!(rt; ends_so(&end, want), "step {place}: {end:?}, not {want:?}");
+    assert!(rt;
+        tells(alloc, &found, &end, &told_of(alloc, codes)?)?,
+        "step {place}: {end:?}"
+    );
     let keys = keys_data(alloc, model.generation, &registered_keys(alloc, model)?)?;
-    data_differs(alloc, registry, &keys, model.generation, model.held())
+    assert_eq!(rt; registry.keys(4096)?, keys, "step {place}");
+    let held = held_data(alloc, model.generation, model.held())?;
+    assert_eq!(rt; registry.reservation(4096)?, held, "step {place}");
+    Ok(())
 }
 
 #[test]
 fn a_thousand_requests(rt: HostRuntime) -> Result<(), NoMemory> {
-    let mut registry = fresh(rt.alloc())?;
+    let mut registry = Registry::new(rt.alloc())?;
     let mut draws = Draws(2026);
     let mut model = Model {
         keys: [0; 4],
@@ -338,9 +337,7 @@ fn a_thousand_requests(rt: HostRuntime) -> Result<(), NoMemory> {
         generation: 0,
     };
     for place in 0..1000 {
-        let drawn = draws.request(model.keys);
-        let wrong = differs(rt.alloc(), &drawn, &mut model, &mut registry)?;
-        assert_eq!(rt; wrong, None, "step {place}");
+        one_step(&rt, place, &mut draws, &mut model, &mut registry)?;
     }
     Ok(())
 }

@@ -36,20 +36,16 @@ pub enum Want {
     Full,
 }
 
-/// A step of a script, as a line of text. Who asks, the service action, the type, the reservation key and the service action
-/// key; how it ends; who is told what; PRGENERATION; the keys in the order of the nexuses; the holder's key and the type,
-/// both 0 without a reservation. Numbers are hexadecimal.
-///
-///     B Preempt 6 22 11 | Good | A RegistrationsPreempted | 4 | 22 | 22 6
-#[derive(Drop)]
-pub struct Step<'a> {
-    by: Who,
-    request: PrOut,
-    want: Want,
-    told: &'a str,
-    generation: u32,
-    keys: &'a str,
-    held: (u64, u8),
+/// A step of a script: who asks for what, and what must come of it. `keys` is in the order of the nexuses, and `held` the holder's key and the type, both 0 without a reservation.
+#[derive(Clone, Copy)]
+pub struct Step {
+    pub by: Who,
+    pub request: PrOut,
+    pub want: Want,
+    pub told: &'static [(Who, UnitAttention)],
+    pub generation: u32,
+    pub keys: &'static [u64],
+    pub held: (u64, u8),
 }
 
 /// A request with no flag and scope 0.
@@ -66,109 +62,32 @@ pub fn asking(action: PrOutAction, kind: u8, key: u64, sakey: u64) -> PrOut {
     }
 }
 
-/// A number in hexadecimal.
-fn number(text: &str) -> Option<u64> {
-    let mut value = 0u64;
-    for b in text.bytes() {
-        let digit = match b {
-            b'0'..=b'9' => b - b'0',
-            b'a'..=b'f' => b - b'a' + 10,
-            _ => return None,
-        };
-        value = value.wrapping_mul(16).wrapping_add(u64::from(digit));
-    }
-    Some(value)
+/// Steps, each: who, the action (type, key, service action key) => the end; told; generation; keys; held.
+macro_rules! steps {
+    ($($by:ident $action:ident ($kind:literal, $key:literal, $sakey:literal) => $want:expr;
+        [$($told:ident $code:ident),*]; $generation:literal; [$($left:literal),*]; $held:expr,)*) => {
+        &[$(crate::script::Step {
+            by: crate::script::$by,
+            request: reservations::PrOut {
+                action: scsi_types::PrOutAction::$action,
+                scope: 0,
+                kind: $kind,
+                key: $key,
+                sakey: $sakey,
+                spec_i_pt: false,
+                all_tg_pt: false,
+                aptpl: false,
+            },
+            want: $want,
+            told: &[$((crate::script::$told, scsi_types::UnitAttention::$code)),*],
+            generation: $generation,
+            keys: &[$($left),*],
+            held: $held,
+        }),*]
+    };
 }
 
-fn who_named(name: &str) -> Option<Who> {
-    match name {
-        "A" => Some(A),
-        "A_TWO" => Some(A_TWO),
-        "A_ISID" => Some(A_ISID),
-        "B" => Some(B),
-        "B_TWO" => Some(B_TWO),
-        "C" => Some(C),
-        "D" => Some(D),
-        _ => None,
-    }
-}
-
-fn action_named(name: &str) -> Option<PrOutAction> {
-    match name {
-        "Register" => Some(PrOutAction::Register),
-        "Reserve" => Some(PrOutAction::Reserve),
-        "Release" => Some(PrOutAction::Release),
-        "Clear" => Some(PrOutAction::Clear),
-        "Preempt" => Some(PrOutAction::Preempt),
-        "PreemptAndAbort" => Some(PrOutAction::PreemptAndAbort),
-        "RegisterAndIgnoreExistingKey" => Some(PrOutAction::RegisterAndIgnoreExistingKey),
-        _ => None,
-    }
-}
-
-fn code_named(name: &str) -> Option<UnitAttention> {
-    match name {
-        "ReservationsPreempted" => Some(UnitAttention::ReservationsPreempted),
-        "ReservationsReleased" => Some(UnitAttention::ReservationsReleased),
-        "RegistrationsPreempted" => Some(UnitAttention::RegistrationsPreempted),
-        _ => None,
-    }
-}
-
-// How a step ends.
-fn want_in(text: &str) -> Option<Want> {
-    let mut words = text.split_ascii_whitespace();
-    match words.next()? {
-        "Good" => Some(Want::Good),
-        "Conflict" => Some(Want::Conflict),
-        "Full" => Some(Want::Full),
-        "Illegal" => {
-            let asc = number(words.next()?)? as u8;
-            let ascq = number(words.next()?)? as u8;
-            Some(Want::Illegal(asc, ascq))
-        }
-        _ => None,
-    }
-}
-
-// Who asks for what.
-fn asked_in(text: &str) -> Option<(Who, PrOut)> {
-    let mut words = text.split_ascii_whitespace();
-    let by = who_named(words.next()?)?;
-    let action = action_named(words.next()?)?;
-    let kind = number(words.next()?)? as u8;
-    let key = number(words.next()?)?;
-    let sakey = number(words.next()?)?;
-    Some((by, asking(action, kind, key, sakey)))
-}
-
-// The holder's key and the type.
-fn held_in(text: &str) -> Option<(u64, u8)> {
-    let mut words = text.split_ascii_whitespace();
-    let key = number(words.next()?)?;
-    let kind = number(words.next()?)? as u8;
-    Some((key, kind))
-}
-
-// The step of a line.
-fn step_of(line: &str) -> Option<Step<'_>> {
-    let mut parts = line.split('|');
-    let (by, request) = asked_in(parts.next()?)?;
-    let want = want_in(parts.next()?)?;
-    let told = parts.next()?;
-    let generation = number(parts.next()?.trim_ascii())? as u32;
-    let keys = parts.next()?;
-    let held = held_in(parts.next()?)?;
-    Some(Step {
-        by,
-        request,
-        want,
-        told,
-        generation,
-        keys,
-        held,
-    })
-}
+pub(crate) use steps;
 
 /// The port of a nexus.
 pub fn port_of(alloc: Global, who: Who) -> Result<PortName, NoMemory>
@@ -183,175 +102,65 @@ pub fn port_of(alloc: Global, who: Who) -> Result<PortName, NoMemory>
 pub fn run<R: AllocGlobal + Abort>(
     rt: &R,
     registry: &mut Registry,
-    script: &str,
+    name: &str,
+    steps: &[Step],
 ) -> Result<(), NoMemory> {
-    run_with(rt, registry, script, false)
+    run_with(rt, registry, name, steps, false)
 }
 
 /// The same where each request has ALL_TG_PT, or none has.
 pub fn run_with<R: AllocGlobal + Abort>(
     rt: &R,
     registry: &mut Registry,
-    script: &str,
+    name: &str,
+    steps: &[Step],
     all_tg_pt: bool,
 ) -> Result<(), NoMemory> {
-    for line in script.lines() {
-        if !line.is_empty() {
-            run_line(rt, registry, line, all_tg_pt)?;
-        }
-    }
-    Ok(())
-}
-
-// One line of it.
-fn run_line<R: AllocGlobal + Abort>(
-    rt: &R,
-    registry: &mut Registry,
-    line: &str,
-    all_tg_pt: bool,
-) -> Result<(), NoMemory> {
-    let Some(step) = step_of(line) else {
-        panic!(rt; "no step: {line}")
-    };
-    let wrong = wrong_in(rt.alloc(), registry, &step, all_tg_pt)?;
-    assert_eq!(rt; wrong, None, "{line}");
-    Ok(())
-}
-
-/// What differs.
-#[derive(Clone, Copy, Debug, PartialEq, Eq)]
-pub enum Wrong {
-    End,
-    Told,
-    Aptpl,
-    Keys,
-    Held,
-}
-
-// Takes a step, and says what of it is not as it must be.
-fn wrong_in(
-    alloc: Global,
-    registry: &mut Registry,
-    step: &Step<'_>,
-    all_tg_pt: bool,
-) -> Result<Option<Wrong>, NoMemory> {
-    let asked = PrOut {
-        all_tg_pt,
-        ..step.request
-    };
-    let told = told_in(step.told);
-    if let Some(wrong) = call_differs(alloc, registry, step.by, asked, step.want, &told)? {
-        return Ok(Some(wrong));
-    }
-    let keys = keys_text(alloc, step.generation, step.keys)?;
-    data_differs(alloc, registry, &keys, step.generation, step.held)
-}
-
-/// What each nexus of a script is told.
-pub type Codes = [Option<UnitAttention>; 7];
-
-/// The nexuses of a script.
-pub const EVERYBODY: [Who; 7] = [A, A_TWO, A_ISID, B, B_TWO, C, D];
-
-// The codes of a text.
-fn told_in(text: &str) -> Codes {
-    let mut codes = [None; 7];
-    let mut words = text.split_ascii_whitespace();
-    for _ in 0..7 {
-        let Some(name) = words.next() else {
-            return codes;
+    let alloc = rt.alloc();
+    for (place, step) in steps.iter().enumerate() {
+        let port = port_of(alloc, step.by)?;
+        let found = registry.copy()?;
+        let asked = PrOut {
+            all_tg_pt,
+            ..step.request
         };
-        let code = words.next().and_then(code_named);
-        for (place, who) in EVERYBODY.iter().enumerate() {
-            if who_named(name) == Some(*who) {
-                codes[place] = code;
-            }
-        }
+        let end = registry.out(&port, step.by.2, asked);
+        assert!(rt; ends_so(&end, step.want), "{name}, step {place}: {end:?}");
+        assert!(rt;
+            tells(alloc, &found, &end, step.told)?,
+            "{name}, step {place}: {end:?}"
+        );
+        let keys = keys_data(alloc, step.generation, step.keys)?;
+        assert_eq!(rt; registry.keys(4096)?, keys, "{name}, step {place}");
+        let held = held_data(alloc, step.generation, step.held)?;
+        assert_eq!(rt; registry.reservation(4096)?, held, "{name}, step {place}");
     }
-    codes
+    Ok(())
 }
 
-/// Does a request, and says where its end or who is told is not as it must be.
-pub fn call_differs(
-    alloc: Global,
-    registry: &mut Registry,
-    by: Who,
-    asked: PrOut,
-    want: Want,
-    told: &Codes,
-) -> Result<Option<Wrong>, NoMemory> {
-    let port = port_of(alloc, by)?;
-    let found = registry.copy()?;
-    let end = registry.out(&port, by.2, asked);
-    end_differs(alloc, &found, &end, want, told)
+/// Whether a call ended so.
+pub fn ends_so(end: &PrEnd, want: Want) -> bool {
+    match end {
+        PrEnd::Good(_) => want == Want::Good,
+        PrEnd::Conflict => want == Want::Conflict,
+        PrEnd::Illegal(asc, ascq) => want == Want::Illegal(*asc, *ascq),
+        PrEnd::TableFull => want == Want::Full,
+    }
 }
 
-fn end_differs(
+/// Whether a call that found this registry tells these, and no other nexus of a script.
+pub fn tells(
     alloc: Global,
     found: &Registry,
     end: &PrEnd,
-    want: Want,
-    told: &Codes,
-) -> Result<Option<Wrong>, NoMemory> {
-    if end_of(end) != want {
-        return Ok(Some(Wrong::End));
-    }
-    for (who, code) in EVERYBODY.iter().zip(told) {
-        if told_to(alloc, found, end, *who)? != *code {
-            return Ok(Some(Wrong::Told));
+    want: &[(Who, UnitAttention)],
+) -> Result<bool, NoMemory> {
+    for who in &[A, A_TWO, A_ISID, B, B_TWO, C, D] {
+        if told_to(alloc, found, end, *who)? != wanted(want, *who) {
+            return Ok(false);
         }
     }
-    Ok(None)
-}
-
-/// Where READ KEYS or READ RESERVATION is not as it must be.
-pub fn data_differs(
-    alloc: Global,
-    registry: &Registry,
-    keys: &[u8],
-    generation: u32,
-    held: (u64, u8),
-) -> Result<Option<Wrong>, NoMemory> {
-    if registry.keys(4096)?.as_slice() != keys {
-        return Ok(Some(Wrong::Keys));
-    }
-    let held = held_data(alloc, generation, held)?;
-    if registry.reservation(4096)? != held {
-        return Ok(Some(Wrong::Held));
-    }
-    Ok(None)
-}
-
-// The data of READ KEYS of the keys of a text.
-fn keys_text(alloc: Global, generation: u32, text: &str) -> Result<Vec<u8>, NoMemory> {
-    let mut keys = Vec::new(alloc);
-    for word in text.split_ascii_whitespace() {
-        keys.push(number(word).unwrap_or(0))?;
-    }
-    keys_data(alloc, generation, &keys)
-}
-
-/// How a call ended.
-fn end_of(end: &PrEnd) -> Want {
-    match end {
-        PrEnd::Good(_) => Want::Good,
-        PrEnd::Conflict => Want::Conflict,
-        PrEnd::Illegal(asc, ascq) => Want::Illegal(*asc, *ascq),
-        PrEnd::TableFull => Want::Full,
-    }
-}
-
-/// A registry in which nobody is registered. It stands in a box, since it is large.
-pub fn fresh(alloc: Global) -> Result<Box<Registry>, NoMemory> {
-    let registry = Box::new(alloc, Registry::new(alloc)?)?;
-    Ok(registry)
-}
-
-/// Does a request, and says how it ends.
-pub fn ended(registry: &mut Registry, port: &PortName, group: Group, asked: PrOut) -> Want
-    requires { IsPortName port.now }
-{
-    end_of(&registry.out(port, group, asked))
+    Ok(true)
 }
 
 /// What a call that found this registry tells a nexus.
@@ -365,6 +174,15 @@ pub fn told_to(
         PrEnd::Good(telling) => Ok(found.told(telling, &port_of(alloc, who)?, who.2)),
         PrEnd::Conflict | PrEnd::Illegal(..) | PrEnd::TableFull => Ok(None),
     }
+}
+
+fn wanted(want: &[(Who, UnitAttention)], who: Who) -> Option<UnitAttention> {
+    for (one, code) in want {
+        if *one == who {
+            return Some(*code);
+        }
+    }
+    None
 }
 
 /// The data of READ KEYS.
