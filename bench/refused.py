@@ -549,6 +549,8 @@ def shown(got, wanted):
                 return "BUSY"
             if pdu[0] == 0x23 and pdu[36:38] == b"\x03\x02":
                 return "0302"
+            if pdu[0] == 0x22 and pdu[2] == 0xFF:
+                return "own want"  # the reset failed at the target
             if pdu[0] == 0x23 and (pdu[36:38], other[36:38]) == (b"\x02\x0a", b"\x02\x06"):
                 return "own want"
             return None

@@ -1,11 +1,13 @@
-pub mod EntriesRead
+pub mod Entries
+pub mod EntriesTaken
 pub mod Formats
-pub mod Halves
 pub mod Header
 pub mod Holder
 pub mod OneRecord
 pub mod Padding
+pub mod SlotParts
 pub mod SlotWrites
 pub mod Spelled
 pub mod Stops
 pub mod Taken
+pub mod Told

@@ -1,8 +1,10 @@
 -- Bytes that are written one run after another over zeros.
-use Rattle.std.proofs.Common.{◌≡◌, ℕ, ◌+◌, ◌-◌, List, [], ◌∷◌, ◌++◌, length, take, drop, replicate, sym, ◌∙◌}
+use Rattle.std.proofs.Common.{◌≡◌, ℕ, zero, suc, ◌+◌, ◌-◌, ◌*◌, ◌<◌, List, [], ◌∷◌, ◌++◌, length, take, drop, replicate, sym, ◌∙◌}
 use Rattle.std.proofs.Common.{ap, arith, append_assoc, length-append}
 use Rattle.std.proofs.lemmas.List.{append-nil, drop-drop, drop_at, take_at, drop-replicate}
-use Rattle.aptpl_file.specs.Format.{padded}
+use Rattle.std.specs.List.{flat_map}
+use Rattle.aptpl_file.specs.declared.entry.Entry.{Entry}
+use Rattle.aptpl_file.specs.Format.{entry_bytes, padded}
 
 -- the first run
 pub put_first : (n : ℕ) (bytes : List ℕ)
@@ -24,18 +26,6 @@ put_behind n at front bytes long =
     ∙ ap (λ (m : ℕ). front ++ (bytes ++ replicate m 0)) e
     ∙ sym (append_assoc front bytes (replicate (n - length (front ++ bytes)) 0))
 
--- two runs that fill the bytes
-pub put_both : (m n : ℕ) (x y ex ey first second : List ℕ) → length x ≡ m → m + length y ≡ n
-    → first ≡ take 0 (replicate n 0) ++ (x ++ drop (0 + length x) (replicate n 0))
-    → second ≡ take m first ++ (y ++ drop (m + length y) first) → x ≡ ex → y ≡ ey → second ≡ ex ++ ey
-put_both m n x y ex ey first second long fits one two is_x is_y =
-    let start = one ∙ put_first n x in
-    let none : n - length (x ++ y) ≡ 0 = omega (arith, length-append x y) in
-    two ∙ ap (λ (z : List ℕ). take m z ++ (y ++ drop (m + length y) z)) start
-    ∙ put_behind n m x y long
-    ∙ ap (λ (k : ℕ). (x ++ y) ++ replicate k 0) none ∙ append-nil (x ++ y)
-    ∙ ap (λ (z : List ℕ). z ++ y) is_x ∙ ap (λ (z : List ℕ). ex ++ z) is_y
-
 -- an entry: what stands before the name, and the name
 pub put_name : (front head name first second : List ℕ) → length head ≡ 17 → head ≡ front ++ length name ∷ []
     → first ≡ take 0 (replicate 256 0) ++ (head ++ drop (0 + length head) (replicate 256 0))
@@ -47,3 +37,53 @@ put_name front head name first second long is one two =
     ∙ put_behind 256 17 head name long
     ∙ ap (λ (z : List ℕ). padded 256 (z ++ name)) is
     ∙ ap (padded 256) (append_assoc front (length name ∷ []) name)
+
+-- one more entry
+one_more : (k : ℕ) (es rest : List Entry) (e : Entry) → drop k es ≡ e ∷ rest
+    → flat_map entry_bytes (take (suc k) es) ≡ flat_map entry_bytes (take k es) ++ entry_bytes e
+one_more zero [] rest e is = absurd (cc)
+one_more zero (x ∷ xs) rest e is =
+    let same : x ≡ e = cc in append-nil (entry_bytes x) ∙ ap entry_bytes same
+one_more (suc k) [] rest e is = absurd (cc)
+one_more (suc k) (x ∷ xs) rest e is =
+    ap (λ (b : List ℕ). entry_bytes x ++ b) (one_more k xs rest e is)
+    ∙ sym (append_assoc (entry_bytes x) (flat_map entry_bytes (take k xs)) (entry_bytes e))
+
+pub drop_next : (k : ℕ) (es rest : List Entry) (e : Entry) → drop k es ≡ e ∷ rest → drop (suc k) es ≡ rest
+drop_next zero [] rest e is = absurd (cc)
+drop_next zero (x ∷ xs) rest e is = let same : xs ≡ rest = cc in same
+drop_next (suc k) [] rest e is = absurd (cc)
+drop_next (suc k) (x ∷ xs) rest e is = drop_next k xs rest e is
+
+pub drop_within : (k : ℕ) (es rest : List Entry) (e : Entry) → drop k es ≡ e ∷ rest → k < length es
+drop_within zero [] rest e is = absurd (cc)
+drop_within zero (x ∷ xs) rest e is = omega arith
+drop_within (suc k) [] rest e is = absurd (cc)
+drop_within (suc k) (x ∷ xs) rest e is = let h = drop_within k xs rest e is in omega (arith, h)
+
+-- the entries of a slot so far, and one more
+pub put_entry : (n at k : ℕ) (front : List ℕ) (es rest : List Entry) (e : Entry) (old entry new : List ℕ)
+    → old ≡ padded n (front ++ flat_map entry_bytes (take k es))
+    → length (front ++ flat_map entry_bytes (take k es)) ≡ at → drop k es ≡ e ∷ rest → entry ≡ entry_bytes e
+    → new ≡ take at old ++ (entry ++ drop (at + length entry) old)
+    → new ≡ padded n (front ++ flat_map entry_bytes (take (k + 1) es))
+put_entry n at k front es rest e old entry new is long here spelled put =
+    let done : List ℕ = front ++ flat_map entry_bytes (take k es) in
+    let next : suc k ≡ k + 1 = omega arith in
+    put ∙ ap (λ (z : List ℕ). take at z ++ (entry ++ drop (at + length entry) z)) is
+    ∙ put_behind n at done entry long
+    ∙ ap (λ (b : List ℕ). padded n (done ++ b)) spelled
+    ∙ ap (padded n) (append_assoc front (flat_map entry_bytes (take k es)) (entry_bytes e))
+    ∙ ap (λ (b : List ℕ). padded n (front ++ b)) (sym (one_more k es rest e here))
+    ∙ ap (λ (m : ℕ). padded n (front ++ flat_map entry_bytes (take m es))) next
+
+-- their length
+pub put_length : (k : ℕ) (es rest : List Entry) (e : Entry) (entry : List ℕ) → drop k es ≡ e ∷ rest
+    → entry ≡ entry_bytes e → length entry ≡ 256 → length (flat_map entry_bytes (take k es)) ≡ 256 * k
+    → length (flat_map entry_bytes (take (k + 1) es)) ≡ 256 * (k + 1)
+put_length k es rest e entry here spelled size long =
+    let next : k + 1 ≡ suc k = omega arith in
+    let same : length (entry_bytes e) ≡ 256 = ap length (sym spelled) ∙ size in
+    let more : length (flat_map entry_bytes (take (k + 1) es)) ≡ length (flat_map entry_bytes (take k es) ++ entry_bytes e) =
+    ap (λ (m : ℕ). length (flat_map entry_bytes (take m es))) next ∙ ap length (one_more k es rest e here) in
+    omega (arith, more, same, long, length-append (flat_map entry_bytes (take k es)) (entry_bytes e))

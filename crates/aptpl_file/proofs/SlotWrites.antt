@@ -8,33 +8,11 @@ use Rattle.block_file.specs.CutLaws.{cut_at, length-cut, run_of_one, write_run_i
 use Rattle.block_file.specs.Disk.{block_at, written, IsNewAt, Adds, NoMore}
 use Rattle.block_file.specs.DiskLaws.{written_before, written_inside}
 use Rattle.aptpl_file.specs.declared.slot.Slot.{Slot}
-use Rattle.aptpl_file.specs.Format.{first_block, slot_block}
+use Rattle.aptpl_file.specs.Format.{first_block, part_at, slot_block}
 use Rattle.aptpl_file.specs.Holds.{HoldsSlot}
 use Rattle.aptpl_file.specs.LastsLaws.{slot_within}
-use Rattle.aptpl_file.specs.Runs.{part_at}
+use Rattle.aptpl_file.specs.declared.version.FileVersion.{FileVersion}
 use Rattle.aptpl_file.specs.Writes.{beside_slot}
-
--- the blocks that were put so far, and one more
-pub parts_more : (f : ℕ → List ℕ) (n : ℕ) (old new block : List ℕ) (k at : ℕ) → length old ≡ 512 * n → k < n
-    → at ≡ 512 * k → length block ≡ 512 → block ≡ f k → new ≡ take at old ++ (block ++ drop (at + length block) old)
-    → ((j : ℕ) → j < k → part_at old j ≡ f j)
-    → (j : ℕ) → j < k + 1 → part_at new j ≡ f j
-parts_more f n old new block k at long lt at_is size spelled is so_far j below =
-    let step : cut n new ≡ written (cut n old) k (block ∷ []) =
-    write_run_is n k old new block long (record { whole = omega arith; within = omega arith })
-    (is ∙ ap (λ (m : ℕ). take m old ++ (block ++ drop (m + length block) old)) at_is)
-    ∙ ap (written (cut n old) k) (run_of_one block size) in
-    let fits : k + length (block ∷ []) ≤ length (cut n old) = omega (arith, length-cut n old) in
-    sym (cut_at n new j (omega arith)) ∙ ap (λ (d : List (List ℕ)). block_at d j) step
-    ∙ ⊎_elim
-    (λ (before : j < k).
-    written_before (cut n old) (block ∷ []) k fits j before ∙ cut_at n old j (omega arith) ∙ so_far j before)
-    (λ (here : k ≤ j).
-    let same : j - k ≡ 0 = omega arith in
-    let e : k ≡ j = omega arith in
-    written_inside (cut n old) (block ∷ []) k fits j here (omega arith) ∙ ap (block_at (block ∷ [])) same ∙ spelled
-    ∙ ap f e)
-    (cases_lt j k)
 
 module _ (slot : Slot) (bytes : List ℕ) (long : length bytes ≡ 16896) where
   as_many : length (run_of bytes) ≡ 33
@@ -42,10 +20,10 @@ module _ (slot : Slot) (bytes : List ℕ) (long : length bytes ≡ 16896) where
       ap (λ (m : ℕ). length (cut m bytes)) e ∙ length-cut 33 bytes
 
   -- the slot's blocks were written
-  pub slot_written : (r : RecordValue) (old new : List (List ℕ)) → 67 ≤ length old
+  pub slot_written : (v : FileVersion) (r : RecordValue) (old new : List (List ℕ)) → 67 ≤ length old
       → new ≡ written old (first_block slot) (run_of bytes)
-      → ((k : ℕ) → k < 33 → part_at bytes k ≡ slot_block r k) → HoldsSlot new slot r
-  slot_written r old new room is spelled k lt =
+      → ((k : ℕ) → k < 33 → part_at bytes k ≡ slot_block v r k) → HoldsSlot new v slot r
+  slot_written v r old new room is spelled k lt =
       let within : first_block slot + 32 < 67 = slot_within slot 32 (omega arith) in
       let e : length bytes / 512 ≡ 33 = omega (arith, long) in
       let at : first_block slot + k - first_block slot ≡ k = omega arith in

@@ -11,60 +11,96 @@ use Rattle.reservations.specs.declared.registrant.Registrant.{Registrant}
 use Rattle.reservations.specs.Registry.{IsListed}
 use Rattle.aptpl_file.specs.declared.slot.Slot.{Slot}
 use Rattle.aptpl_file.specs.declared.slot.Slot.TheVariants.{First, Second}
-use Rattle.aptpl_file.specs.Format.{root_name}
-use Rattle.aptpl_file.specs.Format.{entry_bytes, group_number, root_block, slot_number}
+use Rattle.aptpl_file.specs.declared.entry.Entry.{Entry}
+use Rattle.aptpl_file.specs.declared.version.FileVersion.{FileVersion}
+use Rattle.aptpl_file.specs.declared.version.FileVersion.TheVariants.{Version1, Version2}
+use Rattle.aptpl_file.specs.Format.{entry_bytes, group_code, root_block, root_name, slot_number, version_bytes}
+use Rattle.std.specs.Prelude.{Bool, true, false}
 
--- a root's name and version
-pub root_magic : (slot : Slot) → take 8 (root_block slot) ≡ root_name
+-- a root's name, version and slot
+pub root_magic : (v : FileVersion) (slot : Slot) → take 8 (root_block v slot) ≡ root_name
 unfolding root_block
-root_magic First = refl
-root_magic Second = refl
+root_magic Version1 First = refl
+root_magic Version1 Second = refl
+root_magic Version2 First = refl
+root_magic Version2 Second = refl
 
-pub root_version : (slot : Slot) → take 2 (drop 8 (root_block slot)) ≡ 0 ∷ 1 ∷ []
+pub root_version : (v : FileVersion) (slot : Slot) → take 2 (drop 8 (root_block v slot)) ≡ version_bytes v
 unfolding root_block
-root_version First = refl
-root_version Second = refl
+root_version Version1 First = refl
+root_version Version1 Second = refl
+root_version Version2 First = refl
+root_version Version2 Second = refl
 
-pub root_slot : (slot : Slot) → slice_index (root_block slot) 10 ≡ slot_number slot
+root_slot : (v : FileVersion) (slot : Slot) → slice_index (root_block v slot) 10 ≡ slot_number slot
 unfolding root_block
-root_slot First = refl
-root_slot Second = refl
+root_slot Version1 First = refl
+root_slot Version1 Second = refl
+root_slot Version2 First = refl
+root_slot Version2 Second = refl
+
+same_slot_number : (a b : Slot) → slot_number a ≡ slot_number b → a ≡ b
+same_slot_number First First e = refl
+same_slot_number Second Second e = refl
+same_slot_number First Second e = absurd (cc)
+same_slot_number Second First e = absurd (cc)
+
+pub same_version : (v w : FileVersion) → version_bytes v ≡ version_bytes w → v ≡ w
+same_version Version1 Version1 e = refl
+same_version Version2 Version2 e = refl
+same_version Version1 Version2 e = let n = ap (λ (b : List ℕ). slice_index b 1) e in absurd (cc)
+same_version Version2 Version1 e = let n = ap (λ (b : List ℕ). slice_index b 1) e in absurd (cc)
+
+-- a root names one version and one slot
+pub one_version : (v w : FileVersion) (a b : Slot) → root_block v a ≡ root_block w b → v ≡ w
+one_version v w a b e =
+    same_version v w (sym (root_version v a) ∙ ap (λ (r : List ℕ). take 2 (drop 8 r)) e ∙ root_version w b)
+
+pub one_slot : (v w : FileVersion) (a b : Slot) → root_block v a ≡ root_block w b → a ≡ b
+one_slot v w a b e =
+    same_slot_number a b (sym (root_slot v a) ∙ ap (λ (r : List ℕ). slice_index r 10) e ∙ root_slot w b)
 
 -- an entry up to its zeros, and from the length of the name on
-abbrev front_of : Registrant → List ℕ
-front_of x =
-    big_bytes 8 x.key ++ big_bytes 2 (group_number x.nexus.group) ++ big_bytes 6 x.nexus.port.isid
-    ++ length x.nexus.port.name ∷ x.nexus.port.name
+abbrev front_of : Entry → List ℕ
+front_of e =
+    big_bytes 8 e.registrant.key ++ big_bytes 2 (group_code e.registrant.nexus.group e.both)
+    ++ big_bytes 6 e.registrant.nexus.port.isid ++ length e.registrant.nexus.port.name ∷ e.registrant.nexus.port.name
 
-abbrev rest_of : Registrant → List ℕ
-rest_of x = length x.nexus.port.name ∷ x.nexus.port.name ++ replicate (256 - length (front_of x)) 0
+abbrev rest_of : Entry → List ℕ
+rest_of e =
+    length e.registrant.nexus.port.name ∷ e.registrant.nexus.port.name ++ replicate (256 - length (front_of e)) 0
 
 -- the parts of an entry
-pub key_read : (x : Registrant) → IsListed x → big_number 8 (entry_bytes x) ≡ x.key
+pub key_read : (e : Entry) → IsListed e.registrant → big_number 8 (entry_bytes e) ≡ e.registrant.key
 unfolding entry_bytes
-key_read x listed =
-    big_number-reads_back 8 x.key
-    (big_bytes 2 (group_number x.nexus.group) ++ (big_bytes 6 x.nexus.port.isid ++ rest_of x)) listed.key
+key_read e listed =
+    big_number-reads_back 8 e.registrant.key
+    (big_bytes 2 (group_code e.registrant.nexus.group e.both) ++ (big_bytes 6 e.registrant.nexus.port.isid ++ rest_of e))
+    listed.key
 
-pub group_read : (x : Registrant) → slice_index (entry_bytes x) 9 ≡ group_number x.nexus.group
+pub code_read : (e : Entry) → slice_index (entry_bytes e) 9 ≡ group_code e.registrant.nexus.group e.both
 unfolding entry_bytes
-group_read x = of x.nexus.group
+code_read e = of e.registrant.nexus.group e.both
   where
-    of : (g : Group) → group_number g % 256 ≡ group_number g
-    of One = refl
-    of Two = refl
+    of : (g : Group) (b : Bool) → group_code g b % 256 ≡ group_code g b
+    of One true = refl
+    of Two true = refl
+    of One false = refl
+    of Two false = refl
 
-pub isid_read : (x : Registrant) → IsListed x → big_number 6 (drop 10 (entry_bytes x)) ≡ x.nexus.port.isid
+pub isid_read : (e : Entry) → IsListed e.registrant
+    → big_number 6 (drop 10 (entry_bytes e)) ≡ e.registrant.nexus.port.isid
 unfolding entry_bytes
-isid_read x listed = big_number-reads_back 6 x.nexus.port.isid (rest_of x) listed.port.isid
+isid_read e listed = big_number-reads_back 6 e.registrant.nexus.port.isid (rest_of e) listed.port.isid
 
-pub length_read : (x : Registrant) → slice_index (entry_bytes x) 16 ≡ length x.nexus.port.name
+pub length_read : (e : Entry) → slice_index (entry_bytes e) 16 ≡ length e.registrant.nexus.port.name
 unfolding entry_bytes
-length_read x = refl
+length_read e = refl
 
-pub name_read : (x : Registrant) → take (length x.nexus.port.name) (drop 17 (entry_bytes x)) ≡ x.nexus.port.name
+pub name_read : (e : Entry)
+    → take (length e.registrant.nexus.port.name) (drop 17 (entry_bytes e)) ≡ e.registrant.nexus.port.name
 unfolding entry_bytes
-name_read x = take_at x.nexus.port.name _ (length x.nexus.port.name) refl
+name_read e = take_at e.registrant.nexus.port.name _ (length e.registrant.nexus.port.name) refl
 
 -- an ISID that is read of six bytes fits them
 pub isid_fits : (entry : List ℕ) (isid : ℕ) → length entry ≡ 256 → ((k : ℕ) → get_or entry k 0 < 256)
@@ -96,12 +132,12 @@ name_read_whole entry name long at is =
     is ∙ ap (λ (m : ℕ). take m (drop 17 entry)) e
 
 -- an entry has its length
-pub length_entry : (x : Registrant) → IsListed x → length (entry_bytes x) ≡ 256
+pub length_entry : (e : Entry) → IsListed e.registrant → length (entry_bytes e) ≡ 256
 unfolding entry_bytes
-length_entry x listed =
+length_entry e listed =
     let short = listed.port.short in
     omega (
       arith,
-      length-append (front_of x) (replicate (256 - length (front_of x)) 0),
-      length-replicate {A = ℕ} (256 - length (front_of x)) 0,
+      length-append (front_of e) (replicate (256 - length (front_of e)) 0),
+      length-replicate {A = ℕ} (256 - length (front_of e)) 0,
     )

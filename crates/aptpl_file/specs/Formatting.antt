@@ -5,6 +5,7 @@ use Rattle.block_file.specs.Disk.{or_new, MayLeave, NoMore}
 use Rattle.block_file.specs.Failures.{Tells}
 use Rattle.block_file.specs.Moment.{Elapses}
 use Rattle.aptpl_file.specs.declared.slot.Slot.TheVariants.{First}
+use Rattle.aptpl_file.specs.declared.version.FileVersion.TheVariants.{Version2}
 use Rattle.aptpl_file.specs.declared.fault.SaveFault.{SaveFault}
 use Rattle.aptpl_file.specs.declared.fault.SaveFault.TheVariants.{OldRoot, IdleSlot, NewRoot}
 use Rattle.aptpl_file.specs.Format.{root_block}
@@ -16,8 +17,9 @@ use Rattle.aptpl_file.specs.Writes.{beside_slot}
 abbrev pub nothing : RecordValue
 nothing = record { aptpl = false; registrants = []; reservation = None }
 
--- the root names the first slot, and no other root may stand there
+-- the root names version 2 and the first slot, and no other root may stand there
 pub record IsFormatted {B : Type 0} (file : FileValue B) : Type 0 where
+  pub version : file.version ≡ Version2
   pub slot : file.slot ≡ First
   pub decided : file.undecided ≡ false
 
@@ -38,7 +40,7 @@ abbrev pub LeftAt : SaveFault → (ℕ → List ℕ → Type 0) → (ℕ → Lis
 LeftAt OldRoot old new = ⊥
 LeftAt IdleSlot old new = NoMore (beside_slot First old) new
 LeftAt NewRoot old new =
-    NoMore (or_new 0 (root_block First ∷ []) (beside_slot First old)) new × SlotLasts new First nothing
+    NoMore (or_new 0 (root_block Version2 First ∷ []) (beside_slot First old)) new × SlotLasts new Version2 First nothing
 
 -- a format that fails there drops its device, which may be in such a state
 pub record FailsAt {B : Type 0} (may_hold : B → ℕ → List ℕ → Type 0) (device : B) (fault : SaveFault) : Type 0 where

@@ -4,63 +4,69 @@ use Rattle.reservations.specs.Registry.{RecordValue, IsRecord}
 use Rattle.block_file.specs.Disk.{MayLeave}
 use Rattle.block_file.specs.Moment.{Elapses}
 use Rattle.aptpl_file.specs.declared.slot.Slot.{Slot}
+use Rattle.aptpl_file.specs.declared.version.FileVersion.{FileVersion}
+use Rattle.aptpl_file.specs.declared.version.FileVersion.TheVariants.{Version2}
 use Rattle.aptpl_file.specs.declared.fault.SaveFault.{SaveFault}
 use Rattle.aptpl_file.specs.declared.fault.SaveFault.TheVariants.{OldRoot, IdleSlot, NewRoot}
 use Rattle.aptpl_file.specs.Format.{file_blocks, first_block, other_slot, root_block, slot_block, slot_blocks}
 use Rattle.aptpl_file.specs.Holds.{HoldsOneOf}
 
--- What contracts see of a file: its device as it is, the slot that its root names, and whether a root that names the
--- other may stand there too.
+-- What contracts see of a file: its device as it is, the version and the slot that its root names, and whether a root of
+-- version 2 that names the other slot may stand there too.
 pub record FileValue (B : Type 0) : Type 0 where
   pub device : B
+  pub version : FileVersion
   pub slot : Slot
   pub undecided : Bool
 
 -- ---- what the blocks may hold after a crash
 
--- the root names this slot
-abbrev pub RootLasts : (ℕ → List ℕ → Type 0) → Slot → Type 0
-RootLasts may_hold slot = (value : List ℕ) → may_hold 0 value → value ≡ root_block slot
+-- the root names this version and slot
+abbrev pub RootLasts : (ℕ → List ℕ → Type 0) → FileVersion → Slot → Type 0
+RootLasts may_hold version slot = (value : List ℕ) → may_hold 0 value → value ≡ root_block version slot
 
--- the root names one slot or the other
-abbrev pub SomeRootLasts : (ℕ → List ℕ → Type 0) → Slot → Type 0
-SomeRootLasts may_hold slot =
-    (value : List ℕ) → may_hold 0 value → (value ≡ root_block slot) ⊎ (value ≡ root_block (other_slot slot))
+-- the root names one slot, or in version 2 the other
+abbrev pub SomeRootLasts : (ℕ → List ℕ → Type 0) → FileVersion → Slot → Type 0
+SomeRootLasts may_hold version slot = (value : List ℕ) → may_hold 0 value
+    → (value ≡ root_block version slot) ⊎ (value ≡ root_block Version2 (other_slot slot))
 
 -- the slot is the spelling of the record
-abbrev pub SlotLasts : (ℕ → List ℕ → Type 0) → Slot → RecordValue → Type 0
-SlotLasts may_hold slot r =
-    (k : ℕ) (value : List ℕ) → k < slot_blocks → may_hold (first_block slot + k) value → value ≡ slot_block r k
+abbrev pub SlotLasts : (ℕ → List ℕ → Type 0) → FileVersion → Slot → RecordValue → Type 0
+SlotLasts may_hold version slot r = (k : ℕ) (value : List ℕ) → k < slot_blocks
+    → may_hold (first_block slot + k) value → value ≡ slot_block version r k
 
 -- the root names the slot, which holds the record; of the other slot nothing is known
-pub record IsDecided (may_hold : ℕ → List ℕ → Type 0) (slot : Slot) (r : RecordValue) : Type 0 where
-  pub root : RootLasts may_hold slot
-  pub spelled : SlotLasts may_hold slot r
-  pub lasting : IsRecord r.aptpl r.registrants r.reservation
+pub record IsDecided (may_hold : ℕ → List ℕ → Type 0) (version : FileVersion) (slot : Slot) (r : RecordValue) : Type 0
+  where
+    pub root : RootLasts may_hold version slot
+    pub spelled : SlotLasts may_hold version slot r
+    pub lasting : IsRecord r.aptpl r.registrants r.reservation
 
 -- the root names one slot or the other, and each holds its record
-pub record IsUndecided (may_hold : ℕ → List ℕ → Type 0) (slot : Slot) (r landed : RecordValue) : Type 0 where
-  pub root : SomeRootLasts may_hold slot
-  pub spelled : SlotLasts may_hold slot r
+pub record IsUndecided (may_hold : ℕ → List ℕ → Type 0) (version : FileVersion) (slot : Slot) (r landed : RecordValue)
+    : Type 0 where
+  pub root : SomeRootLasts may_hold version slot
+  pub spelled : SlotLasts may_hold version slot r
   pub lasting : IsRecord r.aptpl r.registrants r.reservation
-  pub other_spelled : SlotLasts may_hold (other_slot slot) landed
+  pub other_spelled : SlotLasts may_hold Version2 (other_slot slot) landed
   pub other_lasting : IsRecord landed.aptpl landed.registrants landed.reservation
 
 -- ---- the records that a crash may leave
 
 -- One record; or after a save whose root may have landed two, that of the slot that the root named before and the one
 -- that was to be saved.
-abbrev pub IsAmong : (ℕ → List ℕ → Type 0) → Slot → Bool → List RecordValue → Type 0
-IsAmong may_hold slot undecided [] = ⊥
-IsAmong may_hold slot undecided (r ∷ []) = (undecided ≡ false) × IsDecided may_hold slot r
-IsAmong may_hold slot undecided (r ∷ landed ∷ []) = (undecided ≡ true) × IsUndecided may_hold slot r landed
-IsAmong may_hold slot undecided (r ∷ landed ∷ x ∷ xs) = ⊥
+abbrev pub IsAmong : (ℕ → List ℕ → Type 0) → FileVersion → Slot → Bool → List RecordValue → Type 0
+IsAmong may_hold version slot undecided [] = ⊥
+IsAmong may_hold version slot undecided (r ∷ []) = (undecided ≡ false) × IsDecided may_hold version slot r
+IsAmong may_hold version slot undecided (r ∷ landed ∷ []) =
+    (undecided ≡ true) × IsUndecided may_hold version slot r landed
+IsAmong may_hold version slot undecided (r ∷ landed ∷ x ∷ xs) = ⊥
 
 -- A crash of the file's device leaves one of these records, and the file knows where.
 pub record LastsAmong {B : Type 0} (size : B → ℕ) (may_hold : B → ℕ → List ℕ → Type 0) (file : FileValue B)
     (records : List RecordValue) : Type 0 where
   pub blocks : file_blocks ≤ size file.device
-  pub among : IsAmong (may_hold file.device) file.slot file.undecided records
+  pub among : IsAmong (may_hold file.device) file.version file.slot file.undecided records
 
 -- each outcome of a crash holds one of these records
 abbrev pub EachOutcomeHolds : ℕ → (ℕ → List ℕ → Type 0) → List RecordValue → Type 0

@@ -1,20 +1,33 @@
--- What the blocks of a registration file are read as, part by part.
-use Rattle.std.specs.Prelude.{◌≡◌, ◌<◌, ℕ, ◌+◌, ◌*◌, not, nat_eq, IsTrue, List, length, min, take, drop, Result, Ok, Err}
-use Rattle.std.specs.List.{AllByRecursion}
+-- What the bytes of a registration file are read as, part by part.
+use Rattle.std.specs.Prelude.{◌≡◌, ℕ, ◌+◌, ◌*◌, Bool, true, not, nat_eq, if◌then◌else◌, IsTrue, List, [], ◌∷◌, length, take, drop, slice_index, Option, Some, ◌&&◌}
+use Rattle.std.specs.Prelude.{Result, Ok, Err}
+use Rattle.std.specs.List.{AllByRecursion, find, flat_map, slice_get}
+use Rattle.std.specs.Option.{option_map}
+use Rattle.scsi_types.specs.Nexus.{Nexus}
+use Rattle.scsi_types.specs.declared.names.Group.TheVariants.{One}
 use Rattle.reservations.specs.declared.registrant.Registrant.{Registrant}
-use Rattle.reservations.specs.Registry.{RecordValue, IsAscending, IsListed, IsRecord}
-use Rattle.block_file.specs.Disk.{block_at}
+use Rattle.reservations.specs.Nexus.{other_nexus}
+use Rattle.reservations.specs.Registry.{RecordValue, IsAscending, IsListed, IsRecord, holder_of}
+use Rattle.aptpl_file.specs.declared.entry.Entry.{Entry}
 use Rattle.aptpl_file.specs.declared.slot.Slot.{Slot}
+use Rattle.aptpl_file.specs.declared.version.FileVersion.{FileVersion}
 use Rattle.aptpl_file.specs.declared.fault.OpenFault.{OpenFault}
 use Rattle.aptpl_file.specs.declared.fault.OpenFault.TheVariants.{NotARegFile, Version, DeviceFailed, NoMemory}
-use Rattle.aptpl_file.specs.Format.{entries_block, entry_at, first_block, header_block, place_byte, root_block, root_name, type_byte, version_1}
+use Rattle.aptpl_file.specs.Format.{entry_bytes, entry_length, group_of, place_of, root_block, root_name, slot_bytes}
+use Rattle.aptpl_file.specs.Format.{type_byte, version_bytes}
 use Rattle.aptpl_file.specs.Holds.{HoldsSlot}
+
+-- two bytes are a version
+pub record IsVersion (bytes : List ℕ) : Type 0 where
+  pub version : FileVersion
+  pub is : bytes ≡ version_bytes version
 
 -- the block names no slot, or is the root of another version
 abbrev pub IsRootRefusal : List ℕ → OpenFault → Type 0
 IsRootRefusal root NotARegFile =
-    ((slot : Slot) → root ≡ root_block slot → ⊥) × (take 8 root ≡ root_name → take 2 (drop 8 root) ≡ version_1)
-IsRootRefusal root Version = (take 8 root ≡ root_name) × (take 2 (drop 8 root) ≡ version_1 → ⊥)
+    ((version : FileVersion) (slot : Slot) → root ≡ root_block version slot → ⊥)
+    × (take 8 root ≡ root_name → IsVersion (take 2 (drop 8 root)))
+IsRootRefusal root Version = (take 8 root ≡ root_name) × (IsVersion (take 2 (drop 8 root)) → ⊥)
 IsRootRefusal root DeviceFailed = ⊥
 IsRootRefusal root NoMemory = ⊥
 
@@ -31,58 +44,64 @@ pub record AreEntries (xs : List Registrant) : Type 0 where
   pub keys : AllByRecursion (λ (x : Registrant). IsTrue (not (nat_eq x.key 0))) xs
   pub listed : AllByRecursion IsListed xs
 
--- these registrants, so many in all, begin with those, and the entry behind them is this one
-pub record HasEntry (count place : ℕ) (xs : List Registrant) (entry : List ℕ) (rs : List Registrant) : Type 0 where
-  pub entries : AreEntries rs
-  pub long : length rs ≡ count
-  pub front : take place rs ≡ xs
-  pub spelled : entry ≡ entry_at rs place
+-- ---- entries
 
--- an entry was read: it is that of the registrants behind those before, and of no others
-pub record TakesEntry (count place : ℕ) (entry : List ℕ) (old new : List Registrant) : Type 0 where
-  pub entries : AreEntries new
-  pub long : length new ≡ min (place + 1) count
-  pub front : take place new ≡ old
-  pub spelled : entry ≡ entry_at new place
-  pub only : (rs : List Registrant) → HasEntry count place old entry rs → take (place + 1) rs ≡ new
+-- an entry as a record has it
+pub record IsEntry (e : Entry) : Type 0 where
+  pub listed : IsListed e.registrant
+  pub keyed : IsTrue (not (nat_eq e.registrant.key 0))
+  pub first : e.both ≡ true → e.registrant.nexus.group ≡ One
 
--- the same of a block of two entries
-pub record HasBlock (count k : ℕ) (xs : List Registrant) (block : List ℕ) (rs : List Registrant) : Type 0 where
-  pub entries : AreEntries rs
-  pub long : length rs ≡ count
-  pub front : take (2 * k) rs ≡ xs
-  pub spelled : block ≡ entries_block rs k
+-- the registrant of the same port through the other group, with the same key
+abbrev pub second_of : Registrant → Registrant
+second_of x = record { nexus = other_nexus x.nexus; key = x.key }
 
-pub record TakesBlock (count k : ℕ) (block : List ℕ) (old new : List Registrant) : Type 0 where
-  pub entries : AreEntries new
-  pub long : length new ≡ min (2 * (k + 1)) count
-  pub front : take (2 * k) new ≡ old
-  pub spelled : block ≡ entries_block new k
-  pub only : (rs : List Registrant) → HasBlock count k old block rs → take (2 * (k + 1)) rs ≡ new
+-- the registrants that an entry stands for
+abbrev pub covered_by : Registrant → Bool → List Registrant
+covered_by x both = if both then x ∷ second_of x ∷ [] else x ∷ []
 
--- the blocks of a slot behind the first spell these registrants, so many in all
-pub record HasEntries (disk : List (List ℕ)) (slot : Slot) (count : ℕ) (rs : List Registrant) : Type 0 where
-  pub entries : AreEntries rs
-  pub long : length rs ≡ count
-  pub blocks : (k : ℕ) → k < 32 → block_at disk (first_block slot + 1 + k) ≡ entries_block rs k
+abbrev pub covered : Entry → List Registrant
+covered e = covered_by e.registrant e.both
 
--- a record of these registrants whose reservation is spelled so
-pub record HasReservation (code place : ℕ) (xs : List Registrant) (r : RecordValue) : Type 0 where
+-- the bytes of an entry in a slot
+abbrev pub entry_part : List ℕ → ℕ → List ℕ
+entry_part bytes i = take entry_length (drop (512 + 256 * i) bytes)
+
+-- the bytes spell these entries, so many in all
+pub record SpellsEntries (bytes : List ℕ) (count : ℕ) (es : List Entry) : Type 0 where
+  pub all : AllByRecursion IsEntry es
+  pub long : length es ≡ count
+  pub each : (i : ℕ) (e : Entry) → slice_get es i ≡ Some e → entry_part bytes i ≡ entry_bytes e
+  pub registrants : AreEntries (flat_map covered es)
+
+-- ---- the reservation
+
+-- the registered nexus with this place and group
+abbrev pub holder_in : FileVersion → ℕ → ℕ → List Registrant → Option Nexus
+holder_in version place group xs =
+    option_map (λ (x : Registrant). x.nexus)
+    (find (λ (x : Registrant). nat_eq (place_of version (Some x.nexus) xs) place
+    && nat_eq (group_of version (Some x.nexus)) group) xs)
+
+-- a record of these registrants whose reservation a slot spells
+pub record HasReservation (version : FileVersion) (bytes : List ℕ) (xs : List Registrant) (r : RecordValue) : Type 0 where
   pub lasting : IsRecord r.aptpl r.registrants r.reservation
   pub registrants : r.registrants ≡ xs
-  pub is_code : code ≡ type_byte r.reservation
-  pub is_place : place ≡ place_byte r.reservation r.registrants
+  pub is_code : slice_index bytes 10 ≡ type_byte r.reservation
+  pub is_place : slice_index bytes 11 ≡ place_of version (holder_of r.reservation) r.registrants
+  pub is_group : slice_index bytes 12 ≡ group_of version (holder_of r.reservation)
 
--- a slot's first block spells a record of these registrants
-pub record HasHeader (header : List ℕ) (xs : List Registrant) (r : RecordValue) : Type 0 where
+-- ---- records
+
+-- the bytes spell this record
+pub record Spells (version : FileVersion) (bytes : List ℕ) (r : RecordValue) : Type 0 where
   pub lasting : IsRecord r.aptpl r.registrants r.reservation
-  pub registrants : r.registrants ≡ xs
-  pub spelled : header ≡ header_block r
+  pub spelled : bytes ≡ slot_bytes version r
 
 -- a slot spells a record
-pub record HasSlot (disk : List (List ℕ)) (slot : Slot) (r : RecordValue) : Type 0 where
+pub record HasSlot (disk : List (List ℕ)) (version : FileVersion) (slot : Slot) (r : RecordValue) : Type 0 where
   pub lasting : IsRecord r.aptpl r.registrants r.reservation
-  pub spelled : HoldsSlot disk slot r
+  pub spelled : HoldsSlot disk version slot r
 
 -- the device did not fail
 abbrev pub IsUnfailed : {T : Type 0} → Result T OpenFault → Type 0

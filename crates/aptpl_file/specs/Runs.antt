@@ -1,13 +1,8 @@
 -- A run of blocks as bytes.
-use Rattle.std.specs.Prelude.{◌≡◌, ℕ, ◌+◌, ◌*◌, ◌<◌, List, take, drop}
-use Rattle.block_file.specs.declared.blocks.TheConstants.{BLOCK_LENGTH}
+use Rattle.std.specs.Prelude.{◌≡◌, ℕ, ◌+◌, ◌<◌, List}
 use Rattle.block_file.specs.Disk.{block_at}
 use Rattle.aptpl_file.specs.declared.slot.Slot.{Slot}
-use Rattle.aptpl_file.specs.Format.{first_block, slot_blocks}
-
--- the block at a place among them
-abbrev pub part_at : List ℕ → ℕ → List ℕ
-part_at bytes k = take BLOCK_LENGTH (drop (BLOCK_LENGTH * k) bytes)
+use Rattle.aptpl_file.specs.Format.{first_block, part_at, slot_blocks}
 
 -- the bytes are the blocks of the slot
 abbrev pub AreSlot : List (List ℕ) → Slot → List ℕ → Type 0

@@ -9,17 +9,18 @@ ghost use Rattle.aptpl_file.specs.Format.{file_blocks};
 use crate::reading::read_record;
 use crate::spelling::FILE_BLOCKS;
 use crate::writing::{save_root, save_slot};
-use crate::{OpenFault, SaveFault, Slot};
+use crate::{FileVersion, OpenFault, SaveFault, Slot};
 use block_file::{Blocks, DeviceFailed};
 use reservations::{Lasting, Record};
 use std::alloc::Global;
 use std::marker::Model;
 
 /// A registration file on a device: a root and two slots, one of which the root names. The other is written by the next
-/// save.
+/// save, in version 2.
 #[derive(Drop)]
 pub struct RegFile<B: Blocks> {
     device: B,
+    version: FileVersion,
     slot: Slot,
     undecided: bool,
 }
@@ -31,7 +32,12 @@ impl<B: Blocks> Model for RegFile<B> {
 
     ghost Value = { FileValue B };
 
-    ghost view = { λ f. record { device = f.device; slot = f.slot; undecided = f.undecided } };
+    ghost view = { λ f. record {
+      device = f.device;
+      version = f.version;
+      slot = f.slot;
+      undecided = f.undecided;
+    } };
 
     ghost invariant = { λ f. file_blocks ≤ B.size f.device };
 }
@@ -58,22 +64,24 @@ impl<B: Blocks> RegFile<B> {
         ensures failures { IfOk result (λ file. Tells (B.failures device) (B.failures file.device) (Unit {0})) }
         ensures failed { IfErr result (λ fault. CanFail B.failures device) }
     {
+        let version = FileVersion::Version2;
         let slot = Slot::First;
         let Ok(()) = save_slot(&mut device, slot, false, &[], &None) else {
             return Err(SaveFault::IdleSlot);
         };
-        let Ok(()) = save_root(&mut device, slot) else {
+        let Ok(()) = save_root(&mut device, version, slot) else {
             return Err(SaveFault::NewRoot);
         };
         Ok(RegFile {
             device,
+            version,
             slot,
             undecided: false,
         })
     }
 
-    /// Opens a registration file, and gives the record that it holds, which a crash leaves from then on. Refused, it
-    /// drops the device.
+    /// Opens a registration file of either version, and gives the record that it holds, which a crash leaves from then on.
+    /// Refused, it drops the device.
     pub fn open(alloc: Global, mut device: B) -> Result<(RegFile<B>, Record), OpenFault>
         ensures size { IfOk result (λ found. B.size found.0.device ≡ B.size device) }
         ensures holds { IsTrue B.claims → IfOk result (λ found. Holds (B.contents device) found.1) }
@@ -89,12 +97,13 @@ impl<B: Blocks> RegFile<B> {
         if device.count() < FILE_BLOCKS {
             return Err(OpenFault::NotARegFile);
         }
-        let (slot, record) = match read_record(&mut device, alloc) {
+        let (version, slot, record) = match read_record(&mut device, alloc) {
             Ok(found) => found,
             Err(fault) => return Err(fault),
         };
         let file = RegFile {
             device,
+            version,
             slot,
             undecided: false,
         };
@@ -103,7 +112,7 @@ impl<B: Blocks> RegFile<B> {
 
     /// Makes a record last. Takes no memory.
     ///
-    /// Done, a crash leaves this record alone. Failed, a crash leaves one that it might have left before, or this one;
+    /// It is written in version 2, whatever version the file had. Done, a crash leaves this record alone. Failed, a crash leaves one that it might have left before, or this one;
     /// and so does a stop at any moment of the call.
     pub fn save(&mut self, saved: &Lasting<'_>) -> Result<(), SaveFault>
         ensures size { B.size self.new.device ≡ B.size self.old.device }
@@ -130,10 +139,11 @@ impl<B: Blocks> RegFile<B> {
         ) else {
             return Err(SaveFault::IdleSlot);
         };
-        let Ok(()) = save_root(&mut self.device, idle) else {
+        let Ok(()) = save_root(&mut self.device, FileVersion::Version2, idle) else {
             self.undecided = true;
             return Err(SaveFault::NewRoot);
         };
+        self.version = FileVersion::Version2;
         self.slot = idle;
         Ok(())
     }
@@ -141,20 +151,22 @@ impl<B: Blocks> RegFile<B> {
     // Writes the old root again where a save left it undecided.
     fn decide(&mut self) -> Result<(), DeviceFailed>
         ensures size { B.size self.new.device ≡ B.size self.old.device }
+        ensures version { self.new.version ≡ self.old.version }
         ensures slot { self.new.slot ≡ self.old.slot }
         ensures decided { OnOk result (self.new.undecided ≡ false) }
         ensures root { IsTrue B.claims → self.old.undecided ≡ true
-            → OnOk result (RootLasts (B.may_hold self.new.device) self.old.slot) }
+            → OnOk result (RootLasts (B.may_hold self.new.device) self.old.version self.old.slot) }
         ensures same { self.old.undecided ≡ false → self.new ≡ self.old }
         ensures failed { OnErr result (self.new.undecided ≡ self.old.undecided) }
-        ensures crash { IsTrue B.claims → Adds 0 (root_block self.old.slot ∷ []) (B.may_hold self.old.device)
-            (B.may_hold self.new.device) }
+        ensures crash { IsTrue B.claims → Adds 0 (root_block self.old.version self.old.slot ∷ [])
+            (B.may_hold self.old.device) (B.may_hold self.new.device) }
         ensures stop { IsTrue B.claims → IsTrue B.claims_moments → StopsAmong B.moment B.left_since B.size
-            (or_new 0 (root_block self.old.slot ∷ []) (B.may_hold self.old.device)) self.old.device self.new.device }
+            (or_new 0 (root_block self.old.version self.old.slot ∷ []) (B.may_hold self.old.device))
+            self.old.device self.new.device }
         ensures failures { Counts (B.failures self.old.device) (B.failures self.new.device) result }
     {
         if self.undecided {
-            let Ok(()) = save_root(&mut self.device, self.slot) else {
+            let Ok(()) = save_root(&mut self.device, self.version, self.slot) else {
                 return Err(DeviceFailed);
             };
             self.undecided = false;

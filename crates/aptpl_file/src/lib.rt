@@ -2,17 +2,19 @@
 //! of its own. A save that is done has made its record last; one that is not leaves the record before, or the new one.
 #![tactic(auto)]
 
+mod entry;
 mod fault;
 mod file;
 pub mod laws;
 mod parsing;
 mod reading;
-mod runs;
 mod slot;
 mod spelling;
+mod version;
 mod writing;
 
 pub use fault::{OpenFault, SaveFault};
 pub use file::RegFile;
 pub use slot::Slot;
 pub use spelling::FILE_BLOCKS;
+pub use version::FileVersion;

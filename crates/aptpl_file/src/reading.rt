@@ -9,9 +9,9 @@ ghost use Rattle.aptpl_file.specs.Holds.{Holds, IsRefusal};
 ghost use Rattle.aptpl_file.specs.Lasts.{IsDecided};
 ghost use Rattle.aptpl_file.specs.Runs.{AreSlot};
 
-use crate::parsing::named_slot;
-use crate::runs::{SLOT_LENGTH, record_of};
-use crate::{OpenFault, Slot};
+use crate::parsing::{named_by, record_of};
+use crate::spelling::SLOT_LENGTH;
+use crate::{FileVersion, OpenFault, Slot};
 use block_file::{Blocks, DeviceFailed};
 use reservations::Record;
 use std::alloc::Global;
@@ -48,12 +48,17 @@ fn read_bytes<B: Blocks>(device: &mut B, slot: Slot) -> Result<[u8; SLOT_LENGTH]
 }
 
 // The record of a slot.
-fn read_slot<B: Blocks>(device: &mut B, alloc: Global, slot: Slot) -> Result<Record, OpenFault>
+fn read_slot<B: Blocks>(
+    device: &mut B,
+    alloc: Global,
+    version: FileVersion,
+    slot: Slot,
+) -> Result<Record, OpenFault>
     requires { file_blocks ≤ B.size device.old }
     ensures size { B.size device.new ≡ B.size device.old }
-    ensures read { IsTrue B.claims → IfOk result (HasSlot (B.contents device.old) slot) }
+    ensures read { IsTrue B.claims → IfOk result (HasSlot (B.contents device.old) version slot) }
     ensures refused { IsTrue B.claims → IfErr result (λ fault. IsRefusalOf fault
-        ((r : RecordValue) → HasSlot (B.contents device.old) slot r → ⊥)) }
+        ((r : RecordValue) → HasSlot (B.contents device.old) version slot r → ⊥)) }
     ensures contents { IsTrue B.claims → B.contents device.new ≡ B.contents device.old }
     ensures crash { IsTrue B.claims → NoMore (B.may_hold device.old) (B.may_hold device.new) }
     ensures failures { Tells (B.failures device.old) (B.failures device.new) (IsUnfailed result) }
@@ -61,15 +66,18 @@ fn read_slot<B: Blocks>(device: &mut B, alloc: Global, slot: Slot) -> Result<Rec
     let Ok(bytes) = read_bytes(device, slot) else {
         return Err(OpenFault::DeviceFailed);
     };
-    record_of(alloc, &bytes)
+    record_of(alloc, version, &bytes)
 }
 
-/// The slot that the root names and its record, which last from then on.
-pub fn read_record<B: Blocks>(device: &mut B, alloc: Global) -> Result<(Slot, Record), OpenFault>
+/// The version and the slot that the root names, and the slot's record, which last from then on.
+pub fn read_record<B: Blocks>(
+    device: &mut B,
+    alloc: Global,
+) -> Result<(FileVersion, Slot, Record), OpenFault>
     requires { file_blocks ≤ B.size device.old }
     ensures size { B.size device.new ≡ B.size device.old }
-    ensures holds { IsTrue B.claims → IfOk result (λ found. Holds (B.contents device.old) found.1) }
-    ensures lasts { IsTrue B.claims → IfOk result (λ found. IsDecided (B.may_hold device.new) found.0 found.1) }
+    ensures holds { IsTrue B.claims → IfOk result (λ found. Holds (B.contents device.old) found.2) }
+    ensures lasts { IsTrue B.claims → IfOk result (λ found. IsDecided (B.may_hold device.new) found.0 found.1 found.2) }
     ensures refused { IsTrue B.claims → IfErr result (IsRefusal (B.contents device.old)) }
     ensures contents { IsTrue B.claims → B.contents device.new ≡ B.contents device.old }
     ensures failures { Tells (B.failures device.old) (B.failures device.new) (IsUnfailed result) }
@@ -77,16 +85,16 @@ pub fn read_record<B: Blocks>(device: &mut B, alloc: Global) -> Result<(Slot, Re
     let Ok(root) = read_block(device, 0) else {
         return Err(OpenFault::DeviceFailed);
     };
-    let slot = match named_slot(&root) {
-        Ok(slot) => slot,
+    let (version, slot) = match named_by(&root) {
+        Ok(named) => named,
         Err(fault) => return Err(fault),
     };
-    let record = match read_slot(device, alloc, slot) {
+    let record = match read_slot(device, alloc, version, slot) {
         Ok(record) => record,
         Err(fault) => return Err(fault),
     };
     let Ok(()) = device.flush() else {
         return Err(OpenFault::DeviceFailed);
     };
-    Ok((slot, record))
+    Ok((version, slot, record))
 }

@@ -10,6 +10,8 @@ use std::alloc::{AllocError, Global};
 pub enum Asked {
     /// REGISTER of a key with APTPL.
     Register(u64),
+    /// The same with ALL_TG_PT.
+    RegisterEveryPort(u64),
     /// RESERVE with its key, and the type.
     Reserve(u64, u8),
 }
@@ -17,7 +19,9 @@ pub enum Asked {
 /// The request.
 pub fn request(asked: Asked) -> PrOut {
     let (action, key, sakey, kind) = match asked {
-        Asked::Register(sakey) => (PrOutAction::Register, 0, sakey, 0),
+        Asked::Register(sakey) | Asked::RegisterEveryPort(sakey) => {
+            (PrOutAction::Register, 0, sakey, 0)
+        }
         Asked::Reserve(key, kind) => (PrOutAction::Reserve, key, 0, kind),
     };
     PrOut {
@@ -27,26 +31,29 @@ pub fn request(asked: Asked) -> PrOut {
         key,
         sakey,
         spec_i_pt: false,
-        all_tg_pt: false,
+        all_tg_pt: matches!(asked, Asked::RegisterEveryPort(_)),
         aptpl: true,
     }
 }
 
-/// A registry after these requests of nexuses, `iqn.2000-01.test:` and a letter with ISID 400001370000h, through group 1.
-pub fn registry_after(alloc: Global, requests: &[(u8, Asked)]) -> Result<Registry, NoMemory> {
+/// A request, by the last letter of its nexus's name and its group.
+pub type Sent = (u8, Group, Asked);
+
+/// A registry after these requests of nexuses, `iqn.2000-01.test:` and a letter with ISID 400001370000h.
+pub fn registry_after(alloc: Global, requests: &[Sent]) -> Result<Registry, NoMemory> {
     let mut registry = Registry::new(alloc)?;
-    for (letter, asked) in requests {
+    for (letter, group, asked) in requests {
         let mut name = Vec::from_slice(alloc, b"iqn.2000-01.test:")?;
         name.push(*letter)?;
         let port = PortName::new(name, 0x4000_0137_0000);
-        let _ = registry.out(&port, Group::One, request(*asked));
+        let _ = registry.out(&port, *group, request(*asked));
     }
     Ok(registry)
 }
 
 /// The record of one nexus with this key.
 pub fn record_of(alloc: Global, key: u64) -> Result<Record, NoMemory> {
-    registry_after(alloc, &[(b'a', Asked::Register(key))])?.record()
+    registry_after(alloc, &[(b'a', Group::One, Asked::Register(key))])?.record()
 }
 
 /// What a record says, as READ FULL STATUS of the registry that begins with it, and whether APTPL is set.
@@ -54,6 +61,15 @@ pub fn told(alloc: Global, record: Record) -> Result<(bool, Vec<u8>), NoMemory> 
     let aptpl = record.aptpl();
     let registry = Registry::from_record(alloc, record)?;
     Ok((aptpl, registry.full_status(65535)?))
+}
+
+/// Writes the beginning of a block, and zeros behind it.
+pub fn set_block<B: Blocks>(device: &mut B, index: u32, begin: &[u8]) {
+    let mut block = [0; 512];
+    if index < device.count() && begin.len() <= 512 {
+        block[..begin.len()].copy_from_slice(begin);
+        let _ = device.write_run(index, &block);
+    }
 }
 
 /// A formatted file in memory.

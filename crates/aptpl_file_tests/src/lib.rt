@@ -15,3 +15,5 @@ mod laws;
 mod refusals;
 #[cfg(test)]
 mod round_trip;
+#[cfg(test)]
+mod version_1;

@@ -1,7 +1,9 @@
 //! Files that are refused, and why.
-use crate::files::{Asked, formatted, registry_after, set_byte};
+use crate::files::{Asked, Sent, formatted, registry_after, set_byte};
 use aptpl_file::{OpenFault, RegFile};
 use block_file::MemBlocks;
+use scsi_types::{Group, NoMemory};
+use std::alloc::Global;
 use std::test::Fail;
 
 /// Bytes put into a file of two registrants, a and b, of which a holds a reservation of type 5 (slot 1 from block 34 on,
@@ -106,13 +108,33 @@ const ROWS: &[Row] = &[
         fault: NOT,
     },
     Row {
+        name: "a holder of a group that its entry has not",
+        puts: &[(34, 12, 2)],
+        fault: NOT,
+    },
+    Row {
+        name: "a holder without a group",
+        puts: &[(34, 12, 0)],
+        fault: NOT,
+    },
+    Row {
+        name: "a holder of group 3",
+        puts: &[(34, 12, 3)],
+        fault: NOT,
+    },
+    Row {
+        name: "type 7, and a holder's group",
+        puts: &[(34, 10, 7), (34, 11, 0xFF)],
+        fault: NOT,
+    },
+    Row {
         name: "type 5 without a holder",
         puts: &[(34, 11, 0xFF)],
         fault: NOT,
     },
     Row {
         name: "a slot with a stray byte",
-        puts: &[(34, 12, 1)],
+        puts: &[(34, 13, 1)],
         fault: NOT,
     },
     Row {
@@ -131,8 +153,8 @@ const ROWS: &[Row] = &[
         fault: NOT,
     },
     Row {
-        name: "group 3",
-        puts: &[(35, 9, 3)],
+        name: "group 4",
+        puts: &[(35, 9, 4)],
         fault: NOT,
     },
     Row {
@@ -162,27 +184,79 @@ const ROWS: &[Row] = &[
     },
 ];
 
+const A1: Sent = (b'a', Group::One, Asked::Register(0x11));
+
+const A2: Sent = (b'a', Group::Two, Asked::Register(0x22));
+
+const B1: Sent = (b'b', Group::One, Asked::Register(0x22));
+
+const A_RESERVES: Sent = (b'a', Group::One, Asked::Reserve(0x11, 5));
+
+/// Why a file with the record of these requests is refused, once these bytes are put into it.
+fn fault_of(
+    alloc: Global,
+    sent: &[Sent],
+    puts: &[(u32, usize, u8)],
+) -> Result<Option<OpenFault>, NoMemory> {
+    let Some(mut file) = formatted(alloc)? else {
+        return Ok(None);
+    };
+    let registry = registry_after(alloc, sent)?;
+    let _ = file.save(&registry.lasting());
+    let mut device = file.close();
+    for (index, at, value) in puts {
+        set_byte(&mut device, *index, *at, *value);
+    }
+    Ok(RegFile::open(alloc, device).err())
+}
+
 #[test]
 fn rows(rt: HostRuntime) -> Result<(), Fail> {
     let alloc = rt.alloc();
-    let requests = [
-        (b'a', Asked::Register(0x11)),
-        (b'b', Asked::Register(0x22)),
-        (b'a', Asked::Reserve(0x11, 5)),
-    ];
     for row in ROWS {
-        let Some(mut file) = formatted(alloc)? else {
-            panic!(rt; "{}", row.name)
-        };
-        let record = registry_after(alloc, &requests)?.record()?;
-        assert!(rt; file.save(&record.lasting()).is_ok(), "{}", row.name);
-        let mut device = file.close();
-        for (index, at, value) in row.puts {
-            set_byte(&mut device, *index, *at, *value);
-        }
-        let fault = RegFile::open(alloc, device).err();
+        let fault = fault_of(alloc, &[A1, B1, A_RESERVES], row.puts)?;
         assert_eq!(rt; fault, Some(row.fault), "{}", row.name);
     }
+    assert_eq!(rt; fault_of(alloc, &[A1, B1, A_RESERVES], &[])?, None);
+    Ok(())
+}
+
+/// The same of a file of one port: through group 1 with 11h, and through group 2 with 22h.
+const ROWS_OF_ONE_PORT: &[Row] = &[
+    Row {
+        name: "two entries of one key",
+        puts: &[(35, 256 + 7, 0x11)],
+        fault: NOT,
+    },
+    Row {
+        name: "an entry of both beside one of group 2",
+        puts: &[(35, 9, 3)],
+        fault: NOT,
+    },
+    Row {
+        name: "an entry of both beside one of group 2 and the same key",
+        puts: &[(35, 9, 3), (35, 256 + 7, 0x11)],
+        fault: NOT,
+    },
+];
+
+#[test]
+fn rows_of_one_port(rt: HostRuntime) -> Result<(), Fail> {
+    let alloc = rt.alloc();
+    for row in ROWS_OF_ONE_PORT {
+        let fault = fault_of(alloc, &[A1, A2], row.puts)?;
+        assert_eq!(rt; fault, Some(row.fault), "{}", row.name);
+    }
+    assert_eq!(rt; fault_of(alloc, &[A1, A2], &[])?, None);
+    assert_eq!(rt; fault_of(alloc, &[A1, A2], &[(0, 9, 1)])?, None);
+    let clean = &[(0, 9, 1), (35, 9, 3)];
+    assert_eq!(rt;
+        fault_of(alloc, &[A1], clean)?,
+        Some(NOT),
+        "group 3 in version 1"
+    );
+    let both = &[(35, 9, 3)];
+    assert_eq!(rt; fault_of(alloc, &[A1], both)?, None, "group 3 in version 2");
     Ok(())
 }
 

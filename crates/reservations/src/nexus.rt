@@ -83,7 +83,7 @@ impl Nexus {
     }
 
     /// The nexus of the same port through the other group. Takes no memory.
-    pub(crate) fn through_other(&self) -> Nexus
+    pub fn through_other(&self) -> Nexus
         ensures { result ≡ other_nexus self.now }
     {
         let mut other = self.copy();

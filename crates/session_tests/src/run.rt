@@ -115,13 +115,13 @@ fn cut_anywhere(rt: &impl Abort, alloc: Global, row: &Row<'_>) -> Result<(), Fai
 /// Serves a row, read so, and compares.
 pub fn run_reads(rt: &impl Abort, alloc: Global, row: &Row<'_>, reads: Calls) -> Result<(), Fail> {
     let ran = serve(alloc, &row.input, reads, WHOLE, row)?;
-    expect_end(rt, alloc, ran.end, row)?;
     assert_eq!(rt;
         ran.output.as_slice(),
         row.output.as_slice(),
         "{}, {reads:?}",
         row.name
     );
+    expect_end(rt, alloc, ran.end, row)?;
     for (asked, want) in ran.asked.iter().zip(&row.asked) {
         assert_eq!(rt; asked.as_str(), *want, "{}, {reads:?}", row.name);
     }
@@ -156,13 +156,13 @@ pub fn run_front(
     let want = row.output.get(..written).ok_or("so many bytes go out")?;
     let ran = serve(alloc, front, reads, writes, row)?;
     assert_eq!(rt;
-        (ran.end, ran.logins),
-        (end, logins),
+        ran.output.as_slice(),
+        want,
         "{came} bytes, {reads:?}, {writes:?}"
     );
     assert_eq!(rt;
-        ran.output.as_slice(),
-        want,
+        (ran.end, ran.logins),
+        (end, logins),
         "{came} bytes, {reads:?}, {writes:?}"
     );
     Ok(())

@@ -1,5 +1,6 @@
 use Rattle.std.proofs.Common.{rules, ⊎_elim, inl, inr, ◌+◌}
 use Rattle.aptpl_file.specs.declared.slot.Slot.TheVariants.{First}
+use Rattle.aptpl_file.specs.declared.version.FileVersion.TheVariants.{Version2}
 use Rattle.aptpl_file.specs.Format.{root_block}
 use Rattle.aptpl_file.specs.Formatting.{nothing}
 use Rattle.aptpl_file.proofs.Formats.{stops_in_format}
@@ -17,7 +18,7 @@ returns-in_default-save_root-clause-left g c = λ h. record {
         ⊎_elim (λ m. inl (c.in-Ok.ensures.crash h k value m)) (λ n. inr n)
         (c.in_default-save_root.ensures.crash h k value held),
     λ k value lt held.
-        slot_beside (g.B.Blocks.may_hold c.save_slot.new.device) (root_block First) First nothing (c.in-Ok.ensures.lasts h)
+        slot_beside (g.B.Blocks.may_hold c.save_slot.new.device) (root_block Version2 First) Version2 First nothing (c.in-Ok.ensures.lasts h)
         k value lt (c.in_default-save_root.ensures.crash h (1 + k) value held),
   );
 }

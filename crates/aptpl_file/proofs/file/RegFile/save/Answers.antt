@@ -5,13 +5,13 @@ use Rattle.aptpl_file.proofs.file.RegFile.save.Goals as goal
 
 pub returns-in_default-clause-stop : goal.returns-in_default-clause-stop
 returns-in_default-clause-stop g c = λ h m records lasts.
-    stop_old_root g.B.Blocks.moment g.B.Blocks.left_since g.B.Blocks.size g.B.Blocks.may_hold c.args.self.now.slot
+    stop_old_root g.B.Blocks.moment g.B.Blocks.left_since g.B.Blocks.size g.B.Blocks.may_hold c.args.self.now.version c.args.self.now.slot
     records c.args.saved.now c.args.self.now.device c.decide.new.self.device c.args.self.now.undecided lasts.blocks
     lasts.among (c.in_default.ensures.stop h m)
 
 pub returns-in_default-save_slot-clause-stop : goal.returns-in_default-save_slot-clause-stop
 returns-in_default-save_slot-clause-stop g c = λ h m records lasts.
-    until_slot g.B.Blocks.moment g.B.Blocks.left_since g.B.Blocks.size g.B.Blocks.may_hold c.args.self.now.slot records
+    until_slot g.B.Blocks.moment g.B.Blocks.left_since g.B.Blocks.size g.B.Blocks.may_hold c.args.self.now.version c.args.self.now.slot records
     c.args.saved.now c.args.self.now.device c.decide.new.self.device c.self.inside.device c.args.self.now.undecided
     c.other-idle.result lasts.blocks c.self.invariant (search rules) (search rules) lasts.among
     (c.in-Ok.ensures.crash h) (λ u. c.in-Ok.ensures.root h u) (c.in-Ok.ensures.stop h m) c.save_slot.new.device
@@ -22,7 +22,7 @@ returns-in_default-save_root-clause-stop g c = λ h m records lasts.
     let r : RecordValue =
     record { aptpl = c.aptpl-aptpl.result; registrants = c.registrants.result.now; reservation = c.reservation.result.now }
     in
-    until_root g.B.Blocks.moment g.B.Blocks.left_since g.B.Blocks.size g.B.Blocks.may_hold c.args.self.now.slot records
+    until_root g.B.Blocks.moment g.B.Blocks.left_since g.B.Blocks.size g.B.Blocks.may_hold c.args.self.now.version c.args.self.now.slot records
     c.args.saved.now c.args.self.now.device c.decide.new.self.device c.self.inside.device c.args.self.now.undecided
     c.other-idle.result lasts.blocks c.self.invariant (search rules) (search rules) lasts.among
     (c.in-Ok.ensures.crash h) (λ u. c.in-Ok.ensures.root h u) (c.in-Ok.ensures.stop h m) c.save_slot.new.device
@@ -35,7 +35,7 @@ returns-clause-stop g c = λ h m records lasts.
     let r : RecordValue =
     record { aptpl = c.aptpl-aptpl.result; registrants = c.registrants.result.now; reservation = c.reservation.result.now }
     in
-    until_root g.B.Blocks.moment g.B.Blocks.left_since g.B.Blocks.size g.B.Blocks.may_hold c.args.self.now.slot records
+    until_root g.B.Blocks.moment g.B.Blocks.left_since g.B.Blocks.size g.B.Blocks.may_hold c.args.self.now.version c.args.self.now.slot records
     c.args.saved.now c.args.self.now.device c.decide.new.self.device c.self.inside.device c.args.self.now.undecided
     c.other-idle.result lasts.blocks c.self.invariant (search rules) (search rules) lasts.among
     (c.in-Ok.ensures.crash h) (λ u. c.in-Ok.ensures.root h u) (c.in-Ok.ensures.stop h m) c.save_slot.new.device
