@@ -1,7 +1,7 @@
 #!/usr/bin/env python3
 """Each fault of the command line by a run of the program: what it prints on standard error, with which status it ends, and that
-it prints nothing else; then that lines of the console are answered, and that a disk has one server. Ends with status 1 where
-something is otherwise.
+it prints nothing else; then that lines of the console are answered, that a disk has one server, and that `quit` waits for no
+session and leaves the ports free at once. Ends with status 1 where something is otherwise.
 
 usage: bench/faults.py
 """
@@ -11,6 +11,8 @@ import socket
 import subprocess
 import sys
 import tempfile
+
+from initiator import Session
 
 TOP = os.path.dirname(os.path.dirname(os.path.abspath(__file__)))
 ARRAYD = os.environ.get("ARRAYD", os.path.join(TOP, "crates", "arrayd", "out", "arrayd"))
@@ -57,6 +59,25 @@ def make(name, size):
         file.truncate(size)
 
 
+def start():
+    words = [ARRAYD, "--port", str(PORT), "disk"]
+    array = subprocess.Popen(words, stdin=subprocess.PIPE, stdout=subprocess.PIPE, text=True)
+    array.stdout.readline()
+    return array
+
+
+def quit_beside_a_session():
+    """Twice at the same ports, a session of each controller open."""
+    sessions = []
+    for _ in range(2):
+        array = start()
+        for controller in (0, 1):
+            sessions.append(Session("127.0.0.1", PORT + 4 * controller, "iqn.2000-01.test:array"))
+            sessions[-1].ready(0)
+        array.communicate("quit\n", timeout=20)
+        expect("quit with sessions open", array.returncode, 0)
+
+
 def main():
     with tempfile.TemporaryDirectory() as folder:
         os.chdir(folder)
@@ -73,12 +94,12 @@ def main():
         status = "unit 0 owner 1 states 0 1 generation 0 keys 0 type 0 entries 0\n"
         expect("the console", run(words, "x\nstatus\nquit\nstatus\n"), (0, "arrayd: ready\n?\n" + status, ""))
         expect("a last line without its end", run(words, "status"), (0, "arrayd: ready\n" + status, ""))
-        first = subprocess.Popen([ARRAYD, "--port", str(PORT), "disk"], stdin=subprocess.PIPE, stdout=subprocess.PIPE, text=True)
-        first.stdout.readline()
+        first = start()
         refused(["--port", str(PORT + 8), "disk"], "cannot use unit 0")
         first.communicate("quit\n")
         expect("quit", first.returncode, 0)
-    print(f"{len(ROWS) + len(TAKEN)} faults, the console, and one server a disk, as they should be")
+        quit_beside_a_session()
+    print(f"{len(ROWS) + len(TAKEN)} faults, the console, one server a disk, and quit, as they should be")
 
 
 if __name__ == "__main__":

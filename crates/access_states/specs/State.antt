@@ -41,21 +41,34 @@ status_code (Some Implicit) = 2
 abbrev pub is_served : AccessState → Op → Bool
 is_served ActiveOptimized op = true
 is_served ActiveNonOptimized op = true
-is_served Standby ops.Inquiry = true
-is_served Standby ops.ReportLuns = true
+is_served Standby ops.TestUnitReady = false
 is_served Standby ops.RequestSense = true
+is_served Standby ops.Inquiry = true
 is_served Standby ops.ModeSense = true
+is_served Standby ops.ReadCapacity = false
+is_served Standby ops.Read = false
+is_served Standby ops.Write = false
+is_served Standby ops.CompareAndWrite = false
+is_served Standby ops.SynchronizeCache = false
 is_served Standby ops.PersistentReserveIn = true
 is_served Standby ops.PersistentReserveOut = true
+is_served Standby ops.ReportLuns = true
 is_served Standby ops.ReportTargetPortGroups = true
 is_served Standby ops.SetTargetPortGroups = true
-is_served Standby op = false
-is_served Unavailable ops.Inquiry = true
-is_served Unavailable ops.ReportLuns = true
+is_served Unavailable ops.TestUnitReady = false
 is_served Unavailable ops.RequestSense = true
+is_served Unavailable ops.Inquiry = true
+is_served Unavailable ops.ModeSense = false
+is_served Unavailable ops.ReadCapacity = false
+is_served Unavailable ops.Read = false
+is_served Unavailable ops.Write = false
+is_served Unavailable ops.CompareAndWrite = false
+is_served Unavailable ops.SynchronizeCache = false
+is_served Unavailable ops.PersistentReserveIn = false
+is_served Unavailable ops.PersistentReserveOut = false
+is_served Unavailable ops.ReportLuns = true
 is_served Unavailable ops.ReportTargetPortGroups = true
 is_served Unavailable ops.SetTargetPortGroups = true
-is_served Unavailable op = false
 
 -- how a command that is not served is refused
 abbrev pub not_accessible : AccessState → Option Sense

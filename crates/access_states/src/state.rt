@@ -105,23 +105,42 @@ pub fn permits(state: AccessState, op: Op) -> Option<Sense>
 fn is_served_in_standby(op: Op) -> bool
     ensures { result ≡ is_served AccessState.Standby op }
 {
-    is_served_anywhere(op)
-        || matches!(
-            op,
-            Op::ModeSense | Op::PersistentReserveIn | Op::PersistentReserveOut
-        )
+    match op {
+        Op::RequestSense
+        | Op::Inquiry
+        | Op::ModeSense
+        | Op::PersistentReserveIn
+        | Op::PersistentReserveOut
+        | Op::ReportLuns
+        | Op::ReportTargetPortGroups
+        | Op::SetTargetPortGroups => true,
+        Op::TestUnitReady
+        | Op::ReadCapacity
+        | Op::Read
+        | Op::Write
+        | Op::CompareAndWrite
+        | Op::SynchronizeCache => false,
+    }
 }
 
 // Whether every group serves the command, also one that is unavailable.
 fn is_served_anywhere(op: Op) -> bool
     ensures { result ≡ is_served AccessState.Unavailable op }
 {
-    matches!(
-        op,
-        Op::Inquiry
-            | Op::ReportLuns
-            | Op::RequestSense
-            | Op::ReportTargetPortGroups
-            | Op::SetTargetPortGroups
-    )
+    match op {
+        Op::RequestSense
+        | Op::Inquiry
+        | Op::ReportLuns
+        | Op::ReportTargetPortGroups
+        | Op::SetTargetPortGroups => true,
+        Op::TestUnitReady
+        | Op::ModeSense
+        | Op::ReadCapacity
+        | Op::Read
+        | Op::Write
+        | Op::CompareAndWrite
+        | Op::SynchronizeCache
+        | Op::PersistentReserveIn
+        | Op::PersistentReserveOut => false,
+    }
 }

@@ -1,5 +1,6 @@
 //! The lines by which a person, or the program that started the array, asks it something.
 
+use scsi_types::Group;
 use std::alloc::Global;
 use std::fmt::{self, Display, Formatter};
 use std::io::{self, BufRead, Write};
@@ -37,6 +38,10 @@ pub trait Array {
     /// What is to be told of this unit, where there is one.
     fn status(&mut self, unit: u8) -> Option<UnitStatus>;
 
+    /// Takes a controller down, unit by unit: the other one owns them then. The first unit that does not move is told; those
+    /// behind it stay.
+    fn down(&mut self, controller: Group) -> Result<(), usize>;
+
     /// Makes all that each unit holds last, as far as it can.
     fn flush(&mut self);
 }
@@ -50,6 +55,14 @@ fn say_status<W: Write, A: Array>(writer: &mut W, array: &mut A) -> io::Result<(
         writeln!(writer, "{status}")?;
     }
     Ok(())
+}
+
+// Writes what became of a controller that was to go down.
+fn say_down<W: Write>(writer: &mut W, end: Result<(), usize>) -> io::Result<()> {
+    match end {
+        Ok(()) => writeln!(writer, "down"),
+        Err(unit) => writeln!(writer, "not moved {unit}"),
+    }
 }
 
 /// Obeys lines until `quit`, the end of the input, or a failure of either; then flushes the units.
@@ -66,6 +79,8 @@ pub fn console<I: BufRead + Drop, W: Write, A: Array>(
         let said = match line.as_str() {
             "quit" => break,
             "status" => say_status(writer, array),
+            "down 1" => say_down(writer, array.down(Group::One)),
+            "down 2" => say_down(writer, array.down(Group::Two)),
             _ => writeln!(writer, "?"),
         };
         if said.is_err() {

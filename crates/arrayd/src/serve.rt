@@ -8,8 +8,9 @@ use crate::fault::Fault;
 use crate::portals::{self, Portal, Ports};
 use crate::words::{MAX_UNITS, Options};
 use block_file::{Blocks, Opener};
+use failover::take_down;
 use numbering::Array as Naming;
-use portal::{Open, Server, TargetDevice, listen};
+use portal::{Open, Server, SmallStacks, TargetDevice, listen};
 use scsi_types::Group;
 use std::alloc::Global;
 use std::io;
@@ -21,9 +22,9 @@ use unit_history::{NewUnit, Opened, Pass, Units};
 
 /// The array as its console sees it.
 #[derive(Drop)]
-struct Watched<'a, R: Wait, B: Blocks, F: Blocks, O: Opener<B>, N: Naming<Opened>> {
-    rt: &'a R,
-    units: &'a Units<B, F, O, N>,
+pub struct Watched<'a, R: Wait, B: Blocks, F: Blocks, O: Opener<B>, N: Naming<Opened>> {
+    pub rt: &'a R,
+    pub units: &'a Units<B, F, O, N>,
 }
 
 impl<R: Wait, B: Blocks, F: Blocks, O: Opener<B>, N: Naming<Opened>> Array
@@ -43,6 +44,14 @@ impl<R: Wait, B: Blocks, F: Blocks, O: Opener<B>, N: Naming<Opened>> Array
             kind: row.kind,
             entries: row.entries,
         })
+    }
+
+    fn down(&mut self, controller: Group) -> Result<(), usize> {
+        let (_moves, end) = take_down(self.rt, self.units, controller);
+        match end {
+            Ok(()) => Ok(()),
+            Err(stopped) => Err(stopped.unit),
+        }
     }
 
     fn flush(&mut self) {
@@ -90,8 +99,8 @@ pub fn serve_units<
         return Err(Fault::NoMemory);
     };
     for Portal { listener, group } in portals {
-        let loops = listen::<R, Units<B, F, O, N>, Open, Pass<B, F, O, N>>(
-            rt, alloc, listener, &server, group,
+        let loops = listen::<R, Units<B, F, O, N>, Open, Pass<B, F, O, N>, SmallStacks>(
+            rt, alloc, listener, &server, group, SmallStacks,
         );
         let Ok(loops) = loops else {
             return Err(Fault::NoMemory);

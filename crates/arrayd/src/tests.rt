@@ -1,2 +1,3 @@
 mod command_line;
+mod down;
 mod lines;

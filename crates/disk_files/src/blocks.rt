@@ -92,8 +92,9 @@ impl<F: FileExt + OpenFile + Seek + Drop> FileBlocks<F> {
         &self.file
     }
 
-    /// Takes a handle that was opened anew, of a file of the same length.
-    pub(crate) fn renew(&mut self, mut file: F) -> Result<(), DeviceFailed>
+    /// Takes a handle through which the same file was opened anew, as the other controller's opener does. Its length has
+    /// to be the same: else the old handle stays. The counts of failures go over, and that a flush failed.
+    pub fn renew(&mut self, mut file: F) -> Result<(), DeviceFailed>
         ensures ok { OnOk result (IsSameDisk self.old self.new) }
         ensures err { OnErr result (self.new ≡ self.old) }
     {
@@ -167,14 +168,30 @@ impl<F: FileExt + OpenFile + Seek + Drop> Blocks for FileBlocks<F> {
         self.count
     }
 
-    fn read_run(&mut self, first: u32, bytes: &mut [u8]) -> Result<(), DeviceFailed> {
+    fn read_run(&mut self, first: u32, bytes: &mut [u8]) -> Result<(), DeviceFailed>
+        requires { IsRun self.old.count first (length bytes.old) }
+        ensures size { self.new.count ≡ self.old.count }
+        ensures failures { Counts (all_failures self.old) (all_failures self.new) result }
+        ensures failed_reads { Counts (min self.old.failed_reads last_count) (min self.new.failed_reads last_count)
+            result }
+        ensures failed_writes { self.new.failed_writes ≡ self.old.failed_writes }
+        ensures lost { self.new.is_lost ≡ self.old.is_lost }
+    {
         match self.file.read_exact_at(bytes, at(first)) {
             Ok(()) => Ok(()),
             Err(_) => failed(&mut self.failed_reads),
         }
     }
 
-    fn write_run(&mut self, first: u32, bytes: &[u8]) -> Result<(), DeviceFailed> {
+    fn write_run(&mut self, first: u32, bytes: &[u8]) -> Result<(), DeviceFailed>
+        requires { IsRun self.old.count first (length bytes.now) }
+        ensures size { self.new.count ≡ self.old.count }
+        ensures failures { Counts (all_failures self.old) (all_failures self.new) result }
+        ensures failed_reads { self.new.failed_reads ≡ self.old.failed_reads }
+        ensures failed_writes { Counts (min self.old.failed_writes last_count) (min self.new.failed_writes last_count)
+            result }
+        ensures lost { self.new.is_lost ≡ self.old.is_lost }
+    {
         // A write behind the end would make the file longer, with zeros in place of what was there.
         if !ends_at(&mut self.file, self.count) {
             return failed(&mut self.failed_writes);

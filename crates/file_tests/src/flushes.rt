@@ -8,11 +8,20 @@ use std::io::{ErrorKind, Seek, SeekFrom};
 use std::os::unix::fs::FileExt;
 use std::test::Fail;
 
-/// A file of four blocks, of which one flush fails, counted from 0.
+/// A file of four blocks, of which one flush fails, counted from 0, or none.
 #[derive(Drop)]
 struct Flushed {
     flushes: Cell<u32>,
-    fails_at: u32,
+    fails_at: Option<u32>,
+}
+
+impl Flushed {
+    fn new(fails_at: Option<u32>) -> Flushed {
+        Flushed {
+            flushes: Cell::new(0),
+            fails_at,
+        }
+    }
 }
 
 impl FileExt for Flushed {
@@ -47,7 +56,7 @@ impl OpenFile for Flushed {
     fn sync_data(&self) -> io::Result<()> {
         let before = self.flushes.get();
         self.flushes.set(before.wrapping_add(1));
-        if before == self.fails_at {
+        if self.fails_at == Some(before) {
             Err(io::Error::from(ErrorKind::Other))
         } else {
             Ok(())
@@ -57,11 +66,7 @@ impl OpenFile for Flushed {
 
 #[test]
 fn no_flush_makes_good_one_that_failed(rt: HostRuntime) -> Result<(), Fail> {
-    let file = Flushed {
-        flushes: Cell::new(0),
-        fails_at: 1,
-    };
-    let Ok(mut device) = FileBlocks::of(file) else {
+    let Ok(mut device) = FileBlocks::of(Flushed::new(Some(1))) else {
         panic!(rt; "no device")
     };
     assert_eq!(rt; device.count(), 4);
@@ -69,5 +74,21 @@ fn no_flush_makes_good_one_that_failed(rt: HostRuntime) -> Result<(), Fail> {
     assert!(rt; device.flush().is_err());
     assert!(rt; device.flush().is_err());
     assert!(rt; device.flush().is_err());
+    Ok(())
+}
+
+// The flushes of the new handle would all be done.
+#[test]
+fn nor_does_one_behind_an_open(rt: HostRuntime) -> Result<(), Fail> {
+    for (fails_at, is_done) in [(None, true), (Some(0), false)] {
+        let Ok(mut device) = FileBlocks::of(Flushed::new(fails_at)) else {
+            panic!(rt; "no device")
+        };
+        assert_eq!(rt; device.flush().is_ok(), is_done, "{fails_at:?}");
+        for _ in 0..2 {
+            assert!(rt; device.renew(Flushed::new(None)).is_ok());
+            assert_eq!(rt; device.flush().is_ok(), is_done, "{fails_at:?}");
+        }
+    }
     Ok(())
 }

@@ -5,6 +5,7 @@ ghost use Rattle.portal.specs.Server.{named_by};
 use crate::connection::Connection;
 use crate::device::TargetDevice;
 use crate::gate::Gate;
+use crate::stacks::{STACK, Stacks};
 use crate::units::{LogicalUnits, Pass};
 use crate::worker::serve_session;
 use scsi_types::{Group, NoMemory};
@@ -23,9 +24,6 @@ const LOGIN_SILENCE: u64 = 30;
 
 /// So many milliseconds an accept loop rests where no connection could be accepted.
 const REST: u64 = 100;
-
-/// What the stack of a worker takes.
-const STACK: usize = 256 * 1024;
 
 /// What a connection is to the table of sessions: its socket, of which it has a share.
 pub type Socket = Arc<TcpStream, Global>;
@@ -119,12 +117,14 @@ fn start<
     U: LogicalUnits<P> + Drop + Send + Sync + 'static,
     G: Gate + Drop + Send + Sync + 'static,
     P: Pass + Send + 'static,
+    S: Stacks,
 >(
     rt: &R,
     alloc: Global,
     server: &Arc<Server<U, G>, Global>,
     group: Group,
     stream: TcpStream,
+    stacks: &mut S,
 ) -> io::Result<()> {
     let socket = Arc::new(alloc, stream)?;
     let server = Arc::try_clone(server)?;
@@ -133,22 +133,32 @@ fn start<
         let _ = serve_socket::<R, U, G, P>(&mine, alloc, &server, group, &socket);
         socket.shut();
     };
-    let _worker: JoinHandle<()> = Builder::new().stack_size(STACK).spawn(rt, work)?;
+    let _worker: JoinHandle<()> = Builder::new()
+        .stack_size(stacks.next_stack())
+        .spawn(rt, work)?;
     Ok(())
 }
 
 /// Accepts connections by a portal of a group, a worker each, until the portal is stopped. An accept that fails for want of a
-/// descriptor, or by a peer that went away, is no end.
+/// descriptor, or by a peer that went away, is no end; nor is a connection for which there is no thread, which is closed.
 pub fn accept<
     R: Threads + Wait + Clock + Clone + Drop + Send + 'static,
     U: LogicalUnits<P> + Drop + Send + Sync + 'static,
     G: Gate + Drop + Send + Sync + 'static,
     P: Pass + Send + 'static,
->(rt: &R, alloc: Global, listener: &TcpListener, server: &Arc<Server<U, G>, Global>, group: Group) {
+    S: Stacks,
+>(
+    rt: &R,
+    alloc: Global,
+    listener: &TcpListener,
+    server: &Arc<Server<U, G>, Global>,
+    group: Group,
+    stacks: &mut S,
+) {
     for stream in listener.incoming() {
         match stream {
             Ok(stream) => {
-                let _ = start::<R, U, G, P>(rt, alloc, server, group, stream);
+                let _ = start::<R, U, G, P, S>(rt, alloc, server, group, stream, stacks);
             }
             Err(e) => match e.kind() {
                 ErrorKind::InvalidInput => return,
@@ -159,22 +169,27 @@ pub fn accept<
     }
 }
 
-/// Starts the accept loop of a portal of a group in a thread of its own.
+/// Starts the accept loop of a portal of a group in a thread of its own. The workers of its connections have these stacks.
 pub fn listen<
     R: Threads + Wait + Clock + Clone + Drop + Send + 'static,
     U: LogicalUnits<P> + Drop + Send + Sync + 'static,
     G: Gate + Drop + Send + Sync + 'static,
     P: Pass + Send + 'static,
+    S: Stacks + Drop + Send + 'static,
 >(
     rt: &R,
     alloc: Global,
     listener: TcpListener,
     server: &Arc<Server<U, G>, Global>,
     group: Group,
+    stacks: S,
 ) -> io::Result<JoinHandle<()>> {
     let server = Arc::try_clone(server)?;
     let mine = rt.clone()?;
-    let work = move || accept::<R, U, G, P>(&mine, alloc, &listener, &server, group);
+    let mut stacks = stacks;
+    let work = move || {
+        accept::<R, U, G, P, S>(&mine, alloc, &listener, &server, group, &mut stacks)
+    };
     Builder::new().stack_size(STACK).spawn(rt, work)
 }
 

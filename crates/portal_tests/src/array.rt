@@ -4,6 +4,7 @@ ghost use Rattle.unit_history.specs.Naming.{IsNamed};
 
 use crate::host::Host;
 use crate::latch::Latch;
+use crate::no_room::NoRoom;
 use crate::stage::Stage;
 use crate::units::two;
 use block_file::{Blocks, Opener};
@@ -20,11 +21,13 @@ use std::thread::{JoinHandle, Threads};
 use std::time::Clock;
 use unit_history::{NewUnit, Opened, Pass, Units};
 
-/// What the hosts of an array do, and where it listens: at this address, and at these ports of its two controllers.
+/// What the hosts of an array do, and where it listens: at this address, and at these ports of its two controllers. So many
+/// connections to each find no thread.
 #[derive(Clone, Copy, Debug)]
 pub struct Script<'a> {
     pub host: Ipv4Addr,
     pub ports: [u16; 2],
+    pub refused: u32,
     pub text: &'a str,
 }
 
@@ -34,6 +37,7 @@ impl<'a> Script<'a> {
         Script {
             host: Ipv4Addr::new(127, 0, 0, 1),
             ports: [0, 0],
+            refused: 0,
             text,
         }
     }
@@ -72,10 +76,11 @@ fn serve<
     listener: TcpListener,
     server: &Arc<Server<Units<B, F, O, N>, Latch<R>>, Global>,
     group: Group,
+    stacks: NoRoom,
 ) -> Result<Served, Fail> {
     let stop = Stop::of(&listener)?;
-    let worker = listen::<R, Units<B, F, O, N>, Latch<R>, Pass<B, F, O, N>>(
-        rt, alloc, listener, server, group,
+    let worker = listen::<R, Units<B, F, O, N>, Latch<R>, Pass<B, F, O, N>, NoRoom>(
+        rt, alloc, listener, server, group, stacks,
     )?;
     Ok(Served { stop, worker })
 }
@@ -92,7 +97,8 @@ fn found_at(portal: SocketAddrV4) -> SocketAddrV4 {
     SocketAddrV4::new(Ipv4Addr::new(127, 0, 0, 1), portal.port())
 }
 
-/// Serves these units while hosts perform a script: the ports, and the hosts, whose sessions may still be open.
+/// Serves these units, whose devices may hang at this latch, while hosts perform a script: the ports, and the hosts, whose
+/// sessions may still be open.
 pub fn perform<
     N: Naming<Opened> + Send + Sync + 'static,
     B: Blocks + Drop + Send + Sync + 'static,
@@ -112,6 +118,7 @@ pub fn perform<
     rt: &R,
     alloc: Global,
     new: Vec<NewUnit<B, F, O>>,
+    disk: &Latch<R>,
     script: &Script<'_>,
 ) -> Result<([u16; 2], Vec<Host>), Fail>
     requires named { IsNamed N.book N.table N.opening B.contents new.items }
@@ -129,10 +136,13 @@ pub fn perform<
     let Ok(server) = Arc::new(alloc, server) else {
         return Err("no memory".into());
     };
-    let first = serve::<N, B, F, O, R>(rt, alloc, first, &server, Group::One)?;
-    let second = serve::<N, B, F, O, R>(rt, alloc, second, &server, Group::Two)?;
+    let stacks = NoRoom {
+        refused: script.refused,
+    };
+    let first = serve::<N, B, F, O, R>(rt, alloc, first, &server, Group::One, stacks)?;
+    let second = serve::<N, B, F, O, R>(rt, alloc, second, &server, Group::Two, stacks)?;
     let portals = [found_at(first_at), found_at(second_at)];
-    let mut stage = Stage::new(rt, alloc, &server.device.gate, portals);
+    let mut stage = Stage::new(rt, alloc, &server.device.gate, disk, portals);
     stage.perform(script.text)?;
     end(rt, first)?;
     end(rt, second)?;
@@ -152,7 +162,10 @@ pub fn run<
         + Sync
         + 'static,
 >(rt: &R, alloc: Global, script: &Script<'_>) -> Result<(), Fail> {
-    let units = two(alloc)?;
-    let _ended = perform::<Brand, _, _, _, R>(rt, alloc, units, script)?;
+    let Ok(disk) = Arc::new(alloc, Latch::open(rt.clone()?)) else {
+        return Err("no memory".into());
+    };
+    let units = two(alloc, &disk)?;
+    let _ended = perform::<Brand, _, _, _, R>(rt, alloc, units, &disk, script)?;
     Ok(())
 }

@@ -2,6 +2,7 @@
 ghost use Rattle.std.specs.Prelude.{◌≡◌, ◌≤◌, length};
 ghost use Rattle.unit_history.specs.Naming.{IsNamed};
 
+use crate::latch::Latch;
 use crate::units::two;
 use block_file::{Blocks, Opener};
 use login::Kind;
@@ -12,7 +13,7 @@ use session::{BeginAnswer, ResetAnswer, Target, TargetAnswer};
 use std::alloc::Global;
 use std::marker::Brand;
 use std::process::Abort;
-use std::sync::Wait;
+use std::sync::{Arc, Wait};
 use std::test::*;
 use unit_history::{NewUnit, Opened, Pass, Units};
 
@@ -99,6 +100,9 @@ fn begin_twice<N: Naming<Opened>, B: Blocks, F: Blocks, O: Opener<B>, R: Wait + 
 
 #[test]
 fn the_older_session_is_gone(rt: HostRuntime) -> Result<(), Fail> {
-    let units = two(rt.alloc())?;
+    let Ok(disk) = Arc::new(rt.alloc(), Latch::open(rt)) else {
+        return Err("no memory".into());
+    };
+    let units = two(rt.alloc(), &disk)?;
     begin_twice::<Brand, _, _, _, HostRuntime>(&rt, rt.alloc(), units)
 }

@@ -1,4 +1,4 @@
-//! A unit that does not answer.
+//! A unit that does not answer, or whose device does not.
 use crate::array::{Script, run};
 use std::test::*;
 
@@ -32,6 +32,35 @@ A < GOOD
 "#;
 
 #[test]
-fn a_unit_that_hangs_holds_no_other(rt: HostRuntime) -> Result<(), Fail> {
+fn a_command_that_waits_before_its_unit_holds_no_other(rt: HostRuntime) -> Result<(), Fail> {
     run(&rt, rt.alloc(), &Script::new(HELD))
+}
+
+// A's write hangs in the device of unit 0; meanwhile B is served by unit 1.
+const STUCK: &str = r#"
+A at 1
+A > LOGIN 7:56 HOST_A
+A < LOGGED_IN 7:36 WELCOME
+A > TEST_UNIT_READY
+A < CHECK_CONDITION 0012 70000600000000 0A00000000 2900 00000000
+B at 2
+B > LOGIN 7:56 HOST_B
+B < LOGGED_IN 7:36 15:02 WELCOME_2
+B > TEST_UNIT_READY 9:01
+B < CHECK_CONDITION 0012 70000600000000 0A00000000 2900 00000000
+disk hold 0
+A > WRITE 5:000200 pattern 512
+disk held 1
+B > WRITE 9:01 5:000200 pattern 512
+B < GOOD
+B > TEST_UNIT_READY 1:C1 9:01 20:00000200 32:28000000000500000100
+B < DATA_IN 5:000200 pattern 512
+B < GOOD 36:00000001
+disk open
+A < GOOD
+"#;
+
+#[test]
+fn a_device_that_hangs_holds_no_other_unit(rt: HostRuntime) -> Result<(), Fail> {
+    run(&rt, rt.alloc(), &Script::new(STUCK))
 }

@@ -1,15 +1,15 @@
-//! A gate that holds the commands of a unit.
+//! A latch that holds what comes to a unit: its commands before they reach it, or the writes of its device.
 use portal::Gate;
 use std::sync::{Condvar, Mutex, Wait};
 
-/// What a latch does, and how many commands it holds.
+/// What a latch does, and how many calls it holds.
 #[derive(Drop)]
 struct Holding {
     unit: Option<u8>,
     held: u32,
 }
 
-/// A gate that is open, or holds the commands of one unit before they reach it.
+/// A latch that is open, or holds the calls of one unit.
 #[derive(Drop)]
 pub struct Latch<R: Wait + Drop> {
     rt: R,
@@ -31,7 +31,7 @@ impl<R: Wait + Drop> Latch<R> {
         }
     }
 
-    /// From now on it holds the commands of this unit; or it lets all pass that it held.
+    /// From now on it holds the calls of this unit; or it lets all pass that it held.
     pub fn hold(&self, unit: Option<u8>) {
         let mut holding = self.holding.lock(&self.rt);
         holding.unit = unit;
@@ -40,17 +40,16 @@ impl<R: Wait + Drop> Latch<R> {
         self.changed.notify_all();
     }
 
-    /// Waits until it holds so many commands.
+    /// Waits until it holds so many calls.
     pub fn await_held(&self, count: u32) {
         let holding = self.holding.lock(&self.rt);
         let _ = self
             .changed
             .wait_while(&self.rt, holding, |h| h.held < count);
     }
-}
 
-impl<R: Wait + Drop> Gate for Latch<R> {
-    fn pass(&self, unit: u8, _serial: u64) {
+    /// Waits here as long as it holds the calls of this unit.
+    pub fn wait_at(&self, unit: u8) {
         let mut holding = self.holding.lock(&self.rt);
         if holding.unit == Some(unit) {
             holding.held = holding.held.saturating_add(1);
@@ -59,5 +58,11 @@ impl<R: Wait + Drop> Gate for Latch<R> {
                 .changed
                 .wait_while(&self.rt, holding, |h| h.unit == Some(unit));
         }
+    }
+}
+
+impl<R: Wait + Drop> Gate for Latch<R> {
+    fn pass(&self, unit: u8, _serial: u64) {
+        self.wait_at(unit);
     }
 }

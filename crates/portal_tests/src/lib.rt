@@ -13,6 +13,8 @@ mod gone;
 #[cfg(test)]
 mod hanging;
 #[cfg(test)]
+mod held;
+#[cfg(test)]
 mod host;
 #[cfg(test)]
 mod latch;
@@ -21,8 +23,12 @@ mod logins;
 #[cfg(test)]
 mod medium;
 #[cfg(test)]
+mod no_room;
+#[cfg(test)]
 mod restart;
 #[cfg(test)]
 mod stage;
 #[cfg(test)]
 mod units;
+#[cfg(test)]
+mod wanting;

@@ -1,5 +1,6 @@
 //! An array over a file that is ended while a session is open, and started again at the same ports.
 use crate::array::{Script, perform};
+use crate::latch::Latch;
 use crate::units::over_file;
 use std::fs::File;
 use std::marker::Brand;
@@ -38,14 +39,16 @@ B < GOOD 36:00000001
 #[test]
 fn registrations_are_there_after_a_restart(rt: HostRuntime) -> Result<(), Fail> {
     let alloc = rt.alloc();
-    let disk = format!(in alloc; "/tmp/arrayd_{}_restart", process::id(rt.process()))?;
-    let path = disk.as_str();
+    let name = format!(in alloc; "/tmp/arrayd_{}_restart", process::id(rt.process()))?;
+    let path = name.as_str();
     File::create(&rt, path)?.set_len(8192)?;
+    let disk = Latch::open(rt);
     let (units, lock) = over_file(&rt, alloc, path)?;
     let (ports, hosts) = perform::<Brand, _, _, _, HostRuntime>(
         &rt,
         alloc,
         units,
+        &disk,
         &Script::new(BEFORE),
     )?;
     drop(lock);
@@ -54,7 +57,7 @@ fn registrations_are_there_after_a_restart(rt: HostRuntime) -> Result<(), Fail> 
         ports,
         ..Script::new(AFTER)
     };
-    let _ended = perform::<Brand, _, _, _, HostRuntime>(&rt, alloc, units, &again)?;
+    let _ended = perform::<Brand, _, _, _, HostRuntime>(&rt, alloc, units, &disk, &again)?;
     drop(hosts);
     fs::remove_file(&rt, path)?;
     fs::remove_file(&rt, format!(in alloc; "{path}.reg")?.as_str())?;

@@ -8,7 +8,8 @@
 //! - `AB race PDU / PDU`: of two answers one comes to each; `WON` is the name of the one to whom the first came, in small;
 //! - `64 enter 1 PDU`: so many connections to the portal of controller 1 log in by this PDU, each with another ISID, and
 //!   `all leave PDU`: each of them sends this, is answered by a Logout Response, and the target closes the connection;
-//! - `gate hold 1`: from now on commands of unit 1 wait before it; `gate held 2`: once two of them wait; `gate open`.
+//! - `gate hold 1`: from now on commands of unit 1 wait before it; `gate held 2`: once two of them wait; `gate open`; `disk`
+//!   in place of `gate`: the writes of its device wait.
 use crate::host::{Host, is_text, put};
 use crate::latch::Latch;
 use std::alloc::{AllocError, Global};
@@ -24,6 +25,7 @@ pub struct Stage<'a, R: Wait + Drop> {
     rt: &'a R,
     alloc: Global,
     gate: &'a Latch<R>,
+    disk: &'a Latch<R>,
     portals: [SocketAddrV4; 2],
     names: Vec<&'a str>,
     // In the order of their names.
@@ -72,17 +74,19 @@ fn number_of(word: &str) -> Result<u32, Fail> {
 }
 
 impl<'a, R: Wait + Abort + Net<Listener = TcpListener, Stream = TcpStream> + Drop> Stage<'a, R> {
-    /// A stage before the portals of an array with this gate.
+    /// A stage before the portals of an array with this gate, whose devices hang at this latch.
     pub fn new(
         rt: &'a R,
         alloc: Global,
         gate: &'a Latch<R>,
+        disk: &'a Latch<R>,
         portals: [SocketAddrV4; 2],
     ) -> Stage<'a, R> {
         Stage {
             rt,
             alloc,
             gate,
+            disk,
             portals,
             names: Vec::new(alloc),
             hosts: Vec::new(alloc),
@@ -124,19 +128,24 @@ impl<'a, R: Wait + Abort + Net<Listener = TcpListener, Stream = TcpStream> + Dro
             "enter" => self.enter(number_of(who)?, rest),
             "leave" => self.leave(rest),
             "hold" => {
-                self.gate.hold(Some(unit_of(rest)?));
+                self.latch(who).hold(Some(unit_of(rest)?));
                 Ok(())
             }
             "held" => {
-                self.gate.await_held(number_of(rest)?);
+                self.latch(who).await_held(number_of(rest)?);
                 Ok(())
             }
             "open" => {
-                self.gate.hold(None);
+                self.latch(who).hold(None);
                 Ok(())
             }
             _ => Err("a verb".into()),
         }
+    }
+
+    // The latch of this name.
+    fn latch(&self, name: &str) -> &Latch<R> {
+        if name == "disk" { self.disk } else { self.gate }
     }
 
     // What this line spells.

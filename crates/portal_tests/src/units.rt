@@ -2,6 +2,8 @@
 ghost use Rattle.std.specs.Prelude.{◌≡◌, ◌≤◌, IfOk, length};
 ghost use Rattle.unit_state.specs.Serials.{IsOpening};
 
+use crate::held::HeldBlocks;
+use crate::latch::Latch;
 use aptpl_file::{FILE_BLOCKS, RegFile};
 use block_file::{KeepOpener, MemBlocks};
 use disk_files::{DiskLock, FileBlocks, FileOpener, open_disk, open_registrations};
@@ -10,6 +12,7 @@ use scsi_types::Place;
 use std::alloc::Global;
 use std::fs::File;
 use std::rt::Files;
+use std::sync::{Arc, Wait};
 use std::test::Fail;
 use unit_history::NewUnit;
 use unit_state::{Unit, laws};
@@ -17,20 +20,28 @@ use unit_state::{Unit, laws};
 /// So many blocks a unit in memory has.
 const BLOCKS: u32 = 2048;
 
-/// A unit in memory.
-pub type MemUnit = NewUnit<MemBlocks, MemBlocks, KeepOpener>;
+/// A unit in memory, whose device may hang.
+pub type HeldUnit<R> = NewUnit<HeldBlocks<MemBlocks, R>, MemBlocks, KeepOpener>;
 
 /// A unit over a file, with its registration file.
 pub type FileUnit<R> = NewUnit<FileBlocks<File>, FileBlocks<File>, FileOpener<R>>;
 
-// A unit of zeros, which holds no registrations.
-fn in_memory(alloc: Global, unit: u8) -> Result<MemUnit, Fail> {
+// A unit of zeros, which holds no registrations, and whose device hangs at this latch.
+fn in_memory<R: Wait + Drop>(
+    alloc: Global,
+    unit: u8,
+    latch: &Arc<Latch<R>, Global>,
+) -> Result<HeldUnit<R>, Fail> {
     let place = Place {
         unit,
         units: 2,
         array: 1,
     };
-    let blocks = MemBlocks::new(alloc, BLOCKS)?;
+    let blocks = HeldBlocks {
+        inner: MemBlocks::new(alloc, BLOCKS)?,
+        unit,
+        latch: Arc::try_clone(latch)?,
+    };
     let Ok(file) = RegFile::format(MemBlocks::new(alloc, FILE_BLOCKS)?) else {
         return Err("a registration file".into());
     };
@@ -39,13 +50,16 @@ fn in_memory(alloc: Global, unit: u8) -> Result<MemUnit, Fail> {
     Ok(NewUnit::new(alloc, unit)?)
 }
 
-/// Units 0 and 1, in memory.
-pub fn two(alloc: Global) -> Result<Vec<MemUnit>, Fail>
+/// Units 0 and 1, in memory, whose devices hang at this latch.
+pub fn two<R: Wait + Drop>(
+    alloc: Global,
+    latch: &Arc<Latch<R>, Global>,
+) -> Result<Vec<HeldUnit<R>>, Fail>
     ensures { IfOk result (λ v. length v.items ≤ 8) }
 {
     let mut units = Vec::new(alloc);
-    units.push(in_memory(alloc, 0)?)?;
-    units.push(in_memory(alloc, 1)?)?;
+    units.push(in_memory(alloc, 0, latch)?)?;
+    units.push(in_memory(alloc, 1, latch)?)?;
     Ok(units)
 }
 

@@ -46,7 +46,7 @@ kept_found p q (y ∷ ys) x is keeps =
     ⊎_elim (λ (k : q y ≡ true). rw k (rw f rest)) (λ (k : q y ≡ false). rw k rest) (cases_Bool (q y)))
     (cases_Bool (p y))
 
-some_of : (o : Option Registrant) → is_some (option_map (λ (x : Registrant). x.key) o) ≡ is_some o
+pub some_of : (o : Option Registrant) → is_some (option_map (λ (x : Registrant). x.key) o) ≡ is_some o
 some_of None = refl
 some_of (Some x) = refl
 

@@ -1,4 +1,5 @@
 pub mod Appended
+pub mod EachPort
 pub mod EveryRow
 pub mod Hearing
 pub mod Held

@@ -8,7 +8,7 @@ use Rattle.scsi_types.specs.declared.names.Group.{Group}
 use Rattle.scsi_types.specs.declared.names.Group.TheVariants.{One, Two}
 use Rattle.reservations.specs.declared.registrant.Registrant.{Registrant}
 use Rattle.reservations.specs.Nexus.{other_group, other_nexus, same_group, same_nexus}
-use Rattle.reservations.specs.Registry.{IsAscending, is_registered, most_registrants, registered_by}
+use Rattle.reservations.specs.Registry.{IsAscending, is_registered, registered_by}
 use Rattle.reservations.specs.Rows.{has_room_for, ports_with}
 use Rattle.reservations.proofs.Held.{registered_beside}
 use Rattle.reservations.proofs.Listed.{ascending_registered, length_registered, missing}

@@ -1,5 +1,5 @@
 -- Who is told what (SPC-4, 5.13.11): the unit attention condition that each registrant but the sender gets.
-use Rattle.std.specs.Prelude.{ℕ, nat_eq, if◌then◌else◌, List, [], Option, Some, None}
+use Rattle.std.specs.Prelude.{nat_eq, if◌then◌else◌, List, [], Option, Some, None}
 use Rattle.std.specs.List.{filter_map, find}
 use Rattle.std.specs.Option.{option_map}
 use Rattle.scsi_types.specs.Nexus.{Nexus}

@@ -4,7 +4,7 @@ use Rattle.std.specs.Prelude.{replicate, Option, Some, None}
 use Rattle.std.specs.List.{flat_map}
 use Rattle.std.specs.Option.{unwrap_or}
 use Rattle.byteorder.specs.Endian.{big_bytes}
-use Rattle.scsi_types.specs.Nexus.{Port, Nexus}
+use Rattle.scsi_types.specs.Nexus.{Port}
 use Rattle.scsi_types.specs.declared.names.Group.{Group}
 use Rattle.scsi_types.specs.declared.names.Group.TheVariants.{One, Two}
 use Rattle.reservations.specs.declared.registrant.Registrant.{Registrant}

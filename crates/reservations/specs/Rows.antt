@@ -138,6 +138,14 @@ is_port_in r n = is_registered r.registrants n || is_registered r.registrants (o
 abbrev pub is_port_holder : RegistryValue → Nexus → Bool
 is_port_holder r n = is_sole_holder r.reservation n || is_sole_holder r.reservation (other_nexus n)
 
+-- the registration of the sender's nexus alone
+abbrev pub of_one_nexus : PrOut → PrOut
+of_one_nexus q = record q { all_tg_pt = false }
+
+-- REGISTER AND IGNORE EXISTING KEY of the same key, for one nexus
+abbrev pub ignoring_key : PrOut → PrOut
+ignoring_key q = record q { action = RegisterAndIgnoreExistingKey; all_tg_pt = false }
+
 -- ---- the words of the effects
 
 -- GOOD, with the registry afterwards and who is told what; or a refusal, after which the registry is as it was
@@ -146,6 +154,10 @@ pub data Effect : Type 0 where
   Conflicting : Effect
   Refused : ℕ → ℕ → Effect
   Full : Effect
+
+-- GOOD, with this registry afterwards
+abbrev pub Leaves : Effect → RegistryValue → Type 0
+Leaves e new = (told : List Told) × (e ≡ Done new told)
 
 -- the reservation of the request's type, made by the nexus
 abbrev pub asked_for : Nexus → PrOut → Option Reservation

@@ -16,6 +16,7 @@ pub mod Right
 pub mod Rows
 pub mod Running
 pub mod Segments
+pub mod ShortLogins
 pub mod ShortTranscripts
 pub mod Steps
 pub mod Table

@@ -30,7 +30,7 @@ use Rattle.session.specs.DataIn.{IsSegment}
 use Rattle.session.specs.Legal.{Lawful, IsWindow}
 use Rattle.session.specs.Counters.{Counters, begun, after_status, after_number, after_r2t, after_collecting}
 use Rattle.session.specs.MachineTurn.{TurnOf, TurnOnAccepted, calls, asks}
-use Rattle.session.specs.Examples.{example, unit_0, numbers_with, out, ping_pdu, ping, pong, read_header, three_bytes, read, the_data_in, the_response, write_header, write, the_r2t, turned_away, leave, wrong_pdu, reject, the_reject}
+use Rattle.session.specs.Examples.{example, unit_0, numbers_with, out, ping_pdu, ping, pong, read_header, three_bytes, read, the_data_in, the_response, unanswered, write_header, write, the_r2t, turned_away, leave, wrong_pdu, reject, the_reject}
 use Rattle.session.proofs.Lawful.{at_each_none, Stands, stands_none, stands_more}
 
 -- ---- one turn that the session makes is lawful
@@ -204,6 +204,20 @@ module _ (cdb : List ℕ) (unit : Option ℕ) (asked : Result Command CdbFault) 
 
   pub read_is : (unit ≡ Some 0) × (bytes ≡ []) × (h ≡ the_data_in) × (d ≡ three_bytes) × (r ≡ the_response) × (e ≡ [])
   read_is = (read_call.0, read_call.1, read_header_is, read_data, read_response.0, read_response.1)
+
+no_response : (h : DataInHeader) (d : List ℕ) (r : ResponseHeader) (front : List Out) (e : List ℕ)
+    → out (DataIn h) d ∷ [] ≡ front ++ out (ScsiResponse r) e ∷ [] → ⊥
+no_response h d r [] e f =
+    let one : out (DataIn h) d ≡ out (ScsiResponse r) e = one_out (out (DataIn h) d) (out (ScsiResponse r) e) f in
+    let g : DataIn h ≡ ScsiResponse r = ap (λ (o : Out). o.header) one in cc
+no_response h d r (x ∷ []) e f = absurd (cc)
+no_response h d r (x ∷ (y ∷ front)) e f = absurd (cc)
+
+pub not_unanswered : (cdb : List ℕ) (unit : Option ℕ) (asked : Result Command CdbFault) (bytes : List ℕ) (h : DataInHeader)
+    (d : List ℕ) → Lawful example (unanswered cdb unit asked bytes h d ∷ []) → ⊥
+not_unanswered cdb unit asked bytes h d l =
+    let one = l.answered [] (unanswered cdb unit asked bytes h d) [] refl in
+    no_response h d one.last one.front one.segment one.own_is
 
 -- ---- a write that waits for its data
 

@@ -10,19 +10,24 @@ use Rattle.iscsi_pdu.specs.declared.header.Header.{Header}
 use Rattle.iscsi_pdu.specs.declared.header.Header.TheVariants.{Initiator}
 use Rattle.iscsi_pdu.specs.declared.header.InitiatorHeader.TheVariants.{NopOut, ScsiCommand, DataOut, LogoutRequest}
 use Rattle.iscsi_pdu.specs.declared.header.TargetHeader.{TargetHeader}
-use Rattle.iscsi_pdu.specs.declared.header.TargetHeader.TheVariants.{NopIn, ScsiResponse, DataIn, LogoutResponse, R2t, Reject}
+use Rattle.iscsi_pdu.specs.declared.header.TargetHeader.TheVariants.{NopIn, ScsiResponse, LoginResponse, DataIn, LogoutResponse, R2t, Reject}
 use Rattle.iscsi_pdu.specs.declared.header.ScsiCommand.{ScsiCommand as CommandHeader}
 use Rattle.iscsi_pdu.specs.declared.header.DataOut.{DataOut as DataOutHeader}
 use Rattle.iscsi_pdu.specs.declared.header.DataIn.{DataIn as DataInHeader}
 use Rattle.iscsi_pdu.specs.declared.header.ScsiResponse.{ScsiResponse as ResponseHeader}
 use Rattle.iscsi_pdu.specs.declared.header.R2t.{R2t as R2tHeader}
 use Rattle.login.specs.declared.status.Kind.TheVariants.{Normal}
+use Rattle.login.specs.declared.status.LoginStatus.TheVariants.{InvalidDuringLogin}
+use Rattle.session.specs.declared.login_phase.LoginOutcome.{LoginOutcome}
+use Rattle.session.specs.declared.login_phase.LoginOutcome.TheVariants.{Refused}
 use Rattle.session.specs.declared.target.TargetAnswer.TheVariants.{Replied}
 use Rattle.session.specs.declared.verdict.Verdict.{Verdict}
 use Rattle.session.specs.declared.verdict.Verdict.TheVariants.{Accepted}
 use Rattle.session.specs.Asking.{Asking, served}
 use Rattle.session.specs.Codes.{no_transfer_tag}
 use Rattle.session.specs.Lengths.{default_lengths}
+use Rattle.session.specs.LoginPhase.{LoginTurn}
+use Rattle.session.specs.Phases.{Transcript}
 use Rattle.session.specs.Setting.{Setting}
 use Rattle.session.specs.Turn.{Incoming, pdu, Out, Turn}
 
@@ -116,6 +121,15 @@ the_response = record {
   residual = 1;
 }
 
+-- the same with no SCSI Response behind its data
+abbrev pub unanswered : List ℕ → Option ℕ → Result Command CdbFault → List ℕ → DataInHeader → List ℕ → Turn
+unanswered cdb unit asked bytes h d = record {
+  came = pdu [] (Initiator (ScsiCommand (read_header cdb))) [];
+  verdict = Accepted;
+  call = Some (served unit asked bytes (Replied (good three_bytes)));
+  sent = out (DataIn h) d ∷ [];
+}
+
 -- ---- a write of four bytes, none of which come with it
 
 abbrev pub write_header : List ℕ → CommandHeader
@@ -195,3 +209,28 @@ the_reject bhs = out (Reject (record {
   reason = 5;
   numbers = record { stat_sn = 3; exp_cmd_sn = 7; max_cmd_sn = 38 };
 })) bhs ∷ []
+
+-- ---- a NOP-Out that comes before the login is over
+
+abbrev pub ping_in_login : Option Asking → LoginOutcome → List Out → LoginTurn
+ping_in_login call outcome outs = record { came = ping_pdu; call = call; outcome = outcome; sent = outs }
+
+abbrev pub login_of : List LoginTurn → Transcript
+login_of ls = record { logins = ls; turns = [] }
+
+abbrev pub the_refusal : List Out
+the_refusal = out (LoginResponse (record {
+  transit = false;
+  continues = false;
+  current_stage = 0;
+  next_stage = 0;
+  isid = 0 ∷ 0 ∷ 0 ∷ 0 ∷ 0 ∷ 0 ∷ [];
+  tsih = 0;
+  task_tag = 5;
+  numbers = record { stat_sn = 1; exp_cmd_sn = 0; max_cmd_sn = 31 };
+  status_class = 0x02;
+  status_detail = 0x0B;
+})) [] ∷ []
+
+abbrev pub turned_away_in_login : LoginTurn
+turned_away_in_login = ping_in_login None (Refused InvalidDuringLogin) the_refusal

@@ -73,7 +73,14 @@ flags_of p = record {
 
 abbrev pub progress_after : Progress → Incoming → Progress
 progress_after s (pdu b (Initiator (LoginRequest p)) d) = after s (flags_of p) d
-progress_after s came = s
+progress_after s (pdu b (Initiator (NopOut p)) d) = s
+progress_after s (pdu b (Initiator (ScsiCommand p)) d) = s
+progress_after s (pdu b (Initiator (TaskManagementRequest p)) d) = s
+progress_after s (pdu b (Initiator (TextRequest p)) d) = s
+progress_after s (pdu b (Initiator (DataOut p)) d) = s
+progress_after s (pdu b (Initiator (LogoutRequest p)) d) = s
+progress_after s (pdu b (Target h) d) = s
+progress_after s (faulty f b) = s
 
 abbrev pub progress_behind : Progress → List LoginTurn → Progress
 progress_behind s [] = s
@@ -81,7 +88,14 @@ progress_behind s (l ∷ ls) = progress_behind (progress_after s l.came) ls
 
 abbrev pub cmd_sn_in : Incoming → Option ℕ
 cmd_sn_in (pdu b (Initiator (LoginRequest p)) d) = Some p.numbers.cmd_sn
-cmd_sn_in came = None
+cmd_sn_in (pdu b (Initiator (NopOut p)) d) = None
+cmd_sn_in (pdu b (Initiator (ScsiCommand p)) d) = None
+cmd_sn_in (pdu b (Initiator (TaskManagementRequest p)) d) = None
+cmd_sn_in (pdu b (Initiator (TextRequest p)) d) = None
+cmd_sn_in (pdu b (Initiator (DataOut p)) d) = None
+cmd_sn_in (pdu b (Initiator (LogoutRequest p)) d) = None
+cmd_sn_in (pdu b (Target h) d) = None
+cmd_sn_in (faulty f b) = None
 
 abbrev pub first_cmd_sn : List LoginTurn → Option ℕ
 first_cmd_sn [] = None
@@ -136,9 +150,17 @@ IsNegotiated s p d (Stopped stops.NamesSession) call o =
     (answer : Bool) × (call ≡ Some (lives p.tsih (port_of p (s.unfinished ++ d)) answer)) × (o ≡ outcome_of_lives answer)
 
 -- what comes in a login: another PDU of an initiator is refused; one of a target, and a fault, has a Reject
+abbrev pub IsTurnedAway : Option Asking → LoginOutcome → Type 0
+IsTurnedAway call o = (call ≡ None) × (o ≡ Refused InvalidDuringLogin)
+
 abbrev pub HasOutcome : Progress → Incoming → Option Asking → LoginOutcome → Type 0
 HasOutcome s (pdu b (Initiator (LoginRequest p)) d) call o = IsNegotiated s p d (answer_to s (flags_of p) d) call o
-HasOutcome s (pdu b (Initiator h) d) call o = (call ≡ None) × (o ≡ Refused InvalidDuringLogin)
+HasOutcome s (pdu b (Initiator (NopOut p)) d) call o = IsTurnedAway call o
+HasOutcome s (pdu b (Initiator (ScsiCommand p)) d) call o = IsTurnedAway call o
+HasOutcome s (pdu b (Initiator (TaskManagementRequest p)) d) call o = IsTurnedAway call o
+HasOutcome s (pdu b (Initiator (TextRequest p)) d) call o = IsTurnedAway call o
+HasOutcome s (pdu b (Initiator (DataOut p)) d) call o = IsTurnedAway call o
+HasOutcome s (pdu b (Initiator (LogoutRequest p)) d) call o = IsTurnedAway call o
 HasOutcome s (pdu b (Target h) d) call o = (call ≡ None) × (o ≡ Rejected command_not_supported)
 HasOutcome s (faulty f b) call o = (call ≡ None) × (o ≡ Rejected (reason_of f))
 
@@ -179,19 +201,18 @@ refused_header n task_tag stage isid tsih status = LoginResponse (record {
   status_detail = (code_of status).detail;
 })
 
-abbrev pub task_tag_of : InitiatorHeader → ℕ
-task_tag_of (NopOut p) = p.task_tag
-task_tag_of (ScsiCommand p) = p.task_tag
-task_tag_of (TaskManagementRequest p) = p.task_tag
-task_tag_of (LoginRequest p) = p.task_tag
-task_tag_of (TextRequest p) = p.task_tag
-task_tag_of (DataOut p) = p.task_tag
-task_tag_of (LogoutRequest p) = p.task_tag
+abbrev pub bare_header : Numbers → ℕ → LoginStatus → TargetHeader
+bare_header n task_tag status = refused_header n task_tag 0 (replicate 6 0) 0 status
 
 -- a refusal of a request has its stage, its ISID and its TSIH; that of another PDU has none of them
 abbrev pub refusal_of : Numbers → InitiatorHeader → LoginStatus → TargetHeader
 refusal_of n (LoginRequest p) status = refused_header n p.task_tag p.current_stage p.isid p.tsih status
-refusal_of n h status = refused_header n (task_tag_of h) 0 (replicate 6 0) 0 status
+refusal_of n (NopOut p) status = bare_header n p.task_tag status
+refusal_of n (ScsiCommand p) status = bare_header n p.task_tag status
+refusal_of n (TaskManagementRequest p) status = bare_header n p.task_tag status
+refusal_of n (TextRequest p) status = bare_header n p.task_tag status
+refusal_of n (DataOut p) status = bare_header n p.task_tag status
+refusal_of n (LogoutRequest p) status = bare_header n p.task_tag status
 
 abbrev pub out : TargetHeader → List ℕ → List Out
 out header bytes = record { header = header; bytes = bytes } ∷ []
@@ -206,7 +227,24 @@ login_outs n s (pdu b (Initiator (LoginRequest p)) d) (Begun tsih) =
 login_outs n s (pdu b (Initiator h) d) (Refused status) = out (refusal_of n h status) []
 login_outs n s (pdu b h d) (Rejected reason) = out (Reject (record { reason = reason; numbers = n })) b
 login_outs n s (faulty f b) (Rejected reason) = out (Reject (record { reason = reason; numbers = n })) b
-login_outs n s came o = []
+login_outs n s (pdu b (Initiator (NopOut p)) d) GoesOn = []
+login_outs n s (pdu b (Initiator (NopOut p)) d) (Begun tsih) = []
+login_outs n s (pdu b (Initiator (ScsiCommand p)) d) GoesOn = []
+login_outs n s (pdu b (Initiator (ScsiCommand p)) d) (Begun tsih) = []
+login_outs n s (pdu b (Initiator (TaskManagementRequest p)) d) GoesOn = []
+login_outs n s (pdu b (Initiator (TaskManagementRequest p)) d) (Begun tsih) = []
+login_outs n s (pdu b (Initiator (TextRequest p)) d) GoesOn = []
+login_outs n s (pdu b (Initiator (TextRequest p)) d) (Begun tsih) = []
+login_outs n s (pdu b (Initiator (DataOut p)) d) GoesOn = []
+login_outs n s (pdu b (Initiator (DataOut p)) d) (Begun tsih) = []
+login_outs n s (pdu b (Initiator (LogoutRequest p)) d) GoesOn = []
+login_outs n s (pdu b (Initiator (LogoutRequest p)) d) (Begun tsih) = []
+login_outs n s (pdu b (Target h) d) GoesOn = []
+login_outs n s (pdu b (Target h) d) (Begun tsih) = []
+login_outs n s (pdu b (Target h) d) (Refused status) = []
+login_outs n s (faulty f b) GoesOn = []
+login_outs n s (faulty f b) (Begun tsih) = []
+login_outs n s (faulty f b) (Refused status) = []
 
 -- a turn of a login, where this stands behind the turns before it
 pub record IsLoginTurn (v : LoginStanding) (l : LoginTurn) : Type 0 where

@@ -14,7 +14,14 @@ ghost use Rattle.session.specs.Asking.{Asking};
 ghost use Rattle.session.specs.Turn.{Out, Turn};
 ghost use Rattle.session.specs.Slots.{IsAskedBy};
 ghost use Rattle.session.specs.Legal.{Lawful};
+ghost use Rattle.session.specs.LoginPhase.{LoginTurn};
+ghost use Rattle.session.specs.Phases.{IsLawful};
+ghost use Rattle.session.specs.declared.identity.Identity.{Identity};
+ghost use Rattle.session.specs.declared.login_phase.LoginOutcome.{LoginOutcome};
+ghost use Rattle.session.specs.declared.opening.Opening.{Opening};
+ghost use Rattle.login.specs.declared.status.LoginStatus.TheVariants.{InvalidDuringLogin};
 ghost use Rattle.session.specs.Examples.{example, numbers_with, ping, pong, read_header, three_bytes, read, the_data_in};
+ghost use Rattle.session.specs.Examples.{unanswered, ping_in_login, login_of, the_refusal, turned_away_in_login};
 ghost use Rattle.session.specs.Examples.{the_response, write_header, write, the_r2t, turned_away, leave, reject, the_reject};
 
 /// A NOP-Out that comes in its turn: it is accepted, the target is asked nothing, and one NOP-In goes out, with this LUN, tag,
@@ -28,7 +35,7 @@ pub fn a_nop_out_has_one_legal_answer()
 
 /// A read of four bytes that its target answers with three, of GOOD: it was asked of the unit of its LUN, with no data; one
 /// Data-In has the three bytes, and the SCSI Response tells GOOD, one Data-In and an underflow of one. Any other unit, data,
-/// offset, DataSN, flag, tag, number, residual, status or sense is illegal.
+/// offset, DataSN, flag, tag, number, residual, status or sense is illegal, and so is the data without a response behind it.
 pub fn a_read_has_one_legal_answer()
     ensures legal { (cdb : List ℕ) (asked : Result Command CdbFault) → IsAskedBy (read_header cdb) asked
         → Lawful example (read cdb (Some 0) asked [] the_data_in three_bytes the_response [] ∷ []) }
@@ -36,6 +43,8 @@ pub fn a_read_has_one_legal_answer()
         (h : DataInHeader) (d : List ℕ) (r : ResponseHeader) (e : List ℕ)
         → Lawful example (read cdb unit asked bytes h d r e ∷ [])
         → (unit ≡ Some 0) × (bytes ≡ []) × (h ≡ the_data_in) × (d ≡ three_bytes) × (r ≡ the_response) × (e ≡ []) }
+    ensures answered { (cdb : List ℕ) (unit : Option ℕ) (asked : Result Command CdbFault) (bytes : List ℕ)
+        (h : DataInHeader) (d : List ℕ) → Lawful example (unanswered cdb unit asked bytes h d ∷ []) → ⊥ }
 {}
 
 /// A write of four bytes that come without any: one R2T asks for the four. Any other offset, length, R2TSN, LUN, tag, number or
@@ -64,4 +73,18 @@ pub fn a_pdu_of_a_target_has_one_legal_answer()
 pub fn nothing_comes_behind_a_logout()
     ensures legal { Lawful example (leave ∷ []) }
     ensures last { (t : Turn) → Lawful example (leave ∷ (t ∷ [])) → ⊥ }
+{}
+
+/// A NOP-Out that comes before the login is over: the target is asked nothing, and one Login Response refuses the login with
+/// status 020B; nothing comes behind it. Any other call, outcome or PDU is illegal.
+pub fn a_nop_out_in_a_login_has_one_legal_answer()
+    ensures legal { (units : ℕ) (me : Identity) (tag : ℕ)
+        → IsLawful units me (Opening.Login tag) (login_of (turned_away_in_login ∷ [])) }
+    ensures no_other { (units : ℕ) (me : Identity) (tag : ℕ) (call : Option Asking) (outcome : LoginOutcome)
+        (outs : List Out) → IsLawful units me (Opening.Login tag) (login_of (ping_in_login call outcome outs ∷ []))
+        → (call ≡ None) × (outcome ≡ LoginOutcome.Refused InvalidDuringLogin) × (outs ≡ the_refusal) }
+    ensures last { (units : ℕ) (me : Identity) (tag : ℕ) (l : LoginTurn)
+        → IsLawful units me (Opening.Login tag) (login_of (turned_away_in_login ∷ (l ∷ []))) → ⊥ }
+    ensures first { (units : ℕ) (me : Identity) (tag : ℕ) (t : Turn)
+        → IsLawful units me (Opening.Login tag) (record { logins = turned_away_in_login ∷ []; turns = t ∷ [] }) → ⊥ }
 {}

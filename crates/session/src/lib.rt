@@ -54,8 +54,9 @@ pub use actions::{
 };
 pub use end::End;
 pub use examples::{
-    a_nop_out_has_one_legal_answer, a_pdu_of_a_target_has_one_legal_answer,
-    a_read_has_one_legal_answer, a_write_has_one_legal_r2t, nothing_comes_behind_a_logout,
+    a_nop_out_has_one_legal_answer, a_nop_out_in_a_login_has_one_legal_answer,
+    a_pdu_of_a_target_has_one_legal_answer, a_read_has_one_legal_answer, a_write_has_one_legal_r2t,
+    nothing_comes_behind_a_logout,
 };
 pub use identity::Identity;
 pub use laws::{

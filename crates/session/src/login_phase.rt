@@ -1,5 +1,5 @@
 //! The login phase of a session (RFC 7143, 6.3): what each PDU comes to, and its one answer.
-ghost use Rattle.std.specs.Prelude.{◌≡◌, ℕ, ◌+◌, ◌≤◌, List, [], length, replicate, vec_capacity, IfOk, Bool, Option};
+ghost use Rattle.std.specs.Prelude.{◌≡◌, ℕ, ◌+◌, ◌≤◌, List, [], length, vec_capacity, IfOk, Bool, Option};
 ghost use Rattle.std.specs.Option.{option_or, unwrap_or};
 ghost use Rattle.byteorder.specs.Endian.{big_number};
 ghost use Rattle.iscsi_pdu.specs.declared.TheConstants.{MAX_DATA_SEGMENT_LENGTH};
@@ -14,8 +14,8 @@ ghost use Rattle.session.specs.Standing.{numbers_for};
 ghost use Rattle.session.specs.AnswerPdus.{AreInReach};
 ghost use Rattle.session.specs.LoginPhase.{flags_of, login_standing, login_after, login_numbers, cmd_sn_in};
 ghost use Rattle.session.specs.LoginPhase.{port_of, outcome_of_begin, outcome_of_lives, IsNegotiated, HasOutcome};
-ghost use Rattle.session.specs.LoginPhase.{progress_after, out, passed_header, refused_header, refusal_of};
-ghost use Rattle.session.specs.LoginPhase.{task_tag_of, login_outs, login_end, begins, IsStart};
+ghost use Rattle.session.specs.LoginPhase.{progress_after, out, passed_header, refusal_of};
+ghost use Rattle.session.specs.LoginPhase.{bare_header, login_outs, login_end, begins, IsStart};
 ghost use Rattle.session.specs.LoginMachine.{HasText, IsTextOf};
 ghost use Rattle.session.specs.Machine.{sent_by};
 ghost use Rattle.session.specs.Stream.{IsLed};
@@ -249,7 +249,13 @@ pub fn login_cmd_sn(header: &Header) -> Option<u32>
 {
     match header {
         Header::Initiator(InitiatorHeader::LoginRequest(request)) => Some(request.numbers.cmd_sn),
-        _ => None,
+        Header::Initiator(InitiatorHeader::NopOut(_))
+        | Header::Initiator(InitiatorHeader::ScsiCommand(_))
+        | Header::Initiator(InitiatorHeader::TaskManagementRequest(_))
+        | Header::Initiator(InitiatorHeader::TextRequest(_))
+        | Header::Initiator(InitiatorHeader::DataOut(_))
+        | Header::Initiator(InitiatorHeader::LogoutRequest(_))
+        | Header::Target(_) => None,
     }
 }
 
@@ -277,7 +283,21 @@ pub fn login_pdus<'a>(
         (LoginOutcome::Begun(tsih), Header::Initiator(InitiatorHeader::LoginRequest(request))) => {
             response(passed(numbers, request, tsih), text)
         }
-        _ => Pdus::Nothing,
+        (LoginOutcome::GoesOn, Header::Initiator(InitiatorHeader::NopOut(_)))
+        | (LoginOutcome::Begun(_), Header::Initiator(InitiatorHeader::NopOut(_)))
+        | (LoginOutcome::GoesOn, Header::Initiator(InitiatorHeader::ScsiCommand(_)))
+        | (LoginOutcome::Begun(_), Header::Initiator(InitiatorHeader::ScsiCommand(_)))
+        | (LoginOutcome::GoesOn, Header::Initiator(InitiatorHeader::TaskManagementRequest(_)))
+        | (LoginOutcome::Begun(_), Header::Initiator(InitiatorHeader::TaskManagementRequest(_)))
+        | (LoginOutcome::GoesOn, Header::Initiator(InitiatorHeader::TextRequest(_)))
+        | (LoginOutcome::Begun(_), Header::Initiator(InitiatorHeader::TextRequest(_)))
+        | (LoginOutcome::GoesOn, Header::Initiator(InitiatorHeader::DataOut(_)))
+        | (LoginOutcome::Begun(_), Header::Initiator(InitiatorHeader::DataOut(_)))
+        | (LoginOutcome::GoesOn, Header::Initiator(InitiatorHeader::LogoutRequest(_)))
+        | (LoginOutcome::Begun(_), Header::Initiator(InitiatorHeader::LogoutRequest(_)))
+        | (LoginOutcome::GoesOn, Header::Target(_))
+        | (LoginOutcome::Begun(_), Header::Target(_))
+        | (LoginOutcome::Refused(_), Header::Target(_)) => Pdus::Nothing,
     }
 }
 
@@ -337,7 +357,7 @@ fn refusal_of(numbers: Numbers, header: &InitiatorHeader, status: LoginStatus) -
 
 // A refusal with neither stage, ISID nor TSIH.
 fn bare(numbers: Numbers, task_tag: u32, status: LoginStatus) -> LoginResponse
-    ensures { TargetHeader.LoginResponse result ≡ refused_header numbers task_tag 0 (replicate 6 0) 0 status }
+    ensures { TargetHeader.LoginResponse result ≡ bare_header numbers task_tag status }
 {
     LoginResponse {
         transit: false,

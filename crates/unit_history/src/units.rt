@@ -204,6 +204,22 @@ impl<B: Blocks, R: Blocks, O: Opener<B>, N: Array<Opened>> Units<B, R, O, N> {
         self.at(place).move_to(rt, list)
     }
 
+    /// Two sessions of one unit have then seen what either had: one legal history. It waits for nobody, as
+    /// [`crate::SharedUnit::meet`].
+    pub fn meet(
+        &self,
+        one: Pass<B, R, O, N>,
+        two: Pass<B, R, O, N>,
+    ) -> (Pass<B, R, O, N>, Pass<B, R, O, N>)
+        requires place { one.place < self.now }
+        requires unit { two.place ≡ one.place }
+        ensures places { (result.0.place ≡ one.place) × (result.1.place ≡ one.place) }
+        ensures met { HaveMet (O.claims && B.claims) (N.opening one.place) one.pass two.pass result.0.pass result.1.pass }
+    {
+        let place = one.place();
+        self.at(place).meet(one, two)
+    }
+
     /// Makes what was written to the unit at a place last, as [`crate::SharedUnit::flush`].
     pub fn flush<W: Wait>(&self, rt: &W, place: usize) -> Result<(), DeviceFailed>
         requires { place < self.now }

@@ -19,12 +19,13 @@ use Rattle.scsi_types.specs.Sense.{saving_parameters_not_supported, parameter_li
 use Rattle.scsi_types.specs.declared.attention.UnitAttention.{UnitAttention}
 use Rattle.scsi_types.specs.declared.command.Op.{Op}
 use Rattle.scsi_types.specs.declared.command.Command.{Command}
-use Rattle.scsi_types.specs.declared.command.Command.TheVariants.{ModeSense}
+use Rattle.scsi_types.specs.declared.command.Command.TheVariants as commands
 use Rattle.scsi_types.specs.declared.sense.Sense.{Sense}
 use Rattle.scsi_types.specs.declared.command.CdbFault.{CdbFault}
 use Rattle.scsi_types.specs.declared.command.CdbFault.TheVariants.{UnknownOpcode, BadField}
 use Rattle.unit_state.specs.declared.refusal.Refusal.{Refusal}
-use Rattle.scsi_types.specs.declared.pages.PageControl.TheVariants.{Saved}
+use Rattle.scsi_types.specs.declared.pages.PageControl.{PageControl}
+use Rattle.scsi_types.specs.declared.pages.PageControl.TheVariants.{Current, Changeable, Default, Saved}
 use Rattle.unit_state.specs.declared.refusal.Refusal.TheVariants.{Attention, Conflict, Check}
 use Rattle.unit_state.specs.State.{ControlValue}
 use Rattle.unit_state.specs.Sessions.{first_pending, sender_of, told}
@@ -114,9 +115,32 @@ abbrev pub field_rule : Rule
 field_rule c r = field_by r.asked r.bytes
 
 -- saved values of mode pages: none are saved (SPC-4, 6.13.1)
+abbrev pub is_saved : PageControl → Bool
+is_saved Current = false
+is_saved Changeable = false
+is_saved Default = false
+is_saved Saved = true
+
+abbrev pub wants_saved : Command → Bool
+wants_saved commands.TestUnitReady = false
+wants_saved (commands.RequestSense allocation) = false
+wants_saved (commands.Inquiry page allocation) = false
+wants_saved (commands.ModeSense header control page allocation) = is_saved control
+wants_saved commands.ReadCapacity10 = false
+wants_saved (commands.ReadCapacity16 allocation) = false
+wants_saved (commands.Read lba blocks fua) = false
+wants_saved (commands.Write lba blocks fua) = false
+wants_saved (commands.CompareAndWrite lba blocks fua) = false
+wants_saved (commands.SynchronizeCache lba blocks) = false
+wants_saved (commands.PersistentReserveIn action allocation) = false
+wants_saved (commands.PersistentReserveOut action scope kind list_length) = false
+wants_saved (commands.ReportLuns select allocation) = false
+wants_saved (commands.ReportTargetPortGroups allocation) = false
+wants_saved (commands.SetTargetPortGroups list_length) = false
+
 abbrev pub asks_saved : Result Command CdbFault → Bool
-asks_saved (Ok (ModeSense header Saved page allocation)) = true
-asks_saved asked = false
+asks_saved (Ok command) = wants_saved command
+asks_saved (Err fault) = false
 
 abbrev pub saved_rule : Rule
 saved_rule c r = if asks_saved r.asked then Some (Check saving_parameters_not_supported) else None

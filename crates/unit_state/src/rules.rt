@@ -7,7 +7,7 @@ ghost use Rattle.unit_state.specs.Places.{IsPlaceOf};
 ghost use Rattle.unit_state.specs.Groups.{set_by};
 ghost use Rattle.unit_state.specs.Refusal.{access_by, attention_by, conflict_by, field_by, groups_list_by};
 ghost use Rattle.unit_state.specs.Refusal.{is_let, list_by};
-ghost use Rattle.unit_state.specs.Refusal.{asks_saved, opcode_by, outside, range_by, refusal, request};
+ghost use Rattle.unit_state.specs.Refusal.{asks_saved, is_saved, opcode_by, outside, range_by, refusal, request};
 ghost use Rattle.unit_state.specs.Refusal.{reserve_list_by};
 ghost use Rattle.unit_state.specs.Refusal.{state_for};
 ghost use Rattle.scsi_types.specs.Sense.{saving_parameters_not_supported};
@@ -149,13 +149,32 @@ fn saved(asked: &Asked) -> Option<Refusal>
     ensures { result ≡ (if asks_saved asked.now then Some (Refusal.Check saving_parameters_not_supported) else None) }
 {
     match asked {
-        Ok(
-            Command::ModeSense {
-                control: PageControl::Saved,
-                ..
-            },
-        ) => Some(Refusal::Check(Sense::SAVING_PARAMETERS_NOT_SUPPORTED)),
-        _ => None,
+        Ok(Command::ModeSense { control, .. }) => saved_values(*control),
+        Ok(Command::TestUnitReady)
+        | Ok(Command::RequestSense { .. })
+        | Ok(Command::Inquiry { .. })
+        | Ok(Command::ReadCapacity10)
+        | Ok(Command::ReadCapacity16 { .. })
+        | Ok(Command::Read { .. })
+        | Ok(Command::Write { .. })
+        | Ok(Command::CompareAndWrite { .. })
+        | Ok(Command::SynchronizeCache { .. })
+        | Ok(Command::PersistentReserveIn { .. })
+        | Ok(Command::PersistentReserveOut { .. })
+        | Ok(Command::ReportLuns { .. })
+        | Ok(Command::ReportTargetPortGroups { .. })
+        | Ok(Command::SetTargetPortGroups { .. })
+        | Err(_) => None,
+    }
+}
+
+/// The values of mode pages that this page control asks for.
+fn saved_values(control: PageControl) -> Option<Refusal>
+    ensures { result ≡ (if is_saved control then Some (Refusal.Check saving_parameters_not_supported) else None) }
+{
+    match control {
+        PageControl::Saved => Some(Refusal::Check(Sense::SAVING_PARAMETERS_NOT_SUPPORTED)),
+        PageControl::Current | PageControl::Changeable | PageControl::Default => None,
     }
 }
 

@@ -1,9 +1,10 @@
 use crate::console::{Array, UnitStatus, console};
+use scsi_types::Group;
 use std::alloc::Global;
 use std::io::{self, BufReader, Read, Write};
 use std::test::*;
 
-// Two units, which count how often they were asked and flushed.
+// Two units, which count how often they were asked and flushed. Of controller 2 unit 1 does not move.
 #[derive(Drop)]
 struct Two {
     asked: u32,
@@ -33,6 +34,13 @@ impl Array for Two {
                 entries: 0,
             }),
             _ => None,
+        }
+    }
+
+    fn down(&mut self, controller: Group) -> Result<(), usize> {
+        match controller {
+            Group::One => Ok(()),
+            Group::Two => Err(1),
         }
     }
 
@@ -67,7 +75,8 @@ fn lines_and_what_they_are_answered(rt: HostRuntime) -> Result<(), Fail> {
         ("\n", "?\n"),
         ("x", "?\n"),
         ("x\ny\nquit\n", "?\n?\n"),
-        ("down 1\ndown 2\n", "?\n?\n"),
+        ("down 1\ndown 2\n", "down\nnot moved 1\n"),
+        ("down\ndown 0\ndown 3\ndown 1 \nDOWN 1\n", "?\n?\n?\n?\n?\n"),
         ("Status\nstatus \n status\nquit \n", "?\n?\n?\n?\n"),
         ("quit\r\n", ""),
     ];

@@ -1,5 +1,4 @@
-use Rattle.std.proofs.Common.{◌≡◌, ℕ, ◌+◌, ◌≤◌, ⊎_elim, Bool, true, false, arith, ap, sym, ◌∙◌, if◌then◌else◌, length}
-use Rattle.scsi_types.specs.Nexus.{Nexus}
+use Rattle.std.proofs.Common.{◌≡◌, ◌+◌, ◌≤◌, Bool, true, false, arith, ap, ◌∙◌, if◌then◌else◌, length}
 use Rattle.reservations.specs.Nexus.{other_nexus}
 use Rattle.reservations.specs.Rows.{ports_with}
 use Rattle.reservations.proofs.Listed.{missing}

@@ -1,0 +1,10 @@
+use Rattle.block_file.specs.Cut.{cut}
+use Rattle.unit_history.specs.Naming.{book_of, opening_of, table_of}
+use Rattle.failover_tests.proofs.moves.the_array_moves_a_unit.Given as goal
+
+abbrev pub ghosts-moved_by_the_array : goal.ghosts-moved_by_the_array
+ghosts-moved_by_the_array g a = record {
+  book = book_of a.new.items;
+  table = table_of a.new.items;
+  opening = opening_of (λ d. cut d.count d.bytes.items) a.new.items;
+}

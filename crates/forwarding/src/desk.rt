@@ -1,0 +1,208 @@
+//! The desk of a controller.
+ghost use Rattle.std.specs.Prelude.{◌≡◌, ◌<◌, ◌&&◌, IfOk, IfErr, IfSome};
+ghost use Rattle.std.specs.Arc.{arc_value};
+ghost use Rattle.forwarding.specs.Jobs.{HasAnswered, handed_of};
+
+use crate::job::{Answer, Job, Taken, Ticket, Waiting, copy_data, prepare};
+use crate::queue::{NotQueued, Queue};
+use block_file::{Blocks, Opener};
+use numbering::Array;
+use scsi_types::{Asked, Group, NoMemory, Reply};
+use std::alloc::Global;
+use std::marker::Model;
+use std::sync::{Condvar, Mutex, Wait};
+use thiserror::Error;
+use unit_history::{Opened, Pass, Refused, Units};
+
+/// Why a desk does not take a job.
+#[derive(Clone, Copy, Debug, PartialEq, Eq, Error)]
+pub enum DeskFault {
+    /// 64 jobs wait.
+    #[error("the desk is full")]
+    Full,
+    /// The desk is closed.
+    #[error("the desk is closed")]
+    Closed,
+    /// There was no memory.
+    #[error("no memory")]
+    NoMemory,
+}
+
+/// The desk of a controller, to which sessions of both controllers hand the commands of the units that the controller owns. The
+/// lanes of the controller serve them. Contracts see the controller's group.
+#[derive(Drop)]
+pub struct Desk<B: Blocks, R: Blocks, O: Opener<B>, N: Array<Opened>> {
+    group: Group,
+    queue: Mutex<Queue<Waiting<B, R, O, N>>>,
+    filled: Condvar,
+}
+
+impl<B: Blocks, R: Blocks, O: Opener<B>, N: Array<Opened>> Model for Desk<B, R, O, N> {
+    ghost use Rattle.scsi_types.specs.declared.names.Group.{Group};
+
+    ghost Value = { Group };
+
+    ghost view = { λ d. d.group };
+}
+
+impl<B: Blocks, R: Blocks, O: Opener<B>, N: Array<Opened>> Desk<B, R, O, N> {
+    /// The desk of a group, with 64 places, which are taken now.
+    pub fn new(alloc: Global, group: Group) -> Result<Desk<B, R, O, N>, NoMemory>
+        ensures { IfOk result (λ desk. desk ≡ group) }
+    {
+        let Ok(queue) = Queue::new(alloc) else {
+            return Err(NoMemory);
+        };
+        Ok(Desk {
+            group,
+            queue: Mutex::new(queue),
+            filled: Condvar::new(),
+        })
+    }
+
+    /// Hands a job in: it waits behind those that came before. Refused, it is handed back.
+    pub fn submit<W: Wait>(
+        &self,
+        rt: &W,
+        alloc: Global,
+        job: Job<B, R, O, N>,
+    ) -> Result<Ticket<B, R, O, N>, (DeskFault, Job<B, R, O, N>)>
+        ensures ticket { IfOk result (λ t. t ≡ handed_of job.pass job.asked (arc_value job.bytes).items self.now) }
+        ensures back { IfErr result (λ e. e.1 ≡ job) }
+    {
+        let (ticket, waiting) = match prepare(alloc, job, self.group) {
+            Ok(both) => both,
+            Err(job) => return Err((DeskFault::NoMemory, job)),
+        };
+        let mut queue = self.queue.lock(rt);
+        if let Err((why, waiting)) = queue.push(waiting) {
+            let fault = match why {
+                NotQueued::Full => DeskFault::Full,
+                NotQueued::Closed => DeskFault::Closed,
+            };
+            return Err((fault, waiting.job));
+        }
+        let others_wait = queue.len() > 1;
+        drop(queue);
+        if others_wait {
+            self.filled.notify_one();
+        }
+        Ok(ticket)
+    }
+
+    /// The first job, once there is one. None: the desk is closed, and no job is left.
+    pub fn take<W: Wait>(&self, rt: &W) -> Option<Taken<B, R, O, N>>
+        ensures { IfSome result (λ taken. taken.names.by_group ≡ self.now) }
+    {
+        let mut queue = self.filled.wait_while(rt, self.queue.lock(rt), |queue| {
+            queue.len() == 0 && !queue.is_closed()
+        });
+        let waiting = queue.take()?;
+        Some(Taken::from_desk(waiting, self.group))
+    }
+
+    /// Gives an answer to the ticket that waits for it. It takes no memory.
+    pub fn post<W: Wait>(&self, rt: &W, answer: Answer<B, R, O, N>) {
+        answer.post(rt);
+    }
+
+    /// Serves the first job, once there is one, and posts its answer. False: the desk is closed, and no job is left.
+    pub fn serve_next<W: Wait>(&self, rt: &W, alloc: Global, units: &Units<B, R, O, N>) -> bool {
+        let Some(taken) = self.take(rt) else {
+            return false;
+        };
+        // Each job is of one of the array's units, which its type does not say.
+        if taken.place() < units.count() {
+            self.post(rt, taken.serve(rt, alloc, units));
+        }
+        true
+    }
+
+    /// From now on no job is taken in. Those that wait are left to the lanes, which end when none is left.
+    pub fn close<W: Wait>(&self, rt: &W) {
+        self.queue.lock(rt).close();
+        self.filled.notify_all();
+    }
+
+    /// Leaves a job to the lanes, and waits for its answer.
+    pub fn collect<W: Wait>(
+        &self,
+        rt: &W,
+        ticket: Ticket<B, R, O, N>,
+    ) -> (Pass<B, R, O, N>, Result<Reply, Refused<Group>>)
+        ensures place { result.0.place ≡ ticket.names.place }
+        ensures end { HasAnswered (O.claims && B.claims) (N.opening ticket.names.place) ticket result.0.pass result.1 }
+    {
+        self.filled.notify_one();
+        ticket.collect(rt)
+    }
+
+    // The ticket's job, where no lane has taken it.
+    fn take_back<W: Wait>(&self, rt: &W, ticket: &Ticket<B, R, O, N>) -> Option<Taken<B, R, O, N>>
+        ensures { IfSome result (λ taken. taken.names ≡ ticket.now.names) }
+    {
+        let mut queue = self.queue.lock(rt);
+        for at in 0..queue.len() {
+            match queue.get(at) {
+                Some(waiting) if ticket.is_of(&waiting.job, self.group) => {
+                    let waiting = queue.take_at(at)?;
+                    return Some(Taken::from_desk(waiting, self.group));
+                }
+                _ => (),
+            }
+        }
+        None
+    }
+
+    /// Serves the ticket's job where no lane has taken it, and posts the answer. False: a lane serves it.
+    pub fn serve_own<W: Wait>(
+        &self,
+        rt: &W,
+        alloc: Global,
+        units: &Units<B, R, O, N>,
+        ticket: &Ticket<B, R, O, N>,
+    ) -> bool
+        requires { ticket.now.names.place < units.now }
+    {
+        match self.take_back(rt, ticket) {
+            Some(taken) => {
+                self.post(rt, taken.serve(rt, alloc, units));
+                true
+            }
+            None => false,
+        }
+    }
+
+    /// Serves a command of a session through the desk: the worker that hands it in serves it itself, where no lane has taken it.
+    /// Refused by the desk, no unit was asked, and the pass is as it was.
+    pub fn serve<W: Wait>(
+        &self,
+        rt: &W,
+        alloc: Global,
+        units: &Units<B, R, O, N>,
+        pass: Pass<B, R, O, N>,
+        asked: &Asked,
+        bytes: &[u8],
+    ) -> (
+        Pass<B, R, O, N>,
+        Result<Result<Reply, Refused<Group>>, DeskFault>,
+    )
+        requires { pass.place < units.now }
+        ensures place { result.0.place ≡ pass.place }
+        ensures end { IfOk result.1 (HasAnswered (O.claims && B.claims) (N.opening pass.place)
+            (handed_of pass asked.now bytes.now self.now) result.0.pass) }
+        ensures back { IfErr result.1 (λ fault. result.0 ≡ pass) }
+    {
+        let Ok(bytes) = copy_data(alloc, bytes) else {
+            return (pass, Err(DeskFault::NoMemory));
+        };
+        let asked = *asked;
+        let ticket = match self.submit(rt, alloc, Job { pass, asked, bytes }) {
+            Ok(ticket) => ticket,
+            Err((fault, job)) => return (job.into_pass(), Err(fault)),
+        };
+        self.serve_own(rt, alloc, units, &ticket);
+        let (pass, end) = ticket.collect(rt);
+        (pass, Ok(end))
+    }
+}

@@ -1,0 +1,16 @@
+//! Tests of a desk over its public calls: what it refuses, what it does not take for an answer, and how a worker and a lane share
+//! its jobs.
+#![tactic(auto)]
+
+#[cfg(test)]
+mod array;
+#[cfg(test)]
+mod calls;
+#[cfg(test)]
+mod lanes;
+#[cfg(test)]
+mod scenes;
+#[cfg(test)]
+mod swapped;
+#[cfg(test)]
+mod waiting;

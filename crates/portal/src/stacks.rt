@@ -1,0 +1,20 @@
+//! The stacks of threads.
+
+/// What the stack of a thread takes.
+pub const STACK: usize = 256 * 1024;
+
+/// How large the stacks of workers are. One for which there is no room has no thread.
+pub trait Stacks {
+    /// What the stack of the next worker takes.
+    fn next_stack(&mut self) -> usize;
+}
+
+/// Small ones, all alike.
+#[derive(Clone, Copy, Debug, Drop)]
+pub struct SmallStacks;
+
+impl Stacks for SmallStacks {
+    fn next_stack(&mut self) -> usize {
+        STACK
+    }
+}

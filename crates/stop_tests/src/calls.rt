@@ -1,0 +1,144 @@
+//! The calls that a script makes of a device, and the values that its blocks had since the last flush.
+use crash_blocks::Pick;
+use std::alloc::{AllocError, Global};
+use std::str::FromStr;
+use test_streams::{RowError, bytes_of_digits};
+
+/// What a call does.
+#[derive(Clone, Copy)]
+pub enum Does {
+    Reads,
+    /// Writes so many blocks from the first on, after which each has this value.
+    Writes { first: u32, blocks: u32, value: u8 },
+    Flushes,
+    /// A flush that fails.
+    Fails,
+}
+
+/// A call of a device, and by how many commands of the script others came before.
+#[derive(Clone, Copy)]
+pub struct Call {
+    pub command: usize,
+    pub does: Does,
+}
+
+/// How far the calls of a device came: so many were done, and of the next one, where it writes, so many blocks landed.
+#[derive(Clone, Copy, Debug)]
+pub struct Reach {
+    pub calls: usize,
+    pub landed: u32,
+}
+
+/// Appends the calls of a command that these words say: `read`, `flush`, `no-flush` for one that fails, and `1+2=11` for a write of
+/// two blocks from block 1 on, which then have the value 11h.
+pub fn put_calls(
+    alloc: Global,
+    calls: &mut Vec<Call>,
+    command: usize,
+    words: &str,
+) -> Result<(), RowError> {
+    for word in words.split_ascii_whitespace() {
+        let does = match word {
+            "read" => Does::Reads,
+            "flush" => Does::Flushes,
+            "no-flush" => Does::Fails,
+            _ => write_of(alloc, word)?,
+        };
+        calls.extend_from_slice(&[Call { command, does }])?;
+    }
+    Ok(())
+}
+
+// The write of this word.
+fn write_of(alloc: Global, word: &str) -> Result<Does, RowError> {
+    let (run, value) = word.split_once('=').ok_or(RowError::Word)?;
+    let (first, blocks) = run.split_once('+').ok_or(RowError::Word)?;
+    let value = bytes_of_digits(alloc, value)?;
+    Ok(Does::Writes {
+        first: number_of(first)?,
+        blocks: number_of(blocks)?,
+        value: *value.first().ok_or(RowError::Digits)?,
+    })
+}
+
+// The number of these decimal digits.
+fn number_of(text: &str) -> Result<u32, RowError> {
+    match text.parse() {
+        Ok(number) => Ok(number),
+        Err(_) => Err(RowError::Digits),
+    }
+}
+
+/// How far the calls came of a device of which none failed, before the command at a place of the script.
+pub fn reach_before(calls: &[Call], command: usize) -> Reach {
+    let mut before = 0usize;
+    for call in calls {
+        if call.command < command {
+            before = before.wrapping_add(1);
+        }
+    }
+    Reach {
+        calls: before,
+        landed: 0,
+    }
+}
+
+// How many blocks of a run of so many landed, by the place of its call.
+fn landed(reach: Reach, place: usize, blocks: u32) -> u32 {
+    if place < reach.calls {
+        blocks
+    } else if place == reach.calls {
+        reach.landed
+    } else {
+        0
+    }
+}
+
+/// The values that a block had since the last flush that was done, the oldest first. At first it has the value 0.
+pub fn values_of(
+    alloc: Global,
+    calls: &[Call],
+    reach: Reach,
+    block: u32,
+) -> Result<Vec<u8>, AllocError> {
+    let mut values = Vec::new(alloc);
+    values.push(0)?;
+    let mut place = 0usize;
+    for call in calls {
+        match call.does {
+            Does::Writes {
+                first,
+                blocks,
+                value,
+            } => {
+                let landed = landed(reach, place, blocks);
+                if block >= first && block < first.saturating_add(landed) {
+                    values.push(value)?;
+                }
+            }
+            Does::Flushes if place < reach.calls => keep_last(&mut values),
+            Does::Flushes | Does::Reads | Does::Fails => {}
+        }
+        place = place.wrapping_add(1);
+    }
+    Ok(values)
+}
+
+// Drops all but the last.
+fn keep_last(values: &mut Vec<u8>) {
+    let last = values.last().copied().unwrap_or(0);
+    if let Some(first) = values.first_mut() {
+        *first = last;
+    }
+    values.truncate(1);
+}
+
+/// The value that is left of a block which had these.
+pub fn picked(values: &[u8], block: u32, pick: Pick) -> Option<u8> {
+    let place = match pick {
+        Pick::Oldest => 0,
+        Pick::Newest => values.len().wrapping_sub(1),
+        Pick::Turn(turn) => (block.wrapping_add(turn) as usize).checked_rem(values.len())?,
+    };
+    values.get(place).copied()
+}
