@@ -100,7 +100,12 @@ pub fn serve_units<
     };
     for Portal { listener, group } in portals {
         let loops = listen::<R, Units<B, F, O, N>, Open, Pass<B, F, O, N>, SmallStacks>(
-            rt, alloc, listener, &server, group, SmallStacks,
+            rt,
+            alloc,
+            listener,
+            &server,
+            group,
+            SmallStacks,
         );
         let Ok(loops) = loops else {
             return Err(Fault::NoMemory);

@@ -20,7 +20,11 @@ fn several(alloc: Global, count: u8) -> Result<Vec<New>, Fail> {
 
 /// The group that owns a unit at first.
 fn owner_of(place: usize) -> Group {
-    if place % 2 == 0 { Group::One } else { Group::Two }
+    if place % 2 == 0 {
+        Group::One
+    } else {
+        Group::Two
+    }
 }
 
 /// A unit whose history is its own.
@@ -51,7 +55,10 @@ pub fn are_used<W: Wait, N: Naming<Opened>>(
         is_its_own(rt, alloc, units, usize::from(place))?;
     }
     for place in 0..count {
-        want(entries(rt, units, usize::from(place)) == 3, "its own entries")?;
+        want(
+            entries(rt, units, usize::from(place)) == 3,
+            "its own entries",
+        )?;
     }
     Ok(())
 }

@@ -99,14 +99,23 @@ fn is_moved<W: Wait, N: Naming<Opened>>(
     want(!moves(rt, units, &TO_TWO[..7]), "a list of 7 bytes")?;
     want(moves(rt, units, &TO_TWO), "a move")?;
     let row = shown(rt, units, 0);
-    want(row.entries == 2 && row.owner == 2, "the other group owns it")?;
+    want(
+        row.entries == 2 && row.owner == 2,
+        "the other group owns it",
+    )?;
     want(row.states == (1, 0), "the states")?;
     let moved = host.test(rt, alloc, units, Group::One);
     want(moved == End::Moved(Group::Two), "by the group before")?;
     let told = host.test(rt, alloc, units, Group::Two);
-    want(told == End::Check(Sense::POWER_ON), "it is told of the power on")?;
+    want(
+        told == End::Check(Sense::POWER_ON),
+        "it is told of the power on",
+    )?;
     let told = host.test(rt, alloc, units, Group::Two);
-    want(told == End::Check(Sense::ACCESS_STATE_CHANGED), "it is told of the move")?;
+    want(
+        told == End::Check(Sense::ACCESS_STATE_CHANGED),
+        "it is told of the move",
+    )?;
     want(units.count() > 0 && units.flush(rt, 0).is_ok(), "a flush")?;
     want(entries(rt, units, 0) == 4, "a flush is no entry")
 }

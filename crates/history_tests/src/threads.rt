@@ -18,8 +18,14 @@ fn two<W: Wait, N: Naming<Opened>>(
     let mut one = Host::attach(rt, alloc, units, 0, 1)?;
     let mut two = Host::attach(rt, alloc, units, 0, 2)?;
     let told = End::Check(Sense::POWER_ON);
-    want(one.test(rt, alloc, units, Group::One) == told, "the power on")?;
-    want(two.test(rt, alloc, units, Group::One) == told, "the other's")?;
+    want(
+        one.test(rt, alloc, units, Group::One) == told,
+        "the power on",
+    )?;
+    want(
+        two.test(rt, alloc, units, Group::One) == told,
+        "the other's",
+    )?;
     Ok((one, two))
 }
 
@@ -52,7 +58,11 @@ fn race<W: Threads + Wait + Sync, N: Naming<Opened> + Send + Sync>(
         || two.exchange(rt, alloc, units, 7, old, right),
     );
     let won = winner((first, left), (second, right));
-    if one.read(rt, alloc, units, 7) == won { won } else { None }
+    if one.read(rt, alloc, units, 7) == won {
+        won
+    } else {
+        None
+    }
 }
 
 /// So many rounds.
@@ -69,7 +79,10 @@ pub fn exchange<W: Threads + Wait + Sync, N: Naming<Opened> + Send + Sync>(
     for _ in 0..ROUNDS {
         held = race(rt, alloc, units, (&mut one, &mut two), held).ok_or("one winner")?;
     }
-    want(entries(rt, units, 0) == 4 + 3 * ROUNDS, "three entries a round")
+    want(
+        entries(rt, units, 0) == 4 + 3 * ROUNDS,
+        "three entries a round",
+    )
 }
 
 #[test]
@@ -136,7 +149,12 @@ pub fn meet_failures<W: Threads + Wait + Sync, N: Naming<Opened> + Send + Sync>(
 #[test]
 fn what_failed_is_told_and_nothing_else(rt: HostRuntime) -> Result<(), Fail> {
     let alloc = rt.alloc();
-    run(&rt, alloc, one(alloc, failing(alloc, 150, 70)?)?, Story::Failing(70))
+    run(
+        &rt,
+        alloc,
+        one(alloc, failing(alloc, 150, 70)?)?,
+        Story::Failing(70),
+    )
 }
 
 /// Whether the host registers, or gives up its registration.
@@ -224,7 +242,10 @@ pub fn are_watched<W: Threads + Wait + Sync, N: Naming<Opened> + Send + Sync>(
     want(is_right, "whole rows, none older than the one before")?;
     let row = shown(rt, units, 0);
     want(row.entries == 4 + 4 * TIMES, "the last row")?;
-    want(row.generation == 4 * TIMES && row.registrants == 0, "the registrations")
+    want(
+        row.generation == 4 * TIMES && row.registrants == 0,
+        "the registrations",
+    )
 }
 
 #[test]
