@@ -22,12 +22,13 @@ pub const SENSE_LENGTH: u8 = 18;
 /// The data segment of a SCSI Response with sense: SenseLength, and the sense (RFC 7143, 11.4.7).
 pub const SENSE_SEGMENT_LENGTH: usize = 20;
 
-/// The bytes of the memory: room for a read of 256 KiB in Data-In of 8192, so that it leaves in one write.
-pub const OUTBOX_CAPACITY: usize = 270336;
+/// The bytes of the memory: room for a read of 256 KiB in Data-In of 8192 behind what may wait, so that it leaves in one
+/// write.
+pub const OUTBOX_CAPACITY: usize = 299008;
 
 /// So many bytes do not wait for the next read: they leave, so that the peer works on them while the session makes its
 /// next turns.
-pub const ENOUGH_TO_WRITE: usize = 8192;
+pub const ENOUGH_TO_WRITE: usize = 32768;
 
 /// The most bytes that pad a data segment.
 const MOST_PADDING: usize = 3;

@@ -19,8 +19,9 @@ struct Batch {
     calls: usize,
 }
 
-// The outbox has room for 270336 bytes: four Data-In of 65536 and their headers, but no fifth. A READ (10) of 8 blocks is
-// answered by a Data-In of 4096 bytes and a response, so 4192 bytes; one of 1024 blocks reads 524288 bytes.
+// The outbox has room for 299008 bytes: four Data-In of 65536 and their headers, but no fifth. A READ (10) of 32 blocks is
+// answered by two Data-In of 8192 bytes and a response, so 16528 bytes; one of 63 blocks by 32496, which may wait. One of
+// 1024 blocks reads 524288 bytes.
 const BATCHES: &[Batch] = &[
     Batch {
         row: r"three commands in one read
@@ -74,26 +75,36 @@ answer good pattern 262144
         calls: 1,
     },
     Batch {
-        row: r"8192 bytes wait behind the second of three reads
-answer good pattern 4096
-> TEST_UNIT_READY 1:C1 20:00001000 32:280000000000000008
-> TEST_UNIT_READY 1:C1 20:0000100000000002 32:280000000000000008
-> TEST_UNIT_READY 1:C1 20:0000100000000003 32:280000000000000008",
+        row: r"256 KiB behind the most that may wait
+answer in-turn pattern 32256 | pattern 262144
+> TEST_UNIT_READY 1:C1 20:00007E00 32:28000000000000003F
+> TEST_UNIT_READY 1:C1 20:0004000000000002 32:280000000000000200",
         first: 1_000_000,
         fail_at: 0,
-        writes: &[8384, 4192],
+        writes: &[296224],
+        calls: 2,
+    },
+    Batch {
+        row: r"32768 bytes wait behind the second of three reads
+answer good pattern 16384
+> TEST_UNIT_READY 1:C1 20:00004000 32:280000000000000020
+> TEST_UNIT_READY 1:C1 20:0000400000000002 32:280000000000000020
+> TEST_UNIT_READY 1:C1 20:0000400000000003 32:280000000000000020",
+        first: 1_000_000,
+        fail_at: 0,
+        writes: &[33056, 16528],
         calls: 3,
     },
     Batch {
         row: r"the sink fails behind the second of three reads: the third is not called
-answer good pattern 4096
-> TEST_UNIT_READY 1:C1 20:00001000 32:280000000000000008
-> TEST_UNIT_READY 1:C1 20:0000100000000002 32:280000000000000008
-> TEST_UNIT_READY 1:C1 20:0000100000000003 32:280000000000000008
+answer good pattern 16384
+> TEST_UNIT_READY 1:C1 20:00004000 32:280000000000000020
+> TEST_UNIT_READY 1:C1 20:0000400000000002 32:280000000000000020
+> TEST_UNIT_READY 1:C1 20:0000400000000003 32:280000000000000020
 end OutputFailed",
         first: 1_000_000,
         fail_at: 1,
-        writes: &[8384],
+        writes: &[33056],
         calls: 2,
     },
     Batch {
