@@ -42,6 +42,9 @@ pub trait Array {
     /// behind it stay.
     fn down(&mut self, controller: Group) -> Result<(), usize>;
 
+    /// From now on no command is taken in.
+    fn close(&mut self);
+
     /// Makes all that each unit holds last, as far as it can.
     fn flush(&mut self);
 }
@@ -65,7 +68,8 @@ fn say_down<W: Write>(writer: &mut W, end: Result<(), usize>) -> io::Result<()> 
     }
 }
 
-/// Obeys lines until `quit`, the end of the input, or a failure of either; then flushes the units.
+/// Obeys lines until `quit`, the end of the input, or a failure of either; then no command is taken in any more, and the units
+/// are flushed.
 pub fn console<I: BufRead + Drop, W: Write, A: Array>(
     alloc: Global,
     reader: I,
@@ -87,5 +91,6 @@ pub fn console<I: BufRead + Drop, W: Write, A: Array>(
             break;
         }
     }
+    array.close();
     array.flush();
 }

@@ -10,7 +10,7 @@ use crate::words::{MAX_UNITS, Options};
 use block_file::{Blocks, Opener};
 use failover::take_down;
 use numbering::Array as Naming;
-use portal::{Open, Server, SmallStacks, TargetDevice, listen};
+use portal::{Controllers, Open, Server, SmallStacks, TargetDevice, listen, start_lanes};
 use scsi_types::Group;
 use std::alloc::Global;
 use std::io;
@@ -24,17 +24,18 @@ use unit_history::{NewUnit, Opened, Pass, Units};
 #[derive(Drop)]
 pub struct Watched<'a, R: Wait, B: Blocks, F: Blocks, O: Opener<B>, N: Naming<Opened>> {
     pub rt: &'a R,
-    pub units: &'a Units<B, F, O, N>,
+    pub controllers: &'a Controllers<B, F, O, N>,
 }
 
 impl<R: Wait, B: Blocks, F: Blocks, O: Opener<B>, N: Naming<Opened>> Array
     for Watched<'_, R, B, F, O, N> {
     fn status(&mut self, unit: u8) -> Option<UnitStatus> {
         let place = usize::from(unit);
-        if place >= self.units.count() {
+        let units = self.controllers.units();
+        if place >= units.count() {
             return None;
         }
-        let row = self.units.read(self.rt, place);
+        let row = units.read(self.rt, place);
         Some(UnitStatus {
             unit,
             owner: row.owner,
@@ -47,16 +48,21 @@ impl<R: Wait, B: Blocks, F: Blocks, O: Opener<B>, N: Naming<Opened>> Array
     }
 
     fn down(&mut self, controller: Group) -> Result<(), usize> {
-        let (_moves, end) = take_down(self.rt, self.units, controller);
+        let (_moves, end) = take_down(self.rt, self.controllers.units(), controller);
         match end {
             Ok(()) => Ok(()),
             Err(stopped) => Err(stopped.unit),
         }
     }
 
+    fn close(&mut self) {
+        self.controllers.close(self.rt);
+    }
+
     fn flush(&mut self) {
-        for place in 0..self.units.count() {
-            let _ = self.units.flush(self.rt, place);
+        let units = self.controllers.units();
+        for place in 0..units.count() {
+            let _ = units.flush(self.rt, place);
         }
     }
 }
@@ -90,7 +96,7 @@ pub fn serve_units<
     let portals = portals::open(rt, alloc, ports)?;
     let units = Units::<B, F, O, N>::new(rt, alloc, units)?;
     let server = Server {
-        device: TargetDevice::new(alloc, units, Open),
+        device: TargetDevice::new(alloc, Controllers::new(alloc, units)?, Open),
         target_name: Vec::from_slice(alloc, options.target.as_bytes())?,
         first: ports.of(Group::One).addresses(alloc)?,
         second: ports.of(Group::Two).addresses(alloc)?,
@@ -98,8 +104,21 @@ pub fn serve_units<
     let Ok(server) = Arc::new(alloc, server) else {
         return Err(Fault::NoMemory);
     };
+    for group in [Group::One, Group::Two] {
+        let mut stacks = SmallStacks;
+        let started = start_lanes::<N, B, F, O, Open, R, SmallStacks>(
+            rt,
+            alloc,
+            &server,
+            group,
+            &mut stacks,
+        );
+        if started.is_err() {
+            return Err(Fault::NoMemory);
+        }
+    }
     for Portal { listener, group } in portals {
-        let loops = listen::<R, Units<B, F, O, N>, Open, Pass<B, F, O, N>, SmallStacks>(
+        let loops = listen::<R, Controllers<B, F, O, N>, Open, Pass<B, F, O, N>, SmallStacks>(
             rt,
             alloc,
             listener,
@@ -117,7 +136,7 @@ pub fn serve_units<
     }
     let mut watched = Watched {
         rt,
-        units: &server.device.units,
+        controllers: &server.device.units,
     };
     console(alloc, rt.reader(), &mut io::writer(rt), &mut watched);
     Ok(())

@@ -1,9 +1,9 @@
 //! The desk of a controller.
 ghost use Rattle.std.specs.Prelude.{◌≡◌, ◌<◌, ◌&&◌, IfOk, IfErr, IfSome};
-ghost use Rattle.std.specs.Arc.{arc_value};
 ghost use Rattle.forwarding.specs.Jobs.{HasAnswered, handed_of};
 
-use crate::job::{Answer, Job, Taken, Ticket, Waiting, copy_data, prepare};
+use crate::data::copy_data;
+use crate::job::{Answer, Job, Taken, Ticket, Waiting, prepare};
 use crate::queue::{NotQueued, Queue};
 use block_file::{Blocks, Opener};
 use numbering::Array;
@@ -13,6 +13,9 @@ use std::marker::Model;
 use std::sync::{Condvar, Mutex, Wait};
 use thiserror::Error;
 use unit_history::{Opened, Pass, Refused, Units};
+
+/// Longer data is not copied for a desk: the worker that it came to serves its command at once, past those that wait.
+pub const LONGEST_COPY: usize = 16384;
 
 /// Why a desk does not take a job.
 #[derive(Clone, Copy, Debug, PartialEq, Eq, Error)]
@@ -67,7 +70,7 @@ impl<B: Blocks, R: Blocks, O: Opener<B>, N: Array<Opened>> Desk<B, R, O, N> {
         alloc: Global,
         job: Job<B, R, O, N>,
     ) -> Result<Ticket<B, R, O, N>, (DeskFault, Job<B, R, O, N>)>
-        ensures ticket { IfOk result (λ t. t ≡ handed_of job.pass job.asked (arc_value job.bytes).items self.now) }
+        ensures ticket { IfOk result (λ t. t ≡ handed_of job.pass job.asked job.bytes self.now) }
         ensures back { IfErr result (λ e. e.1 ≡ job) }
     {
         let (ticket, waiting) = match prepare(alloc, job, self.group) {
@@ -173,6 +176,34 @@ impl<B: Blocks, R: Blocks, O: Opener<B>, N: Array<Opened>> Desk<B, R, O, N> {
         }
     }
 
+    // Serves a command at once, past those that wait. Which of them comes first is nobody's promise, so this is one of the orders
+    // in which lanes may serve them, and nothing is copied.
+    fn serve_at_once<W: Wait>(
+        &self,
+        rt: &W,
+        alloc: Global,
+        units: &Units<B, R, O, N>,
+        pass: Pass<B, R, O, N>,
+        asked: &Asked,
+        bytes: &[u8],
+    ) -> (
+        Pass<B, R, O, N>,
+        Result<Result<Reply, Refused<Group>>, DeskFault>,
+    )
+        requires { pass.place < units.now }
+        ensures place { result.0.place ≡ pass.place }
+        ensures end { IfOk result.1 (HasAnswered (O.claims && B.claims) (N.opening pass.place)
+            (handed_of pass asked.now bytes.now self.now) result.0.pass) }
+        ensures back { IfErr result.1 (λ fault. result.0 ≡ pass) }
+    {
+        let is_closed = self.queue.lock(rt).is_closed();
+        if is_closed {
+            return (pass, Err(DeskFault::Closed));
+        }
+        let (pass, end) = units.serve(rt, pass, alloc, &self.group, asked, bytes);
+        (pass, Ok(end))
+    }
+
     /// Serves a command of a session through the desk: the worker that hands it in serves it itself, where no lane has taken it.
     /// Refused by the desk, no unit was asked, and the pass is as it was.
     pub fn serve<W: Wait>(
@@ -193,6 +224,9 @@ impl<B: Blocks, R: Blocks, O: Opener<B>, N: Array<Opened>> Desk<B, R, O, N> {
             (handed_of pass asked.now bytes.now self.now) result.0.pass) }
         ensures back { IfErr result.1 (λ fault. result.0 ≡ pass) }
     {
+        if bytes.len() > LONGEST_COPY {
+            return self.serve_at_once(rt, alloc, units, pass, asked, bytes);
+        }
         let Ok(bytes) = copy_data(alloc, bytes) else {
             return (pass, Err(DeskFault::NoMemory));
         };

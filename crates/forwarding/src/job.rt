@@ -1,30 +1,17 @@
 //! A command on its way: its job, its ticket and its answer.
 ghost use Rattle.std.specs.Prelude.{◌≡◌, ◌<◌, ◌&&◌, IfOk, IfErr, MatchBool};
-ghost use Rattle.std.specs.Arc.{arc_value};
 ghost use Rattle.forwarding.specs.Jobs.{HasAnswered, IsFor, handed, handed_of, names_of};
 
+use crate::data::Data;
 use crate::names::Names;
 use block_file::{Blocks, Opener};
 use numbering::Array;
-use scsi_types::{Asked, Group, NoMemory, Reply};
+use scsi_types::{Asked, Group, Reply};
 use std::alloc::Global;
 use std::marker::Model;
 use std::mem;
 use std::sync::{Arc, Condvar, Mutex, Wait};
 use unit_history::{LegalHistory, Opened, Pass, Refused, Units};
-
-/// The data that came for a command, which its job, its ticket and its answer share.
-pub type Data = Arc<Vec<u8>, Global>;
-
-/// A copy of the data that came for a command.
-pub fn copy_data(alloc: Global, bytes: &[u8]) -> Result<Data, NoMemory>
-    ensures { IfOk result (λ copy. (arc_value copy).items ≡ bytes.now) }
-{
-    let Ok(copy) = bytes.to_vec(alloc) else {
-        return Err(NoMemory);
-    };
-    Arc::new(alloc, copy).map_err(|_| NoMemory)
-}
 
 /// A command of a session, and the session's pass, which goes with it.
 #[derive(Drop)]
@@ -69,15 +56,14 @@ pub(crate) struct Ended<B: Blocks, R: Blocks, O: Opener<B>, N: Array<Opened>> {
 
 impl<B: Blocks, R: Blocks, O: Opener<B>, N: Array<Opened>> Model for Ended<B, R, O, N> {
     ghost use Rattle.std.specs.Prelude.{◌≡◌, ◌&&◌};
-    ghost use Rattle.std.specs.Arc.{arc_value};
     ghost use Rattle.forwarding.specs.Jobs.{Done, HasAnswered, handed};
 
     ghost Value = { Done };
 
-    ghost view = { λ e. record { job = handed e.names (arc_value e.bytes).items e.before.1; after = e.pass.pass; end = e.end } };
+    ghost view = { λ e. record { job = handed e.names e.bytes e.before.1; after = e.pass.pass; end = e.end } };
 
     ghost invariant = { λ e. (e.before.0 ≡ e.names.place) × (e.pass.place ≡ e.names.place)
-        × HasAnswered (O.claims && B.claims) (N.opening e.names.place) (handed e.names (arc_value e.bytes).items e.before.1)
+        × HasAnswered (O.claims && B.claims) (N.opening e.names.place) (handed e.names e.bytes e.before.1)
         e.pass.pass e.end };
 }
 
@@ -132,17 +118,16 @@ pub struct Taken<B: Blocks, R: Blocks, O: Opener<B>, N: Array<Opened>> {
 
 impl<B: Blocks, R: Blocks, O: Opener<B>, N: Array<Opened>> Model for Taken<B, R, O, N> {
     ghost use Rattle.forwarding.specs.Jobs.{Handed, handed_of};
-    ghost use Rattle.std.specs.Arc.{arc_value};
 
     ghost Value = { Handed };
 
-    ghost view = { λ t. handed_of t.job.pass t.job.asked (arc_value t.job.bytes).items t.by_group };
+    ghost view = { λ t. handed_of t.job.pass t.job.asked t.job.bytes t.by_group };
 }
 
 impl<B: Blocks, R: Blocks, O: Opener<B>, N: Array<Opened>> Taken<B, R, O, N> {
     // A job that waited at the desk of this group.
     pub(crate) fn from_desk(waiting: Waiting<B, R, O, N>, by_group: Group) -> Taken<B, R, O, N>
-        ensures { result ≡ handed_of waiting.job.pass waiting.job.asked (arc_value waiting.job.bytes).items by_group }
+        ensures { result ≡ handed_of waiting.job.pass waiting.job.asked waiting.job.bytes by_group }
     {
         let Waiting { job, slot } = waiting;
         Taken {
@@ -239,12 +224,11 @@ pub struct Ticket<B: Blocks, R: Blocks, O: Opener<B>, N: Array<Opened>> {
 
 impl<B: Blocks, R: Blocks, O: Opener<B>, N: Array<Opened>> Model for Ticket<B, R, O, N> {
     ghost use Rattle.std.specs.Prelude.{◌≡◌};
-    ghost use Rattle.std.specs.Arc.{arc_value};
     ghost use Rattle.forwarding.specs.Jobs.{Handed, handed};
 
     ghost Value = { Handed };
 
-    ghost view = { λ t. handed t.names (arc_value t.bytes).items t.seen.1 };
+    ghost view = { λ t. handed t.names t.bytes t.seen.1 };
 
     ghost invariant = { λ t. t.seen.0 ≡ t.names.place };
 }
@@ -314,7 +298,7 @@ pub(crate) fn prepare<B: Blocks, R: Blocks, O: Opener<B>, N: Array<Opened>>(
     job: Job<B, R, O, N>,
     by_group: Group,
 ) -> Result<(Ticket<B, R, O, N>, Waiting<B, R, O, N>), Job<B, R, O, N>>
-    ensures ticket { IfOk result (λ r. r.0 ≡ handed_of job.pass job.asked (arc_value job.bytes).items by_group) }
+    ensures ticket { IfOk result (λ r. r.0 ≡ handed_of job.pass job.asked job.bytes by_group) }
     ensures job { IfOk result (λ r. r.1.job ≡ job) }
     ensures back { IfErr result (λ e. e ≡ job) }
 {
@@ -324,7 +308,7 @@ pub(crate) fn prepare<B: Blocks, R: Blocks, O: Opener<B>, N: Array<Opened>>(
     let Ok(slot) = Arc::try_clone(&mine) else {
         return Err(job);
     };
-    let Ok(bytes) = Arc::try_clone(&job.bytes) else {
+    let Ok(bytes) = job.bytes.share() else {
         return Err(job);
     };
     let ticket = Ticket {

@@ -57,14 +57,14 @@ pub fn submit<N: Array<Opened>, W: Wait>(
     job: MemJob<N>,
 ) -> Result<MemTicket<N>, Option<DeskFault>> {
     let (place, session) = (job.pass.place(), job.pass.session());
-    let (asked, length) = (job.asked, job.bytes.len());
+    let (asked, length) = (job.asked, job.bytes.as_slice().len());
     match desk.submit(rt, alloc, job) {
         Ok(ticket) => Ok(ticket),
         Err((fault, job)) => {
             let is_whole = job.pass.place() == place
                 && job.pass.session() == session
                 && job.asked == asked
-                && job.bytes.len() == length;
+                && job.bytes.as_slice().len() == length;
             Err(is_whole.then_some(fault))
         }
     }

@@ -14,13 +14,15 @@ use Rattle.session.specs.declared.target.ResetAnswer.TheVariants as resets
 use Rattle.unit_state.specs.State.{UnitState}
 use Rattle.status.specs.Views.{counted}
 use Rattle.locked_unit.specs.Calls.{Known, IsRefused}
-use Rattle.locked_unit.specs.declared.machine.Refused.{Refused}
+use Rattle.forwarding.specs.declared.desk.DeskFault.TheVariants as desks
 use Rattle.locked_unit.specs.declared.machine.Refused.TheVariants as refusals
 use Rattle.unit_state.specs.Entry.{Entry, Reset, Command}
 use Rattle.unit_history.specs.Histories.{IsHistory, IsCommand, IsToldBehind, is_own, own}
 use Rattle.unit_history.specs.Calls.{HasServed}
 use Rattle.portal.specs.Units.{IsSubmitted, IsResetBy}
 use Rattle.portal.specs.Submitted.{At, IsOnce, IsTwice, IsServed, IsResetAt, IsResetAnswer, answer_of, is_moved}
+use Rattle.portal.specs.declared.units.Unserved.{Unserved}
+use Rattle.portal.specs.declared.units.Unserved.TheVariants.{ByUnit, ByDesk}
 use Rattle.portal.specs.Entries.{Done, replied, was_reset, done_by, reset_by, AreEntries, IsEntry, IsNextDone}
 
 same : (n : ℕ) → nat_eq n n ≡ true
@@ -116,6 +118,12 @@ module _ (claims : Bool) (s : UnitState) where
         entries = none_of claims s old.session old.seen is.0.0 none;
       }
 
+  -- a pass that is as it was
+  grows_not : (old new : Known Entry) → (new ≡ old) × IsHistory claims s old.seen → Grows old new []
+  grows_not old new is =
+      subst (λ (p : Known Entry). Grows old p []) (sym is.0)
+      (record { more = []; seen = sym (append-nil old.seen); legal = is.1; session = refl; entries = refl })
+
   grows_added : (old new : Known Entry) (between : List Entry) (e : Entry) (d : Done) → counted own old.session between ≡ 0
       → new.seen ≡ (old.seen ++ between) ++ e ∷ [] → IsHistory claims s new.seen → new.session ≡ old.session
       → is_own old.session e ≡ true → IsEntry claims s (old.seen ++ between) e d
@@ -154,20 +162,26 @@ module _ (claims : Bool) (s : UnitState) where
         (own_command old.session old.serial by_group a.1 a.5.0)
         (command_is (old.seen ++ a.0) old.session old.serial by_group reply a.1 a.5.0 a.5.1)
 
-    pub grows_submitted : (old new : Known Entry) (by_group : Group) (end : Result ReplyValue (Refused Group))
+    pub grows_submitted : (old new : Known Entry) (by_group : Group) (end : Result ReplyValue Unserved)
         → IsSubmitted claims s old by_group asked bytes end new
         → Grows old new (done_by asked bytes (answer_of end))
     grows_submitted old new by_group (Ok reply) is = grows_replied old new by_group reply is
-    grows_submitted old new by_group (Err refusals.Gone) is = grows_later old new is.0
-    grows_submitted old new by_group (Err (refusals.Moved owner)) is = grows_later old new is.0
-    grows_submitted old new by_group (Err refusals.NoMemory) is = grows_later old new is.0
+    grows_submitted old new by_group (Err (ByUnit refusals.Gone)) is = grows_later old new is.0
+    grows_submitted old new by_group (Err (ByUnit (refusals.Moved owner))) is = grows_later old new is.0
+    grows_submitted old new by_group (Err (ByUnit refusals.NoMemory)) is = grows_later old new is.0
+    grows_submitted old new by_group (Err (ByDesk desks.Full)) is = grows_not old new is
+    grows_submitted old new by_group (Err (ByDesk desks.Closed)) is = grows_not old new is
+    grows_submitted old new by_group (Err (ByDesk desks.NoMemory)) is = grows_not old new is
 
     -- what has moved has done nothing
-    pub nothing_moved : (end : Result ReplyValue (Refused Group)) → is_moved end ≡ true → done_by asked bytes (answer_of end) ≡ []
+    pub nothing_moved : (end : Result ReplyValue Unserved) → is_moved end ≡ true → done_by asked bytes (answer_of end) ≡ []
     nothing_moved (Ok reply) is = absurd (cc)
-    nothing_moved (Err refusals.Gone) is = refl
-    nothing_moved (Err (refusals.Moved owner)) is = refl
-    nothing_moved (Err refusals.NoMemory) is = refl
+    nothing_moved (Err (ByUnit refusals.Gone)) is = refl
+    nothing_moved (Err (ByUnit (refusals.Moved owner))) is = refl
+    nothing_moved (Err (ByUnit refusals.NoMemory)) is = refl
+    nothing_moved (Err (ByDesk desks.Full)) is = refl
+    nothing_moved (Err (ByDesk desks.Closed)) is = refl
+    nothing_moved (Err (ByDesk desks.NoMemory)) is = refl
 
   pub grows_reset : (old new : Known Entry) (done : Bool) → IsResetBy claims s old done new
       → Grows old new (reset_by (cond done resets.Done resets.Gone))
@@ -184,7 +198,7 @@ module _ (claims : Bool) (opening : ℕ → UnitState) where
     pub place : new.place ≡ old.place
     pub grown : Grows claims (opening old.place) old.pass new.pass done
 
-  grows_once : (old new : At) (asked : Result ScsiCommand CdbFault) (bytes : List ℕ) (end : Result ReplyValue (Refused Group))
+  grows_once : (old new : At) (asked : Result ScsiCommand CdbFault) (bytes : List ℕ) (end : Result ReplyValue Unserved)
       → IsOnce claims opening old asked bytes end new
       → GrowsAt old new (done_by asked bytes (answer_of end))
   grows_once old new asked bytes end is =
@@ -193,7 +207,7 @@ module _ (claims : Bool) (opening : ℕ → UnitState) where
         grown = grows_submitted claims (opening old.place) asked bytes old.pass new.pass old.by_group end is.call;
       }
 
-  grows_again : (old new : At) (asked : Result ScsiCommand CdbFault) (bytes : List ℕ) (end : Result ReplyValue (Refused Group))
+  grows_again : (old new : At) (asked : Result ScsiCommand CdbFault) (bytes : List ℕ) (end : Result ReplyValue Unserved)
       → IsTwice claims opening old asked bytes end new
       → GrowsAt old new (done_by asked bytes (answer_of end))
   grows_again old new asked bytes end is =

@@ -1,7 +1,7 @@
 -- How a session has a command served by a unit that may have moved: what its worker submits, and what it answers.
 use Rattle.std.specs.Prelude.{◌≡◌, ◌⊎◌, ℕ, Bool, true, false, List, Result, Ok, Err}
 use Rattle.locked_unit.specs.Calls.{Known}
-use Rattle.locked_unit.specs.declared.machine.Refused.{Refused}
+use Rattle.forwarding.specs.declared.desk.DeskFault.TheVariants as desks
 use Rattle.locked_unit.specs.declared.machine.Refused.TheVariants as refusals
 use Rattle.scsi_types.specs.ReplyValue.{ReplyValue}
 use Rattle.scsi_types.specs.declared.names.Group.{Group}
@@ -14,6 +14,8 @@ use Rattle.session.specs.declared.target.ResetAnswer.TheVariants as resets
 use Rattle.unit_state.specs.State.{UnitState}
 use Rattle.unit_state.specs.Entry.{Entry}
 use Rattle.portal.specs.Units.{IsSubmitted, IsResetBy}
+use Rattle.portal.specs.declared.units.Unserved.{Unserved}
+use Rattle.portal.specs.declared.units.Unserved.TheVariants.{ByUnit, ByDesk}
 
 -- A session at a unit: the unit's place, what the session knows of it, and the group that it believes to own it.
 pub record At : Type 0 where
@@ -22,40 +24,50 @@ pub record At : Type 0 where
   pub by_group : Group
 
 -- who is believed to own the unit behind a call that was made by this group: a Moved names the owner
-abbrev pub believed : {R : Type 0} → Group → Result R (Refused Group) → Group
+abbrev pub believed : {R : Type 0} → Group → Result R Unserved → Group
 believed by (Ok reply) = by
-believed by (Err refusals.Gone) = by
-believed by (Err (refusals.Moved owner)) = owner
-believed by (Err refusals.NoMemory) = by
+believed by (Err (ByUnit refusals.Gone)) = by
+believed by (Err (ByUnit (refusals.Moved owner))) = owner
+believed by (Err (ByUnit refusals.NoMemory)) = by
+believed by (Err (ByDesk desks.Full)) = by
+believed by (Err (ByDesk desks.Closed)) = by
+believed by (Err (ByDesk desks.NoMemory)) = by
 
--- What the session is answered. BUSY (SAM-5, 5.3.1) tells of want of memory and of a second Moved, and of nothing else.
-abbrev pub answer_of : Result ReplyValue (Refused Group) → TargetAnswer
+-- What the session is answered. BUSY (SAM-5, 5.3.1) tells of a desk that is full or closed, of want of memory, and of a second
+-- Moved, and of nothing else.
+abbrev pub answer_of : Result ReplyValue Unserved → TargetAnswer
 answer_of (Ok reply) = Replied reply
-answer_of (Err refusals.Gone) = Gone
-answer_of (Err (refusals.Moved owner)) = Busy
-answer_of (Err refusals.NoMemory) = Busy
+answer_of (Err (ByUnit refusals.Gone)) = Gone
+answer_of (Err (ByUnit (refusals.Moved owner))) = Busy
+answer_of (Err (ByUnit refusals.NoMemory)) = Busy
+answer_of (Err (ByDesk desks.Full)) = Busy
+answer_of (Err (ByDesk desks.Closed)) = Busy
+answer_of (Err (ByDesk desks.NoMemory)) = Busy
 
 -- a command that came to this is submitted once more
-abbrev pub is_moved : Result ReplyValue (Refused Group) → Bool
+abbrev pub is_moved : Result ReplyValue Unserved → Bool
 is_moved (Ok reply) = false
-is_moved (Err refusals.Gone) = false
-is_moved (Err (refusals.Moved owner)) = true
-is_moved (Err refusals.NoMemory) = false
+is_moved (Err (ByUnit refusals.Gone)) = false
+is_moved (Err (ByUnit (refusals.Moved owner))) = true
+is_moved (Err (ByUnit refusals.NoMemory)) = false
+is_moved (Err (ByDesk desks.Full)) = false
+is_moved (Err (ByDesk desks.Closed)) = false
+is_moved (Err (ByDesk desks.NoMemory)) = false
 
 -- the unit that opened in a state by its place, over devices whose types claim what is said of a disk or not
 module _ (claims : Bool) (opening : ℕ → UnitState) where
   -- a command is submitted once, to the group that is believed to own the unit
-  pub record IsOnce (old : At) (asked : Result ScsiCommand CdbFault) (bytes : List ℕ) (end : Result ReplyValue (Refused Group))
+  pub record IsOnce (old : At) (asked : Result ScsiCommand CdbFault) (bytes : List ℕ) (end : Result ReplyValue Unserved)
       (new : At) : Type 0 where
     pub place : new.place ≡ old.place
     pub call : IsSubmitted claims (opening old.place) old.pass old.by_group asked bytes end new.pass
     pub by_is : new.by_group ≡ believed old.by_group end
 
   -- a command that its unit has moved away from is submitted once more, to the group that was named
-  pub record IsTwice (old : At) (asked : Result ScsiCommand CdbFault) (bytes : List ℕ) (end : Result ReplyValue (Refused Group))
+  pub record IsTwice (old : At) (asked : Result ScsiCommand CdbFault) (bytes : List ℕ) (end : Result ReplyValue Unserved)
       (new : At) : Type 0 where
     pub between : At
-    pub first : Result ReplyValue (Refused Group)
+    pub first : Result ReplyValue Unserved
     pub moved : is_moved first ≡ true
     pub once : IsOnce old asked bytes first between
     pub again : IsOnce between asked bytes end new
@@ -63,7 +75,7 @@ module _ (claims : Bool) (opening : ℕ → UnitState) where
   -- a command is served: it is submitted, once more where its unit has moved, and answered
   pub record IsServed (old : At) (asked : Result ScsiCommand CdbFault) (bytes : List ℕ) (answer : TargetAnswer)
       (new : At) : Type 0 where
-    pub end : Result ReplyValue (Refused Group)
+    pub end : Result ReplyValue Unserved
     pub answer_is : answer ≡ answer_of end
     pub calls : (IsOnce old asked bytes end new × (is_moved end ≡ false)) ⊎ IsTwice old asked bytes end new
 

@@ -1,7 +1,6 @@
 -- What the calls of a session at a unit promise, said of the unit's one history (`unit_history`).
-use Rattle.std.specs.Prelude.{◌⊎◌, ℕ, Bool, List, MatchBool, Result, Ok, Err}
+use Rattle.std.specs.Prelude.{◌≡◌, ◌⊎◌, ℕ, Bool, List, MatchBool, Result, Ok, Err}
 use Rattle.locked_unit.specs.Calls.{Known}
-use Rattle.locked_unit.specs.declared.machine.Refused.{Refused}
 use Rattle.scsi_types.specs.Nexus.{Nexus}
 use Rattle.scsi_types.specs.ReplyValue.{ReplyValue}
 use Rattle.scsi_types.specs.declared.names.Group.{Group}
@@ -9,7 +8,10 @@ use Rattle.scsi_types.specs.declared.command.Command.{Command as ScsiCommand}
 use Rattle.scsi_types.specs.declared.command.CdbFault.{CdbFault}
 use Rattle.unit_state.specs.State.{UnitState}
 use Rattle.unit_state.specs.Entry.{Entry}
+use Rattle.unit_history.specs.Histories.{IsHistory}
 use Rattle.unit_history.specs.Calls.{HasNoRoom, HasServed, HasRefused, HasReset, WasGone, HasRetired}
+use Rattle.portal.specs.declared.units.Unserved.{Unserved}
+use Rattle.portal.specs.declared.units.Unserved.TheVariants.{ByUnit, ByDesk}
 
 -- a unit that opened in this state, over devices whose types claim what is said of a disk or not
 module _ (claims : Bool) (s : UnitState) where
@@ -17,11 +19,13 @@ module _ (claims : Bool) (s : UnitState) where
   abbrev pub IsFull : Nexus → Type 0
   IsFull nexus = (history : List Entry) × HasNoRoom claims s nexus history
 
-  -- what a command comes to that is submitted by this group
-  abbrev pub IsSubmitted : Known Entry → Group → Result ScsiCommand CdbFault → List ℕ → Result ReplyValue (Refused Group)
-      → Known Entry → Type 0
+  -- What a command comes to that is submitted to this group. Where the group's desk does not take it, no unit was asked: the pass is
+  -- as it was, and has seen what it had seen.
+  abbrev pub IsSubmitted : Known Entry → Group → Result ScsiCommand CdbFault → List ℕ → Result ReplyValue Unserved → Known Entry
+      → Type 0
   IsSubmitted old by asked bytes (Ok reply) new = HasServed claims s old new by asked bytes reply
-  IsSubmitted old by asked bytes (Err why) new = HasRefused claims s old new by asked bytes why
+  IsSubmitted old by asked bytes (Err (ByUnit why)) new = HasRefused claims s old new by asked bytes why
+  IsSubmitted old by asked bytes (Err (ByDesk why)) new = (new ≡ old) × IsHistory claims s old.seen
 
   -- the session has reset the unit, or it is gone
   abbrev pub IsResetBy : Known Entry → Bool → Known Entry → Type 0

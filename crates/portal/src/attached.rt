@@ -3,7 +3,8 @@ ghost use Rattle.std.specs.Prelude.{◌≡◌, ◌<◌};
 ghost use Rattle.portal.specs.Submitted.{IsOnce, IsServed, IsResetAnswer, answer_of};
 
 use crate::gate::Gate;
-use crate::units::{LogicalUnits, Pass};
+use crate::units::{LogicalUnits, Pass, Unserved};
+use forwarding::DeskFault;
 use scsi_types::{Asked, Group, Reply};
 use session::{ResetAnswer, TargetAnswer};
 use std::alloc::Global;
@@ -32,14 +33,17 @@ impl<P: Pass> Model for Attached<P> {
 }
 
 /// What a session is answered where a command came to this.
-fn answered(end: Result<Reply, Refused<Group>>) -> TargetAnswer
+fn answered(end: Result<Reply, Unserved>) -> TargetAnswer
     ensures { result ≡ answer_of end }
 {
     match end {
         Ok(reply) => TargetAnswer::Replied(reply),
-        Err(Refused::Gone) => TargetAnswer::Gone,
-        Err(Refused::Moved(_)) => TargetAnswer::Busy,
-        Err(Refused::NoMemory) => TargetAnswer::Busy,
+        Err(Unserved::ByUnit(Refused::Gone)) => TargetAnswer::Gone,
+        Err(Unserved::ByUnit(Refused::Moved(_))) => TargetAnswer::Busy,
+        Err(Unserved::ByUnit(Refused::NoMemory)) => TargetAnswer::Busy,
+        Err(Unserved::ByDesk(DeskFault::Full)) => TargetAnswer::Busy,
+        Err(Unserved::ByDesk(DeskFault::Closed)) => TargetAnswer::Busy,
+        Err(Unserved::ByDesk(DeskFault::NoMemory)) => TargetAnswer::Busy,
     }
 }
 
@@ -77,7 +81,7 @@ impl<P: Pass> Attached<P> {
         unit: u8,
         asked: &Asked,
         bytes: &[u8],
-    ) -> Result<Reply, Refused<Group>>
+    ) -> Result<Reply, Unserved>
         requires { self.old.place < U.unit_count units.now }
         ensures { IsOnce U.claims U.opening self.old asked.now bytes.now result self.new }
     {
@@ -87,7 +91,7 @@ impl<P: Pass> Attached<P> {
         gate.pass(unit, pass.next_serial());
         let (pass, end) = units.serve(rt, alloc, pass, self.by_group, asked, bytes);
         self.pass = Some(pass);
-        if let Err(Refused::Moved(owner)) = end {
+        if let Err(Unserved::ByUnit(Refused::Moved(owner))) = end {
             self.by_group = owner;
         }
         end
@@ -108,7 +112,7 @@ impl<P: Pass> Attached<P> {
         ensures { IsServed U.claims U.opening self.old asked.now bytes.now result self.new }
     {
         match self.submit(rt, alloc, units, gate, unit, asked, bytes) {
-            Err(Refused::Moved(_)) => {
+            Err(Unserved::ByUnit(Refused::Moved(_))) => {
                 answered(self.submit(rt, alloc, units, gate, unit, asked, bytes))
             }
             end => answered(end),

@@ -2,11 +2,12 @@
 //! units.
 #![tactic(auto)]
 
-mod array;
 mod attached;
 mod connection;
+mod controllers;
 mod device;
 mod gate;
+mod lanes;
 mod live;
 mod server;
 mod stacks;
@@ -16,11 +17,13 @@ mod worker;
 
 pub use attached::Attached;
 pub use connection::Connection;
+pub use controllers::Controllers;
 pub use device::TargetDevice;
 pub use gate::{Gate, Open};
+pub use lanes::{LANES, start_lanes};
 pub use live::{EnterFault, LAST_NUMBER, LAST_TSIH, LiveSession, Table};
 pub use server::{Server, Socket, Stop, accept, listen};
 pub use stacks::{SmallStacks, Stacks};
 pub use target::{BeginFault, SessionTarget};
-pub use units::{Full, LogicalUnits, Pass};
+pub use units::{Full, LogicalUnits, Pass, Unserved};
 pub use worker::{serve_session, tag_of};

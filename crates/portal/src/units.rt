@@ -7,6 +7,7 @@ ghost use Rattle.unit_state.specs.Entry.{Entry};
 ghost use Rattle.unit_history.specs.Calls.{HasAttached};
 ghost use Rattle.portal.specs.Units.{IsFull, IsSubmitted, IsResetBy, IsRetired};
 
+use forwarding::DeskFault;
 use scsi_types::{Asked, Group, PortName, Reply};
 use std::alloc::Global;
 use std::sync::Wait;
@@ -15,6 +16,15 @@ use unit_history::Refused;
 /// The unit has no room for a session.
 #[derive(Clone, Copy, Debug, PartialEq, Eq)]
 pub struct Full;
+
+/// Why a command that was submitted has no reply.
+#[derive(Clone, Copy, Debug)]
+pub enum Unserved {
+    /// Its unit did not serve it.
+    ByUnit(Refused<Group>),
+    /// The desk of the group did not take it, and no unit was asked.
+    ByDesk(DeskFault),
+}
 
 /// The one right to add a session's entries to the history of a unit.
 pub trait Pass: Drop {
@@ -48,7 +58,7 @@ pub trait LogicalUnits<P: Pass> {
         ensures attached { IfOk result (λ p. HasAttached claims (opening unit) (through port group) (P.held p).pass) }
         ensures full { OnErr result (IsFull claims (opening unit) (through port group)) };
 
-    /// Submits a command of the session by a group.
+    /// Submits a command of the session to a group.
     fn serve<R: Wait>(
         &self,
         rt: &R,
@@ -57,7 +67,7 @@ pub trait LogicalUnits<P: Pass> {
         by_group: Group,
         asked: &Asked,
         bytes: &[u8],
-    ) -> (P, Result<Reply, Refused<Group>>)
+    ) -> (P, Result<Reply, Unserved>)
         requires unit { (P.held pass).place < unit_count self.now }
         ensures place { (P.held result.0).place ≡ (P.held pass).place }
         ensures end { IsSubmitted claims (opening (P.held pass).place) (P.held pass).pass by_group asked.now bytes.now result.1

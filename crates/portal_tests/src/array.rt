@@ -2,6 +2,7 @@
 ghost use Rattle.std.specs.Prelude.{◌≡◌, ◌≤◌, length};
 ghost use Rattle.unit_history.specs.Naming.{IsNamed};
 
+use crate::behind::Behind;
 use crate::host::Host;
 use crate::latch::Latch;
 use crate::no_room::NoRoom;
@@ -9,7 +10,7 @@ use crate::stage::Stage;
 use crate::units::two;
 use block_file::{Blocks, Opener};
 use numbering::Array as Naming;
-use portal::{Server, Stop, TargetDevice, listen};
+use portal::{Controllers, Server, SmallStacks, Stop, TargetDevice, listen, start_lanes};
 use scsi_types::Group;
 use std::alloc::Global;
 use std::marker::Brand;
@@ -63,7 +64,7 @@ fn bind<R: Net<Listener = TcpListener, Stream = TcpStream>>(
     Ok((listener, address))
 }
 
-// Serves a portal of a group.
+// Serves a portal of a group, whose controller has its lanes.
 fn serve<
     N: Naming<Opened> + Send + Sync + 'static,
     B: Blocks + Drop + Send + Sync + 'static,
@@ -74,12 +75,19 @@ fn serve<
     rt: &R,
     alloc: Global,
     listener: TcpListener,
-    server: &Arc<Server<Units<B, F, O, N>, Latch<R>>, Global>,
+    server: &Arc<Server<Controllers<B, F, O, N>, Latch<R>>, Global>,
     group: Group,
     stacks: NoRoom,
 ) -> Result<Served, Fail> {
+    start_lanes::<N, B, F, O, Latch<R>, R, SmallStacks>(
+        rt,
+        alloc,
+        server,
+        group,
+        &mut SmallStacks,
+    )?;
     let stop = Stop::of(&listener)?;
-    let worker = listen::<R, Units<B, F, O, N>, Latch<R>, Pass<B, F, O, N>, NoRoom>(
+    let worker = listen::<R, Controllers<B, F, O, N>, Latch<R>, Pass<B, F, O, N>, NoRoom>(
         rt, alloc, listener, server, group, stacks,
     )?;
     Ok(Served { stop, worker })
@@ -128,7 +136,11 @@ pub fn perform<
     let (second, second_at) = bind(rt, script.host, script.ports[1])?;
     let units = Units::<B, F, O, N>::new(rt, alloc, new)?;
     let server = Server {
-        device: TargetDevice::new(alloc, units, Latch::open(rt.clone()?)),
+        device: TargetDevice::new(
+            alloc,
+            Controllers::new(alloc, units)?,
+            Latch::open(rt.clone()?),
+        ),
         target_name: Vec::from_slice(alloc, b"iqn.2000-01.test:array")?,
         first: Vec::from_slice(alloc, &[first_at])?,
         second: Vec::from_slice(alloc, &[second_at])?,
@@ -142,10 +154,13 @@ pub fn perform<
     let first = serve::<N, B, F, O, R>(rt, alloc, first, &server, Group::One, stacks)?;
     let second = serve::<N, B, F, O, R>(rt, alloc, second, &server, Group::Two, stacks)?;
     let portals = [found_at(first_at), found_at(second_at)];
-    let mut stage = Stage::new(rt, alloc, &server.device.gate, disk, portals);
+    let controllers = &server.device.units;
+    let behind = Behind { rt, controllers };
+    let mut stage = Stage::new(rt, alloc, &server.device.gate, disk, &behind, portals);
     stage.perform(script.text)?;
     end(rt, first)?;
     end(rt, second)?;
+    controllers.close(rt);
     Ok(([first_at.port(), second_at.port()], stage.into_hosts()))
 }
 

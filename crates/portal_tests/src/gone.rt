@@ -7,7 +7,7 @@ use crate::units::two;
 use block_file::{Blocks, Opener};
 use login::Kind;
 use numbering::Array as Naming;
-use portal::{Connection, Open, SessionTarget, TargetDevice};
+use portal::{Connection, Controllers, Open, SessionTarget, TargetDevice};
 use scsi_types::{Group, decode};
 use session::{BeginAnswer, ResetAnswer, Target, TargetAnswer};
 use std::alloc::Global;
@@ -78,21 +78,21 @@ fn begin_twice<N: Naming<Opened>, B: Blocks, F: Blocks, O: Opener<B>, R: Wait + 
     requires count { length new.items ≤ 8 }
 {
     let units = Units::<B, F, O, N>::new(rt, alloc, new)?;
-    let device = TargetDevice::new(alloc, units, Open);
-    let mut first = SessionTarget::<R, Units<B, F, O, N>, Open, Endless, Pass<B, F, O, N>>::new(
-        rt,
-        alloc,
-        &device,
-        Group::One,
+    let device = TargetDevice::new(alloc, Controllers::new(alloc, units)?, Open);
+    let mut first = SessionTarget::<
+        R,
+        Controllers<B, F, O, N>,
+        Open,
         Endless,
-    );
-    let mut second = SessionTarget::<R, Units<B, F, O, N>, Open, Endless, Pass<B, F, O, N>>::new(
-        rt,
-        alloc,
-        &device,
-        Group::One,
+        Pass<B, F, O, N>,
+    >::new(rt, alloc, &device, Group::One, Endless);
+    let mut second = SessionTarget::<
+        R,
+        Controllers<B, F, O, N>,
+        Open,
         Endless,
-    );
+        Pass<B, F, O, N>,
+    >::new(rt, alloc, &device, Group::One, Endless);
     begin_both(rt, &mut first, &mut second);
     compare(rt, &mut first, &mut second);
     Ok(())

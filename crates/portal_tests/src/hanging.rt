@@ -64,3 +64,65 @@ A < GOOD
 fn a_device_that_hangs_holds_no_other_unit(rt: HostRuntime) -> Result<(), Fail> {
     run(&rt, rt.alloc(), &Script::new(STUCK))
 }
+
+// Unit 1 moves to controller 1, so that both units are served by way of one desk. Eight writes of unit 0 stand before it, and the
+// first that reaches its device hangs there; meanwhile B is served by unit 1, and unit 0's row is read.
+const CROWDED: &str = r#"
+8 enter 1 LOGIN 7:56 HOST_A
+all > TEST_UNIT_READY
+all < CHECK_CONDITION 0012 70000600000000 0A00000000 2900 00000000
+B at 2
+B > LOGIN 7:56 HOST_B
+B < LOGGED_IN 7:36 15:09 WELCOME_2
+B > TEST_UNIT_READY 9:01
+B < CHECK_CONDITION 0012 70000600000000 0A00000000 2900 00000000
+B > WRITE 9:01 7:08 20:00000008 32:A40A00000000000000080000 0000000000000001
+B < GOOD
+gate hold 0
+all > WRITE 5:000200 pattern 512
+gate held 8
+disk hold 0
+gate open
+disk held 1
+B > WRITE 9:01 5:000200 pattern 512
+B < GOOD
+B > TEST_UNIT_READY 1:C1 9:01 20:00000200 32:28000000000500000100
+B < DATA_IN 5:000200 pattern 512
+B < GOOD 36:00000001
+0 shows 17
+disk open
+all < GOOD
+0 shows 25
+"#;
+
+#[test]
+fn eight_sessions_at_a_device_that_hangs_hold_no_other_unit(rt: HostRuntime) -> Result<(), Fail> {
+    run(&rt, rt.alloc(), &Script::new(CROWDED))
+}
+
+// Both desks are closed while A is logged in: each command is BUSY, and what is no command goes on.
+const CLOSED: &str = r#"
+A at 1
+A > LOGIN 7:56 HOST_A
+A < LOGGED_IN 7:36 WELCOME
+A > TEST_UNIT_READY
+A < CHECK_CONDITION 0012 70000600000000 0A00000000 2900 00000000
+A > TEST_UNIT_READY
+A < GOOD
+desks close
+A > TEST_UNIT_READY
+A < GOOD 3:08
+A > WRITE 5:000200 pattern 512
+A < GOOD 3:08
+A > TEST_UNIT_READY 9:01
+A < GOOD 3:08
+A > LOGOUT
+A < LOGGED_OUT
+A over
+0 shows 4
+"#;
+
+#[test]
+fn behind_the_close_of_the_desks_commands_are_busy(rt: HostRuntime) -> Result<(), Fail> {
+    run(&rt, rt.alloc(), &Script::new(CLOSED))
+}

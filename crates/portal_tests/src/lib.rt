@@ -5,6 +5,8 @@
 #[cfg(test)]
 mod array;
 #[cfg(test)]
+mod behind;
+#[cfg(test)]
 mod discovery;
 #[cfg(test)]
 mod fencing;
@@ -16,6 +18,8 @@ mod hanging;
 mod held;
 #[cfg(test)]
 mod host;
+#[cfg(test)]
+mod lanes;
 #[cfg(test)]
 mod latch;
 #[cfg(test)]

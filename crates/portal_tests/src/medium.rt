@@ -59,3 +59,30 @@ B < GOOD 36:00000001
 fn of_two_that_compare_and_write_one_wins(rt: HostRuntime) -> Result<(), Fail> {
     run(&rt, rt.alloc(), &Script::new(COMPARED))
 }
+
+// Data so long that no desk copies it: 64 blocks, of which the last is read.
+const LONG: &str = r#"
+A at 1
+A > LOGIN 7:56 HOST_A
+A < LOGGED_IN 7:36 WELCOME
+A > TEST_UNIT_READY
+A < CHECK_CONDITION 0012 70000600000000 0A00000000 2900 00000000
+B at 2
+B > LOGIN 7:56 HOST_B
+B < LOGGED_IN 7:36 15:02 WELCOME_2
+B > TEST_UNIT_READY
+B < CHECK_CONDITION 0012 70000600000000 0A00000000 2900 00000000
+B > WRITE 5:008000 20:00008000 32:2A000000000500004000 pattern 32768
+B < GOOD
+A > TEST_UNIT_READY 1:C1 20:00000200 32:28000000004400000100
+A < DATA_IN 5:000200 pattern 32256+512
+A < GOOD 36:00000001
+desks close
+B > WRITE 5:008000 20:00008000 32:2A000000000500004000 32768*FF
+B < GOOD 3:08
+"#;
+
+#[test]
+fn long_data_is_written(rt: HostRuntime) -> Result<(), Fail> {
+    run(&rt, rt.alloc(), &Script::new(LONG))
+}

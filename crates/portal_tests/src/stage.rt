@@ -8,8 +8,12 @@
 //! - `AB race PDU / PDU`: of two answers one comes to each; `WON` is the name of the one to whom the first came, in small;
 //! - `64 enter 1 PDU`: so many connections to the portal of controller 1 log in by this PDU, each with another ISID, and
 //!   `all leave PDU`: each of them sends this, is answered by a Logout Response, and the target closes the connection;
+//! - `all > PDU`, `all < PDU`: each of those connections sends it, and each is answered by it;
 //! - `gate hold 1`: from now on commands of unit 1 wait before it; `gate held 2`: once two of them wait; `gate open`; `disk`
-//!   in place of `gate`: the writes of its device wait.
+//!   in place of `gate`: the writes of its device wait;
+//! - `0 shows 3`: the row of unit 0 tells of three entries, whoever has its lock;
+//! - `desks close`: the desks of both controllers are closed.
+use crate::behind::Console;
 use crate::host::{Host, is_text, put};
 use crate::latch::Latch;
 use std::alloc::{AllocError, Global};
@@ -21,11 +25,12 @@ use test_streams::{RowError, lines_of, pdu_of};
 
 /// The hosts of a script, and the array that they reach.
 #[derive(Drop)]
-pub struct Stage<'a, R: Wait + Drop> {
+pub struct Stage<'a, R: Wait + Drop, C: Console> {
     rt: &'a R,
     alloc: Global,
     gate: &'a Latch<R>,
     disk: &'a Latch<R>,
+    behind: &'a C,
     portals: [SocketAddrV4; 2],
     names: Vec<&'a str>,
     // In the order of their names.
@@ -73,20 +78,26 @@ fn number_of(word: &str) -> Result<u32, Fail> {
     Ok(number)
 }
 
-impl<'a, R: Wait + Abort + Net<Listener = TcpListener, Stream = TcpStream> + Drop> Stage<'a, R> {
-    /// A stage before the portals of an array with this gate, whose devices hang at this latch.
+impl<
+    'a,
+    R: Wait + Abort + Net<Listener = TcpListener, Stream = TcpStream> + Drop,
+    C: Console,
+> Stage<'a, R, C> {
+    /// A stage before the portals of an array with this gate, whose devices hang at this latch, and whose console this is.
     pub fn new(
         rt: &'a R,
         alloc: Global,
         gate: &'a Latch<R>,
         disk: &'a Latch<R>,
+        behind: &'a C,
         portals: [SocketAddrV4; 2],
-    ) -> Stage<'a, R> {
+    ) -> Stage<'a, R, C> {
         Stage {
             rt,
             alloc,
             gate,
             disk,
+            behind,
             portals,
             names: Vec::new(alloc),
             hosts: Vec::new(alloc),
@@ -120,6 +131,8 @@ impl<'a, R: Wait + Abort + Net<Listener = TcpListener, Stream = TcpStream> + Dro
         let (verb, rest) = rest.split_once(' ').unwrap_or((rest, ""));
         match verb {
             "at" => self.connect(who, rest),
+            ">" if who == "all" => self.send_all(rest),
+            "<" if who == "all" => self.compare_all(rest),
             ">" => self.send(who, rest),
             "<" => self.compare(who, rest),
             "told" => self.compare_text(who),
@@ -137,6 +150,11 @@ impl<'a, R: Wait + Abort + Net<Listener = TcpListener, Stream = TcpStream> + Dro
             }
             "open" => {
                 self.latch(who).hold(None);
+                Ok(())
+            }
+            "shows" => self.compare_row(who, rest),
+            "close" => {
+                self.behind.close();
                 Ok(())
             }
             _ => Err("a verb".into()),
@@ -237,6 +255,32 @@ impl<'a, R: Wait + Abort + Net<Listener = TcpListener, Stream = TcpStream> + Dro
         Ok(())
     }
 
+    fn send_all(&mut self, line: &str) -> Result<(), Fail> {
+        let mut pdu = self.spelled(line)?;
+        for host in &mut self.crowd {
+            host.send(pdu.as_mut_slice())?;
+        }
+        Ok(())
+    }
+
+    fn compare_all(&mut self, line: &str) -> Result<(), Fail> {
+        let mut wanted = self.spelled(line)?;
+        for host in &mut self.crowd {
+            compare_one(self.rt, self.alloc, host, wanted.as_mut_slice())?;
+        }
+        Ok(())
+    }
+
+    fn compare_row(&self, unit: &str, entries: &str) -> Result<(), Fail> {
+        let shown = self.behind.entries(unit_of(unit)?);
+        let wanted = u64::from(number_of(entries)?);
+        assert!(self.rt;
+            shown == Some(wanted),
+            "{unit} shows {entries}, and not {shown:?}"
+        );
+        Ok(())
+    }
+
     fn leave(&mut self, line: &str) -> Result<(), Fail> {
         let mut pdu = self.spelled(line)?;
         for host in &mut self.crowd {
@@ -261,6 +305,18 @@ fn entered<R: Abort + Net<Listener = TcpListener, Stream = TcpStream>>(
     assert_eq!(rt; came.first(), Some(&0x23), "{number}");
     assert_eq!(rt; came.get(36..38), Some([0u8, 0].as_slice()), "{number}");
     Ok(host)
+}
+
+// A host is answered by this.
+fn compare_one<R: Abort>(
+    rt: &R,
+    alloc: Global,
+    host: &mut Host,
+    wanted: &mut [u8],
+) -> Result<(), Fail> {
+    let came = host.receive(alloc)?;
+    assert!(rt; host.is_answer(came.as_slice(), wanted), "all < {came:?}");
+    Ok(())
 }
 
 // A host that sends this logs out.

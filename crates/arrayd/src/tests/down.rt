@@ -8,6 +8,7 @@ use crate::serve::Watched;
 use aptpl_file::{FILE_BLOCKS, RegFile};
 use block_file::{Blocks, FusedOpener, KeepOpener, MemBlocks, Opener};
 use numbering::Array as Naming;
+use portal::Controllers;
 use reservations::Record;
 use scsi_types::Place;
 use std::alloc::Global;
@@ -70,17 +71,18 @@ fn said<N: Naming<Opened>, B: Blocks, F: Blocks, O: Opener<B>, R: Wait>(
     requires count { length new.items ≤ 8 }
 {
     let units = Units::<B, F, O, N>::new(rt, alloc, new)?;
-    answered(rt, alloc, &units, lines)
+    let controllers = Controllers::new(alloc, units)?;
+    answered(rt, alloc, &controllers, lines)
 }
 
 fn answered<'a, N: Naming<Opened>, B: Blocks, F: Blocks, O: Opener<B>, R: Wait>(
     rt: &'a R,
     alloc: Global,
-    units: &'a Units<B, F, O, N>,
+    controllers: &'a Controllers<B, F, O, N>,
     lines: &[u8],
 ) -> Result<String, Fail> {
     let mut written = Vec::new(alloc);
-    let mut watched = Watched { rt, units };
+    let mut watched = Watched { rt, controllers };
     console(alloc, lines, &mut written, &mut watched);
     Ok(String::from_utf8(written)?)
 }

@@ -4,10 +4,11 @@ use std::alloc::Global;
 use std::io::{self, BufReader, Read, Write};
 use std::test::*;
 
-// Two units, which count how often they were asked and flushed. Of controller 2 unit 1 does not move.
+// Two units, which count how often they were asked, and flushed behind the close. Of controller 2 unit 1 does not move.
 #[derive(Drop)]
 struct Two {
     asked: u32,
+    closed: u32,
     flushed: u32,
 }
 
@@ -44,8 +45,12 @@ impl Array for Two {
         }
     }
 
+    fn close(&mut self) {
+        self.closed = self.closed.saturating_add(1);
+    }
+
     fn flush(&mut self) {
-        self.flushed = self.flushed.saturating_add(1);
+        self.flushed = self.flushed.saturating_add(self.closed);
     }
 }
 
@@ -58,6 +63,7 @@ unit 1 owner 2 states 3 0 generation 0 keys 0 type 0 entries 0
 fn said(alloc: Global, lines: &str) -> Result<(String, u32), Fail> {
     let mut array = Two {
         asked: 0,
+        closed: 0,
         flushed: 0,
     };
     let mut written = Vec::new(alloc);

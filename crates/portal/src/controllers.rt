@@ -1,0 +1,134 @@
+//! The controllers of an array: its units, each under its lock, and the desk of each controller.
+ghost use Rattle.std.specs.Prelude.{◌≡◌, IfOk};
+
+use crate::units::{Full, LogicalUnits, Pass, Unserved};
+use block_file::{Blocks, Opener};
+use forwarding::Desk;
+use numbering::Array;
+use scsi_types::{Asked, Group, NoMemory, PortName, Reply};
+use std::alloc::Global;
+use std::marker::Model;
+use std::sync::Wait;
+use unit_history::{Opened, Pass as UnitPass, Units};
+
+impl<B: Blocks, R: Blocks, O: Opener<B>, N: Array<Opened>> Pass for UnitPass<B, R, O, N> {
+    ghost held = { λ p. p };
+
+    fn next_serial(&self) -> u64 {
+        self.serial()
+    }
+}
+
+/// The units of an array, and a desk for each controller, to which sessions of both hand the commands of the units that it owns.
+/// Contracts see how many units there are.
+#[derive(Drop)]
+pub struct Controllers<B: Blocks, R: Blocks, O: Opener<B>, N: Array<Opened>> {
+    units: Units<B, R, O, N>,
+    first: Desk<B, R, O, N>,
+    second: Desk<B, R, O, N>,
+}
+
+impl<B: Blocks, R: Blocks, O: Opener<B>, N: Array<Opened>> Model for Controllers<B, R, O, N> {
+    ghost use Rattle.std.specs.Prelude.{◌≡◌, ℕ};
+    ghost use Rattle.scsi_types.specs.declared.names.Group.TheVariants.{One, Two};
+
+    ghost Value = { ℕ };
+
+    ghost view = { λ c. c.units };
+
+    ghost invariant = { λ c. (c.first ≡ One) × (c.second ≡ Two) };
+}
+
+impl<B: Blocks, R: Blocks, O: Opener<B>, N: Array<Opened>> Controllers<B, R, O, N> {
+    /// Two controllers with these units. No lane is at their desks yet.
+    pub fn new(alloc: Global, units: Units<B, R, O, N>) -> Result<Controllers<B, R, O, N>, NoMemory>
+        ensures { IfOk result (λ controllers. controllers ≡ units) }
+    {
+        Ok(Controllers {
+            units,
+            first: Desk::new(alloc, Group::One)?,
+            second: Desk::new(alloc, Group::Two)?,
+        })
+    }
+
+    /// The units.
+    pub fn units(&self) -> &Units<B, R, O, N>
+        ensures { result.now ≡ self.now }
+    {
+        &self.units
+    }
+
+    /// The desk of a group's controller.
+    pub fn desk(&self, group: Group) -> &Desk<B, R, O, N>
+        ensures { result.now ≡ group }
+    {
+        match group {
+            Group::One => &self.first,
+            Group::Two => &self.second,
+        }
+    }
+
+    /// Closes both desks: from now on they take no command. The lanes serve those that wait, and end.
+    pub fn close<W: Wait>(&self, rt: &W) {
+        self.first.close(rt);
+        self.second.close(rt);
+    }
+}
+
+impl<B: Blocks, R: Blocks, O: Opener<B>, N: Array<Opened>> LogicalUnits<UnitPass<B, R, O, N>>
+    for Controllers<B, R, O, N> {
+    ghost use Rattle.std.specs.Prelude.{◌&&◌};
+
+    ghost unit_count = { λ c. c };
+
+    ghost claims = { O.claims && B.claims };
+
+    ghost opening = { N.opening };
+
+    fn units(&self) -> u8 {
+        self.units.count() as u8
+    }
+
+    fn attach<W: Wait>(
+        &self,
+        rt: &W,
+        unit: u8,
+        port: PortName,
+        group: Group,
+    ) -> Result<UnitPass<B, R, O, N>, Full> {
+        match self.units.attach(rt, usize::from(unit), port, group) {
+            Ok(pass) => Ok(pass),
+            Err(_) => Err(Full),
+        }
+    }
+
+    // By way of the group's desk.
+    fn serve<W: Wait>(
+        &self,
+        rt: &W,
+        alloc: Global,
+        pass: UnitPass<B, R, O, N>,
+        by_group: Group,
+        asked: &Asked,
+        bytes: &[u8],
+    ) -> (UnitPass<B, R, O, N>, Result<Reply, Unserved>) {
+        let desk = self.desk(by_group);
+        match desk.serve(rt, alloc, &self.units, pass, asked, bytes) {
+            (pass, Ok(Ok(reply))) => (pass, Ok(reply)),
+            (pass, Ok(Err(why))) => (pass, Err(Unserved::ByUnit(why))),
+            (pass, Err(fault)) => {
+                // What its pass has seen is legal, as the place tells.
+                let _place = pass.place();
+                (pass, Err(Unserved::ByDesk(fault)))
+            }
+        }
+    }
+
+    fn reset<W: Wait>(&self, rt: &W, pass: UnitPass<B, R, O, N>) -> (UnitPass<B, R, O, N>, bool) {
+        self.units.reset(rt, pass)
+    }
+
+    fn retire<W: Wait>(&self, rt: &W, pass: UnitPass<B, R, O, N>) {
+        let _ = self.units.retire(rt, pass);
+    }
+}
