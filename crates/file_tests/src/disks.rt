@@ -1,97 +1,129 @@
 //! A disk that is a file: what is written, and what becomes of it.
-use crate::files::{folder, make, reads, within, writes};
+use crate::files::{beside, made, make, opened, reads, want, writes};
 use block_file::{Blocks, Opener};
-use disk_files::open_disk;
+use disk_files::Disk;
 use std::fs;
 use std::fs::File;
 use std::test::Fail;
 
 #[test]
 fn what_is_written_is_there_after_a_restart(rt: HostRuntime) -> Result<(), Fail> {
-    let alloc = rt.alloc();
-    let folder = folder(&rt, "restart")?;
-    let path = within(alloc, folder.as_str(), "disk")?;
-    make(&rt, path.as_str(), 4 * 512)?;
-    let Ok(mut disk) = open_disk(rt, alloc, path.as_str()) else {
-        panic!(rt; "the disk is not opened")
-    };
-    assert_eq!(rt; disk.blocks.count(), 4);
-    assert!(rt; reads(&mut disk.blocks, 0, &[0, 0, 0, 0]));
-    assert!(rt; writes(&mut disk.blocks, 1, &[7, 8]));
-    assert!(rt; writes(&mut disk.blocks, 3, &[9]));
-    assert!(rt; disk.blocks.flush().is_ok());
-    drop(disk);
-    let Ok(mut disk) = open_disk(rt, alloc, path.as_str()) else {
-        panic!(rt; "the disk is not opened again")
-    };
-    assert!(rt; reads(&mut disk.blocks, 0, &[0, 7, 8, 9]));
-    assert!(rt; reads(&mut disk.blocks, 2, &[8, 9]));
+    let path = made(&rt, "restart", 4 * 512)?;
+    are_written(rt, path.as_str())?;
+    are_there(rt, path.as_str())?;
     let bytes = fs::read(&rt, path.as_str())?;
-    assert_eq!(rt; bytes.len(), 2048);
-    assert_eq!(rt;
-        [bytes[511], bytes[512], bytes[1024], bytes[2047]],
-        [0, 7, 8, 9]
-    );
-    Ok(())
+    lie_in_turn(bytes.as_slice())
+}
+
+fn are_written(rt: HostRuntime, path: &str) -> Result<(), Fail> {
+    let mut disk = opened(rt, path)?;
+    write_three(&mut disk)
+}
+
+fn write_three(disk: &mut Disk<HostRuntime>) -> Result<(), Fail> {
+    want(disk.blocks.count() == 4, "four blocks")?;
+    want(reads(&mut disk.blocks, 0, &[0, 0, 0, 0]), "zeros at first")?;
+    want(
+        writes(&mut disk.blocks, 1, &[7, 8]),
+        "a write of two blocks",
+    )?;
+    want(writes(&mut disk.blocks, 3, &[9]), "a write of the last")?;
+    want(disk.blocks.flush().is_ok(), "a flush")
+}
+
+fn are_there(rt: HostRuntime, path: &str) -> Result<(), Fail> {
+    let mut disk = opened(rt, path)?;
+    read_them(&mut disk)
+}
+
+fn read_them(disk: &mut Disk<HostRuntime>) -> Result<(), Fail> {
+    want(reads(&mut disk.blocks, 0, &[0, 7, 8, 9]), "all four")?;
+    want(reads(&mut disk.blocks, 2, &[8, 9]), "the last two")
+}
+
+fn lie_in_turn(bytes: &[u8]) -> Result<(), Fail> {
+    if bytes.len() != 2048 {
+        return Err("the file's length".into());
+    }
+    let ends = [bytes[511], bytes[512], bytes[1024], bytes[2047]];
+    want(ends == [0, 7, 8, 9], "the file's bytes")
+}
+
+// Whether the other controller opens the disk. The lock on it is held all the while.
+fn opens(disk: &mut Disk<HostRuntime>) -> bool {
+    disk.opener.open(&mut disk.blocks).is_ok()
 }
 
 #[test]
 fn a_disk_that_is_opened_anew_has_the_same_blocks(rt: HostRuntime) -> Result<(), Fail> {
-    let alloc = rt.alloc();
-    let folder = folder(&rt, "anew")?;
-    let path = within(alloc, folder.as_str(), "disk")?;
-    make(&rt, path.as_str(), 2 * 512)?;
-    let Ok(mut disk) = open_disk(rt, alloc, path.as_str()) else {
-        panic!(rt; "the disk is not opened")
-    };
-    assert!(rt; writes(&mut disk.blocks, 0, &[5, 6]));
-    // The lock on the disk is held all the while.
-    assert!(rt; disk.opener.open(&mut disk.blocks).is_ok());
-    assert!(rt; reads(&mut disk.blocks, 0, &[5, 6]));
-    assert!(rt; writes(&mut disk.blocks, 1, &[7]));
-    assert!(rt; disk.opener.open(&mut disk.blocks).is_ok());
-    assert!(rt; reads(&mut disk.blocks, 0, &[5, 7]));
-    Ok(())
+    let path = made(&rt, "anew", 2 * 512)?;
+    let mut disk = opened(rt, path.as_str())?;
+    is_opened_twice(&mut disk)
+}
+
+fn is_opened_twice(disk: &mut Disk<HostRuntime>) -> Result<(), Fail> {
+    want(writes(&mut disk.blocks, 0, &[5, 6]), "a write")?;
+    want(opens(disk), "an open")?;
+    want(reads(&mut disk.blocks, 0, &[5, 6]), "what was written")?;
+    want(writes(&mut disk.blocks, 1, &[7]), "a write behind it")?;
+    want(opens(disk), "a second open")?;
+    want(reads(&mut disk.blocks, 0, &[5, 7]), "what was written then")
 }
 
 #[test]
 fn a_file_that_took_its_name_is_not_opened(rt: HostRuntime) -> Result<(), Fail> {
-    let alloc = rt.alloc();
-    let folder = folder(&rt, "replaced")?;
-    let path = within(alloc, folder.as_str(), "disk")?;
-    let other = within(alloc, folder.as_str(), "other")?;
-    make(&rt, path.as_str(), 2 * 512)?;
+    let path = made(&rt, "replaced", 2 * 512)?;
+    let mut disk = opened(rt, path.as_str())?;
+    loses_its_name(rt, path.as_str(), &mut disk)
+}
+
+fn loses_its_name(rt: HostRuntime, path: &str, disk: &mut Disk<HostRuntime>) -> Result<(), Fail> {
+    want(writes(&mut disk.blocks, 0, &[5, 6]), "a write")?;
+    replace(rt, path)?;
+    want(!opens(disk), "another file is not opened")?;
+    want(reads(&mut disk.blocks, 0, &[5, 6]), "the blocks stay")?;
+    fs::remove_file(&rt, path)?;
+    want(!opens(disk), "no file is not opened")?;
+    want(
+        reads(&mut disk.blocks, 0, &[5, 6]),
+        "the blocks stay once more",
+    )
+}
+
+// Another file takes the name.
+fn replace(rt: HostRuntime, path: &str) -> Result<(), Fail> {
+    let other = beside(rt.alloc(), path, "_other")?;
     make(&rt, other.as_str(), 2 * 512)?;
-    let Ok(mut disk) = open_disk(rt, alloc, path.as_str()) else {
-        panic!(rt; "the disk is not opened")
-    };
-    assert!(rt; writes(&mut disk.blocks, 0, &[5, 6]));
-    fs::rename(&rt, other.as_str(), path.as_str())?;
-    assert!(rt; disk.opener.open(&mut disk.blocks).is_err());
-    assert!(rt; reads(&mut disk.blocks, 0, &[5, 6]));
-    fs::remove_file(&rt, path.as_str())?;
-    assert!(rt; disk.opener.open(&mut disk.blocks).is_err());
-    assert!(rt; reads(&mut disk.blocks, 0, &[5, 6]));
+    fs::rename(&rt, other.as_str(), path)?;
     Ok(())
 }
 
 #[test]
 fn a_file_that_is_cut_short_fails(rt: HostRuntime) -> Result<(), Fail> {
-    let alloc = rt.alloc();
-    let folder = folder(&rt, "cut")?;
-    let path = within(alloc, folder.as_str(), "disk")?;
-    make(&rt, path.as_str(), 4 * 512)?;
-    let Ok(mut disk) = open_disk(rt, alloc, path.as_str()) else {
-        panic!(rt; "the disk is not opened")
-    };
-    assert!(rt; writes(&mut disk.blocks, 0, &[5, 6, 7, 8]));
-    let file = File::options().write(true).open(&rt, path.as_str())?;
+    let path = made(&rt, "cut", 4 * 512)?;
+    let mut disk = opened(rt, path.as_str())?;
+    want(writes(&mut disk.blocks, 0, &[5, 6, 7, 8]), "a write")?;
+    cut(rt, path.as_str())?;
+    fails(&mut disk)?;
+    want(
+        fs::read(&rt, path.as_str())?.len() == 1024,
+        "the file stays so long",
+    )
+}
+
+fn cut(rt: HostRuntime, path: &str) -> Result<(), Fail> {
+    let file = File::options().write(true).open(&rt, path)?;
     file.set_len(2 * 512)?;
-    assert!(rt; reads(&mut disk.blocks, 0, &[5, 6]));
-    assert!(rt; !reads(&mut disk.blocks, 1, &[6, 7]));
-    assert!(rt; !reads(&mut disk.blocks, 3, &[8]));
-    assert!(rt; !writes(&mut disk.blocks, 3, &[9]));
-    assert!(rt; disk.opener.open(&mut disk.blocks).is_err());
-    assert_eq!(rt; fs::read(&rt, path.as_str())?.len(), 1024);
     Ok(())
+}
+
+fn fails(disk: &mut Disk<HostRuntime>) -> Result<(), Fail> {
+    want(reads(&mut disk.blocks, 0, &[5, 6]), "what is left")?;
+    want(
+        !reads(&mut disk.blocks, 1, &[6, 7]),
+        "a read across the end",
+    )?;
+    want(!reads(&mut disk.blocks, 3, &[8]), "a read behind the end")?;
+    want(!writes(&mut disk.blocks, 3, &[9]), "a write behind the end")?;
+    want(!opens(disk), "an open")
 }

@@ -1,22 +1,32 @@
 //! Files of a test, and runs of blocks, each told by the byte that fills it.
 use block_file::Blocks;
+use disk_files::{Disk, open_disk};
 use std::alloc::Global;
 use std::fs::{File, Files};
 use std::test::Fail;
 use std::{fs, io, process};
 
-/// The folder of a test, made anew.
-pub fn folder(rt: &HostRuntime, name: &str) -> Result<String, Fail> {
-    let alloc = rt.alloc();
-    let folder = format!(in alloc; "/tmp/arrayd_{}_{name}", process::id(rt.process()))?;
+/// Fails, unless this holds.
+pub fn want(holds: bool, what: &'static str) -> Result<(), Fail> {
+    if holds { Ok(()) } else { Err(what.into()) }
+}
+
+// The folder of a test, made anew.
+fn folder(rt: &HostRuntime, name: &str) -> Result<String, Fail> {
+    let folder = format!(in rt.alloc(); "/tmp/arrayd_{}_{name}", process::id(rt.process()))?;
     let _ = fs::remove_dir_all(rt, folder.as_str());
     fs::create_dir(rt, folder.as_str())?;
     Ok(folder)
 }
 
-/// A name in a folder.
-pub fn within(alloc: Global, folder: &str, name: &str) -> Result<String, Fail> {
-    Ok(format!(in alloc; "{folder}/{name}")?)
+/// The path of a test's disk, in a folder of its own; it is not there yet.
+pub fn disk(rt: &HostRuntime, name: &str) -> Result<String, Fail> {
+    beside(rt.alloc(), folder(rt, name)?.as_str(), "/disk")
+}
+
+/// A path with this behind it.
+pub fn beside(alloc: Global, path: &str, end: &str) -> Result<String, Fail> {
+    Ok(format!(in alloc; "{path}{end}")?)
 }
 
 /// Makes a file of so many zero bytes.
@@ -24,6 +34,21 @@ pub fn make(rt: &HostRuntime, path: &str, bytes: u64) -> Result<(), Fail> {
     let file = File::create(rt, path)?;
     file.set_len(bytes)?;
     Ok(())
+}
+
+/// The path of a test's disk of so many zero bytes.
+pub fn made(rt: &HostRuntime, name: &str, bytes: u64) -> Result<String, Fail> {
+    let path = disk(rt, name)?;
+    make(rt, path.as_str(), bytes)?;
+    Ok(path)
+}
+
+/// Opens a disk.
+pub fn opened(rt: HostRuntime, path: &str) -> Result<Disk<HostRuntime>, Fail> {
+    match open_disk(rt, rt.alloc(), path) {
+        Ok(disk) => Ok(disk),
+        Err(_) => Err("a disk that is opened".into()),
+    }
 }
 
 /// Four blocks, which these bytes fill in turn.

@@ -1,4 +1,5 @@
 //! Flushes after one that failed.
+use crate::files::want;
 use block_file::Blocks;
 use disk_files::FileBlocks;
 use std::cell::Cell;
@@ -64,31 +65,41 @@ impl OpenFile for Flushed {
     }
 }
 
+// A device of that file.
+fn device(fails_at: Option<u32>) -> Result<FileBlocks<Flushed>, Fail> {
+    match FileBlocks::of(Flushed::new(fails_at)) {
+        Ok(device) => Ok(device),
+        Err(_) => Err("a device".into()),
+    }
+}
+
+fn flushes(device: &mut FileBlocks<Flushed>) -> bool {
+    device.flush().is_ok()
+}
+
 #[test]
-fn no_flush_makes_good_one_that_failed(rt: HostRuntime) -> Result<(), Fail> {
-    let Ok(mut device) = FileBlocks::of(Flushed::new(Some(1))) else {
-        panic!(rt; "no device")
-    };
-    assert_eq!(rt; device.count(), 4);
-    assert!(rt; device.flush().is_ok());
-    assert!(rt; device.flush().is_err());
-    assert!(rt; device.flush().is_err());
-    assert!(rt; device.flush().is_err());
+fn no_flush_makes_good_one_that_failed(_rt: HostRuntime) -> Result<(), Fail> {
+    let mut device = device(Some(1))?;
+    want(device.count() == 4, "four blocks")?;
+    want(flushes(&mut device), "the first flush")?;
+    for _ in 0..3 {
+        want(!flushes(&mut device), "a flush from the second on")?;
+    }
     Ok(())
 }
 
 // The flushes of the new handle would all be done.
 #[test]
-fn nor_does_one_behind_an_open(rt: HostRuntime) -> Result<(), Fail> {
-    for (fails_at, is_done) in [(None, true), (Some(0), false)] {
-        let Ok(mut device) = FileBlocks::of(Flushed::new(fails_at)) else {
-            panic!(rt; "no device")
-        };
-        assert_eq!(rt; device.flush().is_ok(), is_done, "{fails_at:?}");
-        for _ in 0..2 {
-            assert!(rt; device.renew(Flushed::new(None)).is_ok());
-            assert_eq!(rt; device.flush().is_ok(), is_done, "{fails_at:?}");
-        }
+fn nor_does_one_behind_an_open(_rt: HostRuntime) -> Result<(), Fail> {
+    is_renewed(&mut device(None)?, true)?;
+    is_renewed(&mut device(Some(0))?, false)
+}
+
+fn is_renewed(device: &mut FileBlocks<Flushed>, is_done: bool) -> Result<(), Fail> {
+    want(flushes(device) == is_done, "the first flush")?;
+    for _ in 0..2 {
+        want(device.renew(Flushed::new(None)).is_ok(), "an open")?;
+        want(flushes(device) == is_done, "a flush behind it")?;
     }
     Ok(())
 }

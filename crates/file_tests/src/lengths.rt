@@ -1,89 +1,85 @@
 //! Which files are devices of blocks.
-use crate::files::{folder, make, within};
+use crate::files::{disk, make, want};
+use block_file::Blocks;
 use disk_files::{FileBlocks, FileFault, blocks_in};
+use std::alloc::Global;
 use std::test::Fail;
 
-/// A length in bytes, and how many blocks there are or why not.
-struct Row {
-    bytes: u64,
-    blocks: Result<u32, FileFault>,
-}
-
-const ROWS: &[Row] = &[
-    Row {
-        bytes: 0,
-        blocks: Err(FileFault::Empty),
-    },
-    Row {
-        bytes: 1,
-        blocks: Err(FileFault::Length),
-    },
-    Row {
-        bytes: 511,
-        blocks: Err(FileFault::Length),
-    },
-    Row {
-        bytes: 512,
-        blocks: Ok(1),
-    },
-    Row {
-        bytes: 513,
-        blocks: Err(FileFault::Length),
-    },
-    Row {
-        bytes: 1_048_576,
-        blocks: Ok(2048),
-    },
-];
+/// Lengths in bytes, and how many blocks there are or why not.
+const ROWS: &str = "
+0 Err(Empty)
+1 Err(Length)
+511 Err(Length)
+512 Ok(1)
+513 Err(Length)
+1048576 Ok(2048)
+";
 
 /// Lengths that no file of a test has.
-const LONG_ROWS: &[Row] = &[
-    Row {
-        bytes: 0x1FF_FFFF_FE00,
-        blocks: Ok(0xFFFF_FFFF),
-    },
-    Row {
-        bytes: 0x1FF_FFFF_FFFF,
-        blocks: Err(FileFault::Length),
-    },
-    Row {
-        bytes: 0x200_0000_0000,
-        blocks: Err(FileFault::TooLong),
-    },
-];
+const LONG_ROWS: &str = "
+2199023255040 Ok(4294967295)
+2199023255551 Err(Length)
+2199023255552 Err(TooLong)
+";
 
-#[test]
-fn each_length_has_its_blocks(rt: HostRuntime) -> Result<(), Fail> {
-    for row in ROWS {
-        assert_eq!(rt; blocks_in(row.bytes), row.blocks, "{}", row.bytes);
+// The length of a row, and what it says.
+fn row(line: &str) -> Result<(u64, &str), Fail> {
+    let (bytes, want) = line.split_once(' ').ok_or("a row of two words")?;
+    Ok((bytes.parse()?, want))
+}
+
+// Compares what is found with what a row says.
+fn compare(alloc: Global, found: Result<u32, FileFault>, want: &str) -> Result<(), Fail> {
+    let found = format!(in alloc; "{found:?}")?;
+    if found.as_str() != want {
+        return Err(Fail::new(format_args!("{found}, not {want}")));
     }
-    for row in LONG_ROWS {
-        assert_eq!(rt; blocks_in(row.bytes), row.blocks, "{}", row.bytes);
+    Ok(())
+}
+
+fn has_its_blocks(alloc: Global, rows: &str) -> Result<(), Fail> {
+    for line in rows.trim().lines() {
+        let (bytes, want) = row(line)?;
+        compare(alloc, blocks_in(bytes), want)?;
     }
     Ok(())
 }
 
 #[test]
+fn each_length_has_its_blocks(rt: HostRuntime) -> Result<(), Fail> {
+    has_its_blocks(rt.alloc(), ROWS)?;
+    has_its_blocks(rt.alloc(), LONG_ROWS)
+}
+
+// How many blocks the device of a file has.
+fn count(rt: HostRuntime, path: &str) -> Result<u32, FileFault> {
+    match FileBlocks::open(&rt, path) {
+        Ok(device) => Ok(device.count()),
+        Err(fault) => Err(fault),
+    }
+}
+
+#[test]
 fn each_file_has_its_blocks(rt: HostRuntime) -> Result<(), Fail> {
-    let alloc = rt.alloc();
-    let folder = folder(&rt, "lengths")?;
-    let path = within(alloc, folder.as_str(), "disk")?;
-    for row in ROWS {
-        make(&rt, path.as_str(), row.bytes)?;
-        let fault = FileBlocks::open(&rt, path.as_str()).err();
-        assert_eq!(rt; fault, row.blocks.err(), "{}", row.bytes);
+    let path = disk(&rt, "lengths")?;
+    each_is_made(rt, path.as_str())
+}
+
+fn each_is_made(rt: HostRuntime, path: &str) -> Result<(), Fail> {
+    for line in ROWS.trim().lines() {
+        let (bytes, want) = row(line)?;
+        make(&rt, path, bytes)?;
+        compare(rt.alloc(), count(rt, path), want)?;
     }
     Ok(())
 }
 
 #[test]
 fn what_cannot_be_opened(rt: HostRuntime) -> Result<(), Fail> {
-    let alloc = rt.alloc();
-    let folder = folder(&rt, "opened")?;
-    let none = within(alloc, folder.as_str(), "none")?;
-    let fault = FileBlocks::open(&rt, none.as_str()).err();
-    assert_eq!(rt; fault, Some(FileFault::NotThere));
-    let fault = FileBlocks::open(&rt, folder.as_str()).err();
-    assert_eq!(rt; fault, Some(FileFault::NotOpened));
-    Ok(())
+    let path = disk(&rt, "opened")?;
+    want(
+        count(rt, path.as_str()) == Err(FileFault::NotThere),
+        "no file",
+    )?;
+    want(count(rt, "/tmp") == Err(FileFault::NotOpened), "a folder")
 }

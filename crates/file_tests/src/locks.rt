@@ -1,42 +1,49 @@
 //! One server a disk.
-use crate::files::{folder, make, within};
+use crate::files::{beside, disk, made, make, opened, want};
 use disk_files::{DiskFault, FileFault, open_disk};
 use std::fs;
 use std::test::Fail;
 
+// A disk by its three names.
+const NAMES: [&str; 3] = ["", "_link", "_symlink"];
+
 #[test]
 fn a_second_unit_on_a_disk_is_refused(rt: HostRuntime) -> Result<(), Fail> {
-    let alloc = rt.alloc();
-    let folder = folder(&rt, "locks")?;
-    let path = within(alloc, folder.as_str(), "disk")?;
-    let link = within(alloc, folder.as_str(), "link")?;
-    let symlink = within(alloc, folder.as_str(), "symlink")?;
-    make(&rt, path.as_str(), 512)?;
-    fs::hard_link(&rt, path.as_str(), link.as_str())?;
-    std::os::unix::fs::symlink(&rt, path.as_str(), symlink.as_str())?;
-    let Ok(disk) = open_disk(rt, alloc, path.as_str()) else {
-        panic!(rt; "the disk is not opened")
-    };
-    for name in [&path, &link, &symlink] {
-        let fault = open_disk(rt, alloc, name.as_str()).err();
-        assert_eq!(rt; fault, Some(DiskFault::InUse), "{name}");
-    }
+    let path = made(&rt, "locks", 512)?;
+    link(rt, path.as_str())?;
+    let disk = opened(rt, path.as_str())?;
+    each_ends(rt, path.as_str(), Some(DiskFault::InUse))?;
     drop(disk);
-    for name in [&path, &link, &symlink] {
-        assert!(rt; open_disk(rt, alloc, name.as_str()).is_ok(), "{name}");
+    each_ends(rt, path.as_str(), None)
+}
+
+fn link(rt: HostRuntime, path: &str) -> Result<(), Fail> {
+    let link = beside(rt.alloc(), path, "_link")?;
+    fs::hard_link(&rt, path, link.as_str())?;
+    let symlink = beside(rt.alloc(), path, "_symlink")?;
+    std::os::unix::fs::symlink(&rt, path, symlink.as_str())?;
+    Ok(())
+}
+
+fn each_ends(rt: HostRuntime, path: &str, want: Option<DiskFault>) -> Result<(), Fail> {
+    for name in NAMES {
+        let path = beside(rt.alloc(), path, name)?;
+        if open_disk(rt, rt.alloc(), path.as_str()).err() != want {
+            return Err(Fail::new(format_args!("{path}")));
+        }
     }
     Ok(())
 }
 
 #[test]
 fn a_disk_that_is_no_device(rt: HostRuntime) -> Result<(), Fail> {
-    let alloc = rt.alloc();
-    let folder = folder(&rt, "no_device")?;
-    let path = within(alloc, folder.as_str(), "disk")?;
-    let fault = open_disk(rt, alloc, path.as_str()).err();
-    assert_eq!(rt; fault, Some(DiskFault::File(FileFault::NotThere)));
+    let path = disk(&rt, "no_device")?;
+    is_no_device(rt, path.as_str(), FileFault::NotThere)?;
     make(&rt, path.as_str(), 700)?;
-    let fault = open_disk(rt, alloc, path.as_str()).err();
-    assert_eq!(rt; fault, Some(DiskFault::File(FileFault::Length)));
-    Ok(())
+    is_no_device(rt, path.as_str(), FileFault::Length)
+}
+
+fn is_no_device(rt: HostRuntime, path: &str, fault: FileFault) -> Result<(), Fail> {
+    let found = open_disk(rt, rt.alloc(), path).err();
+    want(found == Some(DiskFault::File(fault)), "why it is no device")
 }

@@ -1,5 +1,5 @@
 //! The registration file beside a disk.
-use crate::files::{folder, make, within};
+use crate::files::{beside, disk, want};
 use aptpl_file::OpenFault;
 use disk_files::{FileFault, RegistrationsFault, open_registrations};
 use reservations::{PrOut, Record, Registry};
@@ -38,71 +38,91 @@ fn keys_of(alloc: Global, record: &Record) -> Result<Vec<u64>, Fail> {
 
 #[test]
 fn a_saved_record_is_there_after_a_restart(rt: HostRuntime) -> Result<(), Fail> {
-    let alloc = rt.alloc();
-    let folder = folder(&rt, "saved")?;
-    let disk = within(alloc, folder.as_str(), "disk")?;
-    for (found, saved) in [(None, 0x11), (Some(0x11), 0x22), (Some(0x22), 0x33)] {
-        let Ok((mut file, record)) = open_registrations(&rt, alloc, disk.as_str()) else {
-            panic!(rt; "{saved}")
-        };
-        assert_eq!(rt; record.aptpl(), found.is_some(), "{saved}");
-        assert_eq!(rt; keys_of(alloc, &record)?.first().copied(), found, "{saved}");
-        let record = record_of(alloc, saved)?;
-        assert!(rt; file.save(&record.lasting()).is_ok(), "{saved}");
+    let path = disk(&rt, "saved")?;
+    is_saved(rt, path.as_str(), None, 0x11)?;
+    is_saved(rt, path.as_str(), Some(0x11), 0x22)?;
+    is_saved(rt, path.as_str(), Some(0x22), 0x33)?;
+    want(
+        length(rt, path.as_str(), ".reg")? == Some(67 * 512),
+        "the file",
+    )?;
+    want(
+        length(rt, path.as_str(), ".reg.new")? == None,
+        "no other file",
+    )
+}
+
+// The length of a file beside a disk, if it is there.
+fn length(rt: HostRuntime, path: &str, end: &str) -> Result<Option<usize>, Fail> {
+    let path = beside(rt.alloc(), path, end)?;
+    match fs::read(&rt, path.as_str()) {
+        Ok(bytes) => Ok(Some(bytes.len())),
+        Err(_) => Ok(None),
     }
-    let reg = within(alloc, folder.as_str(), "disk.reg")?;
-    assert_eq!(rt; fs::read(&rt, reg.as_str())?.len(), 67 * 512);
-    let new = within(alloc, folder.as_str(), "disk.reg.new")?;
-    assert!(rt; fs::read(&rt, new.as_str()).is_err());
-    Ok(())
+}
+
+// The file of a disk has the record of this key, or nothing, and then this one is saved.
+fn is_saved(rt: HostRuntime, path: &str, found: Option<u64>, key: u64) -> Result<(), Fail> {
+    let Ok((mut file, record)) = open_registrations(&rt, rt.alloc(), path) else {
+        return Err("a registration file".into());
+    };
+    is_found(rt.alloc(), &record, found)?;
+    let record = record_of(rt.alloc(), key)?;
+    want(file.save(&record.lasting()).is_ok(), "a save")
+}
+
+fn is_found(alloc: Global, record: &Record, found: Option<u64>) -> Result<(), Fail> {
+    want(record.aptpl() == found.is_some(), "APTPL")?;
+    let keys = keys_of(alloc, record)?;
+    want(keys.first().copied() == found, "the key")
 }
 
 #[test]
 fn what_a_stop_left_of_a_file_is_made_anew(rt: HostRuntime) -> Result<(), Fail> {
-    let alloc = rt.alloc();
-    let folder = folder(&rt, "left")?;
-    let disk = within(alloc, folder.as_str(), "disk")?;
-    let new = within(alloc, folder.as_str(), "disk.reg.new")?;
-    fs::write(&rt, new.as_str(), "half of it")?;
-    assert!(rt; open_registrations(&rt, alloc, disk.as_str()).is_ok());
-    assert!(rt; fs::read(&rt, new.as_str()).is_err());
+    let path = disk(&rt, "left")?;
+    put(rt, path.as_str(), ".reg.new", b"half of it")?;
+    want(fault(rt, path.as_str()) == None, "an open")?;
+    want(length(rt, path.as_str(), ".reg.new")? == None, "it is gone")
+}
+
+// Writes a file beside a disk.
+fn put(rt: HostRuntime, path: &str, end: &str, bytes: &[u8]) -> Result<(), Fail> {
+    let path = beside(rt.alloc(), path, end)?;
+    fs::write(&rt, path.as_str(), bytes)?;
     Ok(())
+}
+
+// Why the registration file of a disk is not opened.
+fn fault(rt: HostRuntime, path: &str) -> Option<RegistrationsFault> {
+    open_registrations(&rt, rt.alloc(), path).err()
 }
 
 #[test]
 fn a_file_that_is_no_registration_file_stays(rt: HostRuntime) -> Result<(), Fail> {
-    let alloc = rt.alloc();
-    let folder = folder(&rt, "other")?;
-    let disk = within(alloc, folder.as_str(), "disk")?;
-    let reg = within(alloc, folder.as_str(), "disk.reg")?;
-    make(&rt, reg.as_str(), 67 * 512)?;
-    let fault = open_registrations(&rt, alloc, disk.as_str()).err();
-    assert_eq!(rt;
-        fault,
-        Some(RegistrationsFault::Held(OpenFault::NotARegFile))
-    );
-    let zeros = vec![in alloc; 0u8; 67 * 512]?;
-    assert_eq!(rt; fs::read(&rt, reg.as_str())?.as_slice(), zeros.as_slice());
-    make(&rt, reg.as_str(), 512)?;
-    let fault = open_registrations(&rt, alloc, disk.as_str()).err();
-    assert_eq!(rt;
-        fault,
-        Some(RegistrationsFault::Held(OpenFault::NotARegFile))
-    );
-    assert_eq!(rt; fs::read(&rt, reg.as_str())?.len(), 512);
-    fs::write(&rt, reg.as_str(), "text")?;
-    let fault = open_registrations(&rt, alloc, disk.as_str()).err();
-    assert_eq!(rt; fault, Some(RegistrationsFault::File(FileFault::Length)));
-    assert_eq!(rt; fs::read(&rt, reg.as_str())?.as_slice(), b"text".as_slice());
-    Ok(())
+    let path = disk(&rt, "other")?;
+    let none = RegistrationsFault::Held(OpenFault::NotARegFile);
+    let zeros = vec![in rt.alloc(); 0u8; 67 * 512]?;
+    stays(rt, path.as_str(), zeros.as_slice(), none)?;
+    stays(rt, path.as_str(), &zeros[..512], none)?;
+    let no_blocks = RegistrationsFault::File(FileFault::Length);
+    stays(rt, path.as_str(), b"text", no_blocks)
+}
+
+// A registration file of these bytes is not opened for this fault, and stays as it is.
+fn stays(rt: HostRuntime, path: &str, bytes: &[u8], why: RegistrationsFault) -> Result<(), Fail> {
+    put(rt, path, ".reg", bytes)?;
+    want(fault(rt, path) == Some(why), "why it is not opened")?;
+    let path = beside(rt.alloc(), path, ".reg")?;
+    let found = fs::read(&rt, path.as_str())?;
+    want(found.as_slice() == bytes, "it stays")
 }
 
 #[test]
 fn a_folder_that_is_not_there(rt: HostRuntime) -> Result<(), Fail> {
-    let alloc = rt.alloc();
-    let folder = folder(&rt, "nowhere")?;
-    let disk = within(alloc, folder.as_str(), "none/disk")?;
-    let fault = open_registrations(&rt, alloc, disk.as_str()).err();
-    assert_eq!(rt; fault, Some(RegistrationsFault::NotMade));
-    Ok(())
+    let path = disk(&rt, "nowhere")?;
+    let path = beside(rt.alloc(), path.as_str(), "/none")?;
+    want(
+        fault(rt, path.as_str()) == Some(RegistrationsFault::NotMade),
+        "why it is not made",
+    )
 }

@@ -1,4 +1,4 @@
-//! Scripts of PERSISTENT RESERVE OUT, as rows of data, and what each step must leave.
+//! Scripts of PERSISTENT RESERVE OUT, as lines of text, and what each step must leave.
 #![tactic(auto)]
 
 #[cfg(test)]
@@ -10,8 +10,12 @@ mod data_bytes;
 #[cfg(test)]
 mod every_port;
 #[cfg(test)]
+mod full;
+#[cfg(test)]
 mod model;
 #[cfg(test)]
-mod script;
+mod row;
+#[cfg(test)]
+mod run;
 #[cfg(test)]
 mod scripts;

@@ -2,13 +2,12 @@
 //! requests drawn by a fixed seed that runs on both.
 ghost use Rattle.std.specs.Prelude.{◌<◌};
 
-use crate::script::{
-    A, A_TWO, B, B_TWO, Want, Who, asking, ends_so, held_data, keys_data, port_of, tells,
-};
+use crate::row::{A, A_TWO, B, B_TWO, Fault, Step, Want, Who, asking};
+use crate::run::{check, expect};
 use reservations::{PrOut, Registry};
 use scsi_types::{NoMemory, PrOutAction, UnitAttention};
 use std::alloc::Global;
-use std::process::Abort;
+use std::test::Fail;
 
 // Two ports, each through both groups.
 const NEXUSES: [Who; 4] = [A, A_TWO, B, B_TWO];
@@ -186,38 +185,30 @@ impl Model {
         codes
     }
 
-    fn step(
-        &mut self,
-        by: usize,
-        action: PrOutAction,
-        kind: u8,
-        key: u64,
-        sakey: u64,
-        all_tg_pt: bool,
-        aptpl: bool,
-    ) -> (Want, Codes)
+    fn step(&mut self, by: usize, asked: PrOut) -> (Want, Codes)
         requires { by < 4 }
     {
-        if action == PrOutAction::Reserve && !is_type(kind) {
+        if asked.action == PrOutAction::Reserve && !is_type(asked.kind) {
             return (Want::Illegal(0x24, 0), [None; 4]);
         }
         let own = self.keys[by];
-        let must_be_registered = action != PrOutAction::Register;
-        if action != PrOutAction::RegisterAndIgnoreExistingKey
-            && (key != own || own == 0 && must_be_registered)
+        let must_be_registered = asked.action != PrOutAction::Register;
+        if asked.action != PrOutAction::RegisterAndIgnoreExistingKey
+            && (asked.key != own || own == 0 && must_be_registered)
         {
             return (Want::Conflict, [None; 4]);
         }
-        let these = senders(by, all_tg_pt);
-        match action {
+        match asked.action {
             PrOutAction::Register | PrOutAction::RegisterAndIgnoreExistingKey => {
-                (Want::Good, self.set_keys(these, sakey, aptpl))
+                let these = senders(by, asked.all_tg_pt);
+                (Want::Good, self.set_keys(these, asked.sakey, asked.aptpl))
             }
-            PrOutAction::Reserve => (self.reserve(by, kind), [None; 4]),
-            PrOutAction::Release => self.release(by, kind),
+            PrOutAction::Reserve => (self.reserve(by, asked.kind), [None; 4]),
+            PrOutAction::Release => self.release(by, asked.kind),
             PrOutAction::Clear => (Want::Good, self.clear(by)),
-            PrOutAction::Preempt => self.preempt(by, kind, sakey),
-            PrOutAction::PreemptAndAbort => self.preempt(by, kind, sakey),
+            PrOutAction::Preempt | PrOutAction::PreemptAndAbort => {
+                self.preempt(by, asked.kind, asked.sakey)
+            }
         }
     }
 
@@ -269,64 +260,55 @@ fn told_of(alloc: Global, codes: Codes) -> Result<Vec<(Who, UnitAttention)>, NoM
     Ok(told)
 }
 
-fn registered_keys(alloc: Global, model: &Model) -> Result<Vec<u64>, NoMemory> {
-    let mut keys = Vec::new(alloc);
-    for key in &model.keys {
+fn registered_keys(alloc: Global, keys: &[u64; 4]) -> Result<Vec<u64>, NoMemory> {
+    let mut registered = Vec::new(alloc);
+    for key in keys {
         if *key != 0 {
-            keys.push(*key)?;
+            registered.push(*key)?;
         }
     }
-    Ok(keys)
+    Ok(registered)
+}
+
+// A request of a nexus that has this key, mostly with it.
+fn drawn(draws: &mut Draws, own: u64) -> PrOut {
+    let action = ACTIONS[draws.below(7)];
+    let kind = TYPES[draws.below(8)];
+    let other = KEYS[draws.below(4)];
+    let key = if draws.below(8) == 0 { other } else { own };
+    let sakey = KEYS[draws.below(4)];
+    PrOut {
+        all_tg_pt: draws.below(2) == 0,
+        aptpl: draws.below(2) == 0,
+        ..asking(action, kind, key, sakey)
+    }
 }
 
 // One request that is drawn, on both.
-fn one_step<R: AllocGlobal + Abort>(
-    rt: &R,
-    place: u32,
+fn one_step(
+    alloc: Global,
     draws: &mut Draws,
     model: &mut Model,
     registry: &mut Registry,
-) -> Result<(), NoMemory> {
-    let alloc = rt.alloc();
+) -> Result<(), Fault> {
     let by = draws.below(4);
-    let action = ACTIONS[draws.below(7)];
-    let kind = TYPES[draws.below(8)];
-    let drawn = KEYS[draws.below(4)];
-    let key = if draws.below(8) == 0 {
-        drawn
-    } else {
-        model.keys[by]
+    let asked = drawn(draws, model.keys[by]);
+    let (want, codes) = model.step(by, asked);
+    let step = Step {
+        by: NEXUSES[by],
+        asked,
+        want,
+        generation: model.generation,
+        held: model.held(),
+        told: told_of(alloc, codes)?,
+        keys: registered_keys(alloc, &model.keys)?,
     };
-    let sakey = KEYS[draws.below(4)];
-    let all_tg_pt = draws.below(2) == 0;
-    let aptpl = draws.below(2) == 0;
-    let (want, codes) = model.step(by, action, kind, key, sakey, all_tg_pt, aptpl);
-    let who = NEXUSES[by];
-    let found = registry.copy()?;
-    let end = registry.out(
-        &port_of(alloc, who)?,
-        who.2,
-        PrOut {
-            all_tg_pt,
-            aptpl,
-            ..asking(action, kind, key, sakey)
-        },
-    );
-    assert_eq!(rt; registry.lasting().aptpl(), model.aptpl, "step {place}");
-    assert!(rt; ends_so(&end, want), "step {place}: {end:?}, not {want:?}");
-    assert!(rt;
-        tells(alloc, &found, &end, &told_of(alloc, codes)?)?,
-        "step {place}: {end:?}"
-    );
-    let keys = keys_data(alloc, model.generation, &registered_keys(alloc, model)?)?;
-    assert_eq!(rt; registry.keys(4096)?, keys, "step {place}");
-    let held = held_data(alloc, model.generation, model.held())?;
-    assert_eq!(rt; registry.reservation(4096)?, held, "step {place}");
-    Ok(())
+    check(alloc, registry, &step)?;
+    expect(registry.lasting().aptpl() == model.aptpl, "APTPL")
 }
 
 #[test]
-fn a_thousand_requests(rt: HostRuntime) -> Result<(), NoMemory> {
+fn a_thousand_requests(rt: HostRuntime) -> Result<(), Fail> {
     let mut registry = Registry::new(rt.alloc())?;
     let mut draws = Draws(2026);
     let mut model = Model {
@@ -336,8 +318,8 @@ fn a_thousand_requests(rt: HostRuntime) -> Result<(), NoMemory> {
         aptpl: false,
         generation: 0,
     };
-    for place in 0..1000 {
-        one_step(&rt, place, &mut draws, &mut model, &mut registry)?;
+    for _ in 0..1000 {
+        one_step(rt.alloc(), &mut draws, &mut model, &mut registry)?;
     }
     Ok(())
 }

@@ -1,59 +1,43 @@
 //! Scripts over several steps.
-use crate::script::{Step, Want, run, steps};
-use reservations::Registry;
-use scsi_types::NoMemory;
+use crate::run::run;
+use std::test::Fail;
 
-const THE_HOLDER_IS_PREEMPTED: &[Step] = steps! {
-    A Register (0, 0, 0x11) => Want::Good; []; 1; [0x11]; (0, 0),
-    B Register (0, 0, 0x22) => Want::Good; []; 2; [0x11, 0x22]; (0, 0),
-    C Register (0, 0, 0x11) => Want::Good; []; 3; [0x11, 0x22, 0x11]; (0, 0),
-    D Register (0, 0, 0x33) => Want::Good; []; 4; [0x11, 0x22, 0x11, 0x33]; (0, 0),
-    A Reserve (5, 0x11, 0) => Want::Good; []; 4; [0x11, 0x22, 0x11, 0x33]; (0x11, 5),
-    B Preempt (6, 0x22, 0x11) => Want::Good;
-        [A RegistrationsPreempted, C RegistrationsPreempted, D ReservationsReleased]; 5; [0x22, 0x33]; (0x22, 6),
-};
+const ROWS: &str = "
+the holder is preempted
+A Register 0 0 11; Good;; 1; 11; 0 0
+B Register 0 0 22; Good;; 2; 11 22; 0 0
+C Register 0 0 11; Good;; 3; 11 22 11; 0 0
+D Register 0 0 33; Good;; 4; 11 22 11 33; 0 0
+A Reserve 5 11 0; Good;; 4; 11 22 11 33; 11 5
+B Preempt 6 22 11; Good; A:RegistrationsPreempted C:RegistrationsPreempted D:ReservationsReleased; 5; 22 33; 22 6
 
-const ALL_REGISTRANTS_HOLD_UNTIL_THE_LAST: &[Step] = steps! {
-    A Register (0, 0, 0x11) => Want::Good; []; 1; [0x11]; (0, 0),
-    B Register (0, 0, 0x22) => Want::Good; []; 2; [0x11, 0x22]; (0, 0),
-    A Reserve (7, 0x11, 0) => Want::Good; []; 2; [0x11, 0x22]; (0, 7),
-    B Reserve (7, 0x22, 0) => Want::Good; []; 2; [0x11, 0x22]; (0, 7),
-    B Reserve (8, 0x22, 0) => Want::Conflict; []; 2; [0x11, 0x22]; (0, 7),
-    A Register (0, 0x11, 0) => Want::Good; []; 3; [0x22]; (0, 7),
-    B Register (0, 0x22, 0) => Want::Good; []; 4; []; (0, 0),
-    A Register (0, 0, 0x11) => Want::Good; []; 5; [0x11]; (0, 0),
-    A Reserve (8, 0x11, 0) => Want::Good; []; 5; [0x11]; (0, 8),
-    A Preempt (0, 0x11, 0x11) => Want::Good; []; 6; []; (0, 0),
-};
+all registrants hold until the last
+A Register 0 0 11; Good;; 1; 11; 0 0
+B Register 0 0 22; Good;; 2; 11 22; 0 0
+A Reserve 7 11 0; Good;; 2; 11 22; 0 7
+B Reserve 7 22 0; Good;; 2; 11 22; 0 7
+B Reserve 8 22 0; Conflict;; 2; 11 22; 0 7
+A Register 0 11 0; Good;; 3; 22; 0 7
+B Register 0 22 0; Good;; 4;; 0 0
+A Register 0 0 11; Good;; 5; 11; 0 0
+A Reserve 8 11 0; Good;; 5; 11; 0 8
+A Preempt 0 11 11; Good;; 6;; 0 0
 
-const ALL_REGISTRANTS_ARE_PREEMPTED: &[Step] = steps! {
-    A Register (0, 0, 0x11) => Want::Good; []; 1; [0x11]; (0, 0),
-    B Register (0, 0, 0x22) => Want::Good; []; 2; [0x11, 0x22]; (0, 0),
-    C Register (0, 0, 0x33) => Want::Good; []; 3; [0x11, 0x22, 0x33]; (0, 0),
-    A Reserve (8, 0x11, 0) => Want::Good; []; 3; [0x11, 0x22, 0x33]; (0, 8),
-    B Preempt (8, 0x22, 0x33) => Want::Good; [C RegistrationsPreempted]; 4; [0x11, 0x22]; (0, 8),
-    B Preempt (9, 0x22, 0) => Want::Illegal(0x24, 0); []; 4; [0x11, 0x22]; (0, 8),
-    B Preempt (3, 0x22, 0) => Want::Good; [A RegistrationsPreempted]; 5; [0x22]; (0x22, 3),
-    B Release (3, 0x22, 0) => Want::Good; []; 5; [0x22]; (0, 0),
-    A Register (0, 0, 0x11) => Want::Good; []; 6; [0x11, 0x22]; (0, 0),
-    A Reserve (7, 0x11, 0) => Want::Good; []; 6; [0x11, 0x22]; (0, 7),
-    B Release (7, 0x22, 0) => Want::Good; [A ReservationsReleased]; 6; [0x11, 0x22]; (0, 0),
-};
+all registrants are preempted
+A Register 0 0 11; Good;; 1; 11; 0 0
+B Register 0 0 22; Good;; 2; 11 22; 0 0
+C Register 0 0 33; Good;; 3; 11 22 33; 0 0
+A Reserve 8 11 0; Good;; 3; 11 22 33; 0 8
+B Preempt 8 22 33; Good; C:RegistrationsPreempted; 4; 11 22; 0 8
+B Preempt 9 22 0; Illegal 24 00;; 4; 11 22; 0 8
+B Preempt 3 22 0; Good; A:RegistrationsPreempted; 5; 22; 22 3
+B Release 3 22 0; Good;; 5; 22; 0 0
+A Register 0 0 11; Good;; 6; 11 22; 0 0
+A Reserve 7 11 0; Good;; 6; 11 22; 0 7
+B Release 7 22 0; Good; A:ReservationsReleased; 6; 11 22; 0 0
+";
 
 #[test]
-fn over_several_steps(rt: HostRuntime) -> Result<(), NoMemory> {
-    for (name, script) in [
-        ("the holder is preempted", THE_HOLDER_IS_PREEMPTED),
-        (
-            "all registrants hold until the last",
-            ALL_REGISTRANTS_HOLD_UNTIL_THE_LAST,
-        ),
-        (
-            "all registrants are preempted",
-            ALL_REGISTRANTS_ARE_PREEMPTED,
-        ),
-    ] {
-        run(&rt, &mut Registry::new(rt.alloc())?, name, script)?;
-    }
-    Ok(())
+fn over_several_steps(rt: HostRuntime) -> Result<(), Fail> {
+    run(rt.alloc(), ROWS)
 }
