@@ -12,19 +12,19 @@ use Rattle.scsi_types.specs.Nexus.{Port, Nexus}
 use Rattle.scsi_types.specs.declared.names.Group.{Group}
 use Rattle.scsi_types.specs.declared.command.Command.{Command as ScsiCommand}
 use Rattle.scsi_types.specs.declared.command.CdbFault.{CdbFault}
-use Rattle.session.specs.Asking.{Asking, began, lives, served, reset, over}
-use Rattle.session.specs.Phases.{asked, exchanges}
+use Rattle.session_rules.specs.Asking.{Asking, began, lives, served, reset, over}
+use Rattle.session_rules.specs.Phases.{asked, exchanges}
 use Rattle.session.specs.Transcript.{IsTranscribed}
-use Rattle.session.specs.Turn.{Leads}
-use Rattle.session.specs.declared.end.End.{End}
-use Rattle.session.specs.declared.identity.Identity.{Identity}
-use Rattle.session.specs.declared.opening.Opening.TheVariants.{Login}
-use Rattle.session.specs.declared.target.BeginAnswer.{BeginAnswer}
-use Rattle.session.specs.declared.target.BeginAnswer.TheVariants.{Begun, Refused}
-use Rattle.session.specs.declared.target.TargetAnswer.{TargetAnswer}
-use Rattle.session.specs.declared.target.TargetAnswer.TheVariants.{Replied, Outside, Busy, Gone}
-use Rattle.session.specs.declared.target.ResetAnswer.{ResetAnswer}
-use Rattle.session.specs.declared.target.ResetAnswer.TheVariants as resets
+use Rattle.session_rules.specs.Turn.{Leads}
+use Rattle.session_rules.specs.declared.end.End.{End}
+use Rattle.session_rules.specs.declared.identity.Identity.{Identity}
+use Rattle.session_rules.specs.declared.opening.Opening.TheVariants.{Login}
+use Rattle.session_rules.specs.declared.target.BeginAnswer.{BeginAnswer}
+use Rattle.session_rules.specs.declared.target.BeginAnswer.TheVariants.{Begun, Refused}
+use Rattle.session_rules.specs.declared.target.TargetAnswer.{TargetAnswer}
+use Rattle.session_rules.specs.declared.target.TargetAnswer.TheVariants.{Replied, Outside, Busy, Gone}
+use Rattle.session_rules.specs.declared.target.ResetAnswer.{ResetAnswer}
+use Rattle.session_rules.specs.declared.target.ResetAnswer.TheVariants as resets
 use Rattle.unit_state.specs.State.{UnitState}
 use Rattle.unit_state.specs.Entry.{Entry, Attach}
 use Rattle.unit_history.specs.Histories.{IsHistory}

@@ -11,12 +11,12 @@ use Rattle.scsi_types.specs.declared.names.Group.{Group}
 use Rattle.scsi_types.specs.declared.command.Command.{Command as ScsiCommand}
 use Rattle.scsi_types.specs.declared.command.CdbFault.{CdbFault}
 use Rattle.scsi_types.specs.declared.status.Status.TheVariants.{Good}
-use Rattle.session.specs.Asking.{Asking, began, lives, served, reset, over}
-use Rattle.session.specs.declared.target.BeginAnswer.TheVariants.{Begun, Refused}
-use Rattle.session.specs.declared.target.TargetAnswer.{TargetAnswer}
-use Rattle.session.specs.declared.target.TargetAnswer.TheVariants.{Replied, Outside, Busy, Gone}
-use Rattle.session.specs.declared.target.ResetAnswer.{ResetAnswer}
-use Rattle.session.specs.declared.target.ResetAnswer.TheVariants as resets
+use Rattle.session_rules.specs.Asking.{Asking, began, lives, served, reset, over}
+use Rattle.session_rules.specs.declared.target.BeginAnswer.TheVariants.{Begun, Refused}
+use Rattle.session_rules.specs.declared.target.TargetAnswer.{TargetAnswer}
+use Rattle.session_rules.specs.declared.target.TargetAnswer.TheVariants.{Replied, Outside, Busy, Gone}
+use Rattle.session_rules.specs.declared.target.ResetAnswer.{ResetAnswer}
+use Rattle.session_rules.specs.declared.target.ResetAnswer.TheVariants as resets
 use Rattle.unit_state.specs.State.{UnitState}
 use Rattle.unit_history.specs.Calls.{HasAttached}
 use Rattle.portal.specs.Units.{IsFull, IsRetired}

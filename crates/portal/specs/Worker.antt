@@ -2,10 +2,10 @@
 use Rattle.std.specs.Prelude.{ℕ, Bool, List, Option}
 use Rattle.scsi_types.specs.declared.names.Group.{Group}
 use Rattle.scsi_types.specs.declared.names.Group.TheVariants.{One, Two}
-use Rattle.session.specs.declared.end.End.{End}
-use Rattle.session.specs.declared.identity.Identity.{Identity}
-use Rattle.session.specs.declared.opening.Opening.TheVariants.{Login}
-use Rattle.session.specs.Phases.{asked, exchanges}
+use Rattle.session_rules.specs.declared.end.End.{End}
+use Rattle.session_rules.specs.declared.identity.Identity.{Identity}
+use Rattle.session_rules.specs.declared.opening.Opening.TheVariants.{Login}
+use Rattle.session_rules.specs.Phases.{asked, exchanges}
 use Rattle.session.specs.Transcript.{IsTranscribed}
 use Rattle.unit_state.specs.State.{UnitState}
 use Rattle.portal.specs.Entries.{AreAnswered}

@@ -1,6 +1,6 @@
 //! What a session's worker runs.
 ghost use Rattle.std.specs.Prelude.{◌≡◌, [], IfOk, OnErr};
-ghost use Rattle.session.specs.declared.end.End.TheVariants.{InputFailed, OutputFailed};
+ghost use Rattle.session_rules.specs.declared.end.End.TheVariants.{InputFailed, OutputFailed};
 ghost use Rattle.session.specs.Transcript.{IsFailureOf};
 ghost use Rattle.portal.specs.Worker.{IsSession, tag_of};
 

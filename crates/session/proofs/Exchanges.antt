@@ -7,21 +7,21 @@ use Rattle.std.proofs.Math.Nat.{mod-add-mod}
 use Rattle.login.specs.Progress.{Progress, beginning}
 use Rattle.login.specs.Request.{kind_in}
 use Rattle.login.specs.declared.status.Kind.{Kind}
-use Rattle.session.specs.declared.identity.Identity.{Identity}
-use Rattle.session.specs.declared.opening.Opening.{Opening}
-use Rattle.session.specs.declared.opening.Opening.TheVariants.{Login, FullFeature}
-use Rattle.session.specs.declared.session.Start.{Start}
-use Rattle.session.specs.Setting.{Setting, setting_of}
-use Rattle.session.specs.Turn.{Incoming, Turn}
-use Rattle.session.specs.Window.{wrap}
-use Rattle.session.specs.Legal.{end_after, GoesOn, Lawful}
-use Rattle.session.specs.Counters.{Counters, begun}
-use Rattle.session.specs.MachineTurn.{TurnOf}
-use Rattle.session.specs.LoginPhase.{LoginTurn, LoginStanding, progress_after, progress_behind, cmd_sn_in, first_cmd_sn, login_standing, login_after, IsLoginTurn, login_end, begins, IsStart}
-use Rattle.session.specs.Phases.{Transcript, Exchange, of_login, of_turn, exchanges, NoneEnds, NoneBegins, IsLogin, IsBehindLogin, IsLawful}
+use Rattle.session_rules.specs.declared.identity.Identity.{Identity}
+use Rattle.session_rules.specs.declared.opening.Opening.{Opening}
+use Rattle.session_rules.specs.declared.opening.Opening.TheVariants.{Login, FullFeature}
+use Rattle.session_rules.specs.declared.start.Start.{Start}
+use Rattle.session_rules.specs.Setting.{Setting, setting_of}
+use Rattle.session_rules.specs.Turn.{Incoming, Turn}
+use Rattle.session_rules.specs.Window.{wrap}
+use Rattle.session_rules.specs.Legal.{end_after, GoesOn, Lawful}
+use Rattle.full_feature.specs.Counters.{Counters, begun}
+use Rattle.full_feature.specs.MachineTurn.{TurnOf}
+use Rattle.session_rules.specs.LoginPhase.{LoginTurn, LoginStanding, progress_after, progress_behind, cmd_sn_in, first_cmd_sn, login_standing, login_after, IsLoginTurn, login_end, begins, IsStart}
+use Rattle.session_rules.specs.Phases.{Transcript, Exchange, of_login, of_turn, exchanges, NoneEnds, NoneBegins, IsLogin, IsBehindLogin, IsLawful}
 use Rattle.session.specs.Stream.{PhasesValue, NextPhase, ExchangeOf, OpensWith, IsFresh}
-use Rattle.session.proofs.Table.{all_append}
-use Rattle.session.proofs.Lawful.{at_each_more, at_each_none, at_each_of_more, at_each_of_none, Stands, stands_more, stands_none}
+use Rattle.session_rules.proofs.AtEach.{all_append, at_each_more, at_each_none, at_each_of_more, at_each_of_none}
+use Rattle.full_feature.proofs.Lawful.{Stands, stands_more, stands_none}
 
 -- ---- lists
 

@@ -1,5 +1,5 @@
 -- What is known between two turns of a session, and how a turn, a read and an end carry it on.
-use Rattle.std.proofs.Common.{Bool, true, false, ◌≡◌, ◌⊎◌, ℕ, ◌+◌, ◌<◌, ◌≤◌, true, false, List, [], ◌∷◌, ◌++◌, Option, Some, None, length, take, drop, refl, sym, ap, subst, subst₂, ◌∙◌, arith, inl, inr, append_assoc, length-append, length-take-le, length-take}
+use Rattle.std.proofs.Common.{Bool, true, false, ◌≡◌, ◌⊎◌, ℕ, ◌+◌, ◌<◌, ◌≤◌, List, [], ◌∷◌, ◌++◌, Option, Some, None, length, take, drop, refl, sym, ap, subst, subst₂, ◌∙◌, arith, inl, inr, append_assoc, length-append, length-take-le, length-take}
 use Rattle.std.proofs.lemmas.List.{append-nil, take-append-drop, map-append, take-take}
 use Rattle.std.proofs.lemmas.List.Elements.{filter_map-append}
 use Rattle.std.proofs.lemmas.Grind.{flat_map-append}
@@ -12,35 +12,35 @@ use Rattle.iscsi_pdu.specs.Spelling.{spelling}
 use Rattle.iscsi_pdu.specs.declared.header.Header.{Header}
 use Rattle.iscsi_pdu.specs.declared.header.Header.TheVariants.{Initiator, Target}
 use Rattle.iscsi_pdu.specs.declared.header.InitiatorHeader.TheVariants.{LogoutRequest}
-use Rattle.session.specs.Logout.{closes}
+use Rattle.session_rules.specs.Logout.{closes}
 use Rattle.iscsi_pdu.specs.declared.fault.PduFault.{PduFault}
-use Rattle.session.specs.declared.end.End.{End}
-use Rattle.session.specs.declared.end.End.TheVariants.{EndOfInput, InputFailed, OutputFailed, Protocol, Reinstated, LoggedOut}
-use Rattle.session.specs.declared.target.TargetAnswer.{TargetAnswer}
-use Rattle.session.specs.declared.target.TargetAnswer.TheVariants.{Replied, Outside, Busy, Gone}
-use Rattle.session.specs.declared.verdict.Verdict.{Verdict}
-use Rattle.session.specs.declared.verdict.Verdict.TheVariants.{Accepted, Full, Ignored, Gap, Refused}
-use Rattle.session.specs.declared.target.ResetAnswer.{ResetAnswer}
-use Rattle.session.specs.declared.target.ResetAnswer.TheVariants as resets
-use Rattle.session.specs.Asking.{Asking, served, reset}
-use Rattle.session.specs.declared.outbox.TheConstants.{ENOUGH_TO_WRITE}
-use Rattle.session.specs.Source.{AppendsFrom, Rises}
-use Rattle.session.specs.Inbox.{Filled}
-use Rattle.session.specs.Turn.{Incoming, pdu, faulty, Out, bytes_of, Spells, Leads}
+use Rattle.session_rules.specs.declared.end.End.{End}
+use Rattle.session_rules.specs.declared.end.End.TheVariants.{EndOfInput, InputFailed, OutputFailed, Protocol, Reinstated, LoggedOut}
+use Rattle.session_rules.specs.declared.target.TargetAnswer.{TargetAnswer}
+use Rattle.session_rules.specs.declared.target.TargetAnswer.TheVariants.{Replied, Outside, Busy, Gone}
+use Rattle.session_rules.specs.declared.verdict.Verdict.{Verdict}
+use Rattle.session_rules.specs.declared.verdict.Verdict.TheVariants.{Accepted, Full, Ignored, Gap, Refused}
+use Rattle.session_rules.specs.declared.target.ResetAnswer.{ResetAnswer}
+use Rattle.session_rules.specs.declared.target.ResetAnswer.TheVariants as resets
+use Rattle.session_rules.specs.Asking.{Asking, served, reset}
+use Rattle.pdu_stream.specs.declared.outbox.TheConstants.{ENOUGH_TO_WRITE}
+use Rattle.pdu_stream.specs.Source.{AppendsFrom, Rises}
+use Rattle.pdu_stream.specs.Inbox.{Filled}
+use Rattle.session_rules.specs.Turn.{Incoming, pdu, faulty, Out, bytes_of, Spells, Leads, IsLed}
 use Rattle.iscsi_pdu.specs.declared.TheConstants.{BHS_LENGTH}
-use Rattle.session.specs.Legal.{end_by, end_by_reset, end_of_call, end_of_accepted, end_after}
-use Rattle.session.specs.Ends.{NoneWhole, StandsBehind, EndsWith, most_bytes, EndsBy}
-use Rattle.session.specs.LoginPhase.{LoginStanding, login_end}
-use Rattle.session.specs.Phases.{Transcript, Exchange, exchanges, incoming, asked, outgoing, NoneEnds}
-use Rattle.session.specs.declared.identity.Identity.{Identity}
-use Rattle.session.specs.declared.opening.Opening.{Opening}
-use Rattle.session.specs.declared.login_phase.LoginOutcome.{LoginOutcome}
-use Rattle.session.specs.declared.login_phase.LoginOutcome.TheVariants as outcomes
-use Rattle.session.specs.Counters.{Counters}
-use Rattle.session.specs.Outbox.{OutboxValue, IsOut, IsWritten, IsClosed, IsClosedAs}
-use Rattle.session.specs.Stream.{IsLed, PhasesValue, ExchangeOf, MakesExchange}
+use Rattle.session_rules.specs.Legal.{end_by, end_by_reset, end_of_call, end_of_accepted, end_after}
+use Rattle.session_rules.specs.Ends.{NoneWhole, StandsBehind, EndsWith, most_bytes, EndsBy}
+use Rattle.session_rules.specs.LoginPhase.{LoginStanding, login_end}
+use Rattle.session_rules.specs.Phases.{Transcript, Exchange, exchanges, incoming, asked, outgoing, NoneEnds}
+use Rattle.session_rules.specs.declared.identity.Identity.{Identity}
+use Rattle.session_rules.specs.declared.opening.Opening.{Opening}
+use Rattle.session_rules.specs.declared.login_outcome.LoginOutcome.{LoginOutcome}
+use Rattle.session_rules.specs.declared.login_outcome.LoginOutcome.TheVariants as outcomes
+use Rattle.full_feature.specs.Counters.{Counters}
+use Rattle.pdu_stream.specs.Outbox.{OutboxValue, IsOut, IsWritten, IsClosed, IsClosedAs}
+use Rattle.session.specs.Stream.{PhasesValue, ExchangeOf, MakesExchange}
 use Rattle.session.specs.Transcript.{but_last, IsCut, Written, IsPassed, IsFailureOf}
-use Rattle.session.proofs.Queues.{took, all_out_at_last, broke}
+use Rattle.pdu_stream.proofs.Queues.{took, all_out_at_last, broke}
 use Rattle.session.proofs.Exchanges.{all_more, PhaseStands, lawful_now, More, one_more}
 
 -- ---- what was read

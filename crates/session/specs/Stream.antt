@@ -1,50 +1,20 @@
 -- What one turn makes of session, target and sink.
 use Rattle.std.specs.Prelude.{◌≡◌, ◌<◌, ℕ, Bool, [], false, true, List, Option, Some, None, IfSome, MatchOption}
 use Rattle.login.specs.Request.{kind_in}
-use Rattle.session.specs.declared.end.End.{End}
-use Rattle.session.specs.declared.identity.Identity.{Identity}
-use Rattle.session.specs.declared.login_phase.LoginOutcome.{LoginOutcome}
-use Rattle.session.specs.declared.opening.Opening.{Opening}
-use Rattle.session.specs.declared.opening.Opening.TheVariants.{Login, FullFeature}
-use Rattle.session.specs.declared.session.Start.{Start}
+use Rattle.session_rules.specs.declared.end.End.{End}
+use Rattle.session_rules.specs.declared.identity.Identity.{Identity}
+use Rattle.session_rules.specs.declared.opening.Opening.{Opening}
+use Rattle.session_rules.specs.declared.opening.Opening.TheVariants.{Login, FullFeature}
+use Rattle.session_rules.specs.declared.start.Start.{Start}
 use Rattle.login.specs.declared.status.Kind.{Kind}
-use Rattle.session.specs.Asking.{Asking}
-use Rattle.session.specs.Setting.{setting_of}
-use Rattle.session.specs.Turn.{Incoming, Turn, bytes_of}
-use Rattle.session.specs.Legal.{end_after}
-use Rattle.session.specs.Counters.{Counters, begun}
-use Rattle.session.specs.MachineTurn.{TurnOf}
-use Rattle.session.specs.LoginPhase.{LoginTurn, LoginStanding, login_standing, login_after, IsLoginTurn, begins, IsStart}
-use Rattle.session.specs.Phases.{Exchange, of_login, of_turn}
-use Rattle.session.specs.Outbox.{OutboxValue, IsQueued}
-
--- a call leads the target on; with none it stays
-abbrev pub IsLed : {T : Type 0} → (T → Asking → T → Type 0) → Option Asking → T → T → Type 0
-IsLed leads None old new = new ≡ old
-IsLed leads (Some call) old new = leads old call new
-
--- a turn of session, target and outbox: what came, what the session made of it, what the target was asked and where that
--- led it, the bytes that are to go out, and the end that it calls for
-pub record MakesTurn {T : Type 0} (leads : T → Asking → T → Type 0)
-    (s s' : Counters) (target target' : T) (held held' : Option (List ℕ)) (before now : ℕ) (o o' : OutboxValue)
-    (came : Incoming) (wanted : Option End) : Type 0 where
-  pub turn : Turn
-  pub made : TurnOf s came turn s'
-  pub led : IsLed leads turn.call target target'
-  pub queued : IsQueued held held' before now o o' (bytes_of turn.sent)
-  pub wanted_is : wanted ≡ end_after turn.verdict turn.came turn.call
-
--- a turn of a login, and what it came to
-pub record MakesLoginTurn {T : Type 0} (leads : T → Asking → T → Type 0)
-    (v v' : LoginStanding) (target target' : T) (held held' : Option (List ℕ)) (before now : ℕ) (o o' : OutboxValue)
-    (came : Incoming) (outcome : LoginOutcome) : Type 0 where
-  pub turn : LoginTurn
-  pub came_is : turn.came ≡ came
-  pub outcome_is : turn.outcome ≡ outcome
-  pub made : IsLoginTurn v turn
-  pub next : v' ≡ login_after v came
-  pub led : IsLed leads turn.call target target'
-  pub queued : IsQueued held held' before now o o' (bytes_of turn.sent)
+use Rattle.session_rules.specs.Asking.{Asking}
+use Rattle.session_rules.specs.Setting.{setting_of}
+use Rattle.session_rules.specs.Turn.{Incoming, Turn, bytes_of, IsLed}
+use Rattle.full_feature.specs.Counters.{Counters, begun}
+use Rattle.full_feature.specs.MachineTurn.{TurnOf}
+use Rattle.session_rules.specs.LoginPhase.{LoginTurn, LoginStanding, login_standing, login_after, IsLoginTurn, begins, IsStart}
+use Rattle.session_rules.specs.Phases.{Exchange, of_login, of_turn}
+use Rattle.pdu_stream.specs.Outbox.{OutboxValue, IsQueued}
 
 -- ---- both phases
 

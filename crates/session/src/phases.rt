@@ -1,24 +1,17 @@
 //! A whole session without bytes: its login, and full feature phase behind it.
 ghost use Rattle.std.specs.Prelude.{◌≡◌, ◌<◌, ◌≤◌, length, vec_capacity, IfOk, Some};
-ghost use Rattle.session.specs.declared.end.End.TheVariants.{Protocol};
-ghost use Rattle.session.specs.Turn.{pdu as came, faulty};
+ghost use Rattle.session_rules.specs.declared.end.End.TheVariants.{Protocol};
+ghost use Rattle.session_rules.specs.Turn.{pdu as came, faulty};
 ghost use Rattle.session.specs.Stream.{OpensWith, IsFresh, MakesExchange};
-ghost use Rattle.session.specs.declared.outbox.TheConstants.{ENOUGH_TO_WRITE};
+ghost use Rattle.pdu_stream.specs.declared.outbox.TheConstants.{ENOUGH_TO_WRITE};
 
-use crate::end::End;
-use crate::identity::Identity;
-use crate::lengths::Lengths;
-use crate::login_phase::LoginPhase;
-use crate::opening::Opening;
-use crate::outbox::Outbox;
-use crate::session::{Session, Start};
-use crate::source::Sink;
-use crate::target::Target;
-use crate::text::LONGEST_TEXT;
-use crate::turn::{fault_turn, login_fault_turn, login_turn, turn};
+use full_feature::{Session, fault_turn, feature_turn};
 use iscsi_pdu::{BHS_LENGTH, Pdu, PduFault};
 use login::Kind;
+use login_side::{LoginPhase, login_fault_turn, login_turn};
+use pdu_stream::{Outbox, Sink};
 use scsi_types::NoMemory;
+use session_rules::{End, Identity, LONGEST_TEXT, Lengths, Opening, Start, Target};
 use std::alloc::Global;
 use std::marker::Model;
 
@@ -90,7 +83,7 @@ impl Phases {
             (came bhs.now pdu.now.header pdu.now.data.now) result }
     {
         match &mut self.login {
-            None => turn(&mut self.session, target, sink, outbox, room, bhs, pdu),
+            None => feature_turn(&mut self.session, target, sink, outbox, room, bhs, pdu),
             Some(login) => {
                 let outcome = login_turn(login, target, sink, outbox, room, bhs, pdu);
                 if outcome.begins() {

@@ -1,26 +1,19 @@
 ghost use Rattle.std.specs.Prelude.{◌≡◌, ℕ, ◌<◌, ◌≤◌, [], false, length, vec_capacity, IfOk, OnErr};
 ghost use Rattle.std.specs.Io.KnownBytes.{Keeps};
-ghost use Rattle.session.specs.declared.end.End.TheVariants.{InputFailed, OutputFailed};
-ghost use Rattle.session.specs.Source.{Counted};
-ghost use Rattle.session.specs.Inbox.{Filled};
-ghost use Rattle.session.specs.Outbox.{IsClosedAs};
-ghost use Rattle.session.specs.declared.identity.Identity.{Identity};
-ghost use Rattle.session.specs.declared.opening.Opening.{Opening};
+ghost use Rattle.session_rules.specs.declared.end.End.TheVariants.{InputFailed, OutputFailed};
+ghost use Rattle.pdu_stream.specs.Source.{Counted};
+ghost use Rattle.pdu_stream.specs.Inbox.{Filled};
+ghost use Rattle.pdu_stream.specs.Outbox.{IsClosedAs};
+ghost use Rattle.session_rules.specs.declared.identity.Identity.{Identity};
+ghost use Rattle.session_rules.specs.declared.opening.Opening.{Opening};
 ghost use Rattle.session.specs.Stream.{OpensWith, IsFresh};
 ghost use Rattle.session.specs.Transcript.{HasPassed, IsTranscribed, IsFailureOf};
 
-use crate::end::End;
-use crate::identity::Identity;
-use crate::inbox::{INBOX_CAPACITY, Inbox};
-use crate::opening::Opening;
-use crate::outbox::Outbox;
 use crate::phases::Phases;
-use crate::source::{Failed, Sink, Source};
-use crate::target::Target;
-use crate::text::LONGEST_TEXT;
-use crate::waiting::{Front, front_of};
 use iscsi_pdu::LONGEST_PDU;
+use pdu_stream::{Failed, Front, INBOX_CAPACITY, Inbox, Outbox, Sink, Source, front_of};
 use scsi_types::NoMemory;
+use session_rules::{End, Identity, LONGEST_TEXT, Opening, Target};
 use std::alloc::Global;
 
 // Writes what waits at the session's end: this end, or that the sink failed.

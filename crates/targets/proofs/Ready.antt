@@ -12,10 +12,10 @@ use Rattle.scsi_types.specs.declared.names.Group.{Group}
 use Rattle.scsi_types.specs.declared.command.Command.{Command as ScsiCommand}
 use Rattle.scsi_types.specs.declared.command.CdbFault.{CdbFault}
 use Rattle.unit_state.specs.declared.control.TheConstants.{LAST_COUNT}
-use Rattle.session.specs.declared.target.ResetAnswer.{ResetAnswer}
-use Rattle.session.specs.declared.target.ResetAnswer.TheVariants as resets
-use Rattle.session.specs.declared.target.TargetAnswer.{TargetAnswer}
-use Rattle.session.specs.declared.target.TargetAnswer.TheVariants.{Replied, Outside, Busy, Gone}
+use Rattle.session_rules.specs.declared.target.ResetAnswer.{ResetAnswer}
+use Rattle.session_rules.specs.declared.target.ResetAnswer.TheVariants as resets
+use Rattle.session_rules.specs.declared.target.TargetAnswer.{TargetAnswer}
+use Rattle.session_rules.specs.declared.target.TargetAnswer.TheVariants.{Replied, Outside, Busy, Gone}
 use Rattle.unit_state.specs.State.{ControlValue, UnitValue}
 use Rattle.unit_state.specs.Choice.{Choice, choice_of}
 use Rattle.unit_state.specs.declared.sessions.Attached.{Attached}

@@ -11,24 +11,24 @@ use Rattle.scsi_types.specs.ReplyValue.{ReplyValue}
 use Rattle.scsi_types.specs.declared.names.Group.{Group}
 use Rattle.scsi_types.specs.declared.command.Command.{Command as ScsiCommand}
 use Rattle.scsi_types.specs.declared.command.CdbFault.{CdbFault}
-use Rattle.session.specs.Asking.{Asking, began, lives, served, reset, over}
-use Rattle.session.specs.declared.target.ResetAnswer.{ResetAnswer}
-use Rattle.session.specs.declared.target.ResetAnswer.TheVariants as resets
-use Rattle.session.specs.declared.target.TargetAnswer.{TargetAnswer}
-use Rattle.session.specs.declared.target.TargetAnswer.TheVariants.{Replied, Outside, Busy, Gone}
-use Rattle.session.specs.declared.end.End.{End}
+use Rattle.session_rules.specs.Asking.{Asking, began, lives, served, reset, over}
+use Rattle.session_rules.specs.declared.target.ResetAnswer.{ResetAnswer}
+use Rattle.session_rules.specs.declared.target.ResetAnswer.TheVariants as resets
+use Rattle.session_rules.specs.declared.target.TargetAnswer.{TargetAnswer}
+use Rattle.session_rules.specs.declared.target.TargetAnswer.TheVariants.{Replied, Outside, Busy, Gone}
+use Rattle.session_rules.specs.declared.end.End.{End}
 use Rattle.std.specs.Prelude.{map, ◌++◌}
 use Rattle.std.specs.Io.KnownBytes.{IsAtEnd}
 use Rattle.login.specs.declared.status.Kind.TheVariants.{Normal}
-use Rattle.session.specs.declared.identity.Identity.{Identity}
-use Rattle.session.specs.declared.opening.Opening.TheVariants.{FullFeature}
-use Rattle.session.specs.declared.session.Start.{Start}
-use Rattle.session.specs.Ends.{EndsBy}
-use Rattle.session.specs.LoginPhase.{LoginTurn}
-use Rattle.session.specs.Phases.{Exchange, exchanges, of_login, of_turn, incoming, asked}
-use Rattle.session.specs.Setting.{setting_of}
+use Rattle.session_rules.specs.declared.identity.Identity.{Identity}
+use Rattle.session_rules.specs.declared.opening.Opening.TheVariants.{FullFeature}
+use Rattle.session_rules.specs.declared.start.Start.{Start}
+use Rattle.session_rules.specs.Ends.{EndsBy}
+use Rattle.session_rules.specs.LoginPhase.{LoginTurn}
+use Rattle.session_rules.specs.Phases.{Exchange, exchanges, of_login, of_turn, incoming, asked}
+use Rattle.session_rules.specs.Setting.{setting_of}
 use Rattle.session.specs.Transcript.{Written, IsTranscribed}
-use Rattle.session.specs.Turn.{Spells, Leads}
+use Rattle.session_rules.specs.Turn.{Spells, Leads}
 use Rattle.unit_state.specs.declared.control.TheConstants.{LAST_COUNT}
 use Rattle.unit_state.specs.State.{ControlValue, UnitState, UnitValue, state_of}
 use Rattle.unit_state.specs.Choice.{Choice, Fine, ReadFailed, WriteFailed, OpenFailed, SaveFailed, IsFine, choice_of}

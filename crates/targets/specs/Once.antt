@@ -17,18 +17,18 @@ use Rattle.scsi_types.specs.declared.status.Status.TheVariants.{Good}
 use Rattle.scsi_types.specs.declared.command.Command.{Command as ScsiCommand}
 use Rattle.scsi_types.specs.declared.command.Command.TheVariants as commands
 use Rattle.scsi_types.specs.declared.command.CdbFault.{CdbFault}
-use Rattle.session.specs.Asking.{Asking, began, lives, served, reset, over}
-use Rattle.session.specs.declared.target.BeginAnswer.TheVariants.{Refused}
-use Rattle.session.specs.Lengths.{default_lengths}
-use Rattle.session.specs.Setting.{Setting}
-use Rattle.session.specs.declared.session.Start.{Start}
-use Rattle.session.specs.declared.end.End.{End}
-use Rattle.session.specs.declared.target.TargetAnswer.TheVariants.{Replied, Outside, Busy, Gone}
-use Rattle.session.specs.declared.target.ResetAnswer.TheVariants as resets
-use Rattle.session.specs.Turn.{Turn, Leads, Spells}
-use Rattle.session.specs.Legal.{Lawful}
-use Rattle.session.specs.Phases.{of_turn, incoming, asked}
-use Rattle.session.specs.Ends.{EndsBy}
+use Rattle.session_rules.specs.Asking.{Asking, began, lives, served, reset, over}
+use Rattle.session_rules.specs.declared.target.BeginAnswer.TheVariants.{Refused}
+use Rattle.session_rules.specs.Lengths.{default_lengths}
+use Rattle.session_rules.specs.Setting.{Setting}
+use Rattle.session_rules.specs.declared.start.Start.{Start}
+use Rattle.session_rules.specs.declared.end.End.{End}
+use Rattle.session_rules.specs.declared.target.TargetAnswer.TheVariants.{Replied, Outside, Busy, Gone}
+use Rattle.session_rules.specs.declared.target.ResetAnswer.TheVariants as resets
+use Rattle.session_rules.specs.Turn.{Turn, Leads, Spells}
+use Rattle.session_rules.specs.Legal.{Lawful}
+use Rattle.session_rules.specs.Phases.{of_turn, incoming, asked}
+use Rattle.session_rules.specs.Ends.{EndsBy}
 use Rattle.session.specs.Transcript.{Written}
 use Rattle.unit_state.specs.declared.control.TheConstants.{LAST_COUNT}
 use Rattle.unit_state.specs.State.{UnitState, opening}

@@ -12,11 +12,11 @@ use Rattle.scsi_types.specs.Nexus.{Port, Nexus}
 use Rattle.scsi_types.specs.declared.names.Group.{Group}
 use Rattle.scsi_types.specs.declared.command.Command.{Command as ScsiCommand}
 use Rattle.scsi_types.specs.declared.command.CdbFault.{CdbFault}
-use Rattle.session.specs.Asking.{Asking, began, lives, served, reset, over}
-use Rattle.session.specs.declared.target.BeginAnswer.TheVariants.{Begun, Refused}
-use Rattle.session.specs.declared.target.TargetAnswer.{TargetAnswer}
-use Rattle.session.specs.declared.target.ResetAnswer.{ResetAnswer}
-use Rattle.session.specs.declared.target.ResetAnswer.TheVariants as resets
+use Rattle.session_rules.specs.Asking.{Asking, began, lives, served, reset, over}
+use Rattle.session_rules.specs.declared.target.BeginAnswer.TheVariants.{Begun, Refused}
+use Rattle.session_rules.specs.declared.target.TargetAnswer.{TargetAnswer}
+use Rattle.session_rules.specs.declared.target.ResetAnswer.{ResetAnswer}
+use Rattle.session_rules.specs.declared.target.ResetAnswer.TheVariants as resets
 use Rattle.unit_state.specs.State.{UnitValue, opening_control}
 use Rattle.unit_state.specs.Entry.{Attach, Detach, HasRoom, IsAttached, IsNext, control_after}
 use Rattle.targets.specs.declared.attachment.Attachment.{Attachment}

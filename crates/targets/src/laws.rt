@@ -3,9 +3,9 @@ ghost use Rattle.std.specs.Prelude.{◌≡◌, ℕ, List, Option, Some, Result, 
 ghost use Rattle.scsi_types.specs.ReplyValue.{ReplyValue};
 ghost use Rattle.scsi_types.specs.declared.command.Command.{Command};
 ghost use Rattle.scsi_types.specs.declared.command.CdbFault.{CdbFault};
-ghost use Rattle.session.specs.Asking.{Asking, served, reset};
-ghost use Rattle.session.specs.declared.target.TargetAnswer.TheVariants.{Replied};
-ghost use Rattle.session.specs.declared.target.ResetAnswer.TheVariants.{Done};
+ghost use Rattle.session_rules.specs.Asking.{Asking, served, reset};
+ghost use Rattle.session_rules.specs.declared.target.TargetAnswer.TheVariants.{Replied};
+ghost use Rattle.session_rules.specs.declared.target.ResetAnswer.TheVariants.{Done};
 ghost use Rattle.unit_state.specs.State.{UnitState};
 ghost use Rattle.unit_state.specs.Entry.{Entry};
 ghost use Rattle.targets.specs.Once.{AreAnswerable};

@@ -1,7 +1,7 @@
 //! One session over one unit, from a stream of bytes to a stream of bytes.
 ghost use Rattle.std.specs.Prelude.{◌≡◌, ◌<◌, IfOk, OnErr};
-ghost use Rattle.session.specs.declared.end.End.TheVariants.{InputFailed, OutputFailed};
-ghost use Rattle.session.specs.Setting.{setting_of};
+ghost use Rattle.session_rules.specs.declared.end.End.TheVariants.{InputFailed, OutputFailed};
+ghost use Rattle.session_rules.specs.Setting.{setting_of};
 ghost use Rattle.session.specs.Transcript.{IsFailureOf};
 ghost use Rattle.targets.specs.Once.{IsOnce, from_one};
 

@@ -1,7 +1,7 @@
 use Rattle.std.proofs.Common.{◌∙◌, ℕ, List, length, arith, ap, subst, sym, refl}
-use Rattle.session.specs.Outbox.{OutboxValue}
-use Rattle.session.specs.Ends.{NoneWhole}
-use Rattle.session.specs.Front.{IsWhole, IsFaulty}
+use Rattle.pdu_stream.specs.Outbox.{OutboxValue}
+use Rattle.session_rules.specs.Ends.{NoneWhole}
+use Rattle.pdu_stream.specs.Front.{IsWhole, IsFaulty}
 use Rattle.session.proofs.Exchanges.{stands_opened, fresh_more}
 use Rattle.session.proofs.Running.{starts, pdu_goes_on, pdu_ends, pdu_ends_not_by_input, fault_ends, fault_ends_not_by_input, sink_failed, flushed, more_came, input_ended, input_failed, taken_all, taken_all_not_by_input, output_not_input, ended_not_failed, failed_so}
 use Rattle.session.proofs.stream.pass.Goals as goal

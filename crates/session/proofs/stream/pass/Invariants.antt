@@ -1,10 +1,10 @@
 use Rattle.std.proofs.Common.{◌≡◌, ◌+◌, ◌-◌, ◌*◌, ◌<◌, ◌≤◌, ℕ, false, vec_capacity, length}
-use Rattle.session.specs.declared.text.TheConstants.{LONGEST_TEXT}
-use Rattle.session.specs.declared.inbox.TheConstants.{INBOX_CAPACITY}
-use Rattle.session.specs.declared.outbox.TheConstants.{ENOUGH_TO_WRITE}
-use Rattle.session.specs.declared.identity.Identity.{Identity}
-use Rattle.session.specs.declared.opening.Opening.{Opening}
-use Rattle.session.specs.Ends.{most_bytes}
+use Rattle.session_rules.specs.declared.text.TheConstants.{LONGEST_TEXT}
+use Rattle.pdu_stream.specs.declared.inbox.TheConstants.{INBOX_CAPACITY}
+use Rattle.pdu_stream.specs.declared.outbox.TheConstants.{ENOUGH_TO_WRITE}
+use Rattle.session_rules.specs.declared.identity.Identity.{Identity}
+use Rattle.session_rules.specs.declared.opening.Opening.{Opening}
+use Rattle.session_rules.specs.Ends.{most_bytes}
 use Rattle.session.specs.Stream.{OpensWith, IsFresh}
 use Rattle.session.proofs.Running.{Running}
 use Rattle.session.proofs.stream.pass.Given as goal

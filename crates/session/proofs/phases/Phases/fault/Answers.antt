@@ -1,5 +1,5 @@
 use Rattle.std.proofs.Common.{refl}
-use Rattle.session.proofs.LoginTurns.{by_turn, rejects}
+use Rattle.session.proofs.PhaseTurns.{by_turn, rejects}
 use Rattle.session.proofs.phases.Phases.fault.Goals as goal
 
 pub returns-in-None : goal.returns-in-None

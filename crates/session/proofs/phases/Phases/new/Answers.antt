@@ -1,6 +1,6 @@
 use Rattle.std.proofs.Common.{ap, Some}
 use Rattle.login.specs.declared.status.Kind.TheVariants.{Normal}
-use Rattle.session.specs.LoginPhase.{LoginStanding}
+use Rattle.session_rules.specs.LoginPhase.{LoginStanding}
 use Rattle.session.proofs.phases.Phases.new.Goals as goal
 
 pub returns-in_ok-new-in-Login : goal.returns-in_ok-new-in-Login

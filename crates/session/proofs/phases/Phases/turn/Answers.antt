@@ -1,11 +1,11 @@
 use Rattle.std.proofs.Common.{sym, ◌∙◌, arith}
-use Rattle.session.proofs.LoginTurns.{by_turn, goes_on, begins_now, fresh_of}
+use Rattle.session.proofs.PhaseTurns.{by_turn, goes_on, begins_now, fresh_of}
 use Rattle.session.proofs.phases.Phases.turn.Goals as goal
 use Rattle.session.proofs.phases.Phases.turn.Goals.{then-begins+in-Some-1, then-begins+in-None-1, else-begins}
 
 pub returns-in-None-clause-exchange : goal.returns-in-None-clause-exchange
 returns-in-None-clause-exchange g c =
-    rw (← c.self.view_is) (by_turn g.T.Target.leads _ _ _ _ _ _ _ _ _ _ _ _ _ c.in-None.is c.turn.ensures.turn)
+    rw (← c.self.view_is) (by_turn g.T.Target.leads _ _ _ _ _ _ _ _ _ _ _ _ _ c.in-None.is c.feature_turn.ensures.turn)
 
 pub returns-after-begins-clause-exchange : goal.returns-after-begins-clause-exchange
 returns-after-begins-clause-exchange g c = elim c.if-begins.branch [

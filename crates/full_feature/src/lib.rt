@@ -1,0 +1,32 @@
+//! Full feature phase of a session, without a stream: what a PDU, a fault or an answer of the target calls for.
+//!
+//! [`Session`] reads and writes nothing: a PDU goes in, and [`Actions`] come out, PDUs to write or one call of the target. A
+//! write whose data does not all come with it waits for the rest, which it asks for by R2T; any other command is answered in
+//! the turn in which it comes. [`feature_turn`] does one turn, with the target and the outbox.
+//!
+//! Of specs/, `Counters` says what a session keeps between two turns, `Machine` what it makes of what comes, `MachineTurn` of a
+//! whole turn, and `MakesTurn` what a turn makes of target and outbox. That a transcript stays legal turn by turn is proved in
+//! `Lawful` of proofs/.
+#![tactic(auto)]
+
+mod actions;
+mod examples;
+mod logout;
+mod management_response;
+mod nop;
+mod requests;
+mod response;
+mod session;
+mod text;
+mod turn;
+mod verdict;
+
+pub use actions::{Actions, Call, CommandData, OpenTask, ResetCall, Sending, ServeCall};
+pub use examples::{
+    a_nop_out_has_one_legal_answer, a_pdu_of_a_target_has_one_legal_answer,
+    a_read_has_one_legal_answer, a_write_has_one_legal_r2t, nothing_comes_behind_a_logout,
+};
+pub use response::Completion;
+pub use session::Session;
+pub use text::MadeText;
+pub use turn::{fault_turn, feature_turn};

@@ -1,0 +1,30 @@
+-- What stands at the front of bytes.
+use Rattle.std.specs.Prelude.{◌≡◌, ℕ, ◌<◌, ◌≤◌, List, length, take}
+use Rattle.iscsi_pdu.specs.Pdu.{IsPdu}
+use Rattle.iscsi_pdu.specs.Fault.{Stands}
+use Rattle.iscsi_pdu.specs.declared.header.Pdu.{Pdu}
+use Rattle.iscsi_pdu.specs.declared.fault.PduFault.{PduFault}
+use Rattle.iscsi_pdu.specs.Number.{bhs_length}
+use Rattle.iscsi_pdu.specs.declared.TheConstants.{LONGEST_PDU}
+use Rattle.session_rules.specs.Ends.{NoneWhole}
+use Rattle.pdu_stream.specs.declared.waiting.Front.{Front}
+use Rattle.pdu_stream.specs.declared.waiting.Front.TheVariants.{Whole, Faulty, Partial}
+
+-- a PDU that the first bytes spell, with its basic header segment
+pub record IsWhole (b bhs : List ℕ) (p : Pdu) (taken : ℕ) : Type 0 where
+  pub bhs_is : bhs ≡ take bhs_length b
+  pub long : length bhs ≡ bhs_length
+  pub within : taken ≤ length b
+  pub spelled : IsPdu (take taken b) p.header p.«data».now
+
+-- a fault, with its basic header segment
+pub record IsFaulty (b bhs : List ℕ) (f : PduFault) : Type 0 where
+  pub bhs_is : bhs ≡ take bhs_length b
+  pub long : length bhs ≡ bhs_length
+  pub stands : Stands b f
+
+-- a PDU; a fault with its whole header segment; or neither, which is shorter than the longest PDU
+abbrev pub IsFront : List ℕ → Front → Type 0
+IsFront b (Whole bhs p taken) = IsWhole b bhs.now p taken
+IsFront b (Faulty bhs f) = IsFaulty b bhs.now f
+IsFront b Partial = NoneWhole b × (length b < LONGEST_PDU)

@@ -1,7 +1,0 @@
-use Rattle.std.proofs.Common.{◌≡◌, false, take}
-use Rattle.std.specs.List.{list_any}
-use Rattle.session.specs.Tasks.{has_tag}
-use Rattle.session.proofs.collecting.WaitingCommands.position.Given as goal
-
-abbrev pub invariant-loop-i : goal.invariant-loop-i
-invariant-loop-i l = list_any (has_tag l.tag) (take l.i l.self) ≡ false

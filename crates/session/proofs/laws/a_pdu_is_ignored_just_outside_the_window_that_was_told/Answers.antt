@@ -1,5 +1,0 @@
-use Rattle.session.proofs.WindowTold.{ignored_outside}
-use Rattle.session.proofs.laws.a_pdu_is_ignored_just_outside_the_window_that_was_told.Goals as goal
-
-pub returns : goal.returns
-returns c = ignored_outside

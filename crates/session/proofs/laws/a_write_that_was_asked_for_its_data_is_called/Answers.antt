@@ -1,5 +1,0 @@
-use Rattle.session.proofs.Uncalled.{had_no_r2t}
-use Rattle.session.proofs.laws.a_write_that_was_asked_for_its_data_is_called.Goals as goal
-
-pub returns : goal.returns
-returns c = had_no_r2t

@@ -1,5 +1,0 @@
-use Rattle.session.proofs.LoginNumbers.{counts_on}
-use Rattle.session.proofs.laws.status_numbers_count_on_behind_a_login.Goals as goal
-
-pub returns : goal.returns
-returns c = counts_on

@@ -1,4 +1,0 @@
-use Rattle.session.proofs.session.Session.turned_away.Goals as goal
-
-pub unreachable-requires : goal.unreachable-requires
-unreachable-requires c = c.requires c.in-Full.is

@@ -1,7 +1,0 @@
-use Rattle.session.specs.declared.actions.Actions.TheVariants.{Send}
-use Rattle.session.proofs.Turns.{fault}
-use Rattle.session.proofs.turn.fault_turn.Goals as goal
-
-pub returns : goal.returns
-returns g c = fault g.T.Target.leads _ _ _ _ _ _ _ _ _ c.args.bhs.now
-    (Send c.on_fault-sending.result) c.fill.ensures.queued c.args.fault c.on_fault-sending.ensures.on

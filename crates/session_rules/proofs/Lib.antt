@@ -1,0 +1,9 @@
+pub mod Announced
+pub mod AtEach
+pub mod Following
+pub mod LoginNumbers
+pub mod ShortLogins
+pub mod Tasks
+pub mod Uncalled
+pub mod WindowEnds
+pub mod WindowTold

@@ -1,0 +1,112 @@
+-- How the data of a command is collected (RFC 7143, 4.2.4.2, 11.7 and 11.8): its immediate data, then by R2T.
+use Rattle.std.specs.Prelude.{◌≡◌, ℕ, ◌+◌, ◌-◌, ◌<◌, ◌≤◌, min, Bool, true, false, not, IsTrue, List, [], ◌∷◌, length, take, Option, Some, Result}
+use Rattle.std.specs.List.{slice_get, sum_by}
+use Rattle.scsi_types.specs.Cdb.{Means, need_of}
+use Rattle.scsi_types.specs.Lun.{NamesUnit}
+use Rattle.scsi_types.specs.declared.command.Command.{Command}
+use Rattle.scsi_types.specs.declared.command.CdbFault.{CdbFault}
+use Rattle.iscsi_pdu.specs.declared.header.ScsiCommand.{ScsiCommand as CommandHeader}
+use Rattle.iscsi_pdu.specs.declared.header.DataOut.{DataOut as DataOutHeader}
+use Rattle.iscsi_pdu.specs.declared.header.R2t.{R2t as R2tHeader}
+use Rattle.session_rules.specs.declared.target.TargetAnswer.{TargetAnswer}
+use Rattle.session_rules.specs.Asking.{Asking, served}
+use Rattle.session_rules.specs.Transfer.{data_for}
+use Rattle.session_rules.specs.Window.{wrap}
+use Rattle.session_rules.specs.Tasks.{Task, Collecting, has_ended, was_dropped, gathered, r2ts, command_calls}
+
+-- a write that expects to send all that it needs, and whose immediate data is less
+pub record HasToCollect (p : CommandHeader) (need immediate : ℕ) : Type 0 where
+  pub writes : IsTrue p.write
+  pub expected : need ≤ p.expected_length
+  pub short : immediate < need
+
+abbrev pub sizes : List R2tHeader → ℕ
+sizes rs = sum_by (λ r. r.desired_length) rs
+
+-- The R2T at a place among those of a command that needs so many bytes, of which so many were immediate and so many
+-- have come: it asks for the bytes behind those that were asked for, as many as a burst has, when these have all come.
+pub record IsRequest (burst : ℕ) (p : CommandHeader) (need immediate came : ℕ) (rs : List R2tHeader) (i : ℕ)
+    (r : R2tHeader) : Type 0 where
+  pub number : r.r2t_sn ≡ wrap i
+  pub place : r.offset ≡ immediate + sizes (take i rs)
+  pub size : r.desired_length ≡ min burst (need - r.offset)
+  pub some : 0 < r.desired_length
+  pub turn : r.offset ≤ came
+  pub tag : r.task_tag ≡ p.task_tag
+  pub lun : r.lun ≡ p.lun
+
+-- how far the R2Ts go
+abbrev pub asked_to : ℕ → List R2tHeader → ℕ
+asked_to immediate rs = immediate + sizes rs
+
+-- The call of a command: of the unit that its LUN names, for what its CDB asks, with its data, once; of a write that
+-- expects to send what it needs all of it, which its immediate data and its R2Ts tile.
+pub record IsCalledFor (p : CommandHeader) (asked : Result Command CdbFault) (immediate : ℕ) (bytes : List ℕ)
+    (rs : List R2tHeader) (ended : Bool) (c : Asking) : Type 0 where
+  pub ends : ended ≡ true
+  pub unit : Option ℕ
+  pub names : NamesUnit p.lun unit
+  pub answer : TargetAnswer
+  pub call_is : c ≡ served unit asked (data_for p (need_of asked) bytes) answer
+  pub all : IsTrue p.write → need_of asked ≤ p.expected_length → need_of asked ≤ length bytes
+  pub tiled : IsTrue p.write → need_of asked ≤ p.expected_length
+      → min immediate (need_of asked) + sizes rs ≡ need_of asked
+  pub unasked : (HasToCollect p (need_of asked) immediate → ⊥) → rs ≡ []
+
+-- A command that was not called is one that has to collect, and no byte came that was not asked for; while it collects an
+-- R2T is outstanding.
+pub record IsUncalled (p : CommandHeader) (need immediate : ℕ) (bytes : List ℕ) (rs : List R2tHeader)
+    (ended : Bool) : Type 0 where
+  pub collects : HasToCollect p need immediate
+  pub within : length bytes ≤ asked_to immediate rs
+  pub waits : ended ≡ false → length bytes < asked_to immediate rs
+
+abbrev pub HasCalls : CommandHeader → Result Command CdbFault → ℕ → List ℕ → List R2tHeader → Bool → List Asking → Type 0
+HasCalls p asked immediate bytes rs ended [] = IsUncalled p (need_of asked) immediate bytes rs ended
+HasCalls p asked immediate bytes rs ended (c ∷ []) = IsCalledFor p asked immediate bytes rs ended c
+HasCalls p asked immediate bytes rs ended (c ∷ (d ∷ cs)) = ⊥
+
+-- what is right of a command with these R2Ts and calls so far, of whose data so much came
+pub record IsCollected (burst : ℕ) (p : CommandHeader) (asked : Result Command CdbFault) (immediate : ℕ)
+    (bytes : List ℕ) (rs : List R2tHeader) (ended : Bool) (cs : List Asking) : Type 0 where
+  pub requested : (i : ℕ) (r : R2tHeader) → slice_get rs i ≡ Some r
+      → IsRequest burst p (need_of asked) immediate (length bytes) rs i r
+  pub outcome : HasCalls p asked immediate bytes rs ended cs
+
+-- one that ended without a call, and that was not dropped, had no R2T: it was turned away before any of its data was asked
+-- for
+abbrev pub IsTurnedAwayAtOnce : Bool → Bool → List Asking → List R2tHeader → Type 0
+IsTurnedAwayAtOnce ended dropped cs rs = ended ≡ true → dropped ≡ false → cs ≡ [] → rs ≡ []
+
+-- a task is right: by what its CDB asks for
+pub record IsRightTask (burst : ℕ) (k : Task) : Type 0 where
+  pub asked : Result Command CdbFault
+  pub means : Means k.command.cdb asked
+  pub right : IsCollected burst k.command asked (length k.segment) (gathered k) (r2ts k.own) (has_ended k)
+      (command_calls k.own)
+  pub turned_away : IsTurnedAwayAtOnce (has_ended k) (was_dropped k) (command_calls k.own) (r2ts k.own)
+
+-- A Data-Out continues the R2T that is outstanding (11.7): its Target Transfer Tag, the next DataSN, the next byte, and
+-- none past its range.
+pub record Continues (c : Collecting) (x : DataOutHeader) (d : List ℕ) : Type 0 where
+  pub request : R2tHeader
+  pub outstanding : c.outstanding ≡ Some request
+  pub transfer : x.transfer_tag ≡ request.transfer_tag
+  pub number : x.data_sn ≡ c.data_sn
+  pub place : x.offset ≡ length c.bytes
+  pub within : x.offset + length d ≤ request.offset + request.desired_length
+
+-- the next R2T of a command, behind so many, where so many bytes have come
+pub record IsNext (burst : ℕ) (p : CommandHeader) (need came i : ℕ) (r : R2tHeader) : Type 0 where
+  pub number : r.r2t_sn ≡ wrap i
+  pub place : r.offset ≡ came
+  pub size : r.desired_length ≡ min burst (need - came)
+  pub tag : r.task_tag ≡ p.task_tag
+  pub lun : r.lun ≡ p.lun
+
+-- the commands that wait: immediate ones, and numbered ones, by which the window shrinks
+abbrev pub is_immediate : Collecting → Bool
+is_immediate c = c.command.immediate
+
+abbrev pub shrinks_window : Collecting → Bool
+shrinks_window c = not c.command.immediate

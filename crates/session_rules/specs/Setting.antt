@@ -1,0 +1,31 @@
+-- What stays the same over a session.
+use Rattle.std.specs.Prelude.{ℕ, Bool, true, false, List}
+use Rattle.login.specs.Targets.{target_text}
+use Rattle.login.specs.declared.status.Kind.{Kind}
+use Rattle.login.specs.declared.status.Kind.TheVariants.{Normal, Discovery}
+use Rattle.session_rules.specs.declared.identity.Identity.{Identity}
+use Rattle.session_rules.specs.declared.start.Start.{Start}
+
+-- how many units the target has, from unit 0 on; the kind of the session; the target's name, and what it tells of itself;
+-- the numbers that the session begins with, and the lengths in force
+pub record Setting : Type 0 where
+  pub units : ℕ
+  pub kind : Kind
+  pub target_name : List ℕ
+  pub told : List ℕ
+  pub start : Start
+
+-- the setting of a session of this kind that begins so, with a target of this identity that has so many units
+abbrev pub setting_of : ℕ → Identity → Kind → Start → Setting
+setting_of units me kind start = record {
+  units = units;
+  kind = kind;
+  target_name = me.target_name.now;
+  told = target_text me.target_name.now me.first.now me.second.now;
+  start = start;
+}
+
+-- a discovery session serves no command (RFC 7143, 4.3)
+abbrev pub discovers : Kind → Bool
+discovers Normal = false
+discovers Discovery = true

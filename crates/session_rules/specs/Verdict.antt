@@ -1,0 +1,90 @@
+-- What becomes of a PDU: the command window, and why a PDU is rejected (RFC 7143, 4.2.2.1, 7.3 and 11.17.1).
+use Rattle.std.specs.Prelude.{◌≡◌, ◌⊎◌, ℕ, ◌==◌, ◌&&◌, ◌||◌, nat_lt, Bool, if◌then◌else◌, true, false, List, length, MatchOption}
+use Rattle.std.specs.List.{list_any, find}
+use Rattle.iscsi_pdu.specs.declared.header.ScsiCommand.{ScsiCommand as CommandHeader}
+use Rattle.iscsi_pdu.specs.declared.header.DataOut.{DataOut as DataOutHeader}
+use Rattle.iscsi_pdu.specs.declared.header.Header.{Header}
+use Rattle.iscsi_pdu.specs.declared.header.Header.TheVariants.{Initiator, Target}
+use Rattle.iscsi_pdu.specs.declared.header.InitiatorHeader.TheVariants.{NopOut, ScsiCommand, TaskManagementRequest, LoginRequest, TextRequest, DataOut, LogoutRequest}
+use Rattle.iscsi_pdu.specs.declared.fault.PduFault.{PduFault}
+use Rattle.iscsi_pdu.specs.declared.fault.PduFault.TheVariants.{UnknownOpcode, HasAhs, TooLong, BadFlags, BadReserved, NonZeroPad}
+use Rattle.session_rules.specs.declared.verdict.Verdict.{Verdict}
+use Rattle.session_rules.specs.declared.verdict.Verdict.TheVariants.{Accepted, Full, Ignored, Gap, Refused}
+use Rattle.session_rules.specs.Codes.{reserved_tag, protocol_error, command_not_supported, invalid_pdu_field}
+use Rattle.session_rules.specs.declared.lengths.Lengths.{Lengths}
+use Rattle.session_rules.specs.Turn.{Incoming, pdu, faulty}
+use Rattle.session_rules.specs.Transfer.{expected_transfer}
+use Rattle.session_rules.specs.Setting.{Setting, discovers}
+use Rattle.session_rules.specs.Text.{is_text_refused}
+use Rattle.session_rules.specs.Window.{ahead}
+use Rattle.session_rules.specs.Tasks.{has_tag}
+use Rattle.session_rules.specs.Collecting.{Continues, is_immediate}
+use Rattle.session_rules.specs.Standing.{Standing, window_size}
+
+-- how much data may come with a command: FirstBurstLength, and none where ImmediateData is No (13.11 and 13.14)
+abbrev pub most_immediate : Lengths → ℕ
+most_immediate l = if l.immediate_data then l.first_burst else 0
+
+-- a SCSI Command with the reserved tag, or with the tag of one that waits for data, or with more immediate data than the
+-- length that it expects or than may come with a command
+abbrev pub is_refused : Lengths → Standing → CommandHeader → List ℕ → Bool
+is_refused l s p d =
+    (p.task_tag == reserved_tag)
+    || list_any (has_tag p.task_tag) s.collecting
+    || nat_lt (expected_transfer p) (length d)
+    || nat_lt (most_immediate l) (length d)
+
+-- What becomes of a PDU with this I bit and this CmdSN: outside the window it is ignored, and inside it, but not its
+-- first, it leaves a gap; in its turn it is rejected, if there is a cause, or accepted.
+abbrev pub has_its_turn : Standing → Bool → ℕ → Bool
+has_its_turn s immediate cmd_sn =
+    immediate || ((ahead cmd_sn s.exp_cmd_sn == 0) && nat_lt 0 (window_size s))
+
+abbrev pub window_verdict : Standing → Bool → ℕ → Bool → Verdict
+window_verdict s immediate cmd_sn refused =
+    if has_its_turn s immediate cmd_sn
+    then (if refused then Refused protocol_error else Accepted)
+    else (if nat_lt (ahead cmd_sn s.exp_cmd_sn) (window_size s) then Gap else Ignored)
+
+-- an immediate command that would be accepted finds the task set full, where another one waits for data
+abbrev pub unless_full : Bool → Verdict → Verdict
+unless_full true Accepted = Full
+unless_full full v = v
+
+-- what becomes of a SCSI Command, in a session of this kind
+abbrev pub verdict_of : Setting → Standing → CommandHeader → List ℕ → Verdict
+verdict_of m s p d =
+    unless_full (p.immediate && list_any is_immediate s.collecting)
+    (window_verdict s p.immediate p.numbers.cmd_sn (discovers m.kind || is_refused m.start.lengths s p d))
+
+-- What becomes of a Data-Out: where no command with its tag waits for data it is passed over, else it is accepted where
+-- it continues the R2T that is outstanding, and rejected where not.
+abbrev pub IsJudgedData : Standing → DataOutHeader → List ℕ → Verdict → Type 0
+IsJudgedData s x d v =
+    MatchOption (find (has_tag x.task_tag) s.collecting) (v ≡ Ignored)
+    (λ c. (Continues c x d × (v ≡ Accepted)) ⊎ ((Continues c x d → ⊥) × (v ≡ Refused protocol_error)))
+
+-- what becomes of a PDU: a kind that is not served, and a PDU of a target, count as an unknown opcode
+abbrev pub IsJudgedPdu : Setting → Standing → Header → List ℕ → Verdict → Type 0
+IsJudgedPdu m s (Initiator (NopOut p)) d v = v ≡ window_verdict s p.immediate p.numbers.cmd_sn false
+IsJudgedPdu m s (Initiator (ScsiCommand p)) d v = v ≡ verdict_of m s p d
+IsJudgedPdu m s (Initiator (TaskManagementRequest p)) d v =
+    v ≡ window_verdict s p.immediate p.numbers.cmd_sn (discovers m.kind)
+IsJudgedPdu m s (Initiator (LoginRequest p)) d v = v ≡ Refused protocol_error
+IsJudgedPdu m s (Initiator (TextRequest p)) d v =
+    v ≡ window_verdict s p.immediate p.numbers.cmd_sn (is_text_refused m p d)
+IsJudgedPdu m s (Initiator (DataOut p)) d v = IsJudgedData s p d v
+IsJudgedPdu m s (Initiator (LogoutRequest p)) d v = v ≡ window_verdict s p.immediate p.numbers.cmd_sn false
+IsJudgedPdu m s (Target p) d v = v ≡ Refused command_not_supported
+
+abbrev pub reason_of : PduFault → ℕ
+reason_of UnknownOpcode = command_not_supported
+reason_of HasAhs = invalid_pdu_field
+reason_of TooLong = invalid_pdu_field
+reason_of BadFlags = invalid_pdu_field
+reason_of BadReserved = invalid_pdu_field
+reason_of NonZeroPad = invalid_pdu_field
+
+abbrev pub IsJudged : Setting → Standing → Incoming → Verdict → Type 0
+IsJudged m s (pdu b h d) v = IsJudgedPdu m s h d v
+IsJudged m s (faulty f b) v = v ≡ Refused (reason_of f)

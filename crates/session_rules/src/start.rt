@@ -1,0 +1,12 @@
+use crate::lengths::Lengths;
+
+/// The numbers and the lengths with which a session begins.
+#[derive(Clone, Copy, Debug, PartialEq, Eq)]
+pub struct Start {
+    /// The CmdSN that is expected first.
+    pub exp_cmd_sn: u32,
+    /// The first StatSN.
+    pub stat_sn: u32,
+    /// The lengths in force.
+    pub lengths: Lengths,
+}

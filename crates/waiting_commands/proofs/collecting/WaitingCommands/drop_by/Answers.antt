@@ -1,0 +1,12 @@
+use Rattle.std.proofs.Common.{◌∙◌, List, not, ap, rules}
+use Rattle.std.specs.List.{filter}
+use Rattle.std.proofs.lemmas.Fn.{filter_same}
+use Rattle.session_rules.specs.Tasks.{Collecting}
+use Rattle.session_rules.specs.Drops.{drops}
+use Rattle.waiting_commands.proofs.collecting.WaitingCommands.drop_by.Goals as goal
+
+pub returns-clause-kept : goal.returns-clause-kept
+returns-clause-kept c =
+    filter_same _ (λ (x : Collecting). not (drops c.args.request.now x.command)) _
+    (λ x b f' k. search rules) _ _ c.retain.ensures.filtered
+    ∙ ap (λ (cs : List Collecting). filter (λ x. not (drops c.args.request.now x.command)) cs) c.self.view_is

@@ -1,0 +1,89 @@
+-- How a session keeps the commands that wait for data.
+use Rattle.std.specs.Prelude.{◌≡◌, ℕ, ◌+◌, ◌-◌, ◌≤◌, min, Some, IsTrue, List, ◌∷◌, ◌++◌, length, Result}
+use Rattle.scsi_types.specs.Cdb.{Means, need_of}
+use Rattle.scsi_types.specs.declared.command.Command.{Command}
+use Rattle.scsi_types.specs.declared.command.CdbFault.{CdbFault}
+use Rattle.iscsi_pdu.specs.declared.header.ScsiCommand.{ScsiCommand as CommandHeader}
+use Rattle.iscsi_pdu.specs.declared.header.R2t.{R2t as R2tHeader}
+use Rattle.waiting_commands.specs.declared.collecting.R2tWith.{R2tWith}
+use Rattle.waiting_commands.specs.declared.collecting.Collected.{Collected}
+use Rattle.session_rules.specs.Window.{wrap}
+use Rattle.session_rules.specs.Transfer.{data_for}
+use Rattle.session_rules.specs.Tasks.{Collecting}
+
+-- the one thing that the command's CDB asks for
+pub record IsAskedBy (p : CommandHeader) (asked : Result Command CdbFault) : Type 0 where
+  pub means : Means p.cdb asked
+  pub only : (other : Result Command CdbFault) → Means p.cdb other → other ≡ asked
+
+-- a Data-Out more
+abbrev pub fed : Collecting → List ℕ → Collecting
+fed c d = record c { bytes = c.bytes ++ d; data_sn = wrap (c.data_sn + 1) }
+
+-- this stands there, between what stands before it and behind it
+pub record StandsAt (cs : List Collecting) (at : ℕ) (this : Collecting) : Type 0 where
+  pub front : List Collecting
+  pub back : List Collecting
+  pub whole : cs ≡ front ++ (this ∷ back)
+  pub place : length front ≡ at
+
+-- how many bytes the command needs
+abbrev pub NeedIs : CommandHeader → ℕ → Type 0
+NeedIs p need = (asked : Result Command CdbFault) → Means p.cdb asked → need ≡ need_of asked
+
+-- A command that has to collect so many bytes: its buffer has room for them, no more have come, and its R2T does not pass
+-- them.
+pub record IsSlot (p : CommandHeader) (asked : Result Command CdbFault) (need came capacity : ℕ)
+    (request : R2tHeader) : Type 0 where
+  pub asked_by : IsAskedBy p asked
+  pub need_is : need ≡ need_of asked
+  pub writes : IsTrue p.write
+  pub expected : need ≤ p.expected_length
+  pub room : need ≤ capacity
+  pub held : came ≤ need
+  pub within : request.offset + request.desired_length ≤ need
+
+-- the R2T of a command that needs so many bytes and has had so many R2Ts, where so many bytes have come
+abbrev pub r2t_for : CommandHeader → ℕ → ℕ → ℕ → R2tWith → R2tHeader
+r2t_for p need came requests sent_with = record {
+  lun = p.lun;
+  task_tag = p.task_tag;
+  transfer_tag = sent_with.transfer_tag;
+  numbers = sent_with.numbers;
+  r2t_sn = requests;
+  offset = came;
+  desired_length = min sent_with.burst (need - came);
+}
+
+-- a command that waits, to which this R2T went out, as so many did
+abbrev pub waits : CommandHeader → List ℕ → R2tHeader → ℕ → Collecting
+waits p bytes request requests =
+    record { command = p; bytes = bytes; outstanding = Some request; requests = requests; data_sn = 0 }
+
+-- a command begins to wait, and one more R2T of it goes out
+abbrev pub begun : CommandHeader → ℕ → List ℕ → R2tWith → Collecting
+begun p need d sent_with = record {
+  command = p;
+  bytes = d;
+  outstanding = Some (r2t_for p need (length d) 0 sent_with);
+  requests = 1;
+  data_sn = 0;
+}
+
+abbrev pub asked_on : Collecting → ℕ → R2tWith → Collecting
+asked_on c need sent_with = record c {
+  outstanding = Some (r2t_for c.command need (length c.bytes) c.requests sent_with);
+  requests = wrap (c.requests + 1);
+  data_sn = 0;
+}
+
+-- it waits no more
+pub record IsFinished (c : Collecting) (f : Collected) : Type 0 where
+  pub command_is : f.command ≡ c.command
+  pub asked_by : IsAskedBy c.command f.asked
+  pub need_is : f.need ≡ need_of f.asked
+  pub bytes_are : f.bytes.items ≡ data_for c.command (need_of f.asked) c.bytes
+
+pub record IsRemoved (old new : List Collecting) (at : ℕ) (this : Collecting) : Type 0 where
+  pub stands : StandsAt old at this
+  pub after : new ≡ stands.front ++ stands.back

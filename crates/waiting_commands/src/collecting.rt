@@ -1,0 +1,334 @@
+//! The commands that wait for their data (RFC 7143, 11.7 and 11.8).
+ghost use Rattle.std.specs.Prelude.{◌≡◌, ◌<◌, ◌≤◌, ◌+◌, ◌++◌, ℕ, ◌∷◌, ◌↔◌, List, [], length, take, drop, nat_le, nat_lt, not, false, IsTrue, IfOk, IfSome, MatchOption, Result, Some, None};
+ghost use Rattle.scsi_types.specs.Cdb.{Means, need_of};
+ghost use Rattle.scsi_types.specs.declared.command.Command.{Command};
+ghost use Rattle.scsi_types.specs.declared.command.CdbFault.{CdbFault};
+ghost use Rattle.std.specs.List.{list_any, count_by, filter, find};
+ghost use Rattle.session_rules.specs.Tasks.{Collecting, has_tag};
+ghost use Rattle.session_rules.specs.Drops.{drops};
+ghost use Rattle.session_rules.specs.TaskManagement.{drops_one};
+ghost use Rattle.session_rules.specs.Collecting.{Continues, HasToCollect, is_immediate, shrinks_window};
+ghost use Rattle.waiting_commands.specs.Slots.{StandsAt, IsRemoved, IsAskedBy, IsFinished, NeedIs, begun, fed, asked_on, r2t_for};
+
+use crate::task_management::drops;
+use iscsi_pdu::{DataOut, Numbers, R2t, ScsiCommand, TaskManagementRequest};
+use scsi_types::{Asked, NoMemory};
+use std::alloc::Global;
+use std::marker::Model;
+
+/// The most commands that wait at once: as many as the window has, and an immediate one.
+pub const MOST_WAITING: usize = 33;
+
+/// What an R2T is sent with: its numbers, its Target Transfer Tag, and the length that a burst has at most.
+#[derive(Clone, Copy, Debug)]
+pub struct R2tWith {
+    pub numbers: Numbers,
+    pub transfer_tag: u32,
+    pub burst: u32,
+}
+
+// The R2T for what a command needs behind the bytes that have come (RFC 7143, 11.8).
+fn r2t(command: &ScsiCommand, need: u32, came: usize, requests: u32, with: R2tWith) -> R2t
+    requires { came < need }
+    ensures { result ≡ r2t_for command.now need came requests with }
+{
+    R2t {
+        lun: command.lun,
+        task_tag: command.task_tag,
+        transfer_tag: with.transfer_tag,
+        numbers: with.numbers,
+        r2t_sn: requests,
+        offset: came as u32,
+        desired_length: with.burst.min(need - came as u32),
+    }
+}
+
+/// A command that waits for data: an R2T is outstanding.
+#[derive(Debug, Drop)]
+pub struct WaitingCommand {
+    command: ScsiCommand,
+    asked: Asked,
+    need: u32,
+    bytes: Vec<u8>,
+    request: R2t,
+    requests: u32,
+    data_sn: u32,
+}
+
+impl Model for WaitingCommand {
+    ghost use Rattle.std.specs.Prelude.{Some, length, vec_capacity};
+    ghost use Rattle.session_rules.specs.Tasks.{Collecting};
+    ghost use Rattle.waiting_commands.specs.Slots.{IsSlot};
+
+    ghost Value = { Collecting };
+
+    ghost view = { λ s. record {
+      command = s.command;
+      bytes = s.bytes.items;
+      outstanding = Some s.request;
+      requests = s.requests;
+      data_sn = s.data_sn;
+    } };
+
+    ghost invariant = { λ s. IsSlot s.command s.asked s.need (length s.bytes.items) (vec_capacity s.bytes) s.request };
+}
+
+impl WaitingCommand {
+    /// A command that has to collect so many bytes, with its immediate data and its first R2T. Takes the buffer of its
+    /// data.
+    pub fn begin(
+        alloc: Global,
+        command: ScsiCommand,
+        asked: Asked,
+        need: u32,
+        immediate: &[u8],
+        with: R2tWith,
+    ) -> Result<WaitingCommand, NoMemory>
+        requires asked { IsAskedBy command asked }
+        requires need { need ≡ need_of asked }
+        requires collects { HasToCollect command need (length immediate.now) }
+        ensures { IfOk result (λ w. w ≡ begun command need immediate.now with) }
+    {
+        let mut bytes = Vec::with_capacity(alloc, need as usize)?;
+        match bytes.extend_from_slice(immediate) {
+            Ok(()) => {}
+            Err(_) => unreachable!(),
+        }
+        let request = r2t(&command, need, bytes.len(), 0, with);
+        Ok(WaitingCommand {
+            command,
+            asked,
+            need,
+            bytes,
+            request,
+            requests: 1,
+            data_sn: 0,
+        })
+    }
+
+    /// What its CDB asks for.
+    pub fn asked(&self) -> Asked
+        ensures { IsAskedBy self.now.command result }
+    {
+        self.asked
+    }
+
+    /// How many bytes it needs.
+    pub fn need(&self) -> u32
+        ensures { NeedIs self.now.command result }
+    {
+        self.need
+    }
+
+    /// The R2T that is outstanding.
+    pub fn request(&self) -> R2t
+        ensures { self.now.outstanding ≡ Some result }
+    {
+        self.request
+    }
+
+    /// Whether a Data-Out continues the R2T that is outstanding.
+    pub fn continues(&self, header: &DataOut, bytes: &[u8]) -> bool
+        ensures { IsTrue result ↔ Continues self.now header.now bytes.now }
+    {
+        let end = u64::from(self.request.offset) + u64::from(self.request.desired_length);
+        header.transfer_tag == self.request.transfer_tag
+            && header.data_sn == self.data_sn
+            && header.offset as usize == self.bytes.len()
+            && u64::from(header.offset) + bytes.len() as u64 <= end
+    }
+
+    /// One Data-Out more.
+    pub fn feed(&mut self, header: &DataOut, bytes: &[u8])
+        requires { Continues self.old header.now bytes.now }
+        ensures fed { self.new ≡ fed self.old bytes.now }
+        ensures asked { (asked : Result Command CdbFault) × IsAskedBy self.old.command asked }
+    {
+        match self.bytes.extend_from_slice(bytes) {
+            Ok(()) => {}
+            Err(_) => unreachable!(),
+        }
+        self.data_sn = self.data_sn.wrapping_add(1);
+    }
+
+    /// How many bytes have come.
+    pub fn len(&self) -> usize
+        ensures { result ≡ length self.now.bytes }
+    {
+        self.bytes.len()
+    }
+
+    /// Whether all has come that the R2T asks for.
+    pub fn is_filled(&self) -> bool
+        ensures { IfSome self.now.outstanding
+            (λ r. result ≡ nat_le (r.offset + r.desired_length) (length self.now.bytes)) }
+    {
+        let end = u64::from(self.request.offset) + u64::from(self.request.desired_length);
+        end <= self.bytes.len() as u64
+    }
+
+    /// Asks for more by the next R2T.
+    pub fn ask(&mut self, with: R2tWith)
+        requires { (need : ℕ) × NeedIs self.old.command need × (length self.old.bytes < need) }
+        ensures asked { (need : ℕ) → NeedIs self.old.command need → self.new ≡ asked_on self.old need with }
+        ensures fits { self.old.requests < 4294967296 }
+    {
+        self.request = r2t(
+            &self.command,
+            self.need,
+            self.bytes.len(),
+            self.requests,
+            with,
+        );
+        self.requests = self.requests.wrapping_add(1);
+        self.data_sn = 0;
+    }
+
+    /// The command, what its CDB asks for, how much it needs, and the data that came.
+    pub fn finish(self) -> Collected
+        ensures { IsFinished self result }
+    {
+        Collected {
+            command: self.command,
+            asked: self.asked,
+            need: self.need,
+            bytes: self.bytes,
+        }
+    }
+}
+
+/// A command with its data.
+#[derive(Debug, Drop)]
+pub struct Collected {
+    pub command: ScsiCommand,
+    pub asked: Asked,
+    pub need: u32,
+    pub bytes: Vec<u8>,
+}
+
+/// The commands that wait for their data, in the order in which they came, in memory that was taken once.
+#[derive(Debug, Drop)]
+pub struct WaitingCommands {
+    slots: Vec<WaitingCommand>,
+}
+
+impl Model for WaitingCommands {
+    ghost use Rattle.std.specs.Prelude.{◌≤◌, List, length, vec_capacity};
+    ghost use Rattle.session_rules.specs.Tasks.{Collecting};
+    ghost use Rattle.waiting_commands.specs.declared.collecting.TheConstants.{MOST_WAITING};
+
+    ghost Value = { List Collecting };
+
+    ghost view = { λ s. s.slots.items };
+
+    ghost invariant = { λ s. (length s.slots.items ≤ MOST_WAITING) × (MOST_WAITING ≤ vec_capacity s.slots) };
+}
+
+impl WaitingCommands {
+    /// None, with all the memory for them but that of their data.
+    pub fn new(alloc: Global) -> Result<WaitingCommands, NoMemory>
+        ensures { IfOk result (λ w. w ≡ []) }
+    {
+        Ok(WaitingCommands {
+            slots: Vec::with_capacity(alloc, MOST_WAITING)?,
+        })
+    }
+
+    /// Whether one more has a place.
+    pub fn has_room(&self) -> bool
+        ensures { result ≡ nat_lt (length self.now) MOST_WAITING }
+    {
+        self.slots.len() < MOST_WAITING
+    }
+
+    /// Whether an immediate one waits.
+    pub fn has_immediate(&self) -> bool
+        ensures { result ≡ list_any is_immediate self.now }
+    {
+        self.slots.iter().any(|slot| slot.command.immediate)
+    }
+
+    /// How many numbered ones wait.
+    pub fn numbered(&self) -> u32
+        ensures count { result ≡ count_by shrinks_window self.now }
+        ensures most { result ≤ length self.now }
+    {
+        let mut count = 0;
+        for i in 0..self.slots.len() {
+            if !self.slots[i].command.immediate {
+                count += 1;
+            }
+        }
+        count
+    }
+
+    /// Whether one with this Initiator Task Tag waits.
+    pub fn has(&self, tag: u32) -> bool
+        ensures { result ≡ list_any (has_tag tag) self.now }
+    {
+        self.slots.iter().any(|slot| slot.command.task_tag == tag)
+    }
+
+    /// Where the first with this Initiator Task Tag stands.
+    pub fn position(&self, tag: u32) -> Option<usize>
+        ensures { MatchOption result (find (has_tag tag) self.now ≡ None)
+            (λ i. (this : Collecting) × StandsAt self.now i this × (find (has_tag tag) self.now ≡ Some this)) }
+    {
+        for i in 0..self.slots.len() {
+            if self.slots[i].command.task_tag == tag {
+                return Some(i);
+            }
+        }
+        None
+    }
+
+    /// Drops those that a request for task management drops: whether there are any.
+    pub fn drop_by(&mut self, request: &TaskManagementRequest) -> bool
+        ensures any { result ≡ drops_one request.now self.old }
+        ensures kept { self.new ≡ filter (λ c. not (drops request.now c.command)) self.old }
+    {
+        let any = self.slots.iter().any(|slot| drops(request, &slot.command));
+        self.slots.retain(|slot| !drops(request, &slot.command));
+        any
+    }
+
+    /// One more, behind the others.
+    pub fn push(&mut self, command: WaitingCommand)
+        requires { length self.old < MOST_WAITING }
+        ensures { self.new ≡ self.old ++ command ∷ [] }
+    {
+        match self.slots.push(command) {
+            Ok(()) => {}
+            Err(_) => unreachable!(),
+        }
+    }
+
+    /// The one that stands there.
+    pub fn at(&self, at: usize) -> &WaitingCommand
+        requires { at < length self.now }
+        ensures { StandsAt self.now at result.now }
+    {
+        &self.slots[at]
+    }
+
+    /// Takes the one that stands there away.
+    pub fn remove(&mut self, at: usize) -> WaitingCommand
+        requires { at < length self.old }
+        ensures removed { IsRemoved self.old self.new at result }
+        ensures room { length self.new < MOST_WAITING }
+    {
+        self.slots.remove(at)
+    }
+
+    /// Puts one in its place again.
+    pub fn insert(&mut self, at: usize, command: WaitingCommand)
+        requires { (at ≤ length self.old) × (length self.old < MOST_WAITING) }
+        ensures { (front back : List Collecting) → self.old ≡ front ++ back → length front ≡ at
+            → self.new ≡ front ++ (command ∷ back) }
+    {
+        match self.slots.insert(at, command) {
+            Ok(()) => {}
+            Err(_) => unreachable!(),
+        }
+    }
+}
