@@ -85,23 +85,39 @@ fn attach<N: Array<Opened>, W: Wait>(
     }
 }
 
-// A command without data of its own, that is to come to this, and to this data where it is GOOD.
-fn ask<N: Array<Opened>, W: Wait>(
+// TEST UNIT READY, which is to come to this.
+fn ready<N: Array<Opened>, W: Wait>(
     rt: &W,
     alloc: Global,
     units: &Shared<N>,
     pass: Session<N>,
     by_group: Group,
-    cdb: &[u8; 16],
-    data: &[u8],
     wanted: Told,
     tally: &mut Tally,
 ) -> Session<N>
     requires { pass.place < units.now }
     ensures { result.place ≡ pass.place }
 {
-    let (pass, told) = serve(rt, alloc, units, pass, by_group, cdb, &[], data);
-    tally.expect("a command without data", told == wanted);
+    let (pass, told) = serve(rt, alloc, units, pass, by_group, &TEST_UNIT_READY, &[], &[]);
+    tally.expect("TEST UNIT READY", told == wanted);
+    pass
+}
+
+// READ of block 0, which is to come to this, and to zeros where it is GOOD.
+fn read<N: Array<Opened>, W: Wait>(
+    rt: &W,
+    alloc: Global,
+    units: &Shared<N>,
+    pass: Session<N>,
+    by_group: Group,
+    wanted: Told,
+    tally: &mut Tally,
+) -> Session<N>
+    requires { pass.place < units.now }
+    ensures { result.place ≡ pass.place }
+{
+    let (pass, told) = serve(rt, alloc, units, pass, by_group, &READ, &[], &ZEROS);
+    tally.expect("READ", told == wanted);
     pass
 }
 
@@ -130,97 +146,40 @@ fn alter<N: Array<Opened>, W: Wait>(
 fn set_by_a_session<N: Array<Opened>, W: Wait>(
     rt: &W,
     alloc: Global,
-    new: Vec<MemUnit>,
+    units: &Shared<N>,
     tally: &mut Tally,
 ) -> Result<(), Fail>
-    requires named { IsNamed N.book N.table N.opening ⟦<block_file::MemBlocks as block_file::Blocks>⟧.contents new.items }
-    requires count { length new.items ≡ 2 }
+    requires { units.now ≡ 2 }
 {
-    let units = Units::new(rt, alloc, new)?;
-    let one = attach::<N, W>(rt, alloc, &units, Group::One)?;
-    let two = attach::<N, W>(rt, alloc, &units, Group::Two)?;
-    let one = ask(
-        rt,
-        alloc,
-        &units,
-        one,
-        Group::One,
-        &TEST_UNIT_READY,
-        &[],
-        POWER_ON,
-        tally,
-    );
-    let two = ask(
-        rt,
-        alloc,
-        &units,
-        two,
-        Group::One,
-        &TEST_UNIT_READY,
-        &[],
-        POWER_ON,
-        tally,
-    );
+    let one = attach::<N, W>(rt, alloc, units, Group::One)?;
+    let two = attach::<N, W>(rt, alloc, units, Group::Two)?;
+    let one = ready(rt, alloc, units, one, Group::One, POWER_ON, tally);
+    let two = ready(rt, alloc, units, two, Group::One, POWER_ON, tally);
     let two = alter(
         rt,
         alloc,
-        &units,
+        units,
         two,
         Told::Good,
         Group::Two,
         &ALTERED,
         tally,
     );
-    tally.expect("the board", is_shown(rt, &units, 0, 2, (1, 0), 6));
-    let one = ask(
+    tally.expect("the board", is_shown(rt, units, 0, 2, (1, 0), 6));
+    let one = ready(
         rt,
         alloc,
-        &units,
+        units,
         one,
         Group::One,
-        &TEST_UNIT_READY,
-        &[],
         Told::Moved(Group::Two),
         tally,
     );
-    let one = ask(
-        rt,
-        alloc,
-        &units,
-        one,
-        Group::Two,
-        &TEST_UNIT_READY,
-        &[],
-        CHANGED,
-        tally,
-    );
-    let _ = ask(
-        rt,
-        alloc,
-        &units,
-        one,
-        Group::Two,
-        &READ,
-        &ZEROS,
-        Told::Good,
-        tally,
-    );
-    let _ = ask(
-        rt,
-        alloc,
-        &units,
-        two,
-        Group::Two,
-        &TEST_UNIT_READY,
-        &[],
-        Told::Good,
-        tally,
-    );
-    tally.expect(
-        "the board at the end",
-        is_shown(rt, &units, 0, 2, (1, 0), 9),
-    );
-    tally.expect("the other unit", is_shown(rt, &units, 1, 2, (1, 0), 0));
+    let one = ready(rt, alloc, units, one, Group::Two, CHANGED, tally);
+    let _ = read(rt, alloc, units, one, Group::Two, Told::Good, tally);
+    let _ = ready(rt, alloc, units, two, Group::Two, Told::Good, tally);
+    tally.expect("the board at the end", is_shown(rt, units, 0, 2, (1, 0), 9));
+    tally.expect("the other unit", is_shown(rt, units, 1, 2, (1, 0), 0));
     Ok(())
 }
 
@@ -228,75 +187,33 @@ fn set_by_a_session<N: Array<Opened>, W: Wait>(
 fn set_without_an_open<N: Array<Opened>, W: Wait>(
     rt: &W,
     alloc: Global,
-    new: Vec<MemUnit>,
+    units: &Shared<N>,
     tally: &mut Tally,
 ) -> Result<(), Fail>
-    requires named { IsNamed N.book N.table N.opening ⟦<block_file::MemBlocks as block_file::Blocks>⟧.contents new.items }
-    requires count { length new.items ≡ 2 }
+    requires { units.now ≡ 2 }
 {
-    let units = Units::new(rt, alloc, new)?;
-    let one = attach::<N, W>(rt, alloc, &units, Group::One)?;
-    let two = attach::<N, W>(rt, alloc, &units, Group::Two)?;
-    let one = ask(
-        rt,
-        alloc,
-        &units,
-        one,
-        Group::One,
-        &TEST_UNIT_READY,
-        &[],
-        POWER_ON,
-        tally,
-    );
-    let two = ask(
-        rt,
-        alloc,
-        &units,
-        two,
-        Group::One,
-        &TEST_UNIT_READY,
-        &[],
-        POWER_ON,
-        tally,
-    );
+    let one = attach::<N, W>(rt, alloc, units, Group::One)?;
+    let two = attach::<N, W>(rt, alloc, units, Group::Two)?;
+    let one = ready(rt, alloc, units, one, Group::One, POWER_ON, tally);
+    let two = ready(rt, alloc, units, two, Group::One, POWER_ON, tally);
     let _ = alter(
         rt,
         alloc,
-        &units,
+        units,
         two,
         OPEN_FAILED,
         Group::One,
         &OPENED,
         tally,
     );
-    let one = ask(
-        rt,
-        alloc,
-        &units,
-        one,
-        Group::One,
-        &TEST_UNIT_READY,
-        &[],
-        Told::Good,
-        tally,
-    );
-    let _ = ask(
-        rt,
-        alloc,
-        &units,
-        one,
-        Group::One,
-        &READ,
-        &ZEROS,
-        Told::Good,
-        tally,
-    );
-    let stays = set(rt, &units, 0, &SECOND);
+    let one = ready(rt, alloc, units, one, Group::One, Told::Good, tally);
+    let _ = read(rt, alloc, units, one, Group::One, Told::Good, tally);
+    let stays = set(rt, units, 0, &SECOND);
     tally.expect(
         "a move without an open",
         stays == Some(MoveFault::OpenFailed),
     );
-    tally.expect("the board", is_shown(rt, &units, 0, 1, (0, 1), 8));
+    tally.expect("the board", is_shown(rt, units, 0, 1, (0, 1), 8));
     Ok(())
 }
 
@@ -304,54 +221,22 @@ fn set_without_an_open<N: Array<Opened>, W: Wait>(
 fn moved_by_the_array<N: Array<Opened>, W: Wait>(
     rt: &W,
     alloc: Global,
-    new: Vec<MemUnit>,
+    units: &Shared<N>,
     tally: &mut Tally,
 ) -> Result<(), Fail>
-    requires named { IsNamed N.book N.table N.opening ⟦<block_file::MemBlocks as block_file::Blocks>⟧.contents new.items }
-    requires count { length new.items ≡ 2 }
+    requires { units.now ≡ 2 }
 {
-    let units = Units::new(rt, alloc, new)?;
-    let one = attach::<N, W>(rt, alloc, &units, Group::One)?;
-    let one = ask(
-        rt,
-        alloc,
-        &units,
-        one,
-        Group::One,
-        &TEST_UNIT_READY,
-        &[],
-        POWER_ON,
-        tally,
-    );
-    let stays = set(rt, &units, 0, &NONE_OPTIMIZED);
+    let one = attach::<N, W>(rt, alloc, units, Group::One)?;
+    let one = ready(rt, alloc, units, one, Group::One, POWER_ON, tally);
+    let stays = set(rt, units, 0, &NONE_OPTIMIZED);
     tally.expect(
         "a bad list",
         stays == Some(MoveFault::List(AsetFault::BadList)),
     );
-    tally.expect("a move", set(rt, &units, 0, &SECOND).is_none());
-    tally.expect("the board", is_shown(rt, &units, 0, 2, (1, 0), 3));
-    let one = ask(
-        rt,
-        alloc,
-        &units,
-        one,
-        Group::Two,
-        &TEST_UNIT_READY,
-        &[],
-        CHANGED,
-        tally,
-    );
-    let _ = ask(
-        rt,
-        alloc,
-        &units,
-        one,
-        Group::Two,
-        &READ,
-        &ZEROS,
-        Told::Good,
-        tally,
-    );
+    tally.expect("a move", set(rt, units, 0, &SECOND).is_none());
+    tally.expect("the board", is_shown(rt, units, 0, 2, (1, 0), 3));
+    let one = ready(rt, alloc, units, one, Group::Two, CHANGED, tally);
+    let _ = read(rt, alloc, units, one, Group::Two, Told::Good, tally);
     Ok(())
 }
 
@@ -359,157 +244,139 @@ fn moved_by_the_array<N: Array<Opened>, W: Wait>(
 fn each_goes_down<N: Array<Opened>, W: Wait>(
     rt: &W,
     alloc: Global,
-    new: Vec<MemUnit>,
+    units: &Shared<N>,
     tally: &mut Tally,
 ) -> Result<(), Fail>
-    requires named { IsNamed N.book N.table N.opening ⟦<block_file::MemBlocks as block_file::Blocks>⟧.contents new.items }
-    requires count { length new.items ≡ 2 }
+    requires { units.now ≡ 2 }
 {
-    let units = Units::new(rt, alloc, new)?;
-    let one = attach::<N, W>(rt, alloc, &units, Group::One)?;
-    let one = ask(
-        rt,
-        alloc,
-        &units,
-        one,
-        Group::One,
-        &TEST_UNIT_READY,
-        &[],
-        POWER_ON,
-        tally,
-    );
-    tally.expect("down 1", down(rt, &units, Group::One).is_ok());
+    let one = attach::<N, W>(rt, alloc, units, Group::One)?;
+    let one = ready(rt, alloc, units, one, Group::One, POWER_ON, tally);
+    tally.expect("down 1", down(rt, units, Group::One).is_ok());
     tally.expect(
         "unit 0 without controller 1",
-        is_shown(rt, &units, 0, 2, (3, 0), 3),
+        is_shown(rt, units, 0, 2, (3, 0), 3),
     );
     tally.expect(
         "unit 1 without controller 1",
-        is_shown(rt, &units, 1, 2, (3, 0), 1),
+        is_shown(rt, units, 1, 2, (3, 0), 1),
     );
-    let one = ask(
-        rt,
-        alloc,
-        &units,
-        one,
-        Group::Two,
-        &TEST_UNIT_READY,
-        &[],
-        CHANGED,
-        tally,
-    );
-    let _ = ask(
-        rt,
-        alloc,
-        &units,
-        one,
-        Group::Two,
-        &READ,
-        &[],
-        UNAVAILABLE,
-        tally,
-    );
-    tally.expect("down 2", down(rt, &units, Group::Two).is_ok());
+    let one = ready(rt, alloc, units, one, Group::Two, CHANGED, tally);
+    let _ = read(rt, alloc, units, one, Group::Two, UNAVAILABLE, tally);
+    tally.expect("down 2", down(rt, units, Group::Two).is_ok());
     tally.expect(
         "unit 0 without controller 2",
-        is_shown(rt, &units, 0, 1, (0, 3), 6),
+        is_shown(rt, units, 0, 1, (0, 3), 6),
     );
     tally.expect(
         "unit 1 without controller 2",
-        is_shown(rt, &units, 1, 1, (0, 3), 2),
+        is_shown(rt, units, 1, 1, (0, 3), 2),
     );
     Ok(())
 }
 
 // Unit 1 cannot be opened for another owner: group 2 owns it, so that controller 1 goes down. Controller 2 does not: unit 0 is
 // moved and stays so, and unit 1 is told.
-fn stopped_at_the_second<N: Array<Opened>, W: Wait>(
-    rt: &W,
-    alloc: Global,
-    new: Vec<MemUnit>,
-    tally: &mut Tally,
-) -> Result<(), Fail>
-    requires named { IsNamed N.book N.table N.opening ⟦<block_file::MemBlocks as block_file::Blocks>⟧.contents new.items }
-    requires count { length new.items ≡ 2 }
+fn stopped_at_the_second<N: Array<Opened>, W: Wait>(rt: &W, units: &Shared<N>, tally: &mut Tally)
+    requires { units.now ≡ 2 }
 {
-    let units = Units::<_, _, _, N>::new(rt, alloc, new)?;
-    tally.expect("down 1", down(rt, &units, Group::One).is_ok());
+    tally.expect("down 1", down(rt, units, Group::One).is_ok());
     tally.expect(
         "down 2",
-        down(rt, &units, Group::Two) == Err((1, MoveFault::OpenFailed)),
+        down(rt, units, Group::Two) == Err((1, MoveFault::OpenFailed)),
     );
-    tally.expect("unit 0 stays moved", is_shown(rt, &units, 0, 1, (0, 3), 2));
-    tally.expect("unit 1 is as it was", is_shown(rt, &units, 1, 2, (3, 0), 1));
-    Ok(())
+    tally.expect("unit 0 stays moved", is_shown(rt, units, 0, 1, (0, 3), 2));
+    tally.expect("unit 1 is as it was", is_shown(rt, units, 1, 2, (3, 0), 1));
 }
 
 // Unit 0 cannot: it is told, and unit 1 is not asked.
-fn stopped_at_the_first<N: Array<Opened>, W: Wait>(
+fn stopped_at_the_first<N: Array<Opened>, W: Wait>(rt: &W, units: &Shared<N>, tally: &mut Tally)
+    requires { units.now ≡ 2 }
+{
+    tally.expect(
+        "down 1",
+        down(rt, units, Group::One) == Err((0, MoveFault::OpenFailed)),
+    );
+    tally.expect("unit 0 is as it was", is_shown(rt, units, 0, 1, (0, 1), 0));
+    tally.expect("unit 1 was not asked", is_shown(rt, units, 1, 2, (1, 0), 0));
+}
+
+// What happens to units 0 and 1.
+#[derive(Clone, Copy)]
+enum Story {
+    SetByASession,
+    SetWithoutAnOpen,
+    MovedByTheArray,
+    EachGoesDown,
+    StoppedAtTheSecond,
+    StoppedAtTheFirst,
+}
+
+fn happens<N: Array<Opened>, W: Wait>(
+    rt: &W,
+    alloc: Global,
+    units: &Shared<N>,
+    story: Story,
+    tally: &mut Tally,
+) -> Result<(), Fail>
+    requires { units.now ≡ 2 }
+{
+    match story {
+        Story::SetByASession => set_by_a_session(rt, alloc, units, tally)?,
+        Story::SetWithoutAnOpen => set_without_an_open(rt, alloc, units, tally)?,
+        Story::MovedByTheArray => moved_by_the_array(rt, alloc, units, tally)?,
+        Story::EachGoesDown => each_goes_down(rt, alloc, units, tally)?,
+        Story::StoppedAtTheSecond => stopped_at_the_second(rt, units, tally),
+        Story::StoppedAtTheFirst => stopped_at_the_first(rt, units, tally),
+    }
+    Ok(())
+}
+
+fn tell<N: Array<Opened>, W: Wait>(
     rt: &W,
     alloc: Global,
     new: Vec<MemUnit>,
-    tally: &mut Tally,
+    story: Story,
 ) -> Result<(), Fail>
     requires named { IsNamed N.book N.table N.opening ⟦<block_file::MemBlocks as block_file::Blocks>⟧.contents new.items }
     requires count { length new.items ≡ 2 }
 {
     let units = Units::<_, _, _, N>::new(rt, alloc, new)?;
-    tally.expect(
-        "down 1",
-        down(rt, &units, Group::One) == Err((0, MoveFault::OpenFailed)),
-    );
-    tally.expect("unit 0 is as it was", is_shown(rt, &units, 0, 1, (0, 1), 0));
-    tally.expect(
-        "unit 1 was not asked",
-        is_shown(rt, &units, 1, 2, (1, 0), 0),
-    );
-    Ok(())
+    let mut tally = Tally::new();
+    happens(rt, alloc, &units, story, &mut tally)?;
+    tally.end()
+}
+
+// Lets a story happen to units whose openers pass so many opens each.
+fn run<W: Wait>(rt: &W, alloc: Global, opens: [u64; 2], story: Story) -> Result<(), Fail> {
+    tell::<Brand, W>(rt, alloc, two(alloc, opens)?, story)
 }
 
 #[test]
 fn a_session_sets_the_owner(rt: HostRuntime) -> Result<(), Fail> {
-    let mut tally = Tally::new();
-    let units = two(rt.alloc(), [9, 9])?;
-    set_by_a_session::<Brand, _>(&rt, rt.alloc(), units, &mut tally)?;
-    tally.end()
+    run(&rt, rt.alloc(), [9, 9], Story::SetByASession)
 }
 
 #[test]
 fn an_owner_that_is_not_opened(rt: HostRuntime) -> Result<(), Fail> {
-    let mut tally = Tally::new();
-    let units = two(rt.alloc(), [0, 9])?;
-    set_without_an_open::<Brand, _>(&rt, rt.alloc(), units, &mut tally)?;
-    tally.end()
+    run(&rt, rt.alloc(), [0, 9], Story::SetWithoutAnOpen)
 }
 
 #[test]
 fn the_array_moves_a_unit(rt: HostRuntime) -> Result<(), Fail> {
-    let mut tally = Tally::new();
-    let units = two(rt.alloc(), [9, 9])?;
-    moved_by_the_array::<Brand, _>(&rt, rt.alloc(), units, &mut tally)?;
-    tally.end()
+    run(&rt, rt.alloc(), [9, 9], Story::MovedByTheArray)
 }
 
 #[test]
 fn each_controller_goes_down(rt: HostRuntime) -> Result<(), Fail> {
-    let mut tally = Tally::new();
-    let units = two(rt.alloc(), [9, 9])?;
-    each_goes_down::<Brand, _>(&rt, rt.alloc(), units, &mut tally)?;
-    tally.end()
+    run(&rt, rt.alloc(), [9, 9], Story::EachGoesDown)
 }
 
 #[test]
 fn what_moved_stays_moved(rt: HostRuntime) -> Result<(), Fail> {
-    let mut tally = Tally::new();
-    let units = two(rt.alloc(), [9, 0])?;
-    stopped_at_the_second::<Brand, _>(&rt, rt.alloc(), units, &mut tally)?;
-    tally.end()
+    run(&rt, rt.alloc(), [9, 0], Story::StoppedAtTheSecond)
 }
 
 #[test]
 fn the_first_that_does_not_move_ends_it(rt: HostRuntime) -> Result<(), Fail> {
-    let mut tally = Tally::new();
-    let units = two(rt.alloc(), [0, 9])?;
-    stopped_at_the_first::<Brand, _>(&rt, rt.alloc(), units, &mut tally)?;
-    tally.end()
+    run(&rt, rt.alloc(), [0, 9], Story::StoppedAtTheFirst)
 }

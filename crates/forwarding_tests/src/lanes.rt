@@ -71,7 +71,8 @@ fn write_and_read<R: Wait, N: Array<Opened>>(scene: &Scene<'_, R, N>) -> Option<
     Some(are_told && written == Told::Good && read == Told::Good && byte == 0xA5)
 }
 
-// Jobs of both units at once, of which group 2 owns the second: the worker serves the second, unless a lane is first, and leaves the first to the lane.
+// Jobs of both units at once, of which group 2 owns the second: the worker serves the second, unless a lane is first, and
+// leaves the first to the lane.
 fn both_units<R: Wait, N: Array<Opened>>(scene: &Scene<'_, R, N>) -> Option<bool> {
     let one = scene.hand_in(scene.attach(0, 3)?, TEST_UNIT_READY, &[])?;
     let two = scene.hand_in(scene.attach(1, 3)?, TEST_UNIT_READY, &[])?;

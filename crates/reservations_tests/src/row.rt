@@ -39,8 +39,8 @@ pub enum Want {
     Full,
 }
 
-/// A request, and what must come of it. `keys` is in the order of the nexuses, and `held` the holder's key and the type, both
-/// 0 without a reservation.
+/// A request, and what must come of it. `keys` is in the order of the nexuses, and `held` the holder's key and the type,
+/// both 0 without a reservation.
 #[derive(Drop)]
 pub struct Step {
     pub by: Who,

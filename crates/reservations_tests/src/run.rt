@@ -13,13 +13,14 @@
 //! A row begins with its name, and an empty line stands between two rows. One begins with a registry as it is at first;
 //! each of its other lines is one of these.
 //!
-//! - A request, in six parts: who asks, the action, its type, key and service action key (the keys in hexadecimal, here and
-//!   below), with `SPEC_I_PT`, `ALL_TG_PT` or `APTPL` behind them where it has that flag; how it ends, `Good`, `Conflict` or
-//!   `Illegal` with its additional sense code and qualifier; who is told what, and no other nexus is; the generation
-//!   behind it; the keys, in the order of the nexuses; the holder's key and the type, both 0 without a reservation, and the key
-//!   0 where all registrants hold.
+//! - A request, in six parts: who asks, the action, its type, key and service action key (the keys in hexadecimal, here
+//!   and below), with `SPEC_I_PT`, `ALL_TG_PT` or `APTPL` behind them where it has that flag; how it ends, `Good`,
+//!   `Conflict` or `Illegal` with its additional sense code and qualifier; who is told what, and no other nexus is; the
+//!   generation behind it; the keys, in the order of the nexuses; the holder's key and the type, both 0 without a
+//!   reservation, and the key 0 where all registrants hold.
 //! - `allows A r-o`: what this nexus may do: read, write, and what no reservation keeps out.
-//! - `reservation 24 BYTES`, `full-status 24 BYTES` or `capabilities 8 BYTES`: the data, where there is room for so many bytes.
+//! - `reservation 24 BYTES`, `full-status 24 BYTES` or `capabilities 8 BYTES`: the data, where there is room for so many
+//!   bytes.
 //! - `copied`, `lasted`: it goes on with a copy of the registry, or with what is left behind a loss of power.
 ghost use Rattle.std.specs.Prelude.{IfOk};
 ghost use Rattle.reservations.specs.Nexus.{IsPortName};

@@ -27,9 +27,9 @@ pub struct Command {
 
 /// A script: its commands, and the calls that these make of each device.
 ///
-/// It is read from a text. Each line is a command, and has six parts with semicolons between: its session and its group; its CDB; its data, as `bytes_of` spells them;
-/// how it ends, `GOOD` or sense key, code and qualifier; what it calls of the blocks' device; and of the registration
-/// file's, whose block 0, the root, has the number of the record that it leads to.
+/// It is read from a text. Each line is a command, and has six parts with semicolons between: its session and its group;
+/// its CDB; its data, as `bytes_of` spells them; how it ends, `GOOD` or sense key, code and qualifier; what it calls of the
+/// blocks' device; and of the registration file's, whose block 0, the root, has the number of the record that it leads to.
 #[derive(Drop)]
 pub struct Script {
     pub commands: Vec<Command>,
