@@ -27,13 +27,13 @@ use Rattle.session_rules.specs.declared.verdict.Verdict.TheVariants.{Accepted, F
 use Rattle.session_rules.specs.Asking.{Asking, served, reset}
 use Rattle.session_rules.specs.Turn.{Incoming, pdu, faulty, Out, bytes_of}
 use Rattle.session_rules.specs.Tasks.{Collecting}
-use Rattle.session_rules.specs.Verdict.{IsJudgedPdu, reason_of}
+use Rattle.session_rules.specs.Verdict.{IsJudged, IsJudgedPdu, reason_of}
 use Rattle.session_rules.specs.Legal.{end_after, end_by}
 use Rattle.session_rules.specs.TaskManagement.{IsManagement, reset_response}
 use Rattle.full_feature.specs.Counters.{Counters, after_number, after_command, after_collecting}
 use Rattle.pdu_stream.specs.Pdus.{sent_by}
 use Rattle.full_feature.specs.Machine.{pdus_of, call_of, end_of, call_data, IsCallOf, IsServeOf, Calls, Asks, OnManagedBy, OnResetAnswer, OnOpened, OnFed, OnAccepted, OnFullPdu, OnTaken, OnRefusal, OnVerdict, OnPdu, OnAnswer}
-use Rattle.full_feature.specs.MachineTurn.{TurnOnAnswer, TurnOnCall, TurnAsks, TurnOpened, TurnFed, TurnOf}
+use Rattle.full_feature.specs.MachineTurn.{TurnOnAnswer, TurnOnCall, TurnAsks, TurnOpened, TurnFed, TurnOf, TurnOnAccepted, TurnOnVerdict}
 use Rattle.full_feature.specs.Machine as on
 use Rattle.full_feature.specs.MachineTurn as made
 use Rattle.pdu_stream.specs.Outbox.{OutboxValue, IsQueued}
@@ -44,11 +44,11 @@ module _ {T : Type 0} (leads : T → Asking → T → Type 0) (s s' : Counters) 
     (a : Actions) (queued : IsQueued held held' before now o o' (bytes_of (sent_by b (pdus_of a)))) where
   -- a turn without a call
   turn_alone : (came : Incoming) (v : Verdict)
-      → TurnOf s came (record { came = came; verdict = v; call = None; sent = sent_by b (pdus_of a) }) s'
+      → IsJudged s.setting s.standing came v → TurnOnVerdict v s came None (sent_by b (pdus_of a)) s'
       → end_of a ≡ end_after v came None → MakesTurn leads s s' x x held held' before now o o' came (end_of a)
-  turn_alone came v made ends = record {
+  turn_alone came v judged made ends = record {
     turn = record { came = came; verdict = v; call = None; sent = sent_by b (pdus_of a) };
-    made = made;
+    made = record { came_is = refl; judged = judged; made = made };
     led = refl;
     queued = queued;
     wanted_is = ends;
@@ -97,15 +97,11 @@ module _ {T : Type 0} (leads : T → Asking → T → Type 0) (s s' : Counters) 
       → MakesTurn leads s s' x x held held' before now o o' (pdu b (Initiator (TaskManagementRequest p)) d) (end_of a)
   managed_alone p d (Respond response) kept judged comes_to k none =
       turn_alone (pdu b (Initiator (TaskManagementRequest p)) d) Accepted
-      (record {
-        came_is = refl;
-        judged = judged;
-        made = record {
-          response = Some response;
-          kept = kept;
-          managed = record { management = Respond response; comes_to = comes_to; managed = (refl, refl) };
-          turned = record { outs_are = k.pdus_are b; next_is = k.next };
-        };
+      judged (record {
+        response = Some response;
+        kept = kept;
+        managed = record { management = Respond response; comes_to = comes_to; managed = (refl, refl) };
+        turned = record { outs_are = k.pdus_are b; next_is = k.next };
       }) k.ends
   managed_alone p d (Reset unit) kept judged comes_to k none =
       absurd (let e : None ≡ Some (kinds.Reset (record { request = p; unit = unit })) = sym none ∙ k.call in cc)
@@ -114,53 +110,33 @@ module _ {T : Type 0} (leads : T → Asking → T → Type 0) (s s' : Counters) 
       → call_of a ≡ None → MakesTurn leads s s' x x held held' before now o o' (pdu b h d) (end_of a)
   taken_alone (Initiator (NopOut p)) d judged k none =
       turn_alone (pdu b (Initiator (NopOut p)) d) Accepted
-      (record {
-        came_is = refl;
-        judged = judged;
-        made = record { no_call = refl; outs_are = k.pdus_are b; next_is = k.next };
-      }) k.ends
+      judged (record { no_call = refl; outs_are = k.pdus_are b; next_is = k.next }) k.ends
   taken_alone (Initiator (TextRequest p)) d judged k none =
       turn_alone (pdu b (Initiator (TextRequest p)) d) Accepted
-      (record {
-        came_is = refl;
-        judged = judged;
-        made = record { no_call = refl; outs_are = k.pdus_are b; next_is = k.next };
-      }) k.ends
+      judged (record { no_call = refl; outs_are = k.pdus_are b; next_is = k.next }) k.ends
   taken_alone (Initiator (TaskManagementRequest p)) d judged k none =
       managed_alone p d k.management k.kept judged k.comes_to k.managed none
   taken_alone (Initiator (LogoutRequest p)) d judged k none =
       turn_alone (pdu b (Initiator (LogoutRequest p)) d) Accepted
-      (record {
-        came_is = refl;
-        judged = judged;
-        made = record { no_call = refl; outs_are = k.pdus_are b; next_is = k.next };
-      }) k.ends
+      judged (record { no_call = refl; outs_are = k.pdus_are b; next_is = k.next }) k.ends
   taken_alone (Initiator (ScsiCommand p)) d judged k none =
       let w = opened_alone p k.asked d k.by none in
       turn_alone (pdu b (Initiator (ScsiCommand p)) d) Accepted
-      (record {
-        came_is = refl;
-        judged = judged;
-        made = record { asked = k.asked; asked_by = k.asked_by; by = w.0 };
-      }) w.1
+      judged (record { asked = k.asked; asked_by = k.asked_by; by = w.0 }) w.1
   taken_alone (Initiator (DataOut x)) d judged k none =
       let w = fed_alone k.front k.this k.back k.asked d _ k.by none in
       turn_alone (pdu b (Initiator (DataOut x)) d) Accepted
-      (record {
-        came_is = refl;
-        judged = judged;
-        made = record {
-          front = k.front;
-          this = k.this;
-          back = k.back;
-          whole = k.whole;
-          found =
-              k.found;
-          continues = k.continues;
-          asked = k.asked;
-          asked_by = k.asked_by;
-          by = w.0;
-        };
+      judged (record {
+        front = k.front;
+        this = k.this;
+        back = k.back;
+        whole = k.whole;
+        found =
+            k.found;
+        continues = k.continues;
+        asked = k.asked;
+        asked_by = k.asked_by;
+        by = w.0;
       }) w.1
   taken_alone h d judged k none = absurd k
 
@@ -168,15 +144,11 @@ module _ {T : Type 0} (leads : T → Asking → T → Type 0) (s s' : Counters) 
       → MakesTurn leads s s' x x held held' before now o o' (pdu b h d) (end_of a)
   full_alone (Initiator (ScsiCommand p)) d judged k =
       turn_alone (pdu b (Initiator (ScsiCommand p)) d) Full
-      (record {
-        came_is = refl;
-        judged = judged;
-        made = record {
-          asked = k.asked;
-          means = k.means;
-          turned =
-              record { no_call = refl; outs_are = k.sends.pdus_are b; next_is = k.sends.next };
-        };
+      judged (record {
+        asked = k.asked;
+        means = k.means;
+        turned =
+            record { no_call = refl; outs_are = k.sends.pdus_are b; next_is = k.sends.next };
       }) k.sends.no_end
   full_alone h d judged k = absurd k
 
@@ -186,25 +158,13 @@ module _ {T : Type 0} (leads : T → Asking → T → Type 0) (s s' : Counters) 
   alone_by Full h d judged k none = full_alone h d judged k
   alone_by Ignored h d judged k none =
       turn_alone (pdu b h d) Ignored
-      (record {
-        came_is = refl;
-        judged = judged;
-        made = record { no_call = refl; outs_are = ap (sent_by b) k.0.pdus_are; next_is = k.2 };
-      }) k.1
+      judged (record { no_call = refl; outs_are = ap (sent_by b) k.0.pdus_are; next_is = k.2 }) k.1
   alone_by Gap h d judged k none =
       turn_alone (pdu b h d) Gap
-      (record {
-        came_is = refl;
-        judged = judged;
-        made = record { no_call = refl; outs_are = ap (sent_by b) k.0.pdus_are; next_is = k.2 };
-      }) k.1
+      judged (record { no_call = refl; outs_are = ap (sent_by b) k.0.pdus_are; next_is = k.2 }) k.1
   alone_by (Refused reason) h d judged k none =
       turn_alone (pdu b h d) (Refused reason)
-      (record {
-        came_is = refl;
-        judged = judged;
-        made = record { no_call = refl; outs_are = ap (sent_by b) k.pdus_are; next_is = k.next };
-      }) k.ends
+      judged (record { no_call = refl; outs_are = ap (sent_by b) k.pdus_are; next_is = k.next }) k.ends
 
   -- a PDU that calls for no call
   pub alone : (h : Header) (d : List ℕ) → OnPdu s h d a s' → call_of a ≡ None
@@ -216,11 +176,7 @@ module _ {T : Type 0} (leads : T → Asking → T → Type 0) (s s' : Counters) 
       → MakesTurn leads s s' x x held held' before now o o' (faulty f b) (Some Protocol)
   fault f k = subst (MakesTurn leads s s' x x held held' before now o o' (faulty f b)) k.ends
       (turn_alone (faulty f b) (Refused (reason_of f))
-      (record {
-        came_is = refl;
-        judged = refl;
-        made = record { no_call = refl; outs_are = ap (sent_by b) k.pdus_are; next_is = k.next };
-      }) k.ends)
+      refl (record { no_call = refl; outs_are = ap (sent_by b) k.pdus_are; next_is = k.next }) k.ends)
 
 -- what is said of actions is said of what they are
 pub on_same : (s s' : Counters) (h : Header) (d : List ℕ) (a a' : Actions) → a ≡ a' → OnPdu s h d a s' → OnPdu s h d a' s'
@@ -305,61 +261,37 @@ module _ {T : Type 0} (leads : T → Asking → T → Type 0) (s mid s' : Counte
   fed_turn front this back asked d end (on.calls_now h k next) replied = let w =
       on_call _ this.command asked _ k next replied in (made.calls_now h w.0, w.1)
 
+  turn_called : (h : Header) (d : List ℕ) → IsJudgedPdu s.setting s.standing h d Accepted
+      → TurnOnAccepted (pdu b h d) s call_is (sent_by b (pdus_of a')) s' → end_of a' ≡ end_after Accepted (pdu b h d) call_is
+      → MakesTurn leads s s' x x' held held' before now o o' (pdu b h d) (end_of a')
+  turn_called h d judged made ends = record {
+    turn = record { came = pdu b h d; verdict = Accepted; call = call_is; sent = sent_by b (pdus_of a') };
+    made = record { came_is = refl; judged = judged; made = made };
+    led = led;
+    queued = queued;
+    wanted_is = ends;
+  }
+
   accepted_turn : (h : Header) (d : List ℕ) → IsJudgedPdu s.setting s.standing h d Accepted
       → OnTaken s h d a mid
       → OnAnswer mid c.task.command c.task.need answer a' s'
       → MakesTurn leads s s' x x' held held' before now o o' (pdu b h d) (end_of a')
   accepted_turn (Initiator (ScsiCommand p)) d judged k replied =
       let w = opened_turn p k.asked d k.by replied in
-      record {
-        turn = record {
-          came = pdu b (Initiator (ScsiCommand p)) d;
-          verdict = Accepted;
-          call = call_is;
-          sent =
-              sent_by b (pdus_of a');
-        };
-        made = record {
-          came_is = refl;
-          judged = judged;
-          made =
-              record { asked = k.asked; asked_by = k.asked_by; by = w.0 };
-        };
-        led = led;
-        queued = queued;
-        wanted_is = w.1;
-      }
+      turn_called (Initiator (ScsiCommand p)) d judged (record { asked = k.asked; asked_by = k.asked_by; by = w.0 }) w.1
   accepted_turn (Initiator (DataOut x)) d judged k replied =
       let w = fed_turn k.front k.this k.back k.asked d _ k.by replied in
-      record {
-        turn = record {
-          came = pdu b (Initiator (DataOut x)) d;
-          verdict = Accepted;
-          call = call_is;
-          sent =
-              sent_by b (pdus_of a');
-        };
-        made = record {
-          came_is = refl;
-          judged = judged;
-          made =
-              record {
-                front = k.front;
-                this = k.this;
-                back = k.back;
-                whole = k.whole;
-                found = k.found;
-                continues =
-                    k.continues;
-                asked = k.asked;
-                asked_by = k.asked_by;
-                by = w.0;
-              };
-        };
-        led = led;
-        queued = queued;
-        wanted_is = w.1;
-      }
+      turn_called (Initiator (DataOut x)) d judged (record {
+        front = k.front;
+        this = k.this;
+        back = k.back;
+        whole = k.whole;
+        found = k.found;
+        continues = k.continues;
+        asked = k.asked;
+        asked_by = k.asked_by;
+        by = w.0;
+      }) w.1
   accepted_turn (Initiator (NopOut p)) d judged k replied = no_none (kinds.Serve c) (call_of a) k.no_call some
   accepted_turn (Initiator (TaskManagementRequest p)) d judged k replied =
       managed_else (after_collecting k.kept (after_number p.immediate s)) mid p a c k.management k.managed some
