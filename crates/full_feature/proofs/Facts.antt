@@ -15,7 +15,8 @@ use Rattle.iscsi_pdu.specs.declared.header.R2t.{R2t as R2tHeader}
 use Rattle.iscsi_pdu.specs.declared.header.ScsiResponse.{ScsiResponse as ResponseHeader}
 use Rattle.iscsi_pdu.specs.declared.header.Numbers.{Numbers}
 use Rattle.iscsi_pdu.specs.declared.header.Header.TheVariants.{Initiator}
-use Rattle.iscsi_pdu.specs.declared.header.InitiatorHeader.TheVariants.{NopOut, ScsiCommand, DataOut, TaskManagementRequest, TextRequest, LogoutRequest}
+use Rattle.iscsi_pdu.specs.declared.header.InitiatorHeader.TheVariants.{NopOut, ScsiCommand, DataOut, TaskManagementRequest}
+use Rattle.iscsi_pdu.specs.declared.header.InitiatorHeader.TheVariants.{TextRequest, LogoutRequest}
 use Rattle.iscsi_pdu.specs.declared.header.TargetHeader.TheVariants.{R2t}
 use Rattle.full_feature.specs.declared.response.Completion.{Completion}
 use Rattle.session_rules.specs.declared.target.TargetAnswer.{TargetAnswer}
@@ -33,15 +34,18 @@ use Rattle.waiting_commands.specs.Slots.{fed}
 use Rattle.session_rules.specs.Requests.{IsRequestAnswered}
 use Rattle.session_rules.specs.Verdict.{IsJudged}
 use Rattle.session_rules.specs.Transfer.{expected_transfer, transfer_of, sent_data}
-use Rattle.session_rules.specs.Answered.{Outcome, by_target, no_buffer, set_full, outcome_uncalled, outcome_of, command_at, Answered, answered_by, answered_in, IsServed, IsCalled, outcome_data}
+use Rattle.session_rules.specs.Answered.{Outcome, by_target, no_buffer, set_full, outcome_uncalled, outcome_of, command_at}
+use Rattle.session_rules.specs.Answered.{Answered, answered_by, answered_in, IsServed, IsCalled, outcome_data}
 use Rattle.session_rules.specs.Response.{HasOneResponse, IsAnsweredAs, IsToldAs, sense_part}
 use Rattle.session_rules.specs.DataIn.{data_ins, Tiles}
 use Rattle.session_rules.specs.Legal.{IsOfCommand, IsSentFor}
 use Rattle.full_feature.specs.Counters.{Counters, after_status, after_command, after_collecting, after_r2t, next_numbers}
 use Rattle.pdu_stream.specs.Pdus.{data_ins_for}
 use Rattle.full_feature.specs.AnswerPdus.{response_for, reply_with, busy, task_set_full}
-use Rattle.full_feature.specs.MachineTurn.{TurnOnAnswer, TurnAsks, TurnOpened, calls, asks, turns_away, TurnFed, fills, asks_on, calls_now, TurnOnAccepted, TurnOnFullPdu, TurnOnVerdict}
-use Rattle.full_feature.proofs.ReadSegments.{outs_of, outs_windows, outs_statuses, outs_responses, outs_front, outs_count, outs_kinds, outs_data, outs_r2ts, outs_ended, outs_tiled, no_segment}
+use Rattle.full_feature.specs.MachineTurn.{TurnOnAnswer, TurnAsks, TurnOpened, calls, asks, turns_away, TurnFed, fills}
+use Rattle.full_feature.specs.MachineTurn.{asks_on, calls_now, TurnOnAccepted, TurnOnFullPdu, TurnOnVerdict}
+use Rattle.full_feature.proofs.ReadSegments.{outs_of, outs_windows, outs_statuses, outs_responses, outs_front, outs_count}
+use Rattle.full_feature.proofs.ReadSegments.{outs_kinds, outs_data, outs_r2ts, outs_ended, outs_tiled, no_segment}
 
 abbrev none_data : List ℕ
 none_data = []

@@ -10,7 +10,8 @@ use Rattle.scsi_types.specs.declared.command.Command.{Command}
 use Rattle.scsi_types.specs.declared.command.CdbFault.{CdbFault}
 use Rattle.iscsi_pdu.specs.declared.header.ScsiCommand.{ScsiCommand as CommandHeader}
 use Rattle.iscsi_pdu.specs.declared.header.Header.TheVariants.{Initiator}
-use Rattle.iscsi_pdu.specs.declared.header.InitiatorHeader.TheVariants.{NopOut, ScsiCommand, DataOut, TaskManagementRequest, TextRequest, LogoutRequest}
+use Rattle.iscsi_pdu.specs.declared.header.InitiatorHeader.TheVariants.{NopOut, ScsiCommand, DataOut, TaskManagementRequest}
+use Rattle.iscsi_pdu.specs.declared.header.InitiatorHeader.TheVariants.{TextRequest, LogoutRequest}
 use Rattle.session_rules.specs.declared.lengths.Lengths.{Lengths}
 use Rattle.session_rules.specs.declared.target.TargetAnswer.{TargetAnswer}
 use Rattle.session_rules.specs.declared.target.TargetAnswer.TheVariants.{Replied, Outside, Busy, Gone}
@@ -19,7 +20,8 @@ use Rattle.session_rules.specs.declared.verdict.Verdict.TheVariants.{Accepted, F
 use Rattle.session_rules.specs.declared.verdict.TheConstants.{RESERVED_TAG}
 use Rattle.session_rules.specs.Asking.{Asking, served}
 use Rattle.session_rules.specs.Turn.{Incoming, pdu, Out, Turn}
-use Rattle.session_rules.specs.Tasks.{is_response, r2ts_of, finds_gone, touches, has_tag, ends, Task, Collecting, accepted_command, begun_by, tasks}
+use Rattle.session_rules.specs.Tasks.{is_response, r2ts_of, finds_gone, touches, has_tag, ends, Task, Collecting}
+use Rattle.session_rules.specs.Tasks.{accepted_command, begun_by, tasks}
 use Rattle.full_feature.proofs.TaskTurn.{keeps, IsCalledNow, IsOpened, IsFed}
 use Rattle.full_feature.proofs.TaskTurn as task
 use Rattle.session_rules.specs.Setting.{Setting, discovers}
@@ -34,7 +36,8 @@ use Rattle.session_rules.specs.Nop.{nop_answer}
 use Rattle.session_rules.specs.Text.{text_outs}
 use Rattle.session_rules.specs.TaskManagement.{management_answer}
 use Rattle.session_rules.specs.Logout.{logout_answer}
-use Rattle.full_feature.specs.MachineTurn.{TurnOnAnswer, TurnOnCall, TurnOpened, calls, asks, turns_away, TurnFed, fills, asks_on, calls_now, TurnOnAccepted, TurnOnFullPdu, TurnOnVerdict}
+use Rattle.full_feature.specs.MachineTurn.{TurnOnAnswer, TurnOnCall, TurnOpened, calls, asks, turns_away, TurnFed, fills}
+use Rattle.full_feature.specs.MachineTurn.{asks_on, calls_now, TurnOnAccepted, TurnOnFullPdu, TurnOnVerdict}
 use Rattle.full_feature.proofs.ReadSegments.{outs_r2ts, outs_ended}
 use Rattle.session_rules.proofs.Tasks.{no_more, extended, tasks_more, not_full}
 use Rattle.full_feature.proofs.Table.{IsKept, nothing_comes, command_comes, data_comes, management_comes}

@@ -19,7 +19,8 @@ use Rattle.full_feature.proofs.Right.{get_more}
 use Rattle.full_feature.proofs.Steps.{sent_more}
 use Rattle.full_feature.proofs.Table.{IsKept}
 use Rattle.full_feature.proofs.Gathering.{kept_more}
-use Rattle.session_rules.specs.Legal.{status_number, status_numbers, HaveWindow, HaveNextR2t, HaveTheirData, IsAnsweredTask, IsTiledTask, IsCountedTask, HasResiduals, IsToldTask, answer_at, GoesOn, Lawful}
+use Rattle.session_rules.specs.Legal.{status_number, status_numbers, HaveWindow, HaveNextR2t, HaveTheirData, IsAnsweredTask}
+use Rattle.session_rules.specs.Legal.{IsTiledTask, IsCountedTask, HasResiduals, IsToldTask, answer_at, GoesOn, Lawful}
 use Rattle.session_rules.specs.Answered.{answered_in, IsCalled}
 use Rattle.full_feature.specs.Counters.{Counters, begun}
 use Rattle.full_feature.specs.MachineTurn.{TurnOf, TurnOnVerdict}

@@ -20,7 +20,8 @@ use Rattle.session_rules.specs.Collecting.{Continues, HasToCollect, IsNext, shri
 use Rattle.waiting_commands.specs.Slots.{IsAskedBy, NeedIs, IsFinished, StandsAt, IsRemoved, fed, waits, asked_on, r2t_for}
 use Rattle.session_rules.specs.Standing.{numbers_for}
 use Rattle.full_feature.specs.Counters.{Counters, after_command, after_collecting, after_r2t, next_numbers}
-use Rattle.full_feature.specs.Machine.{pdus_of, call_of, end_of, OnRefusal, OnPdu, OnAccepted, asks, BeginsToWait, IsSilent, call_data, Calls, CanTake, OnFed, OnData, fills, asks_on, calls_now, r2t_with_for}
+use Rattle.full_feature.specs.Machine.{pdus_of, call_of, end_of, OnRefusal, OnPdu, OnAccepted, asks, BeginsToWait, IsSilent}
+use Rattle.full_feature.specs.Machine.{call_data, Calls, CanTake, OnFed, OnData, fills, asks_on, calls_now, r2t_with_for}
 use Rattle.std.proofs.lemmas.Bool.{leb-false, leb-true}
 use Rattle.iscsi_pdu.specs.declared.header.Header.TheVariants.{Initiator}
 use Rattle.iscsi_pdu.specs.declared.header.InitiatorHeader.TheVariants.{DataOut}

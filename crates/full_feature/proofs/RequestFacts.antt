@@ -26,7 +26,9 @@ use Rattle.session_rules.specs.Verdict.{IsJudged}
 use Rattle.session_rules.specs.Answered.{Outcome, answered_by, answered_in, IsCalled}
 use Rattle.session_rules.specs.Response.{response_with}
 use Rattle.session_rules.specs.DataIn.{data_in_with}
-use Rattle.session_rules.specs.Legal.{status_number, status_numbers, IsWindow, HaveWindow, HaveNextR2t, IsSentFor, HasItsData, HaveTheirData, IsAnsweredTask, IsTiledTask, IsCountedTask, HasResiduals, IsToldTask}
+use Rattle.session_rules.specs.Legal.{status_number, status_numbers, IsWindow, HaveWindow, HaveNextR2t, IsSentFor}
+use Rattle.session_rules.specs.Legal.{HasItsData, HaveTheirData, IsAnsweredTask, IsTiledTask, IsCountedTask, HasResiduals}
+use Rattle.session_rules.specs.Legal.{IsToldTask}
 use Rattle.full_feature.specs.Counters.{Counters, after_status, after_number, after_collecting, after_answer, next_numbers}
 use Rattle.full_feature.specs.MachineTurn.{TurnOnAccepted}
 

@@ -1,5 +1,6 @@
 -- Of short transcripts that differ, one is legal.
-use Rattle.std.proofs.Common.{◌≡◌, ℕ, ◌-◌, ◌<◌, min, Bool, true, false, List, [], ◌∷◌, ◌++◌, Option, Some, None, length, refl, sym, ap, subst, ◌∙◌, inl, inr, arith}
+use Rattle.std.proofs.Common.{◌≡◌, ℕ, ◌-◌, ◌<◌, min, Bool, true, false, List, [], ◌∷◌, ◌++◌, Option, Some, None, length}
+use Rattle.std.proofs.Common.{refl, sym, ap, subst, ◌∙◌, inl, inr, arith}
 use Rattle.std.specs.Prelude.{IsTrue, Result}
 use Rattle.std.proofs.lemmas.List.{append-nil}
 use Rattle.scsi_types.specs.Cdb.{need_of}
@@ -24,7 +25,9 @@ use Rattle.session_rules.specs.DataIn.{IsSegment}
 use Rattle.session_rules.specs.Legal.{Lawful}
 use Rattle.full_feature.specs.Counters.{Counters, begun, after_status, after_number, after_r2t, after_collecting}
 use Rattle.full_feature.specs.MachineTurn.{TurnOf, calls, asks}
-use Rattle.session_rules.specs.Examples.{example, unit_0, numbers_with, out, ping, pong, read_header, three_bytes, read, the_data_in, the_response, unanswered, write_header, write, the_r2t, turned_away, leave, reject, the_reject}
+use Rattle.session_rules.specs.Examples.{example, unit_0, numbers_with, out, ping, pong, read_header, three_bytes, read}
+use Rattle.session_rules.specs.Examples.{the_data_in, the_response, unanswered, write_header, write, the_r2t, turned_away}
+use Rattle.session_rules.specs.Examples.{leave, reject, the_reject}
 use Rattle.session_rules.proofs.AtEach.{at_each_none}
 use Rattle.full_feature.proofs.Lawful.{Stands, stands_none, stands_more}
 

@@ -22,8 +22,11 @@ use Rattle.full_feature.proofs.TaskTurn.{IsOpened, asks, busy, called, IsFed, fi
 use Rattle.session_rules.specs.Asking.{Asking}
 use Rattle.session_rules.specs.Turn.{Incoming, pdu, Out, Turn, sent}
 use Rattle.session_rules.specs.Window.{wrap}
-use Rattle.session_rules.specs.Tasks.{data_out_with, is_management, r2t_with, r2ts_of, ends, Task, has_ended, data_outs, r2ts, command_call, command_calls, gathered, is_response, sends_r2t, behind_last, finds_gone, Collecting, collected, collecting_of}
-use Rattle.session_rules.specs.Collecting.{asked_to, IsRequest, IsUncalled, HasCalls, IsCollected, IsTurnedAwayAtOnce, IsRightTask, IsNext, Continues, HasToCollect}
+use Rattle.session_rules.specs.Tasks.{data_out_with, is_management, r2t_with, r2ts_of, ends, Task, has_ended, data_outs}
+use Rattle.session_rules.specs.Tasks.{r2ts, command_call, command_calls, gathered, is_response, sends_r2t, behind_last}
+use Rattle.session_rules.specs.Tasks.{finds_gone, Collecting, collected, collecting_of}
+use Rattle.session_rules.specs.Collecting.{asked_to, IsRequest, IsUncalled, HasCalls, IsCollected, IsTurnedAwayAtOnce}
+use Rattle.session_rules.specs.Collecting.{IsRightTask, IsNext, Continues, HasToCollect}
 use Rattle.full_feature.proofs.Right.{last_push, end_is, within_need, more_data, more_asked, reaches}
 use Rattle.session_rules.proofs.Tasks.{with_turn}
 

@@ -7,7 +7,8 @@ use Rattle.scsi_types.specs.declared.command.CdbFault.{CdbFault}
 use Rattle.iscsi_pdu.specs.declared.header.R2t.{R2t as R2tHeader}
 use Rattle.iscsi_pdu.specs.declared.header.Header.{Header}
 use Rattle.iscsi_pdu.specs.declared.header.Header.TheVariants.{Initiator}
-use Rattle.iscsi_pdu.specs.declared.header.InitiatorHeader.TheVariants.{NopOut, ScsiCommand, DataOut, TaskManagementRequest, TextRequest, LogoutRequest}
+use Rattle.iscsi_pdu.specs.declared.header.InitiatorHeader.TheVariants.{NopOut, ScsiCommand, DataOut, TaskManagementRequest}
+use Rattle.iscsi_pdu.specs.declared.header.InitiatorHeader.TheVariants.{TextRequest, LogoutRequest}
 use Rattle.iscsi_pdu.specs.declared.header.TaskManagementRequest.{TaskManagementRequest as ManagementHeader}
 use Rattle.iscsi_pdu.specs.declared.header.ScsiCommand.{ScsiCommand as CommandHeader}
 use Rattle.iscsi_pdu.specs.declared.fault.PduFault.{PduFault}
@@ -32,7 +33,9 @@ use Rattle.session_rules.specs.Legal.{end_after, end_by}
 use Rattle.session_rules.specs.TaskManagement.{IsManagement, reset_response}
 use Rattle.full_feature.specs.Counters.{Counters, after_number, after_command, after_collecting}
 use Rattle.pdu_stream.specs.Pdus.{sent_by}
-use Rattle.full_feature.specs.Machine.{pdus_of, call_of, end_of, call_data, IsCallOf, IsServeOf, Calls, Asks, OnManagedBy, OnResetAnswer, OnOpened, OnFed, OnAccepted, OnFullPdu, OnTaken, OnRefusal, OnVerdict, OnPdu, OnAnswer}
+use Rattle.full_feature.specs.Machine.{pdus_of, call_of, end_of, call_data, IsCallOf, IsServeOf, Calls, Asks, OnManagedBy}
+use Rattle.full_feature.specs.Machine.{OnResetAnswer, OnOpened, OnFed, OnAccepted, OnFullPdu, OnTaken, OnRefusal, OnVerdict}
+use Rattle.full_feature.specs.Machine.{OnPdu, OnAnswer}
 use Rattle.full_feature.specs.MachineTurn.{TurnOnAnswer, TurnOnCall, TurnAsks, TurnOpened, TurnFed, TurnOf, TurnOnAccepted, TurnOnVerdict}
 use Rattle.full_feature.specs.Machine as on
 use Rattle.full_feature.specs.MachineTurn as made

@@ -14,7 +14,8 @@ use Rattle.iscsi_pdu.specs.declared.header.TextRequest.{TextRequest as TextHeade
 use Rattle.iscsi_pdu.specs.declared.header.LogoutRequest.{LogoutRequest as LogoutHeader}
 use Rattle.iscsi_pdu.specs.declared.header.Header.{Header}
 use Rattle.iscsi_pdu.specs.declared.header.Header.TheVariants.{Initiator}
-use Rattle.iscsi_pdu.specs.declared.header.InitiatorHeader.TheVariants.{NopOut, ScsiCommand, DataOut, TaskManagementRequest, TextRequest, LogoutRequest}
+use Rattle.iscsi_pdu.specs.declared.header.InitiatorHeader.TheVariants.{NopOut, ScsiCommand, DataOut, TaskManagementRequest}
+use Rattle.iscsi_pdu.specs.declared.header.InitiatorHeader.TheVariants.{TextRequest, LogoutRequest}
 use Rattle.full_feature.specs.declared.actions.Actions.{Actions}
 use Rattle.full_feature.specs.declared.actions.Actions.TheVariants.{Send, Ask}
 use Rattle.full_feature.specs.declared.actions.Call.{Call}
@@ -42,7 +43,8 @@ use Rattle.waiting_commands.specs.Slots.{StandsAt, IsAskedBy, fed, waits}
 use Rattle.session_rules.specs.Verdict.{IsJudgedPdu}
 use Rattle.session_rules.specs.Transfer.{data_for}
 use Rattle.session_rules.specs.Answered.{reply_data}
-use Rattle.full_feature.specs.Counters.{Counters, after_status, after_number, after_command, after_collecting, after_r2t, after_answer, next_numbers}
+use Rattle.full_feature.specs.Counters.{Counters, after_status, after_number, after_command, after_collecting, after_r2t}
+use Rattle.full_feature.specs.Counters.{after_answer, next_numbers}
 use Rattle.full_feature.specs.AnswerPdus.{reply_with, completion_of, busy, task_set_full}
 use Rattle.session_rules.specs.Nop.{nop_answer}
 use Rattle.session_rules.specs.Text.{text_outs, IsMadeOf}

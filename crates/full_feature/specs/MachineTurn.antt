@@ -10,7 +10,8 @@ use Rattle.iscsi_pdu.specs.declared.header.R2t.{R2t as R2tHeader}
 use Rattle.iscsi_pdu.specs.declared.header.ScsiCommand.{ScsiCommand as CommandHeader}
 use Rattle.iscsi_pdu.specs.declared.header.TaskManagementRequest.{TaskManagementRequest as ManagementHeader}
 use Rattle.iscsi_pdu.specs.declared.header.Header.TheVariants.{Initiator}
-use Rattle.iscsi_pdu.specs.declared.header.InitiatorHeader.TheVariants.{NopOut, ScsiCommand, DataOut, TaskManagementRequest, TextRequest, LogoutRequest}
+use Rattle.iscsi_pdu.specs.declared.header.InitiatorHeader.TheVariants.{NopOut, ScsiCommand, DataOut, TaskManagementRequest}
+use Rattle.iscsi_pdu.specs.declared.header.InitiatorHeader.TheVariants.{TextRequest, LogoutRequest}
 use Rattle.iscsi_pdu.specs.declared.header.TargetHeader.TheVariants.{R2t, Reject}
 use Rattle.session_rules.specs.declared.target.TargetAnswer.{TargetAnswer}
 use Rattle.session_rules.specs.declared.verdict.Verdict.{Verdict}
@@ -25,7 +26,8 @@ use Rattle.waiting_commands.specs.Slots.{IsAskedBy, fed, waits}
 use Rattle.session_rules.specs.Verdict.{IsJudged}
 use Rattle.session_rules.specs.Answered.{reply_data}
 use Rattle.session_rules.specs.Legal.{bhs_of}
-use Rattle.full_feature.specs.Counters.{Counters, after_status, after_number, after_command, after_collecting, after_r2t, after_answer, next_numbers}
+use Rattle.full_feature.specs.Counters.{Counters, after_status, after_number, after_command, after_collecting, after_r2t}
+use Rattle.full_feature.specs.Counters.{after_answer, next_numbers}
 use Rattle.full_feature.specs.AnswerPdus.{reply_with, completion_of, busy, task_set_full}
 use Rattle.session_rules.specs.Nop.{nop_answer}
 use Rattle.session_rules.specs.Text.{text_outs}

@@ -17,7 +17,8 @@ use Rattle.iscsi_pdu.specs.declared.header.TargetHeader.TheVariants.{Reject}
 use Rattle.pdu_stream.specs.declared.pdus.Pdus.{Pdus}
 use Rattle.session_rules.specs.declared.login_outcome.LoginOutcome.TheVariants.{Rejected}
 use Rattle.login_side.specs.LoginMachine.{IsTextOf, MakesLoginTurn}
-use Rattle.session_rules.specs.LoginPhase.{flags_of, port_of, outcome_of_begin, outcome_of_lives, IsNegotiated, HasOutcome, LoginStanding, progress_after, cmd_sn_in, login_numbers, login_outs}
+use Rattle.session_rules.specs.LoginPhase.{flags_of, port_of, outcome_of_begin, outcome_of_lives, IsNegotiated, HasOutcome}
+use Rattle.session_rules.specs.LoginPhase.{LoginStanding, progress_after, cmd_sn_in, login_numbers, login_outs}
 use Rattle.pdu_stream.specs.Pdus.{sent_by}
 use Rattle.pdu_stream.specs.Outbox.{OutboxValue, IsQueued}
 use Rattle.session_rules.specs.Standing.{numbers_for}

@@ -17,8 +17,11 @@ use Rattle.session_rules.specs.Window.{wrap}
 use Rattle.session_rules.specs.Legal.{end_after, GoesOn, Lawful}
 use Rattle.full_feature.specs.Counters.{Counters, begun}
 use Rattle.full_feature.specs.MachineTurn.{TurnOf}
-use Rattle.session_rules.specs.LoginPhase.{LoginTurn, LoginStanding, progress_after, progress_behind, cmd_sn_in, first_cmd_sn, login_standing, login_after, IsLoginTurn, login_end, begins, IsStart}
-use Rattle.session_rules.specs.Phases.{Transcript, Exchange, of_login, of_turn, exchanges, NoneEnds, NoneBegins, IsLogin, IsBehindLogin, IsLawful}
+use Rattle.session_rules.specs.LoginPhase.{LoginTurn, LoginStanding, progress_after, progress_behind, cmd_sn_in}
+use Rattle.session_rules.specs.LoginPhase.{first_cmd_sn, login_standing, login_after, IsLoginTurn, login_end, begins}
+use Rattle.session_rules.specs.LoginPhase.{IsStart}
+use Rattle.session_rules.specs.Phases.{Transcript, Exchange, of_login, of_turn, exchanges, NoneEnds, NoneBegins, IsLogin}
+use Rattle.session_rules.specs.Phases.{IsBehindLogin, IsLawful}
 use Rattle.session.specs.Stream.{PhasesValue, NextPhase, ExchangeOf, OpensWith, IsFresh}
 use Rattle.session_rules.proofs.AtEach.{all_append, at_each_more, at_each_none, at_each_of_more, at_each_of_none}
 use Rattle.full_feature.proofs.Lawful.{Stands, stands_more, stands_none}

@@ -20,10 +20,12 @@ use Rattle.scsi_types.specs.declared.command.CdbFault.{CdbFault}
 use Rattle.session_rules.specs.Asking.{Asking, served}
 use Rattle.session_rules.specs.Turn.{Incoming, pdu, Out, Turn, sent}
 use Rattle.session_rules.specs.Window.{wrap}
-use Rattle.session_rules.specs.Tasks.{is_response, is_management, finds_gone, touches, ends, through, Task, accepted_command, begun_by, tasks}
+use Rattle.session_rules.specs.Tasks.{is_response, is_management, finds_gone, touches, ends, through, Task, accepted_command}
+use Rattle.session_rules.specs.Tasks.{begun_by, tasks}
 use Rattle.session_rules.specs.Standing.{Standing, standing}
 use Rattle.session_rules.specs.Transfer.{sent_data}
-use Rattle.session_rules.specs.Answered.{Outcome, by_target, no_buffer, set_full, outcome_of, command_at, answered_by, answered_in, reply_data}
+use Rattle.session_rules.specs.Answered.{Outcome, by_target, no_buffer, set_full, outcome_of, command_at, answered_by}
+use Rattle.session_rules.specs.Answered.{answered_in, reply_data}
 use Rattle.session_rules.specs.Response.{response_with, responses, HasOneResponse, IsAnsweredBy, IsAnsweredAs}
 use Rattle.session_rules.specs.DataIn.{data_ins, joined_data}
 use Rattle.session_rules.specs.Legal.{AtEach, Lawful, status_numbers, IsAnsweredTask, IsTiledTask}

@@ -6,7 +6,8 @@ use Rattle.std.proofs.lemmas.List.Elements.{filter_map-append}
 use Rattle.std.proofs.lemmas.Grind.{flat_map-append}
 use Rattle.std.proofs.Math.Nat.{mod-add-mod}
 use Rattle.iscsi_pdu.specs.declared.header.Header.TheVariants.{Initiator, Target}
-use Rattle.iscsi_pdu.specs.declared.header.InitiatorHeader.TheVariants.{NopOut, ScsiCommand, TaskManagementRequest, LoginRequest, TextRequest, DataOut, LogoutRequest}
+use Rattle.iscsi_pdu.specs.declared.header.InitiatorHeader.TheVariants.{NopOut, ScsiCommand, TaskManagementRequest}
+use Rattle.iscsi_pdu.specs.declared.header.InitiatorHeader.TheVariants.{LoginRequest, TextRequest, DataOut, LogoutRequest}
 use Rattle.iscsi_pdu.specs.declared.header.Numbers.{Numbers}
 use Rattle.login.specs.Progress.{Progress}
 use Rattle.session_rules.specs.declared.identity.Identity.{Identity}

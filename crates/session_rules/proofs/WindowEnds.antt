@@ -16,7 +16,8 @@ use Rattle.session_rules.specs.declared.verdict.Verdict.{Verdict}
 use Rattle.session_rules.specs.declared.verdict.Verdict.TheVariants.{Accepted, Full, Ignored, Gap, Refused}
 use Rattle.session_rules.specs.Turn.{Incoming, pdu, Out, Turn}
 use Rattle.session_rules.specs.Window.{wrap, ahead, takes_number}
-use Rattle.session_rules.specs.Tasks.{touches, ends, through, Task, accepted_command, begun_by, tasks, has_ended, Collecting, collected, collecting_of}
+use Rattle.session_rules.specs.Tasks.{touches, ends, through, Task, accepted_command, begun_by, tasks, has_ended, Collecting}
+use Rattle.session_rules.specs.Tasks.{collected, collecting_of}
 use Rattle.session_rules.specs.Collecting.{shrinks_window, is_immediate}
 use Rattle.session_rules.specs.Standing.{Standing, standing, numbered_waiting, window_size, last_in_window}
 use Rattle.session_rules.specs.Verdict.{IsJudged, window_verdict, is_refused}

@@ -3,7 +3,8 @@ use Rattle.std.specs.Prelude.{◌≡◌, ℕ, ◌+◌, ◌-◌, ◌<◌, ◌↔�
 use Rattle.std.specs.List.{AllByRecursion, count_by}
 use Rattle.iscsi_pdu.specs.declared.header.Header.TheVariants.{Initiator, Target}
 use Rattle.iscsi_pdu.specs.declared.header.Numbers.{Numbers}
-use Rattle.iscsi_pdu.specs.declared.header.InitiatorHeader.TheVariants.{NopOut, ScsiCommand, TaskManagementRequest, LoginRequest, TextRequest, DataOut, LogoutRequest}
+use Rattle.iscsi_pdu.specs.declared.header.InitiatorHeader.TheVariants.{NopOut, ScsiCommand, TaskManagementRequest}
+use Rattle.iscsi_pdu.specs.declared.header.InitiatorHeader.TheVariants.{LoginRequest, TextRequest, DataOut, LogoutRequest}
 use Rattle.iscsi_pdu.specs.declared.header.ScsiCommand.{ScsiCommand as CommandHeader}
 use Rattle.session_rules.specs.declared.verdict.Verdict.TheVariants.{Accepted, Ignored}
 use Rattle.scsi_types.specs.declared.command.Command.{Command}

@@ -6,7 +6,8 @@ use Rattle.byteorder.specs.Endian.{big_number}
 use Rattle.scsi_types.specs.Nexus.{Port}
 use Rattle.iscsi_pdu.specs.declared.header.Header.TheVariants.{Initiator, Target}
 use Rattle.iscsi_pdu.specs.declared.header.InitiatorHeader.{InitiatorHeader}
-use Rattle.iscsi_pdu.specs.declared.header.InitiatorHeader.TheVariants.{NopOut, ScsiCommand, TaskManagementRequest, LoginRequest, TextRequest, DataOut, LogoutRequest}
+use Rattle.iscsi_pdu.specs.declared.header.InitiatorHeader.TheVariants.{NopOut, ScsiCommand, TaskManagementRequest}
+use Rattle.iscsi_pdu.specs.declared.header.InitiatorHeader.TheVariants.{LoginRequest, TextRequest, DataOut, LogoutRequest}
 use Rattle.iscsi_pdu.specs.declared.header.TargetHeader.{TargetHeader}
 use Rattle.iscsi_pdu.specs.declared.header.TargetHeader.TheVariants.{LoginResponse, Reject}
 use Rattle.iscsi_pdu.specs.declared.header.LoginRequest.{LoginRequest as LoginHeader}

@@ -8,10 +8,12 @@ use Rattle.iscsi_pdu.specs.declared.header.TargetHeader.TheVariants.{TaskManagem
 use Rattle.session_rules.specs.declared.target.ResetAnswer.{ResetAnswer}
 use Rattle.session_rules.specs.declared.target.ResetAnswer.TheVariants.{Done, Gone, Failed}
 use Rattle.session_rules.specs.declared.task_function.TaskFunction.{TaskFunction}
-use Rattle.session_rules.specs.declared.task_function.TaskFunction.TheVariants.{AbortTask, AbortTaskSet, LogicalUnitReset, TaskReassign, Unserved}
+use Rattle.session_rules.specs.declared.task_function.TaskFunction.TheVariants.{AbortTask, AbortTaskSet, LogicalUnitReset}
+use Rattle.session_rules.specs.declared.task_function.TaskFunction.TheVariants.{TaskReassign, Unserved}
 use Rattle.session_rules.specs.declared.task_function.Management.{Management}
 use Rattle.session_rules.specs.declared.task_function.Management.TheVariants.{Respond, Reset}
-use Rattle.session_rules.specs.Codes.{function_complete, task_does_not_exist, lun_does_not_exist, reassignment_not_supported, function_not_supported, function_rejected}
+use Rattle.session_rules.specs.Codes.{function_complete, task_does_not_exist, lun_does_not_exist, reassignment_not_supported}
+use Rattle.session_rules.specs.Codes.{function_not_supported, function_rejected}
 use Rattle.session_rules.specs.Turn.{Out}
 use Rattle.session_rules.specs.Asking.{Asking, reset}
 use Rattle.session_rules.specs.Tasks.{Collecting}

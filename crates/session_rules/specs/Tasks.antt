@@ -6,7 +6,8 @@ use Rattle.iscsi_pdu.specs.declared.header.ScsiCommand.{ScsiCommand as CommandHe
 use Rattle.iscsi_pdu.specs.declared.header.DataOut.{DataOut as DataOutHeader}
 use Rattle.iscsi_pdu.specs.declared.header.R2t.{R2t as R2tHeader}
 use Rattle.iscsi_pdu.specs.declared.header.Header.TheVariants.{Initiator, Target}
-use Rattle.iscsi_pdu.specs.declared.header.InitiatorHeader.TheVariants.{NopOut, ScsiCommand, TaskManagementRequest, LoginRequest, TextRequest, DataOut, LogoutRequest}
+use Rattle.iscsi_pdu.specs.declared.header.InitiatorHeader.TheVariants.{NopOut, ScsiCommand, TaskManagementRequest}
+use Rattle.iscsi_pdu.specs.declared.header.InitiatorHeader.TheVariants.{LoginRequest, TextRequest, DataOut, LogoutRequest}
 use Rattle.iscsi_pdu.specs.declared.header.TargetHeader.{TargetHeader}
 use Rattle.iscsi_pdu.specs.declared.header.TargetHeader.TheVariants.{ScsiResponse, R2t}
 use Rattle.session_rules.specs.declared.target.TargetAnswer.{TargetAnswer}

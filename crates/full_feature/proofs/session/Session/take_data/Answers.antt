@@ -5,7 +5,8 @@ use Rattle.session_rules.specs.Tasks.{Collecting}
 use Rattle.waiting_commands.specs.Slots.{asked_on}
 use Rattle.full_feature.specs.Machine.{r2t_with_for}
 use Rattle.full_feature.specs.Counters.{Counters, after_collecting, after_r2t}
-use Rattle.full_feature.proofs.Receiving.{continues, at_within, on_filling, on_calling, on_asking, called_on, asked_on_by, still_asked, view_of, need_is_of}
+use Rattle.full_feature.proofs.Receiving.{continues, at_within, on_filling, on_calling, on_asking, called_on, asked_on_by}
+use Rattle.full_feature.proofs.Receiving.{still_asked, view_of, need_is_of}
 use Rattle.full_feature.proofs.session.Session.take_data.Goals as goal
 
 pub feed-requires : goal.feed-requires
