@@ -1,0 +1,3 @@
+pub mod Traffic
+pub mod Events
+pub mod Orders
