@@ -1,2 +1,3 @@
 pub mod Lists
 pub mod Sound
+pub mod Steps

@@ -35,10 +35,10 @@ abbrev pub IsOf : Entry → ℕ → ℕ → Type 0
 IsOf e session serial =
     (group : Group) × (asked : Result ScsiCommand CdbFault) × (bytes : List ℕ) × IsCommand session serial group asked bytes e
 
-abbrev commands : ℕ → List Entry → ℕ
+abbrev pub commands : ℕ → List Entry → ℕ
 commands session h = counted command session h
 
-commands_pushed : (session : ℕ) (h : List Entry) (e : Entry) → commands session (h ++ e ∷ []) ≡ commands session h + command session e
+pub commands_pushed : (session : ℕ) (h : List Entry) (e : Entry) → commands session (h ++ e ∷ []) ≡ commands session h + command session e
 commands_pushed session h e = sum_by_push (command session) h e
 
 same : (i : ℕ) → nat_eq i i ≡ true
@@ -144,17 +144,17 @@ abbrev pub IsUnserved : List Entry → Session → Type 0
 IsUnserved h x = commands x.id h + 1 ≡ x.next
 
 -- a submit of its command was noted, and no end of it behind that
-pub record IsHandedIn (h : List Entry) (notes : List Note) (x : Session) : Type 0 where
+pub record IsHandedIn (h : List Entry) (notes : List Note) (unit_at id next : ℕ) : Type 0 where
   pub place : ℕ
   pub note : Note
   pub there : IsNoted notes place note
   pub is : note.what ≡ Submitted
-  pub unit : note.place ≡ x.place
-  pub session : note.session ≡ x.id
-  pub serial : note.serial ≡ x.next
+  pub unit : note.place ≡ unit_at
+  pub session : note.session ≡ id
+  pub serial : note.serial ≡ next
   pub count : note.count ≤ length h
-  pub last : (i : ℕ) (a : Note) → IsNoted notes i a → IsNone a.what → a.place ≡ x.place → a.session ≡ x.id
-      → a.serial ≡ x.next → i < place
+  pub last : (i : ℕ) (a : Note) → IsNoted notes i a → IsNone a.what → a.place ≡ unit_at → a.session ≡ id
+      → a.serial ≡ next → i < place
 
 -- its command is the entry at a place, with this reply
 pub record HasEntry (claims : Bool) (s : UnitState) (h : List Entry) (id serial : ℕ) (job : Job) (reply : ReplyValue) (at : ℕ)
@@ -171,8 +171,8 @@ module _ (claims : Bool) (s : UnitState) where
 
   abbrev pub StageOk : List Entry → List Note → Session → Stage → Type 0
   StageOk h notes x Idle = IsUnserved h x
-  StageOk h notes x (Waits job) = IsUnserved h x × IsHandedIn h notes x
-  StageOk h notes x (InLane job) = IsUnserved h x × IsHandedIn h notes x
+  StageOk h notes x (Waits job) = IsUnserved h x × IsHandedIn h notes x.place x.id x.next
+  StageOk h notes x (InLane job) = IsUnserved h x × IsHandedIn h notes x.place x.id x.next
   StageOk h notes x (Ended job end) = EndOk h x job end
   StageOk h notes x (Answered job end) = EndOk h x job end
   StageOk h notes x (Returned job) = IsUnserved h x
@@ -264,8 +264,8 @@ module _ (claims : Bool) (s : UnitState) where
   abbrev pub IsOther : Note → Session → Type 0
   IsOther new x = IsNone new.what → new.place ≡ x.place → new.session ≡ x.id → new.serial ≡ x.next → ⊥
 
-  handed_in_kept : (h : List Entry) (notes : List Note) (new : Note) (x : Session) → IsOther new x → IsHandedIn h notes x
-      → IsHandedIn h (notes ++ new ∷ []) x
+  handed_in_kept : (h : List Entry) (notes : List Note) (new : Note) (x : Session) → IsOther new x → IsHandedIn h notes x.place x.id x.next
+      → IsHandedIn h (notes ++ new ∷ []) x.place x.id x.next
   handed_in_kept h notes new x other o = record {
     place = o.place;
     note = o.note;
@@ -364,8 +364,8 @@ module _ (claims : Bool) (s : UnitState) where
   unserved_kept : (h : List Entry) (e : Entry) (x : Session) → command x.id e ≡ 0 → IsUnserved h x → IsUnserved (h ++ e ∷ []) x
   unserved_kept h e x none ok = let more = commands_pushed x.id h e in let z = none in omega arith
 
-  handed_in_later : (h : List Entry) (e : Entry) (notes : List Note) (x : Session) → IsHandedIn h notes x
-      → IsHandedIn (h ++ e ∷ []) notes x
+  handed_in_later : (h : List Entry) (e : Entry) (notes : List Note) (x : Session) → IsHandedIn h notes x.place x.id x.next
+      → IsHandedIn (h ++ e ∷ []) notes x.place x.id x.next
   handed_in_later h e notes x o = record {
     place = o.place;
     note = o.note;
