@@ -49,3 +49,8 @@ module _ {X : Type 0} where
 
   pub longer : (xs : List X) (e : X) → length (xs ++ e ∷ []) ≡ length xs + 1
   longer xs e = length-append xs (e ∷ [])
+
+  pub set_same : (xs : List X) (n : ℕ) (a : X) → slice_get xs n ≡ Some a → slice_set xs n a ≡ xs
+  set_same [] n a is = refl
+  set_same (x ∷ xs) zero a is = ap (λ (y : X). y ∷ xs) (some_same a x (sym is))
+  set_same (x ∷ xs) (suc n) a is = ap (λ (ys : List X). x ∷ ys) (set_same xs n a is)

@@ -166,7 +166,7 @@ pub record HasEntry (claims : Bool) (s : UnitState) (h : List Entry) (id serial 
 
 module _ (claims : Bool) (s : UnitState) where
   abbrev pub EndOk : List Entry → Session → Job → End → Type 0
-  EndOk h x job (Replied reply at) = (commands x.id h ≡ x.next) × HasEntry claims s h x.id x.next job reply at
+  EndOk h x job (Replied reply at next) = (commands x.id h ≡ x.next) × (next ≡ x.next + 1) × HasEntry claims s h x.id x.next job reply at
   EndOk h x job (IsRefused why) = IsUnserved h x
 
   abbrev pub StageOk : List Entry → List Note → Session → Stage → Type 0
@@ -297,9 +297,9 @@ module _ (claims : Bool) (s : UnitState) where
   stage_noted h notes new x Idle other ok = ok
   stage_noted h notes new x (Waits job) other ok = (ok.0, handed_in_kept h notes new x other ok.1)
   stage_noted h notes new x (InLane job) other ok = (ok.0, handed_in_kept h notes new x other ok.1)
-  stage_noted h notes new x (Ended job (Replied reply at)) other ok = ok
+  stage_noted h notes new x (Ended job (Replied reply at next)) other ok = ok
   stage_noted h notes new x (Ended job (IsRefused why)) other ok = ok
-  stage_noted h notes new x (Answered job (Replied reply at)) other ok = ok
+  stage_noted h notes new x (Answered job (Replied reply at next)) other ok = ok
   stage_noted h notes new x (Answered job (IsRefused why)) other ok = ok
   stage_noted h notes new x (Returned job) other ok = ok
 
@@ -380,9 +380,10 @@ module _ (claims : Bool) (s : UnitState) where
 
   end_kept : (h : List Entry) (e : Entry) (x : Session) (job : Job) (end : End) → command x.id e ≡ 0 → EndOk h x job end
       → EndOk (h ++ e ∷ []) x job end
-  end_kept h e x job (Replied reply at) none ok = (
+  end_kept h e x job (Replied reply at next) none ok = (
     let more = commands_pushed x.id h e in let z = none in let k = ok.0 in omega arith,
-    entry_stays h e x.id x.next job reply at ok.1,
+    ok.1,
+    entry_stays h e x.id x.next job reply at ok.2,
   )
   end_kept h e x job (IsRefused why) none ok = unserved_kept h e x none ok
 

@@ -1,5 +1,5 @@
 -- What each event makes of the world: of the histories of its units, by their places, and of what is on its way.
-use Rattle.std.specs.Prelude.{◌≡◌, ◌⊎◌, ℕ, ◌<◌, ◌≤◌, Bool, nat_eq, if◌then◌else◌, List, [], ◌∷◌, ◌++◌, length}
+use Rattle.std.specs.Prelude.{◌≡◌, ◌⊎◌, ℕ, ◌+◌, ◌<◌, ◌≤◌, Bool, nat_eq, if◌then◌else◌, List, [], ◌∷◌, ◌++◌, length}
 use Rattle.std.specs.Prelude.{MatchOption, slice_get}
 use Rattle.locked_unit.specs.Calls.{IsCause}
 use Rattle.reservations.specs.Nexus.{IsPortName, through}
@@ -9,8 +9,8 @@ use Rattle.unit_state.specs.Entry.{Entry, Attach, Detach, Reset, Move, Command}
 use Rattle.unit_state.specs.declared.unit.MoveFault.{MoveFault}
 use Rattle.unit_history.specs.Histories.{IsHistory, IsToldBehind}
 use Rattle.unit_history.specs.Causes.{IsFull, IsGone, IsOwner, IsStay, WantsMemory}
-use Rattle.world.specs.Traffic.{Traffic, at_stage, attached, by_session, collected, new_job, posted, submitted}
-use Rattle.world.specs.Traffic.{submitted_again, taken, waiting}
+use Rattle.world.specs.Traffic.{Traffic, at_stage, attached, given, collected, new_job, posted, submitted}
+use Rattle.world.specs.Traffic.{submitted_again, taken}
 use Rattle.world.specs.declared.event.Event.{Event}
 use Rattle.world.specs.declared.event.Event.TheVariants as events
 use Rattle.world.specs.declared.session.Job.{Job}
@@ -32,6 +32,14 @@ scene past traffic = record { past = past; traffic = traffic }
 abbrev pub with_entry : (ℕ → List Entry) → ℕ → Entry → ℕ → List Entry
 with_entry past place e at = if nat_eq at place then past at ++ e ∷ [] else past at
 
+-- how many entries the unit of a session has had
+abbrev pub count_at : Scene → Session → ℕ
+count_at w x = length (w.past x.place)
+
+-- only what is on its way changes
+abbrev pub with_traffic : Scene → Traffic → Scene
+with_traffic w t = scene w.past t
+
 module _ (claims : Bool) (units : ℕ) (opening : ℕ → UnitState) where
   -- the unit at a place takes this entry: its history stays legal
   abbrev pub Takes : (ℕ → List Entry) → ℕ → Entry → Type 0
@@ -44,8 +52,8 @@ module _ (claims : Bool) (units : ℕ) (opening : ℕ → UnitState) where
 
   -- The unit serves a command as its next entry, whose reply this is; or refuses it and shows why.
   abbrev pub IsServed : Scene → Session → Job → End → (ℕ → List Entry) → Type 0
-  IsServed w x job (Replied reply at) past =
-      (choice : Choice) × (at ≡ length (w.past x.place))
+  IsServed w x job (Replied reply at next) past =
+      (choice : Choice) × (at ≡ length (w.past x.place)) × (next ≡ x.next + 1)
       × (past ≡ with_entry w.past x.place (Command x.id x.next job.by_group job.asked job.bytes choice))
       × Takes w.past x.place (Command x.id x.next job.by_group job.asked job.bytes choice)
       × IsToldBehind claims (opening x.place) (w.past x.place) (Command x.id x.next job.by_group job.asked job.bytes choice) reply
@@ -58,18 +66,11 @@ module _ (claims : Bool) (units : ℕ) (opening : ℕ → UnitState) where
   IsServing w n x Idle new = new ≡ w
   IsServing w n x (Waits job) new = new ≡ w
   IsServing w n x (InLane job) new =
-      (end : End) × IsServed w x job end new.past × (new.traffic ≡ at_stage w.traffic n x (Ended job end))
+      ((end : End) × IsServed w x job end new.past × (new.traffic ≡ at_stage w.traffic n x (Ended job end)))
+      ⊎ ((units ≤ x.place) × (new ≡ w))
   IsServing w n x (Ended job end) new = new ≡ w
   IsServing w n x (Answered job end) new = new ≡ w
   IsServing w n x (Returned job) new = new ≡ w
-
-  -- how many entries the unit of a session has had
-  abbrev pub count_at : Scene → Session → ℕ
-  count_at w x = length (w.past x.place)
-
-  -- only what is on its way changes
-  abbrev pub with_traffic : Scene → Traffic → Scene
-  with_traffic w t = scene w.past t
 
   -- The step of each event. What can't happen changes nothing.
   abbrev pub IsStep : Scene → Event → Scene → Type 0
@@ -86,19 +87,19 @@ module _ (claims : Bool) (units : ℕ) (opening : ℕ → UnitState) where
       IsEntry w place (Move list Fine) w.traffic
       ((why : MoveFault) × IsStay (opening place) (w.past place) list why) new
   IsStep w (events.Submit n by_group asked bytes) new =
-      new ≡ with_traffic w (by_session w.traffic (slice_get w.traffic.sessions n)
-      (λ x. submitted (count_at w x) w.traffic n x (new_job by_group asked bytes) x.stage))
+      new ≡ with_traffic w (given w.traffic (slice_get w.traffic.sessions n)
+      (λ x. submitted (count_at w x) w.traffic n x (new_job by_group asked bytes)))
   IsStep w (events.SubmitAgain n) new =
-      new ≡ with_traffic w (by_session w.traffic (slice_get w.traffic.sessions n)
-      (λ x. submitted_again (count_at w x) w.traffic n x x.stage))
-  IsStep w (events.Take group) new = new ≡ with_traffic w (taken w.traffic group (waiting w.traffic group))
+      new ≡ with_traffic w (given w.traffic (slice_get w.traffic.sessions n)
+      (λ x. submitted_again (count_at w x) w.traffic n x))
+  IsStep w (events.Take group) new = new ≡ with_traffic w (taken w.traffic group)
   IsStep w (events.Serve n) new =
       MatchOption (slice_get w.traffic.sessions n) (new ≡ w) (λ x. IsServing w n x x.stage new)
   IsStep w (events.Post n) new =
-      new ≡ with_traffic w (by_session w.traffic (slice_get w.traffic.sessions n) (λ x. posted w.traffic n x x.stage))
+      new ≡ with_traffic w (given w.traffic (slice_get w.traffic.sessions n) (λ x. posted w.traffic n x))
   IsStep w (events.Collect n) new =
-      new ≡ with_traffic w (by_session w.traffic (slice_get w.traffic.sessions n)
-      (λ x. collected (count_at w x) w.traffic n x x.stage))
+      new ≡ with_traffic w (given w.traffic (slice_get w.traffic.sessions n)
+      (λ x. collected (count_at w x) w.traffic n x))
 
   -- the steps of a list of events, one behind the other
   abbrev pub AreSteps : Scene → List Event → Scene → Type 0

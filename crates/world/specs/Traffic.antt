@@ -78,47 +78,95 @@ handed_in count t n x job =
     else with_waiting (noted (at_stage t n x (Waits job)) (note_of count x Submitted)) job.by_group
     (waiting t job.by_group ++ n ∷ [])
 
+-- ---- the stages that an event asks for
+
+abbrev pub is_idle : Stage → Bool
+is_idle Idle = true
+is_idle (Waits job) = false
+is_idle (InLane job) = false
+is_idle (Ended job end) = false
+is_idle (Answered job end) = false
+is_idle (Returned job) = false
+
+abbrev pub waits_in : Stage → Option Job
+waits_in Idle = None
+waits_in (Waits job) = Some job
+waits_in (InLane job) = None
+waits_in (Ended job end) = None
+waits_in (Answered job end) = None
+waits_in (Returned job) = None
+
+abbrev pub lane_in : Stage → Option Job
+lane_in Idle = None
+lane_in (Waits job) = None
+lane_in (InLane job) = Some job
+lane_in (Ended job end) = None
+lane_in (Answered job end) = None
+lane_in (Returned job) = None
+
+abbrev pub ended_in : Stage → Option (Job × End)
+ended_in Idle = None
+ended_in (Waits job) = None
+ended_in (InLane job) = None
+ended_in (Ended job end) = Some (job, end)
+ended_in (Answered job end) = None
+ended_in (Returned job) = None
+
+abbrev pub answered_in : Stage → Option (Job × End)
+answered_in Idle = None
+answered_in (Waits job) = None
+answered_in (InLane job) = None
+answered_in (Ended job end) = None
+answered_in (Answered job end) = Some (job, end)
+answered_in (Returned job) = None
+
+abbrev pub returned_in : Stage → Option Job
+returned_in Idle = None
+returned_in (Waits job) = None
+returned_in (InLane job) = None
+returned_in (Ended job end) = None
+returned_in (Answered job end) = None
+returned_in (Returned job) = Some job
+
+-- ---- the events of a session, which is there, at a stage that they ask for; else nothing changes
+
+abbrev pub given : {A : Type 0} → Traffic → Option A → (A → Traffic) → Traffic
+given t None act = t
+given t (Some a) act = act a
+
 -- a new command is handed in by a session that has none on its way
-abbrev pub submitted : ℕ → Traffic → ℕ → Session → Job → Stage → Traffic
-submitted count t n x job Idle = handed_in count t n x job
-submitted count t n x job (Waits other) = t
-submitted count t n x job (InLane other) = t
-submitted count t n x job (Ended other end) = t
-submitted count t n x job (Answered other end) = t
-submitted count t n x job (Returned other) = t
+abbrev pub submitted : ℕ → Traffic → ℕ → Session → Job → Traffic
+submitted count t n x job = if is_idle x.stage then handed_in count t n x job else t
 
 -- one that came to Moved is handed in once more
-abbrev pub submitted_again : ℕ → Traffic → ℕ → Session → Stage → Traffic
-submitted_again count t n x Idle = t
-submitted_again count t n x (Waits job) = t
-submitted_again count t n x (InLane job) = t
-submitted_again count t n x (Ended job end) = t
-submitted_again count t n x (Answered job end) = t
-submitted_again count t n x (Returned job) = handed_in count t n x job
+abbrev pub submitted_again : ℕ → Traffic → ℕ → Session → Traffic
+submitted_again count t n x = given t (returned_in x.stage) (λ job. handed_in count t n x job)
 
--- a lane takes the job that waits first
-abbrev pub in_lane : Traffic → ℕ → Session → Stage → Traffic
-in_lane t n x Idle = t
-in_lane t n x (Waits job) = at_stage t n x (InLane job)
-in_lane t n x (InLane job) = t
-in_lane t n x (Ended job end) = t
-in_lane t n x (Answered job end) = t
-in_lane t n x (Returned job) = t
+-- a lane takes the job that waits first at a desk
+abbrev pub in_lane : Traffic → ℕ → Session → Traffic
+in_lane t n x = given t (waits_in x.stage) (λ job. at_stage t n x (InLane job))
+
+abbrev pub taken_from : Traffic → Group → List ℕ → Traffic
+taken_from t group [] = t
+taken_from t group (n ∷ rest) =
+    let left = with_waiting t group rest in given left (slice_get t.sessions n) (λ x. in_lane left n x)
+
+abbrev pub taken : Traffic → Group → Traffic
+taken t group = taken_from t group (waiting t group)
+
+-- has its unit serve it
+abbrev pub ended : Traffic → ℕ → Session → End → Traffic
+ended t n x end = given t (lane_in x.stage) (λ job. at_stage t n x (Ended job end))
 
 -- and posts its answer
-abbrev pub posted : Traffic → ℕ → Session → Stage → Traffic
-posted t n x Idle = t
-posted t n x (Waits job) = t
-posted t n x (InLane job) = t
-posted t n x (Ended job end) = at_stage t n x (Answered job end)
-posted t n x (Answered job end) = t
-posted t n x (Returned job) = t
+abbrev pub posted : Traffic → ℕ → Session → Traffic
+posted t n x = given t (ended_in x.stage) (λ a. at_stage t n x (Answered a.0 a.1))
 
--- The session collects the answer to its job. A reply uses its serial up. After the first Moved it may hand the job in at the
--- desk of the group that this names; the second ends in BUSY.
+-- The session collects the answer to its job. With a reply comes the serial of its next command. After the first Moved it may
+-- hand the job in at the desk of the group that this names; the second ends in BUSY.
 abbrev pub heard : ℕ → Traffic → ℕ → Session → Job → End → Traffic
-heard count t n x job (Replied reply place) =
-    noted (with_session t n (free x (x.next + 1))) (note_of count x (HasReply job reply place))
+heard count t n x job (Replied reply place next) =
+    noted (with_session t n (free x next)) (note_of count x (HasReply job reply place))
 heard count t n x job (IsRefused IsGone) = given_up count t n x Gone
 heard count t n x job (IsRefused NoMemory) = given_up count t n x Busy
 heard count t n x job (IsRefused (Moved to)) =
@@ -126,23 +174,8 @@ heard count t n x job (IsRefused (Moved to)) =
     then given_up count t n x Busy
     else at_stage t n x (Returned (record job { by_group = to; is_second = true }))
 
-abbrev pub collected : ℕ → Traffic → ℕ → Session → Stage → Traffic
-collected count t n x Idle = t
-collected count t n x (Waits job) = t
-collected count t n x (InLane job) = t
-collected count t n x (Ended job end) = t
-collected count t n x (Answered job end) = heard count t n x job end
-collected count t n x (Returned job) = t
-
--- what the session at a place of the list does, if there is one
-abbrev pub by_session : Traffic → Option Session → (Session → Traffic) → Traffic
-by_session t None act = t
-by_session t (Some x) act = act x
-
-abbrev pub taken : Traffic → Group → List ℕ → Traffic
-taken t group [] = t
-taken t group (n ∷ rest) =
-    let left = with_waiting t group rest in by_session left (slice_get t.sessions n) (λ x. in_lane left n x x.stage)
+abbrev pub collected : ℕ → Traffic → ℕ → Session → Traffic
+collected count t n x = given t (answered_in x.stage) (λ a. heard count t n x a.0 a.1)
 
 -- What contracts see of a world: its units, with their devices, and what is on its way.
 pub record WorldValue (B R O : Type 0) : Type 0 where

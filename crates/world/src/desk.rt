@@ -1,5 +1,5 @@
 //! A desk: the sessions whose jobs wait at it.
-ghost use Rattle.std.specs.Prelude.{◌≡◌, ◌<◌, ◌++◌, ◌∷◌, [], length, IfOk, IfSome, IfNone, nat_eq};
+ghost use Rattle.std.specs.Prelude.{◌≡◌, ◌++◌, ◌∷◌, [], length, not, if◌then◌else◌, IfOk, IfSome, IfNone, nat_eq};
 
 use std::alloc::{AllocError, Global};
 use std::collections::VecDeque;
@@ -35,19 +35,16 @@ impl Desk {
         })
     }
 
-    /// Whether as many jobs wait as there is room for.
-    pub fn is_full(&self) -> bool
-        ensures { result ≡ nat_eq (length self.now) 64 }
+    /// Puts a session's job last, where fewer than 64 wait: whether it did.
+    pub fn push(&mut self, session: usize) -> bool
+        ensures taken { result ≡ not (nat_eq (length self.old) 64) }
+        ensures waiting { self.new ≡ (if nat_eq (length self.old) 64 then self.old else self.old ++ session ∷ []) }
     {
-        self.waiting.len() == MOST_JOBS
-    }
-
-    /// Puts a session's job last.
-    pub fn push(&mut self, session: usize)
-        requires { length self.old < 64 }
-        ensures { self.new ≡ self.old ++ session ∷ [] }
-    {
+        if self.waiting.len() >= MOST_JOBS {
+            return false;
+        }
         self.waiting.push_back_reserved(session);
+        true
     }
 
     /// Takes the first.

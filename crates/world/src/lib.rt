@@ -7,6 +7,7 @@ mod bytes;
 mod desk;
 mod event;
 mod note;
+mod records;
 mod session;
 mod world;
 
