@@ -3,3 +3,4 @@ pub mod Sound
 pub mod Steps
 pub mod Again
 pub mod Worlds
+pub mod Standing

@@ -5,6 +5,8 @@ use Rattle.std.specs.Prelude.{MatchOption, slice_get}
 use Rattle.std.proofs.lemmas.Bool.Decides.{eqb_tells}
 use Rattle.reservations.specs.Nexus.{through}
 use Rattle.scsi_types.specs.ReplyValue.{ReplyValue}
+use Rattle.scsi_types.specs.declared.names.Group.{Group}
+use Rattle.scsi_types.specs.declared.names.Group.TheVariants.{One, Two}
 use Rattle.unit_state.specs.State.{UnitState}
 use Rattle.unit_state.specs.Choice.{Choice, Fine}
 use Rattle.unit_state.specs.Entry.{Entry, Attach, Detach, Reset, Move, Command}
@@ -37,10 +39,11 @@ module _ (claims : Bool) (units : ℕ) (opening : ℕ → UnitState) where
   pub record Holds (w : Scene) : Type 0 where
     pub legal : (place : ℕ) → IsHistory claims (opening place) (w.past place)
     pub sound : (place : ℕ) → SoundAt place (w.past place) w.traffic
+    pub beyond : (place : ℕ) → units ≤ place → w.past place ≡ []
 
   -- only what is on its way changes
   quiet : (w : Scene) (t : Traffic) → Holds w → ((place : ℕ) → SoundAt place (w.past place) t) → Holds (with_traffic w t)
-  quiet w t holds sound = record { legal = holds.legal; sound = sound }
+  quiet w t holds sound = record { legal = holds.legal; sound = sound; beyond = holds.beyond }
 
   -- a session does what it may
   does : (w : Scene) (o : Option Session) (act : Session → Traffic) → Holds w
@@ -67,8 +70,15 @@ module _ (claims : Bool) (units : ℕ) (opening : ℕ → UnitState) where
         (λ (other : (nat_eq place k ≡ false) × (place ≢ k)).
         rw other.0 (elsewhere place (λ (is : k ≡ place). other.1 (sym is)))) (eqb_tells place k)
 
+    none_beyond : (place : ℕ) → units ≤ place → with_entry w.past k e place ≡ []
+    none_beyond place le =
+        ⊎_elim
+        (λ (same : (nat_eq place k ≡ true) × (place ≡ k)).
+        let lt = takes.0 in let is = same.1 in absurd (omega arith))
+        (λ (other : (nat_eq place k ≡ false) × (place ≢ k)). rw other.0 (holds.beyond place le)) (eqb_tells place k)
+
     entered : Holds (scene (with_entry w.past k e) t)
-    entered = record { legal = legal_at; sound = sound_at }
+    entered = record { legal = legal_at; sound = sound_at; beyond = none_beyond }
 
   -- an entry that is no command, or none
   quiet_entered : (w new : Scene) (k : ℕ) (e : Entry) (why : Type 0) → ((session : ℕ) → command session e ≡ 0) → Holds w
@@ -97,7 +107,7 @@ module _ (claims : Bool) (units : ℕ) (opening : ℕ → UnitState) where
 
   -- the unit of a session serves its command, or refuses it
   module _ (w : Scene) (n : ℕ) (x : Session) (holds : Holds w) (there : slice_get w.traffic.sessions n ≡ Some x) where
-    stage_at : (stage : Stage) → x.stage ≡ stage → StageOk claims (opening x.place) (w.past x.place) w.traffic.notes x stage
+    pub stage_at : (stage : Stage) → x.stage ≡ stage → StageOk claims (opening x.place) (w.past x.place) w.traffic.notes x stage
     stage_at stage is =
         subst (λ (z : Stage). StageOk claims (opening x.place) (w.past x.place) w.traffic.notes x z) is
         ((holds.sound x.place).stage n x there refl)
@@ -155,14 +165,18 @@ module _ (claims : Bool) (units : ℕ) (opening : ℕ → UnitState) where
   taking w t sound (Some x) n is place =
       sound_in_lane claims (opening place) place (w.past place) t n x (sound place) is
 
-  take_holds : (w : Scene) (group : _) (xs : List ℕ) → Holds w → Holds (with_traffic w (taken_from w.traffic group xs))
+  same_sessions : (t : Traffic) (group : Group) (xs : List ℕ) → (with_waiting t group xs).sessions ≡ t.sessions
+  same_sessions t One xs = refl
+  same_sessions t Two xs = refl
+
+  take_holds : (w : Scene) (group : Group) (xs : List ℕ) → Holds w → Holds (with_traffic w (taken_from w.traffic group xs))
   take_holds w group [] holds = holds
   take_holds w group (n ∷ rest) holds =
       let left = with_waiting w.traffic group rest in
       quiet w (taken_from w.traffic group (n ∷ rest)) holds
       (taking w left
       (λ place. sound_waiting claims (opening place) place (w.past place) w.traffic group rest (holds.sound place))
-      (slice_get left.sessions n) n refl)
+      (slice_get w.traffic.sessions n) n (ap (λ (ss : List Session). slice_get ss n) (same_sessions w.traffic group rest)))
 
   count_is : (w : Scene) (x : Session) (place : ℕ) → x.place ≡ place → count_at w x ≡ length (w.past place)
   count_is w x place at = ap (λ (p : ℕ). length (w.past p)) at
@@ -221,6 +235,7 @@ module _ (claims : Bool) (units : ℕ) (opening : ℕ → UnitState) where
       what = λ i a is at. absurd (cc);
       rising = λ i j a b lt is also at here. absurd (cc);
     };
+    beyond = λ place le. refl;
   }
 
   pub reached_holds : (w : Scene) → IsReached claims units opening w → Holds w

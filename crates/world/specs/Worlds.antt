@@ -1,5 +1,5 @@
 -- What a world is behind a list of events.
-use Rattle.std.specs.Prelude.{◌≡◌, ◌⊎◌, ℕ, ◌+◌, Bool, List, [], ◌∷◌, ◌++◌, length, Option, Some, None, IfSome, slice_get}
+use Rattle.std.specs.Prelude.{◌≡◌, ◌⊎◌, ℕ, ◌+◌, Bool, List, [], ◌∷◌, ◌++◌, length, Option, Some, None, IfSome, MatchOption, slice_get}
 use Rattle.unit_state.specs.Serials.{IsOpening}
 use Rattle.unit_state.specs.State.{UnitState, UnitValue, state_of}
 use Rattle.unit_state.specs.Choice.{Choice}
@@ -36,9 +36,11 @@ abbrev pub opening_of : {B R O : Type 0} → (B → List (List ℕ)) → List (U
 opening_of contents units place = opened contents (slice_get units place)
 
 -- this is how many entries the unit of a session has had
+abbrev pub IsCountAt : {B R O : Type 0} → WorldValue B R O → ℕ → ℕ → Type 0
+IsCountAt v place count = MatchOption (slice_get v.units place) (count ≡ 0) (λ u. count ≡ u.control.count)
+
 abbrev pub IsCountOf : {B R O : Type 0} → WorldValue B R O → ℕ → ℕ → Type 0
-IsCountOf v n count =
-    IfSome (slice_get v.traffic.sessions n) (λ x. IfSome (slice_get v.units x.place) (λ u. count ≡ u.control.count))
+IsCountOf v n count = IfSome (slice_get v.traffic.sessions n) (λ x. IsCountAt v x.place count)
 
 module _ {B R O : Type 0} (claims : Bool) (contents : B → List (List ℕ)) (failures : B → ℕ) (opens_failed : O → ℕ)
     (file_failures : R → ℕ) where

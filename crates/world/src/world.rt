@@ -1,5 +1,5 @@
 //! The world.
-ghost use Rattle.std.specs.Prelude.{◌≡◌, ◌↔◌, ◌&&◌, [], ℕ, All, IfOk, IfErr, IfSome, IsTrue, MatchOption, OnOk, OnErr, length, slice_get, take};
+ghost use Rattle.std.specs.Prelude.{◌≡◌, ◌<◌, ◌↔◌, ◌&&◌, [], ℕ, All, IfOk, IfErr, IfSome, IsTrue, MatchOption, OnOk, OnErr, length, slice_get, take};
 ghost use Rattle.reservations.specs.Nexus.{IsPortName, through};
 ghost use Rattle.unit_history.specs.Causes.{IsGone, IsStay};
 ghost use Rattle.unit_state.specs.Choice.{Fine};
@@ -7,14 +7,14 @@ ghost use Rattle.unit_state.specs.Entry.{Detach, Move, Reset};
 ghost use Rattle.unit_state.specs.declared.unit.MoveFault.{MoveFault};
 ghost use Rattle.unit_state.specs.Serials.{IsOpening};
 ghost use Rattle.world.specs.Traffic.{collected, given, new_job, no_traffic, posted, submitted, submitted_again, taken};
-ghost use Rattle.world.specs.Worlds.{AllHappen, Happens, IsCountOf, IsUnitAttach, IsUnitEntry, IsUnitServing, Stands, opening_of};
+ghost use Rattle.world.specs.Worlds.{AllHappen, Happens, IsCountAt, IsCountOf, IsUnitAttach, IsUnitEntry, IsUnitServing, Stands, opening_of};
 ghost use Rattle.world.specs.declared.event.Event.TheVariants as events;
 
 use crate::bytes::Bytes;
 use crate::event::Event;
 use crate::note::Note;
 use crate::records::Records;
-use crate::session::{End, Job, Session};
+use crate::session::{End, Job, Session, Stage};
 use block_file::{Blocks, Opener};
 use locked_unit::{Machine, Refused};
 use scsi_types::{Asked, Group, NoMemory, PortName};
@@ -160,7 +160,7 @@ impl<B: Blocks, R: Blocks, O: Opener<B>> World<B, R, O> {
 
     // How many entries the unit at a place has had.
     fn count_at(&self, place: usize) -> u64
-        ensures { MatchOption (slice_get self.now.units place) (result ≡ 0) (λ u. result ≡ u.control.count) }
+        ensures { IsCountAt self.now place result }
     {
         match self.units.get(place) {
             Some(unit) => unit.row().entries,
@@ -170,13 +170,91 @@ impl<B: Blocks, R: Blocks, O: Opener<B>> World<B, R, O> {
 
     // How many entries the unit of a session has had.
     fn count_of(&self, session: usize) -> u64
-        ensures { IfSome (slice_get self.now.traffic.sessions session)
-            (λ x. IfSome (slice_get self.now.units x.place) (λ u. result ≡ u.control.count)) }
+        ensures { IsCountOf self.now session result }
     {
         match self.records.session(session) {
             Some(one) => self.count_at(one.place),
             None => 0,
         }
+    }
+
+    // A session attaches to the unit at a place.
+    fn attach(&mut self, place: usize, port: &PortName, group: Group) -> Result<(), NoMemory>
+        ensures done { OnOk result (Happens (O.claims && B.claims) B.contents B.failures O.opens_failed R.failures
+            (events.Attach place port.now group) self.old self.new) }
+        ensures err { OnErr result (self.new ≡ self.old) }
+    {
+        if !is_port_name(port) {
+            return Ok(());
+        }
+        let port = copy_port(self.alloc, port)?;
+        self.records.make_room()?;
+        let Some(unit) = self.units.get_mut(place) else {
+            return Ok(());
+        };
+        if let Some(id) = attach_unit(unit, port, group) {
+            self.records.attach(place, id);
+        }
+        Ok(())
+    }
+
+    // A session ends.
+    fn detach(&mut self, session: usize)
+        ensures { Happens (O.claims && B.claims) B.contents B.failures O.opens_failed R.failures
+            (events.Detach session) self.old self.new }
+    {
+        let Some(one) = self.records.session(session) else {
+            return;
+        };
+        let (place, id) = (one.place, one.id);
+        let Some(unit) = self.units.get_mut(place) else {
+            return;
+        };
+        detach_unit(unit, id);
+    }
+
+    // A session resets its unit.
+    fn reset(&mut self, session: usize)
+        ensures { Happens (O.claims && B.claims) B.contents B.failures O.opens_failed R.failures
+            (events.Reset session) self.old self.new }
+    {
+        let Some(one) = self.records.session(session) else {
+            return;
+        };
+        let (place, id) = (one.place, one.id);
+        let Some(unit) = self.units.get_mut(place) else {
+            return;
+        };
+        reset_unit(unit, id);
+    }
+
+    // The unit at a place moves.
+    fn move_to(&mut self, place: usize, list: &Bytes)
+        ensures { Happens (O.claims && B.claims) B.contents B.failures O.opens_failed R.failures
+            (events.Move place list.now) self.old self.new }
+    {
+        let Some(unit) = self.units.get_mut(place) else {
+            return;
+        };
+        move_unit(unit, list.as_slice());
+    }
+
+    // A lane has the unit of a session serve its command.
+    fn serve(&mut self, session: usize)
+        ensures { Happens (O.claims && B.claims) B.contents B.failures O.opens_failed R.failures
+            (events.Serve session) self.old self.new }
+    {
+        let Some(one) = self.records.session(session) else {
+            return;
+        };
+        let Stage::InLane(job) = &one.stage else {
+            return;
+        };
+        let Some(unit) = self.units.get_mut(one.place) else {
+            return;
+        };
+        let end = serve_unit(unit, self.alloc, one.id, one.next, job);
+        self.records.end(session, end);
     }
 
     // A lane takes the first job of a desk.
@@ -242,6 +320,49 @@ impl<B: Blocks, R: Blocks, O: Opener<B>> World<B, R, O> {
             is_second: false,
         };
         self.records.submit(session, count, job);
+        Ok(())
+    }
+
+    // One event.
+    fn step(&mut self, event: &Event) -> Result<(), NoMemory>
+        ensures done { OnOk result (Happens (O.claims && B.claims) B.contents B.failures O.opens_failed R.failures
+            (event.now) self.old self.new) }
+        ensures err { OnErr result (self.new ≡ self.old) }
+    {
+        match event {
+            Event::Attach { place, port, group } => return self.attach(*place, port, *group),
+            Event::Detach { session } => self.detach(*session),
+            Event::Reset { session } => self.reset(*session),
+            Event::Move { place, list } => self.move_to(*place, list),
+            Event::Submit {
+                session,
+                by_group,
+                asked,
+                bytes,
+            } => return self.submit(*session, *by_group, *asked, bytes),
+            Event::SubmitAgain { session } => return self.submit_again(*session),
+            Event::Take { group } => self.take(*group),
+            Event::Serve { session } => self.serve(*session),
+            Event::Post { session } => self.post(*session),
+            Event::Collect { session } => return self.collect(*session),
+        }
+        Ok(())
+    }
+
+    /// These events, one behind the other. Refused for want of memory, a beginning of them has happened. Whatever histories
+    /// the units have had, they then have histories that these steps lead to, and over all that has happened since the units
+    /// opened each history is legal, each collected reply is that of its own command's entry, no serial of a session has two
+    /// entries, a command that ended without a reply has none, and what a session submits behind a reply comes later.
+    pub fn run(&mut self, events: &[Event]) -> Result<(), NoMemory>
+        ensures done { OnOk result (AllHappen (O.claims && B.claims) B.contents B.failures O.opens_failed R.failures
+            events.now self.old self.new) }
+        ensures err { OnErr result ((done : ℕ) × (done < length events.now)
+            × AllHappen (O.claims && B.claims) B.contents B.failures O.opens_failed R.failures
+            (take done events.now) self.old self.new) }
+    {
+        for event in events {
+            self.step(event)?;
+        }
         Ok(())
     }
 }
