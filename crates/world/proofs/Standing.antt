@@ -1,7 +1,7 @@
 -- What an event makes of the histories of a world.
 use Rattle.std.proofs.Common.{◌≡◌, ◌⊎◌, inl, inr, ⊎_elim, ℕ, ◌+◌, ◌<◌, ◌≤◌, Bool, true, false, nat_eq, if◌then◌else◌, zero, suc}
 use Rattle.std.proofs.Common.{List, [], ◌∷◌, ◌++◌, length, Option, Some, None, refl, sym, ap, subst, ◌∙◌, arith, ◌≢◌}
-use Rattle.std.specs.Prelude.{All, IsTrue, MatchOption, slice_get, slice_set}
+use Rattle.std.specs.Prelude.{All, IfSome, IsTrue, OnErr, OnOk, Result, Ok, Err, slice_index_or, take, MatchOption, slice_get, slice_set}
 use Rattle.std.proofs.lemmas.Bool.Decides.{eqb_tells}
 use Rattle.std.proofs.lemmas.Option.{get_or_from_slice_get, slice_get_within}
 use Rattle.unit_state.specs.Serials.{IsOpening}
@@ -11,12 +11,12 @@ use Rattle.unit_state.specs.Entry.{Entry, Attach, Command}
 use Rattle.reservations.specs.Nexus.{through}
 use Rattle.scsi_types.specs.Nexus.{Port}
 use Rattle.scsi_types.specs.declared.names.Group.{Group}
-use Rattle.std.proofs.lemmas.List.{length-set}
+use Rattle.std.proofs.lemmas.List.{length-set, take_more}
 use Rattle.unit_history.specs.Histories.{IsBehind, IsHistory, no_state}
 use Rattle.world.specs.Traffic.{Traffic, WorldValue, at_stage, attached, ended, given, no_traffic}
-use Rattle.world.specs.Events.{Scene, scene, with_entry, IsEntry, IsServed, IsStep, AreSteps}
-use Rattle.world.specs.Worlds.{IsReached, start, opened, opening_of, AreBehind, Stands, Happens, IsCountAt, IsUnitEntry}
-use Rattle.world.specs.Worlds.{IsUnitAttach, IsUnitServed, IsUnitServing}
+use Rattle.world.specs.Events.{Scene, scene, count_at, with_entry, IsEntry, IsServed, IsStep, AreSteps}
+use Rattle.world.specs.Worlds.{IsReached, start, opened, opening_of, AreBehind, Stands, Happens, IsCountAt, IsCountOf, IsUnitEntry}
+use Rattle.world.specs.Worlds.{AllHappen, IsUnitAttach, IsUnitServed, IsUnitServing}
 use Rattle.world.specs.declared.event.Event.{Event}
 use Rattle.world.specs.declared.event.Event.TheVariants as events
 use Rattle.world.specs.declared.session.Job.{Job}
@@ -25,7 +25,16 @@ use Rattle.world.specs.declared.session.End.TheVariants.{Replied, Refused as IsR
 use Rattle.world.specs.declared.session.Session.{Session}
 use Rattle.world.specs.declared.session.Stage.TheVariants.{InLane, Ended}
 use Rattle.world.proofs.Lists.{get_set}
-use Rattle.world.proofs.Worlds.{Holds, reached_holds, stage_at}
+use Rattle.world.proofs.Worlds.{Holds, orderly, reached_holds, stage_at}
+use Rattle.world.specs.Orders.{IsOrderly}
+
+pub of_err : {T F P : Type 0} (r : Result T F) → P → OnErr r P
+of_err (Ok value) p = tt
+of_err (Err why) p = p
+
+pub on_done : {T F P Q : Type 0} (r : Result T F) → OnOk r P → (P → Q) → OnOk r Q
+on_done (Ok value) p f = f p
+on_done (Err why) p f = tt
 
 module _ (claims : Bool) (units : ℕ) (opening : ℕ → UnitState) where
   pub steps_pushed : (w mid new : Scene) (events : List Event) (e : Event) → AreSteps claims units opening w events mid
@@ -105,7 +114,7 @@ module _ {B R O : Type 0} (claims : Bool) (contents : B → List (List ℕ)) (fa
   -- nothing
   pub nothing : (event : Event) (v : World)
       → ((opening : ℕ → UnitState) (past : ℕ → List Entry) → Step v opening past event (scene past v.traffic)) → Does event v v
-  nothing event v step = λ opening past stands. (past, step opening past, stands)
+  nothing event v step = λ opening past stands. (past, step opening past, stands, refl)
 
   -- only what is on its way changes
   pub traffic_goes : (event : Event) (old : World) (t : Traffic)
@@ -116,7 +125,16 @@ module _ {B R O : Type 0} (claims : Bool) (contents : B → List (List ℕ)) (fa
     reached = reached_more claims (length old.units) opening (scene past old.traffic) (scene past t) event stands.reached
         (step opening past stands);
     behind = stands.behind;
-  })
+  }, refl)
+
+  -- and of a call that leaves the units
+  pub quiet_goes : (event : Event) (old new : World) (t : Traffic) → new.units ≡ old.units → new.traffic ≡ t
+      → ((opening : ℕ → UnitState) (past : ℕ → List Entry) → Standing opening past old
+      → Step old opening past event (scene past t))
+      → Does event old new
+  quiet_goes event old new t units traffic step =
+      let same : record { units = old.units; traffic = t } ≡ new = λ i. record { units = sym units i; traffic = sym traffic i } in
+      subst (λ (v : World). Does event old v) same (traffic_goes event old t step)
 
   -- how many entries a unit has had
   past_end : (us : List (UnitValue B R O)) (k : ℕ) → slice_get us k ≡ None → length us ≤ k
@@ -137,6 +155,26 @@ module _ {B R O : Type 0} (claims : Bool) (contents : B → List (List ℕ)) (fa
 
     pub count_is : IsCountAt old place count → count ≡ length (past place)
     count_is is = by_unit (slice_get old.units place) refl is
+
+  -- what a session does where its unit has had so many entries
+  module _ (event : Event) (old new : World) (n count : ℕ) (act : ℕ → Session → Traffic)
+      (is : IsCountOf old n count) (units : new.units ≡ old.units)
+      (traffic : new.traffic ≡ given old.traffic (slice_get old.traffic.sessions n) (act count))
+      (to : (opening : ℕ → UnitState) (past : ℕ → List Entry)
+      → Step old opening past event (scene past
+      (given old.traffic (slice_get old.traffic.sessions n) (λ x. act (count_at (scene past old.traffic) x) x)))) where
+    same_act : (opening : ℕ → UnitState) (past : ℕ → List Entry) → Standing opening past old → (o : Option Session)
+        → IfSome o (λ x. IsCountAt old x.place count)
+        → given old.traffic o (λ x. act (count_at (scene past old.traffic) x) x) ≡ given old.traffic o (act count)
+    same_act opening past stands None counted = refl
+    same_act opening past stands (Some x) counted =
+        ap (λ (m : ℕ). act m x) (sym (count_is opening past old x.place count stands counted))
+
+    pub counted_goes : Does event old new
+    counted_goes =
+        quiet_goes event old new (given old.traffic (slice_get old.traffic.sessions n) (act count)) units traffic
+        (λ opening past stands. subst (λ (t : Traffic). Step old opening past event (scene past t))
+        (same_act opening past stands (slice_get old.traffic.sessions n) is) (to opening past))
 
   -- a unit has one entry more, or shows why not
   module _ (old : World) (k : ℕ) (u new : UnitValue B R O) (there : slice_get old.units k ≡ Some u)
@@ -207,6 +245,7 @@ module _ {B R O : Type 0} (claims : Bool) (contents : B → List (List ℕ)) (fa
         step,
         stands_left old k new old.traffic opening past (with_entry past k e) event stands step
             (behind_entry old k u new there opening past stands e did.1),
+        length-set old.units k new,
       ))
       (λ (did : why (opening k) (past k) × Is (opening k) (past k) new).
       let step = to opening past (scene past old.traffic) (inr (inr did.0, refl)) in (
@@ -214,6 +253,7 @@ module _ {B R O : Type 0} (claims : Bool) (contents : B → List (List ℕ)) (fa
         step,
         stands_left old k new old.traffic opening past past event stands step
             (behind_same old k u new there opening past stands did.1),
+        length-set old.units k new,
       ))
       (is (opening k) (past k) (h.legal k) (stands.behind k u there))
 
@@ -233,6 +273,7 @@ module _ {B R O : Type 0} (claims : Bool) (contents : B → List (List ℕ)) (fa
         step,
         stands_left old k new t opening past (with_entry past k e) (events.Attach k port group) stands step
             (behind_entry old k u new there opening past stands e did.2),
+        length-set old.units k new,
       )
 
   -- and one for which there is no room
@@ -249,6 +290,7 @@ module _ {B R O : Type 0} (claims : Bool) (contents : B → List (List ℕ)) (fa
         step,
         stands_left old k new old.traffic opening past past (events.Attach k port group) stands step
             (behind_same old k u new there opening past stands did.0),
+        length-set old.units k new,
       )
 
   -- a command that a lane has served
@@ -262,6 +304,7 @@ module _ {B R O : Type 0} (claims : Bool) (contents : B → List (List ℕ)) (fa
         → IsUnitServed claims contents failures opens_failed file_failures (opening x.place) (past x.place) x.id x.next job new end
         → (after : ℕ → List Entry) × Step old opening past (events.Serve n) (scene after (to end))
         × Standing opening after (left old x.place new (to end))
+        × (length (slice_set old.units x.place new) ≡ length old.units)
     by_end (Replied reply at next) opening past stands did =
         let e : Entry = Command x.id x.next job.by_group job.asked job.bytes did.0 in
         let end : End = Replied reply at next in
@@ -273,6 +316,7 @@ module _ {B R O : Type 0} (claims : Bool) (contents : B → List (List ℕ)) (fa
           step,
           stands_left old x.place new (to end) opening past (with_entry past x.place e) (events.Serve n) stands step
               (behind_entry old x.place u new there opening past stands e did.4),
+          length-set old.units x.place new,
         )
     by_end (IsRefused why) opening past stands did =
         let end : End = IsRefused why in
@@ -283,6 +327,7 @@ module _ {B R O : Type 0} (claims : Bool) (contents : B → List (List ℕ)) (fa
           step,
           stands_left old x.place new (to end) opening past past (events.Serve n) stands step
               (behind_same old x.place u new there opening past stands did.0),
+          length-set old.units x.place new,
         )
 
     served_goes : (end : End) → IsUnitServing claims contents failures opens_failed file_failures x.id x.next job u new end
@@ -302,3 +347,38 @@ module _ {B R O : Type 0} (claims : Bool) (contents : B → List (List ℕ)) (fa
         → Does (events.Serve n) old (left old x.place new t)
     serve_goes end t is goes =
         subst (λ (z : Traffic). Does (events.Serve n) old (left old x.place new z)) (sym (goes ∙ ended_is end)) (served_goes end is)
+
+  -- ---- a list of events
+
+  abbrev AllDo : List Event → World → World → Type 0
+  AllDo events old new = AllHappen claims contents failures opens_failed file_failures events old new
+
+  order : (opening : ℕ → UnitState) (past : ℕ → List Entry) (v : World) → Standing opening past v
+      → IsOrderly claims opening (scene past v.traffic)
+  order opening past v stands =
+      orderly claims (length v.units) opening (scene past v.traffic) (holds opening past v stands)
+
+  pub none_happen : (v : World) → AllDo [] v v
+  none_happen v = λ opening past stands. (past, refl, stands, order opening past v stands, refl)
+
+  pub one_more : (old mid new : World) (events : List Event) (e : Event) → AllDo events old mid → Does e mid new
+      → AllDo (events ++ e ∷ []) old new
+  one_more old mid new events e did does = λ opening past stands.
+      let d = did opening past stands in
+      let s = does opening d.0 d.2 in (
+        s.0,
+        steps_pushed claims (length old.units) opening (scene past old.traffic) (scene d.0 mid.traffic) (scene s.0 new.traffic)
+            events e d.1
+            (subst (λ (m : ℕ). IsStep claims m opening (scene d.0 mid.traffic) e (scene s.0 new.traffic)) d.4 s.1),
+        s.2,
+        order opening s.0 new s.2,
+        s.3 ∙ d.4,
+      )
+
+  -- the event at a place of a list, behind those before it
+  pub so_far : (old mid new : World) (events : List Event) (i : ℕ) (e : Event) → i < length events
+      → e ≡ slice_index_or events i e → AllDo (take i events) old mid → Does e mid new → AllDo (take (i + 1) events) old new
+  so_far old mid new events i e lt is did does =
+      let more : take i events ++ e ∷ [] ≡ take (i + 1) events =
+          ap (λ (x : Event). take i events ++ x ∷ []) is ∙ sym (take_more events i e lt) in
+      subst (λ (es : List Event). AllDo es old new) more (one_more old mid new (take i events) e did does)

@@ -101,7 +101,7 @@ module _ {B R O : Type 0} (claims : Bool) (contents : B → List (List ℕ)) (fa
   Happens event old new =
       (opening : ℕ → UnitState) (past : ℕ → List Entry) → Stands opening past old
       → (after : ℕ → List Entry) × IsStep claims (length old.units) opening (scene_of past old) event (scene_of after new)
-      × Stands opening after new
+      × Stands opening after new × (length new.units ≡ length old.units)
 
   -- And what a list of events makes of them: the steps of each in their order, and the order of all that the array promises.
   abbrev pub AllHappen : List Event → WorldValue B R O → WorldValue B R O → Type 0
@@ -109,4 +109,4 @@ module _ {B R O : Type 0} (claims : Bool) (contents : B → List (List ℕ)) (fa
       (opening : ℕ → UnitState) (past : ℕ → List Entry) → Stands opening past old
       → (after : ℕ → List Entry)
       × AreSteps claims (length old.units) opening (scene_of past old) events (scene_of after new)
-      × Stands opening after new × IsOrderly claims opening (scene_of after new)
+      × Stands opening after new × IsOrderly claims opening (scene_of after new) × (length new.units ≡ length old.units)
