@@ -48,13 +48,21 @@ module _ (t : Traffic) (n : ℕ) (x : Session) (stage : Stage) where
 
   handed : (count : ℕ) (job : Job) (full : Bool) (one two : List ℕ)
       → (let a : Traffic = if full
-          then given_up count then_at n seen Busy
-          else record { sessions = slice_set then_at.sessions n (record x { stage = Waits job }); one = one; two = two;
-            notes = t.notes ++ note_of count x Submitted ∷ [] } in a)
+      then given_up count then_at n seen Busy
+      else record {
+        sessions = slice_set then_at.sessions n (record x { stage = Waits job });
+        one = one;
+        two = two;
+        notes = t.notes ++ note_of count x Submitted ∷ [];
+      } in a)
       ≡ (if full
       then given_up count t n x Busy
-      else record { sessions = slice_set t.sessions n (record x { stage = Waits job }); one = one; two = two;
-        notes = t.notes ++ note_of count x Submitted ∷ [] })
+      else record {
+        sessions = slice_set t.sessions n (record x { stage = Waits job });
+        one = one;
+        two = two;
+        notes = t.notes ++ note_of count x Submitted ∷ [];
+      })
   handed count job true one two = given_up_again count Busy
   handed count job false one two =
       ap (λ (xs : List Session). record { sessions = xs; one = one; two = two; notes = t.notes ++ note_of count x Submitted ∷ [] })
@@ -62,9 +70,9 @@ module _ (t : Traffic) (n : ℕ) (x : Session) (stage : Stage) where
 
   handed_to : (count : ℕ) (job : Job) (group : Group)
       → (let a : Traffic = if nat_eq (length (waiting then_at group)) 64
-          then given_up count then_at n seen Busy
-          else with_waiting (noted (at_stage then_at n seen (Waits job)) (note_of count seen Submitted)) group
-          (waiting then_at group ++ n ∷ []) in a)
+      then given_up count then_at n seen Busy
+      else with_waiting (noted (at_stage then_at n seen (Waits job)) (note_of count seen Submitted)) group
+      (waiting then_at group ++ n ∷ []) in a)
       ≡ (if nat_eq (length (waiting t group)) 64
       then given_up count t n x Busy
       else with_waiting (noted (at_stage t n x (Waits job)) (note_of count x Submitted)) group (waiting t group ++ n ∷ []))
@@ -94,7 +102,7 @@ module _ (t : Traffic) (n : ℕ) (x : Session) (stage : Stage) where
       → new ≡ given t (slice_get t.sessions n) (λ y. given t (in_stage y) (act t y))
   goes_on in_stage act a new there is again did =
       let done : new ≡ act then_at seen a =
-          subst (λ (o : Option Session). IfSome o (λ y. new ≡ act then_at y a)) (get_written t.sessions n seen x there) did in
+      subst (λ (o : Option Session). IfSome o (λ y. new ≡ act then_at y a)) (get_written t.sessions n seen x there) did in
       rw (there, is) (done ∙ again)
 
   pub hands_in_again : (in_stage : Session → Option Job) (count : ℕ) (job : Job) (new : Traffic)

@@ -43,8 +43,11 @@ module _ {X : Type 0} where
       → ((n ≡ m) × (x ≡ y)) ⊎ ((n ≢ m) × (slice_get xs m ≡ Some y))
   get_set xs n m x a y there is =
       ⊎_elim
-      (λ (t : (nat_eq n m ≡ true) × (n ≡ m)). inl (t.1, some_same x y (sym (get_written xs n x a there)
-      ∙ (ap (λ (k : ℕ). slice_get (slice_set xs n x) k) t.1 ∙ is))))
+      (λ (t : (nat_eq n m ≡ true) × (n ≡ m)). inl (
+        t.1,
+        some_same x y (sym (get_written xs n x a there)
+            ∙ (ap (λ (k : ℕ). slice_get (slice_set xs n x) k) t.1 ∙ is)),
+      ))
       (λ (f : (nat_eq n m ≡ false) × (n ≢ m)). inr (f.1, sym (get_other xs n m x f.1) ∙ is)) (eqb_tells n m)
 
   pub longer : (xs : List X) (e : X) → length (xs ++ e ∷ []) ≡ length xs + 1

@@ -58,8 +58,18 @@ counts_or_not (Reset id) session = inl refl
 counts_or_not (Move list choice) session = inl refl
 counts_or_not (Command id serial group asked bytes choice) session =
     ⊎_elim
-    (λ (t : (nat_eq id session ≡ true) × (id ≡ session)). inr (serial, (group, asked, bytes, (choice,
-    ap (λ (i : ℕ). let c : Entry = Command i serial group asked bytes choice in c) t.1))))
+    (λ (t : (nat_eq id session ≡ true) × (id ≡ session)). inr (
+      serial,
+      (
+        group,
+        asked,
+        bytes,
+        (
+          choice,
+          ap (λ (i : ℕ). let c : Entry = Command i serial group asked bytes choice in c) t.1,
+        ),
+      ),
+    ))
     (λ (f : (nat_eq id session ≡ false) × (id ≢ session)). inl (rw f.0 refl)) (eqb_tells id session)
 
 entry_pushed : (h : List Entry) (e : Entry) (at session serial : ℕ) → IsEntryOf (h ++ e ∷ []) at session serial
@@ -446,7 +456,7 @@ module _ (claims : Bool) (s : UnitState) where
       → ((session : ℕ) → command session e ≡ 0) → Sound place h sessions notes → Sound place (h ++ e ∷ []) sessions notes
   quiet_entry place h e sessions notes quiet sound =
       let no = λ (session serial : ℕ) (of : IsOf e session serial).
-          let one = counts e session serial of in let z = quiet session in absurd (omega arith) in
+      let one = counts e session serial of in let z = quiet session in absurd (omega arith) in
       entry_added place h e sessions sessions notes sound (λ session serial of. absurd (no session serial of))
       (λ i a is none unit of. absurd (no a.session a.serial of))
       (λ n x is at. let l = longer h e in let b = sound.id n x is at in omega arith)

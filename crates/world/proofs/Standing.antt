@@ -84,7 +84,7 @@ module _ {B R O : Type 0} (claims : Bool) (contents : B → List (List ℕ)) (fa
     reached = record { opens = all_open units all; events = []; steps = refl };
     behind = λ place u is.
         let same : state_of contents u ≡ opening_of contents units place =
-            ap (λ (o : Option (UnitValue B R O)). opened contents o) (sym is) in
+        ap (λ (o : Option (UnitValue B R O)). opened contents o) (sym is) in
         record {
           control = ap (λ (x : UnitState). x.control) same;
           blocks = λ h. ap (λ (x : UnitState). x.blocks) same;
@@ -121,11 +121,16 @@ module _ {B R O : Type 0} (claims : Bool) (contents : B → List (List ℕ)) (fa
       → ((opening : ℕ → UnitState) (past : ℕ → List Entry) → Standing opening past old
       → Step old opening past event (scene past t))
       → Does event old (record { units = old.units; traffic = t })
-  traffic_goes event old t step = λ opening past stands. (past, step opening past stands, record {
-    reached = reached_more claims (length old.units) opening (scene past old.traffic) (scene past t) event stands.reached
-        (step opening past stands);
-    behind = stands.behind;
-  }, refl)
+  traffic_goes event old t step = λ opening past stands. (
+    past,
+    step opening past stands,
+    record {
+      reached = reached_more claims (length old.units) opening (scene past old.traffic) (scene past t) event stands.reached
+          (step opening past stands);
+      behind = stands.behind;
+    },
+    refl,
+  )
 
   -- and of a call that leaves the units
   pub quiet_goes : (event : Event) (old new : World) (t : Traffic) → new.units ≡ old.units → new.traffic ≡ t
@@ -240,7 +245,7 @@ module _ {B R O : Type 0} (claims : Bool) (contents : B → List (List ℕ)) (fa
       ⊎_elim
       (λ (did : IsHistory claims (opening k) (past k ++ e ∷ []) × Is (opening k) (past k ++ e ∷ []) new).
       let step = to opening past (scene (with_entry past k e) old.traffic)
-          (inl ((slice_get_within old.units k u there, did.0), refl)) in (
+      (inl ((slice_get_within old.units k u there, did.0), refl)) in (
         with_entry past k e,
         step,
         stands_left old k new old.traffic opening past (with_entry past k e) event stands step
@@ -267,8 +272,10 @@ module _ {B R O : Type 0} (claims : Bool) (contents : B → List (List ℕ)) (fa
       let h = holds opening past old stands in
       let did = is (opening k) (past k) (h.legal k) (stands.behind k u there) in
       let step : Step old opening past (events.Attach k port group) (scene (with_entry past k e) t) =
-          inl ((slice_get_within old.units k u there, did.1),
-          ap (λ (z : Traffic). scene (with_entry past k e) z) (same ∙ ap (λ (m : ℕ). attached old.traffic k m) did.0)) in (
+      inl (
+        (slice_get_within old.units k u there, did.1),
+        ap (λ (z : Traffic). scene (with_entry past k e) z) (same ∙ ap (λ (m : ℕ). attached old.traffic k m) did.0),
+      ) in (
         with_entry past k e,
         step,
         stands_left old k new t opening past (with_entry past k e) (events.Attach k port group) stands step
@@ -285,7 +292,7 @@ module _ {B R O : Type 0} (claims : Bool) (contents : B → List (List ℕ)) (fa
       let h = holds opening past old stands in
       let did = is (opening k) (past k) (h.legal k) (stands.behind k u there) in
       let step : Step old opening past (events.Attach k port group) (scene past old.traffic) =
-          inr (inr (inr did.1), refl) in (
+      inr (inr (inr did.1), refl) in (
         past,
         step,
         stands_left old k new old.traffic opening past past (events.Attach k port group) stands step
@@ -309,9 +316,9 @@ module _ {B R O : Type 0} (claims : Bool) (contents : B → List (List ℕ)) (fa
         let e : Entry = Command x.id x.next job.by_group job.asked job.bytes did.0 in
         let end : End = Replied reply at next in
         let served : IsServed claims (length old.units) opening (scene past old.traffic) x job end (with_entry past x.place e) =
-            (did.0, did.1, did.2, refl, (slice_get_within old.units x.place u there, did.3), did.5) in
+        (did.0, did.1, did.2, refl, (slice_get_within old.units x.place u there, did.3), did.5) in
         let step : Step old opening past (events.Serve n) (scene (with_entry past x.place e) (to end)) =
-            rw (session, stage) (inl (end, served, refl)) in (
+        rw (session, stage) (inl (end, served, refl)) in (
           with_entry past x.place e,
           step,
           stands_left old x.place new (to end) opening past (with_entry past x.place e) (events.Serve n) stands step
@@ -322,7 +329,7 @@ module _ {B R O : Type 0} (claims : Bool) (contents : B → List (List ℕ)) (fa
         let end : End = IsRefused why in
         let served : IsServed claims (length old.units) opening (scene past old.traffic) x job end past = (refl, did.1) in
         let step : Step old opening past (events.Serve n) (scene past (to end)) =
-            rw (session, stage) (inl (end, served, refl)) in (
+        rw (session, stage) (inl (end, served, refl)) in (
           past,
           step,
           stands_left old x.place new (to end) opening past past (events.Serve n) stands step
@@ -380,5 +387,5 @@ module _ {B R O : Type 0} (claims : Bool) (contents : B → List (List ℕ)) (fa
       → e ≡ slice_index_or events i e → AllDo (take i events) old mid → Does e mid new → AllDo (take (i + 1) events) old new
   so_far old mid new events i e lt is did does =
       let more : take i events ++ e ∷ [] ≡ take (i + 1) events =
-          ap (λ (x : Event). take i events ++ x ∷ []) is ∙ sym (take_more events i e lt) in
+      ap (λ (x : Event). take i events ++ x ∷ []) is ∙ sym (take_more events i e lt) in
       subst (λ (es : List Event). AllDo es old new) more (one_more old mid new (take i events) e did does)

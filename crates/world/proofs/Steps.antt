@@ -96,27 +96,30 @@ module _ (claims : Bool) (s : UnitState) (place : ℕ) (h : List Entry) where
     handed count job false is unserved =
         let note = note_of count x Submitted in
         let told : Sound claims s place h t.sessions (t.notes ++ note ∷ []) =
-            note_added claims s place h t.sessions t.notes note sound
-            (λ at. (is at, λ k of. absurd (unserved_none t x k sound (unserved at) of)))
-            (λ m y other at. on_its_way claims s y.stage (IsOther claims s note y) (λ no unit id serial. absurd no)) in
+        note_added claims s place h t.sessions t.notes note sound
+        (λ at. (is at, λ k of. absurd (unserved_none t x k sound (unserved at) of)))
+        (λ m y other at. on_its_way claims s y.stage (IsOther claims s note y) (λ no unit id serial. absurd no)) in
         let new = record x { stage = Waits job } in
         sound_waiting (noted (at_stage t n x (Waits job)) note) job.by_group (waiting t job.by_group ++ n ∷ [])
         (session_changes claims s place h t.sessions (t.notes ++ note ∷ []) n x new told there refl refl
-        (λ at. (unserved at, record {
-          place = length t.notes;
-          note = note;
-          there = get_last t.notes note;
-          is = refl;
-          unit = refl;
-          session = refl;
-          serial = refl;
-          count = let c = is at in omega arith;
-          last = λ i a noted none unit id serial.
-              ⊎_elim (λ (o : IsNoted t.notes i a). slice_get_within t.notes i a o)
-              (λ (u : (i ≡ length t.notes) × (note ≡ a)).
-              let no : ⊥ = subst (λ (b : Note). IsNone b.what) (sym u.1) none in absurd no)
-              (get_pushed t.notes note i a noted);
-        })))
+        (λ at. (
+          unserved at,
+          record {
+            place = length t.notes;
+            note = note;
+            there = get_last t.notes note;
+            is = refl;
+            unit = refl;
+            session = refl;
+            serial = refl;
+            count = let c = is at in omega arith;
+            last = λ i a noted none unit id serial.
+                ⊎_elim (λ (o : IsNoted t.notes i a). slice_get_within t.notes i a o)
+                (λ (u : (i ≡ length t.notes) × (note ≡ a)).
+                let no : ⊥ = subst (λ (b : Note). IsNone b.what) (sym u.1) none in absurd no)
+                (get_pushed t.notes note i a noted);
+          },
+        )))
 
     pub sound_handed_in : (count : ℕ) (job : Job) → (x.place ≡ place → count ≡ length h)
         → (x.place ≡ place → IsUnserved h x) → IsSound (handed_in count t n x job)
@@ -181,7 +184,7 @@ module _ (claims : Bool) (s : UnitState) (place : ℕ) (h : List Entry) where
         let new = free x next in
         let note = note_of count x (HasReply job reply k) in
         let idle = session_changes claims s place h t.sessions t.notes n x new sound there refl refl
-            (λ at. ap (λ (m : ℕ). m + 1) (ok at).0 ∙ sym (ok at).1) in
+        (λ at. ap (λ (m : ℕ). m + 1) (ok at).0 ∙ sym (ok at).1) in
         note_added claims s place h (slice_set t.sessions n new) t.notes note idle
         (λ at.
         let lt = slice_get_within h k (ok at).2.entry (ok at).2.there in
@@ -266,8 +269,8 @@ module _ (claims : Bool) (s : UnitState) (place : ℕ) (h : List Entry) where
           (λ (same : (n ≡ m) × (new ≡ y)).
           subst (λ (z : Session). StageOk claims s (h ++ e ∷ []) t.notes z z.stage) same.1 (
             let more = commands_pushed x.id h e in
-            let one = counts e x.id x.next (job.by_group, job.asked, job.bytes, (choice, refl)) in
-            omega arith,
+                let one = counts e x.id x.next (job.by_group, job.asked, job.bytes, (choice, refl)) in
+                omega arith,
             refl,
             record { entry = e; there = get_last h e; is = (choice, refl); replies = told },
           ))
@@ -284,9 +287,9 @@ module _ (claims : Bool) (s : UnitState) (place : ℕ) (h : List Entry) where
   sound_elsewhere t k id sound other =
       let new : Session = record { place = k; id = id; next = 1; stage = Idle } in
       let was = λ (n : ℕ) (x : Session) (is : slice_get (t.sessions ++ new ∷ []) n ≡ Some x) (at : x.place ≡ place).
-          ⊎_elim {C = slice_get t.sessions n ≡ Some x} (λ (o : slice_get t.sessions n ≡ Some x). o)
-          (λ (u : (n ≡ length t.sessions) × (new ≡ x)). absurd (other (ap (λ (y : Session). y.place) u.1 ∙ at)))
-          (get_pushed t.sessions new n x is) in
+      ⊎_elim {C = slice_get t.sessions n ≡ Some x} (λ (o : slice_get t.sessions n ≡ Some x). o)
+      (λ (u : (n ≡ length t.sessions) × (new ≡ x)). absurd (other (ap (λ (y : Session). y.place) u.1 ∙ at)))
+      (get_pushed t.sessions new n x is) in
       record {
         unit = sound.unit;
         id = λ n x is at. sound.id n x (was n x is at) at;
@@ -304,11 +307,11 @@ module _ (claims : Bool) (s : UnitState) (place : ℕ) (h : List Entry) where
       let new : Session = record { place = place; id = length h; next = 1; stage = Idle } in
       let l = longer h e in
       let no = λ (session serial : ℕ) (of : IsOf e session serial). let one : command session e ≡ 1 = counts e session serial of in
-          let bad : ⊥ = omega arith in bad in
+      let bad : ⊥ = omega arith in bad in
       let old = λ (n m : ℕ) (x y : Session) (is : slice_get t.sessions n ≡ Some x) (at : x.place ≡ place) (new_is : new ≡ y)
-          (same : x.id ≡ y.id).
-          let b = sound.id n x is at in
-          let k : length h ≡ y.id = ap (λ (z : Session). z.id) new_is in absurd (omega arith) in
+      (same : x.id ≡ y.id).
+      let b = sound.id n x is at in
+      let k : length h ≡ y.id = ap (λ (z : Session). z.id) new_is in absurd (omega arith) in
       entry_added claims s place h e t.sessions (t.sessions ++ new ∷ []) t.notes sound
       (λ session serial of. absurd (no session serial of)) (λ i a is none unit of. absurd (no a.session a.serial of))
       (λ n x is at.

@@ -123,9 +123,9 @@ module _ (claims : Bool) (units : ℕ) (opening : ℕ → UnitState) where
         let h = w.past x.place in
         let to : Traffic = at_stage w.traffic n x (Ended job (Replied reply (length h) (x.next + 1))) in
         let same : to ≡ at_stage w.traffic n x (Ended job (Replied reply at next)) =
-            (λ i. at_stage w.traffic n x (Ended job (Replied reply (sym served.1 i) (sym served.2 i)))) in
+        (λ i. at_stage w.traffic n x (Ended job (Replied reply (sym served.1 i) (sym served.2 i)))) in
         let new_is : scene (with_entry w.past x.place e) to ≡ new =
-            (λ i. record { past = sym served.3 i; traffic = (same ∙ sym traffic) i }) in
+        (λ i. record { past = sym served.3 i; traffic = (same ∙ sym traffic) i }) in
         subst Holds new_is
         (entered w x.place e to holds served.4
         (sound_served claims (opening x.place) x.place h w.traffic n x (holds.sound x.place) there job reply served.0 refl

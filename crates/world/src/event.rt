@@ -13,11 +13,18 @@ pub enum Event {
         group: Group,
     },
     /// A session ends.
-    Detach { session: usize },
+    Detach {
+        session: usize,
+    },
     /// A session resets its unit.
-    Reset { session: usize },
+    Reset {
+        session: usize,
+    },
     /// The unit at a place moves as a parameter list of SET TARGET PORT GROUPS says.
-    Move { place: usize, list: Bytes },
+    Move {
+        place: usize,
+        list: Bytes,
+    },
     /// A session that has no command on its way hands one in at the desk of a group.
     Submit {
         session: usize,
@@ -26,13 +33,23 @@ pub enum Event {
         bytes: Bytes,
     },
     /// A session whose command came to Moved hands it in once more, at the desk of the group that this named.
-    SubmitAgain { session: usize },
+    SubmitAgain {
+        session: usize,
+    },
     /// A lane takes the first job of a group's desk.
-    Take { group: Group },
+    Take {
+        group: Group,
+    },
     /// A lane has the unit serve a session's command.
-    Serve { session: usize },
+    Serve {
+        session: usize,
+    },
     /// A lane posts the answer of a session's command.
-    Post { session: usize },
+    Post {
+        session: usize,
+    },
     /// A session collects its answer.
-    Collect { session: usize },
+    Collect {
+        session: usize,
+    },
 }

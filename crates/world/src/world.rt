@@ -303,7 +303,13 @@ impl<B: Blocks, R: Blocks, O: Opener<B>> World<B, R, O> {
     }
 
     // A session hands a command in.
-    fn submit(&mut self, session: usize, by_group: Group, asked: Asked, bytes: &Bytes) -> Result<(), NoMemory>
+    fn submit(
+        &mut self,
+        session: usize,
+        by_group: Group,
+        asked: Asked,
+        bytes: &Bytes,
+    ) -> Result<(), NoMemory>
         ensures units { self.new.units ≡ self.old.units }
         ensures traffic { OnOk result ((count : ℕ) × IsCountOf self.old session count × (self.new.traffic
             ≡ given self.old.traffic (slice_get self.old.traffic.sessions session)
