@@ -1,0 +1,69 @@
+use Rattle.std.proofs.Common.{◌&&◌, refl, Result, Ok, Err, slice_get}
+use Rattle.world.specs.Traffic.{collected, given, new_job, posted, submitted, submitted_again, taken}
+use Rattle.world.specs.declared.event.Event.TheVariants as events
+use Rattle.world.proofs.Standing.{counted_goes, on_done, quiet_goes}
+use Rattle.world.proofs.world.World.step.Goals as goal
+
+pub returns-in-Detach-clause-done : goal.returns-in-Detach-clause-done
+returns-in-Detach-clause-done g c = rw c.in-Detach.is c.detach.ensures
+
+pub returns-in-Reset-clause-done : goal.returns-in-Reset-clause-done
+returns-in-Reset-clause-done g c = rw c.in-Reset.is c.reset.ensures
+
+pub returns-in-Move-clause-done : goal.returns-in-Move-clause-done
+returns-in-Move-clause-done g c = rw c.in-Move.is c.move_to.ensures
+
+pub returns-in-Serve-clause-done : goal.returns-in-Serve-clause-done
+returns-in-Serve-clause-done g c = rw c.in-Serve.is c.serve.ensures
+
+pub returns-in-Attach-clause-done : goal.returns-in-Attach-clause-done
+returns-in-Attach-clause-done g c = rw c.in-Attach.is c.attach.ensures.done
+
+pub returns-in-Take-clause-done : goal.returns-in-Take-clause-done
+returns-in-Take-clause-done g c =
+    rw c.in-Take.is
+    (quiet_goes (g.O.Opener.claims && g.B.Blocks.claims) g.B.Blocks.contents g.B.Blocks.failures g.O.Opener.opens_failed
+    g.R.Blocks.failures
+    (events.Take c.in-Take.group) c.args.self.now _ _ c.take.ensures.units c.take.ensures.traffic
+    (λ opening past stands. refl))
+
+pub returns-in-Post-clause-done : goal.returns-in-Post-clause-done
+returns-in-Post-clause-done g c =
+    rw c.in-Post.is
+    (quiet_goes (g.O.Opener.claims && g.B.Blocks.claims) g.B.Blocks.contents g.B.Blocks.failures g.O.Opener.opens_failed
+    g.R.Blocks.failures
+    (events.Post c.in-Post.session) c.args.self.now _ _ c.post.ensures.units c.post.ensures.traffic
+    (λ opening past stands. refl))
+
+pub returns-in-Submit-clause-done : goal.returns-in-Submit-clause-done
+returns-in-Submit-clause-done g c =
+    let t = c.args.self.now.traffic in
+    rw c.in-Submit.is
+    (on_done c.submit.result c.submit.ensures.traffic
+    (λ did. counted_goes (g.O.Opener.claims && g.B.Blocks.claims) g.B.Blocks.contents g.B.Blocks.failures g.O.Opener.opens_failed
+    g.R.Blocks.failures
+    (events.Submit c.in-Submit.session c.in-Submit.by_group c.in-Submit.asked c.in-Submit.bytes) c.args.self.now
+    c.submit.new.self c.in-Submit.session did.0 (λ count x. submitted count t c.in-Submit.session x (new_job c.in-Submit.by_group c.in-Submit.asked c.in-Submit.bytes))
+    did.1 c.submit.ensures.units did.2 (λ opening past. refl)))
+
+pub returns-in-SubmitAgain-clause-done : goal.returns-in-SubmitAgain-clause-done
+returns-in-SubmitAgain-clause-done g c =
+    let t = c.args.self.now.traffic in
+    rw c.in-SubmitAgain.is
+    (on_done c.submit_again.result c.submit_again.ensures.traffic
+    (λ did. counted_goes (g.O.Opener.claims && g.B.Blocks.claims) g.B.Blocks.contents g.B.Blocks.failures g.O.Opener.opens_failed
+    g.R.Blocks.failures
+    (events.SubmitAgain c.in-SubmitAgain.session) c.args.self.now
+    c.submit_again.new.self c.in-SubmitAgain.session did.0 (λ count x. submitted_again count t c.in-SubmitAgain.session x)
+    did.1 c.submit_again.ensures.units did.2 (λ opening past. refl)))
+
+pub returns-in-Collect-clause-done : goal.returns-in-Collect-clause-done
+returns-in-Collect-clause-done g c =
+    let t = c.args.self.now.traffic in
+    rw c.in-Collect.is
+    (on_done c.collect.result c.collect.ensures.traffic
+    (λ did. counted_goes (g.O.Opener.claims && g.B.Blocks.claims) g.B.Blocks.contents g.B.Blocks.failures g.O.Opener.opens_failed
+    g.R.Blocks.failures
+    (events.Collect c.in-Collect.session) c.args.self.now
+    c.collect.new.self c.in-Collect.session did.0 (λ count x. collected count t c.in-Collect.session x)
+    did.1 c.collect.ensures.units did.2 (λ opening past. refl)))

@@ -1,0 +1,112 @@
+-- What a world is behind a list of events.
+use Rattle.std.specs.Prelude.{◌≡◌, ◌⊎◌, ℕ, ◌+◌, Bool, List, [], ◌∷◌, ◌++◌, length, Option, Some, None, IfSome, MatchOption, slice_get}
+use Rattle.unit_state.specs.Serials.{IsOpening}
+use Rattle.unit_state.specs.State.{UnitState, UnitValue, state_of}
+use Rattle.unit_state.specs.Choice.{Choice}
+use Rattle.unit_state.specs.Entry.{Entry, Attach, Command}
+use Rattle.unit_history.specs.Causes.{IsFull, IsGone, IsOwner, WantsMemory}
+use Rattle.unit_history.specs.Histories.{IsBehind, IsHistory, IsToldBehind, command, no_state}
+use Rattle.locked_unit.specs.Calls.{IsCause}
+use Rattle.scsi_types.specs.Nexus.{Nexus}
+use Rattle.status.specs.Views.{counted}
+use Rattle.world.specs.declared.session.End.{End}
+use Rattle.world.specs.declared.session.End.TheVariants.{Replied, Refused as IsRefused}
+use Rattle.world.specs.declared.session.Job.{Job}
+use Rattle.world.specs.Events.{Scene, scene, AreSteps, IsStep}
+use Rattle.world.specs.Orders.{IsOrderly}
+use Rattle.world.specs.Traffic.{WorldValue, no_traffic}
+use Rattle.world.specs.declared.event.Event.{Event}
+
+-- nothing has happened
+abbrev pub start : Scene
+start = scene (λ place. []) no_traffic
+
+-- These events led here, from units that opened in these states.
+pub record IsReached (claims : Bool) (units : ℕ) (opening : ℕ → UnitState) (w : Scene) : Type 0 where
+  pub opens : (place : ℕ) → IsOpening (opening place).control
+  pub events : List Event
+  pub steps : AreSteps claims units opening start events w
+
+-- the state of the unit at a place
+abbrev pub opened : {B R O : Type 0} → (B → List (List ℕ)) → Option (UnitValue B R O) → UnitState
+opened contents (Some u) = state_of contents u
+opened contents None = no_state
+
+abbrev pub opening_of : {B R O : Type 0} → (B → List (List ℕ)) → List (UnitValue B R O) → ℕ → UnitState
+opening_of contents units place = opened contents (slice_get units place)
+
+-- this is how many entries the unit of a session has had
+abbrev pub IsCountAt : {B R O : Type 0} → WorldValue B R O → ℕ → ℕ → Type 0
+IsCountAt v place count = MatchOption (slice_get v.units place) (count ≡ 0) (λ u. count ≡ u.control.count)
+
+abbrev pub IsCountOf : {B R O : Type 0} → WorldValue B R O → ℕ → ℕ → Type 0
+IsCountOf v n count = IfSome (slice_get v.traffic.sessions n) (λ x. IsCountAt v x.place count)
+
+module _ {B R O : Type 0} (claims : Bool) (contents : B → List (List ℕ)) (failures : B → ℕ) (opens_failed : O → ℕ)
+    (file_failures : R → ℕ) where
+  -- Each unit is what its history leaves.
+  abbrev pub AreBehind : (ℕ → UnitState) → (ℕ → List Entry) → List (UnitValue B R O) → Type 0
+  AreBehind opening past units =
+      (place : ℕ) (u : UnitValue B R O) → slice_get units place ≡ Some u
+      → IsBehind claims contents failures opens_failed file_failures (opening place) (past place) u
+
+  abbrev pub scene_of : (ℕ → List Entry) → WorldValue B R O → Scene
+  scene_of past v = scene past v.traffic
+
+  -- The world has these histories, to which events led.
+  pub record Stands (opening : ℕ → UnitState) (past : ℕ → List Entry) (v : WorldValue B R O) : Type 0 where
+    pub reached : IsReached claims (length v.units) opening (scene_of past v)
+    pub behind : AreBehind opening past v.units
+
+  -- What a call of one unit makes of any history that leads to it: one entry more, or none for this cause.
+  abbrev pub IsUnitEntry : Entry → (UnitState → List Entry → Type 0) → UnitValue B R O → UnitValue B R O → Type 0
+  IsUnitEntry e why old new =
+      (s : UnitState) (h : List Entry) → IsHistory claims s h
+      → IsBehind claims contents failures opens_failed file_failures s h old
+      → (IsHistory claims s (h ++ e ∷ []) × IsBehind claims contents failures opens_failed file_failures s (h ++ e ∷ []) new)
+      ⊎ (why s h × IsBehind claims contents failures opens_failed file_failures s h new)
+
+  -- the same, of an attach, which tells the place of its entry
+  abbrev pub IsUnitAttach : Nexus → Option ℕ → UnitValue B R O → UnitValue B R O → Type 0
+  IsUnitAttach nexus (Some id) old new =
+      (s : UnitState) (h : List Entry) → IsHistory claims s h
+      → IsBehind claims contents failures opens_failed file_failures s h old
+      → (id ≡ length h) × IsHistory claims s (h ++ Attach nexus ∷ [])
+      × IsBehind claims contents failures opens_failed file_failures s (h ++ Attach nexus ∷ []) new
+  IsUnitAttach nexus None old new =
+      (s : UnitState) (h : List Entry) → IsHistory claims s h
+      → IsBehind claims contents failures opens_failed file_failures s h old
+      → IsBehind claims contents failures opens_failed file_failures s h new × IsFull s h nexus
+
+  -- and of a command, which is its session's next
+  abbrev pub IsUnitServed : UnitState → List Entry → ℕ → ℕ → Job → UnitValue B R O → End → Type 0
+  IsUnitServed s h id serial job new (Replied reply at next) =
+      (choice : Choice) × (at ≡ length h) × (next ≡ serial + 1)
+      × IsHistory claims s (h ++ Command id serial job.by_group job.asked job.bytes choice ∷ [])
+      × IsBehind claims contents failures opens_failed file_failures s
+      (h ++ Command id serial job.by_group job.asked job.bytes choice ∷ []) new
+      × IsToldBehind claims s h (Command id serial job.by_group job.asked job.bytes choice) reply
+  IsUnitServed s h id serial job new (IsRefused why) =
+      IsBehind claims contents failures opens_failed file_failures s h new
+      × IsCause (IsGone s h id) (IsOwner s h) (WantsMemory s h id job.asked job.bytes) job.by_group why
+
+  abbrev pub IsUnitServing : ℕ → ℕ → Job → UnitValue B R O → UnitValue B R O → End → Type 0
+  IsUnitServing id serial job old new end =
+      (s : UnitState) (h : List Entry) → IsHistory claims s h
+      → IsBehind claims contents failures opens_failed file_failures s h old → counted command id h + 1 ≡ serial
+      → IsUnitServed s h id serial job new end
+
+  -- What an event makes of any histories that the world has.
+  abbrev pub Happens : Event → WorldValue B R O → WorldValue B R O → Type 0
+  Happens event old new =
+      (opening : ℕ → UnitState) (past : ℕ → List Entry) → Stands opening past old
+      → (after : ℕ → List Entry) × IsStep claims (length old.units) opening (scene_of past old) event (scene_of after new)
+      × Stands opening after new × (length new.units ≡ length old.units)
+
+  -- And what a list of events makes of them: the steps of each in their order, and the order of all that the array promises.
+  abbrev pub AllHappen : List Event → WorldValue B R O → WorldValue B R O → Type 0
+  AllHappen events old new =
+      (opening : ℕ → UnitState) (past : ℕ → List Entry) → Stands opening past old
+      → (after : ℕ → List Entry)
+      × AreSteps claims (length old.units) opening (scene_of past old) events (scene_of after new)
+      × Stands opening after new × IsOrderly claims opening (scene_of after new) × (length new.units ≡ length old.units)

@@ -1,0 +1,374 @@
+//! The world.
+ghost use Rattle.std.specs.Prelude.{◌≡◌, ◌<◌, ◌↔◌, ◌&&◌, [], ℕ, All, IfOk, IfErr, IfSome, IsTrue, MatchOption, OnOk, OnErr, length, slice_get, take};
+ghost use Rattle.reservations.specs.Nexus.{IsPortName, through};
+ghost use Rattle.unit_history.specs.Causes.{IsGone, IsStay};
+ghost use Rattle.unit_state.specs.Choice.{Fine};
+ghost use Rattle.unit_state.specs.Entry.{Detach, Move, Reset};
+ghost use Rattle.unit_state.specs.declared.unit.MoveFault.{MoveFault};
+ghost use Rattle.unit_state.specs.Serials.{IsOpening};
+ghost use Rattle.world.specs.Traffic.{collected, given, new_job, no_traffic, posted, submitted, submitted_again, taken};
+ghost use Rattle.world.specs.Worlds.{AllHappen, Happens, IsCountAt, IsCountOf, IsUnitAttach, IsUnitEntry, IsUnitServing, Stands, opening_of};
+ghost use Rattle.world.specs.declared.event.Event.TheVariants as events;
+
+use crate::bytes::Bytes;
+use crate::event::Event;
+use crate::note::Note;
+use crate::records::Records;
+use crate::session::{End, Job, Session, Stage};
+use block_file::{Blocks, Opener};
+use locked_unit::{Machine, Refused};
+use scsi_types::{Asked, Group, NoMemory, PortName};
+use std::alloc::Global;
+use std::marker::Model;
+use unit_history::{Arrival, Noted, Opened};
+use unit_state::Unit;
+
+/// Units by their places, the sessions that attached to them, the desks of both groups, and what was submitted and collected.
+#[derive(Drop)]
+pub struct World<B: Blocks, R: Blocks, O: Opener<B>> {
+    alloc: Global,
+    units: Vec<Unit<B, R, O>>,
+    records: Records,
+}
+
+impl<B: Blocks, R: Blocks, O: Opener<B>> Model for World<B, R, O> {
+    ghost use Rattle.world.specs.Records.{traffic_of};
+    ghost use Rattle.world.specs.Traffic.{WorldValue};
+
+    ghost Value = { WorldValue B R O };
+
+    ghost view = { λ w. record { units = w.units.items; traffic = traffic_of w.records } };
+}
+
+// Whether it names an initiator port: a name of 1 to 223 bytes, and an ISID of six.
+fn is_port_name(port: &PortName) -> bool
+    ensures { IsTrue result ↔ IsPortName port.now }
+{
+    let name = port.name();
+    !name.is_empty() && name.len() <= 223 && port.isid() < 1 << 48
+}
+
+fn copy_port(alloc: Global, port: &PortName) -> Result<PortName, NoMemory>
+    ensures { IfOk result (λ copy. copy ≡ port.now) }
+{
+    let Ok(name) = port.name().to_vec(alloc) else {
+        return Err(NoMemory);
+    };
+    Ok(PortName::new(name, port.isid()))
+}
+
+// A unit ends a session.
+fn detach_unit<B: Blocks, R: Blocks, O: Opener<B>>(unit: &mut Unit<B, R, O>, id: u64)
+    ensures { IsUnitEntry (O.claims && B.claims) B.contents B.failures O.opens_failed R.failures
+        (Detach id) (λ s h. IsGone s h id) unit.old unit.new }
+{
+    let _is_entry = Machine::detach(unit, id);
+}
+
+// A session resets a unit.
+fn reset_unit<B: Blocks, R: Blocks, O: Opener<B>>(unit: &mut Unit<B, R, O>, id: u64)
+    ensures { IsUnitEntry (O.claims && B.claims) B.contents B.failures O.opens_failed R.failures
+        (Reset id) (λ s h. IsGone s h id) unit.old unit.new }
+{
+    let _is_entry = Machine::reset(unit, id);
+}
+
+// A unit moves.
+fn move_unit<B: Blocks, R: Blocks, O: Opener<B>>(unit: &mut Unit<B, R, O>, list: &[u8])
+    ensures { IsUnitEntry (O.claims && B.claims) B.contents B.failures O.opens_failed R.failures
+        (Move list.now Fine) (λ s h. (why : MoveFault) × IsStay s h list.now why) unit.old unit.new }
+{
+    let _told = Machine::move_to(unit, list);
+}
+
+// A session attaches to a unit.
+fn attach_unit<B: Blocks, R: Blocks, O: Opener<B>>(
+    unit: &mut Unit<B, R, O>,
+    port: PortName,
+    group: Group,
+) -> Option<u64>
+    requires { IsPortName port }
+    ensures { IsUnitAttach (O.claims && B.claims) B.contents B.failures O.opens_failed R.failures
+        (through port group) result unit.old unit.new }
+{
+    Machine::attach(unit, Arrival { port, group })
+}
+
+// A unit serves a command.
+fn serve_unit<B: Blocks, R: Blocks, O: Opener<B>>(
+    unit: &mut Unit<B, R, O>,
+    alloc: Global,
+    id: u64,
+    serial: u64,
+    job: &Job,
+) -> End
+    ensures { IsUnitServing (O.claims && B.claims) B.contents B.failures O.opens_failed R.failures
+        id serial job.now unit.old unit.new result }
+{
+    let at = unit.row().entries;
+    match Machine::step(
+        unit,
+        alloc,
+        id,
+        serial,
+        &job.by_group,
+        &job.asked,
+        job.bytes.as_slice(),
+    ) {
+        Ok(reply) => End::Replied(reply, at, serial + 1),
+        Err(why) => End::Refused(why),
+    }
+}
+
+impl<B: Blocks, R: Blocks, O: Opener<B>> World<B, R, O> {
+    /// A world of these units, of which nothing was asked yet. Refused, they are dropped.
+    pub fn new(alloc: Global, units: Vec<Unit<B, R, O>>) -> Result<World<B, R, O>, NoMemory>
+        requires { All (λ u. IsOpening u.control) units.items }
+        ensures value { IfOk result (λ w. w ≡ record { units = units.items; traffic = no_traffic }) }
+        ensures stands { IfOk result (λ w. Stands (O.claims && B.claims) B.contents B.failures O.opens_failed R.failures
+            (opening_of B.contents units.items) (λ place. []) w) }
+    {
+        let records = Records::new(alloc)?;
+        Ok(World {
+            alloc,
+            units,
+            records,
+        })
+    }
+
+    /// The unit at a place.
+    pub fn unit(&self, place: usize) -> Option<&Unit<B, R, O>>
+        ensures { MatchOption result (slice_get self.now.units place ≡ None)
+            (λ u. slice_get self.now.units place ≡ Some u.now) }
+    {
+        self.units.get(place)
+    }
+
+    /// The sessions, in the order in which they attached.
+    pub fn sessions(&self) -> &[Session]
+        ensures { result.now ≡ self.now.traffic.sessions }
+    {
+        &self.records.sessions
+    }
+
+    /// What was submitted and collected, in this order.
+    pub fn notes(&self) -> &[Note]
+        ensures { result.now ≡ self.now.traffic.notes }
+    {
+        &self.records.notes
+    }
+
+    // How many entries the unit at a place has had.
+    fn count_at(&self, place: usize) -> u64
+        ensures { IsCountAt self.now place result }
+    {
+        match self.units.get(place) {
+            Some(unit) => unit.row().entries,
+            None => 0,
+        }
+    }
+
+    // How many entries the unit of a session has had.
+    fn count_of(&self, session: usize) -> u64
+        ensures { IsCountOf self.now session result }
+    {
+        match self.records.session(session) {
+            Some(one) => self.count_at(one.place),
+            None => 0,
+        }
+    }
+
+    // A session attaches to the unit at a place.
+    fn attach(&mut self, place: usize, port: &PortName, group: Group) -> Result<(), NoMemory>
+        ensures done { OnOk result (Happens (O.claims && B.claims) B.contents B.failures O.opens_failed R.failures
+            (events.Attach place port.now group) self.old self.new) }
+        ensures err { OnErr result (self.new ≡ self.old) }
+    {
+        if !is_port_name(port) {
+            return Ok(());
+        }
+        let port = copy_port(self.alloc, port)?;
+        self.records.make_room()?;
+        let Some(unit) = self.units.get_mut(place) else {
+            return Ok(());
+        };
+        if let Some(id) = attach_unit(unit, port, group) {
+            self.records.attach(place, id);
+        }
+        Ok(())
+    }
+
+    // A session ends.
+    fn detach(&mut self, session: usize)
+        ensures { Happens (O.claims && B.claims) B.contents B.failures O.opens_failed R.failures
+            (events.Detach session) self.old self.new }
+    {
+        let Some(one) = self.records.session(session) else {
+            return;
+        };
+        let (place, id) = (one.place, one.id);
+        let Some(unit) = self.units.get_mut(place) else {
+            return;
+        };
+        detach_unit(unit, id);
+    }
+
+    // A session resets its unit.
+    fn reset(&mut self, session: usize)
+        ensures { Happens (O.claims && B.claims) B.contents B.failures O.opens_failed R.failures
+            (events.Reset session) self.old self.new }
+    {
+        let Some(one) = self.records.session(session) else {
+            return;
+        };
+        let (place, id) = (one.place, one.id);
+        let Some(unit) = self.units.get_mut(place) else {
+            return;
+        };
+        reset_unit(unit, id);
+    }
+
+    // The unit at a place moves.
+    fn move_to(&mut self, place: usize, list: &Bytes)
+        ensures { Happens (O.claims && B.claims) B.contents B.failures O.opens_failed R.failures
+            (events.Move place list.now) self.old self.new }
+    {
+        let Some(unit) = self.units.get_mut(place) else {
+            return;
+        };
+        move_unit(unit, list.as_slice());
+    }
+
+    // A lane has the unit of a session serve its command.
+    fn serve(&mut self, session: usize)
+        ensures { Happens (O.claims && B.claims) B.contents B.failures O.opens_failed R.failures
+            (events.Serve session) self.old self.new }
+    {
+        let Some(one) = self.records.session(session) else {
+            return;
+        };
+        let Stage::InLane(job) = &one.stage else {
+            return;
+        };
+        let Some(unit) = self.units.get_mut(one.place) else {
+            return;
+        };
+        let end = serve_unit(unit, self.alloc, one.id, one.next, job);
+        self.records.end(session, end);
+    }
+
+    // A lane takes the first job of a desk.
+    fn take(&mut self, group: Group)
+        ensures units { self.new.units ≡ self.old.units }
+        ensures traffic { self.new.traffic ≡ taken self.old.traffic group }
+    {
+        self.records.take(group);
+    }
+
+    // A lane posts the answer of a session's command.
+    fn post(&mut self, session: usize)
+        ensures units { self.new.units ≡ self.old.units }
+        ensures traffic { self.new.traffic
+            ≡ given self.old.traffic (slice_get self.old.traffic.sessions session) (λ x. posted self.old.traffic session x) }
+    {
+        self.records.post(session);
+    }
+
+    // A session collects its answer.
+    fn collect(&mut self, session: usize) -> Result<(), NoMemory>
+        ensures units { self.new.units ≡ self.old.units }
+        ensures traffic { OnOk result ((count : ℕ) × IsCountOf self.old session count × (self.new.traffic
+            ≡ given self.old.traffic (slice_get self.old.traffic.sessions session)
+            (λ x. collected count self.old.traffic session x))) }
+        ensures err { OnErr result (self.new ≡ self.old) }
+    {
+        self.records.make_room()?;
+        let count = self.count_of(session);
+        self.records.collect(session, count);
+        Ok(())
+    }
+
+    // A session whose command came to Moved hands it in once more.
+    fn submit_again(&mut self, session: usize) -> Result<(), NoMemory>
+        ensures units { self.new.units ≡ self.old.units }
+        ensures traffic { OnOk result ((count : ℕ) × IsCountOf self.old session count × (self.new.traffic
+            ≡ given self.old.traffic (slice_get self.old.traffic.sessions session)
+            (λ x. submitted_again count self.old.traffic session x))) }
+        ensures err { OnErr result (self.new ≡ self.old) }
+    {
+        self.records.make_room()?;
+        let count = self.count_of(session);
+        self.records.submit_again(session, count);
+        Ok(())
+    }
+
+    // A session hands a command in.
+    fn submit(
+        &mut self,
+        session: usize,
+        by_group: Group,
+        asked: Asked,
+        bytes: &Bytes,
+    ) -> Result<(), NoMemory>
+        ensures units { self.new.units ≡ self.old.units }
+        ensures traffic { OnOk result ((count : ℕ) × IsCountOf self.old session count × (self.new.traffic
+            ≡ given self.old.traffic (slice_get self.old.traffic.sessions session)
+            (λ x. submitted count self.old.traffic session x (new_job by_group asked bytes.now)))) }
+        ensures err { OnErr result (self.new ≡ self.old) }
+    {
+        let bytes = bytes.copy(self.alloc)?;
+        self.records.make_room()?;
+        let count = self.count_of(session);
+        let job = Job {
+            by_group,
+            asked,
+            bytes,
+            is_second: false,
+        };
+        self.records.submit(session, count, job);
+        Ok(())
+    }
+
+    // One event.
+    fn step(&mut self, event: &Event) -> Result<(), NoMemory>
+        ensures done { OnOk result (Happens (O.claims && B.claims) B.contents B.failures O.opens_failed R.failures
+            (event.now) self.old self.new) }
+        ensures err { OnErr result (self.new ≡ self.old) }
+    {
+        match event {
+            Event::Attach { place, port, group } => return self.attach(*place, port, *group),
+            Event::Detach { session } => self.detach(*session),
+            Event::Reset { session } => self.reset(*session),
+            Event::Move { place, list } => self.move_to(*place, list),
+            Event::Submit {
+                session,
+                by_group,
+                asked,
+                bytes,
+            } => return self.submit(*session, *by_group, *asked, bytes),
+            Event::SubmitAgain { session } => return self.submit_again(*session),
+            Event::Take { group } => self.take(*group),
+            Event::Serve { session } => self.serve(*session),
+            Event::Post { session } => self.post(*session),
+            Event::Collect { session } => return self.collect(*session),
+        }
+        Ok(())
+    }
+
+    /// These events, one behind the other. Refused for want of memory, a beginning of them has happened. Whatever histories
+    /// the units have had, they then have histories that these steps lead to, and over all that has happened since the units
+    /// opened each history is legal, each collected reply is that of its own command's entry, no serial of a session has two
+    /// entries, a command that ended without a reply has none, and what a session submits behind a reply comes later.
+    pub fn run(&mut self, events: &[Event]) -> Result<(), NoMemory>
+        ensures done { OnOk result (AllHappen (O.claims && B.claims) B.contents B.failures O.opens_failed R.failures
+            events.now self.old self.new) }
+        ensures err { OnErr result ((done : ℕ) × (done < length events.now)
+            × AllHappen (O.claims && B.claims) B.contents B.failures O.opens_failed R.failures
+            (take done events.now) self.old self.new) }
+    {
+        for event in events {
+            self.step(event)?;
+        }
+        Ok(())
+    }
+}
