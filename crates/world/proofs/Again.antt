@@ -1,6 +1,6 @@
 -- A session whose command is looked at before it goes on.
 use Rattle.std.proofs.Common.{◌≡◌, ℕ, Bool, true, false, nat_eq, if◌then◌else◌, List, [], ◌∷◌, ◌++◌, length, Option, Some, None}
-use Rattle.std.proofs.Common.{refl, sym, ap, subst, ◌∙◌}
+use Rattle.std.proofs.Common.{refl, ap, subst, ◌∙◌}
 use Rattle.std.specs.Prelude.{IfSome, ◌<◌, slice_get, slice_index_or, slice_set}
 use Rattle.std.proofs.lemmas.Option.{slice_get_read}
 use Rattle.std.proofs.lemmas.List.{set-set}
@@ -8,7 +8,6 @@ use Rattle.locked_unit.specs.declared.machine.Refused.TheVariants.{Gone as IsGon
 use Rattle.scsi_types.specs.declared.names.Group.{Group}
 use Rattle.scsi_types.specs.declared.names.Group.TheVariants.{One, Two}
 use Rattle.world.specs.Traffic.{Traffic, at_stage, given, given_up, handed_in, heard, note_of, noted, waiting, with_waiting}
-use Rattle.world.specs.declared.note.Note.{Note}
 use Rattle.world.specs.declared.note.What.{What}
 use Rattle.world.specs.declared.note.What.TheVariants.{Submitted, Replied as HasReply, Busy, Gone}
 use Rattle.world.specs.declared.session.Job.{Job}
@@ -16,7 +15,7 @@ use Rattle.world.specs.declared.session.End.{End}
 use Rattle.world.specs.declared.session.End.TheVariants.{Replied, Refused as IsRefused}
 use Rattle.world.specs.declared.session.Session.{Session}
 use Rattle.world.specs.declared.session.Stage.{Stage}
-use Rattle.world.specs.declared.session.Stage.TheVariants.{Idle, Waits, InLane, Ended, Answered, Returned}
+use Rattle.world.specs.declared.session.Stage.TheVariants.{Idle, Waits, Returned}
 use Rattle.world.proofs.Lists.{get_written, set_same}
 
 pub there_is : {X : Type 0} (xs : List X) (n : ℕ) (x : X) → n < length xs → x ≡ slice_index_or xs n x → slice_get xs n ≡ Some x

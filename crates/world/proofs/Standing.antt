@@ -1,7 +1,7 @@
 -- What an event makes of the histories of a world.
-use Rattle.std.proofs.Common.{◌≡◌, ◌⊎◌, inl, inr, ⊎_elim, ℕ, ◌+◌, ◌<◌, ◌≤◌, Bool, true, false, nat_eq, if◌then◌else◌, zero, suc}
+use Rattle.std.proofs.Common.{◌≡◌, inl, inr, ⊎_elim, ℕ, ◌+◌, ◌<◌, ◌≤◌, Bool, true, false, nat_eq, zero, suc}
 use Rattle.std.proofs.Common.{List, [], ◌∷◌, ◌++◌, length, Option, Some, None, refl, sym, ap, subst, ◌∙◌, arith, ◌≢◌}
-use Rattle.std.specs.Prelude.{All, IfSome, IsTrue, OnErr, OnOk, Result, Ok, Err, slice_index_or, take, MatchOption, slice_get, slice_set}
+use Rattle.std.specs.Prelude.{All, IfSome, OnErr, OnOk, Result, Ok, Err, slice_index_or, take, MatchOption, slice_get, slice_set}
 use Rattle.std.proofs.lemmas.Bool.Decides.{eqb_tells}
 use Rattle.std.proofs.lemmas.Option.{get_or_from_slice_get, slice_get_within}
 use Rattle.unit_state.specs.Serials.{IsOpening}

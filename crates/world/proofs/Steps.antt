@@ -1,25 +1,21 @@
 -- Each event keeps what carries the order of a world, of the unit at one place.
-use Rattle.std.proofs.Common.{◌≡◌, ◌≢◌, ◌⊎◌, inl, inr, ⊎_elim, ℕ, ◌+◌, ◌<◌, ◌≤◌, Bool, true, false, nat_eq, if◌then◌else◌}
-use Rattle.std.proofs.Common.{List, [], ◌∷◌, ◌++◌, length, Option, Some, None, Result, refl, sym, ap, subst, ◌∙◌, arith}
+use Rattle.std.proofs.Common.{◌≡◌, ◌≢◌, ⊎_elim, ℕ, ◌+◌, ◌<◌, Bool, true, false, nat_eq, if◌then◌else◌}
+use Rattle.std.proofs.Common.{List, [], ◌∷◌, ◌++◌, length, Some, refl, sym, ap, subst, ◌∙◌, arith}
 use Rattle.std.specs.Prelude.{slice_get, slice_set}
-use Rattle.std.proofs.lemmas.Bool.Decides.{eqb_tells}
 use Rattle.std.proofs.lemmas.Option.{slice_get_within}
-use Rattle.locked_unit.specs.declared.machine.Refused.{Refused}
 use Rattle.locked_unit.specs.declared.machine.Refused.TheVariants.{Gone as IsGone, Moved, NoMemory}
 use Rattle.scsi_types.specs.ReplyValue.{ReplyValue}
 use Rattle.scsi_types.specs.Nexus.{Nexus}
 use Rattle.scsi_types.specs.declared.names.Group.{Group}
 use Rattle.scsi_types.specs.declared.names.Group.TheVariants.{One, Two}
-use Rattle.scsi_types.specs.declared.command.Command.{Command as ScsiCommand}
-use Rattle.scsi_types.specs.declared.command.CdbFault.{CdbFault}
 use Rattle.unit_state.specs.State.{UnitState}
 use Rattle.unit_state.specs.Choice.{Choice}
 use Rattle.unit_state.specs.Entry.{Entry, Attach, Command}
-use Rattle.unit_history.specs.Histories.{IsCommand, IsToldBehind, command}
-use Rattle.world.specs.Orders.{IsEntryOf, IsNone, IsNoted, IsSubmittedBehind}
+use Rattle.unit_history.specs.Histories.{IsToldBehind, command}
+use Rattle.world.specs.Orders.{IsEntryOf, IsNone, IsNoted}
 use Rattle.world.specs.Traffic.{Traffic, answered_in, at_stage, attached, collected, ended_in, free, given, given_up, handed_in}
 use Rattle.world.specs.Traffic.{heard, in_lane, is_idle, note_of, noted, posted, returned_in, submitted, submitted_again}
-use Rattle.world.specs.Traffic.{waiting, waits_in, with_session, with_waiting}
+use Rattle.world.specs.Traffic.{waiting, waits_in, with_waiting}
 use Rattle.world.specs.declared.note.Note.{Note}
 use Rattle.world.specs.declared.note.What.{What}
 use Rattle.world.specs.declared.note.What.TheVariants.{Submitted, Replied as HasReply, Busy, Gone}
@@ -29,10 +25,10 @@ use Rattle.world.specs.declared.session.End.TheVariants.{Replied, Refused as IsR
 use Rattle.world.specs.declared.session.Session.{Session}
 use Rattle.world.specs.declared.session.Stage.{Stage}
 use Rattle.world.specs.declared.session.Stage.TheVariants.{Idle, Waits, InLane, Ended, Answered, Returned}
-use Rattle.world.proofs.Lists.{get_kept, get_last, get_pushed, get_set, longer}
-use Rattle.world.proofs.Sound.{IsOf, UnitOk, IsUnserved, IsHandedIn, HasEntry, EndOk, StageOk, WhatOk, Sound, IsOther}
-use Rattle.world.proofs.Sound.{OnItsWay, HasSubmits, session_changes, id_written, apart_written, note_added, entry_added}
-use Rattle.world.proofs.Sound.{quiet_entry, stage_kept, counts, counts_or_not, commands_pushed, Fits}
+use Rattle.world.proofs.Lists.{get_last, get_pushed, get_set, longer}
+use Rattle.world.proofs.Sound.{IsOf, IsUnserved, IsHandedIn, EndOk, StageOk, WhatOk, Sound, IsOther}
+use Rattle.world.proofs.Sound.{OnItsWay, session_changes, id_written, apart_written, note_added, entry_added}
+use Rattle.world.proofs.Sound.{stage_kept, counts, counts_or_not, commands_pushed}
 
 on_its_way : (claims : Bool) (s : UnitState) (stage : Stage) (P : Type 0) → P → OnItsWay claims s stage P
 on_its_way claims s Idle P p = tt

@@ -1,18 +1,17 @@
 -- The order of a world holds over every list of events.
-use Rattle.std.proofs.Common.{◌≡◌, ◌≢◌, ◌⊎◌, inl, inr, ⊎_elim, ℕ, ◌+◌, ◌<◌, ◌≤◌, Bool, true, false, nat_eq, if◌then◌else◌}
+use Rattle.std.proofs.Common.{◌≡◌, ◌≢◌, ◌⊎◌, ⊎_elim, ℕ, ◌+◌, ◌≤◌, Bool, true, false, nat_eq}
 use Rattle.std.proofs.Common.{List, [], ◌∷◌, ◌++◌, length, Option, Some, None, refl, sym, ap, subst, ◌∙◌, arith}
 use Rattle.std.specs.Prelude.{MatchOption, slice_get}
 use Rattle.std.proofs.lemmas.Bool.Decides.{eqb_tells}
 use Rattle.reservations.specs.Nexus.{through}
-use Rattle.scsi_types.specs.ReplyValue.{ReplyValue}
 use Rattle.scsi_types.specs.declared.names.Group.{Group}
 use Rattle.scsi_types.specs.declared.names.Group.TheVariants.{One, Two}
 use Rattle.unit_state.specs.State.{UnitState}
-use Rattle.unit_state.specs.Choice.{Choice, Fine}
+use Rattle.unit_state.specs.Choice.{Fine}
 use Rattle.unit_state.specs.Entry.{Entry, Attach, Detach, Reset, Move, Command}
 use Rattle.unit_state.specs.Serials.{IsOpening}
 use Rattle.unit_history.specs.Histories.{IsHistory, command}
-use Rattle.world.specs.Traffic.{Traffic, at_stage, attached, given, in_lane, new_job, no_traffic, taken_from, waiting, with_waiting}
+use Rattle.world.specs.Traffic.{Traffic, at_stage, attached, given, in_lane, new_job, taken_from, waiting, with_waiting}
 use Rattle.world.specs.Events.{Scene, scene, with_entry, with_traffic, Takes, IsEntry, IsServed, IsServing, IsStep, AreSteps, count_at}
 use Rattle.world.specs.Orders.{IsEntryOf, IsNone, IsNoted, IsOrderly, IsSubmittedBehind}
 use Rattle.world.specs.Worlds.{IsReached, start}
@@ -27,7 +26,7 @@ use Rattle.world.specs.declared.session.End.TheVariants.{Replied, Refused as IsR
 use Rattle.world.specs.declared.session.Session.{Session}
 use Rattle.world.specs.declared.session.Stage.{Stage}
 use Rattle.world.specs.declared.session.Stage.TheVariants.{Idle, Waits, InLane, Ended, Answered, Returned}
-use Rattle.world.proofs.Sound.{Sound, UnitOk, no_entry, quiet_entry, StageOk, IsUnserved, IsHandedIn, WhatOk, HasEntry}
+use Rattle.world.proofs.Sound.{Sound, no_entry, quiet_entry, StageOk, IsUnserved, WhatOk}
 use Rattle.world.proofs.Steps.{sound_attached, sound_elsewhere, sound_submitted, sound_submitted_again, sound_in_lane}
 use Rattle.world.proofs.Steps.{sound_posted, sound_collected, sound_ended, sound_served, sound_waiting}
 

@@ -1,12 +1,11 @@
 -- What holds of the world over every list of events.
-use Rattle.std.specs.Prelude.{◌≡◌, ◌⊎◌, ℕ, ◌+◌, ◌<◌, ◌≤◌, Bool, List, [], ◌∷◌, length, Some, slice_get}
-use Rattle.status.specs.Views.{counted}
+use Rattle.std.specs.Prelude.{◌≡◌, ℕ, ◌<◌, ◌≤◌, Bool, List, Some, slice_get}
 use Rattle.scsi_types.specs.ReplyValue.{ReplyValue}
 use Rattle.scsi_types.specs.declared.names.Group.{Group}
 use Rattle.unit_state.specs.State.{UnitState}
-use Rattle.unit_state.specs.Entry.{Entry, Command}
+use Rattle.unit_state.specs.Entry.{Entry}
 use Rattle.unit_state.specs.History.{IsReplyAt}
-use Rattle.unit_history.specs.Histories.{IsCommand, IsHistory, command}
+use Rattle.unit_history.specs.Histories.{IsCommand, IsHistory}
 use Rattle.world.specs.Events.{Scene}
 use Rattle.world.specs.declared.note.Note.{Note}
 use Rattle.world.specs.declared.note.What.{What}

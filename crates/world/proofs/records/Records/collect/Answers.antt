@@ -1,4 +1,4 @@
-use Rattle.std.proofs.Common.{sym, Option}
+use Rattle.std.proofs.Common.{sym}
 use Rattle.world.specs.Records.{traffic_of}
 use Rattle.world.specs.Traffic.{answered_in, heard}
 use Rattle.world.proofs.Again.{hears_it, put_back, there_is}

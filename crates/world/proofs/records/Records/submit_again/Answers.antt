@@ -1,4 +1,4 @@
-use Rattle.std.proofs.Common.{sym, Option}
+use Rattle.std.proofs.Common.{sym}
 use Rattle.world.specs.Records.{traffic_of}
 use Rattle.world.specs.Traffic.{handed_in, returned_in}
 use Rattle.world.proofs.Again.{hands_in_again, put_back, there_is}

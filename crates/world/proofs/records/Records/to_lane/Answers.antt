@@ -1,4 +1,4 @@
-use Rattle.std.proofs.Common.{sym, Option}
+use Rattle.std.proofs.Common.{sym}
 use Rattle.world.specs.Records.{traffic_of}
 use Rattle.world.specs.Traffic.{at_stage, waits_in}
 use Rattle.world.specs.declared.session.Stage.TheVariants.{InLane}

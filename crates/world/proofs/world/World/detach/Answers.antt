@@ -1,9 +1,8 @@
-use Rattle.std.proofs.Common.{◌&&◌, subst}
+use Rattle.std.proofs.Common.{◌&&◌}
 use Rattle.unit_history.specs.Causes.{IsGone}
 use Rattle.unit_state.specs.Entry.{Detach}
 use Rattle.world.specs.Records.{traffic_of}
 use Rattle.world.specs.Traffic.{WorldValue}
-use Rattle.world.specs.Worlds.{Happens}
 use Rattle.world.specs.declared.event.Event.TheVariants as events
 use Rattle.world.proofs.Again.{there_is}
 use Rattle.world.proofs.Standing.{unit_goes}

@@ -1,9 +1,8 @@
-use Rattle.std.proofs.Common.{◌≡◌, ◌&&◌, ◌+◌, ◌<◌, ℕ, List, subst, sym, ap, ◌∙◌, take, length}
-use Rattle.std.proofs.lemmas.List.{take_all, take_more}
-use Rattle.world.specs.Traffic.{WorldValue}
+use Rattle.std.proofs.Common.{◌&&◌, List, subst}
+use Rattle.std.proofs.lemmas.List.{take_all}
 use Rattle.world.specs.Worlds.{AllHappen}
 use Rattle.world.specs.declared.event.Event.{Event}
-use Rattle.world.proofs.Standing.{none_happen, of_err, one_more, so_far}
+use Rattle.world.proofs.Standing.{none_happen, of_err, so_far}
 use Rattle.world.proofs.world.World.run.Goals as goal
 
 pub loop-event-init : goal.loop-event-init
