@@ -204,38 +204,62 @@ where
     one && other
 }
 
+// Four sessions at unit 0.
+fn four_ready<R: Wait + Drop, N: Array<Opened>>(scene: &Scene<'_, R, N>) -> Vec<HeldPass<R, N>> {
+    let mut passes = Vec::new(scene.alloc);
+    for isid in 1..=4 {
+        if let Some(pass) = scene.ready(0, isid) {
+            let _ = passes.push(pass);
+        }
+    }
+    passes
+}
+
+// Hands in a write of each.
+fn write_all<R: Wait + Drop, N: Array<Opened>>(
+    scene: &Scene<'_, R, N>,
+    passes: Vec<HeldPass<R, N>>,
+) -> Vec<HeldTicket<R, N>> {
+    let mut tickets = Vec::new(scene.alloc);
+    for pass in passes {
+        if let Some(ticket) = scene.hand_in(pass, WRITE, &[0xA5; 512]) {
+            let _ = tickets.push(ticket);
+        }
+    }
+    tickets
+}
+
+// How many of these writes are GOOD.
+fn count_good<R: Wait + Drop, N: Array<Opened>>(
+    scene: &Scene<'_, R, N>,
+    tickets: Vec<HeldTicket<R, N>>,
+) -> u32 {
+    let mut count = 0u32;
+    for ticket in tickets {
+        let (_pass, status) = scene.collect(ticket);
+        if status == Some(0) {
+            count = count.saturating_add(1);
+        }
+    }
+    count
+}
+
 // Each lane is held by a write of unit 0; meanwhile eight sessions at unit 1 are served, each by its own worker.
-fn all_hang<R, N: Array<Opened>>(scene: &Scene<'_, R, N>) -> Option<bool>
+fn all_hang<R, N: Array<Opened>>(scene: &Scene<'_, R, N>) -> bool
 where
     R: Threads + Wait + Send + Sync + Drop,
     N: Send + Sync,
 {
-    let passes = [
-        scene.ready(0, 1)?,
-        scene.ready(0, 2)?,
-        scene.ready(0, 3)?,
-        scene.ready(0, 4)?,
-    ];
+    let passes = four_ready(scene);
     scene.disk.hold(Some(0));
-    let [one, two, three, four] = passes;
-    let tickets = [
-        scene.hand_in(one, WRITE, &[1; 512])?,
-        scene.hand_in(two, WRITE, &[2; 512])?,
-        scene.hand_in(three, WRITE, &[3; 512])?,
-        scene.hand_in(four, WRITE, &[4; 512])?,
-    ];
+    let tickets = write_all(scene, passes);
     let (first, second) = join(
         scene.rt,
         || four_are_served(scene, 8),
         || four_are_served(scene, 12),
     );
     scene.disk.hold(None);
-    let [one, two, three, four] = tickets;
-    let are_good = scene.collect(one).1 == Some(0)
-        && scene.collect(two).1 == Some(0)
-        && scene.collect(three).1 == Some(0)
-        && scene.collect(four).1 == Some(0);
-    Some(first && second && are_good)
+    first && second && count_good(scene, tickets) == 4
 }
 
 /// What is played.
@@ -246,16 +270,16 @@ enum Played {
 }
 
 // Plays it. Behind it nothing hangs, and the desk is closed.
-fn play<R, N: Array<Opened>>(scene: &Scene<'_, R, N>, played: Played) -> Option<bool>
+fn play<R, N: Array<Opened>>(scene: &Scene<'_, R, N>, played: Played) -> bool
 where
     R: Threads + Wait + Send + Sync + Drop,
     N: Send + Sync,
 {
-    let is_right = match played {
-        _ if !scene.is_moved() => None,
-        Played::OneHangs => one_hangs(scene),
-        Played::AllHang => all_hang(scene),
-    };
+    let is_right = scene.is_moved()
+        && match played {
+            Played::OneHangs => one_hangs(scene) == Some(true),
+            Played::AllHang => all_hang(scene),
+        };
     scene.disk.hold(None);
     scene.desk.close(scene.rt);
     is_right
@@ -279,12 +303,21 @@ where
     one.saturating_add(other)
 }
 
+// Plays it beside four lanes: whether all was right, and how many jobs they served.
+fn share<R, N: Array<Opened>>(scene: &Scene<'_, R, N>, played: Played) -> (bool, u32)
+where
+    R: Threads + Wait + Send + Sync + Drop,
+    N: Send + Sync,
+{
+    join(scene.rt, || play(scene, played), || four_lanes(scene))
+}
+
 // Plays it at a desk with four lanes, which serve so many jobs meanwhile.
-fn perform<N: Array<Opened> + Send + Sync, R: Threads + Wait + Send + Sync + Drop>(
-    rt: &R,
+fn perform<'a, N: Array<Opened> + Send + Sync, R: Threads + Wait + Send + Sync + Drop>(
+    rt: &'a R,
     alloc: Global,
     new: Vec<HeldUnit<R>>,
-    disk: &Latch<R>,
+    disk: &'a Latch<R>,
     played: Played,
     by_lanes: u32,
 ) -> Result<(), Fail>
@@ -300,8 +333,8 @@ fn perform<N: Array<Opened> + Send + Sync, R: Threads + Wait + Send + Sync + Dro
         units: &units,
         disk,
     };
-    let (is_right, served) = join(rt, || play(&scene, played), || four_lanes(&scene));
-    if is_right != Some(true) {
+    let (is_right, served) = share(&scene, played);
+    if !is_right {
         return Err("what was told".into());
     }
     if served != by_lanes {
