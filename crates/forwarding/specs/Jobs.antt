@@ -9,6 +9,8 @@ use Rattle.scsi_types.specs.declared.command.CdbFault.{CdbFault}
 use Rattle.unit_state.specs.State.{UnitState}
 use Rattle.unit_state.specs.Entry.{Entry}
 use Rattle.unit_history.specs.Calls.{HasServed, HasRefused}
+use Rattle.forwarding.specs.declared.desk.DeskFault.{DeskFault}
+use Rattle.forwarding.specs.declared.desk.DeskFault.TheVariants.{Full, Closed, NoMemory}
 use Rattle.forwarding.specs.declared.names.Names.{Names}
 
 -- the bytes of a copy, and none where there is none
@@ -51,3 +53,9 @@ HasAnswered claims s job after end =
 -- the answer of this job is there
 abbrev pub IsFor : Option Done → Handed → Type 0
 IsFor held job = IsSome held × IfSome held (λ done. done.job ≡ job)
+
+-- The desk does not take a command: it is full, or closed. For want of memory no desk refuses to serve.
+abbrev pub IsFullOrClosed : DeskFault → Type 0
+IsFullOrClosed Full = Unit {0}
+IsFullOrClosed Closed = Unit {0}
+IsFullOrClosed NoMemory = ⊥

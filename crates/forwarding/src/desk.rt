@@ -1,6 +1,6 @@
 //! The desk of a controller.
 ghost use Rattle.std.specs.Prelude.{◌≡◌, ◌<◌, ◌&&◌, IfOk, IfErr, IfSome};
-ghost use Rattle.forwarding.specs.Jobs.{HasAnswered, handed_of};
+ghost use Rattle.forwarding.specs.Jobs.{HasAnswered, IsFullOrClosed, handed_of};
 
 use crate::data::copy_data;
 use crate::job::{Answer, Job, Taken, Ticket, Waiting, prepare};
@@ -195,6 +195,7 @@ impl<B: Blocks, R: Blocks, O: Opener<B>, N: Array<Opened>> Desk<B, R, O, N> {
         ensures end { IfOk result.1 (HasAnswered (O.claims && B.claims) (N.opening pass.place)
             (handed_of pass asked.now bytes.now self.now) result.0.pass) }
         ensures back { IfErr result.1 (λ fault. result.0 ≡ pass) }
+        ensures why { IfErr result.1 IsFullOrClosed }
     {
         let is_closed = self.queue.lock(rt).is_closed();
         if is_closed {
@@ -205,7 +206,8 @@ impl<B: Blocks, R: Blocks, O: Opener<B>, N: Array<Opened>> Desk<B, R, O, N> {
     }
 
     /// Serves a command of a session through the desk: the worker that hands it in serves it itself, where no lane has taken it.
-    /// Refused by the desk, no unit was asked, and the pass is as it was.
+    /// Where there is no memory for its job, it serves the command at once: so what fences needs none. Refused by the desk, which is
+    /// full or closed, no unit was asked, and the pass is as it was.
     pub fn serve<W: Wait>(
         &self,
         rt: &W,
@@ -223,20 +225,30 @@ impl<B: Blocks, R: Blocks, O: Opener<B>, N: Array<Opened>> Desk<B, R, O, N> {
         ensures end { IfOk result.1 (HasAnswered (O.claims && B.claims) (N.opening pass.place)
             (handed_of pass asked.now bytes.now self.now) result.0.pass) }
         ensures back { IfErr result.1 (λ fault. result.0 ≡ pass) }
+        ensures why { IfErr result.1 IsFullOrClosed }
     {
         if bytes.len() > LONGEST_COPY {
             return self.serve_at_once(rt, alloc, units, pass, asked, bytes);
         }
-        let Ok(bytes) = copy_data(alloc, bytes) else {
-            return (pass, Err(DeskFault::NoMemory));
+        let Ok(copy) = copy_data(alloc, bytes) else {
+            return self.serve_at_once(rt, alloc, units, pass, asked, bytes);
         };
-        let asked = *asked;
-        let ticket = match self.submit(rt, alloc, Job { pass, asked, bytes }) {
-            Ok(ticket) => ticket,
-            Err((fault, job)) => return (job.into_pass(), Err(fault)),
+        let job = Job {
+            pass,
+            asked: *asked,
+            bytes: copy,
         };
-        self.serve_own(rt, alloc, units, &ticket);
-        let (pass, end) = ticket.collect(rt);
-        (pass, Ok(end))
+        match self.submit(rt, alloc, job) {
+            Ok(ticket) => {
+                self.serve_own(rt, alloc, units, &ticket);
+                let (pass, end) = ticket.collect(rt);
+                (pass, Ok(end))
+            }
+            Err((DeskFault::NoMemory, job)) => {
+                self.serve_at_once(rt, alloc, units, job.into_pass(), asked, bytes)
+            }
+            Err((DeskFault::Full, job)) => (job.into_pass(), Err(DeskFault::Full)),
+            Err((DeskFault::Closed, job)) => (job.into_pass(), Err(DeskFault::Closed)),
+        }
     }
 }
