@@ -4,8 +4,8 @@ over worked examples of a session. Each run has to answer the example, or BUSY t
 same command sent again is answered as in the example, with all behind it; or to end with status 1 and `arrayd: no memory`,
 with nothing read and nothing written. Prints a table, and ends with status 1 where a run does anything else.
 
-Then, with nothing refused, counts the allocations between two reads of a session: none but for a reply's data and the data
-of a write that waits. Then it does the first again with examples of logins and of several sessions, through both controllers
+Then, with nothing refused, counts the allocations between two reads of a session: none but for a reply's data, the data of a
+write that waits, and, at a desk of the array, a command's job. Then it does the first again with examples of logins and of several sessions, through both controllers
 of the array: each allocation behind the first connection (bench/sessions.py).
 
 With --tests it does the same with the proved tests of these crates: each test passes, or ends for want of memory that its

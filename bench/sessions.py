@@ -219,16 +219,16 @@ def step_by_step(run):
     session.logout()
 
 
-# How many allocations come behind each of its PDUs at most.
+# How many allocations come behind each of its PDUs at most: a command has the slot of its job, and two for a copy of its data.
 STEPS = (
     ("first Login Request", 0),
     ("last Login Request", 99),
-    ("TEST UNIT READY, 06 29/00", 0),
-    ("TEST UNIT READY", 0),
+    ("TEST UNIT READY, 06 29/00", 1),
+    ("TEST UNIT READY", 1),
     ("NOP-Out", 0),
     ("Text Request", 0),
-    ("WRITE (10)", 0),
-    ("READ (10)", 1),
+    ("WRITE (10)", 3),
+    ("READ (10)", 2),
     ("LOGICAL UNIT RESET", 0),
 )
 

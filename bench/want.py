@@ -161,8 +161,8 @@ def main():
         shutil.copy(program, own)
         try:
             if os.getuid() == 0:
-                # The main thread and two accept loops come first.
-                lacks("threads", Array(own, folder, port, (resource.RLIMIT_NPROC, (9, 9)), NOBODY))
+                # The main thread, two accept loops and eight lanes come first.
+                lacks("threads", Array(own, folder, port, (resource.RLIMIT_NPROC, (17, 17)), NOBODY))
             else:
                 print("lack of threads: not tried, as this is not run as root")
             array = Array(own, folder, port + 10)
