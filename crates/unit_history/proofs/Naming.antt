@@ -2,6 +2,8 @@
 use Rattle.std.proofs.Common.{◌≡◌, ◌⊎◌, inl, inr, ⊎_elim, ℕ, zero, suc, ◌+◌, ◌<◌, List, [], ◌∷◌, ◌++◌, length, Option, Some, slice_get, slice_index_or, drop}
 use Rattle.std.proofs.Common.{refl, sym, ap, ◌∙◌, subst, arith, length-append}
 use Rattle.atomic_table.specs.Seated.{TableId}
+use Rattle.crossbeam_utils.specs.declared.cache_padded.CachePadded.{CachePadded}
+use Rattle.crossbeam_utils.specs.Padded.{padded_value}
 use Rattle.logbook.specs.Pages.{Book}
 use Rattle.unit_state.specs.State.{UnitState}
 use Rattle.unit_history.specs.declared.any_unit.AnyUnit.{AnyUnit}
@@ -40,17 +42,18 @@ at_end [] a b (suc j) h = absurd (cc)
 at_end (x ∷ xs) a b zero h = inl h
 at_end (x ∷ xs) a b (suc j) h = ⊎_elim inl (λ t. inr (ap suc t.0, t.1)) (at_end xs a b j h)
 
-pub pushed : {B R O N : Type 0} (units : List (AnyUnit B R O N)) (unit : AnyUnit B R O N) → AreInOrder units
-    → place_of unit ≡ length units → AreInOrder (units ++ unit ∷ [])
+pub pushed : {B R O N : Type 0} (units : List (CachePadded (AnyUnit B R O N))) (unit : CachePadded (AnyUnit B R O N))
+    → AreInOrder units → place_of (padded_value unit) ≡ length units → AreInOrder (units ++ unit ∷ [])
 pushed units unit order is = λ place u h.
     ⊎_elim (λ (was : slice_get units place ≡ Some u). order place u was)
-    (λ (t : (place ≡ length units) × (unit ≡ u)). ap place_of (sym t.1) ∙ (is ∙ sym t.0))
+    (λ (t : (place ≡ length units) × (unit ≡ u)). ap (λ (c : CachePadded _). place_of (padded_value c)) (sym t.1)
+    ∙ (is ∙ sym t.0))
     (at_end units unit u place h)
 
-pub placed : {B R O N : Type 0} (units new : List (AnyUnit B R O N)) (unit : AnyUnit B R O N) (place : ℕ)
-    → new ≡ units ++ unit ∷ [] → length units ≡ place → AreInOrder units → place_of unit ≡ place
-    → (length new ≡ place + 1) × AreInOrder new
+pub placed : {B R O N : Type 0} (units new : List (CachePadded (AnyUnit B R O N))) (unit : CachePadded (AnyUnit B R O N))
+    (place : ℕ) → new ≡ units ++ unit ∷ [] → length units ≡ place → AreInOrder units
+    → place_of (padded_value unit) ≡ place → (length new ≡ place + 1) × AreInOrder new
 placed units new unit place is len order at = (
   ap length is ∙ (length-append units (unit ∷ []) ∙ ap (λ (n : ℕ). n + 1) len),
-  subst (λ (l : List (AnyUnit _ _ _ _)). AreInOrder l) (sym is) (pushed units unit order (at ∙ sym len)),
+  subst (λ (l : List (CachePadded (AnyUnit _ _ _ _))). AreInOrder l) (sym is) (pushed units unit order (at ∙ sym len)),
 )

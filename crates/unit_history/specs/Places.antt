@@ -1,5 +1,7 @@
 -- The place of a unit.
 use Rattle.std.specs.Prelude.{◌≡◌, ℕ, List, Some, slice_get}
+use Rattle.crossbeam_utils.specs.declared.cache_padded.CachePadded.{CachePadded}
+use Rattle.crossbeam_utils.specs.Padded.{padded_value}
 use Rattle.unit_history.specs.declared.any_unit.AnyUnit.{AnyUnit}
 use Rattle.unit_history.specs.declared.any_unit.AnyUnit.TheVariants as units
 
@@ -14,5 +16,6 @@ place_of (units.Six unit) = 6
 place_of (units.Seven unit) = 7
 
 -- each unit stands at its place
-abbrev pub AreInOrder : {B R O N : Type 0} → List (AnyUnit B R O N) → Type 0
-AreInOrder units = (place : ℕ) (unit : AnyUnit _ _ _ _) → slice_get units place ≡ Some unit → place_of unit ≡ place
+abbrev pub AreInOrder : {B R O N : Type 0} → List (CachePadded (AnyUnit B R O N)) → Type 0
+AreInOrder units = (place : ℕ) (unit : CachePadded (AnyUnit _ _ _ _)) → slice_get units place ≡ Some unit
+    → place_of (padded_value unit) ≡ place

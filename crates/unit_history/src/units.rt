@@ -12,6 +12,7 @@ use crate::new_unit::NewUnit;
 use crate::shared::{LegalHistory, Pass, SharedUnit};
 use access_states::Change;
 use block_file::{Blocks, DeviceFailed, Opener};
+use crossbeam_utils::CachePadded;
 use locked_unit::Refused;
 use numbering::Array;
 use scsi_types::{Asked, Group, NoMemory, PortName, Reply};
@@ -24,10 +25,11 @@ use unit_state::MoveFault;
 /// The most units of an array.
 pub const MOST_UNITS: usize = 8;
 
-/// Units 0 to n-1 of an array, which all threads share. Contracts see how many there are.
+/// Units 0 to n-1 of an array, which all threads share, none on a cache line of another. Contracts see how many there
+/// are.
 #[derive(Drop)]
 pub struct Units<B: Blocks, R: Blocks, O: Opener<B>, N: Array<Opened>> {
-    units: Vec<AnyUnit<B, R, O, N>>,
+    units: Vec<CachePadded<AnyUnit<B, R, O, N>>>,
 }
 
 impl<B: Blocks, R: Blocks, O: Opener<B>, N: Array<Opened>> Model for Units<B, R, O, N> {
@@ -98,7 +100,7 @@ impl<B: Blocks, R: Blocks, O: Opener<B>, N: Array<Opened>> Units<B, R, O, N> {
         let mut units = Vec::new(alloc);
         for place in 0..new.len() {
             let unit = any_seated(rt, alloc, place, new.remove(0))?;
-            units.push(unit)?;
+            units.push(CachePadded::new(unit))?;
         }
         Ok(Units { units })
     }
