@@ -348,8 +348,9 @@ impl Session {
         }
         let waiting = self.waiting.numbered() + u32::from(!command.immediate);
         let with = self.r2t_with(waiting);
-        match WaitingCommand::begin(self.alloc, command, asked, need, bytes, with) {
-            Ok(waiting) => {
+        match self.waiting.buffer(self.alloc, need) {
+            Ok(buffer) => {
+                let waiting = WaitingCommand::begin(buffer, command, asked, need, bytes, with);
                 let r2t = waiting.request();
                 self.waiting.push(waiting);
                 self.transfer_tag = next_transfer_tag(self.transfer_tag);
@@ -437,6 +438,16 @@ impl Session {
         Sending {
             pdus: Pdus::Reject(Reject { reason, numbers }),
             end: Some(End::Protocol),
+        }
+    }
+
+    /// Takes back the data of a command that was served: the buffer is kept for another's.
+    pub fn keep(&mut self, bytes: CommandData<'_>)
+        ensures { self.new ≡ self.old }
+    {
+        match bytes {
+            CommandData::Came(_) => {}
+            CommandData::Gathered(buffer) => self.waiting.keep(buffer),
         }
     }
 

@@ -37,7 +37,7 @@ pub fn feature_turn<K: Sink, T: Target>(
         bytes: room.as_slice(),
     };
     let actions = session.on_pdu(&pdu.header, pdu.data, text);
-    match &actions {
+    match actions {
         Actions::Send(sending) => {
             outbox.fill(sink, bhs, &sending.pdus);
             sending.end
@@ -47,6 +47,7 @@ pub fn feature_turn<K: Sink, T: Target>(
                 let answer = target.serve(call.unit, call.asked, call.bytes.bytes());
                 let answered = session.on_answer(&call.task, &answer);
                 outbox.fill(sink, bhs, &answered.pdus);
+                session.keep(call.bytes);
                 answered.end
             }
             Call::Reset(call) => {

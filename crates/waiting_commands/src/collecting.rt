@@ -1,5 +1,5 @@
 //! The commands that wait for their data (RFC 7143, 11.7 and 11.8).
-ghost use Rattle.std.specs.Prelude.{◌≡◌, ◌<◌, ◌≤◌, ◌+◌, ◌++◌, ℕ, ◌∷◌, ◌↔◌, List, [], length, take, drop, nat_le, nat_lt, not, false, IsTrue, IfOk, IfSome, MatchOption, Result, Some, None};
+ghost use Rattle.std.specs.Prelude.{◌≡◌, ◌<◌, ◌≤◌, ◌+◌, ◌++◌, ℕ, ◌∷◌, ◌↔◌, List, [], length, take, drop, nat_le, nat_lt, not, false, vec_capacity, IsTrue, IfOk, IfSome, MatchOption, Result, Some, None};
 ghost use Rattle.scsi_types.specs.Cdb.{Means, need_of};
 ghost use Rattle.scsi_types.specs.declared.command.Command.{Command};
 ghost use Rattle.scsi_types.specs.declared.command.CdbFault.{CdbFault};
@@ -18,6 +18,9 @@ use std::marker::Model;
 
 /// The most commands that wait at once: as many as the window has, and an immediate one.
 pub const MOST_WAITING: usize = 33;
+
+/// The most buffers that are kept for commands to come.
+const MOST_SPARES: usize = 4;
 
 /// What an R2T is sent with: its numbers, its Target Transfer Tag, and the length that a burst has at most.
 #[derive(Clone, Copy, Debug)]
@@ -74,28 +77,30 @@ impl Model for WaitingCommand {
 }
 
 impl WaitingCommand {
-    /// A command that has to collect so many bytes, with its immediate data and its first R2T. Takes the buffer of its
-    /// data.
+    /// A command that has to collect so many bytes into this buffer, which has room for them, with its immediate data and
+    /// its first R2T.
     pub fn begin(
-        alloc: Global,
+        buffer: Vec<u8>,
         command: ScsiCommand,
         asked: Asked,
         need: u32,
         immediate: &[u8],
         with: R2tWith,
-    ) -> Result<WaitingCommand, NoMemory>
+    ) -> WaitingCommand
+        requires empty { buffer.items ≡ [] }
+        requires room { need ≤ vec_capacity buffer }
         requires asked { IsAskedBy command asked }
         requires need { need ≡ need_of asked }
         requires collects { HasToCollect command need (length immediate.now) }
-        ensures { IfOk result (λ w. w ≡ begun command need immediate.now with) }
+        ensures { result ≡ begun command need immediate.now with }
     {
-        let mut bytes = Vec::with_capacity(alloc, need as usize)?;
+        let mut bytes = buffer;
         match bytes.extend_from_slice(immediate) {
             Ok(()) => {}
             Err(_) => unreachable!(),
         }
         let request = r2t(&command, need, bytes.len(), 0, with);
-        Ok(WaitingCommand {
+        WaitingCommand {
             command,
             asked,
             need,
@@ -103,7 +108,7 @@ impl WaitingCommand {
             request,
             requests: 1,
             data_sn: 0,
-        })
+        }
     }
 
     /// What its CDB asks for.
@@ -206,22 +211,25 @@ pub struct Collected {
     pub bytes: Vec<u8>,
 }
 
-/// The commands that wait for their data, in the order in which they came, in memory that was taken once.
+/// The commands that wait for their data, in the order in which they came, in memory that was taken once. Some buffers of
+/// those that wait no more are kept for others, so that most take none.
 #[derive(Debug, Drop)]
 pub struct WaitingCommands {
     slots: Vec<WaitingCommand>,
+    spares: Vec<Vec<u8>>,
 }
 
 impl Model for WaitingCommands {
     ghost use Rattle.std.specs.Prelude.{◌≤◌, List, length, vec_capacity};
     ghost use Rattle.session_rules.specs.Tasks.{Collecting};
-    ghost use Rattle.waiting_commands.specs.declared.collecting.TheConstants.{MOST_WAITING};
+    ghost use Rattle.waiting_commands.specs.declared.collecting.TheConstants.{MOST_SPARES, MOST_WAITING};
 
     ghost Value = { List Collecting };
 
     ghost view = { λ s. s.slots.items };
 
-    ghost invariant = { λ s. (length s.slots.items ≤ MOST_WAITING) × (MOST_WAITING ≤ vec_capacity s.slots) };
+    ghost invariant = { λ s. (length s.slots.items ≤ MOST_WAITING) × (MOST_WAITING ≤ vec_capacity s.slots)
+        × (MOST_SPARES ≤ vec_capacity s.spares) };
 }
 
 impl WaitingCommands {
@@ -231,7 +239,37 @@ impl WaitingCommands {
     {
         Ok(WaitingCommands {
             slots: Vec::with_capacity(alloc, MOST_WAITING)?,
+            spares: Vec::with_capacity(alloc, MOST_SPARES)?,
         })
+    }
+
+    /// An empty buffer with room for so many bytes: the one that was kept last, if it has room. A smaller one goes.
+    pub fn buffer(&mut self, alloc: Global, need: u32) -> Result<Vec<u8>, NoMemory>
+        ensures same { self.new ≡ self.old }
+        ensures empty { IfOk result (λ b. b.items ≡ []) }
+        ensures room { IfOk result (λ b. need ≤ vec_capacity b) }
+    {
+        let Some(spare) = self.spares.pop() else {
+            return Ok(Vec::with_capacity(alloc, need as usize)?);
+        };
+        if spare.capacity() < need as usize {
+            return Ok(Vec::with_capacity(alloc, need as usize)?);
+        }
+        let mut buffer = spare;
+        buffer.clear();
+        Ok(buffer)
+    }
+
+    /// Keeps the buffer of a command that waits no more for another, unless enough are kept.
+    pub fn keep(&mut self, buffer: Vec<u8>)
+        ensures { self.new ≡ self.old }
+    {
+        if self.spares.len() < MOST_SPARES {
+            match self.spares.push(buffer) {
+                Ok(()) => {}
+                Err(_) => unreachable!(),
+            }
+        }
     }
 
     /// Whether one more has a place.
