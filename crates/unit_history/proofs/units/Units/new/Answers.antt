@@ -1,5 +1,6 @@
 use Rattle.std.proofs.Common.{◌∙◌, ap, arith, drop, length, ◌<◌}
 use Rattle.std.proofs.lemmas.List.{drop-drop}
+use Rattle.unit_history.specs.Places.{place_of}
 use Rattle.unit_history.proofs.Naming.{named_at, placed, removed}
 use Rattle.unit_history.proofs.units.Units.new.Goals as goal
 
@@ -13,8 +14,9 @@ any_seated-requires-clause-named g c =
 
 pub loop-place-preserved : goal.loop-place-preserved
 loop-place-preserved g c =
-    let all = placed c.loop-place.units.items c.push.new.self.items c.in_ok-unit.unit c.loop-place.place
-    c.in_ok-push.ensures.items c.loop-place.invariant.1 c.loop-place.invariant.2 c.in_ok-unit.ensures in (
+    let all = placed c.loop-place.units.items c.push.new.self.items c.new.result c.loop-place.place
+    c.in_ok-push.ensures.items c.loop-place.invariant.1 c.loop-place.invariant.2
+    (ap place_of c.new.ensures ∙ c.in_ok-unit.ensures) in (
       c.remove.ensures.by_index.2 ∙ (ap (λ l. drop 1 l) c.loop-place.invariant.0 ∙ drop-drop 1 c.loop-place.place c.args.new.items),
       all.0,
       all.1,
