@@ -141,15 +141,15 @@ impl<B: Blocks, R: Blocks, O: Opener<B>, N: Array<Opened>> Desk<B, R, O, N> {
     }
 
     // The ticket's job, where no lane has taken it.
-    fn take_back<W: Wait>(&self, rt: &W, ticket: &Ticket<B, R, O, N>) -> Option<Taken<B, R, O, N>>
-        ensures { IfSome result (λ taken. taken.names ≡ ticket.now.names) }
+    fn take_back<W: Wait>(&self, rt: &W, ticket: &Ticket<B, R, O, N>) -> Option<Job<B, R, O, N>>
+        ensures { IfSome result (λ job. handed_of job.pass job.asked ticket.now.data_in self.now ≡ ticket.now) }
     {
         let mut queue = self.queue.lock(rt);
         for at in 0..queue.len() {
             match queue.get(at) {
                 Some(waiting) if ticket.is_of(&waiting.job, self.group) => {
                     let waiting = queue.take_at(at)?;
-                    return Some(Taken::from_desk(waiting, self.group));
+                    return Some(waiting.job);
                 }
                 _ => (),
             }
@@ -157,22 +157,23 @@ impl<B: Blocks, R: Blocks, O: Opener<B>, N: Array<Opened>> Desk<B, R, O, N> {
         None
     }
 
-    /// Serves the ticket's job where no lane has taken it, and posts the answer. False: a lane serves it.
+    /// What becomes of the ticket's job: its worker serves it where no lane has taken it, and else waits for the answer.
     pub fn serve_own<W: Wait>(
         &self,
         rt: &W,
         alloc: Global,
         units: &Units<B, R, O, N>,
-        ticket: &Ticket<B, R, O, N>,
-    ) -> bool
-        requires { ticket.now.names.place < units.now }
+        ticket: Ticket<B, R, O, N>,
+    ) -> (Pass<B, R, O, N>, Result<Reply, Refused<Group>>)
+        requires { ticket.names.place < units.now }
+        ensures place { result.0.place ≡ ticket.names.place }
+        ensures end { HasAnswered (O.claims && B.claims) (N.opening ticket.names.place) ticket result.0.pass result.1 }
     {
-        match self.take_back(rt, ticket) {
-            Some(taken) => {
-                self.post(rt, taken.serve(rt, alloc, units));
-                true
+        match self.take_back(rt, &ticket) {
+            Some(Job { pass, asked, .. }) => {
+                units.serve(rt, pass, alloc, &self.group, &asked, ticket.data())
             }
-            None => false,
+            None => ticket.collect(rt),
         }
     }
 
@@ -240,8 +241,7 @@ impl<B: Blocks, R: Blocks, O: Opener<B>, N: Array<Opened>> Desk<B, R, O, N> {
         };
         match self.submit(rt, alloc, job) {
             Ok(ticket) => {
-                self.serve_own(rt, alloc, units, &ticket);
-                let (pass, end) = ticket.collect(rt);
+                let (pass, end) = self.serve_own(rt, alloc, units, ticket);
                 (pass, Ok(end))
             }
             Err((DeskFault::NoMemory, job)) => {

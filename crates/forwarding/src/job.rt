@@ -256,11 +256,18 @@ impl<B: Blocks, R: Blocks, O: Opener<B>, N: Array<Opened>> Ticket<B, R, O, N> {
         self.names.place
     }
 
+    // The data of its job.
+    pub(crate) fn data(&self) -> &[u8]
+        ensures { result.now ≡ self.now.data_in }
+    {
+        self.bytes.as_slice()
+    }
+
     // Whether this job at the desk of this group is its own.
     pub(crate) fn is_of(&self, job: &Job<B, R, O, N>, by_group: Group) -> bool
-        ensures { MatchBool result (names_of job.now.pass job.now.asked by_group ≡ self.now.names) (Unit {0}) }
+        ensures { MatchBool result (handed_of job.now.pass job.now.asked self.now.data_in by_group ≡ self.now) (Unit {0}) }
     {
-        job.names(by_group).is_same(&self.names)
+        job.names(by_group).is_same(&self.names) && job.pass.history().is_same(&self.seen)
     }
 
     /// Whether its answer is there.

@@ -106,15 +106,19 @@ pub fn collect<N: Array<Opened>, W: Wait>(
     short(pass, end)
 }
 
-/// Serves the ticket's job, where no lane has taken it.
+/// Serves the ticket's job, unless a lane is first.
 pub fn serve_own<N: Array<Opened>, W: Wait>(
     rt: &W,
     alloc: Global,
     desk: &MemDesk<N>,
     units: &MemUnits<N>,
-    ticket: &MemTicket<N>,
-) -> bool {
-    ticket.place() < units.count() && desk.serve_own(rt, alloc, units, ticket)
+    ticket: MemTicket<N>,
+) -> Option<End<N>> {
+    if ticket.place() >= units.count() {
+        return None;
+    }
+    let (pass, end) = desk.serve_own(rt, alloc, units, ticket);
+    Some(short(pass, end))
 }
 
 /// A command through the desk, by a worker that serves it itself unless a lane is first.

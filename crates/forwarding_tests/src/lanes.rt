@@ -76,8 +76,7 @@ fn write_and_read<R: Wait, N: Array<Opened>>(scene: &Scene<'_, R, N>) -> Option<
 fn both_units<R: Wait, N: Array<Opened>>(scene: &Scene<'_, R, N>) -> Option<bool> {
     let one = scene.hand_in(scene.attach(0, 3)?, TEST_UNIT_READY, &[])?;
     let two = scene.hand_in(scene.attach(1, 3)?, TEST_UNIT_READY, &[])?;
-    serve_own(scene.rt, scene.alloc, scene.desk, scene.units, &two);
-    let (_, second, _) = collect(scene.rt, scene.desk, two);
+    let (_, second, _) = serve_own(scene.rt, scene.alloc, scene.desk, scene.units, two)?;
     let (_, first, _) = collect(scene.rt, scene.desk, one);
     Some(first == Told::PowerOn && second == Told::Moved(Group::Two))
 }
