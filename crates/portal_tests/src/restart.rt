@@ -24,7 +24,7 @@ pub struct Story<'a> {
     pub after: &'a str,
 }
 
-/// Runs it over a file of 2048 blocks of zeros.
+/// Runs it over a file of 16 blocks of zeros.
 pub fn run_twice<
     R: Threads
         + Wait
@@ -41,7 +41,7 @@ pub fn run_twice<
     let id = process::id(process);
     let name = format!(in alloc; "/tmp/arrayd_{id}_{}", story.name)?;
     let path = name.as_str();
-    File::create(rt, path)?.set_len(1_048_576)?;
+    File::create(rt, path)?.set_len(8192)?;
     let disk = Latch::open(rt.clone()?);
     let (units, lock) = over_file(rt, alloc, path, story.faults)?;
     let before = Script::new(story.before);

@@ -1,9 +1,9 @@
-//! How the bytes of a session come, at both controllers: in pieces, with the last numbers, cut short; and logins that are refused.
+//! How the bytes of sessions come, at both controllers: in pieces, numbered, cut short; and logins that are refused.
 use crate::array::{Script, run};
 use std::test::*;
 
 // All that A sends comes in pieces of 7 bytes: WRITE (10) of 2048 blocks, 8192 bytes of it with the command. Through the other
-// controller B reads the first 256 of them by READ (6), 8192 bytes a Data-In, and the last one.
+// controller B reads the first 256 of them by READ (6), 8192 bytes a Data-In, and the last one. One answer came to the write.
 const IN_PIECES: &str = r#"
 A at 1
 A pieces 7
@@ -59,6 +59,9 @@ B < GOOD 36:00000010
 B > TEST_UNIT_READY 1:C1 20:00000200 32:2800000007FF00000100
 B < DATA_IN 5:000200 pattern 1048064+512
 B < GOOD 36:00000001
+A > LOGOUT
+A < LOGGED_OUT
+A over
 "#;
 
 #[test]
@@ -66,9 +69,9 @@ fn a_long_write_in_pieces_of_seven_bytes(rt: HostRuntime) -> Result<(), Fail> {
     run(&rt, rt.alloc(), &Script::new(IN_PIECES))
 }
 
-// A and B begin with CmdSN FFFFFFFFh. Their WRITE with that number comes when it is below the window, and is not answered. At the
-// end each sends 47 bytes of a command. C and D begin with CmdSN 1, which their first command has and, as it is immediate,
-// leaves to the next.
+// A and B begin with CmdSN FFFFFFFFh. Their WRITE with that number comes when it is below the window: it is not answered, and
+// nothing is written. At the end each sends 47 bytes of a command. C and D begin with CmdSN 1, which their first command has
+// and, as it is immediate, leaves to the next.
 const NUMBERED: &str = r#"
 A at 1
 A > LOGIN 7:56 24:FFFFFFFF HOST_A

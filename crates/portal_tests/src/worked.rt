@@ -1,9 +1,11 @@
-//! The worked examples of the commands, through both controllers of one array.
+//! The worked examples, run over a whole array through both controllers. Here stand capacity, ranges, mode pages, COMPARE AND
+//! WRITE, residuals, target port groups and reservations.
 //!
-//! Of the others, `logins.rt` and `gone.rt` have the first TEST UNIT READY behind a login, the second one, and the session whose
+//! Of the others `logins.rt` and `gone.rt` have the first and the second TEST UNIT READY behind a login, and the session whose
 //! nexus logs in again; `medium.rt` what is written through one controller and read through the other, and two that compare and
-//! write one block; `fencing.rt` the write that collects while its key is preempted; `streams.rt` what rests on how the bytes
-//! come, and the logins that are refused; `failing.rt` devices and openers that fail.
+//! write one block; `fencing.rt` the write that collects while its key is preempted; `streams.rt` the long write in pieces,
+//! READ (6) of 256 blocks, the numbers of a session, also those of its one TEST UNIT READY, a PDU that is cut, and logins that
+//! are refused; `failing.rt` a write, an open and a save that fail.
 use crate::array::{Script, run};
 use std::test::*;
 
