@@ -1,7 +1,7 @@
 //! One connection of an initiator.
 use std::alloc::Global;
 use std::io::{ErrorKind, Read, Write};
-use std::net::{Net, SocketAddrV4, TcpListener, TcpStream};
+use std::net::{Net, Shutdown, SocketAddrV4, TcpListener, TcpStream};
 use std::test::Fail;
 use std::time::Duration;
 
@@ -16,6 +16,8 @@ pub struct Host {
     number: u32,
     // What it expects next.
     exp_stat_sn: u32,
+    // At most so many bytes go out at once.
+    piece: usize,
 }
 
 /// Puts a number into a header segment.
@@ -56,6 +58,7 @@ impl Host {
             stream,
             number: 0,
             exp_stat_sn: 0,
+            piece: usize::MAX,
         })
     }
 
@@ -70,9 +73,28 @@ impl Host {
             put(pdu, 16, self.number);
             put(pdu, 28, self.exp_stat_sn);
         }
+        self.send_as_is(pdu)
+    }
+
+    /// Sends these bytes.
+    pub fn send_as_is(&self, bytes: &[u8]) -> Result<(), Fail> {
         let mut stream: &TcpStream = &self.stream;
-        stream.write_all(pdu)?;
+        for piece in bytes.chunks(self.piece.max(1)) {
+            stream.write_all(piece)?;
+        }
         Ok(())
+    }
+
+    /// From now on all goes out in pieces of so many bytes.
+    pub fn send_in_pieces(&mut self, piece: usize) -> Result<(), Fail> {
+        self.stream.set_nodelay(true)?;
+        self.piece = piece;
+        Ok(())
+    }
+
+    /// Sends no more: for the target its input ends.
+    pub fn end_output(&self) -> Result<(), Fail> {
+        Ok(self.stream.shutdown(Shutdown::Write)?)
     }
 
     /// The next PDU that comes, with its data segment and its padding.

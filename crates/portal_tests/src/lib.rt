@@ -9,6 +9,8 @@ mod behind;
 #[cfg(test)]
 mod discovery;
 #[cfg(test)]
+mod failing;
+#[cfg(test)]
 mod fencing;
 #[cfg(test)]
 mod gone;
@@ -33,6 +35,10 @@ mod restart;
 #[cfg(test)]
 mod stage;
 #[cfg(test)]
+mod streams;
+#[cfg(test)]
 mod units;
 #[cfg(test)]
 mod wanting;
+#[cfg(test)]
+mod worked;

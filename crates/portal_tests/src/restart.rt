@@ -1,12 +1,63 @@
 //! An array over a file that is ended while a session is open, and started again at the same ports.
 use crate::array::{Script, perform};
 use crate::latch::Latch;
-use crate::units::over_file;
+use crate::units::{Faults, NO_FAULTS, over_file};
+use std::alloc::Global;
 use std::fs::File;
 use std::marker::Brand;
-use std::net::Ipv4Addr;
+use std::net::{Net, TcpListener, TcpStream};
+use std::process::{Abort, Process};
+use std::rt::Files;
+use std::sync::Wait;
 use std::test::*;
+use std::thread::Threads;
+use std::time::Clock;
 use std::{fs, process};
+
+/// An array that fails so while hosts perform a script, and, started again, does not while they perform another. By its name
+/// its file is found.
+#[derive(Clone, Copy, Debug)]
+pub struct Story<'a> {
+    pub name: &'a str,
+    pub faults: Faults,
+    pub before: &'a str,
+    pub after: &'a str,
+}
+
+/// Runs it over a file of 16 blocks of zeros.
+pub fn run_twice<
+    R: Threads
+        + Wait
+        + Clock
+        + Abort
+        + Net<Listener = TcpListener, Stream = TcpStream>
+        + Files<File = File>
+        + Clone
+        + Drop
+        + Send
+        + Sync
+        + 'static,
+>(rt: &R, alloc: Global, process: Process, story: &Story<'_>) -> Result<(), Fail> {
+    let id = process::id(process);
+    let name = format!(in alloc; "/tmp/arrayd_{id}_{}", story.name)?;
+    let path = name.as_str();
+    File::create(rt, path)?.set_len(8192)?;
+    let disk = Latch::open(rt.clone()?);
+    let (units, lock) = over_file(rt, alloc, path, story.faults)?;
+    let before = Script::new(story.before);
+    let (ports, hosts) = perform::<Brand, _, _, _, R>(rt, alloc, units, &disk, &before)?;
+    drop(lock);
+    let (units, _lock) = over_file(rt, alloc, path, NO_FAULTS)?;
+    let again = Script {
+        ports,
+        ..Script::new(story.after)
+    };
+    let _ended = perform::<Brand, _, _, _, R>(rt, alloc, units, &disk, &again)?;
+    drop(hosts);
+    fs::remove_file(rt, path)?;
+    fs::remove_file(rt, format!(in alloc; "{path}.reg")?.as_str())?;
+    Ok(())
+}
 
 // REGISTER of 11h with APTPL, and WRITE (10) of block 5
 const BEFORE: &str = r#"
@@ -38,28 +89,11 @@ B < GOOD 36:00000001
 
 #[test]
 fn registrations_are_there_after_a_restart(rt: HostRuntime) -> Result<(), Fail> {
-    let alloc = rt.alloc();
-    let name = format!(in alloc; "/tmp/arrayd_{}_restart", process::id(rt.process()))?;
-    let path = name.as_str();
-    File::create(&rt, path)?.set_len(8192)?;
-    let disk = Latch::open(rt);
-    let (units, lock) = over_file(&rt, alloc, path)?;
-    let (ports, hosts) = perform::<Brand, _, _, _, HostRuntime>(
-        &rt,
-        alloc,
-        units,
-        &disk,
-        &Script::new(BEFORE),
-    )?;
-    drop(lock);
-    let (units, _lock) = over_file(&rt, alloc, path)?;
-    let again = Script {
-        ports,
-        ..Script::new(AFTER)
+    let story = Story {
+        name: "restart",
+        faults: NO_FAULTS,
+        before: BEFORE,
+        after: AFTER,
     };
-    let _ended = perform::<Brand, _, _, _, HostRuntime>(&rt, alloc, units, &disk, &again)?;
-    drop(hosts);
-    fs::remove_file(&rt, path)?;
-    fs::remove_file(&rt, format!(in alloc; "{path}.reg")?.as_str())?;
-    Ok(())
+    run_twice(&rt, rt.alloc(), rt.process(), &story)
 }

@@ -3,6 +3,10 @@
 //! - `A at 1`: it connects to the portal of controller 1, and is called `A` from then on;
 //! - `A > PDU`: it sends this PDU, and `A < PDU`: this PDU comes. `test_streams` says how a PDU is spelled (`pdu_of`). Behind a
 //!   login requests are numbered as they go, and of answers the numbers of the session are not compared;
+//! - `A < PDU / PDU`: one of these comes;
+//! - `A >> PDU`: it sends this PDU, and `A << PDU`: this PDU comes, each with the numbers that are spelled;
+//! - `A pieces 7`: from now on what it sends goes out in pieces of so many bytes;
+//! - `A cut 47 PDU`: of this PDU, with the numbers that are spelled, it sends so many bytes, and then no more;
 //! - `A told`: a Text Response comes that tells of the target and of both portals;
 //! - `A over`: the target has closed the connection;
 //! - `AB race PDU / PDU`: of two answers one comes to each; `WON` is the name of the one to whom the first came, in small;
@@ -135,6 +139,13 @@ impl<
             "<" if who == "all" => self.compare_all(rest),
             ">" => self.send(who, rest),
             "<" => self.compare(who, rest),
+            ">>" => self.send_as_is(who, rest),
+            "<<" => self.compare_exactly(who, rest),
+            "pieces" => {
+                let piece = number_of(rest)? as usize;
+                self.host(who)?.send_in_pieces(piece)
+            }
+            "cut" => self.cut(who, rest),
             "told" => self.compare_text(who),
             "over" => self.end(who),
             "race" => self.race(who, rest),
@@ -200,6 +211,20 @@ impl<
         self.host(name)?.send(pdu.as_mut_slice())
     }
 
+    fn send_as_is(&mut self, name: &str, line: &str) -> Result<(), Fail> {
+        let pdu = self.spelled(line)?;
+        self.host(name)?.send_as_is(pdu.as_slice())
+    }
+
+    fn cut(&mut self, name: &str, line: &str) -> Result<(), Fail> {
+        let (length, line) = line.split_once(' ').ok_or("a PDU")?;
+        let length = number_of(length)? as usize;
+        let pdu = self.spelled(line)?;
+        let host = self.host(name)?;
+        host.send_as_is(pdu.as_slice().get(..length).ok_or("a longer PDU")?)?;
+        host.end_output()
+    }
+
     // Whether what came to a host is what this line spells.
     fn is_answer(&mut self, name: &str, came: &[u8], line: &str) -> Result<bool, Fail> {
         let mut wanted = self.spelled(line)?;
@@ -207,11 +232,29 @@ impl<
         Ok(host.is_answer(came, wanted.as_mut_slice()))
     }
 
-    fn compare(&mut self, name: &str, line: &str) -> Result<(), Fail> {
+    // Whether what came to a host is what one of these lines spells.
+    fn is_one_of(&mut self, name: &str, came: &[u8], lines: &str) -> Result<bool, Fail> {
+        for line in lines.split(" / ") {
+            if self.is_answer(name, came, line)? {
+                return Ok(true);
+            }
+        }
+        Ok(false)
+    }
+
+    fn compare(&mut self, name: &str, lines: &str) -> Result<(), Fail> {
         let alloc = self.alloc;
         let came = self.host(name)?.receive(alloc)?;
-        let is_answer = self.is_answer(name, came.as_slice(), line)?;
-        assert!(self.rt; is_answer, "{name} < {line}, and not {came:?}");
+        let is_one = self.is_one_of(name, came.as_slice(), lines)?;
+        assert!(self.rt; is_one, "{name} < {lines}, and not {came:?}");
+        Ok(())
+    }
+
+    fn compare_exactly(&mut self, name: &str, line: &str) -> Result<(), Fail> {
+        let alloc = self.alloc;
+        let wanted = self.spelled(line)?;
+        let came = self.host(name)?.receive(alloc)?;
+        assert_eq!(self.rt; came.as_slice(), wanted.as_slice(), "{name} << {line}");
         Ok(())
     }
 

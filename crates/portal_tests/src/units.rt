@@ -5,8 +5,8 @@ ghost use Rattle.unit_state.specs.Serials.{IsOpening};
 use crate::held::HeldBlocks;
 use crate::latch::Latch;
 use aptpl_file::{FILE_BLOCKS, RegFile};
-use block_file::{KeepOpener, MemBlocks};
-use disk_files::{DiskLock, FileBlocks, FileOpener, open_disk, open_registrations};
+use block_file::{FusedBlocks, FusedOpener, KeepOpener, MemBlocks};
+use disk_files::{DiskLock, FileBlocks, open_disk, open_registrations};
 use reservations::Record;
 use scsi_types::Place;
 use std::alloc::Global;
@@ -23,8 +23,11 @@ const BLOCKS: u32 = 2048;
 /// A unit in memory, whose device may hang.
 pub type HeldUnit<R> = NewUnit<HeldBlocks<MemBlocks, R>, MemBlocks, KeepOpener>;
 
-/// A unit over a file, with its registration file.
-pub type FileUnit<R> = NewUnit<FileBlocks<File>, FileBlocks<File>, FileOpener<R>>;
+/// A file that may fail.
+type FusedFile = FusedBlocks<FileBlocks<File>>;
+
+/// A unit over a file, with its registration file, which may fail.
+pub type FileUnit = NewUnit<FusedFile, FusedFile, FusedOpener<KeepOpener>>;
 
 // A unit of zeros, which holds no registrations, and whose device hangs at this latch.
 fn in_memory<R: Wait + Drop>(
@@ -63,12 +66,36 @@ pub fn two<R: Wait + Drop>(
     Ok(units)
 }
 
-/// The unit over the file of this name, and its lock.
+// The calls of a registration file's device when it is opened: the root, the slot, and a flush.
+const OPEN_CALLS: u64 = 3;
+
+/// When the devices of a unit and its opener fail.
+#[derive(Clone, Copy, Debug)]
+pub struct Faults {
+    /// So many calls of its blocks pass, and none behind them. The first of these, as a write, lands so many blocks of its run.
+    pub passed: u64,
+    pub landed: u32,
+    /// So many calls of its registration file's device pass once the file is open.
+    pub saving: u64,
+    /// So many opens pass.
+    pub opened: u64,
+}
+
+/// Nothing fails.
+pub const NO_FAULTS: Faults = Faults {
+    passed: u64::MAX,
+    landed: 0,
+    saving: u64::MAX,
+    opened: u64::MAX,
+};
+
+/// The unit over the file of this name, which fails so, and its lock.
 pub fn over_file<R: Files<File = File> + Clone + Drop>(
     rt: &R,
     alloc: Global,
     path: &str,
-) -> Result<(Vec<FileUnit<R>>, DiskLock), Fail>
+    faults: Faults,
+) -> Result<(Vec<FileUnit>, DiskLock), Fail>
     ensures { IfOk result (λ r. length r.0.items ≤ 8) }
 {
     let place = Place {
@@ -79,11 +106,17 @@ pub fn over_file<R: Files<File = File> + Clone + Drop>(
     let Ok(disk) = open_disk(rt.clone()?, alloc, path) else {
         return Err("a disk".into());
     };
-    let Ok((file, record)) = open_registrations(rt, alloc, path) else {
+    let Ok((file, _)) = open_registrations(rt, alloc, path) else {
         return Err("a registration file".into());
     };
+    let fused = FusedBlocks::new(file.close(), faults.saving.saturating_add(OPEN_CALLS));
+    let Ok((file, record)) = RegFile::open(alloc, fused) else {
+        return Err("a registration file".into());
+    };
+    let blocks = FusedBlocks::inside(disk.blocks, faults.passed, faults.landed);
+    let opener = FusedOpener::new(KeepOpener, faults.opened);
     laws::nobody_is_attached_at_first();
-    let unit = Unit::open(alloc, place, disk.blocks, disk.opener, file, record)?;
+    let unit = Unit::open(alloc, place, blocks, opener, file, record)?;
     let mut units = Vec::new(alloc);
     units.push(NewUnit::new(alloc, unit)?)?;
     Ok((units, disk.lock))
