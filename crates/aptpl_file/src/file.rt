@@ -112,8 +112,8 @@ impl<B: Blocks> RegFile<B> {
 
     /// Makes a record last. Takes no memory.
     ///
-    /// It is written in version 2, whatever version the file had. Done, a crash leaves this record alone. Failed, a crash leaves one that it might have left before, or this one;
-    /// and so does a stop at any moment of the call.
+    /// It is written in version 2, whatever version the file had. Done, a crash leaves this record alone. Failed, a crash leaves one
+    /// that it might have left before, or this one; and so does a stop at any moment of the call.
     pub fn save(&mut self, saved: &Lasting<'_>) -> Result<(), SaveFault>
         ensures size { B.size self.new.device ≡ B.size self.old.device }
         ensures saved { IsTrue B.claims → OnOk result (LastsAmong B.size B.may_hold self.new (saved.now ∷ [])) }

@@ -1,5 +1,5 @@
 -- What a job, its ticket and its answer say.
-use Rattle.std.specs.Prelude.{◌≡◌, ℕ, Bool, List, [], Option, Some, None, IsSome, IfSome, IfOk, IfErr, Result}
+use Rattle.std.specs.Prelude.{◌≡◌, ℕ, Bool, List, Option, IsSome, IfSome, IfOk, IfErr, Result}
 use Rattle.locked_unit.specs.Calls.{Known, PlacedPass}
 use Rattle.locked_unit.specs.declared.machine.Refused.{Refused}
 use Rattle.scsi_types.specs.ReplyValue.{ReplyValue}
@@ -12,11 +12,6 @@ use Rattle.unit_history.specs.Calls.{HasServed, HasRefused}
 use Rattle.forwarding.specs.declared.desk.DeskFault.{DeskFault}
 use Rattle.forwarding.specs.declared.desk.DeskFault.TheVariants.{Full, Closed, NoMemory}
 use Rattle.forwarding.specs.declared.names.Names.{Names}
-
--- the bytes of a copy, and none where there is none
-abbrev pub bytes_of : {C : Type 0} → (C → List ℕ) → Option C → List ℕ
-bytes_of items (Some copy) = items copy
-bytes_of items None = []
 
 -- a job that a desk was handed: what it is known by, the data that came for its command, and what its pass had seen
 pub record Handed : Type 0 where

@@ -2,8 +2,7 @@
 ghost use Rattle.std.specs.Prelude.{◌≡◌, ◌<◌, ◌&&◌, IfOk, IfErr, IfSome};
 ghost use Rattle.forwarding.specs.Jobs.{HasAnswered, IsFullOrClosed, handed_of};
 
-use crate::data::copy_data;
-use crate::job::{Answer, Job, Taken, Ticket, Waiting, prepare};
+use crate::job::{Answer, Job, Ticket, Waiting, prepare};
 use crate::queue::{NotQueued, Queue};
 use block_file::{Blocks, Opener};
 use numbering::Array;
@@ -15,7 +14,7 @@ use thiserror::Error;
 use unit_history::{Opened, Pass, Refused, Units};
 
 /// Longer data is not copied for a desk: the worker that it came to serves its command at once, past those that wait.
-pub const LONGEST_COPY: usize = 16384;
+pub const LONGEST_COPY: usize = 256;
 
 /// Why a desk does not take a job.
 #[derive(Clone, Copy, Debug, PartialEq, Eq, Error)]
@@ -63,19 +62,22 @@ impl<B: Blocks, R: Blocks, O: Opener<B>, N: Array<Opened>> Desk<B, R, O, N> {
         })
     }
 
-    /// Hands a job in: it waits behind those that came before. Refused, it is handed back.
-    pub fn submit<W: Wait>(
+    /// Hands a command of a session in, with a copy of its data: its job waits behind those that came before. Refused, the pass is
+    /// handed back.
+    pub fn submit<'a, W: Wait>(
         &self,
         rt: &W,
         alloc: Global,
-        job: Job<B, R, O, N>,
-    ) -> Result<Ticket<B, R, O, N>, (DeskFault, Job<B, R, O, N>)>
-        ensures ticket { IfOk result (λ t. t ≡ handed_of job.pass job.asked job.bytes self.now) }
-        ensures back { IfErr result (λ e. e.1 ≡ job) }
+        pass: Pass<B, R, O, N>,
+        asked: &Asked,
+        bytes: &'a [u8],
+    ) -> Result<Ticket<'a, B, R, O, N>, (DeskFault, Pass<B, R, O, N>)>
+        ensures ticket { IfOk result (λ t. t ≡ handed_of pass asked.now bytes.now self.now) }
+        ensures back { IfErr result (λ e. e.1 ≡ pass) }
     {
-        let (ticket, waiting) = match prepare(alloc, job, self.group) {
+        let (ticket, waiting) = match prepare(alloc, pass, asked, bytes, self.group) {
             Ok(both) => both,
-            Err(job) => return Err((DeskFault::NoMemory, job)),
+            Err(pass) => return Err((DeskFault::NoMemory, pass)),
         };
         let mut queue = self.queue.lock(rt);
         if let Err((why, waiting)) = queue.push(waiting) {
@@ -83,7 +85,7 @@ impl<B: Blocks, R: Blocks, O: Opener<B>, N: Array<Opened>> Desk<B, R, O, N> {
                 NotQueued::Full => DeskFault::Full,
                 NotQueued::Closed => DeskFault::Closed,
             };
-            return Err((fault, waiting.job));
+            return Err((fault, waiting.pass));
         }
         let others_wait = queue.len() > 1;
         drop(queue);
@@ -94,14 +96,14 @@ impl<B: Blocks, R: Blocks, O: Opener<B>, N: Array<Opened>> Desk<B, R, O, N> {
     }
 
     /// The first job, once there is one. None: the desk is closed, and no job is left.
-    pub fn take<W: Wait>(&self, rt: &W) -> Option<Taken<B, R, O, N>>
-        ensures { IfSome result (λ taken. taken.names.by_group ≡ self.now) }
+    pub fn take<W: Wait>(&self, rt: &W) -> Option<Job<B, R, O, N>>
+        ensures { IfSome result (λ job. job.names.by_group ≡ self.now) }
     {
         let mut queue = self.filled.wait_while(rt, self.queue.lock(rt), |queue| {
             queue.len() == 0 && !queue.is_closed()
         });
         let waiting = queue.take()?;
-        Some(Taken::from_desk(waiting, self.group))
+        Some(Job::from_desk(waiting, self.group))
     }
 
     /// Gives an answer to the ticket that waits for it. It takes no memory.
@@ -111,12 +113,12 @@ impl<B: Blocks, R: Blocks, O: Opener<B>, N: Array<Opened>> Desk<B, R, O, N> {
 
     /// Serves the first job, once there is one, and posts its answer. False: the desk is closed, and no job is left.
     pub fn serve_next<W: Wait>(&self, rt: &W, alloc: Global, units: &Units<B, R, O, N>) -> bool {
-        let Some(taken) = self.take(rt) else {
+        let Some(job) = self.take(rt) else {
             return false;
         };
         // Each job is of one of the array's units, which its type does not say.
-        if taken.place() < units.count() {
-            self.post(rt, taken.serve(rt, alloc, units));
+        if job.place() < units.count() {
+            self.post(rt, job.serve(rt, alloc, units));
         }
         true
     }
@@ -131,25 +133,31 @@ impl<B: Blocks, R: Blocks, O: Opener<B>, N: Array<Opened>> Desk<B, R, O, N> {
     pub fn collect<W: Wait>(
         &self,
         rt: &W,
-        ticket: Ticket<B, R, O, N>,
+        ticket: Ticket<'_, B, R, O, N>,
     ) -> (Pass<B, R, O, N>, Result<Reply, Refused<Group>>)
-        ensures place { result.0.place ≡ ticket.names.place }
-        ensures end { HasAnswered (O.claims && B.claims) (N.opening ticket.names.place) ticket result.0.pass result.1 }
+        ensures place { result.0.place ≡ ticket.entry.names.place }
+        ensures end { HasAnswered (O.claims && B.claims) (N.opening ticket.entry.names.place) ticket.entry
+            result.0.pass result.1 }
     {
         self.filled.notify_one();
         ticket.collect(rt)
     }
 
-    // The ticket's job, where no lane has taken it.
-    fn take_back<W: Wait>(&self, rt: &W, ticket: &Ticket<B, R, O, N>) -> Option<Job<B, R, O, N>>
-        ensures { IfSome result (λ job. handed_of job.pass job.asked ticket.now.data_in self.now ≡ ticket.now) }
+    // The pass of the ticket's job, where no lane has taken it.
+    fn take_back<W: Wait>(
+        &self,
+        rt: &W,
+        ticket: &Ticket<'_, B, R, O, N>,
+    ) -> Option<Pass<B, R, O, N>>
+        ensures { IfSome result (λ pass.
+            handed_of pass ticket.now.names.asked ticket.now.data_in ticket.now.names.by_group ≡ ticket.now) }
     {
         let mut queue = self.queue.lock(rt);
         for at in 0..queue.len() {
             match queue.get(at) {
-                Some(waiting) if ticket.is_of(&waiting.job, self.group) => {
+                Some(waiting) if ticket.is_of(&waiting.pass) => {
                     let waiting = queue.take_at(at)?;
-                    return Some(waiting.job);
+                    return Some(waiting.pass);
                 }
                 _ => (),
             }
@@ -163,16 +171,15 @@ impl<B: Blocks, R: Blocks, O: Opener<B>, N: Array<Opened>> Desk<B, R, O, N> {
         rt: &W,
         alloc: Global,
         units: &Units<B, R, O, N>,
-        ticket: Ticket<B, R, O, N>,
+        ticket: Ticket<'_, B, R, O, N>,
     ) -> (Pass<B, R, O, N>, Result<Reply, Refused<Group>>)
         requires { ticket.names.place < units.now }
-        ensures place { result.0.place ≡ ticket.names.place }
-        ensures end { HasAnswered (O.claims && B.claims) (N.opening ticket.names.place) ticket result.0.pass result.1 }
+        ensures place { result.0.place ≡ ticket.entry.names.place }
+        ensures end { HasAnswered (O.claims && B.claims) (N.opening ticket.entry.names.place) ticket.entry
+            result.0.pass result.1 }
     {
         match self.take_back(rt, &ticket) {
-            Some(Job { pass, asked, .. }) => {
-                units.serve(rt, pass, alloc, &self.group, &asked, ticket.data())
-            }
+            Some(pass) => ticket.serve(rt, alloc, units, pass),
             None => ticket.collect(rt),
         }
     }
@@ -231,24 +238,16 @@ impl<B: Blocks, R: Blocks, O: Opener<B>, N: Array<Opened>> Desk<B, R, O, N> {
         if bytes.len() > LONGEST_COPY {
             return self.serve_at_once(rt, alloc, units, pass, asked, bytes);
         }
-        let Ok(copy) = copy_data(alloc, bytes) else {
-            return self.serve_at_once(rt, alloc, units, pass, asked, bytes);
-        };
-        let job = Job {
-            pass,
-            asked: *asked,
-            bytes: copy,
-        };
-        match self.submit(rt, alloc, job) {
+        match self.submit(rt, alloc, pass, asked, bytes) {
             Ok(ticket) => {
                 let (pass, end) = self.serve_own(rt, alloc, units, ticket);
                 (pass, Ok(end))
             }
-            Err((DeskFault::NoMemory, job)) => {
-                self.serve_at_once(rt, alloc, units, job.into_pass(), asked, bytes)
+            Err((DeskFault::NoMemory, pass)) => {
+                self.serve_at_once(rt, alloc, units, pass, asked, bytes)
             }
-            Err((DeskFault::Full, job)) => (job.into_pass(), Err(DeskFault::Full)),
-            Err((DeskFault::Closed, job)) => (job.into_pass(), Err(DeskFault::Closed)),
+            Err((DeskFault::Full, pass)) => (pass, Err(DeskFault::Full)),
+            Err((DeskFault::Closed, pass)) => (pass, Err(DeskFault::Closed)),
         }
     }
 }

@@ -2,53 +2,22 @@
 ghost use Rattle.std.specs.Prelude.{◌≡◌, ◌<◌, ◌&&◌, IfOk, IfErr, MatchBool};
 ghost use Rattle.forwarding.specs.Jobs.{HasAnswered, IsFor, handed, handed_of, names_of};
 
-use crate::data::Data;
 use crate::names::Names;
 use block_file::{Blocks, Opener};
 use numbering::Array;
-use scsi_types::{Asked, Group, Reply};
+use scsi_types::{Asked, Group, NoMemory, Reply};
 use std::alloc::Global;
 use std::marker::Model;
 use std::mem;
 use std::sync::{Arc, Condvar, Mutex, Wait};
 use unit_history::{LegalHistory, Opened, Pass, Refused, Units};
 
-/// A command of a session, and the session's pass, which goes with it.
-#[derive(Drop)]
-pub struct Job<B: Blocks, R: Blocks, O: Opener<B>, N: Array<Opened>> {
-    pub pass: Pass<B, R, O, N>,
-    pub asked: Asked,
-    pub bytes: Data,
-}
-
-impl<B: Blocks, R: Blocks, O: Opener<B>, N: Array<Opened>> Job<B, R, O, N> {
-    /// The session's pass.
-    pub fn into_pass(self) -> Pass<B, R, O, N>
-        ensures { result ≡ self.pass }
-    {
-        self.pass
-    }
-
-    /// What it is known by at the desk of a group.
-    pub(crate) fn names(&self, by_group: Group) -> Names
-        ensures { result ≡ names_of self.now.pass self.now.asked by_group }
-    {
-        Names {
-            place: self.pass.place(),
-            session: self.pass.session(),
-            serial: self.pass.serial(),
-            by_group,
-            asked: self.asked,
-        }
-    }
-}
-
 /// What a command came to. It keeps what the job's pass had seen, and that the pass has since seen what the reply or the refusal
 /// says.
 #[derive(Drop)]
 pub(crate) struct Ended<B: Blocks, R: Blocks, O: Opener<B>, N: Array<Opened>> {
     names: Names,
-    bytes: Data,
+    bytes: Vec<u8>,
     before: LegalHistory<B, R, O, N>,
     pass: Pass<B, R, O, N>,
     end: Result<Reply, Refused<Group>>,
@@ -60,10 +29,10 @@ impl<B: Blocks, R: Blocks, O: Opener<B>, N: Array<Opened>> Model for Ended<B, R,
 
     ghost Value = { Done };
 
-    ghost view = { λ e. record { job = handed e.names e.bytes e.before.1; after = e.pass.pass; end = e.end } };
+    ghost view = { λ e. record { job = handed e.names e.bytes.items e.before.1; after = e.pass.pass; end = e.end } };
 
     ghost invariant = { λ e. (e.before.0 ≡ e.names.place) × (e.pass.place ≡ e.names.place)
-        × HasAnswered (O.claims && B.claims) (N.opening e.names.place) (handed e.names e.bytes e.before.1)
+        × HasAnswered (O.claims && B.claims) (N.opening e.names.place) (handed e.names e.bytes.items e.before.1)
         e.pass.pass e.end };
 }
 
@@ -92,68 +61,74 @@ pub(crate) struct Slot<B: Blocks, R: Blocks, O: Opener<B>, N: Array<Opened>> {
 }
 
 impl<B: Blocks, R: Blocks, O: Opener<B>, N: Array<Opened>> Slot<B, R, O, N> {
-    // A slot without an answer.
-    fn new() -> Slot<B, R, O, N> {
-        Slot {
+    // A slot without an answer, shared by two.
+    fn shared(
+        alloc: Global,
+    ) -> Result<(Arc<Slot<B, R, O, N>, Global>, Arc<Slot<B, R, O, N>, Global>), NoMemory> {
+        let slot = Slot {
             answer: Mutex::new(None),
             filled: Condvar::new(),
+        };
+        let Ok(mine) = Arc::new(alloc, slot) else {
+            return Err(NoMemory);
+        };
+        match Arc::try_clone(&mine) {
+            Ok(slot) => Ok((mine, slot)),
+            Err(_) => Err(NoMemory),
         }
     }
 }
 
-/// A job in a desk's queue, with the slot of its answer.
+/// A command of a session in a desk's queue: the session's pass, which goes with it, a copy of the data that came, and the slot of
+/// its answer.
 #[derive(Drop)]
 pub(crate) struct Waiting<B: Blocks, R: Blocks, O: Opener<B>, N: Array<Opened>> {
-    pub(crate) job: Job<B, R, O, N>,
-    pub(crate) slot: Arc<Slot<B, R, O, N>, Global>,
+    pub(crate) pass: Pass<B, R, O, N>,
+    asked: Asked,
+    bytes: Vec<u8>,
+    slot: Arc<Slot<B, R, O, N>, Global>,
 }
 
 /// A job that was taken from the desk of a group. Contracts see what it is known by, its data, and what its pass has seen.
 #[derive(Drop)]
-pub struct Taken<B: Blocks, R: Blocks, O: Opener<B>, N: Array<Opened>> {
-    job: Job<B, R, O, N>,
+pub struct Job<B: Blocks, R: Blocks, O: Opener<B>, N: Array<Opened>> {
+    waiting: Waiting<B, R, O, N>,
     by_group: Group,
-    slot: Arc<Slot<B, R, O, N>, Global>,
 }
 
-impl<B: Blocks, R: Blocks, O: Opener<B>, N: Array<Opened>> Model for Taken<B, R, O, N> {
+impl<B: Blocks, R: Blocks, O: Opener<B>, N: Array<Opened>> Model for Job<B, R, O, N> {
     ghost use Rattle.forwarding.specs.Jobs.{Handed, handed_of};
 
     ghost Value = { Handed };
 
-    ghost view = { λ t. handed_of t.job.pass t.job.asked t.job.bytes t.by_group };
+    ghost view = { λ j. handed_of j.waiting.pass j.waiting.asked j.waiting.bytes.items j.by_group };
 }
 
-impl<B: Blocks, R: Blocks, O: Opener<B>, N: Array<Opened>> Taken<B, R, O, N> {
-    // A job that waited at the desk of this group.
-    pub(crate) fn from_desk(waiting: Waiting<B, R, O, N>, by_group: Group) -> Taken<B, R, O, N>
-        ensures { result ≡ handed_of waiting.job.pass waiting.job.asked waiting.job.bytes by_group }
+impl<B: Blocks, R: Blocks, O: Opener<B>, N: Array<Opened>> Job<B, R, O, N> {
+    // What waited at the desk of this group.
+    pub(crate) fn from_desk(waiting: Waiting<B, R, O, N>, by_group: Group) -> Job<B, R, O, N>
+        ensures { result.names.by_group ≡ by_group }
     {
-        let Waiting { job, slot } = waiting;
-        Taken {
-            job,
-            by_group,
-            slot,
-        }
+        Job { waiting, by_group }
     }
 
     /// The place of its unit.
     pub fn place(&self) -> usize
         ensures { result ≡ self.now.names.place }
     {
-        self.job.pass.place()
+        self.waiting.pass.place()
     }
 
     /// Two jobs, each with the other's slot, so that a test can send each answer to the wrong ticket. What a ticket is promised does not
     /// rest on the slots.
     pub fn with_slots_exchanged(
-        one: Taken<B, R, O, N>,
-        two: Taken<B, R, O, N>,
-    ) -> (Taken<B, R, O, N>, Taken<B, R, O, N>)
+        one: Job<B, R, O, N>,
+        two: Job<B, R, O, N>,
+    ) -> (Job<B, R, O, N>, Job<B, R, O, N>)
         ensures { (result.0 ≡ one) × (result.1 ≡ two) }
     {
         let (mut one, mut two) = (one, two);
-        mem::swap(&mut one.slot, &mut two.slot);
+        mem::swap(&mut one.waiting.slot, &mut two.waiting.slot);
         (one, two)
     }
 
@@ -167,14 +142,15 @@ impl<B: Blocks, R: Blocks, O: Opener<B>, N: Array<Opened>> Taken<B, R, O, N> {
         requires { self.names.place < units.now }
         ensures { result.job ≡ self }
     {
-        let Taken {
-            job,
-            by_group,
+        let Job { waiting, by_group } = self;
+        let Waiting {
+            pass,
+            asked,
+            bytes,
             slot,
-        } = self;
-        let names = job.names(by_group);
-        let before = job.pass.history();
-        let Job { pass, asked, bytes } = job;
+        } = waiting;
+        let names = Names::of(&pass, &asked, by_group);
+        let before = pass.history();
         let (pass, end) = units.serve(rt, pass, alloc, &by_group, &asked, bytes.as_slice());
         Answer {
             ended: Ended {
@@ -213,22 +189,23 @@ impl<B: Blocks, R: Blocks, O: Opener<B>, N: Array<Opened>> Answer<B, R, O, N> {
     }
 }
 
-/// What is left to the worker that handed a job in. Contracts see what the job is known by, its data, and what its pass had seen.
+/// What is left to the worker that handed a job in, with the data that it came with. Contracts see what the job is known by, its
+/// data, and what its pass had seen.
 #[derive(Drop)]
-pub struct Ticket<B: Blocks, R: Blocks, O: Opener<B>, N: Array<Opened>> {
+pub struct Ticket<'a, B: Blocks, R: Blocks, O: Opener<B>, N: Array<Opened>> {
     names: Names,
-    bytes: Data,
+    bytes: &'a [u8],
     seen: LegalHistory<B, R, O, N>,
     slot: Arc<Slot<B, R, O, N>, Global>,
 }
 
-impl<B: Blocks, R: Blocks, O: Opener<B>, N: Array<Opened>> Model for Ticket<B, R, O, N> {
+impl<'a, B: Blocks, R: Blocks, O: Opener<B>, N: Array<Opened>> Model for Ticket<'a, B, R, O, N> {
     ghost use Rattle.std.specs.Prelude.{◌≡◌};
     ghost use Rattle.forwarding.specs.Jobs.{Handed, handed};
 
     ghost Value = { Handed };
 
-    ghost view = { λ t. handed t.names t.bytes t.seen.1 };
+    ghost view = { λ t. handed t.names t.bytes.now t.seen.1 };
 
     ghost invariant = { λ t. t.seen.0 ≡ t.names.place };
 }
@@ -248,7 +225,7 @@ fn is_for<B: Blocks, R: Blocks, O: Opener<B>, N: Array<Opened>>(
     }
 }
 
-impl<B: Blocks, R: Blocks, O: Opener<B>, N: Array<Opened>> Ticket<B, R, O, N> {
+impl<'a, B: Blocks, R: Blocks, O: Opener<B>, N: Array<Opened>> Ticket<'a, B, R, O, N> {
     /// The place of its job's unit.
     pub fn place(&self) -> usize
         ensures { result ≡ self.now.names.place }
@@ -256,30 +233,47 @@ impl<B: Blocks, R: Blocks, O: Opener<B>, N: Array<Opened>> Ticket<B, R, O, N> {
         self.names.place
     }
 
-    // The data of its job.
-    pub(crate) fn data(&self) -> &[u8]
-        ensures { result.now ≡ self.now.data_in }
+    // Whether this pass is that of its job.
+    pub(crate) fn is_of(&self, pass: &Pass<B, R, O, N>) -> bool
+        ensures { MatchBool result
+            (handed_of pass.now self.now.names.asked self.now.data_in self.now.names.by_group ≡ self.now) (Unit {0}) }
     {
-        self.bytes.as_slice()
-    }
-
-    // Whether this job at the desk of this group is its own.
-    pub(crate) fn is_of(&self, job: &Job<B, R, O, N>, by_group: Group) -> bool
-        ensures { MatchBool result (handed_of job.now.pass job.now.asked self.now.data_in by_group ≡ self.now) (Unit {0}) }
-    {
-        job.names(by_group).is_same(&self.names) && job.pass.history().is_same(&self.seen)
+        self.names.is_of(pass) && pass.history().is_same(&self.seen)
     }
 
     /// Whether its answer is there.
     pub fn is_answered<W: Wait>(&self, rt: &W) -> bool {
         let held = self.slot.answer.lock(rt);
-        is_for(&*held, &self.names, self.bytes.as_slice(), &self.seen)
+        is_for(&*held, &self.names, self.bytes, &self.seen)
+    }
+
+    // Serves its job, whose pass was taken back, with the data that it came with.
+    pub(crate) fn serve<W: Wait>(
+        self,
+        rt: &W,
+        alloc: Global,
+        units: &Units<B, R, O, N>,
+        pass: Pass<B, R, O, N>,
+    ) -> (Pass<B, R, O, N>, Result<Reply, Refused<Group>>)
+        requires own { handed_of pass self.names.asked self.data_in self.names.by_group ≡ self }
+        requires place { self.names.place < units.now }
+        ensures place { result.0.place ≡ self.entry.names.place }
+        ensures end { HasAnswered (O.claims && B.claims) (N.opening self.entry.names.place) self.entry
+            result.0.pass result.1 }
+    {
+        let Names {
+            by_group,
+            asked,
+            ..
+        } = self.names;
+        units.serve(rt, pass, alloc, &by_group, &asked, self.bytes)
     }
 
     /// Its answer, once it is there. Another's is left where it is.
     pub fn collect<W: Wait>(self, rt: &W) -> (Pass<B, R, O, N>, Result<Reply, Refused<Group>>)
-        ensures place { result.0.place ≡ self.names.place }
-        ensures end { HasAnswered (O.claims && B.claims) (N.opening self.names.place) self result.0.pass result.1 }
+        ensures place { result.0.place ≡ self.entry.names.place }
+        ensures end { HasAnswered (O.claims && B.claims) (N.opening self.entry.names.place) self.entry
+            result.0.pass result.1 }
     {
         let Ticket {
             names,
@@ -287,7 +281,6 @@ impl<B: Blocks, R: Blocks, O: Opener<B>, N: Array<Opened>> Ticket<B, R, O, N> {
             seen,
             slot,
         } = self;
-        let bytes = bytes.as_slice();
         let slot = &*slot;
         let mut held = slot.filled.wait_while(rt, slot.answer.lock(rt), |held| {
             !is_for(held, &names, bytes, &seen)
@@ -299,30 +292,36 @@ impl<B: Blocks, R: Blocks, O: Opener<B>, N: Array<Opened>> Ticket<B, R, O, N> {
     }
 }
 
-/// A job with a slot for its answer, and the ticket. Refused, there was no memory.
-pub(crate) fn prepare<B: Blocks, R: Blocks, O: Opener<B>, N: Array<Opened>>(
+/// A command of a session that is to wait at the desk of a group, and its ticket. Refused, there was no memory, and the pass is
+/// handed back.
+pub(crate) fn prepare<'a, B: Blocks, R: Blocks, O: Opener<B>, N: Array<Opened>>(
     alloc: Global,
-    job: Job<B, R, O, N>,
+    pass: Pass<B, R, O, N>,
+    asked: &Asked,
+    bytes: &'a [u8],
     by_group: Group,
-) -> Result<(Ticket<B, R, O, N>, Waiting<B, R, O, N>), Job<B, R, O, N>>
-    ensures ticket { IfOk result (λ r. r.0 ≡ handed_of job.pass job.asked job.bytes by_group) }
-    ensures job { IfOk result (λ r. r.1.job ≡ job) }
-    ensures back { IfErr result (λ e. e ≡ job) }
+) -> Result<(Ticket<'a, B, R, O, N>, Waiting<B, R, O, N>), Pass<B, R, O, N>>
+    ensures ticket { IfOk result (λ r. r.0 ≡ handed_of pass asked.now bytes.now by_group) }
+    ensures pass { IfOk result (λ r. r.1.pass ≡ pass) }
+    ensures back { IfErr result (λ back. back ≡ pass) }
 {
-    let Ok(mine) = Arc::new(alloc, Slot::new()) else {
-        return Err(job);
+    let Ok((mine, slot)) = Slot::shared(alloc) else {
+        return Err(pass);
     };
-    let Ok(slot) = Arc::try_clone(&mine) else {
-        return Err(job);
-    };
-    let Ok(bytes) = job.bytes.share() else {
-        return Err(job);
+    let Ok(copy) = bytes.to_vec(alloc) else {
+        return Err(pass);
     };
     let ticket = Ticket {
-        names: job.names(by_group),
+        names: Names::of(&pass, asked, by_group),
         bytes,
-        seen: job.pass.history(),
+        seen: pass.history(),
         slot: mine,
     };
-    Ok((ticket, Waiting { job, slot }))
+    let waiting = Waiting {
+        pass,
+        asked: *asked,
+        bytes: copy,
+        slot,
+    };
+    Ok((ticket, waiting))
 }

@@ -1,7 +1,11 @@
 //! What a job is known by.
 ghost use Rattle.std.specs.Prelude.{◌≡◌, MatchBool};
+ghost use Rattle.forwarding.specs.Jobs.{names_of};
 
+use block_file::{Blocks, Opener};
+use numbering::Array;
 use scsi_types::{Asked, CdbFault, Command, Group};
+use unit_history::{Opened, Pass};
 
 /// What a job is known by, beside its data: the place of its unit, the session there, the serial of the command, the group whose
 /// desk has the job, and the command.
@@ -43,6 +47,33 @@ fn is_same_group(one: Group, other: Group) -> bool
 }
 
 impl Names {
+    /// What a command of the session with this pass is known by at the desk of a group.
+    pub(crate) fn of<B: Blocks, R: Blocks, O: Opener<B>, N: Array<Opened>>(
+        pass: &Pass<B, R, O, N>,
+        asked: &Asked,
+        by_group: Group,
+    ) -> Names
+        ensures { result ≡ names_of pass.now asked.now by_group }
+    {
+        Names {
+            place: pass.place(),
+            session: pass.session(),
+            serial: pass.serial(),
+            by_group,
+            asked: *asked,
+        }
+    }
+
+    // Whether they are of the next command of the session with this pass.
+    pub(crate) fn is_of<B: Blocks, R: Blocks, O: Opener<B>, N: Array<Opened>>(
+        &self,
+        pass: &Pass<B, R, O, N>,
+    ) -> bool
+        ensures { MatchBool result (names_of pass.now self.now.asked self.now.by_group ≡ self.now) (Unit {0}) }
+    {
+        self.place == pass.place() && self.session == pass.session() && self.serial == pass.serial()
+    }
+
     /// Whether these are the same.
     pub fn is_same(&self, other: &Names) -> bool
         ensures { MatchBool result (self.now ≡ other.now) (Unit {0}) }

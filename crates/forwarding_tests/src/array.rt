@@ -4,7 +4,7 @@ ghost use Rattle.unit_state.specs.Serials.{IsOpening};
 
 use aptpl_file::{FILE_BLOCKS, RegFile};
 use block_file::{KeepOpener, MemBlocks};
-use forwarding::{Desk, Job, Taken, Ticket};
+use forwarding::{Desk, Job, Ticket};
 use reservations::Record;
 use scsi_types::Place;
 use std::alloc::Global;
@@ -27,14 +27,11 @@ pub type MemDesk<N> = Desk<MemBlocks, MemBlocks, KeepOpener, N>;
 /// A session of one of them.
 pub type MemPass<N> = Pass<MemBlocks, MemBlocks, KeepOpener, N>;
 
-/// A command of a session.
+/// A job that was taken.
 pub type MemJob<N> = Job<MemBlocks, MemBlocks, KeepOpener, N>;
 
 /// A job's ticket.
-pub type MemTicket<N> = Ticket<MemBlocks, MemBlocks, KeepOpener, N>;
-
-/// A job that was taken.
-pub type MemTaken<N> = Taken<MemBlocks, MemBlocks, KeepOpener, N>;
+pub type MemTicket<'a, N> = Ticket<'a, MemBlocks, MemBlocks, KeepOpener, N>;
 
 // A unit of zeros, which holds no registrations.
 fn in_memory(alloc: Global, unit: u8) -> Result<New, Fail> {

@@ -1,7 +1,7 @@
 //! The calls of a desk and of its units, each once.
 
-use crate::array::{MemDesk, MemJob, MemPass, MemTicket, MemUnits};
-use forwarding::{DeskFault, Job, copy_data};
+use crate::array::{MemDesk, MemPass, MemTicket, MemUnits};
+use forwarding::DeskFault;
 use numbering::Array;
 use scsi_types::{Asked, Command, Group, PortName, Reply, Status};
 use std::alloc::Global;
@@ -38,34 +38,22 @@ pub fn attach<N: Array<Opened>, W: Wait>(
     units.attach(rt, place, port, Group::One).ok()
 }
 
-/// A command of a session, with this data.
-pub fn job<N: Array<Opened>>(
-    alloc: Global,
-    pass: MemPass<N>,
-    asked: Asked,
-    bytes: &[u8],
-) -> Option<MemJob<N>> {
-    let bytes = copy_data(alloc, bytes).ok()?;
-    Some(Job { pass, asked, bytes })
-}
-
-/// Hands a job in. Refused: the fault, where the whole job came back.
-pub fn submit<N: Array<Opened>, W: Wait>(
+/// Hands a command of a session in, with this data. Refused: the fault, where the pass came back.
+pub fn submit<'a, N: Array<Opened>, W: Wait>(
     rt: &W,
     alloc: Global,
     desk: &MemDesk<N>,
-    job: MemJob<N>,
-) -> Result<MemTicket<N>, Option<DeskFault>> {
-    let (place, session) = (job.pass.place(), job.pass.session());
-    let (asked, length) = (job.asked, job.bytes.as_slice().len());
-    match desk.submit(rt, alloc, job) {
+    pass: MemPass<N>,
+    asked: &Asked,
+    bytes: &'a [u8],
+) -> Result<MemTicket<'a, N>, Option<DeskFault>> {
+    let (place, session, serial) = (pass.place(), pass.session(), pass.serial());
+    match desk.submit(rt, alloc, pass, asked, bytes) {
         Ok(ticket) => Ok(ticket),
-        Err((fault, job)) => {
-            let is_whole = job.pass.place() == place
-                && job.pass.session() == session
-                && job.asked == asked
-                && job.bytes.as_slice().len() == length;
-            Err(is_whole.then_some(fault))
+        Err((fault, pass)) => {
+            let is_same =
+                pass.place() == place && pass.session() == session && pass.serial() == serial;
+            Err(is_same.then_some(fault))
         }
     }
 }
@@ -100,7 +88,7 @@ fn short<N: Array<Opened>>(pass: MemPass<N>, end: Result<Reply, Refused<Group>>)
 pub fn collect<N: Array<Opened>, W: Wait>(
     rt: &W,
     desk: &MemDesk<N>,
-    ticket: MemTicket<N>,
+    ticket: MemTicket<'_, N>,
 ) -> End<N> {
     let (pass, end) = desk.collect(rt, ticket);
     short(pass, end)
@@ -112,7 +100,7 @@ pub fn serve_own<N: Array<Opened>, W: Wait>(
     alloc: Global,
     desk: &MemDesk<N>,
     units: &MemUnits<N>,
-    ticket: MemTicket<N>,
+    ticket: MemTicket<'_, N>,
 ) -> Option<End<N>> {
     if ticket.place() >= units.count() {
         return None;

@@ -1,7 +1,7 @@
 //! A worker and a lane at one desk.
 
 use crate::array::{MemDesk, MemPass, MemTicket, MemUnits};
-use crate::calls::{End, TEST_UNIT_READY, Told, attach, collect, job, serve, serve_own, submit};
+use crate::calls::{End, TEST_UNIT_READY, Told, attach, collect, serve, serve_own, submit};
 use numbering::Array;
 use scsi_types::{Asked, Command, Group};
 use std::alloc::Global;
@@ -38,9 +38,13 @@ struct Scene<'a, R, N: Array<Opened>> {
 
 impl<'a, R: Wait, N: Array<Opened>> Scene<'a, R, N> {
     // Hands in a command of a session.
-    fn hand_in(&self, pass: MemPass<N>, asked: Asked, bytes: &[u8]) -> Option<MemTicket<N>> {
-        let job = job(self.alloc, pass, asked, bytes)?;
-        submit(self.rt, self.alloc, self.desk, job).ok()
+    fn hand_in<'b>(
+        &self,
+        pass: MemPass<N>,
+        asked: Asked,
+        bytes: &'b [u8],
+    ) -> Option<MemTicket<'b, N>> {
+        submit(self.rt, self.alloc, self.desk, pass, &asked, bytes).ok()
     }
 
     // A command that a lane serves.

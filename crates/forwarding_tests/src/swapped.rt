@@ -1,8 +1,8 @@
 //! Answers that come to the wrong tickets.
 
-use crate::array::{MemDesk, MemTaken, MemTicket, MemUnits};
-use crate::calls::{TEST_UNIT_READY, attach, job, submit};
-use forwarding::Taken;
+use crate::array::{MemDesk, MemJob, MemTicket, MemUnits};
+use crate::calls::{TEST_UNIT_READY, attach, submit};
+use forwarding::Job;
 use numbering::Array;
 use std::alloc::Global;
 use std::sync::Wait;
@@ -17,10 +17,9 @@ fn hand_in<N: Array<Opened>, W: Wait>(
     units: &MemUnits<N>,
     place: usize,
     isid: u8,
-) -> Option<MemTicket<N>> {
+) -> Option<MemTicket<'static, N>> {
     let pass = attach(rt, alloc, units, place, isid)?;
-    let job = job(alloc, pass, TEST_UNIT_READY, &[])?;
-    submit(rt, alloc, desk, job).ok()
+    submit(rt, alloc, desk, pass, &TEST_UNIT_READY, &[]).ok()
 }
 
 // Serves a job, and posts its answer.
@@ -29,10 +28,10 @@ fn serve<N: Array<Opened>, W: Wait>(
     alloc: Global,
     desk: &MemDesk<N>,
     units: &MemUnits<N>,
-    taken: MemTaken<N>,
+    job: MemJob<N>,
 ) {
-    if taken.place() < units.count() {
-        desk.post(rt, taken.serve(rt, alloc, units));
+    if job.place() < units.count() {
+        desk.post(rt, job.serve(rt, alloc, units));
     }
 }
 
@@ -45,7 +44,7 @@ fn serve_crosswise<N: Array<Opened>, W: Wait>(
 ) -> Option<()> {
     let one = desk.take(rt)?;
     let two = desk.take(rt)?;
-    let (one, two) = Taken::with_slots_exchanged(one, two);
+    let (one, two) = Job::with_slots_exchanged(one, two);
     serve(rt, alloc, desk, units, one);
     serve(rt, alloc, desk, units, two);
     Some(())
@@ -57,8 +56,8 @@ fn are_unanswered<N: Array<Opened>, W: Wait>(
     alloc: Global,
     desk: &MemDesk<N>,
     units: &MemUnits<N>,
-    one: Option<MemTicket<N>>,
-    two: Option<MemTicket<N>>,
+    one: Option<MemTicket<'_, N>>,
+    two: Option<MemTicket<'_, N>>,
 ) -> bool {
     let (Some(one), Some(two)) = (one, two) else {
         return false;
@@ -89,9 +88,9 @@ pub fn swap<N: Array<Opened>, W: Wait>(
     if own.is_none_or(|ticket| ticket.is_answered(rt)) {
         return Err("an answer before the job was served".into());
     }
-    let Some(taken) = desk.take(rt) else {
+    let Some(job) = desk.take(rt) else {
         return Err("a job".into());
     };
-    serve(rt, alloc, desk, units, taken);
+    serve(rt, alloc, desk, units, job);
     Ok(())
 }

@@ -1,7 +1,7 @@
 //! A desk without lanes: 64 jobs, one more, and none once it is closed; the jobs come back in their order.
 
 use crate::array::{MemDesk, MemTicket, MemUnits};
-use crate::calls::{TEST_UNIT_READY, Told, attach, collect, job, submit};
+use crate::calls::{TEST_UNIT_READY, Told, attach, collect, submit};
 use forwarding::DeskFault;
 use numbering::Array;
 use scsi_types::Group;
@@ -13,18 +13,20 @@ use unit_history::Opened;
 /// So many jobs wait at a desk.
 const PLACES: u8 = 64;
 
-// Hands in a TEST UNIT READY of a new session, with data that it has no use for.
+/// Data for which a TEST UNIT READY has no use.
+const SPARE: &[u8] = b"abc";
+
+// Hands in a TEST UNIT READY of a new session, with data.
 fn hand_in<N: Array<Opened>, W: Wait>(
     rt: &W,
     alloc: Global,
     desk: &MemDesk<N>,
     units: &MemUnits<N>,
     isid: u8,
-) -> Result<MemTicket<N>, Option<DeskFault>> {
+) -> Result<MemTicket<'static, N>, Option<DeskFault>> {
     let place = usize::from(isid % 2);
     let pass = attach(rt, alloc, units, place, isid).ok_or(None)?;
-    let job = job(alloc, pass, TEST_UNIT_READY, &[isid; 3]).ok_or(None)?;
-    submit(rt, alloc, desk, job)
+    submit(rt, alloc, desk, pass, &TEST_UNIT_READY, SPARE)
 }
 
 // Hands in a job for each place.
@@ -33,7 +35,7 @@ fn fill<N: Array<Opened>, W: Wait>(
     alloc: Global,
     desk: &MemDesk<N>,
     units: &MemUnits<N>,
-) -> Vec<MemTicket<N>> {
+) -> Vec<MemTicket<'static, N>> {
     let mut tickets = Vec::new(alloc);
     for isid in 0..PLACES {
         if let Ok(ticket) = hand_in(rt, alloc, desk, units, isid) {
@@ -65,13 +67,13 @@ fn drain<N: Array<Opened>, W: Wait>(
     units: &MemUnits<N>,
 ) -> Option<u8> {
     for count in 0..u8::MAX {
-        let Some(taken) = desk.take(rt) else {
+        let Some(job) = desk.take(rt) else {
             return Some(count);
         };
-        if taken.place() != usize::from(count % 2) || taken.place() >= units.count() {
+        if job.place() != usize::from(count % 2) || job.place() >= units.count() {
             return None;
         }
-        desk.post(rt, taken.serve(rt, alloc, units));
+        desk.post(rt, job.serve(rt, alloc, units));
     }
     None
 }
@@ -81,7 +83,7 @@ fn drain<N: Array<Opened>, W: Wait>(
 fn count_right<N: Array<Opened>, W: Wait>(
     rt: &W,
     desk: &MemDesk<N>,
-    tickets: Vec<MemTicket<N>>,
+    tickets: Vec<MemTicket<'_, N>>,
 ) -> u8 {
     let mut count = 0u8;
     for ticket in tickets {

@@ -1,17 +1,17 @@
 -- What a request for task management drops.
 use Rattle.std.proofs.Common.{◌≡◌, ℕ, Bool, true, false, not, List, [], ◌∷◌, Option, Some, None, inl, inr, refl, sym, ap, ◌∙◌}
-use Rattle.std.specs.Prelude.{◌==◌, ◌&&◌, ◌||◌, nat_lt, bytes_eq, slice_index, is_some, if◌then◌else◌}
-use Rattle.std.specs.List.{filter}
-use Rattle.std.proofs.lemmas.Bool.{eqb-true}
-use Rattle.std.proofs.lemmas.Slice.Eq.{bytes_eq-Decides}
-use Rattle.scsi_types.specs.Lun.{IsLunOf, NamesUnit}
-use Rattle.iscsi_pdu.specs.declared.header.TaskManagementRequest.{TaskManagementRequest as ManagementHeader}
-use Rattle.iscsi_pdu.specs.declared.header.Numbers.{Numbers}
-use Rattle.session_rules.specs.declared.task_function.Management.{Management}
+use Rattle.std.proofs.Math.Bool.{and-false, and-true}
+use Rattle.std.proofs.lemmas.{Bool.eqb-true, Slice.Eq.bytes_eq-Decides}
+use Rattle.session_rules.specs.Words.{◌==◌, ◌&&◌, ◌||◌, nat_lt, bytes_eq, slice_index, is_some, if◌then◌else◌, filter, NamesUnit}
+use Rattle.session_rules.specs.Words.{ManagementHeader, Numbers}
+use Rattle.scsi_types.specs.Lun.{IsLunOf}
+use Rattle.session_rules.specs.{declared.task_function.Management.Management, Drops.drops, Drops.names_one_of}
 use Rattle.session_rules.specs.Tasks.{Collecting, r2ts_of}
-use Rattle.session_rules.specs.Drops.{drops, names_one_of}
 use Rattle.session_rules.specs.TaskManagement.{there, kept_by, IsManagement, management_answer}
-use Rattle.full_feature.proofs.TaskTurn.{keeps}
+
+-- the tasks that a request does not drop, where there are so many units
+abbrev pub keeps : ℕ → ManagementHeader → Collecting → Bool
+keeps units x c = not (drops x c.command && names_one_of units x.lun)
 
 pub no_r2t_managed : (n : Numbers) (x : ManagementHeader) (response : Option ℕ)
     → r2ts_of (management_answer n x response) ≡ []
@@ -29,25 +29,16 @@ lun_of a unit rest e f = by_first (a == 0x00) refl e where
   by_first true g h = inl (rw (eqb-true a 0x00 g, f) refl)
   by_first false g h = inr (rw (eqb-true a 0x40 h, f) refl)
 
-and_false : (b : Bool) → (b && false) ≡ false
-and_false true = refl
-and_false false = refl
-
-and_true : (b : Bool) → (b && true) ≡ b
-and_true true = refl
-and_true false = refl
-
 none_named : (units : ℕ) (lun : List ℕ) → ((unit : ℕ) → IsLunOf lun unit → ⊥) → names_one_of units lun ≡ false
 none_named units [] none = refl
 none_named units (a ∷ []) none =
-    ap (λ (b : Bool). b && nat_lt (slice_index (a ∷ []) 1) units) (and_false (a == 0x00 || a == 0x40))
+    ap (λ (b : Bool). b && nat_lt (slice_index (a ∷ []) 1) units) (and-false (a == 0x00 || a == 0x40))
 none_named units (a ∷ (unit ∷ rest)) none =
     by_form (a == 0x00 || a == 0x40) refl (bytes_eq rest no_more) refl where
       by_form : (b : Bool) → (a == 0x00 || a == 0x40) ≡ b → (c : Bool) → bytes_eq rest no_more ≡ c
           → (b && c && nat_lt unit units) ≡ false
       by_form true e true f = absurd (none unit (lun_of a unit rest e ((bytes_eq-Decides rest no_more).0 f)))
-      by_form true e false f = refl
-      by_form false e c f = refl
+      by_form b e c f = refl
 
 some_if : (unit : ℕ) (b : Bool) → b ≡ is_some (if b then Some unit else None)
 some_if unit true = refl
@@ -61,21 +52,11 @@ found_is units lun (Some unit) (inr e) = ap (names_one_of units) e ∙ some_if u
 
 -- ---- and so drops
 
--- a list of which all is kept
-all_kept : (test : Collecting → Bool) → ((c : Collecting) → test c ≡ true) → (cs : List Collecting) → filter test cs ≡ cs
-all_kept test all [] = refl
-all_kept test all (c ∷ cs) = rw (all c) (ap (λ (z : List Collecting). c ∷ z) (all_kept test all cs))
-
-same_kept : (f g : Collecting → Bool) → ((c : Collecting) → f c ≡ g c) → (cs : List Collecting) → filter f cs ≡ filter g cs
-same_kept f g same [] = refl
-same_kept f g same (c ∷ cs) = rw (same c) (ap (λ (z : List Collecting). if g c then c ∷ z else z) (same_kept f g same cs))
-
 kept_so : (x : ManagementHeader) (unit : Option ℕ) (cs : List Collecting)
     → filter (λ c. not (drops x c.command && is_some unit)) cs ≡ kept_by unit x cs
-kept_so x None cs = all_kept (λ c. not (drops x c.command && false)) (λ c. ap not (and_false (drops x c.command))) cs
-kept_so x (Some unit) cs =
-    same_kept (λ c. not (drops x c.command && true)) (λ c. not (drops x c.command))
-    (λ c. ap not (and_true (drops x c.command))) cs
+kept_so x None [] = refl
+kept_so x None (c ∷ cs) = rw (and-false, kept_so x None cs) refl
+kept_so x (Some unit) cs = simp and-true
 
 -- those that wait behind a request are those that it does not drop
 pub kept_is : (units : ℕ) (cs : List Collecting) (x : ManagementHeader) (m : Management) (kept : List Collecting)

@@ -1,51 +1,37 @@
 -- What is judged of a turn holds of each turn that the session makes.
-use Rattle.std.proofs.Common.{◌≡◌, ◌⊎◌, ℕ, zero, suc, ◌+◌, ◌%◌, ◌<◌, ◌↔◌, Bool, true, false, List, [], ◌∷◌, ◌++◌, Option, Some, None, length, refl, ap, ap₂, ◌∙◌, subst, inl, inr}
-use Rattle.std.specs.Prelude.{IsTrue, Result, nat_lt, if◌then◌else◌, take}
-use Rattle.std.specs.List.{AllByRecursion, list_any, find}
-use Rattle.std.specs.Option.{option_map}
+use Rattle.std.proofs.Common.{not, ◌++◌, ◌≡◌, ℕ, ◌<◌, ◌↔◌, Bool, true, false, List, [], ◌∷◌, Option, Some, None, length, refl, sym, ap}
+use Rattle.std.proofs.Common.{ap₂, ◌∙◌, inl, inr, IsTrue, Result, nat_lt, if◌then◌else◌, take}
+use Rattle.std.proofs.Math.Seq.{take-nil}
 use Rattle.std.proofs.lemmas.Bool.{ltb-true, lt-ltb}
-use Rattle.scsi_types.specs.Cdb.{Means, need_of}
-use Rattle.scsi_types.specs.declared.command.Command.{Command}
-use Rattle.scsi_types.specs.declared.command.CdbFault.{CdbFault}
-use Rattle.scsi_types.specs.declared.sense.Sense.{Sense}
+use Rattle.session_rules.specs.Words.{AllByRecursion, list_any, find, option_map, Means, need_of, Command, CdbFault, Sense, CommandHeader}
+use Rattle.session_rules.specs.Words.{DataOutHeader, R2tHeader, ResponseHeader, Numbers, Header, Initiator, NopOut, ScsiCommand, DataOut}
+use Rattle.session_rules.specs.Words.{TaskManagementRequest, TextRequest, LogoutRequest, R2t, Reject, ManagementHeader, ◌==◌, status_code}
 use Rattle.scsi_types.specs.declared.status.Status.{Status}
-use Rattle.iscsi_pdu.specs.declared.header.ScsiCommand.{ScsiCommand as CommandHeader}
-use Rattle.iscsi_pdu.specs.declared.header.DataOut.{DataOut as DataOutHeader}
-use Rattle.iscsi_pdu.specs.declared.header.R2t.{R2t as R2tHeader}
-use Rattle.iscsi_pdu.specs.declared.header.ScsiResponse.{ScsiResponse as ResponseHeader}
-use Rattle.iscsi_pdu.specs.declared.header.Numbers.{Numbers}
-use Rattle.iscsi_pdu.specs.declared.header.Header.TheVariants.{Initiator}
-use Rattle.iscsi_pdu.specs.declared.header.InitiatorHeader.TheVariants.{NopOut, ScsiCommand, DataOut, TaskManagementRequest}
-use Rattle.iscsi_pdu.specs.declared.header.InitiatorHeader.TheVariants.{TextRequest, LogoutRequest}
-use Rattle.iscsi_pdu.specs.declared.header.TargetHeader.TheVariants.{R2t}
-use Rattle.full_feature.specs.declared.response.Completion.{Completion}
+use Rattle.full_feature.specs.{declared.response.Completion.Completion, Step.Step, Step.Runs, Step.IsRun}
+use Rattle.full_feature.specs.Counters.{Counters, after_status, after_collecting, after_r2t, after_reply, next_numbers, after_number}
+use Rattle.full_feature.specs.Counters.{after_answer}
+use Rattle.full_feature.specs.AnswerPdus.{response_for, reply_with, reply_to, busy, task_set_full}
+use Rattle.full_feature.specs.Machine.{Waits, OnOpened, calls, asks, turns_away, OnFed, fills, asks_on, calls_now, OnTaken, OnFullPdu}
+use Rattle.full_feature.specs.Machine.{OnUnaccepted, OnIncoming, OnManagedBy}
+use Rattle.full_feature.proofs.RequestFacts.{OutFacts, TaskFacts, TurnFacts, silent, one_out, nobody, commands_of, moved, some_or_none}
+use Rattle.full_feature.proofs.RequestFacts.{one_facts, management_facts, no_command}
+use Rattle.session_rules.specs.declared.task_function.Management.{Management, TheVariants.Respond, TheVariants.Reset}
+use Rattle.session_rules.specs.TaskManagement.{IsManagement, management_answer, reset_response}
+use Rattle.full_feature.proofs.{Turns.ran, Right.none_at}
+use Rattle.full_feature.proofs.ReadSegments.{outs_of, OutsFacts, answer_facts, outs_tiled}
+use Rattle.session_rules.specs.{Asking.Asking, Asking.served, Turn.Incoming, Turn.pdu, Turn.Out, Codes.reserved_tag, Asking.reset}
+use Rattle.session_rules.specs.{Window.takes_number, Standing.numbers_at, Requests.IsRequestAnswered, Verdict.IsJudged, DataIn.data_ins}
+use Rattle.session_rules.specs.{DataIn.Tiles, Legal.IsOfCommand, Legal.IsSentFor, Legal.bhs_of}
 use Rattle.session_rules.specs.declared.target.TargetAnswer.{TargetAnswer}
 use Rattle.session_rules.specs.declared.target.TargetAnswer.TheVariants.{Replied, Outside, Busy, Gone}
 use Rattle.session_rules.specs.declared.verdict.Verdict.{Verdict}
-use Rattle.session_rules.specs.declared.verdict.Verdict.TheVariants.{Accepted, Full, Ignored, Gap, Refused}
-use Rattle.session_rules.specs.Asking.{Asking, served}
-use Rattle.session_rules.specs.Setting.{Setting}
-use Rattle.session_rules.specs.Turn.{Incoming, pdu, Out}
-use Rattle.full_feature.proofs.RequestFacts.{TurnFacts, commands_of, moved, nop_facts, managed_facts, text_facts, logout_facts}
-use Rattle.session_rules.specs.Window.{wrap, takes_number}
+use Rattle.session_rules.specs.declared.verdict.Verdict.TheVariants.{Accepted, Full, Refused}
 use Rattle.session_rules.specs.Tasks.{is_response, r2ts_of, has_tag, Collecting}
-use Rattle.session_rules.specs.Standing.{numbers_at}
-use Rattle.waiting_commands.specs.Slots.{fed}
-use Rattle.session_rules.specs.Requests.{IsRequestAnswered}
-use Rattle.session_rules.specs.Verdict.{IsJudged}
 use Rattle.session_rules.specs.Transfer.{expected_transfer, transfer_of, sent_data}
-use Rattle.session_rules.specs.Answered.{Outcome, by_target, no_buffer, set_full, outcome_uncalled, outcome_of, command_at}
-use Rattle.session_rules.specs.Answered.{Answered, answered_by, answered_in, IsServed, IsCalled, outcome_data}
-use Rattle.session_rules.specs.Response.{HasOneResponse, IsAnsweredAs, IsToldAs, sense_part}
-use Rattle.session_rules.specs.DataIn.{data_ins, Tiles}
-use Rattle.session_rules.specs.Legal.{IsOfCommand, IsSentFor}
-use Rattle.full_feature.specs.Counters.{Counters, after_status, after_command, after_collecting, after_r2t, next_numbers}
+use Rattle.session_rules.specs.Answered.{Outcome, by_target, no_buffer, set_full, outcome_uncalled, outcome_of, command_at, Answered}
+use Rattle.session_rules.specs.Answered.{answered_by, answered_in, IsServed, IsCalled, outcome_data}
+use Rattle.session_rules.specs.Response.{responses, HasOneResponse, IsAnsweredAs, IsTelling, IsToldAs, sense_part}
 use Rattle.pdu_stream.specs.Pdus.{data_ins_for}
-use Rattle.full_feature.specs.AnswerPdus.{response_for, reply_with, busy, task_set_full}
-use Rattle.full_feature.specs.MachineTurn.{TurnOnAnswer, TurnAsks, TurnOpened, calls, asks, turns_away, TurnFed, fills}
-use Rattle.full_feature.specs.MachineTurn.{asks_on, calls_now, TurnOnAccepted, TurnOnFullPdu, TurnOnVerdict}
-use Rattle.full_feature.proofs.ReadSegments.{outs_of, outs_windows, outs_statuses, outs_responses, outs_front, outs_count}
-use Rattle.full_feature.proofs.ReadSegments.{outs_kinds, outs_data, outs_r2ts, outs_ended, outs_tiled, no_segment}
 
 abbrev none_data : List ℕ
 none_data = []
@@ -53,30 +39,48 @@ none_data = []
 less : (a b : ℕ) → IsTrue (nat_lt a b) ↔ (a < b)
 less a b = (λ e. ltb-true a b e, λ h. lt-ltb a b h)
 
-take_none : (n : ℕ) → take n none_data ≡ none_data
-take_none zero = refl
-take_none (suc n) = refl
-
 abbrev told : Status → Option Sense → Completion
 told status sense = record { status = status; sense = sense }
 
 -- ---- a command is answered: by what is known of the turn, and by the PDUs that go out
 
--- what is known of a turn of a command, where these are its counters but for the status
-record IsTurnOf (s m : Counters) (came : Incoming) (v : Verdict) (call : Option Asking) (p : CommandHeader) : Type 0 where
+-- what is known of a turn of a command, which is immediate or takes a number
+record IsTurnOf (s : Counters) (came : Incoming) (v : Verdict) (call : Option Asking) (p : CommandHeader)
+    (immediate : Bool) : Type 0 where
   judged : IsJudged s.setting s.standing came v
   who : command_at s.standing came ≡ Some p
   called : IsCalled s.setting s.standing v came call
-  kinds : (outs : List Out) → AllByRecursion (λ o. IsOfCommand o.header) outs → r2ts_of outs ≡ [] → IsSentFor v came outs
+  kinds : (outs : List Out) → AllByRecursion (λ o. IsOfCommand o.header) outs → (v ≡ Full → r2ts_of outs ≡ [])
+      → IsSentFor v came outs
   no_request : (outs : List Out) → IsRequestAnswered s.setting s.standing v came call outs
-  setting : m.setting ≡ s.setting
-  status : m.stat_sn ≡ s.stat_sn
-  tag : m.standing.transfer_tag ≡ s.standing.transfer_tag
-  commands : ((m.standing.exp_cmd_sn ≡ s.standing.exp_cmd_sn) × (takes_number v came ≡ false))
-      ⊎ ((m.standing.exp_cmd_sn ≡ wrap (s.standing.exp_cmd_sn + 1)) × (takes_number v came ≡ true))
+  numbered : takes_number v came ≡ not immediate
 
-module _ (s m : Counters) (came : Incoming) (v : Verdict) (call : Option Asking) (p : CommandHeader)
-    (asked : Result Command CdbFault) (means : Means p.cdb asked) (t : IsTurnOf s m came v call p) where
+module _ (s : Counters) (cs : List Collecting) (immediate : Bool) (came : Incoming) (v : Verdict) (call : Option Asking)
+    (p : CommandHeader) (asked : Result Command CdbFault) (means : Means p.cdb asked)
+    (t : IsTurnOf s came v call p immediate) where
+  -- its counters but for the status
+  abbrev m : Counters
+  m = after_collecting cs (after_number immediate s)
+
+  facts : (outs : List Out) (s' : Counters) → s'.setting ≡ m.setting → s'.standing.exp_cmd_sn ≡ m.standing.exp_cmd_sn
+      → AllByRecursion (λ o. IsOfCommand o.header) outs → (v ≡ Full → r2ts_of outs ≡ []) → OutFacts s s' came outs
+      → TaskFacts s.setting.start.lengths (answered_in s.standing came v call outs) outs → TurnFacts s s' came v call outs
+  facts outs s' setting cmd all none sends task = record {
+    judged = t.judged;
+    called = t.called;
+    kinds = t.kinds outs all none;
+    requests = t.no_request outs;
+    setting_is = setting;
+    commands = rw (cmd, t.numbered) (commands_of immediate s.standing.exp_cmd_sn);
+    sends = sends;
+    task = task;
+  }
+
+  -- it is answered so, or not
+  answered_so : (outs : List Out) (w : Option Outcome) → outcome_of v came call outs ≡ w
+      → answered_in s.standing came v call outs ≡ answered_by w (Some p) outs
+  answered_so outs w e = ap₂ (λ (o : Option CommandHeader) (u : Option Outcome). answered_by u o outs) t.who e
+
   module _ (outcome : Outcome) (completion : Completion) where
     abbrev sent_bytes : List ℕ
     sent_bytes = sent_data p (outcome_data outcome)
@@ -94,45 +98,39 @@ module _ (s m : Counters) (came : Incoming) (v : Verdict) (call : Option Asking)
     abbrev the_outs : List Out
     the_outs = outs_of m.standing p.task_tag m.setting.start.lengths sent_bytes the_response sense (length sent_bytes) 0 0
 
+    are : OutsFacts m.standing p.task_tag m.setting.start.lengths sent_bytes the_response sense
+    are = answer_facts m p (need_of asked) (outcome_data outcome) completion
+
     one_response : HasOneResponse p the_outs
     one_response = record {
       front = data_ins_for (numbers_at 0 m.standing) p.task_tag m.setting.start.lengths sent_bytes;
       last = the_response;
       segment = sense;
       own_is = refl;
-      no_other = outs_front m.standing p.task_tag m.setting.start.lengths sent_bytes the_response sense
-          (length sent_bytes) 0 0;
+      no_other = are.front;
       tag = refl;
     }
 
     abbrev the_answered : Answered
     the_answered = record { command = p; outcome = outcome; own = the_outs }
 
-    no_r2ts : r2ts_of the_outs ≡ []
-    no_r2ts = outs_r2ts m.standing p.task_tag m.setting.start.lengths sent_bytes the_response sense (length sent_bytes) 0 0
-
     reply_facts : outcome_of v came call the_outs ≡ Some outcome → (HasOneResponse p the_outs → IsAnsweredAs p outcome the_outs)
-        → IsToldAs outcome the_response sense → TurnFacts s (after_status m) came v call the_outs
+        → (IsTelling (status_code completion.status) sense the_response sense → IsToldAs outcome the_response sense)
+        → TurnFacts s (after_status m) came v call the_outs
     reply_facts outcome_is answered told =
-        let responses_are = outs_responses m.standing p.task_tag m.setting.start.lengths sent_bytes the_response sense
-        (length sent_bytes) 0 0 in
         let who : answered_in s.standing came v call the_outs ≡ Some the_answered =
-        ap₂ (λ (o : Option CommandHeader) (w : Option Outcome). answered_by w o the_outs) t.who outcome_is in
-        record {
-          judged = t.judged;
-          windows = outs_windows m.standing p.task_tag m.setting.start.lengths sent_bytes the_response sense
-              (length sent_bytes) 0 0 (record { expects = refl; reaches = refl });
-          transfers = rw no_r2ts tt;
-          called = t.called;
-          answered = rw who (answered one_response);
-          tiled = rw who (subst (λ (k : Setting). Tiles k.start.lengths p (data_ins the_outs) sent_bytes) t.setting
-              (outs_tiled m.standing p.task_tag m.setting.start.lengths sent_bytes the_response sense p refl));
-          counted = rw (who, responses_are) (
-            outs_count m.standing p.task_tag m.setting.start.lengths sent_bytes the_response sense
-                (length sent_bytes) 0 0,
-            tt,
-          );
-          residual = rw (who, responses_are) (
+        answered_so the_outs (Some outcome) outcome_is in
+        facts the_outs (after_status m) refl refl are.kinds (λ full. are.r2ts) (record {
+          windows = are.windows (record { expects = refl; reaches = refl });
+          transfers = rw are.r2ts tt;
+          carried = are.carried s.setting came (completion.sense, refl);
+          statuses = inr (refl, are.statuses);
+          tags = inl (refl, are.r2ts);
+        }) (rw who (record {
+          answered = answered one_response;
+          tiled = outs_tiled m.standing p.task_tag m.setting.start.lengths sent_bytes the_response sense p refl;
+          counted = rw are.responses_are (are.count, tt);
+          residual = rw are.responses_are (
             asked,
             means,
             (
@@ -144,336 +142,242 @@ module _ (s m : Counters) (came : Incoming) (v : Verdict) (call : Option Asking)
               tt,
             ),
           );
-          told = rw (who, responses_are) (told, tt);
-          kinds = t.kinds the_outs
-              (outs_kinds m.standing p.task_tag m.setting.start.lengths sent_bytes the_response sense
-              (length sent_bytes) 0 0) no_r2ts;
-          carried = outs_data m.standing p.task_tag m.setting.start.lengths sent_bytes the_response sense s.setting came
-              (completion.sense, refl) (length sent_bytes) 0 0;
-          requests = t.no_request the_outs;
-          setting_is = t.setting;
-          commands = t.commands;
-          statuses = inr (
-            ap (λ (n : ℕ). wrap (n + 1)) t.status,
-            outs_statuses m.standing p.task_tag
-                m.setting.start.lengths sent_bytes the_response sense (length sent_bytes) 0 0
-                ∙ ap (λ (n : ℕ). n ∷ []) t.status,
-          );
-          tags = inl (t.tag, no_r2ts);
-        }
+          told = rw are.responses_are (told (record { response = refl; status_is = refl; sense_is = refl }), tt);
+        }))
 
   gone_tiles : (r : Bool) → Tiles s.setting.start.lengths p [] (if r then take p.expected_length none_data else none_data)
-  gone_tiles true = rw (take_none p.expected_length)
-      (record { joined = refl; each = λ k h e f. absurd (no_segment k (h, e) f) })
-  gone_tiles false = record { joined = refl; each = λ k h e f. absurd (no_segment k (h, e) f) }
-
-  abbrev gone_answered : Answered
-  gone_answered = record { command = p; outcome = by_target Gone; own = [] }
+  gone_tiles true = rw take-nil (record { joined = refl; each = λ k h e f. absurd (none_at k (h, e) f) })
+  gone_tiles false = record { joined = refl; each = λ k h e f. absurd (none_at k (h, e) f) }
 
   gone_facts : outcome_of v came call [] ≡ Some (by_target Gone) → TurnFacts s m came v call []
   gone_facts outcome_is =
-      let who : answered_in s.standing came v call [] ≡ Some gone_answered =
-      ap₂ (λ (o : Option CommandHeader) (w : Option Outcome). answered_by w o []) t.who outcome_is in
-      record {
-        judged = t.judged;
-        windows = tt;
-        transfers = tt;
-        called = t.called;
-        answered = rw who refl;
-        tiled = rw who (gone_tiles p.read);
-        counted = rw who tt;
-        residual = rw who (asked, means, tt);
-        told = rw who tt;
-        kinds = t.kinds [] tt refl;
-        carried = tt;
-        requests = t.no_request [];
-        setting_is = t.setting;
-        commands = t.commands;
-        statuses = inl (t.status, refl);
-        tags = inl (t.tag, refl);
-      }
+      facts [] m refl refl tt (λ full. refl) (silent refl refl)
+      (rw (answered_so [] (Some (by_target Gone)) outcome_is) (record {
+        answered = refl;
+        tiled = gone_tiles p.read;
+        counted = tt;
+        residual = (asked, means, tt);
+        told = tt;
+      }))
 
   -- by the target's answer
-  known : v ≡ Accepted → (answer : TargetAnswer) (unit : Option ℕ) (wants : Result Command CdbFault) (bytes : List ℕ)
-      → call ≡ Some (served unit wants bytes answer)
-      → (o : List Out) → outcome_of v came call o ≡ Some (by_target answer)
-  known accepted answer unit wants bytes is o = ap₂ (λ (w : Verdict) (c : Option Asking). outcome_of w came c o) accepted is
-
   by_target_facts : v ≡ Accepted
       → (answer : TargetAnswer) (unit : Option ℕ) (wants : Result Command CdbFault) (bytes : List ℕ)
-      → call ≡ Some (served unit wants bytes answer)
-      → (outs : List Out) (s' : Counters) → TurnOnAnswer m p (need_of asked) answer outs s' → TurnFacts s s' came v call outs
-  by_target_facts accepted (Replied a) unit wants bytes is outs s' k =
-      moved refl k.0 k.1 (reply_facts (by_target (Replied a)) (told a.status a.sense)
-      (known accepted (Replied a) unit wants bytes is _) (λ o. o)
-      (record { response = refl; status_is = refl; sense_is = refl }))
-  by_target_facts accepted (Outside a) unit wants bytes is outs s' k =
-      moved refl k.0 k.1 (reply_facts (by_target (Outside a)) (told a.status a.sense)
-      (known accepted (Outside a) unit wants bytes is _) (λ o. o)
-      (record { response = refl; status_is = refl; sense_is = refl }))
-  by_target_facts accepted Busy unit wants bytes is outs s' k =
-      moved refl k.0 k.1 (reply_facts (by_target Busy) busy (known accepted Busy unit wants bytes is _) (λ o. o)
-      (record { response = refl; status_is = refl; sense_is = refl }))
-  by_target_facts accepted Gone unit wants bytes is outs s' k =
-      moved refl k.0 k.1 (gone_facts (known accepted Gone unit wants bytes is []))
+      → (outs : List Out) (s' : Counters)
+      → IsRun (Some (served unit wants bytes answer)) (reply_to m p (need_of asked) answer) (after_reply answer m) call outs s'
+      → TurnFacts s s' came v call outs
+  by_target_facts accepted answer unit wants bytes outs s' k =
+      moved refl k.sent_is k.next_is
+      (by answer (λ o. ap₂ (λ (w : Verdict) (c : Option Asking). outcome_of w came c o) accepted k.call_is)) where
+        by : (answer : TargetAnswer) → ((o : List Out) → outcome_of v came call o ≡ Some (by_target answer))
+            → TurnFacts s (after_reply answer m) came v call (reply_to m p (need_of asked) answer)
+        by (Replied a) so = reply_facts (by_target (Replied a)) (told a.status a.sense) (so _) (λ o. o) (λ o. o)
+        by (Outside a) so = reply_facts (by_target (Outside a)) (told a.status a.sense) (so _) (λ o. o) (λ o. o)
+        by Busy so = reply_facts (by_target Busy) busy (so _) (λ o. o) (λ o. o)
+        by Gone so = gone_facts (so [])
 
   -- without a call: there was no buffer, or the task set is full
   no_buffer_facts : v ≡ Accepted → call ≡ None
       → ((outs : List Out)
-      → outcome_uncalled came outs ≡ (if list_any (λ o. is_response o.header) outs then Some no_buffer else None)) → (outs : List Out) (s' : Counters)
+      → outcome_uncalled came outs ≡ (if list_any (λ o. is_response o.header) outs then Some no_buffer else None))
+      → (outs : List Out) (s' : Counters)
       → outs ≡ reply_with m p (need_of asked) [] busy → s' ≡ after_status m
       → TurnFacts s s' came v call outs
   no_buffer_facts accepted none own_turn outs s' is next =
-      let ended : list_any (λ o. is_response o.header) (the_outs no_buffer busy) ≡ true =
-      outs_ended m.standing p.task_tag m.setting.start.lengths (sent_bytes no_buffer busy)
-      (the_response no_buffer busy) (sense no_buffer busy) (length (sent_bytes no_buffer busy)) 0 0 in
       let outcome_is : outcome_of v came call (the_outs no_buffer busy) ≡ Some no_buffer =
       ap₂ (λ (w : Verdict) (c : Option Asking). outcome_of w came c (the_outs no_buffer busy)) accepted none
-      ∙ own_turn (the_outs no_buffer busy) ∙ ap (λ (b : Bool). if b then Some no_buffer else None) ended in
-      moved refl is next (reply_facts no_buffer busy outcome_is (λ o. o)
-      (record { response = refl; status_is = refl; sense_is = refl }))
+      ∙ own_turn (the_outs no_buffer busy) ∙ ap (λ (b : Bool). if b then Some no_buffer else None) (are no_buffer busy).ended in
+      moved refl is next (reply_facts no_buffer busy outcome_is (λ o. o) (λ o. o))
 
   full_facts : v ≡ Full → (outs : List Out) (s' : Counters) → outs ≡ reply_with m p (need_of asked) [] task_set_full
       → s' ≡ after_status m
       → TurnFacts s s' came v call outs
   full_facts full outs s' is next =
       moved refl is next (reply_facts set_full task_set_full
-      (ap (λ (w : Verdict). outcome_of w came call (the_outs set_full task_set_full)) full) (λ o. o)
-      (record { response = refl; status_is = refl; sense_is = refl }))
+      (ap (λ (w : Verdict). outcome_of w came call (the_outs set_full task_set_full)) full) (λ o. o) (λ o. o))
 
   -- nothing, or the next R2T, goes out
-  waits_facts : (s' : Counters) → v ≡ Accepted → call ≡ None → outcome_uncalled came [] ≡ None → s'.setting ≡ s.setting → s'.stat_sn ≡ s.stat_sn
-      → s'.standing.exp_cmd_sn ≡ m.standing.exp_cmd_sn
-      → s'.standing.transfer_tag ≡ s.standing.transfer_tag → TurnFacts s s' came v call []
-  waits_facts s' accepted none unanswered setting_same status_same cmd tag_same =
-      let who : answered_in s.standing came v call [] ≡ None =
-      ap₂ (λ (o : Option CommandHeader) (w : Option Outcome). answered_by w o []) t.who
-      (ap₂ (λ (w : Verdict) (c : Option Asking). outcome_of w came c []) accepted none ∙ unanswered) in
-      record {
-        judged = t.judged;
-        windows = tt;
-        transfers = tt;
-        called = t.called;
-        answered = rw who refl;
-        tiled = rw who refl;
-        counted = rw who tt;
-        residual = rw who tt;
-        told = rw who tt;
-        kinds = t.kinds [] tt refl;
-        carried = tt;
-        requests = t.no_request [];
-        setting_is = setting_same;
-        commands = rw cmd t.commands;
-        statuses = inl (status_same, refl);
-        tags = inl (tag_same, refl);
-      }
+  unanswered : v ≡ Accepted → call ≡ None → (outs : List Out) → outcome_uncalled came outs ≡ None → responses outs ≡ []
+      → data_ins outs ≡ [] → TaskFacts s.setting.start.lengths (answered_in s.standing came v call outs) outs
+  unanswered accepted none outs e no_response no_data =
+      nobody (answered_so outs None (ap₂ (λ (w : Verdict) (c : Option Asking). outcome_of w came c outs) accepted none ∙ e))
+      no_response no_data
 
-module _ (s n s' : Counters) (came : Incoming) (call : Option Asking) (p : CommandHeader) (next : R2tHeader)
-    (judged : IsJudged s.setting s.standing came Accepted) (who : command_at s.standing came ≡ Some p)
-    (called : IsCalled s.setting s.standing Accepted came call) (none : call ≡ None)
-    (unanswered : outcome_uncalled came (record { header = R2t next; bytes = [] } ∷ []) ≡ None)
-    (kinds : (outs : List Out) → AllByRecursion (λ o. IsOfCommand o.header) outs → IsSentFor Accepted came outs)
-    (no_request : (outs : List Out) → IsRequestAnswered s.setting s.standing Accepted came call outs)
-    (setting : n.setting ≡ s.setting) (status : n.stat_sn ≡ s.stat_sn)
-    (tag : n.standing.transfer_tag ≡ s.standing.transfer_tag)
-    (commands : ((n.standing.exp_cmd_sn ≡ s.standing.exp_cmd_sn) × (takes_number Accepted came ≡ false))
-    ⊎ ((n.standing.exp_cmd_sn ≡ wrap (s.standing.exp_cmd_sn + 1)) × (takes_number Accepted came ≡ true))) where
-  asks_facts : (need bytes requests : ℕ) (outs : List Out) → TurnAsks n p need bytes requests next call outs
-      → s' ≡ after_r2t n
-      → TurnFacts s s' came Accepted call outs
-  asks_facts need bytes requests outs k after =
-      let out : Out = record { header = R2t next; bytes = [] } in
-      let nobody : answered_in s.standing came Accepted call (out ∷ []) ≡ None =
-      ap₂ (λ (o : Option CommandHeader) (w : Option Outcome). answered_by w o (out ∷ [])) who
-      (ap (λ (c : Option Asking). outcome_of Accepted came c (out ∷ [])) none ∙ unanswered) in
-      moved refl k.outs_are after (record {
-        judged = judged;
+  waits_facts : v ≡ Accepted → call ≡ None → outcome_uncalled came [] ≡ None → TurnFacts s m came v call []
+  waits_facts accepted none e =
+      facts [] m refl refl tt (λ full. refl) (silent refl refl) (unanswered accepted none [] e refl refl)
+
+  asks_facts : (mid s' : Counters) (waiting : List Collecting) (need bytes requests : ℕ) (next : R2tHeader) (outs : List Out)
+      → v ≡ Accepted → outcome_uncalled came (record { header = R2t next; bytes = [] } ∷ []) ≡ None
+      → Waits m waiting p need bytes requests next mid
+      → IsRun None (record { header = R2t next; bytes = [] } ∷ []) mid call outs s' → TurnFacts s s' came v call outs
+  asks_facts mid s' waiting need bytes requests next outs accepted e k r =
+      moved refl r.sent_is (r.next_is ∙ k.next_is)
+      (facts (record { header = R2t next; bytes = [] } ∷ []) (after_r2t (after_collecting waiting m)) refl refl (tt, tt)
+      (λ full. absurd (let f : Accepted ≡ Full = sym accepted ∙ full in cc)) (record {
         windows = (rw k.numbers (record { expects = refl; reaches = refl }), tt);
-        transfers = (
-          record {
-            transfer = k.transfer ∙ tag;
-            status = ap (λ (z : Numbers). z.stat_sn) k.numbers
-                ∙ status;
-          },
-          tt,
-        );
-        called = called;
-        answered = rw nobody refl;
-        tiled = rw nobody refl;
-        counted = rw nobody tt;
-        residual = rw nobody tt;
-        told = rw nobody tt;
-        kinds = kinds (out ∷ []) (tt, tt);
+        transfers = (record { transfer = k.transfer; status = ap (λ (z : Numbers). z.stat_sn) k.numbers }, tt);
         carried = (refl, tt);
-        requests = no_request (out ∷ []);
-        setting_is = setting;
-        commands = commands;
-        statuses = inl (status, refl);
-        tags = inr (ap (λ (x : ℕ). (x + 1) % 4294967295) tag, next, refl);
-      })
+        statuses = inl (refl, refl);
+        tags = inr (refl, next, refl);
+      }) (unanswered accepted r.call_is (record { header = R2t next; bytes = [] } ∷ []) e refl refl))
 
 -- ---- a SCSI Command, and a Data-Out
 
-served_is : {call : Option Asking} {unit : Option ℕ} {wants : Result Command CdbFault} {bytes : List ℕ}
-    {answer : TargetAnswer}
-    → call ≡ Some (served unit wants bytes answer) → IsServed call
-served_is e = rw e tt
-
-none_is : {call : Option Asking} → call ≡ None → IsServed call
-none_is e = rw e tt
-
 command_turn : (s : Counters) (b : List ℕ) (p : CommandHeader) (d : List ℕ) (call : Option Asking) → IsServed call
     → IsJudged s.setting s.standing (pdu b (Initiator (ScsiCommand p)) d) Accepted
-    → IsTurnOf s (after_command p s) (pdu b (Initiator (ScsiCommand p)) d) Accepted call p
+    → IsTurnOf s (pdu b (Initiator (ScsiCommand p)) d) Accepted call p p.immediate
 command_turn s b p d call serves judged = record {
   judged = judged;
   who = refl;
   called = serves;
   kinds = λ outs all none. all;
   no_request = λ outs. tt;
-  setting = refl;
-  status = refl;
-  tag = refl;
-  commands = commands_of p.immediate s.standing.exp_cmd_sn;
+  numbered = refl;
 }
 
 data_turn : (s : Counters) (b : List ℕ) (x : DataOutHeader) (d : List ℕ) (call : Option Asking) (this : Collecting)
-    (cs : List Collecting) → IsServed call
-    → IsJudged s.setting s.standing (pdu b (Initiator (DataOut x)) d) Accepted
+    → IsServed call → IsJudged s.setting s.standing (pdu b (Initiator (DataOut x)) d) Accepted
     → find (has_tag x.task_tag) s.standing.collecting ≡ Some this
-    → IsTurnOf s (after_collecting cs s) (pdu b (Initiator (DataOut x)) d) Accepted call this.command
-data_turn s b x d call this cs serves judged found = record {
+    → IsTurnOf s (pdu b (Initiator (DataOut x)) d) Accepted call this.command true
+data_turn s b x d call this serves judged found = record {
   judged = judged;
   who = ap (option_map (λ (c : Collecting). c.command)) found;
   called = serves;
   kinds = λ outs all none. all;
   no_request = λ outs. tt;
-  setting = refl;
-  status = refl;
-  tag = refl;
-  commands = inl (refl, refl);
+  numbered = refl;
 }
 
-opened_facts : (s s' : Counters) (b : List ℕ) (p : CommandHeader) (d : List ℕ) (call : Option Asking) (outs : List Out)
-    (asked : Result Command CdbFault) → Means p.cdb asked
-    → IsJudged s.setting s.standing (pdu b (Initiator (ScsiCommand p)) d) Accepted
-    → TurnOpened s p asked d call outs s' → TurnFacts s s' (pdu b (Initiator (ScsiCommand p)) d) Accepted call outs
-opened_facts s s' b p d call outs asked means judged (calls h k) =
-    by_target_facts s (after_command p s) _ Accepted call p asked means
-    (command_turn s b p d call (served_is k.call_is) judged) refl k.answer _ _ _ k.call_is outs s' k.answered
-opened_facts s s' b p d call outs asked means judged (asks h next k after) =
-    asks_facts s _ s' (pdu b (Initiator (ScsiCommand p)) d) call p next judged refl (none_is k.no_call) k.no_call
-    refl (λ os all. all) (λ os. tt) refl refl refl (commands_of p.immediate s.standing.exp_cmd_sn) _ _ _ outs k after
-opened_facts s s' b p d call outs asked means judged (turns_away h k) =
-    no_buffer_facts s (after_command p s) _ Accepted call p asked means
-    (command_turn s b p d call (none_is k.no_call) judged) refl k.no_call (λ os. refl) outs s' k.outs_are k.next_is
+module _ (b : List ℕ) (s mid s' : Counters) (step : Step) (call : Option Asking) (outs : List Out)
+    (runs : Runs b step mid call outs s') where
+  abbrev Facts : Verdict → Header → List ℕ → Type 0
+  Facts v h d = IsJudged s.setting s.standing (pdu b h d) v → TurnFacts s s' (pdu b h d) v call outs
 
-fed_facts : (s s' : Counters) (b : List ℕ) (x : DataOutHeader) (d : List ℕ) (call : Option Asking) (outs : List Out)
-    (front : List Collecting) (this : Collecting) (back : List Collecting) (end : ℕ)
-    (asked : Result Command CdbFault) → Means this.command.cdb asked
-    → IsJudged s.setting s.standing (pdu b (Initiator (DataOut x)) d) Accepted
-    → find (has_tag x.task_tag) s.standing.collecting ≡ Some this
-    → TurnFed s front this back asked d end call outs s'
-    → TurnFacts s s' (pdu b (Initiator (DataOut x)) d) Accepted call outs
-fed_facts s s' b x d call outs front this back end asked means judged found (fills h k) =
-    moved refl k.outs_are k.next_is
-    (waits_facts s s _ Accepted call this.command asked means
-    (data_turn s b x d call this s.standing.collecting (none_is k.no_call) judged found)
-    (after_collecting (front ++ (fed this d ∷ back)) s) refl k.no_call refl refl refl refl refl)
-fed_facts s s' b x d call outs front this back end asked means judged found (asks_on all short next k after) =
-    asks_facts s _ s' (pdu b (Initiator (DataOut x)) d) call this.command next judged
-    (ap (option_map (λ (c : Collecting). c.command)) found) (none_is k.no_call) k.no_call refl (λ os all. all)
-    (λ os. tt) refl refl refl (inl (refl, refl)) _ _ _ outs k after
-fed_facts s s' b x d call outs front this back end asked means judged found (calls_now h k) =
-    by_target_facts s _ _ Accepted call this.command asked means
-    (data_turn s b x d call this (front ++ back) (served_is k.call_is) judged found) refl k.answer _ _ _ k.call_is
-    outs s' k.answered
+  opened_facts : (p : CommandHeader) (d : List ℕ) (asked : Result Command CdbFault) → Means p.cdb asked
+      → OnOpened s p asked d step mid → Facts Accepted (Initiator (ScsiCommand p)) d
+  opened_facts p d asked means (calls h k next) judged =
+      let r = ran b step _ _ call outs s' k.step_is (rw next at runs) in
+      by_target_facts s s.standing.collecting p.immediate _ Accepted call p asked means
+      (command_turn s b p d call (rw r.1.call_is tt) judged) refl r.0 _ _ _ outs s' r.1
+  opened_facts p d asked means (asks h next e k) judged =
+      let r = ran b step _ mid call outs s' e runs in
+      asks_facts s s.standing.collecting p.immediate _ Accepted call p asked means
+      (command_turn s b p d call (rw r.call_is tt) judged) mid s' _ _ _ _ next outs refl refl k r
+  opened_facts p d asked means (turns_away h k) judged =
+      let r = ran b step _ mid call outs s' k.step_is runs in
+      no_buffer_facts s s.standing.collecting p.immediate _ Accepted call p asked means
+      (command_turn s b p d call (rw r.call_is tt) judged) refl r.call_is (λ os. refl) outs s' r.sent_is
+      (r.next_is ∙ k.next_is)
 
-accepted_facts : (came : Incoming) (s s' : Counters) (call : Option Asking) (outs : List Out)
-    → IsJudged s.setting s.standing came Accepted → TurnOnAccepted came s call outs s'
-    → TurnFacts s s' came Accepted call outs
-accepted_facts (pdu b (Initiator (ScsiCommand p)) d) s s' call outs judged k =
-    opened_facts s s' b p d call outs k.asked k.asked_by.means judged k.by
-accepted_facts (pdu b (Initiator (DataOut x)) d) s s' call outs judged k =
-    fed_facts s s' b x d call outs k.front k.this k.back _ k.asked k.asked_by.means judged k.found k.by
-accepted_facts (pdu b (Initiator (NopOut p)) d) s s' call outs judged k = nop_facts b p d s s' call outs judged k
-accepted_facts (pdu b (Initiator (TaskManagementRequest p)) d) s s' call outs judged k =
-    managed_facts b p d s s' call outs judged k
-accepted_facts (pdu b (Initiator (TextRequest p)) d) s s' call outs judged k = text_facts b p d s s' call outs judged k
-accepted_facts (pdu b (Initiator (LogoutRequest p)) d) s s' call outs judged k = logout_facts b p d s s' call outs judged k
-accepted_facts came s s' call outs judged k = absurd k
+  fed_facts : (x : DataOutHeader) (d : List ℕ) (front : List Collecting) (this : Collecting) (back : List Collecting)
+      (end : ℕ) (asked : Result Command CdbFault) → Means this.command.cdb asked
+      → find (has_tag x.task_tag) s.standing.collecting ≡ Some this
+      → OnFed s front this back asked d end step mid → Facts Accepted (Initiator (DataOut x)) d
+  fed_facts x d front this back end asked means found (fills h k) judged =
+      let r = ran b step _ mid call outs s' k.step_is runs in
+      moved refl r.sent_is (r.next_is ∙ k.next_is) (waits_facts s _ true _ Accepted call this.command asked means
+      (data_turn s b x d call this (rw r.call_is tt) judged found) refl r.call_is refl)
+  fed_facts x d front this back end asked means found (asks_on all short next e k) judged =
+      let r = ran b step _ mid call outs s' e runs in
+      asks_facts s s.standing.collecting true _ Accepted call this.command asked means
+      (data_turn s b x d call this (rw r.call_is tt) judged found) mid s' _ _ _ _ next outs refl refl k r
+  fed_facts x d front this back end asked means found (calls_now h k next) judged =
+      let r = ran b step _ _ call outs s' k.step_is (rw next at runs) in
+      by_target_facts s (front ++ back) true _ Accepted call this.command asked means
+      (data_turn s b x d call this (rw r.1.call_is tt) judged found) refl r.0 _ _ _ outs s' r.1
 
-full_pdu_facts : (came : Incoming) (s s' : Counters) (call : Option Asking) (outs : List Out)
-    → IsJudged s.setting s.standing came Full → TurnOnFullPdu came s call outs s' → TurnFacts s s' came Full call outs
-full_pdu_facts (pdu b (Initiator (ScsiCommand p)) d) s s' call outs judged k =
-    full_facts s s (pdu b (Initiator (ScsiCommand p)) d) Full call p k.asked k.means (record {
-      judged = judged;
-      who = refl;
-      called = k.turned.no_call;
-      kinds = λ os all none. (all, none);
-      no_request = λ os. tt;
-      setting = refl;
-      status = refl;
-      tag = refl;
-      commands = inl (refl, refl);
-    }) refl outs s' k.turned.outs_are k.turned.next_is
-full_pdu_facts came s s' call outs judged k = absurd k
+  managed_by : (m : Management) (kept : List Collecting) (p : ManagementHeader) (d : List ℕ)
+      → IsManagement s.setting.units s.standing.collecting p m kept
+      → OnManagedBy m (after_collecting kept (after_number p.immediate s)) p step mid
+      → Facts Accepted (Initiator (TaskManagementRequest p)) d
+  managed_by (Respond code) kept p d comes_to k judged =
+      let r = ran b step _ mid call outs s' k.step_is runs in
+      moved r.call_is r.sent_is (r.next_is ∙ k.next_is) (management_facts s b p d None judged kept (Some code)
+      (record { management = Respond code; comes_to = comes_to; managed = (refl, refl) }))
+  managed_by (Reset unit) kept p d comes_to k judged =
+      let r = ran b step _ mid call outs s' k.step_is runs in
+      let next = after_collecting kept (after_number p.immediate s) in
+      let same = λ (z : Counters). after_answer (management_answer (next_numbers z) p (reset_response r.0)) z in
+      moved r.1.call_is
+      (r.1.sent_is ∙ ap (λ (z : Counters). management_answer (next_numbers z) p (reset_response r.0)) k.next_is)
+      (r.1.next_is ∙ ap same k.next_is) (management_facts s b p d (Some (reset unit r.0)) judged kept (reset_response r.0)
+      (record { management = Reset unit; comes_to = comes_to; managed = (r.0, refl, refl) }))
 
-pub made_facts : (s s' : Counters) (came : Incoming) (v : Verdict) (call : Option Asking) (outs : List Out)
-    → IsJudged s.setting s.standing came v → TurnOnVerdict v s came call outs s' → TurnFacts s s' came v call outs
-made_facts s s' came Accepted call outs judged k = accepted_facts came s s' call outs judged k
-made_facts s s' came Full call outs judged k = full_pdu_facts came s s' call outs judged k
-made_facts s s' came Ignored call outs judged k = moved k.no_call k.outs_are k.next_is (record {
-  judged = judged;
-  windows = tt;
-  transfers = tt;
-  called = refl;
-  answered = refl;
-  tiled = refl;
-  counted = tt;
-  residual = tt;
-  told = tt;
-  kinds = refl;
-  carried = tt;
-  requests = tt;
-  setting_is = refl;
-  commands = inl (refl, refl);
-  statuses = inl (refl, refl);
-  tags = inl (refl, refl);
-})
-made_facts s s' came Gap call outs judged k = moved k.no_call k.outs_are k.next_is (record {
-  judged = judged;
-  windows = tt;
-  transfers = tt;
-  called = refl;
-  answered = refl;
-  tiled = refl;
-  counted = tt;
-  residual = tt;
-  told = tt;
-  kinds = refl;
-  carried = tt;
-  requests = tt;
-  setting_is = refl;
-  commands = inl (refl, refl);
-  statuses = inl (refl, refl);
-  tags = inl (refl, refl);
-})
-made_facts s s' came (Refused reason) call outs judged k = moved k.no_call k.outs_are k.next_is (record {
-  judged = judged;
-  windows = (record { expects = refl; reaches = refl }, tt);
-  transfers = tt;
-  called = refl;
-  answered = refl;
-  tiled = refl;
-  counted = tt;
-  residual = tt;
-  told = tt;
-  kinds = (next_numbers s, refl);
-  carried = (refl, tt);
-  requests = tt;
-  setting_is = refl;
-  commands = inl (refl, refl);
-  statuses = inr (refl, refl);
-  tags = inl (refl, refl);
-})
+  taken_facts : (h : Header) (d : List ℕ) → OnTaken s h d step mid → Facts Accepted h d
+  taken_facts (Initiator (ScsiCommand p)) d k judged = opened_facts p d k.asked k.asked_by.means k.by judged
+  taken_facts (Initiator (DataOut x)) d k judged =
+      fed_facts x d k.front k.this k.back _ k.asked k.asked_by.means k.found k.by judged
+  taken_facts (Initiator (TaskManagementRequest p)) d k judged = managed_by k.management k.kept p d k.comes_to k.managed judged
+  taken_facts (Initiator (NopOut p)) d k judged =
+      let r = ran b step _ mid call outs s' k.step_is runs in
+      moved r.call_is r.sent_is (r.next_is ∙ k.next_is)
+      (some_or_none s s.standing.collecting (pdu b (Initiator (NopOut p)) d) p.immediate None judged refl
+      (λ own. no_command None own) refl (λ own. tt) _
+      (record { expects = refl; reaches = refl }) refl refl refl refl refl (p.task_tag == reserved_tag) (_, refl))
+  taken_facts (Initiator (TextRequest p)) d k judged =
+      let r = ran b step _ mid call outs s' k.step_is runs in
+      moved r.call_is r.sent_is (r.next_is ∙ k.next_is)
+      (one_facts s s.standing.collecting (pdu b (Initiator (TextRequest p)) d) p.immediate None judged refl
+      (λ own. no_command None own) refl (λ own. tt) _
+      (record { expects = refl; reaches = refl }) refl refl refl refl refl (_, refl))
+  taken_facts (Initiator (LogoutRequest p)) d k judged =
+      let r = ran b step _ mid call outs s' k.step_is runs in
+      moved r.call_is r.sent_is (r.next_is ∙ k.next_is)
+      (one_facts s s.standing.collecting (pdu b (Initiator (LogoutRequest p)) d) p.immediate None judged refl
+      (λ own. no_command None own) refl (λ own. tt) _
+      (record { expects = refl; reaches = refl }) refl refl refl refl refl (_, refl))
+  taken_facts h d k judged = absurd k
+
+  full_pdu_facts : (h : Header) (d : List ℕ) → OnFullPdu s h step mid → Facts Full h d
+  full_pdu_facts (Initiator (ScsiCommand p)) d k judged =
+      let r = ran b step _ mid call outs s' k.sends.step_is runs in
+      full_facts s s.standing.collecting true (pdu b (Initiator (ScsiCommand p)) d) Full call p k.asked k.means (record {
+        judged = judged;
+        who = refl;
+        called = r.call_is;
+        kinds = λ os all none. (all, none refl);
+        no_request = λ os. tt;
+        numbered = refl;
+      }) refl outs s' r.sent_is (r.next_is ∙ k.sends.next_is)
+  full_pdu_facts h d k judged = absurd k
+
+  unaccepted_facts : (v : Verdict) (came : Incoming) → bhs_of came ≡ b → OnUnaccepted v s step mid
+      → IsJudged s.setting s.standing came v → TurnFacts s s' came v call outs
+  unaccepted_facts Accepted came e k judged = absurd k
+  unaccepted_facts Full came e k judged = absurd k
+  unaccepted_facts (Refused reason) came e k judged =
+      let r = ran b step _ mid call outs s' k.step_is runs in
+      moved r.call_is (r.sent_is ∙ ap (λ (z : List ℕ). record {
+        header = Reject (record { reason = reason; numbers = next_numbers s });
+        bytes = z;
+      } ∷ []) (sym e)) (r.next_is ∙ k.next_is) (record {
+        judged = judged;
+        called = refl;
+        kinds = (next_numbers s, refl);
+        requests = tt;
+        setting_is = refl;
+        commands = inl (refl, refl);
+        sends = one_out (record { expects = refl; reaches = refl }) refl refl refl refl refl;
+        task = nobody refl refl refl;
+      })
+  unaccepted_facts v came e k judged =
+      let r = ran b step _ mid call outs s' k.step_is runs in
+      moved r.call_is r.sent_is (r.next_is ∙ k.next_is) (record {
+        judged = judged;
+        called = refl;
+        kinds = refl;
+        requests = tt;
+        setting_is = refl;
+        commands = inl (refl, refl);
+        sends = silent refl refl;
+        task = nobody refl refl refl;
+      })
+
+pub made_facts : (came : Incoming) (v : Verdict) (s mid s' : Counters) (step : Step) (call : Option Asking)
+    (outs : List Out) → IsJudged s.setting s.standing came v → OnIncoming v s came step mid
+    → Runs (bhs_of came) step mid call outs s' → TurnFacts s s' came v call outs
+made_facts (pdu b h d) Accepted s mid s' step call outs judged k runs = taken_facts b s mid s' step call outs runs h d k judged
+made_facts (pdu b h d) Full s mid s' step call outs judged k runs = full_pdu_facts b s mid s' step call outs runs h d k judged
+made_facts came v s mid s' step call outs judged k runs =
+    unaccepted_facts (bhs_of came) s mid s' step call outs runs v came refl k judged

@@ -1,186 +1,90 @@
 -- What a turn makes of the tasks: as the session made it.
-use Rattle.std.proofs.Common.{◌≡◌, ◌⊎◌, ℕ, ◌<◌, Bool, true, false, List, [], ◌∷◌, ◌++◌, Option, Some, None, map, length, refl, sym, ap, subst, subst₂, ◌∙◌, inl, inr}
-use Rattle.std.specs.Prelude.{◌==◌, ◌||◌, if◌then◌else◌, Result, nat_lt}
-use Rattle.std.specs.List.{filter, list_any, find}
-use Rattle.std.specs.Option.{option_to_list}
-use Rattle.std.proofs.lemmas.Bool.{eqb-true}
-use Rattle.std.proofs.lemmas.List.{append-nil}
-use Rattle.scsi_types.specs.Cdb.{need_of}
-use Rattle.scsi_types.specs.declared.command.Command.{Command}
-use Rattle.scsi_types.specs.declared.command.CdbFault.{CdbFault}
-use Rattle.iscsi_pdu.specs.declared.header.ScsiCommand.{ScsiCommand as CommandHeader}
-use Rattle.iscsi_pdu.specs.declared.header.Header.TheVariants.{Initiator}
-use Rattle.iscsi_pdu.specs.declared.header.InitiatorHeader.TheVariants.{NopOut, ScsiCommand, DataOut, TaskManagementRequest}
-use Rattle.iscsi_pdu.specs.declared.header.InitiatorHeader.TheVariants.{TextRequest, LogoutRequest}
-use Rattle.session_rules.specs.declared.lengths.Lengths.{Lengths}
+use Rattle.std.proofs.Common.{◌≡◌, ℕ, ◌+◌, ◌<◌, Bool, true, false, List, [], ◌∷◌, ◌++◌, Option, Some, None, map, length, refl}
+use Rattle.std.proofs.Common.{arith, sym, ap, subst, ◌∙◌, inl, inr}
+use Rattle.std.proofs.lemmas.{Bool.eqb-true, List.append-nil}
+use Rattle.session_rules.specs.Words.{◌==◌, ◌||◌, if◌then◌else◌, Result, nat_lt, list_any, find, option_to_list, Means, Command}
+use Rattle.session_rules.specs.Words.{CdbFault, CommandHeader, Initiator, NopOut, ScsiCommand, DataOut, TaskManagementRequest}
+use Rattle.session_rules.specs.Words.{TextRequest, LogoutRequest, Header, ManagementHeader}
+use Rattle.session_rules.specs.{Collecting.Continues, Asking.Asking, Turn.Incoming, Turn.pdu, Turn.Out, Turn.Turn}
+use Rattle.session_rules.specs.{Setting.Setting, Setting.discovers, Standing.Standing, Transfer.expected_transfer, Nop.nop_answer}
+use Rattle.session_rules.specs.{Legal.bhs_of, TaskManagement.management_answer, TaskManagement.reset_response}
 use Rattle.session_rules.specs.declared.target.TargetAnswer.{TargetAnswer}
-use Rattle.session_rules.specs.declared.target.TargetAnswer.TheVariants.{Replied, Outside, Busy, Gone}
+use Rattle.session_rules.specs.declared.target.TargetAnswer.TheVariants.{Gone}
 use Rattle.session_rules.specs.declared.verdict.Verdict.{Verdict}
 use Rattle.session_rules.specs.declared.verdict.Verdict.TheVariants.{Accepted, Full, Ignored, Gap, Refused}
 use Rattle.session_rules.specs.declared.verdict.TheConstants.{RESERVED_TAG}
-use Rattle.session_rules.specs.Asking.{Asking, served}
-use Rattle.session_rules.specs.Turn.{Incoming, pdu, Out, Turn}
-use Rattle.session_rules.specs.Tasks.{is_response, r2ts_of, finds_gone, touches, has_tag, ends, Task, Collecting}
-use Rattle.session_rules.specs.Tasks.{accepted_command, begun_by, tasks}
-use Rattle.full_feature.proofs.TaskTurn.{keeps, IsCalledNow, IsOpened, IsFed}
-use Rattle.full_feature.proofs.TaskTurn as task
-use Rattle.session_rules.specs.Setting.{Setting, discovers}
-use Rattle.session_rules.specs.Standing.{Standing}
-use Rattle.session_rules.specs.Transfer.{sent_data, expected_transfer}
-use Rattle.session_rules.specs.Verdict.{IsJudged, is_refused, verdict_of, most_immediate}
-use Rattle.full_feature.specs.AnswerPdus.{reply_with, busy}
-use Rattle.session_rules.specs.Response.{sense_part}
-use Rattle.full_feature.specs.declared.response.Completion.{Completion}
-use Rattle.full_feature.specs.Counters.{Counters, after_number, after_command, after_collecting, after_answer, next_numbers}
-use Rattle.session_rules.specs.Nop.{nop_answer}
-use Rattle.session_rules.specs.Text.{text_outs}
-use Rattle.session_rules.specs.TaskManagement.{management_answer}
-use Rattle.session_rules.specs.Logout.{logout_answer}
-use Rattle.full_feature.specs.MachineTurn.{TurnOnAnswer, TurnOnCall, TurnOpened, calls, asks, turns_away, TurnFed, fills}
-use Rattle.full_feature.specs.MachineTurn.{asks_on, calls_now, TurnOnAccepted, TurnOnFullPdu, TurnOnVerdict}
-use Rattle.full_feature.proofs.ReadSegments.{outs_r2ts, outs_ended}
-use Rattle.session_rules.proofs.Tasks.{no_more, extended, tasks_more, not_full}
-use Rattle.full_feature.proofs.Table.{IsKept, nothing_comes, command_comes, data_comes, management_comes}
-use Rattle.full_feature.proofs.Dropping.{kept_is, no_r2t_managed}
+use Rattle.session_rules.specs.declared.end.End.{End}
+use Rattle.session_rules.specs.declared.task_function.Management.{Management, TheVariants.Respond, TheVariants.Reset}
+use Rattle.session_rules.specs.Tasks.{r2ts_of, touches, has_tag, ends, Task, Collecting, accepted_command, begun_by, tasks}
+use Rattle.session_rules.specs.Verdict.{IsJudged, IsJudgedPdu, verdict_of, most_immediate}
+use Rattle.session_rules.proofs.Tasks.{with_turn, no_more, extended, tasks_more, not_full}
+use Rattle.full_feature.proofs.{Turns.ran, Dropping.kept_is, Dropping.no_r2t_managed}
+use Rattle.full_feature.proofs.Steps.{Becomes, opened_rest, opened, fed_rest, fed}
+use Rattle.full_feature.proofs.Table.{InPlace, IsKept, nothing_comes, command_comes, data_comes, management_comes}
+use Rattle.full_feature.specs.Counters.{Counters, after_number, after_collecting, after_answer, after_reply, next_numbers}
+use Rattle.full_feature.specs.{Step.Step, Step.says, Step.Runs, MakesTurn.TurnOf}
+use Rattle.full_feature.specs.Machine.{Makes, Calls, OnOpened, calls, asks, turns_away, OnFed, fills, asks_on, calls_now}
+use Rattle.full_feature.specs.Machine.{OnManagedBy, OnTaken, OnFullPdu, OnUnaccepted, OnIncoming}
 
--- ---- what an answer has: no R2T, and an end of its task
+-- ---- what waits behind a step
 
-module _ (m : Counters) (p : CommandHeader) (need : ℕ) (bytes : List ℕ) (completion : Completion) where
-  no_r2ts : r2ts_of (reply_with m p need bytes completion) ≡ []
-  no_r2ts = outs_r2ts m.standing p.task_tag m.setting.start.lengths (sent_data p bytes) _
-      (sense_part completion.sense) (length (sent_data p bytes)) 0 0
+keeps_waiting : (answer : TargetAnswer) (m : Counters) → (after_reply answer m).standing.collecting ≡ m.standing.collecting
+keeps_waiting Gone m = refl
+keeps_waiting answer m = refl
 
-  is_ended : list_any (λ o. is_response o.header) (reply_with m p need bytes completion) ≡ true
-  is_ended = outs_ended m.standing p.task_tag m.setting.start.lengths (sent_data p bytes) _
-      (sense_part completion.sense) (length (sent_data p bytes)) 0 0
+module _ (b : List ℕ) (step : Step) (s mid s' : Counters) (call : Option Asking) (outs : List Out)
+    (runs : Runs b step mid call outs s') where
+  -- those that wait, where nothing was called, and where a command was
+  stays : (said : List Out) (end : Option End) → step ≡ says said end → s'.standing.collecting ≡ mid.standing.collecting
+  stays said end e = ap (λ (z : Counters). z.standing.collecting) (ran b step (says said end) mid call outs s' e runs).next_is
 
-abbrev Ends : Option Asking → List Out → Type 0
-Ends call outs = (r2ts_of outs ≡ []) × ((list_any (λ o. is_response o.header) outs ≡ true) ⊎ (finds_gone call ≡ true))
+  answered_stays : (p : CommandHeader) (asked : Result Command CdbFault) (bytes : List ℕ) → Calls p asked bytes step
+      → s'.standing.collecting ≡ mid.standing.collecting
+  answered_stays p asked bytes k =
+      let r = ran b step _ mid call outs s' k.step_is runs in
+      ap (λ (z : Counters). z.standing.collecting) r.1.next_is ∙ keeps_waiting r.0 mid
 
-answered_ends : (m : Counters) (p : CommandHeader) (need : ℕ) (answer : TargetAnswer) (call : Option Asking)
-    (unit : Option ℕ) (wants : Result Command CdbFault)
-    (bytes : List ℕ) (outs : List Out) (s' : Counters) → call ≡ Some (served unit wants bytes answer)
-    → TurnOnAnswer m p need answer outs s' → Ends call outs
-answered_ends m p need (Replied a) call unit wants bytes outs s' e k =
-    rw k.0 (no_r2ts m p need a.bytes _, inl (is_ended m p need a.bytes _))
-answered_ends m p need (Outside a) call unit wants bytes outs s' e k =
-    rw k.0 (no_r2ts m p need a.bytes _, inl (is_ended m p need a.bytes _))
-answered_ends m p need Busy call unit wants bytes outs s' e k =
-    rw k.0 (no_r2ts m p need [] busy, inl (is_ended m p need [] busy))
-answered_ends m p need Gone call unit wants bytes outs s' e k = rw k.0 (refl, inr (rw e refl))
+  opened_waits : (p : CommandHeader) (asked : Result Command CdbFault) (d : List ℕ) (on : OnOpened s p asked d step mid)
+      → (s'.standing.collecting ≡ s.standing.collecting ++ opened_rest on) × InPlace p.task_tag (opened_rest on)
+  opened_waits p asked d (calls h k next) = (
+    answered_stays p asked d k ∙ ap (λ (z : Counters). z.standing.collecting) next ∙ sym (append-nil s.standing.collecting),
+    inl refl,
+  )
+  opened_waits p asked d (asks h next e k) =
+      (stays _ _ e ∙ ap (λ (z : Counters). z.standing.collecting) k.next_is, inr (_, refl, refl))
+  opened_waits p asked d (turns_away h k) = (
+    stays _ _ k.step_is ∙ ap (λ (z : Counters). z.standing.collecting) k.next_is ∙ sym (append-nil s.standing.collecting),
+    inl refl,
+  )
 
-keeps_waiting : (m : Counters) (p : CommandHeader) (need : ℕ) (answer : TargetAnswer) (outs : List Out) (s' : Counters)
-    → TurnOnAnswer m p need answer outs s' → s'.standing.collecting ≡ m.standing.collecting
-keeps_waiting m p need (Replied a) outs s' r = ap (λ (z : Counters). z.standing.collecting) r.1
-keeps_waiting m p need (Outside a) outs s' r = ap (λ (z : Counters). z.standing.collecting) r.1
-keeps_waiting m p need Busy outs s' r = ap (λ (z : Counters). z.standing.collecting) r.1
-keeps_waiting m p need Gone outs s' r = ap (λ (z : Counters). z.standing.collecting) r.1
-
-called_now : (m : Counters) (p : CommandHeader) (asked : Result Command CdbFault) (bytes : List ℕ)
-    (call : Option Asking) (outs : List Out) (s' : Counters)
-    → TurnOnCall m p asked bytes call outs s' → IsCalledNow p asked bytes call outs []
-called_now m p asked bytes call outs s' k =
-    let e = answered_ends m p (need_of asked) k.answer call _ _ _ outs s' k.call_is k.answered in
-    record { unit = k.unit; names = k.names; answer = k.answer; call_is = k.call_is; no_r2t = e.0; ends = e.1; none = refl }
-
--- ---- a command
-
-opened_now : (s s' : Counters) (p : CommandHeader) (asked : Result Command CdbFault) (d : List ℕ)
-    (call : Option Asking) (outs : List Out)
-    → TurnOpened s p asked d call outs s'
-    → (new : List Collecting) × IsOpened s.setting.start.lengths.burst p asked d call outs new
-    × (s'.standing.collecting ≡ s.standing.collecting ++ new)
-opened_now s s' p asked d call outs (calls h k) = (
-  [],
-  task.called h (called_now (after_command p s) p asked d call outs s' k),
-  keeps_waiting (after_command p s) p
-      (need_of asked) k.answer outs s' k.answered ∙ sym (append-nil s.standing.collecting),
-)
-opened_now s s' p asked d call outs (asks h next k after) = (
-  _,
-  task.asks h (record {
-    all = refl;
-    short = h.short;
-    next = next;
-    is_next = k.is_next;
-    no_call = k.no_call;
-    outs_are = k.outs_are;
-    one = refl;
-  }),
-  ap (λ (z : Counters). z.standing.collecting) after,
-)
-opened_now s s' p asked d call outs (turns_away h k) = (
-  [],
-  task.busy h (record {
-    no_call = k.no_call;
-    no_r2t = rw k.outs_are (no_r2ts (after_command p s) p (need_of asked) [] busy);
-    response =
-        rw k.outs_are (is_ended (after_command p s) p (need_of asked) [] busy);
-    none = refl;
-  }),
-  ap (λ (z : Counters). z.standing.collecting) k.next_is ∙ sym (append-nil s.standing.collecting),
-)
+  fed_waits : (front : List Collecting) (this : Collecting) (back : List Collecting) (asked : Result Command CdbFault)
+      (d : List ℕ) (end : ℕ) (on : OnFed s front this back asked d end step mid)
+      → (s'.standing.collecting ≡ front ++ (fed_rest on ++ back)) × InPlace this.command.task_tag (fed_rest on)
+  fed_waits front this back asked d end (fills h k) =
+      (stays _ _ k.step_is ∙ ap (λ (z : Counters). z.standing.collecting) k.next_is, inr (_, refl, refl))
+  fed_waits front this back asked d end (asks_on all short next e k) =
+      (stays _ _ e ∙ ap (λ (z : Counters). z.standing.collecting) k.next_is, inr (_, refl, refl))
+  fed_waits front this back asked d end (calls_now h k next) = (
+    answered_stays this.command asked (this.bytes ++ d) k ∙ ap (λ (z : Counters). z.standing.collecting) next,
+    inl refl,
+  )
 
 -- a command that is accepted has a tag of its own
-pub not_refused : (turn gap refused : Bool)
-    → (if turn then (if refused then Refused 4 else Accepted) else (if gap then Gap else Ignored)) ≡ Accepted
-    → refused ≡ false
-not_refused true gap true e = absurd (let f : Refused 4 ≡ Accepted = e in cc)
-not_refused true gap false e = refl
-not_refused false true refused e = absurd (let f : Gap ≡ Accepted = e in cc)
-not_refused false false refused e = absurd (let f : Ignored ≡ Accepted = e in cc)
-
-tag_of_four : (a b c d : Bool) → (a || b || c || d) ≡ false → b ≡ false
-tag_of_four true b c d e = absurd (let f : true ≡ false = e in cc)
-tag_of_four false true c d e = absurd (let f : true ≡ false = e in cc)
-tag_of_four false false c d e = refl
-
-tag_of_refused : (discovery refused : Bool) → (discovery || refused) ≡ false → refused ≡ false
-tag_of_refused true refused e = absurd (cc)
-tag_of_refused false refused e = e
+not_refused : (turn gap discovers reserved known long more : Bool)
+    → (if turn then (if discovers || (reserved || known || long || more) then Refused 4 else Accepted)
+    else (if gap then Gap else Ignored)) ≡ Accepted → known ≡ false
+not_refused turn gap discovers reserved false long more e = refl
+not_refused true gap true reserved true long more e = absurd (let f : Refused 4 ≡ Accepted = e in cc)
+not_refused true gap false true true long more e = absurd (let f : Refused 4 ≡ Accepted = e in cc)
+not_refused true gap false false true long more e = absurd (let f : Refused 4 ≡ Accepted = e in cc)
+not_refused false true discovers reserved true long more e = absurd (let f : Gap ≡ Accepted = e in cc)
+not_refused false false discovers reserved true long more e = absurd (let f : Ignored ≡ Accepted = e in cc)
 
 pub fresh_tag : (m : Setting) (s : Standing) (p : CommandHeader) (d : List ℕ) → Accepted ≡ verdict_of m s p d
     → list_any (has_tag p.task_tag) s.collecting ≡ false
 fresh_tag m s p d e =
-    let l : Lengths = m.start.lengths in
-    let refused : is_refused l s p d ≡ false =
-    tag_of_refused (discovers m.kind) (is_refused l s p d)
-    (not_refused _ _ (discovers m.kind || is_refused l s p d) (not_full _ _ (sym e))) in
-    tag_of_four (p.task_tag == RESERVED_TAG) (list_any (has_tag p.task_tag) s.collecting)
-    (nat_lt (expected_transfer p) (length d)) (nat_lt (most_immediate l) (length d)) refused
-
--- ---- a Data-Out
-
-fed_now : (s s' : Counters) (front : List Collecting) (this : Collecting) (back : List Collecting)
-    (asked : Result Command CdbFault) (d : List ℕ) (end : ℕ)
-    (call : Option Asking) (outs : List Out) → TurnFed s front this back asked d end call outs s'
-    → (new : List Collecting) × IsFed s.setting.start.lengths.burst this asked (this.bytes ++ d) end call outs new
-    × (s'.standing.collecting ≡ front ++ (new ++ back))
-fed_now s s' front this back asked d end call outs (fills h k) = (
-  _,
-  task.filling (record { short = h; no_call = k.no_call; outs_are = k.outs_are; one = refl }),
-  ap (λ (z : Counters). z.standing.collecting) k.next_is,
-)
-fed_now s s' front this back asked d end call outs (asks_on all short next k after) = (
-  _,
-  task.on (record {
-    all = all;
-    short = short;
-    next = next;
-    is_next = k.is_next;
-    no_call = k.no_call;
-    outs_are = k.outs_are;
-    one = refl;
-  }),
-  ap (λ (z : Counters). z.standing.collecting) after,
-)
-fed_now s s' front this back asked d end call outs (calls_now h k) =
-    let m : Counters = after_collecting (front ++ back) s in (
-      [],
-      task.now (h, called_now m this.command asked (this.bytes ++ d) call outs s' k),
-      keeps_waiting m this.command
-          (need_of asked) k.answer outs s' k.answered,
-    )
+    not_refused _ _ (discovers m.kind) (p.task_tag == RESERVED_TAG) (list_any (has_tag p.task_tag) s.collecting)
+    (nat_lt (expected_transfer p) (length d)) (nat_lt (most_immediate m.start.lengths) (length d)) (not_full _ _ (sym e))
 
 found_tag : (tag : ℕ) (cs : List Collecting) (c : Collecting) → find (has_tag tag) cs ≡ Some c → c.command.task_tag ≡ tag
 found_tag tag [] c e = absurd (let f : None ≡ Some c = e in cc)
@@ -197,118 +101,107 @@ answer_keeps : (outs : List Out) (m : Counters) → (after_answer outs m).standi
 answer_keeps [] m = refl
 answer_keeps (o ∷ outs) m = refl
 
-module _ (s s' : Counters) (some : 0 < s.setting.start.lengths.burst) (ks : List Task)
+module _ (b : List ℕ) (step : Step) (s mid s' : Counters) (call : Option Asking) (outs : List Out)
+    (runs : Runs b step mid call outs s') (some : 0 < s.setting.start.lengths.burst) (ks : List Task)
     (kept : IsKept s.setting.start.lengths.burst ks s.standing.collecting) where
-  abbrev Keeps : Incoming → Verdict → Option Asking → List Out → Type 0
-  Keeps came v call outs =
-      let t : Turn = record { came = came; verdict = v; call = call; sent = outs } in
-      IsKept s.setting.start.lengths.burst
-      (map (extended s.setting.units t) ks ++ option_to_list (begun_by s.setting.units (accepted_command v came) t [])) s'.standing.collecting
+  abbrev this_turn : Incoming → Verdict → Turn
+  this_turn came v = record { came = came; verdict = v; call = call; sent = outs }
 
-  quiet : (came : Incoming) (v : Verdict) (call : Option Asking) (outs : List Out) → accepted_command v came ≡ None
-      → ((p : CommandHeader) → touches s.setting.units p (record { came = came; verdict = v; call = call; sent = outs }) ≡ false)
-      → s'.standing.collecting ≡ s.standing.collecting
-      → Keeps came v call outs
-  quiet came v call outs none untouched same =
-      let t : Turn = record { came = came; verdict = v; call = call; sent = outs } in
-      subst₂ (λ (o : Option (CommandHeader × List ℕ)) (cs : List Collecting). IsKept s.setting.start.lengths.burst
-      (map (extended s.setting.units t) ks ++ option_to_list (begun_by s.setting.units o t [])) cs) (sym none) (sym same)
-      (subst (λ (z : List Task). IsKept s.setting.start.lengths.burst z s.standing.collecting)
-      (sym (append-nil (map (extended s.setting.units t) ks)))
-      (nothing_comes s.setting.units s.setting.start.lengths.burst some ks s.standing.collecting kept t untouched))
+  abbrev Keeps : Incoming → Verdict → Type 0
+  Keeps came v =
+      let t = this_turn came v in
+      let begins = option_to_list (begun_by s.setting.units (accepted_command v came) t []) in
+      IsKept s.setting.start.lengths.burst (map (extended s.setting.units t) ks ++ begins) s'.standing.collecting
 
-  accepted_keeps : (came : Incoming) (call : Option Asking) (outs : List Out) → IsJudged s.setting s.standing came Accepted
-      → TurnOnAccepted came s call outs s' → Keeps came Accepted call outs
-  accepted_keeps (pdu b (Initiator (ScsiCommand p)) d) call outs judged k =
-      let t : Turn = record { came = pdu b (Initiator (ScsiCommand p)) d; verdict = Accepted; call = call; sent = outs } in
-      let o = opened_now s s' p k.asked d call outs k.by in
-      subst (λ (cs : List Collecting). IsKept s.setting.start.lengths.burst
-      (map (extended s.setting.units t) ks ++ option_to_list (begun_by s.setting.units (Some (p, d)) t [])) cs) (sym o.2)
-      (subst (λ (own : List Turn). IsKept s.setting.start.lengths.burst
-      (map (extended s.setting.units t) ks ++ record { command = p; segment = d; own = own } ∷ []) (s.standing.collecting ++ o.0))
-      (sym (no_more ends t (ends t)))
-      (command_comes s.setting.units s.setting.start.lengths.burst some ks s.standing.collecting kept b p d k.asked k.asked_by.means
-      call outs o.0 (fresh_tag s.setting s.standing p d judged) o.1))
-  accepted_keeps (pdu b (Initiator (DataOut x)) d) call outs judged k =
-      let t : Turn = record { came = pdu b (Initiator (DataOut x)) d; verdict = Accepted; call = call; sent = outs } in
-      let o = fed_now s s' k.front k.this k.back k.asked d _ call outs k.by in
-      subst (λ (z : List Task). IsKept s.setting.start.lengths.burst z s'.standing.collecting)
-      (sym (append-nil (map (extended s.setting.units t) ks)))
+  quiet : (came : Incoming) (v : Verdict) → accepted_command v came ≡ None
+      → ((p : CommandHeader) → touches s.setting.units p (this_turn came v) ≡ false)
+      → s'.standing.collecting ≡ s.standing.collecting → Keeps came v
+  quiet came v none untouched same =
+      rw (none, same, append-nil) (nothing_comes s.setting.units s.setting.start.lengths.burst some ks s.standing.collecting
+      kept (this_turn came v) untouched)
+
+  stayed : (said : List Out) (end : Option End) (next : Counters) → Makes (says said end) next step mid
+      → s'.standing.collecting ≡ next.standing.collecting
+  stayed said end next k =
+      stays b step s mid s' call outs runs said end k.step_is ∙ ap (λ (z : Counters). z.standing.collecting) k.next_is
+
+  managed_keeps : (x : ManagementHeader) (m : Management) (n : Counters) → OnManagedBy m n x step mid
+      → (r2ts_of outs ≡ []) × (s'.standing.collecting ≡ n.standing.collecting)
+  managed_keeps x (Respond code) n k =
+      let r = ran b step _ mid call outs s' k.step_is runs in
+      (rw r.sent_is refl, stayed _ _ _ k)
+  managed_keeps x (Reset unit) n k =
+      let r = ran b step _ mid call outs s' k.step_is runs in (
+        rw r.1.sent_is (no_r2t_managed (next_numbers mid) x (reset_response r.0)),
+        ap (λ (z : Counters). z.standing.collecting) r.1.next_is
+            ∙ answer_keeps (management_answer (next_numbers mid) x (reset_response r.0)) mid
+            ∙ ap (λ (z : Counters). z.standing.collecting) k.next_is,
+      )
+
+  taken_keeps : (h : Header) (d : List ℕ) → IsJudgedPdu s.setting s.standing h d Accepted → OnTaken s h d step mid
+      → Keeps (pdu b h d) Accepted
+  taken_keeps (Initiator (ScsiCommand p)) d judged k =
+      let t : Turn = this_turn (pdu b (Initiator (ScsiCommand p)) d) Accepted in
+      let o = opened_waits b step s mid s' call outs runs p k.asked d k.by in
+      rw (o.0, no_more ends t (ends t))
+      (command_comes s.setting.units s.setting.start.lengths.burst some ks s.standing.collecting kept b p d
+      call outs (opened_rest k.by) (fresh_tag s.setting s.standing p d judged) o.1
+      (opened s some b p d k.asked k.asked_by.means mid s' step call outs runs k.by))
+  taken_keeps (Initiator (DataOut x)) d judged k =
+      let t : Turn = this_turn (pdu b (Initiator (DataOut x)) d) Accepted in
+      let o = fed_waits b step s mid s' call outs runs k.front k.this k.back k.asked d _ k.by in
+      rw (o.0, append-nil)
       (data_comes s.setting.units s.setting.start.lengths.burst some ks s.standing.collecting kept b x d call outs
-      s'.standing.collecting (record {
-        front = k.front;
-        this = k.this;
-        back = k.back;
-        new = o.0;
-        whole = k.whole;
-        tag = found_tag x.task_tag s.standing.collecting k.this k.found;
-        continues = k.continues;
-        asked = k.asked;
-        means = k.asked_by.means;
-        only = k.asked_by.only;
-        fed = o.1;
-        after = o.2;
-      }))
-  accepted_keeps (pdu b (Initiator (NopOut p)) d) call outs judged k =
-      quiet (pdu b (Initiator (NopOut p)) d) Accepted call outs refl (λ q. refl)
-      (ap (λ (z : Counters). z.standing.collecting) k.next_is
-      ∙ answer_keeps (nop_answer (next_numbers (after_number p.immediate s)) s.setting.start.lengths p d)
-      (after_number p.immediate s))
-  accepted_keeps (pdu b (Initiator (LogoutRequest p)) d) call outs judged k =
-      quiet (pdu b (Initiator (LogoutRequest p)) d) Accepted call outs refl (λ q. refl)
-      (ap (λ (z : Counters). z.standing.collecting) k.next_is
-      ∙ answer_keeps (logout_answer (next_numbers (after_number p.immediate s)) p) (after_number p.immediate s))
-  accepted_keeps (pdu b (Initiator (TextRequest p)) d) call outs judged k =
-      quiet (pdu b (Initiator (TextRequest p)) d) Accepted call outs refl (λ q. refl)
-      (ap (λ (z : Counters). z.standing.collecting) k.next_is
-      ∙ answer_keeps (text_outs (next_numbers (after_number p.immediate s)) s.setting p d)
-      (after_number p.immediate s))
-  accepted_keeps (pdu b (Initiator (TaskManagementRequest x)) d) call outs judged k =
-      let t : Turn = record {
-        came = pdu b (Initiator (TaskManagementRequest x)) d;
-        verdict = Accepted;
-        call =
-            call;
-        sent = outs;
-      } in
-      let mid : Counters = after_collecting k.kept (after_number x.immediate s) in
-      let waiting : s'.standing.collecting ≡ k.kept = ap (λ (z : Counters). z.standing.collecting) k.turned.next_is
-      ∙ answer_keeps (management_answer (next_numbers mid) x k.response) mid in
-      let dropped : filter (keeps s.setting.units x) s.standing.collecting ≡ k.kept =
-      kept_is s.setting.units s.standing.collecting x k.managed.management k.kept k.managed.comes_to in
-      subst (λ (z : List Task). IsKept s.setting.start.lengths.burst z s'.standing.collecting)
-      (sym (append-nil (map (extended s.setting.units t) ks)))
-      (subst (λ (cs : List Collecting). IsKept s.setting.start.lengths.burst (map (extended s.setting.units t) ks) cs)
-      (dropped ∙ sym waiting)
-      (management_comes s.setting.units s.setting.start.lengths.burst some ks s.standing.collecting kept b x d call outs
-      (subst (λ (z : List Out). r2ts_of z ≡ []) (sym k.turned.outs_are)
-      (no_r2t_managed (next_numbers mid) x k.response))))
-  accepted_keeps came call outs judged k = absurd k
+      k.front k.this k.back (fed_rest k.by) k.whole (found_tag x.task_tag s.standing.collecting k.this k.found) o.1
+      (λ task right lasts is. subst (λ (c : Collecting). (q : Continues c x d)
+      → (on : OnFed s k.front c k.back k.asked d (q.request.offset + q.request.desired_length) step mid)
+      → Becomes s.setting.start.lengths.burst (with_turn task t) (fed_rest on)) is
+      (λ q. fed s some task lasts right b x d q mid s' step call outs runs k.asked
+      (sym (k.asked_by.only right.asked (subst (λ (c : Collecting). Means c.command.cdb right.asked) is right.means)))
+      k.front k.back) k.continues k.by))
+  taken_keeps (Initiator (NopOut p)) d judged k =
+      quiet (pdu b (Initiator (NopOut p)) d) Accepted refl (λ q. refl)
+      (stayed _ _ _ k ∙ answer_keeps (nop_answer (next_numbers (after_number p.immediate s)) s.setting.start.lengths p d) _)
+  taken_keeps (Initiator (LogoutRequest p)) d judged k =
+      quiet (pdu b (Initiator (LogoutRequest p)) d) Accepted refl (λ q. refl) (stayed _ _ _ k)
+  taken_keeps (Initiator (TextRequest p)) d judged k =
+      quiet (pdu b (Initiator (TextRequest p)) d) Accepted refl (λ q. refl) (stayed _ _ _ k)
+  taken_keeps (Initiator (TaskManagementRequest x)) d judged k =
+      let w = managed_keeps x k.management (after_collecting k.kept (after_number x.immediate s)) k.managed in
+      rw (w.1, ← kept_is s.setting.units s.standing.collecting x k.management k.kept k.comes_to, append-nil)
+      (management_comes s.setting.units s.setting.start.lengths.burst some ks s.standing.collecting kept b x d call outs w.0)
+  taken_keeps h d judged k = absurd k
 
-  full_keeps : (came : Incoming) (call : Option Asking) (outs : List Out) → TurnOnFullPdu came s call outs s'
-      → Keeps came Full call outs
-  full_keeps (pdu b (Initiator (ScsiCommand p)) d) call outs k =
-      quiet (pdu b (Initiator (ScsiCommand p)) d) Full call outs refl (λ q. refl)
-      (ap (λ (z : Counters). z.standing.collecting) k.turned.next_is)
-  full_keeps came call outs k = absurd k
+  full_keeps : (h : Header) (d : List ℕ) → OnFullPdu s h step mid → Keeps (pdu b h d) Full
+  full_keeps (Initiator (ScsiCommand p)) d k =
+      quiet (pdu b (Initiator (ScsiCommand p)) d) Full refl (λ q. refl) (stayed _ _ _ k.sends)
+  full_keeps h d k = absurd k
 
-  turn_keeps : (v : Verdict) (came : Incoming) (call : Option Asking) (outs : List Out)
-      → IsJudged s.setting s.standing came v
-      → TurnOnVerdict v s came call outs s' → Keeps came v call outs
-  turn_keeps Accepted came call outs judged k = accepted_keeps came call outs judged k
-  turn_keeps Full came call outs judged k = full_keeps came call outs k
-  turn_keeps Ignored came call outs judged k =
-      quiet came Ignored call outs refl (λ q. refl) (ap (λ (z : Counters). z.standing.collecting) k.next_is)
-  turn_keeps Gap came call outs judged k =
-      quiet came Gap call outs refl (λ q. refl) (ap (λ (z : Counters). z.standing.collecting) k.next_is)
-  turn_keeps (Refused reason) came call outs judged k =
-      quiet came (Refused reason) call outs refl (λ q. refl) (ap (λ (z : Counters). z.standing.collecting) k.next_is)
+  unaccepted_keeps : (v : Verdict) (came : Incoming) → OnUnaccepted v s step mid → Keeps came v
+  unaccepted_keeps Accepted came k = absurd k
+  unaccepted_keeps Full came k = absurd k
+  unaccepted_keeps (Refused reason) came k =
+      quiet came (Refused reason) refl (λ q. refl) (ap (λ (z : Counters). z.standing.collecting)
+      ((ran b step _ mid call outs s' k.step_is runs).next_is ∙ k.next_is))
+  unaccepted_keeps v came k = quiet came v refl (λ q. refl) (stayed _ _ _ k)
+
+turn_keeps : (came : Incoming) (v : Verdict) (s mid s' : Counters) (step : Step) (call : Option Asking) (outs : List Out)
+    (some : 0 < s.setting.start.lengths.burst) (ks : List Task)
+    (kept : IsKept s.setting.start.lengths.burst ks s.standing.collecting) → IsJudged s.setting s.standing came v
+    → OnIncoming v s came step mid → (runs : Runs (bhs_of came) step mid call outs s')
+    → Keeps (bhs_of came) step s mid s' call outs runs some ks kept came v
+turn_keeps (pdu b h d) Accepted s mid s' step call outs some ks kept judged k runs =
+    taken_keeps b step s mid s' call outs runs some ks kept h d judged k
+turn_keeps (pdu b h d) Full s mid s' step call outs some ks kept judged k runs =
+    full_keeps b step s mid s' call outs runs some ks kept h d k
+turn_keeps came v s mid s' step call outs some ks kept judged k runs =
+    unaccepted_keeps (bhs_of came) step s mid s' call outs runs some ks kept v came k
 
 -- the tasks behind a turn more, and those that wait
-pub kept_more : (s s' : Counters) (some : 0 < s.setting.start.lengths.burst) (ts : List Turn) (t : Turn)
-    → IsKept s.setting.start.lengths.burst (tasks s.setting.units ts) s.standing.collecting
-    → IsJudged s.setting s.standing t.came t.verdict → TurnOnVerdict t.verdict s t.came t.call t.sent s'
+pub kept_more : (s s' : Counters) (ts : List Turn) (t : Turn) (came : Incoming)
+    → IsKept s.setting.start.lengths.burst (tasks s.setting.units ts) s.standing.collecting → TurnOf s came t s'
     → IsKept s.setting.start.lengths.burst (tasks s.setting.units (ts ++ t ∷ [])) s'.standing.collecting
-kept_more s s' some ts t kept judged made =
-    subst (λ (z : List Task). IsKept s.setting.start.lengths.burst z s'.standing.collecting) (sym (tasks_more s.setting.units ts t))
-    (turn_keeps s s' some (tasks s.setting.units ts) kept t.verdict t.came t.call t.sent judged made)
+kept_more s s' ts t came kept m =
+    rw (tasks_more s.setting.units ts t)
+    (turn_keeps t.came t.verdict s m.mid s' m.step t.call t.sent (omega (arith, s.setting.start.lengths.bursts))
+    (tasks s.setting.units ts) kept (rw (← m.came_is) at m.judged) (rw (← m.came_is) at m.made) (rw (← m.came_is) at m.runs))

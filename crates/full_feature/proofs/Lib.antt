@@ -9,7 +9,5 @@ pub mod Right
 pub mod ShortTranscripts
 pub mod Steps
 pub mod Table
-pub mod TaskTurn
 pub mod Turns
 pub mod Unserved
-pub mod Walk

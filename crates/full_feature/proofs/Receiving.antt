@@ -1,40 +1,25 @@
 -- What a Data-Out calls for, from what its parts say.
-use Rattle.std.proofs.Common.{◌≡◌, ◌⊎◌, inr, ℕ, ◌+◌, ◌<◌, ◌≤◌, Bool, true, false, List, [], ◌∷◌, ◌++◌, Option, Some, None, length, refl, sym, ap, subst, ◌∙◌, arith, length-append, cond, subst₂}
-use Rattle.std.specs.Prelude.{Result, nat_le, IfSome, MatchOption}
-use Rattle.std.specs.List.{count_by, find}
-use Rattle.scsi_types.specs.Cdb.{need_of}
-use Rattle.scsi_types.specs.declared.command.Command.{Command}
-use Rattle.scsi_types.specs.declared.command.CdbFault.{CdbFault}
-use Rattle.iscsi_pdu.specs.declared.header.ScsiCommand.{ScsiCommand as CommandHeader}
-use Rattle.iscsi_pdu.specs.declared.header.DataOut.{DataOut as DataOutHeader}
-use Rattle.iscsi_pdu.specs.declared.header.R2t.{R2t as R2tHeader}
-use Rattle.full_feature.specs.declared.actions.Actions.{Actions}
-use Rattle.pdu_stream.specs.declared.pdus.Pdus.TheVariants as pdus
-use Rattle.full_feature.specs.declared.actions.CommandData.{CommandData}
+use Rattle.std.proofs.Common.{◌≡◌, ◌⊎◌, inr, ℕ, ◌+◌, ◌<◌, ◌≤◌, Bool, true, false, List, [], ◌∷◌, ◌++◌, Option, Some, None, length}
+use Rattle.std.proofs.Common.{refl, sym, ap, subst, ◌∙◌, arith, length-append, cond, subst₂}
+use Rattle.std.proofs.lemmas.Bool.{leb-false, leb-true}
+use Rattle.session_rules.specs.Words.{Result, nat_le, IfSome, MatchOption, count_by, find, need_of, Command, CdbFault}
+use Rattle.session_rules.specs.Words.{CommandHeader, DataOutHeader, R2tHeader, Initiator, DataOut}
+use Rattle.full_feature.specs.{declared.actions.CommandData.CommandData, Step.Step, Step.says, Step.asks_by, Step.call_data}
+use Rattle.full_feature.specs.Counters.{Counters, after_command, after_collecting, after_r2t}
+use Rattle.full_feature.specs.Machine.{OnRefusal, OnPdu, OnAccepted, asks, BeginsToWait, Calls, CanTake, OnFed, OnData, fills}
+use Rattle.full_feature.specs.Machine.{asks_on, calls_now, r2t_with_for}
 use Rattle.waiting_commands.specs.declared.collecting.Collected.{Collected}
-use Rattle.session_rules.specs.Setting.{Setting}
-use Rattle.session_rules.specs.Transfer.{data_for}
-use Rattle.session_rules.specs.Window.{wrap}
+use Rattle.waiting_commands.specs.Slots.{IsAskedBy, NeedIs, IsFinished, StandsAt, IsRemoved, fed, waits, asked_on, r2t_for}
+use Rattle.waiting_commands.proofs.Places.{stands_one}
+use Rattle.session_rules.specs.{Setting.Setting, Transfer.data_for, Window.wrap, Standing.numbers_for}
 use Rattle.session_rules.specs.Tasks.{Collecting, has_tag}
 use Rattle.session_rules.specs.Collecting.{Continues, HasToCollect, IsNext, shrinks_window}
-use Rattle.waiting_commands.specs.Slots.{IsAskedBy, NeedIs, IsFinished, StandsAt, IsRemoved, fed, waits, asked_on, r2t_for}
-use Rattle.session_rules.specs.Standing.{numbers_for}
-use Rattle.full_feature.specs.Counters.{Counters, after_command, after_collecting, after_r2t, next_numbers}
-use Rattle.full_feature.specs.Machine.{pdus_of, call_of, end_of, OnRefusal, OnPdu, OnAccepted, asks, BeginsToWait, IsSilent}
-use Rattle.full_feature.specs.Machine.{call_data, Calls, CanTake, OnFed, OnData, fills, asks_on, calls_now, r2t_with_for}
-use Rattle.std.proofs.lemmas.Bool.{leb-false, leb-true}
-use Rattle.iscsi_pdu.specs.declared.header.Header.TheVariants.{Initiator}
-use Rattle.iscsi_pdu.specs.declared.header.InitiatorHeader.TheVariants.{DataOut}
 use Rattle.session_rules.specs.declared.verdict.Verdict.TheVariants.{Accepted, Ignored, Refused}
 use Rattle.session_rules.specs.declared.verdict.TheConstants.{PROTOCOL_ERROR}
-use Rattle.waiting_commands.proofs.Places.{stands_one}
 use Rattle.session_rules.proofs.Tasks.{count_append}
 
-unwrapped : (n : ℕ) → n < 4294967296 → n ≡ wrap n
-unwrapped n h = omega (arith, h)
-
 -- the call of a command whose data has all come
-pub called_on : (this f : Collecting) (d : List ℕ) (done : Collected) (bytes : CommandData) (a : Actions)
+pub called_on : (this f : Collecting) (d : List ℕ) (done : Collected) (bytes : CommandData) (a : Step)
     → f ≡ fed this d → IsFinished f done
     → call_data bytes ≡ done.bytes.items
     → ((gathered : List ℕ) → call_data bytes ≡ data_for done.command (need_of done.asked) gathered
@@ -48,21 +33,16 @@ called_on this f d done bytes a fed_is finished same_bytes calls =
     (calls (this.bytes ++ d) (data_is
     ∙ ap (λ (p : CommandHeader). data_for p (need_of done.asked) (this.bytes ++ d)) (sym command_is)))
 
-pub asked_on_by : (this f : Collecting) (d : List ℕ) (asked : Result Command CdbFault) → f ≡ fed this d
-    → IsAskedBy f.command asked → IsAskedBy this.command asked
-asked_on_by this f d asked e k = subst (λ (c : Collecting). IsAskedBy c.command asked) e k
-
-pub still_asked : (this f : Collecting) (d : List ℕ) (asked : Result Command CdbFault) → f ≡ fed this d
-    → IsAskedBy this.command asked → IsAskedBy f.command asked
-still_asked this f d asked e k = subst (λ (c : Collecting). IsAskedBy c.command asked) (sym e) k
+pub asked_on_by : (c f : Collecting) (asked : Result Command CdbFault) → f ≡ c → IsAskedBy f.command asked
+    → IsAskedBy c.command asked
+asked_on_by c f asked e k = rw (← e) k
 
 abbrev pub view_of : ℕ → Setting → ℕ → List Collecting → ℕ → Counters
 view_of stat_sn setting exp_cmd_sn cs tag =
     record {
       setting = setting;
       stat_sn = stat_sn;
-      standing =
-          record { exp_cmd_sn = exp_cmd_sn; collecting = cs; transfer_tag = tag };
+      standing = record { exp_cmd_sn = exp_cmd_sn; collecting = cs; transfer_tag = tag };
     }
 
 -- what the one thing that the CDB asks for needs
@@ -70,27 +50,17 @@ pub need_is_of : (p : CommandHeader) (asked : Result Command CdbFault) → IsAsk
 need_is_of p asked k other means = ap need_of (sym (k.only other means))
 
 -- whether all that the R2T asks for has come
-not_filled : (this f : Collecting) (d : List ℕ) (request : R2tHeader) (b : Bool) → this.outstanding ≡ Some request
-    → f ≡ fed this d
-    → IfSome f.outstanding (λ r. b ≡ nat_le (r.offset + r.desired_length) (length f.bytes)) → b ≡ false
-    → length (this.bytes ++ d) < request.offset + request.desired_length
-not_filled this f d request b e g k unfilled =
-    let told : IfSome (Some request) (λ r. b ≡ nat_le (r.offset + r.desired_length) (length (this.bytes ++ d))) =
-    subst (λ (o : Option R2tHeader). IfSome o (λ r. b ≡ nat_le (r.offset + r.desired_length) (length (this.bytes ++ d)))) e
-    (subst (λ (c : Collecting). IfSome c.outstanding
-    (λ r. b ≡ nat_le (r.offset + r.desired_length) (length c.bytes))) g k) in
-    leb-false (request.offset + request.desired_length) (length (this.bytes ++ d)) (sym told ∙ unfilled)
+module _ (this f : Collecting) (d : List ℕ) (request : R2tHeader) (b : Bool) (outstanding : this.outstanding ≡ Some request)
+    (fed_is : f ≡ fed this d)
+    (told : IfSome f.outstanding (λ r. b ≡ nat_le (r.offset + r.desired_length) (length f.bytes))) where
+  filled_by : b ≡ nat_le (request.offset + request.desired_length) (length (this.bytes ++ d))
+  filled_by = rw outstanding at (rw fed_is at told)
 
-is_filled : (this f : Collecting) (d : List ℕ) (request : R2tHeader) (b : Bool) → this.outstanding ≡ Some request
-    → f ≡ fed this d
-    → IfSome f.outstanding (λ r. b ≡ nat_le (r.offset + r.desired_length) (length f.bytes)) → b ≡ true
-    → request.offset + request.desired_length ≤ length (this.bytes ++ d)
-is_filled this f d request b e g k full_of =
-    let told : IfSome (Some request) (λ r. b ≡ nat_le (r.offset + r.desired_length) (length (this.bytes ++ d))) =
-    subst (λ (o : Option R2tHeader). IfSome o (λ r. b ≡ nat_le (r.offset + r.desired_length) (length (this.bytes ++ d)))) e
-    (subst (λ (c : Collecting). IfSome c.outstanding
-    (λ r. b ≡ nat_le (r.offset + r.desired_length) (length c.bytes))) g k) in
-    leb-true (request.offset + request.desired_length) (length (this.bytes ++ d)) (sym told ∙ full_of)
+  not_filled : b ≡ false → length (this.bytes ++ d) < request.offset + request.desired_length
+  not_filled e = leb-false (request.offset + request.desired_length) (length (this.bytes ++ d)) (sym filled_by ∙ e)
+
+  is_filled : b ≡ true → request.offset + request.desired_length ≤ length (this.bytes ++ d)
+  is_filled e = leb-true (request.offset + request.desired_length) (length (this.bytes ++ d)) (sym filled_by ∙ e)
 
 module _ (s : Counters) (at : ℕ) (x : DataOutHeader) (d : List ℕ) (can : CanTake s at x d) (this : Collecting)
     (w rest : List Collecting)
@@ -104,7 +74,7 @@ module _ (s : Counters) (at : ℕ) (x : DataOutHeader) (d : List ℕ) (can : Can
   pub continues : Continues this x d
   continues = subst (λ (c : Collecting). Continues c x d) same can.continues
 
-  on_data : (asked : Result Command CdbFault) → IsAskedBy this.command asked → (a : Actions) (s' : Counters)
+  on_data : (asked : Result Command CdbFault) → IsAskedBy this.command asked → (a : Step) (s' : Counters)
       → OnFed s r.stands.front this r.stands.back asked d (continues.request.offset + continues.request.desired_length) a s'
       → OnData s x d a s'
   on_data asked asked_by a s' by = record {
@@ -136,26 +106,26 @@ module _ (s : Counters) (at : ℕ) (x : DataOutHeader) (d : List ℕ) (can : Can
       ∙ omega (
         arith,
         count_append r.stands.front (this ∷ r.stands.back),
-        count_append
-            (this ∷ []) r.stands.back,
+        count_append (this ∷ []) r.stands.back,
         count_append r.stands.front (c ∷ r.stands.back),
-        count_append
-            (c ∷ []) r.stands.back,
+        count_append (c ∷ []) r.stands.back,
         ap {B = ℕ} (λ (b : Bool). cond b 1 0) e,
       )
 
   module _ (f : Collecting) (b : Bool) (fed_is : f ≡ fed this d)
       (told : IfSome f.outstanding (λ q. b ≡ nat_le (q.offset + q.desired_length) (length f.bytes))) where
     pub on_filling : b ≡ false → (asked : Result Command CdbFault) → IsAskedBy this.command asked
-        → (a : Actions) (s' : Counters) (new : List Collecting)
-        → IsSilent a → end_of a ≡ None → Inserts f new → s' ≡ after_collecting new s → OnData s x d a s'
-    on_filling unfilled asked asked_by a s' new silent no_end insert after =
+        → (a : Step) (s' : Counters) (new : List Collecting)
+        → a ≡ says [] None → Inserts f new → s' ≡ after_collecting new s → OnData s x d a s'
+    on_filling unfilled asked asked_by a s' new silent insert after =
         on_data asked asked_by a s'
-        (fills (not_filled this f d continues.request b continues.outstanding fed_is told unfilled) silent no_end
-        (after ∙ ap (λ (cs : List Collecting). after_collecting cs s) (inserted f new insert
-        ∙ ap (λ (c : Collecting). r.stands.front ++ (c ∷ r.stands.back)) fed_is)))
+        (fills (not_filled this f d continues.request b continues.outstanding fed_is told unfilled) (record {
+          step_is = silent;
+          next_is = after ∙ ap (λ (cs : List Collecting). after_collecting cs s) (inserted f new insert
+              ∙ ap (λ (c : Collecting). r.stands.front ++ (c ∷ r.stands.back)) fed_is);
+        }))
 
-    pub on_calling : (asked : Result Command CdbFault) → IsAskedBy this.command asked → (a : Actions) (s' : Counters)
+    pub on_calling : (asked : Result Command CdbFault) → IsAskedBy this.command asked → (a : Step) (s' : Counters)
         → need_of asked ≤ length f.bytes → Calls this.command asked (this.bytes ++ d) a → s' ≡ after_collecting rest s
         → OnData s x d a s'
     on_calling asked asked_by a s' enough called after =
@@ -164,14 +134,12 @@ module _ (s : Counters) (at : ℕ) (x : DataOutHeader) (d : List ℕ) (can : Can
         ∙ ap (λ (cs : List Collecting). after_collecting cs s) r.after))
 
     pub on_asking : b ≡ true → (asked : Result Command CdbFault) → IsAskedBy this.command asked
-        → (a : Actions) (s' : Counters) (new : List Collecting) (g : Collecting) (next : R2tHeader) (waiting : ℕ)
+        → (a : Step) (s' : Counters) (new : List Collecting) (g : Collecting) (next : R2tHeader) (waiting : ℕ)
         → this.requests < 4294967296 → length f.bytes < need_of asked
         → g ≡ asked_on f (need_of asked) (r2t_with_for s waiting) → waiting ≡ count_by shrinks_window w
         → g.outstanding ≡ Some next
-        → Inserts g new → pdus_of a ≡ pdus.R2t next → call_of a ≡ None → end_of a ≡ None
-        → s' ≡ after_r2t (after_collecting new s) → OnData s x d a s'
-    on_asking full_of asked asked_by a s' new g next waiting fits short asked_is counted out insert pdus_are
-        no_call no_end after =
+        → Inserts g new → a ≡ asks_by next → s' ≡ after_r2t (after_collecting new s) → OnData s x d a s'
+    on_asking full_of asked asked_by a s' new g next waiting fits short asked_is counted out insert asking after =
         let joined : List ℕ = this.bytes ++ d in
         let cs : List Collecting =
         r.stands.front ++ (waits this.command joined next (wrap (this.requests + 1)) ∷ r.stands.back) in
@@ -180,8 +148,7 @@ module _ (s : Counters) (at : ℕ) (x : DataOutHeader) (d : List ℕ) (can : Can
         let next_is : r2t_for this.command (need_of asked) (length joined) this.requests
         (r2t_with_for s waiting) ≡ next =
         let q : Some (r2t_for this.command (need_of asked) (length joined) this.requests
-        (r2t_with_for s waiting)) ≡ Some next =
-        sym (ap (λ (c : Collecting). c.outstanding) from) ∙ out in cc in
+        (r2t_with_for s waiting)) ≡ Some next = sym (ap (λ (c : Collecting). c.outstanding) from) ∙ out in cc in
         let waits_is : g ≡ waits this.command joined next (wrap (this.requests + 1)) = from
         ∙ ap (λ (q : R2tHeader). waits this.command joined q (wrap (this.requests + 1))) next_is in
         let new_is : new ≡ cs = inserted g new insert
@@ -197,12 +164,11 @@ module _ (s : Counters) (at : ℕ) (x : DataOutHeader) (d : List ℕ) (can : Can
           length-append this.bytes d,
         ) in
         on_data asked asked_by a s'
-        (asks_on full (omega (arith, short, ap (λ (c : Collecting). length c.bytes) fed_is)) next (record {
+        (asks_on full (omega (arith, short, ap (λ (c : Collecting). length c.bytes) fed_is)) next asking (record {
           is_next = subst (λ (q : R2tHeader). IsNext s.setting.start.lengths.burst this.command (need_of asked)
               (length joined) this.requests q) next_is (record {
-                number = unwrapped this.requests fits;
-                place =
-                    refl;
+                number = omega (arith, fits);
+                place = refl;
                 size = refl;
                 tag = refl;
                 lun = refl;
@@ -210,10 +176,8 @@ module _ (s : Counters) (at : ℕ) (x : DataOutHeader) (d : List ℕ) (can : Can
           transfer = ap (λ (q : R2tHeader). q.transfer_tag) (sym next_is);
           numbers = ap (λ (q : R2tHeader). q.numbers) (sym next_is)
               ∙ ap (λ (n : ℕ). numbers_for s.stat_sn s.standing.exp_cmd_sn n) count_is;
-          pdus_are = pdus_are;
-          no_call = no_call;
-          no_end = no_end;
-        }) (after ∙ ap (λ (z : List Collecting). after_r2t (after_collecting z s)) new_is))
+          next_is = after ∙ ap (λ (z : List Collecting). after_r2t (after_collecting z s)) new_is;
+        }))
 
 -- where the command stands that a Data-Out continues
 pub can_take : (s : Counters) (at : ℕ) (x : DataOutHeader) (d : List ℕ) (w : List Collecting) → w ≡ s.standing.collecting
@@ -227,7 +191,7 @@ can_take s at x d w e found here stands continues = record {
   continues = subst (λ (c : Collecting). Continues c x d) (stands_one w at here found.0 stands found.1) continues;
 }
 
-pub rejected_data : (s s' : Counters) (at : ℕ) (x : DataOutHeader) (d : List ℕ) (w : List Collecting) (a : Actions)
+pub rejected_data : (s s' : Counters) (at : ℕ) (x : DataOutHeader) (d : List ℕ) (w : List Collecting) (a : Step)
     → w ≡ s.standing.collecting
     → (found : (this : Collecting) × StandsAt w at this × (find (has_tag x.task_tag) w ≡ Some this))
     → (here : Collecting) → StandsAt w at here
@@ -239,8 +203,7 @@ rejected_data s s' at x d w a e found here stands not_continues on = record {
       ⊎ ((Continues c x d → ⊥) × (Refused PROTOCOL_ERROR ≡ Refused PROTOCOL_ERROR))))
       (sym (subst (λ (z : List Collecting). find (has_tag x.task_tag) z ≡ Some found.0) e found.2))
       (inr (
-        subst (λ (c : Collecting). Continues c x d
-            → ⊥) (stands_one w at here found.0 stands found.1) not_continues,
+        subst (λ (c : Collecting). Continues c x d → ⊥) (stands_one w at here found.0 stands found.1) not_continues,
         refl,
       ));
   made = on;
@@ -248,22 +211,12 @@ rejected_data s s' at x d w a e found here stands not_continues on = record {
 
 -- a command begins to wait
 pub begins : (s mid s' : Counters) (p : CommandHeader) (asked : Result Command CdbFault) (need : ℕ) (d : List ℕ)
-    (next : R2tHeader) (a : Actions)
+    (next : R2tHeader) (a : Step)
     → IsAskedBy p asked → need ≡ need_of asked → HasToCollect p need (length d) → mid ≡ after_command p s
-    → BeginsToWait mid p need d next s'
-    → pdus_of a ≡ pdus.R2t next → call_of a ≡ None → end_of a ≡ None → OnAccepted s p d a s'
-begins s mid s' p asked need d next a asked_by need_is collects mid_is k pdus_are no_call no_end = record {
+    → BeginsToWait mid p need d next s' → a ≡ asks_by next → OnAccepted s p d a s'
+begins s mid s' p asked need d next a asked_by need_is collects mid_is k asking = record {
   asked = asked;
   asked_by = asked_by;
-  by = asks (subst (λ (n : ℕ). HasToCollect p n (length d)) need_is collects) next (record {
-    is_next = subst₂ (λ (c : Counters) (n : ℕ). IsNext c.setting.start.lengths.burst p n (length d) 0 next) mid_is
-        need_is k.is_next;
-    transfer = k.transfer ∙ ap (λ (c : Counters). c.standing.transfer_tag) mid_is;
-    numbers = k.numbers ∙ ap (λ (c : Counters). next_numbers
-        (after_collecting (c.standing.collecting ++ waits p d next 1 ∷ []) c)) mid_is;
-    pdus_are = pdus_are;
-    no_call = no_call;
-    no_end = no_end;
-  }) (k.after ∙ ap (λ (c : Counters). after_r2t
-      (after_collecting (c.standing.collecting ++ waits p d next 1 ∷ []) c)) mid_is);
+  by = asks (subst (λ (n : ℕ). HasToCollect p n (length d)) need_is collects) next asking
+      (subst₂ (λ (c : Counters) (n : ℕ). BeginsToWait c p n d next s') mid_is need_is k);
 }

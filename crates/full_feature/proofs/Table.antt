@@ -1,37 +1,85 @@
 -- What a turn makes of all tasks of a session, and of those that wait for data.
-use Rattle.std.proofs.Common.{◌≡◌, ◌⊎◌, ℕ, ◌+◌, ◌<◌, Bool, true, false, List, [], ◌∷◌, ◌++◌, Option, map, refl, sym, ap, subst, ◌∙◌, inl, inr}
-use Rattle.std.specs.Prelude.{◌==◌, ◌||◌, ◌&&◌, if◌then◌else◌, Result}
-use Rattle.std.specs.List.{AllByRecursion, filter, filter_map, cons_option, list_any}
-use Rattle.std.proofs.lemmas.Bool.{eq-eqb, eqb-false, ne_eqb}
-use Rattle.std.proofs.lemmas.List.Elements.{filter_map-append}
-use Rattle.scsi_types.specs.Cdb.{Means}
-use Rattle.scsi_types.specs.declared.command.Command.{Command}
-use Rattle.scsi_types.specs.declared.command.CdbFault.{CdbFault}
-use Rattle.iscsi_pdu.specs.declared.header.ScsiCommand.{ScsiCommand as CommandHeader}
-use Rattle.iscsi_pdu.specs.declared.header.DataOut.{DataOut as DataOutHeader}
-use Rattle.iscsi_pdu.specs.declared.header.TaskManagementRequest.{TaskManagementRequest as ManagementHeader}
-use Rattle.iscsi_pdu.specs.declared.header.Header.TheVariants.{Initiator}
-use Rattle.iscsi_pdu.specs.declared.header.InitiatorHeader.TheVariants.{ScsiCommand, DataOut, TaskManagementRequest}
-use Rattle.session_rules.specs.declared.verdict.Verdict.TheVariants.{Accepted}
-use Rattle.session_rules.specs.Asking.{Asking}
-use Rattle.session_rules.specs.Turn.{pdu, Out, Turn}
-use Rattle.session_rules.specs.Drops.{drops, names_one_of}
-use Rattle.session_rules.specs.Tasks.{r2ts_of, Task, tasks, has_ended, Collecting, collected, collecting_of, has_tag}
-use Rattle.session_rules.specs.Collecting.{IsRightTask, Continues}
-use Rattle.full_feature.proofs.TaskTurn.{IsOpened, asks, busy, called, IsFed, filling, on, now, IsTakenData, keeps}
-use Rattle.session_rules.proofs.Tasks.{with_turn, extended}
-use Rattle.full_feature.proofs.Steps.{fed, dropped, opened}
-use Rattle.full_feature.proofs.Walk.{HasNone, IsUnique, touched_is, still, walk, drop_all}
-use Rattle.session_rules.proofs.AtEach.{all_append}
+use Rattle.std.proofs.Common.{◌≡◌, ◌⊎◌, ℕ, ◌<◌, Bool, true, false, List, [], ◌∷◌, ◌++◌, Option, map, refl, sym, ap, subst, ◌∙◌}
+use Rattle.std.proofs.Common.{inl, inr, Some, None, ◌==◌, ◌||◌, ◌&&◌, not, if◌then◌else◌}
+use Rattle.std.proofs.lemmas.{List.Elements.filter_map-append, Grind.flat_map-append}
+use Rattle.std.proofs.lemmas.Bool.{eq-eqb, eqb-true, eqb-false, ne_eqb}
+use Rattle.session_rules.specs.Words.{AllByRecursion, filter, filter_map, flat_map, list_any, cons_option, CommandHeader}
+use Rattle.session_rules.specs.Words.{DataOutHeader, ManagementHeader, Initiator, ScsiCommand, DataOut, TaskManagementRequest}
+use Rattle.session_rules.specs.{declared.verdict.Verdict.TheVariants.Accepted, Asking.Asking, Turn.Incoming, Turn.pdu, Turn.Out}
+use Rattle.session_rules.specs.{Turn.Turn, Drops.drops, Drops.names_one_of, Collecting.IsRightTask}
+use Rattle.session_rules.specs.Tasks.{r2ts_of, touches, Task, has_ended, Collecting, collected, collecting_of, has_tag}
+use Rattle.session_rules.proofs.{Tasks.with_turn, Tasks.extended, Tasks.extended_by, AtEach.all_append}
+use Rattle.full_feature.proofs.{Dropping.keeps, Steps.Becomes, Steps.dropped}
+
+-- ---- what a turn makes of all tasks, one by one
+
+module _ (units : ℕ) (u : Turn) where
+  -- a task that has ended, or that the turn does not concern, stays as it was
+  ended_stays : (k : Task) → has_ended k ≡ true → extended units u k ≡ k
+  ended_stays k e = ap (λ (b : Bool). extended_by u (touches units k.command u) b k) e ∙ by_case (touches units k.command u) where
+    by_case : (b : Bool) → extended_by u b true k ≡ k
+    by_case true = refl
+    by_case false = refl
+
+  other_stays : (k : Task) → touches units k.command u ≡ false → extended units u k ≡ k
+  other_stays k e = ap (λ (b : Bool). extended_by u b (has_ended k) k) e
+
+  touched_is : (k : Task) → has_ended k ≡ false → touches units k.command u ≡ true → extended units u k ≡ with_turn k u
+  touched_is k e f = rw (f, e) refl
+
+  still : (ks : List Task) → ((p : CommandHeader) → touches units p u ≡ false) → map (extended units u) ks ≡ ks
+  still [] f = refl
+  still (k ∷ ks) f = rw (other_stays k (f k.command), still ks f) refl
+
+  -- Each open task that the turn concerns stays right and leaves these in its place: so do all, where P holds of those that wait.
+  module _ (burst : ℕ) (f : Collecting → List Collecting) (P : Collecting → Type 0)
+      (touch : (k : Task) → IsRightTask burst k → has_ended k ≡ false → touches units k.command u ≡ true → P (collected k)
+      → IsRightTask burst (with_turn k u) × (cons_option (collecting_of (with_turn k u)) [] ≡ f (collected k)))
+      (other : (k : Task) → touches units k.command u ≡ false → f (collected k) ≡ collected k ∷ []) where
+    abbrev Changed : List Task → Type 0
+    Changed ks =
+        AllByRecursion (IsRightTask burst) (map (extended units u) ks)
+        × (filter_map collecting_of (map (extended units u) ks) ≡ flat_map f (filter_map collecting_of ks))
+
+    joined : (o : Option Collecting) (new cs out : List Collecting) → cons_option o [] ≡ new → cs ≡ out
+        → cons_option o cs ≡ new ++ out
+    joined None new cs out e g = rw (← e) g
+    joined (Some c) new cs out e g = rw (← e, g) refl
+
+    open_changes : (k : Task) (t : Bool) → touches units k.command u ≡ t → has_ended k ≡ false → IsRightTask burst k
+        → P (collected k)
+        → IsRightTask burst (extended units u k) × (cons_option (collecting_of (extended units u k)) [] ≡ f (collected k))
+    open_changes k true t e right here = rw (touched_is k e t) (touch k right e t here)
+    open_changes k false t e right here = rw (other_stays k t) (right, rw (e, other k t) refl)
+
+    one : (k : Task) (ks : List Task) (b : Bool) → has_ended k ≡ b → IsRightTask burst k
+        → AllByRecursion P (cons_option (if b then None else Some (collected k)) (filter_map collecting_of ks))
+        → (AllByRecursion P (filter_map collecting_of ks) → Changed ks) → Changed (k ∷ ks)
+    one k ks true e right all rest = rw (ended_stays k e) ((right, (rest all).0), rw e (rest all).1)
+    one k ks false e right all rest =
+        let now = open_changes k (touches units k.command u) refl e right all.0 in
+        let behind = rest all.1 in
+        ((now.0, behind.0), joined (collecting_of (extended units u k)) _ _ _ now.1 behind.1 ∙ rw e refl)
+
+    changed : (ks : List Task) → AllByRecursion (IsRightTask burst) ks → AllByRecursion P (filter_map collecting_of ks)
+        → Changed ks
+    changed [] right all = (tt, refl)
+    changed (k ∷ ks) right all = one k ks (has_ended k) refl right.0 all (λ behind. changed ks right.1 behind)
 
 -- ---- no two tasks that wait have one tag
+
+abbrev HasNone : ℕ → List Collecting → Type 0
+HasNone tag cs = AllByRecursion (λ c. has_tag tag c ≡ false) cs
+
+abbrev pub IsUnique : List Collecting → Type 0
+IsUnique [] = Unit {0}
+IsUnique (c ∷ cs) = HasNone c.command.task_tag cs × IsUnique cs
 
 other_tag : (a b : ℕ) → (a == b) ≡ false → (b == a) ≡ false
 other_tag a b e = ne_eqb b a (λ f. eqb-false a b e (sym f))
 
 none_append : (g : ℕ) (xs ys : List Collecting) → HasNone g xs → HasNone g ys → HasNone g (xs ++ ys)
-none_append g [] ys h k = k
-none_append g (x ∷ xs) ys h k = (h.0, none_append g xs ys h.1 k)
+none_append g xs ys h k = all_append (λ (c : Collecting). has_tag g c ≡ false) xs ys h k
 
 none_front : (g : ℕ) (xs ys : List Collecting) → HasNone g (xs ++ ys) → HasNone g xs × HasNone g ys
 none_front g [] ys h = (tt, h)
@@ -45,70 +93,83 @@ apart (x ∷ front) c back u =
     ((other_tag c.command.task_tag x.command.task_tag (none_front x.command.task_tag front (c ∷ back) u.0).1.0, w.0), w.1)
 
 -- in place of one comes none, or one with its tag
-abbrev InPlace : ℕ → List Collecting → Type 0
+abbrev pub InPlace : ℕ → List Collecting → Type 0
 InPlace g new = (new ≡ []) ⊎ ((c : Collecting) × (new ≡ c ∷ []) × (c.command.task_tag ≡ g))
 
 none_new : (g h : ℕ) (new : List Collecting) → (g == h) ≡ false → InPlace g new → HasNone h new
 none_new g h new e (inl w) = rw w tt
 none_new g h new e (inr w) = rw w.1 (rw w.2 e, tt)
 
-module _ (new : List Collecting) where
-  replaced : (front : List Collecting) (c : Collecting) (back : List Collecting) → InPlace c.command.task_tag new
-      → IsUnique (front ++ (c ∷ back)) → IsUnique (front ++ (new ++ back))
-  replaced [] c back (inl w) u = rw w u.1
-  replaced [] c back (inr w) u = rw w.1 (rw w.2 u.0, u.1)
-  replaced (x ∷ front) c back p u =
-      let n = none_front x.command.task_tag front (c ∷ back) u.0 in (
-        none_append x.command.task_tag front (new ++ back) n.0
-            (none_append x.command.task_tag new back
-            (none_new c.command.task_tag x.command.task_tag new n.1.0 p) n.1.1),
-        replaced front c back p u.1,
-      )
+in_front : (g : ℕ) (new cs : List Collecting) → InPlace g new → HasNone g cs → IsUnique cs → IsUnique (new ++ cs)
+in_front g new cs (inl w) n u = rw w u
+in_front g new cs (inr w) n u = rw w.1 (rw w.2 n, u)
 
-  added : (g : ℕ) (cs : List Collecting) → InPlace g new → HasNone g cs → IsUnique cs → IsUnique (cs ++ new)
-  added g [] (inl w) none u = rw w tt
-  added g [] (inr w) none u = rw w.1 (tt, tt)
-  added g (x ∷ cs) p none u = (
-    none_append x.command.task_tag cs new u.0 (none_new g x.command.task_tag new (other_tag x.command.task_tag g none.0) p),
-    added g cs p none.1 u.1,
-  )
+module _ (f : Collecting → List Collecting) (place : (c : Collecting) → InPlace c.command.task_tag (f c)) where
+  none_changed : (g : ℕ) (cs : List Collecting) → HasNone g cs → HasNone g (flat_map f cs)
+  none_changed g [] n = tt
+  none_changed g (c ∷ cs) n =
+      none_append g (f c) (flat_map f cs) (none_new c.command.task_tag g (f c) n.0 (place c)) (none_changed g cs n.1)
 
-module _ (test : Collecting → Bool) where
-  none_kept : (g : ℕ) (cs : List Collecting) → HasNone g cs → HasNone g (filter test cs)
-  none_kept g [] n = tt
-  none_kept g (c ∷ cs) n = one (test c) (none_kept g cs n.1) where
-    one : (b : Bool) → HasNone g (filter test cs) → HasNone g (if b then c ∷ filter test cs else filter test cs)
-    one true rest = (n.0, rest)
-    one false rest = rest
+  unique_changed : (cs : List Collecting) → IsUnique cs → IsUnique (flat_map f cs)
+  unique_changed [] u = tt
+  unique_changed (c ∷ cs) u =
+      in_front c.command.task_tag (f c) (flat_map f cs) (place c) (none_changed c.command.task_tag cs u.0) (unique_changed cs u.1)
 
-  unique_kept : (cs : List Collecting) → IsUnique cs → IsUnique (filter test cs)
-  unique_kept [] u = tt
-  unique_kept (c ∷ cs) u = one (test c) (unique_kept cs u.1) where
-    one : (b : Bool) → IsUnique (filter test cs) → IsUnique (if b then c ∷ filter test cs else filter test cs)
-    one true rest = (none_kept c.command.task_tag cs u.0, rest)
-    one false rest = rest
+added : (new : List Collecting) (g : ℕ) (cs : List Collecting) → InPlace g new → HasNone g cs → IsUnique cs
+    → IsUnique (cs ++ new)
+added new g [] (inl w) none u = rw w tt
+added new g [] (inr w) none u = rw w.1 (tt, tt)
+added new g (x ∷ cs) p none u = (
+  none_append x.command.task_tag cs new u.0 (none_new g x.command.task_tag new (other_tag x.command.task_tag g none.0) p),
+  added new g cs p none.1 u.1,
+)
 
-opened_place : (burst : ℕ) (p : CommandHeader) (asked : Result Command CdbFault) (d : List ℕ) (call : Option Asking)
-    (outs : List Out)
-    (new : List Collecting) → IsOpened burst p asked d call outs new → InPlace p.task_tag new
-opened_place burst p asked d call outs new (asks h w) = inr (_, w.one, refl)
-opened_place burst p asked d call outs new (busy h w) = inl w.none
-opened_place burst p asked d call outs new (called h w) = inl w.none
-
-fed_place : (burst : ℕ) (c : Collecting) (asked : Result Command CdbFault) (bytes : List ℕ) (end : ℕ)
-    (call : Option Asking) (outs : List Out)
-    (new : List Collecting) → IsFed burst c asked bytes end call outs new → InPlace c.command.task_tag new
-fed_place burst c asked bytes end call outs new (filling w) = inr (_, w.one, refl)
-fed_place burst c asked bytes end call outs new (on w) = inr (_, w.one, refl)
-fed_place burst c asked bytes end call outs new (now w) = inl w.1.none
-
-pub none_of_any : (g : ℕ) (cs : List Collecting) → list_any (has_tag g) cs ≡ false → HasNone g cs
+none_of_any : (g : ℕ) (cs : List Collecting) → list_any (has_tag g) cs ≡ false → HasNone g cs
 none_of_any g [] e = tt
-none_of_any g (c ∷ cs) e = one (has_tag g c) refl e (λ h. none_of_any g cs h) where
-  one : (b : Bool) → has_tag g c ≡ b → (b || list_any (has_tag g) cs) ≡ false
-      → (list_any (has_tag g) cs ≡ false → HasNone g cs) → HasNone g (c ∷ cs)
-  one true f h rest = absurd (let q : true ≡ false = h in cc)
-  one false f h rest = (f, rest h)
+none_of_any g (c ∷ cs) e = let w = neither (has_tag g c) e in (w.0, none_of_any g cs w.1) where
+  neither : (b : Bool) → (b || list_any (has_tag g) cs) ≡ false → (b ≡ false) × (list_any (has_tag g) cs ≡ false)
+  neither true e = absurd (cc)
+  neither false e = (refl, e)
+
+-- ---- these come in the place of those that pass a test
+
+module _ (test : Collecting → Bool) (new : List Collecting) where
+  abbrev swapped : Collecting → List Collecting
+  swapped c = if test c then new else c ∷ []
+
+  swapped_place : ((c : Collecting) → test c ≡ true → InPlace c.command.task_tag new) → (c : Collecting)
+      → InPlace c.command.task_tag (swapped c)
+  swapped_place p c = one (test c) refl where
+    one : (b : Bool) → test c ≡ b → InPlace c.command.task_tag (if b then new else c ∷ [])
+    one true e = p c e
+    one false e = inr (c, refl, refl)
+
+  same : (cs : List Collecting) → AllByRecursion (λ c. test c ≡ false) cs → flat_map swapped cs ≡ cs
+  same [] n = refl
+  same (c ∷ cs) n = rw (n.0, same cs n.1) refl
+
+  swapped_one : (front : List Collecting) (this : Collecting) (back : List Collecting)
+      → AllByRecursion (λ c. test c ≡ false) front → test this ≡ true → AllByRecursion (λ c. test c ≡ false) back
+      → flat_map swapped (front ++ (this ∷ back)) ≡ front ++ (new ++ back)
+  swapped_one front this back n e m = rw (flat_map-append, same front n, e, same back m) refl
+
+  -- the one that passes
+  abbrev IsThis : Collecting → Collecting → Type 0
+  IsThis this c = test c ≡ true → c ≡ this
+
+  none_is : (this : Collecting) (cs : List Collecting) → AllByRecursion (λ c. test c ≡ false) cs
+      → AllByRecursion (IsThis this) cs
+  none_is this [] n = tt
+  none_is this (c ∷ cs) n = (λ e. absurd (cc (n.0)), none_is this cs n.1)
+
+-- with none in their place the others are kept
+others_kept : (test : Collecting → Bool) (cs : List Collecting) → flat_map (swapped test []) cs ≡ filter (λ c. not (test c)) cs
+others_kept test [] = refl
+others_kept test (c ∷ cs) = rw (others_kept test cs) (one (test c)) where
+  one : (b : Bool) → (if b then [] else c ∷ []) ++ filter (λ d. not (test d)) cs
+      ≡ (if not b then c ∷ filter (λ d. not (test d)) cs else filter (λ d. not (test d)) cs)
+  one true = refl
+  one false = refl
 
 -- ---- what a turn makes of all tasks
 
@@ -118,105 +179,72 @@ pub record IsKept (burst : ℕ) (ks : List Task) (cs : List Collecting) : Type 0
   pub tied : filter_map collecting_of ks ≡ cs
   pub unique : IsUnique cs
 
+abbrev accepts : Incoming → Option Asking → List Out → Turn
+accepts came call outs = record { came = came; verdict = Accepted; call = call; sent = outs }
+
 module _ (units burst : ℕ) (some : 0 < burst) (ks : List Task) (cs : List Collecting) (kept : IsKept burst ks cs) where
   -- a turn that concerns none and begins none
-  pub nothing_comes : (u : Turn) → ((p : CommandHeader) → Rattle.session_rules.specs.Tasks.touches units p u ≡ false)
+  pub nothing_comes : (u : Turn) → ((p : CommandHeader) → touches units p u ≡ false)
       → IsKept burst (map (extended units u) ks) cs
-  nothing_comes u f = subst (λ (z : List Task). IsKept burst z cs) (sym (still units u ks f)) kept
+  nothing_comes u f = rw (still units u ks f) kept
 
-  pub command_comes : (b : List ℕ) (p : CommandHeader) (d : List ℕ) (asked : Result Command CdbFault) → Means p.cdb asked
-      → (call : Option Asking) (outs : List Out) (new : List Collecting) → list_any (has_tag p.task_tag) cs ≡ false
-      → IsOpened burst p asked d call outs new
+  pub command_comes : (b : List ℕ) (p : CommandHeader) (d : List ℕ) (call : Option Asking) (outs : List Out)
+      (new : List Collecting) → list_any (has_tag p.task_tag) cs ≡ false → InPlace p.task_tag new
       → let u : Turn = record { came = pdu b (Initiator (ScsiCommand p)) d; verdict = Accepted; call = call; sent = outs } in
-      IsKept burst (map (extended units u) ks ++ record { command = p; segment = d; own = u ∷ [] } ∷ []) (cs ++ new)
-  command_comes b p d asked means call outs new fresh k =
-      let u : Turn = record { came = pdu b (Initiator (ScsiCommand p)) d; verdict = Accepted; call = call; sent = outs } in
-      let none = none_of_any p.task_tag cs fresh in
-      let same : map (extended units u) ks ≡ ks = still units u ks (λ q. refl) in
-      let o = opened burst some b p d asked means call outs new k in
-      record {
-        right = all_append (IsRightTask burst) (map (extended units u) ks) _
-            (subst (AllByRecursion (IsRightTask burst)) (sym same) kept.right) (o.0, tt);
-        tied = filter_map-append collecting_of (map (extended units u) ks)
-            (record { command = p; segment = d; own = u ∷ [] } ∷ [])
-            ∙ ap (λ (z : List Collecting). filter_map collecting_of (map (extended units u) ks) ++ z) o.1
-            ∙ ap (λ (z : List Task). filter_map collecting_of z ++ new) same
-            ∙ ap (λ (z : List Collecting). z ++ new) kept.tied;
-        unique = added new p.task_tag cs (opened_place burst p asked d call outs new k) none kept.unique;
-      }
+      let k : Task = record { command = p; segment = d; own = u ∷ [] } in
+      Becomes burst k new → IsKept burst (map (extended units u) ks ++ k ∷ []) (cs ++ new)
+  command_comes b p d call outs new fresh place o =
+      rw (still units (accepts (pdu b (Initiator (ScsiCommand p)) d) call outs) ks (λ q. refl)) (record {
+        right = all_append (IsRightTask burst) ks _ kept.right (o.0, tt);
+        tied = rw (filter_map-append, kept.tied, o.1) refl;
+        unique = added new p.task_tag cs place (none_of_any p.task_tag cs fresh) kept.unique;
+      })
 
+  -- a Data-Out of this, in whose place these wait behind it
   pub data_comes : (b : List ℕ) (x : DataOutHeader) (d : List ℕ) (call : Option Asking) (outs : List Out)
-      (cs' : List Collecting)
-      → IsTakenData burst cs x d call outs cs'
-      → IsKept burst (map (extended units (record {
-        came = pdu b (Initiator (DataOut x)) d;
-        verdict = Accepted;
-        call = call;
-        sent = outs;
-      })) ks) cs'
-  data_comes b x d call outs cs' k =
-      let u : Turn = record { came = pdu b (Initiator (DataOut x)) d; verdict = Accepted; call = call; sent = outs } in
-      let whole : IsUnique (k.front ++ (k.this ∷ k.back)) = subst IsUnique k.whole kept.unique in
-      let none = apart k.front k.this k.back whole in
-      let w = walk units burst u x.task_tag (λ p. refl) k.this k.back k.new
-      (λ task right open_task is. subst (λ (z : Task). IsRightTask burst z × (cons_option (collecting_of z) [] ≡ k.new))
-      (sym (touched_is units u task open_task
-      (eq-eqb task.command.task_tag x.task_tag (ap (λ (c : Collecting). c.command.task_tag) is ∙ k.tag))))
-      (touch task right open_task is))
-      (subst (λ (g : ℕ). HasNone g k.back) k.tag none.1) ks k.front kept.right (kept.tied
-      ∙ k.whole) (subst (λ (g : ℕ). HasNone g k.front) k.tag none.0) in
+      (front : List Collecting) (this : Collecting) (back new : List Collecting) → cs ≡ front ++ (this ∷ back)
+      → this.command.task_tag ≡ x.task_tag → InPlace this.command.task_tag new
+      → let u : Turn = record { came = pdu b (Initiator (DataOut x)) d; verdict = Accepted; call = call; sent = outs } in
+      ((k : Task) → IsRightTask burst k → has_ended k ≡ false → collected k ≡ this → Becomes burst (with_turn k u) new)
+      → IsKept burst (map (extended units u) ks) (front ++ (new ++ back))
+  data_comes b x d call outs front this back new is tag place touch =
+      let test : Collecting → Bool = has_tag x.task_tag in
+      let whole : IsUnique (front ++ (this ∷ back)) = subst IsUnique is kept.unique in
+      let none = apart front this back whole in
+      let before = subst (λ (g : ℕ). HasNone g front) tag none.0 in
+      let behind = subst (λ (g : ℕ). HasNone g back) tag none.1 in
+      let tied : filter_map collecting_of ks ≡ front ++ (this ∷ back) = kept.tied ∙ is in
+      let w = changed units (accepts (pdu b (Initiator (DataOut x)) d) call outs) burst (swapped test new)
+      (IsThis test new this)
+      (λ k right lasts tagged here. let g = touch k right lasts (here tagged) in (g.0, g.1 ∙ rw tagged refl))
+      (λ k e. rw e refl) ks kept.right
+      (rw tied (all_append (IsThis test new this) front (this ∷ back)
+      (none_is test new this front before) (λ e. refl, none_is test new this back behind))) in
+      let after : front ++ (new ++ back) ≡ flat_map (swapped test new) (front ++ (this ∷ back)) =
+      sym (swapped_one test new front this back before (eq-eqb this.command.task_tag x.task_tag tag) behind) in
       record {
         right = w.0;
-        tied = w.1 ∙ sym k.after;
-        unique = subst IsUnique (sym k.after)
-            (replaced k.new k.front k.this k.back (fed_place burst k.this k.asked _ _ call outs k.new k.fed) whole);
-      } where
-        touch : (task : Task) → IsRightTask burst task → has_ended task ≡ false → collected task ≡ k.this
-            → IsRightTask burst (with_turn task (record {
-              came = pdu b (Initiator (DataOut x)) d;
-              verdict = Accepted;
-              call = call;
-              sent = outs;
-            }))
-            × (cons_option (collecting_of
-            (with_turn task (record {
-              came = pdu b (Initiator (DataOut x)) d;
-              verdict = Accepted;
-              call = call;
-              sent = outs;
-            }))) [] ≡ k.new)
-        touch task right open_task is =
-            let f = subst (λ (c : Collecting). (q : Continues c x d)
-            × IsFed burst c k.asked (c.bytes ++ d) (q.request.offset + q.request.desired_length) call outs k.new)
-            (sym is) (k.continues, k.fed) in
-            let one : right.asked ≡ k.asked =
-            k.only right.asked (subst (λ (c : Collecting). Means c.command.cdb right.asked) is right.means) in
-            fed burst some task open_task right b x d f.0 k.asked (sym one) call outs k.new f.1
+        tied = w.1 ∙ ap (flat_map (swapped test new)) tied ∙ sym after;
+        unique = rw after (unique_changed (swapped test new) (swapped_place test new
+            (λ c e. rw (eqb-true c.command.task_tag x.task_tag e, ← tag) place)) (front ++ (this ∷ back)) whole);
+      }
 
   pub management_comes : (b : List ℕ) (x : ManagementHeader) (d : List ℕ) (call : Option Asking) (outs : List Out)
       → r2ts_of outs ≡ []
-      → IsKept burst (map (extended units
-      (record {
-        came = pdu b (Initiator (TaskManagementRequest x)) d;
-        verdict = Accepted;
-        call = call;
-        sent = outs;
-      })) ks)
+      → IsKept burst (map (extended units (accepts (pdu b (Initiator (TaskManagementRequest x)) d) call outs)) ks)
       (filter (keeps units x) cs)
   management_comes b x d call outs no_r2t =
-      let u : Turn = record {
-        came = pdu b (Initiator (TaskManagementRequest x)) d;
-        verdict = Accepted;
-        call =
-            call;
-        sent = outs;
-      } in
-      let w = drop_all units burst u (λ p. drops x p && names_one_of units x.lun) (λ p. refl)
-      (λ k right open_task. dropped burst k open_task right Accepted
-      (pdu b (Initiator (TaskManagementRequest x)) d) call outs refl refl no_r2t) ks kept.right in
+      let came : Incoming = pdu b (Initiator (TaskManagementRequest x)) d in
+      let test : Collecting → Bool = λ c. drops x c.command && names_one_of units x.lun in
+      let w = changed units (accepts came call outs) burst (swapped test []) (λ _. Unit {0})
+      (λ k right open_task t _. let g = dropped burst k open_task right Accepted came call outs refl refl no_r2t in
+      (g.0, g.1 ∙ rw t refl)) (λ k e. rw e refl) ks kept.right (all_hold (filter_map collecting_of ks)) in
       record {
         right = w.0;
-        tied = w.1 ∙ ap (filter (keeps units x)) kept.tied;
-        unique =
-            unique_kept (keeps units x) cs kept.unique;
-      }
+        tied = w.1 ∙ ap (flat_map (swapped test [])) kept.tied ∙ others_kept test cs;
+        unique = rw (← others_kept test cs)
+            (unique_changed (swapped test []) (swapped_place test [] (λ c e. inl refl)) cs kept.unique);
+      } where
+        all_hold : (xs : List Collecting) → AllByRecursion (λ _. Unit {0}) xs
+        all_hold [] = tt
+        all_hold (c ∷ xs) = (tt, all_hold xs)

@@ -1,21 +1,13 @@
 -- The PDUs of an answer: its Data-In, and the SCSI Response.
-use Rattle.std.specs.Prelude.{ℕ, nat_lt, List, [], ◌∷◌, ◌++◌, length, Option, Some, None}
-use Rattle.scsi_types.specs.Status.{status_code}
-use Rattle.scsi_types.specs.declared.status.Status.TheVariants as statuses
-use Rattle.iscsi_pdu.specs.declared.header.ScsiCommand.{ScsiCommand as CommandHeader}
-use Rattle.iscsi_pdu.specs.declared.header.ScsiResponse.{ScsiResponse as ResponseHeader}
-use Rattle.iscsi_pdu.specs.declared.header.Numbers.{Numbers}
-use Rattle.iscsi_pdu.specs.declared.header.TargetHeader.TheVariants.{ScsiResponse}
-use Rattle.full_feature.specs.declared.response.Completion.{Completion}
-use Rattle.session_rules.specs.Codes.{completed}
+use Rattle.session_rules.specs.Words.{ℕ, nat_lt, List, [], ◌∷◌, ◌++◌, length, None, status_code, CommandHeader, ResponseHeader}
+use Rattle.session_rules.specs.Words.{Numbers, ScsiResponse}
+use Rattle.full_feature.specs.{declared.response.Completion.Completion, Counters.Counters}
+use Rattle.session_rules.specs.{Codes.completed, Turn.Out, Response.sense_part, Standing.numbers_at}
 use Rattle.session_rules.specs.declared.target.TargetAnswer.{TargetAnswer}
 use Rattle.session_rules.specs.declared.target.TargetAnswer.TheVariants.{Replied, Outside, Busy, Gone}
-use Rattle.session_rules.specs.Turn.{Out}
 use Rattle.session_rules.specs.Transfer.{expected_transfer, sent_data, transfer_of, residual_count}
-use Rattle.session_rules.specs.Response.{sense_part}
-use Rattle.session_rules.specs.Standing.{numbers_at}
-use Rattle.full_feature.specs.Counters.{Counters}
 use Rattle.pdu_stream.specs.Pdus.{data_ins_for}
+use Rattle.scsi_types.specs.declared.status.Status.TheVariants as statuses
 
 -- the SCSI Response that tells this, behind so many Data-In, for data of this length
 abbrev pub response_for : Numbers → CommandHeader → ℕ → ℕ → Completion → ResponseHeader
@@ -38,16 +30,16 @@ reply_with s p need bytes completion =
     let response = response_for (numbers_at s.stat_sn s.standing) p transfer (length segments) completion in
     segments ++ record { header = ScsiResponse response; bytes = sense_part completion.sense } ∷ []
 
--- what a SCSI Response tells of an answer; there is none where the session is gone
-abbrev pub completion_of : TargetAnswer → Option Completion
-completion_of (Replied a) = Some (record { status = a.status; sense = a.sense })
-completion_of (Outside a) = Some (record { status = a.status; sense = a.sense })
-completion_of Busy = Some (record { status = statuses.Busy; sense = None })
-completion_of Gone = None
-
--- and of a command for whose data there is no buffer, or that finds the task set full
+-- a command for whose data there is no buffer, or that finds the task set full
 abbrev pub busy : Completion
 busy = record { status = statuses.Busy; sense = None }
 
 abbrev pub task_set_full : Completion
 task_set_full = record { status = statuses.TaskSetFull; sense = None }
+
+-- the PDUs that tell the target's answer; none where the session is gone
+abbrev pub reply_to : Counters → CommandHeader → ℕ → TargetAnswer → List Out
+reply_to s p need (Replied a) = reply_with s p need a.bytes (record { status = a.status; sense = a.sense })
+reply_to s p need (Outside a) = reply_with s p need a.bytes (record { status = a.status; sense = a.sense })
+reply_to s p need Busy = reply_with s p need [] busy
+reply_to s p need Gone = []

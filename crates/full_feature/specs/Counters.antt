@@ -1,11 +1,8 @@
 -- What a session keeps between two turns.
-use Rattle.std.specs.Prelude.{ℕ, ◌+◌, ◌%◌, Bool, List, [], ◌∷◌}
-use Rattle.iscsi_pdu.specs.declared.header.ScsiCommand.{ScsiCommand as CommandHeader}
-use Rattle.iscsi_pdu.specs.declared.header.Numbers.{Numbers}
-use Rattle.session_rules.specs.Setting.{Setting}
-use Rattle.session_rules.specs.Turn.{Out}
-use Rattle.session_rules.specs.Window.{wrap, exp_cmd_sn_behind}
-use Rattle.session_rules.specs.Tasks.{Collecting}
+use Rattle.session_rules.specs.Words.{ℕ, ◌+◌, ◌%◌, Bool, List, [], ◌∷◌, CommandHeader, Numbers}
+use Rattle.session_rules.specs.{Setting.Setting, Turn.Out, Window.wrap, Window.exp_cmd_sn_behind, Tasks.Collecting}
+use Rattle.session_rules.specs.declared.target.TargetAnswer.{TargetAnswer}
+use Rattle.session_rules.specs.declared.target.TargetAnswer.TheVariants.{Replied, Outside, Busy, Gone}
 use Rattle.session_rules.specs.Standing.{Standing, numbers_at}
 
 -- what stays the same, the next StatSN, and what stands behind the turns so far
@@ -43,10 +40,16 @@ abbrev pub after_collecting : List Collecting → Counters → Counters
 after_collecting cs s = record s { standing = record (s.standing) { collecting = cs } }
 
 abbrev pub after_r2t : Counters → Counters
-after_r2t s =
-    record s { standing = record (s.standing) { transfer_tag = (s.standing.transfer_tag + 1) % 4294967295 } }
+after_r2t s = record s { standing = record (s.standing) { transfer_tag = (s.standing.transfer_tag + 1) % 4294967295 } }
 
 -- behind the answer to a request: none, or one PDU, which uses up a StatSN
 abbrev pub after_answer : List Out → Counters → Counters
 after_answer [] s = s
 after_answer (o ∷ outs) s = after_status s
+
+-- behind a target's answer: nothing goes out where the session is gone
+abbrev pub after_reply : TargetAnswer → Counters → Counters
+after_reply (Replied a) s = after_status s
+after_reply (Outside a) s = after_status s
+after_reply Busy s = after_status s
+after_reply Gone s = s

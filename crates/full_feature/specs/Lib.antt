@@ -1,5 +1,5 @@
 pub mod AnswerPdus
 pub mod Counters
 pub mod Machine
-pub mod MachineTurn
 pub mod MakesTurn
+pub mod Step

@@ -1,131 +1,48 @@
--- What a session makes of a PDU, of a fault and of an answer: the PDUs to write, the call, the end, its counters.
-use Rattle.std.specs.List.{find}
-use Rattle.std.specs.Prelude.{◌≡◌, ℕ, ◌+◌, ◌<◌, ◌≤◌, Result, length, if◌then◌else◌, List, [], ◌∷◌, ◌++◌, Option, Some, None, MatchOption}
-use Rattle.scsi_types.specs.Cdb.{Means, need_of}
-use Rattle.scsi_types.specs.Lun.{NamesUnit}
-use Rattle.scsi_types.specs.declared.command.Command.{Command}
-use Rattle.scsi_types.specs.declared.command.CdbFault.{CdbFault}
-use Rattle.iscsi_pdu.specs.declared.header.ScsiCommand.{ScsiCommand as CommandHeader}
-use Rattle.iscsi_pdu.specs.declared.header.NopOut.{NopOut as NopOutHeader}
-use Rattle.iscsi_pdu.specs.declared.header.DataOut.{DataOut as DataOutHeader}
-use Rattle.iscsi_pdu.specs.declared.header.R2t.{R2t as R2tHeader}
-use Rattle.iscsi_pdu.specs.declared.header.TaskManagementRequest.{TaskManagementRequest as ManagementHeader}
-use Rattle.iscsi_pdu.specs.declared.header.TextRequest.{TextRequest as TextHeader}
-use Rattle.iscsi_pdu.specs.declared.header.LogoutRequest.{LogoutRequest as LogoutHeader}
-use Rattle.iscsi_pdu.specs.declared.header.Header.{Header}
-use Rattle.iscsi_pdu.specs.declared.header.Header.TheVariants.{Initiator}
-use Rattle.iscsi_pdu.specs.declared.header.InitiatorHeader.TheVariants.{NopOut, ScsiCommand, DataOut, TaskManagementRequest}
-use Rattle.iscsi_pdu.specs.declared.header.InitiatorHeader.TheVariants.{TextRequest, LogoutRequest}
-use Rattle.full_feature.specs.declared.actions.Actions.{Actions}
-use Rattle.full_feature.specs.declared.actions.Actions.TheVariants.{Send, Ask}
-use Rattle.full_feature.specs.declared.actions.Call.{Call}
-use Rattle.full_feature.specs.declared.actions.Call.TheVariants as kinds
-use Rattle.full_feature.specs.declared.actions.ServeCall.{ServeCall}
-use Rattle.full_feature.specs.declared.actions.CommandData.{CommandData}
-use Rattle.full_feature.specs.declared.actions.CommandData.TheVariants.{Came, Gathered}
-use Rattle.pdu_stream.specs.declared.pdus.Pdus.{Pdus}
-use Rattle.pdu_stream.specs.declared.pdus.Pdus.TheVariants as pdus
-use Rattle.session_rules.specs.declared.end.End.{End}
-use Rattle.session_rules.specs.declared.end.End.TheVariants.{Protocol, Reinstated, LoggedOut}
-use Rattle.session_rules.specs.declared.target.TargetAnswer.{TargetAnswer}
-use Rattle.session_rules.specs.declared.target.ResetAnswer.{ResetAnswer}
-use Rattle.session_rules.specs.declared.task_function.Management.{Management}
-use Rattle.session_rules.specs.declared.task_function.Management.TheVariants.{Respond, Reset}
+-- What a session makes of a PDU, of a fault and of an answer: a step, and its counters behind it.
+use Rattle.session_rules.specs.Words.{find, ◌≡◌, ℕ, ◌+◌, ◌<◌, ◌≤◌, Result, length, if◌then◌else◌, List, [], ◌∷◌, ◌++◌, Option}
+use Rattle.session_rules.specs.Words.{Some, None, Means, need_of, NamesUnit, Command, CdbFault, CommandHeader, NopOutHeader}
+use Rattle.session_rules.specs.Words.{DataOutHeader, R2tHeader, ManagementHeader, TextHeader, LogoutHeader, Header, Initiator}
+use Rattle.session_rules.specs.Words.{NopOut, ScsiCommand, DataOut, TaskManagementRequest, TextRequest, LogoutRequest}
+use Rattle.session_rules.specs.{Turn.Incoming, Turn.pdu, Turn.faulty, Turn.Out, Window.wrap, Tasks.Collecting, Tasks.has_tag}
+use Rattle.session_rules.specs.{Collecting.HasToCollect, Collecting.IsNext, Collecting.Continues, Standing.numbers_for}
+use Rattle.session_rules.specs.{Verdict.IsJudgedPdu, Transfer.data_for, Nop.nop_answer, Text.text_outs, Text.IsMadeOf}
+use Rattle.session_rules.specs.{Legal.end_by, Legal.end_by_reset, Logout.closes, Logout.logout_answer, Setting.Setting}
+use Rattle.session_rules.specs.declared.end.End.{End, TheVariants.Protocol, TheVariants.LoggedOut}
+use Rattle.session_rules.specs.declared.target.{TargetAnswer.TargetAnswer, ResetAnswer.ResetAnswer}
+use Rattle.session_rules.specs.declared.task_function.Management.{Management, TheVariants.Respond, TheVariants.Reset}
 use Rattle.session_rules.specs.declared.verdict.Verdict.{Verdict}
 use Rattle.session_rules.specs.declared.verdict.Verdict.TheVariants.{Accepted, Full, Ignored, Gap, Refused}
-use Rattle.session_rules.specs.Turn.{Out}
-use Rattle.session_rules.specs.Window.{wrap}
-use Rattle.session_rules.specs.Tasks.{Collecting, has_tag}
-use Rattle.session_rules.specs.Collecting.{HasToCollect, IsNext, Continues}
-use Rattle.waiting_commands.specs.declared.collecting.R2tWith.{R2tWith}
-use Rattle.session_rules.specs.Standing.{numbers_for}
-use Rattle.waiting_commands.specs.Slots.{StandsAt, IsAskedBy, fed, waits}
-use Rattle.session_rules.specs.Verdict.{IsJudgedPdu}
-use Rattle.session_rules.specs.Transfer.{data_for}
-use Rattle.session_rules.specs.Answered.{reply_data}
-use Rattle.full_feature.specs.Counters.{Counters, after_status, after_number, after_command, after_collecting, after_r2t}
-use Rattle.full_feature.specs.Counters.{after_answer, next_numbers}
-use Rattle.full_feature.specs.AnswerPdus.{reply_with, completion_of, busy, task_set_full}
-use Rattle.session_rules.specs.Nop.{nop_answer}
-use Rattle.session_rules.specs.Text.{text_outs, IsMadeOf}
-use Rattle.session_rules.specs.Legal.{end_by_reset}
 use Rattle.session_rules.specs.TaskManagement.{IsManagement, reset_response, management_answer}
-use Rattle.session_rules.specs.Logout.{closes, logout_answer}
+use Rattle.waiting_commands.specs.{declared.collecting.R2tWith.R2tWith, Slots.StandsAt, Slots.IsAskedBy, Slots.fed, Slots.waits}
+use Rattle.full_feature.specs.Counters.{Counters, after_status, after_number, after_command, after_collecting, after_r2t}
+use Rattle.full_feature.specs.Counters.{after_answer, after_reply, next_numbers}
+use Rattle.full_feature.specs.AnswerPdus.{reply_with, reply_to, busy, task_set_full}
 use Rattle.full_feature.specs.declared.text.MadeText.{MadeText}
-use Rattle.session_rules.specs.Setting.{Setting}
-use Rattle.pdu_stream.specs.Pdus.{sent_by}
+use Rattle.full_feature.specs.Step.{Step, says, rejects, serves, resets, asks_by}
 
--- the PDUs that actions say to write, the call that they ask for, and the end behind them
-abbrev pub pdus_of : Actions → Pdus
-pdus_of (Send x) = x.pdus
-pdus_of (Ask c) = pdus.Nothing
-
-abbrev pub call_of : Actions → Option Call
-call_of (Send x) = None
-call_of (Ask c) = Some c
-
-abbrev pub end_of : Actions → Option End
-end_of (Send x) = x.end
-end_of (Ask c) = None
-
--- nothing goes out, and nothing is called
-pub record IsSilent (a : Actions) : Type 0 where
-  pub pdus_are : pdus_of a ≡ pdus.Nothing
-  pub no_call : call_of a ≡ None
+-- the step is this one, and these are the counters behind it
+pub record Makes (wanted : Step) (next : Counters) (step : Step) (s' : Counters) : Type 0 where
+  pub step_is : step ≡ wanted
+  pub next_is : s' ≡ next
 
 -- these PDUs go out, and a status number is used up
-pub record Sends (s : Counters) (outs : List Out) (a : Actions) (s' : Counters) : Type 0 where
-  pub pdus_are : (bhs : List ℕ) → sent_by bhs (pdus_of a) ≡ outs
-  pub no_call : call_of a ≡ None
-  pub no_end : end_of a ≡ None
-  pub next : s' ≡ after_status s
+abbrev pub Sends : Counters → List Out → Step → Counters → Type 0
+Sends s outs step s' = Makes (says outs None) (after_status s) step s'
 
--- the data that a call has
-abbrev pub call_data : CommandData → List ℕ
-call_data (Came bytes) = bytes.now
-call_data (Gathered bytes) = bytes.items
+-- a request is answered by these PDUs, which are none or one, with this end
+abbrev pub Answers : Counters → List Out → Option End → Step → Counters → Type 0
+Answers s outs end step s' = Makes (says outs end) (after_answer outs s) step s'
 
--- the call of a command, for what its CDB asks, where its data so far are these
-pub record IsServeOf (p : CommandHeader) (asked : Result Command CdbFault) (bytes : List ℕ) (c : ServeCall) : Type 0 where
-  pub command : c.task.command ≡ p
-  pub asked_is : c.asked ≡ asked
-  pub need : c.task.need ≡ need_of asked
-  pub unit : NamesUnit p.lun c.unit
-  pub bytes_are : call_data c.bytes ≡ data_for p (need_of asked) bytes
+-- a Reject for this reason goes out, which takes a status number, and the session ends
+abbrev pub OnRefusal : Counters → ℕ → Step → Counters → Type 0
+OnRefusal s reason step s' =
+    Makes (rejects (record { reason = reason; numbers = next_numbers s }) (Some Protocol)) (after_status s) step s'
 
-abbrev pub IsCallOf : CommandHeader → Result Command CdbFault → List ℕ → Call → Type 0
-IsCallOf p asked bytes (kinds.Serve c) = IsServeOf p asked bytes c
-IsCallOf p asked bytes (kinds.Reset c) = ⊥
-
-pub record Calls (p : CommandHeader) (asked : Result Command CdbFault) (bytes : List ℕ) (a : Actions) : Type 0 where
-  pub pdus_are : pdus_of a ≡ pdus.Nothing
-  pub call : MatchOption (call_of a) ⊥ (λ c. IsCallOf p asked bytes c)
-  pub no_end : end_of a ≡ None
-
--- the next R2T of a command goes out, where so much of its data has come and these are the counters
-pub record Asks (s : Counters) (p : CommandHeader) (need came requests : ℕ) (next : R2tHeader)
-    (a : Actions) : Type 0 where
-  pub is_next : IsNext s.setting.start.lengths.burst p need came requests next
-  pub transfer : next.transfer_tag ≡ s.standing.transfer_tag
-  pub numbers : next.numbers ≡ next_numbers s
-  pub pdus_are : pdus_of a ≡ pdus.R2t next
-  pub no_call : call_of a ≡ None
-  pub no_end : end_of a ≡ None
-
--- a command that was accepted takes its number; it is called, or its first R2T goes out, or there was no buffer for its
--- data
-pub data OnOpened (s : Counters) (p : CommandHeader) (asked : Result Command CdbFault) (d : List ℕ) (a : Actions)
-    (s' : Counters) : Type 0 where
-  calls : (HasToCollect p (need_of asked) (length d) → ⊥) → Calls p asked d a → s' ≡ after_command p s
-      → OnOpened s p asked d a s'
-  asks : HasToCollect p (need_of asked) (length d) → (next : R2tHeader)
-      → Asks (after_collecting (s.standing.collecting ++ waits p d next 1 ∷ []) (after_command p s)) p (need_of asked)
-      (length d) 0 next a
-      → s' ≡ after_r2t (after_collecting (s.standing.collecting ++ waits p d next 1 ∷ []) (after_command p s))
-      → OnOpened s p asked d a s'
-  turns_away : HasToCollect p (need_of asked) (length d)
-      → Sends (after_command p s) (reply_with (after_command p s) p (need_of asked) [] busy) a s'
-      → OnOpened s p asked d a s'
+-- a command is called, for what its CDB asks, where its data so far are these
+pub record Calls (p : CommandHeader) (asked : Result Command CdbFault) (bytes : List ℕ) (step : Step) : Type 0 where
+  pub unit : Option ℕ
+  pub names : NamesUnit p.lun unit
+  pub step_is : step ≡ serves p (need_of asked) unit asked (data_for p (need_of asked) bytes)
 
 -- what the next R2T is sent with, where so many numbered commands wait
 abbrev pub r2t_with_for : Counters → ℕ → R2tWith
@@ -135,33 +52,48 @@ r2t_with_for s waiting = record {
   burst = s.setting.start.lengths.burst;
 }
 
--- a command begins to wait, and its first R2T goes out
-pub record BeginsToWait (s : Counters) (p : CommandHeader) (need : ℕ) (d : List ℕ) (next : R2tHeader)
+-- the next R2T of a command of whose data so much has come goes out, and these wait behind it
+pub record Waits (s : Counters) (cs : List Collecting) (p : CommandHeader) (need came requests : ℕ) (next : R2tHeader)
     (s' : Counters) : Type 0 where
-  pub is_next : IsNext s.setting.start.lengths.burst p need (length d) 0 next
+  pub is_next : IsNext s.setting.start.lengths.burst p need came requests next
   pub transfer : next.transfer_tag ≡ s.standing.transfer_tag
-  pub numbers : next.numbers
-      ≡ next_numbers (after_collecting (s.standing.collecting ++ waits p d next 1 ∷ []) s)
-  pub after : s' ≡ after_r2t (after_collecting (s.standing.collecting ++ waits p d next 1 ∷ []) s)
+  pub numbers : next.numbers ≡ next_numbers (after_collecting cs s)
+  pub next_is : s' ≡ after_r2t (after_collecting cs s)
 
-pub record OnAccepted (s : Counters) (p : CommandHeader) (d : List ℕ) (a : Actions) (s' : Counters) : Type 0 where
+-- a command begins to wait, and its first R2T goes out
+abbrev pub BeginsToWait : Counters → CommandHeader → ℕ → List ℕ → R2tHeader → Counters → Type 0
+BeginsToWait s p need d next s' = Waits s (s.standing.collecting ++ waits p d next 1 ∷ []) p need (length d) 0 next s'
+
+-- a command that was accepted takes its number; it is called, or its first R2T goes out, or there was no buffer for its
+-- data
+pub data OnOpened (s : Counters) (p : CommandHeader) (asked : Result Command CdbFault) (d : List ℕ) (step : Step)
+    (s' : Counters) : Type 0 where
+  calls : (HasToCollect p (need_of asked) (length d) → ⊥) → Calls p asked d step → s' ≡ after_command p s
+      → OnOpened s p asked d step s'
+  asks : HasToCollect p (need_of asked) (length d) → (next : R2tHeader) → step ≡ asks_by next
+      → BeginsToWait (after_command p s) p (need_of asked) d next s' → OnOpened s p asked d step s'
+  turns_away : HasToCollect p (need_of asked) (length d)
+      → Sends (after_command p s) (reply_with (after_command p s) p (need_of asked) [] busy) step s'
+      → OnOpened s p asked d step s'
+
+pub record OnAccepted (s : Counters) (p : CommandHeader) (d : List ℕ) (step : Step) (s' : Counters) : Type 0 where
   pub asked : Result Command CdbFault
   pub asked_by : IsAskedBy p asked
-  pub by : OnOpened s p asked d a s'
+  pub by : OnOpened s p asked d step s'
 
 -- a Data-Out that continues a command: more is to come for its R2T, or the next one goes out, or it is called
 pub data OnFed (s : Counters) (front : List Collecting) (this : Collecting) (back : List Collecting)
-    (asked : Result Command CdbFault) (d : List ℕ) (end : ℕ) (a : Actions) (s' : Counters) : Type 0 where
-  fills : length (this.bytes ++ d) < end → IsSilent a → end_of a ≡ None
-      → s' ≡ after_collecting (front ++ (fed this d ∷ back)) s → OnFed s front this back asked d end a s'
+    (asked : Result Command CdbFault) (d : List ℕ) (end : ℕ) (step : Step) (s' : Counters) : Type 0 where
+  fills : length (this.bytes ++ d) < end
+      → Makes (says [] None) (after_collecting (front ++ (fed this d ∷ back)) s) step s'
+      → OnFed s front this back asked d end step s'
   asks_on : length (this.bytes ++ d) ≡ end → length (this.bytes ++ d) < need_of asked → (next : R2tHeader)
-      → Asks (after_collecting (front ++ (waits this.command (this.bytes ++ d) next (wrap (this.requests + 1)) ∷ back)) s)
-      this.command (need_of asked) (length (this.bytes ++ d)) this.requests next a
-      → s' ≡ after_r2t (after_collecting
-      (front ++ (waits this.command (this.bytes ++ d) next (wrap (this.requests + 1)) ∷ back)) s)
-      → OnFed s front this back asked d end a s'
-  calls_now : need_of asked ≤ length (this.bytes ++ d) → Calls this.command asked (this.bytes ++ d) a
-      → s' ≡ after_collecting (front ++ back) s → OnFed s front this back asked d end a s'
+      → step ≡ asks_by next
+      → Waits s (front ++ (waits this.command (this.bytes ++ d) next (wrap (this.requests + 1)) ∷ back)) this.command
+      (need_of asked) (length (this.bytes ++ d)) this.requests next s'
+      → OnFed s front this back asked d end step s'
+  calls_now : need_of asked ≤ length (this.bytes ++ d) → Calls this.command asked (this.bytes ++ d) step
+      → s' ≡ after_collecting (front ++ back) s → OnFed s front this back asked d end step s'
 
 -- the command that stands there waits for this Data-Out
 pub record CanTake (s : Counters) (at : ℕ) (x : DataOutHeader) (d : List ℕ) : Type 0 where
@@ -170,7 +102,7 @@ pub record CanTake (s : Counters) (at : ℕ) (x : DataOutHeader) (d : List ℕ) 
   pub found : find (has_tag x.task_tag) s.standing.collecting ≡ Some this
   pub continues : Continues this x d
 
-pub record OnData (s : Counters) (x : DataOutHeader) (d : List ℕ) (a : Actions) (s' : Counters) : Type 0 where
+pub record OnData (s : Counters) (x : DataOutHeader) (d : List ℕ) (step : Step) (s' : Counters) : Type 0 where
   pub front : List Collecting
   pub this : Collecting
   pub back : List Collecting
@@ -179,116 +111,92 @@ pub record OnData (s : Counters) (x : DataOutHeader) (d : List ℕ) (a : Actions
   pub continues : Continues this x d
   pub asked : Result Command CdbFault
   pub asked_by : IsAskedBy this.command asked
-  pub by : OnFed s front this back asked d (continues.request.offset + continues.request.desired_length) a s'
+  pub by : OnFed s front this back asked d (continues.request.offset + continues.request.desired_length) step s'
 
--- a Reject for this reason goes out, which takes a status number, and the session ends
-pub record OnRefusal (s : Counters) (reason : ℕ) (a : Actions) (s' : Counters) : Type 0 where
-  pub pdus_are : pdus_of a ≡ pdus.Reject (record { reason = reason; numbers = next_numbers s })
-  pub no_call : call_of a ≡ None
-  pub ends : end_of a ≡ Some Protocol
-  pub next : s' ≡ after_status s
-
--- a request is answered by these PDUs, which are none or one, with this end
-pub record Answers (s : Counters) (outs : List Out) (end : Option End) (a : Actions) (s' : Counters) : Type 0 where
-  pub pdus_are : (bhs : List ℕ) → sent_by bhs (pdus_of a) ≡ outs
-  pub no_call : call_of a ≡ None
-  pub ends : end_of a ≡ end
-  pub next : s' ≡ after_answer outs s
-
-abbrev pub OnNopOut : Counters → NopOutHeader → List ℕ → Actions → Counters → Type 0
-OnNopOut s p d a s' =
+abbrev pub OnNopOut : Counters → NopOutHeader → List ℕ → Step → Counters → Type 0
+OnNopOut s p d step s' =
     let mid = after_number p.immediate s in
-    Answers mid (nop_answer (next_numbers mid) s.setting.start.lengths p d) None a s'
+    Answers mid (nop_answer (next_numbers mid) s.setting.start.lengths p d) None step s'
 
-abbrev pub OnText : Counters → TextHeader → List ℕ → Actions → Counters → Type 0
-OnText s p d a s' =
+abbrev pub OnText : Counters → TextHeader → List ℕ → Step → Counters → Type 0
+OnText s p d step s' =
     let mid = after_number p.immediate s in
-    Answers mid (text_outs (next_numbers mid) s.setting p d) None a s'
+    Answers mid (text_outs (next_numbers mid) s.setting p d) None step s'
 
-abbrev pub OnLogout : Counters → LogoutHeader → Actions → Counters → Type 0
-OnLogout s p a s' =
+abbrev pub OnLogout : Counters → LogoutHeader → Step → Counters → Type 0
+OnLogout s p step s' =
     let mid = after_number p.immediate s in
-    Answers mid (logout_answer (next_numbers mid) p) (if closes p then Some LoggedOut else None) a s'
+    Answers mid (logout_answer (next_numbers mid) p) (if closes p then Some LoggedOut else None) step s'
 
 -- an immediate command that finds the task set full
-pub record OnFull (s : Counters) (p : CommandHeader) (a : Actions) (s' : Counters) : Type 0 where
+pub record OnFull (s : Counters) (p : CommandHeader) (step : Step) (s' : Counters) : Type 0 where
   pub asked : Result Command CdbFault
   pub means : Means p.cdb asked
-  pub sends : Sends s (reply_with s p (need_of asked) [] task_set_full) a s'
+  pub sends : Sends s (reply_with s p (need_of asked) [] task_set_full) step s'
 
--- a unit is to be reset
-pub record OnReset (s : Counters) (p : ManagementHeader) (unit : ℕ) (a : Actions) (s' : Counters) : Type 0 where
-  pub pdus_are : pdus_of a ≡ pdus.Nothing
-  pub call : call_of a ≡ Some (kinds.Reset (record { request = p; unit = unit }))
-  pub no_end : end_of a ≡ None
-  pub next : s' ≡ s
+-- a response, or a unit that is to be reset
+abbrev pub OnManagedBy : Management → Counters → ManagementHeader → Step → Counters → Type 0
+OnManagedBy (Respond response) s p step s' = Answers s (management_answer (next_numbers s) p (Some response)) None step s'
+OnManagedBy (Reset unit) s p step s' = Makes (resets p unit) s step s'
 
-abbrev pub OnManagedBy : Management → Counters → ManagementHeader → Actions → Counters → Type 0
-OnManagedBy (Respond response) s p a s' = Answers s (management_answer (next_numbers s) p (Some response)) None a s'
-OnManagedBy (Reset unit) s p a s' = OnReset s p unit a s'
-
-pub record OnManagement (s : Counters) (p : ManagementHeader) (a : Actions) (s' : Counters) : Type 0 where
+pub record OnManagement (s : Counters) (p : ManagementHeader) (step : Step) (s' : Counters) : Type 0 where
   pub management : Management
   pub kept : List Collecting
   pub comes_to : IsManagement s.setting.units s.standing.collecting p management kept
-  pub managed : OnManagedBy management (after_collecting kept (after_number p.immediate s)) p a s'
+  pub managed : OnManagedBy management (after_collecting kept (after_number p.immediate s)) p step s'
 
--- what a session makes of the answer to a reset
-abbrev pub OnResetAnswer : Counters → ManagementHeader → ResetAnswer → Actions → Counters → Type 0
-OnResetAnswer s p answer a s' =
-    Answers s (management_answer (next_numbers s) p (reset_response answer)) (end_by_reset answer) a s'
+-- what a session makes of the answer to a reset, and of that to a command: where the session is gone it ends
+abbrev pub OnResetAnswer : Counters → ManagementHeader → ResetAnswer → Step → Counters → Type 0
+OnResetAnswer s p answer step s' =
+    Answers s (management_answer (next_numbers s) p (reset_response answer)) (end_by_reset answer) step s'
+
+abbrev pub OnAnswer : Counters → CommandHeader → ℕ → TargetAnswer → Step → Counters → Type 0
+OnAnswer s p need answer step s' = Makes (says (reply_to s p need answer) (end_by answer)) (after_reply answer s) step s'
 
 -- an accepted PDU, by its kind
-abbrev pub OnTaken : Counters → Header → List ℕ → Actions → Counters → Type 0
-OnTaken s (Initiator (NopOut p)) d a s' = OnNopOut s p d a s'
-OnTaken s (Initiator (ScsiCommand p)) d a s' = OnAccepted s p d a s'
-OnTaken s (Initiator (DataOut x)) d a s' = OnData s x d a s'
-OnTaken s (Initiator (TaskManagementRequest p)) d a s' = OnManagement s p a s'
-OnTaken s (Initiator (TextRequest p)) d a s' = OnText s p d a s'
-OnTaken s (Initiator (LogoutRequest p)) d a s' = OnLogout s p a s'
-OnTaken s h d a s' = ⊥
+abbrev pub OnTaken : Counters → Header → List ℕ → Step → Counters → Type 0
+OnTaken s (Initiator (NopOut p)) d step s' = OnNopOut s p d step s'
+OnTaken s (Initiator (ScsiCommand p)) d step s' = OnAccepted s p d step s'
+OnTaken s (Initiator (DataOut x)) d step s' = OnData s x d step s'
+OnTaken s (Initiator (TaskManagementRequest p)) d step s' = OnManagement s p step s'
+OnTaken s (Initiator (TextRequest p)) d step s' = OnText s p d step s'
+OnTaken s (Initiator (LogoutRequest p)) d step s' = OnLogout s p step s'
+OnTaken s h d step s' = ⊥
 
-abbrev pub OnFullPdu : Counters → Header → Actions → Counters → Type 0
-OnFullPdu s (Initiator (ScsiCommand p)) a s' = OnFull s p a s'
-OnFullPdu s h a s' = ⊥
+abbrev pub OnFullPdu : Counters → Header → Step → Counters → Type 0
+OnFullPdu s (Initiator (ScsiCommand p)) step s' = OnFull s p step s'
+OnFullPdu s h step s' = ⊥
 
 -- what a verdict makes of a PDU that is not accepted; one that is out of order ends the session
-abbrev pub OnUnaccepted : Verdict → Counters → Actions → Counters → Type 0
-OnUnaccepted Accepted s a s' = ⊥
-OnUnaccepted Full s a s' = ⊥
-OnUnaccepted Ignored s a s' = IsSilent a × (end_of a ≡ None) × (s' ≡ s)
-OnUnaccepted Gap s a s' = IsSilent a × (end_of a ≡ Some Protocol) × (s' ≡ s)
-OnUnaccepted (Refused reason) s a s' = OnRefusal s reason a s'
+abbrev pub OnUnaccepted : Verdict → Counters → Step → Counters → Type 0
+OnUnaccepted Accepted s step s' = ⊥
+OnUnaccepted Full s step s' = ⊥
+OnUnaccepted Ignored s step s' = Makes (says [] None) s step s'
+OnUnaccepted Gap s step s' = Makes (says [] (Some Protocol)) s step s'
+OnUnaccepted (Refused reason) s step s' = OnRefusal s reason step s'
 
--- what a verdict makes of a PDU
-abbrev pub OnVerdict : Verdict → Counters → Header → List ℕ → Actions → Counters → Type 0
-OnVerdict Accepted s h d a s' = OnTaken s h d a s'
-OnVerdict Full s h d a s' = OnFullPdu s h a s'
-OnVerdict Ignored s h d a s' = OnUnaccepted Ignored s a s'
-OnVerdict Gap s h d a s' = OnUnaccepted Gap s a s'
-OnVerdict (Refused reason) s h d a s' = OnUnaccepted (Refused reason) s a s'
+-- what a verdict makes of a PDU, and of a fault
+abbrev pub OnVerdict : Verdict → Counters → Header → List ℕ → Step → Counters → Type 0
+OnVerdict Accepted s h d step s' = OnTaken s h d step s'
+OnVerdict Full s h d step s' = OnFullPdu s h step s'
+OnVerdict Ignored s h d step s' = OnUnaccepted Ignored s step s'
+OnVerdict Gap s h d step s' = OnUnaccepted Gap s step s'
+OnVerdict (Refused reason) s h d step s' = OnUnaccepted (Refused reason) s step s'
+
+abbrev pub OnIncoming : Verdict → Counters → Incoming → Step → Counters → Type 0
+OnIncoming v s (pdu bhs h d) step s' = OnVerdict v s h d step s'
+OnIncoming v s (faulty f bhs) step s' = OnUnaccepted v s step s'
 
 -- what a session makes of a PDU, and of a SCSI Command
-pub record OnPdu (s : Counters) (h : Header) (d : List ℕ) (a : Actions) (s' : Counters) : Type 0 where
+pub record OnPdu (s : Counters) (h : Header) (d : List ℕ) (step : Step) (s' : Counters) : Type 0 where
   pub verdict : Verdict
   pub judged : IsJudgedPdu s.setting s.standing h d verdict
-  pub made : OnVerdict verdict s h d a s'
+  pub made : OnVerdict verdict s h d step s'
 
-abbrev pub OnCommand : Counters → CommandHeader → List ℕ → Actions → Counters → Type 0
-OnCommand s p d a s' = OnPdu s (Initiator (ScsiCommand p)) d a s'
+abbrev pub OnCommand : Counters → CommandHeader → List ℕ → Step → Counters → Type 0
+OnCommand s p d step s' = OnPdu s (Initiator (ScsiCommand p)) d step s'
 
--- what a session makes of an answer: where the session is gone it ends, else the answer goes out
-pub record OnGone (s : Counters) (a : Actions) (s' : Counters) : Type 0 where
-  pub silent : IsSilent a
-  pub ends : end_of a ≡ Some Reinstated
-  pub next : s' ≡ s
-
-abbrev pub OnAnswer : Counters → CommandHeader → ℕ → TargetAnswer → Actions → Counters → Type 0
-OnAnswer s p need answer a s' =
-    MatchOption (completion_of answer) (OnGone s a s')
-    (λ completion. Sends s (reply_with s p need (reply_data answer) completion) a s')
-
--- the same for the text of a Text Request; of any other PDU nothing is made
+-- what was made of the text of a Text Request; of any other PDU nothing is made
 abbrev pub IsMade : Setting → Header → List ℕ → MadeText → Type 0
 IsMade m (Initiator (TextRequest p)) d text = IsMadeOf text.answered m d text.bytes.now
 IsMade m h d text = Unit {0}

@@ -1,5 +1,5 @@
 ghost use Rattle.std.specs.Prelude.{◌≡◌};
-ghost use Rattle.full_feature.specs.Machine.{call_data};
+ghost use Rattle.full_feature.specs.Step.{call_data};
 
 use iscsi_pdu::{ScsiCommand, TaskManagementRequest};
 use pdu_stream::Pdus;

@@ -4,9 +4,9 @@
 //! write whose data does not all come with it waits for the rest, which it asks for by R2T; any other command is answered in
 //! the turn in which it comes. [`feature_turn`] does one turn, with the target and the outbox.
 //!
-//! Of specs/, `Counters` says what a session keeps between two turns, `Machine` what it makes of what comes, `MachineTurn` of a
-//! whole turn, and `MakesTurn` what a turn makes of target and outbox. That a transcript stays legal turn by turn is proved in
-//! `Lawful` of proofs/.
+//! Of specs/, `Counters` says what a session keeps between two turns, `Step` what a PDU calls for, as data, `Machine` which
+//! step a session makes of what comes, and `MakesTurn` what a turn makes of target and outbox. That a transcript stays legal
+//! turn by turn is proved in `Lawful` of proofs/.
 #![tactic(auto)]
 
 mod actions;

@@ -1,9 +1,9 @@
 //! What a session makes of requests that are no SCSI Command: NOP-Out, Text, task management and Logout.
 ghost use Rattle.std.specs.Prelude.{◌≡◌, ℕ, List};
 ghost use Rattle.pdu_stream.specs.Pdus.{AreInReach};
-ghost use Rattle.full_feature.specs.declared.actions.Actions.TheVariants.{Send};
 ghost use Rattle.full_feature.specs.Counters.{Counters, next_numbers};
-ghost use Rattle.full_feature.specs.Machine.{pdus_of, OnPdu, OnNopOut, OnText, OnLogout, OnManagement, OnResetAnswer, Answers};
+ghost use Rattle.full_feature.specs.Machine.{OnPdu, OnNopOut, OnText, OnLogout, OnManagement, OnResetAnswer, Answers};
+ghost use Rattle.full_feature.specs.Step.{said, step_of, pdus_of};
 ghost use Rattle.session_rules.specs.TaskManagement.{management_answer};
 ghost use Rattle.session_rules.specs.Text.{IsAnswerOf, IsMadeOf};
 
@@ -21,7 +21,7 @@ use session_rules::{End, Management, ResetAnswer};
 impl Session {
     /// What a NOP-Out calls for.
     pub(crate) fn on_nop_out<'a>(&mut self, request: NopOut, bytes: &'a [u8]) -> Sending<'a>
-        ensures on { OnPdu self.old (Header.Initiator (InitiatorHeader.NopOut request)) bytes.now (Send result) self.new }
+        ensures on { OnPdu self.old (Header.Initiator (InitiatorHeader.NopOut request)) bytes.now (said result) self.new }
         ensures within { AreInReach result.pdus }
     {
         let verdict = self.verdict(request.immediate, request.numbers.cmd_sn, false);
@@ -33,7 +33,7 @@ impl Session {
 
     // An accepted NOP-Out.
     fn answer_nop_out<'a>(&mut self, request: NopOut, bytes: &'a [u8]) -> Sending<'a>
-        ensures on { OnNopOut self.old request bytes.now (Send result) self.new }
+        ensures on { OnNopOut self.old request bytes.now (said result) self.new }
         ensures within { AreInReach result.pdus }
     {
         self.accept(request.immediate);
@@ -49,7 +49,7 @@ impl Session {
         text: MadeText<'a>,
     ) -> Sending<'a>
         requires made { IsMadeOf text.answered self.old.setting bytes.now text.bytes.now }
-        ensures on { OnPdu self.old (Header.Initiator (InitiatorHeader.TextRequest request)) bytes.now (Send result)
+        ensures on { OnPdu self.old (Header.Initiator (InitiatorHeader.TextRequest request)) bytes.now (said result)
             self.new }
         ensures within { AreInReach result.pdus }
     {
@@ -69,7 +69,7 @@ impl Session {
         answer: &'a [u8],
     ) -> Sending<'a>
         requires made { IsAnswerOf self.old.setting bytes.now answer.now }
-        ensures on { OnText self.old request bytes.now (Send result) self.new }
+        ensures on { OnText self.old request bytes.now (said result) self.new }
         ensures within { AreInReach result.pdus }
     {
         self.accept(request.immediate);
@@ -80,7 +80,7 @@ impl Session {
     /// What a request for task management calls for.
     pub(crate) fn on_task_management<'a>(&mut self, request: TaskManagementRequest) -> Actions<'a>
         ensures on { (d : List ℕ)
-            → OnPdu self.old (Header.Initiator (InitiatorHeader.TaskManagementRequest request)) d result self.new }
+            → OnPdu self.old (Header.Initiator (InitiatorHeader.TaskManagementRequest request)) d (step_of result) self.new }
         ensures within { AreInReach (pdus_of result) }
     {
         let refused = self.discovers();
@@ -93,7 +93,7 @@ impl Session {
 
     // An accepted request for task management: its response, or the reset of a unit that is there.
     fn manage<'a>(&mut self, request: TaskManagementRequest) -> Actions<'a>
-        ensures on { OnManagement self.old request result self.new }
+        ensures on { OnManagement self.old request (step_of result) self.new }
         ensures within { AreInReach (pdus_of result) }
     {
         self.accept(request.immediate);
@@ -111,7 +111,7 @@ impl Session {
         request: TaskManagementRequest,
         answer: ResetAnswer,
     ) -> Sending<'a>
-        ensures on { OnResetAnswer self.old request answer (Send result) self.new }
+        ensures on { OnResetAnswer self.old request answer (said result) self.new }
         ensures within { AreInReach result.pdus }
     {
         self.respond_to_management(&request, reset_response(answer), reset_end(answer))
@@ -124,7 +124,7 @@ impl Session {
         response: Option<u8>,
         end: Option<End>,
     ) -> Sending<'a>
-        ensures on { Answers self.old (management_answer (next_numbers self.old) request.now response) end (Send result)
+        ensures on { Answers self.old (management_answer (next_numbers self.old) request.now response) end (said result)
             self.new }
         ensures within { AreInReach result.pdus }
     {
@@ -135,7 +135,7 @@ impl Session {
     /// What a Logout Request calls for.
     pub(crate) fn on_logout<'a>(&mut self, request: LogoutRequest) -> Sending<'a>
         ensures on { (d : List ℕ)
-            → OnPdu self.old (Header.Initiator (InitiatorHeader.LogoutRequest request)) d (Send result) self.new }
+            → OnPdu self.old (Header.Initiator (InitiatorHeader.LogoutRequest request)) d (said result) self.new }
         ensures within { AreInReach result.pdus }
     {
         let verdict = self.verdict(request.immediate, request.numbers.cmd_sn, false);
@@ -147,7 +147,7 @@ impl Session {
 
     // An accepted logout.
     fn answer_logout<'a>(&mut self, request: LogoutRequest) -> Sending<'a>
-        ensures on { OnLogout self.old request (Send result) self.new }
+        ensures on { OnLogout self.old request (said result) self.new }
         ensures within { AreInReach result.pdus }
     {
         self.accept(request.immediate);

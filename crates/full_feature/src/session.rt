@@ -2,14 +2,13 @@
 ghost use Rattle.std.specs.Prelude.{◌≡◌, ℕ, List, [], ◌≤◌, Some, None, length, vec_capacity, IfOk, IfSome, MatchOption};
 ghost use Rattle.scsi_types.specs.Cdb.{need_of};
 ghost use Rattle.iscsi_pdu.specs.declared.TheConstants.{MAX_DATA_SEGMENT_LENGTH};
-ghost use Rattle.full_feature.specs.declared.actions.Actions.TheVariants.{Send};
 ghost use Rattle.full_feature.specs.declared.text.MadeText.{MadeText};
 ghost use Rattle.session_rules.specs.declared.verdict.Verdict.TheVariants.{Accepted, Full};
 ghost use Rattle.session_rules.specs.Setting.{setting_of, discovers};
 ghost use Rattle.session_rules.specs.Text.{IsMadeOf};
 ghost use Rattle.full_feature.specs.Machine.{IsMade, OnPdu, OnCommand, OnUnaccepted, OnRefusal, OnAnswer, Sends};
-ghost use Rattle.full_feature.specs.Machine.{Answers, IsSilent, Calls, OnAccepted, OnFull, OnData, pdus_of};
-ghost use Rattle.full_feature.specs.Machine.{call_data, r2t_with_for, BeginsToWait, CanTake};
+ghost use Rattle.full_feature.specs.Machine.{Answers, Calls, OnAccepted, OnFull, OnData, r2t_with_for, BeginsToWait, CanTake};
+ghost use Rattle.full_feature.specs.Step.{says, asks_by, said, step_of, call_data, pdus_of};
 ghost use Rattle.session_rules.specs.Transfer.{data_for};
 ghost use Rattle.session_rules.specs.Collecting.{HasToCollect};
 ghost use Rattle.waiting_commands.specs.Slots.{IsAskedBy};
@@ -155,7 +154,7 @@ impl Session {
         text: MadeText<'a>,
     ) -> Actions<'a>
         requires made { IsMade self.old.setting header.now bytes.now text }
-        ensures on { OnPdu self.old header.now bytes.now result self.new }
+        ensures on { OnPdu self.old header.now bytes.now (step_of result) self.new }
         ensures within { AreInReach (pdus_of result) }
     {
         match header {
@@ -172,7 +171,7 @@ impl Session {
         text: MadeText<'a>,
     ) -> Actions<'a>
         requires made { IsMade self.old.setting (Header.Initiator header.now) bytes.now text }
-        ensures on { OnPdu self.old (Header.Initiator header.now) bytes.now result self.new }
+        ensures on { OnPdu self.old (Header.Initiator header.now) bytes.now (step_of result) self.new }
         ensures within { AreInReach (pdus_of result) }
     {
         match header {
@@ -232,7 +231,7 @@ impl Session {
     pub(crate) fn turned_away<'a>(&mut self, verdict: Verdict) -> Option<Sending<'a>>
         requires { verdict ≡ Full → ⊥ }
         ensures away { MatchOption result ((verdict ≡ Accepted) × (self.new ≡ self.old))
-            (λ x. OnUnaccepted verdict self.old (Send x) self.new) }
+            (λ x. OnUnaccepted verdict self.old (said x) self.new) }
         ensures within { IfSome result (λ x. AreInReach x.pdus) }
     {
         match verdict {
@@ -261,7 +260,7 @@ impl Session {
         end: Option<End>,
     ) -> Sending<'a>
         requires { IfSome pdu (λ x. length x.bytes.now ≤ MAX_DATA_SEGMENT_LENGTH) }
-        ensures on { Answers self.old (out_of pdu.entry) end (Send result) self.new }
+        ensures on { Answers self.old (out_of pdu.entry) end (said result) self.new }
         ensures within { AreInReach result.pdus }
     {
         let pdus = match pdu {
@@ -276,7 +275,7 @@ impl Session {
 
     // What a SCSI Command calls for.
     fn on_command<'a>(&mut self, command: &ScsiCommand, bytes: &'a [u8]) -> Actions<'a>
-        ensures on { OnCommand self.old command.now bytes.now result self.new }
+        ensures on { OnCommand self.old command.now bytes.now (step_of result) self.new }
         ensures within { AreInReach (pdus_of result) }
     {
         let verdict = command_verdict(
@@ -298,7 +297,7 @@ impl Session {
 
     // An immediate command that finds the task set full.
     fn find_full<'a>(&mut self, command: &ScsiCommand) -> Sending<'a>
-        ensures on { OnFull self.old command.now (Send result) self.new }
+        ensures on { OnFull self.old command.now (said result) self.new }
         ensures within { AreInReach result.pdus }
     {
         let need = data_needed(&decode(&command.cdb));
@@ -312,7 +311,7 @@ impl Session {
 
     // A command that is accepted: it is to be called, or waits for its data.
     fn take_command<'a>(&mut self, command: &ScsiCommand, bytes: &'a [u8]) -> Actions<'a>
-        ensures on { OnAccepted self.old command.now bytes.now result self.new }
+        ensures on { OnAccepted self.old command.now bytes.now (step_of result) self.new }
         ensures within { AreInReach (pdus_of result) }
     {
         let asked = decode(&command.cdb);
@@ -373,7 +372,7 @@ impl Session {
 
     // What a Data-Out calls for.
     fn on_data_out<'a>(&mut self, header: DataOut, bytes: &[u8]) -> Actions<'a>
-        ensures on { OnPdu self.old (Header.Initiator (InitiatorHeader.DataOut header)) bytes.now result self.new }
+        ensures on { OnPdu self.old (Header.Initiator (InitiatorHeader.DataOut header)) bytes.now (step_of result) self.new }
         ensures within { AreInReach (pdus_of result) }
     {
         match self.waiting.position(header.task_tag) {
@@ -391,7 +390,7 @@ impl Session {
     // A Data-Out of the command that stands there among those that wait.
     fn take_data<'a>(&mut self, at: usize, header: DataOut, bytes: &[u8]) -> Actions<'a>
         requires { CanTake self.old at header bytes.now }
-        ensures on { OnData self.old header bytes.now result self.new }
+        ensures on { OnData self.old header bytes.now (step_of result) self.new }
         ensures within { AreInReach (pdus_of result) }
     {
         let waiting = self.waiting.numbered();
@@ -422,7 +421,7 @@ impl Session {
 
     /// What the fault calls for that stands in place of a PDU: a Reject, and the end.
     pub fn on_fault<'a>(&mut self, fault: PduFault) -> Sending<'a>
-        ensures on { OnRefusal self.old (reason_of fault) (Send result) self.new }
+        ensures on { OnRefusal self.old (reason_of fault) (said result) self.new }
         ensures within { AreInReach result.pdus }
     {
         self.reject(reject_reason(fault))
@@ -430,7 +429,7 @@ impl Session {
 
     // A Reject for this reason, and the end.
     fn reject<'a>(&mut self, reason: u8) -> Sending<'a>
-        ensures on { OnRefusal self.old reason (Send result) self.new }
+        ensures on { OnRefusal self.old reason (said result) self.new }
         ensures within { AreInReach result.pdus }
     {
         let numbers = self.next_numbers();
@@ -453,7 +452,7 @@ impl Session {
 
     /// What the answer to a task calls for: its data and its SCSI Response, or the end where the session is gone.
     pub fn on_answer<'a>(&mut self, task: &OpenTask, answer: &'a TargetAnswer) -> Sending<'a>
-        ensures answered { OnAnswer self.old task.now.command task.now.need answer.now (Send result) self.new }
+        ensures answered { OnAnswer self.old task.now.command task.now.need answer.now (said result) self.new }
         ensures reach { AreInReach result.pdus }
     {
         match answer {
@@ -476,7 +475,7 @@ impl Session {
         completion: Completion,
     ) -> Sending<'a>
         ensures sent { Sends self.old
-            (reply_with self.old task.now.command task.now.need bytes.now completion) (Send result) self.new }
+            (reply_with self.old task.now.command task.now.need bytes.now completion) (said result) self.new }
         ensures reach { AreInReach result.pdus }
     {
         // A Data-In without a status has no StatSN (RFC 7143, 11.7.3).
@@ -502,8 +501,7 @@ impl Session {
 
 // Nothing goes out.
 fn silence<'a>() -> Sending<'a>
-    ensures silent { IsSilent (Send result) }
-    ensures no_end { result.end ≡ None }
+    ensures silent { said result ≡ says [] None }
     ensures within { AreInReach result.pdus }
 {
     Sending {
@@ -514,8 +512,7 @@ fn silence<'a>() -> Sending<'a>
 
 // The next R2T of a write goes out.
 fn ask_for<'a>(r2t: R2t) -> Sending<'a>
-    ensures asks { result.pdus ≡ Pdus.R2t r2t }
-    ensures no_end { result.end ≡ None }
+    ensures asks { said result ≡ asks_by r2t }
     ensures within { AreInReach result.pdus }
 {
     Sending {
@@ -528,7 +525,7 @@ fn ask_for<'a>(r2t: R2t) -> Sending<'a>
 fn call<'a>(command: &ScsiCommand, asked: Asked, need: u32, bytes: CommandData<'a>) -> Actions<'a>
     requires need { need ≡ need_of asked }
     ensures calls { (gathered : List ℕ) → call_data bytes.entry ≡ data_for command.now (need_of asked) gathered
-        → Calls command.now asked gathered result }
+        → Calls command.now asked gathered (step_of result) }
     ensures within { AreInReach (pdus_of result) }
 {
     Actions::Ask(Call::Serve(ServeCall {

@@ -1,30 +1,16 @@
 -- What one turn of a login comes to.
 use Rattle.std.proofs.Common.{Bool, ◌≡◌, ℕ, List, [], ◌∷◌, ◌++◌, Option, Some, None, refl, sym, ap, subst, subst₂, ◌∙◌, ◌+◌}
-use Rattle.scsi_types.specs.Nexus.{Port}
-use Rattle.iscsi_pdu.specs.declared.header.LoginRequest.{LoginRequest as LoginHeader}
-use Rattle.login.specs.Progress.{Progress}
-use Rattle.login.specs.Request.{Ending, Finished, Stopped, after, kind_in}
-use Rattle.login.specs.declared.status.Stop.TheVariants as stops
-use Rattle.session_rules.specs.declared.login_outcome.LoginOutcome.{LoginOutcome}
+use Rattle.session_rules.specs.Words.{Port, LoginHeader, Progress, Ending, Finished, Stopped, after, kind_in, option_or, unwrap_or}
+use Rattle.session_rules.specs.Words.{PduFault, Header, Numbers, Reject}
+use Rattle.session_rules.specs.{Asking.Asking, Asking.began, Asking.lives, Handle.HasHandle, Standing.numbers_for, Turn.IsLed, Turn.pdu}
+use Rattle.session_rules.specs.{Turn.faulty, Turn.Out, Turn.bytes_of, Verdict.reason_of, Window.wrap}
+use Rattle.session_rules.specs.declared.login_outcome.LoginOutcome.{LoginOutcome, TheVariants.Rejected}
 use Rattle.session_rules.specs.declared.target.BeginAnswer.{BeginAnswer}
-use Rattle.session_rules.specs.Asking.{Asking, began, lives}
-use Rattle.session_rules.specs.Handle.{HasHandle}
-use Rattle.std.specs.Option.{option_or, unwrap_or}
-use Rattle.iscsi_pdu.specs.declared.fault.PduFault.{PduFault}
-use Rattle.iscsi_pdu.specs.declared.header.Header.{Header}
-use Rattle.iscsi_pdu.specs.declared.header.Numbers.{Numbers}
-use Rattle.iscsi_pdu.specs.declared.header.TargetHeader.TheVariants.{Reject}
-use Rattle.pdu_stream.specs.declared.pdus.Pdus.{Pdus}
-use Rattle.session_rules.specs.declared.login_outcome.LoginOutcome.TheVariants.{Rejected}
+use Rattle.session_rules.specs.LoginPhase.{flags_of, port_of, outcome_of_begin, outcome_of_lives, IsNegotiated, HasOutcome, LoginStanding}
+use Rattle.session_rules.specs.LoginPhase.{progress_after, cmd_sn_in, login_numbers, login_outs}
+use Rattle.pdu_stream.specs.{declared.pdus.Pdus.Pdus, Pdus.sent_by, Outbox.OutboxValue, Outbox.IsQueued}
 use Rattle.login_side.specs.LoginMachine.{IsTextOf, MakesLoginTurn}
-use Rattle.session_rules.specs.LoginPhase.{flags_of, port_of, outcome_of_begin, outcome_of_lives, IsNegotiated, HasOutcome}
-use Rattle.session_rules.specs.LoginPhase.{LoginStanding, progress_after, cmd_sn_in, login_numbers, login_outs}
-use Rattle.pdu_stream.specs.Pdus.{sent_by}
-use Rattle.pdu_stream.specs.Outbox.{OutboxValue, IsQueued}
-use Rattle.session_rules.specs.Standing.{numbers_for}
-use Rattle.session_rules.specs.Turn.{IsLed, pdu, faulty, Out, bytes_of}
-use Rattle.session_rules.specs.Verdict.{reason_of}
-use Rattle.session_rules.specs.Window.{wrap}
+use Rattle.login.specs.declared.status.Stop.TheVariants as stops
 
 abbrev pub port_with : ℕ → List ℕ → Port
 port_with isid name = record { name = name; isid = isid }
@@ -43,8 +29,7 @@ module _ {T : Type 0} (leads : T → Asking → T → Type 0) (x y : T) (s : Pro
       let asked : leads x (began (port_of p (after s (flags_of p) d).said) (kind_in (after s (flags_of p) d).kind) k.0) y =
       subst (λ (z : Progress). leads x (began (port_of p z.said) (kind_in z.kind) k.0) y) same k.1 in
       subst Comes is (
-        Some (began (port_of p (after s (flags_of p) d).said)
-            (kind_in (after s (flags_of p) d).kind) k.0),
+        Some (began (port_of p (after s (flags_of p) d).said) (kind_in (after s (flags_of p) d).kind) k.0),
         asked,
         (k.0, refl, k.2, k.3),
       )
@@ -85,8 +70,7 @@ module _ {T : Type 0} (leads : T → Asking → T → Type 0) (v mid : LoginStan
           came = pdu bhs h d;
           call = comes.0;
           outcome = outcome;
-          sent =
-              login_outs (login_numbers v (pdu bhs h d)) v.progress (pdu bhs h d) outcome;
+          sent = login_outs (login_numbers v (pdu bhs h d)) v.progress (pdu bhs h d) outcome;
         };
         came_is = refl;
         outcome_is = refl;
@@ -113,8 +97,7 @@ module _ {T : Type 0} (leads : T → Asking → T → Type 0) (v mid : LoginStan
           came = faulty f bhs;
           call = None;
           outcome = Rejected (reason_of f);
-          sent =
-              login_outs (login_numbers v (faulty f bhs)) v.progress (faulty f bhs) (Rejected (reason_of f));
+          sent = login_outs (login_numbers v (faulty f bhs)) v.progress (faulty f bhs) (Rejected (reason_of f));
         };
         came_is = refl;
         outcome_is = refl;

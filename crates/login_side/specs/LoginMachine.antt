@@ -1,15 +1,9 @@
 -- What the login phase of a session keeps between what a PDU comes to and what goes out.
-use Rattle.std.specs.Prelude.{◌≡◌, ℕ, List, Option}
-use Rattle.iscsi_pdu.specs.declared.header.Header.{Header}
-use Rattle.iscsi_pdu.specs.declared.header.Header.TheVariants.{Initiator}
-use Rattle.iscsi_pdu.specs.declared.header.InitiatorHeader.TheVariants.{LoginRequest}
-use Rattle.login.specs.Progress.{Progress}
-use Rattle.login.specs.Request.{Ending, answer_to}
+use Rattle.session_rules.specs.Words.{◌≡◌, ℕ, List, Option, Header, Initiator, LoginRequest, Progress, Ending, answer_to}
+use Rattle.session_rules.specs.{Asking.Asking, Turn.Incoming, Turn.bytes_of, Turn.IsLed}
 use Rattle.session_rules.specs.declared.login_outcome.LoginOutcome.{LoginOutcome}
 use Rattle.session_rules.specs.declared.login_outcome.LoginOutcome.TheVariants.{GoesOn, Begun, Refused, Rejected}
 use Rattle.session_rules.specs.LoginPhase.{flags_of, ending_text, LoginTurn, LoginStanding, login_after, IsLoginTurn}
-use Rattle.session_rules.specs.Asking.{Asking}
-use Rattle.session_rules.specs.Turn.{Incoming, bytes_of, IsLed}
 use Rattle.pdu_stream.specs.Outbox.{OutboxValue, IsQueued}
 
 -- where a request passed, this is the text of its response

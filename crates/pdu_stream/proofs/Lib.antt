@@ -1,4 +1,3 @@
 pub mod Lists
 pub mod Queues
-pub mod Rows
 pub mod Segments

@@ -1,9 +1,8 @@
 -- What moving and reading do to the bytes that wait in a buffer.
 use Rattle.std.proofs.Common.{◌≡◌, ℕ, ◌+◌, ◌-◌, ◌≤◌, List, ◌++◌, length, take, drop, arith, sym, ap, ◌∙◌, length-take-le, length-drop}
-use Rattle.std.specs.List.{copy_within}
-use Rattle.std.proofs.lemmas.List.{drop-take, take-append-le, drop-append-le}
-use Rattle.std.proofs.lemmas.List.Edits.{take-paste}
+use Rattle.std.proofs.lemmas.List.{drop-take, take-append-le, drop-append-le, Edits.take-paste}
 use Rattle.std.proofs.Math.Seq.{take-append-add}
+use Rattle.std.specs.List.{copy_within}
 
 -- moved to the front, the waiting bytes are the same
 pub moved_front : (xs : List ℕ) (start filled : ℕ) → start ≤ filled → filled ≤ length xs

@@ -1,14 +1,8 @@
 -- What stands at the front of bytes.
-use Rattle.std.specs.Prelude.{◌≡◌, ℕ, ◌<◌, ◌≤◌, List, length, take}
-use Rattle.iscsi_pdu.specs.Pdu.{IsPdu}
-use Rattle.iscsi_pdu.specs.Fault.{Stands}
-use Rattle.iscsi_pdu.specs.declared.header.Pdu.{Pdu}
-use Rattle.iscsi_pdu.specs.declared.fault.PduFault.{PduFault}
-use Rattle.iscsi_pdu.specs.Number.{bhs_length}
-use Rattle.iscsi_pdu.specs.declared.TheConstants.{LONGEST_PDU}
+use Rattle.session_rules.specs.Words.{◌≡◌, ℕ, ◌<◌, ◌≤◌, List, length, take, IsPdu, Stands, PduFault, bhs_length}
+use Rattle.iscsi_pdu.specs.declared.{header.Pdu.Pdu, TheConstants.LONGEST_PDU}
 use Rattle.session_rules.specs.Ends.{NoneWhole}
-use Rattle.pdu_stream.specs.declared.waiting.Front.{Front}
-use Rattle.pdu_stream.specs.declared.waiting.Front.TheVariants.{Whole, Faulty, Partial}
+use Rattle.pdu_stream.specs.declared.waiting.Front.{Front, TheVariants.Whole, TheVariants.Faulty, TheVariants.Partial}
 
 -- a PDU that the first bytes spell, with its basic header segment
 pub record IsWhole (b bhs : List ℕ) (p : Pdu) (taken : ℕ) : Type 0 where

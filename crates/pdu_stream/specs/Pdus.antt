@@ -1,19 +1,10 @@
 -- The PDUs that go out: the Data-In of a read among them.
-use Rattle.std.specs.Prelude.{ℕ, zero, suc, ◌+◌, ◌≤◌, ◌==◌, nat_lt, Bool, true, false, List, [], ◌∷◌, ◌++◌, length, take}
-use Rattle.std.specs.Prelude.{drop, Option, Some, None}
-use Rattle.iscsi_pdu.specs.declared.header.Numbers.{Numbers}
-use Rattle.iscsi_pdu.specs.declared.header.TargetHeader.TheVariants.{ScsiResponse, DataIn, R2t, Reject}
-use Rattle.pdu_stream.specs.declared.pdus.Pdus.{Pdus}
-use Rattle.pdu_stream.specs.declared.pdus.Pdus.TheVariants as pdus
-use Rattle.pdu_stream.specs.declared.pdus.DataInPdu.{DataInPdu}
-use Rattle.pdu_stream.specs.declared.pdus.DataIns.{DataIns}
-use Rattle.iscsi_pdu.specs.Number.{max_data_segment_length}
-use Rattle.session_rules.specs.declared.lengths.Lengths.{Lengths}
-use Rattle.session_rules.specs.Codes.{no_transfer_tag}
-use Rattle.session_rules.specs.Turn.{Out}
-use Rattle.session_rules.specs.Response.{sense_part}
+use Rattle.session_rules.specs.Words.{ℕ, zero, suc, ◌+◌, ◌≤◌, ◌==◌, nat_lt, Bool, true, false, List, [], ◌∷◌, ◌++◌, length, take, drop}
+use Rattle.session_rules.specs.Words.{Option, Some, None, Numbers, ScsiResponse, DataIn, R2t, Reject, max_data_segment_length}
+use Rattle.pdu_stream.specs.declared.pdus.{Pdus.Pdus, DataInPdu.DataInPdu, DataIns.DataIns, ResponsePdu.ResponsePdu}
+use Rattle.session_rules.specs.{declared.lengths.Lengths.Lengths, Codes.no_transfer_tag, Turn.Out, Response.sense_part}
 use Rattle.session_rules.specs.DataIn.{left_of_run, segment_size}
-use Rattle.pdu_stream.specs.declared.pdus.ResponsePdu.{ResponsePdu}
+use Rattle.pdu_stream.specs.declared.pdus.Pdus.TheVariants as pdus
 
 -- the data of an answer to a request fits a data segment; the offsets of Data-In fit 32 bits
 abbrev pub AreInReach : Pdus → Type 0

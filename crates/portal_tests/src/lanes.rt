@@ -6,7 +6,7 @@ use crate::held::HeldBlocks;
 use crate::latch::Latch;
 use crate::units::{HeldUnit, two};
 use block_file::{KeepOpener, MemBlocks};
-use forwarding::{Desk, Job, Ticket, copy_data};
+use forwarding::{Desk, Ticket};
 use numbering::Array;
 use scsi_types::{Asked, Command, Group, PortName, Reply};
 use std::alloc::Global;
@@ -26,7 +26,7 @@ type HeldDesk<R, N> = Desk<HeldBlocks<MemBlocks, R>, MemBlocks, KeepOpener, N>;
 type HeldPass<R, N> = Pass<HeldBlocks<MemBlocks, R>, MemBlocks, KeepOpener, N>;
 
 /// The ticket of a command.
-type HeldTicket<R, N> = Ticket<HeldBlocks<MemBlocks, R>, MemBlocks, KeepOpener, N>;
+type HeldTicket<'a, R, N> = Ticket<'a, HeldBlocks<MemBlocks, R>, MemBlocks, KeepOpener, N>;
 
 const TEST_UNIT_READY: Asked = Ok(Command::TestUnitReady);
 
@@ -36,6 +36,9 @@ const WRITE: Asked = Ok(Command::Write {
     blocks: 1,
     fua: false,
 });
+
+/// What a WRITE puts there.
+const NEW: [u8; 512] = [0xA5; 512];
 
 /// A list that makes group 1 active/optimized.
 const TO_GROUP_1: [u8; 8] = [0, 0, 0, 0, 0, 0, 0, 1];
@@ -70,20 +73,19 @@ impl<'a, R: Wait + Drop, N: Array<Opened>> Scene<'a, R, N> {
     }
 
     // Hands a command of a session in.
-    fn hand_in(
+    fn hand_in<'b>(
         &self,
         pass: HeldPass<R, N>,
         asked: Asked,
-        bytes: &[u8],
-    ) -> Option<HeldTicket<R, N>> {
-        let bytes = copy_data(self.alloc, bytes).ok()?;
+        bytes: &'b [u8],
+    ) -> Option<HeldTicket<'b, R, N>> {
         self.desk
-            .submit(self.rt, self.alloc, Job { pass, asked, bytes })
+            .submit(self.rt, self.alloc, pass, &asked, bytes)
             .ok()
     }
 
     // What a lane makes of it.
-    fn collect(&self, ticket: HeldTicket<R, N>) -> (HeldPass<R, N>, Option<u8>) {
+    fn collect(&self, ticket: HeldTicket<'_, R, N>) -> (HeldPass<R, N>, Option<u8>) {
         let (pass, end) = self.desk.collect(self.rt, ticket);
         let status = status_of(&end);
         (pass, status)
@@ -159,7 +161,7 @@ fn one_hangs<R: Wait + Drop, N: Array<Opened>>(scene: &Scene<'_, R, N>) -> Optio
     let slow = scene.ready(0, 1)?;
     let quick = scene.ready(1, 2)?;
     scene.disk.hold(Some(0));
-    let stuck = scene.hand_in(slow, WRITE, &[0xA5; 512])?;
+    let stuck = scene.hand_in(slow, WRITE, &NEW)?;
     let (quick, first) = scene.by_lane(quick, WRITE, &[0x5A; 512])?;
     scene.disk.await_held(1);
     let shown = scene.entries();
@@ -216,13 +218,14 @@ fn four_ready<R: Wait + Drop, N: Array<Opened>>(scene: &Scene<'_, R, N>) -> Vec<
 }
 
 // Hands in a write of each.
-fn write_all<R: Wait + Drop, N: Array<Opened>>(
+fn write_all<'b, R: Wait + Drop, N: Array<Opened>>(
     scene: &Scene<'_, R, N>,
     passes: Vec<HeldPass<R, N>>,
-) -> Vec<HeldTicket<R, N>> {
+    new: &'b [u8],
+) -> Vec<HeldTicket<'b, R, N>> {
     let mut tickets = Vec::new(scene.alloc);
     for pass in passes {
-        if let Some(ticket) = scene.hand_in(pass, WRITE, &[0xA5; 512]) {
+        if let Some(ticket) = scene.hand_in(pass, WRITE, new) {
             let _ = tickets.push(ticket);
         }
     }
@@ -232,7 +235,7 @@ fn write_all<R: Wait + Drop, N: Array<Opened>>(
 // How many of these writes are GOOD.
 fn count_good<R: Wait + Drop, N: Array<Opened>>(
     scene: &Scene<'_, R, N>,
-    tickets: Vec<HeldTicket<R, N>>,
+    tickets: Vec<HeldTicket<'_, R, N>>,
 ) -> u32 {
     let mut count = 0u32;
     for ticket in tickets {
@@ -252,7 +255,7 @@ where
 {
     let passes = four_ready(scene);
     scene.disk.hold(Some(0));
-    let tickets = write_all(scene, passes);
+    let tickets = write_all(scene, passes, &NEW);
     let (first, second) = join(
         scene.rt,
         || four_are_served(scene, 8),

@@ -1,6 +1,7 @@
 //! The scripts of the tests, a line for what an initiator does or is answered:
 //!
 //! - `A at 1`: it connects to the portal of controller 1, and is called `A` from then on;
+//! - `A and B`: A logs in at controller 1 and B at controller 2, and unit 0 tells each that power came on;
 //! - `A > PDU`: it sends this PDU, and `A < PDU`: this PDU comes. `test_streams` says how a PDU is spelled (`pdu_of`). Behind a
 //!   login requests are numbered as they go, and of answers the numbers of the session are not compared;
 //! - `A < PDU / PDU`: one of these comes;
@@ -55,6 +56,20 @@ const FINDS: &str = r"InitiatorName=iqn.2000-01.test:a\0SessionType=Discovery\0"
 const WELCOME: &str = r"TargetPortalGroupTag=1\0MaxRecvDataSegmentLength=65536\0";
 
 const WELCOME_2: &str = r"TargetPortalGroupTag=2\0MaxRecvDataSegmentLength=65536\0";
+
+// How A and B come.
+const A_AND_B: &str = r#"
+A at 1
+A > LOGIN 7:56 HOST_A
+A < LOGGED_IN 7:36 WELCOME
+A > TEST_UNIT_READY
+A < CHECK_CONDITION 0012 70000600000000 0A00000000 2900 00000000
+B at 2
+B > LOGIN 7:56 HOST_B
+B < LOGGED_IN 7:36 15:02 WELCOME_2
+B > TEST_UNIT_READY
+B < CHECK_CONDITION 0012 70000600000000 0A00000000 2900 00000000
+"#;
 
 // A unit's place.
 fn unit_of(word: &str) -> Result<u8, Fail> {
@@ -112,6 +127,18 @@ impl<
 
     /// Does what the lines of a script say.
     pub fn perform(&mut self, script: &'a str) -> Result<(), Fail> {
+        let lines = lines_of(self.alloc, script)?;
+        for line in &lines {
+            if *line == "A and B" {
+                self.obey_all(A_AND_B)?;
+            } else {
+                self.obey(line)?;
+            }
+        }
+        Ok(())
+    }
+
+    fn obey_all(&mut self, script: &'a str) -> Result<(), Fail> {
         let lines = lines_of(self.alloc, script)?;
         for line in &lines {
             self.obey(line)?;

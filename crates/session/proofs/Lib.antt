@@ -1,3 +1,2 @@
 pub mod Exchanges
-pub mod PhaseTurns
 pub mod Running

@@ -1,19 +1,11 @@
 -- What one turn makes of session, target and sink.
-use Rattle.std.specs.Prelude.{◌≡◌, ◌<◌, ℕ, Bool, [], false, true, List, Option, Some, None, IfSome, MatchOption}
-use Rattle.login.specs.Request.{kind_in}
-use Rattle.session_rules.specs.declared.end.End.{End}
-use Rattle.session_rules.specs.declared.identity.Identity.{Identity}
-use Rattle.session_rules.specs.declared.opening.Opening.{Opening}
-use Rattle.session_rules.specs.declared.opening.Opening.TheVariants.{Login, FullFeature}
-use Rattle.session_rules.specs.declared.start.Start.{Start}
-use Rattle.login.specs.declared.status.Kind.{Kind}
-use Rattle.session_rules.specs.Asking.{Asking}
-use Rattle.session_rules.specs.Setting.{setting_of}
+use Rattle.session_rules.specs.Words.{◌≡◌, ◌<◌, ℕ, Bool, [], false, true, List, Option, Some, None, IfSome, MatchOption, kind_in, Kind}
+use Rattle.session_rules.specs.{Asking.Asking, Setting.setting_of, Phases.Exchange, Phases.of_login, Phases.of_turn}
+use Rattle.session_rules.specs.declared.{end.End.End, identity.Identity.Identity, start.Start.Start}
+use Rattle.session_rules.specs.declared.opening.Opening.{Opening, TheVariants.Login, TheVariants.FullFeature}
 use Rattle.session_rules.specs.Turn.{Incoming, Turn, bytes_of, IsLed}
-use Rattle.full_feature.specs.Counters.{Counters, begun}
-use Rattle.full_feature.specs.MachineTurn.{TurnOf}
 use Rattle.session_rules.specs.LoginPhase.{LoginTurn, LoginStanding, login_standing, login_after, IsLoginTurn, begins, IsStart}
-use Rattle.session_rules.specs.Phases.{Exchange, of_login, of_turn}
+use Rattle.full_feature.specs.{Counters.Counters, Counters.begun, MakesTurn.TurnOf}
 use Rattle.pdu_stream.specs.Outbox.{OutboxValue, IsQueued}
 
 -- ---- both phases

@@ -1,16 +1,12 @@
 -- Bytes to bytes: what a session makes of a stream.
-use Rattle.std.specs.Prelude.{◌≡◌, ℕ, ◌+◌, ◌<◌, ◌≤◌, List, [], ◌∷◌, ◌++◌, length, take, Option}
 use Rattle.std.specs.Io.KnownBytes.{Appends, Consumes, IsAtEnd}
-use Rattle.session_rules.specs.declared.end.End.{End}
-use Rattle.session_rules.specs.declared.end.End.TheVariants.{EndOfInput, InputFailed, OutputFailed, Protocol, Reinstated, LoggedOut}
-use Rattle.session_rules.specs.declared.identity.Identity.{Identity}
-use Rattle.session_rules.specs.declared.opening.Opening.{Opening}
-use Rattle.session_rules.specs.Asking.{Asking, over}
-use Rattle.pdu_stream.specs.declared.outbox.TheConstants.{ENOUGH_TO_WRITE}
-use Rattle.pdu_stream.specs.Source.{Rises}
-use Rattle.session_rules.specs.Turn.{bytes_of, Spells, Leads}
+use Rattle.session_rules.specs.Words.{◌≡◌, ℕ, ◌+◌, ◌<◌, ◌≤◌, List, [], ◌∷◌, ◌++◌, length, take, Option}
+use Rattle.session_rules.specs.{Asking.Asking, Asking.over, Turn.bytes_of, Turn.Spells, Turn.Leads, Ends.EndsBy}
+use Rattle.session_rules.specs.declared.{identity.Identity.Identity, opening.Opening.Opening}
+use Rattle.session_rules.specs.declared.end.End.{End, TheVariants.EndOfInput, TheVariants.InputFailed, TheVariants.OutputFailed}
+use Rattle.session_rules.specs.declared.end.End.{TheVariants.Protocol, TheVariants.Reinstated, TheVariants.LoggedOut}
 use Rattle.session_rules.specs.Phases.{Transcript, Exchange, exchanges, incoming, asked, outgoing, IsLawful}
-use Rattle.session_rules.specs.Ends.{EndsBy}
+use Rattle.pdu_stream.specs.{declared.outbox.TheConstants.ENOUGH_TO_WRITE, Source.Rises}
 
 -- the turns before the last
 abbrev pub but_last : List Exchange → List Exchange

@@ -1,9 +1,6 @@
 -- No data segment is longer than was announced.
 use Rattle.std.proofs.Common.{ℕ, ◌+◌, ◌-◌, ◌≤◌, List, length, drop, ap, arith, length-take}
-use Rattle.login.specs.Table.{own_data_segment}
-use Rattle.iscsi_pdu.specs.Pdu.{IsPdu}
-use Rattle.iscsi_pdu.specs.Number.{bhs_length, three_at}
-use Rattle.iscsi_pdu.specs.declared.header.Header.{Header}
+use Rattle.session_rules.specs.Words.{own_data_segment, IsPdu, bhs_length, three_at, Header}
 
 pub taken : (b d : List ℕ) (h : Header) → IsPdu b h d → length d ≤ own_data_segment
 taken b d h p =

@@ -1,8 +1,7 @@
 -- One more of a list of which something holds at each place.
 use Rattle.std.proofs.Common.{◌≡◌, ◌⊎◌, List, [], ◌∷◌, ◌++◌, refl, ap, inl, inr}
-use Rattle.std.specs.List.{AllByRecursion}
-use Rattle.session_rules.specs.Turn.{Turn}
-use Rattle.session_rules.specs.Legal.{AtEachOf, AtEach}
+use Rattle.session_rules.specs.Words.{AllByRecursion}
+use Rattle.session_rules.specs.{Turn.Turn, Legal.AtEachOf, Legal.AtEach}
 
 -- where a list is cut, and one is put together of a front and one element more
 module _ {A : Type 0} where

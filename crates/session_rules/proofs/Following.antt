@@ -1,35 +1,19 @@
 -- What follows of a legal transcript.
-use Rattle.std.proofs.Common.{◌≡◌, ℕ, ◌+◌, ◌≤◌, min, Bool, true, false, List, [], ◌∷◌, ◌++◌, Option, Some, None, length, take, refl, ap, ◌∙◌, arith, length-append}
-use Rattle.std.specs.Prelude.{◌||◌, IsTrue, Result, slice_get, if◌then◌else◌}
-use Rattle.std.specs.List.{AllByRecursion, filter, cons_option, list_any}
-use Rattle.std.proofs.lemmas.List.Elements.{filter_map-append}
-use Rattle.std.proofs.lemmas.List.{length-take}
-use Rattle.iscsi_pdu.specs.declared.header.Header.TheVariants.{Initiator}
-use Rattle.iscsi_pdu.specs.declared.header.InitiatorHeader.TheVariants.{ScsiCommand}
-use Rattle.iscsi_pdu.specs.declared.header.TargetHeader.{TargetHeader}
-use Rattle.iscsi_pdu.specs.declared.header.TargetHeader.TheVariants.{NopIn, ScsiResponse, TaskManagementResponse, LoginResponse, TextResponse, DataIn, LogoutResponse, R2t, Reject}
-use Rattle.iscsi_pdu.specs.declared.header.ScsiCommand.{ScsiCommand as CommandHeader}
-use Rattle.session_rules.specs.declared.lengths.Lengths.{Lengths}
-use Rattle.session_rules.specs.Setting.{Setting}
-use Rattle.session_rules.specs.declared.target.TargetAnswer.{TargetAnswer}
-use Rattle.session_rules.specs.declared.target.TargetAnswer.TheVariants.{Replied, Outside, Busy, Gone}
-use Rattle.session_rules.specs.declared.verdict.Verdict.{Verdict}
-use Rattle.session_rules.specs.declared.verdict.Verdict.TheVariants.{Accepted, Full, Ignored, Gap, Refused}
-use Rattle.scsi_types.specs.declared.command.Command.{Command}
-use Rattle.scsi_types.specs.declared.command.CdbFault.{CdbFault}
-use Rattle.session_rules.specs.Asking.{Asking, served}
-use Rattle.session_rules.specs.Turn.{Incoming, pdu, Out, Turn, sent}
-use Rattle.session_rules.specs.Window.{wrap}
-use Rattle.session_rules.specs.Tasks.{is_response, is_management, finds_gone, touches, ends, through, Task, accepted_command}
-use Rattle.session_rules.specs.Tasks.{begun_by, tasks}
-use Rattle.session_rules.specs.Standing.{Standing, standing}
-use Rattle.session_rules.specs.Transfer.{sent_data}
-use Rattle.session_rules.specs.Answered.{Outcome, by_target, no_buffer, set_full, outcome_of, command_at, answered_by}
-use Rattle.session_rules.specs.Answered.{answered_in, reply_data}
+use Rattle.std.proofs.Common.{◌≡◌, ℕ, ◌+◌, ◌≤◌, min, Bool, true, false, List, [], ◌∷◌, ◌++◌, Option, Some, None, length, take, refl, ap}
+use Rattle.std.proofs.Common.{◌∙◌, arith, length-append, ◌||◌, IsTrue, Result, slice_get, if◌then◌else◌}
+use Rattle.std.proofs.lemmas.List.{length-take, Elements.filter_map-append}
+use Rattle.session_rules.specs.Words.{AllByRecursion, filter, cons_option, list_any, Initiator, ScsiCommand, TargetHeader, ScsiResponse}
+use Rattle.session_rules.specs.Words.{CommandHeader, Lengths, TargetAnswer, Replied, Outside, Busy, Gone, Verdict, Accepted, Full}
+use Rattle.session_rules.specs.Words.{Command, CdbFault}
+use Rattle.session_rules.specs.{Setting.Setting, Asking.Asking, Asking.served, Window.wrap, Standing.Standing, Standing.standing}
+use Rattle.session_rules.specs.{DataIn.data_ins, DataIn.joined_data, Following.IsCallTurn, Turn.Incoming, Turn.pdu}
+use Rattle.session_rules.specs.{Turn.Out, Turn.Turn, Turn.sent, Tasks.is_response, Tasks.is_management, Tasks.finds_gone, Tasks.touches}
+use Rattle.session_rules.specs.{Tasks.ends, Tasks.through, Tasks.Task, Tasks.accepted_command, Tasks.begun_by, Tasks.tasks}
+use Rattle.session_rules.specs.Answered.{Outcome, by_target, no_buffer, set_full, outcome_of, command_at, answered_by, answered_in}
+use Rattle.session_rules.specs.Answered.{reply_data}
 use Rattle.session_rules.specs.Response.{response_with, responses, HasOneResponse, IsAnsweredBy, IsAnsweredAs}
-use Rattle.session_rules.specs.DataIn.{data_ins, joined_data}
 use Rattle.session_rules.specs.Legal.{AtEach, Lawful, status_numbers, IsAnsweredTask, IsTiledTask}
-use Rattle.session_rules.specs.Following.{IsCallTurn}
+use Rattle.session_rules.proofs.Tasks.{neither}
 
 pub consecutive : (setting : Setting) (ts : List Turn) (k n next : ℕ) → Lawful setting ts
     → slice_get (status_numbers (sent ts)) k ≡ Some n → slice_get (status_numbers (sent ts)) (k + 1) ≡ Some next
@@ -42,33 +26,13 @@ consecutive setting ts k n next l here there =
 -- ---- one response at most
 
 one_length : (p : CommandHeader) (own : List Out) → HasOneResponse p own → length (responses own) ≡ 1
-one_length p own k =
-    let last : List Out = record { header = ScsiResponse k.last; bytes = k.segment } ∷ [] in
-    let parts : responses own ≡ responses k.front ++ responses last = ap responses k.own_is
-    ∙ filter_map-append (λ o. response_with o.header o.bytes) k.front last in
-    omega (arith, ap length parts, length-append (responses k.front) (responses last), ap length k.no_other)
-
-answered_length : (p : CommandHeader) (a : TargetAnswer) (own : List Out) → IsAnsweredBy p a own
-    → length (responses own) ≤ 1
-answered_length p (Replied r) own k = omega (arith, one_length p own k)
-answered_length p (Outside r) own k = omega (arith, one_length p own k)
-answered_length p Busy own k = omega (arith, one_length p own k)
-answered_length p Gone own k = omega (arith, ap length k)
-
-outcome_length : (p : CommandHeader) (outcome : Outcome) (own : List Out) → IsAnsweredAs p outcome own
-    → length (responses own) ≤ 1
-outcome_length p (by_target answer) own k = answered_length p answer own k
-outcome_length p no_buffer own k = omega (arith, one_length p own k)
-outcome_length p set_full own k = omega (arith, one_length p own k)
-
-none_length : (own : List Out) (n : ℕ) → responses own ≡ [] → length (responses own) ≤ n
-none_length own n k = omega (arith, ap length k)
+one_length p own k = rw (k.own_is, filter_map-append, k.no_other) refl
 
 turn_count : (outcome : Option Outcome) (p : Option CommandHeader) (own : List Out)
     → IsAnsweredTask (answered_by outcome p own) own → length (responses own) ≤ 1
-turn_count None p own k = none_length own 1 k
-turn_count (Some outcome) None own k = none_length own 1 k
-turn_count (Some outcome) (Some p) own k = outcome_length p outcome own k
+turn_count (Some (by_target Gone)) (Some p) own k = omega (arith, ap length k)
+turn_count (Some outcome) (Some p) own k = omega (arith, one_length p own k)
+turn_count outcome p own k = omega (arith, ap length k)
 
 pub answered_once : (setting : Setting) (ts : List Turn) → Lawful setting ts
     → AtEach (λ before t. length (responses t.sent) ≤ 1) ts
@@ -76,20 +40,14 @@ answered_once setting ts l before t behind e =
     turn_count (outcome_of t.verdict t.came t.call t.sent) (command_at (standing setting before) t.came) t.sent
     (l.answered before t behind e)
 
-turn_unaccepted : (v : Verdict) (came : Incoming) (call : Option Asking) (p : Option CommandHeader) (own : List Out)
-    → IsAnsweredTask (answered_by (outcome_of v came call own) p own) own → (v ≡ Accepted → ⊥) → (v ≡ Full → ⊥)
-    → responses own ≡ []
-turn_unaccepted Accepted came call p own k never full = absurd (never refl)
-turn_unaccepted Full came call p own k never full = absurd (full refl)
-turn_unaccepted Ignored came call p own k never full = k
-turn_unaccepted Gap came call p own k never full = k
-turn_unaccepted (Refused reason) came call p own k never full = k
-
 pub unaccepted : (setting : Setting) (ts : List Turn) → Lawful setting ts
     → AtEach (λ before t. (t.verdict ≡ Accepted → ⊥) → (t.verdict ≡ Full → ⊥) → responses t.sent ≡ []) ts
-unaccepted setting ts l before t behind e never full =
-    turn_unaccepted t.verdict t.came t.call (command_at (standing setting before) t.came) t.sent
-    (l.answered before t behind e) never full
+unaccepted setting ts l before t behind e = by_verdict t.verdict (l.answered before t behind e) where
+  by_verdict : (v : Verdict) → IsAnsweredTask (answered_in (standing setting before) t.came v t.call t.sent) t.sent
+      → (v ≡ Accepted → ⊥) → (v ≡ Full → ⊥) → responses t.sent ≡ []
+  by_verdict Accepted k never full = absurd (never refl)
+  by_verdict Full k never full = absurd (full refl)
+  by_verdict v k never full = k
 
 -- ---- one response at most in all turns of a command
 
@@ -99,29 +57,14 @@ responses_more t ts = ap length (filter_map-append (λ o. response_with o.header
     ∙ length-append (responses t.sent) (responses (sent ts))
 
 no_one : (h : TargetHeader) (d : List ℕ) → is_response h ≡ false → response_with h d ≡ None
-no_one (NopIn r) d e = refl
 no_one (ScsiResponse r) d e = absurd (let f : true ≡ false = e in cc)
-no_one (TaskManagementResponse r) d e = refl
-no_one (LoginResponse r) d e = refl
-no_one (TextResponse r) d e = refl
-no_one (DataIn r) d e = refl
-no_one (LogoutResponse r) d e = refl
-no_one (R2t r) d e = refl
-no_one (Reject r) d e = refl
-
-or_left : (a b : Bool) → (a || b) ≡ false → a ≡ false
-or_left true b e = absurd (let f : true ≡ false = e in cc)
-or_left false b e = refl
-
-or_right : (a b : Bool) → (a || b) ≡ false → b ≡ false
-or_right true b e = absurd (let f : true ≡ false = e in cc)
-or_right false b e = e
+no_one h d e = refl
 
 none_sent : (outs : List Out) → list_any (λ o. is_response o.header) outs ≡ false → responses outs ≡ []
 none_sent [] e = refl
 none_sent (o ∷ outs) e =
-    rw (no_one o.header o.bytes (or_left (is_response o.header) (list_any (λ z. is_response z.header) outs) e))
-    (none_sent outs (or_right (is_response o.header) (list_any (λ z. is_response z.header) outs) e))
+    let w = neither (is_response o.header) (list_any (λ z. is_response z.header) outs) e in
+    rw (no_one o.header o.bytes w.0) (none_sent outs w.1)
 
 abbrev HasOneAtMost : Turn → Type 0
 HasOneAtMost t = length (responses t.sent) ≤ 1
@@ -136,8 +79,8 @@ through_one (t ∷ us) all = one (ends t) refl (through_one us all.1) where
     arith,
     responses_more t (through ends us),
     ap length
-        (none_sent t.sent (or_left (list_any (λ o. is_response o.header) t.sent) (is_management t.came)
-        (or_left (list_any (λ o. is_response o.header) t.sent || is_management t.came) (finds_gone t.call) e))),
+        (none_sent t.sent (neither (list_any (λ o. is_response o.header) t.sent) (is_management t.came)
+        (neither (list_any (λ o. is_response o.header) t.sent || is_management t.came) (finds_gone t.call) e).0).0),
     rest,
   )
 
@@ -177,25 +120,12 @@ command_once setting ts l = tasks_once setting.units ts (each_of_all ts (answere
 
 -- ---- the data of a read
 
-sent_to_a_read : (p : CommandHeader) (bytes : List ℕ) → IsTrue p.read → sent_data p bytes ≡ take p.expected_length bytes
-sent_to_a_read p bytes e = ap (λ (r : Bool). if r then take p.expected_length bytes else []) e
-
-turn_data : (l : Lengths) (st : Standing) (v : Verdict) (came : Incoming) (asked : Option Asking) (own : List Out)
-    (b : List ℕ) (p : CommandHeader) (d : List ℕ)
-    (unit : Option ℕ) (means : Result Command CdbFault) (bytes : List ℕ) (answer : TargetAnswer)
-    → v ≡ Accepted → came ≡ pdu b (Initiator (ScsiCommand p)) d
-    → asked ≡ Some (served unit means bytes answer) → IsTrue p.read
-    → IsTiledTask l (answered_in st came v asked own) own
-    → joined_data (data_ins own) ≡ take p.expected_length (reply_data answer)
-turn_data l st v came asked own b p d unit means bytes answer e f g r =
-    rw (e, f, g) (λ k. k.joined ∙ sent_to_a_read p (reply_data answer) r)
-
 pub read_data : (setting : Setting) (ts : List Turn) → Lawful setting ts
     → AtEach (λ before t. (p : CommandHeader) (answer : TargetAnswer) → IsCallTurn t p answer → IsTrue p.read
     → joined_data (data_ins t.sent) ≡ take p.expected_length (reply_data answer)) ts
 read_data setting ts l before t behind e p answer is reads =
-    turn_data setting.start.lengths (standing setting before) t.verdict t.came t.call t.sent is.bhs p is.segment
-    is.unit is.asked is.bytes answer is.accepted is.came is.called reads (l.tiled before t behind e)
+    let k = rw (is.accepted, is.came, is.called) at (l.tiled before t behind e) in
+    k.joined ∙ ap (λ (b : Bool). if b then take p.expected_length (reply_data answer) else []) reads
 
 pub read_size : (setting : Setting) (ts : List Turn) → Lawful setting ts
     → AtEach (λ before t. (p : CommandHeader) (answer : TargetAnswer) → IsCallTurn t p answer → IsTrue p.read

@@ -1,14 +1,9 @@
 -- Of short logins that differ, one is legal.
 use Rattle.std.proofs.Common.{◌≡◌, ℕ, true, List, [], ◌∷◌, ◌++◌, Option, None, refl, ap, ◌∙◌, inl, inr}
-use Rattle.login.specs.declared.status.LoginStatus.TheVariants.{InvalidDuringLogin}
-use Rattle.session_rules.specs.declared.identity.Identity.{Identity}
-use Rattle.session_rules.specs.declared.login_outcome.LoginOutcome.{LoginOutcome}
-use Rattle.session_rules.specs.declared.login_outcome.LoginOutcome.TheVariants.{Refused}
-use Rattle.session_rules.specs.declared.opening.Opening.TheVariants.{Login}
-use Rattle.session_rules.specs.Asking.{Asking}
+use Rattle.session_rules.specs.Words.{InvalidDuringLogin, Identity, LoginOutcome, Login}
+use Rattle.session_rules.specs.{declared.login_outcome.LoginOutcome.TheVariants.Refused, Asking.Asking, Phases.IsLawful}
 use Rattle.session_rules.specs.Turn.{Out, Turn}
 use Rattle.session_rules.specs.LoginPhase.{LoginTurn, login_standing, login_numbers, login_outs, begins}
-use Rattle.session_rules.specs.Phases.{IsLawful}
 use Rattle.session_rules.specs.Examples.{ping_pdu, ping_in_login, login_of, the_refusal, turned_away_in_login}
 use Rattle.session_rules.proofs.AtEach.{at_each_of_more, at_each_of_none}
 

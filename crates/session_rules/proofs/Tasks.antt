@@ -1,18 +1,10 @@
 -- One turn more: what it makes of the tasks.
 use Rattle.std.proofs.Common.{◌≡◌, ℕ, Bool, true, false, List, [], ◌∷◌, ◌++◌, Option, Some, None, map, refl, sym, ap, ◌∙◌, ◌+◌, cond}
-use Rattle.std.specs.Prelude.{◌||◌, if◌then◌else◌}
-use Rattle.std.specs.List.{filter, cons_option, list_any, count_by}
-use Rattle.std.specs.Option.{option_to_list}
-use Rattle.std.proofs.lemmas.List.{append-nil}
-use Rattle.std.proofs.lemmas.List.Elements.{filter-append}
-use Rattle.iscsi_pdu.specs.declared.header.ScsiCommand.{ScsiCommand as CommandHeader}
-use Rattle.session_rules.specs.Turn.{Turn}
+use Rattle.std.proofs.Common.{◌||◌, if◌then◌else◌}
+use Rattle.std.proofs.lemmas.List.{append-nil, Elements.filter-append, Sums.sum_by-append}
+use Rattle.session_rules.specs.Words.{filter, cons_option, list_any, count_by, option_to_list, CommandHeader, Accepted, Verdict}
+use Rattle.session_rules.specs.{Turn.Turn, Collecting.shrinks_window, Verdict.unless_full}
 use Rattle.session_rules.specs.Tasks.{touches, ends, through, Task, accepted_command, begun_by, tasks, has_ended, Collecting}
-use Rattle.std.proofs.lemmas.List.Sums.{sum_by-append}
-use Rattle.session_rules.specs.Collecting.{shrinks_window}
-use Rattle.session_rules.specs.declared.verdict.Verdict.TheVariants.{Accepted, Ignored, Refused, Full, Gap}
-use Rattle.session_rules.specs.declared.verdict.Verdict.{Verdict}
-use Rattle.session_rules.specs.Verdict.{unless_full}
 
 module _ (test : Turn → Bool) where
   through_step : (x y : Turn) (b c : Bool) (m t : List Turn) → m ≡ (if c then t else (t ++ y ∷ []))
@@ -80,7 +72,8 @@ module _ (units : ℕ) where
 
   tasks_step : (o : Option (CommandHeader × List ℕ)) (t : Turn) (behind : List Turn) (u : Turn) (more rest front : List Task)
       → more ≡ map (extended units u) front ++ rest
-      → cons_option (begun_by units o t (behind ++ u ∷ [])) more ≡ map (extended units u) (cons_option (begun_by units o t behind) front) ++ rest
+      → cons_option (begun_by units o t (behind ++ u ∷ [])) more
+      ≡ map (extended units u) (cons_option (begun_by units o t behind) front) ++ rest
   tasks_step None t behind u more rest front e = e
   tasks_step (Some c) t behind u more rest front e =
       ap (λ (k : Task). k ∷ more) (command_more c.0 c.1 t behind u)
@@ -101,8 +94,8 @@ count_append xs ys = sum_by-append (λ c. cond (shrinks_window c) 1 0) xs ys
 
 pub not_full : (full : Bool) (v : Verdict) → unless_full full v ≡ Accepted → v ≡ Accepted
 not_full true Accepted e = refl
-not_full true Full e = e
-not_full true Ignored e = e
-not_full true Gap e = e
-not_full true (Refused r) e = e
-not_full false v e = e
+not_full full v e = e
+
+pub neither : (a b : Bool) → (a || b) ≡ false → (a ≡ false) × (b ≡ false)
+neither true b e = absurd (let f : true ≡ false = e in cc)
+neither false b e = (refl, e)

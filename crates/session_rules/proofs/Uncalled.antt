@@ -1,12 +1,8 @@
 -- A command that ended without a call, and was not dropped, had no R2T.
 use Rattle.std.proofs.Common.{◌≡◌, ℕ, List, [], ◌∷◌, ◌++◌, refl, ap, sym, subst}
-use Rattle.std.specs.List.{AllByRecursion}
-use Rattle.session_rules.specs.Setting.{Setting}
-use Rattle.session_rules.specs.Turn.{Turn}
+use Rattle.session_rules.specs.Words.{AllByRecursion}
+use Rattle.session_rules.specs.{Setting.Setting, Turn.Turn, Collecting.IsRightTask, Legal.Lawful, Following.HadNoR2t}
 use Rattle.session_rules.specs.Tasks.{Task, tasks}
-use Rattle.session_rules.specs.Collecting.{IsRightTask}
-use Rattle.session_rules.specs.Legal.{Lawful}
-use Rattle.session_rules.specs.Following.{HadNoR2t}
 
 -- a list of some turns has a last one
 last_of : (t : Turn) (ts : List Turn) → (front : List Turn) × (last : Turn) × (t ∷ ts ≡ front ++ last ∷ [])

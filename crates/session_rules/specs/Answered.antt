@@ -1,25 +1,11 @@
 -- How a command is answered in a turn (RFC 7143, 4.4).
-use Rattle.std.specs.Prelude.{◌≡◌, ℕ, if◌then◌else◌, List, [], length, Option, Some, None, Result}
-use Rattle.std.specs.List.{list_any, find}
-use Rattle.std.specs.Option.{option_map}
-use Rattle.scsi_types.specs.Cdb.{need_of}
-use Rattle.scsi_types.specs.declared.command.Command.{Command}
-use Rattle.scsi_types.specs.declared.command.CdbFault.{CdbFault}
-use Rattle.iscsi_pdu.specs.declared.header.ScsiCommand.{ScsiCommand as CommandHeader}
-use Rattle.iscsi_pdu.specs.declared.header.Header.TheVariants.{Initiator, Target}
-use Rattle.iscsi_pdu.specs.declared.header.InitiatorHeader.TheVariants.{NopOut, ScsiCommand, TaskManagementRequest}
-use Rattle.iscsi_pdu.specs.declared.header.InitiatorHeader.TheVariants.{LoginRequest, TextRequest, DataOut, LogoutRequest}
-use Rattle.session_rules.specs.declared.target.TargetAnswer.{TargetAnswer}
-use Rattle.session_rules.specs.declared.target.TargetAnswer.TheVariants.{Replied, Outside, Busy, Gone}
-use Rattle.session_rules.specs.declared.verdict.Verdict.{Verdict}
-use Rattle.session_rules.specs.declared.verdict.Verdict.TheVariants.{Accepted, Full, Ignored, Gap, Refused}
+use Rattle.session_rules.specs.Words.{◌≡◌, ℕ, if◌then◌else◌, List, [], length, Option, Some, None, Result, list_any, find, option_map}
+use Rattle.session_rules.specs.Words.{need_of, Command, CdbFault, CommandHeader, Initiator, Target, NopOut, ScsiCommand}
+use Rattle.session_rules.specs.Words.{TaskManagementRequest, LoginRequest, TextRequest, DataOut, LogoutRequest, TargetAnswer, Replied}
+use Rattle.session_rules.specs.Words.{Outside, Busy, Gone, Verdict, Accepted, Full, Ignored, Gap, Refused}
+use Rattle.session_rules.specs.{Setting.Setting, TaskManagement.IsManaged, Turn.Incoming, Turn.pdu, Turn.faulty, Turn.Out}
+use Rattle.session_rules.specs.{Transfer.transfer_of, Tasks.Collecting, Tasks.is_response, Tasks.has_tag, Standing.Standing}
 use Rattle.session_rules.specs.Asking.{Asking, began, lives, served, reset, over}
-use Rattle.session_rules.specs.Setting.{Setting}
-use Rattle.session_rules.specs.TaskManagement.{IsManaged}
-use Rattle.session_rules.specs.Turn.{Incoming, pdu, faulty, Out}
-use Rattle.session_rules.specs.Transfer.{transfer_of}
-use Rattle.session_rules.specs.Tasks.{Collecting, is_response, has_tag}
-use Rattle.session_rules.specs.Standing.{Standing}
 
 -- How a command is answered: by the target; or there was no buffer for its data; or another immediate command waits for
 -- data, so that the task set is full.
@@ -59,8 +45,7 @@ outcome_of (Refused reason) came call outs = None
 -- the command that what came is of: a SCSI Command, or the one with its tag that waits for a Data-Out
 abbrev pub command_at : Standing → Incoming → Option CommandHeader
 command_at s (pdu b (Initiator (ScsiCommand p)) d) = Some p
-command_at s (pdu b (Initiator (DataOut x)) d) =
-    option_map (λ c. c.command) (find (has_tag x.task_tag) s.collecting)
+command_at s (pdu b (Initiator (DataOut x)) d) = option_map (λ c. c.command) (find (has_tag x.task_tag) s.collecting)
 command_at s (pdu b (Initiator (NopOut p)) d) = None
 command_at s (pdu b (Initiator (TaskManagementRequest p)) d) = None
 command_at s (pdu b (Initiator (LoginRequest p)) d) = None

@@ -1,12 +1,6 @@
 -- What a session asks its target.
-use Rattle.std.specs.Prelude.{ℕ, Bool, List, Option, Result}
-use Rattle.scsi_types.specs.Nexus.{Port}
-use Rattle.scsi_types.specs.declared.command.Command.{Command}
-use Rattle.scsi_types.specs.declared.command.CdbFault.{CdbFault}
-use Rattle.login.specs.declared.status.Kind.{Kind}
-use Rattle.session_rules.specs.declared.target.TargetAnswer.{TargetAnswer}
-use Rattle.session_rules.specs.declared.target.ResetAnswer.{ResetAnswer}
-use Rattle.session_rules.specs.declared.target.BeginAnswer.{BeginAnswer}
+use Rattle.session_rules.specs.Words.{ℕ, Bool, List, Option, Result, Port, Command, CdbFault, Kind, TargetAnswer, ResetAnswer}
+use Rattle.session_rules.specs.Words.{BeginAnswer}
 
 -- A question with its answer. Began: the initiator port and the kind of a session that is to begin. Lives: a Target Session
 -- Identifying Handle (TSIH), and the port whose session it is to be. Served: the unit that the LUN names, what the CDB asks

@@ -1,5 +1,5 @@
 -- The numbers of the protocol that a session tells apart or sends (RFC 7143; the tags and times are those of its sections).
-use Rattle.std.specs.Prelude.{ℕ}
+use Rattle.session_rules.specs.Words.{ℕ}
 
 -- the Initiator Task Tag that no task has (11.2.1.8), and the Target Transfer Tag that names no transfer (11.7.4)
 abbrev pub reserved_tag : ℕ

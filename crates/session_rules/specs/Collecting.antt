@@ -1,18 +1,9 @@
 -- How the data of a command is collected (RFC 7143, 4.2.4.2, 11.7 and 11.8): its immediate data, then by R2T.
-use Rattle.std.specs.Prelude.{◌≡◌, ℕ, ◌+◌, ◌-◌, ◌<◌, ◌≤◌, min, Bool, true, false, not, IsTrue, List, [], ◌∷◌, length, take}
-use Rattle.std.specs.Prelude.{Option, Some, Result}
-use Rattle.std.specs.List.{slice_get, sum_by}
-use Rattle.scsi_types.specs.Cdb.{Means, need_of}
-use Rattle.scsi_types.specs.Lun.{NamesUnit}
-use Rattle.scsi_types.specs.declared.command.Command.{Command}
-use Rattle.scsi_types.specs.declared.command.CdbFault.{CdbFault}
-use Rattle.iscsi_pdu.specs.declared.header.ScsiCommand.{ScsiCommand as CommandHeader}
-use Rattle.iscsi_pdu.specs.declared.header.DataOut.{DataOut as DataOutHeader}
-use Rattle.iscsi_pdu.specs.declared.header.R2t.{R2t as R2tHeader}
-use Rattle.session_rules.specs.declared.target.TargetAnswer.{TargetAnswer}
-use Rattle.session_rules.specs.Asking.{Asking, served}
-use Rattle.session_rules.specs.Transfer.{data_for}
-use Rattle.session_rules.specs.Window.{wrap}
+use Rattle.std.specs.List.{slice_get}
+use Rattle.session_rules.specs.Words.{◌≡◌, ℕ, ◌+◌, ◌-◌, ◌<◌, ◌≤◌, min, Bool, true, false, not, IsTrue, List, [], ◌∷◌, length, take}
+use Rattle.session_rules.specs.Words.{Option, Some, Result, sum_by, Means, need_of, NamesUnit, Command, CdbFault, CommandHeader}
+use Rattle.session_rules.specs.Words.{DataOutHeader, R2tHeader, TargetAnswer}
+use Rattle.session_rules.specs.{Asking.Asking, Asking.served, Transfer.data_for, Window.wrap}
 use Rattle.session_rules.specs.Tasks.{Task, Collecting, has_ended, was_dropped, gathered, r2ts, command_calls}
 
 -- a write that expects to send all that it needs, and whose immediate data is less

@@ -1,14 +1,8 @@
 -- The Data-In PDUs of a read (RFC 7143, 11.7).
-use Rattle.std.specs.Prelude.{◌≡◌, ℕ, ◌-◌, ◌%◌, ◌<◌, ◌↔◌, min, List, length, take, Option, Some, None, IsTrue, slice_get}
-use Rattle.std.specs.List.{filter_map, flat_map}
-use Rattle.iscsi_pdu.specs.declared.header.ScsiCommand.{ScsiCommand as CommandHeader}
-use Rattle.iscsi_pdu.specs.declared.header.DataIn.{DataIn as DataInHeader}
-use Rattle.iscsi_pdu.specs.declared.header.TargetHeader.{TargetHeader}
-use Rattle.iscsi_pdu.specs.declared.header.TargetHeader.TheVariants.{DataIn}
-use Rattle.iscsi_pdu.specs.Number.{max_data_segment_length}
-use Rattle.session_rules.specs.Codes.{no_transfer_tag}
-use Rattle.session_rules.specs.declared.lengths.Lengths.{Lengths}
-use Rattle.session_rules.specs.Turn.{Out}
+use Rattle.session_rules.specs.Words.{◌≡◌, ℕ, ◌-◌, ◌%◌, ◌<◌, ◌↔◌, min, List, length, take, Option, Some, None, IsTrue, slice_get}
+use Rattle.session_rules.specs.Words.{filter_map, flat_map, CommandHeader, DataInHeader, TargetHeader, DataIn, max_data_segment_length}
+use Rattle.session_rules.specs.Words.{Lengths}
+use Rattle.session_rules.specs.{Codes.no_transfer_tag, Turn.Out}
 
 -- the Data-In PDUs that went out, each with its data
 abbrev pub data_in_with : TargetHeader → List ℕ → Option (DataInHeader × List ℕ)

@@ -1,10 +1,7 @@
 -- Which tasks a task management function drops (RFC 7143, 11.5.1).
-use Rattle.std.specs.Prelude.{ℕ, ◌==◌, ◌&&◌, ◌||◌, nat_lt, bytes_eq, drop, slice_index, Bool, false, if◌then◌else◌, List, [], ◌∷◌}
-use Rattle.iscsi_pdu.specs.declared.header.ScsiCommand.{ScsiCommand as CommandHeader}
-use Rattle.iscsi_pdu.specs.declared.header.TaskManagementRequest.{TaskManagementRequest as ManagementHeader}
-use Rattle.session_rules.specs.declared.task_function.TaskFunction.{TaskFunction}
-use Rattle.session_rules.specs.declared.task_function.TaskFunction.TheVariants.{AbortTask, AbortTaskSet, LogicalUnitReset}
-use Rattle.session_rules.specs.declared.task_function.TaskFunction.TheVariants.{TaskReassign, Unserved}
+use Rattle.session_rules.specs.Words.{ℕ, ◌==◌, ◌&&◌, ◌||◌, nat_lt, bytes_eq, drop, slice_index, Bool, false, if◌then◌else◌, List, [], ◌∷◌}
+use Rattle.session_rules.specs.Words.{CommandHeader, ManagementHeader, TaskFunction, AbortTask, AbortTaskSet, LogicalUnitReset}
+use Rattle.session_rules.specs.Words.{TaskReassign, Unserved}
 
 -- the functions by their numbers (11.5.1)
 abbrev pub function_of : ℕ → TaskFunction

@@ -1,14 +1,7 @@
 -- How a session ends, and what stood at the front of what was read then (RFC 7143, 7.3).
-use Rattle.std.specs.Prelude.{◌≡◌, ◌⊎◌, ℕ, ◌<◌, ◌≤◌, List, [], ◌∷◌, ◌++◌, length, take, Option, Some}
-use Rattle.iscsi_pdu.specs.Pdu.{IsPdu}
-use Rattle.iscsi_pdu.specs.Fault.{Stands}
-use Rattle.iscsi_pdu.specs.declared.header.Header.{Header}
-use Rattle.iscsi_pdu.specs.declared.fault.PduFault.{PduFault}
-use Rattle.iscsi_pdu.specs.Number.{bhs_length}
-use Rattle.session_rules.specs.declared.end.End.{End}
-use Rattle.session_rules.specs.declared.end.End.TheVariants.{EndOfInput, InputFailed, OutputFailed, Protocol, Reinstated, LoggedOut}
-use Rattle.session_rules.specs.Turn.{Incoming, pdu, faulty}
-use Rattle.session_rules.specs.Phases.{Exchange, NoneEnds}
+use Rattle.session_rules.specs.Words.{◌≡◌, ◌⊎◌, ℕ, ◌<◌, ◌≤◌, List, [], ◌∷◌, ◌++◌, length, take, Option, Some, IsPdu, Stands, Header}
+use Rattle.session_rules.specs.Words.{PduFault, bhs_length, End, EndOfInput, InputFailed, OutputFailed, Protocol, Reinstated, LoggedOut}
+use Rattle.session_rules.specs.{Turn.Incoming, Turn.pdu, Turn.faulty, Phases.Exchange, Phases.NoneEnds}
 
 -- no PDU and no fault with its whole header segment stands at the front of these bytes
 pub record NoneWhole (rest : List ℕ) : Type 0 where

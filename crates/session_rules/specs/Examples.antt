@@ -1,35 +1,12 @@
 -- Short transcripts that differ in one thing or another, of which one is legal: so each fact of a legal transcript refuses
 -- something.
-use Rattle.std.specs.Prelude.{ℕ, true, false, List, [], ◌∷◌, Option, Some, None, Result}
-use Rattle.scsi_types.specs.ReplyValue.{good}
-use Rattle.scsi_types.specs.declared.command.Command.{Command}
-use Rattle.scsi_types.specs.declared.command.CdbFault.{CdbFault}
-use Rattle.iscsi_pdu.specs.declared.header.CommandNumbers.{CommandNumbers}
-use Rattle.iscsi_pdu.specs.declared.header.Numbers.{Numbers}
-use Rattle.iscsi_pdu.specs.declared.header.Header.{Header}
-use Rattle.iscsi_pdu.specs.declared.header.Header.TheVariants.{Initiator}
-use Rattle.iscsi_pdu.specs.declared.header.InitiatorHeader.TheVariants.{NopOut, ScsiCommand, DataOut, LogoutRequest}
-use Rattle.iscsi_pdu.specs.declared.header.TargetHeader.{TargetHeader}
-use Rattle.iscsi_pdu.specs.declared.header.TargetHeader.TheVariants.{NopIn, ScsiResponse, LoginResponse, DataIn}
-use Rattle.iscsi_pdu.specs.declared.header.TargetHeader.TheVariants.{LogoutResponse, R2t, Reject}
-use Rattle.iscsi_pdu.specs.declared.header.ScsiCommand.{ScsiCommand as CommandHeader}
-use Rattle.iscsi_pdu.specs.declared.header.DataOut.{DataOut as DataOutHeader}
-use Rattle.iscsi_pdu.specs.declared.header.DataIn.{DataIn as DataInHeader}
-use Rattle.iscsi_pdu.specs.declared.header.ScsiResponse.{ScsiResponse as ResponseHeader}
-use Rattle.iscsi_pdu.specs.declared.header.R2t.{R2t as R2tHeader}
-use Rattle.login.specs.declared.status.Kind.TheVariants.{Normal}
-use Rattle.login.specs.declared.status.LoginStatus.TheVariants.{InvalidDuringLogin}
-use Rattle.session_rules.specs.declared.login_outcome.LoginOutcome.{LoginOutcome}
-use Rattle.session_rules.specs.declared.login_outcome.LoginOutcome.TheVariants.{Refused}
-use Rattle.session_rules.specs.declared.target.TargetAnswer.TheVariants.{Replied}
-use Rattle.session_rules.specs.declared.verdict.Verdict.{Verdict}
-use Rattle.session_rules.specs.declared.verdict.Verdict.TheVariants.{Accepted}
-use Rattle.session_rules.specs.Asking.{Asking, served}
-use Rattle.session_rules.specs.Codes.{no_transfer_tag}
-use Rattle.session_rules.specs.Lengths.{default_lengths}
-use Rattle.session_rules.specs.LoginPhase.{LoginTurn}
-use Rattle.session_rules.specs.Phases.{Transcript}
-use Rattle.session_rules.specs.Setting.{Setting}
+use Rattle.session_rules.specs.Words.{ℕ, Bool, true, false, List, [], ◌∷◌, Option, Some, None, Result, good, Command, CdbFault}
+use Rattle.session_rules.specs.Words.{CommandNumbers, Numbers, Header, InitiatorHeader, Initiator, NopOut, ScsiCommand, DataOut}
+use Rattle.session_rules.specs.Words.{LogoutRequest, TargetHeader, NopIn, ScsiResponse, LoginResponse, DataIn, LogoutResponse, R2t}
+use Rattle.session_rules.specs.Words.{Reject, CommandHeader, DataOutHeader, DataInHeader, ResponseHeader, R2tHeader, Normal}
+use Rattle.session_rules.specs.Words.{InvalidDuringLogin, LoginOutcome, Replied, Verdict, Accepted}
+use Rattle.session_rules.specs.{declared.login_outcome.LoginOutcome.TheVariants.Refused, Asking.Asking, Asking.served}
+use Rattle.session_rules.specs.{Codes.no_transfer_tag, Lengths.default_lengths, LoginPhase.LoginTurn, Phases.Transcript, Setting.Setting}
 use Rattle.session_rules.specs.Turn.{Incoming, pdu, Out, Turn}
 
 -- a normal session with a target of one unit, in which CmdSN 7 is expected and StatSN 3 is next, and no length was negotiated
@@ -55,6 +32,24 @@ numbers_with stat_sn max_cmd_sn = record { stat_sn = stat_sn; exp_cmd_sn = 8; ma
 abbrev pub out : TargetHeader → List ℕ → Out
 out header bytes = record { header = header; bytes = bytes }
 
+-- a turn of a PDU that is accepted
+abbrev pub accepted : InitiatorHeader → List ℕ → Option Asking → List Out → Turn
+accepted h d call outs = record { came = pdu [] (Initiator h) d; verdict = Accepted; call = call; sent = outs }
+
+-- a command that expects four bytes
+abbrev pub command_header : Bool → Bool → List ℕ → CommandHeader
+command_header reads writes cdb = record {
+  immediate = false;
+  read = reads;
+  write = writes;
+  attribute = 0;
+  lun = unit_0;
+  task_tag = 5;
+  expected_length = 4;
+  numbers = next_command;
+  cdb = cdb;
+}
+
 -- ---- a NOP-Out with two bytes of data
 
 abbrev pub ping_pdu : Incoming
@@ -67,8 +62,7 @@ ping_pdu = pdu [] (Initiator (NopOut (record {
 }))) (1 ∷ 2 ∷ [])
 
 abbrev pub ping : Verdict → Option Asking → TargetHeader → List ℕ → Turn
-ping verdict call header d =
-    record { came = ping_pdu; verdict = verdict; call = call; sent = out header d ∷ [] }
+ping verdict call header d = record { came = ping_pdu; verdict = verdict; call = call; sent = out header d ∷ [] }
 
 abbrev pub pong : Numbers → TargetHeader
 pong n = NopIn (record { lun = unit_0; task_tag = 5; transfer_tag = no_transfer_tag; numbers = n })
@@ -76,29 +70,16 @@ pong n = NopIn (record { lun = unit_0; task_tag = 5; transfer_tag = no_transfer_
 -- ---- a read that expects four bytes, and is answered with three
 
 abbrev pub read_header : List ℕ → CommandHeader
-read_header cdb = record {
-  immediate = false;
-  read = true;
-  write = false;
-  attribute = 0;
-  lun = unit_0;
-  task_tag = 5;
-  expected_length = 4;
-  numbers = next_command;
-  cdb = cdb;
-}
+read_header cdb = command_header true false cdb
 
 abbrev pub three_bytes : List ℕ
 three_bytes = 1 ∷ 2 ∷ 3 ∷ []
 
 abbrev pub read : List ℕ → Option ℕ → Result Command CdbFault → List ℕ → DataInHeader → List ℕ → ResponseHeader → List ℕ
     → Turn
-read cdb unit asked bytes h d r e = record {
-  came = pdu [] (Initiator (ScsiCommand (read_header cdb))) [];
-  verdict = Accepted;
-  call = Some (served unit asked bytes (Replied (good three_bytes)));
-  sent = out (DataIn h) d ∷ out (ScsiResponse r) e ∷ [];
-}
+read cdb unit asked bytes h d r e =
+    accepted (ScsiCommand (read_header cdb)) [] (Some (served unit asked bytes (Replied (good three_bytes))))
+    (out (DataIn h) d ∷ out (ScsiResponse r) e ∷ [])
 
 abbrev pub the_data_in : DataInHeader
 the_data_in = record {
@@ -124,35 +105,17 @@ the_response = record {
 
 -- the same with no SCSI Response behind its data
 abbrev pub unanswered : List ℕ → Option ℕ → Result Command CdbFault → List ℕ → DataInHeader → List ℕ → Turn
-unanswered cdb unit asked bytes h d = record {
-  came = pdu [] (Initiator (ScsiCommand (read_header cdb))) [];
-  verdict = Accepted;
-  call = Some (served unit asked bytes (Replied (good three_bytes)));
-  sent = out (DataIn h) d ∷ [];
-}
+unanswered cdb unit asked bytes h d =
+    accepted (ScsiCommand (read_header cdb)) [] (Some (served unit asked bytes (Replied (good three_bytes))))
+    (out (DataIn h) d ∷ [])
 
 -- ---- a write of four bytes, none of which come with it
 
 abbrev pub write_header : List ℕ → CommandHeader
-write_header cdb = record {
-  immediate = false;
-  read = false;
-  write = true;
-  attribute = 0;
-  lun = unit_0;
-  task_tag = 5;
-  expected_length = 4;
-  numbers = next_command;
-  cdb = cdb;
-}
+write_header cdb = command_header false true cdb
 
 abbrev pub write : List ℕ → R2tHeader → List ℕ → Turn
-write cdb r e = record {
-  came = pdu [] (Initiator (ScsiCommand (write_header cdb))) [];
-  verdict = Accepted;
-  call = None;
-  sent = out (R2t r) e ∷ [];
-}
+write cdb r e = accepted (ScsiCommand (write_header cdb)) [] None (out (R2t r) e ∷ [])
 
 -- one numbered command waits: the window is smaller by one
 abbrev pub the_r2t : R2tHeader
@@ -168,34 +131,20 @@ the_r2t = record {
 
 -- its data comes, and is answered without a call
 abbrev pub turned_away : DataOutHeader → List ℕ → ResponseHeader → Turn
-turned_away x d r = record {
-  came = pdu [] (Initiator (DataOut x)) d;
-  verdict = Accepted;
-  call = None;
-  sent = out (ScsiResponse r) [] ∷ [];
-}
+turned_away x d r = accepted (DataOut x) d None (out (ScsiResponse r) [] ∷ [])
 
 -- ---- a logout, which closes the session
 
 abbrev pub leave : Turn
-leave = record {
-  came = pdu [] (Initiator (LogoutRequest (record {
-    immediate = false;
-    reason = 0;
-    task_tag = 5;
-    cid = 0;
-    numbers = next_command;
-  }))) [];
-  verdict = Accepted;
-  call = None;
-  sent = out (LogoutResponse (record {
-    response = 0;
-    task_tag = 5;
-    numbers = numbers_with 3 39;
-    time_to_wait = 2;
-    time_to_retain = 0;
-  })) [] ∷ [];
-}
+leave = accepted
+    (LogoutRequest (record { immediate = false; reason = 0; task_tag = 5; cid = 0; numbers = next_command })) [] None
+    (out (LogoutResponse (record {
+      response = 0;
+      task_tag = 5;
+      numbers = numbers_with 3 39;
+      time_to_wait = 2;
+      time_to_retain = 0;
+    })) [] ∷ [])
 
 -- ---- a PDU that is rejected: one of a kind that only a target sends
 

@@ -1,20 +1,11 @@
 -- Words for what follows of a legal transcript.
-use Rattle.std.specs.Prelude.{◌≡◌, ℕ, ◌+◌, ◌-◌, ◌<◌, ◌↔◌, Bool, true, false, List, [], Some, None, Option, Result}
-use Rattle.std.specs.List.{AllByRecursion, count_by}
-use Rattle.iscsi_pdu.specs.declared.header.Header.TheVariants.{Initiator, Target}
-use Rattle.iscsi_pdu.specs.declared.header.Numbers.{Numbers}
-use Rattle.iscsi_pdu.specs.declared.header.InitiatorHeader.TheVariants.{NopOut, ScsiCommand, TaskManagementRequest}
-use Rattle.iscsi_pdu.specs.declared.header.InitiatorHeader.TheVariants.{LoginRequest, TextRequest, DataOut, LogoutRequest}
-use Rattle.iscsi_pdu.specs.declared.header.ScsiCommand.{ScsiCommand as CommandHeader}
-use Rattle.session_rules.specs.declared.verdict.Verdict.TheVariants.{Accepted, Ignored}
-use Rattle.scsi_types.specs.declared.command.Command.{Command}
-use Rattle.scsi_types.specs.declared.command.CdbFault.{CdbFault}
-use Rattle.session_rules.specs.declared.target.TargetAnswer.{TargetAnswer}
-use Rattle.session_rules.specs.Asking.{served}
-use Rattle.session_rules.specs.Turn.{Incoming, Out, Turn, pdu, faulty}
-use Rattle.session_rules.specs.Tasks.{Task, collecting, has_ended, was_dropped, r2ts, command_calls}
-use Rattle.session_rules.specs.Collecting.{shrinks_window}
+use Rattle.session_rules.specs.Words.{◌≡◌, ℕ, ◌+◌, ◌-◌, ◌<◌, ◌↔◌, Bool, true, false, List, [], Some, None, Option, Result, AllByRecursion}
+use Rattle.session_rules.specs.Words.{count_by, Initiator, Target, Numbers, NopOut, ScsiCommand, TaskManagementRequest, LoginRequest}
+use Rattle.session_rules.specs.Words.{TextRequest, DataOut, LogoutRequest, CommandHeader, Accepted, Ignored, Command, CdbFault}
+use Rattle.session_rules.specs.Words.{TargetAnswer}
+use Rattle.session_rules.specs.{Asking.served, Turn.Incoming, Turn.Out, Turn.Turn, Turn.pdu, Turn.faulty, Collecting.shrinks_window}
 use Rattle.session_rules.specs.Window.{wrap, ahead, numbers_of, takes_number}
+use Rattle.session_rules.specs.Tasks.{Task, collecting, has_ended, was_dropped, r2ts, command_calls}
 
 -- how many numbered PDUs were accepted: a count that does not wrap
 abbrev pub numbers_taken : List Turn → ℕ

@@ -1,47 +1,20 @@
 -- Which turns of full feature phase are legal (RFC 7143, sections 4 and 7). They are a list; each fact is judged
 -- of the turn at each place, with the turns before it, so what holds of a transcript holds of each beginning.
-use Rattle.std.specs.Prelude.{◌≡◌, ℕ, ◌+◌, ◌<◌, ◌≤◌, if◌then◌else◌, List, [], ◌∷◌, ◌++◌, length, Option, Some, None, Result}
-use Rattle.std.specs.Prelude.{IfSome, MatchOption, slice_get}
-use Rattle.std.specs.List.{filter_map, AllByRecursion}
-use Rattle.scsi_types.specs.Cdb.{Means}
-use Rattle.scsi_types.specs.declared.command.Command.{Command}
-use Rattle.scsi_types.specs.declared.command.CdbFault.{CdbFault}
-use Rattle.scsi_types.specs.declared.sense.Sense.{Sense}
-use Rattle.iscsi_pdu.specs.Number.{max_data_segment_length}
-use Rattle.iscsi_pdu.specs.declared.header.Header.TheVariants.{Initiator, Target}
-use Rattle.iscsi_pdu.specs.declared.header.InitiatorHeader.TheVariants.{NopOut, ScsiCommand, TaskManagementRequest}
-use Rattle.iscsi_pdu.specs.declared.header.InitiatorHeader.TheVariants.{LoginRequest, TextRequest, DataOut, LogoutRequest}
-use Rattle.iscsi_pdu.specs.declared.header.TargetHeader.{TargetHeader}
-use Rattle.iscsi_pdu.specs.declared.header.TargetHeader.TheVariants.{NopIn, ScsiResponse, TaskManagementResponse}
-use Rattle.iscsi_pdu.specs.declared.header.TargetHeader.TheVariants.{LoginResponse, TextResponse, DataIn, LogoutResponse}
-use Rattle.iscsi_pdu.specs.declared.header.TargetHeader.TheVariants.{R2t, Reject}
-use Rattle.iscsi_pdu.specs.declared.header.R2t.{R2t as R2tHeader}
-use Rattle.iscsi_pdu.specs.declared.header.Numbers.{Numbers}
-use Rattle.session_rules.specs.declared.end.End.{End}
-use Rattle.session_rules.specs.declared.end.End.TheVariants.{Protocol, Reinstated, LoggedOut}
-use Rattle.session_rules.specs.declared.lengths.Lengths.{Lengths}
-use Rattle.session_rules.specs.declared.target.TargetAnswer.{TargetAnswer}
-use Rattle.session_rules.specs.declared.target.TargetAnswer.TheVariants.{Replied, Outside, Busy, Gone}
-use Rattle.session_rules.specs.declared.target.ResetAnswer.{ResetAnswer}
-use Rattle.session_rules.specs.declared.target.ResetAnswer.TheVariants as resets
-use Rattle.session_rules.specs.declared.verdict.Verdict.{Verdict}
-use Rattle.session_rules.specs.declared.verdict.Verdict.TheVariants.{Accepted, Full, Ignored, Gap, Refused}
-use Rattle.session_rules.specs.Asking.{Asking, began, lives, served, reset, over}
-use Rattle.session_rules.specs.Setting.{Setting}
-use Rattle.session_rules.specs.Turn.{Incoming, pdu, faulty, Out, Turn, sent}
-use Rattle.session_rules.specs.Window.{wrap, numbers_of}
-use Rattle.session_rules.specs.Tasks.{tasks, r2ts_of}
-use Rattle.session_rules.specs.Collecting.{IsRightTask}
-use Rattle.session_rules.specs.Standing.{Standing, standing, last_in_window}
-use Rattle.session_rules.specs.Verdict.{IsJudged}
-use Rattle.session_rules.specs.Transfer.{expected_transfer, sent_data}
+use Rattle.session_rules.specs.Words.{◌≡◌, ℕ, ◌+◌, ◌<◌, ◌≤◌, if◌then◌else◌, List, [], ◌∷◌, ◌++◌, length, Option, Some, None, Result}
+use Rattle.session_rules.specs.Words.{IfSome, MatchOption, slice_get, filter_map, AllByRecursion, Means, Command, CdbFault, Sense}
+use Rattle.session_rules.specs.Words.{max_data_segment_length, Initiator, Target, NopOut, ScsiCommand, TaskManagementRequest}
+use Rattle.session_rules.specs.Words.{LoginRequest, TextRequest, DataOut, LogoutRequest, TargetHeader, NopIn, ScsiResponse}
+use Rattle.session_rules.specs.Words.{TaskManagementResponse, LoginResponse, TextResponse, DataIn, LogoutResponse, R2t, Reject, R2tHeader}
+use Rattle.session_rules.specs.Words.{Numbers, End, Protocol, Reinstated, LoggedOut, Lengths, TargetAnswer, Replied, Outside, Busy, Gone}
+use Rattle.session_rules.specs.Words.{ResetAnswer, Verdict, Accepted, Full, Ignored, Gap, Refused}
+use Rattle.session_rules.specs.{Setting.Setting, Window.wrap, Window.numbers_of, Tasks.tasks, Tasks.r2ts_of, Collecting.IsRightTask}
+use Rattle.session_rules.specs.{Standing.Standing, Standing.standing, Standing.last_in_window, Verdict.IsJudged}
+use Rattle.session_rules.specs.{Transfer.expected_transfer, Transfer.sent_data, DataIn.data_ins, DataIn.Tiles, Nop.echo, Text.text_answer}
+use Rattle.session_rules.specs.{Logout.closes, Requests.IsRequestAnswered, Asking.Asking, Asking.began, Asking.lives, Asking.served}
+use Rattle.session_rules.specs.{Asking.reset, Asking.over, Turn.Incoming, Turn.pdu, Turn.faulty, Turn.Out, Turn.Turn, Turn.sent}
 use Rattle.session_rules.specs.Answered.{Answered, answered_in, IsCalled, outcome_data, needed}
 use Rattle.session_rules.specs.Response.{responses, sense_part, IsAnsweredAs, IsResidual, IsToldAs}
-use Rattle.session_rules.specs.DataIn.{data_ins, Tiles}
-use Rattle.session_rules.specs.Nop.{echo}
-use Rattle.session_rules.specs.Text.{text_answer}
-use Rattle.session_rules.specs.Logout.{closes}
-use Rattle.session_rules.specs.Requests.{IsRequestAnswered}
+use Rattle.session_rules.specs.declared.target.ResetAnswer.TheVariants as resets
 
 -- the fact holds at each place of a list, of what stands before it and there
 abbrev pub AtEachOf : {A : Type 0} → (List A → A → Type 0) → List A → Type 0
@@ -145,8 +118,7 @@ HaveTheirData m came outs = AllByRecursion (λ o. HasItsData m came o.header o.b
 
 -- what is judged of a turn's answer to a command; a turn that answers none has no response and no data
 abbrev pub IsAnsweredTask : Option Answered → List Out → Type 0
-IsAnsweredTask answered outs =
-    MatchOption answered (responses outs ≡ []) (λ a. IsAnsweredAs a.command a.outcome a.own)
+IsAnsweredTask answered outs = MatchOption answered (responses outs ≡ []) (λ a. IsAnsweredAs a.command a.outcome a.own)
 
 abbrev pub IsTiledTask : Lengths → Option Answered → List Out → Type 0
 IsTiledTask l answered outs =
@@ -154,8 +126,7 @@ IsTiledTask l answered outs =
     (λ a. Tiles l a.command (data_ins a.own) (sent_data a.command (outcome_data a.outcome)))
 
 abbrev pub IsCountedTask : Option Answered → Type 0
-IsCountedTask answered =
-    IfSome answered (λ a. AllByRecursion (λ r. r.0.exp_data_sn ≡ length (data_ins a.own)) (responses a.own))
+IsCountedTask answered = IfSome answered (λ a. AllByRecursion (λ r. r.0.exp_data_sn ≡ length (data_ins a.own)) (responses a.own))
 
 abbrev pub HasResiduals : Option Answered → Type 0
 HasResiduals answered =
@@ -243,7 +214,6 @@ pub record Lawful (m : Setting) (ts : List Turn) : Type 0 where
   -- each PDU that goes out has the data that its kind has
   pub carried : AtEach (λ before t. HaveTheirData m t.came t.sent) ts
   -- each other request that is accepted has its one answer, and nothing else
-  pub requests : AtEach (λ before t.
-      IsRequestAnswered m (standing m before) t.verdict t.came t.call t.sent) ts
+  pub requests : AtEach (λ before t. IsRequestAnswered m (standing m before) t.verdict t.came t.call t.sent) ts
   -- nothing comes behind a turn that calls for an end
   pub ends : AtEach (λ before t. GoesOn before) ts

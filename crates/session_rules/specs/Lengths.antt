@@ -1,7 +1,6 @@
 -- The lengths in force in a session (RFC 7143, section 13).
+use Rattle.session_rules.specs.Words.{true, Lengths}
 use native.Mathlib.Omega.{arith}
-use Rattle.std.specs.Prelude.{true}
-use Rattle.session_rules.specs.declared.lengths.Lengths.{Lengths}
 
 -- those where none are negotiated: MaxRecvDataSegmentLength, MaxBurstLength, FirstBurstLength, ImmediateData
 abbrev pub default_lengths : Lengths

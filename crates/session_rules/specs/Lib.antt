@@ -25,3 +25,4 @@ pub mod Transfer
 pub mod Turn
 pub mod Verdict
 pub mod Window
+pub mod Words

@@ -1,42 +1,21 @@
 -- The login phase of a session (RFC 7143, 6.3, 11.12 and 11.13): a list of turns, each a PDU that came, or a fault, with the
 -- one PDU that answers it.
-use Rattle.std.specs.Prelude.{◌≡◌, ℕ, ◌+◌, true, false, Bool, if◌then◌else◌, List, [], ◌∷◌, ◌++◌, length, replicate, Option, Some, None}
-use Rattle.std.specs.Option.{option_or, unwrap_or}
+use Rattle.session_rules.specs.Words.{◌≡◌, ℕ, ◌+◌, true, false, Bool, if◌then◌else◌, List, [], ◌∷◌, ◌++◌, length, replicate, Option, Some}
+use Rattle.session_rules.specs.Words.{None, option_or, option_map, unwrap_or, Port, Initiator, Target, InitiatorHeader, NopOut}
+use Rattle.session_rules.specs.Words.{ScsiCommand, TaskManagementRequest, LoginRequest, TextRequest, DataOut, LogoutRequest, TargetHeader}
+use Rattle.session_rules.specs.Words.{LoginResponse, Reject, LoginHeader, Numbers, pairs, Progress, beginning, Ending, Finished, Stopped}
+use Rattle.session_rules.specs.Words.{answer_to, after, kind_in, LoginFlags, InvalidDuringLogin, End, Protocol, Lengths, LoginOutcome}
+use Rattle.session_rules.specs.Words.{Start, BeginAnswer}
 use Rattle.byteorder.specs.Endian.{big_number}
-use Rattle.scsi_types.specs.Nexus.{Port}
-use Rattle.iscsi_pdu.specs.declared.header.Header.TheVariants.{Initiator, Target}
-use Rattle.iscsi_pdu.specs.declared.header.InitiatorHeader.{InitiatorHeader}
-use Rattle.iscsi_pdu.specs.declared.header.InitiatorHeader.TheVariants.{NopOut, ScsiCommand, TaskManagementRequest}
-use Rattle.iscsi_pdu.specs.declared.header.InitiatorHeader.TheVariants.{LoginRequest, TextRequest, DataOut, LogoutRequest}
-use Rattle.iscsi_pdu.specs.declared.header.TargetHeader.{TargetHeader}
-use Rattle.iscsi_pdu.specs.declared.header.TargetHeader.TheVariants.{LoginResponse, Reject}
-use Rattle.iscsi_pdu.specs.declared.header.LoginRequest.{LoginRequest as LoginHeader}
-use Rattle.iscsi_pdu.specs.declared.header.Numbers.{Numbers}
-use Rattle.login.specs.Status.{code_of}
-use Rattle.login.specs.Text.{pairs}
-use Rattle.login.specs.Progress.{Progress, beginning}
-use Rattle.login.specs.Request.{Ending, Answered, Finished, Stopped, answer_to, after, initiator_of, kind_in}
-use Rattle.login.specs.Parameters.{parameters_of}
+use Rattle.login.specs.{Status.code_of, Request.Answered, Request.initiator_of, Parameters.parameters_of}
 use Rattle.login.specs.declared.parameters.Parameters.{Parameters}
-use Rattle.login.specs.declared.status.LoginFlags.{LoginFlags}
 use Rattle.login.specs.declared.status.LoginStatus.{LoginStatus}
-use Rattle.login.specs.declared.status.LoginStatus.TheVariants.{TooManyConnections, SessionDoesNotExist, InvalidDuringLogin, OutOfResources}
-use Rattle.login.specs.declared.status.Stop.TheVariants as stops
-use Rattle.session_rules.specs.declared.end.End.{End}
-use Rattle.session_rules.specs.declared.end.End.TheVariants.{Protocol}
-use Rattle.session_rules.specs.declared.lengths.Lengths.{Lengths}
-use Rattle.session_rules.specs.declared.login_outcome.LoginOutcome.{LoginOutcome}
+use Rattle.login.specs.declared.status.LoginStatus.TheVariants.{TooManyConnections, SessionDoesNotExist, OutOfResources}
+use Rattle.session_rules.specs.{Codes.command_not_supported, Asking.Asking, Asking.began, Asking.lives, Handle.HasHandle, Window.wrap}
+use Rattle.session_rules.specs.{Standing.numbers_for, Verdict.reason_of, Turn.Incoming, Turn.pdu, Turn.faulty, Turn.Out}
 use Rattle.session_rules.specs.declared.login_outcome.LoginOutcome.TheVariants.{GoesOn, Begun, Refused, Rejected}
-use Rattle.session_rules.specs.declared.start.Start.{Start}
-use Rattle.session_rules.specs.declared.target.BeginAnswer.{BeginAnswer}
+use Rattle.login.specs.declared.status.Stop.TheVariants as stops
 use Rattle.session_rules.specs.declared.target.BeginAnswer.TheVariants as begin_answers
-use Rattle.session_rules.specs.Codes.{command_not_supported}
-use Rattle.session_rules.specs.Asking.{Asking, began, lives}
-use Rattle.session_rules.specs.Handle.{HasHandle}
-use Rattle.session_rules.specs.Turn.{Incoming, pdu, faulty, Out}
-use Rattle.session_rules.specs.Window.{wrap}
-use Rattle.session_rules.specs.Standing.{numbers_for}
-use Rattle.session_rules.specs.Verdict.{reason_of}
 
 -- what came, what the target was asked, what it came to, and what went out
 pub record LoginTurn : Type 0 where
@@ -64,31 +43,20 @@ flags_of p = record {
   tsih = p.tsih;
 }
 
+-- a Login Request with its data: nothing else carries a login on
+abbrev pub login_with : Incoming → Option (LoginHeader × List ℕ)
+login_with (pdu b (Initiator (LoginRequest p)) d) = Some (p, d)
+login_with came = None
+
 abbrev pub progress_after : Progress → Incoming → Progress
-progress_after s (pdu b (Initiator (LoginRequest p)) d) = after s (flags_of p) d
-progress_after s (pdu b (Initiator (NopOut p)) d) = s
-progress_after s (pdu b (Initiator (ScsiCommand p)) d) = s
-progress_after s (pdu b (Initiator (TaskManagementRequest p)) d) = s
-progress_after s (pdu b (Initiator (TextRequest p)) d) = s
-progress_after s (pdu b (Initiator (DataOut p)) d) = s
-progress_after s (pdu b (Initiator (LogoutRequest p)) d) = s
-progress_after s (pdu b (Target h) d) = s
-progress_after s (faulty f b) = s
+progress_after s came = unwrap_or (option_map (λ x. after s (flags_of x.0) x.1) (login_with came)) s
 
 abbrev pub progress_behind : Progress → List LoginTurn → Progress
 progress_behind s [] = s
 progress_behind s (l ∷ ls) = progress_behind (progress_after s l.came) ls
 
 abbrev pub cmd_sn_in : Incoming → Option ℕ
-cmd_sn_in (pdu b (Initiator (LoginRequest p)) d) = Some p.numbers.cmd_sn
-cmd_sn_in (pdu b (Initiator (NopOut p)) d) = None
-cmd_sn_in (pdu b (Initiator (ScsiCommand p)) d) = None
-cmd_sn_in (pdu b (Initiator (TaskManagementRequest p)) d) = None
-cmd_sn_in (pdu b (Initiator (TextRequest p)) d) = None
-cmd_sn_in (pdu b (Initiator (DataOut p)) d) = None
-cmd_sn_in (pdu b (Initiator (LogoutRequest p)) d) = None
-cmd_sn_in (pdu b (Target h) d) = None
-cmd_sn_in (faulty f b) = None
+cmd_sn_in came = option_map (λ x. x.0.numbers.cmd_sn) (login_with came)
 
 abbrev pub first_cmd_sn : List LoginTurn → Option ℕ
 first_cmd_sn [] = None
@@ -220,24 +188,7 @@ login_outs n s (pdu b (Initiator (LoginRequest p)) d) (Begun tsih) =
 login_outs n s (pdu b (Initiator h) d) (Refused status) = out (refusal_of n h status) []
 login_outs n s (pdu b h d) (Rejected reason) = out (Reject (record { reason = reason; numbers = n })) b
 login_outs n s (faulty f b) (Rejected reason) = out (Reject (record { reason = reason; numbers = n })) b
-login_outs n s (pdu b (Initiator (NopOut p)) d) GoesOn = []
-login_outs n s (pdu b (Initiator (NopOut p)) d) (Begun tsih) = []
-login_outs n s (pdu b (Initiator (ScsiCommand p)) d) GoesOn = []
-login_outs n s (pdu b (Initiator (ScsiCommand p)) d) (Begun tsih) = []
-login_outs n s (pdu b (Initiator (TaskManagementRequest p)) d) GoesOn = []
-login_outs n s (pdu b (Initiator (TaskManagementRequest p)) d) (Begun tsih) = []
-login_outs n s (pdu b (Initiator (TextRequest p)) d) GoesOn = []
-login_outs n s (pdu b (Initiator (TextRequest p)) d) (Begun tsih) = []
-login_outs n s (pdu b (Initiator (DataOut p)) d) GoesOn = []
-login_outs n s (pdu b (Initiator (DataOut p)) d) (Begun tsih) = []
-login_outs n s (pdu b (Initiator (LogoutRequest p)) d) GoesOn = []
-login_outs n s (pdu b (Initiator (LogoutRequest p)) d) (Begun tsih) = []
-login_outs n s (pdu b (Target h) d) GoesOn = []
-login_outs n s (pdu b (Target h) d) (Begun tsih) = []
-login_outs n s (pdu b (Target h) d) (Refused status) = []
-login_outs n s (faulty f b) GoesOn = []
-login_outs n s (faulty f b) (Begun tsih) = []
-login_outs n s (faulty f b) (Refused status) = []
+login_outs n s came o = []
 
 -- a turn of a login, where this stands behind the turns before it
 pub record IsLoginTurn (v : LoginStanding) (l : LoginTurn) : Type 0 where

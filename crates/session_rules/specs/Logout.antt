@@ -1,10 +1,6 @@
 -- Logout (RFC 7143, 11.14 and 11.15).
-use Rattle.std.specs.Prelude.{Bool, nat_le, if◌then◌else◌, List, [], ◌∷◌}
-use Rattle.iscsi_pdu.specs.declared.header.LogoutRequest.{LogoutRequest as LogoutHeader}
-use Rattle.iscsi_pdu.specs.declared.header.Numbers.{Numbers}
-use Rattle.iscsi_pdu.specs.declared.header.TargetHeader.TheVariants.{LogoutResponse}
-use Rattle.session_rules.specs.Codes.{closed, recovery_not_supported, time_to_wait, time_to_retain}
-use Rattle.session_rules.specs.Turn.{Out}
+use Rattle.session_rules.specs.Words.{Bool, nat_le, if◌then◌else◌, List, [], ◌∷◌, LogoutHeader, Numbers, LogoutResponse}
+use Rattle.session_rules.specs.{Codes.closed, Codes.recovery_not_supported, Codes.time_to_wait, Codes.time_to_retain, Turn.Out}
 
 -- reason 0 closes the session, and 1 its connection, which is its only one
 abbrev pub closes : LogoutHeader → Bool

@@ -1,12 +1,7 @@
 -- NOP-Out and NOP-In (RFC 7143, 11.18 and 11.19).
-use Rattle.std.specs.Prelude.{ℕ, ◌==◌, if◌then◌else◌, List, [], ◌∷◌, min, take}
-use Rattle.iscsi_pdu.specs.declared.header.NopOut.{NopOut as NopOutHeader}
-use Rattle.iscsi_pdu.specs.declared.header.Numbers.{Numbers}
-use Rattle.iscsi_pdu.specs.declared.header.TargetHeader.TheVariants.{NopIn}
-use Rattle.iscsi_pdu.specs.Number.{max_data_segment_length}
-use Rattle.session_rules.specs.declared.lengths.Lengths.{Lengths}
-use Rattle.session_rules.specs.Codes.{reserved_tag, no_transfer_tag}
-use Rattle.session_rules.specs.Turn.{Out}
+use Rattle.session_rules.specs.Words.{ℕ, ◌==◌, if◌then◌else◌, List, [], ◌∷◌, min, take, NopOutHeader, Numbers, NopIn}
+use Rattle.session_rules.specs.Words.{max_data_segment_length, Lengths}
+use Rattle.session_rules.specs.{Codes.reserved_tag, Codes.no_transfer_tag, Turn.Out}
 
 -- the data that came, as much as the initiator takes, and never more than a segment of ours
 abbrev pub echo : Lengths → List ℕ → List ℕ

@@ -1,16 +1,7 @@
 -- A whole session (RFC 7143, 4.2 and 6.3): its login phase, and full feature phase behind it.
-use Rattle.std.specs.Prelude.{◌≡◌, ◌⊎◌, ℕ, true, false, List, [], ◌∷◌, ◌++◌, map, Option, None}
-use Rattle.std.specs.List.{filter_map, flat_map, AllByRecursion}
-use Rattle.login.specs.Request.{kind_in}
-use Rattle.login.specs.declared.status.Kind.{Kind}
-use Rattle.session_rules.specs.declared.end.End.{End}
-use Rattle.session_rules.specs.declared.identity.Identity.{Identity}
-use Rattle.session_rules.specs.declared.opening.Opening.{Opening}
-use Rattle.session_rules.specs.declared.opening.Opening.TheVariants.{Login, FullFeature}
-use Rattle.session_rules.specs.declared.start.Start.{Start}
-use Rattle.session_rules.specs.Asking.{Asking}
-use Rattle.session_rules.specs.Setting.{setting_of}
-use Rattle.session_rules.specs.Turn.{Incoming, Out, Turn}
+use Rattle.session_rules.specs.Words.{◌≡◌, ◌⊎◌, ℕ, true, false, List, [], ◌∷◌, ◌++◌, map, Option, None, filter_map, flat_map}
+use Rattle.session_rules.specs.Words.{AllByRecursion, kind_in, Kind, End, Identity, Opening, Login, FullFeature, Start}
+use Rattle.session_rules.specs.{Asking.Asking, Setting.setting_of, Turn.Incoming, Turn.Out, Turn.Turn}
 use Rattle.session_rules.specs.Legal.{AtEachOf, end_after, Lawful}
 use Rattle.session_rules.specs.LoginPhase.{LoginTurn, login_standing, IsLoginTurn, login_end, begins, IsStart}
 

@@ -1,26 +1,14 @@
 -- What answers a request that is no SCSI Command, and is accepted: a line for each kind.
-use Rattle.std.specs.Prelude.{◌≡◌, ℕ, List, Option}
-use Rattle.iscsi_pdu.specs.declared.header.Header.TheVariants.{Initiator, Target}
-use Rattle.iscsi_pdu.specs.declared.header.InitiatorHeader.TheVariants.{NopOut, ScsiCommand, TaskManagementRequest}
-use Rattle.iscsi_pdu.specs.declared.header.InitiatorHeader.TheVariants.{LoginRequest, TextRequest, DataOut, LogoutRequest}
-use Rattle.iscsi_pdu.specs.declared.header.Numbers.{Numbers}
-use Rattle.session_rules.specs.declared.verdict.Verdict.{Verdict}
-use Rattle.session_rules.specs.declared.verdict.Verdict.TheVariants.{Accepted, Full, Ignored, Gap, Refused}
-use Rattle.session_rules.specs.Asking.{Asking}
-use Rattle.session_rules.specs.Setting.{Setting}
-use Rattle.session_rules.specs.Tasks.{Collecting}
-use Rattle.session_rules.specs.Standing.{Standing}
-use Rattle.session_rules.specs.Turn.{Incoming, pdu, faulty, Out}
-use Rattle.session_rules.specs.Nop.{nop_answer}
-use Rattle.session_rules.specs.Text.{text_outs}
-use Rattle.session_rules.specs.Logout.{logout_answer}
+use Rattle.session_rules.specs.Words.{◌≡◌, ℕ, List, Option, Initiator, Target, NopOut, ScsiCommand, TaskManagementRequest, LoginRequest}
+use Rattle.session_rules.specs.Words.{TextRequest, DataOut, LogoutRequest, Numbers, Verdict, Accepted, Full, Ignored, Gap, Refused}
+use Rattle.session_rules.specs.{Asking.Asking, Setting.Setting, Tasks.Collecting, Standing.Standing, Nop.nop_answer, Text.text_outs}
+use Rattle.session_rules.specs.{Logout.logout_answer, Turn.Incoming, Turn.pdu, Turn.faulty, Turn.Out}
 use Rattle.session_rules.specs.TaskManagement.{IsManaged, management_answer}
 
 -- its one answer, with some numbers, and nothing else; a command and its data have theirs by `answered`, and no other kind is
 -- accepted
 abbrev pub HasItsAnswer : Setting → Standing → Incoming → Option Asking → List Out → Type 0
-HasItsAnswer m s (pdu b (Initiator (NopOut p)) d) call outs =
-    (n : Numbers) × (outs ≡ nop_answer n m.start.lengths p d)
+HasItsAnswer m s (pdu b (Initiator (NopOut p)) d) call outs = (n : Numbers) × (outs ≡ nop_answer n m.start.lengths p d)
 HasItsAnswer m s (pdu b (Initiator (TaskManagementRequest p)) d) call outs =
     (n : Numbers) × (response : Option ℕ) × (kept : List Collecting)
     × IsManaged m.units s.collecting p call response kept × (outs ≡ management_answer n p response)

@@ -1,20 +1,11 @@
 -- The SCSI Response of a command (RFC 7143, 11.4).
-use Rattle.std.specs.Prelude.{◌≡◌, ℕ, ◌<◌, ◌↔◌, List, [], ◌∷◌, ◌++◌, Option, Some, None, IsTrue}
-use Rattle.std.specs.List.{filter_map}
+use Rattle.session_rules.specs.Words.{◌≡◌, ℕ, ◌<◌, ◌↔◌, List, [], ◌∷◌, ◌++◌, Option, Some, None, IsTrue, filter_map, status_code, Sense}
+use Rattle.session_rules.specs.Words.{CommandHeader, ResponseHeader, TargetHeader, ScsiResponse, TargetAnswer, Replied, Outside, Busy}
+use Rattle.session_rules.specs.Words.{Gone}
 use Rattle.scsi_types.specs.Sense.{sense_bytes}
-use Rattle.scsi_types.specs.Status.{status_code}
-use Rattle.scsi_types.specs.declared.sense.Sense.{Sense}
-use Rattle.scsi_types.specs.declared.status.Status.TheVariants as statuses
-use Rattle.iscsi_pdu.specs.declared.header.ScsiCommand.{ScsiCommand as CommandHeader}
-use Rattle.iscsi_pdu.specs.declared.header.ScsiResponse.{ScsiResponse as ResponseHeader}
-use Rattle.iscsi_pdu.specs.declared.header.TargetHeader.{TargetHeader}
-use Rattle.iscsi_pdu.specs.declared.header.TargetHeader.TheVariants.{ScsiResponse}
-use Rattle.session_rules.specs.declared.target.TargetAnswer.{TargetAnswer}
-use Rattle.session_rules.specs.declared.target.TargetAnswer.TheVariants.{Replied, Outside, Busy, Gone}
-use Rattle.session_rules.specs.Codes.{completed, sense_length}
-use Rattle.session_rules.specs.Turn.{Out}
-use Rattle.session_rules.specs.Transfer.{residual_count}
+use Rattle.session_rules.specs.{Codes.completed, Codes.sense_length, Turn.Out, Transfer.residual_count}
 use Rattle.session_rules.specs.Answered.{Outcome, by_target, no_buffer, set_full}
+use Rattle.scsi_types.specs.declared.status.Status.TheVariants as statuses
 
 -- the SCSI Responses that went out, each with its data
 abbrev pub response_with : TargetHeader → List ℕ → Option (ResponseHeader × List ℕ)

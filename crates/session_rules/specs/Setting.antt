@@ -1,10 +1,6 @@
 -- What stays the same over a session.
-use Rattle.std.specs.Prelude.{ℕ, Bool, true, false, List}
-use Rattle.login.specs.Targets.{target_text}
-use Rattle.login.specs.declared.status.Kind.{Kind}
-use Rattle.login.specs.declared.status.Kind.TheVariants.{Normal, Discovery}
-use Rattle.session_rules.specs.declared.identity.Identity.{Identity}
-use Rattle.session_rules.specs.declared.start.Start.{Start}
+use Rattle.session_rules.specs.Words.{ℕ, Bool, true, false, List, Kind, Normal, Identity, Start}
+use Rattle.login.specs.{Targets.target_text, declared.status.Kind.TheVariants.Discovery}
 
 -- how many units the target has, from unit 0 on; the kind of the session; the target's name, and what it tells of itself;
 -- the numbers that the session begins with, and the lengths in force

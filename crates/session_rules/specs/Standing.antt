@@ -1,15 +1,8 @@
 -- What stands behind some turns, as an observer of the wire knows it (RFC 7143, 4.2.2.1): the CmdSN that is expected, the
 -- commands that wait for data, and the Target Transfer Tag of the next R2T. And the window that follows of it.
-use Rattle.std.specs.Prelude.{ℕ, ◌+◌, ◌-◌, ◌%◌, List, length}
-use Rattle.std.specs.List.{count_by}
-use Rattle.iscsi_pdu.specs.declared.header.Numbers.{Numbers}
-use Rattle.session_rules.specs.Setting.{Setting}
-use Rattle.session_rules.specs.declared.window.Window.{Window}
-use Rattle.session_rules.specs.Codes.{window_width}
-use Rattle.session_rules.specs.Turn.{Turn}
-use Rattle.session_rules.specs.Window.{wrap, exp_cmd_sn_after}
-use Rattle.session_rules.specs.Tasks.{Collecting, collecting, r2ts}
-use Rattle.session_rules.specs.Collecting.{shrinks_window}
+use Rattle.session_rules.specs.Words.{ℕ, ◌+◌, ◌-◌, ◌%◌, List, length, count_by, Numbers}
+use Rattle.session_rules.specs.{Setting.Setting, declared.window.Window.Window, Codes.window_width, Turn.Turn, Window.wrap}
+use Rattle.session_rules.specs.{Window.exp_cmd_sn_after, Collecting.shrinks_window, Tasks.Collecting, Tasks.collecting, Tasks.r2ts}
 
 pub record Standing : Type 0 where
   pub exp_cmd_sn : ℕ

@@ -1,23 +1,11 @@
 -- Task management (RFC 7143, 11.5 and 11.6).
-use Rattle.std.specs.Prelude.{◌≡◌, ℕ, not, nat_lt, Bool, if◌then◌else◌, List, [], ◌∷◌, Option, Some, None}
-use Rattle.std.specs.List.{list_any, filter}
-use Rattle.scsi_types.specs.Lun.{NamesUnit}
-use Rattle.iscsi_pdu.specs.declared.header.TaskManagementRequest.{TaskManagementRequest as ManagementHeader}
-use Rattle.iscsi_pdu.specs.declared.header.Numbers.{Numbers}
-use Rattle.iscsi_pdu.specs.declared.header.TargetHeader.TheVariants.{TaskManagementResponse}
-use Rattle.session_rules.specs.declared.target.ResetAnswer.{ResetAnswer}
+use Rattle.session_rules.specs.Words.{◌≡◌, ℕ, not, nat_lt, Bool, if◌then◌else◌, List, [], ◌∷◌, Option, Some, None, list_any, filter}
+use Rattle.session_rules.specs.Words.{NamesUnit, ManagementHeader, Numbers, TaskManagementResponse, ResetAnswer, TaskFunction, AbortTask}
+use Rattle.session_rules.specs.Words.{AbortTaskSet, LogicalUnitReset, TaskReassign, Unserved, Management, Respond, Reset}
+use Rattle.session_rules.specs.{Turn.Out, Asking.Asking, Asking.reset, Tasks.Collecting, Drops.function_of, Drops.drops}
 use Rattle.session_rules.specs.declared.target.ResetAnswer.TheVariants.{Done, Gone, Failed}
-use Rattle.session_rules.specs.declared.task_function.TaskFunction.{TaskFunction}
-use Rattle.session_rules.specs.declared.task_function.TaskFunction.TheVariants.{AbortTask, AbortTaskSet, LogicalUnitReset}
-use Rattle.session_rules.specs.declared.task_function.TaskFunction.TheVariants.{TaskReassign, Unserved}
-use Rattle.session_rules.specs.declared.task_function.Management.{Management}
-use Rattle.session_rules.specs.declared.task_function.Management.TheVariants.{Respond, Reset}
 use Rattle.session_rules.specs.Codes.{function_complete, task_does_not_exist, lun_does_not_exist, reassignment_not_supported}
 use Rattle.session_rules.specs.Codes.{function_not_supported, function_rejected}
-use Rattle.session_rules.specs.Turn.{Out}
-use Rattle.session_rules.specs.Asking.{Asking, reset}
-use Rattle.session_rules.specs.Tasks.{Collecting}
-use Rattle.session_rules.specs.Drops.{function_of, drops}
 
 -- the unit that a LUN names, where it is one of so many
 abbrev pub there : ℕ → Option ℕ → Option ℕ

@@ -1,25 +1,13 @@
 -- The tasks of a session (RFC 7143, 4.4): a SCSI Command that was accepted, at its place, and the turns behind it that
 -- concern it, up to the one that ends it. What a task has collected is read off its own turns.
-use Rattle.std.specs.Prelude.{ℕ, ◌==◌, ◌&&◌, ◌||◌, Bool, true, false, if◌then◌else◌, List, [], ◌∷◌, ◌++◌, length, Option, Some, None}
-use Rattle.std.specs.List.{filter, filter_map, flat_map, cons_option, list_any, last_or}
-use Rattle.iscsi_pdu.specs.declared.header.ScsiCommand.{ScsiCommand as CommandHeader}
-use Rattle.iscsi_pdu.specs.declared.header.DataOut.{DataOut as DataOutHeader}
-use Rattle.iscsi_pdu.specs.declared.header.R2t.{R2t as R2tHeader}
-use Rattle.iscsi_pdu.specs.declared.header.Header.TheVariants.{Initiator, Target}
-use Rattle.iscsi_pdu.specs.declared.header.InitiatorHeader.TheVariants.{NopOut, ScsiCommand, TaskManagementRequest}
-use Rattle.iscsi_pdu.specs.declared.header.InitiatorHeader.TheVariants.{LoginRequest, TextRequest, DataOut, LogoutRequest}
-use Rattle.iscsi_pdu.specs.declared.header.TargetHeader.{TargetHeader}
-use Rattle.iscsi_pdu.specs.declared.header.TargetHeader.TheVariants.{ScsiResponse, R2t}
-use Rattle.session_rules.specs.declared.target.TargetAnswer.{TargetAnswer}
-use Rattle.session_rules.specs.declared.target.TargetAnswer.TheVariants.{Replied, Outside, Busy, Gone}
-use Rattle.session_rules.specs.declared.verdict.Verdict.{Verdict}
-use Rattle.session_rules.specs.declared.verdict.Verdict.TheVariants.{Accepted, Full, Ignored, Gap, Refused}
-use Rattle.session_rules.specs.declared.target.ResetAnswer.{ResetAnswer}
+use Rattle.session_rules.specs.Words.{ℕ, ◌==◌, ◌&&◌, ◌||◌, Bool, true, false, if◌then◌else◌, List, [], ◌∷◌, ◌++◌, length, Option, Some}
+use Rattle.session_rules.specs.Words.{None, filter, filter_map, flat_map, cons_option, list_any, last_or, CommandHeader, DataOutHeader}
+use Rattle.session_rules.specs.Words.{R2tHeader, Initiator, Target, NopOut, ScsiCommand, TaskManagementRequest, LoginRequest, TextRequest}
+use Rattle.session_rules.specs.Words.{DataOut, LogoutRequest, TargetHeader, ScsiResponse, R2t, TargetAnswer, Replied, Outside, Busy, Gone}
+use Rattle.session_rules.specs.Words.{Verdict, Accepted, Full, Ignored, Gap, Refused, ResetAnswer}
+use Rattle.session_rules.specs.{Window.wrap, Drops.drops, Drops.names_one_of, Asking.Asking, Asking.began, Asking.lives, Asking.served}
+use Rattle.session_rules.specs.{Asking.reset, Asking.over, Turn.Incoming, Turn.pdu, Turn.faulty, Turn.Out, Turn.Turn, Turn.sent}
 use Rattle.session_rules.specs.declared.target.ResetAnswer.TheVariants as resets
-use Rattle.session_rules.specs.Asking.{Asking, began, lives, served, reset, over}
-use Rattle.session_rules.specs.Turn.{Incoming, pdu, faulty, Out, Turn, sent}
-use Rattle.session_rules.specs.Window.{wrap}
-use Rattle.session_rules.specs.Drops.{drops, names_one_of}
 
 -- ---- what of a turn concerns a task
 
@@ -124,8 +112,7 @@ begun_by units (Some c) t behind =
 -- the tasks of these turns, in the order in which their commands came, where there are so many units
 abbrev pub tasks : ℕ → List Turn → List Task
 tasks units [] = []
-tasks units (t ∷ behind) =
-    cons_option (begun_by units (accepted_command t.verdict t.came) t behind) (tasks units behind)
+tasks units (t ∷ behind) = cons_option (begun_by units (accepted_command t.verdict t.came) t behind) (tasks units behind)
 
 abbrev pub has_ended : Task → Bool
 has_ended k = list_any ends k.own

@@ -1,14 +1,8 @@
 -- Text Requests (RFC 7143, 11.10 and 11.11): each is whole, and has its one response.
-use Rattle.std.specs.Prelude.{◌≡◌, ℕ, ◌≤◌, min, ◌==◌, ◌||◌, not, nat_lt, Bool, true, false, List, [], ◌∷◌, length}
-use Rattle.login.specs.Text.{pairs}
+use Rattle.session_rules.specs.Words.{◌≡◌, ℕ, ◌≤◌, min, ◌==◌, ◌||◌, not, nat_lt, Bool, true, false, List, [], ◌∷◌, length, pairs}
+use Rattle.session_rules.specs.Words.{TextHeader, Numbers, TextResponse, max_data_segment_length}
 use Rattle.login.specs.Targets.{answers_of, is_bad_request}
-use Rattle.iscsi_pdu.specs.declared.header.TextRequest.{TextRequest as TextHeader}
-use Rattle.iscsi_pdu.specs.declared.header.Numbers.{Numbers}
-use Rattle.iscsi_pdu.specs.declared.header.TargetHeader.TheVariants.{TextResponse}
-use Rattle.session_rules.specs.Codes.{no_transfer_tag}
-use Rattle.iscsi_pdu.specs.Number.{max_data_segment_length}
-use Rattle.session_rules.specs.Setting.{Setting}
-use Rattle.session_rules.specs.Turn.{Out}
+use Rattle.session_rules.specs.{Codes.no_transfer_tag, Setting.Setting, Turn.Out}
 
 -- the answers to the pairs of a text
 abbrev pub text_answer : Setting → List ℕ → List ℕ

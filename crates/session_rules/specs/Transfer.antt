@@ -1,6 +1,5 @@
 -- How much data a command moves, and which (RFC 7143, 11.3.4 and 11.4.5).
-use Rattle.std.specs.Prelude.{ℕ, ◌+◌, ◌-◌, ◌||◌, min, if◌then◌else◌, List, [], take}
-use Rattle.iscsi_pdu.specs.declared.header.ScsiCommand.{ScsiCommand as CommandHeader}
+use Rattle.session_rules.specs.Words.{ℕ, ◌+◌, ◌-◌, ◌||◌, min, if◌then◌else◌, List, [], take, CommandHeader}
 
 -- E, the length that the initiator expects: none where it neither reads nor writes
 abbrev pub expected_transfer : CommandHeader → ℕ

@@ -1,15 +1,7 @@
 -- What passes in full feature phase: a list of turns. A turn is a PDU that came, or a fault, with what it called for.
-use Rattle.std.specs.Prelude.{◌≡◌, ℕ, List, [], ◌∷◌, ◌++◌, take, Option, Some, None}
-use Rattle.std.specs.List.{filter_map, flat_map}
-use Rattle.iscsi_pdu.specs.Pdu.{IsPdu}
-use Rattle.iscsi_pdu.specs.Spelling.{spelling}
-use Rattle.iscsi_pdu.specs.declared.header.Header.{Header}
-use Rattle.iscsi_pdu.specs.declared.header.Header.TheVariants.{Target}
-use Rattle.iscsi_pdu.specs.declared.header.TargetHeader.{TargetHeader}
-use Rattle.iscsi_pdu.specs.declared.fault.PduFault.{PduFault}
+use Rattle.session_rules.specs.Words.{◌≡◌, ℕ, List, [], ◌∷◌, ◌++◌, take, Option, Some, None, filter_map, flat_map, IsPdu, spelling}
+use Rattle.session_rules.specs.Words.{Header, Target, TargetHeader, PduFault, Verdict, bhs_length}
 use Rattle.session_rules.specs.Asking.{Asking}
-use Rattle.session_rules.specs.declared.verdict.Verdict.{Verdict}
-use Rattle.iscsi_pdu.specs.Number.{bhs_length}
 
 -- a PDU: the bytes of its basic header segment (BHS), what they say, and its data; or a fault and the BHS
 pub data Incoming : Type 0 where

@@ -1,26 +1,13 @@
 -- What becomes of a PDU: the command window, and why a PDU is rejected (RFC 7143, 4.2.2.1, 7.3 and 11.17.1).
-use Rattle.std.specs.Prelude.{◌≡◌, ◌⊎◌, ℕ, ◌==◌, ◌&&◌, ◌||◌, nat_lt, Bool, if◌then◌else◌, true, false, List, length, MatchOption}
-use Rattle.std.specs.List.{list_any, find}
-use Rattle.iscsi_pdu.specs.declared.header.ScsiCommand.{ScsiCommand as CommandHeader}
-use Rattle.iscsi_pdu.specs.declared.header.DataOut.{DataOut as DataOutHeader}
-use Rattle.iscsi_pdu.specs.declared.header.Header.{Header}
-use Rattle.iscsi_pdu.specs.declared.header.Header.TheVariants.{Initiator, Target}
-use Rattle.iscsi_pdu.specs.declared.header.InitiatorHeader.TheVariants.{NopOut, ScsiCommand, TaskManagementRequest}
-use Rattle.iscsi_pdu.specs.declared.header.InitiatorHeader.TheVariants.{LoginRequest, TextRequest, DataOut, LogoutRequest}
-use Rattle.iscsi_pdu.specs.declared.fault.PduFault.{PduFault}
+use Rattle.session_rules.specs.Words.{◌≡◌, ◌⊎◌, ℕ, ◌==◌, ◌&&◌, ◌||◌, nat_lt, Bool, if◌then◌else◌, true, false, List, length, MatchOption}
+use Rattle.session_rules.specs.Words.{list_any, find, CommandHeader, DataOutHeader, Header, Initiator, Target, NopOut, ScsiCommand}
+use Rattle.session_rules.specs.Words.{TaskManagementRequest, LoginRequest, TextRequest, DataOut, LogoutRequest, PduFault, Verdict}
+use Rattle.session_rules.specs.Words.{Accepted, Full, Ignored, Gap, Refused, Lengths}
 use Rattle.iscsi_pdu.specs.declared.fault.PduFault.TheVariants.{UnknownOpcode, HasAhs, TooLong, BadFlags, BadReserved, NonZeroPad}
-use Rattle.session_rules.specs.declared.verdict.Verdict.{Verdict}
-use Rattle.session_rules.specs.declared.verdict.Verdict.TheVariants.{Accepted, Full, Ignored, Gap, Refused}
-use Rattle.session_rules.specs.Codes.{reserved_tag, protocol_error, command_not_supported, invalid_pdu_field}
-use Rattle.session_rules.specs.declared.lengths.Lengths.{Lengths}
-use Rattle.session_rules.specs.Turn.{Incoming, pdu, faulty}
-use Rattle.session_rules.specs.Transfer.{expected_transfer}
-use Rattle.session_rules.specs.Setting.{Setting, discovers}
-use Rattle.session_rules.specs.Text.{is_text_refused}
-use Rattle.session_rules.specs.Window.{ahead}
-use Rattle.session_rules.specs.Tasks.{has_tag}
+use Rattle.session_rules.specs.{Turn.Incoming, Turn.pdu, Turn.faulty, Transfer.expected_transfer, Setting.Setting, Setting.discovers}
+use Rattle.session_rules.specs.{Text.is_text_refused, Window.ahead, Tasks.has_tag, Standing.Standing, Standing.window_size}
 use Rattle.session_rules.specs.Collecting.{Continues, is_immediate}
-use Rattle.session_rules.specs.Standing.{Standing, window_size}
+use Rattle.session_rules.specs.Codes.{reserved_tag, protocol_error, command_not_supported, invalid_pdu_field}
 
 -- how much data may come with a command: FirstBurstLength, and none where ImmediateData is No (13.11 and 13.14)
 abbrev pub most_immediate : Lengths → ℕ
@@ -38,8 +25,7 @@ is_refused l s p d =
 -- What becomes of a PDU with this I bit and this CmdSN: outside the window it is ignored, and inside it, but not its
 -- first, it leaves a gap; in its turn it is rejected, if there is a cause, or accepted.
 abbrev pub has_its_turn : Standing → Bool → ℕ → Bool
-has_its_turn s immediate cmd_sn =
-    immediate || ((ahead cmd_sn s.exp_cmd_sn == 0) && nat_lt 0 (window_size s))
+has_its_turn s immediate cmd_sn = immediate || ((ahead cmd_sn s.exp_cmd_sn == 0) && nat_lt 0 (window_size s))
 
 abbrev pub window_verdict : Standing → Bool → ℕ → Bool → Verdict
 window_verdict s immediate cmd_sn refused =
@@ -69,11 +55,9 @@ IsJudgedData s x d v =
 abbrev pub IsJudgedPdu : Setting → Standing → Header → List ℕ → Verdict → Type 0
 IsJudgedPdu m s (Initiator (NopOut p)) d v = v ≡ window_verdict s p.immediate p.numbers.cmd_sn false
 IsJudgedPdu m s (Initiator (ScsiCommand p)) d v = v ≡ verdict_of m s p d
-IsJudgedPdu m s (Initiator (TaskManagementRequest p)) d v =
-    v ≡ window_verdict s p.immediate p.numbers.cmd_sn (discovers m.kind)
+IsJudgedPdu m s (Initiator (TaskManagementRequest p)) d v = v ≡ window_verdict s p.immediate p.numbers.cmd_sn (discovers m.kind)
 IsJudgedPdu m s (Initiator (LoginRequest p)) d v = v ≡ Refused protocol_error
-IsJudgedPdu m s (Initiator (TextRequest p)) d v =
-    v ≡ window_verdict s p.immediate p.numbers.cmd_sn (is_text_refused m p d)
+IsJudgedPdu m s (Initiator (TextRequest p)) d v = v ≡ window_verdict s p.immediate p.numbers.cmd_sn (is_text_refused m p d)
 IsJudgedPdu m s (Initiator (DataOut p)) d v = IsJudgedData s p d v
 IsJudgedPdu m s (Initiator (LogoutRequest p)) d v = v ≡ window_verdict s p.immediate p.numbers.cmd_sn false
 IsJudgedPdu m s (Target p) d v = v ≡ Refused command_not_supported

@@ -1,16 +1,8 @@
 -- The command window and the numbers of a session (RFC 7143, 4.2.2).
-use Rattle.std.specs.Prelude.{ℕ, ◌+◌, ◌-◌, ◌%◌, Bool, false, not, if◌then◌else◌, List}
-use Rattle.std.specs.List.{count_by}
-use Rattle.iscsi_pdu.specs.declared.header.Header.TheVariants.{Initiator, Target}
-use Rattle.iscsi_pdu.specs.declared.header.InitiatorHeader.TheVariants.{NopOut, ScsiCommand, TaskManagementRequest}
-use Rattle.iscsi_pdu.specs.declared.header.InitiatorHeader.TheVariants.{LoginRequest, TextRequest, DataOut, LogoutRequest}
-use Rattle.iscsi_pdu.specs.declared.header.TargetHeader.{TargetHeader}
-use Rattle.iscsi_pdu.specs.declared.header.TargetHeader.TheVariants.{NopIn, ScsiResponse, TaskManagementResponse}
-use Rattle.iscsi_pdu.specs.declared.header.TargetHeader.TheVariants.{LoginResponse, TextResponse, DataIn, LogoutResponse}
-use Rattle.iscsi_pdu.specs.declared.header.TargetHeader.TheVariants.{R2t, Reject}
-use Rattle.iscsi_pdu.specs.declared.header.Numbers.{Numbers}
-use Rattle.session_rules.specs.declared.verdict.Verdict.{Verdict}
-use Rattle.session_rules.specs.declared.verdict.Verdict.TheVariants.{Accepted, Full, Ignored, Gap, Refused}
+use Rattle.session_rules.specs.Words.{ℕ, ◌+◌, ◌-◌, ◌%◌, Bool, false, not, if◌then◌else◌, List, count_by, Initiator, Target, NopOut}
+use Rattle.session_rules.specs.Words.{ScsiCommand, TaskManagementRequest, LoginRequest, TextRequest, DataOut, LogoutRequest, TargetHeader}
+use Rattle.session_rules.specs.Words.{NopIn, ScsiResponse, TaskManagementResponse, LoginResponse, TextResponse, DataIn, LogoutResponse}
+use Rattle.session_rules.specs.Words.{R2t, Reject, Numbers, Verdict, Accepted, Full, Ignored, Gap, Refused}
 use Rattle.session_rules.specs.Turn.{Incoming, pdu, faulty, Turn}
 
 -- numbers count modulo 2^32 (RFC 1982)

@@ -1,14 +1,10 @@
 //! What the facts of a legal login refuse: of short ones that differ, one is legal (RFC 7143).
-ghost use Rattle.std.specs.Prelude.{◌≡◌, ℕ, List, [], ◌∷◌, None, Option};
-ghost use Rattle.session_rules.specs.declared.verdict.Verdict.TheVariants.{Refused};
+ghost use Rattle.session_rules.specs.Words.{◌≡◌, ℕ, List, [], ◌∷◌, None, Option, Refused, Identity, LoginOutcome};
+ghost use Rattle.session_rules.specs.Words.{Opening, InvalidDuringLogin};
 ghost use Rattle.session_rules.specs.Asking.{Asking};
 ghost use Rattle.session_rules.specs.Turn.{Out, Turn};
 ghost use Rattle.session_rules.specs.LoginPhase.{LoginTurn};
 ghost use Rattle.session_rules.specs.Phases.{IsLawful};
-ghost use Rattle.session_rules.specs.declared.identity.Identity.{Identity};
-ghost use Rattle.session_rules.specs.declared.login_outcome.LoginOutcome.{LoginOutcome};
-ghost use Rattle.session_rules.specs.declared.opening.Opening.{Opening};
-ghost use Rattle.login.specs.declared.status.LoginStatus.TheVariants.{InvalidDuringLogin};
 ghost use Rattle.session_rules.specs.Examples.{ping_in_login, login_of, the_refusal, turned_away_in_login};
 
 /// A NOP-Out that comes before the login is over: the target is asked nothing, and one Login Response refuses the login with

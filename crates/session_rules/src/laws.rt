@@ -1,19 +1,11 @@
 //! What follows of a legal transcript, in the words of the protocol (RFC 7143).
-ghost use Rattle.std.specs.Prelude.{◌≡◌, ◌+◌, ◌<◌, ◌≤◌, ℕ, List, [], ◌∷◌, ◌++◌, IsTrue, Some, length, min, slice_get, take};
-ghost use Rattle.login.specs.Table.{own_data_segment};
-ghost use Rattle.iscsi_pdu.specs.Number.{max_data_segment_length, three_at};
-ghost use Rattle.iscsi_pdu.specs.Pdu.{IsPdu};
-ghost use Rattle.iscsi_pdu.specs.Fault.{Stands};
-ghost use Rattle.iscsi_pdu.specs.declared.header.Header.{Header};
+ghost use Rattle.session_rules.specs.Words.{◌≡◌, ◌+◌, ◌<◌, ◌≤◌, ℕ, List, [], ◌∷◌, ◌++◌, IsTrue, Some, length, min};
+ghost use Rattle.session_rules.specs.Words.{slice_get, take, own_data_segment, max_data_segment_length, three_at};
+ghost use Rattle.session_rules.specs.Words.{IsPdu, Stands, Header, CommandHeader, TargetAnswer, Accepted, Full};
+ghost use Rattle.session_rules.specs.Words.{AllByRecursion, Identity, Opening};
 ghost use Rattle.iscsi_pdu.specs.declared.fault.PduFault.TheVariants.{TooLong};
-ghost use Rattle.iscsi_pdu.specs.declared.header.ScsiCommand.{ScsiCommand as CommandHeader};
-ghost use Rattle.session_rules.specs.declared.target.TargetAnswer.{TargetAnswer};
-ghost use Rattle.session_rules.specs.declared.verdict.Verdict.TheVariants.{Accepted, Full};
-ghost use Rattle.std.specs.List.{AllByRecursion};
 ghost use Rattle.session_rules.specs.Setting.{Setting};
 ghost use Rattle.session_rules.specs.Phases.{Transcript, exchanges, outgoing, IsLawful};
-ghost use Rattle.session_rules.specs.declared.identity.Identity.{Identity};
-ghost use Rattle.session_rules.specs.declared.opening.Opening.{Opening};
 ghost use Rattle.session_rules.specs.Turn.{Turn, sent};
 ghost use Rattle.session_rules.specs.Tasks.{tasks};
 ghost use Rattle.session_rules.specs.Window.{wrap};

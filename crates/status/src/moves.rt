@@ -51,7 +51,8 @@ pub(crate) fn join_right<E, S, P: Published<E, S>, J: Origin<S>>(
     keeper: &mut Token<E, S>,
     token: Token<E, S>,
 )
-    requires cell { (keeper.old.table_id ≡ cell.now.table.shared.table_id) × (token.table_id ≡ keeper.old.table_id) × (token.me.1 ≡ []) }
+    requires cell { (keeper.old.table_id ≡ cell.now.table.shared.table_id) × (token.table_id ≡ keeper.old.table_id)
+        × (token.me.1 ≡ []) }
     requires keeper { cell_view keeper.old ≡ publisher J.from (cell_view keeper.old).seen }
     requires token { cell_view token ≡ right (claim_of (cell_view token)) }
     ensures { IsSamePass keeper.old keeper.new
@@ -136,7 +137,8 @@ pub(crate) fn publish_own<
     requires own { IsOwn P.own P.command (cell_view keeper.old).session (M.ask about.now) }
     requires legal { P.legal J.from ((cell_view keeper.old).seen ++ M.ask about.now ∷ []) }
     requires row { row ≡ P.rows J.from ((cell_view keeper.old).seen ++ M.ask about.now ∷ []) }
-    ensures { IsSamePass keeper.old keeper.new × (cell_view keeper.new ≡ holder J.from ((cell_view keeper.old).seen ++ M.ask about.entry.now ∷ [])
+    ensures { IsSamePass keeper.old keeper.new
+        × (cell_view keeper.new ≡ holder J.from ((cell_view keeper.old).seen ++ M.ask about.entry.now ∷ [])
         (record {
           session = (cell_view keeper.old).session;
           count = (cell_view keeper.old).count + 1;
@@ -161,7 +163,8 @@ pub(crate) fn publish_new<
     requires own { IsFree P.own P.command (M.ask about.now) }
     requires legal { P.legal J.from ((cell_view keeper.old).seen ++ M.ask about.now ∷ []) }
     requires row { row ≡ P.rows J.from ((cell_view keeper.old).seen ++ M.ask about.now ∷ []) }
-    ensures { IsSamePass keeper.old keeper.new × (cell_view keeper.new ≡ holder J.from ((cell_view keeper.old).seen ++ M.ask about.entry.now ∷ [])
+    ensures { IsSamePass keeper.old keeper.new
+        × (cell_view keeper.new ≡ holder J.from ((cell_view keeper.old).seen ++ M.ask about.entry.now ∷ [])
         (record { session = length (cell_view keeper.old).seen; count = 0; commands = 0 })) }
 {
     become_as::<E, S, P, Brand, A, M, R>(rt, cell, keeper, row.words(), about);

@@ -87,7 +87,8 @@ pub fn answer<B: Blocks, O: Opener<B>, R: Blocks>(
         (IsFine (choice_of reply (B.contents device.new) control.new.lasting))) }
     ensures lasts { IsTrue B.claims → IfOk result (Lasts (B.contents device.new) (B.may_hold device.new)
         (work_asked asked bytes.now)) }
-    ensures left { IsTrue (O.claims && B.claims) → IfOk result (λ reply. LeavesAmong B.claims_moments B.moment B.left_since B.size B.may_hold
+    ensures left { IsTrue (O.claims && B.claims) → IfOk result (λ reply.
+        LeavesAmong B.claims_moments B.moment B.left_since B.size B.may_hold
         (holds_with (refusal control.old (request sender.session asked bytes.now)) (B.contents device.old)
         (work_asked asked bytes.now) (choice_of reply (B.contents device.new) control.new.lasting)
         (B.may_hold device.old)) device.old device.new) }
@@ -165,7 +166,8 @@ fn serve<B: Blocks, O: Opener<B>, R: Blocks>(
         (IsFine (choice_of reply (B.contents device.new) control.new.lasting))) }
     ensures lasts { IsTrue B.claims → IfOk result (Lasts (B.contents device.new) (B.may_hold device.new)
         (work_of command bytes.now)) }
-    ensures left { IsTrue (O.claims && B.claims) → IfOk result (λ reply. LeavesAmong B.claims_moments B.moment B.left_since B.size B.may_hold
+    ensures left { IsTrue (O.claims && B.claims) → IfOk result (λ reply.
+        LeavesAmong B.claims_moments B.moment B.left_since B.size B.may_hold
         (holds_after (B.contents device.old) (work_of command bytes.now)
         (choice_of reply (B.contents device.new) control.new.lasting) (B.may_hold device.old)) device.old device.new) }
     ensures same { is_medium (work_of command bytes.now) ≡ false → IsTrue O.claims

@@ -197,7 +197,8 @@ impl<B: Blocks, R: Blocks, O: Opener<B>> Unit<B, R, O> {
             (Lasts (B.contents self.new.device) (B.may_hold self.new.device) (work_asked asked bytes.now)) }
         // A crash after it, and a stop anywhere inside it, leaves each block with a value that it might have left before, or,
         // in a range that the command wrote, with the new block.
-        ensures left { IsTrue (O.claims && B.claims) → OnReply result (λ reply. LeavesAmong B.claims_moments B.moment B.left_since B.size B.may_hold
+        ensures left { IsTrue (O.claims && B.claims) → OnReply result (λ reply.
+            LeavesAmong B.claims_moments B.moment B.left_since B.size B.may_hold
             (holds_with (refusal self.old.control (request session asked bytes.now)) (B.contents self.old.device)
             (work_asked asked bytes.now)
             (choice_of reply (B.contents self.new.device) self.new.control.lasting) (B.may_hold self.old.device))

@@ -1,15 +1,8 @@
 -- How a session keeps the commands that wait for data.
-use Rattle.std.specs.Prelude.{◌≡◌, ℕ, ◌+◌, ◌-◌, ◌≤◌, min, Some, IsTrue, List, ◌∷◌, ◌++◌, length, Result}
-use Rattle.scsi_types.specs.Cdb.{Means, need_of}
-use Rattle.scsi_types.specs.declared.command.Command.{Command}
-use Rattle.scsi_types.specs.declared.command.CdbFault.{CdbFault}
-use Rattle.iscsi_pdu.specs.declared.header.ScsiCommand.{ScsiCommand as CommandHeader}
-use Rattle.iscsi_pdu.specs.declared.header.R2t.{R2t as R2tHeader}
-use Rattle.waiting_commands.specs.declared.collecting.R2tWith.{R2tWith}
-use Rattle.waiting_commands.specs.declared.collecting.Collected.{Collected}
-use Rattle.session_rules.specs.Window.{wrap}
-use Rattle.session_rules.specs.Transfer.{data_for}
-use Rattle.session_rules.specs.Tasks.{Collecting}
+use Rattle.session_rules.specs.Words.{◌≡◌, ℕ, ◌+◌, ◌-◌, ◌≤◌, min, Some, IsTrue, List, ◌∷◌, ◌++◌, length, Result, Means, need_of, Command}
+use Rattle.session_rules.specs.Words.{CdbFault, CommandHeader, R2tHeader}
+use Rattle.waiting_commands.specs.declared.collecting.{R2tWith.R2tWith, Collected.Collected}
+use Rattle.session_rules.specs.{Window.wrap, Transfer.data_for, Tasks.Collecting}
 
 -- the one thing that the command's CDB asks for
 pub record IsAskedBy (p : CommandHeader) (asked : Result Command CdbFault) : Type 0 where

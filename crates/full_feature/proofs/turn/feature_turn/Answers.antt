@@ -1,34 +1,51 @@
-use Rattle.std.proofs.Common.{ℕ, List, Some, refl, sym, ap, subst, ◌∙◌}
-use Rattle.full_feature.specs.declared.actions.Actions.TheVariants.{Send}
-use Rattle.full_feature.specs.declared.actions.Call.{Call}
-use Rattle.session_rules.specs.Asking.{served}
-use Rattle.full_feature.specs.Counters.{Counters}
-use Rattle.full_feature.specs.Machine.{OnAnswer, call_of}
-use Rattle.full_feature.proofs.Turns.{alone, called, on_same, was_reset}
+use Rattle.std.proofs.Common.{ℕ, List, Some, None, refl, ap, subst, ◌∙◌}
+use Rattle.full_feature.specs.declared.actions.Actions.TheVariants.{Send, Ask}
+use Rattle.full_feature.specs.declared.actions.Call.TheVariants.{Serve, Reset}
+use Rattle.full_feature.specs.Step.{call_data, step_of}
+use Rattle.full_feature.proofs.Turns.{turn_of, outs_so, end_so, run_said, end_said}
+use Rattle.session_rules.specs.{Asking.served, Asking.reset, Turn.pdu}
 use Rattle.full_feature.proofs.turn.feature_turn.Goals as goal
 
 pub returns-in-Send-clause-turn : goal.returns-in-Send-clause-turn
 returns-in-Send-clause-turn g c =
-    alone g.T.Target.leads _ _ _ _ _ _ _ _ _ c.args.bhs.now
-    (Send c.in-Send.sending) c.fill.ensures.queued c.args.pdu.now.header c.args.pdu.now.data.now
-    (on_same _ _ _ _ _ _ c.in-Send.is c.on_pdu-actions.ensures.on) refl
+    let x = c.in-Send.sending in
+    let on = rw c.in-Send.is at c.on_pdu-actions.ensures.on in
+    turn_of g.T.Target.leads _ _ _ _ _ _ _ _ _ _ _ (pdu c.args.bhs.now c.args.pdu.now.header c.args.pdu.now.data.now)
+    on.verdict (step_of (Send x)) None _ x.end on.judged on.made
+    (run_said c.args.bhs.now x.pdus x.end _) refl c.fill.ensures.queued (end_said x.pdus x.end)
 
 pub returns-in-Serve-clause-turn : goal.returns-in-Serve-clause-turn
 returns-in-Serve-clause-turn g c =
-    called g.T.Target.leads _ _ _ _ _ _ _ _ _ _ _ c.args.bhs.now c.on_pdu-actions.result (Send c.on_answer-answered.result)
-    c.in-Serve.call c.serve-answer.result c.fill-in-Serve.ensures.queued (ap call_of c.in-Ask.is
-    ∙ ap (λ (k : Call). Some k) c.in-Serve.is)
+    let call = c.in-Serve.call in
+    let x = c.on_answer-answered.result in
+    let k = c.on_answer-answered.ensures.answered in
+    let on = rw (c.in-Ask.is ∙ ap Ask c.in-Serve.is) at c.on_pdu-actions.ensures.on in
+    turn_of g.T.Target.leads _ _ _ _ _ _ _ _ _ _ _ (pdu c.args.bhs.now c.args.pdu.now.header c.args.pdu.now.data.now)
+    on.verdict (step_of (Ask (Serve call))) (Some (served call.unit call.asked (call_data call.bytes) c.serve-answer.result))
+    _ x.end on.judged on.made (
+      c.serve-answer.result,
+      record {
+        call_is = refl;
+        sent_is = outs_so c.args.bhs.now x.pdus x.end _ _ c.on_pdu-actions.new.self k.step_is;
+        next_is = c.keep.ensures ∙ k.next_is;
+      },
+    )
     (subst (λ (b : List ℕ). g.T.Target.leads c.args.target.now
-    (served c.in-Serve.call.unit c.in-Serve.call.asked b c.serve-answer.result) c.serve-answer.new.self)
-    c.bytes.ensures c.serve-answer.ensures)
-    c.args.pdu.now.header c.args.pdu.now.data.now c.on_pdu-actions.ensures.on
-    (subst (λ (s : Counters). OnAnswer c.on_pdu-actions.new.self c.in-Serve.call.task.command c.in-Serve.call.task.need
-    c.serve-answer.result (Send c.on_answer-answered.result) s) (sym c.keep.ensures) c.on_answer-answered.ensures.answered)
+    (served call.unit call.asked b c.serve-answer.result) c.serve-answer.new.self) c.bytes.ensures c.serve-answer.ensures)
+    c.fill-in-Serve.ensures.queued (end_so x.pdus x.end _ _ k.step_is)
 
 pub returns-in-Reset-clause-turn : goal.returns-in-Reset-clause-turn
 returns-in-Reset-clause-turn g c =
-    was_reset g.T.Target.leads _ _ _ _ _ _ _ _ _ _ _ c.args.bhs.now c.on_pdu-actions.result (Send c.on_reset-answered.result)
-    c.in-Reset.call c.reset-answer.result c.fill-in-Reset.ensures.queued (ap call_of c.in-Ask.is
-    ∙ ap (λ (k : Call). Some k) c.in-Reset.is)
-    c.reset-answer.ensures c.on_reset-answered.ensures.on
-    c.args.pdu.now.header c.args.pdu.now.data.now c.on_pdu-actions.ensures.on
+    let call = c.in-Reset.call in
+    let x = c.on_reset-answered.result in
+    let k = c.on_reset-answered.ensures.on in
+    let on = rw (c.in-Ask.is ∙ ap Ask c.in-Reset.is) at c.on_pdu-actions.ensures.on in
+    turn_of g.T.Target.leads _ _ _ _ _ _ _ _ _ _ _ (pdu c.args.bhs.now c.args.pdu.now.header c.args.pdu.now.data.now)
+    on.verdict (step_of (Ask (Reset call))) (Some (reset call.unit c.reset-answer.result)) _ x.end on.judged on.made (
+      c.reset-answer.result,
+      record {
+        call_is = refl;
+        sent_is = outs_so c.args.bhs.now x.pdus x.end _ _ c.on_pdu-actions.new.self k.step_is;
+        next_is = k.next_is;
+      },
+    ) c.reset-answer.ensures c.fill-in-Reset.ensures.queued (end_so x.pdus x.end _ _ k.step_is)

@@ -1,5 +1,5 @@
 use Rattle.std.proofs.Common.{◌+◌, ap, refl, arith}
-use Rattle.pdu_stream.proofs.Rows.{counts_on}
+use Rattle.pdu_stream.proofs.Segments.{counts_on}
 use Rattle.pdu_stream.proofs.data_in.count.Goals as goal
 
 pub loop-offset-preserved : goal.loop-offset-preserved

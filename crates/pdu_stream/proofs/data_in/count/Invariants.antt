@@ -1,6 +1,5 @@
 use Rattle.std.proofs.Common.{◌≤◌, ◌-◌, length}
-use Rattle.pdu_stream.specs.Pdus.{data_ins_of}
-use Rattle.pdu_stream.proofs.Rows.{CountsTo}
+use Rattle.pdu_stream.{specs.Pdus.data_ins_of, proofs.Segments.CountsTo}
 use Rattle.pdu_stream.proofs.data_in.count.Given as goal
 
 abbrev pub invariant-loop-offset : goal.invariant-loop-offset

@@ -1,9 +1,8 @@
-use Rattle.std.proofs.Common.{◌≡◌, ◌<◌, ◌≤◌, ◌+◌, ℕ, List, Option, Result, Ok, Err, IfOk, length, take, drop, arith, length-take-le, length-take, length-drop}
+use Rattle.std.proofs.Common.{◌≡◌, ◌<◌, ◌≤◌, ◌+◌, ℕ, List, Option, Result, Ok, Err, IfOk, length, take, drop, arith, length-take-le}
+use Rattle.std.proofs.Common.{length-take, length-drop}
 use Rattle.std.specs.Io.KnownBytes.{Consumes, IsAtEnd}
+use Rattle.pdu_stream.{specs.declared.source.Failed.Failed, specs.Inbox.Filled, proofs.Lists.grown_behind}
 use borrow.Rule.Slice.PartMut.{put_mid, post_of}
-use Rattle.pdu_stream.specs.declared.source.Failed.{Failed}
-use Rattle.pdu_stream.specs.Inbox.{Filled}
-use Rattle.pdu_stream.proofs.Lists.{grown_behind}
 use Rattle.pdu_stream.proofs.inbox.read_behind.Goals as goal
 
 filled_behind : (left left' : Option (List ℕ)) (xs part : List ℕ) (start filled k : ℕ) (r : Result ℕ Failed)

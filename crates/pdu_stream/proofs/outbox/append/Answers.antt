@@ -1,6 +1,5 @@
 use Rattle.std.proofs.Common.{ap, length, arith, length-append}
-use Rattle.iscsi_pdu.specs.Spelling.{spelling}
-use Rattle.iscsi_pdu.specs.declared.header.Header.TheVariants.{Target}
+use Rattle.session_rules.specs.Words.{spelling, Target}
 use Rattle.pdu_stream.proofs.outbox.append.Goals as goal
 
 pub returns-clause-long : goal.returns-clause-long
@@ -9,7 +8,6 @@ returns-clause-long c =
     omega (
       arith,
       grown,
-      length-append c.args.bytes.now.items
-          (spelling (Target c.args.header) c.args.segment.now),
+      length-append c.args.bytes.now.items (spelling (Target c.args.header) c.args.segment.now),
       c.in-Ok.ensures.size,
     )

@@ -1,5 +1,5 @@
 use Rattle.std.proofs.Common.{refl, arith, length-take-le}
-use Rattle.iscsi_pdu.specs.declared.TheConstants.{BHS_LENGTH}
+use Rattle.session_rules.specs.Words.{BHS_LENGTH}
 use Rattle.pdu_stream.proofs.waiting.front_of.Goals as goal
 
 pub returns-in-Ok-Some : goal.returns-in-Ok-Some
@@ -8,7 +8,6 @@ returns-in-Ok-Some c =
     record {
       bhs_is = refl;
       long = length-take-le BHS_LENGTH c.args.bytes.now (omega arith);
-      within =
-          found.0;
+      within = found.0;
       spelled = found.1;
     }

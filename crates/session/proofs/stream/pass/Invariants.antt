@@ -1,12 +1,8 @@
-use Rattle.std.proofs.Common.{◌≡◌, ◌+◌, ◌-◌, ◌*◌, ◌<◌, ◌≤◌, ℕ, false, vec_capacity, length}
-use Rattle.session_rules.specs.declared.text.TheConstants.{LONGEST_TEXT}
-use Rattle.pdu_stream.specs.declared.inbox.TheConstants.{INBOX_CAPACITY}
-use Rattle.pdu_stream.specs.declared.outbox.TheConstants.{ENOUGH_TO_WRITE}
-use Rattle.session_rules.specs.declared.identity.Identity.{Identity}
-use Rattle.session_rules.specs.declared.opening.Opening.{Opening}
+use Rattle.std.proofs.Common.{◌≡◌, ◌+◌, ◌-◌, ◌*◌, ◌<◌, ◌≤◌, ℕ, None, false, vec_capacity, length}
+use Rattle.session_rules.specs.declared.{text.TheConstants.LONGEST_TEXT, identity.Identity.Identity, opening.Opening.Opening}
 use Rattle.session_rules.specs.Ends.{most_bytes}
-use Rattle.session.specs.Stream.{OpensWith, IsFresh}
-use Rattle.session.proofs.Running.{Running}
+use Rattle.pdu_stream.specs.declared.{inbox.TheConstants.INBOX_CAPACITY, outbox.TheConstants.ENOUGH_TO_WRITE}
+use Rattle.session.{specs.Stream.OpensWith, specs.Stream.IsFresh, proofs.Running.Running}
 use Rattle.session.proofs.stream.pass.Given as goal
 
 abbrev pub invariant-loop-reads : goal.invariant-loop-reads
@@ -14,7 +10,7 @@ invariant-loop-reads g l = record {
   running : (units : ℕ) (me : Identity) (opening : Opening) → OpensWith units me opening l.fn.phases
       → Running g.T.Target.leads units me opening (g.S.Source.left l.fn.source) (g.S.Source.left l.source)
       (g.K.Sink.held l.fn.sink) (g.K.Sink.held l.sink)
-      (g.K.Sink.failures l.fn.sink) (g.K.Sink.failures l.sink) l.outbox l.fn.target l.target l.phases l.inbox l.reads;
+      (g.K.Sink.failures l.fn.sink) (g.K.Sink.failures l.sink) l.outbox l.fn.target l.target l.phases l.inbox l.reads None;
   fresh : IsFresh l.phases;
   room : LONGEST_TEXT ≤ vec_capacity l.room;
   serves : l.outbox.failed ≡ false;

@@ -1,7 +1,6 @@
 use Rattle.std.proofs.Common.{refl, ◌∙◌, ap}
+use Rattle.session_rules.specs.Words.{answer_to, after, LoginFlags}
 use Rattle.byteorder.specs.Endian.{big_number}
-use Rattle.login.specs.Request.{answer_to, after}
-use Rattle.login.specs.declared.status.LoginFlags.{LoginFlags}
 use Rattle.login_side.proofs.LoginTurns.{accepted, named, port_with}
 use Rattle.login_side.proofs.login_phase.LoginPhase.negotiate.Goals as goal
 

@@ -1,6 +1,5 @@
 use Rattle.std.proofs.Common.{◌+◌, ap, refl, arith}
-use Rattle.pdu_stream.specs.Pdus.{data_in_out}
-use Rattle.pdu_stream.proofs.Rows.{queues_none, queues_on, queues_all}
+use Rattle.pdu_stream.{specs.Pdus.data_in_out, proofs.Segments.queues_none, proofs.Segments.queues_on, proofs.Segments.queues_all}
 use Rattle.pdu_stream.proofs.outbox.Outbox.put_data_ins.Goals as goal
 
 pub loop-offset-init : goal.loop-offset-init

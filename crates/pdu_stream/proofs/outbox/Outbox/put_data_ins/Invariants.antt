@@ -1,5 +1,5 @@
 use Rattle.std.proofs.Common.{◌≤◌, ◌-◌, length}
-use Rattle.pdu_stream.proofs.Rows.{QueuesTo}
+use Rattle.pdu_stream.proofs.Segments.{QueuesTo}
 use Rattle.pdu_stream.proofs.outbox.Outbox.put_data_ins.Given as goal
 
 abbrev pub invariant-loop-offset : goal.invariant-loop-offset

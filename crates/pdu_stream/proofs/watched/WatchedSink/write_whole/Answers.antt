@@ -1,10 +1,10 @@
 use Rattle.std.proofs.Common.{◌≡◌, ℕ, ◌+◌, ◌-◌, ◌++◌, List, Option, length, take, drop, arith, sym, ap, subst, ◌∙◌}
 use Rattle.std.proofs.lemmas.List.{take_rest}
 use Rattle.std.proofs.Math.Seq.{take-add}
-use Rattle.std.specs.Io.KnownBytes.{Appends}
 use Rattle.std.proofs.KnownBytes.{Appends-trans, Appends-kept}
-use Rattle.pdu_stream.proofs.watched.WatchedSink.write_whole.Goals as goal
+use Rattle.std.specs.Io.KnownBytes.{Appends}
 use Rattle.pdu_stream.proofs.watched.WatchedSink.write_whole.Goals.{in-Ok, in-Err+else-ne}
+use Rattle.pdu_stream.proofs.watched.WatchedSink.write_whole.Goals as goal
 
 -- the bytes written so far, and then n bytes of the rest
 sent_grows : (old mid new : Option (List ℕ)) (bytes : List ℕ) (sent n total : ℕ) → total ≡ sent + n
@@ -22,8 +22,7 @@ loop-preserved g c =
     elim c.match-write.branch [
       | in-Ok w ↦ record {
         in_range = omega (arith, w.in-Ok.ensures.bound);
-        written =
-            sent_grows _ _ _ c.args.bytes.now c.loop.sent w.in-Ok.n _ w.sent-is before.written w.in-Ok.ensures.bytes;
+        written = sent_grows _ _ _ c.args.bytes.now c.loop.sent w.in-Ok.n _ w.sent-is before.written w.in-Ok.ensures.bytes;
         count = before.count;
       }
       | in-Err+else-ne w ↦ record {

@@ -1,12 +1,9 @@
 use Rattle.std.proofs.Common.{refl}
-use Rattle.session.proofs.PhaseTurns.{by_turn, rejects}
+use Rattle.session.proofs.Exchanges.{by_turn, by_login}
 use Rattle.session.proofs.phases.Phases.fault.Goals as goal
 
 pub returns-in-None : goal.returns-in-None
-returns-in-None g c =
-    rw (← c.self.view_is) (by_turn g.T.Target.leads _ _ _ _ _ _ _ _ _ _ _ _ _ c.in-None.is c.fault_turn.ensures)
+returns-in-None g c = rw (← c.self.view_is) (by_turn c.in-None.is c.fault_turn.ensures)
 
 pub returns-in-Some : goal.returns-in-Some
-returns-in-Some g c =
-    rw (← c.self.view_is, c.in-Some.is)
-    (rejects g.T.Target.leads _ _ _ _ _ _ _ _ _ _ _ _ _ _ c.login_fault_turn.ensures _ refl refl)
+returns-in-Some g c = rw (← c.self.view_is, c.in-Some.is) (by_login c.login_fault_turn.ensures refl _ refl refl)

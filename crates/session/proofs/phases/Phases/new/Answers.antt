@@ -1,5 +1,5 @@
 use Rattle.std.proofs.Common.{ap, Some}
-use Rattle.login.specs.declared.status.Kind.TheVariants.{Normal}
+use Rattle.session_rules.specs.Words.{Normal}
 use Rattle.session_rules.specs.LoginPhase.{LoginStanding}
 use Rattle.session.proofs.phases.Phases.new.Goals as goal
 

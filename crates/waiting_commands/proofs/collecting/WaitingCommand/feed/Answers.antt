@@ -6,6 +6,5 @@ use Rattle.waiting_commands.proofs.collecting.WaitingCommand.feed.Goals as goal
 pub returns-clause-asked : goal.returns-clause-asked
 returns-clause-asked c = (
   c.self.inside.asked,
-  subst (λ (k : Collecting). IsAskedBy k.command c.self.inside.asked) c.self.view_is
-      c.self.invariant.asked_by,
+  subst (λ (k : Collecting). IsAskedBy k.command c.self.inside.asked) c.self.view_is c.self.invariant.asked_by,
 )

@@ -1,8 +1,7 @@
 use Rattle.std.proofs.Common.{◌∙◌, List, not, ap, rules}
-use Rattle.std.specs.List.{filter}
 use Rattle.std.proofs.lemmas.Fn.{filter_same}
-use Rattle.session_rules.specs.Tasks.{Collecting}
-use Rattle.session_rules.specs.Drops.{drops}
+use Rattle.session_rules.specs.Words.{filter}
+use Rattle.session_rules.specs.{Tasks.Collecting, Drops.drops}
 use Rattle.waiting_commands.proofs.collecting.WaitingCommands.drop_by.Goals as goal
 
 pub returns-clause-kept : goal.returns-clause-kept

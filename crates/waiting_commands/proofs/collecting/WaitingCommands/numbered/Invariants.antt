@@ -1,5 +1,4 @@
-use Rattle.std.proofs.Common.{◌≡◌, ◌≤◌, take}
-use Rattle.std.specs.List.{count_by}
+use Rattle.session_rules.specs.Words.{◌≡◌, ◌≤◌, take, count_by}
 use Rattle.session_rules.specs.Collecting.{shrinks_window}
 use Rattle.waiting_commands.proofs.collecting.WaitingCommands.numbered.Given as goal
 

@@ -1,5 +1,4 @@
-use Rattle.std.proofs.Common.{◌≡◌, false, take}
-use Rattle.std.specs.List.{list_any}
+use Rattle.session_rules.specs.Words.{◌≡◌, false, take, list_any}
 use Rattle.session_rules.specs.Tasks.{has_tag}
 use Rattle.waiting_commands.proofs.collecting.WaitingCommands.position.Given as goal
 

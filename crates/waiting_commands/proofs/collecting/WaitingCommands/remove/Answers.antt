@@ -1,7 +1,6 @@
 use Rattle.std.proofs.Common.{List, sym, subst}
 use Rattle.session_rules.specs.Tasks.{Collecting}
-use Rattle.waiting_commands.specs.Slots.{IsRemoved}
-use Rattle.waiting_commands.proofs.Places.{removed_at}
+use Rattle.waiting_commands.{specs.Slots.IsRemoved, proofs.Places.removed_at}
 use Rattle.waiting_commands.proofs.collecting.WaitingCommands.remove.Goals as goal
 
 pub returns-clause-removed : goal.returns-clause-removed
