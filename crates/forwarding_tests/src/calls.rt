@@ -51,8 +51,9 @@ pub fn submit<'a, N: Array<Opened>, W: Wait>(
     match desk.submit(rt, alloc, pass, asked, bytes) {
         Ok(ticket) => Ok(ticket),
         Err((fault, pass)) => {
-            let is_same =
-                pass.place() == place && pass.session() == session && pass.serial() == serial;
+            let is_same = pass.place() == place
+                && pass.session() == session
+                && pass.serial() == serial;
             Err(is_same.then_some(fault))
         }
     }

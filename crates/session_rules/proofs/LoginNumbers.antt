@@ -54,8 +54,12 @@ module _ (target : List ℕ) (tag : ℕ) where
   login_count before (l ∷ ls) ns each behind =
       let all : (before ++ l ∷ []) ++ ls ≡ before ++ l ∷ ls = append_assoc before (l ∷ []) ls in
       rw (first_out before l ls each) (counts_one (1 + length before) (status_numbers (login_sent ls) ++ ns)
-      (λ k n e. omega (arith, login_count (before ++ l ∷ []) ls ns (subst AreTurns (sym all) each)
-      (subst (λ (z : List LoginTurn). CountsFrom (1 + length z) ns) (sym all) behind) k n e, length-append before (l ∷ []))))
+      (λ k n e. omega (
+        arith,
+        login_count (before ++ l ∷ []) ls ns (subst AreTurns (sym all) each)
+            (subst (λ (z : List LoginTurn). CountsFrom (1 + length z) ns) (sym all) behind) k n e,
+        length-append before (l ∷ []),
+      )))
 
 -- ---- both phases
 
