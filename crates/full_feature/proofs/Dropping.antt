@@ -1,9 +1,9 @@
 -- What a request for task management drops.
-use Rattle.std.proofs.Common.{◌≡◌, ℕ, Bool, true, false, not, List, [], ◌∷◌, Option, Some, None, inl, inr, refl, sym, ap, ◌∙◌}
+use Rattle.std.proofs.Common.{◌==◌, ◌&&◌, ◌||◌, if◌then◌else◌, ◌≡◌, ℕ, Bool, true, false, not, List, [], ◌∷◌, Option, Some, None, inl, inr}
+use Rattle.std.proofs.Common.{refl, sym, ap, ◌∙◌}
 use Rattle.std.proofs.Math.Bool.{and-false, and-true}
 use Rattle.std.proofs.lemmas.{Bool.eqb-true, Slice.Eq.bytes_eq-Decides}
-use Rattle.session_rules.specs.Words.{◌==◌, ◌&&◌, ◌||◌, nat_lt, bytes_eq, slice_index, is_some, if◌then◌else◌, filter, NamesUnit}
-use Rattle.session_rules.specs.Words.{ManagementHeader, Numbers}
+use Rattle.session_rules.specs.Words.{nat_lt, bytes_eq, slice_index, is_some, filter, NamesUnit, ManagementHeader, Numbers}
 use Rattle.scsi_types.specs.Lun.{IsLunOf}
 use Rattle.session_rules.specs.{declared.task_function.Management.Management, Drops.drops, Drops.names_one_of}
 use Rattle.session_rules.specs.Tasks.{Collecting, r2ts_of}

@@ -1,11 +1,11 @@
 -- What is judged of a turn holds of each turn that the session makes.
-use Rattle.std.proofs.Common.{not, ◌++◌, ◌≡◌, ℕ, ◌<◌, ◌↔◌, Bool, true, false, List, [], ◌∷◌, Option, Some, None, length, refl, sym, ap}
-use Rattle.std.proofs.Common.{ap₂, ◌∙◌, inl, inr, IsTrue, Result, nat_lt, if◌then◌else◌, take}
+use Rattle.std.proofs.Common.{◌==◌, not, ◌++◌, ◌≡◌, ℕ, ◌<◌, ◌↔◌, Bool, true, false, List, [], ◌∷◌, Option, Some, None, length, refl, sym}
+use Rattle.std.proofs.Common.{ap, ap₂, ◌∙◌, inl, inr, IsTrue, Result, nat_lt, if◌then◌else◌, take}
 use Rattle.std.proofs.Math.Seq.{take-nil}
 use Rattle.std.proofs.lemmas.Bool.{ltb-true, lt-ltb}
 use Rattle.session_rules.specs.Words.{AllByRecursion, list_any, find, option_map, Means, need_of, Command, CdbFault, Sense, CommandHeader}
 use Rattle.session_rules.specs.Words.{DataOutHeader, R2tHeader, ResponseHeader, Numbers, Header, Initiator, NopOut, ScsiCommand, DataOut}
-use Rattle.session_rules.specs.Words.{TaskManagementRequest, TextRequest, LogoutRequest, R2t, Reject, ManagementHeader, ◌==◌, status_code}
+use Rattle.session_rules.specs.Words.{TaskManagementRequest, TextRequest, LogoutRequest, R2t, Reject, ManagementHeader, status_code}
 use Rattle.scsi_types.specs.declared.status.Status.{Status}
 use Rattle.full_feature.specs.{declared.response.Completion.Completion, Step.Step, Step.Runs, Step.IsRun}
 use Rattle.full_feature.specs.Counters.{Counters, after_status, after_collecting, after_r2t, after_reply, next_numbers, after_number}

@@ -1,10 +1,10 @@
 -- What a turn makes of the tasks: as the session made it.
-use Rattle.std.proofs.Common.{◌≡◌, ℕ, ◌+◌, ◌<◌, Bool, true, false, List, [], ◌∷◌, ◌++◌, Option, Some, None, map, length, refl}
-use Rattle.std.proofs.Common.{arith, sym, ap, subst, ◌∙◌, inl, inr}
+use Rattle.std.proofs.Common.{◌==◌, ◌||◌, if◌then◌else◌, ◌≡◌, ℕ, ◌+◌, ◌<◌, Bool, true, false, List, [], ◌∷◌, ◌++◌, Option, Some, None, map}
+use Rattle.std.proofs.Common.{length, refl, arith, sym, ap, subst, ◌∙◌, inl, inr}
 use Rattle.std.proofs.lemmas.{Bool.eqb-true, List.append-nil}
-use Rattle.session_rules.specs.Words.{◌==◌, ◌||◌, if◌then◌else◌, Result, nat_lt, list_any, find, option_to_list, Means, Command}
-use Rattle.session_rules.specs.Words.{CdbFault, CommandHeader, Initiator, NopOut, ScsiCommand, DataOut, TaskManagementRequest}
-use Rattle.session_rules.specs.Words.{TextRequest, LogoutRequest, Header, ManagementHeader}
+use Rattle.session_rules.specs.Words.{Result, nat_lt, list_any, find, option_to_list, Means, Command, CdbFault, CommandHeader, Initiator}
+use Rattle.session_rules.specs.Words.{NopOut, ScsiCommand, DataOut, TaskManagementRequest, TextRequest, LogoutRequest, Header}
+use Rattle.session_rules.specs.Words.{ManagementHeader}
 use Rattle.session_rules.specs.{Collecting.Continues, Asking.Asking, Turn.Incoming, Turn.pdu, Turn.Out, Turn.Turn}
 use Rattle.session_rules.specs.{Setting.Setting, Setting.discovers, Standing.Standing, Transfer.expected_transfer, Nop.nop_answer}
 use Rattle.session_rules.specs.{Legal.bhs_of, TaskManagement.management_answer, TaskManagement.reset_response}

@@ -1,6 +1,7 @@
 -- What is judged of a turn, and that it holds of each turn of a request that is no SCSI Command.
-use Rattle.std.proofs.Common.{◌≡◌, ◌⊎◌, ℕ, ◌+◌, ◌%◌, Bool, true, false, not, List, [], ◌∷◌, Option, Some, None, refl, inl, inr}
-use Rattle.session_rules.specs.Words.{if◌then◌else◌, Initiator, TaskManagementRequest, ManagementHeader, R2tHeader}
+use Rattle.std.proofs.Common.{if◌then◌else◌, ◌≡◌, ◌⊎◌, ℕ, ◌+◌, ◌%◌, Bool, true, false, not, List, [], ◌∷◌, Option, Some, None, refl, inl}
+use Rattle.std.proofs.Common.{inr}
+use Rattle.session_rules.specs.Words.{Initiator, TaskManagementRequest, ManagementHeader, R2tHeader}
 use Rattle.session_rules.specs.{Asking.Asking, Turn.Incoming, Turn.pdu, Turn.Out, Tasks.Collecting, Tasks.r2t_with, Tasks.r2ts_of}
 use Rattle.session_rules.specs.{Requests.IsRequestAnswered, Verdict.IsJudged, Response.response_with, Response.responses}
 use Rattle.session_rules.specs.{DataIn.data_in_with, DataIn.data_ins}

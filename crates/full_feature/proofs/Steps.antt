@@ -1,11 +1,10 @@
 -- What a turn makes of the one task that it touches.
-use Rattle.std.proofs.Common.{◌≡◌, ◌⊎◌, ℕ, ◌+◌, ◌-◌, ◌<◌, ◌≤◌, min, Bool, true, false, IsTrue, List, [], ◌∷◌, ◌++◌}
+use Rattle.std.proofs.Common.{◌||◌, if◌then◌else◌, ◌≡◌, ◌⊎◌, ℕ, ◌+◌, ◌-◌, ◌<◌, ◌≤◌, min, Bool, true, false, IsTrue, List, [], ◌∷◌, ◌++◌}
 use Rattle.std.proofs.Common.{Option, Some, None, length, refl, sym, ap, subst, ◌∙◌, inl, inr, arith, length-append, append_assoc}
 use Rattle.std.proofs.lemmas.{Grind.flat_map-append}
 use Rattle.std.proofs.lemmas.List.{append-nil, Elements.filter_map-append, Folds.list_any-append}
-use Rattle.session_rules.specs.Words.{slice_get, ◌||◌, if◌then◌else◌, Result, last_or, flat_map, list_any, cons_option}
-use Rattle.session_rules.specs.Words.{Means, need_of, Command, CdbFault, CommandHeader, DataOutHeader, R2tHeader, R2t, Initiator}
-use Rattle.session_rules.specs.Words.{ScsiCommand, DataOut, NamesUnit}
+use Rattle.session_rules.specs.Words.{slice_get, Result, last_or, flat_map, list_any, cons_option, Means, need_of, Command, CdbFault}
+use Rattle.session_rules.specs.Words.{CommandHeader, DataOutHeader, R2tHeader, R2t, Initiator, ScsiCommand, DataOut, NamesUnit}
 use Rattle.session_rules.specs.{Asking.Asking, Asking.served, Transfer.data_for}
 use Rattle.session_rules.specs.{Turn.Incoming, Turn.pdu, Turn.Out, Turn.Turn, Turn.sent, Window.wrap}
 use Rattle.session_rules.specs.declared.verdict.Verdict.{Verdict, TheVariants.Accepted}

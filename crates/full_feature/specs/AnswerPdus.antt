@@ -1,6 +1,6 @@
 -- The PDUs of an answer: its Data-In, and the SCSI Response.
-use Rattle.session_rules.specs.Words.{ℕ, nat_lt, List, [], ◌∷◌, ◌++◌, length, None, status_code, CommandHeader, ResponseHeader}
-use Rattle.session_rules.specs.Words.{Numbers, ScsiResponse}
+use Rattle.std.specs.Prelude.{◌∷◌, ◌++◌}
+use Rattle.session_rules.specs.Words.{ℕ, nat_lt, List, [], length, None, status_code, CommandHeader, ResponseHeader, Numbers, ScsiResponse}
 use Rattle.full_feature.specs.{declared.response.Completion.Completion, Counters.Counters}
 use Rattle.session_rules.specs.{Codes.completed, Turn.Out, Response.sense_part, Standing.numbers_at}
 use Rattle.session_rules.specs.declared.target.TargetAnswer.{TargetAnswer}

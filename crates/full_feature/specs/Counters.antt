@@ -1,5 +1,6 @@
 -- What a session keeps between two turns.
-use Rattle.session_rules.specs.Words.{ℕ, ◌+◌, ◌%◌, Bool, List, [], ◌∷◌, CommandHeader, Numbers}
+use Rattle.std.specs.Prelude.{◌+◌, ◌%◌, ◌∷◌}
+use Rattle.session_rules.specs.Words.{ℕ, Bool, List, [], CommandHeader, Numbers}
 use Rattle.session_rules.specs.{Setting.Setting, Turn.Out, Window.wrap, Window.exp_cmd_sn_behind, Tasks.Collecting}
 use Rattle.session_rules.specs.declared.target.TargetAnswer.{TargetAnswer}
 use Rattle.session_rules.specs.declared.target.TargetAnswer.TheVariants.{Replied, Outside, Busy, Gone}

@@ -1,8 +1,8 @@
 -- What a session makes of a PDU, of a fault and of an answer: a step, and its counters behind it.
-use Rattle.session_rules.specs.Words.{find, ◌≡◌, ℕ, ◌+◌, ◌<◌, ◌≤◌, Result, length, if◌then◌else◌, List, [], ◌∷◌, ◌++◌, Option}
-use Rattle.session_rules.specs.Words.{Some, None, Means, need_of, NamesUnit, Command, CdbFault, CommandHeader, NopOutHeader}
-use Rattle.session_rules.specs.Words.{DataOutHeader, R2tHeader, ManagementHeader, TextHeader, LogoutHeader, Header, Initiator}
-use Rattle.session_rules.specs.Words.{NopOut, ScsiCommand, DataOut, TaskManagementRequest, TextRequest, LogoutRequest}
+use Rattle.std.specs.Prelude.{◌≡◌, ◌+◌, ◌<◌, ◌≤◌, if◌then◌else◌, ◌∷◌, ◌++◌}
+use Rattle.session_rules.specs.Words.{find, ℕ, Result, length, List, [], Option, Some, None, Means, need_of, NamesUnit, Command, CdbFault}
+use Rattle.session_rules.specs.Words.{CommandHeader, NopOutHeader, DataOutHeader, R2tHeader, ManagementHeader, TextHeader, LogoutHeader}
+use Rattle.session_rules.specs.Words.{Header, Initiator, NopOut, ScsiCommand, DataOut, TaskManagementRequest, TextRequest, LogoutRequest}
 use Rattle.session_rules.specs.{Turn.Incoming, Turn.pdu, Turn.faulty, Turn.Out, Window.wrap, Tasks.Collecting, Tasks.has_tag}
 use Rattle.session_rules.specs.{Collecting.HasToCollect, Collecting.IsNext, Collecting.Continues, Standing.numbers_for}
 use Rattle.session_rules.specs.{Verdict.IsJudgedPdu, Transfer.data_for, Nop.nop_answer, Text.text_outs, Text.IsMadeOf}

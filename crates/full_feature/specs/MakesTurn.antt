@@ -1,5 +1,6 @@
 -- What one turn of full feature phase is, and what it makes of session, target and outbox.
-use Rattle.session_rules.specs.Words.{◌≡◌, ℕ, List, Option}
+use Rattle.std.specs.Prelude.{◌≡◌}
+use Rattle.session_rules.specs.Words.{ℕ, List, Option}
 use Rattle.session_rules.specs.{declared.end.End.End, Asking.Asking, Verdict.IsJudged, Legal.end_after, Legal.bhs_of}
 use Rattle.session_rules.specs.Turn.{Incoming, Turn, bytes_of, IsLed}
 use Rattle.full_feature.specs.{Counters.Counters, Step.Step, Step.Runs, Machine.OnIncoming}

@@ -1,6 +1,7 @@
 -- What a PDU calls for, as data, and what becomes of it with the target's answer.
-use Rattle.session_rules.specs.Words.{◌≡◌, ℕ, List, [], ◌∷◌, Option, Some, None, Result, Command, CdbFault, CommandHeader}
-use Rattle.session_rules.specs.Words.{R2tHeader, ManagementHeader, R2t, Reject}
+use Rattle.std.specs.Prelude.{◌≡◌, ◌∷◌}
+use Rattle.session_rules.specs.Words.{ℕ, List, [], Option, Some, None, Result, Command, CdbFault, CommandHeader, R2tHeader}
+use Rattle.session_rules.specs.Words.{ManagementHeader, R2t, Reject}
 use Rattle.iscsi_pdu.specs.declared.header.Reject.{Reject as RejectHeader}
 use Rattle.full_feature.specs.declared.actions.Actions.{Actions, TheVariants.Send, TheVariants.Ask}
 use Rattle.full_feature.specs.declared.actions.CommandData.{CommandData, TheVariants.Came, TheVariants.Gathered}

@@ -1,5 +1,6 @@
 -- What the login phase of a session keeps between what a PDU comes to and what goes out.
-use Rattle.session_rules.specs.Words.{◌≡◌, ℕ, List, Option, Header, Initiator, LoginRequest, Progress, Ending, answer_to}
+use Rattle.std.specs.Prelude.{◌≡◌}
+use Rattle.session_rules.specs.Words.{ℕ, List, Option, Header, Initiator, LoginRequest, Progress, Ending, answer_to}
 use Rattle.session_rules.specs.{Asking.Asking, Turn.Incoming, Turn.bytes_of, Turn.IsLed}
 use Rattle.session_rules.specs.declared.login_outcome.LoginOutcome.{LoginOutcome}
 use Rattle.session_rules.specs.declared.login_outcome.LoginOutcome.TheVariants.{GoesOn, Begun, Refused, Rejected}

@@ -1,5 +1,6 @@
 -- What stands at the front of bytes.
-use Rattle.session_rules.specs.Words.{◌≡◌, ℕ, ◌<◌, ◌≤◌, List, length, take, IsPdu, Stands, PduFault, bhs_length}
+use Rattle.std.specs.Prelude.{◌≡◌, ◌<◌, ◌≤◌}
+use Rattle.session_rules.specs.Words.{ℕ, List, length, take, IsPdu, Stands, PduFault, bhs_length}
 use Rattle.iscsi_pdu.specs.declared.{header.Pdu.Pdu, TheConstants.LONGEST_PDU}
 use Rattle.session_rules.specs.Ends.{NoneWhole}
 use Rattle.pdu_stream.specs.declared.waiting.Front.{Front, TheVariants.Whole, TheVariants.Faulty, TheVariants.Partial}

@@ -1,6 +1,7 @@
 -- What one read puts behind the bytes that wait.
 use Rattle.std.specs.Io.KnownBytes.{Consumes, IsAtEnd}
-use Rattle.session_rules.specs.Words.{◌≡◌, ℕ, ◌≤◌, List, ◌++◌, length, Option}
+use Rattle.std.specs.Prelude.{◌≡◌, ◌≤◌, ◌++◌}
+use Rattle.session_rules.specs.Words.{ℕ, List, length, Option}
 use Rattle.pdu_stream.specs.declared.inbox.TheConstants.{INBOX_CAPACITY}
 
 -- n bytes more wait, which the source gave; none come only at its end

@@ -1,6 +1,7 @@
 -- What is written of the bytes that are to go out, and what waits.
 use Rattle.std.specs.Io.KnownBytes.{Appends}
-use Rattle.session_rules.specs.Words.{◌≡◌, ◌⊎◌, ℕ, ◌≤◌, Bool, true, false, List, ◌++◌, length, Option}
+use Rattle.std.specs.Prelude.{◌≡◌, ◌⊎◌, ◌≤◌, ◌++◌}
+use Rattle.session_rules.specs.Words.{ℕ, Bool, true, false, List, length, Option}
 use Rattle.session_rules.specs.declared.end.End.{End, TheVariants.OutputFailed}
 use Rattle.pdu_stream.specs.Source.{AppendsFrom, Rises}
 

@@ -1,6 +1,7 @@
 -- The PDUs that go out: the Data-In of a read among them.
-use Rattle.session_rules.specs.Words.{ℕ, zero, suc, ◌+◌, ◌≤◌, ◌==◌, nat_lt, Bool, true, false, List, [], ◌∷◌, ◌++◌, length, take, drop}
-use Rattle.session_rules.specs.Words.{Option, Some, None, Numbers, ScsiResponse, DataIn, R2t, Reject, max_data_segment_length}
+use Rattle.std.specs.Prelude.{◌+◌, ◌≤◌, ◌==◌, ◌∷◌, ◌++◌}
+use Rattle.session_rules.specs.Words.{ℕ, zero, suc, nat_lt, Bool, true, false, List, [], length, take, drop, Option, Some, None, Numbers}
+use Rattle.session_rules.specs.Words.{ScsiResponse, DataIn, R2t, Reject, max_data_segment_length}
 use Rattle.pdu_stream.specs.declared.pdus.{Pdus.Pdus, DataInPdu.DataInPdu, DataIns.DataIns, ResponsePdu.ResponsePdu}
 use Rattle.session_rules.specs.{declared.lengths.Lengths.Lengths, Codes.no_transfer_tag, Turn.Out, Response.sense_part}
 use Rattle.session_rules.specs.DataIn.{left_of_run, segment_size}

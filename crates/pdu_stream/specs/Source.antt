@@ -1,6 +1,7 @@
 -- Readers and writers that count their failures.
 use Rattle.std.specs.Io.KnownBytes.{Appends}
-use Rattle.session_rules.specs.Words.{◌≡◌, ℕ, ◌<◌, ◌≤◌, List, length, Option, take, Result, Ok, Err}
+use Rattle.std.specs.Prelude.{◌≡◌, ◌<◌, ◌≤◌}
+use Rattle.session_rules.specs.Words.{ℕ, List, length, Option, take, Result, Ok, Err}
 
 -- where a count of failures ends: there it stays, and says nothing any more
 abbrev pub last_failure : ℕ

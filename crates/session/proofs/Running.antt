@@ -1,11 +1,12 @@
 -- What is known between two turns of a session, and how a turn, a read and an end carry it on.
-use Rattle.std.proofs.Common.{Bool, true, false, ◌≡◌, ◌⊎◌, ℕ, ◌+◌, ◌<◌, ◌≤◌, List, [], ◌∷◌, ◌++◌, Option, Some, None, length, take, drop}
-use Rattle.std.proofs.Common.{refl, sym, ap, subst, ◌∙◌, arith, inl, inr, append_assoc, length-append, length-take-le, length-take}
+use Rattle.std.proofs.Common.{if◌then◌else◌, Bool, true, false, ◌≡◌, ◌⊎◌, ℕ, ◌+◌, ◌<◌, ◌≤◌, List, [], ◌∷◌, ◌++◌, Option, Some, None, length}
+use Rattle.std.proofs.Common.{take, drop, refl, sym, ap, subst, ◌∙◌, arith, inl, inr, append_assoc, length-append, length-take-le}
+use Rattle.std.proofs.Common.{length-take}
 use Rattle.std.proofs.lemmas.{List.append-nil, List.nil_from_length, List.take-append-drop, List.map-append, List.take-take}
 use Rattle.std.proofs.lemmas.{List.Elements.filter_map-append, Grind.flat_map-append}
 use Rattle.std.proofs.KnownBytes.{Appends-nil, Consumes-trans, Consumes-kept, Consumes-nil}
 use Rattle.std.specs.Io.KnownBytes.{Keeps, Appends, Consumes, IsAtEnd}
-use Rattle.session_rules.specs.Words.{if◌then◌else◌, cons_option, Initiator, LogoutRequest, PduFault, BHS_LENGTH}
+use Rattle.session_rules.specs.Words.{cons_option, Initiator, LogoutRequest, PduFault, BHS_LENGTH}
 use Rattle.iscsi_pdu.specs.declared.header.Pdu.{Pdu}
 use Rattle.session_rules.specs.{Logout.closes as closes_session, Asking.Asking, Asking.served, Asking.reset, Legal.end_of_call}
 use Rattle.session_rules.specs.{Legal.end_after, LoginPhase.LoginStanding, LoginPhase.login_end}

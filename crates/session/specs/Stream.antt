@@ -1,5 +1,6 @@
 -- What one turn makes of session, target and sink.
-use Rattle.session_rules.specs.Words.{◌≡◌, ◌<◌, ℕ, Bool, [], false, true, List, Option, Some, None, IfSome, MatchOption, kind_in, Kind}
+use Rattle.std.specs.Prelude.{◌≡◌, ◌<◌}
+use Rattle.session_rules.specs.Words.{ℕ, Bool, [], false, true, List, Option, Some, None, IfSome, MatchOption, kind_in, Kind}
 use Rattle.session_rules.specs.{Asking.Asking, Setting.setting_of, Phases.Exchange, Phases.of_login, Phases.of_turn}
 use Rattle.session_rules.specs.declared.{end.End.End, identity.Identity.Identity, start.Start.Start}
 use Rattle.session_rules.specs.declared.opening.Opening.{Opening, TheVariants.Login, TheVariants.FullFeature}

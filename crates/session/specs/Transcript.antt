@@ -1,6 +1,7 @@
 -- Bytes to bytes: what a session makes of a stream.
 use Rattle.std.specs.Io.KnownBytes.{Appends, Consumes, IsAtEnd}
-use Rattle.session_rules.specs.Words.{◌≡◌, ℕ, ◌+◌, ◌<◌, ◌≤◌, List, [], ◌∷◌, ◌++◌, length, take, Option}
+use Rattle.std.specs.Prelude.{◌≡◌, ◌+◌, ◌<◌, ◌≤◌, ◌∷◌, ◌++◌}
+use Rattle.session_rules.specs.Words.{ℕ, List, [], length, take, Option}
 use Rattle.session_rules.specs.{Asking.Asking, Asking.over, Turn.bytes_of, Turn.Spells, Turn.Leads, Ends.EndsBy}
 use Rattle.session_rules.specs.declared.{identity.Identity.Identity, opening.Opening.Opening}
 use Rattle.session_rules.specs.declared.end.End.{End, TheVariants.EndOfInput, TheVariants.InputFailed, TheVariants.OutputFailed}

@@ -1,9 +1,9 @@
 -- The StatSNs of a whole session.
-use Rattle.std.proofs.Common.{ap₂, refl, sym, ap, subst, ◌∙◌, arith, inl, inr, append_assoc, length-append}
+use Rattle.std.proofs.Common.{◌≡◌, ◌⊎◌, ◌+◌, ◌∷◌, ◌++◌, ap₂, refl, sym, ap, subst, ◌∙◌, arith, inl, inr, append_assoc, length-append}
 use Rattle.std.proofs.lemmas.{List.Elements.filter_map-append, List.Folds.flat_map-map, Grind.flat_map-append}
 use Rattle.std.proofs.Math.Nat.{mod-add-mod}
-use Rattle.session_rules.specs.Words.{◌≡◌, ◌⊎◌, ℕ, zero, suc, ◌+◌, List, [], ◌∷◌, ◌++◌, Option, Some, length, map, slice_get, flat_map}
-use Rattle.session_rules.specs.Words.{Initiator, LoginRequest, Numbers, Progress, Identity, LoginOutcome, Login}
+use Rattle.session_rules.specs.Words.{ℕ, zero, suc, List, [], Option, Some, length, map, slice_get, flat_map, Initiator, LoginRequest}
+use Rattle.session_rules.specs.Words.{Numbers, Progress, Identity, LoginOutcome, Login}
 use Rattle.session_rules.specs.{Asking.Asking, Window.wrap, Legal.AtEachOf, Legal.status_number, Legal.status_numbers}
 use Rattle.session_rules.specs.declared.login_outcome.LoginOutcome.TheVariants.{GoesOn, Begun, Refused, Rejected}
 use Rattle.session_rules.specs.Turn.{Incoming, pdu, Out, Turn, sent}

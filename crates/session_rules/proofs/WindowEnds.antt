@@ -1,13 +1,15 @@
 -- The end of the window never falls.
 use Rattle.std.proofs.Common.{◌≡◌, ℕ, ◌+◌, ◌-◌, ◌<◌, ◌≤◌, Bool, true, false, not, List, [], ◌∷◌, ◌++◌, Option, Some, None, map, refl, ap}
 use Rattle.std.proofs.Common.{◌∙◌, ◌↔◌, ◌⊎◌, inl, inr, subst, sym, append_assoc, arith, cond, ◌==◌, ◌&&◌, ◌||◌, nat_lt, if◌then◌else◌}
-use Rattle.std.proofs.lemmas.{List.append-nil, List.Sums.sum_by-append, List.Elements.filter_map-append, Bool.ltb-true, Bool.ltb-false, Bool.eqb-true}
+use Rattle.std.proofs.lemmas.{List.append-nil, List.Sums.sum_by-append, List.Elements.filter_map-append}
+use Rattle.std.proofs.lemmas.Bool.{ltb-true, ltb-false, eqb-true}
 use Rattle.session_rules.specs.Words.{filter, filter_map, cons_option, count_by, list_any, option_to_list, CommandHeader, Initiator}
 use Rattle.session_rules.specs.Words.{NopOut, ScsiCommand, TaskManagementRequest, TextRequest, LogoutRequest, Verdict, Accepted, Ignored}
 use Rattle.session_rules.specs.Words.{Gap, Refused}
 use Rattle.session_rules.proofs.Tasks.{count_append, last_task, with_turn, extended_by, extended, tasks_more}
 use Rattle.session_rules.specs.{Setting.Setting, Setting.discovers, Text.is_text_refused, Turn.Incoming, Turn.pdu, Turn.Out, Turn.Turn}
-use Rattle.session_rules.specs.{Window.wrap, Window.ahead, Window.takes_number, Window.is_numbered, Collecting.shrinks_window, Collecting.is_immediate}
+use Rattle.session_rules.specs.{Window.wrap, Window.ahead, Window.takes_number, Window.is_numbered}
+use Rattle.session_rules.specs.Collecting.{shrinks_window, is_immediate}
 use Rattle.session_rules.specs.{Legal.AtEach, Legal.HaveWindow, Legal.Lawful, Tasks.touches, Tasks.ends, Tasks.through, Tasks.Task}
 use Rattle.session_rules.specs.{Tasks.accepted_command, Tasks.begun_by, Tasks.tasks, Tasks.has_ended, Tasks.Collecting, Tasks.collected}
 use Rattle.session_rules.specs.{Tasks.collecting_of, Verdict.IsJudged, Verdict.window_verdict, Verdict.is_refused, Verdict.unless_full}

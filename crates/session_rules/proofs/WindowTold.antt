@@ -1,9 +1,9 @@
 -- A numbered PDU is ignored just outside the window that the PDUs before it told.
-use Rattle.std.proofs.Common.{◌≡◌, ℕ, ◌+◌, ◌-◌, ◌<◌, ◌≤◌, ◌↔◌, Bool, true, false, List, [], ◌∷◌, ◌++◌, Some, None, refl, sym, ap, subst}
-use Rattle.std.proofs.Common.{◌∙◌, arith, append_assoc, inl, inr}
+use Rattle.std.proofs.Common.{◌==◌, ◌&&◌, ◌||◌, if◌then◌else◌, ◌≡◌, ℕ, ◌+◌, ◌-◌, ◌<◌, ◌≤◌, ◌↔◌, Bool, true, false, List, [], ◌∷◌, ◌++◌}
+use Rattle.std.proofs.Common.{Some, None, refl, sym, ap, subst, ◌∙◌, arith, append_assoc, inl, inr}
 use Rattle.std.proofs.lemmas.Bool.{ltb-true, ltb-false, eqb-true}
-use Rattle.session_rules.specs.Words.{◌==◌, ◌&&◌, ◌||◌, nat_lt, if◌then◌else◌, list_any, Numbers, Initiator, NopOut, ScsiCommand}
-use Rattle.session_rules.specs.Words.{TaskManagementRequest, TextRequest, LogoutRequest, Verdict, Accepted, Ignored, Gap, Refused}
+use Rattle.session_rules.specs.Words.{nat_lt, list_any, Numbers, Initiator, NopOut, ScsiCommand, TaskManagementRequest, TextRequest}
+use Rattle.session_rules.specs.Words.{LogoutRequest, Verdict, Accepted, Ignored, Gap, Refused}
 use Rattle.session_rules.specs.{Setting.Setting, Setting.discovers, Text.is_text_refused, Window.wrap, Window.ahead, Window.numbers_of}
 use Rattle.session_rules.specs.{Collecting.is_immediate, Legal.IsWindow, Legal.HaveWindow, Legal.Lawful, Turn.Incoming, Turn.pdu}
 use Rattle.session_rules.specs.{Turn.Out, Turn.Turn, Verdict.IsJudged, Verdict.window_verdict, Verdict.is_refused}

@@ -1,8 +1,9 @@
 -- How a command is answered in a turn (RFC 7143, 4.4).
-use Rattle.session_rules.specs.Words.{◌≡◌, ℕ, if◌then◌else◌, List, [], length, Option, Some, None, Result, list_any, find, option_map}
-use Rattle.session_rules.specs.Words.{need_of, Command, CdbFault, CommandHeader, Initiator, Target, NopOut, ScsiCommand}
-use Rattle.session_rules.specs.Words.{TaskManagementRequest, LoginRequest, TextRequest, DataOut, LogoutRequest, TargetAnswer, Replied}
-use Rattle.session_rules.specs.Words.{Outside, Busy, Gone, Verdict, Accepted, Full, Ignored, Gap, Refused}
+use Rattle.std.specs.Prelude.{◌≡◌, if◌then◌else◌}
+use Rattle.session_rules.specs.Words.{ℕ, List, [], length, Option, Some, None, Result, list_any, find, option_map, need_of, Command}
+use Rattle.session_rules.specs.Words.{CdbFault, CommandHeader, Initiator, Target, NopOut, ScsiCommand, TaskManagementRequest, LoginRequest}
+use Rattle.session_rules.specs.Words.{TextRequest, DataOut, LogoutRequest, TargetAnswer, Replied, Outside, Busy, Gone, Verdict, Accepted}
+use Rattle.session_rules.specs.Words.{Full, Ignored, Gap, Refused}
 use Rattle.session_rules.specs.{Setting.Setting, TaskManagement.IsManaged, Turn.Incoming, Turn.pdu, Turn.faulty, Turn.Out}
 use Rattle.session_rules.specs.{Transfer.transfer_of, Tasks.Collecting, Tasks.is_response, Tasks.has_tag, Standing.Standing}
 use Rattle.session_rules.specs.Asking.{Asking, began, lives, served, reset, over}

@@ -1,8 +1,8 @@
 -- How the data of a command is collected (RFC 7143, 4.2.4.2, 11.7 and 11.8): its immediate data, then by R2T.
 use Rattle.std.specs.List.{slice_get}
-use Rattle.session_rules.specs.Words.{◌≡◌, ℕ, ◌+◌, ◌-◌, ◌<◌, ◌≤◌, min, Bool, true, false, not, IsTrue, List, [], ◌∷◌, length, take}
-use Rattle.session_rules.specs.Words.{Option, Some, Result, sum_by, Means, need_of, NamesUnit, Command, CdbFault, CommandHeader}
-use Rattle.session_rules.specs.Words.{DataOutHeader, R2tHeader, TargetAnswer}
+use Rattle.std.specs.Prelude.{◌≡◌, ◌+◌, ◌-◌, ◌<◌, ◌≤◌, ◌∷◌}
+use Rattle.session_rules.specs.Words.{ℕ, min, Bool, true, false, not, IsTrue, List, [], length, take, Option, Some, Result, sum_by, Means}
+use Rattle.session_rules.specs.Words.{need_of, NamesUnit, Command, CdbFault, CommandHeader, DataOutHeader, R2tHeader, TargetAnswer}
 use Rattle.session_rules.specs.{Asking.Asking, Asking.served, Transfer.data_for, Window.wrap}
 use Rattle.session_rules.specs.Tasks.{Task, Collecting, has_ended, was_dropped, gathered, r2ts, command_calls}
 

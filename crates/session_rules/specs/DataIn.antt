@@ -1,7 +1,7 @@
 -- The Data-In PDUs of a read (RFC 7143, 11.7).
-use Rattle.session_rules.specs.Words.{◌≡◌, ℕ, ◌-◌, ◌%◌, ◌<◌, ◌↔◌, min, List, length, take, Option, Some, None, IsTrue, slice_get}
-use Rattle.session_rules.specs.Words.{filter_map, flat_map, CommandHeader, DataInHeader, TargetHeader, DataIn, max_data_segment_length}
-use Rattle.session_rules.specs.Words.{Lengths}
+use Rattle.std.specs.Prelude.{◌≡◌, ◌-◌, ◌%◌, ◌<◌, ◌↔◌}
+use Rattle.session_rules.specs.Words.{ℕ, min, List, length, take, Option, Some, None, IsTrue, slice_get, filter_map, flat_map}
+use Rattle.session_rules.specs.Words.{CommandHeader, DataInHeader, TargetHeader, DataIn, max_data_segment_length, Lengths}
 use Rattle.session_rules.specs.{Codes.no_transfer_tag, Turn.Out}
 
 -- the Data-In PDUs that went out, each with its data

@@ -1,7 +1,7 @@
 -- Which tasks a task management function drops (RFC 7143, 11.5.1).
-use Rattle.session_rules.specs.Words.{ℕ, ◌==◌, ◌&&◌, ◌||◌, nat_lt, bytes_eq, drop, slice_index, Bool, false, if◌then◌else◌, List, [], ◌∷◌}
-use Rattle.session_rules.specs.Words.{CommandHeader, ManagementHeader, TaskFunction, AbortTask, AbortTaskSet, LogicalUnitReset}
-use Rattle.session_rules.specs.Words.{TaskReassign, Unserved}
+use Rattle.std.specs.Prelude.{◌==◌, ◌&&◌, ◌||◌, if◌then◌else◌, ◌∷◌}
+use Rattle.session_rules.specs.Words.{ℕ, nat_lt, bytes_eq, drop, slice_index, Bool, false, List, [], CommandHeader, ManagementHeader}
+use Rattle.session_rules.specs.Words.{TaskFunction, AbortTask, AbortTaskSet, LogicalUnitReset, TaskReassign, Unserved}
 
 -- the functions by their numbers (11.5.1)
 abbrev pub function_of : ℕ → TaskFunction

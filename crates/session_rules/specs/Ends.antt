@@ -1,6 +1,7 @@
 -- How a session ends, and what stood at the front of what was read then (RFC 7143, 7.3).
-use Rattle.session_rules.specs.Words.{◌≡◌, ◌⊎◌, ℕ, ◌<◌, ◌≤◌, List, [], ◌∷◌, ◌++◌, length, take, Option, Some, IsPdu, Stands, Header}
-use Rattle.session_rules.specs.Words.{PduFault, bhs_length, End, EndOfInput, InputFailed, OutputFailed, Protocol, Reinstated, LoggedOut}
+use Rattle.std.specs.Prelude.{◌≡◌, ◌⊎◌, ◌<◌, ◌≤◌, ◌∷◌, ◌++◌}
+use Rattle.session_rules.specs.Words.{ℕ, List, [], length, take, Option, Some, IsPdu, Stands, Header, PduFault, bhs_length, End, EndOfInput}
+use Rattle.session_rules.specs.Words.{InputFailed, OutputFailed, Protocol, Reinstated, LoggedOut}
 use Rattle.session_rules.specs.{Turn.Incoming, Turn.pdu, Turn.faulty, Phases.Exchange, Phases.NoneEnds}
 
 -- no PDU and no fault with its whole header segment stands at the front of these bytes

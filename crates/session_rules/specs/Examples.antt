@@ -1,10 +1,11 @@
 -- Short transcripts that differ in one thing or another, of which one is legal: so each fact of a legal transcript refuses
 -- something.
-use Rattle.session_rules.specs.Words.{ℕ, Bool, true, false, List, [], ◌∷◌, Option, Some, None, Result, good, Command, CdbFault}
-use Rattle.session_rules.specs.Words.{CommandNumbers, Numbers, Header, InitiatorHeader, Initiator, NopOut, ScsiCommand, DataOut}
-use Rattle.session_rules.specs.Words.{LogoutRequest, TargetHeader, NopIn, ScsiResponse, LoginResponse, DataIn, LogoutResponse, R2t}
-use Rattle.session_rules.specs.Words.{Reject, CommandHeader, DataOutHeader, DataInHeader, ResponseHeader, R2tHeader, Normal}
-use Rattle.session_rules.specs.Words.{InvalidDuringLogin, LoginOutcome, Replied, Verdict, Accepted}
+use Rattle.std.specs.Prelude.{◌∷◌}
+use Rattle.session_rules.specs.Words.{ℕ, Bool, true, false, List, [], Option, Some, None, Result, good, Command, CdbFault, CommandNumbers}
+use Rattle.session_rules.specs.Words.{Numbers, Header, InitiatorHeader, Initiator, NopOut, ScsiCommand, DataOut, LogoutRequest}
+use Rattle.session_rules.specs.Words.{TargetHeader, NopIn, ScsiResponse, LoginResponse, DataIn, LogoutResponse, R2t, Reject, CommandHeader}
+use Rattle.session_rules.specs.Words.{DataOutHeader, DataInHeader, ResponseHeader, R2tHeader, Normal, InvalidDuringLogin, LoginOutcome}
+use Rattle.session_rules.specs.Words.{Replied, Verdict, Accepted}
 use Rattle.session_rules.specs.{declared.login_outcome.LoginOutcome.TheVariants.Refused, Asking.Asking, Asking.served}
 use Rattle.session_rules.specs.{Codes.no_transfer_tag, Lengths.default_lengths, LoginPhase.LoginTurn, Phases.Transcript, Setting.Setting}
 use Rattle.session_rules.specs.Turn.{Incoming, pdu, Out, Turn}

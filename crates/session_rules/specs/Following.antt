@@ -1,8 +1,8 @@
 -- Words for what follows of a legal transcript.
-use Rattle.session_rules.specs.Words.{◌≡◌, ℕ, ◌+◌, ◌-◌, ◌<◌, ◌↔◌, Bool, true, false, List, [], Some, None, Option, Result, AllByRecursion}
-use Rattle.session_rules.specs.Words.{count_by, Initiator, Target, Numbers, NopOut, ScsiCommand, TaskManagementRequest, LoginRequest}
-use Rattle.session_rules.specs.Words.{TextRequest, DataOut, LogoutRequest, CommandHeader, Accepted, Ignored, Command, CdbFault}
-use Rattle.session_rules.specs.Words.{TargetAnswer}
+use Rattle.std.specs.Prelude.{◌≡◌, ◌+◌, ◌-◌, ◌<◌, ◌↔◌}
+use Rattle.session_rules.specs.Words.{ℕ, Bool, true, false, List, [], Some, None, Option, Result, AllByRecursion, count_by, Initiator}
+use Rattle.session_rules.specs.Words.{Target, Numbers, NopOut, ScsiCommand, TaskManagementRequest, LoginRequest, TextRequest, DataOut}
+use Rattle.session_rules.specs.Words.{LogoutRequest, CommandHeader, Accepted, Ignored, Command, CdbFault, TargetAnswer}
 use Rattle.session_rules.specs.{Asking.served, Turn.Incoming, Turn.Out, Turn.Turn, Turn.pdu, Turn.faulty, Collecting.shrinks_window}
 use Rattle.session_rules.specs.Window.{wrap, ahead, numbers_of, takes_number}
 use Rattle.session_rules.specs.Tasks.{Task, collecting, has_ended, was_dropped, r2ts, command_calls}

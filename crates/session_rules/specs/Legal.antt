@@ -1,12 +1,12 @@
 -- Which turns of full feature phase are legal (RFC 7143, sections 4 and 7). They are a list; each fact is judged
 -- of the turn at each place, with the turns before it, so what holds of a transcript holds of each beginning.
-use Rattle.session_rules.specs.Words.{◌≡◌, ℕ, ◌+◌, ◌<◌, ◌≤◌, if◌then◌else◌, List, [], ◌∷◌, ◌++◌, length, Option, Some, None, Result}
-use Rattle.session_rules.specs.Words.{IfSome, MatchOption, slice_get, filter_map, AllByRecursion, Means, Command, CdbFault, Sense}
-use Rattle.session_rules.specs.Words.{max_data_segment_length, Initiator, Target, NopOut, ScsiCommand, TaskManagementRequest}
-use Rattle.session_rules.specs.Words.{LoginRequest, TextRequest, DataOut, LogoutRequest, TargetHeader, NopIn, ScsiResponse}
-use Rattle.session_rules.specs.Words.{TaskManagementResponse, LoginResponse, TextResponse, DataIn, LogoutResponse, R2t, Reject, R2tHeader}
-use Rattle.session_rules.specs.Words.{Numbers, End, Protocol, Reinstated, LoggedOut, Lengths, TargetAnswer, Replied, Outside, Busy, Gone}
-use Rattle.session_rules.specs.Words.{ResetAnswer, Verdict, Accepted, Full, Ignored, Gap, Refused}
+use Rattle.std.specs.Prelude.{◌≡◌, ◌+◌, ◌<◌, ◌≤◌, if◌then◌else◌, ◌∷◌, ◌++◌}
+use Rattle.session_rules.specs.Words.{ℕ, List, [], length, Option, Some, None, Result, IfSome, MatchOption, slice_get, filter_map}
+use Rattle.session_rules.specs.Words.{AllByRecursion, Means, Command, CdbFault, Sense, max_data_segment_length, Initiator, Target, NopOut}
+use Rattle.session_rules.specs.Words.{ScsiCommand, TaskManagementRequest, LoginRequest, TextRequest, DataOut, LogoutRequest, TargetHeader}
+use Rattle.session_rules.specs.Words.{NopIn, ScsiResponse, TaskManagementResponse, LoginResponse, TextResponse, DataIn, LogoutResponse, R2t}
+use Rattle.session_rules.specs.Words.{Reject, R2tHeader, Numbers, End, Protocol, Reinstated, LoggedOut, Lengths, TargetAnswer, Replied}
+use Rattle.session_rules.specs.Words.{Outside, Busy, Gone, ResetAnswer, Verdict, Accepted, Full, Ignored, Gap, Refused}
 use Rattle.session_rules.specs.{Setting.Setting, Window.wrap, Window.numbers_of, Tasks.tasks, Tasks.r2ts_of, Collecting.IsRightTask}
 use Rattle.session_rules.specs.{Standing.Standing, Standing.standing, Standing.last_in_window, Verdict.IsJudged}
 use Rattle.session_rules.specs.{Transfer.expected_transfer, Transfer.sent_data, DataIn.data_ins, DataIn.Tiles, Nop.echo, Text.text_answer}

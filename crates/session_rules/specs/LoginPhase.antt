@@ -1,11 +1,11 @@
 -- The login phase of a session (RFC 7143, 6.3, 11.12 and 11.13): a list of turns, each a PDU that came, or a fault, with the
 -- one PDU that answers it.
-use Rattle.session_rules.specs.Words.{◌≡◌, ℕ, ◌+◌, true, false, Bool, if◌then◌else◌, List, [], ◌∷◌, ◌++◌, length, replicate, Option, Some}
-use Rattle.session_rules.specs.Words.{None, option_or, option_map, unwrap_or, Port, Initiator, Target, InitiatorHeader, NopOut}
-use Rattle.session_rules.specs.Words.{ScsiCommand, TaskManagementRequest, LoginRequest, TextRequest, DataOut, LogoutRequest, TargetHeader}
-use Rattle.session_rules.specs.Words.{LoginResponse, Reject, LoginHeader, Numbers, pairs, Progress, beginning, Ending, Finished, Stopped}
-use Rattle.session_rules.specs.Words.{answer_to, after, kind_in, LoginFlags, InvalidDuringLogin, End, Protocol, Lengths, LoginOutcome}
-use Rattle.session_rules.specs.Words.{Start, BeginAnswer}
+use Rattle.std.specs.Prelude.{◌≡◌, ◌+◌, if◌then◌else◌, ◌∷◌, ◌++◌}
+use Rattle.session_rules.specs.Words.{ℕ, true, false, Bool, List, [], length, replicate, Option, Some, None, option_or, option_map}
+use Rattle.session_rules.specs.Words.{unwrap_or, Port, Initiator, Target, InitiatorHeader, NopOut, ScsiCommand, TaskManagementRequest}
+use Rattle.session_rules.specs.Words.{LoginRequest, TextRequest, DataOut, LogoutRequest, TargetHeader, LoginResponse, Reject, LoginHeader}
+use Rattle.session_rules.specs.Words.{Numbers, pairs, Progress, beginning, Ending, Finished, Stopped, answer_to, after, kind_in, LoginFlags}
+use Rattle.session_rules.specs.Words.{InvalidDuringLogin, End, Protocol, Lengths, LoginOutcome, Start, BeginAnswer}
 use Rattle.byteorder.specs.Endian.{big_number}
 use Rattle.login.specs.{Status.code_of, Request.Answered, Request.initiator_of, Parameters.parameters_of}
 use Rattle.login.specs.declared.parameters.Parameters.{Parameters}

@@ -1,5 +1,6 @@
 -- Logout (RFC 7143, 11.14 and 11.15).
-use Rattle.session_rules.specs.Words.{Bool, nat_le, if◌then◌else◌, List, [], ◌∷◌, LogoutHeader, Numbers, LogoutResponse}
+use Rattle.std.specs.Prelude.{if◌then◌else◌, ◌∷◌}
+use Rattle.session_rules.specs.Words.{Bool, nat_le, List, [], LogoutHeader, Numbers, LogoutResponse}
 use Rattle.session_rules.specs.{Codes.closed, Codes.recovery_not_supported, Codes.time_to_wait, Codes.time_to_retain, Turn.Out}
 
 -- reason 0 closes the session, and 1 its connection, which is its only one

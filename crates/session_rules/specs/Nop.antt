@@ -1,6 +1,6 @@
 -- NOP-Out and NOP-In (RFC 7143, 11.18 and 11.19).
-use Rattle.session_rules.specs.Words.{ℕ, ◌==◌, if◌then◌else◌, List, [], ◌∷◌, min, take, NopOutHeader, Numbers, NopIn}
-use Rattle.session_rules.specs.Words.{max_data_segment_length, Lengths}
+use Rattle.std.specs.Prelude.{◌==◌, if◌then◌else◌, ◌∷◌}
+use Rattle.session_rules.specs.Words.{ℕ, List, [], min, take, NopOutHeader, Numbers, NopIn, max_data_segment_length, Lengths}
 use Rattle.session_rules.specs.{Codes.reserved_tag, Codes.no_transfer_tag, Turn.Out}
 
 -- the data that came, as much as the initiator takes, and never more than a segment of ours

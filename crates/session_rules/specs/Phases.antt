@@ -1,6 +1,7 @@
 -- A whole session (RFC 7143, 4.2 and 6.3): its login phase, and full feature phase behind it.
-use Rattle.session_rules.specs.Words.{◌≡◌, ◌⊎◌, ℕ, true, false, List, [], ◌∷◌, ◌++◌, map, Option, None, filter_map, flat_map}
-use Rattle.session_rules.specs.Words.{AllByRecursion, kind_in, Kind, End, Identity, Opening, Login, FullFeature, Start}
+use Rattle.std.specs.Prelude.{◌≡◌, ◌⊎◌, ◌∷◌, ◌++◌}
+use Rattle.session_rules.specs.Words.{ℕ, true, false, List, [], map, Option, None, filter_map, flat_map, AllByRecursion, kind_in, Kind, End}
+use Rattle.session_rules.specs.Words.{Identity, Opening, Login, FullFeature, Start}
 use Rattle.session_rules.specs.{Asking.Asking, Setting.setting_of, Turn.Incoming, Turn.Out, Turn.Turn}
 use Rattle.session_rules.specs.Legal.{AtEachOf, end_after, Lawful}
 use Rattle.session_rules.specs.LoginPhase.{LoginTurn, login_standing, IsLoginTurn, login_end, begins, IsStart}

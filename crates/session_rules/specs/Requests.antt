@@ -1,5 +1,6 @@
 -- What answers a request that is no SCSI Command, and is accepted: a line for each kind.
-use Rattle.session_rules.specs.Words.{◌≡◌, ℕ, List, Option, Initiator, Target, NopOut, ScsiCommand, TaskManagementRequest, LoginRequest}
+use Rattle.std.specs.Prelude.{◌≡◌}
+use Rattle.session_rules.specs.Words.{ℕ, List, Option, Initiator, Target, NopOut, ScsiCommand, TaskManagementRequest, LoginRequest}
 use Rattle.session_rules.specs.Words.{TextRequest, DataOut, LogoutRequest, Numbers, Verdict, Accepted, Full, Ignored, Gap, Refused}
 use Rattle.session_rules.specs.{Asking.Asking, Setting.Setting, Tasks.Collecting, Standing.Standing, Nop.nop_answer, Text.text_outs}
 use Rattle.session_rules.specs.{Logout.logout_answer, Turn.Incoming, Turn.pdu, Turn.faulty, Turn.Out}

@@ -1,7 +1,7 @@
 -- The SCSI Response of a command (RFC 7143, 11.4).
-use Rattle.session_rules.specs.Words.{◌≡◌, ℕ, ◌<◌, ◌↔◌, List, [], ◌∷◌, ◌++◌, Option, Some, None, IsTrue, filter_map, status_code, Sense}
-use Rattle.session_rules.specs.Words.{CommandHeader, ResponseHeader, TargetHeader, ScsiResponse, TargetAnswer, Replied, Outside, Busy}
-use Rattle.session_rules.specs.Words.{Gone}
+use Rattle.std.specs.Prelude.{◌≡◌, ◌<◌, ◌↔◌, ◌∷◌, ◌++◌}
+use Rattle.session_rules.specs.Words.{ℕ, List, [], Option, Some, None, IsTrue, filter_map, status_code, Sense, CommandHeader}
+use Rattle.session_rules.specs.Words.{ResponseHeader, TargetHeader, ScsiResponse, TargetAnswer, Replied, Outside, Busy, Gone}
 use Rattle.scsi_types.specs.Sense.{sense_bytes}
 use Rattle.session_rules.specs.{Codes.completed, Codes.sense_length, Turn.Out, Transfer.residual_count}
 use Rattle.session_rules.specs.Answered.{Outcome, by_target, no_buffer, set_full}

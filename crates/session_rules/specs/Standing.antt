@@ -1,6 +1,7 @@
 -- What stands behind some turns, as an observer of the wire knows it (RFC 7143, 4.2.2.1): the CmdSN that is expected, the
 -- commands that wait for data, and the Target Transfer Tag of the next R2T. And the window that follows of it.
-use Rattle.session_rules.specs.Words.{ℕ, ◌+◌, ◌-◌, ◌%◌, List, length, count_by, Numbers}
+use Rattle.std.specs.Prelude.{◌+◌, ◌-◌, ◌%◌}
+use Rattle.session_rules.specs.Words.{ℕ, List, length, count_by, Numbers}
 use Rattle.session_rules.specs.{Setting.Setting, declared.window.Window.Window, Codes.window_width, Turn.Turn, Window.wrap}
 use Rattle.session_rules.specs.{Window.exp_cmd_sn_after, Collecting.shrinks_window, Tasks.Collecting, Tasks.collecting, Tasks.r2ts}
 

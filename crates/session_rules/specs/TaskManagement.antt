@@ -1,7 +1,8 @@
 -- Task management (RFC 7143, 11.5 and 11.6).
-use Rattle.session_rules.specs.Words.{◌≡◌, ℕ, not, nat_lt, Bool, if◌then◌else◌, List, [], ◌∷◌, Option, Some, None, list_any, filter}
-use Rattle.session_rules.specs.Words.{NamesUnit, ManagementHeader, Numbers, TaskManagementResponse, ResetAnswer, TaskFunction, AbortTask}
-use Rattle.session_rules.specs.Words.{AbortTaskSet, LogicalUnitReset, TaskReassign, Unserved, Management, Respond, Reset}
+use Rattle.std.specs.Prelude.{◌≡◌, if◌then◌else◌, ◌∷◌}
+use Rattle.session_rules.specs.Words.{ℕ, not, nat_lt, Bool, List, [], Option, Some, None, list_any, filter, NamesUnit, ManagementHeader}
+use Rattle.session_rules.specs.Words.{Numbers, TaskManagementResponse, ResetAnswer, TaskFunction, AbortTask, AbortTaskSet, LogicalUnitReset}
+use Rattle.session_rules.specs.Words.{TaskReassign, Unserved, Management, Respond, Reset}
 use Rattle.session_rules.specs.{Turn.Out, Asking.Asking, Asking.reset, Tasks.Collecting, Drops.function_of, Drops.drops}
 use Rattle.session_rules.specs.declared.target.ResetAnswer.TheVariants.{Done, Gone, Failed}
 use Rattle.session_rules.specs.Codes.{function_complete, task_does_not_exist, lun_does_not_exist, reassignment_not_supported}

@@ -1,10 +1,11 @@
 -- The tasks of a session (RFC 7143, 4.4): a SCSI Command that was accepted, at its place, and the turns behind it that
 -- concern it, up to the one that ends it. What a task has collected is read off its own turns.
-use Rattle.session_rules.specs.Words.{ℕ, ◌==◌, ◌&&◌, ◌||◌, Bool, true, false, if◌then◌else◌, List, [], ◌∷◌, ◌++◌, length, Option, Some}
-use Rattle.session_rules.specs.Words.{None, filter, filter_map, flat_map, cons_option, list_any, last_or, CommandHeader, DataOutHeader}
-use Rattle.session_rules.specs.Words.{R2tHeader, Initiator, Target, NopOut, ScsiCommand, TaskManagementRequest, LoginRequest, TextRequest}
-use Rattle.session_rules.specs.Words.{DataOut, LogoutRequest, TargetHeader, ScsiResponse, R2t, TargetAnswer, Replied, Outside, Busy, Gone}
-use Rattle.session_rules.specs.Words.{Verdict, Accepted, Full, Ignored, Gap, Refused, ResetAnswer}
+use Rattle.std.specs.Prelude.{◌==◌, ◌&&◌, ◌||◌, if◌then◌else◌, ◌∷◌, ◌++◌}
+use Rattle.session_rules.specs.Words.{ℕ, Bool, true, false, List, [], length, Option, Some, None, filter, filter_map, flat_map, cons_option}
+use Rattle.session_rules.specs.Words.{list_any, last_or, CommandHeader, DataOutHeader, R2tHeader, Initiator, Target, NopOut, ScsiCommand}
+use Rattle.session_rules.specs.Words.{TaskManagementRequest, LoginRequest, TextRequest, DataOut, LogoutRequest, TargetHeader, ScsiResponse}
+use Rattle.session_rules.specs.Words.{R2t, TargetAnswer, Replied, Outside, Busy, Gone, Verdict, Accepted, Full, Ignored, Gap, Refused}
+use Rattle.session_rules.specs.Words.{ResetAnswer}
 use Rattle.session_rules.specs.{Window.wrap, Drops.drops, Drops.names_one_of, Asking.Asking, Asking.began, Asking.lives, Asking.served}
 use Rattle.session_rules.specs.{Asking.reset, Asking.over, Turn.Incoming, Turn.pdu, Turn.faulty, Turn.Out, Turn.Turn, Turn.sent}
 use Rattle.session_rules.specs.declared.target.ResetAnswer.TheVariants as resets

@@ -1,6 +1,7 @@
 -- Text Requests (RFC 7143, 11.10 and 11.11): each is whole, and has its one response.
-use Rattle.session_rules.specs.Words.{◌≡◌, ℕ, ◌≤◌, min, ◌==◌, ◌||◌, not, nat_lt, Bool, true, false, List, [], ◌∷◌, length, pairs}
-use Rattle.session_rules.specs.Words.{TextHeader, Numbers, TextResponse, max_data_segment_length}
+use Rattle.std.specs.Prelude.{◌≡◌, ◌≤◌, ◌==◌, ◌||◌, ◌∷◌}
+use Rattle.session_rules.specs.Words.{ℕ, min, not, nat_lt, Bool, true, false, List, [], length, pairs, TextHeader, Numbers, TextResponse}
+use Rattle.session_rules.specs.Words.{max_data_segment_length}
 use Rattle.login.specs.Targets.{answers_of, is_bad_request}
 use Rattle.session_rules.specs.{Codes.no_transfer_tag, Setting.Setting, Turn.Out}
 

@@ -1,5 +1,6 @@
 -- How much data a command moves, and which (RFC 7143, 11.3.4 and 11.4.5).
-use Rattle.session_rules.specs.Words.{ℕ, ◌+◌, ◌-◌, ◌||◌, min, if◌then◌else◌, List, [], take, CommandHeader}
+use Rattle.std.specs.Prelude.{◌+◌, ◌-◌, ◌||◌, if◌then◌else◌}
+use Rattle.session_rules.specs.Words.{ℕ, min, List, [], take, CommandHeader}
 
 -- E, the length that the initiator expects: none where it neither reads nor writes
 abbrev pub expected_transfer : CommandHeader → ℕ

@@ -1,6 +1,7 @@
 -- What passes in full feature phase: a list of turns. A turn is a PDU that came, or a fault, with what it called for.
-use Rattle.session_rules.specs.Words.{◌≡◌, ℕ, List, [], ◌∷◌, ◌++◌, take, Option, Some, None, filter_map, flat_map, IsPdu, spelling}
-use Rattle.session_rules.specs.Words.{Header, Target, TargetHeader, PduFault, Verdict, bhs_length}
+use Rattle.std.specs.Prelude.{◌≡◌, ◌∷◌, ◌++◌}
+use Rattle.session_rules.specs.Words.{ℕ, List, [], take, Option, Some, None, filter_map, flat_map, IsPdu, spelling, Header, Target}
+use Rattle.session_rules.specs.Words.{TargetHeader, PduFault, Verdict, bhs_length}
 use Rattle.session_rules.specs.Asking.{Asking}
 
 -- a PDU: the bytes of its basic header segment (BHS), what they say, and its data; or a fault and the BHS

@@ -1,8 +1,8 @@
 -- What becomes of a PDU: the command window, and why a PDU is rejected (RFC 7143, 4.2.2.1, 7.3 and 11.17.1).
-use Rattle.session_rules.specs.Words.{◌≡◌, ◌⊎◌, ℕ, ◌==◌, ◌&&◌, ◌||◌, nat_lt, Bool, if◌then◌else◌, true, false, List, length, MatchOption}
-use Rattle.session_rules.specs.Words.{list_any, find, CommandHeader, DataOutHeader, Header, Initiator, Target, NopOut, ScsiCommand}
-use Rattle.session_rules.specs.Words.{TaskManagementRequest, LoginRequest, TextRequest, DataOut, LogoutRequest, PduFault, Verdict}
-use Rattle.session_rules.specs.Words.{Accepted, Full, Ignored, Gap, Refused, Lengths}
+use Rattle.std.specs.Prelude.{◌≡◌, ◌⊎◌, ◌==◌, ◌&&◌, ◌||◌, if◌then◌else◌}
+use Rattle.session_rules.specs.Words.{ℕ, nat_lt, Bool, true, false, List, length, MatchOption, list_any, find, CommandHeader, DataOutHeader}
+use Rattle.session_rules.specs.Words.{Header, Initiator, Target, NopOut, ScsiCommand, TaskManagementRequest, LoginRequest, TextRequest}
+use Rattle.session_rules.specs.Words.{DataOut, LogoutRequest, PduFault, Verdict, Accepted, Full, Ignored, Gap, Refused, Lengths}
 use Rattle.iscsi_pdu.specs.declared.fault.PduFault.TheVariants.{UnknownOpcode, HasAhs, TooLong, BadFlags, BadReserved, NonZeroPad}
 use Rattle.session_rules.specs.{Turn.Incoming, Turn.pdu, Turn.faulty, Transfer.expected_transfer, Setting.Setting, Setting.discovers}
 use Rattle.session_rules.specs.{Text.is_text_refused, Window.ahead, Tasks.has_tag, Standing.Standing, Standing.window_size}

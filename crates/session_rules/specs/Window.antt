@@ -1,8 +1,9 @@
 -- The command window and the numbers of a session (RFC 7143, 4.2.2).
-use Rattle.session_rules.specs.Words.{ℕ, ◌+◌, ◌-◌, ◌%◌, Bool, false, not, if◌then◌else◌, List, count_by, Initiator, Target, NopOut}
-use Rattle.session_rules.specs.Words.{ScsiCommand, TaskManagementRequest, LoginRequest, TextRequest, DataOut, LogoutRequest, TargetHeader}
-use Rattle.session_rules.specs.Words.{NopIn, ScsiResponse, TaskManagementResponse, LoginResponse, TextResponse, DataIn, LogoutResponse}
-use Rattle.session_rules.specs.Words.{R2t, Reject, Numbers, Verdict, Accepted, Full, Ignored, Gap, Refused}
+use Rattle.std.specs.Prelude.{◌+◌, ◌-◌, ◌%◌, if◌then◌else◌}
+use Rattle.session_rules.specs.Words.{ℕ, Bool, false, not, List, count_by, Initiator, Target, NopOut, ScsiCommand, TaskManagementRequest}
+use Rattle.session_rules.specs.Words.{LoginRequest, TextRequest, DataOut, LogoutRequest, TargetHeader, NopIn, ScsiResponse}
+use Rattle.session_rules.specs.Words.{TaskManagementResponse, LoginResponse, TextResponse, DataIn, LogoutResponse, R2t, Reject, Numbers}
+use Rattle.session_rules.specs.Words.{Verdict, Accepted, Full, Ignored, Gap, Refused}
 use Rattle.session_rules.specs.Turn.{Incoming, pdu, faulty, Turn}
 
 -- numbers count modulo 2^32 (RFC 1982)

@@ -1,8 +1,7 @@
 -- The words that a session's rules are told in, from one place: std's, those of PDUs and commands, and the types here. A crate
 -- above takes the types here by their own paths: this file passes them on in its own crate alone.
-pub use Rattle.std.specs.Prelude.{◌≡◌, ◌+◌, ◌-◌, ◌%◌, ◌<◌, ◌≤◌, ◌↔◌, ◌⊎◌, ◌++◌, ◌∷◌, ◌==◌, ◌&&◌, ◌||◌, not, nat_lt, nat_le, bytes_eq}
-pub use Rattle.std.specs.Prelude.{if◌then◌else◌, ℕ, zero, suc, min, Bool, true, false, IsTrue, List, [], length, take, drop, map}
-pub use Rattle.std.specs.Prelude.{replicate, slice_get, slice_index, Option, Some, None, is_some, IfSome, MatchOption, Result, Ok, Err}
+pub use Rattle.std.specs.Prelude.{not, nat_lt, nat_le, bytes_eq, ℕ, zero, suc, min, Bool, true, false, IsTrue, List, [], length, take, drop}
+pub use Rattle.std.specs.Prelude.{map, replicate, slice_get, slice_index, Option, Some, None, is_some, IfSome, MatchOption, Result, Ok, Err}
 pub use Rattle.std.specs.List.{AllByRecursion, list_any, filter, filter_map, flat_map, find, cons_option, last_or, count_by, sum_by}
 pub use Rattle.std.specs.Option.{option_or, option_map, option_to_list, unwrap_or}
 pub use Rattle.iscsi_pdu.specs.{Fault.Stands, Number.bhs_length, Number.max_data_segment_length, Number.three_at, Pdu.IsPdu}

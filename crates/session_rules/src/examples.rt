@@ -1,6 +1,6 @@
 //! What the facts of a legal login refuse: of short ones that differ, one is legal (RFC 7143).
-ghost use Rattle.session_rules.specs.Words.{◌≡◌, ℕ, List, [], ◌∷◌, None, Option, Refused, Identity, LoginOutcome};
-ghost use Rattle.session_rules.specs.Words.{Opening, InvalidDuringLogin};
+ghost use Rattle.std.specs.Prelude.{◌≡◌, ◌∷◌};
+ghost use Rattle.session_rules.specs.Words.{ℕ, List, [], None, Option, Refused, Identity, LoginOutcome, Opening, InvalidDuringLogin};
 ghost use Rattle.session_rules.specs.Asking.{Asking};
 ghost use Rattle.session_rules.specs.Turn.{Out, Turn};
 ghost use Rattle.session_rules.specs.LoginPhase.{LoginTurn};

@@ -1,8 +1,8 @@
 //! What follows of a legal transcript, in the words of the protocol (RFC 7143).
-ghost use Rattle.session_rules.specs.Words.{◌≡◌, ◌+◌, ◌<◌, ◌≤◌, ℕ, List, [], ◌∷◌, ◌++◌, IsTrue, Some, length, min};
-ghost use Rattle.session_rules.specs.Words.{slice_get, take, own_data_segment, max_data_segment_length, three_at};
-ghost use Rattle.session_rules.specs.Words.{IsPdu, Stands, Header, CommandHeader, TargetAnswer, Accepted, Full};
-ghost use Rattle.session_rules.specs.Words.{AllByRecursion, Identity, Opening};
+ghost use Rattle.std.specs.Prelude.{◌≡◌, ◌+◌, ◌<◌, ◌≤◌, ◌∷◌, ◌++◌};
+ghost use Rattle.session_rules.specs.Words.{ℕ, List, [], IsTrue, Some, length, min, slice_get, take, own_data_segment};
+ghost use Rattle.session_rules.specs.Words.{max_data_segment_length, three_at, IsPdu, Stands, Header, CommandHeader, TargetAnswer};
+ghost use Rattle.session_rules.specs.Words.{Accepted, Full, AllByRecursion, Identity, Opening};
 ghost use Rattle.iscsi_pdu.specs.declared.fault.PduFault.TheVariants.{TooLong};
 ghost use Rattle.session_rules.specs.Setting.{Setting};
 ghost use Rattle.session_rules.specs.Phases.{Transcript, exchanges, outgoing, IsLawful};

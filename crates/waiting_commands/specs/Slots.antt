@@ -1,6 +1,7 @@
 -- How a session keeps the commands that wait for data.
-use Rattle.session_rules.specs.Words.{◌≡◌, ℕ, ◌+◌, ◌-◌, ◌≤◌, min, Some, IsTrue, List, ◌∷◌, ◌++◌, length, Result, Means, need_of, Command}
-use Rattle.session_rules.specs.Words.{CdbFault, CommandHeader, R2tHeader}
+use Rattle.std.specs.Prelude.{◌≡◌, ◌+◌, ◌-◌, ◌≤◌, ◌∷◌, ◌++◌}
+use Rattle.session_rules.specs.Words.{ℕ, min, Some, IsTrue, List, length, Result, Means, need_of, Command, CdbFault, CommandHeader}
+use Rattle.session_rules.specs.Words.{R2tHeader}
 use Rattle.waiting_commands.specs.declared.collecting.{R2tWith.R2tWith, Collected.Collected}
 use Rattle.session_rules.specs.{Window.wrap, Transfer.data_for, Tasks.Collecting}
 

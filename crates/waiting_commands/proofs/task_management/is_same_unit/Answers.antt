@@ -1,6 +1,7 @@
-use Rattle.std.proofs.Common.{◌≡◌, ◌⊎◌, ◌∙◌, ◌-◌, ℕ, Bool, List, refl, sym, ap, ap₂, inl, inr, slice_index_or, take, drop, length}
+use Rattle.std.proofs.Common.{◌==◌, ◌&&◌, ◌||◌, ◌≡◌, ◌⊎◌, ◌∙◌, ◌-◌, ℕ, Bool, List, refl, sym, ap, ap₂, inl, inr, slice_index_or, take, drop}
+use Rattle.std.proofs.Common.{length}
 use Rattle.std.proofs.lemmas.List.{take_rest}
-use Rattle.session_rules.specs.Words.{◌==◌, ◌&&◌, ◌||◌, bytes_eq, slice_index}
+use Rattle.session_rules.specs.Words.{bytes_eq, slice_index}
 use Rattle.waiting_commands.proofs.task_management.is_same_unit.Goals as goal
 
 addressed : (b : List ℕ) (same : Bool) → (slice_index_or b 0 0 ≡ 0) ⊎ (slice_index_or b 0 0 ≡ 64)

@@ -1,4 +1,5 @@
-use Rattle.session_rules.specs.Words.{◌≡◌, ◌≤◌, take, count_by}
+use Rattle.std.specs.Prelude.{◌≡◌, ◌≤◌}
+use Rattle.session_rules.specs.Words.{take, count_by}
 use Rattle.session_rules.specs.Collecting.{shrinks_window}
 use Rattle.waiting_commands.proofs.collecting.WaitingCommands.numbered.Given as goal
 

@@ -1,4 +1,5 @@
-use Rattle.session_rules.specs.Words.{◌≡◌, false, take, list_any}
+use Rattle.std.specs.Prelude.{◌≡◌}
+use Rattle.session_rules.specs.Words.{false, take, list_any}
 use Rattle.session_rules.specs.Tasks.{has_tag}
 use Rattle.waiting_commands.proofs.collecting.WaitingCommands.position.Given as goal
 
