@@ -5,10 +5,12 @@ ghost use Rattle.forwarding.specs.Jobs.{HasAnswered, IsFullOrClosed, handed_of};
 use crate::job::{Answer, Job, Ticket, Waiting, prepare};
 use crate::queue::{NotQueued, Queue};
 use block_file::{Blocks, Opener};
+use crossbeam_utils::CachePadded;
 use numbering::Array;
 use scsi_types::{Asked, Group, NoMemory, Reply};
 use std::alloc::Global;
 use std::marker::Model;
+use std::sync::atomic::{AtomicBool, Ordering};
 use std::sync::{Condvar, Mutex, Wait};
 use thiserror::Error;
 use unit_history::{Opened, Pass, Refused, Units};
@@ -31,11 +33,13 @@ pub enum DeskFault {
 }
 
 /// The desk of a controller, to which sessions of both controllers hand the commands of the units that the controller owns. The
-/// lanes of the controller serve them. Contracts see the controller's group.
+/// lanes of the controller serve them. What waits stands on a cache line of its own. Contracts see the controller's group.
 #[derive(Drop)]
 pub struct Desk<B: Blocks, R: Blocks, O: Opener<B>, N: Array<Opened>> {
     group: Group,
-    queue: Mutex<Queue<Waiting<B, R, O, N>>>,
+    // Whether the queue is closed, for those who do not ask it.
+    is_closed: AtomicBool,
+    queue: CachePadded<Mutex<Queue<Waiting<B, R, O, N>>>>,
     filled: Condvar,
 }
 
@@ -57,7 +61,8 @@ impl<B: Blocks, R: Blocks, O: Opener<B>, N: Array<Opened>> Desk<B, R, O, N> {
         };
         Ok(Desk {
             group,
-            queue: Mutex::new(queue),
+            is_closed: AtomicBool::new(false),
+            queue: CachePadded::new(Mutex::new(queue)),
             filled: Condvar::new(),
         })
     }
@@ -125,6 +130,7 @@ impl<B: Blocks, R: Blocks, O: Opener<B>, N: Array<Opened>> Desk<B, R, O, N> {
 
     /// From now on no job is taken in. Those that wait are left to the lanes, which end when none is left.
     pub fn close<W: Wait>(&self, rt: &W) {
+        self.is_closed.store(true, Ordering::SeqCst);
         self.queue.lock(rt).close();
         self.filled.notify_all();
     }
@@ -205,8 +211,7 @@ impl<B: Blocks, R: Blocks, O: Opener<B>, N: Array<Opened>> Desk<B, R, O, N> {
         ensures back { IfErr result.1 (λ fault. result.0 ≡ pass) }
         ensures why { IfErr result.1 IsFullOrClosed }
     {
-        let is_closed = self.queue.lock(rt).is_closed();
-        if is_closed {
+        if self.is_closed.load(Ordering::SeqCst) {
             return (pass, Err(DeskFault::Closed));
         }
         let (pass, end) = units.serve(rt, pass, alloc, &self.group, asked, bytes);
