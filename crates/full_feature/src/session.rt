@@ -393,21 +393,18 @@ impl Session {
         ensures on { OnData self.old header bytes.now (step_of result) self.new }
         ensures within { AreInReach (pdus_of result) }
     {
-        let waiting = self.waiting.numbered();
-        let mut command = self.waiting.remove(at);
-        command.feed(&header, bytes);
+        self.waiting.feed_at(at, &header, bytes);
+        let command = self.waiting.at(at);
         if !command.is_filled() {
-            self.waiting.insert(at, command);
             return Actions::Send(silence());
         }
         if command.len() >= command.need() as usize {
-            let done = command.finish();
+            let done = self.waiting.remove(at).finish();
             let data = CommandData::Gathered(done.bytes);
             return call(&done.command, done.asked, done.need, data);
         }
-        command.ask(self.r2t_with(waiting));
-        let r2t = command.request();
-        self.waiting.insert(at, command);
+        let with = self.r2t_with(self.waiting.numbered());
+        let r2t = self.waiting.ask_at(at, with);
         self.transfer_tag = next_transfer_tag(self.transfer_tag);
         Actions::Send(ask_for(r2t))
     }

@@ -1,11 +1,12 @@
 -- Where a command stands among those that wait.
 use Rattle.std.proofs.Common.{◌≡◌, ℕ, zero, suc, ◌+◌, ◌<◌, ◌≤◌, Bool, true, false, List, [], ◌∷◌, ◌++◌, length, take, drop, refl, sym, ap}
-use Rattle.std.proofs.Common.{◌∙◌, arith, get_or, Some, None, add-one}
+use Rattle.std.proofs.Common.{◌∙◌, arith, get_or, Some, None, ap₂}
+use Rattle.std.proofs.Math.{ListN.set, Numerals.suc-eq-add-one, Seq.take-append_seam, Seq.drop-append-add, Seq.set-append_seam}
 use Rattle.std.proofs.lemmas.{Bool.eq-eqb, List.take_all, List.take-append-drop, List.length-take-le, List.drop_more}
 use Rattle.std.proofs.lemmas.List.{get_or_at}
 use Rattle.session_rules.specs.Words.{list_any, find}
 use Rattle.session_rules.{proofs.Tasks.neither, specs.Tasks.Collecting, specs.Tasks.has_tag}
-use Rattle.waiting_commands.specs.Slots.{StandsAt, IsRemoved}
+use Rattle.waiting_commands.specs.Slots.{StandsAt}
 
 pub stands_there : (items old : List Collecting) (i : ℕ) (x : Collecting) → items ≡ old → i < length old
     → x ≡ get_or items i x
@@ -16,12 +17,6 @@ stands_there items old i x same within there = record {
   whole = cc (take-append-drop i old, drop_more old i x within);
   place = length-take-le i old (omega (arith, within));
 }
-
-pub removed_at : (items old : List Collecting) (i : ℕ) (x : Collecting) → items ≡ old → i < length old → x ≡ get_or items i x
-    → IsRemoved old (take i items ++ drop (suc i) items) i x
-unfolding stands_there
-removed_at items old i x same within there =
-    record { stands = stands_there items old i x same within there; after = rw (same, add-one) }
 
 -- the first with this tag is the one before which none has it
 found_first : (tag : ℕ) (cs : List Collecting) (i : ℕ) (d : Collecting) → i < length cs
@@ -52,3 +47,17 @@ none_of_all tag cs n all none = none_there tag cs (ap (list_any (has_tag tag)) (
 -- two that stand at one place are one
 pub stands_one : (cs : List Collecting) (i : ℕ) (x y : Collecting) → StandsAt cs i x → StandsAt cs i y → x ≡ y
 stands_one cs i x y a b = cc (get_or_at a.front x a.back x i a.place, get_or_at b.front y b.back x i b.place)
+
+-- a list that stands so: the one there, the others, and one that was changed in its place
+module _ (items front back : List Collecting) (i : ℕ) (this : Collecting) (whole : items ≡ front ++ (this ∷ back))
+    (place : length front ≡ i) where
+  pub there : (d : Collecting) → get_or items i d ≡ this
+  there d = rw whole (get_or_at front this back d i place)
+
+  pub others : take i items ++ drop (suc i) items ≡ front ++ back
+  others = rw (whole, ← place) (ap₂ (λ (xs ys : List Collecting). xs ++ ys) (take-append_seam front (this ∷ back))
+      (ap (λ (n : ℕ). drop n (front ++ (this ∷ back))) (suc-eq-add-one (length front)) ∙ drop-append-add front (this ∷ back) 1))
+
+  pub changed : (f : Collecting → Collecting) (old new : Collecting) → new ≡ f old → old ≡ get_or items i old
+      → set items i new ≡ front ++ (f this ∷ back)
+  changed f old new e is = rw (e, is ∙ there old, whole, ← place) (set-append_seam front this back (f this))

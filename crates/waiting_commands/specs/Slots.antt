@@ -54,22 +54,9 @@ abbrev pub waits : CommandHeader → List ℕ → R2tHeader → ℕ → Collecti
 waits p bytes request requests =
     record { command = p; bytes = bytes; outstanding = Some request; requests = requests; data_sn = 0 }
 
--- a command begins to wait, and one more R2T of it goes out
+-- a command begins to wait
 abbrev pub begun : CommandHeader → ℕ → List ℕ → R2tWith → Collecting
-begun p need d sent_with = record {
-  command = p;
-  bytes = d;
-  outstanding = Some (r2t_for p need (length d) 0 sent_with);
-  requests = 1;
-  data_sn = 0;
-}
-
-abbrev pub asked_on : Collecting → ℕ → R2tWith → Collecting
-asked_on c need sent_with = record c {
-  outstanding = Some (r2t_for c.command need (length c.bytes) c.requests sent_with);
-  requests = wrap (c.requests + 1);
-  data_sn = 0;
-}
+begun p need d sent_with = waits p d (r2t_for p need (length d) 0 sent_with) 1
 
 -- it waits no more
 pub record IsFinished (c : Collecting) (f : Collected) : Type 0 where
@@ -77,7 +64,3 @@ pub record IsFinished (c : Collecting) (f : Collected) : Type 0 where
   pub asked_by : IsAskedBy c.command f.asked
   pub need_is : f.need ≡ need_of f.asked
   pub bytes_are : f.bytes.items ≡ data_for c.command (need_of f.asked) c.bytes
-
-pub record IsRemoved (old new : List Collecting) (at : ℕ) (this : Collecting) : Type 0 where
-  pub stands : StandsAt old at this
-  pub after : new ≡ stands.front ++ stands.back

@@ -8,7 +8,8 @@ ghost use Rattle.session_rules.specs.Tasks.{Collecting, has_tag};
 ghost use Rattle.session_rules.specs.Drops.{drops};
 ghost use Rattle.session_rules.specs.TaskManagement.{drops_one};
 ghost use Rattle.session_rules.specs.Collecting.{Continues, HasToCollect, is_immediate, shrinks_window};
-ghost use Rattle.waiting_commands.specs.Slots.{StandsAt, IsRemoved, IsAskedBy, IsFinished, NeedIs, begun, fed, asked_on, r2t_for};
+ghost use Rattle.waiting_commands.specs.Slots.{StandsAt, IsAskedBy, IsFinished, NeedIs, begun, fed, waits, r2t_for};
+ghost use Rattle.session_rules.specs.Window.{wrap};
 
 use crate::task_management::drops;
 use iscsi_pdu::{DataOut, Numbers, R2t, ScsiCommand, TaskManagementRequest};
@@ -143,8 +144,8 @@ impl WaitingCommand {
             && u64::from(header.offset) + bytes.len() as u64 <= end
     }
 
-    /// One Data-Out more.
-    pub fn feed(&mut self, header: &DataOut, bytes: &[u8])
+    // One Data-Out more.
+    fn feed(&mut self, header: &DataOut, bytes: &[u8])
         requires { Continues self.old header.now bytes.now }
         ensures fed { self.new ≡ fed self.old bytes.now }
         ensures asked { (asked : Result Command CdbFault) × IsAskedBy self.old.command asked }
@@ -172,10 +173,12 @@ impl WaitingCommand {
         end <= self.bytes.len() as u64
     }
 
-    /// Asks for more by the next R2T.
-    pub fn ask(&mut self, with: R2tWith)
+    // Asks for more: the next R2T.
+    fn ask(&mut self, with: R2tWith) -> R2t
         requires { (need : ℕ) × NeedIs self.old.command need × (length self.old.bytes < need) }
-        ensures asked { (need : ℕ) → NeedIs self.old.command need → self.new ≡ asked_on self.old need with }
+        ensures asked { self.new ≡ waits self.old.command self.old.bytes result (wrap (self.old.requests + 1)) }
+        ensures r2t { (need : ℕ) → NeedIs self.old.command need
+            → result ≡ r2t_for self.old.command need (length self.old.bytes) self.old.requests with }
         ensures fits { self.old.requests < 4294967296 }
     {
         self.request = r2t(
@@ -187,6 +190,7 @@ impl WaitingCommand {
         );
         self.requests = self.requests.wrapping_add(1);
         self.data_sn = 0;
+        self.request
     }
 
     /// The command, what its CDB asks for, how much it needs, and the data that came.
@@ -349,24 +353,37 @@ impl WaitingCommands {
         &self.slots[at]
     }
 
+    /// One Data-Out more for the one that stands there.
+    pub fn feed_at(&mut self, at: usize, header: &DataOut, bytes: &[u8])
+        requires { (this : Collecting) × StandsAt self.old at this × Continues this header.now bytes.now }
+        ensures fed { (this : Collecting) → (s : StandsAt self.old at this)
+            → self.new ≡ s.front ++ (fed this bytes.now ∷ s.back) }
+        ensures asked { (this : Collecting) → StandsAt self.old at this
+            → (asked : Result Command CdbFault) × IsAskedBy this.command asked }
+    {
+        self.slots[at].feed(header, bytes);
+    }
+
+    /// Asks for more for the one that stands there: the next R2T.
+    pub fn ask_at(&mut self, at: usize, with: R2tWith) -> R2t
+        requires { (this : Collecting) × StandsAt self.old at this
+            × ((need : ℕ) × NeedIs this.command need × (length this.bytes < need)) }
+        ensures asked { (this : Collecting) → (s : StandsAt self.old at this)
+            → self.new ≡ s.front ++ (waits this.command this.bytes result (wrap (this.requests + 1)) ∷ s.back) }
+        ensures r2t { (this : Collecting) → StandsAt self.old at this → (need : ℕ) → NeedIs this.command need
+            → result ≡ r2t_for this.command need (length this.bytes) this.requests with }
+        ensures fits { (this : Collecting) → StandsAt self.old at this → this.requests < 4294967296 }
+    {
+        self.slots[at].ask(with)
+    }
+
     /// Takes the one that stands there away.
     pub fn remove(&mut self, at: usize) -> WaitingCommand
         requires { at < length self.old }
-        ensures removed { IsRemoved self.old self.new at result }
+        ensures removed { (this : Collecting) → (s : StandsAt self.old at this)
+            → (result ≡ this) × (self.new ≡ s.front ++ s.back) }
         ensures room { length self.new < MOST_WAITING }
     {
         self.slots.remove(at)
-    }
-
-    /// Puts one in its place again.
-    pub fn insert(&mut self, at: usize, command: WaitingCommand)
-        requires { (at ≤ length self.old) × (length self.old < MOST_WAITING) }
-        ensures { (front back : List Collecting) → self.old ≡ front ++ back → length front ≡ at
-            → self.new ≡ front ++ (command ∷ back) }
-    {
-        match self.slots.insert(at, command) {
-            Ok(()) => {}
-            Err(_) => unreachable!(),
-        }
     }
 }
