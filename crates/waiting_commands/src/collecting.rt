@@ -7,9 +7,9 @@ ghost use Rattle.std.specs.List.{list_any, count_by, filter, find};
 ghost use Rattle.session_rules.specs.Tasks.{Collecting, has_tag};
 ghost use Rattle.session_rules.specs.Drops.{drops};
 ghost use Rattle.session_rules.specs.TaskManagement.{drops_one};
+ghost use Rattle.session_rules.specs.Window.{wrap};
 ghost use Rattle.session_rules.specs.Collecting.{Continues, HasToCollect, is_immediate, shrinks_window};
 ghost use Rattle.waiting_commands.specs.Slots.{StandsAt, IsAskedBy, IsFinished, NeedIs, begun, fed, waits, r2t_for};
-ghost use Rattle.session_rules.specs.Window.{wrap};
 
 use crate::task_management::drops;
 use iscsi_pdu::{DataOut, Numbers, R2t, ScsiCommand, TaskManagementRequest};
