@@ -10,13 +10,16 @@ use numbering::Array;
 use scsi_types::{Asked, Group, NoMemory, Reply};
 use std::alloc::Global;
 use std::marker::Model;
-use std::sync::atomic::{AtomicBool, Ordering};
+use std::sync::atomic::{AtomicBool, AtomicU64, Ordering};
 use std::sync::{Condvar, Mutex, Wait};
 use thiserror::Error;
 use unit_history::{Opened, Pass, Refused, Units};
 
 /// Longer data is not copied for a desk: the worker that it came to serves its command at once, past those that wait.
 pub const LONGEST_COPY: usize = 256;
+
+// Up to so many commands at a time, as many as a desk has lanes, are served past its queue.
+const AT_ONCE: u64 = 4;
 
 /// Why a desk does not take a job.
 #[derive(Clone, Copy, Debug, PartialEq, Eq, Error)]
@@ -39,6 +42,8 @@ pub struct Desk<B: Blocks, R: Blocks, O: Opener<B>, N: Array<Opened>> {
     group: Group,
     // Whether the queue is closed, for those who do not ask it.
     is_closed: AtomicBool,
+    // How many commands are served past the queue now.
+    at_once: CachePadded<AtomicU64>,
     queue: CachePadded<Mutex<Queue<Waiting<B, R, O, N>>>>,
     filled: Condvar,
 }
@@ -62,6 +67,7 @@ impl<B: Blocks, R: Blocks, O: Opener<B>, N: Array<Opened>> Desk<B, R, O, N> {
         Ok(Desk {
             group,
             is_closed: AtomicBool::new(false),
+            at_once: CachePadded::new(AtomicU64::new(0)),
             queue: CachePadded::new(Mutex::new(queue)),
             filled: Condvar::new(),
         })
@@ -218,9 +224,10 @@ impl<B: Blocks, R: Blocks, O: Opener<B>, N: Array<Opened>> Desk<B, R, O, N> {
         (pass, Ok(end))
     }
 
-    /// Serves a command of a session through the desk: the worker that hands it in serves it itself, where no lane has taken it.
-    /// Where there is no memory for its job, it serves the command at once: so what fences needs none. Refused by the desk, which is
-    /// full or closed, no unit was asked, and the pass is as it was.
+    /// Serves a command of a session through the desk: its worker serves it itself, at once where few others are served so, where its
+    /// data is long, or where there is no memory for its job: so what fences needs none. Else its job waits, and its worker
+    /// serves it where no lane has taken it. Refused by the desk, which is full or closed, no unit was asked, and the pass is as
+    /// it was.
     pub fn serve<W: Wait>(
         &self,
         rt: &W,
@@ -240,9 +247,13 @@ impl<B: Blocks, R: Blocks, O: Opener<B>, N: Array<Opened>> Desk<B, R, O, N> {
         ensures back { IfErr result.1 (λ fault. result.0 ≡ pass) }
         ensures why { IfErr result.1 IsFullOrClosed }
     {
-        if bytes.len() > LONGEST_COPY {
-            return self.serve_at_once(rt, alloc, units, pass, asked, bytes);
+        let others = self.at_once.fetch_add(1, Ordering::SeqCst);
+        if others < AT_ONCE || bytes.len() > LONGEST_COPY {
+            let served = self.serve_at_once(rt, alloc, units, pass, asked, bytes);
+            self.at_once.fetch_sub(1, Ordering::SeqCst);
+            return served;
         }
+        self.at_once.fetch_sub(1, Ordering::SeqCst);
         match self.submit(rt, alloc, pass, asked, bytes) {
             Ok(ticket) => {
                 let (pass, end) = self.serve_own(rt, alloc, units, ticket);
