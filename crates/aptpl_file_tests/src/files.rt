@@ -5,6 +5,12 @@ use reservations::{PrOut, Record, Registry};
 use scsi_types::{Group, NoMemory, PortName, PrOutAction};
 use std::alloc::{AllocError, Global};
 
+/// The calls of an open: the root, the slot, and a flush.
+pub const OPEN_CALLS: u64 = 3;
+
+/// The calls of a save: the slot, a flush, the root, and a flush.
+pub const SAVE_CALLS: u64 = 4;
+
 /// What a nexus asks.
 #[derive(Clone, Copy)]
 pub enum Asked {

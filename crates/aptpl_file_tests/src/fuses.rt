@@ -1,16 +1,10 @@
 //! A device that stops at each call of a save in turn.
-use crate::files::{formatted, record_of, told};
+use crate::files::{OPEN_CALLS, SAVE_CALLS, formatted, record_of, told};
 use aptpl_file::{FILE_BLOCKS, RegFile, SaveFault};
 use block_file::{FusedBlocks, MemBlocks};
 use scsi_types::NoMemory;
 use std::alloc::Global;
 use std::test::Fail;
-
-/// The calls of an open: the root, the slot, and a flush.
-const OPEN_CALLS: u64 = 3;
-
-/// The calls of a save: the slot, a flush, the root, and a flush.
-const SAVE_CALLS: u64 = 4;
 
 /// A file that holds the key 11h, behind a fuse that passes on so many calls of the save that comes, and lands so many
 /// blocks of the write at which it stops.
@@ -19,19 +13,19 @@ fn fused(
     calls: u64,
     lands: u32,
 ) -> Result<Option<FusedBlocks<MemBlocks>>, NoMemory> {
+    let record = record_of(alloc, 0x11)?;
     let Some(mut file) = formatted(alloc)? else {
         return Ok(None);
     };
-    if file.save(&record_of(alloc, 0x11)?.lasting()).is_err() {
+    if file.save(&record.lasting()).is_err() {
         return Ok(None);
     }
-    let device = file.close();
     let passed = OPEN_CALLS + calls % 100;
-    Ok(Some(FusedBlocks::inside(device, passed, lands)))
+    Ok(Some(FusedBlocks::inside(file.close(), passed, lands)))
 }
 
 /// Where a save fails that stops at this call, counted from 0.
-fn place_of(calls: u64) -> Option<SaveFault> {
+pub fn place_of(calls: u64) -> Option<SaveFault> {
     match calls {
         0..2 => Some(SaveFault::IdleSlot),
         2..4 => Some(SaveFault::NewRoot),

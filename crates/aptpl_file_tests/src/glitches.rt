@@ -3,9 +3,10 @@ ghost use Rattle.std.specs.Prelude.{◌+◌, [], false, min};
 ghost use Rattle.std.proofs.Common.{arith};
 ghost use Rattle.block_file.specs.Failures.{last_count};
 
-use crate::files::{formatted, record_of, told};
+use crate::files::{OPEN_CALLS, formatted, record_of, told};
 use aptpl_file::{RegFile, SaveFault};
-use block_file::{Blocks, DeviceFailed};
+use block_file::{Blocks, DeviceFailed, MemBlocks};
+use scsi_types::NoMemory;
 use std::alloc::Global;
 use std::test::Fail;
 
@@ -93,7 +94,8 @@ impl<B: Blocks> Blocks for Glitch<B> {
     }
 }
 
-/// A save that fails at one of its four calls, counted from 0, its fault, and the calls of the save after it.
+/// A save that fails at one of its four calls, counted from 0, its fault, and the calls of both saves: four of one that is whole,
+/// those up to the one that failed, and six of one behind a root in doubt.
 struct Row {
     fails_at: u64,
     fault: Option<SaveFault>,
@@ -104,70 +106,71 @@ const ROWS: &[Row] = &[
     Row {
         fails_at: 0,
         fault: Some(SaveFault::IdleSlot),
-        calls: 4,
+        calls: 5,
     },
     Row {
         fails_at: 1,
         fault: Some(SaveFault::IdleSlot),
-        calls: 4,
+        calls: 6,
     },
     Row {
         fails_at: 2,
         fault: Some(SaveFault::NewRoot),
-        calls: 6,
+        calls: 9,
     },
     Row {
         fails_at: 3,
         fault: Some(SaveFault::NewRoot),
-        calls: 6,
+        calls: 10,
     },
     Row {
         fails_at: 99,
         fault: None,
-        calls: 4,
+        calls: 8,
     },
 ];
+
+/// Saves 11h over a device that fails this call of the save, and then 22h: where the first save failed, the calls that were
+/// made in all, and the blocks that are left. None: the second failed.
+fn saved_twice(
+    alloc: Global,
+    fails_at: u64,
+) -> Result<Option<(Option<SaveFault>, u64, MemBlocks)>, NoMemory> {
+    let (first, second) = (record_of(alloc, 0x11)?, record_of(alloc, 0x22)?);
+    let Some(file) = formatted(alloc)? else {
+        return Ok(None);
+    };
+    let glitch = Glitch {
+        inner: file.close(),
+        calls: 0,
+        fails_at: OPEN_CALLS + fails_at % 100,
+        failed_reads: 0,
+        failed_writes: 0,
+    };
+    let Ok((mut file, _)) = RegFile::open(alloc, glitch) else {
+        return Ok(None);
+    };
+    let fault = file.save(&first.lasting()).err();
+    if file.save(&second.lasting()).is_err() {
+        return Ok(None);
+    }
+    let left = file.close();
+    Ok(Some((fault, left.calls, left.inner)))
+}
 
 #[test]
 fn an_undecided_root_is_written_again(rt: HostRuntime) -> Result<(), Fail> {
     let alloc = rt.alloc();
+    let wanted = told(alloc, record_of(alloc, 0x22)?)?;
     for row in ROWS {
-        let Some(file) = formatted(alloc)? else {
+        let Some((fault, calls, left)) = saved_twice(alloc, row.fails_at)? else {
             panic!(rt; "{}", row.fails_at)
         };
-        let glitch = Glitch {
-            inner: file.close(),
-            calls: 0,
-            fails_at: 3 + row.fails_at,
-            failed_reads: 0,
-            failed_writes: 0,
-        };
-        let Ok((mut file, _)) = RegFile::open(alloc, glitch) else {
-            panic!(rt; "{}", row.fails_at)
-        };
-        let fault = file.save(&record_of(alloc, 0x11)?.lasting()).err();
         assert_eq!(rt; fault, row.fault, "{}", row.fails_at);
-        assert!(rt;
-            file.save(&record_of(alloc, 0x22)?.lasting()).is_ok(),
-            "{}",
-            row.fails_at
-        );
-        let left = file.close();
-        let before = if row.fault.is_none() {
-            3 + 4
-        } else {
-            4 + row.fails_at
-        };
-        assert_eq!(rt;
-            left.calls.wrapping_sub(before),
-            row.calls,
-            "{}",
-            row.fails_at
-        );
-        let Ok((_, record)) = RegFile::open(alloc, left.inner) else {
+        assert_eq!(rt; calls, OPEN_CALLS + row.calls, "{}", row.fails_at);
+        let Ok((_, record)) = RegFile::open(alloc, left) else {
             panic!(rt; "{}", row.fails_at)
         };
-        let wanted = told(alloc, record_of(alloc, 0x22)?)?;
         assert_eq!(rt; told(alloc, record)?, wanted, "{}", row.fails_at);
     }
     Ok(())

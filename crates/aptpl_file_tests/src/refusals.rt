@@ -6,17 +6,31 @@ use scsi_types::{Group, NoMemory};
 use std::alloc::Global;
 use std::test::Fail;
 
-/// Bytes put into a file of two registrants, a and b, of which a holds a reservation of type 5 (slot 1 from block 34 on,
-/// entries in block 35), and why it is refused.
+/// Bytes put into a file, and why it is refused, if it is.
 struct Row {
     name: &'static str,
     puts: &'static [(u32, usize, u8)],
-    fault: OpenFault,
+    fault: Option<OpenFault>,
 }
 
-const NOT: OpenFault = OpenFault::NotARegFile;
+const NOT: Option<OpenFault> = Some(OpenFault::NotARegFile);
 
-const ROWS: &[Row] = &[
+const VERSION: Option<OpenFault> = Some(OpenFault::Version);
+
+/// Two registrants, a and b, of which a holds a reservation of type 5.
+const TWO: &[Sent] = &[
+    (b'a', Group::One, Asked::Register(0x11)),
+    (b'b', Group::One, Asked::Register(0x22)),
+    (b'a', Group::One, Asked::Reserve(0x11, 5)),
+];
+
+/// Of a file with their record (slot 1 from block 34 on, entries in block 35).
+const ROWS_OF_TWO: &[Row] = &[
+    Row {
+        name: "as it was saved",
+        puts: &[],
+        fault: None,
+    },
     Row {
         name: "another root",
         puts: &[(0, 7, 0x32)],
@@ -25,12 +39,12 @@ const ROWS: &[Row] = &[
     Row {
         name: "version 3",
         puts: &[(0, 9, 3)],
-        fault: OpenFault::Version,
+        fault: VERSION,
     },
     Row {
         name: "version 257",
         puts: &[(0, 8, 1)],
-        fault: OpenFault::Version,
+        fault: VERSION,
     },
     Row {
         name: "another root comes before the version",
@@ -40,7 +54,7 @@ const ROWS: &[Row] = &[
     Row {
         name: "the version comes before the slot",
         puts: &[(0, 9, 3), (0, 10, 2)],
-        fault: OpenFault::Version,
+        fault: VERSION,
     },
     Row {
         name: "slot 2",
@@ -184,13 +198,55 @@ const ROWS: &[Row] = &[
     },
 ];
 
-const A1: Sent = (b'a', Group::One, Asked::Register(0x11));
+/// One port: through group 1 with 11h, and through group 2 with 22h.
+const ONE_PORT: &[Sent] = &[
+    (b'a', Group::One, Asked::Register(0x11)),
+    (b'a', Group::Two, Asked::Register(0x22)),
+];
 
-const A2: Sent = (b'a', Group::Two, Asked::Register(0x22));
+const ROWS_OF_ONE_PORT: &[Row] = &[
+    Row {
+        name: "as it was saved",
+        puts: &[],
+        fault: None,
+    },
+    Row {
+        name: "the same in version 1",
+        puts: &[(0, 9, 1)],
+        fault: None,
+    },
+    Row {
+        name: "two entries of one key",
+        puts: &[(35, 256 + 7, 0x11)],
+        fault: NOT,
+    },
+    Row {
+        name: "an entry of both beside one of group 2",
+        puts: &[(35, 9, 3)],
+        fault: NOT,
+    },
+    Row {
+        name: "an entry of both beside one of group 2 and the same key",
+        puts: &[(35, 9, 3), (35, 256 + 7, 0x11)],
+        fault: NOT,
+    },
+];
 
-const B1: Sent = (b'b', Group::One, Asked::Register(0x22));
+/// One registrant.
+const ONE: &[Sent] = &[(b'a', Group::One, Asked::Register(0x11))];
 
-const A_RESERVES: Sent = (b'a', Group::One, Asked::Reserve(0x11, 5));
+const ROWS_OF_ONE: &[Row] = &[
+    Row {
+        name: "group 3 in version 1",
+        puts: &[(0, 9, 1), (35, 9, 3)],
+        fault: NOT,
+    },
+    Row {
+        name: "group 3 in version 2",
+        puts: &[(35, 9, 3)],
+        fault: None,
+    },
+];
 
 /// Why a file with the record of these requests is refused, once these bytes are put into it.
 fn fault_of(
@@ -213,50 +269,15 @@ fn fault_of(
 #[test]
 fn rows(rt: HostRuntime) -> Result<(), Fail> {
     let alloc = rt.alloc();
-    for row in ROWS {
-        let fault = fault_of(alloc, &[A1, B1, A_RESERVES], row.puts)?;
-        assert_eq!(rt; fault, Some(row.fault), "{}", row.name);
+    for (sent, rows) in [
+        (TWO, ROWS_OF_TWO),
+        (ONE_PORT, ROWS_OF_ONE_PORT),
+        (ONE, ROWS_OF_ONE),
+    ] {
+        for row in rows {
+            assert_eq!(rt; fault_of(alloc, sent, row.puts)?, row.fault, "{}", row.name);
+        }
     }
-    assert_eq!(rt; fault_of(alloc, &[A1, B1, A_RESERVES], &[])?, None);
-    Ok(())
-}
-
-/// The same of a file of one port: through group 1 with 11h, and through group 2 with 22h.
-const ROWS_OF_ONE_PORT: &[Row] = &[
-    Row {
-        name: "two entries of one key",
-        puts: &[(35, 256 + 7, 0x11)],
-        fault: NOT,
-    },
-    Row {
-        name: "an entry of both beside one of group 2",
-        puts: &[(35, 9, 3)],
-        fault: NOT,
-    },
-    Row {
-        name: "an entry of both beside one of group 2 and the same key",
-        puts: &[(35, 9, 3), (35, 256 + 7, 0x11)],
-        fault: NOT,
-    },
-];
-
-#[test]
-fn rows_of_one_port(rt: HostRuntime) -> Result<(), Fail> {
-    let alloc = rt.alloc();
-    for row in ROWS_OF_ONE_PORT {
-        let fault = fault_of(alloc, &[A1, A2], row.puts)?;
-        assert_eq!(rt; fault, Some(row.fault), "{}", row.name);
-    }
-    assert_eq!(rt; fault_of(alloc, &[A1, A2], &[])?, None);
-    assert_eq!(rt; fault_of(alloc, &[A1, A2], &[(0, 9, 1)])?, None);
-    let clean = &[(0, 9, 1), (35, 9, 3)];
-    assert_eq!(rt;
-        fault_of(alloc, &[A1], clean)?,
-        Some(NOT),
-        "group 3 in version 1"
-    );
-    let both = &[(35, 9, 3)];
-    assert_eq!(rt; fault_of(alloc, &[A1], both)?, None, "group 3 in version 2");
     Ok(())
 }
 

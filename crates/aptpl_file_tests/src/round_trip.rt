@@ -8,23 +8,52 @@ use std::test::Fail;
 
 const KEY: u64 = 0xFFEE_DDCC_BBAA_9988;
 
-/// So many registrants, one an ISID, through the second group, of which the first holds a reservation of this type.
-fn registry_of(alloc: Global, count: u32, kind: u8) -> Result<Registry, NoMemory> {
+/// So many ports, one an ISID, of which each registers so through a group, and the first reserves with this type through it.
+fn registry_of(
+    alloc: Global,
+    ports: u32,
+    asked: Asked,
+    group: Group,
+    kind: u8,
+) -> Result<Registry, NoMemory> {
     let mut registry = Registry::new(alloc)?;
-    for isid in 0..count {
+    for isid in 0..ports {
         let name = Vec::from_slice(alloc, &[b'x'; 223])?;
         let port = PortName::new(name, u64::from(isid));
-        for asked in [Asked::Register(KEY), Asked::Reserve(KEY, kind)] {
-            let _ = registry.out(&port, Group::Two, request(asked));
-        }
+        let _ = registry.out(&port, group, request(asked));
+        let _ = registry.out(&port, group, request(Asked::Reserve(KEY, kind)));
     }
     Ok(registry)
+}
+
+/// Whether the registry is found in a file into which it was saved twice, with so many registrants, and so many entries in
+/// each slot.
+fn is_found(
+    alloc: Global,
+    registry: &Registry,
+    registrants: usize,
+    entries: u32,
+) -> Result<bool, NoMemory> {
+    let Some(mut file) = formatted(alloc)? else {
+        return Ok(false);
+    };
+    if file.save(&registry.lasting()).is_err() || file.save(&registry.lasting()).is_err() {
+        return Ok(false);
+    }
+    let mut device = file.close();
+    let counted = [block_of(&mut device, 1)[9], block_of(&mut device, 34)[9]];
+    let Ok((_, record)) = RegFile::open(alloc, device) else {
+        return Ok(false);
+    };
+    let is_whole = record.registrants().len() == registrants;
+    let are_counted = u32::from(counted[0]) == entries && u32::from(counted[1]) == entries;
+    Ok(is_whole && are_counted && told(alloc, record)? == told(alloc, registry.record()?)?)
 }
 
 #[test]
 fn counts_and_types(rt: HostRuntime) -> Result<(), Fail> {
     let alloc = rt.alloc();
-    for (count, kind) in [
+    for (ports, kind) in [
         (0, 1),
         (1, 1),
         (2, 3),
@@ -34,52 +63,21 @@ fn counts_and_types(rt: HostRuntime) -> Result<(), Fail> {
         (64, 8),
         (64, 5),
     ] {
-        let registry = registry_of(alloc, count, kind)?;
-        let wanted = told(alloc, registry.record()?)?;
-        let Some(mut file) = formatted(alloc)? else {
-            panic!(rt; "{count}")
-        };
-        assert!(rt; file.save(&registry.lasting()).is_ok(), "{count}");
-        assert!(rt; file.save(&registry.lasting()).is_ok(), "{count}");
-        let Ok((_, record)) = RegFile::open(alloc, file.close()) else {
-            panic!(rt; "{count}")
-        };
-        assert_eq!(rt; record.registrants().len(), count as usize, "{count}");
-        assert_eq!(rt; told(alloc, record)?, wanted, "{count}, {kind}");
+        let registry = registry_of(alloc, ports, Asked::Register(KEY), Group::Two, kind)?;
+        let is = is_found(alloc, &registry, ports as usize, ports)?;
+        assert!(rt; is, "{ports}, {kind}");
     }
     Ok(())
-}
-
-/// So many ports, each registered with ALL_TG_PT, of which the first holds a reservation of this type through group 1.
-fn registry_of_ports(alloc: Global, ports: u32, kind: u8) -> Result<Registry, NoMemory> {
-    let mut registry = Registry::new(alloc)?;
-    for isid in 0..ports {
-        let name = Vec::from_slice(alloc, &[b'x'; 223])?;
-        let port = PortName::new(name, u64::from(isid));
-        for asked in [Asked::RegisterEveryPort(KEY), Asked::Reserve(KEY, kind)] {
-            let _ = registry.out(&port, Group::One, request(asked));
-        }
-    }
-    Ok(registry)
 }
 
 #[test]
 fn two_registrants_an_entry(rt: HostRuntime) -> Result<(), Fail> {
     let alloc = rt.alloc();
     for (ports, kind) in [(1, 1), (2, 6), (31, 3), (32, 5), (32, 8)] {
-        let registry = registry_of_ports(alloc, ports, kind)?;
-        let wanted = told(alloc, registry.record()?)?;
-        let Some(mut file) = formatted(alloc)? else {
-            panic!(rt; "{ports}")
-        };
-        assert!(rt; file.save(&registry.lasting()).is_ok(), "{ports}");
-        let mut device = file.close();
-        assert_eq!(rt; u32::from(block_of(&mut device, 34)[9]), ports, "{ports}");
-        let Ok((_, record)) = RegFile::open(alloc, device) else {
-            panic!(rt; "{ports}")
-        };
-        assert_eq!(rt; record.registrants().len(), 2 * ports as usize, "{ports}");
-        assert_eq!(rt; told(alloc, record)?, wanted, "{ports}, {kind}");
+        let asked = Asked::RegisterEveryPort(KEY);
+        let registry = registry_of(alloc, ports, asked, Group::One, kind)?;
+        let is = is_found(alloc, &registry, 2 * ports as usize, ports)?;
+        assert!(rt; is, "{ports}, {kind}");
     }
     Ok(())
 }

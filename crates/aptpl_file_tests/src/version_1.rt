@@ -1,50 +1,40 @@
 //! A file of version 1: it is opened, and the next save replaces it.
-use crate::files::{Asked, Sent, block_of, record_of, registry_after, set_block, told};
+use crate::files::{
+    Asked, OPEN_CALLS, SAVE_CALLS, Sent, block_of, record_of, registry_after, set_block, told,
+};
+use crate::fuses::place_of;
 use aptpl_file::{FILE_BLOCKS, RegFile, SaveFault};
 use block_file::{FusedBlocks, MemBlocks};
 use scsi_types::{Group, NoMemory};
 use std::alloc::{AllocError, Global};
 use std::test::Fail;
 
-/// A file of version 1, as the program before this one left it: `iqn.2000-01.test:a`, ISID 400001370000h, has registered
-/// 11h with APTPL through group 1.
-const BLOCKS: &[(u32, &[u8])] = &[
-    (
-        0,
-        &[
-            0x41, 0x4C, 0x55, 0x41, 0x52, 0x45, 0x47, 0x31, 0x00, 0x01, 0x01,
-        ],
-    ),
-    (
-        34,
-        &[
-            0x41, 0x4C, 0x55, 0x41, 0x53, 0x4C, 0x54, 0x31, 0x01, 0x01, 0x00, 0xFF,
-        ],
-    ),
-    (
-        35,
-        &[
-            0, 0, 0, 0, 0, 0, 0, 0x11, 0x00, 0x01, 0x40, 0x00, 0x01, 0x37, 0x00, 0x00, 0x12, b'i',
-            b'q', b'n', b'.', b'2', b'0', b'0', b'0', b'-', b'0', b'1', b'.', b't', b'e', b's',
-            b't', b':', b'a',
-        ],
-    ),
-];
+/// The blocks of a file of version 1, as the program before this one left it: `iqn.2000-01.test:a`, ISID 400001370000h, has
+/// registered 11h with APTPL through group 1. Block 0, the root:
+const ROOT: &[u8] = b"ALUAREG1\x00\x01\x01";
+
+/// Block 34, the slot.
+const SLOT: &[u8] = b"ALUASLT1\x01\x01\x00\xFF";
+
+/// Block 35, its entry.
+const ENTRY: &[u8] = b"\0\0\0\0\0\0\0\x11\x00\x01\x40\x00\x01\x37\x00\x00\x12iqn.2000-01.test:a";
 
 /// The root after the next save.
-const NEW_ROOT: [u8; 11] = [
-    0x41, 0x4C, 0x55, 0x41, 0x52, 0x45, 0x47, 0x31, 0x00, 0x02, 0x00,
-];
+const NEW_ROOT: &[u8; 11] = b"ALUAREG1\x00\x02\x00";
 
 /// What the file is to hold then: the port with one key through both groups.
 const SENT: &[Sent] = &[(b'a', Group::One, Asked::RegisterEveryPort(0x22))];
 
 fn old_file(alloc: Global) -> Result<MemBlocks, AllocError> {
     let mut device = MemBlocks::new(alloc, FILE_BLOCKS)?;
-    for (index, begin) in BLOCKS {
-        set_block(&mut device, *index, begin);
-    }
+    put_old(&mut device);
     Ok(device)
+}
+
+fn put_old(device: &mut MemBlocks) {
+    set_block(device, 0, ROOT);
+    set_block(device, 34, SLOT);
+    set_block(device, 35, ENTRY);
 }
 
 /// What a restart finds.
@@ -77,16 +67,10 @@ fn its_root_is_replaced(rt: HostRuntime) -> Result<(), Fail> {
         panic!(rt; "the save failed")
     };
     let mut root = [0; 512];
-    root[..11].copy_from_slice(&NEW_ROOT);
+    root[..11].copy_from_slice(NEW_ROOT);
     assert_eq!(rt; block_of(&mut device, 0), root);
     Ok(())
 }
-
-/// The calls of an open: the root, the slot, and a flush.
-const OPEN_CALLS: u64 = 3;
-
-/// The calls of a save: the slot, a flush, the root, and a flush.
-const SAVE_CALLS: u64 = 4;
 
 /// Opens the file, and saves over a device that stops at this call of the save, and lands so many blocks of the write at
 /// which it stops: where the save failed, and the blocks that are left.
@@ -102,15 +86,6 @@ fn stopped(
     let registry = registry_after(alloc, SENT)?;
     let fault = file.save(&registry.lasting()).err();
     Ok(Some((fault, file.close().into_inner())))
-}
-
-/// Where a save fails that stops at this call, counted from 0.
-fn place_of(calls: u64) -> Option<SaveFault> {
-    match calls {
-        0..2 => Some(SaveFault::IdleSlot),
-        2..4 => Some(SaveFault::NewRoot),
-        _ => None,
-    }
 }
 
 #[test]

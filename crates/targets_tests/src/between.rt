@@ -84,12 +84,15 @@ impl<'a> Between<'a> {
         }
     }
 
-    /// The target, at which the second connection asks from now on, and how the stream of that connection ended and
-    /// what went out, where it was served.
-    pub fn over(self) -> (UnitSessions<MemBlocks>, Option<(End, Vec<u8>)>) {
-        let mut target = self.at.target;
-        let _ = target.connect(self.second);
-        (target, self.told)
+    /// How the stream of the second connection ended and what went out, where it was served.
+    pub fn take_told(&mut self) -> Option<(End, Vec<u8>)> {
+        self.told.take()
+    }
+
+    /// The target, at which the second connection asks from now on.
+    pub fn second(&mut self) -> &mut UnitSessions<MemBlocks> {
+        let _ = self.at.target.connect(self.second);
+        &mut self.at.target
     }
 
     // Serves the second connection, and leaves it.

@@ -1,10 +1,14 @@
 //! Logins that the target refuses, which attach nothing (RFC 7143, 11.13.5): where the unit is full, and where they name a
 //! session.
 use crate::life::{LOGIN_FIRST, OTHER, run, serve_over, shared};
-use crate::row::rows_of;
+use crate::row::{Row, rows_of};
 use crate::run::expect_end;
+use block_file::MemBlocks;
 use session::Target;
+use std::alloc::Global;
+use std::process::Abort;
 use std::test::*;
+use targets::UnitSessions;
 use test_streams::WHOLE;
 
 // The command behind a refused login is not looked at.
@@ -69,21 +73,29 @@ second
 < CHECK_CONDITION 27:02 0012700006000000000A00000000290000000000
 "#;
 
-// The unit is full, so a login is refused, and uses up no TSIH; one session ends, and the next login passes.
-#[test]
-fn room_for_one_more(rt: HostRuntime) -> Result<(), Fail> {
-    let alloc = rt.alloc();
-    let mut target = shared(alloc, 16, 64)?;
-    let rows = rows_of(alloc, ONE_MORE, &["second"])?;
-    let row = rows.first().ok_or("a row")?;
+// Serves each connection of the row, and ends the session that began last, the 64th, which has the number 63.
+fn serve_in_turn(
+    rt: &impl Abort,
+    alloc: Global,
+    target: &mut UnitSessions<MemBlocks>,
+    row: &Row<'_>,
+) -> Result<(), Fail> {
     for stream in &row.streams {
-        let told = serve_over(alloc, &mut target, LOGIN_FIRST, &stream.input.bytes, WHOLE)?;
-        expect_end(&rt, alloc, told.0, (row.name, stream.end()))?;
+        let told = serve_over(alloc, target, LOGIN_FIRST, &stream.input.bytes, WHOLE)?;
+        expect_end(rt, alloc, told.0, (row.name, stream.end()))?;
         assert_eq!(rt; told.1.as_slice(), stream.output.as_slice());
-        // The session that began last has the number 63.
         let _ = target.connect(Some(63));
         target.end();
         assert!(rt; !target.lives(64, OTHER, 63));
     }
     Ok(())
+}
+
+// The unit is full, so a login is refused, and uses up no TSIH; one session ends, and the next login passes.
+#[test]
+fn room_for_one_more(rt: HostRuntime) -> Result<(), Fail> {
+    let alloc = rt.alloc();
+    let rows = rows_of(alloc, ONE_MORE, &["second"])?;
+    let row = rows.first().ok_or("a row")?;
+    serve_in_turn(&rt, alloc, &mut shared(alloc, 16, 64)?, row)
 }

@@ -73,53 +73,52 @@ fn goes_on() -> Opening {
     Opening::FullFeature(Kind::Normal, start)
 }
 
-// Serves the first session up to its end, and the second, which comes between, up to its first command, and compares: the
-// target.
-fn serve_both(
+// What the second session goes on with when the first is over: compares, and no session is left.
+fn go_on(
     rt: &impl Abort,
     alloc: Global,
+    target: &mut UnitSessions<MemBlocks>,
     row: &Row<'_>,
-    reads: Reads,
-) -> Result<UnitSessions<MemBlocks>, Fail> {
-    let (first, second) = (row.stream(0)?, row.stream(1)?);
-    let target = shared(alloc, 16, 0)?;
-    let mut between = Between::new(alloc, target, &second.input.bytes, reads.second);
-    let told = serve_over(
-        alloc,
-        &mut between,
-        LOGIN_FIRST,
-        &first.input.bytes,
-        reads.first,
-    )?;
-    compare(rt, alloc, row.name, first, told)?;
-    let (target, told) = between.over();
-    let told = told.ok_or("no second connection")?;
-    compare(rt, alloc, row.name, second, told)?;
-    Ok(target)
+    reads: Calls,
+) -> Result<(), Fail> {
+    let rest = row.stream(2)?;
+    let told = serve_over(alloc, target, goes_on(), &rest.input.bytes, reads)?;
+    compare(rt, alloc, row.name, rest, told)?;
+    assert!(rt; !lives_still(target, row), "{}", row.name);
+    assert!(rt; has_attached(target, 0), "{}", row.name);
+    Ok(())
 }
 
-// Serves the two sessions, and compares: the target, when both are over.
+// Serves the first session up to its end, the second, which comes between, up to its first command, and what that one goes on
+// with, and compares.
 fn serve(
     rt: &impl Abort,
     alloc: Global,
+    between: &mut Between<'_>,
     row: &Row<'_>,
     reads: Reads,
-) -> Result<UnitSessions<MemBlocks>, Fail> {
-    let mut target = serve_both(rt, alloc, row, reads)?;
-    let rest = row.stream(2)?;
-    let told = serve_over(alloc, &mut target, goes_on(), &rest.input.bytes, reads.rest)?;
-    compare(rt, alloc, row.name, rest, told)?;
-    assert!(rt; !lives_still(&mut target, row), "{}", row.name);
-    Ok(target)
+) -> Result<(), Fail> {
+    let first = row.stream(0)?;
+    let told = serve_over(alloc, between, LOGIN_FIRST, &first.input.bytes, reads.first)?;
+    compare(rt, alloc, row.name, first, told)?;
+    let told = between.take_told().ok_or("no second connection")?;
+    compare(rt, alloc, row.name, row.stream(1)?, told)?;
+    go_on(rt, alloc, between.second(), row, reads.rest)
 }
 
-// Serves a row with each of its streams in all ways, and compares.
+// Serves a row, which comes so, at a target of its own.
+fn run_reads(rt: &impl Abort, alloc: Global, row: &Row<'_>, reads: Reads) -> Result<(), Fail> {
+    let second = row.stream(1)?;
+    let target = shared(alloc, 16, 0)?;
+    let mut between = Between::new(alloc, target, &second.input.bytes, reads.second);
+    serve(rt, alloc, &mut between, row, reads)
+}
+
+// Serves a row with each of its streams in all ways.
 fn run_row(rt: &impl Abort, alloc: Global, row: &Row<'_>) -> Result<(), Fail> {
-    let mut target = serve(rt, alloc, row, WHOLES)?;
-    assert!(rt; has_attached(&mut target, 0), "{}", row.name);
     for (at, stream) in row.streams.iter().enumerate() {
         for way in &stream.input.ways(alloc, row.each_place)? {
-            let _ = serve(rt, alloc, row, Reads::so(at, *way))?;
+            run_reads(rt, alloc, row, Reads::so(at, *way))?;
         }
     }
     Ok(())
