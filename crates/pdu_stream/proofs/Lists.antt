@@ -1,16 +1,7 @@
--- What moving and reading do to the bytes that wait in a buffer.
-use Rattle.std.proofs.Common.{◌≡◌, ℕ, ◌+◌, ◌-◌, ◌≤◌, List, ◌++◌, length, take, drop, arith, sym, ap, ◌∙◌, length-take-le, length-drop}
-use Rattle.std.proofs.lemmas.List.{drop-take, take-append-le, drop-append-le, Edits.take-paste}
+-- What reading does to the bytes that wait in a buffer.
+use Rattle.std.proofs.Common.{◌≡◌, ℕ, ◌+◌, ◌≤◌, List, ◌++◌, length, take, drop, arith, sym, ap, ◌∙◌, length-take-le}
+use Rattle.std.proofs.lemmas.List.{take-append-le, drop-append-le}
 use Rattle.std.proofs.Math.Seq.{take-append-add}
-use Rattle.std.specs.List.{copy_within}
-
--- moved to the front, the waiting bytes are the same
-pub moved_front : (xs : List ℕ) (start filled : ℕ) → start ≤ filled → filled ≤ length xs
-    → take (0 + (filled - start)) (copy_within xs start filled 0) ≡ drop start (take filled xs)
-moved_front xs start filled h k =
-    let e : start + (filled - start) ≡ filled = omega arith in
-    take-paste xs 0 (drop start xs) (filled - start) (omega arith) (omega (arith, length-drop start xs))
-    ∙ sym (drop-take start (filled - start) xs) ∙ ap (λ (m : ℕ). drop start (take m xs)) e
 
 -- n bytes of the part behind `filled` come behind the waiting bytes
 pub grown_behind : (xs part rest : List ℕ) (start filled n : ℕ) → start ≤ filled → filled ≤ length xs

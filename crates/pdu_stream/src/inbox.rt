@@ -73,9 +73,11 @@ impl Inbox {
     }
 }
 
-// Moves the bytes from `start` to `filled` to the front where no whole PDU has room behind them: where they start now.
+// Moves the bytes from `start` to `filled` to the front where no whole PDU has room behind them: where they start now. They are
+// few, so that they do not overlap with where they go.
 fn make_room(bytes: &mut [u8], start: usize, filled: usize) -> usize
-    requires { (start ≤ filled) × (filled ≤ length bytes.old) }
+    requires within { (start ≤ filled) × (filled ≤ length bytes.old) }
+    requires few { filled - start + (filled - start) + LONGEST_PDU ≤ length bytes.old }
     ensures moved { drop result (take (result + (filled - start)) bytes.new) ≡ drop start (take filled bytes.old) }
     ensures room { filled - start + LONGEST_PDU ≤ length bytes.old
         → result + (filled - start) + LONGEST_PDU ≤ length bytes.old }
@@ -86,7 +88,9 @@ fn make_room(bytes: &mut [u8], start: usize, filled: usize) -> usize
     if bytes.len() - filled >= LONGEST_PDU {
         return start;
     }
-    bytes.copy_within(start..filled, 0);
+    let waiting = filled - start;
+    let (front, back) = bytes.split_at_mut(start);
+    front[..waiting].copy_from_slice(&back[..waiting]);
     0
 }
 
