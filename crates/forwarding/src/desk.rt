@@ -18,8 +18,8 @@ use unit_history::{Opened, Pass, Refused, Units};
 /// Longer data is not copied for a desk: the worker that it came to serves its command at once, past those that wait.
 pub const LONGEST_COPY: usize = 256;
 
-// Up to so many commands at a time, as many as a desk has lanes, are served past its queue.
-const AT_ONCE: u64 = 4;
+/// So many lanes a desk has. As many workers at a time serve a command with no longer data past its queue.
+pub const LANES: u64 = 4;
 
 /// Why a desk does not take a job.
 #[derive(Clone, Copy, Debug, PartialEq, Eq, Error)]
@@ -35,14 +35,15 @@ pub enum DeskFault {
     NoMemory,
 }
 
-/// The desk of a controller, to which sessions of both controllers hand the commands of the units that the controller owns. The
-/// lanes of the controller serve them. What waits stands on a cache line of its own. Contracts see the controller's group.
+/// The desk of a controller, by way of which the workers of both controllers' sessions have commands served of the units that
+/// the controller owns: past its queue, or as jobs in it, which the lanes of the controller serve, or the workers that put them
+/// there. What waits stands on a cache line of its own. Contracts see the controller's group.
 #[derive(Drop)]
 pub struct Desk<B: Blocks, R: Blocks, O: Opener<B>, N: Array<Opened>> {
     group: Group,
     // Whether the queue is closed, for those who do not ask it.
     is_closed: AtomicBool,
-    // How many commands are served past the queue now.
+    // How many workers serve a command with short data past the queue now, or look whether they may.
     at_once: CachePadded<AtomicU64>,
     queue: CachePadded<Mutex<Queue<Waiting<B, R, O, N>>>>,
     filled: Condvar,
@@ -224,10 +225,43 @@ impl<B: Blocks, R: Blocks, O: Opener<B>, N: Array<Opened>> Desk<B, R, O, N> {
         (pass, Ok(end))
     }
 
-    /// Serves a command of a session through the desk: its worker serves it itself, at once where few others are served so, where its
-    /// data is long, or where there is no memory for its job: so what fences needs none. Else its job waits, and its worker
-    /// serves it where no lane has taken it. Refused by the desk, which is full or closed, no unit was asked, and the pass is as
-    /// it was.
+    // Serves a command as a job in the queue, which its worker serves where no lane has taken it; at once where there is no memory
+    // for the job: so what fences needs none.
+    fn serve_queued<W: Wait>(
+        &self,
+        rt: &W,
+        alloc: Global,
+        units: &Units<B, R, O, N>,
+        pass: Pass<B, R, O, N>,
+        asked: &Asked,
+        bytes: &[u8],
+    ) -> (
+        Pass<B, R, O, N>,
+        Result<Result<Reply, Refused<Group>>, DeskFault>,
+    )
+        requires { pass.place < units.now }
+        ensures place { result.0.place ≡ pass.place }
+        ensures end { IfOk result.1 (HasAnswered (O.claims && B.claims) (N.opening pass.place)
+            (handed_of pass asked.now bytes.now self.now) result.0.pass) }
+        ensures back { IfErr result.1 (λ fault. result.0 ≡ pass) }
+        ensures why { IfErr result.1 IsFullOrClosed }
+    {
+        match self.submit(rt, alloc, pass, asked, bytes) {
+            Ok(ticket) => {
+                let (pass, end) = self.serve_own(rt, alloc, units, ticket);
+                (pass, Ok(end))
+            }
+            Err((DeskFault::NoMemory, pass)) => {
+                self.serve_at_once(rt, alloc, units, pass, asked, bytes)
+            }
+            Err((DeskFault::Full, pass)) => (pass, Err(DeskFault::Full)),
+            Err((DeskFault::Closed, pass)) => (pass, Err(DeskFault::Closed)),
+        }
+    }
+
+    /// Serves a command of a session through the desk: its worker serves it itself, at once where its data is long or few others
+    /// are served so, and else by way of the queue. Refused by the desk, which is full or closed, no unit was asked, and the pass
+    /// is as it was.
     pub fn serve<W: Wait>(
         &self,
         rt: &W,
@@ -247,23 +281,15 @@ impl<B: Blocks, R: Blocks, O: Opener<B>, N: Array<Opened>> Desk<B, R, O, N> {
         ensures back { IfErr result.1 (λ fault. result.0 ≡ pass) }
         ensures why { IfErr result.1 IsFullOrClosed }
     {
-        let others = self.at_once.fetch_add(1, Ordering::SeqCst);
-        if others < AT_ONCE || bytes.len() > LONGEST_COPY {
+        if bytes.len() > LONGEST_COPY {
+            return self.serve_at_once(rt, alloc, units, pass, asked, bytes);
+        }
+        if self.at_once.fetch_add(1, Ordering::SeqCst) < LANES {
             let served = self.serve_at_once(rt, alloc, units, pass, asked, bytes);
             self.at_once.fetch_sub(1, Ordering::SeqCst);
             return served;
         }
         self.at_once.fetch_sub(1, Ordering::SeqCst);
-        match self.submit(rt, alloc, pass, asked, bytes) {
-            Ok(ticket) => {
-                let (pass, end) = self.serve_own(rt, alloc, units, ticket);
-                (pass, Ok(end))
-            }
-            Err((DeskFault::NoMemory, pass)) => {
-                self.serve_at_once(rt, alloc, units, pass, asked, bytes)
-            }
-            Err((DeskFault::Full, pass)) => (pass, Err(DeskFault::Full)),
-            Err((DeskFault::Closed, pass)) => (pass, Err(DeskFault::Closed)),
-        }
+        self.serve_queued(rt, alloc, units, pass, asked, bytes)
     }
 }

@@ -5,6 +5,7 @@ use crate::gate::Gate;
 use crate::server::Server;
 use crate::stacks::Stacks;
 use block_file::{Blocks, Opener};
+use forwarding::LANES;
 use numbering::Array;
 use scsi_types::Group;
 use std::alloc::Global;
@@ -12,9 +13,6 @@ use std::io;
 use std::sync::{Arc, Wait};
 use std::thread::{Builder, JoinHandle, Threads};
 use unit_history::Opened;
-
-/// So many lanes a controller has.
-pub const LANES: u32 = 4;
 
 // Serves what comes to the desk of a group, until it is closed and nothing waits there any more.
 fn lane<B: Blocks, F: Blocks, O: Opener<B>, N: Array<Opened>, R: Wait>(

@@ -20,7 +20,7 @@ pub use connection::Connection;
 pub use controllers::Controllers;
 pub use device::TargetDevice;
 pub use gate::{Gate, Open};
-pub use lanes::{LANES, start_lanes};
+pub use lanes::start_lanes;
 pub use live::{EnterFault, LAST_NUMBER, LAST_TSIH, LiveSession, Table};
 pub use server::{Server, Socket, Stop, accept, listen};
 pub use stacks::{SmallStacks, Stacks};

@@ -100,6 +100,49 @@ fn eight_sessions_at_a_device_that_hangs_hold_no_other_unit(rt: HostRuntime) -> 
     run(&rt, rt.alloc(), &Script::new(CROWDED))
 }
 
+// A's write hangs in the device of unit 0, and a short command of each of eight sessions waits behind it: more than are served past
+// the desk's queue at a time. Meanwhile B's go by way of the queue of the same desk, and are served by unit 1.
+const QUEUED: &str = r#"
+8 enter 1 LOGIN 7:56 HOST_A
+all > TEST_UNIT_READY
+all < CHECK_CONDITION 0012 70000600000000 0A00000000 2900 00000000
+A at 1
+A > LOGIN 7:56 HOST_B
+A < LOGGED_IN 7:36 15:09 WELCOME
+A > TEST_UNIT_READY
+A < CHECK_CONDITION 0012 70000600000000 0A00000000 2900 00000000
+B at 2
+B > LOGIN 7:56 HOST_B
+B < LOGGED_IN 7:36 15:0A WELCOME_2
+B > TEST_UNIT_READY 9:01
+B < CHECK_CONDITION 0012 70000600000000 0A00000000 2900 00000000
+B > WRITE 9:01 7:08 20:00000008 32:A40A00000000000000080000 0000000000000001
+B < GOOD
+disk hold 0
+A > WRITE 5:000200 pattern 512
+disk held 1
+all > TEST_UNIT_READY
+B > TEST_UNIT_READY 9:01
+B < GOOD
+B > WRITE 9:01 5:000200 pattern 512
+B < GOOD
+B > TEST_UNIT_READY 1:C1 9:01 20:00000200 32:28000000000500000100
+B < DATA_IN 5:000200 pattern 512
+B < GOOD 36:00000001
+0 shows 19
+disk open
+A < GOOD
+all < GOOD
+0 shows 28
+"#;
+
+#[test]
+fn eight_short_commands_behind_a_device_that_hangs_hold_no_other_unit(
+    rt: HostRuntime,
+) -> Result<(), Fail> {
+    run(&rt, rt.alloc(), &Script::new(QUEUED))
+}
+
 // Both desks are closed while A is logged in: each command is BUSY, and what is no command goes on.
 const CLOSED: &str = r#"
 A at 1

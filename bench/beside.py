@@ -1,9 +1,12 @@
 #!/usr/bin/env python3
-"""How fast arrayd is beside tgt: both serve the same file on tmpfs in turn, to the same client on the loopback. Prints a line
-for each kind of command, with the medians of the runs, how the two compare, and the time of the processor that arrayd took
-for a command. It wants the Debian package tgt, and rustc, by which it builds the client.
+"""How fast arrayd is beside tgt, or beside another build of itself: both serve the same file on tmpfs in turn, to the same
+client on the loopback. Prints a line for each kind of command, with the medians of the runs, how the two compare, by how
+many microseconds a command takes longer, and the time of the processor that arrayd took for it. It wants rustc, by which it
+builds the client, and the Debian package tgt where no other program is named.
 
-usage: bench/beside_tgt.py [--seconds N] [--runs N] [--only WORDS] [--size MIB]
+usage: bench/beside.py [--seconds N] [--runs N] [--only WORDS] [--size MIB] [--before PROGRAM] [--controller C]
+
+The program is $ARRAYD, or crates/arrayd/out/arrayd. Sessions go through controller C of an arrayd; 1 owns the unit.
 """
 
 import argparse
@@ -31,8 +34,8 @@ def processor_seconds(pid):
 class Arrayd:
     unit = 0
 
-    def __init__(self, disk):
-        words = [ARRAYD, "--port", str(PORT), "--target", NAME, disk]
+    def __init__(self, disk, program=ARRAYD):
+        words = [program, "--port", str(PORT), "--target", NAME, disk]
         self.process = subprocess.Popen(words, stdin=subprocess.PIPE, stdout=subprocess.PIPE, text=True)
         if self.process.stdout.readline() != "arrayd: ready\n":
             sys.exit("arrayd does not get ready")
@@ -64,13 +67,13 @@ class Tgt:
         self.process.wait()
 
 
-def measure(server, disk, client, words):
+def measure(start, disk, client, port, words):
     """Commands a second, and the microseconds of the processor that each took, user's and system's."""
-    server = server(disk)
+    server = start(disk)
     try:
         before = processor_seconds(server.process.pid)
         began = time.perf_counter()
-        out = subprocess.run([client, f"127.0.0.1:{PORT}", NAME, str(server.unit), *words], capture_output=True,
+        out = subprocess.run([client, f"127.0.0.1:{port}", NAME, str(server.unit), *words], capture_output=True,
                              text=True, timeout=120)
         took = time.perf_counter() - began
         if out.returncode != 0:
@@ -83,12 +86,16 @@ def measure(server, disk, client, words):
 
 
 def main():
-    words = argparse.ArgumentParser(description="How fast arrayd is beside tgt.")
+    words = argparse.ArgumentParser(description="How fast arrayd is beside tgt, or beside another arrayd.")
     words.add_argument("--seconds", type=float, default=1.0, help="how long a run is")
     words.add_argument("--runs", type=int, default=5, help="runs of each, of which the median counts")
     words.add_argument("--size", type=int, default=256, help="MiB of the disk")
     words.add_argument("--only", default="", help="only lines with these words")
+    words.add_argument("--before", help="another arrayd, in place of tgt")
+    words.add_argument("--controller", type=int, choices=(1, 2), default=1, help="of an arrayd, which sessions go through")
     asked = words.parse_args()
+    name, other = ("before", lambda disk: Arrayd(disk, asked.before)) if asked.before else ("tgt", Tgt)
+    port = PORT + 4 * (asked.controller - 1)
     with tempfile.TemporaryDirectory(dir="/dev/shm") as place:
         client = os.path.join(place, "client")
         source = os.path.join(TOP, "bench", "client.rs")
@@ -104,13 +111,16 @@ def main():
                         if asked.only not in line:
                             continue
                         run = [work, str(size), str(depth), str(sessions), str(asked.seconds)]
-                        got = {Arrayd: [], Tgt: []}
-                        for _ in range(asked.runs):
-                            for server in got:
-                                got[server].append(measure(server, disk, client, run))
-                        ours, theirs = (statistics.median(g[0] for g in got[s]) for s in (Arrayd, Tgt))
-                        user, system = (statistics.median(g[k] for g in got[Arrayd]) for k in (1, 2))
-                        print(f"{line}: arrayd {ours:,.0f} a second, tgt {theirs:,.0f}: {ours / theirs:.2f}; "
+                        got, others = [], []
+                        pair = [(got, Arrayd, port), (others, other, PORT if other is Tgt else port)]
+                        for turn in range(asked.runs):
+                            # each of the two goes first in every other turn
+                            for kept, start, at in pair[:: 1 - turn % 2 * 2]:
+                                kept.append(measure(start, disk, client, at, run))
+                        ours, user, system = (statistics.median(g[k] for g in got) for k in range(3))
+                        theirs = statistics.median(g[0] for g in others)
+                        print(f"{line}: arrayd {ours:,.0f} a second, {name} {theirs:,.0f}: {ours / theirs:.2f}, "
+                              f"{1e6 / ours - 1e6 / theirs:+.2f} us a command; "
                               f"arrayd's processor {user:.1f} us user, {system:.1f} us system", flush=True)
 
 
