@@ -26,7 +26,7 @@ use std::net::{Net, SocketAddrV4, TcpListener, TcpStream};
 use std::process::Abort;
 use std::sync::Wait;
 use std::test::Fail;
-use test_streams::{RowError, lines_of, pdu_of};
+use test_streams::{HOST_A, RowError, WELCOME, lines_of, pdu_of};
 
 /// The hosts of a script, and the array that they reach.
 #[derive(Drop)]
@@ -45,15 +45,10 @@ pub struct Stage<'a, R: Wait + Drop, C: Console> {
 }
 
 // The texts of a login.
-const HOST_A: &str =
-    r"InitiatorName=iqn.2000-01.test:a\0TargetName=iqn.2000-01.test:array\0SessionType=Normal\0";
-
 const HOST_B: &str =
     r"InitiatorName=iqn.2000-01.test:b\0TargetName=iqn.2000-01.test:array\0SessionType=Normal\0";
 
 const FINDS: &str = r"InitiatorName=iqn.2000-01.test:a\0SessionType=Discovery\0";
-
-const WELCOME: &str = r"TargetPortalGroupTag=1\0MaxRecvDataSegmentLength=65536\0";
 
 const WELCOME_2: &str = r"TargetPortalGroupTag=2\0MaxRecvDataSegmentLength=65536\0";
 

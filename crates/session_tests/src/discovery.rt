@@ -12,7 +12,7 @@ login 1
 > LOGOUT 24:00000003
 > TEXT_REQUEST 7:10 24:00000004 "SendTargets=All\0"
 < LOGGED_IN 7:1F "MaxRecvDataSegmentLength=65536\0"
-< TEXT_RESPONSE 7:60 24:00000002 TOLD
+< TEXT_RESPONSE 7:60 24:00000002 THE_TARGET
 < NOP_IN 7:05 24:000000030000000300000022 pattern 5
 < LOGGED_OUT 24:000000040000000400000023
 asked begin iqn.2000-01.test:a 400001370000 Discovery
@@ -25,7 +25,7 @@ login 1
 > NOP_OUT 0:40
 > LOGOUT 0:46
 < LOGGED_IN 7:1F "MaxRecvDataSegmentLength=65536\0"
-< TEXT_RESPONSE 7:60 24:000000020000000100000020 TOLD
+< TEXT_RESPONSE 7:60 24:000000020000000100000020 THE_TARGET
 < NOP_IN 24:000000030000000100000020
 < LOGGED_OUT 24:000000040000000100000020
 asked begin iqn.2000-01.test:a 400001370000 Discovery
@@ -36,7 +36,7 @@ login 1
 > LOGIN 1:83 7:47 "InitiatorName=iqn.2000-01.test:a\0SessionType=Discovery\0AuthMethod=None\0"
 > TEXT_REQUEST 7:10 "SendTargets=All\0"
 < LOGGED_IN 1:83 7:10 "AuthMethod=None\0"
-< TEXT_RESPONSE 7:60 24:00000002 TOLD
+< TEXT_RESPONSE 7:60 24:00000002 THE_TARGET
 asked begin iqn.2000-01.test:a 400001370000 Discovery
 
 with the target's name, by a portal of group 2: all portals are told
@@ -44,7 +44,7 @@ login 2
 > LOGIN 7:59 "InitiatorName=iqn.2000-01.test:a\0SessionType=Discovery\0TargetName=iqn.2000-01.test:array\0"
 > TEXT_REQUEST 7:10 "SendTargets=All\0"
 < LOGGED_IN 7:1F "MaxRecvDataSegmentLength=65536\0"
-< TEXT_RESPONSE 7:60 24:00000002 TOLD
+< TEXT_RESPONSE 7:60 24:00000002 THE_TARGET
 asked begin iqn.2000-01.test:a 400001370000 Discovery
 
 480 bytes of an answer, where the initiator takes 512
@@ -54,7 +54,7 @@ login 1
 > TEXT_REQUEST 7:41 5*"SendTargets=\0"
 < LOGGED_IN 1:81 14:0000
 < LOGGED_IN 7:1F 24:00000002 "MaxRecvDataSegmentLength=65536\0"
-< TEXT_RESPONSE 6:01E0 24:00000003 5*TOLD
+< TEXT_RESPONSE 6:01E0 24:00000003 5*THE_TARGET
 asked begin iqn.2000-01.test:a 400001370000 Discovery
 
 the target begins no session
@@ -68,9 +68,9 @@ end Protocol
 
 SendTargets=All in a normal session
 login 1
-> LOGIN 7:56 NAMES_AND_TYPE
+> LOGIN 7:56 HOST_A
 > TEXT_REQUEST 7:10 "SendTargets=All\0"
-< LOGGED_IN 7:36 SAID
+< LOGGED_IN 7:36 WELCOME
 < TEXT_RESPONSE 7:13 24:00000002 "SendTargets=Reject\0"
 asked begin iqn.2000-01.test:a 400001370000 Normal
 "#;
@@ -104,7 +104,7 @@ login 1
 > TEXT_REQUEST 7:10 "SendTargets=All\0"
 > WRITE 24:00000002
 < LOGGED_IN 7:1F "MaxRecvDataSegmentLength=65536\0"
-< TEXT_RESPONSE 7:60 24:00000002 TOLD
+< TEXT_RESPONSE 7:60 24:00000002 THE_TARGET
 < REJECT 2:04 24:000000030000000200000021 rejected WRITE 24:00000002
 asked begin iqn.2000-01.test:a 400001370000 Discovery
 end Protocol

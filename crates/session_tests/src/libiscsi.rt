@@ -54,7 +54,7 @@ login 1
   "HeaderDigest=None\0DataDigest=None\0InitialR2T=Yes\0ImmediateData=Yes\0MaxBurstLength=262144\0"
   "FirstBurstLength=65536\0DefaultTime2Wait=2\0DefaultTime2Retain=0\0MaxOutstandingR2T=1\0ErrorRecoveryLevel=0\0"
   "IFMarker=No\0OFMarker=No\0MaxConnections=1\0DataPDUInOrder=Yes\0DataSequenceInOrder=Yes\0"
-< TEXT_RESPONSE 7:60 16:327B23C7 24:000000026B8B45676B8B4586 TOLD
+< TEXT_RESPONSE 7:60 16:327B23C7 24:000000026B8B45676B8B4586 THE_TARGET
 < LOGGED_OUT 16:327B23C8 24:000000036B8B45676B8B4586
 asked begin iqn.2007-10.com.github:sahlberg:libiscsi:test 803B1F620000 Discovery
 end LoggedOut

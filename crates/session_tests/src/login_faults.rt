@@ -8,70 +8,70 @@ const FIRST: &str = r"
 an opcode that no PDU has
 login 1
 > LOGIN 0:07
-> LOGIN 7:56 NAMES_AND_TYPE
+> LOGIN 7:56 HOST_A
 < REJECT 2:05 24:00000001000000000000001F rejected LOGIN 0:07
 end Protocol
 
 another, of those of a target
 login 1
 > LOGIN 0:3E
-> LOGIN 7:56 NAMES_AND_TYPE
+> LOGIN 7:56 HOST_A
 < REJECT 2:05 24:00000001000000000000001F rejected LOGIN 0:3E
 end Protocol
 
 a PDU of a target
 login 1
 > GOOD
-> LOGIN 7:56 NAMES_AND_TYPE
+> LOGIN 7:56 HOST_A
 < REJECT 2:05 24:00000001000000000000001F rejected GOOD
 end Protocol
 
 a Login Response
 login 1
 > LOGGED_IN
-> LOGIN 7:56 NAMES_AND_TYPE
+> LOGIN 7:56 HOST_A
 < REJECT 2:05 24:00000001000000000000001F rejected LOGGED_IN
 end Protocol
 
 a PDU of a target with a reserved field that is not zero
 login 1
 > GOOD 8:01
-> LOGIN 7:56 NAMES_AND_TYPE
+> LOGIN 7:56 HOST_A
 < REJECT 2:09 24:00000001000000000000001F rejected GOOD 8:01
 end Protocol
 
 an additional header segment
 login 1
 > LOGIN 4:01
-> LOGIN 7:56 NAMES_AND_TYPE
+> LOGIN 7:56 HOST_A
 < REJECT 2:09 24:00000001000000000000001F rejected LOGIN 4:01
 end Protocol
 
 a data segment of 65537 bytes
 login 1
 > LOGIN 5:010001
-> LOGIN 7:56 NAMES_AND_TYPE
+> LOGIN 7:56 HOST_A
 < REJECT 2:09 24:00000001000000000000001F rejected LOGIN 5:010001
 end Protocol
 
 an additional header segment and 65537 bytes, of a NOP-Out
 login 1
 > NOP_OUT 4:01010001
-> LOGIN 7:56 NAMES_AND_TYPE
+> LOGIN 7:56 HOST_A
 < REJECT 2:09 24:00000001000000000000001F rejected NOP_OUT 4:01010001
 end Protocol
 
 a SCSI Command without F
 login 1
 > TEST_UNIT_READY 1:01
-> LOGIN 7:56 NAMES_AND_TYPE
+> LOGIN 7:56 HOST_A
 < REJECT 2:09 24:00000001000000000000001F rejected TEST_UNIT_READY 1:01
 end Protocol
 
 a SCSI Command with R and W
 login 1
 > TEST_UNIT_READY 1:E1
-> LOGIN 7:56 NAMES_AND_TYPE
+> LOGIN 7:56 HOST_A
 < REJECT 2:09 24:00000001000000000000001F rejected TEST_UNIT_READY 1:E1
 end Protocol
 ";
@@ -82,7 +82,7 @@ an opcode that no PDU has
 login 1
 > LOGIN 1:81 7:43 NAMES
 > LOGIN 0:07
-> LOGIN 7:56 NAMES_AND_TYPE
+> LOGIN 7:56 HOST_A
 < LOGGED_IN 1:81 7:17 14:0000 "TargetPortalGroupTag=1\0"
 < REJECT 2:05 24:00000002 rejected LOGIN 0:07
 end Protocol
@@ -91,7 +91,7 @@ another, of those of a target
 login 1
 > LOGIN 1:81 7:43 NAMES
 > LOGIN 0:3E
-> LOGIN 7:56 NAMES_AND_TYPE
+> LOGIN 7:56 HOST_A
 < LOGGED_IN 1:81 7:17 14:0000 "TargetPortalGroupTag=1\0"
 < REJECT 2:05 24:00000002 rejected LOGIN 0:3E
 end Protocol
@@ -100,7 +100,7 @@ a PDU of a target
 login 1
 > LOGIN 1:81 7:43 NAMES
 > GOOD
-> LOGIN 7:56 NAMES_AND_TYPE
+> LOGIN 7:56 HOST_A
 < LOGGED_IN 1:81 7:17 14:0000 "TargetPortalGroupTag=1\0"
 < REJECT 2:05 24:00000002 rejected GOOD
 end Protocol
@@ -109,7 +109,7 @@ a Login Response
 login 1
 > LOGIN 1:81 7:43 NAMES
 > LOGGED_IN
-> LOGIN 7:56 NAMES_AND_TYPE
+> LOGIN 7:56 HOST_A
 < LOGGED_IN 1:81 7:17 14:0000 "TargetPortalGroupTag=1\0"
 < REJECT 2:05 24:00000002 rejected LOGGED_IN
 end Protocol
@@ -118,7 +118,7 @@ a PDU of a target with a reserved field that is not zero
 login 1
 > LOGIN 1:81 7:43 NAMES
 > GOOD 8:01
-> LOGIN 7:56 NAMES_AND_TYPE
+> LOGIN 7:56 HOST_A
 < LOGGED_IN 1:81 7:17 14:0000 "TargetPortalGroupTag=1\0"
 < REJECT 2:09 24:00000002 rejected GOOD 8:01
 end Protocol
@@ -127,7 +127,7 @@ an additional header segment
 login 1
 > LOGIN 1:81 7:43 NAMES
 > LOGIN 4:01
-> LOGIN 7:56 NAMES_AND_TYPE
+> LOGIN 7:56 HOST_A
 < LOGGED_IN 1:81 7:17 14:0000 "TargetPortalGroupTag=1\0"
 < REJECT 2:09 24:00000002 rejected LOGIN 4:01
 end Protocol
@@ -136,7 +136,7 @@ a data segment of 65537 bytes
 login 1
 > LOGIN 1:81 7:43 NAMES
 > LOGIN 5:010001
-> LOGIN 7:56 NAMES_AND_TYPE
+> LOGIN 7:56 HOST_A
 < LOGGED_IN 1:81 7:17 14:0000 "TargetPortalGroupTag=1\0"
 < REJECT 2:09 24:00000002 rejected LOGIN 5:010001
 end Protocol
@@ -145,7 +145,7 @@ an additional header segment and 65537 bytes, of a NOP-Out
 login 1
 > LOGIN 1:81 7:43 NAMES
 > NOP_OUT 4:01010001
-> LOGIN 7:56 NAMES_AND_TYPE
+> LOGIN 7:56 HOST_A
 < LOGGED_IN 1:81 7:17 14:0000 "TargetPortalGroupTag=1\0"
 < REJECT 2:09 24:00000002 rejected NOP_OUT 4:01010001
 end Protocol
@@ -154,7 +154,7 @@ a SCSI Command without F
 login 1
 > LOGIN 1:81 7:43 NAMES
 > TEST_UNIT_READY 1:01
-> LOGIN 7:56 NAMES_AND_TYPE
+> LOGIN 7:56 HOST_A
 < LOGGED_IN 1:81 7:17 14:0000 "TargetPortalGroupTag=1\0"
 < REJECT 2:09 24:00000002 rejected TEST_UNIT_READY 1:01
 end Protocol
@@ -163,7 +163,7 @@ a SCSI Command with R and W
 login 1
 > LOGIN 1:81 7:43 NAMES
 > TEST_UNIT_READY 1:E1
-> LOGIN 7:56 NAMES_AND_TYPE
+> LOGIN 7:56 HOST_A
 < LOGGED_IN 1:81 7:17 14:0000 "TargetPortalGroupTag=1\0"
 < REJECT 2:09 24:00000002 rejected TEST_UNIT_READY 1:E1
 end Protocol
@@ -172,7 +172,7 @@ its numbers are those of the Login Request
 login 1
 > LOGIN 1:81 7:43 24:FFFFFFFE NAMES
 > LOGIN 0:07
-> LOGIN 7:56 NAMES_AND_TYPE
+> LOGIN 7:56 HOST_A
 < LOGGED_IN 1:81 7:17 14:0000 24:00000001FFFFFFFE0000001D "TargetPortalGroupTag=1\0"
 < REJECT 2:05 24:00000002FFFFFFFE0000001D rejected LOGIN 0:07
 end Protocol

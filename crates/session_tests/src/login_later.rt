@@ -7,7 +7,7 @@ stage 1, where stage 0 stays
 login 1
 > LOGIN 1:00 7:43 NAMES
 > LOGIN
-> LOGIN 7:56 NAMES_AND_TYPE
+> LOGIN 7:56 HOST_A
 < LOGGED_IN 1:00 7:17 14:0000 "TargetPortalGroupTag=1\0"
 < LOGIN_REFUSED 24:00000002
 end Protocol
@@ -16,7 +16,7 @@ stage 0, where stage 1 is next
 login 1
 > LOGIN 1:81 7:43 NAMES
 > LOGIN 1:81
-> LOGIN 7:56 NAMES_AND_TYPE
+> LOGIN 7:56 HOST_A
 < LOGGED_IN 1:81 7:17 14:0000 "TargetPortalGroupTag=1\0"
 < LOGIN_REFUSED 1:00 24:00000002
 end Protocol
@@ -25,7 +25,7 @@ stage 3, where stage 1 is next
 login 1
 > LOGIN 1:81 7:43 NAMES
 > LOGIN 1:8F
-> LOGIN 7:56 NAMES_AND_TYPE
+> LOGIN 7:56 HOST_A
 < LOGGED_IN 1:81 7:17 14:0000 "TargetPortalGroupTag=1\0"
 < LOGIN_REFUSED 1:0C 24:00000002
 end Protocol
@@ -34,7 +34,7 @@ T with C
 login 1
 > LOGIN 1:00 7:43 NAMES
 > LOGIN 1:C1
-> LOGIN 7:56 NAMES_AND_TYPE
+> LOGIN 7:56 HOST_A
 < LOGGED_IN 1:00 7:17 14:0000 "TargetPortalGroupTag=1\0"
 < LOGIN_REFUSED 1:00 24:00000002
 end Protocol
@@ -43,7 +43,7 @@ from stage 1 to stage 1
 login 1
 > LOGIN 1:81 7:43 NAMES
 > LOGIN 1:85
-> LOGIN 7:56 NAMES_AND_TYPE
+> LOGIN 7:56 HOST_A
 < LOGGED_IN 1:81 7:17 14:0000 "TargetPortalGroupTag=1\0"
 < LOGIN_REFUSED 24:00000002
 end Protocol
@@ -54,7 +54,7 @@ a pair without =
 login 1
 > LOGIN 1:81 7:43 NAMES
 > LOGIN 7:04 "X-a\0"
-> LOGIN 7:56 NAMES_AND_TYPE
+> LOGIN 7:56 HOST_A
 < LOGGED_IN 1:81 7:17 14:0000 "TargetPortalGroupTag=1\0"
 < LOGIN_REFUSED 24:00000002
 end Protocol
@@ -63,7 +63,7 @@ a last pair without its zero byte
 login 1
 > LOGIN 1:81 7:43 NAMES
 > LOGIN 7:10 "ImmediateData=No"
-> LOGIN 7:56 NAMES_AND_TYPE
+> LOGIN 7:56 HOST_A
 < LOGGED_IN 1:81 7:17 14:0000 "TargetPortalGroupTag=1\0"
 < LOGIN_REFUSED 24:00000002
 end Protocol
@@ -72,7 +72,7 @@ a key of an earlier request
 login 1
 > LOGIN 1:00 7:54 NAMES "ImmediateData=No\0"
 > LOGIN 1:83 7:11 "ImmediateData=No\0"
-> LOGIN 7:56 NAMES_AND_TYPE
+> LOGIN 7:56 HOST_A
 < LOGGED_IN 1:00 7:28 14:0000 "TargetPortalGroupTag=1\0ImmediateData=No\0"
 < LOGIN_REFUSED 1:00 24:00000002
 end Protocol
@@ -81,7 +81,7 @@ a key twice
 login 1
 > LOGIN 1:81 7:43 NAMES
 > LOGIN 7:22 "ImmediateData=No\0ImmediateData=No\0"
-> LOGIN 7:56 NAMES_AND_TYPE
+> LOGIN 7:56 HOST_A
 < LOGGED_IN 1:81 7:17 14:0000 "TargetPortalGroupTag=1\0"
 < LOGIN_REFUSED 24:00000002
 end Protocol
@@ -90,7 +90,7 @@ AuthMethod without None
 login 1
 > LOGIN 1:00 7:43 NAMES
 > LOGIN 1:81 7:10 "AuthMethod=CHAP\0"
-> LOGIN 7:56 NAMES_AND_TYPE
+> LOGIN 7:56 HOST_A
 < LOGGED_IN 1:00 7:17 14:0000 "TargetPortalGroupTag=1\0"
 < LOGIN_REFUSED 1:00 24:00000002 37:01
 end Protocol
@@ -104,7 +104,7 @@ login 1
   "k34=\0k35=\0k36=\0k37=\0k38=\0k39=\0k40=\0k41=\0k42=\0k43=\0k44=\0k45=\0k46=\0k47=\0k48=\0k49=\0k50=\0k51=\0k52=\0"
   "k53=\0k54=\0k55=\0k56=\0k57=\0k58=\0k59=\0k60=\0k61=\0"
 > LOGIN 1:83 7:05 "X-a=\0"
-> LOGIN 7:56 NAMES_AND_TYPE
+> LOGIN 7:56 HOST_A
 < LOGGED_IN 1:00 6:0473 14:0000 "TargetPortalGroupTag=1\0k00=NotUnderstood\0k01=NotUnderstood\0k02=NotUnderstood\0"
   "k03=NotUnderstood\0k04=NotUnderstood\0k05=NotUnderstood\0k06=NotUnderstood\0k07=NotUnderstood\0k08=NotUnderstood\0"
   "k09=NotUnderstood\0k10=NotUnderstood\0k11=NotUnderstood\0k12=NotUnderstood\0k13=NotUnderstood\0k14=NotUnderstood\0"
@@ -123,7 +123,7 @@ in a run with C the limit is met at once
 login 1
 > LOGIN 1:40 6:2000 NAMES "X-a=" 8121*61
 > LOGIN 1:40 7:01 "\0"
-> LOGIN 7:56 NAMES_AND_TYPE
+> LOGIN 7:56 HOST_A
 < LOGGED_IN 1:00 14:0000
 < LOGIN_REFUSED 1:00 24:00000002
 end Protocol
@@ -132,7 +132,7 @@ what a run with C comes to is looked at behind it
 login 1
 > LOGIN 1:44 7:34 "InitiatorName=iqn.2000-01.test:a\0TargetName=iqn.2000"
 > LOGIN 7:0B "-01.test:b\0"
-> LOGIN 7:56 NAMES_AND_TYPE
+> LOGIN 7:56 HOST_A
 < LOGGED_IN 1:04 14:0000
 < LOGIN_REFUSED 24:00000002 37:03
 end Protocol
@@ -143,7 +143,7 @@ a run with C of another stage
 login 1
 > LOGIN 1:44 7:34 "InitiatorName=iqn.2000-01.test:a\0TargetName=iqn.2000"
 > LOGIN 1:83 7:0F "-01.test:array\0"
-> LOGIN 7:56 NAMES_AND_TYPE
+> LOGIN 7:56 HOST_A
 < LOGGED_IN 1:04 14:0000
 < LOGIN_REFUSED 1:00 24:00000002
 end Protocol
@@ -152,7 +152,7 @@ a run with C that names a session
 login 1
 > LOGIN 1:44 7:19 14:0009 "InitiatorName=iqn.2000-01"
 > LOGIN 7:2A 14:0009 ".test:a\0TargetName=iqn.2000-01.test:array\0"
-> LOGIN 7:56 NAMES_AND_TYPE
+> LOGIN 7:56 HOST_A
 < LOGGED_IN 1:04 14:0000
 < LOGIN_REFUSED 14:0009 24:00000002 37:0A
 asked lives 9 iqn.2000-01.test:a 400001370000
@@ -163,7 +163,7 @@ login 1
 begin refused
 > LOGIN 1:81 7:43 NAMES
 > LOGIN 7:11 "ImmediateData=No\0"
-> LOGIN 7:56 NAMES_AND_TYPE
+> LOGIN 7:56 HOST_A
 < LOGGED_IN 1:81 7:17 14:0000 "TargetPortalGroupTag=1\0"
 < LOGIN_REFUSED 24:00000002 36:0302
 asked begin iqn.2000-01.test:a 400001370000 Normal

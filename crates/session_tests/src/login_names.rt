@@ -6,49 +6,49 @@ const MISSING: &str = r#"
 no text
 login 1
 > LOGIN
-> LOGIN 7:56 NAMES_AND_TYPE
+> LOGIN 7:56 HOST_A
 < LOGIN_REFUSED 37:07
 end Protocol
 
 no InitiatorName
 login 1
 > LOGIN 7:35 "TargetName=iqn.2000-01.test:array\0SessionType=Normal\0"
-> LOGIN 7:56 NAMES_AND_TYPE
+> LOGIN 7:56 HOST_A
 < LOGIN_REFUSED 37:07
 end Protocol
 
 no InitiatorName, in a discovery session of an unknown target
 login 1
 > LOGIN 7:34 "SessionType=Discovery\0TargetName=iqn.2000-01.test:b\0"
-> LOGIN 7:56 NAMES_AND_TYPE
+> LOGIN 7:56 HOST_A
 < LOGIN_REFUSED 37:07
 end Protocol
 
 a session type that there is not
 login 1
 > LOGIN 7:55 NAMES "SessionType=Other\0"
-> LOGIN 7:56 NAMES_AND_TYPE
+> LOGIN 7:56 HOST_A
 < LOGIN_REFUSED 37:09
 end Protocol
 
 the session type comes before the names of targets
 login 1
 > LOGIN 7:37 "InitiatorName=iqn.2000-01.test:a\0SessionType=discovery\0"
-> LOGIN 7:56 NAMES_AND_TYPE
+> LOGIN 7:56 HOST_A
 < LOGIN_REFUSED 37:09
 end Protocol
 
 no TargetName in a normal session
 login 1
 > LOGIN 7:34 "InitiatorName=iqn.2000-01.test:a\0SessionType=Normal\0"
-> LOGIN 7:56 NAMES_AND_TYPE
+> LOGIN 7:56 HOST_A
 < LOGIN_REFUSED 37:07
 end Protocol
 
 nor a SessionType
 login 1
 > LOGIN 7:21 "InitiatorName=iqn.2000-01.test:a\0"
-> LOGIN 7:56 NAMES_AND_TYPE
+> LOGIN 7:56 HOST_A
 < LOGIN_REFUSED 37:07
 end Protocol
 "#;
@@ -57,28 +57,28 @@ const TARGETS: &str = r#"
 an unknown target
 login 1
 > LOGIN 7:52 "InitiatorName=iqn.2000-01.test:a\0TargetName=iqn.2000-01.test:b\0SessionType=Normal\0"
-> LOGIN 7:56 NAMES_AND_TYPE
+> LOGIN 7:56 HOST_A
 < LOGIN_REFUSED 37:03
 end Protocol
 
 an empty TargetName
 login 1
 > LOGIN 7:2D "InitiatorName=iqn.2000-01.test:a\0TargetName=\0"
-> LOGIN 7:56 NAMES_AND_TYPE
+> LOGIN 7:56 HOST_A
 < LOGIN_REFUSED 37:03
 end Protocol
 
 a beginning of the target's name
 login 1
 > LOGIN 7:42 "InitiatorName=iqn.2000-01.test:a\0TargetName=iqn.2000-01.test:arra\0"
-> LOGIN 7:56 NAMES_AND_TYPE
+> LOGIN 7:56 HOST_A
 < LOGIN_REFUSED 37:03
 end Protocol
 
 a discovery session of an unknown target
 login 1
 > LOGIN 7:55 "InitiatorName=iqn.2000-01.test:a\0SessionType=Discovery\0TargetName=iqn.2000-01.test:b\0"
-> LOGIN 7:56 NAMES_AND_TYPE
+> LOGIN 7:56 HOST_A
 < LOGIN_REFUSED 37:03
 end Protocol
 
@@ -86,7 +86,7 @@ an unknown target and a TSIH: the target is not asked
 login 1
 lives
 > LOGIN 7:3F 14:0007 "InitiatorName=iqn.2000-01.test:a\0TargetName=iqn.2000-01.test:b\0"
-> LOGIN 7:56 NAMES_AND_TYPE
+> LOGIN 7:56 HOST_A
 < LOGIN_REFUSED 14:0007 37:03
 end Protocol
 "#;
@@ -95,16 +95,16 @@ const SESSIONS: &str = r#"
 one connection more in a session that lives
 login 1
 lives
-> LOGIN 7:56 14:0007 NAMES_AND_TYPE
-> LOGIN 7:56 NAMES_AND_TYPE
+> LOGIN 7:56 14:0007 HOST_A
+> LOGIN 7:56 HOST_A
 < LOGIN_REFUSED 14:0007 37:06
 asked lives 7 iqn.2000-01.test:a 400001370000
 end Protocol
 
 a connection in a session that does not live
 login 1
-> LOGIN 7:56 14:0007 NAMES_AND_TYPE
-> LOGIN 7:56 NAMES_AND_TYPE
+> LOGIN 7:56 14:0007 HOST_A
+> LOGIN 7:56 HOST_A
 < LOGIN_REFUSED 14:0007 37:0A
 asked lives 7 iqn.2000-01.test:a 400001370000
 end Protocol
@@ -112,7 +112,7 @@ end Protocol
 the TSIH FFFFh in a discovery session, from stage 0
 login 1
 > LOGIN 1:83 7:37 14:FFFF "InitiatorName=iqn.2000-01.test:a\0SessionType=Discovery\0"
-> LOGIN 7:56 NAMES_AND_TYPE
+> LOGIN 7:56 HOST_A
 < LOGIN_REFUSED 1:00 14:FFFF 37:0A
 asked lives 65535 iqn.2000-01.test:a 400001370000
 end Protocol
@@ -120,8 +120,8 @@ end Protocol
 the TSIH comes before the authentication
 login 1
 lives
-> LOGIN 7:66 14:1234 NAMES_AND_TYPE "AuthMethod=CHAP\0"
-> LOGIN 7:56 NAMES_AND_TYPE
+> LOGIN 7:66 14:1234 HOST_A "AuthMethod=CHAP\0"
+> LOGIN 7:56 HOST_A
 < LOGIN_REFUSED 14:1234 37:06
 asked lives 4660 iqn.2000-01.test:a 400001370000
 end Protocol
@@ -130,23 +130,23 @@ end Protocol
 const METHODS: &str = r#"
 AuthMethod without None
 login 1
-> LOGIN 1:81 7:6A NAMES_AND_TYPE "AuthMethod=CHAP,SRP\0"
-> LOGIN 7:56 NAMES_AND_TYPE
+> LOGIN 1:81 7:6A HOST_A "AuthMethod=CHAP,SRP\0"
+> LOGIN 7:56 HOST_A
 < LOGIN_REFUSED 1:00 37:01
 end Protocol
 
 AuthMethod without None in stage 1
 login 1
-> LOGIN 7:66 NAMES_AND_TYPE "AuthMethod=none\0"
-> LOGIN 7:56 NAMES_AND_TYPE
+> LOGIN 7:66 HOST_A "AuthMethod=none\0"
+> LOGIN 7:56 HOST_A
 < LOGIN_REFUSED 37:01
 end Protocol
 
 the target begins no session
 login 1
 begin refused
-> LOGIN 7:56 NAMES_AND_TYPE
-> LOGIN 7:56 NAMES_AND_TYPE
+> LOGIN 7:56 HOST_A
+> LOGIN 7:56 HOST_A
 < LOGIN_REFUSED 36:0302
 asked begin iqn.2000-01.test:a 400001370000 Normal
 end Protocol

@@ -6,8 +6,8 @@ use std::test::*;
 const ROWS: &str = r#"
 stage 0, then stage 1, with the names again
 login 1
-> LOGIN 1:81 7:66 NAMES_AND_TYPE "AuthMethod=None\0"
-> LOGIN 7:CD NAMES_AND_TYPE "HeaderDigest=CRC32C,None\0InitialR2T=No\0MaxBurstLength=16776192\0"
+> LOGIN 1:81 7:66 HOST_A "AuthMethod=None\0"
+> LOGIN 7:CD HOST_A "HeaderDigest=CRC32C,None\0InitialR2T=No\0MaxBurstLength=16776192\0"
   "FirstBurstLength=262144\0MaxRecvDataSegmentLength=262144\0"
 < LOGGED_IN 1:81 7:27 14:0000 "TargetPortalGroupTag=1\0AuthMethod=None\0"
 < LOGGED_IN 7:6D 24:00000002 "MaxRecvDataSegmentLength=65536\0HeaderDigest=None\0InitialR2T=Yes\0"
@@ -57,7 +57,7 @@ login 1
 > LOGIN 1:44 7:27 "InitiatorName=iqn.2000-01.test:a\0Target"
 > LOGIN 7:1C "Name=iqn.2000-01.test:array\0"
 < LOGGED_IN 1:04 14:0000
-< LOGGED_IN 7:36 24:00000002 SAID
+< LOGGED_IN 7:36 24:00000002 WELCOME
 asked begin iqn.2000-01.test:a 400001370000 Normal
 
 Version-min and TSIH of a later request are not looked at

@@ -128,8 +128,8 @@ fn a_write_of_a_login_fails(rt: HostRuntime) -> Result<(), Fail> {
 const ONE_REQUEST: &str = r#"
 one request
 login 1
-> LOGIN 7:56 NAMES_AND_TYPE
-< LOGGED_IN 7:36 SAID
+> LOGIN 7:56 HOST_A
+< LOGGED_IN 7:36 WELCOME
 asked begin iqn.2000-01.test:a 400001370000 Normal
 "#;
 

@@ -7,33 +7,33 @@ use std::test::*;
 const ONE_REQUEST: &str = r#"
 one request of stage 1
 login 1
-> LOGIN 7:56 NAMES_AND_TYPE
-< LOGGED_IN 7:36 SAID
+> LOGIN 7:56 HOST_A
+< LOGGED_IN 7:36 WELCOME
 asked begin iqn.2000-01.test:a 400001370000 Normal
 
 without SessionType it is a normal session
 login 1
 > LOGIN 7:43 NAMES
-< LOGGED_IN 7:36 SAID
+< LOGGED_IN 7:36 WELCOME
 asked begin iqn.2000-01.test:a 400001370000 Normal
 
 the target gives the last TSIH
 login 1
 begin 65535
-> LOGIN 7:56 NAMES_AND_TYPE
-< LOGGED_IN 7:36 14:FFFF SAID
+> LOGIN 7:56 HOST_A
+< LOGGED_IN 7:36 14:FFFF WELCOME
 asked begin iqn.2000-01.test:a 400001370000 Normal
 
 by a portal of group 2
 login 2
-> LOGIN 7:56 NAMES_AND_TYPE
+> LOGIN 7:56 HOST_A
 < LOGGED_IN 7:36 "TargetPortalGroupTag=2\0MaxRecvDataSegmentLength=65536\0"
 asked begin iqn.2000-01.test:a 400001370000 Normal
 
 another ISID and tag; Version-max, CID and ExpStatSN are not looked at
 login 1
-> LOGIN 2:05 7:56 8:80123456789A 16:0A0B0C0D 20:0009 28:01020304 NAMES_AND_TYPE
-< LOGGED_IN 7:36 8:80123456789A 16:0A0B0C0D SAID
+> LOGIN 2:05 7:56 8:80123456789A 16:0A0B0C0D 20:0009 28:01020304 HOST_A
+< LOGGED_IN 7:36 8:80123456789A 16:0A0B0C0D WELCOME
 asked begin iqn.2000-01.test:a 80123456789A Normal
 
 from stage 0 straight to full feature phase: the target does not say its length
@@ -45,13 +45,13 @@ asked begin iqn.2000-01.test:a 400001370000 Normal
 a key of 63 bytes that nobody knows
 login 1
 > LOGIN 7:85 NAMES "X-aaaaaaaaaaaaaaaaaaaaaaaaaaaaaaaaaaaaaaaaaaaaaaaaaaaaaaaaaaaaa=1\0"
-< LOGGED_IN 7:84 SAID "X-aaaaaaaaaaaaaaaaaaaaaaaaaaaaaaaaaaaaaaaaaaaaaaaaaaaaaaaaaaaaa=NotUnderstood\0"
+< LOGGED_IN 7:84 WELCOME "X-aaaaaaaaaaaaaaaaaaaaaaaaaaaaaaaaaaaaaaaaaaaaaaaaaaaaaaaaaaaaa=NotUnderstood\0"
 asked begin iqn.2000-01.test:a 400001370000 Normal
 
 a name of 223 bytes
 login 1
 > LOGIN 6:0110 "TargetName=iqn.2000-01.test:array\0InitiatorName=" 223*61 1*00
-< LOGGED_IN 7:36 SAID
+< LOGGED_IN 7:36 WELCOME
 asked begin aaaaaaaaaaaaaaaaaaaaaaaaaaaaaaaaaaaaaaaaaaaaaaaaaaaaaaaaaaaaaaaaaaaaaaaaaaaaaaaaaaaaaaaaaaaaaaaaaaaaaaaaaaaaaaaaaaaaaaaaaaaaaaaaaaaaaaaaaaaaaaaaaaaaaaaaaaaaaaaaaaaaaaaaaaaaaaaaaaaaaaaaaaaaaaaaaaaaaaaaaaaaaaaaaaaaaaaaaaaaaaa 400001370000 Normal
 
 64 pairs
@@ -60,7 +60,7 @@ login 1
   "k15=\0k16=\0k17=\0k18=\0k19=\0k20=\0k21=\0k22=\0k23=\0k24=\0k25=\0k26=\0k27=\0k28=\0k29=\0k30=\0k31=\0k32=\0k33=\0"
   "k34=\0k35=\0k36=\0k37=\0k38=\0k39=\0k40=\0k41=\0k42=\0k43=\0k44=\0k45=\0k46=\0k47=\0k48=\0k49=\0k50=\0k51=\0k52=\0"
   "k53=\0k54=\0k55=\0k56=\0k57=\0k58=\0k59=\0k60=\0k61=\0"
-< LOGGED_IN 6:0492 SAID "k00=NotUnderstood\0k01=NotUnderstood\0k02=NotUnderstood\0k03=NotUnderstood\0"
+< LOGGED_IN 6:0492 WELCOME "k00=NotUnderstood\0k01=NotUnderstood\0k02=NotUnderstood\0k03=NotUnderstood\0"
   "k04=NotUnderstood\0k05=NotUnderstood\0k06=NotUnderstood\0k07=NotUnderstood\0k08=NotUnderstood\0k09=NotUnderstood\0"
   "k10=NotUnderstood\0k11=NotUnderstood\0k12=NotUnderstood\0k13=NotUnderstood\0k14=NotUnderstood\0k15=NotUnderstood\0"
   "k16=NotUnderstood\0k17=NotUnderstood\0k18=NotUnderstood\0k19=NotUnderstood\0k20=NotUnderstood\0k21=NotUnderstood\0"
@@ -76,7 +76,7 @@ asked begin iqn.2000-01.test:a 400001370000 Normal
 8192 bytes
 login 1
 > LOGIN 6:2000 NAMES "X-a=" 8120*61 1*00
-< LOGGED_IN 7:48 SAID "X-a=NotUnderstood\0"
+< LOGGED_IN 7:48 WELCOME "X-a=NotUnderstood\0"
 asked begin iqn.2000-01.test:a 400001370000 Normal
 "#;
 

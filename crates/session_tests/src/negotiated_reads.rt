@@ -8,7 +8,7 @@ login 1
 answer good pattern 1536
 > LOGIN 7:74 NAMES "MaxRecvDataSegmentLength=512\0MaxBurstLength=1024\0"
 > TEST_UNIT_READY 1:C1 20:00000600 32:280000000005000003
-< LOGGED_IN 7:4A SAID "MaxBurstLength=1024\0"
+< LOGGED_IN 7:4A WELCOME "MaxBurstLength=1024\0"
 < DATA_IN 1:00 6:0200 pattern 512
 < DATA_IN 6:0200 36:0000000100000200 pattern 512+512
 < DATA_IN 6:0200 36:0000000200000400 pattern 1024+512
@@ -32,9 +32,9 @@ asked 0 Ok(Read { lba: 5, blocks: 3, fua: false })
 a read in one Data-In, where no length was negotiated
 login 1
 answer good pattern 1536
-> LOGIN 7:56 NAMES_AND_TYPE
+> LOGIN 7:56 HOST_A
 > TEST_UNIT_READY 1:C1 20:00000600 32:280000000005000003
-< LOGGED_IN 7:36 SAID
+< LOGGED_IN 7:36 WELCOME
 < DATA_IN 6:0600 pattern 1536
 < GOOD 24:00000002 36:00000001
 asked begin iqn.2000-01.test:a 400001370000 Normal
@@ -45,7 +45,7 @@ login 1
 answer good pattern 1536
 > LOGIN 7:8C NAMES "MaxRecvDataSegmentLength=511\0MaxBurstLength=16777216\0FirstBurstLength=-1\0"
 > TEST_UNIT_READY 1:C1 20:00000600 32:280000000005000003
-< LOGGED_IN 7:84 SAID "MaxRecvDataSegmentLength=Reject\0MaxBurstLength=Reject\0FirstBurstLength=Reject\0"
+< LOGGED_IN 7:84 WELCOME "MaxRecvDataSegmentLength=Reject\0MaxBurstLength=Reject\0FirstBurstLength=Reject\0"
 < DATA_IN 6:0600 pattern 1536
 < GOOD 24:00000002 36:00000001
 asked begin iqn.2000-01.test:a 400001370000 Normal
@@ -56,7 +56,7 @@ login 1
 answer good pattern 66048
 > LOGIN 7:65 NAMES "MaxRecvDataSegmentLength=16777215\0"
 > TEST_UNIT_READY 1:C1 20:00010200 32:280000000005000081
-< LOGGED_IN 7:36 SAID
+< LOGGED_IN 7:36 WELCOME
 < DATA_IN 1:00 5:010000 pattern 65536
 < DATA_IN 6:0200 36:0000000100010000 pattern 65536+512
 < GOOD 24:00000002 36:00000002
@@ -67,15 +67,15 @@ a NOP-In has at most MaxRecvDataSegmentLength
 login 1
 > LOGIN 7:60 NAMES "MaxRecvDataSegmentLength=512\0"
 > NOP_OUT 6:0204 pattern 516
-< LOGGED_IN 7:36 SAID
+< LOGGED_IN 7:36 WELCOME
 < NOP_IN 6:0200 24:00000002 pattern 512
 asked begin iqn.2000-01.test:a 400001370000 Normal
 
 the lengths of stage 0 and of stage 1, behind the names again
 login 1
 answer good pattern 1536
-> LOGIN 1:81 7:7A NAMES_AND_TYPE "MaxBurstLength=1024\0AuthMethod=None\0"
-> LOGIN 7:81 NAMES_AND_TYPE "MaxRecvDataSegmentLength=512\0InitialR2T=No\0"
+> LOGIN 1:81 7:7A HOST_A "MaxBurstLength=1024\0AuthMethod=None\0"
+> LOGIN 7:81 HOST_A "MaxRecvDataSegmentLength=512\0InitialR2T=No\0"
 > TEST_UNIT_READY 1:C1 20:00000600 32:280000000005000003
 < LOGGED_IN 1:81 7:3B 14:0000 "TargetPortalGroupTag=1\0MaxBurstLength=1024\0AuthMethod=None\0"
 < LOGGED_IN 7:2E 24:00000002 "MaxRecvDataSegmentLength=65536\0InitialR2T=Yes\0"

@@ -42,7 +42,7 @@ use session::{BeginAnswer, Lengths, Opening, ResetAnswer, Start};
 use std::alloc::Global;
 use std::str::FromStr;
 use std::test::Fail;
-use test_streams::{RowError, Texts, bytes_of, lines_of, pdu_of};
+use test_streams::{HOST_A, RowError, THE_TARGET, Texts, WELCOME, bytes_of, lines_of, pdu_of};
 
 /// The texts that rows name: those of both sides of a login, what the target says by itself, and what it tells of itself.
 pub const TEXTS: Texts = &[
@@ -50,18 +50,9 @@ pub const TEXTS: Texts = &[
         "NAMES",
         r"InitiatorName=iqn.2000-01.test:a\0TargetName=iqn.2000-01.test:array\0",
     ),
-    (
-        "NAMES_AND_TYPE",
-        r"InitiatorName=iqn.2000-01.test:a\0TargetName=iqn.2000-01.test:array\0SessionType=Normal\0",
-    ),
-    (
-        "SAID",
-        r"TargetPortalGroupTag=1\0MaxRecvDataSegmentLength=65536\0",
-    ),
-    (
-        "TOLD",
-        r"TargetName=iqn.2000-01.test:array\0TargetAddress=127.0.0.1:3260,1\0TargetAddress=127.0.0.1:3264,2\0",
-    ),
+    ("HOST_A", HOST_A),
+    ("WELCOME", WELCOME),
+    ("THE_TARGET", THE_TARGET),
     (
         "TOLD_OF_FOUR",
         "TargetName=iqn.2000-01.test:array\\0TargetAddress=127.0.0.1:3260,1\\0\

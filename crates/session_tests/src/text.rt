@@ -6,20 +6,20 @@ const ROWS: &str = r#"
 SendTargets=All in a discovery session
 discovery
 > TEXT_REQUEST 6:0010 "SendTargets=All\0"
-< TEXT_RESPONSE 7:60 TOLD
+< TEXT_RESPONSE 7:60 THE_TARGET
 
 SendTargets with the empty text in a discovery session
 discovery
 > TEXT_REQUEST 6:000D "SendTargets=\0"
-< TEXT_RESPONSE 7:60 TOLD
+< TEXT_RESPONSE 7:60 THE_TARGET
 
 SendTargets with the empty text in a normal session
 > TEXT_REQUEST 6:000D "SendTargets=\0"
-< TEXT_RESPONSE 7:60 TOLD
+< TEXT_RESPONSE 7:60 THE_TARGET
 
 SendTargets with the target's name in a normal session
 > TEXT_REQUEST 6:0023 "SendTargets=iqn.2000-01.test:array\0"
-< TEXT_RESPONSE 7:60 TOLD
+< TEXT_RESPONSE 7:60 THE_TARGET
 
 SendTargets=All in a normal session
 > TEXT_REQUEST 6:0010 "SendTargets=All\0"

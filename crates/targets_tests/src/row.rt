@@ -35,25 +35,19 @@ use crate::script::Script;
 use std::alloc::Global;
 use std::str::FromStr;
 use std::test::Fail;
-use test_streams::{RowError, Texts, bytes_of, lines_of, pdu_of};
+use test_streams::{HOST_A, RowError, THE_TARGET, Texts, WELCOME, bytes_of, lines_of, pdu_of};
 
 /// The texts that rows name: names of initiators; those of both sides of a login, also of libiscsi's; what the target tells
 /// of itself.
 pub const TEXTS: Texts = &[
     ("HOST", "iqn.2000-01.test:host"),
     ("GUEST", "iqn.2000-01.test:guest"),
-    (
-        "HOST_A",
-        r"InitiatorName=iqn.2000-01.test:a\0TargetName=iqn.2000-01.test:array\0SessionType=Normal\0",
-    ),
+    ("HOST_A", HOST_A),
     (
         "OTHER_HOST",
         r"InitiatorName=iqn.2000-01.test:other\0TargetName=iqn.2000-01.test:array\0SessionType=Normal\0",
     ),
-    (
-        "WELCOME",
-        r"TargetPortalGroupTag=1\0MaxRecvDataSegmentLength=65536\0",
-    ),
+    ("WELCOME", WELCOME),
     (
         "LIBISCSI_OFFERS",
         r"HeaderDigest=None,CRC32C\0DataDigest=None\0InitialR2T=No\0ImmediateData=Yes\0MaxBurstLength=262144\0FirstBurstLength=262144\0DefaultTime2Wait=2\0DefaultTime2Retain=0\0IFMarker=No\0OFMarker=No\0MaxConnections=1\0MaxOutstandingR2T=1\0ErrorRecoveryLevel=0\0DataPDUInOrder=Yes\0MaxRecvDataSegmentLength=262144\0DataSequenceInOrder=Yes\0",
@@ -62,10 +56,7 @@ pub const TEXTS: Texts = &[
         "LIBISCSI_AGREED",
         r"HeaderDigest=None\0DataDigest=None\0InitialR2T=Yes\0ImmediateData=Yes\0MaxBurstLength=262144\0FirstBurstLength=65536\0DefaultTime2Wait=2\0DefaultTime2Retain=0\0IFMarker=No\0OFMarker=No\0MaxConnections=1\0MaxOutstandingR2T=1\0ErrorRecoveryLevel=0\0DataPDUInOrder=Yes\0DataSequenceInOrder=Yes\0",
     ),
-    (
-        "THE_TARGET",
-        r"TargetName=iqn.2000-01.test:array\0TargetAddress=127.0.0.1:3260,1\0TargetAddress=127.0.0.1:3264,2\0",
-    ),
+    ("THE_TARGET", THE_TARGET),
 ];
 
 /// What comes by a connection, what goes out, and how its stream ends.

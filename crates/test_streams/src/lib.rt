@@ -9,6 +9,7 @@ mod logins;
 mod named;
 mod pdus;
 mod rows;
+mod texts;
 
 pub use calls::{Calls, FakeReader, FakeWriter, ONE_BYTE, WHOLE};
 pub use digits::bytes_of_digits;
@@ -18,3 +19,4 @@ pub use pdus::{
     CHECK_CONDITION, DATA_IN, DATA_OUT, GOOD, R2T, READS, REJECT, TEST_UNIT_READY, UNDERFLOW, WRITE,
 };
 pub use rows::{PduRow, RowError, Segment, spelled};
+pub use texts::{HOST_A, THE_TARGET, WELCOME};
