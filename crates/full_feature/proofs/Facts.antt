@@ -11,8 +11,8 @@ use Rattle.full_feature.specs.{declared.response.Completion.Completion, Step.Ste
 use Rattle.full_feature.specs.Counters.{Counters, after_status, after_collecting, after_r2t, after_reply, next_numbers, after_number}
 use Rattle.full_feature.specs.Counters.{after_answer}
 use Rattle.full_feature.specs.AnswerPdus.{response_for, reply_with, reply_to, busy, task_set_full}
-use Rattle.full_feature.specs.Machine.{Waits, OnOpened, calls, asks, turns_away, OnFed, fills, asks_on, calls_now, OnTaken, OnFullPdu}
-use Rattle.full_feature.specs.Machine.{OnUnaccepted, OnIncoming, OnManagedBy}
+use Rattle.full_feature.specs.Machine.{Waits, OnOpened, calls, sends_first_r2t, turns_away, OnFed, fills, sends_next_r2t, calls_now}
+use Rattle.full_feature.specs.Machine.{OnTaken, OnFullPdu, OnUnaccepted, OnIncoming, OnManagedBy}
 use Rattle.full_feature.proofs.RequestFacts.{OutFacts, TaskFacts, TurnFacts, silent, one_out, nobody, commands_of, moved, some_or_none}
 use Rattle.full_feature.proofs.RequestFacts.{one_facts, management_facts, no_command}
 use Rattle.session_rules.specs.declared.task_function.Management.{Management, TheVariants.Respond, TheVariants.Reset}
@@ -207,11 +207,11 @@ module _ (s : Counters) (cs : List Collecting) (immediate : Bool) (came : Incomi
   waits_facts accepted none e =
       facts [] m refl refl tt (λ full. refl) (silent refl refl) (unanswered accepted none [] e refl refl)
 
-  asks_facts : (mid s' : Counters) (waiting : List Collecting) (need bytes requests : ℕ) (next : R2tHeader) (outs : List Out)
+  r2t_facts : (mid s' : Counters) (waiting : List Collecting) (need bytes count : ℕ) (next : R2tHeader) (outs : List Out)
       → v ≡ Accepted → outcome_uncalled came (record { header = R2t next; bytes = [] } ∷ []) ≡ None
-      → Waits m waiting p need bytes requests next mid
+      → Waits m waiting p need bytes count next mid
       → IsRun None (record { header = R2t next; bytes = [] } ∷ []) mid call outs s' → TurnFacts s s' came v call outs
-  asks_facts mid s' waiting need bytes requests next outs accepted e k r =
+  r2t_facts mid s' waiting need bytes count next outs accepted e k r =
       moved refl r.sent_is (r.next_is ∙ k.next_is)
       (facts (record { header = R2t next; bytes = [] } ∷ []) (after_r2t (after_collecting waiting m)) refl refl (tt, tt)
       (λ full. absurd (let f : Accepted ≡ Full = sym accepted ∙ full in cc)) (record {
@@ -260,9 +260,9 @@ module _ (b : List ℕ) (s mid s' : Counters) (step : Step) (call : Option Askin
       let r = ran b step _ _ call outs s' k.step_is (rw next at runs) in
       by_target_facts s s.standing.collecting p.immediate _ Accepted call p asked means
       (command_turn s b p d call (rw r.1.call_is tt) judged) refl r.0 _ _ _ outs s' r.1
-  opened_facts p d asked means (asks h next e k) judged =
+  opened_facts p d asked means (sends_first_r2t h next e k) judged =
       let r = ran b step _ mid call outs s' e runs in
-      asks_facts s s.standing.collecting p.immediate _ Accepted call p asked means
+      r2t_facts s s.standing.collecting p.immediate _ Accepted call p asked means
       (command_turn s b p d call (rw r.call_is tt) judged) mid s' _ _ _ _ next outs refl refl k r
   opened_facts p d asked means (turns_away h k) judged =
       let r = ran b step _ mid call outs s' k.step_is runs in
@@ -278,9 +278,9 @@ module _ (b : List ℕ) (s mid s' : Counters) (step : Step) (call : Option Askin
       let r = ran b step _ mid call outs s' k.step_is runs in
       moved refl r.sent_is (r.next_is ∙ k.next_is) (waits_facts s _ true _ Accepted call this.command asked means
       (data_turn s b x d call this (rw r.call_is tt) judged found) refl r.call_is refl)
-  fed_facts x d front this back end asked means found (asks_on all short next e k) judged =
+  fed_facts x d front this back end asked means found (sends_next_r2t all short next e k) judged =
       let r = ran b step _ mid call outs s' e runs in
-      asks_facts s s.standing.collecting true _ Accepted call this.command asked means
+      r2t_facts s s.standing.collecting true _ Accepted call this.command asked means
       (data_turn s b x d call this (rw r.call_is tt) judged found) mid s' _ _ _ _ next outs refl refl k r
   fed_facts x d front this back end asked means found (calls_now h k next) judged =
       let r = ran b step _ _ call outs s' k.step_is (rw next at runs) in

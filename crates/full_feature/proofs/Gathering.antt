@@ -23,7 +23,7 @@ use Rattle.full_feature.proofs.Steps.{Becomes, opened_rest, opened, fed_rest, fe
 use Rattle.full_feature.proofs.Table.{InPlace, IsKept, nothing_comes, command_comes, data_comes, management_comes}
 use Rattle.full_feature.specs.Counters.{Counters, after_number, after_collecting, after_answer, after_reply, next_numbers}
 use Rattle.full_feature.specs.{Step.Step, Step.says, Step.Runs, MakesTurn.TurnOf}
-use Rattle.full_feature.specs.Machine.{Makes, Calls, OnOpened, calls, asks, turns_away, OnFed, fills, asks_on, calls_now}
+use Rattle.full_feature.specs.Machine.{Makes, Calls, OnOpened, calls, sends_first_r2t, turns_away, OnFed, fills, sends_next_r2t, calls_now}
 use Rattle.full_feature.specs.Machine.{OnManagedBy, OnTaken, OnFullPdu, OnUnaccepted, OnIncoming}
 
 -- ---- what waits behind a step
@@ -50,7 +50,7 @@ module _ (b : List ℕ) (step : Step) (s mid s' : Counters) (call : Option Askin
     answered_stays p asked d k ∙ ap (λ (z : Counters). z.standing.collecting) next ∙ sym (append-nil s.standing.collecting),
     inl refl,
   )
-  opened_waits p asked d (asks h next e k) =
+  opened_waits p asked d (sends_first_r2t h next e k) =
       (stays _ _ e ∙ ap (λ (z : Counters). z.standing.collecting) k.next_is, inr (_, refl, refl))
   opened_waits p asked d (turns_away h k) = (
     stays _ _ k.step_is ∙ ap (λ (z : Counters). z.standing.collecting) k.next_is ∙ sym (append-nil s.standing.collecting),
@@ -62,7 +62,7 @@ module _ (b : List ℕ) (step : Step) (s mid s' : Counters) (call : Option Askin
       → (s'.standing.collecting ≡ front ++ (fed_rest on ++ back)) × InPlace this.command.task_tag (fed_rest on)
   fed_waits front this back asked d end (fills h k) =
       (stays _ _ k.step_is ∙ ap (λ (z : Counters). z.standing.collecting) k.next_is, inr (_, refl, refl))
-  fed_waits front this back asked d end (asks_on all short next e k) =
+  fed_waits front this back asked d end (sends_next_r2t all short next e k) =
       (stays _ _ e ∙ ap (λ (z : Counters). z.standing.collecting) k.next_is, inr (_, refl, refl))
   fed_waits front this back asked d end (calls_now h k next) = (
     answered_stays this.command asked (this.bytes ++ d) k ∙ ap (λ (z : Counters). z.standing.collecting) next,
@@ -154,7 +154,7 @@ module _ (b : List ℕ) (step : Step) (s mid s' : Counters) (call : Option Askin
       (data_comes s.setting.units s.setting.start.lengths.burst some ks s.standing.collecting kept b x d call outs
       k.front k.this k.back (fed_rest k.by) k.whole (found_tag x.task_tag s.standing.collecting k.this k.found) o.1
       (λ task right lasts is. subst (λ (c : Collecting). (q : Continues c x d)
-      → (on : OnFed s k.front c k.back k.asked d (q.request.offset + q.request.desired_length) step mid)
+      → (on : OnFed s k.front c k.back k.asked d (q.r2t.offset + q.r2t.desired_length) step mid)
       → Becomes s.setting.start.lengths.burst (with_turn task t) (fed_rest on)) is
       (λ q. fed s some task lasts right b x d q mid s' step call outs runs k.asked
       (sym (k.asked_by.only right.asked (subst (λ (c : Collecting). Means c.command.cdb right.asked) is right.means)))

@@ -4,10 +4,10 @@ use Rattle.std.proofs.Common.{refl, sym, ap, ap₂, subst, ◌∙◌, ◌%◌, a
 use Rattle.std.proofs.lemmas.Bool.{leb-false, leb-true}
 use Rattle.session_rules.specs.Words.{Result, nat_le, IfSome, MatchOption, count_by, find, need_of, Command, CdbFault}
 use Rattle.session_rules.specs.Words.{CommandHeader, DataOutHeader, R2tHeader, Initiator, DataOut}
-use Rattle.full_feature.specs.{declared.actions.CommandData.CommandData, Step.Step, Step.says, Step.asks_by, Step.call_data}
+use Rattle.full_feature.specs.{declared.actions.CommandData.CommandData, Step.Step, Step.says, Step.says_r2t, Step.call_data}
 use Rattle.full_feature.specs.Counters.{Counters, after_command, after_collecting}
-use Rattle.full_feature.specs.Machine.{OnRefusal, OnPdu, OnAccepted, asks, BeginsToWait, Calls, CanTake, OnFed, OnData, fills}
-use Rattle.full_feature.specs.Machine.{asks_on, calls_now, r2t_with_for}
+use Rattle.full_feature.specs.Machine.{OnRefusal, OnPdu, OnAccepted, sends_first_r2t, BeginsToWait, Calls, CanTake, OnFed, OnData, fills}
+use Rattle.full_feature.specs.Machine.{sends_next_r2t, calls_now, r2t_with_for}
 use Rattle.waiting_commands.specs.declared.collecting.{Collected.Collected, R2tWith.R2tWith}
 use Rattle.waiting_commands.specs.Slots.{IsAskedBy, NeedIs, IsFinished, StandsAt, fed, waits, r2t_for}
 use Rattle.waiting_commands.proofs.Places.{stands_one}
@@ -31,7 +31,7 @@ module _ {s s₀ : Counters} {at : ℕ} {x : DataOutHeader} {d : List ℕ} (is :
   joined = can.this.bytes ++ d
 
   abbrev end : ℕ
-  end = can.continues.request.offset + can.continues.request.desired_length
+  end = can.continues.r2t.offset + can.continues.r2t.desired_length
 
   abbrev holding : Collecting → List Collecting
   holding c = can.stands.front ++ (c ∷ can.stands.back)
@@ -117,25 +117,25 @@ module _ {s s₀ : Counters} {at : ℕ} {x : DataOutHeader} {d : List ℕ} (is :
           short : length joined < need_of k.0
           short = omega (arith, more, need_is k.0 k.1, all_came)
 
-          pub can_ask : (this : Collecting) × StandsAt cs at this
+          pub needs_r2t : (this : Collecting) × StandsAt cs at this
               × ((n : ℕ) × NeedIs this.command n × (length this.bytes < n))
-          can_ask = (fed can.this d, stands, (need_of k.0, need_is_of can.this.command k.0 k.1, short))
+          needs_r2t = (fed can.this d, stands, (need_of k.0, need_is_of can.this.command k.0 k.1, short))
 
-          abbrev asked_on : R2tHeader → Collecting
-          asked_on next = waits can.this.command joined next (wrap (can.this.requests + 1))
+          abbrev with_r2t : R2tHeader → Collecting
+          with_r2t next = waits can.this.command joined next (wrap (can.this.r2t_count + 1))
 
           abbrev next_for : ℕ → R2tWith → R2tHeader
-          next_for n sent_with = r2t_for can.this.command n (length joined) can.this.requests sent_with
+          next_for n sent_with = r2t_for can.this.command n (length joined) can.this.r2t_count sent_with
 
           abbrev left : List Collecting → ℕ → Counters
           left z t = record s { standing = record (s.standing) { collecting = z; transfer_tag = t } }
 
-          pub on_asking : (b : Bool) (a : Step) (new : List Collecting) (next : R2tHeader) (sent_with : R2tWith) (waiting tag : ℕ)
+          pub on_r2t : (b : Bool) (a : Step) (new : List Collecting) (next : R2tHeader) (sent_with : R2tWith) (waiting tag : ℕ)
               → IsTold b → b ≡ true → waiting ≡ count_by shrinks_window cs → sent_with ≡ r2t_with_for s waiting
-              → new ≡ holding (asked_on next) → ((n : ℕ) → NeedIs can.this.command n → next ≡ next_for n sent_with)
-              → can.this.requests < 4294967296 → a ≡ asks_by next → tag ≡ (s.standing.transfer_tag + 1) % 4294967295
+              → new ≡ holding (with_r2t next) → ((n : ℕ) → NeedIs can.this.command n → next ≡ next_for n sent_with)
+              → can.this.r2t_count < 4294967296 → a ≡ says_r2t next → tag ≡ (s.standing.transfer_tag + 1) % 4294967295
               → OnData s₀ x d a (left new tag)
-          on_asking b a new next sent_with waiting tag told full_of counted with_is new_is r2t_is fits asking tag_is =
+          on_r2t b a new next sent_with waiting tag told full_of counted with_is new_is r2t_is fits sending tag_is =
               let next_is : next ≡ next_for (need_of k.0) (r2t_with_for s waiting) =
               r2t_is (need_of k.0) (need_is_of can.this.command k.0 k.1) ∙ ap (next_for (need_of k.0)) with_is in
               let full : length joined ≡ end = omega (
@@ -145,9 +145,9 @@ module _ {s s₀ : Counters} {at : ℕ} {x : DataOutHeader} {d : List ℕ} (is :
                 can.continues.within,
                 length-append can.this.bytes d,
               ) in
-              on_data k a (left new tag) (asks_on full short next asking (record {
+              on_data k a (left new tag) (sends_next_r2t full short next sending (record {
                 is_next = subst (λ (q : R2tHeader). IsNext s.setting.start.lengths.burst can.this.command (need_of k.0)
-                    (length joined) can.this.requests q) (sym next_is) (record {
+                    (length joined) can.this.r2t_count q) (sym next_is) (record {
                       number = omega (arith, fits);
                       place = refl;
                       size = refl;
@@ -158,7 +158,7 @@ module _ {s s₀ : Counters} {at : ℕ} {x : DataOutHeader} {d : List ℕ} (is :
                 numbers = ap (λ (q : R2tHeader). q.numbers) next_is
                     ∙ ap (λ (n : ℕ). numbers_for s.stat_sn s.standing.exp_cmd_sn n) (counted ∙ ap (count_by shrinks_window) cs_is
                     ∙ count_append can.stands.front (fed can.this d ∷ can.stands.back)
-                    ∙ sym (count_append can.stands.front (asked_on next ∷ can.stands.back)));
+                    ∙ sym (count_append can.stands.front (with_r2t next ∷ can.stands.back)));
                 next_is = ap₂ left new_is tag_is;
               }))
 
@@ -196,10 +196,10 @@ rejected_data s s' at x d w a e found here stands not_continues on = record {
 pub begins : (s mid s' : Counters) (p : CommandHeader) (asked : Result Command CdbFault) (need : ℕ) (d : List ℕ)
     (next : R2tHeader) (a : Step)
     → IsAskedBy p asked → need ≡ need_of asked → HasToCollect p need (length d) → mid ≡ after_command p s
-    → BeginsToWait mid p need d next s' → a ≡ asks_by next → OnAccepted s p d a s'
-begins s mid s' p asked need d next a asked_by need_is collects mid_is k asking = record {
+    → BeginsToWait mid p need d next s' → a ≡ says_r2t next → OnAccepted s p d a s'
+begins s mid s' p asked need d next a asked_by need_is collects mid_is k sending = record {
   asked = asked;
   asked_by = asked_by;
-  by = asks (subst (λ (n : ℕ). HasToCollect p n (length d)) need_is collects) next asking
+  by = sends_first_r2t (subst (λ (n : ℕ). HasToCollect p n (length d)) need_is collects) next sending
       (subst₂ (λ (c : Counters) (n : ℕ). BeginsToWait c p n d next s') mid_is need_is k);
 }

@@ -3,7 +3,7 @@ use Rattle.std.proofs.Common.{◌≡◌, ◌⊎◌, ℕ, zero, suc, ◌+◌, ◌
 use Rattle.std.proofs.Common.{ap, ◌∙◌, inl, inr, arith}
 use Rattle.std.proofs.lemmas.{List.append-nil, List.take-append-le, List.take_all, List.Sums.sum_by_push, Option.slice_get_within}
 use Rattle.session_rules.specs.Words.{slice_get, last_or, CommandHeader, R2tHeader}
-use Rattle.session_rules.specs.Collecting.{sizes, asked_to, IsRequest, IsNext}
+use Rattle.session_rules.specs.Collecting.{sizes, r2ts_end, IsR2tAt, IsNext}
 
 -- nothing stands in an empty list
 pub none_at : {X : Type 0} (k : ℕ) (x : X) → slice_get {X = X} [] k ≡ Some x → ⊥
@@ -34,31 +34,31 @@ front_of : {X : Type 0} (xs : List X) (x : X) → take (length xs) (xs ++ x ∷ 
 front_of xs x = take-append-le (length xs) xs (x ∷ []) (omega arith) ∙ take_all (length xs) xs (omega arith)
 
 module _ (burst : ℕ) (p : CommandHeader) (need immediate came : ℕ) (rs : List R2tHeader)
-    (requested : (i : ℕ) (r : R2tHeader) → slice_get rs i ≡ Some r → IsRequest burst p need immediate came rs i r) where
+    (each_r2t : (i : ℕ) (r : R2tHeader) → slice_get rs i ≡ Some r → IsR2tAt burst p need immediate came rs i r) where
   -- the last R2T ends where the R2Ts end
   last_request : (xs : List R2tHeader) (r : R2tHeader) → rs ≡ xs → last_or None xs ≡ Some r
-      → (i : ℕ) × IsRequest burst p need immediate came rs i r × (sizes rs ≡ sizes (take i rs) + r.desired_length)
+      → (i : ℕ) × IsR2tAt burst p need immediate came rs i r × (sizes rs ≡ sizes (take i rs) + r.desired_length)
   last_request [] r is e = absurd (cc)
   last_request (x ∷ xs) r is e =
       let w = last_is xs x r e in
       let whole : rs ≡ w.0 ++ r ∷ [] = is ∙ w.1 in (
         length w.0,
-        requested (length w.0) r (rw is w.2),
+        each_r2t (length w.0) r (rw is w.2),
         rw (whole, front_of w.0 r) (sizes_more w.0 r),
       )
 
-  pub end_is : (r : R2tHeader) → last_or None rs ≡ Some r → asked_to immediate rs ≡ r.offset + r.desired_length
+  pub end_is : (r : R2tHeader) → last_or None rs ≡ Some r → r2ts_end immediate rs ≡ r.offset + r.desired_length
   end_is r e = let w = last_request rs r refl e in omega (arith, w.1.place, w.2)
 
   -- they do not go beyond the need
-  pub within_need : (r : R2tHeader) → last_or None rs ≡ Some r → asked_to immediate rs ≤ need
+  pub within_need : (r : R2tHeader) → last_or None rs ≡ Some r → r2ts_end immediate rs ≤ need
   within_need r e = let w = last_request rs r refl e in omega (arith, end_is r e, w.1.size, w.1.some)
 
   -- more data, or more R2Ts behind these
   on : (now : ℕ) (more : List R2tHeader) → came ≤ now → (i : ℕ) (r : R2tHeader) → slice_get rs i ≡ Some r
-      → IsRequest burst p need immediate now (rs ++ more) i r
+      → IsR2tAt burst p need immediate now (rs ++ more) i r
   on now more less i r e =
-      let q = requested i r e in
+      let q = each_r2t i r e in
       record {
         number = q.number;
         place = rw (take-append-le i rs more (omega (arith, slice_get_within rs i r e))) q.place;
@@ -70,15 +70,15 @@ module _ (burst : ℕ) (p : CommandHeader) (need immediate came : ℕ) (rs : Lis
       }
 
   pub more_data : (now : ℕ) → came ≤ now → (i : ℕ) (r : R2tHeader) → slice_get rs i ≡ Some r
-      → IsRequest burst p need immediate now rs i r
+      → IsR2tAt burst p need immediate now rs i r
   more_data now less i r e = rw (← append-nil rs) (on now [] less i r e)
 
   -- one R2T more
-  pub more_asked : (n : R2tHeader) → 0 < burst → came ≡ asked_to immediate rs → came < need
+  pub more_r2ts : (n : R2tHeader) → 0 < burst → came ≡ r2ts_end immediate rs → came < need
       → IsNext burst p need came (length rs) n
       → (i : ℕ) (r : R2tHeader) → slice_get (rs ++ n ∷ []) i ≡ Some r
-      → IsRequest burst p need immediate came (rs ++ n ∷ []) i r
-  more_asked n some all short next i r e = elim (get_more rs n i r e) [
+      → IsR2tAt burst p need immediate came (rs ++ n ∷ []) i r
+  more_r2ts n some all short next i r e = elim (get_more rs n i r e) [
     | inl w ↦ on came (n ∷ []) (omega arith) i r w
     | inr w ↦ rw (w.0, w.1) (record {
       number = next.number;
@@ -91,7 +91,7 @@ module _ (burst : ℕ) (p : CommandHeader) (need immediate came : ℕ) (rs : Lis
     })
   ]
 
-  pub reaches : (n : R2tHeader) → 0 < burst → came ≡ asked_to immediate rs → came < need
+  pub reaches : (n : R2tHeader) → 0 < burst → came ≡ r2ts_end immediate rs → came < need
       → IsNext burst p need came (length rs) n
-      → came < asked_to immediate (rs ++ n ∷ [])
+      → came < r2ts_end immediate (rs ++ n ∷ [])
   reaches n some all short next = omega (arith, sizes_more rs n, next.size, short, all, some)

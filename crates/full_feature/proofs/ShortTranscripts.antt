@@ -11,7 +11,7 @@ use Rattle.session_rules.specs.Examples.{example, unit_0, numbers_with, out, pin
 use Rattle.session_rules.specs.Examples.{the_response, unanswered, write_header, write, the_r2t, turned_away, leave, reject, the_reject}
 use Rattle.session_rules.proofs.AtEach.{at_each_none}
 use Rattle.waiting_commands.specs.Slots.{IsAskedBy, waits}
-use Rattle.full_feature.specs.{Step.Step, Step.serves, Step.asks_by, Step.Runs, Machine.OnIncoming, Machine.calls, Machine.asks}
+use Rattle.full_feature.specs.{Step.Step, Step.serves, Step.says_r2t, Step.Runs, Machine.OnIncoming, Machine.calls, Machine.sends_first_r2t}
 use Rattle.full_feature.specs.Counters.{Counters, begun, after_status, after_number, after_r2t, after_collecting}
 use Rattle.full_feature.proofs.{Right.last_push, Lawful.stands_none, Lawful.stands_more}
 
@@ -130,11 +130,11 @@ pub write_lawful : (cdb : List ℕ) (asked : Result Command CdbFault) → IsAske
 write_lawful cdb asked is need =
     let t : Turn = write cdb the_r2t [] in
     let mid : Counters = after_collecting (waits (write_header cdb) [] the_r2t 1 ∷ []) (after_number false (begun example)) in
-    one_turn t (asks_by the_r2t) (after_r2t mid) _ refl
+    one_turn t (says_r2t the_r2t) (after_r2t mid) _ refl
     (record {
       asked = asked;
       asked_by = is;
-      by = asks (record { writes = refl; expected = omega (arith, need); short = omega (arith, need) }) the_r2t refl
+      by = sends_first_r2t (record { writes = refl; expected = omega (arith, need); short = omega (arith, need) }) the_r2t refl
           (record {
             is_next = record { number = refl; place = refl; size = rw need refl; tag = refl; lun = refl };
             transfer = refl;
@@ -152,7 +152,7 @@ pub write_is : (cdb : List ℕ) (asked : Result Command CdbFault) → IsAskedBy 
 write_is cdb asked is need r e l =
     let t : Turn = write cdb r e in
     let k = (l.collected [] t [] refl).0 in
-    let q = k.right.requested 0 r refl in
+    let q = k.right.each_r2t 0 r refl in
     let w = (l.windows [] t [] refl).0 in
     let x = (l.transfers [] t [] refl).0 in (
       λ i. record {

@@ -13,15 +13,15 @@ use Rattle.session_rules.specs.declared.target.TargetAnswer.TheVariants.{Replied
 use Rattle.session_rules.specs.Tasks.{data_out_with, is_management, r2t_with, r2ts_of, ends, Task, has_ended, data_outs, r2ts}
 use Rattle.session_rules.specs.Tasks.{command_call, command_calls, gathered, is_response, sends_r2t, behind_last, finds_gone}
 use Rattle.session_rules.specs.Tasks.{Collecting, collected, collecting_of}
-use Rattle.session_rules.specs.Collecting.{sizes, asked_to, IsRequest, IsUncalled, HasCalls, IsCollected, IsTurnedAwayAtOnce}
+use Rattle.session_rules.specs.Collecting.{sizes, r2ts_end, IsR2tAt, IsUncalled, HasCalls, IsCollected, IsTurnedAwayAtOnce}
 use Rattle.session_rules.specs.Collecting.{IsRightTask, IsNext, Continues, HasToCollect}
 use Rattle.session_rules.proofs.Tasks.{with_turn}
 use Rattle.full_feature.specs.{Counters.Counters, Counters.after_command}
 use Rattle.full_feature.specs.AnswerPdus.{reply_to, busy as out_of_room}
 use Rattle.full_feature.specs.Step.{Step, Runs, IsRun}
-use Rattle.full_feature.specs.Machine.{Calls, OnOpened, calls, asks, turns_away, OnFed, fills, asks_on, calls_now}
+use Rattle.full_feature.specs.Machine.{Calls, OnOpened, calls, sends_first_r2t, turns_away, OnFed, fills, sends_next_r2t, calls_now}
 use Rattle.full_feature.proofs.{ReadSegments.answer_facts, Turns.ran}
-use Rattle.full_feature.proofs.Right.{none_at, last_push, end_is, within_need, more_data, more_asked, reaches}
+use Rattle.full_feature.proofs.Right.{none_at, last_push, end_is, within_need, more_data, more_r2ts, reaches}
 use Rattle.waiting_commands.specs.Slots.{waits}
 use Rattle.waiting_commands.specs.Slots as slots
 
@@ -91,8 +91,8 @@ gathered_more k u =
 -- what is known of a task that has not ended
 pub record IsOpen (burst : ℕ) (k : Task) (asked : Result Command CdbFault) : Type 0 where
   pub no_calls : command_calls k.own ≡ []
-  pub requested : (i : ℕ) (r : R2tHeader) → slice_get (r2ts k.own) i ≡ Some r
-      → IsRequest burst k.command (need_of asked) (length k.segment) (length (gathered k)) (r2ts k.own) i r
+  pub each_r2t : (i : ℕ) (r : R2tHeader) → slice_get (r2ts k.own) i ≡ Some r
+      → IsR2tAt burst k.command (need_of asked) (length k.segment) (length (gathered k)) (r2ts k.own) i r
   pub uncalled : IsUncalled k.command (need_of asked) (length k.segment) (gathered k) (r2ts k.own) false
 
 waiting_of : (p : CommandHeader) (asked : Result Command CdbFault) (imm : ℕ) (bytes : List ℕ) (rs : List R2tHeader)
@@ -107,7 +107,7 @@ open_of burst k e right =
     let w = waiting_of k.command right.asked (length k.segment) (gathered k) (r2ts k.own) (command_calls k.own)
     (subst (λ (b : Bool). HasCalls k.command right.asked (length k.segment) (gathered k) (r2ts k.own) b
     (command_calls k.own)) e right.right.outcome) in
-    record { no_calls = w.0; requested = right.right.requested; uncalled = w.1 }
+    record { no_calls = w.0; each_r2t = right.right.each_r2t; uncalled = w.1 }
 
 -- ---- the touched task with one turn more
 
@@ -156,7 +156,7 @@ module _ (burst : ℕ) (k : Task) (open_task : has_ended k ≡ false) (u : Turn)
         command = k.command;
         bytes = bytes;
         outstanding = last_or None rs;
-        requests = wrap (length rs);
+        r2t_count = wrap (length rs);
         data_sn = n;
       } ∷ []
   collected_is rs bytes n e f g h = rw (ended_more k.own u, open_task, h, r2ts_more k.own u, e, gathered_more k u, f, g) refl
@@ -167,22 +167,22 @@ module _ (burst : ℕ) (k : Task) (open_task : has_ended k ≡ false) (u : Turn)
   -- these are its data with those of the turn
   module _ (asked : Result Command CdbFault) (means : Means k.command.cdb asked) (no_calls : command_calls k.own ≡ [])
       (bytes : List ℕ) (joined_is : gathered k ++ bytes_in ≡ bytes)
-      (requested : (i : ℕ) (r : R2tHeader) → slice_get (r2ts k.own) i ≡ Some r
-      → IsRequest burst k.command (need_of asked) (length k.segment) (length bytes) (r2ts k.own) i r) where
+      (each_r2t : (i : ℕ) (r : R2tHeader) → slice_get (r2ts k.own) i ≡ Some r
+      → IsR2tAt burst k.command (need_of asked) (length k.segment) (length bytes) (r2ts k.own) i r) where
     asked_more : (some : 0 < burst) (n : R2tHeader) → u.sent ≡ record { header = R2t n; bytes = [] } ∷ []
         → command_call u ≡ None → ends u ≡ false → HasToCollect k.command (need_of asked) (length k.segment)
-        → length bytes ≡ asked_to (length k.segment) (r2ts k.own) → length bytes < need_of asked
+        → length bytes ≡ r2ts_end (length k.segment) (r2ts k.own) → length bytes < need_of asked
         → IsNext burst k.command (need_of asked) (length bytes) (length (r2ts k.own)) n
         → wrap (length (data_outs (behind_last sends_r2t (k.own ++ u ∷ [])))) ≡ 0
         → Becomes burst (with_turn k u) (waits k.command bytes n (wrap (length (r2ts k.own) + 1)) ∷ [])
     asked_more some n out none on collects all short next count =
-        let far = reaches burst k.command (need_of asked) (length k.segment) (length bytes) (r2ts k.own) requested n some all
+        let far = reaches burst k.command (need_of asked) (length k.segment) (length bytes) (r2ts k.own) each_r2t n some all
         short next in
         let rs : r2ts k.own ++ r2ts_of u.sent ≡ r2ts k.own ++ n ∷ [] = ap (λ (z : List Out). r2ts k.own ++ r2ts_of z) out in (
           right_now asked means
               (rw (rs, joined_is, none, append-nil (command_calls k.own), no_calls, on) (record {
-                requested = more_asked burst k.command (need_of asked) (length k.segment) (length bytes) (r2ts k.own)
-                    requested n some all short next;
+                each_r2t = more_r2ts burst k.command (need_of asked) (length k.segment) (length bytes) (r2ts k.own)
+                    each_r2t n some all short next;
                 outcome = record { collects = collects; within = omega (arith, far); waits = λ e. far };
               })) (rw on (λ e f g. absurd (cc e))),
           rw (last_push (r2ts k.own) None n, length-append (r2ts k.own) (n ∷ [])) at
@@ -191,12 +191,12 @@ module _ (burst : ℕ) (k : Task) (open_task : has_ended k ≡ false) (u : Turn)
 
     -- it ends without a call
     ended_unserved : r2ts_of u.sent ≡ [] → command_call u ≡ None → ends u ≡ true
-        → HasToCollect k.command (need_of asked) (length k.segment) → length bytes ≤ asked_to (length k.segment) (r2ts k.own)
+        → HasToCollect k.command (need_of asked) (length k.segment) → length bytes ≤ r2ts_end (length k.segment) (r2ts k.own)
         → ((list_any manages k.own || (manages u || false)) ≡ false → r2ts k.own ≡ []) → Becomes burst (with_turn k u) []
     ended_unserved none uncalled over collects within away = (
       right_now asked means
           (rw (none, append-nil (r2ts k.own), joined_is, uncalled, append-nil (command_calls k.own), no_calls, over) (record {
-            requested = requested;
+            each_r2t = each_r2t;
             outcome = record { collects = collects; within = within; waits = λ f. absurd (cc f) };
           })) (λ _ f g. rw (none, append-nil (r2ts k.own)) (away f)),
       ended_is over,
@@ -209,13 +209,13 @@ module _ (burst : ℕ) (k : Task) (open_task : has_ended k ≡ false) (u : Turn)
         → min (length k.segment) (need_of asked) + sizes (r2ts k.own) ≡ need_of asked)
         → ((HasToCollect k.command (need_of asked) (length k.segment) → ⊥) → r2ts k.own ≡ [])
         → Becomes burst (with_turn k u) []
-    ended_served c plain all tiled unasked =
+    ended_served c plain all tiled no_r2ts =
         let over : ends u ≡ true = rw plain (or_true (list_any (λ o. is_response o.header) u.sent) (finds_gone u.call) c.ends) in
         let called : command_call u ≡ Some (served c.unit asked (data_for k.command (need_of asked) bytes) c.answer) =
         rw plain c.call_is in (
           right_now asked means
               (rw (c.no_r2t, append-nil (r2ts k.own), joined_is, no_calls, over, called) (record {
-                requested = requested;
+                each_r2t = each_r2t;
                 outcome = record {
                   ends = refl;
                   unit = c.unit;
@@ -224,7 +224,7 @@ module _ (burst : ℕ) (k : Task) (open_task : has_ended k ≡ false) (u : Turn)
                   call_is = refl;
                   all = all;
                   tiled = tiled;
-                  unasked = unasked;
+                  no_r2ts = no_r2ts;
                 };
               })) (λ _ f g. absurd (has_call (command_calls k.own) (command_call u) _ called g)),
           ended_is over,
@@ -270,8 +270,8 @@ abbrev pub fed_rest : {s : Counters} {front : List Collecting} {this : Collectin
     {asked : Result Command CdbFault} {d : List ℕ} {end : ℕ} {step : Step} {mid : Counters}
     → OnFed s front this back asked d end step mid → List Collecting
 fed_rest {this = this} {d = d} (fills h k) = slots.fed this d ∷ []
-fed_rest {this = this} {d = d} (asks_on all short next e k) =
-    waits this.command (this.bytes ++ d) next (wrap (this.requests + 1)) ∷ []
+fed_rest {this = this} {d = d} (sends_next_r2t all short next e k) =
+    waits this.command (this.bytes ++ d) next (wrap (this.r2t_count + 1)) ∷ []
 fed_rest (calls_now h k next) = []
 
 module _ (s : Counters) (some : 0 < s.setting.start.lengths.burst) (k : Task) (open_task : has_ended k ≡ false)
@@ -295,16 +295,16 @@ module _ (s : Counters) (some : 0 < s.setting.start.lengths.burst) (k : Task) (o
   longer : length (gathered k) ≤ length joined
   longer = omega (arith, length-append (gathered k) d)
 
-  abbrev requested_now : (i : ℕ) (r : R2tHeader) → slice_get (r2ts k.own) i ≡ Some r
-      → IsRequest (burst_of s) k.command need imm (length joined) (r2ts k.own) i r
-  requested_now = more_data (burst_of s) k.command need imm (length (gathered k)) (r2ts k.own) known.requested
+  abbrev each_r2t_now : (i : ℕ) (r : R2tHeader) → slice_get (r2ts k.own) i ≡ Some r
+      → IsR2tAt (burst_of s) k.command need imm (length joined) (r2ts k.own) i r
+  each_r2t_now = more_data (burst_of s) k.command need imm (length (gathered k)) (r2ts k.own) known.each_r2t
       (length joined) longer
 
-  abbrev end_at : asked_to imm (r2ts k.own) ≡ continues.request.offset + continues.request.desired_length
+  abbrev end_at : r2ts_end imm (r2ts k.own) ≡ continues.r2t.offset + continues.r2t.desired_length
   end_at = end_is (burst_of s) k.command need imm (length (gathered k))
-      (r2ts k.own) known.requested continues.request continues.outstanding
+      (r2ts k.own) known.each_r2t continues.r2t continues.outstanding
 
-  in_range : length joined ≤ asked_to imm (r2ts k.own)
+  in_range : length joined ≤ r2ts_end imm (r2ts k.own)
   in_range = omega (arith, length-append (gathered k) d, continues.place, continues.within, end_at)
 
   joined_is : gathered k ++ (d ++ []) ≡ joined
@@ -313,7 +313,7 @@ module _ (s : Counters) (some : 0 < s.setting.start.lengths.burst) (k : Task) (o
   -- what a session makes of a task: by the R2T that is outstanding, for what the CDB asks
   pub fed : (mid s' : Counters) (step : Step) (call : Option Asking) (outs : List Out) → Runs b step mid call outs s'
       → (asked : Result Command CdbFault) → asked ≡ right.asked → (front back : List Collecting)
-      (on : OnFed s front (collected k) back asked d (continues.request.offset + continues.request.desired_length) step mid)
+      (on : OnFed s front (collected k) back asked d (continues.r2t.offset + continues.r2t.desired_length) step mid)
       → Becomes (burst_of s) (with_turn k (data_turn call outs)) (fed_rest on)
   fed mid s' step call outs runs asked e front back (fills h w) =
       let r = ran b step _ mid call outs s' w.step_is runs in
@@ -321,7 +321,7 @@ module _ (s : Counters) (some : 0 < s.setting.start.lengths.burst) (k : Task) (o
       rw (r.call_is, r.sent_is, wrap_more (length (data_outs (behind_last sends_r2t k.own)))) (
         right_now (burst_of s) k open_task t right.asked right.means
             (rw (append-nil (r2ts k.own), append-nil d, append-nil (command_calls k.own), known.no_calls) (record {
-              requested = requested_now;
+              each_r2t = each_r2t_now;
               outcome = record { collects = known.uncalled.collects; within = in_range; waits = λ e. omega (arith, h, end_at) };
             })) (λ e f g. absurd (cc e)),
         collected_is (burst_of s) k open_task t (r2ts k.own) joined
@@ -332,11 +332,11 @@ module _ (s : Counters) (some : 0 < s.setting.start.lengths.burst) (k : Task) (o
             (data_outs_more (behind_last sends_r2t k.own) t)
             ∙ ap wrap (length-append (data_outs (behind_last sends_r2t k.own)) ((x, d) ∷ []))) refl,
       )
-  fed mid s' step call outs runs asked e front back (asks_on all short next is w) =
+  fed mid s' step call outs runs asked e front back (sends_next_r2t all short next is w) =
       let r = ran b step _ mid call outs s' is runs in
       rw (r.call_is, r.sent_is, wrap_more (length (r2ts k.own)))
       (asked_more (burst_of s) k open_task (data_turn None (record { header = R2t next; bytes = [] } ∷ [])) right.asked
-      right.means known.no_calls joined joined_is requested_now some next refl refl refl known.uncalled.collects
+      right.means known.no_calls joined joined_is each_r2t_now some next refl refl refl known.uncalled.collects
       (all ∙ sym end_at) (omega (arith, short, ap need_of e)) (record {
         number = omega (arith, w.is_next.number);
         place = w.is_next.place;
@@ -347,14 +347,14 @@ module _ (s : Counters) (some : 0 < s.setting.start.lengths.burst) (k : Task) (o
   fed mid s' step call outs runs asked e front back (calls_now h w next) =
       let all : need ≤ length joined = omega (arith, h, ap need_of e) in
       ended_served (burst_of s) k open_task (data_turn call outs) right.asked right.means known.no_calls joined joined_is
-      requested_now (subst (λ (z : Result Command CdbFault). IsCalledNow k.command z joined call outs) e
+      each_r2t_now (subst (λ (z : Result Command CdbFault). IsCalledNow k.command z joined call outs) e
       (called_now b step mid s' call outs k.command asked joined w runs)) refl (λ _ _. all)
       (λ _ _. omega (
         arith,
         known.uncalled.collects.short,
         in_range,
         all,
-        within_need (burst_of s) k.command need imm (length joined) (r2ts k.own) requested_now continues.request
+        within_need (burst_of s) k.command need imm (length joined) (r2ts k.own) each_r2t_now continues.r2t
             continues.outstanding,
       )) (λ f. absurd (f known.uncalled.collects))
 
@@ -378,7 +378,7 @@ module _ (burst : ℕ) (k : Task) (open_task : has_ended k ≡ false) (right : I
       ap (λ (b : Bool). list_any (λ (z : Out). is_response z.header) outs || b || finds_gone call) managed
       ∙ any_or (list_any (λ (z : Out). is_response z.header) outs) (finds_gone call) in
       ended_unserved burst k open_task drop_turn right.asked right.means o.no_calls (gathered k)
-      (rw no_data (append-nil (gathered k))) o.requested no_r2t (ap (λ (b : Bool). if b then None else call) managed) e
+      (rw no_data (append-nil (gathered k))) o.each_r2t no_r2t (ap (λ (b : Bool). if b then None else call) managed) e
       o.uncalled.collects o.uncalled.within (λ f. absurd (is_dropped (list_any manages k.own) (is_management came) managed f))
 
 -- ---- a command comes
@@ -387,7 +387,7 @@ module _ (burst : ℕ) (k : Task) (open_task : has_ended k ≡ false) (right : I
 abbrev pub opened_rest : {s : Counters} {p : CommandHeader} {asked : Result Command CdbFault} {d : List ℕ} {step : Step}
     {mid : Counters} → OnOpened s p asked d step mid → List Collecting
 opened_rest (calls h k next) = []
-opened_rest {p = p} {d = d} (asks h next e k) = waits p d next 1 ∷ []
+opened_rest {p = p} {d = d} (sends_first_r2t h next e k) = waits p d next 1 ∷ []
 opened_rest (turns_away h k) = []
 
 module _ (s : Counters) (some : 0 < s.setting.start.lengths.burst) (b : List ℕ) (p : CommandHeader) (d : List ℕ)
@@ -404,7 +404,7 @@ module _ (s : Counters) (some : 0 < s.setting.start.lengths.burst) (b : List ℕ
   opening call outs = record { command = p; segment = d; own = command_turn call outs ∷ [] }
 
   none_requested : (i : ℕ) (r : R2tHeader) → slice_get [] i ≡ Some r
-      → IsRequest (burst_of s) p (need_of asked) (length d) (length d) [] i r
+      → IsR2tAt (burst_of s) p (need_of asked) (length d) (length d) [] i r
   none_requested i r e = absurd (none_at i r e)
 
   abbrev empty : Task
@@ -421,7 +421,7 @@ module _ (s : Counters) (some : 0 < s.setting.start.lengths.burst) (b : List ℕ
       omega arith in
       ended_served (burst_of s) empty refl (command_turn call outs) asked means refl d none_yet none_requested
       (called_now b step mid s' call outs p asked d k runs) refl enough (λ w f. omega (arith, enough w f)) (λ f. refl)
-  opened mid s' step call outs runs (asks h next e k) =
+  opened mid s' step call outs runs (sends_first_r2t h next e k) =
       let r = ran b step _ mid call outs s' e runs in
       rw (r.call_is, r.sent_is)
       (asked_more (burst_of s) empty refl (command_turn None (record { header = R2t next; bytes = [] } ∷ [])) asked means refl

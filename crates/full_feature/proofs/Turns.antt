@@ -3,8 +3,8 @@ use Rattle.std.proofs.Common.{◌≡◌, ◌∙◌, ℕ, List, Option, None, ref
 use Rattle.session_rules.specs.Words.{Header, Initiator, NopOut, ScsiCommand, DataOut, TaskManagementRequest, TextRequest, LogoutRequest}
 use Rattle.full_feature.specs.{Counters.Counters, MakesTurn.MakesTurn}
 use Rattle.full_feature.specs.Step.{Step, says, rejects, serves, resets, telling, Runs}
-use Rattle.full_feature.specs.Machine.{OnOpened, calls, asks, turns_away, OnFed, fills, asks_on, calls_now, OnManagedBy, OnTaken}
-use Rattle.full_feature.specs.Machine.{OnFullPdu, OnUnaccepted, OnIncoming}
+use Rattle.full_feature.specs.Machine.{OnOpened, calls, sends_first_r2t, turns_away, OnFed, fills, sends_next_r2t, calls_now}
+use Rattle.full_feature.specs.Machine.{OnManagedBy, OnTaken, OnFullPdu, OnUnaccepted, OnIncoming}
 use Rattle.pdu_stream.specs.{declared.pdus.Pdus.Pdus, Outbox.OutboxValue, Outbox.IsQueued, Pdus.sent_by}
 use Rattle.session_rules.specs.{Asking.Asking, Verdict.IsJudged, Legal.end_after, Legal.end_of_call, Legal.bhs_of}
 use Rattle.session_rules.specs.declared.end.End.{End}
@@ -53,13 +53,13 @@ module _ (b : List ℕ) (s mid s' : Counters) (call : Option Asking) (sent : Lis
   module _ (step : Step) (runs : Runs b step mid call sent s') where
     opened_ends : (p : _) (asked : _) (d : List ℕ) → OnOpened s p asked d step mid → end_with step call ≡ end_of_call call
     opened_ends p asked d (calls h k next) = plain step _ k.step_is refl runs
-    opened_ends p asked d (asks h next e k) = plain step _ e refl runs
+    opened_ends p asked d (sends_first_r2t h next e k) = plain step _ e refl runs
     opened_ends p asked d (turns_away h k) = plain step _ k.step_is refl runs
 
     fed_ends : (front : _) (this : _) (back : _) (asked : _) (d : List ℕ) (end : ℕ)
         → OnFed s front this back asked d end step mid → end_with step call ≡ end_of_call call
     fed_ends front this back asked d end (fills h k) = plain step _ k.step_is refl runs
-    fed_ends front this back asked d end (asks_on all short next e k) = plain step _ e refl runs
+    fed_ends front this back asked d end (sends_next_r2t all short next e k) = plain step _ e refl runs
     fed_ends front this back asked d end (calls_now h k next) = plain step _ k.step_is refl runs
 
     managed_ends : (m : Management) (c : Counters) (p : _) → OnManagedBy m c p step mid

@@ -18,7 +18,7 @@ use Rattle.full_feature.specs.Counters.{Counters, after_status, after_number, af
 use Rattle.full_feature.specs.Counters.{after_answer, after_reply, next_numbers}
 use Rattle.full_feature.specs.AnswerPdus.{reply_with, reply_to, busy, task_set_full}
 use Rattle.full_feature.specs.declared.text.MadeText.{MadeText}
-use Rattle.full_feature.specs.Step.{Step, says, rejects, serves, resets, asks_by}
+use Rattle.full_feature.specs.Step.{Step, says, rejects, serves, resets, says_r2t}
 
 -- the step is this one, and these are the counters behind it
 pub record Makes (wanted : Step) (next : Counters) (step : Step) (s' : Counters) : Type 0 where
@@ -53,9 +53,9 @@ r2t_with_for s waiting = record {
 }
 
 -- the next R2T of a command of whose data so much has come goes out, and these wait behind it
-pub record Waits (s : Counters) (cs : List Collecting) (p : CommandHeader) (need came requests : ℕ) (next : R2tHeader)
+pub record Waits (s : Counters) (cs : List Collecting) (p : CommandHeader) (need came count : ℕ) (next : R2tHeader)
     (s' : Counters) : Type 0 where
-  pub is_next : IsNext s.setting.start.lengths.burst p need came requests next
+  pub is_next : IsNext s.setting.start.lengths.burst p need came count next
   pub transfer : next.transfer_tag ≡ s.standing.transfer_tag
   pub numbers : next.numbers ≡ next_numbers (after_collecting cs s)
   pub next_is : s' ≡ after_r2t (after_collecting cs s)
@@ -70,7 +70,7 @@ pub data OnOpened (s : Counters) (p : CommandHeader) (asked : Result Command Cdb
     (s' : Counters) : Type 0 where
   calls : (HasToCollect p (need_of asked) (length d) → ⊥) → Calls p asked d step → s' ≡ after_command p s
       → OnOpened s p asked d step s'
-  asks : HasToCollect p (need_of asked) (length d) → (next : R2tHeader) → step ≡ asks_by next
+  sends_first_r2t : HasToCollect p (need_of asked) (length d) → (next : R2tHeader) → step ≡ says_r2t next
       → BeginsToWait (after_command p s) p (need_of asked) d next s' → OnOpened s p asked d step s'
   turns_away : HasToCollect p (need_of asked) (length d)
       → Sends (after_command p s) (reply_with (after_command p s) p (need_of asked) [] busy) step s'
@@ -87,10 +87,10 @@ pub data OnFed (s : Counters) (front : List Collecting) (this : Collecting) (bac
   fills : length (this.bytes ++ d) < end
       → Makes (says [] None) (after_collecting (front ++ (fed this d ∷ back)) s) step s'
       → OnFed s front this back asked d end step s'
-  asks_on : length (this.bytes ++ d) ≡ end → length (this.bytes ++ d) < need_of asked → (next : R2tHeader)
-      → step ≡ asks_by next
-      → Waits s (front ++ (waits this.command (this.bytes ++ d) next (wrap (this.requests + 1)) ∷ back)) this.command
-      (need_of asked) (length (this.bytes ++ d)) this.requests next s'
+  sends_next_r2t : length (this.bytes ++ d) ≡ end → length (this.bytes ++ d) < need_of asked → (next : R2tHeader)
+      → step ≡ says_r2t next
+      → Waits s (front ++ (waits this.command (this.bytes ++ d) next (wrap (this.r2t_count + 1)) ∷ back)) this.command
+      (need_of asked) (length (this.bytes ++ d)) this.r2t_count next s'
       → OnFed s front this back asked d end step s'
   calls_now : need_of asked ≤ length (this.bytes ++ d) → Calls this.command asked (this.bytes ++ d) step
       → s' ≡ after_collecting (front ++ back) s → OnFed s front this back asked d end step s'
@@ -111,7 +111,7 @@ pub record OnData (s : Counters) (x : DataOutHeader) (d : List ℕ) (step : Step
   pub continues : Continues this x d
   pub asked : Result Command CdbFault
   pub asked_by : IsAskedBy this.command asked
-  pub by : OnFed s front this back asked d (continues.request.offset + continues.request.desired_length) step s'
+  pub by : OnFed s front this back asked d (continues.r2t.offset + continues.r2t.desired_length) step s'
 
 abbrev pub OnNopOut : Counters → NopOutHeader → List ℕ → Step → Counters → Type 0
 OnNopOut s p d step s' =
@@ -198,5 +198,5 @@ OnCommand s p d step s' = OnPdu s (Initiator (ScsiCommand p)) d step s'
 
 -- what was made of the text of a Text Request; of any other PDU nothing is made
 abbrev pub IsMade : Setting → Header → List ℕ → MadeText → Type 0
-IsMade m (Initiator (TextRequest p)) d text = IsMadeOf text.answered m d text.bytes.now
+IsMade m (Initiator (TextRequest p)) d text = IsMadeOf text.is_made m d text.bytes.now
 IsMade m h d text = Unit {0}

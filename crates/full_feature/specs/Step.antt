@@ -3,7 +3,7 @@ use Rattle.std.specs.Prelude.{◌≡◌, ◌∷◌}
 use Rattle.session_rules.specs.Words.{ℕ, List, [], Option, Some, None, Result, Command, CdbFault, CommandHeader, R2tHeader}
 use Rattle.session_rules.specs.Words.{ManagementHeader, R2t, Reject}
 use Rattle.iscsi_pdu.specs.declared.header.Reject.{Reject as RejectHeader}
-use Rattle.full_feature.specs.declared.actions.Actions.{Actions, TheVariants.Send, TheVariants.Ask}
+use Rattle.full_feature.specs.declared.actions.Actions.{Actions, TheVariants.Send, TheVariants.Call}
 use Rattle.full_feature.specs.declared.actions.CommandData.{CommandData, TheVariants.Came, TheVariants.Gathered}
 use Rattle.full_feature.specs.declared.actions.Sending.{Sending}
 use Rattle.full_feature.specs.AnswerPdus.{reply_to}
@@ -24,8 +24,8 @@ pub data Step : Type 0 where
   resets : ManagementHeader → ℕ → Step
 
 -- the next R2T of a command goes out
-abbrev pub asks_by : R2tHeader → Step
-asks_by next = says (record { header = R2t next; bytes = [] } ∷ []) None
+abbrev pub says_r2t : R2tHeader → Step
+says_r2t next = says (record { header = R2t next; bytes = [] } ∷ []) None
 
 -- ---- the step that the code's actions are
 
@@ -47,13 +47,13 @@ said x = telling x.pdus x.end
 
 abbrev pub step_of : Actions → Step
 step_of (Send x) = said x
-step_of (Ask (kinds.Serve c)) = serves c.task.command c.task.need c.unit c.asked (call_data c.bytes)
-step_of (Ask (kinds.Reset c)) = resets c.request c.unit
+step_of (Call (kinds.Serve c)) = serves c.task.command c.task.need c.unit c.asked (call_data c.bytes)
+step_of (Call (kinds.Reset c)) = resets c.request c.unit
 
 -- the PDUs that actions say to write
 abbrev pub pdus_of : Actions → Pdus
 pdus_of (Send x) = x.pdus
-pdus_of (Ask c) = pdus.Nothing
+pdus_of (Call c) = pdus.Nothing
 
 -- ---- a step that is run
 

@@ -11,8 +11,8 @@ use session_rules::End;
 pub enum Actions<'a> {
     /// That these PDUs are written.
     Send(Sending<'a>),
-    /// That the target is asked; its answer goes back to the session.
-    Ask(Call<'a>),
+    /// That the target is called; its answer goes back to the session.
+    Call(Call<'a>),
 }
 
 /// What a PDU or an answer of the target has written: PDUs, then perhaps the end.
@@ -24,7 +24,7 @@ pub struct Sending<'a> {
     pub end: Option<End>,
 }
 
-/// What the target is asked.
+/// A call of the target.
 #[derive(Debug, Drop)]
 pub enum Call<'a> {
     /// To serve a command; the answer goes to [`Session::on_answer`](crate::Session::on_answer).

@@ -48,12 +48,12 @@ impl Session {
         bytes: &'a [u8],
         text: MadeText<'a>,
     ) -> Sending<'a>
-        requires made { IsMadeOf text.answered self.old.setting bytes.now text.bytes.now }
+        requires made { IsMadeOf text.is_made self.old.setting bytes.now text.bytes.now }
         ensures on { OnPdu self.old (Header.Initiator (InitiatorHeader.TextRequest request)) bytes.now (said result)
             self.new }
         ensures within { AreInReach result.pdus }
     {
-        let refused = is_part(&request) || !text.answered;
+        let refused = is_part(&request) || !text.is_made;
         let verdict = self.verdict(request.immediate, request.numbers.cmd_sn, refused);
         match self.turned_away(verdict) {
             Some(sending) => sending,
@@ -101,7 +101,7 @@ impl Session {
             Management::Respond(response) => {
                 Actions::Send(self.respond_to_management(&request, Some(response), None))
             }
-            Management::Reset(unit) => Actions::Ask(Call::Reset(ResetCall { request, unit })),
+            Management::Reset(unit) => Actions::Call(Call::Reset(ResetCall { request, unit })),
         }
     }
 

@@ -8,7 +8,7 @@ ghost use Rattle.session_rules.specs.Setting.{setting_of, discovers};
 ghost use Rattle.session_rules.specs.Text.{IsMadeOf};
 ghost use Rattle.full_feature.specs.Machine.{IsMade, OnPdu, OnCommand, OnUnaccepted, OnRefusal, OnAnswer, Sends};
 ghost use Rattle.full_feature.specs.Machine.{Answers, Calls, OnAccepted, OnFull, OnData, r2t_with_for, BeginsToWait, CanTake};
-ghost use Rattle.full_feature.specs.Step.{says, asks_by, said, step_of, call_data, pdus_of};
+ghost use Rattle.full_feature.specs.Step.{says, says_r2t, said, step_of, call_data, pdus_of};
 ghost use Rattle.session_rules.specs.Transfer.{data_for};
 ghost use Rattle.session_rules.specs.Collecting.{HasToCollect};
 ghost use Rattle.waiting_commands.specs.Slots.{IsAskedBy};
@@ -120,7 +120,7 @@ impl Session {
     /// one that the initiator takes.
     pub fn make_text(&self, room: &mut Vec<u8>, pdu: &Pdu<'_>) -> bool
         requires room { LONGEST_TEXT ≤ vec_capacity room.old }
-        ensures made { (text : MadeText) → text.answered ≡ result → text.bytes.now ≡ room.new.items
+        ensures made { (text : MadeText) → text.is_made ≡ result → text.bytes.now ≡ room.new.items
             → IsMade self.now.setting pdu.now.header pdu.now.data.now text }
         ensures kept { vec_capacity room.old ≤ vec_capacity room.new }
     {
@@ -322,7 +322,7 @@ impl Session {
             return call(command, asked, need, data);
         }
         match self.wait(*command, asked, need, bytes) {
-            Some(r2t) => Actions::Send(ask_for(r2t)),
+            Some(r2t) => Actions::Send(send_r2t(r2t)),
             None => {
                 let busy = Completion::bare(Status::Busy);
                 let task = OpenTask {
@@ -350,7 +350,7 @@ impl Session {
         match self.waiting.buffer(self.alloc, need) {
             Ok(buffer) => {
                 let waiting = WaitingCommand::begin(buffer, command, asked, need, bytes, with);
-                let r2t = waiting.request();
+                let r2t = waiting.outstanding();
                 self.waiting.push(waiting);
                 self.transfer_tag = next_transfer_tag(self.transfer_tag);
                 Some(r2t)
@@ -404,9 +404,9 @@ impl Session {
             return call(&done.command, done.asked, done.need, data);
         }
         let with = self.r2t_with(self.waiting.numbered());
-        let r2t = self.waiting.ask_at(at, with);
+        let r2t = self.waiting.next_r2t_at(at, with);
         self.transfer_tag = next_transfer_tag(self.transfer_tag);
-        Actions::Send(ask_for(r2t))
+        Actions::Send(send_r2t(r2t))
     }
 
     /// Takes the number of a PDU with this I bit, unless it is immediate.
@@ -508,8 +508,8 @@ fn silence<'a>() -> Sending<'a>
 }
 
 // The next R2T of a write goes out.
-fn ask_for<'a>(r2t: R2t) -> Sending<'a>
-    ensures asks { said result ≡ asks_by r2t }
+fn send_r2t<'a>(r2t: R2t) -> Sending<'a>
+    ensures sends { said result ≡ says_r2t r2t }
     ensures within { AreInReach result.pdus }
 {
     Sending {
@@ -525,7 +525,7 @@ fn call<'a>(command: &ScsiCommand, asked: Asked, need: u32, bytes: CommandData<'
         → Calls command.now asked gathered (step_of result) }
     ensures within { AreInReach (pdus_of result) }
 {
-    Actions::Ask(Call::Serve(ServeCall {
+    Actions::Call(Call::Serve(ServeCall {
         task: OpenTask {
             command: *command,
             need,

@@ -10,7 +10,7 @@ use pdu_stream::{NO_TRANSFER_TAG, ResponsePdu};
 /// What was made of the text of a Text Request: its answer, if it has one that the initiator takes.
 #[derive(Clone, Copy, Debug)]
 pub struct MadeText<'a> {
-    pub answered: bool,
+    pub is_made: bool,
     pub bytes: &'a [u8],
 }
 

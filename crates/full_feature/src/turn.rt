@@ -20,20 +20,19 @@ pub fn feature_turn<K: Sink, T: Target>(
     sink: &mut K,
     outbox: &mut Outbox,
     room: &mut Vec<u8>,
-    bhs: &[u8],
+    bhs: &[u8; BHS_LENGTH],
     pdu: &Pdu<'_>,
 ) -> Option<End>
     requires room { LONGEST_TEXT ≤ vec_capacity room.old }
-    requires bhs { length bhs.now ≡ BHS_LENGTH }
     ensures kept { vec_capacity room.old ≤ vec_capacity room.new }
     ensures few { length outbox.new.waiting < ENOUGH_TO_WRITE }
     ensures turn { MakesTurn T.leads session.old session.new target.old target.new (K.held sink.old) (K.held sink.new)
         (K.failures sink.old) (K.failures sink.new) outbox.old outbox.new
         (came bhs.now pdu.now.header pdu.now.data.now) result }
 {
-    let answered = session.make_text(room, pdu);
+    let is_made = session.make_text(room, pdu);
     let text = MadeText {
-        answered,
+        is_made,
         bytes: room.as_slice(),
     };
     let actions = session.on_pdu(&pdu.header, pdu.data, text);
@@ -42,19 +41,19 @@ pub fn feature_turn<K: Sink, T: Target>(
             outbox.fill(sink, bhs, &sending.pdus);
             sending.end
         }
-        Actions::Ask(call) => match call {
+        Actions::Call(call) => match call {
             Call::Serve(call) => {
                 let answer = target.serve(call.unit, call.asked, call.bytes.bytes());
-                let answered = session.on_answer(&call.task, &answer);
-                outbox.fill(sink, bhs, &answered.pdus);
+                let sending = session.on_answer(&call.task, &answer);
+                outbox.fill(sink, bhs, &sending.pdus);
                 session.keep(call.bytes);
-                answered.end
+                sending.end
             }
             Call::Reset(call) => {
                 let answer = target.reset(call.unit);
-                let answered = session.on_reset(call.request, answer);
-                outbox.fill(sink, bhs, &answered.pdus);
-                answered.end
+                let sending = session.on_reset(call.request, answer);
+                outbox.fill(sink, bhs, &sending.pdus);
+                sending.end
             }
         },
     }
@@ -66,10 +65,9 @@ pub fn fault_turn<K: Sink, T: Target>(
     target: &T,
     sink: &mut K,
     outbox: &mut Outbox,
-    bhs: &[u8],
+    bhs: &[u8; BHS_LENGTH],
     fault: PduFault,
 )
-    requires bhs { length bhs.now ≡ BHS_LENGTH }
     ensures { MakesTurn T.leads session.old session.new target.now target.now (K.held sink.old) (K.held sink.new)
         (K.failures sink.old) (K.failures sink.new) outbox.old outbox.new (faulty fault bhs.now) (Some Protocol) }
 {

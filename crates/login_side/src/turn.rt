@@ -17,11 +17,10 @@ pub fn login_turn<K: Sink, T: Target>(
     sink: &mut K,
     outbox: &mut Outbox,
     room: &mut Vec<u8>,
-    bhs: &[u8],
+    bhs: &[u8; BHS_LENGTH],
     pdu: &Pdu<'_>,
 ) -> LoginOutcome
     requires room { LONGEST_TEXT ≤ vec_capacity room.old }
-    requires bhs { length bhs.now ≡ BHS_LENGTH }
     ensures kept { vec_capacity room.old ≤ vec_capacity room.new }
     ensures few { length outbox.new.waiting < ENOUGH_TO_WRITE }
     ensures turn { MakesLoginTurn T.leads login.old login.new target.old target.new (K.held sink.old) (K.held sink.new)
@@ -41,10 +40,9 @@ pub fn login_fault_turn<K: Sink, T: Target>(
     target: &T,
     sink: &mut K,
     outbox: &mut Outbox,
-    bhs: &[u8],
+    bhs: &[u8; BHS_LENGTH],
     fault: PduFault,
 )
-    requires bhs { length bhs.now ≡ BHS_LENGTH }
     ensures { MakesLoginTurn T.leads login.old login.new target.now target.now (K.held sink.old) (K.held sink.new)
         (K.failures sink.old) (K.failures sink.new) outbox.old outbox.new (faulty fault bhs.now)
         (LoginOutcome.Rejected (reason_of fault)) }

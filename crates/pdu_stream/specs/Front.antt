@@ -8,7 +8,6 @@ use Rattle.pdu_stream.specs.declared.waiting.Front.{Front, TheVariants.Whole, Th
 -- a PDU that the first bytes spell, with its basic header segment
 pub record IsWhole (b bhs : List ℕ) (p : Pdu) (taken : ℕ) : Type 0 where
   pub bhs_is : bhs ≡ take bhs_length b
-  pub long : length bhs ≡ bhs_length
   pub within : taken ≤ length b
   pub spelled : IsPdu (take taken b) p.header p.«data».now
 

@@ -8,7 +8,7 @@ use iscsi_pdu::LONGEST_PDU;
 use std::alloc::{AllocError, Global};
 use std::marker::Model;
 
-/// The bytes of the memory: room for four PDUs of the longest, so that reads take much at once.
+/// The bytes of the memory: room for three PDUs of the longest and most of a fourth, so that reads take much at once.
 pub const INBOX_CAPACITY: usize = 262144;
 
 /// Bytes that came and are not yet taken, in memory that was taken once.

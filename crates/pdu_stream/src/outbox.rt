@@ -84,8 +84,7 @@ impl Outbox {
 
     /// Takes the PDUs of a turn in, and writes what waits where it is enough; a Reject has the header segment's bytes as
     /// its data.
-    pub fn fill<K: Sink>(&mut self, sink: &mut K, bhs: &[u8], pdus: &Pdus<'_>)
-        requires bhs { length bhs.now ≡ BHS_LENGTH }
+    pub fn fill<K: Sink>(&mut self, sink: &mut K, bhs: &[u8; BHS_LENGTH], pdus: &Pdus<'_>)
         requires reach { AreInReach pdus.now }
         ensures queued { IsQueued (K.held sink.old) (K.held sink.new) (K.failures sink.old) (K.failures sink.new)
             self.old self.new (bytes_of (sent_by bhs.now pdus.now)) }
@@ -98,8 +97,7 @@ impl Outbox {
     }
 
     // Takes the PDUs of a turn in, one behind the other.
-    fn take_in<K: Sink>(&mut self, sink: &mut K, bhs: &[u8], pdus: &Pdus<'_>)
-        requires bhs { length bhs.now ≡ BHS_LENGTH }
+    fn take_in<K: Sink>(&mut self, sink: &mut K, bhs: &[u8; BHS_LENGTH], pdus: &Pdus<'_>)
         requires reach { AreInReach pdus.now }
         ensures { IsQueued (K.held sink.old) (K.held sink.new) (K.failures sink.old) (K.failures sink.new)
             self.old self.new (bytes_of (sent_by bhs.now pdus.now)) }

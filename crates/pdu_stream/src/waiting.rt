@@ -8,13 +8,13 @@ use iscsi_pdu::{BHS_LENGTH, Pdu, PduFault, decode};
 pub enum Front<'a> {
     /// A PDU, the bytes of its basic header segment, and how many bytes it takes.
     Whole {
-        bhs: &'a [u8],
+        bhs: &'a [u8; BHS_LENGTH],
         pdu: Pdu<'a>,
         taken: usize,
     },
     /// A fault, and the bytes of the header segment.
     Faulty {
-        bhs: &'a [u8],
+        bhs: &'a [u8; BHS_LENGTH],
         fault: PduFault,
     },
     /// Less than a PDU.
@@ -25,10 +25,9 @@ pub enum Front<'a> {
 pub fn front_of(bytes: &[u8]) -> Front<'_>
     ensures { IsFront bytes.now result }
 {
-    if bytes.len() < BHS_LENGTH {
+    let Some(bhs) = bytes.first_chunk::<BHS_LENGTH>() else {
         return Front::Partial;
-    }
-    let bhs = &bytes[..BHS_LENGTH];
+    };
     match decode(bytes) {
         Ok(Some((pdu, taken))) => Front::Whole { bhs, pdu, taken },
         Ok(None) => Front::Partial,

@@ -69,12 +69,11 @@ impl Phases {
         sink: &mut K,
         outbox: &mut Outbox,
         room: &mut Vec<u8>,
-        bhs: &[u8],
+        bhs: &[u8; BHS_LENGTH],
         pdu: &Pdu<'_>,
     ) -> Option<End>
         requires fresh { IsFresh self.old }
         requires room { LONGEST_TEXT ≤ vec_capacity room.old }
-        requires bhs { length bhs.now ≡ BHS_LENGTH }
         ensures kept { LONGEST_TEXT ≤ vec_capacity room.new }
         ensures few { length outbox.new.waiting < ENOUGH_TO_WRITE }
         ensures exchange { MakesExchange T.leads self.old self.new target.old target.new
@@ -101,10 +100,9 @@ impl Phases {
         target: &T,
         sink: &mut K,
         outbox: &mut Outbox,
-        bhs: &[u8],
+        bhs: &[u8; BHS_LENGTH],
         fault: PduFault,
     )
-        requires bhs { length bhs.now ≡ BHS_LENGTH }
         ensures { MakesExchange T.leads self.old self.new target.now target.now (K.held sink.old) (K.held sink.new)
             (K.failures sink.old) (K.failures sink.new) outbox.old outbox.new (faulty fault bhs.now) (Some Protocol) }
     {

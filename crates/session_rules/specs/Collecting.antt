@@ -16,8 +16,8 @@ abbrev pub sizes : List R2tHeader → ℕ
 sizes rs = sum_by (λ r. r.desired_length) rs
 
 -- The R2T at a place among those of a command that needs so many bytes, of which so many were immediate and so many
--- have come: it asks for the bytes behind those that were asked for, as many as a burst has, when these have all come.
-pub record IsRequest (burst : ℕ) (p : CommandHeader) (need immediate came : ℕ) (rs : List R2tHeader) (i : ℕ)
+-- have come: its bytes stand behind those of the R2Ts before it, as many as a burst has, and it goes out when these have all come.
+pub record IsR2tAt (burst : ℕ) (p : CommandHeader) (need immediate came : ℕ) (rs : List R2tHeader) (i : ℕ)
     (r : R2tHeader) : Type 0 where
   pub number : r.r2t_sn ≡ wrap i
   pub place : r.offset ≡ immediate + sizes (take i rs)
@@ -28,8 +28,8 @@ pub record IsRequest (burst : ℕ) (p : CommandHeader) (need immediate came : �
   pub lun : r.lun ≡ p.lun
 
 -- how far the R2Ts go
-abbrev pub asked_to : ℕ → List R2tHeader → ℕ
-asked_to immediate rs = immediate + sizes rs
+abbrev pub r2ts_end : ℕ → List R2tHeader → ℕ
+r2ts_end immediate rs = immediate + sizes rs
 
 -- The call of a command: of the unit that its LUN names, for what its CDB asks, with its data, once; of a write that
 -- expects to send what it needs all of it, which its immediate data and its R2Ts tile.
@@ -43,15 +43,15 @@ pub record IsCalledFor (p : CommandHeader) (asked : Result Command CdbFault) (im
   pub all : IsTrue p.write → need_of asked ≤ p.expected_length → need_of asked ≤ length bytes
   pub tiled : IsTrue p.write → need_of asked ≤ p.expected_length
       → min immediate (need_of asked) + sizes rs ≡ need_of asked
-  pub unasked : (HasToCollect p (need_of asked) immediate → ⊥) → rs ≡ []
+  pub no_r2ts : (HasToCollect p (need_of asked) immediate → ⊥) → rs ≡ []
 
--- A command that was not called is one that has to collect, and no byte came that was not asked for; while it collects an
--- R2T is outstanding.
+-- A command that was not called is one that has to collect, and no byte came behind the last of its R2Ts; while it collects
+-- an R2T is outstanding.
 pub record IsUncalled (p : CommandHeader) (need immediate : ℕ) (bytes : List ℕ) (rs : List R2tHeader)
     (ended : Bool) : Type 0 where
   pub collects : HasToCollect p need immediate
-  pub within : length bytes ≤ asked_to immediate rs
-  pub waits : ended ≡ false → length bytes < asked_to immediate rs
+  pub within : length bytes ≤ r2ts_end immediate rs
+  pub waits : ended ≡ false → length bytes < r2ts_end immediate rs
 
 abbrev pub HasCalls : CommandHeader → Result Command CdbFault → ℕ → List ℕ → List R2tHeader → Bool → List Asking → Type 0
 HasCalls p asked immediate bytes rs ended [] = IsUncalled p (need_of asked) immediate bytes rs ended
@@ -61,12 +61,11 @@ HasCalls p asked immediate bytes rs ended (c ∷ (d ∷ cs)) = ⊥
 -- what is right of a command with these R2Ts and calls so far, of whose data so much came
 pub record IsCollected (burst : ℕ) (p : CommandHeader) (asked : Result Command CdbFault) (immediate : ℕ)
     (bytes : List ℕ) (rs : List R2tHeader) (ended : Bool) (cs : List Asking) : Type 0 where
-  pub requested : (i : ℕ) (r : R2tHeader) → slice_get rs i ≡ Some r
-      → IsRequest burst p (need_of asked) immediate (length bytes) rs i r
+  pub each_r2t : (i : ℕ) (r : R2tHeader) → slice_get rs i ≡ Some r
+      → IsR2tAt burst p (need_of asked) immediate (length bytes) rs i r
   pub outcome : HasCalls p asked immediate bytes rs ended cs
 
--- one that ended without a call, and that was not dropped, had no R2T: it was turned away before any of its data was asked
--- for
+-- one that ended without a call, and that was not dropped, had no R2T: it was turned away before any went out
 abbrev pub IsTurnedAwayAtOnce : Bool → Bool → List Asking → List R2tHeader → Type 0
 IsTurnedAwayAtOnce ended dropped cs rs = ended ≡ true → dropped ≡ false → cs ≡ [] → rs ≡ []
 
@@ -81,12 +80,12 @@ pub record IsRightTask (burst : ℕ) (k : Task) : Type 0 where
 -- A Data-Out continues the R2T that is outstanding (11.7): its Target Transfer Tag, the next DataSN, the next byte, and
 -- none past its range.
 pub record Continues (c : Collecting) (x : DataOutHeader) (d : List ℕ) : Type 0 where
-  pub request : R2tHeader
-  pub outstanding : c.outstanding ≡ Some request
-  pub transfer : x.transfer_tag ≡ request.transfer_tag
+  pub r2t : R2tHeader
+  pub outstanding : c.outstanding ≡ Some r2t
+  pub transfer : x.transfer_tag ≡ r2t.transfer_tag
   pub number : x.data_sn ≡ c.data_sn
   pub place : x.offset ≡ length c.bytes
-  pub within : x.offset + length d ≤ request.offset + request.desired_length
+  pub within : x.offset + length d ≤ r2t.offset + r2t.desired_length
 
 -- the next R2T of a command, behind so many, where so many bytes have come
 pub record IsNext (burst : ℕ) (p : CommandHeader) (need came i : ℕ) (r : R2tHeader) : Type 0 where

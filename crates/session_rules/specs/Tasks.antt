@@ -157,7 +157,7 @@ pub record Collecting : Type 0 where
   pub command : CommandHeader
   pub bytes : List ℕ
   pub outstanding : Option R2tHeader
-  pub requests : ℕ
+  pub r2t_count : ℕ
   pub data_sn : ℕ
 
 abbrev pub collected : Task → Collecting
@@ -165,7 +165,7 @@ collected k = record {
   command = k.command;
   bytes = gathered k;
   outstanding = last_or None (r2ts k.own);
-  requests = wrap (length (r2ts k.own));
+  r2t_count = wrap (length (r2ts k.own));
   data_sn = wrap (length (data_outs (behind_last sends_r2t k.own)));
 }
 

@@ -28,31 +28,31 @@ NeedIs p need = (asked : Result Command CdbFault) → Means p.cdb asked → need
 -- A command that has to collect so many bytes: its buffer has room for them, no more have come, and its R2T does not pass
 -- them.
 pub record IsSlot (p : CommandHeader) (asked : Result Command CdbFault) (need came capacity : ℕ)
-    (request : R2tHeader) : Type 0 where
+    (r2t : R2tHeader) : Type 0 where
   pub asked_by : IsAskedBy p asked
   pub need_is : need ≡ need_of asked
   pub writes : IsTrue p.write
   pub expected : need ≤ p.expected_length
   pub room : need ≤ capacity
   pub held : came ≤ need
-  pub within : request.offset + request.desired_length ≤ need
+  pub within : r2t.offset + r2t.desired_length ≤ need
 
 -- the R2T of a command that needs so many bytes and has had so many R2Ts, where so many bytes have come
 abbrev pub r2t_for : CommandHeader → ℕ → ℕ → ℕ → R2tWith → R2tHeader
-r2t_for p need came requests sent_with = record {
+r2t_for p need came count sent_with = record {
   lun = p.lun;
   task_tag = p.task_tag;
   transfer_tag = sent_with.transfer_tag;
   numbers = sent_with.numbers;
-  r2t_sn = requests;
+  r2t_sn = count;
   offset = came;
   desired_length = min sent_with.burst (need - came);
 }
 
 -- a command that waits, to which this R2T went out, as so many did
 abbrev pub waits : CommandHeader → List ℕ → R2tHeader → ℕ → Collecting
-waits p bytes request requests =
-    record { command = p; bytes = bytes; outstanding = Some request; requests = requests; data_sn = 0 }
+waits p bytes r2t count =
+    record { command = p; bytes = bytes; outstanding = Some r2t; r2t_count = count; data_sn = 0 }
 
 -- a command begins to wait
 abbrev pub begun : CommandHeader → ℕ → List ℕ → R2tWith → Collecting

@@ -32,16 +32,16 @@ pub struct R2tWith {
 }
 
 // The R2T for what a command needs behind the bytes that have come (RFC 7143, 11.8).
-fn r2t(command: &ScsiCommand, need: u32, came: usize, requests: u32, with: R2tWith) -> R2t
+fn r2t(command: &ScsiCommand, need: u32, came: usize, count: u32, with: R2tWith) -> R2t
     requires { came < need }
-    ensures { result ≡ r2t_for command.now need came requests with }
+    ensures { result ≡ r2t_for command.now need came count with }
 {
     R2t {
         lun: command.lun,
         task_tag: command.task_tag,
         transfer_tag: with.transfer_tag,
         numbers: with.numbers,
-        r2t_sn: requests,
+        r2t_sn: count,
         offset: came as u32,
         desired_length: with.burst.min(need - came as u32),
     }
@@ -54,8 +54,8 @@ pub struct WaitingCommand {
     asked: Asked,
     need: u32,
     bytes: Vec<u8>,
-    request: R2t,
-    requests: u32,
+    outstanding: R2t,
+    r2t_count: u32,
     data_sn: u32,
 }
 
@@ -69,12 +69,12 @@ impl Model for WaitingCommand {
     ghost view = { λ s. record {
       command = s.command;
       bytes = s.bytes.items;
-      outstanding = Some s.request;
-      requests = s.requests;
+      outstanding = Some s.outstanding;
+      r2t_count = s.r2t_count;
       data_sn = s.data_sn;
     } };
 
-    ghost invariant = { λ s. IsSlot s.command s.asked s.need (length s.bytes.items) (vec_capacity s.bytes) s.request };
+    ghost invariant = { λ s. IsSlot s.command s.asked s.need (length s.bytes.items) (vec_capacity s.bytes) s.outstanding };
 }
 
 impl WaitingCommand {
@@ -100,14 +100,14 @@ impl WaitingCommand {
             Ok(()) => {}
             Err(_) => unreachable!(),
         }
-        let request = r2t(&command, need, bytes.len(), 0, with);
+        let outstanding = r2t(&command, need, bytes.len(), 0, with);
         WaitingCommand {
             command,
             asked,
             need,
             bytes,
-            request,
-            requests: 1,
+            outstanding,
+            r2t_count: 1,
             data_sn: 0,
         }
     }
@@ -127,18 +127,18 @@ impl WaitingCommand {
     }
 
     /// The R2T that is outstanding.
-    pub fn request(&self) -> R2t
+    pub fn outstanding(&self) -> R2t
         ensures { self.now.outstanding ≡ Some result }
     {
-        self.request
+        self.outstanding
     }
 
     /// Whether a Data-Out continues the R2T that is outstanding.
     pub fn continues(&self, header: &DataOut, bytes: &[u8]) -> bool
         ensures { IsTrue result ↔ Continues self.now header.now bytes.now }
     {
-        let end = u64::from(self.request.offset) + u64::from(self.request.desired_length);
-        header.transfer_tag == self.request.transfer_tag
+        let end = u64::from(self.outstanding.offset) + u64::from(self.outstanding.desired_length);
+        header.transfer_tag == self.outstanding.transfer_tag
             && header.data_sn == self.data_sn
             && header.offset as usize == self.bytes.len()
             && u64::from(header.offset) + bytes.len() as u64 <= end
@@ -169,28 +169,28 @@ impl WaitingCommand {
         ensures { IfSome self.now.outstanding
             (λ r. result ≡ nat_le (r.offset + r.desired_length) (length self.now.bytes)) }
     {
-        let end = u64::from(self.request.offset) + u64::from(self.request.desired_length);
+        let end = u64::from(self.outstanding.offset) + u64::from(self.outstanding.desired_length);
         end <= self.bytes.len() as u64
     }
 
-    // Asks for more: the next R2T.
-    fn ask(&mut self, with: R2tWith) -> R2t
+    // The next R2T, for more of the data.
+    fn next_r2t(&mut self, with: R2tWith) -> R2t
         requires { (need : ℕ) × NeedIs self.old.command need × (length self.old.bytes < need) }
-        ensures asked { self.new ≡ waits self.old.command self.old.bytes result (wrap (self.old.requests + 1)) }
+        ensures waits { self.new ≡ waits self.old.command self.old.bytes result (wrap (self.old.r2t_count + 1)) }
         ensures r2t { (need : ℕ) → NeedIs self.old.command need
-            → result ≡ r2t_for self.old.command need (length self.old.bytes) self.old.requests with }
-        ensures fits { self.old.requests < 4294967296 }
+            → result ≡ r2t_for self.old.command need (length self.old.bytes) self.old.r2t_count with }
+        ensures fits { self.old.r2t_count < 4294967296 }
     {
-        self.request = r2t(
+        self.outstanding = r2t(
             &self.command,
             self.need,
             self.bytes.len(),
-            self.requests,
+            self.r2t_count,
             with,
         );
-        self.requests = self.requests.wrapping_add(1);
+        self.r2t_count = self.r2t_count.wrapping_add(1);
         self.data_sn = 0;
-        self.request
+        self.outstanding
     }
 
     /// The command, what its CDB asks for, how much it needs, and the data that came.
@@ -364,17 +364,17 @@ impl WaitingCommands {
         self.slots[at].feed(header, bytes);
     }
 
-    /// Asks for more for the one that stands there: the next R2T.
-    pub fn ask_at(&mut self, at: usize, with: R2tWith) -> R2t
+    /// The next R2T of the one that stands there.
+    pub fn next_r2t_at(&mut self, at: usize, with: R2tWith) -> R2t
         requires { (this : Collecting) × StandsAt self.old at this
             × ((need : ℕ) × NeedIs this.command need × (length this.bytes < need)) }
-        ensures asked { (this : Collecting) → (s : StandsAt self.old at this)
-            → self.new ≡ s.front ++ (waits this.command this.bytes result (wrap (this.requests + 1)) ∷ s.back) }
+        ensures waits { (this : Collecting) → (s : StandsAt self.old at this)
+            → self.new ≡ s.front ++ (waits this.command this.bytes result (wrap (this.r2t_count + 1)) ∷ s.back) }
         ensures r2t { (this : Collecting) → StandsAt self.old at this → (need : ℕ) → NeedIs this.command need
-            → result ≡ r2t_for this.command need (length this.bytes) this.requests with }
-        ensures fits { (this : Collecting) → StandsAt self.old at this → this.requests < 4294967296 }
+            → result ≡ r2t_for this.command need (length this.bytes) this.r2t_count with }
+        ensures fits { (this : Collecting) → StandsAt self.old at this → this.r2t_count < 4294967296 }
     {
-        self.slots[at].ask(with)
+        self.slots[at].next_r2t(with)
     }
 
     /// Takes the one that stands there away.

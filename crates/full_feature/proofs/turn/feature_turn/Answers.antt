@@ -1,5 +1,5 @@
 use Rattle.std.proofs.Common.{ℕ, List, Some, None, refl, ap, subst, ◌∙◌}
-use Rattle.full_feature.specs.declared.actions.Actions.TheVariants.{Send, Ask}
+use Rattle.full_feature.specs.declared.actions.Actions.TheVariants.{Send, Call}
 use Rattle.full_feature.specs.declared.actions.Call.TheVariants.{Serve, Reset}
 use Rattle.full_feature.specs.Step.{call_data, step_of}
 use Rattle.full_feature.proofs.Turns.{turn_of, outs_so, end_so, run_said, end_said}
@@ -17,11 +17,11 @@ returns-in-Send-clause-turn g c =
 pub returns-in-Serve-clause-turn : goal.returns-in-Serve-clause-turn
 returns-in-Serve-clause-turn g c =
     let call = c.in-Serve.call in
-    let x = c.on_answer-answered.result in
-    let k = c.on_answer-answered.ensures.answered in
-    let on = rw (c.in-Ask.is ∙ ap Ask c.in-Serve.is) at c.on_pdu-actions.ensures.on in
+    let x = c.on_answer-sending.result in
+    let k = c.on_answer-sending.ensures.answered in
+    let on = rw (c.in-Call.is ∙ ap Call c.in-Serve.is) at c.on_pdu-actions.ensures.on in
     turn_of g.T.Target.leads _ _ _ _ _ _ _ _ _ _ _ (pdu c.args.bhs.now c.args.pdu.now.header c.args.pdu.now.data.now)
-    on.verdict (step_of (Ask (Serve call))) (Some (served call.unit call.asked (call_data call.bytes) c.serve-answer.result))
+    on.verdict (step_of (Call (Serve call))) (Some (served call.unit call.asked (call_data call.bytes) c.serve-answer.result))
     _ x.end on.judged on.made (
       c.serve-answer.result,
       record {
@@ -37,11 +37,11 @@ returns-in-Serve-clause-turn g c =
 pub returns-in-Reset-clause-turn : goal.returns-in-Reset-clause-turn
 returns-in-Reset-clause-turn g c =
     let call = c.in-Reset.call in
-    let x = c.on_reset-answered.result in
-    let k = c.on_reset-answered.ensures.on in
-    let on = rw (c.in-Ask.is ∙ ap Ask c.in-Reset.is) at c.on_pdu-actions.ensures.on in
+    let x = c.on_reset-sending.result in
+    let k = c.on_reset-sending.ensures.on in
+    let on = rw (c.in-Call.is ∙ ap Call c.in-Reset.is) at c.on_pdu-actions.ensures.on in
     turn_of g.T.Target.leads _ _ _ _ _ _ _ _ _ _ _ (pdu c.args.bhs.now c.args.pdu.now.header c.args.pdu.now.data.now)
-    on.verdict (step_of (Ask (Reset call))) (Some (reset call.unit c.reset-answer.result)) _ x.end on.judged on.made (
+    on.verdict (step_of (Call (Reset call))) (Some (reset call.unit c.reset-answer.result)) _ x.end on.judged on.made (
       c.reset-answer.result,
       record {
         call_is = refl;

@@ -1,6 +1,6 @@
 use Rattle.std.proofs.Common.{refl}
 use Rattle.full_feature.specs.declared.actions.CommandData.TheVariants.{Gathered}
-use Rattle.full_feature.proofs.Receiving.{can, stands, at_within, on_filling, on_calling, can_ask, on_asking}
+use Rattle.full_feature.proofs.Receiving.{can, stands, at_within, on_filling, on_calling, needs_r2t, on_r2t}
 use Rattle.full_feature.proofs.session.Session.take_data.Goals as goal
 
 pub feed_at-requires : goal.feed_at-requires
@@ -23,15 +23,15 @@ returns-then-len-need-clause-on c =
     _ _ (Gathered c.finish-done.result.bytes) _ _ c.if-len-need.true
     (c.remove.ensures.removed _ (stands c.self.view_is c.requires c.feed_at.ensures.fed)) c.finish-done.ensures refl c.call.ensures.calls
 
-pub ask_at-r2t-requires : goal.ask_at-r2t-requires
-ask_at-r2t-requires c =
-    can_ask c.self.view_is c.requires c.feed_at.ensures.fed c.at-command.ensures c.feed_at.ensures.asked c.need.ensures c.len.ensures
+pub next_r2t_at-r2t-requires : goal.next_r2t_at-r2t-requires
+next_r2t_at-r2t-requires c =
+    needs_r2t c.self.view_is c.requires c.feed_at.ensures.fed c.at-command.ensures c.feed_at.ensures.asked c.need.ensures c.len.ensures
     c.if-len-need.false
 
 pub returns-clause-on : goal.returns-clause-on
 returns-clause-on c =
     let there = stands c.self.view_is c.requires c.feed_at.ensures.fed in
-    on_asking c.self.view_is c.requires c.feed_at.ensures.fed c.at-command.ensures c.feed_at.ensures.asked c.need.ensures c.len.ensures
+    on_r2t c.self.view_is c.requires c.feed_at.ensures.fed c.at-command.ensures c.feed_at.ensures.asked c.need.ensures c.len.ensures
     c.if-len-need.false _ _ _ _ _ _ _ c.is_filled.ensures c.if-not-is_filled.false
-    c.numbered.ensures.count c.r2t_with-with.ensures (c.ask_at-r2t.ensures.asked _ there) (c.ask_at-r2t.ensures.r2t _ there)
-    (c.ask_at-r2t.ensures.fits _ there) c.ask_for.ensures.asks c.next_transfer_tag-self-inside.ensures
+    c.numbered.ensures.count c.r2t_with-with.ensures (c.next_r2t_at-r2t.ensures.waits _ there) (c.next_r2t_at-r2t.ensures.r2t _ there)
+    (c.next_r2t_at-r2t.ensures.fits _ there) c.send_r2t.ensures.sends c.next_transfer_tag-self-inside.ensures
