@@ -1,7 +1,7 @@
 #!/usr/bin/env python3
 """How fast arrayd is beside tgt, or beside another build of itself: both serve the same file on tmpfs in turn, to the same
 client on the loopback. Prints a line for each kind of command, with the medians of the runs, how the two compare, by how
-many microseconds a command takes longer, and the time of the processor that arrayd took for it. It wants rustc, by which it
+many microseconds a command takes longer, and the time of the processor that each took for it. It wants rustc, by which it
 builds the client, and the Debian package tgt where no other program is named.
 
 usage: bench/beside.py [--seconds N] [--runs N] [--only WORDS] [--size MIB] [--before PROGRAM] [--controller C]
@@ -117,11 +117,10 @@ def main():
                             # each of the two goes first in every other turn
                             for kept, start, at in pair[:: 1 - turn % 2 * 2]:
                                 kept.append(measure(start, disk, client, at, run))
-                        ours, user, system = (statistics.median(g[k] for g in got) for k in range(3))
-                        theirs = statistics.median(g[0] for g in others)
-                        print(f"{line}: arrayd {ours:,.0f} a second, {name} {theirs:,.0f}: {ours / theirs:.2f}, "
-                              f"{1e6 / ours - 1e6 / theirs:+.2f} us a command; "
-                              f"arrayd's processor {user:.1f} us user, {system:.1f} us system", flush=True)
+                        ours, theirs = ([statistics.median(r[k] for r in runs) for k in range(3)] for runs in (got, others))
+                        print(f"{line}: arrayd {ours[0]:,.0f} a second, {name} {theirs[0]:,.0f}: {ours[0] / theirs[0]:.2f}, "
+                              f"{1e6 / ours[0] - 1e6 / theirs[0]:+.2f} us a command; processor, user and system: "
+                              f"arrayd {ours[1]:.1f} and {ours[2]:.1f} us, {name} {theirs[1]:.1f} and {theirs[2]:.1f}", flush=True)
 
 
 if __name__ == "__main__":
