@@ -114,10 +114,14 @@ impl<'a, R: Wait + Drop, N: Array<Opened>> Scene<'a, R, N> {
         if pass.place() >= self.units.count() {
             return None;
         }
-        let ticket = self.hand_in(pass, asked, bytes)?;
-        let (pass, end) = self.desk.serve_own(self.rt, self.alloc, self.units, ticket);
-        let status = status_of(&end);
-        Some((pass, status))
+        match self.desk.submit(self.rt, self.alloc, pass, &asked, bytes) {
+            Ok(ticket) => {
+                let (pass, end) = self.desk.serve_own(self.rt, self.alloc, self.units, ticket);
+                let status = status_of(&end);
+                Some((pass, status))
+            }
+            Err(_) => None,
+        }
     }
 
     // A command as the program serves it.
