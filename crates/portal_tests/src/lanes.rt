@@ -4,7 +4,6 @@ ghost use Rattle.unit_history.specs.Naming.{IsNamed};
 
 use crate::held::HeldBlocks;
 use crate::latch::Latch;
-use crate::tally::Tally;
 use crate::units::{HeldUnit, two};
 use block_file::{KeepOpener, MemBlocks};
 use forwarding::{Desk, Ticket};
@@ -44,7 +43,7 @@ const NEW: [u8; 512] = [0xA5; 512];
 /// A list that makes group 1 active/optimized.
 const TO_GROUP_1: [u8; 8] = [0, 0, 0, 0, 0, 0, 0, 1];
 
-/// A desk, the units that are served by way of it, the latch at which their devices hang, and how many jobs lanes have taken.
+/// A desk, the units that are served by way of it, and the latch at which their devices hang.
 #[derive(Drop)]
 struct Scene<'a, R: Wait + Drop, N: Array<Opened>> {
     rt: &'a R,
@@ -52,7 +51,6 @@ struct Scene<'a, R: Wait + Drop, N: Array<Opened>> {
     desk: &'a HeldDesk<R, N>,
     units: &'a HeldUnits<R, N>,
     disk: &'a Latch<R>,
-    taken: &'a Tally,
 }
 
 // The status of a reply.
@@ -104,28 +102,8 @@ impl<'a, R: Wait + Drop, N: Array<Opened>> Scene<'a, R, N> {
         Some(self.collect(ticket))
     }
 
-    // A command whose job waits in the queue, and which its worker serves, unless a lane is first.
+    // A command that its worker serves, unless a lane is first.
     fn by_worker(
-        &self,
-        pass: HeldPass<R, N>,
-        asked: Asked,
-        bytes: &[u8],
-    ) -> Option<(HeldPass<R, N>, Option<u8>)> {
-        if pass.place() >= self.units.count() {
-            return None;
-        }
-        match self.desk.submit(self.rt, self.alloc, pass, &asked, bytes) {
-            Ok(ticket) => {
-                let (pass, end) = self.desk.serve_own(self.rt, self.alloc, self.units, ticket);
-                let status = status_of(&end);
-                Some((pass, status))
-            }
-            Err(_) => None,
-        }
-    }
-
-    // A command as the program serves it.
-    fn by_desk(
         &self,
         pass: HeldPass<R, N>,
         asked: Asked,
@@ -160,18 +138,16 @@ impl<'a, R: Wait + Drop, N: Array<Opened>> Scene<'a, R, N> {
         Some(self.units.read(self.rt, 0).entries)
     }
 
-    // Serves what comes to the desk, until it is closed.
-    fn lane(&self) {
+    // Serves what comes to the desk, until it is closed: how many jobs.
+    fn lane(&self) -> u32 {
+        let mut count = 0u32;
         for _ in self.rt.forever() {
-            let Some(job) = self.desk.take(self.rt) else {
+            if !self.desk.serve_next(self.rt, self.alloc, self.units) {
                 break;
-            };
-            self.taken.add(self.rt);
-            if job.place() < self.units.count() {
-                let answer = job.serve(self.rt, self.alloc, self.units);
-                self.desk.post(self.rt, answer);
             }
+            count = count.saturating_add(1);
         }
+        count
     }
 
     // Unit 1 moves to group 1, which owns unit 0.
@@ -196,10 +172,10 @@ fn one_hangs<R: Wait + Drop, N: Array<Opened>>(scene: &Scene<'_, R, N>) -> Optio
     Some(are_good && shown == Some(2) && scene.entries() == Some(3))
 }
 
-// A session at unit 1 with three commands: two wait in the queue, and one is served as the program does.
+// A session at unit 1 whose worker hands three commands in.
 fn is_served<R: Wait + Drop, N: Array<Opened>>(scene: &Scene<'_, R, N>, isid: u8) -> Option<bool> {
     let (pass, first) = scene.by_worker(scene.attach(1, isid)?, TEST_UNIT_READY, &[])?;
-    let (pass, second) = scene.by_desk(pass, WRITE, &[isid; 512])?;
+    let (pass, second) = scene.by_worker(pass, WRITE, &[isid; 512])?;
     let (_, third) = scene.by_worker(pass, TEST_UNIT_READY, &[])?;
     Some(first == Some(2) && second == Some(0) && third == Some(0))
 }
@@ -230,10 +206,10 @@ where
     one && other
 }
 
-// Five sessions at unit 0.
-fn five_ready<R: Wait + Drop, N: Array<Opened>>(scene: &Scene<'_, R, N>) -> Vec<HeldPass<R, N>> {
+// Four sessions at unit 0.
+fn four_ready<R: Wait + Drop, N: Array<Opened>>(scene: &Scene<'_, R, N>) -> Vec<HeldPass<R, N>> {
     let mut passes = Vec::new(scene.alloc);
-    for isid in 1..=5 {
+    for isid in 1..=4 {
         if let Some(pass) = scene.ready(0, isid) {
             let _ = passes.push(pass);
         }
@@ -271,25 +247,22 @@ fn count_good<R: Wait + Drop, N: Array<Opened>>(
     count
 }
 
-// Each lane has taken a write of unit 0, and a fifth waits: nobody but a lane that another write woke takes them. Meanwhile
-// eight sessions at unit 1 are served, each by its own worker.
+// Each lane is held by a write of unit 0; meanwhile eight sessions at unit 1 are served, each by its own worker.
 fn all_hang<R, N: Array<Opened>>(scene: &Scene<'_, R, N>) -> bool
 where
     R: Threads + Wait + Send + Sync + Drop,
     N: Send + Sync,
 {
-    let passes = five_ready(scene);
+    let passes = four_ready(scene);
     scene.disk.hold(Some(0));
     let tickets = write_all(scene, passes, &NEW);
-    scene.taken.await_count(scene.rt, 9);
     let (first, second) = join(
         scene.rt,
         || four_are_served(scene, 8),
         || four_are_served(scene, 12),
     );
-    let by_lanes = scene.taken.count(scene.rt);
     scene.disk.hold(None);
-    first && second && by_lanes == 9 && count_good(scene, tickets) == 5
+    first && second && count_good(scene, tickets) == 4
 }
 
 /// What is played.
@@ -315,30 +288,31 @@ where
     is_right
 }
 
-fn two_lanes<R, N: Array<Opened>>(scene: &Scene<'_, R, N>)
+fn two_lanes<R, N: Array<Opened>>(scene: &Scene<'_, R, N>) -> u32
 where
     R: Threads + Wait + Send + Sync + Drop,
     N: Send + Sync,
 {
-    let _ = join(scene.rt, || scene.lane(), || scene.lane());
+    let (one, other) = join(scene.rt, || scene.lane(), || scene.lane());
+    one.saturating_add(other)
 }
 
-fn four_lanes<R, N: Array<Opened>>(scene: &Scene<'_, R, N>)
+fn four_lanes<R, N: Array<Opened>>(scene: &Scene<'_, R, N>) -> u32
 where
     R: Threads + Wait + Send + Sync + Drop,
     N: Send + Sync,
 {
-    let _ = join(scene.rt, || two_lanes(scene), || two_lanes(scene));
+    let (one, other) = join(scene.rt, || two_lanes(scene), || two_lanes(scene));
+    one.saturating_add(other)
 }
 
-// Plays it beside four lanes: whether all was right.
-fn share<R, N: Array<Opened>>(scene: &Scene<'_, R, N>, played: Played) -> bool
+// Plays it beside four lanes: whether all was right, and how many jobs they served.
+fn share<R, N: Array<Opened>>(scene: &Scene<'_, R, N>, played: Played) -> (bool, u32)
 where
     R: Threads + Wait + Send + Sync + Drop,
     N: Send + Sync,
 {
-    let (is_right, _) = join(scene.rt, || play(scene, played), || four_lanes(scene));
-    is_right
+    join(scene.rt, || play(scene, played), || four_lanes(scene))
 }
 
 // Plays it at a desk with four lanes, which serve so many jobs meanwhile.
@@ -355,19 +329,18 @@ fn perform<'a, N: Array<Opened> + Send + Sync, R: Threads + Wait + Send + Sync +
 {
     let units = HeldUnits::<R, N>::new(rt, alloc, new)?;
     let desk = HeldDesk::<R, N>::new(alloc, Group::One)?;
-    let taken = Tally::new();
     let scene = Scene {
         rt,
         alloc,
         desk: &desk,
         units: &units,
         disk,
-        taken: &taken,
     };
-    if !share(&scene, played) {
+    let (is_right, served) = share(&scene, played);
+    if !is_right {
         return Err("what was told".into());
     }
-    if taken.count(rt) != by_lanes {
+    if served != by_lanes {
         return Err("jobs that lanes served".into());
     }
     Ok(())
@@ -391,9 +364,8 @@ fn a_device_that_hangs_holds_one_lane(rt: HostRuntime) -> Result<(), Fail> {
     run(&rt, rt.alloc(), Played::OneHangs, 5)
 }
 
-// Of the 34 commands the lanes serve 10: those that only they can. The workers of eight sessions serve theirs, 16 out of the
-// queue, since no lane is free.
+// Of the 32 commands the lanes serve 8: those that only they can. The workers serve theirs, since no lane is free.
 #[test]
 fn workers_serve_where_all_lanes_are_held(rt: HostRuntime) -> Result<(), Fail> {
-    run(&rt, rt.alloc(), Played::AllHang, 10)
+    run(&rt, rt.alloc(), Played::AllHang, 8)
 }

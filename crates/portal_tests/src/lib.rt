@@ -37,8 +37,6 @@ mod stage;
 #[cfg(test)]
 mod streams;
 #[cfg(test)]
-mod tally;
-#[cfg(test)]
 mod units;
 #[cfg(test)]
 mod wanting;
