@@ -4,6 +4,7 @@ ghost use Rattle.unit_history.specs.Naming.{IsNamed};
 
 use crate::held::HeldBlocks;
 use crate::latch::Latch;
+use crate::tally::Tally;
 use crate::units::{HeldUnit, two};
 use block_file::{KeepOpener, MemBlocks};
 use forwarding::{Desk, Ticket};
@@ -43,7 +44,7 @@ const NEW: [u8; 512] = [0xA5; 512];
 /// A list that makes group 1 active/optimized.
 const TO_GROUP_1: [u8; 8] = [0, 0, 0, 0, 0, 0, 0, 1];
 
-/// A desk, the units that are served by way of it, and the latch at which their devices hang.
+/// A desk, the units that are served by way of it, the latch at which their devices hang, and how many jobs lanes have taken.
 #[derive(Drop)]
 struct Scene<'a, R: Wait + Drop, N: Array<Opened>> {
     rt: &'a R,
@@ -51,6 +52,7 @@ struct Scene<'a, R: Wait + Drop, N: Array<Opened>> {
     desk: &'a HeldDesk<R, N>,
     units: &'a HeldUnits<R, N>,
     disk: &'a Latch<R>,
+    taken: &'a Tally,
 }
 
 // The status of a reply.
@@ -102,8 +104,28 @@ impl<'a, R: Wait + Drop, N: Array<Opened>> Scene<'a, R, N> {
         Some(self.collect(ticket))
     }
 
-    // A command that its worker serves, unless a lane is first.
+    // A command whose job waits in the queue, and which its worker serves, unless a lane is first.
     fn by_worker(
+        &self,
+        pass: HeldPass<R, N>,
+        asked: Asked,
+        bytes: &[u8],
+    ) -> Option<(HeldPass<R, N>, Option<u8>)> {
+        if pass.place() >= self.units.count() {
+            return None;
+        }
+        match self.desk.submit(self.rt, self.alloc, pass, &asked, bytes) {
+            Ok(ticket) => {
+                let (pass, end) = self.desk.serve_own(self.rt, self.alloc, self.units, ticket);
+                let status = status_of(&end);
+                Some((pass, status))
+            }
+            Err(_) => None,
+        }
+    }
+
+    // A command as the program serves it.
+    fn by_desk(
         &self,
         pass: HeldPass<R, N>,
         asked: Asked,
@@ -138,16 +160,18 @@ impl<'a, R: Wait + Drop, N: Array<Opened>> Scene<'a, R, N> {
         Some(self.units.read(self.rt, 0).entries)
     }
 
-    // Serves what comes to the desk, until it is closed: how many jobs.
-    fn lane(&self) -> u32 {
-        let mut count = 0u32;
+    // Serves what comes to the desk, until it is closed.
+    fn lane(&self) {
         for _ in self.rt.forever() {
-            if !self.desk.serve_next(self.rt, self.alloc, self.units) {
+            let Some(job) = self.desk.take(self.rt) else {
                 break;
+            };
+            self.taken.add(self.rt);
+            if job.place() < self.units.count() {
+                let answer = job.serve(self.rt, self.alloc, self.units);
+                self.desk.post(self.rt, answer);
             }
-            count = count.saturating_add(1);
         }
-        count
     }
 
     // Unit 1 moves to group 1, which owns unit 0.
@@ -172,10 +196,10 @@ fn one_hangs<R: Wait + Drop, N: Array<Opened>>(scene: &Scene<'_, R, N>) -> Optio
     Some(are_good && shown == Some(2) && scene.entries() == Some(3))
 }
 
-// A session at unit 1 whose worker hands three commands in.
+// A session at unit 1 with three commands: two wait in the queue, and one is served as the program does.
 fn is_served<R: Wait + Drop, N: Array<Opened>>(scene: &Scene<'_, R, N>, isid: u8) -> Option<bool> {
     let (pass, first) = scene.by_worker(scene.attach(1, isid)?, TEST_UNIT_READY, &[])?;
-    let (pass, second) = scene.by_worker(pass, WRITE, &[isid; 512])?;
+    let (pass, second) = scene.by_desk(pass, WRITE, &[isid; 512])?;
     let (_, third) = scene.by_worker(pass, TEST_UNIT_READY, &[])?;
     Some(first == Some(2) && second == Some(0) && third == Some(0))
 }
@@ -206,10 +230,10 @@ where
     one && other
 }
 
-// Four sessions at unit 0.
-fn four_ready<R: Wait + Drop, N: Array<Opened>>(scene: &Scene<'_, R, N>) -> Vec<HeldPass<R, N>> {
+// Five sessions at unit 0.
+fn five_ready<R: Wait + Drop, N: Array<Opened>>(scene: &Scene<'_, R, N>) -> Vec<HeldPass<R, N>> {
     let mut passes = Vec::new(scene.alloc);
-    for isid in 1..=4 {
+    for isid in 1..=5 {
         if let Some(pass) = scene.ready(0, isid) {
             let _ = passes.push(pass);
         }
@@ -247,22 +271,25 @@ fn count_good<R: Wait + Drop, N: Array<Opened>>(
     count
 }
 
-// Each lane is held by a write of unit 0; meanwhile eight sessions at unit 1 are served, each by its own worker.
+// Each lane has taken a write of unit 0, and a fifth waits: nobody but a lane that another write woke takes them. Meanwhile
+// eight sessions at unit 1 are served, each by its own worker.
 fn all_hang<R, N: Array<Opened>>(scene: &Scene<'_, R, N>) -> bool
 where
     R: Threads + Wait + Send + Sync + Drop,
     N: Send + Sync,
 {
-    let passes = four_ready(scene);
+    let passes = five_ready(scene);
     scene.disk.hold(Some(0));
     let tickets = write_all(scene, passes, &NEW);
+    scene.taken.await_count(scene.rt, 9);
     let (first, second) = join(
         scene.rt,
         || four_are_served(scene, 8),
         || four_are_served(scene, 12),
     );
+    let by_lanes = scene.taken.count(scene.rt);
     scene.disk.hold(None);
-    first && second && count_good(scene, tickets) == 4
+    first && second && by_lanes == 9 && count_good(scene, tickets) == 5
 }
 
 /// What is played.
@@ -288,31 +315,30 @@ where
     is_right
 }
 
-fn two_lanes<R, N: Array<Opened>>(scene: &Scene<'_, R, N>) -> u32
+fn two_lanes<R, N: Array<Opened>>(scene: &Scene<'_, R, N>)
 where
     R: Threads + Wait + Send + Sync + Drop,
     N: Send + Sync,
 {
-    let (one, other) = join(scene.rt, || scene.lane(), || scene.lane());
-    one.saturating_add(other)
+    let _ = join(scene.rt, || scene.lane(), || scene.lane());
 }
 
-fn four_lanes<R, N: Array<Opened>>(scene: &Scene<'_, R, N>) -> u32
+fn four_lanes<R, N: Array<Opened>>(scene: &Scene<'_, R, N>)
 where
     R: Threads + Wait + Send + Sync + Drop,
     N: Send + Sync,
 {
-    let (one, other) = join(scene.rt, || two_lanes(scene), || two_lanes(scene));
-    one.saturating_add(other)
+    let _ = join(scene.rt, || two_lanes(scene), || two_lanes(scene));
 }
 
-// Plays it beside four lanes: whether all was right, and how many jobs they served.
-fn share<R, N: Array<Opened>>(scene: &Scene<'_, R, N>, played: Played) -> (bool, u32)
+// Plays it beside four lanes: whether all was right.
+fn share<R, N: Array<Opened>>(scene: &Scene<'_, R, N>, played: Played) -> bool
 where
     R: Threads + Wait + Send + Sync + Drop,
     N: Send + Sync,
 {
-    join(scene.rt, || play(scene, played), || four_lanes(scene))
+    let (is_right, _) = join(scene.rt, || play(scene, played), || four_lanes(scene));
+    is_right
 }
 
 // Plays it at a desk with four lanes, which serve so many jobs meanwhile.
@@ -329,18 +355,19 @@ fn perform<'a, N: Array<Opened> + Send + Sync, R: Threads + Wait + Send + Sync +
 {
     let units = HeldUnits::<R, N>::new(rt, alloc, new)?;
     let desk = HeldDesk::<R, N>::new(alloc, Group::One)?;
+    let taken = Tally::new();
     let scene = Scene {
         rt,
         alloc,
         desk: &desk,
         units: &units,
         disk,
+        taken: &taken,
     };
-    let (is_right, served) = share(&scene, played);
-    if !is_right {
+    if !share(&scene, played) {
         return Err("what was told".into());
     }
-    if served != by_lanes {
+    if taken.count(rt) != by_lanes {
         return Err("jobs that lanes served".into());
     }
     Ok(())
@@ -364,8 +391,9 @@ fn a_device_that_hangs_holds_one_lane(rt: HostRuntime) -> Result<(), Fail> {
     run(&rt, rt.alloc(), Played::OneHangs, 5)
 }
 
-// Of the 32 commands the lanes serve 8: those that only they can. The workers serve theirs, since no lane is free.
+// Of the 34 commands the lanes serve 10: those that only they can. The workers of eight sessions serve theirs, 16 out of the
+// queue, since no lane is free.
 #[test]
 fn workers_serve_where_all_lanes_are_held(rt: HostRuntime) -> Result<(), Fail> {
-    run(&rt, rt.alloc(), Played::AllHang, 8)
+    run(&rt, rt.alloc(), Played::AllHang, 10)
 }

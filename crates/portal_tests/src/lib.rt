@@ -37,6 +37,8 @@ mod stage;
 #[cfg(test)]
 mod streams;
 #[cfg(test)]
+mod tally;
+#[cfg(test)]
 mod units;
 #[cfg(test)]
 mod wanting;
