@@ -54,3 +54,11 @@ abbrev pub IsFullOrClosed : DeskFault → Type 0
 IsFullOrClosed Full = Unit {0}
 IsFullOrClosed Closed = Unit {0}
 IsFullOrClosed NoMemory = ⊥
+
+-- A desk has settled a command of a pass: its unit has answered, or the desk, full or closed, has given the pass back as it was.
+abbrev pub IsSettled : Bool → UnitState → PlacedPass Entry → Handed → PlacedPass Entry
+    → Result (Result ReplyValue (Refused Group)) DeskFault → Type 0
+IsSettled claims s before job after end =
+    (after.place ≡ before.place)
+    × IfOk end (λ answer. HasAnswered claims s job after.pass answer)
+    × IfErr end (λ fault. (after ≡ before) × IsFullOrClosed fault)

@@ -1,6 +1,6 @@
 //! The desk of a controller.
 ghost use Rattle.std.specs.Prelude.{◌≡◌, ◌<◌, ◌&&◌, IfOk, IfErr, IfSome};
-ghost use Rattle.forwarding.specs.Jobs.{HasAnswered, IsFullOrClosed, handed_of};
+ghost use Rattle.forwarding.specs.Jobs.{HasAnswered, IsSettled, handed_of};
 
 use crate::job::{Answer, Job, Ticket, Waiting, prepare};
 use crate::queue::{NotQueued, Queue};
@@ -212,11 +212,8 @@ impl<B: Blocks, R: Blocks, O: Opener<B>, N: Array<Opened>> Desk<B, R, O, N> {
         Result<Result<Reply, Refused<Group>>, DeskFault>,
     )
         requires { pass.place < units.now }
-        ensures place { result.0.place ≡ pass.place }
-        ensures end { IfOk result.1 (HasAnswered (O.claims && B.claims) (N.opening pass.place)
-            (handed_of pass asked.now bytes.now self.now) result.0.pass) }
-        ensures back { IfErr result.1 (λ fault. result.0 ≡ pass) }
-        ensures why { IfErr result.1 IsFullOrClosed }
+        ensures { IsSettled (O.claims && B.claims) (N.opening pass.place) pass
+            (handed_of pass asked.now bytes.now self.now) result.0 result.1 }
     {
         if self.is_closed.load(Ordering::SeqCst) {
             return (pass, Err(DeskFault::Closed));
@@ -240,11 +237,8 @@ impl<B: Blocks, R: Blocks, O: Opener<B>, N: Array<Opened>> Desk<B, R, O, N> {
         Result<Result<Reply, Refused<Group>>, DeskFault>,
     )
         requires { pass.place < units.now }
-        ensures place { result.0.place ≡ pass.place }
-        ensures end { IfOk result.1 (HasAnswered (O.claims && B.claims) (N.opening pass.place)
-            (handed_of pass asked.now bytes.now self.now) result.0.pass) }
-        ensures back { IfErr result.1 (λ fault. result.0 ≡ pass) }
-        ensures why { IfErr result.1 IsFullOrClosed }
+        ensures { IsSettled (O.claims && B.claims) (N.opening pass.place) pass
+            (handed_of pass asked.now bytes.now self.now) result.0 result.1 }
     {
         match self.submit(rt, alloc, pass, asked, bytes) {
             Ok(ticket) => {
@@ -275,11 +269,8 @@ impl<B: Blocks, R: Blocks, O: Opener<B>, N: Array<Opened>> Desk<B, R, O, N> {
         Result<Result<Reply, Refused<Group>>, DeskFault>,
     )
         requires { pass.place < units.now }
-        ensures place { result.0.place ≡ pass.place }
-        ensures end { IfOk result.1 (HasAnswered (O.claims && B.claims) (N.opening pass.place)
-            (handed_of pass asked.now bytes.now self.now) result.0.pass) }
-        ensures back { IfErr result.1 (λ fault. result.0 ≡ pass) }
-        ensures why { IfErr result.1 IsFullOrClosed }
+        ensures { IsSettled (O.claims && B.claims) (N.opening pass.place) pass
+            (handed_of pass asked.now bytes.now self.now) result.0 result.1 }
     {
         if bytes.len() > LONGEST_COPY {
             return self.serve_at_once(rt, alloc, units, pass, asked, bytes);

@@ -7,10 +7,11 @@ use crate::locked::Locked;
 use crate::machine::{Machine, Refused};
 use crate::pass::{LegalHistory, Pass, meet};
 use crate::records::{Posted, Records};
+use crossbeam_utils::{Backoff, CachePadded};
 use numbering::{Array, At, NewHistory};
 use status::{Board, MOST_SEATS, NewBoard, Published, Seat};
 use std::alloc::{AllocError, Global};
-use std::sync::{Mutex, Wait};
+use std::sync::{Mutex, MutexGuard, Wait};
 
 /// The word and the board of a unit, before they have names.
 #[derive(Drop)]
@@ -34,8 +35,12 @@ impl<E, S, P: Published<E, S>> NewUnit<E, S, P> {
 #[derive(Drop)]
 pub struct SharedUnit<E, S, X: Machine<E, S>, N: Array<S>, const U: usize> {
     posted: Posted<E, S, X, At<S, N, U>>,
-    locked: Mutex<Locked<E, S, X, N, U>>,
+    locked: CachePadded<Mutex<Locked<E, S, X, N, U>>>,
 }
+
+/// How often a thread looks for the lock, after a longer pause each time, before it sleeps: some microseconds in all. A
+/// command is shorter than a sleep, unless its device is slow.
+const LOOKS: usize = 7;
 
 impl<E, S, X: Machine<E, S>, N: Array<S>, const U: usize> SharedUnit<E, S, X, N, U> {
     /// A unit of which nothing was asked yet, and so many readers' seats at its board.
@@ -60,7 +65,7 @@ impl<E, S, X: Machine<E, S>, N: Array<S>, const U: usize> SharedUnit<E, S, X, N,
         let (board, mut publisher) = Board::open::<R>(rt, board, row);
         let seats = board.seats(alloc, &mut publisher, seats)?;
         let records = Records::new(recorder, publisher);
-        let locked = Mutex::new(Locked::new(object, records));
+        let locked = CachePadded::new(Mutex::new(Locked::new(object, records)));
         Ok((
             SharedUnit {
                 posted: Posted { word, board },
@@ -68,6 +73,18 @@ impl<E, S, X: Machine<E, S>, N: Array<S>, const U: usize> SharedUnit<E, S, X, N,
             },
             seats,
         ))
+    }
+
+    /// The unit under its lock, once no other thread has it.
+    fn lock<R: Wait>(&self, rt: &R) -> MutexGuard<'_, Locked<E, S, X, N, U>> {
+        let backoff = Backoff::new();
+        for _ in 0..LOOKS {
+            if let Some(guard) = self.locked.try_lock() {
+                return guard;
+            }
+            backoff.spin();
+        }
+        self.locked.lock(rt)
     }
 
     /// The board that shows the unit.
@@ -86,7 +103,7 @@ impl<E, S, X: Machine<E, S>, N: Array<S>, const U: usize> SharedUnit<E, S, X, N,
             × (p.pass.session ≡ length h) × (p.pass.serial ≡ 1) × X.legal (N.opening U) p.pass.seen) }
         ensures full { IfErr result (λ f. (f.0 ≡ U) × X.full (N.opening U) f.1 name × X.legal (N.opening U) f.1) }
     {
-        match self.locked.lock(rt).attach(rt, &self.posted, name) {
+        match self.lock(rt).attach(rt, &self.posted, name) {
             Ok(pass) => Ok(Pass::of::<U>(pass)),
             Err(seen) => Err(LegalHistory::of::<U>(seen)),
         }
@@ -116,7 +133,6 @@ impl<E, S, X: Machine<E, S>, N: Array<S>, const U: usize> SharedUnit<E, S, X, N,
     {
         let pass = pass.at::<U>();
         let (pass, end) = self
-            .locked
             .lock(rt)
             .serve(rt, &self.posted, pass, alloc, by_group, ask, bytes);
         (Pass::of::<U>(pass), end)
@@ -133,7 +149,7 @@ impl<E, S, X: Machine<E, S>, N: Array<S>, const U: usize> SharedUnit<E, S, X, N,
             × X.gone (N.opening U) result.0.pass.seen pass.pass.session) }
     {
         let pass = pass.at::<U>();
-        let (pass, done) = self.locked.lock(rt).reset(rt, &self.posted, pass);
+        let (pass, done) = self.lock(rt).reset(rt, &self.posted, pass);
         (Pass::of::<U>(pass), done)
     }
 
@@ -150,7 +166,7 @@ impl<E, S, X: Machine<E, S>, N: Array<S>, const U: usize> SharedUnit<E, S, X, N,
             × X.gone (N.opening U) p.pass.seen pass.pass.session) }
     {
         let pass = pass.at::<U>();
-        match self.locked.lock(rt).retire(rt, &self.posted, pass) {
+        match self.lock(rt).retire(rt, &self.posted, pass) {
             Ok(seen) => Ok(LegalHistory::of::<U>(seen)),
             Err(pass) => Err(Pass::of::<U>(pass)),
         }
@@ -167,7 +183,7 @@ impl<E, S, X: Machine<E, S>, N: Array<S>, const U: usize> SharedUnit<E, S, X, N,
             × X.moved (N.opening U) h list.now change) }
         ensures stays { IfErr result.1 (λ why. X.stays (N.opening U) result.0.1 list.now why) }
     {
-        let (seen, end) = self.locked.lock(rt).move_to(rt, &self.posted, list);
+        let (seen, end) = self.lock(rt).move_to(rt, &self.posted, list);
         (LegalHistory::of::<U>(seen), end)
     }
 
@@ -195,6 +211,6 @@ impl<E, S, X: Machine<E, S>, N: Array<S>, const U: usize> SharedUnit<E, S, X, N,
         ensures { IfOk result (λ done. (h : List E) × (x : X) × X.legal (N.opening U) h × X.after (N.opening U) h x
             × X.lasts x) }
     {
-        self.locked.lock(rt).flush()
+        self.lock(rt).flush()
     }
 }

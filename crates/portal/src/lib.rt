@@ -21,7 +21,7 @@ pub use controllers::Controllers;
 pub use device::TargetDevice;
 pub use gate::{Gate, Open};
 pub use lanes::start_lanes;
-pub use live::{EnterFault, LAST_NUMBER, LAST_TSIH, LiveSession, Table};
+pub use live::{EnterFault, LiveSession, Table};
 pub use server::{Server, Socket, Stop, accept, listen};
 pub use stacks::{SmallStacks, Stacks};
 pub use target::{BeginFault, SessionTarget};

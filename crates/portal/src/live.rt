@@ -1,21 +1,15 @@
 //! The sessions that live at an array, and their handles.
-ghost use Rattle.std.specs.Prelude.{◌≡◌, ◌<◌, ◌≤◌, ◌++◌, ◌∷◌, [], length, vec_capacity, IfOk, IfErr, OnErr, MatchOption};
+ghost use Rattle.std.specs.Prelude.{◌≡◌, ◌<◌, ◌++◌, ◌∷◌, [], length, vec_capacity, IfOk, IfErr, OnErr};
 ghost use Rattle.reservations.specs.Nexus.{through, same_port};
-ghost use Rattle.portal.specs.Live.{AreAllTaken, AreTaken, HasEntered, IsCauseOf, IsFirstFree, IsNextTsih, has_tsih, is_live};
-ghost use Rattle.portal.specs.Live.{others, without};
+ghost use Rattle.portal.specs.Live.{HasEntered, IsCauseOf, is_live, others, without};
 
 use crate::connection::Connection;
 use login::Kind;
 use scsi_types::{Group, PortName};
+use session_handles::{Handled, LAST_NUMBER, next_tsih};
 use std::alloc::{AllocError, Global};
 use std::marker::Model;
 use thiserror::Error;
-
-/// The greatest TSIH, which 1 follows (RFC 7143, 11.12.9).
-pub const LAST_TSIH: u16 = 65535;
-
-/// So many sessions begin; then none does.
-pub const LAST_NUMBER: u64 = 18_446_744_073_709_551_615;
 
 /// A session that has begun and is not over.
 #[derive(Drop)]
@@ -32,6 +26,14 @@ pub struct LiveSession<C> {
     pub kind: Kind,
     /// What it runs over.
     pub connection: C,
+}
+
+impl<C> Handled for LiveSession<C> {
+    ghost handle = { λ s. s.tsih };
+
+    fn tsih(&self) -> u16 {
+        self.tsih
+    }
 }
 
 /// Why a session does not begin to live. Nothing has changed.
@@ -108,35 +110,6 @@ fn remove<C: Drop>(live: &mut Vec<LiveSession<C>>, number: u64)
     ensures { live.new.items ≡ without number live.old.items }
 {
     live.retain(|session| session.number != number);
-}
-
-fn has_tsih<C>(live: &[LiveSession<C>], tsih: u16) -> bool
-    ensures { result ≡ has_tsih live.now tsih }
-{
-    live.iter().any(|session| session.tsih == tsih)
-}
-
-// The first TSIH above one number and up to another that no session has.
-fn first_free<C>(live: &[LiveSession<C>], above: u16, to: u16) -> Option<u16>
-    ensures { MatchOption result (AreTaken live.now above to) (IsFirstFree live.now above to) }
-{
-    for before in above..to {
-        let tsih = before + 1;
-        if !has_tsih(live, tsih) {
-            return Some(tsih);
-        }
-    }
-    None
-}
-
-// The next TSIH behind the one that was given last that no session has.
-fn next_tsih<C>(live: &[LiveSession<C>], last: u16) -> Option<u16>
-    ensures { MatchOption result (AreAllTaken live.now) (IsNextTsih last live.now) }
-{
-    match first_free(live, last, LAST_TSIH) {
-        Some(tsih) => Some(tsih),
-        None => first_free(live, 0, last),
-    }
 }
 
 impl<C> Table<C> {

@@ -1,6 +1,6 @@
 -- One unit, and the sessions that live at it (RFC 7143, 6.3): how one begins, what it asks, and how it is over.
-use Rattle.std.specs.Prelude.{◌≡◌, ◌≢◌, ◌⊎◌, ℕ, ◌+◌, ◌<◌, ◌≤◌, Bool, true, false, not, ◌&&◌, nat_eq}
-use Rattle.std.specs.Prelude.{if◌then◌else◌, IfSome, List, [], ◌∷◌, ◌++◌, map, filter, find, Option, Some, None, Result}
+use Rattle.std.specs.Prelude.{◌≡◌, ◌≢◌, ℕ, ◌+◌, ◌<◌, ◌≤◌, Bool, false, not, ◌&&◌, nat_eq}
+use Rattle.std.specs.Prelude.{if◌then◌else◌, IfSome, List, [], ◌∷◌, ◌++◌, map, filter, find, Option, Some, None}
 use Rattle.std.specs.List.{list_any}
 use Rattle.std.specs.Option.{option_and_then}
 use Rattle.block_file.specs.declared.mem.MemBlocks.{MemBlocks}
@@ -10,8 +10,8 @@ use Rattle.login.specs.declared.status.Kind.TheVariants.{Normal, Discovery}
 use Rattle.reservations.specs.Nexus.{IsPortName, same_port, through}
 use Rattle.scsi_types.specs.Nexus.{Port, Nexus}
 use Rattle.scsi_types.specs.declared.names.Group.{Group}
-use Rattle.scsi_types.specs.declared.command.Command.{Command as ScsiCommand}
-use Rattle.scsi_types.specs.declared.command.CdbFault.{CdbFault}
+use Rattle.session_handles.specs.Handles.{AreAllTaken, IsNextTsih, same_kind}
+use Rattle.session_handles.specs.declared.handles.TheConstants.{LAST_NUMBER}
 use Rattle.session_rules.specs.Asking.{Asking, began, lives, served, reset, over}
 use Rattle.session_rules.specs.declared.target.BeginAnswer.TheVariants.{Begun, Refused}
 use Rattle.session_rules.specs.declared.target.TargetAnswer.{TargetAnswer}
@@ -21,7 +21,6 @@ use Rattle.unit_state.specs.State.{UnitValue, opening_control}
 use Rattle.unit_state.specs.Entry.{Attach, Detach, HasRoom, IsAttached, IsNext, control_after}
 use Rattle.targets.specs.declared.attachment.Attachment.{Attachment}
 use Rattle.targets.specs.declared.live.LiveSession.{LiveSession}
-use Rattle.targets.specs.declared.live.TheConstants.{LAST_NUMBER, LAST_TSIH}
 use Rattle.targets.specs.declared.live.BeginFault.{BeginFault}
 use Rattle.targets.specs.declared.live.BeginFault.TheVariants as faults
 use Rattle.targets.specs.Once.{nothing, place}
@@ -46,12 +45,6 @@ pub record IsUnbegun {B : Type 0} (size : B → ℕ) (blocks : B) (group : Group
 
 -- ---- the sessions that live
 
-abbrev pub same_kind : Kind → Kind → Bool
-same_kind Normal Normal = true
-same_kind Normal Discovery = false
-same_kind Discovery Normal = false
-same_kind Discovery Discovery = true
-
 -- A session of this port and kind. Of one target through one group there is one of a port that is normal, since its
 -- name and ISID name the nexus (RFC 7143, 4.4.3 and 6.3.5).
 abbrev pub is_of_port : Port → Kind → LiveSession → Bool
@@ -74,35 +67,9 @@ attachment_of present live = option_and_then (λ s. s.at) (find (is_present pres
 abbrev pub with_attachment : Option ℕ → Attachment → LiveSession → LiveSession
 with_attachment present at s = if is_present present s then record s { at = Some at } else s
 
--- ---- the Target Session Identifying Handle (RFC 7143, 11.12.9)
-
-abbrev pub has_tsih : List LiveSession → ℕ → Bool
-has_tsih live tsih = list_any (λ s. nat_eq s.tsih tsih) live
-
--- On the way from one TSIH to another, upward, and from the last on to 1, this one lies between them.
-abbrev pub IsBetween : ℕ → ℕ → ℕ → Type 0
-IsBetween from tsih to = ((from < tsih) × (tsih < to)) ⊎ ((to ≤ from) × ((from < tsih) ⊎ (tsih < to)))
-
--- a TSIH, the first behind the one that was given last that no session has
-pub record IsNextTsih (last : ℕ) (live : List LiveSession) (tsih : ℕ) : Type 0 where
-  pub least : 0 < tsih
-  pub greatest : tsih ≤ LAST_TSIH
-  pub free : has_tsih live tsih ≡ false
-  pub first : (t : ℕ) → 0 < t → t ≤ LAST_TSIH → IsBetween last t tsih → has_tsih live t ≡ true
-
--- each of these has its session: those above one and up to another, and all
-abbrev pub AreTaken : List LiveSession → ℕ → ℕ → Type 0
-AreTaken live above to = (t : ℕ) → above < t → t ≤ to → has_tsih live t ≡ true
-
-abbrev pub AreAllTaken : List LiveSession → Type 0
-AreAllTaken live = AreTaken live 0 LAST_TSIH
-
--- the first of these that has none
-pub record IsFirstFree (live : List LiveSession) (above to tsih : ℕ) : Type 0 where
-  pub least : above < tsih
-  pub greatest : tsih ≤ to
-  pub free : has_tsih live tsih ≡ false
-  pub first : (t : ℕ) → above < t → t < tsih → has_tsih live t ≡ true
+-- each has its TSIH
+abbrev pub handle_of : LiveSession → ℕ
+handle_of s = s.tsih
 
 -- ---- a session begins
 
@@ -126,7 +93,7 @@ IsJoined Discovery old new nexus at = (new ≡ old) × (at ≡ None)
 -- kind, and it is the session of the connection that asks. All others live on.
 pub record HasBegun {B : Type 0} (old new : SessionsValue B) (port : Port) (kind : Kind) (tsih : ℕ) : Type 0 where
   pub name : IsPortName port
-  pub next : IsNextTsih old.last old.live tsih
+  pub next : IsNextTsih handle_of old.last old.live tsih
   pub fresh : find (is_present (Some old.begun)) old.live ≡ None
   pub at : Option Attachment
   pub joined : IsJoined kind old.unit new.unit (through port old.group) at
@@ -145,7 +112,7 @@ pub record HasBegun {B : Type 0} (old new : SessionsValue B) (port : Port) (kind
 abbrev pub IsCauseOf : {B : Type 0} → SessionsValue B → Port → Kind → BeginFault → Type 0
 IsCauseOf old port kind faults.NoPortName = IsPortName port → ⊥
 IsCauseOf old port kind faults.NoRoom = (kind ≡ Normal) × (HasRoom old.unit.control (through port old.group) → ⊥)
-IsCauseOf old port kind faults.NoTsih = AreAllTaken old.live
+IsCauseOf old port kind faults.NoTsih = AreAllTaken handle_of old.live
 IsCauseOf old port kind faults.NoNumber = LAST_NUMBER ≤ old.begun
 IsCauseOf old port kind faults.NoMemory = Unit {0}
 

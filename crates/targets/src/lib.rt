@@ -11,5 +11,5 @@ pub mod once;
 mod target;
 mod unit_sessions;
 
-pub use live::{BeginFault, LAST_TSIH};
+pub use live::BeginFault;
 pub use unit_sessions::UnitSessions;

@@ -1,21 +1,15 @@
 //! The sessions that live at a target, and their handles.
 ghost use Rattle.std.specs.Prelude.{◌≡◌, ◌≢◌, ◌<◌, ◌≤◌, ◌+◌, ◌++◌, ◌∷◌, [], ℕ, true, false, not, filter, map, length};
-ghost use Rattle.std.specs.Prelude.{IsTrue, ◌↔◌, MatchOption, Some, vec_capacity};
+ghost use Rattle.std.specs.Prelude.{IsTrue, ◌↔◌, Some, vec_capacity};
 ghost use Rattle.reservations.specs.Nexus.{IsPortName, same_port};
-ghost use Rattle.targets.specs.Sessions.{AreAllTaken, IsNextTsih, attachment_of, has_tsih, is_of_port, is_present, others};
-ghost use Rattle.targets.specs.Sessions.{AreTaken, IsFirstFree, with_attachment};
+ghost use Rattle.targets.specs.Sessions.{attachment_of, is_of_port, is_present, others, with_attachment};
 
 use crate::attachment::Attachment;
 use login::Kind;
 use scsi_types::PortName;
+use session_handles::Handled;
 use std::alloc::AllocError;
 use thiserror::Error;
-
-/// The greatest TSIH, which 1 follows (RFC 7143, 11.12.9).
-pub const LAST_TSIH: u16 = 65535;
-
-/// So many sessions begin; then none does.
-pub const LAST_NUMBER: u64 = 18_446_744_073_709_551_615;
 
 /// A session that has begun and is not over.
 #[derive(Debug, Drop)]
@@ -30,6 +24,14 @@ pub struct LiveSession {
     pub kind: Kind,
     /// How it is attached to the unit: a discovery session is not.
     pub at: Option<Attachment>,
+}
+
+impl Handled for LiveSession {
+    ghost handle = { λ s. s.tsih };
+
+    fn tsih(&self) -> u16 {
+        self.tsih
+    }
 }
 
 /// Why a session does not begin. Nothing has changed.
@@ -126,33 +128,4 @@ pub fn remove(present: Option<u64>, live: &mut Vec<LiveSession>)
     ensures { live.new.items ≡ filter (λ s. not (is_present present s)) live.old.items }
 {
     live.retain(|session| !is_present(present, session));
-}
-
-fn has_tsih(live: &[LiveSession], tsih: u16) -> bool
-    ensures { result ≡ has_tsih live.now tsih }
-{
-    live.iter().any(|session| session.tsih == tsih)
-}
-
-// The first TSIH above one number and up to another that no session has.
-fn first_free(live: &[LiveSession], above: u16, to: u16) -> Option<u16>
-    ensures { MatchOption result (AreTaken live.now above to) (IsFirstFree live.now above to) }
-{
-    for before in above..to {
-        let tsih = before + 1;
-        if !has_tsih(live, tsih) {
-            return Some(tsih);
-        }
-    }
-    None
-}
-
-/// The next TSIH behind the one that was given last that no session has.
-pub fn next_tsih(live: &[LiveSession], last: u16) -> Option<u16>
-    ensures { MatchOption result (AreAllTaken live.now) (IsNextTsih last live.now) }
-{
-    match first_free(live, last, LAST_TSIH) {
-        Some(tsih) => Some(tsih),
-        None => first_free(live, 0, last),
-    }
 }

@@ -6,13 +6,13 @@ ghost use Rattle.unit_state.specs.Entry.{HasRoom};
 
 use crate::attachment::{Attachment, UNIT, answer, open, reset, turn_away};
 use crate::live::{
-    BeginFault, LAST_NUMBER, LiveSession, attachment_of, is_port, is_port_name, keep, next_tsih,
-    remove, replace,
+    BeginFault, LiveSession, attachment_of, is_port, is_port_name, keep, remove, replace,
 };
 use block_file::{Blocks, KeepOpener, MemBlocks};
 use login::Kind;
 use scsi_types::{Asked, Group, NoMemory, PortName};
 use session::{BeginAnswer, ResetAnswer, Target, TargetAnswer};
+use session_handles::{LAST_NUMBER, next_tsih};
 use std::alloc::Global;
 use std::marker::Model;
 use std::mem;

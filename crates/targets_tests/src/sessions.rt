@@ -17,10 +17,11 @@ use block_file::MemBlocks;
 use login::Kind;
 use scsi_types::{Command, Group, Reply, Sense, Status};
 use session::{BeginAnswer, ResetAnswer, Target, TargetAnswer};
+use session_handles::LAST_TSIH;
 use std::alloc::Global;
 use std::process::Abort;
 use std::test::*;
-use targets::{BeginFault, LAST_TSIH, UnitSessions};
+use targets::{BeginFault, UnitSessions};
 use test_streams::{RowError, bytes_of, lines_of};
 
 /// What a connection is answered.
