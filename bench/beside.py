@@ -1,8 +1,9 @@
 #!/usr/bin/env python3
 """How fast arrayd is beside tgt, or beside another build of itself: both serve the same file on tmpfs in turn, to the same
 client on the loopback. Prints a line for each kind of command, with the medians of the runs, how the two compare, by how
-many microseconds a command takes longer, and the time of the processor that each took for it. It wants rustc, by which it
-builds the client, and the Debian package tgt where no other program is named.
+many microseconds a command takes longer, and the time of the processor that each took for it. A run is done again where the
+host of a virtual machine gave more than 3 % of its processors to others meanwhile. It wants rustc, by which it builds the
+client, and the Debian package tgt where no other program is named.
 
 usage: bench/beside.py [--seconds N] [--runs N] [--only WORDS] [--size MIB] [--before PROGRAM] [--controller C]
 
@@ -22,6 +23,7 @@ ARRAYD = os.environ.get("ARRAYD", os.path.join(TOP, "crates", "arrayd", "out", "
 PORT = 3900
 NAME = "iqn.2000-01.test:array"
 TICKS = os.sysconf("SC_CLK_TCK")
+STOLEN = 0.03
 
 
 def processor_seconds(pid):
@@ -29,6 +31,24 @@ def processor_seconds(pid):
     with open(f"/proc/{pid}/stat") as file:
         fields = file.read().rsplit(")", 1)[1].split()
     return int(fields[11]) / TICKS, int(fields[12]) / TICKS
+
+
+def stolen_and_all():
+    """The time of all processors that the host gave to others, and all of it, in ticks since the machine began."""
+    with open("/proc/stat") as file:
+        ticks = [int(word) for word in file.readline().split()[1:9]]
+    return ticks[7], sum(ticks)
+
+
+def undisturbed(run, tries=5):
+    """What a run gives during which the host kept its processors here, or the last of these tries."""
+    for _ in range(tries):
+        stolen, every = stolen_and_all()
+        got = run()
+        stolen_then, every_then = stolen_and_all()
+        if stolen_then - stolen <= STOLEN * (every_then - every):
+            break
+    return got
 
 
 class Arrayd:
@@ -116,7 +136,7 @@ def main():
                         for turn in range(asked.runs):
                             # each of the two goes first in every other turn
                             for kept, start, at in pair[:: 1 - turn % 2 * 2]:
-                                kept.append(measure(start, disk, client, at, run))
+                                kept.append(undisturbed(lambda: measure(start, disk, client, at, run)))
                         ours, theirs = ([statistics.median(r[k] for r in runs) for k in range(3)] for runs in (got, others))
                         print(f"{line}: arrayd {ours[0]:,.0f} a second, {name} {theirs[0]:,.0f}: {ours[0] / theirs[0]:.2f}, "
                               f"{1e6 / ours[0] - 1e6 / theirs[0]:+.2f} us a command; processor, user and system: "

@@ -38,9 +38,9 @@ pub struct SharedUnit<E, S, X: Machine<E, S>, N: Array<S>, const U: usize> {
     locked: CachePadded<Mutex<Locked<E, S, X, N, U>>>,
 }
 
-/// How often a thread looks for the lock, after a longer pause each time, before it sleeps: some microseconds in all. A
-/// command is shorter than a sleep, unless its device is slow.
-const LOOKS: usize = 7;
+/// How often a thread looks for the lock before it sleeps: after a longer pause each time, then each time that others could
+/// run. A command is shorter than a sleep with its wake, unless its device is slow.
+const LOOKS: usize = 64;
 
 impl<E, S, X: Machine<E, S>, N: Array<S>, const U: usize> SharedUnit<E, S, X, N, U> {
     /// A unit of which nothing was asked yet, and so many readers' seats at its board.
@@ -82,7 +82,7 @@ impl<E, S, X: Machine<E, S>, N: Array<S>, const U: usize> SharedUnit<E, S, X, N,
             if let Some(guard) = self.locked.try_lock() {
                 return guard;
             }
-            backoff.spin();
+            backoff.snooze();
         }
         self.locked.lock(rt)
     }
