@@ -1,4 +1,4 @@
--- Who may use the medium beside a reservation (SPC-4, 5.13.2, the commands that each type of reservation lets through).
+-- Who may use the medium beside a reservation (SPC-4, 5.13.1, the commands that each type of reservation lets through).
 use Rattle.std.specs.Prelude.{Bool, true, false, IsTrue, if◌then◌else◌, Option, Some, None}
 use Rattle.scsi_types.specs.Nexus.{Nexus}
 use Rattle.reservations.specs.declared.kind.ReservationType.{ReservationType}

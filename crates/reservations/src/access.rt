@@ -9,7 +9,7 @@ use crate::table::Table;
 use crate::{Access, ReservationType};
 use scsi_types::{Group, PortName};
 
-// Whether a reservation of this type lets in a nexus that doesn't hold it (SPC-4, 5.13.2).
+// Whether a reservation of this type lets in a nexus that doesn't hold it (SPC-4, 5.13.1).
 fn lets_in(kind: ReservationType, is_registered: bool, access: Access) -> bool
     ensures { result ≡ permits kind (if is_registered then Registered else Neither) access }
 {

@@ -140,7 +140,7 @@ impl Registry {
         self.table.told(telling, port, group)
     }
 
-    /// Whether the nexus of a port through a group may use the medium so (SPC-4, 5.13.2). Takes no memory; looks at no
+    /// Whether the nexus of a port through a group may use the medium so (SPC-4, 5.13.1). Takes no memory; looks at no
     /// registrant where there is no reservation.
     pub fn allows(&self, port: &PortName, group: Group, access: Access) -> bool
         ensures { IsTrue result ↔ MayAccess self.now (through port.now group) access }

@@ -40,7 +40,7 @@ pub enum PrEnd {
     TableFull,
 }
 
-/// How a command uses the medium, as reservations see it (SPC-4, 5.13.2).
+/// How a command uses the medium, as reservations see it (SPC-4, 5.13.1).
 #[derive(Clone, Copy, Debug, PartialEq, Eq)]
 pub enum Access {
     /// It reads blocks.

@@ -1,4 +1,4 @@
-//! Who may read and write beside a reservation of each type (SPC-4, 5.13.2).
+//! Who may read and write beside a reservation of each type (SPC-4, 5.13.1).
 use crate::run::run;
 use std::test::Fail;
 

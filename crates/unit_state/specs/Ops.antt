@@ -50,7 +50,7 @@ passes_attention (Some ops.ReportLuns) = true
 passes_attention (Some ops.ReportTargetPortGroups) = false
 passes_attention (Some ops.SetTargetPortGroups) = false
 
--- what a command does with the medium, as a reservation sees it (SPC-4, 5.13.2): a flush counts as a write, and so does a
+-- what a command does with the medium, as a reservation sees it (SPC-4, 5.13.1): a flush counts as a write, and so does a
 -- change of access states
 abbrev pub access_of : Option Op → Access
 access_of None = Other

@@ -93,7 +93,7 @@ state_for c session = (group_access c.access (sender_of c.sessions session).grou
 abbrev pub access_rule : Rule
 access_rule c r = access_by (state_for c r.session) (kind_asked r.asked)
 
--- the reservation does not let the nexus do this (SPC-4, 5.13.2)
+-- the reservation does not let the nexus do this (SPC-4, 5.13.1)
 abbrev pub is_let : ControlValue → Nexus → Access → Bool
 is_let c nexus access = is_let_through c.registry.reservation (party_of c.registry nexus) access
 

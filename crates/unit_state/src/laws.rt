@@ -150,7 +150,7 @@ pub fn a_group_serves_what_its_state_lets()
 {}
 
 /// A command that the reservation does not let its nexus do is RESERVATION CONFLICT and does nothing: where nothing is to
-/// be told first and the group serves it, it is judged when it is served (SPC-4, 5.13.2).
+/// be told first and the group serves it, it is judged when it is served (SPC-4, 5.13.1).
 pub fn a_reservation_keeps_others_out()
     ensures reply { (s : UnitState) (session serial : ℕ) (by : Group) (asked : Result ScsiCommand CdbFault)
         (bytes : List ℕ) (op : Op)

@@ -58,7 +58,7 @@ pub fn passes_attention(kind: Option<Op>) -> bool
     }
 }
 
-/// What a command does with the medium, as a reservation sees it (SPC-4, 5.13.2).
+/// What a command does with the medium, as a reservation sees it (SPC-4, 5.13.1).
 pub fn access_of(kind: Option<Op>) -> Access
     ensures { result ≡ access_of kind }
 {

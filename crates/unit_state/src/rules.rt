@@ -97,7 +97,7 @@ fn access(control: &Control, sender: Sender, kind: Option<Op>) -> Option<Refusal
     }
 }
 
-/// The reservation does not let the nexus do this (SPC-4, 5.13.2).
+/// The reservation does not let the nexus do this (SPC-4, 5.13.1).
 fn conflict(control: &Control, sender: Sender, kind: Option<Op>) -> Option<Refusal>
     requires { IsPlaceOf control.now.sessions sender.session sender.at }
     ensures { result ≡ conflict_by (is_let control.now (sender_of control.now.sessions sender.session)
