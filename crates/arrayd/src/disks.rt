@@ -2,9 +2,8 @@
 ghost use Rattle.std.specs.Prelude.{◌≡◌, ◌≤◌, IfOk, length};
 ghost use Rattle.unit_state.specs.Serials.{IsOpening};
 
-use crate::fault::Fault;
-use crate::words::{MAX_UNITS, Options};
 use aptpl_file::{OpenFault, RegFile};
+use command_line::{Fault, MAX_UNITS, Options};
 use disk_files::{
     DiskFault, DiskLock, FileBlocks, FileOpener, RegistrationsFault, open_disk, open_registrations,
 };

@@ -3,18 +3,15 @@
 
 ghost use Rattle.std.specs.Prelude.{◌≤◌, IfOk, IfSome, length};
 
-mod console;
 mod disks;
-mod fault;
 mod once;
 mod portals;
 mod serve;
-mod words;
 
 use block_file::Blocks;
+use command_line::{Fault, MAX_UNITS, Options};
 use disk_files::{DiskLock, FileBlocks, FileOpener};
 use disks::{FileUnits, open_units};
-use fault::Fault;
 use serve::serve_units;
 use std::alloc::Global;
 use std::env::Env;
@@ -23,7 +20,6 @@ use std::marker::Brand;
 use std::process::ExitCode;
 use std::rt::Files;
 use std::{env, io};
-use words::{MAX_UNITS, Options};
 
 // The program's words, its own name first.
 fn all_words(rt: &(impl Env + AllocGlobal)) -> Result<Vec<String>, Fault> {
@@ -51,7 +47,7 @@ fn prepare<'a, R: Files<File = File> + Input + Print + Clone + Drop>(
 ) -> Result<Option<Prepared<'a, R>>, Fault>
     ensures { IfOk result (λ p. IfSome p (λ prepared. length prepared.units.items ≤ MAX_UNITS)) }
 {
-    let options = words::read(alloc, words)?;
+    let options = command_line::read(alloc, words)?;
     if options.is_once {
         once::serve_once(rt, alloc)?;
         return Ok(None);
@@ -98,6 +94,3 @@ fn main(rt: HostRuntime) -> ExitCode {
         Err(fault) => complain(&rt, fault),
     }
 }
-
-#[cfg(test)]
-mod tests;

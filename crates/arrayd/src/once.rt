@@ -1,7 +1,7 @@
 //! One session from standard input to standard output.
 
-use crate::fault::Fault;
 use block_file::MemBlocks;
+use command_line::Fault;
 use session::{End, Identity, Watched};
 use std::alloc::Global;
 use std::io;

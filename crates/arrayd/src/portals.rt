@@ -1,6 +1,6 @@
 //! The portals of both controllers.
 
-use crate::fault::Fault;
+use command_line::Fault;
 use scsi_types::Group;
 use std::alloc::{AllocError, Global};
 use std::net::{Ipv4Addr, Net, SocketAddrV4, TcpListener, TcpStream};

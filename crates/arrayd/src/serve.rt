@@ -3,12 +3,10 @@
 ghost use Rattle.std.specs.Prelude.{◌≡◌, ◌≤◌, length};
 ghost use Rattle.unit_history.specs.Naming.{IsNamed};
 
-use crate::console::{Array, UnitStatus, console};
-use crate::fault::Fault;
 use crate::portals::{self, Portal, Ports};
-use crate::words::{MAX_UNITS, Options};
 use block_file::{Blocks, Opener};
-use failover::take_down;
+use command_line::{Fault, MAX_UNITS, Options};
+use console::{Watched, console};
 use numbering::Array as Naming;
 use portal::{Controllers, Open, Server, SmallStacks, TargetDevice, listen, start_lanes};
 use scsi_types::Group;
@@ -19,53 +17,6 @@ use std::sync::{Arc, Wait};
 use std::thread::Threads;
 use std::time::Clock;
 use unit_history::{NewUnit, Opened, Pass, Units};
-
-/// The array as its console sees it.
-#[derive(Drop)]
-pub struct Watched<'a, R: Wait, B: Blocks, F: Blocks, O: Opener<B>, N: Naming<Opened>> {
-    pub rt: &'a R,
-    pub controllers: &'a Controllers<B, F, O, N>,
-}
-
-impl<R: Wait, B: Blocks, F: Blocks, O: Opener<B>, N: Naming<Opened>> Array
-    for Watched<'_, R, B, F, O, N> {
-    fn status(&mut self, unit: u8) -> Option<UnitStatus> {
-        let place = usize::from(unit);
-        let units = self.controllers.units();
-        if place >= units.count() {
-            return None;
-        }
-        let row = units.read(self.rt, place);
-        Some(UnitStatus {
-            unit,
-            owner: row.owner,
-            states: row.states,
-            generation: row.generation,
-            keys: row.registrants,
-            kind: row.kind,
-            entries: row.entries,
-        })
-    }
-
-    fn down(&mut self, controller: Group) -> Result<(), usize> {
-        let (_moves, end) = take_down(self.rt, self.controllers.units(), controller);
-        match end {
-            Ok(()) => Ok(()),
-            Err(stopped) => Err(stopped.unit),
-        }
-    }
-
-    fn close(&mut self) {
-        self.controllers.close(self.rt);
-    }
-
-    fn flush(&mut self) {
-        let units = self.controllers.units();
-        for place in 0..units.count() {
-            let _ = units.flush(self.rt, place);
-        }
-    }
-}
 
 /// Serves these units at the portals that the words ask for, until the console ends. The names of the units are picked
 /// where it is called.

@@ -5,11 +5,7 @@
 #[cfg(test)]
 mod array;
 #[cfg(test)]
-mod calls;
-#[cfg(test)]
 mod lanes;
-#[cfg(test)]
-mod scenes;
 #[cfg(test)]
 mod swapped;
 #[cfg(test)]

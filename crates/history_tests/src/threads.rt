@@ -3,6 +3,7 @@ use crate::array::{Array, Story, failing, one, run, sound, want};
 use crate::host::{End, Host, entries, shown};
 use numbering::Array as Naming;
 use scsi_types::{Command, Group, PrOutAction, Sense};
+use status::Row;
 use std::alloc::Global;
 use std::sync::Wait;
 use std::test::Fail;
@@ -15,18 +16,22 @@ fn two<W: Wait, N: Naming<Opened>>(
     alloc: Global,
     units: &Array<N>,
 ) -> Result<(Host<N>, Host<N>), Fail> {
-    let mut one = Host::attach(rt, alloc, units, 0, 1)?;
-    let mut two = Host::attach(rt, alloc, units, 0, 2)?;
-    let told = End::Check(Sense::POWER_ON);
-    want(
-        one.test(rt, alloc, units, Group::One) == told,
-        "the power on",
-    )?;
-    want(
-        two.test(rt, alloc, units, Group::One) == told,
-        "the other's",
-    )?;
+    let one = told_of_power_on(rt, alloc, units, 1)?;
+    let two = told_of_power_on(rt, alloc, units, 2)?;
     Ok((one, two))
+}
+
+/// A host of unit 0, which has taken its power on.
+fn told_of_power_on<W: Wait, N: Naming<Opened>>(
+    rt: &W,
+    alloc: Global,
+    units: &Array<N>,
+    isid: u32,
+) -> Result<Host<N>, Fail> {
+    let mut host = Host::attach(rt, alloc, units, 0, isid)?;
+    let told = host.test(rt, alloc, units, Group::One);
+    want(told == End::Check(Sense::POWER_ON), "the power on")?;
+    Ok(host)
 }
 
 /// The byte that was written, where just one of two has exchanged the block, and the other has found another byte.
@@ -141,9 +146,19 @@ pub fn meet_failures<W: Threads + Wait + Sync, N: Naming<Opened> + Send + Sync>(
     let failed = both_write(rt, alloc, units, (&mut one, &mut two));
     want(failed == Some(calls), "as many as the device failed")?;
     want(entries(rt, units, 0) == 4 + 2 * TIMES, "each is an entry")?;
-    want(one.meet(units, &mut two), "the sessions meet")?;
-    want(one.seen() == 4 + 2 * TIMES, "they have seen all")?;
-    want(two.seen() == 4 + 2 * TIMES, "both of them")
+    want(
+        have_seen_all(units, &mut one, &mut two),
+        "the sessions meet",
+    )
+}
+
+/// Whether both meet, and have then seen all.
+fn have_seen_all<N: Naming<Opened>>(
+    units: &Array<N>,
+    one: &mut Host<N>,
+    two: &mut Host<N>,
+) -> bool {
+    one.meet(units, two) && one.seen() == 4 + 2 * TIMES && two.seen() == 4 + 2 * TIMES
 }
 
 #[test]
@@ -239,13 +254,15 @@ pub fn are_watched<W: Threads + Wait + Sync, N: Naming<Opened> + Send + Sync>(
 ) -> Result<(), Fail> {
     let (mut one, mut two) = two(rt, alloc, units)?;
     let is_right = are_right(rt, alloc, units, (&mut one, &mut two));
-    want(is_right, "whole rows, none older than the one before")?;
-    let row = shown(rt, units, 0);
-    want(row.entries == 4 + 4 * TIMES, "the last row")?;
     want(
-        row.generation == 4 * TIMES && row.registrants == 0,
-        "the registrations",
+        is_right && is_last(shown(rt, units, 0)),
+        "whole rows, none older than the one before, and the last",
     )
+}
+
+/// Whether this is the row behind all that both did.
+fn is_last(row: Row) -> bool {
+    row.entries == 4 + 4 * TIMES && row.generation == 4 * TIMES && row.registrants == 0
 }
 
 #[test]

@@ -184,3 +184,22 @@ pub fn run<
     let _ended = perform::<Brand, _, _, _, R>(rt, alloc, units, &disk, script)?;
     Ok(())
 }
+
+/// Hosts perform each of these scripts before two units in memory.
+pub fn run_each<
+    R: Threads
+        + Wait
+        + Clock
+        + Abort
+        + Net<Listener = TcpListener, Stream = TcpStream>
+        + Clone
+        + Drop
+        + Send
+        + Sync
+        + 'static,
+>(rt: &R, alloc: Global, scripts: &[&str]) -> Result<(), Fail> {
+    for script in scripts {
+        run(rt, alloc, &Script::new(script))?;
+    }
+    Ok(())
+}

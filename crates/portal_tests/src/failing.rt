@@ -30,11 +30,6 @@ B < GOOD 36:00000001
 "#,
 };
 
-#[test]
-fn a_write_that_fails_at_its_third_block(rt: HostRuntime) -> Result<(), Fail> {
-    run_twice(&rt, rt.alloc(), rt.process(), &TORN)
-}
-
 // No open succeeds: SET TARGET PORT GROUPS through controller 2 changes nothing, and A is told of nothing.
 const UNOPENED: Story = Story {
     name: "unopened",
@@ -61,11 +56,6 @@ A > TEST_UNIT_READY
 A < CHECK_CONDITION 0012 70000600000000 0A00000000 2A06 00000000
 "#,
 };
-
-#[test]
-fn an_open_that_fails(rt: HostRuntime) -> Result<(), Fail> {
-    run_twice(&rt, rt.alloc(), rt.process(), &UNOPENED)
-}
 
 // A save is a run, a flush, a run, and the flush that fails: READ KEYS tells of nobody, and after a restart of nobody or of A.
 const UNSAVED: Story = Story {
@@ -97,6 +87,9 @@ B < GOOD 1:82 36:00000001 44:00000008 / GOOD 36:00000001
 };
 
 #[test]
-fn a_save_whose_last_flush_fails(rt: HostRuntime) -> Result<(), Fail> {
-    run_twice(&rt, rt.alloc(), rt.process(), &UNSAVED)
+fn a_write_an_open_and_a_save_that_fail(rt: HostRuntime) -> Result<(), Fail> {
+    for story in [TORN, UNOPENED, UNSAVED] {
+        run_twice(&rt, rt.alloc(), rt.process(), &story)?;
+    }
+    Ok(())
 }

@@ -1,5 +1,5 @@
 //! A unit that does not answer, or whose device does not.
-use crate::array::{Script, run};
+use crate::array::run_each;
 use std::test::*;
 
 // A's command waits before unit 1; meanwhile B is served by unit 0, and C logs in.
@@ -31,11 +31,6 @@ gate open
 A < GOOD
 "#;
 
-#[test]
-fn a_command_that_waits_before_its_unit_holds_no_other(rt: HostRuntime) -> Result<(), Fail> {
-    run(&rt, rt.alloc(), &Script::new(HELD))
-}
-
 // A's write hangs in the device of unit 0; meanwhile B is served by unit 1.
 const STUCK: &str = r#"
 A at 1
@@ -59,11 +54,6 @@ B < GOOD 36:00000001
 disk open
 A < GOOD
 "#;
-
-#[test]
-fn a_device_that_hangs_holds_no_other_unit(rt: HostRuntime) -> Result<(), Fail> {
-    run(&rt, rt.alloc(), &Script::new(STUCK))
-}
 
 // Unit 1 moves to controller 1, so that both units are served by way of one desk. Eight writes of unit 0 stand before it, and the
 // first that reaches its device hangs there; meanwhile B is served by unit 1, and unit 0's row is read.
@@ -94,11 +84,6 @@ disk open
 all < GOOD
 0 shows 25
 "#;
-
-#[test]
-fn eight_sessions_at_a_device_that_hangs_hold_no_other_unit(rt: HostRuntime) -> Result<(), Fail> {
-    run(&rt, rt.alloc(), &Script::new(CROWDED))
-}
 
 // A's write hangs in the device of unit 0, and a short command of each of eight sessions waits behind it: more than are served past
 // the desk's queue at a time. Meanwhile B's go by way of the queue of the same desk, and are served by unit 1.
@@ -136,13 +121,6 @@ all < GOOD
 0 shows 28
 "#;
 
-#[test]
-fn eight_short_commands_behind_a_device_that_hangs_hold_no_other_unit(
-    rt: HostRuntime,
-) -> Result<(), Fail> {
-    run(&rt, rt.alloc(), &Script::new(QUEUED))
-}
-
 // Both desks are closed while A is logged in: each command is BUSY, and what is no command goes on.
 const CLOSED: &str = r#"
 A at 1
@@ -166,6 +144,6 @@ A over
 "#;
 
 #[test]
-fn behind_the_close_of_the_desks_commands_are_busy(rt: HostRuntime) -> Result<(), Fail> {
-    run(&rt, rt.alloc(), &Script::new(CLOSED))
+fn what_hangs_holds_no_other_unit_and_closed_desks_are_busy(rt: HostRuntime) -> Result<(), Fail> {
+    run_each(&rt, rt.alloc(), &[HELD, STUCK, CROWDED, QUEUED, CLOSED])
 }

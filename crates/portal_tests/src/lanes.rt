@@ -7,39 +7,41 @@ use crate::latch::Latch;
 use crate::tally::Tally;
 use crate::units::{HeldUnit, two};
 use block_file::{KeepOpener, MemBlocks};
-use forwarding::{Desk, Ticket};
 use numbering::Array;
-use scsi_types::{Asked, Command, Group, PortName, Reply};
+use scsi_types::{Command, Group, Sense};
 use std::alloc::Global;
 use std::marker::Brand;
 use std::sync::{Arc, Wait};
 use std::test::*;
 use std::thread::{Threads, join};
-use unit_history::{NewUnit, Opened, Pass, Refused, Units};
+use test_units::{End, Host, TestDesk, TestUnits};
+use unit_history::Opened;
 
-/// Units in memory, whose devices may hang.
-type HeldUnits<R, N> = Units<HeldBlocks<MemBlocks, R>, MemBlocks, KeepOpener, N>;
+/// Memory that may hang.
+type Device<R> = HeldBlocks<MemBlocks, R>;
+
+/// Units over it.
+type HeldUnits<R, N> = TestUnits<Device<R>, KeepOpener, N>;
 
 /// Their desk.
-type HeldDesk<R, N> = Desk<HeldBlocks<MemBlocks, R>, MemBlocks, KeepOpener, N>;
+type HeldDesk<R, N> = TestDesk<Device<R>, KeepOpener, N>;
 
-/// A session at one of them.
-type HeldPass<R, N> = Pass<HeldBlocks<MemBlocks, R>, MemBlocks, KeepOpener, N>;
+/// The session of a host at one of them.
+type Session<R, N> = Host<'static, Device<R>, KeepOpener, N>;
 
-/// The ticket of a command.
-type HeldTicket<'a, R, N> = Ticket<'a, HeldBlocks<MemBlocks, R>, MemBlocks, KeepOpener, N>;
-
-const TEST_UNIT_READY: Asked = Ok(Command::TestUnitReady);
+const TEST: Command = Command::TestUnitReady;
 
 /// A WRITE of block 5.
-const WRITE: Asked = Ok(Command::Write {
+const WRITE: Command = Command::Write {
     lba: 5,
     blocks: 1,
     fua: false,
-});
+};
 
 /// What a WRITE puts there.
 const NEW: [u8; 512] = [0xA5; 512];
+
+const POWER_ON: End = End::Check(Sense::POWER_ON);
 
 /// A list that makes group 1 active/optimized.
 const TO_GROUP_1: [u8; 8] = [0, 0, 0, 0, 0, 0, 0, 1];
@@ -55,101 +57,38 @@ struct Scene<'a, R: Wait + Drop, N: Array<Opened>> {
     taken: &'a Tally,
 }
 
-// The status of a reply.
-fn status_of(end: &Result<Reply, Refused<Group>>) -> Option<u8> {
-    match end {
-        Ok(reply) => Some(reply.status().code()),
-        Err(_) => None,
-    }
-}
-
 impl<'a, R: Wait + Drop, N: Array<Opened>> Scene<'a, R, N> {
-    // A session of the initiator port with this ISID at a unit.
-    fn attach(&self, place: usize, isid: u8) -> Option<HeldPass<R, N>> {
-        if place >= self.units.count() {
-            return None;
-        }
-        let name = Vec::from_slice(self.alloc, b"iqn.2000-01.test:host").ok()?;
-        let port = PortName::new(name, u64::from(isid));
-        self.units.attach(self.rt, place, port, Group::One).ok()
+    fn attach(&self, place: usize, isid: u8) -> Option<Session<R, N>> {
+        let isid = u32::from(isid);
+        Host::attach(self.rt, self.alloc, self.units, place, isid, Group::One)
     }
 
-    // Hands a command of a session in.
-    fn hand_in<'b>(
-        &self,
-        pass: HeldPass<R, N>,
-        asked: Asked,
-        bytes: &'b [u8],
-    ) -> Option<HeldTicket<'b, R, N>> {
-        self.desk
-            .submit(self.rt, self.alloc, pass, &asked, bytes)
-            .ok()
-    }
-
-    // What a lane makes of it.
-    fn collect(&self, ticket: HeldTicket<'_, R, N>) -> (HeldPass<R, N>, Option<u8>) {
-        let (pass, end) = self.desk.collect(self.rt, ticket);
-        let status = status_of(&end);
-        (pass, status)
+    // Hands a command in, which waits then.
+    fn hand_in(&self, host: &mut Session<R, N>, command: Command, bytes: &'static [u8]) -> End {
+        host.hand_in(self.rt, self.alloc, self.desk, command, bytes)
     }
 
     // A command that a lane serves.
-    fn by_lane(
-        &self,
-        pass: HeldPass<R, N>,
-        asked: Asked,
-        bytes: &[u8],
-    ) -> Option<(HeldPass<R, N>, Option<u8>)> {
-        let ticket = self.hand_in(pass, asked, bytes)?;
-        Some(self.collect(ticket))
+    fn by_lane(&self, host: &mut Session<R, N>, command: Command, bytes: &'static [u8]) -> End {
+        match self.hand_in(host, command, bytes) {
+            End::Waits => host.collect(self.rt, self.desk),
+            end => end,
+        }
     }
 
     // A command whose job waits in the queue, and which its worker serves, unless a lane is first.
-    fn by_worker(
-        &self,
-        pass: HeldPass<R, N>,
-        asked: Asked,
-        bytes: &[u8],
-    ) -> Option<(HeldPass<R, N>, Option<u8>)> {
-        if pass.place() >= self.units.count() {
-            return None;
-        }
-        match self.desk.submit(self.rt, self.alloc, pass, &asked, bytes) {
-            Ok(ticket) => {
-                let (pass, end) = self.desk.serve_own(self.rt, self.alloc, self.units, ticket);
-                let status = status_of(&end);
-                Some((pass, status))
-            }
-            Err(_) => None,
-        }
-    }
-
-    // A command as the program serves it.
-    fn by_desk(
-        &self,
-        pass: HeldPass<R, N>,
-        asked: Asked,
-        bytes: &[u8],
-    ) -> Option<(HeldPass<R, N>, Option<u8>)> {
-        if pass.place() >= self.units.count() {
-            return None;
-        }
-        let (pass, end) = self
-            .desk
-            .serve(self.rt, self.alloc, self.units, pass, &asked, bytes);
-        match end {
-            Ok(end) => {
-                let status = status_of(&end);
-                Some((pass, status))
-            }
-            Err(_) => None,
+    fn by_worker(&self, host: &mut Session<R, N>, command: Command) -> End {
+        match self.hand_in(host, command, &[]) {
+            End::Waits => host.serve_own(self.rt, self.alloc, self.units, self.desk),
+            end => end,
         }
     }
 
     // A session at a unit that a lane has told that power came on.
-    fn ready(&self, place: usize, isid: u8) -> Option<HeldPass<R, N>> {
-        let (pass, told) = self.by_lane(self.attach(place, isid)?, TEST_UNIT_READY, &[])?;
-        (told == Some(2)).then_some(pass)
+    fn ready(&self, place: usize, isid: u8) -> Option<Session<R, N>> {
+        let mut host = self.attach(place, isid)?;
+        let told = self.by_lane(&mut host, TEST, &[]);
+        (told == POWER_ON).then_some(host)
     }
 
     // How many entries the row of unit 0 tells of.
@@ -181,27 +120,45 @@ impl<'a, R: Wait + Drop, N: Array<Opened>> Scene<'a, R, N> {
 }
 
 // A write hangs in the device of unit 0; meanwhile lanes serve unit 1, and the row of unit 0 is read.
-fn one_hangs<R: Wait + Drop, N: Array<Opened>>(scene: &Scene<'_, R, N>) -> Option<bool> {
-    let slow = scene.ready(0, 1)?;
-    let quick = scene.ready(1, 2)?;
+fn one_hangs<R: Wait + Drop, N: Array<Opened>>(
+    scene: &Scene<'_, R, N>,
+    slow: &mut Session<R, N>,
+    quick: &mut Session<R, N>,
+) -> bool {
     scene.disk.hold(Some(0));
-    let stuck = scene.hand_in(slow, WRITE, &NEW)?;
-    let (quick, first) = scene.by_lane(quick, WRITE, &[0x5A; 512])?;
+    let stuck = scene.hand_in(slow, WRITE, &NEW);
+    let first = scene.by_lane(quick, WRITE, &NEW);
     scene.disk.await_held(1);
     let shown = scene.entries();
-    let (_, second) = scene.by_lane(quick, TEST_UNIT_READY, &[])?;
+    let second = scene.by_lane(quick, TEST, &[]);
     scene.disk.hold(None);
-    let (_, last) = scene.collect(stuck);
-    let are_good = first == Some(0) && second == Some(0) && last == Some(0);
-    Some(are_good && shown == Some(2) && scene.entries() == Some(3))
+    let last = slow.collect(scene.rt, scene.desk);
+    let are_good = first == End::Good && second == End::Good && last == End::Good;
+    stuck == End::Waits && are_good && shown == Some(2) && scene.entries() == Some(3)
+}
+
+fn hangs<R: Wait + Drop, N: Array<Opened>>(scene: &Scene<'_, R, N>) -> Option<bool> {
+    let mut slow = scene.ready(0, 1)?;
+    let mut quick = scene.ready(1, 2)?;
+    Some(one_hangs(scene, &mut slow, &mut quick))
 }
 
 // A session at unit 1 with three commands: two wait in the queue, and one is served as the program does.
-fn is_served<R: Wait + Drop, N: Array<Opened>>(scene: &Scene<'_, R, N>, isid: u8) -> Option<bool> {
-    let (pass, first) = scene.by_worker(scene.attach(1, isid)?, TEST_UNIT_READY, &[])?;
-    let (pass, second) = scene.by_desk(pass, WRITE, &[isid; 512])?;
-    let (_, third) = scene.by_worker(pass, TEST_UNIT_READY, &[])?;
-    Some(first == Some(2) && second == Some(0) && third == Some(0))
+fn is_served<R: Wait + Drop, N: Array<Opened>>(scene: &Scene<'_, R, N>, isid: u8) -> bool {
+    let Some(mut host) = scene.attach(1, isid) else {
+        return false;
+    };
+    let first = scene.by_worker(&mut host, TEST);
+    let Scene {
+        rt,
+        alloc,
+        desk,
+        units,
+        ..
+    } = scene;
+    let second = host.ask_at(*rt, *alloc, units, desk, WRITE, &[isid; 512]);
+    let third = scene.by_worker(&mut host, TEST);
+    first == POWER_ON && second == End::Good && third == End::Good
 }
 
 fn two_are_served<R, N: Array<Opened>>(scene: &Scene<'_, R, N>, isid: u8) -> bool
@@ -211,8 +168,8 @@ where
 {
     let (one, other) = join(
         scene.rt,
-        || is_served(scene, isid) == Some(true),
-        || is_served(scene, isid | 1) == Some(true),
+        || is_served(scene, isid),
+        || is_served(scene, isid | 1),
     );
     one && other
 }
@@ -231,40 +188,35 @@ where
 }
 
 // Five sessions at unit 0.
-fn five_ready<R: Wait + Drop, N: Array<Opened>>(scene: &Scene<'_, R, N>) -> Vec<HeldPass<R, N>> {
-    let mut passes = Vec::new(scene.alloc);
+fn five_ready<R: Wait + Drop, N: Array<Opened>>(
+    scene: &Scene<'_, R, N>,
+    hosts: &mut Vec<Session<R, N>>,
+) {
     for isid in 1..=5 {
-        if let Some(pass) = scene.ready(0, isid) {
-            let _ = passes.push(pass);
+        if let Some(host) = scene.ready(0, isid) {
+            let _ = hosts.push(host);
         }
     }
-    passes
 }
 
 // Hands in a write of each.
-fn write_all<'b, R: Wait + Drop, N: Array<Opened>>(
+fn write_all<R: Wait + Drop, N: Array<Opened>>(
     scene: &Scene<'_, R, N>,
-    passes: Vec<HeldPass<R, N>>,
-    new: &'b [u8],
-) -> Vec<HeldTicket<'b, R, N>> {
-    let mut tickets = Vec::new(scene.alloc);
-    for pass in passes {
-        if let Some(ticket) = scene.hand_in(pass, WRITE, new) {
-            let _ = tickets.push(ticket);
-        }
+    hosts: &mut Vec<Session<R, N>>,
+) {
+    for host in hosts {
+        let _ = scene.hand_in(host, WRITE, &NEW);
     }
-    tickets
 }
 
 // How many of these writes are GOOD.
 fn count_good<R: Wait + Drop, N: Array<Opened>>(
     scene: &Scene<'_, R, N>,
-    tickets: Vec<HeldTicket<'_, R, N>>,
+    hosts: &mut Vec<Session<R, N>>,
 ) -> u32 {
     let mut count = 0u32;
-    for ticket in tickets {
-        let (_pass, status) = scene.collect(ticket);
-        if status == Some(0) {
+    for host in hosts {
+        if host.collect(scene.rt, scene.desk) == End::Good {
             count = count.saturating_add(1);
         }
     }
@@ -278,9 +230,10 @@ where
     R: Threads + Wait + Send + Sync + Drop,
     N: Send + Sync,
 {
-    let passes = five_ready(scene);
+    let mut hosts = Vec::new(scene.alloc);
+    five_ready(scene, &mut hosts);
     scene.disk.hold(Some(0));
-    let tickets = write_all(scene, passes, &NEW);
+    write_all(scene, &mut hosts);
     scene.taken.await_count(scene.rt, 9);
     let (first, second) = join(
         scene.rt,
@@ -289,7 +242,7 @@ where
     );
     let by_lanes = scene.taken.count(scene.rt);
     scene.disk.hold(None);
-    first && second && by_lanes == 9 && count_good(scene, tickets) == 5
+    first && second && by_lanes == 9 && count_good(scene, &mut hosts) == 5
 }
 
 /// What is played.
@@ -307,7 +260,7 @@ where
 {
     let is_right = scene.is_moved()
         && match played {
-            Played::OneHangs => one_hangs(scene) == Some(true),
+            Played::OneHangs => hangs(scene) == Some(true),
             Played::AllHang => all_hang(scene),
         };
     scene.disk.hold(None);

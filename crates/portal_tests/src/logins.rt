@@ -1,5 +1,5 @@
 //! Sessions that begin beside others.
-use crate::array::{Script, run};
+use crate::array::run_each;
 use std::test::*;
 
 // The same name, ISID and controller take the place of the first session; another controller does not.
@@ -31,11 +31,6 @@ C > TEST_UNIT_READY
 C < GOOD
 "#;
 
-#[test]
-fn a_session_takes_the_place_of_the_older_one(rt: HostRuntime) -> Result<(), Fail> {
-    run(&rt, rt.alloc(), &Script::new(REINSTATED))
-}
-
 // 64 sessions leave no room for another until they are over.
 const FULL: &str = r#"
 A at 1
@@ -58,11 +53,6 @@ A > TEST_UNIT_READY
 A < GOOD
 "#;
 
-#[test]
-fn sixty_four_sessions_leave_no_room(rt: HostRuntime) -> Result<(), Fail> {
-    run(&rt, rt.alloc(), &Script::new(FULL))
-}
-
 // Sessions of discovery take no room.
 const CROWDED: &str = r#"
 200 enter 1 LOGIN 7:37 FINDS
@@ -76,6 +66,6 @@ A < GOOD
 "#;
 
 #[test]
-fn a_login_beside_two_hundred_sessions_of_discovery(rt: HostRuntime) -> Result<(), Fail> {
-    run(&rt, rt.alloc(), &Script::new(CROWDED))
+fn sessions_that_come_again_or_find_no_room(rt: HostRuntime) -> Result<(), Fail> {
+    run_each(&rt, rt.alloc(), &[REINSTATED, FULL, CROWDED])
 }

@@ -1,5 +1,5 @@
 //! Blocks, through both controllers.
-use crate::array::{Script, run};
+use crate::array::run_each;
 use std::test::*;
 
 const WRITTEN_AND_READ: &str = r#"
@@ -18,11 +18,6 @@ B < DATA_IN 5:000200 512*00
 B < GOOD 36:00000001
 "#;
 
-#[test]
-fn written_through_one_controller_and_read_through_the_other(rt: HostRuntime) -> Result<(), Fail> {
-    run(&rt, rt.alloc(), &Script::new(WRITTEN_AND_READ))
-}
-
 // Both expect zeros in block 10.
 const COMPARED: &str = r#"
 A and B
@@ -36,11 +31,6 @@ B > TEST_UNIT_READY 1:C1 20:00000200 32:28000000000A00000100
 B < DATA_IN 5:000200 512*WON
 B < GOOD 36:00000001
 "#;
-
-#[test]
-fn of_two_that_compare_and_write_one_wins(rt: HostRuntime) -> Result<(), Fail> {
-    run(&rt, rt.alloc(), &Script::new(COMPARED))
-}
 
 // Data so long that no desk copies it: 64 blocks, of which the last is read.
 const LONG: &str = r#"
@@ -56,6 +46,6 @@ B < GOOD 3:08
 "#;
 
 #[test]
-fn long_data_is_written(rt: HostRuntime) -> Result<(), Fail> {
-    run(&rt, rt.alloc(), &Script::new(LONG))
+fn what_one_controller_writes_the_other_reads(rt: HostRuntime) -> Result<(), Fail> {
+    run_each(&rt, rt.alloc(), &[WRITTEN_AND_READ, COMPARED, LONG])
 }

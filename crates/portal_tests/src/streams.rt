@@ -1,5 +1,5 @@
 //! How the bytes of sessions come, at both controllers: in pieces, numbered, cut short; and logins that are refused.
-use crate::array::{Script, run};
+use crate::array::run_each;
 use std::test::*;
 
 // All that A sends comes in pieces of 7 bytes: WRITE (10) of 2048 blocks, 8192 bytes of it with the command. Through the other
@@ -64,11 +64,6 @@ A < LOGGED_OUT
 A over
 "#;
 
-#[test]
-fn a_long_write_in_pieces_of_seven_bytes(rt: HostRuntime) -> Result<(), Fail> {
-    run(&rt, rt.alloc(), &Script::new(IN_PIECES))
-}
-
 // A and B begin with CmdSN FFFFFFFFh. Their WRITE with that number comes when it is below the window: it is not answered, and
 // nothing is written. At the end each sends 47 bytes of a command. C and D begin with CmdSN 1, which their first command has
 // and, as it is immediate, leaves to the next.
@@ -117,11 +112,6 @@ D >> TEST_UNIT_READY 16:00000002 28:00000003
 D << GOOD 16:00000002 24:000000030000000200000021
 "#;
 
-#[test]
-fn the_numbers_of_sessions(rt: HostRuntime) -> Result<(), Fail> {
-    run(&rt, rt.alloc(), &Script::new(NUMBERED))
-}
-
 // Another target's name, and no InitiatorName.
 const REFUSED: &str = r#"
 A at 1
@@ -143,6 +133,6 @@ D over
 "#;
 
 #[test]
-fn logins_that_are_refused(rt: HostRuntime) -> Result<(), Fail> {
-    run(&rt, rt.alloc(), &Script::new(REFUSED))
+fn pieces_numbers_and_refused_logins(rt: HostRuntime) -> Result<(), Fail> {
+    run_each(&rt, rt.alloc(), &[IN_PIECES, NUMBERED, REFUSED])
 }

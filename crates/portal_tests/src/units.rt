@@ -4,16 +4,16 @@ ghost use Rattle.unit_state.specs.Serials.{IsOpening};
 
 use crate::held::HeldBlocks;
 use crate::latch::Latch;
-use aptpl_file::{FILE_BLOCKS, RegFile};
+use aptpl_file::RegFile;
 use block_file::{FusedBlocks, FusedOpener, KeepOpener, MemBlocks};
 use disk_files::{DiskLock, FileBlocks, open_disk, open_registrations};
-use reservations::Record;
 use scsi_types::Place;
 use std::alloc::Global;
 use std::fs::File;
 use std::rt::Files;
 use std::sync::{Arc, Wait};
 use std::test::Fail;
+use test_units::new_unit;
 use unit_history::NewUnit;
 use unit_state::{Unit, laws};
 
@@ -35,22 +35,12 @@ fn in_memory<R: Wait + Drop>(
     unit: u8,
     latch: &Arc<Latch<R>, Global>,
 ) -> Result<HeldUnit<R>, Fail> {
-    let place = Place {
-        unit,
-        units: 2,
-        array: 1,
-    };
     let blocks = HeldBlocks {
         inner: MemBlocks::new(alloc, BLOCKS)?,
         unit,
         latch: Arc::try_clone(latch)?,
     };
-    let Ok(file) = RegFile::format(MemBlocks::new(alloc, FILE_BLOCKS)?) else {
-        return Err("a registration file".into());
-    };
-    laws::nobody_is_attached_at_first();
-    let unit = Unit::open(alloc, place, blocks, KeepOpener, file, Record::empty(alloc))?;
-    Ok(NewUnit::new(alloc, unit)?)
+    new_unit(alloc, blocks, KeepOpener, unit, 2)
 }
 
 /// Units 0 and 1, in memory, whose devices hang at this latch.

@@ -6,7 +6,7 @@
 //! write one block; `fencing.rt` the write that collects while its key is preempted; `streams.rt` the long write in pieces,
 //! READ (6) of 256 blocks, the numbers of a session, also those of its one TEST UNIT READY, a PDU that is cut, and logins that
 //! are refused; `failing.rt` a write, an open and a save that fail.
-use crate::array::{Script, run};
+use crate::array::run_each;
 use std::test::*;
 
 // All of them is a session at each controller, which ask the same.
@@ -36,11 +36,6 @@ all < GOOD
 all > WRITE 5:008400 20:00008400 32:8900000000000000000A000000210000 33792*00
 all < CHECK_CONDITION 1:82 44:00008400 0012 70000500000000 0A00000000 2400 00000000
 "#;
-
-#[test]
-fn both_controllers_answer_the_same(rt: HostRuntime) -> Result<(), Fail> {
-    run(&rt, rt.alloc(), &Script::new(ASKED))
-}
 
 // What is refused through one controller, or is written for less than it announced, is read through the other.
 const WRITTEN: &str = r#"
@@ -82,11 +77,6 @@ A < DATA_IN 5:000200 512*5A
 A < GOOD 36:00000001
 "#;
 
-#[test]
-fn what_one_writes_or_is_refused_the_other_sees(rt: HostRuntime) -> Result<(), Fail> {
-    run(&rt, rt.alloc(), &Script::new(WRITTEN))
-}
-
 // REPORT TARGET PORT GROUPS through both controllers, before and behind SET TARGET PORT GROUPS.
 const MOVED: &str = r#"
 A and B
@@ -125,11 +115,6 @@ A < DATA_IN 7:1C 00000018 810F000100010001 00000001 000F000200010001 00000002
 A < GOOD 36:00000001
 "#;
 
-#[test]
-fn both_controllers_report_the_same_groups(rt: HostRuntime) -> Result<(), Fail> {
-    run(&rt, rt.alloc(), &Script::new(MOVED))
-}
-
 // A registers 11h with APTPL through controller 1, and then reserves; all of them ask, each through its controller:
 // REPORT CAPABILITIES, READ FULL STATUS, READ RESERVATION.
 const RESERVED: &str = r#"
@@ -162,6 +147,6 @@ all < GOOD 36:00000001
 "#;
 
 #[test]
-fn both_controllers_tell_of_the_same_reservation(rt: HostRuntime) -> Result<(), Fail> {
-    run(&rt, rt.alloc(), &Script::new(RESERVED))
+fn the_worked_examples_through_both_controllers(rt: HostRuntime) -> Result<(), Fail> {
+    run_each(&rt, rt.alloc(), &[ASKED, WRITTEN, MOVED, RESERVED])
 }

@@ -3,13 +3,12 @@ ghost use Rattle.std.specs.Prelude.{◌≡◌, IfOk};
 ghost use Rattle.unit_state.specs.Serials.{IsOpening};
 
 use crate::rows::{Act, Asks};
-use aptpl_file::{FILE_BLOCKS, RegFile};
 use block_file::{FusedOpener, KeepOpener, MemBlocks};
-use reservations::Record;
-use scsi_types::{Group, Place, PortName, decode};
+use scsi_types::{Group, PortName, decode};
 use std::alloc::Global;
 use std::test::Fail;
-use unit_state::{Unit, laws};
+use test_units::opened;
+use unit_state::Unit;
 use world::{Bytes, Event, World};
 
 type Opener = FusedOpener<KeepOpener>;
@@ -36,18 +35,8 @@ const SECOND: [u8; 8] = [0, 0, 0, 0, 0, 0, 0, 2];
 fn in_memory(alloc: Global, unit: u8, opens: u64) -> Result<MemUnit, Fail>
     ensures { IfOk result (λ u. IsOpening u.control) }
 {
-    let place = Place {
-        unit,
-        units: 2,
-        array: 1,
-    };
     let blocks = MemBlocks::new(alloc, BLOCKS)?;
-    let Ok(file) = RegFile::format(MemBlocks::new(alloc, FILE_BLOCKS)?) else {
-        return Err("a registration file".into());
-    };
-    laws::nobody_is_attached_at_first();
-    let opener = FusedOpener::new(KeepOpener, opens);
-    Ok(Unit::open(alloc, place, blocks, opener, file, Record::empty(alloc))?)
+    opened(alloc, blocks, FusedOpener::new(KeepOpener, opens), unit, 2)
 }
 
 /// Units 0 and 1, whose openers pass so many opens each.

@@ -4,7 +4,7 @@ use crate::rows::Asks::Test;
 use crate::rows::At::{Idle, InLane, Waits};
 use crate::rows::Said::{Busy, Check, Submitted};
 use crate::rows::{Act, At, Noted, Row, Stands};
-use crate::run::run;
+use crate::run::Play;
 use scsi_types::Group::{One, Two};
 use std::alloc::Global;
 use std::process::Abort;
@@ -42,72 +42,103 @@ fn submitted(alloc: Global) -> Result<Vec<Noted>, Fail> {
 }
 
 // How they stand: the first of unit 0, its others, and both of unit 1.
-fn sessions(alloc: Global, first: Stands, others: At, two: [At; 2]) -> Result<Vec<Stands>, Fail> {
-    let mut all = Vec::new(alloc);
-    all.push(first)?;
-    for session in 1..MOST {
-        all.push(Stands(0, session, 1, others))?;
+#[derive(Clone, Copy)]
+struct Standing(Stands, At, [At; 2]);
+
+impl Standing {
+    fn sessions(self, alloc: Global) -> Result<Vec<Stands>, Fail> {
+        let Standing(first, others, two) = self;
+        let mut all = Vec::new(alloc);
+        all.push(first)?;
+        for session in 1..MOST {
+            all.push(Stands(0, session, 1, others))?;
+        }
+        all.push(Stands(1, 0, 1, two[0]))?;
+        all.push(Stands(1, 1, 1, two[1]))?;
+        Ok(all)
     }
-    all.push(Stands(1, 0, 1, two[0]))?;
-    all.push(Stands(1, 1, 1, two[1]))?;
-    Ok(all)
 }
 
+// What happens, what is noted of it, how many entries unit 0 then has, and how the sessions stand.
+#[derive(Clone, Copy)]
+struct Step<'a>(&'a str, &'a [Act], &'a [Noted], u64, Standing);
+
+fn step(play: &mut Play, rt: &impl Abort, alloc: Global, step: &Step<'_>) -> Result<(), Fail> {
+    let sessions = step.4.sessions(alloc)?;
+    let row = Row {
+        what: step.0,
+        acts: step.1,
+        notes: step.2,
+        entries: (step.3, 2),
+        sessions: &sessions,
+    };
+    play.row(rt, alloc, &row)
+}
+
+const ATTACHED: Standing = Standing(Stands(0, 0, 1, Idle), Idle, [Idle, Idle]);
+
+const WAITING: Standing = Standing(Stands(0, 0, 1, Waits), Waits, [Idle, Idle]);
+
+// The desk is full.
+fn fill(play: &mut Play, rt: &impl Abort, alloc: Global) -> Result<(), Fail> {
+    let acts = attaches(alloc)?;
+    step(
+        play,
+        rt,
+        alloc,
+        &Step("66 sessions", &acts, &[], 64, ATTACHED),
+    )?;
+    let (acts, notes) = (submits(alloc)?, submitted(alloc)?);
+    step(
+        play,
+        rt,
+        alloc,
+        &Step("64 jobs", &acts, &notes, 64, WAITING),
+    )
+}
+
+// What happens then.
+const FULL: &[Step<'static>] = &[
+    Step(
+        "one more",
+        &[Submit(64, One, Test)],
+        &[Noted(1, 0, 1, 2, Busy)],
+        64,
+        WAITING,
+    ),
+    Step(
+        "the other desk",
+        &[Submit(65, Two, Test)],
+        &[Noted(1, 1, 1, 2, Submitted)],
+        64,
+        Standing(Stands(0, 0, 1, Waits), Waits, [Idle, Waits]),
+    ),
+    Step(
+        "room again, for one",
+        &[Take(One), Submit(64, One, Test)],
+        &[Noted(1, 0, 1, 2, Submitted)],
+        64,
+        Standing(Stands(0, 0, 1, InLane), Waits, [Waits, Waits]),
+    ),
+    Step(
+        "the first comes back to a full desk",
+        &[Serve(0), Post(0), Collect(0), Submit(0, One, Test)],
+        &[
+            Noted(0, 0, 1, 65, Check(One, 64, (0x06, 0x29, 0x00))),
+            Noted(0, 0, 2, 65, Busy),
+        ],
+        65,
+        Standing(Stands(0, 0, 2, Idle), Waits, [Waits, Waits]),
+    ),
+];
+
 fn full(rt: &impl Abort, alloc: Global) -> Result<(), Fail> {
-    let (attaches, submits, submitted) = (attaches(alloc)?, submits(alloc)?, submitted(alloc)?);
-    let attached = sessions(alloc, Stands(0, 0, 1, Idle), Idle, [Idle, Idle])?;
-    let waiting = sessions(alloc, Stands(0, 0, 1, Waits), Waits, [Idle, Idle])?;
-    let beside = sessions(alloc, Stands(0, 0, 1, Waits), Waits, [Idle, Waits])?;
-    let taken = sessions(alloc, Stands(0, 0, 1, InLane), Waits, [Waits, Waits])?;
-    let served = sessions(alloc, Stands(0, 0, 2, Idle), Waits, [Waits, Waits])?;
-    let rows = [
-        Row {
-            what: "66 sessions",
-            acts: &attaches,
-            notes: &[],
-            entries: (64, 2),
-            sessions: &attached,
-        },
-        Row {
-            what: "64 jobs",
-            acts: &submits,
-            notes: &submitted,
-            entries: (64, 2),
-            sessions: &waiting,
-        },
-        Row {
-            what: "one more",
-            acts: &[Submit(64, One, Test)],
-            notes: &[Noted(1, 0, 1, 2, Busy)],
-            entries: (64, 2),
-            sessions: &waiting,
-        },
-        Row {
-            what: "the other desk",
-            acts: &[Submit(65, Two, Test)],
-            notes: &[Noted(1, 1, 1, 2, Submitted)],
-            entries: (64, 2),
-            sessions: &beside,
-        },
-        Row {
-            what: "room again, for one",
-            acts: &[Take(One), Submit(64, One, Test)],
-            notes: &[Noted(1, 0, 1, 2, Submitted)],
-            entries: (64, 2),
-            sessions: &taken,
-        },
-        Row {
-            what: "the first comes back to a full desk",
-            acts: &[Serve(0), Post(0), Collect(0), Submit(0, One, Test)],
-            notes: &[
-                Noted(0, 0, 1, 65, Check(One, 64, (0x06, 0x29, 0x00))),
-                Noted(0, 0, 2, 65, Busy),
-            ],
-            entries: (65, 2),
-            sessions: &served,
-        },
-    ];
-    run(rt, alloc, [9, 9], &rows)
+    let mut play = Play::new(alloc, [9, 9])?;
+    fill(&mut play, rt, alloc)?;
+    for next in FULL {
+        step(&mut play, rt, alloc, next)?;
+    }
+    Ok(())
 }
 
 #[test]

@@ -1,8 +1,0 @@
-use Rattle.std.specs.Str.Parse.{ExplainsUnsignedError, HasUnsignedDigitsIfOk, ParsesUnsigned}
-use Rattle.clap.specs.Words.{found_of}
-use Rattle.arrayd.proofs.Given.{number_case}
-use Rattle.arrayd.proofs.words.short_given.Goals as goal
-
-pub returns : goal.returns
-returns c = number_case 16 (λ bs r. ParsesUnsigned 16 10 bs r × ExplainsUnsignedError 10 bs r × HasUnsignedDigitsIfOk bs r)
-    (found_of c.args.matches.now) c.args.id.now c.get_one.result c.get_one.ensures.none c.get_one.ensures.value (λ u x g. g.0)

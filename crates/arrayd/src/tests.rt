@@ -1,3 +1,0 @@
-mod command_line;
-mod down;
-mod lines;
