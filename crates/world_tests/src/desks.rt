@@ -61,15 +61,15 @@ impl Standing {
 
 // What happens, what is noted of it, how many entries unit 0 then has, and how the sessions stand.
 #[derive(Clone, Copy)]
-struct Step<'a>(&'a str, &'a [Act], &'a [Noted], u64, Standing);
+struct Line<'a>(&'a str, &'a [Act], &'a [Noted], u64, Standing);
 
-fn step(play: &mut Play, rt: &impl Abort, alloc: Global, step: &Step<'_>) -> Result<(), Fail> {
-    let sessions = step.4.sessions(alloc)?;
+fn step(play: &mut Play, rt: &impl Abort, alloc: Global, line: &Line<'_>) -> Result<(), Fail> {
+    let sessions = line.4.sessions(alloc)?;
     let row = Row {
-        what: step.0,
-        acts: step.1,
-        notes: step.2,
-        entries: (step.3, 2),
+        what: line.0,
+        acts: line.1,
+        notes: line.2,
+        entries: (line.3, 2),
         sessions: &sessions,
     };
     play.row(rt, alloc, &row)
@@ -86,41 +86,41 @@ fn fill(play: &mut Play, rt: &impl Abort, alloc: Global) -> Result<(), Fail> {
         play,
         rt,
         alloc,
-        &Step("66 sessions", &acts, &[], 64, ATTACHED),
+        &Line("66 sessions", &acts, &[], 64, ATTACHED),
     )?;
     let (acts, notes) = (submits(alloc)?, submitted(alloc)?);
     step(
         play,
         rt,
         alloc,
-        &Step("64 jobs", &acts, &notes, 64, WAITING),
+        &Line("64 jobs", &acts, &notes, 64, WAITING),
     )
 }
 
 // What happens then.
-const FULL: &[Step<'static>] = &[
-    Step(
+const FULL: &[Line<'static>] = &[
+    Line(
         "one more",
         &[Submit(64, One, Test)],
         &[Noted(1, 0, 1, 2, Busy)],
         64,
         WAITING,
     ),
-    Step(
+    Line(
         "the other desk",
         &[Submit(65, Two, Test)],
         &[Noted(1, 1, 1, 2, Submitted)],
         64,
         Standing(Stands(0, 0, 1, Waits), Waits, [Idle, Waits]),
     ),
-    Step(
+    Line(
         "room again, for one",
         &[Take(One), Submit(64, One, Test)],
         &[Noted(1, 0, 1, 2, Submitted)],
         64,
         Standing(Stands(0, 0, 1, InLane), Waits, [Waits, Waits]),
     ),
-    Step(
+    Line(
         "the first comes back to a full desk",
         &[Serve(0), Post(0), Collect(0), Submit(0, One, Test)],
         &[
