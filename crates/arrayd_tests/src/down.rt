@@ -19,10 +19,12 @@ type FusedUnit = NewUnit<MemBlocks, MemBlocks, FusedOpener<KeepOpener>>;
 // Units by how often each is opened.
 fn fused(alloc: Global, opens: &[u64]) -> Result<Vec<FusedUnit>, Fail> {
     let mut units = Vec::new(alloc);
-    let count = opens.len() as u8;
-    for (unit, opens) in opens.iter().enumerate() {
+    let count = u8::try_from(opens.len()).unwrap_or(u8::MAX);
+    let mut unit = 0u8;
+    for opens in opens {
         let opener = FusedOpener::new(KeepOpener, *opens);
-        units.push(new_unit(alloc, MemBlocks::new(alloc, 8)?, opener, unit as u8, count)?)?;
+        units.push(new_unit(alloc, MemBlocks::new(alloc, 8)?, opener, unit, count)?)?;
+        unit = unit.saturating_add(1);
     }
     Ok(units)
 }

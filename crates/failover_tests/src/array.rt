@@ -1,13 +1,15 @@
 //! Units 0 and 1 of an array in memory, whose openers pass so many opens and then fail.
-ghost use Rattle.std.specs.Prelude.{◌≤◌, IfOk, length};
+ghost use Rattle.std.specs.Prelude.{◌≡◌, ◌≤◌, IfOk, length};
+ghost use Rattle.unit_history.specs.Naming.{IsNamed};
 
 use block_file::{FusedOpener, KeepOpener, MemBlocks};
+use numbering::Array as Naming;
 use std::alloc::Global;
 use std::marker::Brand;
 use std::sync::Wait;
 use std::test::Fail;
 use test_units::{new_unit, play};
-use unit_history::NewUnit;
+use unit_history::{NewUnit, Opened};
 
 /// The blocks of a unit.
 const BLOCKS: u32 = 16;
@@ -28,8 +30,19 @@ fn two(alloc: Global, opens: [u64; 2]) -> Result<Vec<MemUnit>, Fail>
     Ok(units)
 }
 
+fn tell<N: Naming<Opened>, W: Wait>(
+    rt: &W,
+    alloc: Global,
+    new: Vec<MemUnit>,
+    script: &str,
+) -> Result<(), Fail>
+    requires named { IsNamed N.book N.table N.opening ⟦<block_file::MemBlocks as block_file::Blocks>⟧.contents new.items }
+    requires count { length new.items ≤ 8 }
+{
+    play::<_, _, N, W>(rt, alloc, new, script)
+}
+
 /// Performs a script over units 0 and 1, whose openers pass so many opens each.
 pub fn run<W: Wait>(rt: &W, alloc: Global, opens: [u64; 2], script: &str) -> Result<(), Fail> {
-    let units = two(alloc, opens)?;
-    play::<_, _, Brand, W>(rt, alloc, units, script)
+    tell::<Brand, W>(rt, alloc, two(alloc, opens)?, script)
 }

@@ -43,18 +43,18 @@ fn submitted(alloc: Global) -> Result<Vec<Noted>, Fail> {
 
 // How they stand: the first of unit 0, its others, and both of unit 1.
 #[derive(Clone, Copy)]
-struct Standing(Stands, At, [At; 2]);
+struct Standing(Stands, At, At, At);
 
 impl Standing {
     fn sessions(self, alloc: Global) -> Result<Vec<Stands>, Fail> {
-        let Standing(first, others, two) = self;
+        let Standing(first, others, one, two) = self;
         let mut all = Vec::new(alloc);
         all.push(first)?;
         for session in 1..MOST {
             all.push(Stands(0, session, 1, others))?;
         }
-        all.push(Stands(1, 0, 1, two[0]))?;
-        all.push(Stands(1, 1, 1, two[1]))?;
+        all.push(Stands(1, 0, 1, one))?;
+        all.push(Stands(1, 1, 1, two))?;
         Ok(all)
     }
 }
@@ -75,9 +75,9 @@ fn step(play: &mut Play, rt: &impl Abort, alloc: Global, line: &Line<'_>) -> Res
     play.row(rt, alloc, &row)
 }
 
-const ATTACHED: Standing = Standing(Stands(0, 0, 1, Idle), Idle, [Idle, Idle]);
+const ATTACHED: Standing = Standing(Stands(0, 0, 1, Idle), Idle, Idle, Idle);
 
-const WAITING: Standing = Standing(Stands(0, 0, 1, Waits), Waits, [Idle, Idle]);
+const WAITING: Standing = Standing(Stands(0, 0, 1, Waits), Waits, Idle, Idle);
 
 // The desk is full.
 fn fill(play: &mut Play, rt: &impl Abort, alloc: Global) -> Result<(), Fail> {
@@ -111,14 +111,14 @@ const FULL: &[Line<'static>] = &[
         &[Submit(65, Two, Test)],
         &[Noted(1, 1, 1, 2, Submitted)],
         64,
-        Standing(Stands(0, 0, 1, Waits), Waits, [Idle, Waits]),
+        Standing(Stands(0, 0, 1, Waits), Waits, Idle, Waits),
     ),
     Line(
         "room again, for one",
         &[Take(One), Submit(64, One, Test)],
         &[Noted(1, 0, 1, 2, Submitted)],
         64,
-        Standing(Stands(0, 0, 1, InLane), Waits, [Waits, Waits]),
+        Standing(Stands(0, 0, 1, InLane), Waits, Waits, Waits),
     ),
     Line(
         "the first comes back to a full desk",
@@ -128,7 +128,7 @@ const FULL: &[Line<'static>] = &[
             Noted(0, 0, 2, 65, Busy),
         ],
         65,
-        Standing(Stands(0, 0, 2, Idle), Waits, [Waits, Waits]),
+        Standing(Stands(0, 0, 2, Idle), Waits, Waits, Waits),
     ),
 ];
 
