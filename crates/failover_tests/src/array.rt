@@ -30,19 +30,26 @@ fn two(alloc: Global, opens: [u64; 2]) -> Result<Vec<MemUnit>, Fail>
     Ok(units)
 }
 
+/// What happens to units 0 and 1, whose openers pass so many opens each.
+#[derive(Clone, Copy)]
+pub struct Story<'a> {
+    pub opens: [u64; 2],
+    pub script: &'a str,
+}
+
 fn tell<N: Naming<Opened>, W: Wait>(
     rt: &W,
     alloc: Global,
     new: Vec<MemUnit>,
-    script: &str,
+    story: &Story<'_>,
 ) -> Result<(), Fail>
     requires named { IsNamed N.book N.table N.opening ⟦<block_file::MemBlocks as block_file::Blocks>⟧.contents new.items }
     requires count { length new.items ≤ 8 }
 {
-    play::<_, _, N, W>(rt, alloc, new, script)
+    play::<_, _, N, W>(rt, alloc, new, story.script)
 }
 
-/// Performs a script over units 0 and 1, whose openers pass so many opens each.
-pub fn run<W: Wait>(rt: &W, alloc: Global, opens: [u64; 2], script: &str) -> Result<(), Fail> {
-    tell::<Brand, W>(rt, alloc, two(alloc, opens)?, script)
+/// Performs its script.
+pub fn run<W: Wait>(rt: &W, alloc: Global, story: &Story<'_>) -> Result<(), Fail> {
+    tell::<Brand, W>(rt, alloc, two(alloc, story.opens)?, story)
 }

@@ -1,5 +1,5 @@
 //! What happens to units 0 and 1, of which group 1 owns the first and group 2 the second.
-use crate::array::run;
+use crate::array::{Story, run};
 use std::test::*;
 
 // A session on controller 2 sets group 2; the report tells that it was altered so. The session on controller 1 is told, and then
@@ -22,7 +22,11 @@ B 2 TEST = GOOD
 
 #[test]
 fn a_session_sets_the_owner(rt: HostRuntime) -> Result<(), Fail> {
-    run(&rt, rt.alloc(), [9, 9], SET_BY_A_SESSION)
+    let story = Story {
+        opens: [9, 9],
+        script: SET_BY_A_SESSION,
+    };
+    run(&rt, rt.alloc(), &story)
 }
 
 // The same where the blocks cannot be opened for the new owner: nothing has changed.
@@ -41,7 +45,11 @@ A 1 READ = GOOD 512*00
 
 #[test]
 fn an_owner_that_is_not_opened(rt: HostRuntime) -> Result<(), Fail> {
-    run(&rt, rt.alloc(), [0, 9], SET_WITHOUT_AN_OPEN)
+    let story = Story {
+        opens: [0, 9],
+        script: SET_WITHOUT_AN_OPEN,
+    };
+    run(&rt, rt.alloc(), &story)
 }
 
 // The array moves a unit by itself, and every session is told. By the first list no group would be optimized.
@@ -58,7 +66,11 @@ A 2 READ = GOOD 512*00
 
 #[test]
 fn the_array_moves_a_unit(rt: HostRuntime) -> Result<(), Fail> {
-    run(&rt, rt.alloc(), [9, 9], MOVED_BY_THE_ARRAY)
+    let story = Story {
+        opens: [9, 9],
+        script: MOVED_BY_THE_ARRAY,
+    };
+    run(&rt, rt.alloc(), &story)
 }
 
 // Each controller goes down in turn; a session on the one that is down is told so.
@@ -77,7 +89,11 @@ down 2 = DONE
 
 #[test]
 fn each_controller_goes_down(rt: HostRuntime) -> Result<(), Fail> {
-    run(&rt, rt.alloc(), [9, 9], EACH_GOES_DOWN)
+    let story = Story {
+        opens: [9, 9],
+        script: EACH_GOES_DOWN,
+    };
+    run(&rt, rt.alloc(), &story)
 }
 
 // Unit 1 cannot be opened for another owner: group 2 owns it, so that controller 1 goes down. Controller 2 does not: unit 0 is
@@ -91,7 +107,11 @@ down 2 = OPEN_FAILED 01
 
 #[test]
 fn what_moved_stays_moved(rt: HostRuntime) -> Result<(), Fail> {
-    run(&rt, rt.alloc(), [9, 0], STOPPED_AT_THE_SECOND)
+    let story = Story {
+        opens: [9, 0],
+        script: STOPPED_AT_THE_SECOND,
+    };
+    run(&rt, rt.alloc(), &story)
 }
 
 // Unit 0 cannot: it is told, and unit 1 is not asked.
@@ -103,5 +123,9 @@ down 1 = OPEN_FAILED 00
 
 #[test]
 fn the_first_that_does_not_move_ends_it(rt: HostRuntime) -> Result<(), Fail> {
-    run(&rt, rt.alloc(), [0, 9], STOPPED_AT_THE_FIRST)
+    let story = Story {
+        opens: [0, 9],
+        script: STOPPED_AT_THE_FIRST,
+    };
+    run(&rt, rt.alloc(), &story)
 }
