@@ -1,2 +1,1 @@
-pub mod Jobs
-pub mod Queue
+pub mod Settled

@@ -1,11 +1,12 @@
 //! The desk of a controller.
 ghost use Rattle.std.specs.Prelude.{◌≡◌, ◌<◌, ◌&&◌, IfOk, IfErr, IfSome};
-ghost use Rattle.forwarding.specs.Jobs.{HasAnswered, IsSettled, handed_of};
+ghost use Rattle.forwarding.specs.Settled.{IsSettled};
+ghost use Rattle.jobs.specs.Jobs.{HasAnswered, handed_of};
 
-use crate::job::{Answer, Job, Ticket, Waiting, prepare};
-use crate::queue::{NotQueued, Queue};
 use block_file::{Blocks, Opener};
 use crossbeam_utils::CachePadded;
+use job_queue::{NotQueued, Queue};
+use jobs::{Answer, Job, Ticket, Waiting, prepare};
 use numbering::Array;
 use scsi_types::{Asked, Group, NoMemory, Reply};
 use std::alloc::Global;

@@ -4,7 +4,7 @@ ghost use Rattle.std.specs.Prelude.{◌≤◌, IfOk, length};
 use block_file::{KeepOpener, MemBlocks};
 use std::alloc::Global;
 use std::test::Fail;
-use test_units::{TestDesk, TestUnits, new_unit};
+use test_units::{Shared, new_unit};
 use unit_history::NewUnit;
 
 /// So many blocks a unit has.
@@ -13,11 +13,8 @@ const BLOCKS: u32 = 8;
 /// A unit in memory.
 pub type New = NewUnit<MemBlocks, MemBlocks, KeepOpener>;
 
-/// The units.
-pub type Units<N> = TestUnits<MemBlocks, KeepOpener, N>;
-
-/// The desk of group 1.
-pub type Desk<N> = TestDesk<MemBlocks, KeepOpener, N>;
+/// The units and the desk of group 1.
+pub type Array<N> = Shared<MemBlocks, KeepOpener, N>;
 
 /// The units, before they are shared.
 pub fn two(alloc: Global) -> Result<Vec<New>, Fail>

@@ -3,9 +3,8 @@ ghost use Rattle.std.specs.Prelude.{◌≡◌, ◌≤◌, length};
 ghost use Rattle.block_file.specs.Cut.{cut};
 ghost use Rattle.unit_history.specs.Naming.{IsNamed};
 
-use crate::array::{Desk, New, Units, two};
-use numbering::Array;
-use scsi_types::Group;
+use crate::array::{Array, New, two};
+use numbering::Array as Naming;
 use std::alloc::Global;
 use std::marker::Brand;
 use std::sync::Wait;
@@ -42,22 +41,21 @@ desk closes
 ";
 
 // Does the worker's work: the first line that came to something else.
-fn work<N: Array<Opened>, R: Wait>(
+fn work<N: Naming<Opened>, R: Wait>(
     rt: &R,
     alloc: Global,
-    desk: &Desk<N>,
-    units: &Units<N>,
+    array: &Array<N>,
 ) -> Option<&'static str> {
-    let wrong = Stage::new(rt, alloc, units, desk).perform(WORK);
-    desk.close(rt);
+    let wrong = Stage::new(rt, alloc, array).perform(WORK);
+    array.desk.close(rt);
     wrong
 }
 
 // Serves what comes to the desk, until it is closed: how many jobs.
-fn lane<N: Array<Opened>, R: Wait>(rt: &R, alloc: Global, desk: &Desk<N>, units: &Units<N>) -> u64 {
+fn lane<N: Naming<Opened>, R: Wait>(rt: &R, alloc: Global, array: &Array<N>) -> u64 {
     let mut count = 0u64;
     for _ in rt.forever() {
-        if !desk.serve_next(rt, alloc, units) {
+        if !array.desk.serve_next(rt, alloc, &array.units) {
             break;
         }
         count = count.saturating_add(1);
@@ -65,7 +63,21 @@ fn lane<N: Array<Opened>, R: Wait>(rt: &R, alloc: Global, desk: &Desk<N>, units:
     count
 }
 
-fn share<N: Array<Opened> + Send + Sync, R: Threads + Wait + Sync>(
+// What was wrong with what both did.
+fn both<N: Naming<Opened> + Send + Sync, R: Threads + Wait + Sync>(
+    rt: &R,
+    alloc: Global,
+    array: &Array<N>,
+) -> Option<&'static str> {
+    let (wrong, served) = join(rt, || work(rt, alloc, array), || lane(rt, alloc, array));
+    // At least the two commands of the writer, and the last one of the unit that moved.
+    if wrong.is_none() && served < 3 {
+        return Some("jobs that a lane served");
+    }
+    wrong
+}
+
+fn share<N: Naming<Opened> + Send + Sync, R: Threads + Wait + Sync>(
     rt: &R,
     alloc: Global,
     new: Vec<New>,
@@ -73,21 +85,13 @@ fn share<N: Array<Opened> + Send + Sync, R: Threads + Wait + Sync>(
     requires named { IsNamed N.book N.table N.opening (λ d. cut d.count d.bytes.items) new.items }
     requires count { length new.items ≤ 8 }
 {
-    let units = Units::<N>::new(rt, alloc, new)?;
-    let desk = Desk::<N>::new(alloc, Group::One)?;
-    let (wrong, served) = join(
-        rt,
-        || work(rt, alloc, &desk, &units),
-        || lane(rt, alloc, &desk, &units),
-    );
-    if let Some(line) = wrong {
-        return Err(line.into());
+    let array = Array::<N>::new(rt, alloc, new)?;
+    let wrong = both(rt, alloc, &array);
+    array.end();
+    match wrong {
+        None => Ok(()),
+        Some(line) => Err(line.into()),
     }
-    // At least the two commands of the writer, and the last one of the unit that moved.
-    if served < 3 {
-        return Err("jobs that a lane served".into());
-    }
-    Ok(())
 }
 
 #[test]

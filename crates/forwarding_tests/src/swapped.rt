@@ -31,7 +31,7 @@ D hears = WAITS
 E at 0 1
 E hands TEST = WAITS
 E hears = WAITS
-desk serves
+desk serves = UNIT 00
 E hears = ANSWERED
 E collects = CHECK 062900
 ";

@@ -9,4 +9,4 @@ mod units;
 
 pub use hosts::{End, Host, TestDesk, TestUnits};
 pub use scripts::{Stage, play};
-pub use units::{new_unit, opened};
+pub use units::{Shared, new_unit, opened};

@@ -1,14 +1,14 @@
 //! Scripts of what hosts do at shared units and at the desk of group 1. A line is what is done, and, behind ` = `, what it comes
 //! to:
 //!
-//! - `A at 0 1`: host A attaches to unit 0 by group 1. The first host is A, and the others follow;
+//! - `A at 0 1`: host A attaches to unit 0 by group 1. The first host is A, and the others follow; host `h26` is the 27th;
 //! - `A 1 WRITE = GOOD`: its command by group 1. Behind GOOD stand the bytes of the data that come back, behind CHECK the sense
 //!   key, code and qualifier, behind MOVED the owner (`bytes_of` of `test_streams`);
 //! - `A desk WRITE = GOOD`: by way of the desk, as the program has it served;
 //! - `A hands WRITE = WAITS`: it hands the command in; `A hears = WAITS`: no answer is there yet, or ANSWERED; `A collects =
 //!   GOOD`: it waits until a lane has served it; `A serves = GOOD`: it serves it itself, unless a lane was first;
-//! - `desk serves`: a lane takes the first job, and serves it; `desk crosses`: the first two, and the answer of each goes to the
-//!   ticket of the other; `desk closes`;
+//! - `desk serves = UNIT 01`: a lane takes the first job, which is one of unit 1, and serves it, or is told NONE; `desk crosses`:
+//!   the first two, and the answer of each goes to the ticket of the other; `desk closes`;
 //! - `0 shows = ROW 02 0100 06`: the row of unit 0 tells of its owner, the states of both groups, and six entries;
 //! - `0 moves 0000000000000002 = DONE`: unit 0 moves by this parameter list;
 //! - `down 2 = DONE`: controller 2 goes down. Else the first unit that does not move is told.
@@ -17,16 +17,17 @@ ghost use Rattle.unit_history.specs.Naming.{IsNamed};
 
 use crate::hosts::{End, Host, TestDesk, TestUnits};
 use crate::outcomes::{Outcome, byte_of, group_of, named, of_bytes, of_command, of_move, of_row};
+use crate::units::Shared;
 use block_file::{Blocks, MemBlocks, Opener};
 use failover::{set_groups, take_down};
-use forwarding::{Desk, Job};
+use jobs::Job;
 use numbering::Array as Naming;
 use scsi_types::{Command, Group};
 use std::alloc::Global;
 use std::sync::Wait;
 use std::test::Fail;
 use test_streams::bytes_of;
-use unit_history::{NewUnit, Opened, Units};
+use unit_history::{NewUnit, Opened};
 
 /// The block that commands read and write.
 const LBA: u64 = 5;
@@ -53,6 +54,8 @@ fn command_named(name: &str) -> Option<(Command, &'static [u8])> {
     };
     match name {
         "TEST" => Some((Command::TestUnitReady, &[])),
+        // with data for which it has no use
+        "SPARE" => Some((Command::TestUnitReady, b"abc")),
         "READ" => Some((read, &[])),
         "WRITE" => Some((write, &NEW)),
         "SET_1" => Some((Command::SetTargetPortGroups { list_length: 8 }, &TO_1)),
@@ -68,6 +71,14 @@ fn place_of(at: &str) -> Option<(usize, Group)> {
     Some((unit.parse().ok()?, group_of(group)?))
 }
 
+// The place of a host among the hosts.
+fn index_of(who: &str) -> Option<usize> {
+    match who.strip_prefix('h') {
+        Some(number) => number.parse().ok(),
+        None => Some(usize::from(who.as_bytes().first()?.wrapping_sub(b'A'))),
+    }
+}
+
 /// Units, the desk of their first controller, and the hosts that use them.
 #[derive(Drop)]
 pub struct Stage<'a, B: Blocks, O: Opener<B>, N: Naming<Opened>, W: Wait> {
@@ -80,17 +91,12 @@ pub struct Stage<'a, B: Blocks, O: Opener<B>, N: Naming<Opened>, W: Wait> {
 
 impl<'a, B: Blocks, O: Opener<B>, N: Naming<Opened>, W: Wait> Stage<'a, B, O, N, W> {
     /// A stage without hosts.
-    pub fn new(
-        rt: &'a W,
-        alloc: Global,
-        units: &'a TestUnits<B, O, N>,
-        desk: &'a TestDesk<B, O, N>,
-    ) -> Stage<'a, B, O, N, W> {
+    pub fn new(rt: &'a W, alloc: Global, shared: &'a Shared<B, O, N>) -> Stage<'a, B, O, N, W> {
         Stage {
             rt,
             alloc,
-            units,
-            desk,
+            units: &shared.units,
+            desk: &shared.desk,
             hosts: Vec::new(alloc),
         }
     }
@@ -129,14 +135,22 @@ impl<'a, B: Blocks, O: Opener<B>, N: Naming<Opened>, W: Wait> Stage<'a, B, O, N,
 
     fn desk_does(&mut self, verb: &str) -> Option<Outcome> {
         match verb {
-            "serves" => {
-                self.desk.serve_next(self.rt, self.alloc, self.units);
-            }
+            "serves" => return self.serve_first(),
             "crosses" => self.cross()?,
             "closes" => self.desk.close(self.rt),
             _ => return None,
         }
         Some(named(self.alloc, ""))
+    }
+
+    // The first job is served.
+    fn serve_first(&self) -> Option<Outcome> {
+        let Some(job) = self.desk.take(self.rt) else {
+            return Some(named(self.alloc, "NONE"));
+        };
+        let unit = [byte_of(job.place() as u64)];
+        self.serve(job);
+        of_bytes(self.alloc, "UNIT", &unit).ok()
     }
 
     // Two jobs are served, and the answer of each goes to the ticket of the other.
@@ -192,16 +206,15 @@ impl<'a, B: Blocks, O: Opener<B>, N: Naming<Opened>, W: Wait> Stage<'a, B, O, N,
 
     fn attach(&mut self, who: &str, at: &str) -> Option<Outcome> {
         let (unit, group) = place_of(at)?;
-        let isid = u32::from(who.as_bytes().first().copied()?);
+        let isid = u32::try_from(index_of(who)?).ok()?;
         let host = Host::attach(self.rt, self.alloc, self.units, unit, isid, group)?;
         self.hosts.push(host).ok()?;
         Some(named(self.alloc, ""))
     }
 
-    // The host of this letter.
+    // The host of this name.
     fn host(&mut self, who: &str) -> Option<&mut Host<'static, B, O, N>> {
-        let letter = who.as_bytes().first().copied()?;
-        self.hosts.get_mut(usize::from(letter.wrapping_sub(b'A')))
+        self.hosts.get_mut(index_of(who)?)
     }
 
     fn host_does(&mut self, who: &str, verb: &str, name: &str) -> Option<Outcome> {
@@ -248,10 +261,8 @@ pub fn play<B: Blocks, O: Opener<B>, N: Naming<Opened>, W: Wait>(
     requires named { IsNamed N.book N.table N.opening B.contents new.items }
     requires count { length new.items ≤ 8 }
 {
-    let units = Units::<B, MemBlocks, O, N>::new(rt, alloc, new)?;
-    let desk = Desk::<B, MemBlocks, O, N>::new(alloc, Group::One)?;
-    let mut stage = Stage::new(rt, alloc, &units, &desk);
-    match stage.perform(script) {
+    let shared = Shared::<B, O, N>::new(rt, alloc, new)?;
+    match Stage::new(rt, alloc, &shared).perform(script) {
         None => Ok(()),
         Some(line) => Err(line.into()),
     }

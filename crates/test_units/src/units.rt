@@ -1,14 +1,18 @@
-//! Units that hold no registrations, whose registration files lie in memory.
-ghost use Rattle.std.specs.Prelude.{◌≡◌, IfOk};
+//! Units that hold no registrations, whose registration files lie in memory, and the desk of their first controller.
+ghost use Rattle.std.specs.Prelude.{◌≡◌, ◌≤◌, IfOk, length};
+ghost use Rattle.unit_history.specs.Naming.{IsNamed};
 ghost use Rattle.unit_state.specs.Serials.{IsOpening};
 
 use aptpl_file::{FILE_BLOCKS, RegFile};
 use block_file::{Blocks, MemBlocks, Opener};
+use forwarding::Desk;
+use numbering::Array as Naming;
 use reservations::Record;
-use scsi_types::Place;
+use scsi_types::{Group, Place};
 use std::alloc::Global;
+use std::sync::Wait;
 use std::test::Fail;
-use unit_history::NewUnit;
+use unit_history::{NewUnit, Opened, Units};
 use unit_state::{Unit, laws};
 
 /// The unit at a place of so many, over this device.
@@ -46,4 +50,31 @@ pub fn new_unit<B: Blocks + Drop, O: Opener<B> + Drop>(
 ) -> Result<NewUnit<B, MemBlocks, O>, Fail> {
     let unit = opened(alloc, blocks, opener, unit, units)?;
     Ok(NewUnit::new(alloc, unit)?)
+}
+
+/// Units that are shared, and the desk of their first controller.
+#[derive(Drop)]
+pub struct Shared<B: Blocks, O: Opener<B>, N: Naming<Opened>> {
+    pub units: Units<B, MemBlocks, O, N>,
+    pub desk: Desk<B, MemBlocks, O, N>,
+}
+
+impl<B: Blocks, O: Opener<B>, N: Naming<Opened>> Shared<B, O, N> {
+    /// Shares these units.
+    pub fn new<W: Wait>(
+        rt: &W,
+        alloc: Global,
+        new: Vec<NewUnit<B, MemBlocks, O>>,
+    ) -> Result<Shared<B, O, N>, Fail>
+        requires named { IsNamed N.book N.table N.opening B.contents new.items }
+        requires count { length new.items ≤ 8 }
+    {
+        Ok(Shared {
+            desk: Desk::new(alloc, Group::One)?,
+            units: Units::new(rt, alloc, new)?,
+        })
+    }
+
+    /// Drops them. What drops them elsewhere has that proved once more.
+    pub fn end(self) {}
 }

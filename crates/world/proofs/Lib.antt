@@ -1,6 +1,1 @@
-pub mod Lists
-pub mod Sound
-pub mod Steps
-pub mod Again
-pub mod Worlds
 pub mod Standing

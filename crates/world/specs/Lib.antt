@@ -1,5 +1,1 @@
-pub mod Traffic
-pub mod Events
-pub mod Orders
-pub mod Records
 pub mod Worlds

@@ -9,23 +9,18 @@ use Rattle.unit_history.specs.Histories.{IsBehind, IsHistory, IsToldBehind, comm
 use Rattle.locked_unit.specs.Calls.{IsCause}
 use Rattle.scsi_types.specs.Nexus.{Nexus}
 use Rattle.status.specs.Views.{counted}
-use Rattle.world.specs.declared.session.End.{End}
-use Rattle.world.specs.declared.session.End.TheVariants.{Replied, Refused as IsRefused}
-use Rattle.world.specs.declared.session.Job.{Job}
-use Rattle.world.specs.Events.{Scene, scene, AreSteps, IsStep}
-use Rattle.world.specs.Orders.{IsOrderly}
-use Rattle.world.specs.Traffic.{WorldValue, no_traffic}
-use Rattle.world.specs.declared.event.Event.{Event}
+use Rattle.traffic.specs.declared.session.End.{End}
+use Rattle.traffic.specs.declared.session.End.TheVariants.{Replied, Refused as IsRefused}
+use Rattle.traffic.specs.declared.session.Job.{Job}
+use Rattle.traffic.specs.Events.{Scene, scene, AreSteps, IsReached, IsStep}
+use Rattle.traffic.specs.Orders.{IsOrderly}
+use Rattle.traffic.specs.Traffic.{Traffic}
+use Rattle.traffic.specs.declared.event.Event.{Event}
 
--- nothing has happened
-abbrev pub start : Scene
-start = scene (λ place. []) no_traffic
-
--- These events led here, from units that opened in these states.
-pub record IsReached (claims : Bool) (units : ℕ) (opening : ℕ → UnitState) (w : Scene) : Type 0 where
-  pub opens : (place : ℕ) → IsOpening (opening place).control
-  pub events : List Event
-  pub steps : AreSteps claims units opening start events w
+-- What contracts see of a world: its units, with their devices, and what is on its way.
+pub record WorldValue (B R O : Type 0) : Type 0 where
+  pub units : List (UnitValue B R O)
+  pub traffic : Traffic
 
 -- the state of the unit at a place
 abbrev pub opened : {B R O : Type 0} → (B → List (List ℕ)) → Option (UnitValue B R O) → UnitState

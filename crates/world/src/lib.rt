@@ -3,16 +3,6 @@
 //! commands alone.
 #![tactic(auto)]
 
-mod bytes;
-mod desk;
-mod event;
-mod note;
-mod records;
-mod session;
 mod world;
 
-pub use bytes::Bytes;
-pub use event::Event;
-pub use note::{Note, What};
-pub use session::{End, Job, Session, Stage};
 pub use world::World;

@@ -6,20 +6,16 @@ ghost use Rattle.unit_state.specs.Choice.{Fine};
 ghost use Rattle.unit_state.specs.Entry.{Detach, Move, Reset};
 ghost use Rattle.unit_state.specs.declared.unit.MoveFault.{MoveFault};
 ghost use Rattle.unit_state.specs.Serials.{IsOpening};
-ghost use Rattle.world.specs.Traffic.{collected, given, new_job, no_traffic, posted, submitted, submitted_again, taken};
+ghost use Rattle.traffic.specs.Traffic.{collected, given, new_job, no_traffic, posted, submitted, submitted_again, taken};
 ghost use Rattle.world.specs.Worlds.{AllHappen, Happens, IsCountAt, IsCountOf, IsUnitAttach, IsUnitEntry, IsUnitServing, Stands, opening_of};
-ghost use Rattle.world.specs.declared.event.Event.TheVariants as events;
+ghost use Rattle.traffic.specs.declared.event.Event.TheVariants as events;
 
-use crate::bytes::Bytes;
-use crate::event::Event;
-use crate::note::Note;
-use crate::records::Records;
-use crate::session::{End, Job, Session, Stage};
 use block_file::{Blocks, Opener};
 use locked_unit::{Machine, Refused};
 use scsi_types::{Asked, Group, NoMemory, PortName};
 use std::alloc::Global;
 use std::marker::Model;
+use traffic::{Bytes, End, Event, Job, Note, Records, Session, Stage};
 use unit_history::{Arrival, Noted, Opened};
 use unit_state::Unit;
 
@@ -32,12 +28,19 @@ pub struct World<B: Blocks, R: Blocks, O: Opener<B>> {
 }
 
 impl<B: Blocks, R: Blocks, O: Opener<B>> Model for World<B, R, O> {
-    ghost use Rattle.world.specs.Records.{traffic_of};
-    ghost use Rattle.world.specs.Traffic.{WorldValue};
+    ghost use Rattle.traffic.specs.Records.{traffic_of};
+    ghost use Rattle.world.specs.Worlds.{WorldValue};
 
     ghost Value = { WorldValue B R O };
 
     ghost view = { λ w. record { units = w.units.items; traffic = traffic_of w.records } };
+}
+
+// The item at a place of a list.
+fn item_at<T>(items: &[T], place: usize) -> Option<&T>
+    ensures { MatchOption result (slice_get items.now place ≡ None) (λ x. slice_get items.now place ≡ Some x.now) }
+{
+    items.get(place)
 }
 
 // Whether it names an initiator port: a name of 1 to 223 bytes, and an ISID of six.
@@ -141,7 +144,7 @@ impl<B: Blocks, R: Blocks, O: Opener<B>> World<B, R, O> {
         ensures { MatchOption result (slice_get self.now.units place ≡ None)
             (λ u. slice_get self.now.units place ≡ Some u.now) }
     {
-        self.units.get(place)
+        item_at(&self.units, place)
     }
 
     /// The sessions, in the order in which they attached.
@@ -162,7 +165,7 @@ impl<B: Blocks, R: Blocks, O: Opener<B>> World<B, R, O> {
     fn count_at(&self, place: usize) -> u64
         ensures { IsCountAt self.now place result }
     {
-        match self.units.get(place) {
+        match self.unit(place) {
             Some(unit) => unit.row().entries,
             None => 0,
         }

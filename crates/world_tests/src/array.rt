@@ -8,8 +8,9 @@ use scsi_types::{Group, PortName, decode};
 use std::alloc::Global;
 use std::test::Fail;
 use test_units::opened;
+use traffic::{Bytes, Event};
 use unit_state::Unit;
-use world::{Bytes, Event, World};
+use world::World;
 
 type Opener = FusedOpener<KeepOpener>;
 

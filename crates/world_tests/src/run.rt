@@ -5,8 +5,8 @@ use scsi_types::{Reply, Status};
 use std::alloc::Global;
 use std::process::Abort;
 use std::test::Fail;
+use traffic::{Job, Note, Stage, What};
 use unit_state::Row as Board;
-use world::{Job, Note, Stage, What};
 
 /// What is seen of a world behind a row: what was noted, what the units show, and how the sessions stand.
 #[derive(Debug, Drop)]

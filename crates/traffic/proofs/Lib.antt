@@ -1,0 +1,5 @@
+pub mod Lists
+pub mod Sound
+pub mod Steps
+pub mod Again
+pub mod Order

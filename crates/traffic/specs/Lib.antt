@@ -1,0 +1,4 @@
+pub mod Traffic
+pub mod Events
+pub mod Orders
+pub mod Records
