@@ -132,16 +132,15 @@ const FULL: &[Line<'static>] = &[
     ),
 ];
 
-fn full(rt: &impl Abort, alloc: Global) -> Result<(), Fail> {
-    let mut play = Play::new(alloc, [9, 9])?;
-    fill(&mut play, rt, alloc)?;
+fn full(play: &mut Play, rt: &impl Abort, alloc: Global) -> Result<(), Fail> {
+    fill(play, rt, alloc)?;
     for next in FULL {
-        step(&mut play, rt, alloc, next)?;
+        step(play, rt, alloc, next)?;
     }
     Ok(())
 }
 
 #[test]
 fn a_desk_has_64_jobs(rt: HostRuntime) -> Result<(), Fail> {
-    full(&rt, rt.alloc())
+    full(&mut Play::new(rt.alloc(), [9, 9])?, &rt, rt.alloc())
 }

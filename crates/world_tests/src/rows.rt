@@ -2,7 +2,7 @@
 use scsi_types::Group;
 
 /// What a command asks.
-#[derive(Clone, Copy, Debug)]
+#[derive(Clone, Copy)]
 pub enum Asks {
     /// TEST UNIT READY.
     Test,
@@ -11,7 +11,7 @@ pub enum Asks {
 }
 
 /// An event. Sessions go by the order in which they attached, units by their places.
-#[derive(Clone, Copy, Debug)]
+#[derive(Clone, Copy)]
 pub enum Act {
     /// The port of this ISID attaches to a unit through a group.
     Attach(usize, u64, Group),

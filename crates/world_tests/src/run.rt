@@ -129,13 +129,17 @@ impl Play {
         self.before = after;
         Ok(())
     }
+
+    // Runs the events of each row in turn.
+    fn rows(&mut self, rt: &impl Abort, alloc: Global, rows: &[Row]) -> Result<(), Fail> {
+        for row in rows {
+            self.row(rt, alloc, row)?;
+        }
+        Ok(())
+    }
 }
 
-/// Runs the events of each row in turn.
+/// Runs the events of each row in turn, over units whose openers pass so many opens each.
 pub fn run(rt: &impl Abort, alloc: Global, opens: [u64; 2], rows: &[Row]) -> Result<(), Fail> {
-    let mut play = Play::new(alloc, opens)?;
-    for row in rows {
-        play.row(rt, alloc, row)?;
-    }
-    Ok(())
+    Play::new(alloc, opens)?.rows(rt, alloc, rows)
 }
