@@ -24,32 +24,47 @@ h65 at 1 1
 h65 hands SPARE = CLOSED
 ";
 
-// Sessions of units 0 and 1 in turn hand in a job for each place; they come back in their order. A session of unit 0 is told that
-// power came on, and one of unit 1 that group 2 owns it.
-fn filled_and_emptied(alloc: Global) -> Result<String, Fail> {
-    let ends = ["CHECK 062900", "MOVED 02"];
-    let (mut handed, mut served) = (String::new(alloc), String::new(alloc));
+// Sessions of units 0 and 1 in turn hand in a job for each place.
+fn fill(alloc: Global, script: &mut String) -> Result<(), Fail> {
     for host in 0..PLACES {
         let unit = host % 2;
-        let lines = format!(in alloc; "h{host} at {unit} 1\nh{host} hands SPARE = WAITS\n")?;
-        handed.push_str(&lines)?;
-        served.push_str(&format!(in alloc; "desk serves = UNIT 0{unit}\n")?)?;
+        script.push_str(&format!(in alloc; "h{host} at {unit} 1\nh{host} hands SPARE = WAITS\n")?)?;
     }
-    handed.push_str(REFUSED)?;
-    handed.push_str(&served)?;
-    handed.push_str("desk serves = NONE\n")?;
+    Ok(())
+}
+
+// The jobs come back in their order, and no more.
+fn empty(alloc: Global, script: &mut String) -> Result<(), Fail> {
+    for host in 0..PLACES {
+        let unit = host % 2;
+        script.push_str(&format!(in alloc; "desk serves = UNIT 0{unit}\n")?)?;
+    }
+    Ok(script.push_str("desk serves = NONE\n")?)
+}
+
+// A session of unit 0 is told that power came on, and one of unit 1 that group 2 owns it.
+fn collect(alloc: Global, script: &mut String) -> Result<(), Fail> {
+    let ends = ["CHECK 062900", "MOVED 02"];
     for host in 0..PLACES {
         let end = ends[host % 2];
-        handed.push_str(&format!(in alloc; "h{host} collects = {end}\n")?)?;
+        script.push_str(&format!(in alloc; "h{host} collects = {end}\n")?)?;
     }
-    Ok(handed)
+    Ok(())
+}
+
+fn write(alloc: Global, script: &mut String) -> Result<(), Fail> {
+    fill(alloc, script)?;
+    script.push_str(REFUSED)?;
+    empty(alloc, script)?;
+    collect(alloc, script)
 }
 
 fn wait<N: Naming<Opened>, W: Wait>(rt: &W, alloc: Global, new: Vec<New>) -> Result<(), Fail>
     requires named { IsNamed N.book N.table N.opening (λ d. cut d.count d.bytes.items) new.items }
     requires count { length new.items ≤ 8 }
 {
-    let script = filled_and_emptied(alloc)?;
+    let mut script = String::new(alloc);
+    write(alloc, &mut script)?;
     play::<_, _, N, W>(rt, alloc, new, &script)
 }
 
