@@ -1,6 +1,5 @@
 -- What a world is behind a list of events.
 use Rattle.std.specs.Prelude.{◌≡◌, ◌⊎◌, ℕ, ◌+◌, Bool, List, [], ◌∷◌, ◌++◌, length, Option, Some, None, IfSome, MatchOption, slice_get}
-use Rattle.unit_state.specs.Serials.{IsOpening}
 use Rattle.unit_state.specs.State.{UnitState, UnitValue, state_of}
 use Rattle.unit_state.specs.Choice.{Choice}
 use Rattle.unit_state.specs.Entry.{Entry, Attach, Command}
