@@ -1,7 +1,7 @@
 //! The desk of a controller.
-ghost use Rattle.std.specs.Prelude.{◌≡◌, ◌<◌, ◌&&◌, IfOk, IfErr, IfSome};
+ghost use Rattle.std.specs.Prelude.{◌≡◌, ◌<◌, ◌&&◌, IfOk, IfErr, IfSome, slice_get};
 ghost use Rattle.forwarding.specs.Settled.{IsSettled};
-ghost use Rattle.jobs.specs.Jobs.{HasAnswered, handed_of};
+ghost use Rattle.job_names.specs.Served.{HasAnswered, handed_of};
 
 use block_file::{Blocks, Opener};
 use crossbeam_utils::CachePadded;
@@ -58,6 +58,23 @@ impl<B: Blocks, R: Blocks, O: Opener<B>, N: Array<Opened>> Model for Desk<B, R, 
     ghost view = { λ d. d.group };
 }
 
+// Where the ticket's job waits.
+fn index_of<B: Blocks, R: Blocks, O: Opener<B>, N: Array<Opened>>(
+    queue: &Queue<Waiting<B, R, O, N>>,
+    ticket: &Ticket<'_, B, R, O, N>,
+) -> Option<usize>
+    ensures { IfSome result (λ at. IfSome (slice_get queue.now.items at) (λ waiting.
+        handed_of waiting.pass ticket.now.names.asked ticket.now.data_in ticket.now.names.by_group ≡ ticket.now)) }
+{
+    for at in 0..queue.len() {
+        match queue.get(at) {
+            Some(waiting) if ticket.is_of(&waiting.pass) => return Some(at),
+            _ => (),
+        }
+    }
+    None
+}
+
 impl<B: Blocks, R: Blocks, O: Opener<B>, N: Array<Opened>> Desk<B, R, O, N> {
     /// The desk of a group, with 64 places, which are taken now.
     pub fn new(alloc: Global, group: Group) -> Result<Desk<B, R, O, N>, NoMemory>
@@ -73,6 +90,30 @@ impl<B: Blocks, R: Blocks, O: Opener<B>, N: Array<Opened>> Desk<B, R, O, N> {
             queue: CachePadded::new(Mutex::new(queue)),
             filled: Condvar::new(),
         })
+    }
+
+    // Lets a command wait behind those that came before. A lane is woken where others wait.
+    fn put<W: Wait>(
+        &self,
+        rt: &W,
+        waiting: Waiting<B, R, O, N>,
+    ) -> Result<(), (DeskFault, Pass<B, R, O, N>)>
+        ensures { IfErr result (λ e. e.1 ≡ waiting.pass) }
+    {
+        let mut queue = self.queue.lock(rt);
+        if let Err((why, waiting)) = queue.push(waiting) {
+            let fault = match why {
+                NotQueued::Full => DeskFault::Full,
+                NotQueued::Closed => DeskFault::Closed,
+            };
+            return Err((fault, waiting.pass));
+        }
+        let others_wait = queue.len() > 1;
+        drop(queue);
+        if others_wait {
+            self.filled.notify_one();
+        }
+        Ok(())
     }
 
     /// Hands a command of a session in, with a copy of its data: its job waits behind those that came before. Refused, the pass is
@@ -92,20 +133,10 @@ impl<B: Blocks, R: Blocks, O: Opener<B>, N: Array<Opened>> Desk<B, R, O, N> {
             Ok(both) => both,
             Err(pass) => return Err((DeskFault::NoMemory, pass)),
         };
-        let mut queue = self.queue.lock(rt);
-        if let Err((why, waiting)) = queue.push(waiting) {
-            let fault = match why {
-                NotQueued::Full => DeskFault::Full,
-                NotQueued::Closed => DeskFault::Closed,
-            };
-            return Err((fault, waiting.pass));
+        match self.put(rt, waiting) {
+            Ok(()) => Ok(ticket),
+            Err(refused) => Err(refused),
         }
-        let others_wait = queue.len() > 1;
-        drop(queue);
-        if others_wait {
-            self.filled.notify_one();
-        }
-        Ok(ticket)
     }
 
     /// The first job, once there is one. None: the desk is closed, and no job is left.
@@ -167,16 +198,9 @@ impl<B: Blocks, R: Blocks, O: Opener<B>, N: Array<Opened>> Desk<B, R, O, N> {
             handed_of pass ticket.now.names.asked ticket.now.data_in ticket.now.names.by_group ≡ ticket.now) }
     {
         let mut queue = self.queue.lock(rt);
-        for at in 0..queue.len() {
-            match queue.get(at) {
-                Some(waiting) if ticket.is_of(&waiting.pass) => {
-                    let waiting = queue.take_at(at)?;
-                    return Some(waiting.pass);
-                }
-                _ => (),
-            }
-        }
-        None
+        let at = index_of(&queue, ticket)?;
+        let waiting = queue.take_at(at)?;
+        Some(waiting.pass)
     }
 
     /// What becomes of the ticket's job: its worker serves it where no lane has taken it, and else waits for the answer.

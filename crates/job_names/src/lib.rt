@@ -1,4 +1,4 @@
-//! What a command on its way is known by.
+//! What a command on its way is known by, and how it is served.
 #![tactic(auto)]
 
 mod names;

@@ -1,11 +1,14 @@
-//! What a job is known by.
-ghost use Rattle.std.specs.Prelude.{◌≡◌, MatchBool};
+//! What a job is known by, and how its command is served.
+ghost use Rattle.std.specs.Prelude.{◌≡◌, ◌<◌, ◌&&◌, MatchBool};
 ghost use Rattle.job_names.specs.Names.{names_of};
+ghost use Rattle.job_names.specs.Served.{HasAnswered, handed};
 
 use block_file::{Blocks, Opener};
 use numbering::Array;
-use scsi_types::{Asked, CdbFault, Command, Group};
-use unit_history::{Opened, Pass};
+use scsi_types::{Asked, CdbFault, Command, Group, Reply};
+use std::alloc::Global;
+use std::sync::Wait;
+use unit_history::{Opened, Pass, Refused, Units};
 
 /// What a job is known by, beside its data: the place of its unit, the session there, the serial of the command, the group whose
 /// desk has the job, and the command.
@@ -72,6 +75,24 @@ impl Names {
         ensures { MatchBool result (names_of pass.now self.now.asked self.now.by_group ≡ self.now) (Unit {0}) }
     {
         self.place == pass.place() && self.session == pass.session() && self.serial == pass.serial()
+    }
+
+    /// Serves the command, with its session's pass and the data that came for it, as [`Units::serve`].
+    pub fn serve<B: Blocks, R: Blocks, O: Opener<B>, N: Array<Opened>, W: Wait>(
+        &self,
+        rt: &W,
+        alloc: Global,
+        units: &Units<B, R, O, N>,
+        pass: Pass<B, R, O, N>,
+        bytes: &[u8],
+    ) -> (Pass<B, R, O, N>, Result<Reply, Refused<Group>>)
+        requires own { names_of pass self.now.asked self.now.by_group ≡ self.now }
+        requires place { self.now.place < units.now }
+        ensures place { result.0.place ≡ self.now.place }
+        ensures end { HasAnswered (O.claims && B.claims) (N.opening self.now.place)
+            (handed self.now bytes.now pass.pass.seen) result.0.pass result.1 }
+    {
+        units.serve(rt, pass, alloc, &self.by_group, &self.asked, bytes)
     }
 
     /// Whether these are the same.

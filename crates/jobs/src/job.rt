@@ -1,6 +1,7 @@
 //! A command on its way: its job, its ticket and its answer.
 ghost use Rattle.std.specs.Prelude.{◌≡◌, ◌<◌, ◌&&◌, IfOk, IfErr, MatchBool};
-ghost use Rattle.jobs.specs.Jobs.{HasAnswered, IsFor, handed, handed_of};
+ghost use Rattle.job_names.specs.Served.{HasAnswered, handed, handed_of};
+ghost use Rattle.jobs.specs.Jobs.{IsFor};
 
 use block_file::{Blocks, Opener};
 use job_names::Names;
@@ -25,7 +26,8 @@ struct Ended<B: Blocks, R: Blocks, O: Opener<B>, N: Array<Opened>> {
 
 impl<B: Blocks, R: Blocks, O: Opener<B>, N: Array<Opened>> Model for Ended<B, R, O, N> {
     ghost use Rattle.std.specs.Prelude.{◌≡◌, ◌&&◌};
-    ghost use Rattle.jobs.specs.Jobs.{Done, HasAnswered, handed};
+    ghost use Rattle.job_names.specs.Served.{HasAnswered, handed};
+    ghost use Rattle.jobs.specs.Jobs.{Done};
 
     ghost Value = { Done };
 
@@ -97,7 +99,7 @@ pub struct Job<B: Blocks, R: Blocks, O: Opener<B>, N: Array<Opened>> {
 }
 
 impl<B: Blocks, R: Blocks, O: Opener<B>, N: Array<Opened>> Model for Job<B, R, O, N> {
-    ghost use Rattle.jobs.specs.Jobs.{Handed, handed_of};
+    ghost use Rattle.job_names.specs.Served.{Handed, handed_of};
 
     ghost Value = { Handed };
 
@@ -151,7 +153,7 @@ impl<B: Blocks, R: Blocks, O: Opener<B>, N: Array<Opened>> Job<B, R, O, N> {
         } = waiting;
         let names = Names::of(&pass, &asked, by_group);
         let before = pass.history();
-        let (pass, end) = units.serve(rt, pass, alloc, &by_group, &asked, bytes.as_slice());
+        let (pass, end) = names.serve(rt, alloc, units, pass, bytes.as_slice());
         Answer {
             ended: Ended {
                 names,
@@ -201,7 +203,7 @@ pub struct Ticket<'a, B: Blocks, R: Blocks, O: Opener<B>, N: Array<Opened>> {
 
 impl<'a, B: Blocks, R: Blocks, O: Opener<B>, N: Array<Opened>> Model for Ticket<'a, B, R, O, N> {
     ghost use Rattle.std.specs.Prelude.{◌≡◌};
-    ghost use Rattle.jobs.specs.Jobs.{Handed, handed};
+    ghost use Rattle.job_names.specs.Served.{Handed, handed};
 
     ghost Value = { Handed };
 
@@ -261,12 +263,21 @@ impl<'a, B: Blocks, R: Blocks, O: Opener<B>, N: Array<Opened>> Ticket<'a, B, R, 
         ensures end { HasAnswered (O.claims && B.claims) (N.opening self.entry.names.place) self.entry
             result.0.pass result.1 }
     {
-        let Names {
-            by_group,
-            asked,
-            ..
-        } = self.names;
-        units.serve(rt, pass, alloc, &by_group, &asked, self.bytes)
+        self.names.serve(rt, alloc, units, pass, self.bytes)
+    }
+
+    // Its answer, once it is there. Another's is left where it is.
+    fn ended<W: Wait>(&self, rt: &W) -> Ended<B, R, O, N>
+        ensures { result.job ≡ self.now }
+    {
+        let held = self.slot.answer.lock(rt);
+        let mut held = self.slot.filled.wait_while(rt, held, |held| {
+            !is_for(held, &self.names, self.bytes, &self.seen)
+        });
+        match held.take() {
+            Some(ended) => ended,
+            None => unreachable!(),
+        }
     }
 
     /// Its answer, once it is there. Another's is left where it is.
@@ -275,20 +286,7 @@ impl<'a, B: Blocks, R: Blocks, O: Opener<B>, N: Array<Opened>> Ticket<'a, B, R, 
         ensures end { HasAnswered (O.claims && B.claims) (N.opening self.entry.names.place) self.entry
             result.0.pass result.1 }
     {
-        let Ticket {
-            names,
-            bytes,
-            seen,
-            slot,
-        } = self;
-        let slot = &*slot;
-        let mut held = slot.filled.wait_while(rt, slot.answer.lock(rt), |held| {
-            !is_for(held, &names, bytes, &seen)
-        });
-        match held.take() {
-            Some(ended) => ended.open(),
-            None => unreachable!(),
-        }
+        self.ended(rt).open()
     }
 }
 
