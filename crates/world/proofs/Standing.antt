@@ -5,8 +5,7 @@ use Rattle.std.specs.Prelude.{All, IfSome, OnErr, OnOk, Result, Ok, Err, slice_i
 use Rattle.std.proofs.lemmas.Bool.Decides.{eqb_tells}
 use Rattle.std.proofs.lemmas.Option.{get_or_from_slice_get, slice_get_within}
 use Rattle.unit_state.specs.Serials.{IsOpening}
-use Rattle.unit_state.specs.SerialLaws.{numbered}
-use Rattle.unit_state.specs.State.{ControlValue, UnitState, UnitValue, state_of}
+use Rattle.unit_state.specs.State.{UnitState, UnitValue, state_of}
 use Rattle.unit_state.specs.Entry.{Entry, Attach, Command}
 use Rattle.reservations.specs.Nexus.{through}
 use Rattle.scsi_types.specs.Nexus.{Port}
@@ -15,8 +14,9 @@ use Rattle.std.proofs.lemmas.List.{length-set, take_more}
 use Rattle.unit_history.specs.Histories.{IsBehind, IsHistory, no_state}
 use Rattle.traffic.specs.Traffic.{Traffic, at_stage, attached, ended, given, no_traffic}
 use Rattle.traffic.specs.Events.{Scene, scene, count_at, with_entry, start, IsEntry, IsReached, IsServed, IsStep, AreSteps}
-use Rattle.world.specs.Worlds.{WorldValue, opened, opening_of, AreBehind, Stands, Happens, IsCountAt, IsCountOf, IsUnitEntry}
-use Rattle.world.specs.Worlds.{AllHappen, IsUnitAttach, IsUnitServed, IsUnitServing}
+use Rattle.world.specs.Worlds.{WorldValue, opened, opening_of, AllHappen, AreBehind, Stands, Happens, IsCountAt, IsCountOf}
+use Rattle.unit_events.specs.Entries.{IsUnitAttach, IsUnitEntry, IsUnitServed, IsUnitServing}
+use Rattle.unit_events.proofs.Counted.{counts_all}
 use Rattle.traffic.specs.declared.event.Event.{Event}
 use Rattle.traffic.specs.declared.event.Event.TheVariants as events
 use Rattle.traffic.specs.declared.session.Job.{Job}
@@ -54,12 +54,6 @@ module _ {B R O : Type 0} (claims : Bool) (contents : B → List (List ℕ)) (fa
     (file_failures : R → ℕ) where
   abbrev Is : UnitState → List Entry → UnitValue B R O → Type 0
   Is = IsBehind claims contents failures opens_failed file_failures
-
-  -- a unit has counted its entries
-  pub counts_all : (s : UnitState) (h : List Entry) (u : UnitValue B R O) → IsHistory claims s h → Is s h u
-      → u.control.count ≡ length h
-  counts_all s h u legal is =
-      ap (λ (c : ControlValue). c.count) is.control ∙ (numbered claims s h legal.opens legal.legal).count
 
   -- ---- a new world
 
@@ -155,7 +149,7 @@ module _ {B R O : Type 0} (claims : Bool) (contents : B → List (List ℕ)) (fa
         zero_is ∙ ap (λ (h : List Entry). length h)
         (sym ((holds opening past old stands).beyond place (past_end old.units place none)))
     by_unit (Some u) there count_of =
-        count_of ∙ counts_all (opening place) (past place) u ((holds opening past old stands).legal place)
+        count_of ∙ counts_all claims contents failures opens_failed file_failures (opening place) (past place) u ((holds opening past old stands).legal place)
         (stands.behind place u there)
 
     pub count_is : IsCountAt old place count → count ≡ length (past place)

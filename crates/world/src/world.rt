@@ -1,22 +1,17 @@
 //! The world.
 ghost use Rattle.std.specs.Prelude.{◌≡◌, ◌<◌, ◌↔◌, ◌&&◌, [], ℕ, All, IfOk, IfErr, IfSome, IsTrue, MatchOption, OnOk, OnErr, length, slice_get, take};
-ghost use Rattle.reservations.specs.Nexus.{IsPortName, through};
-ghost use Rattle.unit_history.specs.Causes.{IsGone, IsStay};
-ghost use Rattle.unit_state.specs.Choice.{Fine};
-ghost use Rattle.unit_state.specs.Entry.{Detach, Move, Reset};
-ghost use Rattle.unit_state.specs.declared.unit.MoveFault.{MoveFault};
+ghost use Rattle.reservations.specs.Nexus.{IsPortName};
 ghost use Rattle.unit_state.specs.Serials.{IsOpening};
 ghost use Rattle.traffic.specs.Traffic.{collected, given, new_job, no_traffic, posted, submitted, submitted_again, taken};
-ghost use Rattle.world.specs.Worlds.{AllHappen, Happens, IsCountAt, IsCountOf, IsUnitAttach, IsUnitEntry, IsUnitServing, Stands, opening_of};
+ghost use Rattle.world.specs.Worlds.{AllHappen, Happens, IsCountAt, IsCountOf, Stands, opening_of};
 ghost use Rattle.traffic.specs.declared.event.Event.TheVariants as events;
 
 use block_file::{Blocks, Opener};
-use locked_unit::{Machine, Refused};
 use scsi_types::{Asked, Group, NoMemory, PortName};
 use std::alloc::Global;
 use std::marker::Model;
-use traffic::{Bytes, End, Event, Job, Note, Records, Session, Stage};
-use unit_history::{Arrival, Noted, Opened};
+use traffic::{Bytes, Event, Job, Note, Records, Session, Stage};
+use unit_events::{attach_unit, detach_unit, move_unit, reset_unit, serve_unit};
 use unit_state::Unit;
 
 /// Units by their places, the sessions that attached to them, the desks of both groups, and what was submitted and collected.
@@ -58,69 +53,6 @@ fn copy_port(alloc: Global, port: &PortName) -> Result<PortName, NoMemory>
         return Err(NoMemory);
     };
     Ok(PortName::new(name, port.isid()))
-}
-
-// A unit ends a session.
-fn detach_unit<B: Blocks, R: Blocks, O: Opener<B>>(unit: &mut Unit<B, R, O>, id: u64)
-    ensures { IsUnitEntry (O.claims && B.claims) B.contents B.failures O.opens_failed R.failures
-        (Detach id) (λ s h. IsGone s h id) unit.old unit.new }
-{
-    let _is_entry = Machine::detach(unit, id);
-}
-
-// A session resets a unit.
-fn reset_unit<B: Blocks, R: Blocks, O: Opener<B>>(unit: &mut Unit<B, R, O>, id: u64)
-    ensures { IsUnitEntry (O.claims && B.claims) B.contents B.failures O.opens_failed R.failures
-        (Reset id) (λ s h. IsGone s h id) unit.old unit.new }
-{
-    let _is_entry = Machine::reset(unit, id);
-}
-
-// A unit moves.
-fn move_unit<B: Blocks, R: Blocks, O: Opener<B>>(unit: &mut Unit<B, R, O>, list: &[u8])
-    ensures { IsUnitEntry (O.claims && B.claims) B.contents B.failures O.opens_failed R.failures
-        (Move list.now Fine) (λ s h. (why : MoveFault) × IsStay s h list.now why) unit.old unit.new }
-{
-    let _told = Machine::move_to(unit, list);
-}
-
-// A session attaches to a unit.
-fn attach_unit<B: Blocks, R: Blocks, O: Opener<B>>(
-    unit: &mut Unit<B, R, O>,
-    port: PortName,
-    group: Group,
-) -> Option<u64>
-    requires { IsPortName port }
-    ensures { IsUnitAttach (O.claims && B.claims) B.contents B.failures O.opens_failed R.failures
-        (through port group) result unit.old unit.new }
-{
-    Machine::attach(unit, Arrival { port, group })
-}
-
-// A unit serves a command.
-fn serve_unit<B: Blocks, R: Blocks, O: Opener<B>>(
-    unit: &mut Unit<B, R, O>,
-    alloc: Global,
-    id: u64,
-    serial: u64,
-    job: &Job,
-) -> End
-    ensures { IsUnitServing (O.claims && B.claims) B.contents B.failures O.opens_failed R.failures
-        id serial job.now unit.old unit.new result }
-{
-    let at = unit.row().entries;
-    match Machine::step(
-        unit,
-        alloc,
-        id,
-        serial,
-        &job.by_group,
-        &job.asked,
-        job.bytes.as_slice(),
-    ) {
-        Ok(reply) => End::Replied(reply, at, serial + 1),
-        Err(why) => End::Refused(why),
-    }
 }
 
 impl<B: Blocks, R: Blocks, O: Opener<B>> World<B, R, O> {

@@ -1,7 +1,7 @@
 use Rattle.std.proofs.Common.{◌&&◌, ◌∙◌, refl, ap}
 use Rattle.unit_state.specs.Choice.{choice_of}
-use Rattle.world.proofs.Standing.{counts_all}
-use Rattle.world.proofs.world.serve_unit.Goals as goal
+use Rattle.unit_events.proofs.Counted.{counts_all}
+use Rattle.unit_events.proofs.calls.serve_unit.Goals as goal
 
 pub returns-in-Ok : goal.returns-in-Ok
 returns-in-Ok g c = rw (← c.as_slice.ensures)
