@@ -2,7 +2,7 @@
 ghost use Rattle.std.specs.Prelude.{◌≡◌, ◌≤◌, length};
 ghost use Rattle.unit_history.specs.Naming.{IsNamed};
 
-use block_file::{Blocks, FusedOpener, KeepOpener, MemBlocks, Opener};
+use block_file::{Blocks, Opener};
 use console::{Watched, console};
 use numbering::Array as Naming;
 use portal::Controllers;
@@ -10,24 +10,8 @@ use std::alloc::Global;
 use std::marker::Brand;
 use std::sync::Wait;
 use std::test::*;
-use test_units::new_unit;
+use test_units::in_memory;
 use unit_history::{NewUnit, Opened, Units};
-
-/// A unit in memory, which is opened so often for a new owner, and then no more.
-type FusedUnit = NewUnit<MemBlocks, MemBlocks, FusedOpener<KeepOpener>>;
-
-// Units by how often each is opened.
-fn fused(alloc: Global, opens: &[u64]) -> Result<Vec<FusedUnit>, Fail> {
-    let mut units = Vec::new(alloc);
-    let count = u8::try_from(opens.len()).unwrap_or(u8::MAX);
-    let mut unit = 0u8;
-    for opens in opens {
-        let opener = FusedOpener::new(KeepOpener, *opens);
-        units.push(new_unit(alloc, MemBlocks::new(alloc, 8)?, opener, unit, count)?)?;
-        unit = unit.saturating_add(1);
-    }
-    Ok(units)
-}
 
 // What these lines are answered.
 fn said<N: Naming<Opened>, B: Blocks, F: Blocks, O: Opener<B>, R: Wait>(
@@ -58,10 +42,7 @@ fn answered<'a, N: Naming<Opened>, B: Blocks, F: Blocks, O: Opener<B>, R: Wait>(
 
 // What these lines are answered, over units that are opened so often.
 fn asked<R: Wait>(rt: &R, alloc: Global, opens: &[u64], lines: &str) -> Result<String, Fail> {
-    let units = fused(alloc, opens)?;
-    if units.len() > 8 {
-        return Err("more than eight units".into());
-    }
+    let units = in_memory(alloc, opens)?;
     said::<Brand, _, _, _, R>(rt, alloc, units, lines.as_bytes())
 }
 

@@ -1,18 +1,13 @@
 //! The session of a host at a unit. Its calls are made here, so that tests see plain values alone.
+use crate::shared::{TestDesk, TestUnits};
 use block_file::{Blocks, MemBlocks, Opener};
-use forwarding::{Desk, DeskFault};
+use forwarding::DeskFault;
 use jobs::Ticket;
 use numbering::Array as Naming;
 use scsi_types::{Command, Group, PortName, Reply, Sense, Status};
 use std::alloc::Global;
 use std::sync::Wait;
-use unit_history::{Opened, Pass, Refused, Units};
-
-/// Units whose registration files lie in memory.
-pub type TestUnits<B, O, N> = Units<B, MemBlocks, O, N>;
-
-/// The desk of a controller of theirs.
-pub type TestDesk<B, O, N> = Desk<B, MemBlocks, O, N>;
+use unit_history::{Opened, Pass, Refused};
 
 /// What a command came to.
 #[derive(Clone, Copy, Debug, PartialEq, Eq)]
@@ -220,4 +215,41 @@ impl<'a, B: Blocks, O: Opener<B>, N: Naming<Opened>> Host<'a, B, O, N> {
             None => &[],
         }
     }
+}
+
+/// Hosts by number, in the order in which they attached.
+#[derive(Drop)]
+pub struct Hosts<'a, B: Blocks, O: Opener<B>, N: Naming<Opened>> {
+    hosts: Vec<Host<'a, B, O, N>>,
+}
+
+impl<'a, B: Blocks, O: Opener<B>, N: Naming<Opened>> Hosts<'a, B, O, N> {
+    /// Nobody.
+    pub fn new(alloc: Global) -> Hosts<'a, B, O, N> {
+        Hosts {
+            hosts: Vec::new(alloc),
+        }
+    }
+
+    /// The next one attaches, as [`Host::attach`]. Its number is its ISID.
+    pub fn attach<W: Wait>(
+        &mut self,
+        rt: &W,
+        alloc: Global,
+        units: &TestUnits<B, O, N>,
+        place: usize,
+        group: Group,
+    ) -> Option<()> {
+        let isid = u32::try_from(self.hosts.len()).ok()?;
+        let host = Host::attach(rt, alloc, units, place, isid, group)?;
+        self.hosts.push(host).ok()
+    }
+
+    /// The host of this number.
+    pub fn host(&mut self, number: usize) -> Option<&mut Host<'a, B, O, N>> {
+        self.hosts.get_mut(number)
+    }
+
+    /// Drops them. What drops them elsewhere has that proved once more.
+    pub fn end(self) {}
 }

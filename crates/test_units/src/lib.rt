@@ -1,12 +1,10 @@
-//! What tests of shared units have in common: units in memory, the hosts that use them, and scripts of what hosts do and are
-//! answered.
+//! What tests of shared units have in common: units in memory, the desk of a controller, and the hosts that use them.
 #![tactic(auto)]
 
 mod hosts;
-mod outcomes;
-mod scripts;
+mod shared;
 mod units;
 
-pub use hosts::{End, Host, TestDesk, TestUnits};
-pub use scripts::{Stage, play};
-pub use units::{Shared, new_unit, opened};
+pub use hosts::{End, Host, Hosts};
+pub use shared::{Shared, TestDesk, TestUnits};
+pub use units::{MemUnit, Opens, in_memory, new_unit, opened};

@@ -1,18 +1,14 @@
-//! Units that hold no registrations, whose registration files lie in memory, and the desk of their first controller.
+//! Units that hold no registrations, whose registration files lie in memory.
 ghost use Rattle.std.specs.Prelude.{◌≡◌, ◌≤◌, IfOk, length};
-ghost use Rattle.unit_history.specs.Naming.{IsNamed};
 ghost use Rattle.unit_state.specs.Serials.{IsOpening};
 
 use aptpl_file::{FILE_BLOCKS, RegFile};
-use block_file::{Blocks, MemBlocks, Opener};
-use forwarding::Desk;
-use numbering::Array as Naming;
+use block_file::{Blocks, FusedOpener, KeepOpener, MemBlocks, Opener};
 use reservations::Record;
-use scsi_types::{Group, Place};
+use scsi_types::Place;
 use std::alloc::Global;
-use std::sync::Wait;
 use std::test::Fail;
-use unit_history::{NewUnit, Opened, Units};
+use unit_history::NewUnit;
 use unit_state::{Unit, laws};
 
 /// The unit at a place of so many, over this device.
@@ -52,29 +48,30 @@ pub fn new_unit<B: Blocks + Drop, O: Opener<B> + Drop>(
     Ok(NewUnit::new(alloc, unit)?)
 }
 
-/// Units that are shared, and the desk of their first controller.
-#[derive(Drop)]
-pub struct Shared<B: Blocks, O: Opener<B>, N: Naming<Opened>> {
-    pub units: Units<B, MemBlocks, O, N>,
-    pub desk: Desk<B, MemBlocks, O, N>,
-}
+/// An opener that passes so many opens, and then fails.
+pub type Opens = FusedOpener<KeepOpener>;
 
-impl<B: Blocks, O: Opener<B>, N: Naming<Opened>> Shared<B, O, N> {
-    /// Shares these units.
-    pub fn new<W: Wait>(
-        rt: &W,
-        alloc: Global,
-        new: Vec<NewUnit<B, MemBlocks, O>>,
-    ) -> Result<Shared<B, O, N>, Fail>
-        requires named { IsNamed N.book N.table N.opening B.contents new.items }
-        requires count { length new.items ≤ 8 }
-    {
-        Ok(Shared {
-            desk: Desk::new(alloc, Group::One)?,
-            units: Units::new(rt, alloc, new)?,
-        })
+/// A unit whose blocks lie in memory too.
+pub type MemUnit = NewUnit<MemBlocks, MemBlocks, Opens>;
+
+/// The blocks of such a unit.
+const BLOCKS: u32 = 16;
+
+/// Units whose openers pass so many opens each, eight of them at most.
+pub fn in_memory(alloc: Global, opens: &[u64]) -> Result<Vec<MemUnit>, Fail>
+    ensures { IfOk result (λ v. length v.items ≤ 8) }
+{
+    let mut new = Vec::new(alloc);
+    let units = u8::try_from(opens.len()).unwrap_or(u8::MAX);
+    let mut unit = 0u8;
+    for opens in opens {
+        let blocks = MemBlocks::new(alloc, BLOCKS)?;
+        let opener = FusedOpener::new(KeepOpener, *opens);
+        new.push(new_unit(alloc, blocks, opener, unit, units)?)?;
+        unit = unit.saturating_add(1);
     }
-
-    /// Drops them. What drops them elsewhere has that proved once more.
-    pub fn end(self) {}
+    if new.len() > 8 {
+        return Err("more than eight units".into());
+    }
+    Ok(new)
 }
