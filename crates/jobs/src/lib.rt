@@ -1,6 +1,8 @@
-//! A command on its way to a desk and back: its job, its ticket and its answer.
+//! What a job at a desk is known by, how its command is served, and the queue in which it waits: room for 64, taken at its start.
 #![tactic(auto)]
 
-mod job;
+mod names;
+mod queue;
 
-pub use job::{Answer, Job, Ticket, Waiting, prepare};
+pub use names::Names;
+pub use queue::{MOST_JOBS, NotQueued, Queue};

@@ -1,8 +1,7 @@
 //! The session of a host at a unit. Its calls are made here, so that tests see plain values alone.
 use crate::shared::{TestDesk, TestUnits};
 use block_file::{Blocks, MemBlocks, Opener};
-use forwarding::DeskFault;
-use jobs::Ticket;
+use forwarding::{DeskFault, Ticket};
 use numbering::Array as Naming;
 use scsi_types::{Command, Group, PortName, Reply, Sense, Status};
 use std::alloc::Global;

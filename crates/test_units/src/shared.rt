@@ -4,8 +4,7 @@ ghost use Rattle.unit_history.specs.Naming.{IsNamed};
 
 use block_file::{Blocks, MemBlocks, Opener};
 use failover::{set_groups, take_down};
-use forwarding::Desk;
-use jobs::Job;
+use forwarding::{Desk, Job};
 use numbering::Array as Naming;
 use scsi_types::Group;
 use std::alloc::Global;

@@ -8,9 +8,9 @@ use Rattle.unit_history.specs.Histories.{IsBehind, IsHistory, IsToldBehind, comm
 use Rattle.locked_unit.specs.Calls.{IsCause}
 use Rattle.scsi_types.specs.Nexus.{Nexus}
 use Rattle.status.specs.Views.{counted}
-use Rattle.traffic.specs.declared.session.End.{End}
-use Rattle.traffic.specs.declared.session.End.TheVariants.{Replied, Refused as IsRefused}
-use Rattle.traffic.specs.declared.session.Job.{Job}
+use Rattle.unit_events.specs.declared.job.End.{End}
+use Rattle.unit_events.specs.declared.job.End.TheVariants.{Replied, Refused as IsRefused}
+use Rattle.unit_events.specs.declared.job.Job.{Job}
 
 module _ {B R O : Type 0} (claims : Bool) (contents : B → List (List ℕ)) (failures : B → ℕ) (opens_failed : O → ℕ)
     (file_failures : R → ℕ) where

@@ -7,11 +7,11 @@ ghost use Rattle.unit_state.specs.Entry.{Detach, Move, Reset};
 ghost use Rattle.unit_state.specs.declared.unit.MoveFault.{MoveFault};
 ghost use Rattle.unit_events.specs.Entries.{IsUnitAttach, IsUnitEntry, IsUnitServing};
 
+use crate::job::{End, Job};
 use block_file::{Blocks, Opener};
 use locked_unit::Machine;
 use scsi_types::{Group, PortName};
 use std::alloc::Global;
-use traffic::{End, Job};
 use unit_history::{Arrival, Noted, Opened};
 use unit_state::Unit;
 

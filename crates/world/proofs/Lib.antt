@@ -1,1 +1,6 @@
+pub mod Lists
+pub mod Sound
+pub mod Steps
+pub mod Again
+pub mod Order
 pub mod Standing

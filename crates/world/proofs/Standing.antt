@@ -12,21 +12,21 @@ use Rattle.scsi_types.specs.Nexus.{Port}
 use Rattle.scsi_types.specs.declared.names.Group.{Group}
 use Rattle.std.proofs.lemmas.List.{length-set, take_more}
 use Rattle.unit_history.specs.Histories.{IsBehind, IsHistory, no_state}
-use Rattle.traffic.specs.Traffic.{Traffic, at_stage, attached, ended, given, no_traffic}
-use Rattle.traffic.specs.Events.{Scene, scene, count_at, with_entry, start, IsEntry, IsReached, IsServed, IsStep, AreSteps}
+use Rattle.world.specs.Traffic.{Traffic, at_stage, attached, ended, given, no_traffic}
+use Rattle.world.specs.Events.{Scene, scene, count_at, with_entry, start, IsEntry, IsReached, IsServed, IsStep, AreSteps}
 use Rattle.world.specs.Worlds.{WorldValue, opened, opening_of, AllHappen, AreBehind, Stands, Happens, IsCountAt, IsCountOf}
 use Rattle.unit_events.specs.Entries.{IsUnitAttach, IsUnitEntry, IsUnitServed, IsUnitServing}
 use Rattle.unit_events.proofs.Counted.{counts_all}
-use Rattle.traffic.specs.declared.event.Event.{Event}
-use Rattle.traffic.specs.declared.event.Event.TheVariants as events
-use Rattle.traffic.specs.declared.session.Job.{Job}
-use Rattle.traffic.specs.declared.session.End.{End}
-use Rattle.traffic.specs.declared.session.End.TheVariants.{Replied, Refused as IsRefused}
-use Rattle.traffic.specs.declared.session.Session.{Session}
-use Rattle.traffic.specs.declared.session.Stage.TheVariants.{InLane, Ended}
-use Rattle.traffic.proofs.Lists.{get_set}
-use Rattle.traffic.proofs.Order.{Holds, orderly, reached_holds, stage_at}
-use Rattle.traffic.specs.Orders.{IsOrderly}
+use Rattle.world.specs.declared.event.Event.{Event}
+use Rattle.world.specs.declared.event.Event.TheVariants as events
+use Rattle.unit_events.specs.declared.job.Job.{Job}
+use Rattle.unit_events.specs.declared.job.End.{End}
+use Rattle.unit_events.specs.declared.job.End.TheVariants.{Replied, Refused as IsRefused}
+use Rattle.world.specs.declared.session.Session.{Session}
+use Rattle.world.specs.declared.session.Stage.TheVariants.{InLane, Ended}
+use Rattle.world.proofs.Lists.{get_set}
+use Rattle.world.proofs.Order.{Holds, orderly, reached_holds, stage_at}
+use Rattle.world.specs.Orders.{IsOrderly}
 
 pub of_err : {T F P : Type 0} (r : Result T F) → P → OnErr r P
 of_err (Ok value) p = tt

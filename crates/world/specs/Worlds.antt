@@ -3,10 +3,10 @@ use Rattle.std.specs.Prelude.{◌≡◌, ℕ, Bool, List, length, Option, Some, 
 use Rattle.unit_state.specs.State.{UnitState, UnitValue, state_of}
 use Rattle.unit_state.specs.Entry.{Entry}
 use Rattle.unit_history.specs.Histories.{IsBehind, no_state}
-use Rattle.traffic.specs.Events.{Scene, scene, AreSteps, IsReached, IsStep}
-use Rattle.traffic.specs.Orders.{IsOrderly}
-use Rattle.traffic.specs.Traffic.{Traffic}
-use Rattle.traffic.specs.declared.event.Event.{Event}
+use Rattle.world.specs.Events.{Scene, scene, AreSteps, IsReached, IsStep}
+use Rattle.world.specs.Orders.{IsOrderly}
+use Rattle.world.specs.Traffic.{Traffic}
+use Rattle.world.specs.declared.event.Event.{Event}
 
 -- What contracts see of a world: its units, with their devices, and what is on its way.
 pub record WorldValue (B R O : Type 0) : Type 0 where

@@ -3,6 +3,14 @@
 //! commands alone.
 #![tactic(auto)]
 
+mod desk;
+mod event;
+mod note;
+mod records;
+mod session;
 mod world;
 
+pub use event::Event;
+pub use note::{Note, What};
+pub use session::{Session, Stage};
 pub use world::World;

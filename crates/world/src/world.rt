@@ -2,16 +2,19 @@
 ghost use Rattle.std.specs.Prelude.{◌≡◌, ◌<◌, ◌↔◌, ◌&&◌, [], ℕ, All, IfOk, IfErr, IfSome, IsTrue, MatchOption, OnOk, OnErr, length, slice_get, take};
 ghost use Rattle.reservations.specs.Nexus.{IsPortName};
 ghost use Rattle.unit_state.specs.Serials.{IsOpening};
-ghost use Rattle.traffic.specs.Traffic.{collected, given, new_job, no_traffic, posted, submitted, submitted_again, taken};
+ghost use Rattle.world.specs.Traffic.{collected, given, new_job, no_traffic, posted, submitted, submitted_again, taken};
 ghost use Rattle.world.specs.Worlds.{AllHappen, Happens, IsCountAt, IsCountOf, Stands, opening_of};
-ghost use Rattle.traffic.specs.declared.event.Event.TheVariants as events;
+ghost use Rattle.world.specs.declared.event.Event.TheVariants as events;
 
+use crate::event::Event;
+use crate::note::Note;
+use crate::records::Records;
+use crate::session::{Session, Stage};
 use block_file::{Blocks, Opener};
 use scsi_types::{Asked, Group, NoMemory, PortName};
 use std::alloc::Global;
 use std::marker::Model;
-use traffic::{Bytes, Event, Job, Note, Records, Session, Stage};
-use unit_events::{attach_unit, detach_unit, move_unit, reset_unit, serve_unit};
+use unit_events::{Bytes, Job, attach_unit, detach_unit, move_unit, reset_unit, serve_unit};
 use unit_state::Unit;
 
 /// Units by their places, the sessions that attached to them, the desks of both groups, and what was submitted and collected.
@@ -23,7 +26,7 @@ pub struct World<B: Blocks, R: Blocks, O: Opener<B>> {
 }
 
 impl<B: Blocks, R: Blocks, O: Opener<B>> Model for World<B, R, O> {
-    ghost use Rattle.traffic.specs.Records.{traffic_of};
+    ghost use Rattle.world.specs.Records.{traffic_of};
     ghost use Rattle.world.specs.Worlds.{WorldValue};
 
     ghost Value = { WorldValue B R O };

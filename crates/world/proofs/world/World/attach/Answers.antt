@@ -1,8 +1,8 @@
 use Rattle.std.proofs.Common.{◌&&◌, ◌∙◌, ap}
-use Rattle.traffic.specs.Records.{traffic_of}
+use Rattle.world.specs.Records.{traffic_of}
 use Rattle.world.specs.Worlds.{WorldValue}
-use Rattle.traffic.specs.Traffic.{Traffic, attached}
-use Rattle.traffic.proofs.Again.{there_is}
+use Rattle.world.specs.Traffic.{Traffic, attached}
+use Rattle.world.proofs.Again.{there_is}
 use Rattle.world.proofs.Standing.{attach_goes, attach_refused}
 use Rattle.world.proofs.world.World.attach.Goals as goal
 

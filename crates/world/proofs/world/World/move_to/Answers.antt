@@ -3,10 +3,10 @@ use Rattle.unit_history.specs.Causes.{IsStay}
 use Rattle.unit_state.specs.Choice.{Fine}
 use Rattle.unit_state.specs.Entry.{Move}
 use Rattle.unit_state.specs.declared.unit.MoveFault.{MoveFault}
-use Rattle.traffic.specs.Records.{traffic_of}
+use Rattle.world.specs.Records.{traffic_of}
 use Rattle.world.specs.Worlds.{WorldValue}
-use Rattle.traffic.specs.declared.event.Event.TheVariants as events
-use Rattle.traffic.proofs.Again.{there_is}
+use Rattle.world.specs.declared.event.Event.TheVariants as events
+use Rattle.world.proofs.Again.{there_is}
 use Rattle.world.proofs.Standing.{unit_goes}
 use Rattle.world.proofs.world.World.move_to.Goals as goal
 

@@ -1,5 +1,5 @@
 use Rattle.std.proofs.Common.{◌&&◌, sym, subst, []}
-use Rattle.traffic.specs.Traffic.{Traffic}
+use Rattle.world.specs.Traffic.{Traffic}
 use Rattle.world.specs.Worlds.{Stands, opening_of}
 use Rattle.world.proofs.Standing.{stands_new}
 use Rattle.world.proofs.world.World.new.Goals as goal

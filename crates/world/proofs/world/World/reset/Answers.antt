@@ -1,10 +1,10 @@
 use Rattle.std.proofs.Common.{◌&&◌}
 use Rattle.unit_history.specs.Causes.{IsGone}
 use Rattle.unit_state.specs.Entry.{Reset}
-use Rattle.traffic.specs.Records.{traffic_of}
+use Rattle.world.specs.Records.{traffic_of}
 use Rattle.world.specs.Worlds.{WorldValue}
-use Rattle.traffic.specs.declared.event.Event.TheVariants as events
-use Rattle.traffic.proofs.Again.{there_is}
+use Rattle.world.specs.declared.event.Event.TheVariants as events
+use Rattle.world.proofs.Again.{there_is}
 use Rattle.world.proofs.Standing.{unit_goes}
 use Rattle.world.proofs.world.World.reset.Goals as goal
 

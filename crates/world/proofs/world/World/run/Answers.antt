@@ -1,7 +1,7 @@
 use Rattle.std.proofs.Common.{◌&&◌, List, subst}
 use Rattle.std.proofs.lemmas.List.{take_all}
 use Rattle.world.specs.Worlds.{AllHappen}
-use Rattle.traffic.specs.declared.event.Event.{Event}
+use Rattle.world.specs.declared.event.Event.{Event}
 use Rattle.world.proofs.Standing.{none_happen, of_err, so_far}
 use Rattle.world.proofs.world.World.run.Goals as goal
 

@@ -1,7 +1,7 @@
 use Rattle.std.proofs.Common.{◌&&◌}
-use Rattle.traffic.specs.Records.{traffic_of}
+use Rattle.world.specs.Records.{traffic_of}
 use Rattle.world.specs.Worlds.{WorldValue}
-use Rattle.traffic.proofs.Again.{there_is}
+use Rattle.world.proofs.Again.{there_is}
 use Rattle.world.proofs.Standing.{serve_goes}
 use Rattle.world.proofs.world.World.serve.Goals as goal
 

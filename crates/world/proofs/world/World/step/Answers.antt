@@ -1,6 +1,6 @@
 use Rattle.std.proofs.Common.{◌&&◌, refl}
-use Rattle.traffic.specs.Traffic.{collected, new_job, submitted, submitted_again}
-use Rattle.traffic.specs.declared.event.Event.TheVariants as events
+use Rattle.world.specs.Traffic.{collected, new_job, submitted, submitted_again}
+use Rattle.world.specs.declared.event.Event.TheVariants as events
 use Rattle.world.proofs.Standing.{counted_goes, on_done, quiet_goes}
 use Rattle.world.proofs.world.World.step.Goals as goal
 

@@ -1,0 +1,328 @@
+//! A command on its way: its job, its ticket and its answer.
+ghost use Rattle.std.specs.Prelude.{◌≡◌, ◌<◌, ◌&&◌, IfOk, IfErr, MatchBool};
+ghost use Rattle.jobs.specs.Served.{HasAnswered, handed, handed_of};
+ghost use Rattle.forwarding.specs.Jobs.{IsFor};
+
+use block_file::{Blocks, Opener};
+use jobs::Names;
+use numbering::Array;
+use scsi_types::{Asked, Group, NoMemory, Reply};
+use std::alloc::Global;
+use std::marker::Model;
+use std::mem;
+use std::sync::{Arc, Condvar, Mutex, Wait};
+use unit_history::{LegalHistory, Opened, Pass, Refused, Units};
+
+// What a command came to. It keeps what the job's pass had seen, and that the pass has since seen what the reply or the refusal
+// says.
+#[derive(Drop)]
+struct Ended<B: Blocks, R: Blocks, O: Opener<B>, N: Array<Opened>> {
+    names: Names,
+    bytes: Vec<u8>,
+    before: LegalHistory<B, R, O, N>,
+    pass: Pass<B, R, O, N>,
+    end: Result<Reply, Refused<Group>>,
+}
+
+impl<B: Blocks, R: Blocks, O: Opener<B>, N: Array<Opened>> Model for Ended<B, R, O, N> {
+    ghost use Rattle.std.specs.Prelude.{◌≡◌, ◌&&◌};
+    ghost use Rattle.jobs.specs.Served.{HasAnswered, handed};
+    ghost use Rattle.forwarding.specs.Jobs.{Done};
+
+    ghost Value = { Done };
+
+    ghost view = { λ e. record { job = handed e.names e.bytes.items e.before.1; after = e.pass.pass; end = e.end } };
+
+    ghost invariant = { λ e. (e.before.0 ≡ e.names.place) × (e.pass.place ≡ e.names.place)
+        × HasAnswered (O.claims && B.claims) (N.opening e.names.place) (handed e.names e.bytes.items e.before.1)
+        e.pass.pass e.end };
+}
+
+impl<B: Blocks, R: Blocks, O: Opener<B>, N: Array<Opened>> Ended<B, R, O, N> {
+    // Whether the ticket with these names, whose pass had seen this, waits for it.
+    fn is_for(&self, names: &Names, bytes: &[u8], seen: &LegalHistory<B, R, O, N>) -> bool
+        ensures { MatchBool result (self.now.job ≡ handed names.now bytes.now seen.now.1) (Unit {0}) }
+    {
+        self.names.is_same(names) && self.bytes.as_slice() == bytes && self.before.is_same(seen)
+    }
+
+    // The pass and the end.
+    fn open(self) -> (Pass<B, R, O, N>, Result<Reply, Refused<Group>>)
+        ensures place { result.0.place ≡ self.job.names.place }
+        ensures end { HasAnswered (O.claims && B.claims) (N.opening self.job.names.place) self.job result.0.pass result.1 }
+    {
+        (self.pass, self.end)
+    }
+}
+
+// Where an answer comes. It is made when its job is handed in.
+#[derive(Drop)]
+struct Slot<B: Blocks, R: Blocks, O: Opener<B>, N: Array<Opened>> {
+    answer: Mutex<Option<Ended<B, R, O, N>>>,
+    filled: Condvar,
+}
+
+impl<B: Blocks, R: Blocks, O: Opener<B>, N: Array<Opened>> Slot<B, R, O, N> {
+    // A slot without an answer, shared by two.
+    fn shared(
+        alloc: Global,
+    ) -> Result<(Arc<Slot<B, R, O, N>, Global>, Arc<Slot<B, R, O, N>, Global>), NoMemory> {
+        let slot = Slot {
+            answer: Mutex::new(None),
+            filled: Condvar::new(),
+        };
+        let Ok(mine) = Arc::new(alloc, slot) else {
+            return Err(NoMemory);
+        };
+        match Arc::try_clone(&mine) {
+            Ok(slot) => Ok((mine, slot)),
+            Err(_) => Err(NoMemory),
+        }
+    }
+}
+
+// A command of a session in a desk's queue: the session's pass, which goes with it, a copy of the data that came, and the slot of
+// its answer.
+#[derive(Drop)]
+pub(crate) struct Waiting<B: Blocks, R: Blocks, O: Opener<B>, N: Array<Opened>> {
+    pub(crate) pass: Pass<B, R, O, N>,
+    asked: Asked,
+    bytes: Vec<u8>,
+    slot: Arc<Slot<B, R, O, N>, Global>,
+}
+
+/// A job that was taken from the desk of a group. Contracts see what it is known by, its data, and what its pass has seen.
+#[derive(Drop)]
+pub struct Job<B: Blocks, R: Blocks, O: Opener<B>, N: Array<Opened>> {
+    waiting: Waiting<B, R, O, N>,
+    by_group: Group,
+}
+
+impl<B: Blocks, R: Blocks, O: Opener<B>, N: Array<Opened>> Model for Job<B, R, O, N> {
+    ghost use Rattle.jobs.specs.Served.{Handed, handed_of};
+
+    ghost Value = { Handed };
+
+    ghost view = { λ j. handed_of j.waiting.pass j.waiting.asked j.waiting.bytes.items j.by_group };
+}
+
+impl<B: Blocks, R: Blocks, O: Opener<B>, N: Array<Opened>> Job<B, R, O, N> {
+    // What waited at the desk of this group.
+    pub(crate) fn from_desk(waiting: Waiting<B, R, O, N>, by_group: Group) -> Job<B, R, O, N>
+        ensures { result.names.by_group ≡ by_group }
+    {
+        Job { waiting, by_group }
+    }
+
+    /// The place of its unit.
+    pub fn place(&self) -> usize
+        ensures { result ≡ self.now.names.place }
+    {
+        self.waiting.pass.place()
+    }
+
+    /// Two jobs, each with the other's slot, so that a test can send each answer to the wrong ticket. What a ticket is promised does not
+    /// rest on the slots.
+    pub fn with_slots_exchanged(
+        one: Job<B, R, O, N>,
+        two: Job<B, R, O, N>,
+    ) -> (Job<B, R, O, N>, Job<B, R, O, N>)
+        ensures { (result.0 ≡ one) × (result.1 ≡ two) }
+    {
+        let (mut one, mut two) = (one, two);
+        mem::swap(&mut one.waiting.slot, &mut two.waiting.slot);
+        (one, two)
+    }
+
+    /// Serves the job, as [`Units::serve`].
+    pub fn serve<W: Wait>(
+        self,
+        rt: &W,
+        alloc: Global,
+        units: &Units<B, R, O, N>,
+    ) -> Answer<B, R, O, N>
+        requires { self.names.place < units.now }
+        ensures { result.job ≡ self }
+    {
+        let Job { waiting, by_group } = self;
+        let Waiting {
+            pass,
+            asked,
+            bytes,
+            slot,
+        } = waiting;
+        let names = Names::of(&pass, &asked, by_group);
+        let before = pass.history();
+        let (pass, end) = names.serve(rt, alloc, units, pass, bytes.as_slice());
+        Answer {
+            ended: Ended {
+                names,
+                bytes,
+                before,
+                pass,
+                end,
+            },
+            slot,
+        }
+    }
+}
+
+/// What a job came to, with the slot that it goes to. Contracts see the job, what its pass has seen since, and the end.
+#[derive(Drop)]
+pub struct Answer<B: Blocks, R: Blocks, O: Opener<B>, N: Array<Opened>> {
+    ended: Ended<B, R, O, N>,
+    slot: Arc<Slot<B, R, O, N>, Global>,
+}
+
+impl<B: Blocks, R: Blocks, O: Opener<B>, N: Array<Opened>> Model for Answer<B, R, O, N> {
+    ghost use Rattle.forwarding.specs.Jobs.{Done};
+
+    ghost Value = { Done };
+
+    ghost view = { λ a. a.ended };
+}
+
+impl<B: Blocks, R: Blocks, O: Opener<B>, N: Array<Opened>> Answer<B, R, O, N> {
+    // Puts it where its ticket waits. It takes no memory.
+    pub(crate) fn post<W: Wait>(self, rt: &W) {
+        let Answer { ended, slot } = self;
+        *slot.answer.lock(rt) = Some(ended);
+        slot.filled.notify_one();
+    }
+}
+
+/// What is left to the worker that handed a job in, with the data that it came with. Contracts see what the job is known by, its
+/// data, and what its pass had seen.
+#[derive(Drop)]
+pub struct Ticket<'a, B: Blocks, R: Blocks, O: Opener<B>, N: Array<Opened>> {
+    names: Names,
+    bytes: &'a [u8],
+    seen: LegalHistory<B, R, O, N>,
+    slot: Arc<Slot<B, R, O, N>, Global>,
+}
+
+impl<'a, B: Blocks, R: Blocks, O: Opener<B>, N: Array<Opened>> Model for Ticket<'a, B, R, O, N> {
+    ghost use Rattle.std.specs.Prelude.{◌≡◌};
+    ghost use Rattle.jobs.specs.Served.{Handed, handed};
+
+    ghost Value = { Handed };
+
+    ghost view = { λ t. handed t.names t.bytes.now t.seen.1 };
+
+    ghost invariant = { λ t. t.seen.0 ≡ t.names.place };
+}
+
+// Whether the answer that a ticket waits for is there.
+fn is_for<B: Blocks, R: Blocks, O: Opener<B>, N: Array<Opened>>(
+    held: &Option<Ended<B, R, O, N>>,
+    names: &Names,
+    bytes: &[u8],
+    seen: &LegalHistory<B, R, O, N>,
+) -> bool
+    ensures { MatchBool result (IsFor held.now (handed names.now bytes.now seen.now.1)) (Unit {0}) }
+{
+    match held {
+        Some(ended) => ended.is_for(names, bytes, seen),
+        None => false,
+    }
+}
+
+impl<'a, B: Blocks, R: Blocks, O: Opener<B>, N: Array<Opened>> Ticket<'a, B, R, O, N> {
+    /// The place of its job's unit.
+    pub fn place(&self) -> usize
+        ensures { result ≡ self.now.names.place }
+    {
+        self.names.place
+    }
+
+    /// Whether this pass is that of its job.
+    pub(crate) fn is_of(&self, pass: &Pass<B, R, O, N>) -> bool
+        ensures { MatchBool result
+            (handed_of pass.now self.now.names.asked self.now.data_in self.now.names.by_group ≡ self.now) (Unit {0}) }
+    {
+        self.names.is_of(pass) && pass.history().is_same(&self.seen)
+    }
+
+    /// Whether its answer is there.
+    pub fn is_answered<W: Wait>(&self, rt: &W) -> bool {
+        let held = self.slot.answer.lock(rt);
+        is_for(&*held, &self.names, self.bytes, &self.seen)
+    }
+
+    // Serves its job, whose pass was taken back, with the data that it came with.
+    pub(crate) fn serve<W: Wait>(
+        self,
+        rt: &W,
+        alloc: Global,
+        units: &Units<B, R, O, N>,
+        pass: Pass<B, R, O, N>,
+    ) -> (Pass<B, R, O, N>, Result<Reply, Refused<Group>>)
+        requires own { handed_of pass self.names.asked self.data_in self.names.by_group ≡ self }
+        requires place { self.names.place < units.now }
+        ensures place { result.0.place ≡ self.entry.names.place }
+        ensures end { HasAnswered (O.claims && B.claims) (N.opening self.entry.names.place) self.entry
+            result.0.pass result.1 }
+    {
+        self.names.serve(rt, alloc, units, pass, self.bytes)
+    }
+
+    // Its answer, once it is there. Another's is left where it is.
+    fn ended<W: Wait>(&self, rt: &W) -> Ended<B, R, O, N>
+        ensures { result.job ≡ self.now }
+    {
+        let held = self.slot.answer.lock(rt);
+        let mut held = self.slot.filled.wait_while(rt, held, |held| {
+            !is_for(held, &self.names, self.bytes, &self.seen)
+        });
+        match held.take() {
+            Some(ended) => ended,
+            None => unreachable!(),
+        }
+    }
+
+    // Its answer, once it is there. Another's is left where it is.
+    pub(crate) fn collect<W: Wait>(
+        self,
+        rt: &W,
+    ) -> (Pass<B, R, O, N>, Result<Reply, Refused<Group>>)
+        ensures place { result.0.place ≡ self.entry.names.place }
+        ensures end { HasAnswered (O.claims && B.claims) (N.opening self.entry.names.place) self.entry
+            result.0.pass result.1 }
+    {
+        self.ended(rt).open()
+    }
+}
+
+// A command of a session that is to wait at the desk of a group, and its ticket. Refused, there was no memory, and the pass is
+// handed back.
+pub(crate) fn prepare<'a, B: Blocks, R: Blocks, O: Opener<B>, N: Array<Opened>>(
+    alloc: Global,
+    pass: Pass<B, R, O, N>,
+    asked: &Asked,
+    bytes: &'a [u8],
+    by_group: Group,
+) -> Result<(Ticket<'a, B, R, O, N>, Waiting<B, R, O, N>), Pass<B, R, O, N>>
+    ensures ticket { IfOk result (λ r. r.0 ≡ handed_of pass asked.now bytes.now by_group) }
+    ensures pass { IfOk result (λ r. r.1.pass ≡ pass) }
+    ensures back { IfErr result (λ back. back ≡ pass) }
+{
+    let Ok((mine, slot)) = Slot::shared(alloc) else {
+        return Err(pass);
+    };
+    let Ok(copy) = bytes.to_vec(alloc) else {
+        return Err(pass);
+    };
+    let ticket = Ticket {
+        names: Names::of(&pass, asked, by_group),
+        bytes,
+        seen: pass.history(),
+        slot: mine,
+    };
+    let waiting = Waiting {
+        pass,
+        asked: *asked,
+        bytes: copy,
+        slot,
+    };
+    Ok((ticket, waiting))
+}

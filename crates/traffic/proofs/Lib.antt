@@ -1,5 +1,0 @@
-pub mod Lists
-pub mod Sound
-pub mod Steps
-pub mod Again
-pub mod Order

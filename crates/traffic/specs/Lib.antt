@@ -1,4 +1,0 @@
-pub mod Traffic
-pub mod Events
-pub mod Orders
-pub mod Records

@@ -1,0 +1,26 @@
+//! A job of a session, and what it came to.
+use crate::bytes::Bytes;
+use locked_unit::Refused;
+use scsi_types::{Asked, Group, Reply};
+
+/// A command that was handed in at the desk of a group.
+#[derive(Drop)]
+pub struct Job {
+    /// The group of the desk.
+    pub by_group: Group,
+    /// What the command asks.
+    pub asked: Asked,
+    /// The data that came for it.
+    pub bytes: Bytes,
+    /// Whether it came to Moved before.
+    pub is_second: bool,
+}
+
+/// What a job came to.
+#[derive(Drop)]
+pub enum End {
+    /// The reply of the entry at this place of the unit's history, and the serial of the session's next command.
+    Replied(Reply, u64, u64),
+    /// The command is no entry.
+    Refused(Refused<Group>),
+}

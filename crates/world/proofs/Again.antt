@@ -1,0 +1,119 @@
+-- A session whose command is looked at before it goes on.
+use Rattle.std.proofs.Common.{◌≡◌, ℕ, Bool, true, false, nat_eq, if◌then◌else◌, List, [], ◌∷◌, ◌++◌, length, Option, Some, None}
+use Rattle.std.proofs.Common.{refl, ap, subst, ◌∙◌}
+use Rattle.std.specs.Prelude.{IfSome, ◌<◌, slice_get, slice_index_or, slice_set}
+use Rattle.std.proofs.lemmas.Option.{slice_get_read}
+use Rattle.std.proofs.lemmas.List.{set-set}
+use Rattle.locked_unit.specs.declared.machine.Refused.TheVariants.{Gone as IsGone, Moved, NoMemory}
+use Rattle.scsi_types.specs.declared.names.Group.{Group}
+use Rattle.scsi_types.specs.declared.names.Group.TheVariants.{One, Two}
+use Rattle.world.specs.Traffic.{Traffic, at_stage, given, given_up, handed_in, heard, note_of, noted, waiting, with_waiting}
+use Rattle.world.specs.declared.note.What.{What}
+use Rattle.world.specs.declared.note.What.TheVariants.{Submitted, Replied as HasReply, Busy, Gone}
+use Rattle.unit_events.specs.declared.job.Job.{Job}
+use Rattle.unit_events.specs.declared.job.End.{End}
+use Rattle.unit_events.specs.declared.job.End.TheVariants.{Replied, Refused as IsRefused}
+use Rattle.world.specs.declared.session.Session.{Session}
+use Rattle.world.specs.declared.session.Stage.{Stage}
+use Rattle.world.specs.declared.session.Stage.TheVariants.{Idle, Waits, Returned}
+use Rattle.world.proofs.Lists.{get_written, set_same}
+
+pub there_is : {X : Type 0} (xs : List X) (n : ℕ) (x : X) → n < length xs → x ≡ slice_index_or xs n x → slice_get xs n ≡ Some x
+there_is xs n x lt is = slice_get_read xs (length xs) n x refl lt is
+
+module _ (t : Traffic) (n : ℕ) (x : Session) (stage : Stage) where
+  abbrev seen : Session
+  seen = record x { stage = stage }
+
+  abbrev then_at : Traffic
+  then_at = at_stage t n x stage
+
+  -- it is put back
+  pub put_back : {A : Type 0} (in_stage : Session → Option A) (act : Session → A → Traffic) → slice_get t.sessions n ≡ Some x
+      → in_stage x ≡ None → stage ≡ x.stage
+      → then_at ≡ given t (slice_get t.sessions n) (λ y. given t (in_stage y) (act y))
+  put_back in_stage act there none same =
+      rw (there, none)
+      (ap (λ (xs : List Session). record t { sessions = xs })
+      (ap (λ (s : Stage). slice_set t.sessions n (record x { stage = s })) same ∙ set_same t.sessions n x there))
+
+  twice : (y : Session) → slice_set (slice_set t.sessions n seen) n y ≡ slice_set t.sessions n y
+  twice y = set-set t.sessions n seen y
+
+  given_up_again : (count : ℕ) (what : What) → given_up count then_at n seen what ≡ given_up count t n x what
+  given_up_again count what =
+      ap (λ (xs : List Session). record t { sessions = xs; notes = t.notes ++ note_of count x what ∷ [] })
+      (twice (record x { stage = Idle }))
+
+  handed : (count : ℕ) (job : Job) (full : Bool) (one two : List ℕ)
+      → (let a : Traffic = if full
+      then given_up count then_at n seen Busy
+      else record {
+        sessions = slice_set then_at.sessions n (record x { stage = Waits job });
+        one = one;
+        two = two;
+        notes = t.notes ++ note_of count x Submitted ∷ [];
+      } in a)
+      ≡ (if full
+      then given_up count t n x Busy
+      else record {
+        sessions = slice_set t.sessions n (record x { stage = Waits job });
+        one = one;
+        two = two;
+        notes = t.notes ++ note_of count x Submitted ∷ [];
+      })
+  handed count job true one two = given_up_again count Busy
+  handed count job false one two =
+      ap (λ (xs : List Session). record { sessions = xs; one = one; two = two; notes = t.notes ++ note_of count x Submitted ∷ [] })
+      (twice (record x { stage = Waits job }))
+
+  handed_to : (count : ℕ) (job : Job) (group : Group)
+      → (let a : Traffic = if nat_eq (length (waiting then_at group)) 64
+      then given_up count then_at n seen Busy
+      else with_waiting (noted (at_stage then_at n seen (Waits job)) (note_of count seen Submitted)) group
+      (waiting then_at group ++ n ∷ []) in a)
+      ≡ (if nat_eq (length (waiting t group)) 64
+      then given_up count t n x Busy
+      else with_waiting (noted (at_stage t n x (Waits job)) (note_of count x Submitted)) group (waiting t group ++ n ∷ []))
+  handed_to count job One = handed count job (nat_eq (length t.one) 64) (t.one ++ n ∷ []) t.two
+  handed_to count job Two = handed count job (nat_eq (length t.two) 64) t.one (t.two ++ n ∷ [])
+
+  moved_again : (count : ℕ) (after : Job) (second : Bool)
+      → (let a : Traffic = if second then given_up count then_at n seen Busy else at_stage then_at n seen (Returned after) in a)
+      ≡ (if second then given_up count t n x Busy else at_stage t n x (Returned after))
+  moved_again count after true = given_up_again count Busy
+  moved_again count after false =
+      ap (λ (xs : List Session). record t { sessions = xs }) (twice (record x { stage = Returned after }))
+
+  heard_again : (count : ℕ) (job : Job) (end : End) → heard count then_at n seen job end ≡ heard count t n x job end
+  heard_again count job (Replied reply at next) =
+      ap (λ (xs : List Session). record t { sessions = xs; notes = t.notes ++ note_of count x (HasReply job reply at) ∷ [] })
+      (twice (record x { next = next; stage = Idle }))
+  heard_again count job (IsRefused IsGone) = given_up_again count Gone
+  heard_again count job (IsRefused NoMemory) = given_up_again count Busy
+  heard_again count job (IsRefused (Moved to)) =
+      moved_again count (record job { by_group = to; is_second = true }) job.is_second
+
+  -- it goes on
+  pub goes_on : {A : Type 0} (in_stage : Session → Option A) (act : Traffic → Session → A → Traffic) (a : A) (new : Traffic)
+      → slice_get t.sessions n ≡ Some x → in_stage x ≡ Some a → act then_at seen a ≡ act t x a
+      → IfSome (slice_get then_at.sessions n) (λ y. new ≡ act then_at y a)
+      → new ≡ given t (slice_get t.sessions n) (λ y. given t (in_stage y) (act t y))
+  goes_on in_stage act a new there is again did =
+      let done : new ≡ act then_at seen a =
+      subst (λ (o : Option Session). IfSome o (λ y. new ≡ act then_at y a)) (get_written t.sessions n seen x there) did in
+      rw (there, is) (done ∙ again)
+
+  pub hands_in_again : (in_stage : Session → Option Job) (count : ℕ) (job : Job) (new : Traffic)
+      → slice_get t.sessions n ≡ Some x → in_stage x ≡ Some job
+      → IfSome (slice_get then_at.sessions n) (λ y. new ≡ handed_in count then_at n y job)
+      → new ≡ given t (slice_get t.sessions n) (λ y. given t (in_stage y) (λ j. handed_in count t n y j))
+  hands_in_again in_stage count job new there is did =
+      goes_on in_stage (λ u y j. handed_in count u n y j) job new there is (handed_to count job job.by_group) did
+
+  pub hears_it : (in_stage : Session → Option (Job × End)) (count : ℕ) (job : Job) (end : End) (new : Traffic)
+      → slice_get t.sessions n ≡ Some x → in_stage x ≡ Some (job, end)
+      → IfSome (slice_get then_at.sessions n) (λ y. new ≡ heard count then_at n y job end)
+      → new ≡ given t (slice_get t.sessions n) (λ y. given t (in_stage y) (λ a. heard count t n y a.0 a.1))
+  hears_it in_stage count job end new there is did =
+      goes_on in_stage (λ u y a. heard count u n y a.0 a.1) (job, end) new there is (heard_again count job end) did

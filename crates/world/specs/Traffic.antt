@@ -1,0 +1,176 @@
+-- What is on its way in the array, and what an event makes of it.
+use Rattle.std.specs.Prelude.{ℕ, Bool, true, false, nat_eq, if◌then◌else◌, List, [], ◌∷◌, ◌++◌, length, Option, Some, None}
+use Rattle.std.specs.Prelude.{Result, slice_get, slice_set}
+use Rattle.locked_unit.specs.declared.machine.Refused.TheVariants.{Gone as IsGone, Moved, NoMemory}
+use Rattle.scsi_types.specs.declared.command.Command.{Command as ScsiCommand}
+use Rattle.scsi_types.specs.declared.command.CdbFault.{CdbFault}
+use Rattle.scsi_types.specs.declared.names.Group.{Group}
+use Rattle.scsi_types.specs.declared.names.Group.TheVariants.{One, Two}
+use Rattle.world.specs.declared.note.Note.{Note}
+use Rattle.world.specs.declared.note.What.{What}
+use Rattle.world.specs.declared.note.What.TheVariants.{Submitted, Replied as HasReply, Busy, Gone}
+use Rattle.unit_events.specs.declared.job.Job.{Job}
+use Rattle.unit_events.specs.declared.job.End.{End}
+use Rattle.unit_events.specs.declared.job.End.TheVariants.{Replied, Refused as IsRefused}
+use Rattle.world.specs.declared.session.Session.{Session}
+use Rattle.world.specs.declared.session.Stage.{Stage}
+use Rattle.world.specs.declared.session.Stage.TheVariants.{Idle, Waits, InLane, Ended, Answered, Returned}
+
+-- the sessions, in the order in which they attached; by group, the sessions whose jobs wait at its desk, the first one first;
+-- and what was submitted and collected so far
+pub record Traffic : Type 0 where
+  pub sessions : List Session
+  pub one : List ℕ
+  pub two : List ℕ
+  pub notes : List Note
+
+-- nobody has attached
+abbrev pub no_traffic : Traffic
+no_traffic = record { sessions = []; one = []; two = []; notes = [] }
+
+abbrev pub waiting : Traffic → Group → List ℕ
+waiting t One = t.one
+waiting t Two = t.two
+
+abbrev pub with_waiting : Traffic → Group → List ℕ → Traffic
+with_waiting t One sessions = record t { one = sessions }
+with_waiting t Two sessions = record t { two = sessions }
+
+-- a command that a session hands in for the first time
+abbrev pub new_job : Group → Result ScsiCommand CdbFault → List ℕ → Job
+new_job by_group asked bytes = record { by_group = by_group; asked = asked; bytes = bytes; is_second = false }
+
+-- a session whose id is this place of its unit's history has no command yet
+abbrev pub attached : Traffic → ℕ → ℕ → Traffic
+attached t place id =
+    record t { sessions = t.sessions ++ record { place = place; id = id; next = 1; stage = Idle } ∷ [] }
+
+-- the session at a place of the list
+abbrev pub with_session : Traffic → ℕ → Session → Traffic
+with_session t n x = record t { sessions = slice_set t.sessions n x }
+
+-- its command is there now
+abbrev pub at_stage : Traffic → ℕ → Session → Stage → Traffic
+at_stage t n x stage = with_session t n (record x { stage = stage })
+
+-- what a session did, where its unit has had so many entries
+abbrev pub note_of : ℕ → Session → What → Note
+note_of count x what = record { place = x.place; session = x.id; serial = x.next; count = count; what = what }
+
+abbrev pub noted : Traffic → Note → Traffic
+noted t note = record t { notes = t.notes ++ note ∷ [] }
+
+-- the session is free for another command, which has this serial
+abbrev pub free : Session → ℕ → Session
+free x serial = record x { next = serial; stage = Idle }
+
+-- a command that ended in BUSY, or whose session was gone: its serial is not used up
+abbrev pub given_up : ℕ → Traffic → ℕ → Session → What → Traffic
+given_up count t n x what = noted (with_session t n (free x x.next)) (note_of count x what)
+
+-- A job goes to the desk of its group, behind all that wait there. Where 64 wait, it ends in BUSY.
+abbrev pub handed_in : ℕ → Traffic → ℕ → Session → Job → Traffic
+handed_in count t n x job =
+    if nat_eq (length (waiting t job.by_group)) 64
+    then given_up count t n x Busy
+    else with_waiting (noted (at_stage t n x (Waits job)) (note_of count x Submitted)) job.by_group
+    (waiting t job.by_group ++ n ∷ [])
+
+-- ---- the stages that an event asks for
+
+abbrev pub is_idle : Stage → Bool
+is_idle Idle = true
+is_idle (Waits job) = false
+is_idle (InLane job) = false
+is_idle (Ended job end) = false
+is_idle (Answered job end) = false
+is_idle (Returned job) = false
+
+abbrev pub waits_in : Stage → Option Job
+waits_in Idle = None
+waits_in (Waits job) = Some job
+waits_in (InLane job) = None
+waits_in (Ended job end) = None
+waits_in (Answered job end) = None
+waits_in (Returned job) = None
+
+abbrev pub lane_in : Stage → Option Job
+lane_in Idle = None
+lane_in (Waits job) = None
+lane_in (InLane job) = Some job
+lane_in (Ended job end) = None
+lane_in (Answered job end) = None
+lane_in (Returned job) = None
+
+abbrev pub ended_in : Stage → Option (Job × End)
+ended_in Idle = None
+ended_in (Waits job) = None
+ended_in (InLane job) = None
+ended_in (Ended job end) = Some (job, end)
+ended_in (Answered job end) = None
+ended_in (Returned job) = None
+
+abbrev pub answered_in : Stage → Option (Job × End)
+answered_in Idle = None
+answered_in (Waits job) = None
+answered_in (InLane job) = None
+answered_in (Ended job end) = None
+answered_in (Answered job end) = Some (job, end)
+answered_in (Returned job) = None
+
+abbrev pub returned_in : Stage → Option Job
+returned_in Idle = None
+returned_in (Waits job) = None
+returned_in (InLane job) = None
+returned_in (Ended job end) = None
+returned_in (Answered job end) = None
+returned_in (Returned job) = Some job
+
+-- ---- the events of a session, which is there, at a stage that they ask for; else nothing changes
+
+abbrev pub given : {A : Type 0} → Traffic → Option A → (A → Traffic) → Traffic
+given t None act = t
+given t (Some a) act = act a
+
+-- a new command is handed in by a session that has none on its way
+abbrev pub submitted : ℕ → Traffic → ℕ → Session → Job → Traffic
+submitted count t n x job = if is_idle x.stage then handed_in count t n x job else t
+
+-- one that came to Moved is handed in once more
+abbrev pub submitted_again : ℕ → Traffic → ℕ → Session → Traffic
+submitted_again count t n x = given t (returned_in x.stage) (λ job. handed_in count t n x job)
+
+-- a lane takes the job that waits first at a desk
+abbrev pub in_lane : Traffic → ℕ → Session → Traffic
+in_lane t n x = given t (waits_in x.stage) (λ job. at_stage t n x (InLane job))
+
+abbrev pub taken_from : Traffic → Group → List ℕ → Traffic
+taken_from t group [] = t
+taken_from t group (n ∷ rest) =
+    let left = with_waiting t group rest in given left (slice_get t.sessions n) (λ x. in_lane left n x)
+
+abbrev pub taken : Traffic → Group → Traffic
+taken t group = taken_from t group (waiting t group)
+
+-- has its unit serve it
+abbrev pub ended : Traffic → ℕ → Session → End → Traffic
+ended t n x end = given t (lane_in x.stage) (λ job. at_stage t n x (Ended job end))
+
+-- and posts its answer
+abbrev pub posted : Traffic → ℕ → Session → Traffic
+posted t n x = given t (ended_in x.stage) (λ a. at_stage t n x (Answered a.0 a.1))
+
+-- The session collects the answer to its job. With a reply comes the serial of its next command. After the first Moved it may
+-- hand the job in at the desk of the group that this names; the second ends in BUSY.
+abbrev pub heard : ℕ → Traffic → ℕ → Session → Job → End → Traffic
+heard count t n x job (Replied reply place next) =
+    noted (with_session t n (free x next)) (note_of count x (HasReply job reply place))
+heard count t n x job (IsRefused IsGone) = given_up count t n x Gone
+heard count t n x job (IsRefused NoMemory) = given_up count t n x Busy
+heard count t n x job (IsRefused (Moved to)) =
+    if job.is_second
+    then given_up count t n x Busy
+    else at_stage t n x (Returned (record job { by_group = to; is_second = true }))
+
+abbrev pub collected : ℕ → Traffic → ℕ → Session → Traffic
+collected count t n x = given t (answered_in x.stage) (λ a. heard count t n x a.0 a.1)

@@ -1,0 +1,55 @@
+//! What may happen.
+use scsi_types::{Asked, Group, PortName};
+use unit_events::Bytes;
+
+/// One atomic action of one actor. A session is named by its place in the list of the world's sessions, in the order in which
+/// they attached; a unit by its place. An event that can't happen where it stands changes nothing.
+#[derive(Drop)]
+pub enum Event {
+    /// A session attaches to the unit at a place, by a port of this group.
+    Attach {
+        place: usize,
+        port: PortName,
+        group: Group,
+    },
+    /// A session ends.
+    Detach {
+        session: usize,
+    },
+    /// A session resets its unit.
+    Reset {
+        session: usize,
+    },
+    /// The unit at a place moves as a parameter list of SET TARGET PORT GROUPS says.
+    Move {
+        place: usize,
+        list: Bytes,
+    },
+    /// A session that has no command on its way hands one in at the desk of a group.
+    Submit {
+        session: usize,
+        by_group: Group,
+        asked: Asked,
+        bytes: Bytes,
+    },
+    /// A session whose command came to Moved hands it in once more, at the desk of the group that this named.
+    SubmitAgain {
+        session: usize,
+    },
+    /// A lane takes the first job of a group's desk.
+    Take {
+        group: Group,
+    },
+    /// A lane has the unit serve a session's command.
+    Serve {
+        session: usize,
+    },
+    /// A lane posts the answer of a session's command.
+    Post {
+        session: usize,
+    },
+    /// A session collects its answer.
+    Collect {
+        session: usize,
+    },
+}

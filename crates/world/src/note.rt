@@ -1,0 +1,26 @@
+//! What was submitted and collected.
+use scsi_types::Reply;
+use unit_events::Job;
+
+/// What a session did.
+#[derive(Drop)]
+pub enum What {
+    /// It submitted its command, or submitted it once more.
+    Submitted,
+    /// It collected this reply to this job, which is that of the entry at this place of the unit's history.
+    Replied(Job, Reply, u64),
+    /// Its command ended in BUSY: the desk was full, there was no memory for its reply, or the unit had moved a second time.
+    Busy,
+    /// Its session was gone.
+    Gone,
+}
+
+/// A submit or a collect: of which unit and session, the serial of the command, and how many entries the unit's history had.
+#[derive(Drop)]
+pub struct Note {
+    pub place: usize,
+    pub session: u64,
+    pub serial: u64,
+    pub count: u64,
+    pub what: What,
+}

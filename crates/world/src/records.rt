@@ -1,0 +1,263 @@
+//! What is on its way in the array.
+ghost use Rattle.std.specs.Prelude.{◌≡◌, ◌<◌, ◌∷◌, [], length, slice_get, OnOk, IfOk, IfSome, IfNone, MatchOption};
+ghost use Rattle.world.specs.Records.{HasRoom, traffic_of};
+ghost use Rattle.world.specs.Traffic.{attached, collected, ended, given, given_up, handed_in, heard, in_lane, no_traffic, note_of};
+ghost use Rattle.world.specs.Traffic.{posted, submitted, submitted_again, taken, waiting, with_waiting};
+ghost use Rattle.locked_unit.specs.declared.machine.Refused.TheVariants as causes;
+ghost use Rattle.unit_events.specs.declared.job.End.TheVariants as ends;
+
+use crate::desk::Desk;
+use crate::note::{Note, What};
+use crate::session::{Session, Stage};
+use locked_unit::Refused;
+use scsi_types::{Group, NoMemory};
+use std::alloc::Global;
+use unit_events::{End, Job};
+
+// The sessions, the desks of both groups, and what was submitted and collected.
+#[derive(Drop)]
+pub(crate) struct Records {
+    pub(crate) sessions: Vec<Session>,
+    pub(crate) one: Desk,
+    pub(crate) two: Desk,
+    pub(crate) notes: Vec<Note>,
+}
+
+/// What a session does, where its unit has had so many entries.
+fn note_of(session: &Session, count: u64, what: What) -> Note
+    ensures { result ≡ note_of count session.now what }
+{
+    Note {
+        place: session.place,
+        session: session.id,
+        serial: session.next,
+        count,
+        what,
+    }
+}
+
+impl Records {
+    // Nobody has attached.
+    pub(crate) fn new(alloc: Global) -> Result<Records, NoMemory>
+        ensures { IfOk result (λ r. traffic_of r ≡ no_traffic) }
+    {
+        let (Ok(one), Ok(two)) = (Desk::new(alloc), Desk::new(alloc)) else {
+            return Err(NoMemory);
+        };
+        Ok(Records {
+            sessions: Vec::new(alloc),
+            one,
+            two,
+            notes: Vec::new(alloc),
+        })
+    }
+
+    // Takes the memory that an event may need.
+    pub(crate) fn make_room(&mut self) -> Result<(), NoMemory>
+        ensures same { traffic_of self.new ≡ traffic_of self.old }
+        ensures room { OnOk result (HasRoom self.new) }
+    {
+        if self.sessions.reserve(1).is_err() || self.notes.reserve(1).is_err() {
+            return Err(NoMemory);
+        }
+        Ok(())
+    }
+
+    // The session at a place of the list.
+    pub(crate) fn session(&self, n: usize) -> Option<&Session>
+        ensures { MatchOption result (slice_get self.now.sessions.items n ≡ None)
+            (λ x. slice_get self.now.sessions.items n ≡ Some x.now) }
+    {
+        self.sessions.get(n)
+    }
+
+    // A session attached to a unit.
+    pub(crate) fn attach(&mut self, place: usize, id: u64)
+        requires { HasRoom self.old }
+        ensures { traffic_of self.new ≡ attached (traffic_of self.old) place id }
+    {
+        self.sessions.push_reserved(Session {
+            place,
+            id,
+            next: 1,
+            stage: Stage::Idle,
+        });
+    }
+
+    // A session's command ends without a reply.
+    fn give_up(&mut self, n: usize, count: u64, what: What)
+        requires room { HasRoom self.old }
+        requires there { n < length self.old.sessions.items }
+        ensures { IfSome (slice_get self.old.sessions.items n)
+            (λ x. traffic_of self.new ≡ given_up count (traffic_of self.old) n x what) }
+    {
+        let session = &mut self.sessions[n];
+        session.stage = Stage::Idle;
+        let note = note_of(session, count, what);
+        self.notes.push_reserved(note);
+    }
+
+    // Hands a session's job in.
+    fn hand_in(&mut self, n: usize, count: u64, job: Job)
+        requires room { HasRoom self.old }
+        requires there { n < length self.old.sessions.items }
+        ensures { IfSome (slice_get self.old.sessions.items n)
+            (λ x. traffic_of self.new ≡ handed_in count (traffic_of self.old) n x job) }
+    {
+        let is_taken = match job.by_group {
+            Group::One => self.one.push(n),
+            Group::Two => self.two.push(n),
+        };
+        if !is_taken {
+            self.give_up(n, count, What::Busy);
+            return;
+        }
+        let session = &mut self.sessions[n];
+        let note = note_of(session, count, What::Submitted);
+        session.go_to(Stage::Waits(job));
+        self.notes.push_reserved(note);
+    }
+
+    // Hands a new command in, where the session has none on its way.
+    pub(crate) fn submit(&mut self, n: usize, count: u64, job: Job)
+        requires { HasRoom self.old }
+        ensures { traffic_of self.new ≡ given (traffic_of self.old) (slice_get self.old.sessions.items n)
+            (λ x. submitted count (traffic_of self.old) n x job) }
+    {
+        let Some(session) = self.sessions.get(n) else {
+            return;
+        };
+        if session.stage.is_idle() {
+            self.hand_in(n, count, job);
+        }
+    }
+
+    // Hands a command that came to Moved in once more.
+    pub(crate) fn submit_again(&mut self, n: usize, count: u64)
+        requires { HasRoom self.old }
+        ensures { traffic_of self.new ≡ given (traffic_of self.old) (slice_get self.old.sessions.items n)
+            (λ x. submitted_again count (traffic_of self.old) n x) }
+    {
+        let Some(session) = self.sessions.get_mut(n) else {
+            return;
+        };
+        if let Some(job) = session.stage.take_returned() {
+            self.hand_in(n, count, job);
+        }
+    }
+
+    // Takes the session whose job waits first at the desk of a group.
+    fn take_first(&mut self, group: Group) -> Option<usize>
+        ensures left { traffic_of self.new ≡ with_waiting (traffic_of self.old) group (waiting (traffic_of self.new) group) }
+        ensures first { IfSome result (λ n. waiting (traffic_of self.old) group ≡ n ∷ waiting (traffic_of self.new) group) }
+        ensures none { IfNone result ((waiting (traffic_of self.old) group ≡ []) × (traffic_of self.new ≡ traffic_of self.old)) }
+    {
+        match group {
+            Group::One => self.one.take(),
+            Group::Two => self.two.take(),
+        }
+    }
+
+    // A lane holds a session's job, which had waited.
+    fn to_lane(&mut self, n: usize)
+        ensures { traffic_of self.new ≡ given (traffic_of self.old) (slice_get self.old.sessions.items n)
+            (λ x. in_lane (traffic_of self.old) n x) }
+    {
+        let Some(session) = self.sessions.get_mut(n) else {
+            return;
+        };
+        if let Some(job) = session.stage.take_waiting() {
+            session.go_to(Stage::InLane(job));
+        }
+    }
+
+    // A lane takes the job that waits first at the desk of a group.
+    pub(crate) fn take(&mut self, group: Group)
+        ensures { traffic_of self.new ≡ taken (traffic_of self.old) group }
+    {
+        if let Some(n) = self.take_first(group) {
+            self.to_lane(n);
+        }
+    }
+
+    // A lane has the answer to a session's job.
+    pub(crate) fn end(&mut self, n: usize, end: End)
+        ensures { traffic_of self.new ≡ given (traffic_of self.old) (slice_get self.old.sessions.items n)
+            (λ x. ended (traffic_of self.old) n x end) }
+    {
+        let Some(session) = self.sessions.get_mut(n) else {
+            return;
+        };
+        if let Some(job) = session.stage.take_in_lane() {
+            session.go_to(Stage::Ended(job, end));
+        }
+    }
+
+    // A lane posts the answer of a session's job.
+    pub(crate) fn post(&mut self, n: usize)
+        ensures { traffic_of self.new ≡ given (traffic_of self.old) (slice_get self.old.sessions.items n)
+            (λ x. posted (traffic_of self.old) n x) }
+    {
+        let Some(session) = self.sessions.get_mut(n) else {
+            return;
+        };
+        if let Some((job, end)) = session.stage.take_ended() {
+            session.go_to(Stage::Answered(job, end));
+        }
+    }
+
+    // A session hears the answer to its job.
+    fn hear(&mut self, n: usize, count: u64, job: Job, end: End)
+        requires room { HasRoom self.old }
+        requires there { n < length self.old.sessions.items }
+        ensures { IfSome (slice_get self.old.sessions.items n)
+            (λ x. traffic_of self.new ≡ heard count (traffic_of self.old) n x job end) }
+    {
+        match end {
+            End::Replied(reply, place, next) => {
+                let session = &mut self.sessions[n];
+                let note = note_of(session, count, What::Replied(job, reply, place));
+                session.next = next;
+                session.go_to(Stage::Idle);
+                self.notes.push_reserved(note);
+            }
+            End::Refused(Refused::Gone) => self.give_up(n, count, What::Gone),
+            End::Refused(Refused::NoMemory) => self.give_up(n, count, What::Busy),
+            End::Refused(Refused::Moved(to)) => self.hear_moved(n, count, job, to),
+        }
+    }
+
+    // It hears that the unit moved.
+    fn hear_moved(&mut self, n: usize, count: u64, job: Job, to: Group)
+        requires room { HasRoom self.old }
+        requires there { n < length self.old.sessions.items }
+        ensures { IfSome (slice_get self.old.sessions.items n)
+            (λ x. traffic_of self.new ≡ heard count (traffic_of self.old) n x job (ends.Refused (causes.Moved to))) }
+    {
+        if job.is_second {
+            self.give_up(n, count, What::Busy);
+            return;
+        }
+        let Job { asked, bytes, .. } = job;
+        self.sessions[n].go_to(Stage::Returned(Job {
+            by_group: to,
+            asked,
+            bytes,
+            is_second: true,
+        }));
+    }
+
+    // A session collects its answer.
+    pub(crate) fn collect(&mut self, n: usize, count: u64)
+        requires { HasRoom self.old }
+        ensures { traffic_of self.new ≡ given (traffic_of self.old) (slice_get self.old.sessions.items n)
+            (λ x. collected count (traffic_of self.old) n x) }
+    {
+        let Some(session) = self.sessions.get_mut(n) else {
+            return;
+        };
+        if let Some((job, end)) = session.stage.take_answered() {
+            self.hear(n, count, job, end);
+        }
+    }
+}
