@@ -235,7 +235,7 @@ impl<'a, B: Blocks, R: Blocks, O: Opener<B>, N: Array<Opened>> Ticket<'a, B, R, 
         self.names.place
     }
 
-    /// Whether this pass is that of its job.
+    // Whether this pass is that of its job.
     pub(crate) fn is_of(&self, pass: &Pass<B, R, O, N>) -> bool
         ensures { MatchBool result
             (handed_of pass.now self.now.names.asked self.now.data_in self.now.names.by_group ≡ self.now) (Unit {0}) }

@@ -36,7 +36,7 @@ pub struct Session {
 }
 
 impl Stage {
-    /// Whether there is no command.
+    // Whether there is no command.
     pub(crate) fn is_idle(&self) -> bool
         ensures { result ≡ is_idle self.now }
     {
