@@ -7,6 +7,8 @@ mod array;
 #[cfg(test)]
 mod behind;
 #[cfg(test)]
+mod clients;
+#[cfg(test)]
 mod discovery;
 #[cfg(test)]
 mod failing;
@@ -14,6 +16,8 @@ mod failing;
 mod fencing;
 #[cfg(test)]
 mod gone;
+#[cfg(test)]
+mod handles;
 #[cfg(test)]
 mod hanging;
 #[cfg(test)]
@@ -25,13 +29,19 @@ mod lanes;
 #[cfg(test)]
 mod latch;
 #[cfg(test)]
+mod lives;
+#[cfg(test)]
 mod logins;
 #[cfg(test)]
 mod medium;
 #[cfg(test)]
+mod memory;
+#[cfg(test)]
 mod no_room;
 #[cfg(test)]
 mod restart;
+#[cfg(test)]
+mod row;
 #[cfg(test)]
 mod stage;
 #[cfg(test)]
