@@ -20,15 +20,15 @@ B told
 "#;
 
 #[test]
-fn both_portals_are_told(rt: HostRuntime) -> Result<(), Fail> {
-    run(&rt, rt.alloc(), &Script::new(FOUND))
+fn both_portals_are_told(rt: HostRuntime) {
+    run(&rt, rt.alloc(), &Script::new(FOUND));
 }
 
 #[test]
-fn the_address_that_was_reached_is_told(rt: HostRuntime) -> Result<(), Fail> {
+fn the_address_that_was_reached_is_told(rt: HostRuntime) {
     let anywhere = Script {
         host: Ipv4Addr::UNSPECIFIED,
         ..Script::new(FOUND)
     };
-    run(&rt, rt.alloc(), &anywhere)
+    run(&rt, rt.alloc(), &anywhere);
 }

@@ -87,9 +87,8 @@ B < GOOD 1:82 36:00000001 44:00000008 / GOOD 36:00000001
 };
 
 #[test]
-fn a_write_an_open_and_a_save_that_fail(rt: HostRuntime) -> Result<(), Fail> {
+fn a_write_an_open_and_a_save_that_fail(rt: HostRuntime) {
     for story in [TORN, UNOPENED, UNSAVED] {
-        run_twice(&rt, rt.alloc(), rt.process(), &story)?;
+        run_twice(&rt, rt.alloc(), rt.process(), &story);
     }
-    Ok(())
 }

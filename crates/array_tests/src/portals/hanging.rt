@@ -144,6 +144,6 @@ A over
 "#;
 
 #[test]
-fn what_hangs_holds_no_other_unit_and_closed_desks_are_busy(rt: HostRuntime) -> Result<(), Fail> {
-    run_each(&rt, rt.alloc(), &[HELD, STUCK, CROWDED, QUEUED, CLOSED])
+fn what_hangs_holds_no_other_unit_and_closed_desks_are_busy(rt: HostRuntime) {
+    run_each(&rt, rt.alloc(), &[HELD, STUCK, CROWDED, QUEUED, CLOSED]);
 }

@@ -1,8 +1,9 @@
 //! One connection of an initiator.
 use std::alloc::Global;
+use std::io;
 use std::io::{ErrorKind, Read, Write};
 use std::net::{Net, Shutdown, SocketAddrV4, TcpListener, TcpStream};
-use std::test::Fail;
+use std::process::Abort;
 use std::time::Duration;
 
 /// So many seconds it waits for an answer.
@@ -37,10 +38,14 @@ fn number_at(pdu: &[u8], place: usize) -> u32 {
     }
 }
 
+// How long the data segment is that a header tells of.
+fn data_length(pdu: &[u8]) -> usize {
+    (number_at(pdu, 4) & 0xFF_FFFF) as usize
+}
+
 /// Whether this is a Text Response with this data segment.
 pub fn is_text(came: &[u8], text: &[u8]) -> bool {
-    let length = (number_at(came, 4) & 0xFF_FFFF) as usize;
-    match came.get(48..length.saturating_add(48)) {
+    match came.get(48..data_length(came).saturating_add(48)) {
         Some(data) => came.first().copied() == Some(0x24) && data == text,
         None => false,
     }
@@ -48,22 +53,24 @@ pub fn is_text(came: &[u8], text: &[u8]) -> bool {
 
 impl Host {
     /// Connects to this portal.
-    pub fn connect<R: Net<Listener = TcpListener, Stream = TcpStream>>(
+    pub fn connect<R: Abort + Net<Listener = TcpListener, Stream = TcpStream>>(
         rt: &R,
         portal: SocketAddrV4,
-    ) -> Result<Host, Fail> {
-        let stream = TcpStream::connect(rt, portal)?;
-        stream.set_read_timeout(Some(Duration::from_secs(PATIENCE)))?;
-        Ok(Host {
+    ) -> Host {
+        let stream = TcpStream::connect(rt, portal).expect(rt, "a connection");
+        stream
+            .set_read_timeout(Some(Duration::from_secs(PATIENCE)))
+            .expect(rt, "a timeout");
+        Host {
             stream,
             number: 0,
             exp_stat_sn: 0,
             piece: usize::MAX,
-        })
+        }
     }
 
     /// Sends a PDU. A request behind the login gets the next tag and CmdSN; Data-Out the tag of the request before.
-    pub fn send(&mut self, pdu: &mut [u8]) -> Result<(), Fail> {
+    pub fn send(&mut self, pdu: &mut [u8]) -> io::Result<()> {
         let opcode = pdu.first().copied().unwrap_or(0) & 0x3F;
         if opcode != 0x03 {
             if opcode != 0x05 {
@@ -77,7 +84,7 @@ impl Host {
     }
 
     /// Sends these bytes.
-    pub fn send_as_is(&self, bytes: &[u8]) -> Result<(), Fail> {
+    pub fn send_as_is(&self, bytes: &[u8]) -> io::Result<()> {
         let mut stream: &TcpStream = &self.stream;
         for piece in bytes.chunks(self.piece.max(1)) {
             stream.write_all(piece)?;
@@ -86,28 +93,33 @@ impl Host {
     }
 
     /// From now on all goes out in pieces of so many bytes.
-    pub fn send_in_pieces(&mut self, piece: usize) -> Result<(), Fail> {
-        self.stream.set_nodelay(true)?;
+    pub fn send_in_pieces(&mut self, piece: usize) -> io::Result<()> {
         self.piece = piece;
-        Ok(())
+        self.stream.set_nodelay(true)
     }
 
     /// Sends no more: for the target its input ends.
-    pub fn end_output(&self) -> Result<(), Fail> {
-        Ok(self.stream.shutdown(Shutdown::Write)?)
+    pub fn end_output(&self) -> io::Result<()> {
+        self.stream.shutdown(Shutdown::Write)
+    }
+
+    // So many bytes that come.
+    fn read<R: Abort>(&self, rt: &R, alloc: Global, length: usize) -> Vec<u8> {
+        let mut bytes = vec![in alloc; 0u8; length].expect(rt, "memory");
+        let mut stream: &TcpStream = &self.stream;
+        stream
+            .read_exact(bytes.as_mut_slice())
+            .expect(rt, "an answer");
+        bytes
     }
 
     /// The next PDU that comes, with its data segment and its padding.
-    pub fn receive(&mut self, alloc: Global) -> Result<Vec<u8>, Fail> {
-        let mut pdu = vec![in alloc; 0u8; 48]?;
-        let mut stream: &TcpStream = &self.stream;
-        stream.read_exact(pdu.as_mut_slice())?;
-        let length = (number_at(pdu.as_slice(), 4) & 0xFF_FFFF) as usize;
-        let mut data = vec![in alloc; 0u8; length.next_multiple_of(4)]?;
-        stream.read_exact(data.as_mut_slice())?;
-        pdu.extend_from_slice(data.as_slice())?;
-        self.count(pdu.as_slice());
-        Ok(pdu)
+    pub fn receive<R: Abort>(&mut self, rt: &R, alloc: Global) -> Vec<u8> {
+        let mut pdu = self.read(rt, alloc, 48);
+        let data = self.read(rt, alloc, data_length(&pdu).next_multiple_of(4));
+        pdu.extend_from_slice(&data).expect(rt, "memory");
+        self.count(&pdu);
+        pdu
     }
 
     // Takes the StatSN of an answer. Data-In and R2T have none of their own.

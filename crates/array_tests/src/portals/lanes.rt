@@ -12,6 +12,7 @@ use numbering::Array;
 use scsi_types::{Command, Group, Sense};
 use std::alloc::Global;
 use std::marker::Brand;
+use std::process::Abort;
 use std::sync::{Arc, Wait};
 use std::test::*;
 use std::thread::{Threads, join};
@@ -246,7 +247,7 @@ where
 }
 
 /// What is played.
-#[derive(Clone, Copy, Debug, PartialEq, Eq)]
+#[derive(Clone, Copy)]
 enum Played {
     OneHangs,
     AllHang,
@@ -295,19 +296,19 @@ where
 }
 
 // Plays it at a desk with four lanes, which serve so many jobs meanwhile.
-fn perform<'a, N: Array<Opened> + Send + Sync, R: Threads + Wait + Send + Sync + Drop>(
+fn perform<'a, N: Array<Opened> + Send + Sync, R: Threads + Wait + Abort + Send + Sync + Drop>(
     rt: &'a R,
     alloc: Global,
     new: Vec<HeldUnit<R>>,
     disk: &'a Latch<R>,
     played: Played,
     by_lanes: u32,
-) -> Result<(), Fail>
+)
     requires named { IsNamed N.book N.table N.opening (λ d. []) new.items }
     requires count { length new.items ≤ 8 }
 {
-    let units = HeldUnits::<R, N>::new(rt, alloc, new)?;
-    let desk = HeldDesk::<R, N>::new(alloc, Group::One)?;
+    let units = HeldUnits::<R, N>::new(rt, alloc, new).expect(rt, "memory");
+    let desk = HeldDesk::<R, N>::new(alloc, Group::One).expect(rt, "memory");
     let taken = Tally::new();
     let scene = Scene {
         rt,
@@ -317,36 +318,30 @@ fn perform<'a, N: Array<Opened> + Send + Sync, R: Threads + Wait + Send + Sync +
         disk,
         taken: &taken,
     };
-    if !share(&scene, played) {
-        return Err("what was told".into());
-    }
-    if taken.count(rt) != by_lanes {
-        return Err("jobs that lanes served".into());
-    }
-    Ok(())
+    assert!(rt; share(&scene, played), "what was told");
+    assert!(rt; taken.count(rt) == by_lanes, "jobs that lanes served");
 }
 
-fn run<R: Threads + Wait + Clone + Send + Sync + Drop>(
+fn run<R: Threads + Wait + Abort + Clone + Send + Sync + Drop>(
     rt: &R,
     alloc: Global,
     played: Played,
     by_lanes: u32,
-) -> Result<(), Fail> {
-    let Ok(disk) = Arc::new(alloc, Latch::open(rt.clone()?)) else {
-        return Err("no memory".into());
-    };
-    let units = two(alloc, &disk)?;
-    perform::<Brand, R>(rt, alloc, units, &disk, played, by_lanes)
+) {
+    let latch = Latch::open(rt.clone().expect(rt, "memory"));
+    let disk = Arc::new(alloc, latch).ok().expect(rt, "memory");
+    let units = two(rt, alloc, &disk);
+    perform::<Brand, R>(rt, alloc, units, &disk, played, by_lanes);
 }
 
 #[test]
-fn a_device_that_hangs_holds_one_lane(rt: HostRuntime) -> Result<(), Fail> {
-    run(&rt, rt.alloc(), Played::OneHangs, 5)
+fn a_device_that_hangs_holds_one_lane(rt: HostRuntime) {
+    run(&rt, rt.alloc(), Played::OneHangs, 5);
 }
 
 // Of the 34 commands the lanes serve 10: those that only they can. The workers of eight sessions serve theirs, 16 out of the
 // queue, since no lane is free.
 #[test]
-fn workers_serve_where_all_lanes_are_held(rt: HostRuntime) -> Result<(), Fail> {
-    run(&rt, rt.alloc(), Played::AllHang, 10)
+fn workers_serve_where_all_lanes_are_held(rt: HostRuntime) {
+    run(&rt, rt.alloc(), Played::AllHang, 10);
 }

@@ -46,6 +46,6 @@ B < GOOD 3:08
 "#;
 
 #[test]
-fn what_one_controller_writes_the_other_reads(rt: HostRuntime) -> Result<(), Fail> {
-    run_each(&rt, rt.alloc(), &[WRITTEN_AND_READ, COMPARED, LONG])
+fn what_one_controller_writes_the_other_reads(rt: HostRuntime) {
+    run_each(&rt, rt.alloc(), &[WRITTEN_AND_READ, COMPARED, LONG]);
 }

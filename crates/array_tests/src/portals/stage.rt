@@ -21,12 +21,12 @@
 use crate::portals::behind::Console;
 use crate::portals::host::{Host, is_text, put};
 use crate::portals::latch::Latch;
-use std::alloc::{AllocError, Global};
+use std::alloc::Global;
 use std::net::{Net, SocketAddrV4, TcpListener, TcpStream};
 use std::process::Abort;
+use std::str::FromStr;
 use std::sync::Wait;
-use std::test::Fail;
-use test_streams::{HOST_A, RowError, WELCOME, lines_of, pdu_of};
+use test_streams::{HOST_A, WELCOME, lines_of, pdu_of};
 
 /// The hosts of a script, and the array that they reach.
 #[derive(Drop)]
@@ -66,30 +66,15 @@ B > TEST_UNIT_READY
 B < CHECK_CONDITION 0012 70000600000000 0A00000000 2900 00000000
 "#;
 
-// A unit's place.
-fn unit_of(word: &str) -> Result<u8, Fail> {
-    let Ok(unit) = word.parse() else {
-        return Err("a unit".into());
-    };
-    Ok(unit)
-}
-
 // What initiators are told of the target: both portals, each with the tag of its group (RFC 7143, appendix C).
-fn told(alloc: Global, portals: [SocketAddrV4; 2]) -> Result<String, AllocError> {
+fn told<R: Abort>(rt: &R, alloc: Global, portals: [SocketAddrV4; 2]) -> String {
     let [first, second] = portals;
     format!(in alloc;
         "TargetName=iqn.2000-01.test:array\0TargetAddress=127.0.0.1:{},1\0TargetAddress=127.0.0.1:{},2\0",
         first.port(),
         second.port()
     )
-}
-
-// A decimal number.
-fn number_of(word: &str) -> Result<u32, Fail> {
-    let Ok(number) = word.parse() else {
-        return Err("a number".into());
-    };
-    Ok(number)
+    .expect(rt, "memory")
 }
 
 impl<
@@ -121,24 +106,20 @@ impl<
     }
 
     /// Does what the lines of a script say.
-    pub fn perform(&mut self, script: &'a str) -> Result<(), Fail> {
-        let lines = lines_of(self.alloc, script)?;
-        for line in &lines {
+    pub fn perform(&mut self, script: &'a str) {
+        for line in &lines_of(self.alloc, script).expect(self.rt, "memory") {
             if *line == "A and B" {
-                self.obey_all(A_AND_B)?;
+                self.obey_all(A_AND_B);
             } else {
-                self.obey(line)?;
+                self.obey(line);
             }
         }
-        Ok(())
     }
 
-    fn obey_all(&mut self, script: &'a str) -> Result<(), Fail> {
-        let lines = lines_of(self.alloc, script)?;
-        for line in &lines {
-            self.obey(line)?;
+    fn obey_all(&mut self, script: &'a str) {
+        for line in &lines_of(self.alloc, script).expect(self.rt, "memory") {
+            self.obey(line);
         }
-        Ok(())
     }
 
     /// The hosts, as they are behind it.
@@ -147,13 +128,27 @@ impl<
     }
 
     // The host of this name.
-    fn host(&mut self, name: &str) -> Result<&mut Host, Fail> {
-        let place = self.names.iter().position(|n| *n == name).ok_or("a host")?;
-        Ok(self.hosts.get_mut(place).ok_or("a host")?)
+    fn host(&mut self, name: &str) -> &mut Host {
+        let rt = self.rt;
+        let place = self.names.iter().position(|n| *n == name).expect(rt, name);
+        self.hosts.get_mut(place).expect(rt, name)
     }
 
-    fn obey(&mut self, line: &'a str) -> Result<(), Fail> {
-        let (who, rest) = line.split_once(' ').ok_or("a line")?;
+    // A decimal number.
+    fn number<T: FromStr>(&self, word: &str) -> T
+    where
+        T::Err: Drop,
+    {
+        word.parse().ok().expect(self.rt, word)
+    }
+
+    // The two words or lines with this between them.
+    fn split<'b>(&self, line: &'b str, between: &str) -> (&'b str, &'b str) {
+        line.split_once(between).expect(self.rt, line)
+    }
+
+    fn obey(&mut self, line: &'a str) {
+        let (who, rest) = self.split(line, " ");
         let (verb, rest) = rest.split_once(' ').unwrap_or((rest, ""));
         match verb {
             "at" => self.connect(who, rest),
@@ -163,34 +158,19 @@ impl<
             "<" => self.compare(who, rest),
             ">>" => self.send_as_is(who, rest),
             "<<" => self.compare_exactly(who, rest),
-            "pieces" => {
-                let piece = number_of(rest)? as usize;
-                self.host(who)?.send_in_pieces(piece)
-            }
+            "pieces" => self.send_in_pieces(who, rest),
             "cut" => self.cut(who, rest),
             "told" => self.compare_text(who),
             "over" => self.end(who),
-            "race" => self.race(who, rest),
-            "enter" => self.enter(number_of(who)?, rest),
+            "race" => self.race(rest),
+            "enter" => self.enter(who, rest),
             "leave" => self.leave(rest),
-            "hold" => {
-                self.latch(who).hold(Some(unit_of(rest)?));
-                Ok(())
-            }
-            "held" => {
-                self.latch(who).await_held(number_of(rest)?);
-                Ok(())
-            }
-            "open" => {
-                self.latch(who).hold(None);
-                Ok(())
-            }
+            "hold" => self.latch(who).hold(Some(self.number(rest))),
+            "held" => self.latch(who).await_held(self.number(rest)),
+            "open" => self.latch(who).hold(None),
             "shows" => self.compare_row(who, rest),
-            "close" => {
-                self.behind.close();
-                Ok(())
-            }
-            _ => Err("a verb".into()),
+            "close" => self.behind.close(),
+            _ => panic!(self.rt; "{line}"),
         }
     }
 
@@ -200,7 +180,7 @@ impl<
     }
 
     // What this line spells.
-    fn spelled(&self, line: &str) -> Result<Vec<u8>, RowError> {
+    fn spelled(&self, line: &str) -> Vec<u8> {
         let texts = [
             ("HOST_A", HOST_A),
             ("HOST_B", HOST_B),
@@ -209,186 +189,168 @@ impl<
             ("WELCOME_2", WELCOME_2),
             ("WON", self.won),
         ];
-        pdu_of(self.alloc, &texts, line)
+        pdu_of(self.alloc, &texts, line).expect(self.rt, line)
     }
 
-    // The portal of a controller.
-    fn portal(&self, controller: &str) -> Result<SocketAddrV4, Fail> {
-        match controller {
-            "1" => Ok(self.portals[0]),
-            "2" => Ok(self.portals[1]),
-            _ => Err("a controller".into()),
-        }
+    // A connection to the portal of a controller.
+    fn connected(&self, controller: &str) -> Host {
+        let [first, second] = self.portals;
+        Host::connect(self.rt, if controller == "1" { first } else { second })
     }
 
-    fn connect(&mut self, name: &'a str, controller: &str) -> Result<(), Fail> {
-        let host = Host::connect(self.rt, self.portal(controller)?)?;
-        self.names.push(name)?;
-        self.hosts.push(host)?;
-        Ok(())
+    fn connect(&mut self, name: &'a str, controller: &str) {
+        let host = self.connected(controller);
+        self.names.push(name).expect(self.rt, name);
+        self.hosts.push(host).expect(self.rt, name);
     }
 
-    fn send(&mut self, name: &str, line: &str) -> Result<(), Fail> {
-        let mut pdu = self.spelled(line)?;
-        self.host(name)?.send(pdu.as_mut_slice())
+    fn send(&mut self, name: &str, line: &str) {
+        let mut pdu = self.spelled(line);
+        let sent = self.host(name).send(pdu.as_mut_slice());
+        sent.expect(self.rt, line);
     }
 
-    fn send_as_is(&mut self, name: &str, line: &str) -> Result<(), Fail> {
-        let pdu = self.spelled(line)?;
-        self.host(name)?.send_as_is(pdu.as_slice())
+    fn send_as_is(&mut self, name: &str, line: &str) {
+        let pdu = self.spelled(line);
+        let sent = self.host(name).send_as_is(pdu.as_slice());
+        sent.expect(self.rt, line);
     }
 
-    fn cut(&mut self, name: &str, line: &str) -> Result<(), Fail> {
-        let (length, line) = line.split_once(' ').ok_or("a PDU")?;
-        let length = number_of(length)? as usize;
-        let pdu = self.spelled(line)?;
-        let host = self.host(name)?;
-        host.send_as_is(pdu.as_slice().get(..length).ok_or("a longer PDU")?)?;
-        host.end_output()
+    fn send_in_pieces(&mut self, name: &str, length: &str) {
+        let length = self.number(length);
+        let done = self.host(name).send_in_pieces(length);
+        done.expect(self.rt, name);
+    }
+
+    fn cut(&mut self, name: &str, line: &str) {
+        let (length, line) = self.split(line, " ");
+        let length = self.number(length);
+        let mut pdu = self.spelled(line);
+        pdu.truncate(length);
+        let sent = self.host(name).send_as_is(pdu.as_slice());
+        sent.expect(self.rt, line);
+        let done = self.host(name).end_output();
+        done.expect(self.rt, line);
+    }
+
+    // What comes to a host.
+    fn received(&mut self, name: &str) -> Vec<u8> {
+        let (rt, alloc) = (self.rt, self.alloc);
+        self.host(name).receive(rt, alloc)
     }
 
     // Whether what came to a host is what this line spells.
-    fn is_answer(&mut self, name: &str, came: &[u8], line: &str) -> Result<bool, Fail> {
-        let mut wanted = self.spelled(line)?;
-        let host = self.host(name)?;
-        Ok(host.is_answer(came, wanted.as_mut_slice()))
+    fn is_answer(&mut self, name: &str, came: &[u8], line: &str) -> bool {
+        let mut wanted = self.spelled(line);
+        self.host(name).is_answer(came, wanted.as_mut_slice())
     }
 
     // Whether what came to a host is what one of these lines spells.
-    fn is_one_of(&mut self, name: &str, came: &[u8], lines: &str) -> Result<bool, Fail> {
+    fn is_one_of(&mut self, name: &str, came: &[u8], lines: &str) -> bool {
         for line in lines.split(" / ") {
-            if self.is_answer(name, came, line)? {
-                return Ok(true);
+            if self.is_answer(name, came, line) {
+                return true;
             }
         }
-        Ok(false)
+        false
     }
 
-    fn compare(&mut self, name: &str, lines: &str) -> Result<(), Fail> {
-        let alloc = self.alloc;
-        let came = self.host(name)?.receive(alloc)?;
-        let is_one = self.is_one_of(name, came.as_slice(), lines)?;
+    fn compare(&mut self, name: &str, lines: &str) {
+        let came = self.received(name);
+        let is_one = self.is_one_of(name, came.as_slice(), lines);
         assert!(self.rt; is_one, "{name} < {lines}, and not {came:?}");
-        Ok(())
     }
 
-    fn compare_exactly(&mut self, name: &str, line: &str) -> Result<(), Fail> {
-        let alloc = self.alloc;
-        let wanted = self.spelled(line)?;
-        let came = self.host(name)?.receive(alloc)?;
-        assert_eq!(self.rt; came.as_slice(), wanted.as_slice(), "{name} << {line}");
-        Ok(())
+    fn compare_exactly(&mut self, name: &str, line: &str) {
+        let wanted = self.spelled(line);
+        let came = self.received(name);
+        assert!(self.rt; came == wanted, "{name} << {line}, and not {came:?}");
     }
 
-    fn compare_text(&mut self, name: &str) -> Result<(), Fail> {
-        let alloc = self.alloc;
-        let wanted = told(alloc, self.portals)?;
-        let came = self.host(name)?.receive(alloc)?;
+    fn compare_text(&mut self, name: &str) {
+        let wanted = told(self.rt, self.alloc, self.portals);
+        let came = self.received(name);
         let is_told = is_text(came.as_slice(), wanted.as_bytes());
         assert!(self.rt; is_told, "{name} told {wanted}, and not {came:?}");
-        Ok(())
     }
 
-    fn end(&mut self, name: &str) -> Result<(), Fail> {
-        let is_over = self.host(name)?.is_over();
+    fn end(&mut self, name: &str) {
+        let is_over = self.host(name).is_over();
         assert!(self.rt; is_over, "{name} over");
-        Ok(())
     }
 
-    fn race(&mut self, names: &str, lines: &str) -> Result<(), Fail> {
-        let (first, second) = lines.split_once(" / ").ok_or("two answers")?;
-        let alloc = self.alloc;
-        let came = self.host("A")?.receive(alloc)?;
-        if self.is_answer("A", came.as_slice(), first)? {
-            self.won = "a";
-            return self.compare("B", second);
+    fn race(&mut self, lines: &str) {
+        let (first, second) = self.split(lines, " / ");
+        let came = self.received("A");
+        let is_first = self.is_answer("A", came.as_slice(), first);
+        self.won = if is_first { "a" } else { "b" };
+        let is_one = self.is_one_of("A", came.as_slice(), lines);
+        assert!(self.rt; is_one, "A race {lines}, and not {came:?}");
+        self.compare("B", if is_first { second } else { first });
+    }
+
+    fn enter(&mut self, count: &str, line: &str) {
+        let (controller, line) = self.split(line, " ");
+        let mut pdu = self.spelled(line);
+        for number in 0..self.number(count) {
+            let mut host = self.connected(controller);
+            log_in(self.rt, self.alloc, &mut host, pdu.as_mut_slice(), number);
+            self.crowd.push(host).expect(self.rt, line);
         }
-        self.won = "b";
-        let is_answer = self.is_answer("A", came.as_slice(), second)?;
-        assert!(self.rt; is_answer, "{names} race {lines}, and not {came:?}");
-        self.compare("B", first)
     }
 
-    fn enter(&mut self, count: u32, line: &str) -> Result<(), Fail> {
-        let (controller, line) = line.split_once(' ').ok_or("a login")?;
-        let portal = self.portal(controller)?;
-        let mut pdu = self.spelled(line)?;
-        for number in 0..count {
-            let host = entered(self.rt, self.alloc, portal, pdu.as_mut_slice(), number)?;
-            self.crowd.push(host)?;
-        }
-        Ok(())
-    }
-
-    fn send_all(&mut self, line: &str) -> Result<(), Fail> {
-        let mut pdu = self.spelled(line)?;
+    fn send_all(&mut self, line: &str) {
+        let mut pdu = self.spelled(line);
         for host in &mut self.crowd {
-            host.send(pdu.as_mut_slice())?;
+            host.send(pdu.as_mut_slice()).expect(self.rt, line);
         }
-        Ok(())
     }
 
-    fn compare_all(&mut self, line: &str) -> Result<(), Fail> {
-        let mut wanted = self.spelled(line)?;
+    fn compare_all(&mut self, line: &str) {
+        let mut wanted = self.spelled(line);
         for host in &mut self.crowd {
-            compare_one(self.rt, self.alloc, host, wanted.as_mut_slice())?;
+            compare_one(self.rt, self.alloc, host, wanted.as_mut_slice());
         }
-        Ok(())
     }
 
-    fn compare_row(&self, unit: &str, entries: &str) -> Result<(), Fail> {
-        let shown = self.behind.entries(unit_of(unit)?);
-        let wanted = u64::from(number_of(entries)?);
+    fn compare_row(&self, unit: &str, entries: &str) {
+        let shown = self.behind.entries(self.number(unit));
+        let wanted: u64 = self.number(entries);
         assert!(self.rt;
             shown == Some(wanted),
             "{unit} shows {entries}, and not {shown:?}"
         );
-        Ok(())
     }
 
-    fn leave(&mut self, line: &str) -> Result<(), Fail> {
-        let mut pdu = self.spelled(line)?;
+    fn leave(&mut self, line: &str) {
+        let mut pdu = self.spelled(line);
         for host in &mut self.crowd {
-            leave(self.rt, self.alloc, host, pdu.as_mut_slice())?;
+            leave(self.rt, self.alloc, host, pdu.as_mut_slice());
         }
-        Ok(())
     }
 }
 
-// A host that logs in by this PDU, with another ISID for each number.
-fn entered<R: Abort + Net<Listener = TcpListener, Stream = TcpStream>>(
-    rt: &R,
-    alloc: Global,
-    portal: SocketAddrV4,
-    pdu: &mut [u8],
-    number: u32,
-) -> Result<Host, Fail> {
-    let mut host = Host::connect(rt, portal)?;
+// A host logs in by this PDU, with another ISID for each number.
+fn log_in<R: Abort>(rt: &R, alloc: Global, host: &mut Host, pdu: &mut [u8], number: u32) {
     put(pdu, 10, 0x0137_0100 | number);
-    host.send(pdu)?;
-    let came = host.receive(alloc)?;
-    assert_eq!(rt; came.first(), Some(&0x23), "{number}");
-    assert_eq!(rt; came.get(36..38), Some([0u8, 0].as_slice()), "{number}");
-    Ok(host)
+    host.send(pdu).expect(rt, "a login");
+    let came = host.receive(rt, alloc);
+    let is_in = came.first() == Some(&0x23) && came.get(36..38) == Some([0u8, 0].as_slice());
+    assert!(rt; is_in, "{number} enter: {came:?}");
 }
 
 // A host is answered by this.
-fn compare_one<R: Abort>(
-    rt: &R,
-    alloc: Global,
-    host: &mut Host,
-    wanted: &mut [u8],
-) -> Result<(), Fail> {
-    let came = host.receive(alloc)?;
+fn compare_one<R: Abort>(rt: &R, alloc: Global, host: &mut Host, wanted: &mut [u8]) {
+    let came = host.receive(rt, alloc);
     assert!(rt; host.is_answer(came.as_slice(), wanted), "all < {came:?}");
-    Ok(())
 }
 
 // A host that sends this logs out.
-fn leave<R: Abort>(rt: &R, alloc: Global, host: &mut Host, pdu: &mut [u8]) -> Result<(), Fail> {
-    host.send(pdu)?;
-    let came = host.receive(alloc)?;
-    assert_eq!(rt; came.first(), Some(&0x26));
-    assert!(rt; host.is_over());
-    Ok(())
+fn leave<R: Abort>(rt: &R, alloc: Global, host: &mut Host, pdu: &mut [u8]) {
+    host.send(pdu).expect(rt, "a logout");
+    let came = host.receive(rt, alloc);
+    assert!(rt;
+        came.first() == Some(&0x26) && host.is_over(),
+        "all leave: {came:?}"
+    );
 }

@@ -133,6 +133,6 @@ D over
 "#;
 
 #[test]
-fn pieces_numbers_and_refused_logins(rt: HostRuntime) -> Result<(), Fail> {
-    run_each(&rt, rt.alloc(), &[IN_PIECES, NUMBERED, REFUSED])
+fn pieces_numbers_and_refused_logins(rt: HostRuntime) {
+    run_each(&rt, rt.alloc(), &[IN_PIECES, NUMBERED, REFUSED]);
 }

@@ -1,24 +1,23 @@
 //! Units in memory and over files, before they are shared.
-ghost use Rattle.std.specs.Prelude.{◌≡◌, ◌≤◌, IfOk, length};
-ghost use Rattle.unit_state.specs.Serials.{IsOpening};
+ghost use Rattle.std.specs.Prelude.{◌≡◌, ◌<◌, ◌≤◌, length};
 
-use crate::common::new_unit;
 use crate::portals::held::HeldBlocks;
 use crate::portals::latch::Latch;
-use aptpl_file::RegFile;
-use block_file::{FusedBlocks, FusedOpener, KeepOpener, MemBlocks};
+use aptpl_file::{FILE_BLOCKS, RegFile};
+use block_file::{Blocks, FusedBlocks, FusedOpener, KeepOpener, MemBlocks, Opener};
 use disk_files::{DiskLock, FileBlocks, open_disk, open_registrations};
+use reservations::Record;
 use scsi_types::Place;
 use std::alloc::Global;
 use std::fs::File;
+use std::process::Abort;
 use std::rt::Files;
 use std::sync::{Arc, Wait};
-use std::test::Fail;
 use unit_history::NewUnit;
 use unit_state::{Unit, laws};
 
 /// So many blocks a unit in memory has.
-const BLOCKS: u32 = 2048;
+pub const BLOCKS: u32 = 2048;
 
 /// A unit in memory, whose device may hang.
 pub type HeldUnit<R> = NewUnit<HeldBlocks<MemBlocks, R>, MemBlocks, KeepOpener>;
@@ -29,38 +28,85 @@ type FusedFile = FusedBlocks<FileBlocks<File>>;
 /// A unit over a file, with its registration file, which may fail.
 pub type FileUnit = NewUnit<FusedFile, FusedFile, FusedOpener<KeepOpener>>;
 
-// A unit of zeros, which holds no registrations, and whose device hangs at this latch.
-fn in_memory<R: Wait + Drop>(
+// Blocks of zeros.
+fn zeros<R: Abort>(rt: &R, alloc: Global, count: u32) -> MemBlocks {
+    MemBlocks::new(alloc, count).expect(rt, "memory")
+}
+
+/// The unit at a place over this device, whose registration file lies in memory and holds no registrations.
+pub fn in_memory<R: Abort, B: Blocks>(
+    rt: &R,
+    alloc: Global,
+    place: Place,
+    blocks: B,
+) -> NewUnit<B, MemBlocks, KeepOpener> {
+    assert!(rt; blocks.count() > 0);
+    let file = RegFile::format(zeros(rt, alloc, FILE_BLOCKS)).expect(rt, "a registration file");
+    laws::nobody_is_attached_at_first();
+    let unit = Unit::open(alloc, place, blocks, KeepOpener, file, Record::empty(alloc)).expect(
+        rt, "memory",
+    );
+    NewUnit::new(alloc, unit).expect(rt, "memory")
+}
+
+/// The one unit of an array, of so many blocks.
+pub fn one<R: Abort>(
+    rt: &R,
+    alloc: Global,
+    blocks: u32,
+) -> Vec<NewUnit<MemBlocks, MemBlocks, KeepOpener>>
+    ensures { length result.items ≤ 8 }
+{
+    let place = Place {
+        unit: 0,
+        units: 1,
+        array: 1,
+    };
+    let mut units = Vec::new(alloc);
+    let unit = in_memory(rt, alloc, place, zeros(rt, alloc, blocks));
+    units.push(unit).expect(rt, "memory");
+    units
+}
+
+// Unit 0 or 1 of an array, whose device hangs at this latch.
+fn held<R: Wait + Abort + Drop>(
+    rt: &R,
     alloc: Global,
     unit: u8,
     latch: &Arc<Latch<R>, Global>,
-) -> Result<HeldUnit<R>, Fail> {
-    let blocks = HeldBlocks {
-        inner: MemBlocks::new(alloc, BLOCKS)?,
+) -> HeldUnit<R> {
+    let place = Place {
         unit,
-        latch: Arc::try_clone(latch)?,
+        units: 2,
+        array: 1,
     };
-    new_unit(alloc, blocks, KeepOpener, unit, 2)
+    let blocks = HeldBlocks {
+        inner: zeros(rt, alloc, BLOCKS),
+        unit,
+        latch: Arc::try_clone(latch).expect(rt, "memory"),
+    };
+    in_memory(rt, alloc, place, blocks)
 }
 
 /// Units 0 and 1, in memory, whose devices hang at this latch.
-pub fn two<R: Wait + Drop>(
+pub fn two<R: Wait + Abort + Drop>(
+    rt: &R,
     alloc: Global,
     latch: &Arc<Latch<R>, Global>,
-) -> Result<Vec<HeldUnit<R>>, Fail>
-    ensures { IfOk result (λ v. length v.items ≤ 8) }
+) -> Vec<HeldUnit<R>>
+    ensures { length result.items ≤ 8 }
 {
     let mut units = Vec::new(alloc);
-    units.push(in_memory(alloc, 0, latch)?)?;
-    units.push(in_memory(alloc, 1, latch)?)?;
-    Ok(units)
+    units.push(held(rt, alloc, 0, latch)).expect(rt, "memory");
+    units.push(held(rt, alloc, 1, latch)).expect(rt, "memory");
+    units
 }
 
 // The calls of a registration file's device when it is opened: the root, the slot, and a flush.
 const OPEN_CALLS: u64 = 3;
 
 /// When the devices of a unit and its opener fail.
-#[derive(Clone, Copy, Debug)]
+#[derive(Clone, Copy)]
 pub struct Faults {
     /// So many calls of its blocks pass, and none behind them. The first of these, as a write, lands so many blocks of its run.
     pub passed: u64,
@@ -79,35 +125,41 @@ pub const NO_FAULTS: Faults = Faults {
     opened: u64::MAX,
 };
 
-/// The unit over the file of this name, which fails so, and its lock.
-pub fn over_file<R: Files<File = File> + Clone + Drop>(
+// The registration file beside the file of this name, which fails so, and what it holds.
+fn registrations<R: Files<File = File> + Abort>(
     rt: &R,
     alloc: Global,
     path: &str,
     faults: Faults,
-) -> Result<(Vec<FileUnit>, DiskLock), Fail>
-    ensures { IfOk result (λ r. length r.0.items ≤ 8) }
+) -> (RegFile<FusedFile>, Record) {
+    let (file, _) = open_registrations(rt, alloc, path).expect(rt, path);
+    let fused = FusedBlocks::new(file.close(), faults.saving.saturating_add(OPEN_CALLS));
+    RegFile::open(alloc, fused).expect(rt, path)
+}
+
+/// The unit over the file of this name, which fails so, and its lock.
+pub fn over_file<R: Files<File = File> + Abort + Clone + Drop>(
+    rt: &R,
+    alloc: Global,
+    path: &str,
+    faults: Faults,
+) -> (Vec<FileUnit>, DiskLock)
+    ensures { length result.0.items ≤ 8 }
 {
     let place = Place {
         unit: 0,
         units: 1,
         array: 1,
     };
-    let Ok(disk) = open_disk(rt.clone()?, alloc, path) else {
-        return Err("a disk".into());
-    };
-    let Ok((file, _)) = open_registrations(rt, alloc, path) else {
-        return Err("a registration file".into());
-    };
-    let fused = FusedBlocks::new(file.close(), faults.saving.saturating_add(OPEN_CALLS));
-    let Ok((file, record)) = RegFile::open(alloc, fused) else {
-        return Err("a registration file".into());
-    };
+    let disk = open_disk(rt.clone().expect(rt, path), alloc, path).expect(rt, path);
+    let (file, record) = registrations(rt, alloc, path, faults);
     let blocks = FusedBlocks::inside(disk.blocks, faults.passed, faults.landed);
+    assert!(rt; blocks.count() > 0);
     let opener = FusedOpener::new(KeepOpener, faults.opened);
     laws::nobody_is_attached_at_first();
-    let unit = Unit::open(alloc, place, blocks, opener, file, record)?;
+    let unit = Unit::open(alloc, place, blocks, opener, file, record).expect(rt, path);
     let mut units = Vec::new(alloc);
-    units.push(NewUnit::new(alloc, unit)?)?;
-    Ok((units, disk.lock))
+    let unit = NewUnit::new(alloc, unit).expect(rt, path);
+    units.push(unit).expect(rt, path);
+    (units, disk.lock)
 }

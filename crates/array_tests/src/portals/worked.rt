@@ -147,6 +147,6 @@ all < GOOD 36:00000001
 "#;
 
 #[test]
-fn the_worked_examples_through_both_controllers(rt: HostRuntime) -> Result<(), Fail> {
-    run_each(&rt, rt.alloc(), &[ASKED, WRITTEN, MOVED, RESERVED])
+fn the_worked_examples_through_both_controllers(rt: HostRuntime) {
+    run_each(&rt, rt.alloc(), &[ASKED, WRITTEN, MOVED, RESERVED]);
 }

@@ -4,7 +4,7 @@ use Rattle.array_tests.proofs.portals.array.run.Given as goal
 
 abbrev pub ghosts-perform : goal.ghosts-perform
 ghosts-perform g a = record {
-  book = book_of a.new.items;
-  table = table_of a.new.items;
-  opening = opening_of (λ d. []) a.new.items;
+  book = book_of a.units.items;
+  table = table_of a.units.items;
+  opening = opening_of (λ d. []) a.units.items;
 }
