@@ -1,8 +1,8 @@
 //! Persistent reservations: who registers, who is fenced, who hears of it (SPC-4, 5.13, 6.15 and 6.16).
-use crate::bench::Call::{Attach, Forward, Send};
+use crate::bench::Call::{Attach, Detach, Forward, Send};
 use crate::bench::Fuse;
 use crate::bytes::Runs;
-use crate::run::End::{Attached, Check, Conflict, Good};
+use crate::run::End::{Attached, Check, Conflict, Done, Good};
 use crate::run::{ALWAYS, FIRST, Row, Script, UNSAVED, run, table};
 use scsi_types::Group::{One, Two};
 use std::test::Fail;
@@ -173,7 +173,17 @@ fn who_is_fenced(rt: HostRuntime) -> Result<(), Fail> {
     Ok(())
 }
 
-/// The first has key 11h, 63 others have 22h, and the first preempts these.
+/// Behind 64 sessions that are registered, each by three entries: there is no room for a 65th registrant.
+const FULL: &[Row] = table! {
+    "the last session ends, and stays registered": Detach(63) => Done;
+    "a new nexus attaches": Attach(64, One) => Attached(193);
+    "its power on": Send(64, TEST, &[]) => Check(0x06, 0x29, 0x00);
+    "a 65th registrant": Send(64, REGISTER, REGISTER_33) => Check(0x05, 0x55, 0x04);
+    "the first by every port": Send(0, "5F 06 00 0000 00000018", EVERY_PORT_11) => Check(0x05, 0x55, 0x04);
+    "64 changes, and as many keys": Send(0, "5E 00 0000000000 0008", &[]) => Good(&[(1, "00 00 00 40 00 00 02 00")]);
+};
+
+/// The first has key 11h, 63 others have 22h, and no other can register. The first preempts these.
 #[test]
 fn all_others_are_preempted(rt: HostRuntime) -> Result<(), Fail> {
     let mut rows: Vec<Row> = Vec::new(rt.alloc());
@@ -192,6 +202,9 @@ fn all_others_are_preempted(rt: HostRuntime) -> Result<(), Fail> {
         ))?;
         rows.push(("it registers", Send(session, REGISTER, list), Good(&[])))?;
     }
+    for row in FULL {
+        rows.push(*row)?;
+    }
     let preempt: Runs = &[(7, "00"), (1, "11"), (7, "00"), (1, "22"), (8, "00")];
     rows.push((
         "the first preempts",
@@ -200,7 +213,7 @@ fn all_others_are_preempted(rt: HostRuntime) -> Result<(), Fail> {
     ))?;
     let keys: Runs = &[(1, "00 00 00 41 00 00 00 08"), (7, "00"), (1, "11")];
     rows.push(("its key alone", Send(0, READ_KEYS, &[]), Good(keys)))?;
-    for session in 1..64 {
+    for session in 1..63 {
         rows.push((
             "another hears of it",
             Send(session, TEST, &[]),
