@@ -30,8 +30,10 @@ def copy(to):
     wanted = below([PROGRAM], needs())
     os.makedirs(f"{to}/.git")
     for name in wanted:
-        left_out = shutil.ignore_patterns("out", "must-fail", "wrong-bodies")
-        shutil.copytree(f"{TOP}/crates/{name}", f"{to}/crates/{name}", ignore=left_out)
+        crate = f"{TOP}/crates/{name}"
+        # (a folder in proofs/ may have these names too)
+        left_out = lambda at, _, crate=crate: ["out", "must-fail", "wrong-bodies"] if at == crate else []
+        shutil.copytree(crate, f"{to}/crates/{name}", ignore=left_out)
     shutil.copy(f"{TOP}/HANDLES", to)
     with open(f"{TOP}/crates.txt", encoding="utf-8") as lines, open(f"{to}/crates.txt", "w", encoding="utf-8") as file:
         file.writelines(line for line in lines if re.split(r"[\s:]", line, maxsplit=1)[0] in wanted)
