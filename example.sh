@@ -1,36 +1,69 @@
 #!/bin/sh
-# Makes a disk of 1 MiB, starts the array on it with both controllers' portals on the loopback, and does with it what a host
-# does first: finds it, logs in through both controllers, writes, reads through the other one, compares.
-# bench/first_steps.py says each step; then the array is told `status` and `quit`. Wants python3.
+# The array's main job, as a user first meets it: makes a disk of 1 MiB in a temporary folder, starts the array on it with both
+# controllers' portals on the loopback, and does with it what a host does: finds it, logs in through both controllers, writes,
+# reads through the other one, compares, COMPARE AND WRITE, reserves, moves the unit. bench/first_steps.py says each step; then
+# the array is told `status` and `quit`. Ends with status 1 where a step fails. Wants the toolchain's command rt, and python3.
 #
-#   ./example.sh               proves and builds the program first, where that was not done before
-#   ./example.sh --unproved    a look in a minute: one session over memory, with nothing proved of the program that serves it
+#   ./example.sh             in two minutes on two cores: compiles the program, but proves nothing of it
+#   ./example.sh --proved    proves the program and all that it stands on first, which takes an hour where that was not done
+#                            before; it lies at the top as ./arrayd then
 set -e
 cd "$(dirname "$0")"
-place=$(mktemp -d)
-array_pid=
-trap 'test -z "$array_pid" || kill "$array_pid" 2> /dev/null || true; rm -rf "$place"' EXIT
-if [ "$*" = --unproved ]; then
-    cd crates/arrayd
-    rt try -- --once < stdin > "$place/told"
-    cmp "$place/told" stdout
-    echo "one session was served, unproved: $(wc -c < stdin) bytes came, $(wc -c < stdout) went out, as they must be"
-    exit
-fi
-if [ $# -ne 0 ]; then
-    echo 'usage: ./example.sh [--unproved]' >&2
+if [ "$*" != '' ] && [ "$*" != --proved ]; then
+    echo 'usage: ./example.sh [--proved]' >&2
     exit 2
 fi
-(cd crates/arrayd && rt run -- --once < stdin > /dev/null)
-port=$((20000 + $$ % 10000))
+for wanted in rt python3; do
+    if ! command -v "$wanted" > /dev/null; then
+        echo "example.sh wants the command $wanted, which is not in PATH" >&2
+        exit 1
+    fi
+done
+place=$(mktemp -d)
+maker_pid=
+array_pid=
+# Nothing that was started here stays, however this ends.
+clean() {
+    for pid in $maker_pid $array_pid; do
+        kill "$pid" 2> /dev/null || true
+    done
+    wait
+    rm -rf "$place"
+}
+trap clean EXIT
+trap 'exit 130' INT
+trap 'exit 143' TERM HUP
+# where the array has ended by itself, its console is told all the same
+trap 'exit 1' PIPE
+
+# A command that may take long, so that a signal ends it too.
+make_program() {
+    "$@" &
+    maker_pid=$!
+    wait "$maker_pid"
+    maker_pid=
+}
+
+if [ "$*" = --proved ]; then
+    echo 'proving arrayd and each crate that it stands on; what an earlier run proved is kept'
+    make_program python3 bench/prove.py
+    ARRAYD=./arrayd
+    echo 'the proved program lies here as ./arrayd'
+else
+    echo 'compiling arrayd, in about a minute: it runs unproved here (./example.sh --proved proves it first)'
+    make_program python3 bench/unproved.py program "$place/arrayd"
+    ARRAYD=$place/arrayd
+fi
 . bench/array.sh
 
 truncate -s 1M "$place/disk.img"
+echo 'a disk of 1 MiB is made'
+port=$(python3 bench/free_port.py)
 start_array "$place/lines" --port "$port" "$place/disk.img"
-echo "arrayd listens at 127.0.0.1, ports $port and $((port + 4))"
+echo "arrayd listens at 127.0.0.1: controller 1 at port $port, controller 2 at port $((port + 4))"
 python3 bench/first_steps.py 127.0.0.1 "$port"
 tell_array status
 stop_array
 array_pid=
-sed -n '2,$p' "$place/lines"
+echo "status: $(sed -n '2,$p' "$place/lines")"
 echo 'the array was told to quit, and has ended'

@@ -2,14 +2,18 @@
 #
 #   start_array LOG WORD..    starts arrayd with these words, waits until it listens; its lines of standard output go to LOG
 #   tell_array LINE           writes a line to its standard input
-#   stop_array                tells it `quit`, and waits
+#   stop_array                tells it `quit`, and waits a minute at most
 
 # The scripts run at the top of the repository.
-ARRAYD=${ARRAYD:-crates/arrayd/out/arrayd}
+ARRAYD=${ARRAYD:-./arrayd}
 
 start_array() {
     log=$1
     shift
+    if [ ! -x "$ARRAYD" ]; then
+        echo "there is no program $ARRAYD: ./example.sh --proved makes ./arrayd" >&2
+        return 1
+    fi
     console=$(mktemp -u)
     mkfifo "$console"
     : > "$log"
@@ -37,5 +41,14 @@ tell_array() {
 stop_array() {
     echo quit >&9
     exec 9>&-
+    tries=0
+    while kill -0 "$array_pid" 2> /dev/null; do
+        tries=$((tries + 1))
+        if [ $tries -gt 600 ]; then
+            echo 'arrayd does not end' >&2
+            return 1
+        fi
+        sleep 0.1
+    done
     wait "$array_pid"
 }

@@ -7,7 +7,7 @@ client, and the Debian package tgt where no other program is named.
 
 usage: bench/beside.py [--seconds N] [--runs N] [--only WORDS] [--size MIB] [--before PROGRAM] [--controller C]
 
-The program is $ARRAYD, or crates/arrayd/out/arrayd. Sessions go through controller C of an arrayd; 1 owns the unit.
+The program is $ARRAYD, or ./arrayd. Sessions go through controller C of an arrayd; 1 owns the unit.
 """
 
 import argparse
@@ -19,7 +19,7 @@ import tempfile
 import time
 
 TOP = os.path.dirname(os.path.dirname(os.path.abspath(__file__)))
-ARRAYD = os.environ.get("ARRAYD", os.path.join(TOP, "crates", "arrayd", "out", "arrayd"))
+ARRAYD = os.environ.get("ARRAYD", os.path.join(TOP, "arrayd"))
 PORT = 3900
 NAME = "iqn.2000-01.test:array"
 TICKS = os.sysconf("SC_CLK_TCK")

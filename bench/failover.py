@@ -17,7 +17,7 @@ import time
 from initiator import BLOCK, BUSY, GOOD, Session
 
 TOP = os.path.dirname(os.path.dirname(os.path.abspath(__file__)))
-ARRAYD = os.environ.get("ARRAYD", os.path.join(TOP, "crates", "arrayd", "out", "arrayd"))
+ARRAYD = os.environ.get("ARRAYD", os.path.join(TOP, "arrayd"))
 PORT = 20000 + os.getpid() % 10000
 TARGET = "iqn.2000-01.test:array"
 UNITS, PLACES, BLOCKS = 2, 16, 8

@@ -15,7 +15,7 @@ import tempfile
 from initiator import Session
 
 TOP = os.path.dirname(os.path.dirname(os.path.abspath(__file__)))
-ARRAYD = os.environ.get("ARRAYD", os.path.join(TOP, "crates", "arrayd", "out", "arrayd"))
+ARRAYD = os.environ.get("ARRAYD", os.path.join(TOP, "arrayd"))
 PORT = 20000 + os.getpid() % 10000
 WRONG = "wrong words"
 

@@ -9,7 +9,7 @@ usage: bench/first_steps.py HOST PORT
 import os
 import sys
 
-from initiator import CHECK_CONDITION, GOOD, RESERVATION_CONFLICT, Session, discover
+from initiator import CHECK_CONDITION, GOOD, RESERVATION_CONFLICT, Closed, Failed, Refused, Session, discover
 
 
 def say(text):
@@ -47,26 +47,30 @@ def main():
         new = os.urandom(length)
         must(two.compare_and_write(0, 0, data[:length], new).status == GOOD, "COMPARE AND WRITE of what stands there is done")
         lost = one.compare_and_write(0, 0, data[:length], os.urandom(length))
-        must(lost.status == CHECK_CONDITION and lost.sense_key() == (0xE, 0x1D, 0), f"of what stood there it is {lost.sense_text()}")
-        must(one.read(0, 0, 1) == new, "the block is the first one's")
+        must(lost.status == CHECK_CONDITION and lost.sense_key() == (0xE, 0x1D, 0),
+             f"of what stood there before it is a miscompare, {lost.sense_text()}")
+        must(one.read(0, 0, 1) == new, "the block is as the first one wrote it")
 
         must(one.reserve_out(0, 6, new_key=0x11).status == GOOD, "controller 1's session registers key 11h")
         must(one.reserve_out(0, 1, kind=5, key=0x11).status == GOOD, "and reserves the unit, write exclusive for registrants")
         must(two.command(0, [0x2A, 0, 0, 0, 0, 0, 0, 0, 1, 0], out=new).status == RESERVATION_CONFLICT,
-             "a write of the other session is a reservation conflict")
-        must(one.reserve_out(0, 3, key=0x11).status == GOOD, "cleared")
+             "a write through controller 2 is refused with a reservation conflict")
+        must(one.reserve_out(0, 3, key=0x11).status == GOOD, "the reservation is cleared")
 
         say(f"target port groups: {[f'group {g} state {s}' for g, s, _ in one.port_groups(0)]}")
-        must(one.set_port_groups(0, [(2, 0)]).status == GOOD, "controller 2 is made the unit's owner")
+        must(one.set_port_groups(0, [(2, 0)]).status == GOOD, "the unit moves to controller 2")
         told = two.test_unit_ready(0)
         must(told.sense_key() == (6, 0x2A, 6), f"the other session is told {told.sense_text()}: access states changed")
         must([s for _, s, _ in two.port_groups(0)] == [1, 0], "group 2 is active/optimized, group 1 active/non-optimized")
         must(one.read(0, 1, 7) == data[length:], "the blocks are read through controller 1 as before")
-        must(one.set_port_groups(0, [(1, 0)]).status == GOOD, "and moved back")
+        must(one.set_port_groups(0, [(1, 0)]).status == GOOD, "and the unit moves back")
         one.flush(0)
         two.ready(0)
-        must(one.logout() == 0 and two.logout() == 0, "logged out")
+        must(one.logout() == 0 and two.logout() == 0, "both sessions log out")
 
 
 if __name__ == "__main__":
-    main()
+    try:
+        main()
+    except (Closed, Failed, Refused, OSError) as error:
+        sys.exit(f"not as it must be, behind the last line above: {error or error.__doc__}")

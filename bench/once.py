@@ -6,7 +6,7 @@ meet the same machine. A kind that the program does not answer with GOOD is not 
 
 usage: bench/once.py [--count N] [--repeats N] [--only WORDS] [PROGRAM [PROGRAM]]
 
-PROGRAM is crates/arrayd/out/arrayd where none is given; `./example.sh` builds it.
+PROGRAM is ./arrayd where none is given; `./example.sh --proved` makes it.
 """
 
 import argparse
@@ -18,7 +18,7 @@ import tempfile
 import time
 
 TOP = os.path.dirname(os.path.dirname(os.path.abspath(__file__)))
-BUILT = os.path.join(TOP, "crates", "arrayd", "out", "arrayd")
+BUILT = os.path.join(TOP, "arrayd")
 UNIT = 2048
 BLOCK = 512
 SEGMENT = 65536

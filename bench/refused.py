@@ -14,7 +14,7 @@ a colon picks tests; one with more than N allocations, 1000, is left out.
 
 usage: bench/refused.py [PROGRAM] | --tests CRATE[:WORD].. [--most N]
 
-PROGRAM is crates/arrayd/out/arrayd where none is given; `./example.sh` builds it. `rt test` in its folder builds the tests
+PROGRAM is ./arrayd where none is given; `./example.sh --proved` makes it. `rt test` in its folder builds the tests
 of a crate. Wants a C compiler and the GNU C library.
 """
 
@@ -31,7 +31,7 @@ import time
 from sessions import EXAMPLES as OF_SESSIONS, STEPS, Wrong, serve, step_by_step
 
 TOP = os.path.dirname(os.path.dirname(os.path.abspath(__file__)))
-BUILT = os.path.join(TOP, "crates", "arrayd", "out", "arrayd")
+BUILT = os.path.join(TOP, "arrayd")
 ARRAYD = os.path.join(TOP, "crates", "arrayd")
 READ, WRITE, IMMEDIATE = 0x40, 0x20, 0x40
 GOOD, CHECK_CONDITION, BUSY, TASK_SET_FULL = 0x00, 0x02, 0x08, 0x28

@@ -6,7 +6,7 @@ later one is served. Ends with status 1 where that is not so.
 
 usage: bench/want.py [PROGRAM]
 
-PROGRAM is crates/arrayd/out/arrayd where none is given; `./example.sh` builds it. Linux; the lack of threads is tried only
+PROGRAM is ./arrayd where none is given; `./example.sh --proved` makes it. Linux; the lack of threads is tried only
 where this is run as root: the array is then run as the user `nobody`, whose threads are limited.
 """
 
@@ -22,7 +22,7 @@ import time
 from initiator import Closed, Session
 
 TOP = os.path.dirname(os.path.dirname(os.path.abspath(__file__)))
-BUILT = os.path.join(TOP, "crates", "arrayd", "out", "arrayd")
+BUILT = os.path.join(TOP, "arrayd")
 TARGET = "iqn.2000-01.test:array"
 NOBODY = 65534
 MOST = 40

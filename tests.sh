@@ -1,0 +1,11 @@
+#!/bin/sh
+# Runs every test of every crate, and the program on its stored session, without proofs: in ten minutes on two cores. One line a
+# crate, and what failed; the last line is 'N passed, M failed'. `rt ci` proves the code and its tests, and runs both.
+#
+#   ./tests.sh                 all crates
+#   ./tests.sh scsi_tests      one crate
+if ! command -v python3 > /dev/null; then
+    echo 'tests.sh wants python3' >&2
+    exit 1
+fi
+exec python3 "$(dirname "$0")/bench/unproved.py" tests "$@"
