@@ -28,10 +28,10 @@ POWER_ON, PREEMPTED = (6, 0x29, 0x00), (6, 0x2A, 0x05)
 RELEASED, CLEARED = (6, 0x2A, 0x04), (6, 0x2A, 0x03)
 
 
-def path(node, controller):
+def path(node, controller, port=PORT):
     """A node's session through a controller. Its ISID is the same each time, so it is the same nexus."""
     number = 16 * (ord(node) - 64) + controller
-    return by_libiscsi.session("127.0.0.1", PORT + 4 * (controller - 1), TARGET, NODES[node], number)
+    return by_libiscsi.session("127.0.0.1", port + 4 * (controller - 1), TARGET, NODES[node], number)
 
 
 def reservation_of(session):
@@ -92,7 +92,7 @@ class Cluster:
 
     def nothing(self):
         """Nobody is registered: whoever is left clears (SPC-4, 5.13.11)."""
-        for name, session in self.paths.items():
+        for session in self.paths.values():
             session.ready(0)
             key = next(iter(session.keys_of(0)), 0)
             if key:
@@ -261,14 +261,6 @@ def lasting(cluster, array, disks):
 
 # ---- the agents themselves
 
-def send_by(folder, device):
-    """The path that a device's node stands for, with a session of its own, ready."""
-    name = os.path.basename(device)
-    session = path(name[0], int(name[1]))
-    session.ready(0)
-    return session
-
-
 def tell_keys(session):
     data = session.reserve_in(0, 0)
     keys = session.keys_of(0)
@@ -296,25 +288,23 @@ def number_of(words, *names):
     return 0
 
 
-def stand_in(words):
-    """What an agent takes for sg_turs, sg_persist or mpathpersist, with the options that the agents give. A node of
-    mpathpersist stands for both paths: it registers by each, and sends all else by the first."""
-    tool, port, words = words[0], words[1], words[2:]
-    globals()["PORT"] = int(port)
+def stand_in(tool, port, words):
+    """What an agent takes for sg_turs, sg_persist or mpathpersist, with the options that the agents give: its exit status.
+    The node A1 stands for A's path through controller 1; A, as mpathpersist has it, for both: it registers by each, and
+    sends all else by the first."""
     if "-V" in words:
         return 0
-    device = os.path.realpath(words[words.index("-d") + 1] if "-d" in words else words[-1])
-    node = os.path.basename(device)[0]
-    if tool == "sg_turs":
-        send_by(None, device).close()
-        return 0
+    device = words[words.index("-d") + 1] if "-d" in words else words[-1]
+    with open(os.path.join(os.path.dirname(device), "sent"), "a") as log:
+        log.write(" ".join([tool, *words]) + "\n")
     actions = {"-I": REGISTER_AND_IGNORE, "-R": RESERVE, "-A": PREEMPT_AND_ABORT, "--register": REGISTER,
                "--reserve": RESERVE, "--preempt-abort": PREEMPT_AND_ABORT}
     asked = [actions[word] for word in words if word in actions]
-    by = [f"{node}1", f"{node}2"] if tool == "mpathpersist" and asked == [REGISTER] else [device]
-    worst = 0
-    for name in by:
-        session = send_by(None, name if name != device else os.path.basename(device).ljust(2, "1"))
+    node, controllers = os.path.basename(device)[0], os.path.basename(device)[1:]
+    worst = GOOD
+    for controller in controllers or ("12" if asked == [REGISTER] else "1"):
+        session = path(node, int(controller), port)
+        session.ready(0)
         if asked:
             reply = session.reserve_out(0, asked[0], number_of(words, "-T", "--prout-type"),
                                         number_of(words, "-K", "--param-rk"), number_of(words, "-S", "--param-sark"),
@@ -322,11 +312,9 @@ def stand_in(words):
             worst = max(worst, reply.status)
         elif "-k" in words:
             tell_keys(session)
-        else:
+        elif "-r" in words:
             tell_reservation(session)
         session.close()
-    with open(os.path.join(os.path.dirname(device), "sent"), "a") as log:
-        log.write(" ".join([tool, *words]) + "\n")
     return worst
 
 
@@ -410,7 +398,7 @@ def agents_fence(agent, keys):
             sent = file.read().splitlines()
         outs = [line for line in sent if " -o " in line]
         print(f"{agent}: unfenced and fenced in turn by the agent itself, {len(sent)} calls of its tools, {len(outs)} of them "
-              "PERSISTENT RESERVE OUT: as SPC-4 says")
+              "PERSISTENT RESERVE OUT: who may write is as SPC-4 says")
 
 
 def main():
@@ -444,7 +432,7 @@ def main():
 
 if __name__ == "__main__":
     if sys.argv[1:2] == ["--stand-in"]:
-        sys.exit(stand_in(sys.argv[2:]))
+        sys.exit(stand_in(sys.argv[2], int(sys.argv[3]), sys.argv[4:]))
     try:
         main()
     except Wrong as wrong:

@@ -121,6 +121,10 @@ class Way:
         self.disk = os.path.join(folder, "disk")
         self.make()
 
+    def make(self):
+        """Makes the disk."""
+        raise NotImplementedError
+
     def mount(self, *words):
         place = os.path.join(self.folder, "place")
         os.makedirs(place, exist_ok=True)
