@@ -30,21 +30,8 @@ console() {
 begin() {
     (cd "$place/state" && exec "$OLDPWD/service/arrayd-run" "$place/run" --port "$port" "$@") 2> "$place/complains" &
     pid=$!
-    # the service's ExecStartPost: it is up when it answers
-    tries=0
-    until test -p "$place/run/told" && console status > "$place/status" || ! kill -0 "$pid" 2> /dev/null; do
-        tries=$((tries + 1))
-        [ $tries -lt 100 ] || break
-        sleep 0.1
-    done
-}
-
-# how the array has ended
-end() {
-    wait "$pid"
-    ended=$?
-    pid=
-    echo $ended
+    # as the service does: it is up when it answers
+    MAINPID=$pid console ready > "$place/status"
 }
 
 mkdir "$place/run" "$place/state"
