@@ -180,6 +180,10 @@ stay 'failback manual: it stays down' 15 '3 0'
 try 'sg_stpg brings it back' sg_stpg --tp 1,2 --state 0,1 $path2
 become 'and it is' 10 '0 1'
 sleep 5
+multipath -ll $map0
+try 'multipathd switches to a group' multipathd switchgroup map $map0 group 1
+try 'and back' multipathd switchgroup map $map0 group 2
+sleep 5
 try 'umount' umount /mnt
 try 'fsck finds it clean' fsck.ext4 -f -n $D
 

@@ -50,7 +50,7 @@ def build(folder):
     kernel = subprocess.run(["apt-cache", "depends", "linux-image-amd64"], check=True, stdout=subprocess.PIPE, text=True)
     name = next(line.split()[-1] for line in kernel.stdout.splitlines() if "Depends:" in line)
     if not glob.glob(os.path.join(folder, f"{name}_*.deb")):
-        run("apt-get", "download", name, cwd=folder, stdout=subprocess.DEVNULL)
+        run("apt-get", "download", "-qq", name, cwd=folder, stderr=subprocess.DEVNULL)
     unpacked = os.path.join(folder, "kernel")
     run("dpkg-deb", "-x", glob.glob(os.path.join(folder, f"{name}_*.deb"))[0], unpacked)
     shutil.copy(glob.glob(os.path.join(unpacked, "boot", "vmlinuz-*"))[0], os.path.join(folder, "vmlinuz"))
@@ -62,6 +62,8 @@ def build(folder):
         shutil.rmtree(os.path.join(modules, "kernel", what), ignore_errors=True)
     for what in ("var/cache/apt", "var/lib/apt", "usr/share/doc", "usr/share/man", "usr/share/locale", "usr/share/info"):
         shutil.rmtree(os.path.join(root, what), ignore_errors=True)
+    if not os.path.lexists(os.path.join(root, "sbin", "depmod")):
+        sys.exit("debootstrap did not make the host: see debootstrap/debootstrap.log in FOLDER/root")
     run("chroot", root, "depmod", version)
     pack(folder)
 
@@ -72,9 +74,9 @@ def mirror():
         if os.path.exists(file):
             with open(file) as lines:
                 for line in lines:
-                    for word in line.split():
-                        if word.startswith("http"):
-                            return word
+                    words = line.split()
+                    if words[:1] in (["URIs:"], ["deb"]):
+                        return next(word for word in words if word.startswith("http"))
     return "http://deb.debian.org/debian"
 
 
