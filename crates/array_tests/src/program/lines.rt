@@ -61,14 +61,14 @@ unit 1 owner 2 states 3 0 generation 0 keys 0 type 0 entries 0
 ";
 
 // What the lines are answered, and how often the units were flushed.
-fn said(alloc: Global, lines: &str) -> Result<(String, u32), Fail> {
+fn said(alloc: Global, lines: &[u8]) -> Result<(String, u32), Fail> {
     let mut array = Two {
         asked: 0,
         closed: 0,
         flushed: 0,
     };
     let mut written = Vec::new(alloc);
-    console(alloc, lines.as_bytes(), &mut written, &mut array);
+    console(alloc, lines, &mut written, &mut array);
     Ok((String::from_utf8(written)?, array.flushed))
 }
 
@@ -88,12 +88,16 @@ fn lines_and_what_they_are_answered(rt: HostRuntime) -> Result<(), Fail> {
         ("quit\r\n", ""),
     ];
     for (lines, answers) in rows {
-        let (text, flushed) = said(rt.alloc(), lines)?;
+        let (text, flushed) = said(rt.alloc(), lines.as_bytes())?;
         assert_eq!(rt; text.as_str(), answers, "{lines:?}");
         assert_eq!(rt; flushed, 1, "{lines:?}");
     }
-    let (text, flushed) = said(rt.alloc(), "status\nquit\n")?;
+    let (text, flushed) = said(rt.alloc(), b"status\nquit\n")?;
     assert_eq!(rt; text.as_str(), STATUS);
+    assert_eq!(rt; flushed, 1);
+    // no UTF-8
+    let (text, flushed) = said(rt.alloc(), b"\xFF\nstatus\xC3\ndown 1\n")?;
+    assert_eq!(rt; text.as_str(), "?\n?\ndown\n");
     assert_eq!(rt; flushed, 1);
     Ok(())
 }
