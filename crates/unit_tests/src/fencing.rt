@@ -36,7 +36,8 @@ const KEY_22: Runs = &[(7, "00"), (1, "22"), (16, "00")];
 const EVERY_PORT_11: Runs = &[(15, "00"), (1, "11"), (4, "00"), (1, "04"), (3, "00")];
 
 /// `iqn.2026-01.example:host,i,0x000000000001`, of the first session's TransportID (SPC-4, 7.6.4.6).
-const PORT_1: &str = "69716E2E 32303236 2D30312E 6578616D 706C653A 686F7374 2C692C3078 303030303030303030303031";
+const PORT_1: &str =
+    "69716E2E 32303236 2D30312E 6578616D 706C653A 686F7374 2C692C3078 303030303030303030303031";
 
 /// Four sessions that were told of their power on.
 const FOUR: &[Row] = table! {
