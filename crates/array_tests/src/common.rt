@@ -6,4 +6,4 @@ mod units;
 
 pub use hosts::{End, Host, Hosts};
 pub use shared::{Shared, TestDesk, TestUnits};
-pub use units::{MemUnit, Opens, in_memory, new_unit, opened};
+pub use units::{BLOCKS, MemUnit, Opens, in_memory, new_unit, opened, place, zeros};

@@ -8,8 +8,8 @@ use forwarding::{Desk, Job};
 use numbering::Array as Naming;
 use scsi_types::Group;
 use std::alloc::Global;
+use std::process::Abort;
 use std::sync::Wait;
-use std::test::Fail;
 use unit_history::{NewUnit, Opened, Units};
 use unit_state::MoveFault;
 
@@ -28,18 +28,18 @@ pub struct Shared<B: Blocks, O: Opener<B>, N: Naming<Opened>> {
 
 impl<B: Blocks, O: Opener<B>, N: Naming<Opened>> Shared<B, O, N> {
     /// Shares these units.
-    pub fn new<W: Wait>(
+    pub fn new<W: Wait + Abort>(
         rt: &W,
         alloc: Global,
         new: Vec<NewUnit<B, MemBlocks, O>>,
-    ) -> Result<Shared<B, O, N>, Fail>
+    ) -> Shared<B, O, N>
         requires named { IsNamed N.book N.table N.opening B.contents new.items }
         requires count { length new.items ≤ 8 }
     {
-        Ok(Shared {
-            desk: Desk::new(alloc, Group::One)?,
-            units: Units::new(rt, alloc, new)?,
-        })
+        Shared {
+            desk: Desk::new(alloc, Group::One).expect(rt, "memory"),
+            units: Units::new(rt, alloc, new).expect(rt, "memory"),
+        }
     }
 
     fn serve<W: Wait>(&self, rt: &W, alloc: Global, job: Job<B, MemBlocks, O, N>) {

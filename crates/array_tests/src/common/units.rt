@@ -1,5 +1,5 @@
 //! Units that hold no registrations, whose registration files lie in memory.
-ghost use Rattle.std.specs.Prelude.{◌≡◌, ◌≤◌, IfOk, length};
+ghost use Rattle.std.specs.Prelude.{◌≡◌, ◌≤◌, length};
 ghost use Rattle.unit_state.specs.Serials.{IsOpening};
 
 use aptpl_file::{FILE_BLOCKS, RegFile};
@@ -7,45 +7,50 @@ use block_file::{Blocks, FusedOpener, KeepOpener, MemBlocks, Opener};
 use reservations::Record;
 use scsi_types::Place;
 use std::alloc::Global;
-use std::test::Fail;
+use std::process::Abort;
 use unit_history::NewUnit;
 use unit_state::{Unit, laws};
 
-/// The unit at a place of so many, over this device.
-pub fn opened<B: Blocks + Drop, O: Opener<B> + Drop>(
-    alloc: Global,
-    blocks: B,
-    opener: O,
-    unit: u8,
-    units: u8,
-) -> Result<Unit<B, MemBlocks, O>, Fail>
-    ensures { IfOk result (λ u. IsOpening u.control) }
-{
-    if blocks.count() == 0 {
-        return Err("a device of no block".into());
-    }
-    let Ok(file) = RegFile::format(MemBlocks::new(alloc, FILE_BLOCKS)?) else {
-        return Err("a registration file".into());
-    };
-    let place = Place {
+/// Blocks of zeros.
+pub fn zeros<R: Abort>(rt: &R, alloc: Global, count: u32) -> MemBlocks {
+    MemBlocks::new(alloc, count).expect(rt, "memory")
+}
+
+/// A unit of the array 1, of so many.
+pub fn place(unit: u8, units: u8) -> Place {
+    Place {
         unit,
         units,
         array: 1,
-    };
+    }
+}
+
+/// The unit at a place over this device.
+pub fn opened<R: Abort, B: Blocks, O: Opener<B>>(
+    rt: &R,
+    alloc: Global,
+    place: Place,
+    blocks: B,
+    opener: O,
+) -> Unit<B, MemBlocks, O>
+    ensures { IsOpening result.control }
+{
+    assert!(rt; blocks.count() > 0);
+    let file = RegFile::format(zeros(rt, alloc, FILE_BLOCKS)).expect(rt, "a registration file");
     laws::nobody_is_attached_at_first();
-    Ok(Unit::open(alloc, place, blocks, opener, file, Record::empty(alloc))?)
+    Unit::open(alloc, place, blocks, opener, file, Record::empty(alloc)).expect(rt, "memory")
 }
 
 /// The same, before threads share it.
-pub fn new_unit<B: Blocks + Drop, O: Opener<B> + Drop>(
+pub fn new_unit<R: Abort, B: Blocks, O: Opener<B>>(
+    rt: &R,
     alloc: Global,
+    place: Place,
     blocks: B,
     opener: O,
-    unit: u8,
-    units: u8,
-) -> Result<NewUnit<B, MemBlocks, O>, Fail> {
-    let unit = opened(alloc, blocks, opener, unit, units)?;
-    Ok(NewUnit::new(alloc, unit)?)
+) -> NewUnit<B, MemBlocks, O> {
+    let unit = opened(rt, alloc, place, blocks, opener);
+    NewUnit::new(alloc, unit).expect(rt, "memory")
 }
 
 /// An opener that passes so many opens, and then fails.
@@ -55,23 +60,27 @@ pub type Opens = FusedOpener<KeepOpener>;
 pub type MemUnit = NewUnit<MemBlocks, MemBlocks, Opens>;
 
 /// The blocks of such a unit.
-const BLOCKS: u32 = 16;
+pub const BLOCKS: u32 = 16;
 
 /// Units whose openers pass so many opens each, eight of them at most.
-pub fn in_memory(alloc: Global, opens: &[u64]) -> Result<Vec<MemUnit>, Fail>
-    ensures { IfOk result (λ v. length v.items ≤ 8) }
+pub fn in_memory<R: Abort>(rt: &R, alloc: Global, opens: &[u64]) -> Vec<MemUnit>
+    ensures { length result.items ≤ 8 }
 {
     let mut new = Vec::new(alloc);
     let units = u8::try_from(opens.len()).unwrap_or(u8::MAX);
     let mut unit = 0u8;
     for opens in opens {
-        let blocks = MemBlocks::new(alloc, BLOCKS)?;
         let opener = FusedOpener::new(KeepOpener, *opens);
-        new.push(new_unit(alloc, blocks, opener, unit, units)?)?;
+        let one = new_unit(
+            rt,
+            alloc,
+            place(unit, units),
+            zeros(rt, alloc, BLOCKS),
+            opener,
+        );
+        new.push(one).expect(rt, "memory");
         unit = unit.saturating_add(1);
     }
-    if new.len() > 8 {
-        return Err("more than eight units".into());
-    }
-    Ok(new)
+    assert!(rt; new.len() <= 8);
+    new
 }

@@ -9,36 +9,28 @@ use crate::desks::stage::{Array, Stage};
 use numbering::Array as Naming;
 use std::alloc::Global;
 use std::marker::Brand;
+use std::process::Abort;
 use std::sync::Wait;
-use std::test::Fail;
 use unit_history::Opened;
 
-/// What a script came to, by the place of its first line that came to something else than it says.
-pub fn fail_at(wrong: Option<usize>) -> Result<(), Fail> {
-    match wrong {
-        None => Ok(()),
-        Some(line) => Err(("a line of the script", line).into()),
-    }
-}
-
-fn play<N: Naming<Opened>, W: Wait>(
+fn play<N: Naming<Opened>, W: Wait + Abort>(
     rt: &W,
     alloc: Global,
     new: Vec<MemUnit>,
     script: &[Line],
-) -> Result<(), Fail>
+)
     requires named { IsNamed N.book N.table N.opening (λ d. cut d.count d.bytes.items) new.items }
     requires count { length new.items ≤ 8 }
 {
-    let array = Array::<N>::new(rt, alloc, new)?;
+    let array = Array::<N>::new(rt, alloc, new);
     let mut stage = Stage::new(rt, alloc, &array);
     let wrong = stage.perform(script);
     stage.end();
     array.end();
-    fail_at(wrong)
+    assert!(rt; wrong.is_none(), "a line of the script: {wrong:?}");
 }
 
 /// Performs a script over units 0 and 1, whose openers pass so many opens each, and a desk without lanes.
-pub fn run<W: Wait>(rt: &W, alloc: Global, opens: [u64; 2], script: &[Line]) -> Result<(), Fail> {
-    play::<Brand, W>(rt, alloc, in_memory(alloc, &opens)?, script)
+pub fn run<W: Wait + Abort>(rt: &W, alloc: Global, opens: [u64; 2], script: &[Line]) {
+    play::<Brand, W>(rt, alloc, in_memory(rt, alloc, &opens), script)
 }

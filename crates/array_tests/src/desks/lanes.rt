@@ -4,7 +4,6 @@ ghost use Rattle.block_file.specs.Cut.{cut};
 ghost use Rattle.unit_history.specs.Naming.{IsNamed};
 
 use crate::common::{End, MemUnit, in_memory};
-use crate::desks::array::fail_at;
 use crate::desks::script::Asks::{Read, Set, Test, Write};
 use crate::desks::script::Deed::{AtDesk, Attach, Close, Collect, HandIn, ServeOwn};
 use crate::desks::script::Told::{Done, Ends};
@@ -14,6 +13,7 @@ use numbering::Array as Naming;
 use scsi_types::Group::{One, Two};
 use std::alloc::Global;
 use std::marker::Brand;
+use std::process::Abort;
 use std::sync::Wait;
 use std::test::*;
 use std::thread::{Threads, join};
@@ -68,26 +68,25 @@ fn lane<N: Naming<Opened>, R: Wait>(rt: &R, alloc: Global, array: &Array<N>) -> 
 }
 
 // What both did: the line that came to something else, and how many jobs the lane served.
-fn both<N: Naming<Opened> + Send + Sync, R: Threads + Wait + Sync>(
+fn both<N: Naming<Opened> + Send + Sync, R: Threads + Wait + Abort + Sync>(
     rt: &R,
     alloc: Global,
     new: Vec<MemUnit>,
-) -> Result<(Option<usize>, u64), Fail>
+) -> (Option<usize>, u64)
     requires named { IsNamed N.book N.table N.opening (λ d. cut d.count d.bytes.items) new.items }
     requires count { length new.items ≤ 8 }
 {
-    let array = Array::<N>::new(rt, alloc, new)?;
+    let array = Array::<N>::new(rt, alloc, new);
     let both = join(rt, || work(rt, alloc, &array), || lane(rt, alloc, &array));
     array.end();
-    Ok(both)
+    both
 }
 
 #[test]
-fn a_worker_and_a_lane_share_a_desk(rt: HostRuntime) -> Result<(), Fail> {
-    let units = in_memory(rt.alloc(), &[9, 9])?;
-    let (wrong, served) = both::<Brand, HostRuntime>(&rt, rt.alloc(), units)?;
-    fail_at(wrong)?;
+fn a_worker_and_a_lane_share_a_desk(rt: HostRuntime) {
+    let units = in_memory(&rt, rt.alloc(), &[9, 9]);
+    let (wrong, served) = both::<Brand, HostRuntime>(&rt, rt.alloc(), units);
+    assert!(rt; wrong.is_none(), "a line of the script: {wrong:?}");
     // At least the two commands of the writer, and the last one of the unit that moved.
     assert!(rt; served >= 3);
-    Ok(())
 }

@@ -50,11 +50,6 @@ const SET_BY_A_SESSION: &[Line] = &[
     Line(Read(1), Row(2, (1, 0), 0)),
 ];
 
-#[test]
-fn a_session_sets_the_owner(rt: HostRuntime) -> Result<(), Fail> {
-    run(&rt, rt.alloc(), [9, 9], SET_BY_A_SESSION)
-}
-
 // The same where the blocks cannot be opened for the new owner: nothing has changed.
 const SET_WITHOUT_AN_OPEN: &[Line] = &[
     Line(Attach(0, One), Done),
@@ -69,11 +64,6 @@ const SET_WITHOUT_AN_OPEN: &[Line] = &[
     Line(Read(0), Row(1, (0, 1), 8)),
 ];
 
-#[test]
-fn an_owner_that_is_not_opened(rt: HostRuntime) -> Result<(), Fail> {
-    run(&rt, rt.alloc(), [0, 9], SET_WITHOUT_AN_OPEN)
-}
-
 // The array moves a unit by itself, and every session is told.
 const MOVED_BY_THE_ARRAY: &[Line] = &[
     Line(Attach(0, One), Done),
@@ -85,11 +75,6 @@ const MOVED_BY_THE_ARRAY: &[Line] = &[
     Line(Send(0, Two, Test), STATES_CHANGED),
     Line(Send(0, Two, ReadIt), BLANK),
 ];
-
-#[test]
-fn the_array_moves_a_unit(rt: HostRuntime) -> Result<(), Fail> {
-    run(&rt, rt.alloc(), [9, 9], MOVED_BY_THE_ARRAY)
-}
 
 // Each controller goes down in turn; a session on the one that is down is told so.
 const EACH_GOES_DOWN: &[Line] = &[
@@ -105,11 +90,6 @@ const EACH_GOES_DOWN: &[Line] = &[
     Line(Read(1), Row(1, (0, 3), 2)),
 ];
 
-#[test]
-fn each_controller_goes_down(rt: HostRuntime) -> Result<(), Fail> {
-    run(&rt, rt.alloc(), [9, 9], EACH_GOES_DOWN)
-}
-
 // Unit 1 cannot be opened for another owner: group 2 owns it, so that controller 1 goes down. Controller 2 does not: unit 0 is
 // moved and stays so, and unit 1 is told.
 const STOPPED_AT_THE_SECOND: &[Line] = &[
@@ -119,11 +99,6 @@ const STOPPED_AT_THE_SECOND: &[Line] = &[
     Line(Read(1), Row(2, (3, 0), 1)),
 ];
 
-#[test]
-fn what_moved_stays_moved(rt: HostRuntime) -> Result<(), Fail> {
-    run(&rt, rt.alloc(), [9, 0], STOPPED_AT_THE_SECOND)
-}
-
 // Unit 0 cannot: it is told, and unit 1 is not asked.
 const STOPPED_AT_THE_FIRST: &[Line] = &[
     Line(TakeDown(One), StopsAt(0, OpenFailed)),
@@ -132,6 +107,16 @@ const STOPPED_AT_THE_FIRST: &[Line] = &[
 ];
 
 #[test]
-fn the_first_that_does_not_move_ends_it(rt: HostRuntime) -> Result<(), Fail> {
-    run(&rt, rt.alloc(), [0, 9], STOPPED_AT_THE_FIRST)
+fn units_move_or_stay(rt: HostRuntime) {
+    let scripts = [
+        ([9, 9], SET_BY_A_SESSION),
+        ([0, 9], SET_WITHOUT_AN_OPEN),
+        ([9, 9], MOVED_BY_THE_ARRAY),
+        ([9, 9], EACH_GOES_DOWN),
+        ([9, 0], STOPPED_AT_THE_SECOND),
+        ([0, 9], STOPPED_AT_THE_FIRST),
+    ];
+    for (opens, script) in scripts {
+        run(&rt, rt.alloc(), opens, script);
+    }
 }

@@ -6,7 +6,7 @@ use crate::desks::script::Deed::{Attach, Close, Collect, HandIn, ServeFirst};
 use crate::desks::script::Told::{Done, Ends, Job, NoJob};
 use crate::desks::script::{Line, POWER_ON, WAITS};
 use scsi_types::Group::{One, Two};
-use std::alloc::{AllocError, Global};
+use std::alloc::AllocError;
 use std::test::*;
 
 /// So many jobs wait at a desk.
@@ -27,19 +27,16 @@ fn fill(script: &mut Vec<Line>) -> Result<(), AllocError> {
         script.push(Line(Attach(host % 2, One), Done))?;
         script.push(Line(HandIn(host, Spare), WAITS))?;
     }
-    Ok(())
+    Ok(script.extend_from_slice(REFUSED)?)
 }
 
-// The jobs come back in their order, and no more.
+// The jobs come back in their order, and no more. A session of unit 0 is told that power came on, and one of unit 1 that group 2
+// owns it.
 fn empty(script: &mut Vec<Line>) -> Result<(), AllocError> {
     for host in 0..PLACES {
         script.push(Line(ServeFirst, Job(host % 2)))?;
     }
-    Ok(script.push(Line(ServeFirst, NoJob))?)
-}
-
-// A session of unit 0 is told that power came on, and one of unit 1 that group 2 owns it.
-fn collect(script: &mut Vec<Line>) -> Result<(), AllocError> {
+    script.push(Line(ServeFirst, NoJob))?;
     let ends = [POWER_ON, Ends(End::Moved(Two))];
     for host in 0..PLACES {
         script.push(Line(Collect(host), ends[host % 2]))?;
@@ -47,19 +44,10 @@ fn collect(script: &mut Vec<Line>) -> Result<(), AllocError> {
     Ok(())
 }
 
-fn write(alloc: Global) -> Result<Vec<Line>, AllocError> {
-    let mut script = Vec::new(alloc);
-    fill(&mut script)?;
-    for line in REFUSED {
-        script.push(*line)?;
-    }
-    empty(&mut script)?;
-    collect(&mut script)?;
-    Ok(script)
-}
-
 #[test]
-fn a_desk_without_lanes(rt: HostRuntime) -> Result<(), Fail> {
-    let script = write(rt.alloc())?;
-    run(&rt, rt.alloc(), [9, 9], script.as_slice())
+fn a_desk_without_lanes(rt: HostRuntime) {
+    let mut script = Vec::new(rt.alloc());
+    fill(&mut script).expect(&rt, "memory");
+    empty(&mut script).expect(&rt, "memory");
+    run(&rt, rt.alloc(), [9, 9], script.as_slice());
 }

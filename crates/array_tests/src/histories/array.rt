@@ -1,15 +1,15 @@
 //! Units in memory, and what happens to them.
-ghost use Rattle.std.specs.Prelude.{◌≤◌, IfOk, length};
+ghost use Rattle.std.specs.Prelude.{◌≤◌, length};
 ghost use Rattle.unit_history.specs.Naming.{IsNamed};
 
-use crate::common::new_unit;
+use crate::common::{new_unit, place, zeros};
 use crate::histories::{many, sessions, threads};
 use block_file::{Blocks, FusedBlocks, KeepOpener, MemBlocks};
 use numbering::Array as Naming;
 use std::alloc::Global;
 use std::marker::Brand;
+use std::process::Abort;
 use std::sync::Wait;
-use std::test::Fail;
 use std::thread::Threads;
 use unit_history::{NewUnit, Opened, Units};
 
@@ -44,41 +44,47 @@ pub enum Story {
     Watched,
 }
 
-/// Fails, unless this holds.
-pub fn want(holds: bool, what: &'static str) -> Result<(), Fail> {
-    if holds { Ok(()) } else { Err(Fail::from(what)) }
+/// A unit of so many over this device, which holds no registrations.
+pub fn over<R: Abort>(rt: &R, alloc: Global, device: Device, unit: u8, units: u8) -> New {
+    new_unit(rt, alloc, place(unit, units), device, KeepOpener)
 }
 
-/// A device that no call fails.
-pub fn sound(alloc: Global) -> Result<Device, Fail> {
-    Ok(FusedBlocks::new(MemBlocks::new(alloc, BLOCKS)?, u64::MAX))
+/// A device of which no call fails.
+pub fn sound<R: Abort>(rt: &R, alloc: Global) -> Device {
+    FusedBlocks::new(zeros(rt, alloc, BLOCKS), u64::MAX)
 }
 
-/// A device that fails so many calls behind so many.
-pub fn failing(alloc: Global, calls: u64, fails: u64) -> Result<Device, Fail> {
-    Ok(FusedBlocks::window(MemBlocks::new(alloc, BLOCKS)?, calls, fails))
+// The device of a story. Where calls of it fail, these are behind the first 150.
+fn device<R: Abort>(rt: &R, alloc: Global, story: Story) -> Device {
+    match story {
+        Story::Failing(calls) => FusedBlocks::window(zeros(rt, alloc, BLOCKS), 150, calls),
+        _ => sound(rt, alloc),
+    }
 }
 
-/// A unit over this device, which holds no registrations.
-pub fn over(alloc: Global, device: Device, unit: u8, units: u8) -> Result<New, Fail> {
-    new_unit(alloc, device, KeepOpener, unit, units)
-}
-
-/// One unit over this device.
-pub fn one(alloc: Global, device: Device) -> Result<Vec<New>, Fail>
-    ensures { IfOk result (λ v. length v.items ≤ 8) }
+// The units of a story: one, unless it says how many.
+fn units_of<R: Abort>(rt: &R, alloc: Global, story: Story) -> Vec<New>
+    ensures { length result.items ≤ 8 }
 {
+    let count = match story {
+        Story::Each(count) => count,
+        _ => 1,
+    };
     let mut units = Vec::new(alloc);
-    units.push(over(alloc, device, 0, 1)?)?;
-    Ok(units)
+    for unit in 0..count {
+        let new = over(rt, alloc, device(rt, alloc, story), unit, count);
+        units.push(new).expect(rt, "memory");
+    }
+    assert!(rt; units.len() <= 8);
+    units
 }
 
-fn happens<W: Threads + Wait + Sync, N: Naming<Opened> + Send + Sync>(
+fn happens<W: Threads + Wait + Abort + Sync, N: Naming<Opened> + Send + Sync>(
     rt: &W,
     alloc: Global,
     units: &Array<N>,
     story: Story,
-) -> Result<(), Fail> {
+) {
     match story {
         Story::Served => sessions::are_served(rt, alloc, units),
         Story::Moved => sessions::moves_away(rt, alloc, units),
@@ -90,27 +96,28 @@ fn happens<W: Threads + Wait + Sync, N: Naming<Opened> + Send + Sync>(
     }
 }
 
-fn tell<W: Threads + Wait + Sync, N: Naming<Opened> + Send + Sync>(
+fn tell<W: Threads + Wait + Abort + Sync, N: Naming<Opened> + Send + Sync>(
     rt: &W,
     alloc: Global,
     new: Vec<New>,
     story: Story,
-) -> Result<(), Fail>
+)
     requires named { IsNamed N.book N.table N.opening ⟦<Device as Blocks>⟧.contents new.items }
     requires count { length new.items ≤ 8 }
 {
-    let units = Array::<N>::new(rt, alloc, new)?;
-    happens(rt, alloc, &units, story)
+    let units = Array::<N>::new(rt, alloc, new).expect(rt, "memory");
+    happens(rt, alloc, &units, story);
 }
 
-/// Lets a story happen to these units.
-pub fn run<W: Threads + Wait + Sync>(
-    rt: &W,
-    alloc: Global,
-    new: Vec<New>,
-    story: Story,
-) -> Result<(), Fail>
+fn run_one<W: Threads + Wait + Abort + Sync>(rt: &W, alloc: Global, new: Vec<New>, story: Story)
     requires { length new.items ≤ 8 }
 {
     tell::<W, Brand>(rt, alloc, new, story)
+}
+
+/// Lets each of these stories happen to units of its own.
+pub fn run<W: Threads + Wait + Abort + Sync>(rt: &W, alloc: Global, stories: &[Story]) {
+    for story in stories {
+        run_one(rt, alloc, units_of(rt, alloc, *story), *story);
+    }
 }

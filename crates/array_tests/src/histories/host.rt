@@ -6,22 +6,22 @@ use numbering::Array as Naming;
 use scsi_types::{Command, Group};
 use status::Row;
 use std::alloc::Global;
+use std::process::Abort;
 use std::sync::Wait;
-use std::test::Fail;
 use unit_history::Opened;
 
 /// The session of a host at a unit.
 pub type Session<N> = Host<'static, Device, KeepOpener, N>;
 
 /// The host of this ISID attaches to a unit by the first group.
-pub fn attach<W: Wait, N: Naming<Opened>>(
+pub fn attach<W: Wait + Abort, N: Naming<Opened>>(
     rt: &W,
     alloc: Global,
     units: &Array<N>,
     place: usize,
     isid: u32,
-) -> Result<Session<N>, Fail> {
-    Ok(Host::attach(rt, alloc, units, place, isid, Group::One).ok_or("room for a session")?)
+) -> Session<N> {
+    Host::attach(rt, alloc, units, place, isid, Group::One).expect(rt, "room for a session")
 }
 
 /// How a TEST UNIT READY ends.

@@ -1,23 +1,15 @@
 //! Arrays of one to eight units.
 
 use crate::common::End;
-use crate::histories::array::{Array, New, Story, over, run, sound, want};
+use crate::histories::array::{Array, Story, run};
 use crate::histories::host::{attach, entries, ready};
 use numbering::Array as Naming;
 use scsi_types::{Group, Sense};
 use std::alloc::Global;
+use std::process::Abort;
 use std::sync::Wait;
-use std::test::Fail;
+use std::test::*;
 use unit_history::Opened;
-
-/// So many units in memory.
-fn several(alloc: Global, count: u8) -> Result<Vec<New>, Fail> {
-    let mut units = Vec::new(alloc);
-    for unit in 0..count {
-        units.push(over(alloc, sound(alloc)?, unit, count)?)?;
-    }
-    Ok(units)
-}
 
 /// The group that owns a unit at first.
 fn owner_of(place: usize) -> Group {
@@ -28,51 +20,43 @@ fn owner_of(place: usize) -> Group {
     }
 }
 
-/// A unit whose history is its own.
-fn is_its_own<W: Wait, N: Naming<Opened>>(
+/// Whether the unit has a history of its own: it begins without an entry, and has three behind two commands of a session.
+fn is_its_own<W: Wait + Abort, N: Naming<Opened>>(
     rt: &W,
     alloc: Global,
     units: &Array<N>,
     place: usize,
-) -> Result<(), Fail> {
-    want(entries(rt, units, place) == 0, "no entry at first")?;
-    let mut host = attach(rt, alloc, units, place, 1)?;
-    let told = ready(rt, alloc, units, &mut host, owner_of(place));
-    want(told == End::Check(Sense::POWER_ON), "the power on")?;
-    let good = ready(rt, alloc, units, &mut host, owner_of(place));
-    want(good == End::Good, "another command")?;
-    want(entries(rt, units, place) == 3, "three entries")
+) -> bool {
+    let at_first = entries(rt, units, place);
+    let mut host = attach(rt, alloc, units, place, 1);
+    at_first == 0
+        && ready(rt, alloc, units, &mut host, owner_of(place)) == End::Check(Sense::POWER_ON)
+        && ready(rt, alloc, units, &mut host, owner_of(place)) == End::Good
+        && entries(rt, units, place) == 3
 }
 
-/// So many units are used.
-pub fn are_used<W: Wait, N: Naming<Opened>>(
+/// So many units are used, and keep their own entries.
+pub fn are_used<W: Wait + Abort, N: Naming<Opened>>(
     rt: &W,
     alloc: Global,
     units: &Array<N>,
     count: u8,
-) -> Result<(), Fail> {
-    want(units.count() == usize::from(count), "so many units")?;
+) {
+    assert!(rt; units.count() == usize::from(count));
     for place in 0..count {
-        is_its_own(rt, alloc, units, usize::from(place))?;
+        assert!(rt;
+            is_its_own(rt, alloc, units, usize::from(place)),
+            "unit {place}"
+        );
     }
     for place in 0..count {
-        want(
-            entries(rt, units, usize::from(place)) == 3,
-            "its own entries",
-        )?;
+        assert!(rt; entries(rt, units, usize::from(place)) == 3, "unit {place}");
     }
-    Ok(())
 }
 
 #[test]
-fn one_to_eight_units(rt: HostRuntime) -> Result<(), Fail> {
-    let alloc = rt.alloc();
+fn one_to_eight_units(rt: HostRuntime) {
     for count in 1..=8 {
-        let units = several(alloc, count)?;
-        if units.len() > 8 {
-            return Err(Fail::from("more than eight units"));
-        }
-        run(&rt, alloc, units, Story::Each(count))?;
+        run(&rt, rt.alloc(), &[Story::Each(count)]);
     }
-    Ok(())
 }

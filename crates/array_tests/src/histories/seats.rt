@@ -2,14 +2,15 @@
 ghost use Rattle.std.specs.Prelude.{◌≡◌};
 ghost use Rattle.unit_history.specs.Naming.{IsNamedAt};
 
-use crate::histories::array::{Device, New, over, sound, want};
+use crate::histories::array::{Device, New, over, sound};
 use block_file::{Blocks, KeepOpener, MemBlocks};
 use numbering::Array as Naming;
 use scsi_types::{Group, PortName};
 use std::alloc::Global;
 use std::marker::Brand;
+use std::process::Abort;
 use std::sync::Wait;
-use std::test::Fail;
+use std::test::*;
 use std::thread::{Threads, join};
 use unit_history::{Opened, Seat, SharedUnit};
 
@@ -122,23 +123,22 @@ fn watched<W: Threads + Wait + Sync, N: Naming<Opened> + Send + Sync>(
     first && others.0 && others.1
 }
 
-fn watch<W: Threads + Wait + Sync, N: Naming<Opened> + Send + Sync>(
+fn watch<W: Threads + Wait + Abort + Sync, N: Naming<Opened> + Send + Sync>(
     rt: &W,
     alloc: Global,
     new: New,
-) -> Result<(), Fail>
+)
     requires { IsNamedAt N.book N.table N.opening ⟦<Device as Blocks>⟧.contents 0 new }
 {
-    let (unit, mut seats) = Shared::<N>::new(rt, alloc, new, READERS)?;
+    let (unit, mut seats) = Shared::<N>::new(rt, alloc, new, READERS).expect(rt, "memory");
     let at_first = all_see(rt, &unit, &mut seats, 0);
     let is_right = watched(rt, alloc, &unit, &mut seats);
     let at_last = all_see(rt, &unit, &mut seats, 4 * u64::from(TIMES));
-    want(at_first && is_right && at_last, "what 64 readers see")
+    assert!(rt; at_first && is_right && at_last, "what 64 readers see");
 }
 
 #[test]
-fn sixty_four_readers(rt: HostRuntime) -> Result<(), Fail> {
-    let alloc = rt.alloc();
-    let new = over(alloc, sound(alloc)?, 0, 1)?;
-    watch::<HostRuntime, Brand>(&rt, alloc, new)
+fn sixty_four_readers(rt: HostRuntime) {
+    let new = over(&rt, rt.alloc(), sound(&rt, rt.alloc()), 0, 1);
+    watch::<HostRuntime, Brand>(&rt, rt.alloc(), new)
 }

@@ -1,12 +1,13 @@
 //! Sessions of one unit, one call behind another: what each is answered, and how many entries the board shows then.
 use crate::common::End;
-use crate::histories::array::{Array, Story, one, run, sound, want};
+use crate::histories::array::{Array, Story, run};
 use crate::histories::host::{Session, attach, entries, moves, ready, shown};
 use numbering::Array as Naming;
 use scsi_types::{Group, Sense};
 use std::alloc::Global;
+use std::process::Abort;
 use std::sync::Wait;
-use std::test::Fail;
+use std::test::*;
 use unit_history::Opened;
 
 /// So many TEST UNIT READY.
@@ -29,134 +30,102 @@ fn tested<W: Wait, N: Naming<Opened>>(
     good
 }
 
-/// All but the first, which tells of the power on, are GOOD. By the other group it is moved, which is no entry.
-fn serves<W: Wait, N: Naming<Opened>>(
+/// Whether all but the first, which tells of the power on, are GOOD, and a command by the other group is moved, which is no entry.
+fn are_good<W: Wait, N: Naming<Opened>>(
     rt: &W,
     alloc: Global,
     units: &Array<N>,
     host: &mut Session<N>,
-) -> Result<(), Fail> {
-    let first = ready(rt, alloc, units, host, Group::One);
-    want(first == End::Check(Sense::POWER_ON), "the power on")?;
-    let good = tested(rt, alloc, units, host, TESTS - 1);
-    want(good == TESTS - 1, "each command is GOOD")?;
-    want(entries(rt, units, 0) == 2001, "an attach and 2000 commands")?;
-    let moved = ready(rt, alloc, units, host, Group::Two);
-    want(moved == End::Moved(Group::One), "by the other group")?;
-    want(entries(rt, units, 0) == 2001, "it is no entry")?;
-    let good = ready(rt, alloc, units, host, Group::One);
-    want(good == End::Good, "by the owner")?;
-    want(entries(rt, units, 0) == 2002, "it is an entry")
+) -> bool {
+    // an attach and 2000 commands
+    ready(rt, alloc, units, host, Group::One) == End::Check(Sense::POWER_ON)
+        && tested(rt, alloc, units, host, TESTS - 1) == TESTS - 1
+        && entries(rt, units, 0) == 2001
+        && ready(rt, alloc, units, host, Group::Two) == End::Moved(Group::One)
+        && entries(rt, units, 0) == 2001
+        && ready(rt, alloc, units, host, Group::One) == End::Good
+        && entries(rt, units, 0) == 2002
 }
 
-/// The nexus attached again: the session before is gone, and the new one resets the unit.
-fn ends<W: Wait, N: Naming<Opened>>(
+/// The nexus attached again: whether the session before is gone, which is no entry, and the new one resets the unit and ends.
+fn is_replaced<W: Wait, N: Naming<Opened>>(
     rt: &W,
     alloc: Global,
     units: &Array<N>,
     old: &mut Session<N>,
     new: &mut Session<N>,
-) -> Result<(), Fail> {
-    want(entries(rt, units, 0) == 2003, "the nexus attached again")?;
-    let gone = ready(rt, alloc, units, old, Group::One);
-    want(gone == End::Gone, "the session before")?;
-    want(!old.reset(rt, units), "its reset")?;
-    want(entries(rt, units, 0) == 2003, "they are no entries")?;
-    want(new.reset(rt, units), "a reset of the new session")?;
-    want(entries(rt, units, 0) == 2004, "it is an entry")?;
-    want(!old.retire(rt, units), "the end of the session before")?;
-    want(new.retire(rt, units), "the end of the new session")?;
-    want(entries(rt, units, 0) == 2005, "one of them is an entry")
+) -> bool {
+    entries(rt, units, 0) == 2003
+        && ready(rt, alloc, units, old, Group::One) == End::Gone
+        && !old.reset(rt, units)
+        && entries(rt, units, 0) == 2003
+        && new.reset(rt, units)
+        && entries(rt, units, 0) == 2004
+        && !old.retire(rt, units)
+        && new.retire(rt, units)
+        && entries(rt, units, 0) == 2005
 }
 
 /// 2000 commands of a session, and what comes behind them.
-pub fn are_served<W: Wait, N: Naming<Opened>>(
-    rt: &W,
-    alloc: Global,
-    units: &Array<N>,
-) -> Result<(), Fail> {
-    let mut old = attach(rt, alloc, units, 0, 1)?;
-    serves(rt, alloc, units, &mut old)?;
-    let mut new = attach(rt, alloc, units, 0, 1)?;
-    ends(rt, alloc, units, &mut old, &mut new)
-}
-
-#[test]
-fn two_thousand_commands(rt: HostRuntime) -> Result<(), Fail> {
-    let alloc = rt.alloc();
-    run(&rt, alloc, one(alloc, sound(alloc)?)?, Story::Served)
+pub fn are_served<W: Wait + Abort, N: Naming<Opened>>(rt: &W, alloc: Global, units: &Array<N>) {
+    let mut old = attach(rt, alloc, units, 0, 1);
+    assert!(rt; are_good(rt, alloc, units, &mut old));
+    let mut new = attach(rt, alloc, units, 0, 1);
+    assert!(rt; is_replaced(rt, alloc, units, &mut old, &mut new));
 }
 
 /// SET TARGET PORT GROUPS: group 2 active/optimized.
 const TO_TWO: [u8; 8] = [0, 0, 0, 0, 0, 0, 0, 2];
 
-/// The unit moves, is told so, and belongs to the other group.
+/// Whether the unit moves, belongs to the other group, and its session is told so. A flush is no entry.
 fn is_moved<W: Wait, N: Naming<Opened>>(
     rt: &W,
     alloc: Global,
     units: &Array<N>,
     host: &mut Session<N>,
-) -> Result<(), Fail> {
-    want(!moves(rt, units, &TO_TWO[..7]), "a list of 7 bytes")?;
-    want(moves(rt, units, &TO_TWO), "a move")?;
+) -> bool {
+    let is_refused = !moves(rt, units, &TO_TWO[..7]);
+    let is_done = moves(rt, units, &TO_TWO);
     let row = shown(rt, units, 0);
-    want(
-        row.entries == 2 && row.owner == 2,
-        "the other group owns it",
-    )?;
-    want(row.states == (1, 0), "the states")?;
-    let moved = ready(rt, alloc, units, host, Group::One);
-    want(moved == End::Moved(Group::Two), "by the group before")?;
-    let told = ready(rt, alloc, units, host, Group::Two);
-    want(
-        told == End::Check(Sense::POWER_ON),
-        "it is told of the power on",
-    )?;
-    let told = ready(rt, alloc, units, host, Group::Two);
-    want(
-        told == End::Check(Sense::ACCESS_STATE_CHANGED),
-        "it is told of the move",
-    )?;
-    want(units.count() > 0 && units.flush(rt, 0).is_ok(), "a flush")?;
-    want(entries(rt, units, 0) == 4, "a flush is no entry")
+    is_refused
+        && is_done
+        && (row.entries == 2 && row.owner == 2 && row.states == (1, 0))
+        && ready(rt, alloc, units, host, Group::One) == End::Moved(Group::Two)
+        && ready(rt, alloc, units, host, Group::Two) == End::Check(Sense::POWER_ON)
+        && ready(rt, alloc, units, host, Group::Two) == End::Check(Sense::ACCESS_STATE_CHANGED)
+        && (units.count() > 0 && units.flush(rt, 0).is_ok())
+        && entries(rt, units, 0) == 4
 }
 
 /// The unit moves to the other group.
-pub fn moves_away<W: Wait, N: Naming<Opened>>(
-    rt: &W,
-    alloc: Global,
-    units: &Array<N>,
-) -> Result<(), Fail> {
-    let mut host = attach(rt, alloc, units, 0, 1)?;
-    is_moved(rt, alloc, units, &mut host)
-}
-
-#[test]
-fn a_unit_that_moves(rt: HostRuntime) -> Result<(), Fail> {
-    let alloc = rt.alloc();
-    run(&rt, alloc, one(alloc, sound(alloc)?)?, Story::Moved)
+pub fn moves_away<W: Wait + Abort, N: Naming<Opened>>(rt: &W, alloc: Global, units: &Array<N>) {
+    let mut host = attach(rt, alloc, units, 0, 1);
+    assert!(rt; is_moved(rt, alloc, units, &mut host));
 }
 
 /// More than may be attached at once.
 const SESSIONS: u32 = 65;
 
 /// More sessions than may be attached at once, one behind another.
-pub fn come_in_turn<W: Wait, N: Naming<Opened>>(
-    rt: &W,
-    alloc: Global,
-    units: &Array<N>,
-) -> Result<(), Fail> {
+pub fn come_in_turn<W: Wait + Abort, N: Naming<Opened>>(rt: &W, alloc: Global, units: &Array<N>) {
     for isid in 0..SESSIONS {
-        let mut host = attach(rt, alloc, units, 0, isid)?;
+        let mut host = attach(rt, alloc, units, 0, isid);
         let told = ready(rt, alloc, units, &mut host, Group::One);
-        want(told == End::Check(Sense::POWER_ON), "the power on")?;
-        want(host.retire(rt, units), "its end")?;
+        let is_over = host.retire(rt, units);
+        assert!(rt;
+            told == End::Check(Sense::POWER_ON) && is_over,
+            "session {isid}"
+        );
     }
-    want(entries(rt, units, 0) == 195, "three entries each")
+    // three entries each
+    assert!(rt; entries(rt, units, 0) == 195);
 }
 
 #[test]
-fn more_sessions_in_turn_than_at_once(rt: HostRuntime) -> Result<(), Fail> {
-    let alloc = rt.alloc();
-    run(&rt, alloc, one(alloc, sound(alloc)?)?, Story::InTurn)
+fn sessions_of_one_unit(rt: HostRuntime) {
+    run(
+        &rt,
+        rt.alloc(),
+        &[Story::Served, Story::Moved, Story::InTurn],
+    );
 }

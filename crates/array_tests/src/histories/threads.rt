@@ -1,6 +1,6 @@
 //! Two threads that use one unit.
 use crate::common::End;
-use crate::histories::array::{Array, Story, failing, one, run, sound, want};
+use crate::histories::array::{Array, Story, run};
 use crate::histories::host::{
     Session, attach, compare_and_write, entries, read, ready, shown, write,
 };
@@ -8,33 +8,34 @@ use numbering::Array as Naming;
 use scsi_types::{Command, Group, PrOutAction, Sense};
 use status::Row;
 use std::alloc::Global;
+use std::process::Abort;
 use std::sync::Wait;
-use std::test::Fail;
+use std::test::*;
 use std::thread::{Threads, join};
 use unit_history::Opened;
 
 /// Two hosts of unit 0, which have taken their power on: four entries.
-fn two<W: Wait, N: Naming<Opened>>(
+fn two<W: Wait + Abort, N: Naming<Opened>>(
     rt: &W,
     alloc: Global,
     units: &Array<N>,
-) -> Result<(Session<N>, Session<N>), Fail> {
-    let one = told_of_power_on(rt, alloc, units, 1)?;
-    let two = told_of_power_on(rt, alloc, units, 2)?;
-    Ok((one, two))
+) -> (Session<N>, Session<N>) {
+    let one = told_of_power_on(rt, alloc, units, 1);
+    let two = told_of_power_on(rt, alloc, units, 2);
+    (one, two)
 }
 
 /// A host of unit 0, which has taken its power on.
-fn told_of_power_on<W: Wait, N: Naming<Opened>>(
+fn told_of_power_on<W: Wait + Abort, N: Naming<Opened>>(
     rt: &W,
     alloc: Global,
     units: &Array<N>,
     isid: u32,
-) -> Result<Session<N>, Fail> {
-    let mut host = attach(rt, alloc, units, 0, isid)?;
+) -> Session<N> {
+    let mut host = attach(rt, alloc, units, 0, isid);
     let told = ready(rt, alloc, units, &mut host, Group::One);
-    want(told == End::Check(Sense::POWER_ON), "the power on")?;
-    Ok(host)
+    assert!(rt; told == End::Check(Sense::POWER_ON));
+    host
 }
 
 /// The byte that was written, where just one of two has exchanged the block, and the other has found another byte.
@@ -50,7 +51,7 @@ fn winner(first: (End, u8), second: (End, u8)) -> Option<u8> {
 }
 
 /// Both exchange a block by COMPARE AND WRITE, at once: the byte that is there then, where it is the winner's.
-fn race<W: Threads + Wait + Sync, N: Naming<Opened> + Send + Sync>(
+fn race<W: Threads + Wait + Abort + Sync, N: Naming<Opened> + Send + Sync>(
     rt: &W,
     alloc: Global,
     units: &Array<N>,
@@ -77,33 +78,25 @@ fn race<W: Threads + Wait + Sync, N: Naming<Opened> + Send + Sync>(
 const ROUNDS: u64 = 60;
 
 /// Two threads exchange a block, so many times.
-pub fn exchange<W: Threads + Wait + Sync, N: Naming<Opened> + Send + Sync>(
+pub fn exchange<W: Threads + Wait + Abort + Sync, N: Naming<Opened> + Send + Sync>(
     rt: &W,
     alloc: Global,
     units: &Array<N>,
-) -> Result<(), Fail> {
-    let (mut one, mut two) = two(rt, alloc, units)?;
+) {
+    let (mut one, mut two) = two(rt, alloc, units);
     let mut held = 0;
     for _ in 0..ROUNDS {
-        held = race(rt, alloc, units, (&mut one, &mut two), held).ok_or("one winner")?;
+        held = race(rt, alloc, units, (&mut one, &mut two), held).expect(rt, "one winner");
     }
-    want(
-        entries(rt, units, 0) == 4 + 3 * ROUNDS,
-        "three entries a round",
-    )
-}
-
-#[test]
-fn of_two_that_exchange_a_block_one_wins(rt: HostRuntime) -> Result<(), Fail> {
-    let alloc = rt.alloc();
-    run(&rt, alloc, one(alloc, sound(alloc)?)?, Story::Exchanged)
+    // three entries a round
+    assert!(rt; entries(rt, units, 0) == 4 + 3 * ROUNDS);
 }
 
 /// So many commands a thread.
 const TIMES: u64 = 400;
 
 /// How many of a host's writes were told to have failed. None: one ended in another way.
-fn failures<W: Wait, N: Naming<Opened>>(
+fn failures<W: Wait + Abort, N: Naming<Opened>>(
     rt: &W,
     alloc: Global,
     units: &Array<N>,
@@ -123,7 +116,7 @@ fn failures<W: Wait, N: Naming<Opened>>(
 }
 
 /// Both write: how many writes of both were told to have failed.
-fn both_write<W: Threads + Wait + Sync, N: Naming<Opened> + Send + Sync>(
+fn both_write<W: Threads + Wait + Abort + Sync, N: Naming<Opened> + Send + Sync>(
     rt: &W,
     alloc: Global,
     units: &Array<N>,
@@ -139,20 +132,17 @@ fn both_write<W: Threads + Wait + Sync, N: Naming<Opened> + Send + Sync>(
 }
 
 /// Two threads write, while so many calls of the device fail: what is told to have failed is that, and nothing else.
-pub fn meet_failures<W: Threads + Wait + Sync, N: Naming<Opened> + Send + Sync>(
+pub fn meet_failures<W: Threads + Wait + Abort + Sync, N: Naming<Opened> + Send + Sync>(
     rt: &W,
     alloc: Global,
     units: &Array<N>,
     calls: u64,
-) -> Result<(), Fail> {
-    let (mut one, mut two) = two(rt, alloc, units)?;
+) {
+    let (mut one, mut two) = two(rt, alloc, units);
     let failed = both_write(rt, alloc, units, (&mut one, &mut two));
-    want(failed == Some(calls), "as many as the device failed")?;
-    want(entries(rt, units, 0) == 4 + 2 * TIMES, "each is an entry")?;
-    want(
-        have_seen_all(units, &mut one, &mut two),
-        "the sessions meet",
-    )
+    // as many as the device failed; each is an entry
+    assert!(rt; failed == Some(calls) && entries(rt, units, 0) == 4 + 2 * TIMES);
+    assert!(rt; have_seen_all(units, &mut one, &mut two));
 }
 
 /// Whether both meet, and have then seen all.
@@ -164,19 +154,8 @@ fn have_seen_all<N: Naming<Opened>>(
     one.meet(units, two) && one.seen() == 4 + 2 * TIMES && two.seen() == 4 + 2 * TIMES
 }
 
-#[test]
-fn what_failed_is_told_and_nothing_else(rt: HostRuntime) -> Result<(), Fail> {
-    let alloc = rt.alloc();
-    run(
-        &rt,
-        alloc,
-        one(alloc, failing(alloc, 150, 70)?)?,
-        Story::Failing(70),
-    )
-}
-
 /// Whether the host registers, or gives up its registration.
-fn registers<W: Wait, N: Naming<Opened>>(
+fn registers<W: Wait + Abort, N: Naming<Opened>>(
     rt: &W,
     alloc: Global,
     units: &Array<N>,
@@ -196,7 +175,7 @@ fn registers<W: Wait, N: Naming<Opened>>(
 
 /// A host registers and gives up its registration, again and again, so that each change makes the count of registrants odd or
 /// even as the generation is.
-fn comes_and_goes<W: Wait, N: Naming<Opened>>(
+fn comes_and_goes<W: Wait + Abort, N: Naming<Opened>>(
     rt: &W,
     alloc: Global,
     units: &Array<N>,
@@ -214,7 +193,7 @@ fn comes_and_goes<W: Wait, N: Naming<Opened>>(
 const ROWS: u64 = 5000;
 
 /// Whether no row is older than the one before, and each is whole.
-fn never_older<W: Wait, N: Naming<Opened>>(rt: &W, units: &Array<N>) -> bool {
+fn never_older<W: Wait + Abort, N: Naming<Opened>>(rt: &W, units: &Array<N>) -> bool {
     let mut last = 0;
     for _ in 0..ROWS {
         let row = shown(rt, units, 0);
@@ -228,7 +207,7 @@ fn never_older<W: Wait, N: Naming<Opened>>(rt: &W, units: &Array<N>) -> bool {
 }
 
 /// Two write, and a third reads: whether each was right.
-fn are_right<W: Threads + Wait + Sync, N: Naming<Opened> + Send + Sync>(
+fn are_right<W: Threads + Wait + Abort + Sync, N: Naming<Opened> + Send + Sync>(
     rt: &W,
     alloc: Global,
     units: &Array<N>,
@@ -250,17 +229,15 @@ fn are_right<W: Threads + Wait + Sync, N: Naming<Opened> + Send + Sync>(
 }
 
 /// Two threads write, and a third reads the board.
-pub fn are_watched<W: Threads + Wait + Sync, N: Naming<Opened> + Send + Sync>(
+pub fn are_watched<W: Threads + Wait + Abort + Sync, N: Naming<Opened> + Send + Sync>(
     rt: &W,
     alloc: Global,
     units: &Array<N>,
-) -> Result<(), Fail> {
-    let (mut one, mut two) = two(rt, alloc, units)?;
+) {
+    let (mut one, mut two) = two(rt, alloc, units);
     let is_right = are_right(rt, alloc, units, (&mut one, &mut two));
-    want(
-        is_right && is_last(shown(rt, units, 0)),
-        "whole rows, none older than the one before, and the last",
-    )
+    // whole rows, none older than the one before, and the last
+    assert!(rt; is_right && is_last(shown(rt, units, 0)));
 }
 
 /// Whether this is the row behind all that both did.
@@ -269,7 +246,10 @@ fn is_last(row: Row) -> bool {
 }
 
 #[test]
-fn rows_are_whole_and_never_older(rt: HostRuntime) -> Result<(), Fail> {
-    let alloc = rt.alloc();
-    run(&rt, alloc, one(alloc, sound(alloc)?)?, Story::Watched)
+fn two_threads_at_one_unit(rt: HostRuntime) {
+    run(
+        &rt,
+        rt.alloc(),
+        &[Story::Exchanged, Story::Failing(70), Story::Watched],
+    );
 }

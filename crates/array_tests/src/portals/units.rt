@@ -1,6 +1,7 @@
 //! Units in memory and over files, before they are shared.
 ghost use Rattle.std.specs.Prelude.{◌≡◌, ◌<◌, ◌≤◌, length};
 
+use crate::common::{new_unit, place, zeros};
 use crate::portals::held::HeldBlocks;
 use crate::portals::latch::Latch;
 use aptpl_file::{FILE_BLOCKS, RegFile};
@@ -28,27 +29,6 @@ type FusedFile = FusedBlocks<FileBlocks<File>>;
 /// A unit over a file, with its registration file, which may fail.
 pub type FileUnit = NewUnit<FusedFile, FusedFile, FusedOpener<KeepOpener>>;
 
-// Blocks of zeros.
-fn zeros<R: Abort>(rt: &R, alloc: Global, count: u32) -> MemBlocks {
-    MemBlocks::new(alloc, count).expect(rt, "memory")
-}
-
-/// The unit at a place over this device, whose registration file lies in memory and holds no registrations.
-pub fn in_memory<R: Abort, B: Blocks>(
-    rt: &R,
-    alloc: Global,
-    place: Place,
-    blocks: B,
-) -> NewUnit<B, MemBlocks, KeepOpener> {
-    assert!(rt; blocks.count() > 0);
-    let file = RegFile::format(zeros(rt, alloc, FILE_BLOCKS)).expect(rt, "a registration file");
-    laws::nobody_is_attached_at_first();
-    let unit = Unit::open(alloc, place, blocks, KeepOpener, file, Record::empty(alloc)).expect(
-        rt, "memory",
-    );
-    NewUnit::new(alloc, unit).expect(rt, "memory")
-}
-
 /// The one unit of an array, of so many blocks.
 pub fn one<R: Abort>(
     rt: &R,
@@ -57,13 +37,8 @@ pub fn one<R: Abort>(
 ) -> Vec<NewUnit<MemBlocks, MemBlocks, KeepOpener>>
     ensures { length result.items ≤ 8 }
 {
-    let place = Place {
-        unit: 0,
-        units: 1,
-        array: 1,
-    };
     let mut units = Vec::new(alloc);
-    let unit = in_memory(rt, alloc, place, zeros(rt, alloc, blocks));
+    let unit = new_unit(rt, alloc, place(0, 1), zeros(rt, alloc, blocks), KeepOpener);
     units.push(unit).expect(rt, "memory");
     units
 }
@@ -75,17 +50,12 @@ fn held<R: Wait + Abort + Drop>(
     unit: u8,
     latch: &Arc<Latch<R>, Global>,
 ) -> HeldUnit<R> {
-    let place = Place {
-        unit,
-        units: 2,
-        array: 1,
-    };
     let blocks = HeldBlocks {
         inner: zeros(rt, alloc, BLOCKS),
         unit,
         latch: Arc::try_clone(latch).expect(rt, "memory"),
     };
-    in_memory(rt, alloc, place, blocks)
+    new_unit(rt, alloc, place(unit, 2), blocks, KeepOpener)
 }
 
 /// Units 0 and 1, in memory, whose devices hang at this latch.

@@ -1,13 +1,12 @@
 //! Units 0 and 1 of an array in memory as a world, and the events of a row.
-ghost use Rattle.std.specs.Prelude.{◌≡◌, IfOk};
 ghost use Rattle.unit_state.specs.Serials.{IsOpening};
 
-use crate::common::{Opens, opened};
+use crate::common::{BLOCKS, Opens, opened, place, zeros};
 use crate::desks::events::rows::{Act, Asks};
 use block_file::{FusedOpener, KeepOpener, MemBlocks};
 use scsi_types::{Group, PortName, decode};
 use std::alloc::Global;
-use std::test::Fail;
+use std::process::Abort;
 use unit_events::Bytes;
 use unit_state::Unit;
 use world::{Event, World};
@@ -16,9 +15,6 @@ type MemUnit = Unit<MemBlocks, MemBlocks, Opens>;
 
 /// A world of units in memory, whose openers pass so many opens and then fail.
 pub type MemWorld = World<MemBlocks, MemBlocks, Opens>;
-
-/// The blocks of a unit.
-const BLOCKS: u32 = 16;
 
 // TEST UNIT READY
 const TEST: [u8; 16] = [0; 16];
@@ -31,19 +27,23 @@ const FIRST: [u8; 8] = [0, 0, 0, 0, 0, 0, 0, 1];
 
 const SECOND: [u8; 8] = [0, 0, 0, 0, 0, 0, 0, 2];
 
-fn in_memory(alloc: Global, unit: u8, opens: u64) -> Result<MemUnit, Fail>
-    ensures { IfOk result (λ u. IsOpening u.control) }
+fn in_memory<R: Abort>(rt: &R, alloc: Global, unit: u8, opens: u64) -> MemUnit
+    ensures { IsOpening result.control }
 {
-    let blocks = MemBlocks::new(alloc, BLOCKS)?;
-    opened(alloc, blocks, FusedOpener::new(KeepOpener, opens), unit, 2)
+    let opener = FusedOpener::new(KeepOpener, opens);
+    opened(rt, alloc, place(unit, 2), zeros(rt, alloc, BLOCKS), opener)
 }
 
 /// Units 0 and 1, whose openers pass so many opens each.
-pub fn two_units(alloc: Global, opens: [u64; 2]) -> Result<MemWorld, Fail> {
+pub fn two_units<R: Abort>(rt: &R, alloc: Global, opens: [u64; 2]) -> MemWorld {
     let mut units = Vec::new(alloc);
-    units.push(in_memory(alloc, 0, opens[0])?)?;
-    units.push(in_memory(alloc, 1, opens[1])?)?;
-    Ok(World::new(alloc, units)?)
+    units
+        .push(in_memory(rt, alloc, 0, opens[0]))
+        .expect(rt, "memory");
+    units
+        .push(in_memory(rt, alloc, 1, opens[1]))
+        .expect(rt, "memory");
+    World::new(alloc, units).expect(rt, "memory")
 }
 
 fn list_of(group: Group) -> &'static [u8] {
@@ -53,46 +53,55 @@ fn list_of(group: Group) -> &'static [u8] {
     }
 }
 
-fn submit(alloc: Global, session: usize, by_group: Group, asks: Asks) -> Result<Event, Fail> {
+fn bytes<R: Abort>(rt: &R, alloc: Global, bytes: &[u8]) -> Bytes {
+    Bytes::new(Vec::from_slice(alloc, bytes).expect(rt, "memory"))
+}
+
+fn submit<R: Abort>(rt: &R, alloc: Global, session: usize, by_group: Group, asks: Asks) -> Event {
     let (cdb, list): (&[u8; 16], &[u8]) = match asks {
         Asks::Test => (&TEST, &[]),
         Asks::Set(group) => (&SET, list_of(group)),
     };
-    Ok(Event::Submit {
+    Event::Submit {
         session,
         by_group,
         asked: decode(cdb),
-        bytes: Bytes::new(Vec::from_slice(alloc, list)?),
-    })
+        bytes: bytes(rt, alloc, list),
+    }
 }
 
-fn event_of(alloc: Global, act: Act) -> Result<Event, Fail> {
+fn attach<R: Abort>(rt: &R, alloc: Global, place: usize, isid: u64, group: Group) -> Event {
+    let name = Vec::from_slice(alloc, b"iqn.2000-01.test:a").expect(rt, "memory");
+    Event::Attach {
+        place,
+        port: PortName::new(name, isid),
+        group,
+    }
+}
+
+fn event_of<R: Abort>(rt: &R, alloc: Global, act: Act) -> Event {
     match act {
-        Act::Attach(place, isid, group) => {
-            let name = Vec::from_slice(alloc, b"iqn.2000-01.test:a")?;
-            let port = PortName::new(name, isid);
-            Ok(Event::Attach { place, port, group })
-        }
-        Act::Detach(session) => Ok(Event::Detach { session }),
-        Act::Reset(session) => Ok(Event::Reset { session }),
-        Act::Move(place, group) => {
-            let list = Bytes::new(Vec::from_slice(alloc, list_of(group))?);
-            Ok(Event::Move { place, list })
-        }
-        Act::Submit(session, by_group, asks) => submit(alloc, session, by_group, asks),
-        Act::Again(session) => Ok(Event::SubmitAgain { session }),
-        Act::Take(group) => Ok(Event::Take { group }),
-        Act::Serve(session) => Ok(Event::Serve { session }),
-        Act::Post(session) => Ok(Event::Post { session }),
-        Act::Collect(session) => Ok(Event::Collect { session }),
+        Act::Attach(place, isid, group) => attach(rt, alloc, place, isid, group),
+        Act::Detach(session) => Event::Detach { session },
+        Act::Reset(session) => Event::Reset { session },
+        Act::Move(place, group) => Event::Move {
+            place,
+            list: bytes(rt, alloc, list_of(group)),
+        },
+        Act::Submit(session, by_group, asks) => submit(rt, alloc, session, by_group, asks),
+        Act::Again(session) => Event::SubmitAgain { session },
+        Act::Take(group) => Event::Take { group },
+        Act::Serve(session) => Event::Serve { session },
+        Act::Post(session) => Event::Post { session },
+        Act::Collect(session) => Event::Collect { session },
     }
 }
 
 /// The events of a row.
-pub fn events_of(alloc: Global, acts: &[Act]) -> Result<Vec<Event>, Fail> {
+pub fn events_of<R: Abort>(rt: &R, alloc: Global, acts: &[Act]) -> Vec<Event> {
     let mut events = Vec::new(alloc);
     for act in acts {
-        events.push(event_of(alloc, *act)?)?;
+        events.push(event_of(rt, alloc, *act)).expect(rt, "memory");
     }
-    Ok(events)
+    events
 }

@@ -6,15 +6,15 @@ use crate::desks::events::rows::Said::{Busy, Check, Submitted};
 use crate::desks::events::rows::{Act, At, Noted, Row, Stands};
 use crate::desks::events::run::Play;
 use scsi_types::Group::{One, Two};
-use std::alloc::Global;
+use std::alloc::{AllocError, Global};
 use std::process::Abort;
-use std::test::Fail;
+use std::test::*;
 
 /// As many sessions as a unit may have, and jobs as a desk.
 const MOST: u64 = 64;
 
 // 64 sessions of unit 0 attach, and then two of unit 1.
-fn attaches(alloc: Global) -> Result<Vec<Act>, Fail> {
+fn attaches(alloc: Global) -> Result<Vec<Act>, AllocError> {
     let mut acts = Vec::new(alloc);
     for isid in 0..MOST {
         acts.push(Attach(0, isid, One))?;
@@ -25,7 +25,7 @@ fn attaches(alloc: Global) -> Result<Vec<Act>, Fail> {
 }
 
 // Each session of unit 0 submits at the first desk.
-fn submits(alloc: Global) -> Result<Vec<Act>, Fail> {
+fn submits(alloc: Global) -> Result<Vec<Act>, AllocError> {
     let mut acts = Vec::new(alloc);
     for session in 0..MOST {
         acts.push(Submit(session as usize, One, Test))?;
@@ -33,7 +33,7 @@ fn submits(alloc: Global) -> Result<Vec<Act>, Fail> {
     Ok(acts)
 }
 
-fn submitted(alloc: Global) -> Result<Vec<Noted>, Fail> {
+fn submitted(alloc: Global) -> Result<Vec<Noted>, AllocError> {
     let mut notes = Vec::new(alloc);
     for session in 0..MOST {
         notes.push(Noted(0, session, 1, MOST, Submitted))?;
@@ -46,7 +46,7 @@ fn submitted(alloc: Global) -> Result<Vec<Noted>, Fail> {
 struct Standing(Stands, At, At, At);
 
 impl Standing {
-    fn sessions(self, alloc: Global) -> Result<Vec<Stands>, Fail> {
+    fn sessions(self, alloc: Global) -> Result<Vec<Stands>, AllocError> {
         let Standing(first, others, one, two) = self;
         let mut all = Vec::new(alloc);
         all.push(first)?;
@@ -63,8 +63,8 @@ impl Standing {
 #[derive(Clone, Copy)]
 struct Line<'a>(&'a str, &'a [Act], &'a [Noted], u64, Standing);
 
-fn step(play: &mut Play, rt: &impl Abort, alloc: Global, line: &Line<'_>) -> Result<(), Fail> {
-    let sessions = line.4.sessions(alloc)?;
+fn step(play: &mut Play, rt: &impl Abort, alloc: Global, line: &Line<'_>) {
+    let sessions = line.4.sessions(alloc).expect(rt, "memory");
     let row = Row {
         what: line.0,
         acts: line.1,
@@ -72,7 +72,7 @@ fn step(play: &mut Play, rt: &impl Abort, alloc: Global, line: &Line<'_>) -> Res
         entries: (line.3, 2),
         sessions: &sessions,
     };
-    play.row(rt, alloc, &row)
+    play.row(rt, alloc, &row);
 }
 
 const ATTACHED: Standing = Standing(Stands(0, 0, 1, Idle), Idle, Idle, Idle);
@@ -80,21 +80,14 @@ const ATTACHED: Standing = Standing(Stands(0, 0, 1, Idle), Idle, Idle, Idle);
 const WAITING: Standing = Standing(Stands(0, 0, 1, Waits), Waits, Idle, Idle);
 
 // The desk is full.
-fn fill(play: &mut Play, rt: &impl Abort, alloc: Global) -> Result<(), Fail> {
-    let acts = attaches(alloc)?;
-    step(
-        play,
-        rt,
-        alloc,
-        &Line("66 sessions", &acts, &[], 64, ATTACHED),
-    )?;
-    let (acts, notes) = (submits(alloc)?, submitted(alloc)?);
-    step(
-        play,
-        rt,
-        alloc,
-        &Line("64 jobs", &acts, &notes, 64, WAITING),
-    )
+fn fill(play: &mut Play, rt: &impl Abort, alloc: Global) {
+    let acts = attaches(alloc).expect(rt, "memory");
+    let line = Line("66 sessions", &acts, &[], 64, ATTACHED);
+    step(play, rt, alloc, &line);
+    let acts = submits(alloc).expect(rt, "memory");
+    let notes = submitted(alloc).expect(rt, "memory");
+    let line = Line("64 jobs", &acts, &notes, 64, WAITING);
+    step(play, rt, alloc, &line);
 }
 
 // What happens then.
@@ -132,15 +125,11 @@ const FULL: &[Line<'static>] = &[
     ),
 ];
 
-fn full(play: &mut Play, rt: &impl Abort, alloc: Global) -> Result<(), Fail> {
-    fill(play, rt, alloc)?;
-    for next in FULL {
-        step(play, rt, alloc, next)?;
-    }
-    Ok(())
-}
-
 #[test]
-fn a_desk_has_64_jobs(rt: HostRuntime) -> Result<(), Fail> {
-    full(&mut Play::new(rt.alloc(), [9, 9])?, &rt, rt.alloc())
+fn a_desk_has_64_jobs(rt: HostRuntime) {
+    let mut play = Play::new(&rt, rt.alloc(), [9, 9]);
+    fill(&mut play, &rt, rt.alloc());
+    for next in FULL {
+        step(&mut play, &rt, rt.alloc(), next);
+    }
 }

@@ -6,7 +6,7 @@ use crate::desks::events::rows::Said::{Busy, Check, Good, Submitted};
 use crate::desks::events::rows::{Noted, Row, Stands, rows};
 use crate::desks::events::run::run;
 use scsi_types::Group::{One, Two};
-use std::test::Fail;
+use std::test::*;
 
 const POWER_ON: (u8, u8, u8) = (0x06, 0x29, 0x00);
 
@@ -58,11 +58,7 @@ const UNOPENED: &[Row] = rows! {
 };
 
 #[test]
-fn a_unit_moves(rt: HostRuntime) -> Result<(), Fail> {
-    run(&rt, rt.alloc(), [9, 9], MOVED)
-}
-
-#[test]
-fn a_unit_that_is_not_opened_stays(rt: HostRuntime) -> Result<(), Fail> {
-    run(&rt, rt.alloc(), [0, 9], UNOPENED)
+fn units_move_or_stay(rt: HostRuntime) {
+    run(&rt, rt.alloc(), [9, 9], MOVED);
+    run(&rt, rt.alloc(), [0, 9], UNOPENED);
 }

@@ -2,9 +2,8 @@
 use crate::desks::events::array::{MemWorld, events_of, two_units};
 use crate::desks::events::rows::{At, Noted, Row, Said, Stands};
 use scsi_types::{Reply, Status};
-use std::alloc::Global;
+use std::alloc::{AllocError, Global};
 use std::process::Abort;
-use std::test::Fail;
 use unit_events::Job;
 use unit_state::Row as Board;
 use world::{Note, Stage, What};
@@ -48,7 +47,7 @@ fn at(stage: &Stage) -> At {
 }
 
 // Those that stand behind so many.
-fn notes_behind(alloc: Global, notes: &[Note], before: usize) -> Result<Vec<Noted>, Fail> {
+fn notes_behind(alloc: Global, notes: &[Note], before: usize) -> Result<Vec<Noted>, AllocError> {
     let mut seen = Vec::new(alloc);
     for (place, note) in notes.iter().enumerate() {
         if place >= before {
@@ -64,7 +63,7 @@ fn notes_behind(alloc: Global, notes: &[Note], before: usize) -> Result<Vec<Note
     Ok(seen)
 }
 
-fn sessions_of(alloc: Global, world: &MemWorld) -> Result<Vec<Stands>, Fail> {
+fn sessions_of(alloc: Global, world: &MemWorld) -> Result<Vec<Stands>, AllocError> {
     let mut seen = Vec::new(alloc);
     for session in world.sessions() {
         seen.push(Stands(session.place, session.id, session.next, at(&session.stage)))?;
@@ -79,12 +78,12 @@ fn board(world: &MemWorld, place: usize) -> Option<Board> {
     }
 }
 
-fn look(alloc: Global, world: &MemWorld, before: usize) -> Result<Seen, Fail> {
-    Ok(Seen {
-        notes: notes_behind(alloc, world.notes(), before)?,
+fn look(rt: &impl Abort, alloc: Global, world: &MemWorld, before: usize) -> Seen {
+    Seen {
+        notes: notes_behind(alloc, world.notes(), before).expect(rt, "memory"),
         boards: [board(world, 0), board(world, 1)],
-        sessions: sessions_of(alloc, world)?,
-    })
+        sessions: sessions_of(alloc, world).expect(rt, "memory"),
+    }
 }
 
 // A unit has so many entries. Where it had as many before, it shows what it showed.
@@ -111,36 +110,31 @@ pub struct Play {
 
 impl Play {
     /// Over units whose openers pass so many opens each.
-    pub fn new(alloc: Global, opens: [u64; 2]) -> Result<Play, Fail> {
-        let world = two_units(alloc, opens)?;
-        let before = look(alloc, &world, 0)?;
-        Ok(Play { world, before })
+    pub fn new(rt: &impl Abort, alloc: Global, opens: [u64; 2]) -> Play {
+        let world = two_units(rt, alloc, opens);
+        let before = look(rt, alloc, &world, 0);
+        Play { world, before }
     }
 
     /// Runs the events of a row.
-    pub fn row(&mut self, rt: &impl Abort, alloc: Global, row: &Row<'_>) -> Result<(), Fail> {
+    pub fn row(&mut self, rt: &impl Abort, alloc: Global, row: &Row<'_>) {
         let noted = self.world.notes().len();
-        self.world.run(&events_of(alloc, row.acts)?)?;
-        let after = look(alloc, &self.world, noted)?;
+        let events = events_of(rt, alloc, row.acts);
+        self.world.run(&events).expect(rt, "memory");
+        let after = look(rt, alloc, &self.world, noted);
         assert!(rt;
             is_met(&self.before, &after, row),
             "{}: {after:?}",
             row.what
         );
         self.before = after;
-        Ok(())
-    }
-
-    // Runs the events of each row in turn.
-    fn rows(&mut self, rt: &impl Abort, alloc: Global, rows: &[Row]) -> Result<(), Fail> {
-        for row in rows {
-            self.row(rt, alloc, row)?;
-        }
-        Ok(())
     }
 }
 
 /// Runs the events of each row in turn, over units whose openers pass so many opens each.
-pub fn run(rt: &impl Abort, alloc: Global, opens: [u64; 2], rows: &[Row]) -> Result<(), Fail> {
-    Play::new(alloc, opens)?.rows(rt, alloc, rows)
+pub fn run(rt: &impl Abort, alloc: Global, opens: [u64; 2], rows: &[Row]) {
+    let mut play = Play::new(rt, alloc, opens);
+    for row in rows {
+        play.row(rt, alloc, row);
+    }
 }
