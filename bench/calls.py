@@ -27,17 +27,19 @@ are asked for, and told where they fail. A loss of power is tried by the proved 
 
 Prints a table; ends with status 1 at the first thing that is otherwise, with all that was asked and answered up to there.
 
-usage: bench/calls.py [PROGRAM]
+usage: bench/calls.py [--jobs J] [PROGRAM]
        bench/calls.py --at N [--how HOW] [--end END] [PROGRAM]     one run, with all that was said
 
-HOW is none, half, whole or dead, as bench/calls.c has them; END is "at once", kill, quit, or kept: killed at once, but behind
+J runs are made at a time, 1 where that is not said. HOW is none, half, whole or dead, as bench/calls.c has them; END is "at once", kill, quit, or kept: killed at once, but behind
 another GOOD. PROGRAM is crates/arrayd/out/arrayd where none is given; `./example.sh` builds it. Wants a C compiler and Linux.
 """
 
 import argparse
 import collections
+import concurrent.futures
 import copy
 import os
+import queue
 import shutil
 import sys
 import tempfile
@@ -64,7 +66,7 @@ def medium(life, a, b, unit):
     life.read(a, unit, 0, 10)
     life.read(b, unit, 0, 10, fua=True)
     life.flush(a, unit)
-    life.write(b, unit, 20, 200)
+    life.write(b, unit, 20, 130)
     life.write(a, unit, BLOCKS - 1, 1, fua=True)
     life.compare_and_write(a, unit, 0, life.held(unit, 0, 1))
     life.compare_and_write(b, unit, 0, life.data(unit, 0, 1))
@@ -210,6 +212,19 @@ class Run:
                 life.ran.wait()
         return life, self.calls.since()
 
+    def judged(self, ask, end, at, how):
+        """A life, and another one over its files, in which no call fails."""
+        try:
+            life, seen = self.live(ask, end, at, how)
+            self.live(look, "quit")
+            self.files()
+            failed = next((call for call in seen if call.has_failed()), None)
+            if failed and life.came_to is None:
+                raise Wrong("nobody was told")
+        except Wrong as wrong:
+            raise Wrong("\n".join([*self.said, f"call {at} failing ({how}), then {end}: {wrong}"])) from None
+        return failed, life, seen, self.said
+
     def files(self):
         """The files are as long as they were, hold what was read, and nothing else lies beside them."""
         for unit, disk in zip(self.units, self.disks):
@@ -253,89 +268,109 @@ class Table:
 
 
 def one(program, calls, folder, at, how, end):
-    """A run over new files; which call failed, if any, how that life went, and all its calls."""
-    run = Run(program, calls, folder)
-    try:
-        run.make()
-        life, seen = run.live(work, end, at, how)
-        run.live(look, "quit")
-        run.files()
-    except Wrong as wrong:
-        raise Wrong("\n".join([*run.said, f"call {at} failing ({how}), then {end}: {wrong}"])) from None
-    failed = next((call for call in seen if call.has_failed()), None)
-    if failed and life.came_to is None:
-        raise Wrong("\n".join([*run.said, f"call {at} failing ({how}), then {end}: nobody was told"]))
-    return failed, life, seen, run.said
-
-
-def each(program, calls, folder, table, how, end, are_asked=lambda call: True):
-    """Makes each call fail in turn, but those that are not asked for. Where no end is told, the runs are killed and told to
-    quit in turn; the calls of quit itself are its last ones."""
-    _, _, plain, _ = one(program, calls, folder, 0, how, end or "quit")
-    at = 0
-    while True:
-        at += 1
-        if at <= len(plain) and not are_asked(plain[at - 1]):
-            continue
-        in_turn = "kill" if at % 2 and at <= len(plain) - UNITS else "quit"
-        failed, life, _, _ = one(program, calls, folder, at, how, end or in_turn)
-        if failed is None:
-            return plain
-        table.add(failed, how, life)
-
-
-def each_of_a_start(program, calls, folder, table, how):
-    """Makes each call fail in turn of a life over files that are there, which is then killed."""
+    """A run over new files: which call failed, if any, how that life went, all its calls, and what was said."""
     run = Run(program, calls, folder)
     run.make()
-    kept, at = os.path.join(folder, "kept"), 0
-    os.mkdir(kept)
-    try:
-        run.live(work, "kill")
-        for unit, disk in enumerate(run.disks):
-            shutil.copytree(os.path.dirname(disk), os.path.join(kept, str(unit)))
-        units, said = run.units, list(run.said)
-        while True:
-            at += 1
-            run.units, run.said = copy.deepcopy(units), list(said)
-            for unit, disk in enumerate(run.disks):
-                shutil.rmtree(os.path.dirname(disk))
-                shutil.copytree(os.path.join(kept, str(unit)), os.path.dirname(disk))
-            life, seen = run.live(look, "kill", at, how)
-            run.live(look, "quit")
-            run.files()
-            failed = next((call for call in seen if call.has_failed()), None)
-            if failed is None:
-                return
-            if life.came_to is None:
-                raise Wrong("nobody was told")
-            table.add(failed, how + " of a start", life)
-    except Wrong as wrong:
-        raise Wrong("\n".join([*run.said, f"call {at} of a second start failing ({how}): {wrong}"])) from None
-    finally:
-        shutil.rmtree(kept)
+    return run.judged(work, end, at, how)
 
 
-def everything(program, calls, folder):
-    table = Table()
-    plain = each(program, calls, folder, table, "none", None)
-    kinds = collections.Counter(call.kind for call in plain)
-    print(f"{len(plain)} calls in a life in which none fails: {', '.join(f'{n} {kind}' for kind, n in kinds.most_common())}")
-    each(program, calls, folder, table, "none", "at once")
-    each(program, calls, folder, table, "none", "kept", lambda call: call.file == REGISTRATIONS)
-    table.print("fails, and nothing was done", "none")
-    for how, least, title in (("half", 2, "half of the blocks are written"), ("whole", 1, "all is written, and it fails")):
-        for end in ("at once", None):
-            each(program, calls, folder, table, how, end, lambda call: call.kind == "pwrite" and call.length >= least * BLOCK)
-        each(program, calls, folder, table, how, "kept", lambda call: (call.kind, call.file) == ("pwrite", REGISTRATIONS))
-        table.print(title, how)
-    each(program, calls, folder, table, "dead", None)
-    table.print("from then on all fail on that file", "dead")
-    for how, title in (("none", "fails in a start and behind it"), ("dead", "the same, all on that file")):
-        each_of_a_start(program, calls, folder, table, how)
-        table.print(title, how + " of a start")
-    print(f"\n{table.runs} runs in which a call failed, and {table.refused} flushes refused after one that had failed; "
-          "each answer, and all that a start found, is by the rules")
+class Runs:
+    """All runs of a program, so many at a time, each with a folder and a list of its own; and what they came to."""
+
+    def __init__(self, program, folder, jobs):
+        self.program, self.folder, self.table = program, folder, Table()
+        self.pool = concurrent.futures.ThreadPoolExecutor(jobs)
+        self.places = queue.SimpleQueue()
+        for job in range(jobs):
+            place = os.path.join(folder, str(job))
+            os.mkdir(place)
+            self.places.put((Calls(place), place))
+
+    def in_a_place(self, ask, *words):
+        calls, place = self.places.get()
+        try:
+            return ask(self.program, calls, place, *words)
+        finally:
+            self.places.put((calls, place))
+
+    def one(self, at, how, end):
+        return self.in_a_place(one, at, how, end)
+
+    def each(self, ask, how, numbers, past):
+        """Asks for a run for each of these numbers, in each of which a call fails, and for one past them, in which none does."""
+        asked = [self.pool.submit(ask, at) for at in [*numbers, past]]
+        try:
+            for at, answer in zip([*numbers, past], asked):
+                failed, life = answer.result()[:2]
+                if (failed is None) != (at == past):
+                    raise Wrong(f"call {at} failing ({how}): {'none failed' if failed is None else failed}")
+                if failed:
+                    self.table.add(failed, how, life)
+        except Wrong:
+            self.pool.shutdown(wait=True, cancel_futures=True)
+            raise
+
+    def of_a_life(self, plain, how, end=None, are_asked=lambda call: True):
+        """Makes each call fail in turn, but those that are not asked for. Where no end is told, the runs are killed and told to
+        quit in turn; the calls of quit itself are the last ones."""
+        def ask(at):
+            in_turn = "kill" if at % 2 and at <= len(plain) - UNITS else "quit"
+            return self.one(at, how, end or in_turn)
+
+        self.each(ask, how, [call.number for call in plain if are_asked(call)], len(plain) + 1)
+
+    def of_a_start(self, how):
+        """Makes each call fail in turn of a life over files that are there."""
+        kept = self.in_a_place(before_a_start, os.path.join(self.folder, "kept"))
+        plain = self.in_a_place(start, kept, 0, how)[2]
+        self.each(lambda at: self.in_a_place(start, kept, at, how), how + " of a start",
+                  [call.number for call in plain], len(plain) + 1)
+        shutil.rmtree(kept[0])
+
+    def all(self):
+        plain = self.one(0, "none", "quit")[2]
+        kinds = collections.Counter(call.kind for call in plain)
+        print(f"{len(plain)} calls in a life in which none fails: {', '.join(f'{n} {kind}' for kind, n in kinds.most_common())}")
+        self.of_a_life(plain, "none")
+        self.of_a_life(plain, "none", "at once")
+        self.of_a_life(plain, "none", "kept", lambda call: call.file == REGISTRATIONS)
+        self.table.print("fails, and nothing was done", "none")
+        for how, least, title in (("half", 2, "half of the blocks are written"), ("whole", 1, "all is written, and it fails")):
+            def is_write(call):
+                return call.kind == "pwrite" and call.length >= least * BLOCK
+
+            self.of_a_life(plain, how, None, is_write)
+            self.of_a_life(plain, how, "at once", is_write)
+            self.of_a_life(plain, how, "kept", lambda call: is_write(call) and call.file == REGISTRATIONS)
+            self.table.print(title, how)
+        self.of_a_life(plain, "dead")
+        self.table.print("from then on all fail on that file", "dead")
+        for how, title in (("none", "fails in a start and behind it"), ("dead", "the same, all on that file")):
+            self.of_a_start(how)
+            self.table.print(title, how + " of a start")
+        print(f"\n{self.table.runs} runs in which a call failed, and {self.table.refused} flushes refused after one that had "
+              "failed; each answer, and all that a start found, is by the rules")
+
+
+def before_a_start(program, calls, folder, kept):
+    """A whole life, killed: its files, kept in a folder, with what may be of the units, and what was said."""
+    run = Run(program, calls, folder)
+    run.make()
+    run.live(work, "kill")
+    for unit, disk in enumerate(run.disks):
+        shutil.copytree(os.path.dirname(disk), os.path.join(kept, str(unit)))
+    return kept, run.units, run.said
+
+
+def start(program, calls, folder, before, at, how):
+    """A life over copies of these files, in which a call fails and which is killed, and one more; as `one` tells it."""
+    kept, units, said = before
+    run = Run(program, calls, folder)
+    run.units, run.said = copy.deepcopy(units), list(said)
+    for unit, disk in enumerate(run.disks):
+        shutil.rmtree(os.path.dirname(disk), ignore_errors=True)
+        shutil.copytree(os.path.join(kept, str(unit)), os.path.dirname(disk))
+    return run.judged(look, "kill", at, how)
 
 
 def main():
@@ -343,16 +378,16 @@ def main():
     words.add_argument("--at", type=int)
     words.add_argument("--how", default="none", choices=("none", "half", "whole", "dead"))
     words.add_argument("--end", default="quit", choices=ENDS_OF_RUNS)
+    words.add_argument("--jobs", type=int, default=1)
     words.add_argument("program", nargs="?", default=BUILT)
     words = words.parse_args()
-    program = os.path.abspath(words.program)
     with tempfile.TemporaryDirectory() as folder:
-        calls = Calls(folder)
+        runs = Runs(os.path.abspath(words.program), folder, words.jobs)
         try:
             if words.at is None:
-                everything(program, calls, folder)
+                runs.all()
                 return
-            _, life, _, said = one(program, calls, folder, words.at, words.how, words.end)
+            _, life, _, said = runs.one(words.at, words.how, words.end)
             print("\n".join([*said, f"the failed call came to: {life.came_to}"]))
         except Wrong as wrong:
             sys.exit(f"{wrong}\ncalls.py: this is not by the rules")
