@@ -8,7 +8,7 @@ TARGET PORT GROUPS and by the console's `down`. A command that a device failed i
 or told `quit`, in turn; in other runs it is killed as soon as the failed call was told. It is started anew over the same
 files, where nothing fails, and asked for all that is there.
 
-The calls are open, openat, stat, flock, lseek, pread, pwrite, fdatasync, fsync, ftruncate and rename on a disk, on its
+The calls are open, openat, statx, flock, lseek, pread, pwrite, fdatasync, fsync, ftruncate and rename on a disk, on its
 registration file, on the file as which that is made, and on their folder. A call fails with EIO and with nothing done; a
 write also with half of its blocks written, and with all of them; and then so that all later calls on the same file fail too.
 The same is done to a start over files that are there.
@@ -30,8 +30,9 @@ Prints a table; ends with status 1 at the first thing that is otherwise, with al
 usage: bench/calls.py [--jobs J] [PROGRAM]
        bench/calls.py --at N [--how HOW] [--end END] [PROGRAM]     one run, with all that was said
 
-J runs are made at a time, 1 where that is not said. HOW is none, half, whole or dead, as bench/calls.c has them; END is "at once", kill, quit, or kept: killed at once, but behind
-another GOOD. PROGRAM is crates/arrayd/out/arrayd where none is given; `./example.sh` builds it. Wants a C compiler and Linux.
+J runs are made at a time, 1 where that is not said. HOW is none, half, whole or dead, as bench/calls.c has them; END is "at
+once", kill, quit, or kept: killed at once, but behind another GOOD. PROGRAM is ./arrayd where none is given; `./example.sh
+--proved` makes it. Wants a C compiler and Linux.
 """
 
 import argparse
@@ -50,7 +51,7 @@ from may_be import (
     BLOCK, BLOCKS, CLEAR, PREEMPT, REGISTER, REGISTER_AND_IGNORE, RELEASE, RESERVE, UNITS, Unit, Wrong,
 )
 
-BUILT = os.path.join(TOP, "crates", "arrayd", "out", "arrayd")
+BUILT = os.path.join(TOP, "arrayd")
 # How a run ends: killed as soon as the failed call was told; the same, but where a save failed behind one PERSISTENT RESERVE
 # OUT more, which changes nothing and is GOOD, so that what was there before is saved; killed or told to quit, all asked.
 ENDS_OF_RUNS = ("at once", "kept", "kill", "quit")

@@ -5,10 +5,10 @@ import itertools
 import mmap
 import os
 import select
-import socket
 import struct
 import subprocess
 
+from free_port import APART, HOST, is_free
 from initiator import Closed, Refused, Session
 from may_be import BY_A_DEVICE, Wrong, told
 
@@ -83,22 +83,15 @@ class Host:
         self.name, self.group = name, group
         self.nexus = name, group
         name = f"iqn.2000-01.test:{name}"
-        self.session = Session("127.0.0.1", port + 4 * (group - 1), TARGET, name, timeout=PATIENCE)
+        self.session = Session(HOST, port + APART * (group - 1), TARGET, name, timeout=PATIENCE)
 
-PORTS = itertools.cycle(range(20000 + os.getpid() % 1500 * 8, 32000, 8))
+PORTS = itertools.cycle(range(20000 + os.getpid() % 1200 * 8, 30000, 8))
+
 
 def free_port():
-    """A port that nobody listens at, nor at that of the other controller."""
-    for port in PORTS:
-        try:
-            for at in (port, port + 4):
-                with socket.socket() as other:
-                    other.setsockopt(socket.SOL_SOCKET, socket.SO_REUSEADDR, 1)
-                    other.bind(("127.0.0.1", at))
-                    other.listen()
-            return port
-        except OSError:
-            continue
+    """A port at which an array can listen, and none that another run of this script took just now."""
+    return next(port for port in PORTS if is_free(port) and is_free(port + APART))
+
 
 class Life:
     """The running program, with all that was asked of it and answered."""
