@@ -170,8 +170,12 @@ multipath -ll $map0
 conf immediate
 multipathd reconfigure > /dev/null
 sleep 5
-tell 'down 1'
-become 'failback immediate: the host takes controller 1 again by itself' 40 '0 1'
+taken_back() {
+    tell 'down 1'
+    become 'failback immediate: the host takes controller 1 again by itself' 20 '0 1'
+}
+what='down 1 with failback immediate'
+over x 30 taken_back
 conf manual
 multipathd reconfigure > /dev/null
 sleep 3
