@@ -20,7 +20,10 @@ atexit.register(shutil.rmtree, FOLDER, True)
 
 
 def built():
-    """The program that holds one session of libiscsi, or None where it cannot be built."""
+    """The program that holds one session of libiscsi, or None where it cannot be built. One that another script has built is
+    named by BY_LIBISCSI."""
+    if "BY_LIBISCSI" in os.environ:
+        return os.environ["BY_LIBISCSI"] or None
     source = os.path.join(os.path.dirname(os.path.abspath(__file__)), "by_libiscsi.c")
     program = os.path.join(FOLDER, "by_libiscsi")
     try:

@@ -8,7 +8,7 @@ sg_turs and mpathpersist sends the commands to the array.
 The commands are sent by libiscsi, where a C compiler finds it, or else by bench/initiator.py; the first line says which.
 Ends with status 1 where an answer is another.
 
-usage: bench/fencing.py
+usage: bench/fencing.py [--show]        --show prints what the agents called, call by call
 """
 
 import os
@@ -274,7 +274,7 @@ def tell_reservation(session):
     if held is None:
         print("  PR generation=0x0, there is NO reservation held")
     else:
-        print(f"  PR generation=0x0, Reservation follows:\n    Key = 0x{held[0]:x}\n    scope: LU_SCOPE, type: {held[1]}\n")
+        print(f"  PR generation=0x0, Reservation follows:\n    Key=0x{held[0]:x}\n    scope: LU_SCOPE, type: {held[1]}\n")
 
 
 def number_of(words, *names):
@@ -290,8 +290,8 @@ def number_of(words, *names):
 
 def stand_in(tool, port, words):
     """What an agent takes for sg_turs, sg_persist or mpathpersist, with the options that the agents give: its exit status.
-    The node A1 stands for A's path through controller 1; A, as mpathpersist has it, for both: it registers by each, and
-    sends all else by the first."""
+    A device stands for both paths of its node, as a multipath device does: what registers goes by each of them, one behind the
+    other, as the agents have it, and all else by the first."""
     if "-V" in words:
         return 0
     device = words[words.index("-d") + 1] if "-d" in words else words[-1]
@@ -300,10 +300,9 @@ def stand_in(tool, port, words):
     actions = {"-I": REGISTER_AND_IGNORE, "-R": RESERVE, "-A": PREEMPT_AND_ABORT, "--register": REGISTER,
                "--reserve": RESERVE, "--preempt-abort": PREEMPT_AND_ABORT}
     asked = [actions[word] for word in words if word in actions]
-    node, controllers = os.path.basename(device)[0], os.path.basename(device)[1:]
     worst = GOOD
-    for controller in controllers or ("12" if asked == [REGISTER] else "1"):
-        session = path(node, int(controller), port)
+    for controller in (1, 2) if asked in ([REGISTER], [REGISTER_AND_IGNORE]) else (1,):
+        session = path(os.path.basename(device), controller, port)
         session.ready(0)
         if asked:
             reply = session.reserve_out(0, asked[0], number_of(words, "-T", "--prout-type"),
@@ -327,8 +326,8 @@ class Agents:
             self.script(tool, f'exec {sys.executable} {os.path.abspath(__file__)} --stand-in {tool} {PORT} "$@"')
         for node in NODES:
             os.mkdir(os.path.join(folder, f"run{node}"))
-            for name in (f"{node}1", f"{node}2", node):
-                os.mknod(os.path.join(folder, name), 0o60600, os.makedev(0, 0))
+            # it only has to be a block device by its looks
+            os.mknod(os.path.join(folder, node), 0o60600, os.makedev(0, 0))
 
     def script(self, name, line):
         path_of = os.path.join(self.folder, name)
@@ -344,14 +343,14 @@ class Agents:
         copy = os.path.join(self.folder, f"{agent}{node}")
         with open(copy, "w") as file:
             file.write(text)
+        os.chmod(copy, 0o755)
+        device = os.path.join(self.folder, node)
         if agent == "fence_scsi":
-            devices = ",".join(os.path.join(self.folder, f"{node}{number}") for number in (1, 2))
-            words = ["-k", key, "-d", devices, "--aptpl", f"--sg_persist-path={self.folder}/sg_persist",
+            words = ["-k", key, "-d", device, "--aptpl", f"--sg_persist-path={self.folder}/sg_persist",
                      f"--sg_turs-path={self.folder}/sg_turs"]
         else:
-            words = ["-n", key, "-d", os.path.join(self.folder, node), f"--mpathpersist-path={self.folder}/mpathpersist",
-                     f"--store-path={keeps}"]
-        done = subprocess.run([sys.executable, copy, "-o", action, *words], stdout=subprocess.PIPE, stderr=subprocess.STDOUT,
+            words = ["-n", key, "-d", device, f"--mpathpersist-path={self.folder}/mpathpersist", f"--store-path={keeps}"]
+        done = subprocess.run([copy, "-o", action, *words], stdout=subprocess.PIPE, stderr=subprocess.STDOUT,
                               text=True, timeout=300, check=False)
         if done.returncode:
             print(done.stdout, file=sys.stderr)
@@ -377,6 +376,7 @@ def may_write(node):
 
 def agents_fence(agent, keys):
     """Both nodes are let in, A fences B, B is let in again and fences A."""
+    os.environ["BY_LIBISCSI"] = by_libiscsi.PROGRAM or ""
     with tempfile.TemporaryDirectory() as folder:
         agents = Agents(folder)
 
@@ -397,6 +397,8 @@ def agents_fence(agent, keys):
         with open(os.path.join(folder, "sent")) as file:
             sent = file.read().splitlines()
         outs = [line for line in sent if " -o " in line]
+        if "--show" in sys.argv:
+            print("\n".join(line.replace(folder + "/", "") for line in sent))
         print(f"{agent}: unfenced and fenced in turn by the agent itself, {len(sent)} calls of its tools, {len(outs)} of them "
               "PERSISTENT RESERVE OUT: who may write is as SPC-4 says")
 

@@ -50,6 +50,8 @@ class Host:
         self.session.ready(0)
         # by block: the values that it may have, and the last one whose write was GOOD
         self.may_be, self.last_good = {}, {}
+        # of every fourth run of 16 blocks, those that were written and flushed: they are never written again
+        self.kept = set()
         self.count = 0
         self.ended = {"write": [0, 0], "flush": [0, 0]}
         self.fault = None
@@ -64,8 +66,11 @@ class Host:
         raise Wrong(f"host {self.number}: {what} is answered status {reply.status:02x} sense {reply.sense_text()}")
 
     def write(self):
-        lba = self.first + self.random.randrange(self.blocks - 16)
-        blocks = self.random.choice((1, 8, 8, 16))
+        while True:
+            lba = self.first + self.random.randrange(self.blocks - 16)
+            blocks = self.random.choice((1, 8, 8, 16))
+            if self.kept.isdisjoint(range(lba, lba + blocks)):
+                break
         fua = self.random.random() < 0.1
         self.count += 1
         data = b"".join(content(self.number, lba + at, self.count) for at in range(blocks))
@@ -84,6 +89,8 @@ class Host:
             return False
         for lba, last in self.last_good.items():
             self.may_be[lba] = {count for count in self.may_be[lba] if count >= last}
+            if lba // 16 % 4 == 0 and len(self.may_be[lba]) == 1:
+                self.kept.add(lba)
         return True
 
     def run(self, until):
@@ -97,13 +104,16 @@ class Host:
 
     def check(self, session):
         """Each of its blocks has one of the values that it may have: how many stood alone."""
-        alone = 0
-        for lba, counts in sorted(self.may_be.items()):
-            found = session.read(0, lba, 1)
-            if found not in [content(self.number, lba, count) for count in counts]:
-                there = struct.unpack(">QQQ", found[:24])
-                raise Wrong(f"block {lba} of host {self.number} has {there}, and may have {sorted(counts)}")
-            alone += len(counts) == 1
+        alone, at_once = 0, 512
+        for first in range(self.first, self.first + self.blocks, at_once):
+            found = session.read(0, first, at_once)
+            for lba in range(first, first + at_once):
+                counts = self.may_be.get(lba, {0})
+                block = found[(lba - first) * BLOCK:(lba - first + 1) * BLOCK]
+                if block not in [content(self.number, lba, count) for count in counts]:
+                    there = struct.unpack(">QQQ", block[:24])
+                    raise Wrong(f"block {lba} of host {self.number} has {there}, and may have {sorted(counts)}")
+                alone += lba in self.may_be and len(counts) == 1
         return alone
 
 
@@ -263,7 +273,7 @@ def fill(name, folder):
                 went_on = all(hosts[0].write() for _ in range(64)) and hosts[0].flush()
                 if went_on != way.recovers:
                     raise Wrong(f"after room was made: {hosts[0].ended}")
-                told += "; with room again it went on" if went_on else "; with room again each flush failed, until it was restarted"
+                told += "; with room again " + ("it went on" if went_on else "each flush failed until a restart")
             array.kill()
         way.again()
         with Array([way.disk]) as array:
@@ -275,8 +285,8 @@ def fill(name, folder):
             session.close()
             if array.quit() != 0:
                 raise Wrong("the array did not end well")
-        print(f"{name}: {told}; after a restart {alone} blocks whose value was flushed are there, {total - alone} others have a "
-              "value that they had since", flush=True)
+        print(f"{name}: {told}; after a restart {alone} blocks whose value was flushed are there, {total - alone} others have "
+              "a value that they had since", flush=True)
     finally:
         way.end()
 

@@ -29,7 +29,7 @@ sleep 1
 
 T=iqn.2000-01.test:array
 A=10.0.2.2
-F=/tmp/out
+F=/run/out
 
 # what it is, then the command
 try() {
@@ -132,14 +132,14 @@ try 'mount' mount $D /mnt
 # fio with verification, while something happens
 over() {
     fio --name=over --directory=/mnt --size=32M --rw=randrw --bs=4k --iodepth=8 --ioengine=libaio --direct=1 --time_based --runtime=$2 \
-        --verify=crc32c --verify_backlog=64 --verify_fatal=1 --fsync=16 > /tmp/fio 2>&1 &
+        --verify=crc32c --verify_backlog=64 --verify_fatal=1 --fsync=16 > /run/fio 2>&1 &
     fio=$!
     sleep 5
     shift 2
     "$@"
     wait $fio
     ended=$?
-    if [ $ended = 0 ]; then echo "ok      fio with verification over $what"; else echo "FAILED  fio over $what"; tail -20 /tmp/fio; fi
+    if [ $ended = 0 ]; then echo "ok      fio with verification over $what"; else echo "FAILED  fio over $what"; tail -20 /run/fio; fi
 }
 down_and_look() {
     [ "$(tell "down $1")" = down ] && echo "ok      down $1" || echo "FAILED  down $1"
@@ -170,8 +170,12 @@ multipath -ll $map0
 conf immediate
 multipathd reconfigure > /dev/null
 sleep 5
-tell 'down 1'
-become 'failback immediate: the host takes controller 1 again by itself' 40 '0 1'
+taken_back() {
+    tell 'down 1'
+    become 'failback immediate: the host takes controller 1 again by itself' 20 '0 1'
+}
+what='down 1 with failback immediate'
+over x 30 taken_back
 conf manual
 multipathd reconfigure > /dev/null
 sleep 3
@@ -220,14 +224,14 @@ try 'mpathpersist: release' mpathpersist -o --release --prout-type=5 --param-rk=
 try 'mpathpersist: clear' mpathpersist -o --clear --param-rk=123abc -d $D
 
 # COMPARE AND WRITE
-head -c 512 /dev/zero > /tmp/zeros
-head -c 512 /dev/urandom > /tmp/new
-cat /tmp/zeros /tmp/new > /tmp/caw
+head -c 512 /dev/zero > /run/zeros
+head -c 512 /dev/urandom > /run/new
+cat /run/zeros /run/new > /run/caw
 dd if=/dev/zero of=$path1 bs=512 count=1 seek=5000 oflag=direct 2> /dev/null
-try 'sg_compare_and_write' sg_compare_and_write --in=/tmp/caw --lba=5000 --num=1 $path1
-dd if=$path2 of=/tmp/back bs=512 count=1 skip=5000 iflag=direct 2> /dev/null
-try 'by the other path it reads what was written' cmp /tmp/new /tmp/back
-fails 'once more there is a difference' sg_compare_and_write --in=/tmp/caw --lba=5000 --num=1 $path1
+try 'sg_compare_and_write' sg_compare_and_write --in=/run/caw --lba=5000 --num=1 $path1
+dd if=$path2 of=/run/back bs=512 count=1 skip=5000 iflag=direct 2> /dev/null
+try 'by the other path it reads what was written' cmp /run/new /run/back
+fails 'once more there is a difference' sg_compare_and_write --in=/run/caw --lba=5000 --num=1 $path1
 
 # a bigger disk
 tell grow

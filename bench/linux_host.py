@@ -1,6 +1,6 @@
 #!/usr/bin/env python3
-"""Boots a Linux host with the kernel's own iSCSI initiator and dm-multipath in qemu, and runs bench/linux_guest.sh there against
-the array: discovery, both paths, multipath's table, IO with verification over `down`, over a restart and over a dropped
+"""Boots a Linux host with the kernel's own iSCSI initiator and dm-multipath in qemu, and runs bench/linux_guest.sh there
+against the array: discovery, both paths, multipath's table, IO with verification over `down`, over a restart and over a dropped
 connection, persistent reservations by sg_persist and mpathpersist, COMPARE AND WRITE, a bigger disk. Not part of the gate: it
 takes some minutes, since the host's processor is emulated.
 
@@ -24,12 +24,12 @@ from running import ARRAYD, TOP
 
 PACKAGES = "open-iscsi,multipath-tools,sg3-utils,e2fsprogs,kmod,iproute2,udev,fio,util-linux,procps"
 # What the host needs none of, so that what is unpacked at each boot is small.
-NEEDLESS = ("sound", "net/wireless", "net/bluetooth", "net/mac80211", "net/netfilter", "fs/btrfs", "fs/xfs", "fs/nfs", "fs/nfsd",
-            "fs/ocfs2", "fs/gfs2", "fs/f2fs", "fs/ceph", "fs/smb", "fs/jfs", "fs/ubifs", "drivers/gpu", "drivers/media",
+NEEDLESS = ("sound", "net/wireless", "net/bluetooth", "net/mac80211", "net/netfilter", "fs/btrfs", "fs/xfs", "fs/nfs",
+            "fs/nfsd", "fs/ocfs2", "fs/gfs2", "fs/f2fs", "fs/ceph", "fs/smb", "fs/jfs", "fs/ubifs", "drivers/gpu", "drivers/media",
             "drivers/net/wireless", "drivers/infiniband", "drivers/iio", "drivers/staging", "drivers/usb", "drivers/hid",
             "drivers/input", "drivers/mtd", "drivers/hwmon", "drivers/i2c", "drivers/ata", "drivers/isdn", "drivers/video",
-            "drivers/platform", "drivers/mmc", "drivers/nvme", "drivers/char", "drivers/crypto", "drivers/firewire", "drivers/misc",
-            "drivers/target", "drivers/xen", "drivers/leds", "drivers/net/ethernet")
+            "drivers/platform", "drivers/mmc", "drivers/nvme", "drivers/char", "drivers/crypto", "drivers/firewire",
+            "drivers/misc", "drivers/target", "drivers/xen", "drivers/leds", "drivers/net/ethernet")
 # The host sees this machine so.
 GATEWAY, PORT, CONTROL = "10.0.2.2", 24260, 24270
 MINUTES = 40
@@ -86,7 +86,8 @@ def pack(folder):
     os.chmod(os.path.join(root, "guest"), 0o755)
     with open(os.path.join(folder, "initrd.gz"), "wb") as packed:
         found = subprocess.Popen(["find", ".", "-xdev"], cwd=root, stdout=subprocess.PIPE)
-        archive = subprocess.Popen(["cpio", "-o", "-H", "newc", "--quiet"], cwd=root, stdin=found.stdout, stdout=subprocess.PIPE)
+        archive = subprocess.Popen(["cpio", "-o", "-H", "newc", "--quiet"], cwd=root, stdin=found.stdout,
+                                   stdout=subprocess.PIPE)
         run("gzip", "-1", stdin=archive.stdout, stdout=packed)
 
 
@@ -105,12 +106,8 @@ class Served:
     def start(self):
         words = [os.path.join(TOP, "service", "arrayd-run"), os.path.join(self.place, "console"), "--port", str(PORT)]
         self.process = subprocess.Popen([*words, *self.disks], env={**os.environ, "ARRAYD": os.path.abspath(ARRAYD)})
-        while not os.path.exists(os.path.join(self.place, "console", "told")):
-            pass
-        for _ in range(100):
-            if self.console("status").startswith("unit"):
-                return
-        sys.exit("the array is not ready")
+        if not self.console("ready").startswith("unit"):
+            sys.exit("the array is not ready")
 
     def console(self, *line):
         done = subprocess.run([os.path.join(TOP, "service", "arrayd-console"), os.path.join(self.place, "console"), *line],
@@ -161,8 +158,8 @@ def serve(folder):
 
 def boot(folder):
     """Boots the host, prints what it says behind its first line, and answers its lines."""
-    words = ["qemu-system-x86_64", "-accel", "tcg,thread=multi", "-cpu", "max", "-m", "3072", "-smp", "2", "-nographic", "-no-reboot",
-             "-kernel", os.path.join(folder, "vmlinuz"), "-initrd", os.path.join(folder, "initrd.gz"),
+    words = ["qemu-system-x86_64", "-accel", "tcg,thread=multi", "-cpu", "max", "-m", "3072", "-smp", "2", "-nographic",
+             "-no-reboot", "-kernel", os.path.join(folder, "vmlinuz"), "-initrd", os.path.join(folder, "initrd.gz"),
              "-append", "console=ttyS0 rdinit=/guest panic=5 loglevel=5",
              "-netdev", "user,id=n", "-device", "virtio-net-pci,netdev=n"]
     host = subprocess.Popen(words, stdin=subprocess.DEVNULL, stdout=subprocess.PIPE, text=True, errors="replace")

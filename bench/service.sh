@@ -34,6 +34,13 @@ begin() {
     MAINPID=$pid console ready > "$place/status"
 }
 
+# how the array ends: its exit status
+ends() {
+    wait "$pid"
+    ended=$?
+    pid=
+}
+
 mkdir "$place/run" "$place/state"
 truncate -s 8M "$place/disk0" "$place/disk1"
 # units are links in a folder of the array's own, so that their registration files lie there
@@ -55,8 +62,8 @@ echo status > "$place/run/console"
 is 'what an echo has asked is not taken for an answer' "$(console down 1)" down
 console quit
 is 'quit waits until it has ended' "$(kill -0 "$pid" 2> /dev/null && echo there)" ''
-is 'and it ended well' "$(wait "$pid"; echo $?)" 0
-pid=
+ends
+is 'and it ended well' $ended 0
 is 'nobody is told to quit twice' "$(console quit; echo $?)" 'arrayd-console: no array is there
 3'
 is 'registration files lie beside the links' "$(ls "$place/state")" 'unit0
@@ -84,18 +91,17 @@ END
 host=$!
 sleep 1
 console quit
-is 'quit does not wait for hosts' "$(wait "$pid"; echo $?)" 0
-pid=
+ends
+is 'quit does not wait for hosts' $ended 0
 kill "$host" 2> /dev/null
 wait "$host" 2> /dev/null
 begin unit0 unit1
 kill "$pid"
-is 'SIGTERM ends it' "$(wait "$pid"; echo $?)" 143
-pid=
+ends
+is 'SIGTERM ends it' $ended 143
 begin missing
-is 'a fault at the start is told, and the status is 1' "$(cat "$place/complains"; wait "$pid"; echo $?)" 'arrayd: cannot use unit 0
-1'
-pid=
+ends
+is 'a fault at the start is told, and the status is 1' "$(cat "$place/complains") $ended" 'arrayd: cannot use unit 0 1'
 
 if command -v systemd-analyze > /dev/null; then
     # as it is installed, under a root of its own

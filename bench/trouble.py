@@ -326,7 +326,8 @@ def restart_as_hosts_see_it(folder):
 def commands_that_are_refused(folder):
     with Array([made(folder + "/disk", 4096)]):
         session = login()
-        is_so("WRITE SAME (16), as mkfs tries it", end_of(session.command(0, [0x93] + [0] * 12 + [1, 0, 0], out=bytes(512))), "05 20/00")
+        same = session.command(0, [0x93] + [0] * 12 + [1, 0, 0], out=bytes(512))
+        is_so("WRITE SAME (16), as mkfs tries it", end_of(same), "05 20/00")
         is_so("UNMAP", end_of(session.command(0, [0x42] + [0] * 7 + [24, 0], out=bytes(24))), "05 20/00")
         is_so("a READ of 2049 blocks", read(session, blocks=2049), "05 24/00")
         is_so("behind the end", read(session, 4096), "05 21/00")
@@ -523,7 +524,8 @@ def flush_failed(folder):
             is_so("the flush fails", flush(session), "03 0C/00")
             run("mount", "-o", "remount,size=16m", place.place)
             is_so("so does each later one, though there is room now", flush(session), "03 0C/00")
-            is_so("and a write with FUA", end_of(session.command(0, [0x2A, 8, 0, 0, 0, 1, 0, 0, 1, 0], out=bytes(512))), "03 0C/00")
+            reply = session.command(0, [0x2A, 8, 0, 0, 0, 1, 0, 0, 1, 0], out=bytes(512))
+            is_so("and a write with FUA", end_of(reply), "03 0C/00")
             is_so("down does not heal it", (array.ask("down 1"), flush(session), flush(session)),
                   (["down"], "06 2A/06", "02 04/0C"))
             second = login(2, 1)
