@@ -1,14 +1,19 @@
 #!/usr/bin/env python3
-"""Compiles the array and its tests with no proof and runs them, by `rt try`: the program for ./example.sh, the tests for
-./tests.sh. What runs has checks compiled in: it stops at an index out of bounds, a sum that wraps, a failed unwrap or a bad
-access. Says nothing of the compiler unless something fails.
+"""Compiles the array and its tests with no proof and runs them: the program for ./example.sh, the tests for ./tests.sh. What
+runs has checks compiled in: it stops at an index out of bounds, a sum that wraps or a failed unwrap. Says nothing of the
+compiler unless something fails.
 
-usage: bench/unproved.py program FILE        compiles arrayd, serves its stored session by it, and leaves it as FILE
+`rt try` compiles without proofs, but slowly: a test then runs some hundred times slower than it must. So the module that it
+makes for LLVM is taken from it, and compiled and linked by the toolchain's own programs. Where there is no module to take,
+tests run by `rt try` alone.
+
+usage: bench/unproved.py program FILE        compiles arrayd, and leaves it as FILE
        bench/unproved.py tests [NAME..]      runs the tests of these crates, or of all, and the stored run of each program;
                                              the last line is 'N passed, M failed'
 """
 
 import concurrent.futures
+import glob
 import os
 import re
 import shutil
@@ -20,10 +25,20 @@ import time
 
 from proved import TOP, below, needs
 
-# How often the stored session is served while the program is taken, and how long one look for it waits.
-SERVINGS, LOOK = 4, 0.01
-# What the tests of a crate may take when they run, which is seconds; `rt try` itself gives up after 60.
-SECONDS = "300"
+KIT = os.path.dirname(os.path.dirname(os.path.realpath(shutil.which("rt") or "rt")))
+# As `rt try` itself has a module compiled, but for its search for bad accesses.
+CLANG = [f"{KIT}/toolchain/bin/clang", "--target=x86_64-unknown-linux-gnu", f"--sysroot={KIT}/toolchain", "-march=x86-64"]
+CLANG += ["-ffunction-sections", "-fdata-sections", "--no-default-config", "-fPIE", "-Werror", "-c", "-x", "ir"]
+for word in ("no-trap-after-noreturn", "trap-unreachable", "no-x86-call-frame-opt", "disable-machine-licm", "disable-postra-machine-licm"):
+    CLANG += ["-mllvm", f"-{word}"]
+LINK = [f"{KIT}/bin/rattle-link", "--target", "x86_64-unknown-linux-gnu", "--toolchain", f"{KIT}/toolchain"]
+LIBRARIES = [f"{KIT}/c/libos_c.a", f"{KIT}/c/liblibc_c.a"]
+# A program is there soonest with nothing optimized; tests make thousands of sessions, whose buffers a slow program fills slowly.
+OF_PROGRAM, OF_TESTS = "-O0", "-O1"
+# How often is looked for the module, in seconds, and how many bytes it has at least: `rt try` first compiles a trifle.
+LOOK, LEAST = 0.05, 100_000
+# What one test or run may take, in seconds.
+SECONDS = 120
 
 
 class Trials:
@@ -32,42 +47,45 @@ class Trials:
     def __init__(self, room):
         self.room, self.running, self.is_over = room, set(), False
 
+    def call(self, words, **how):
+        """Runs a command to its end, unless all is to end: its status and what it wrote, standard error behind it."""
+        with tempfile.TemporaryFile() as out, tempfile.TemporaryFile() as said:
+            if self.is_over:
+                sys.exit(1)
+            meanwhile = how.pop("meanwhile", None)
+            command = subprocess.Popen(words, stdin=how.pop("stdin", subprocess.DEVNULL), stdout=out, stderr=said, **how)
+            self.running.add(command)
+            while meanwhile and command.poll() is None:
+                if meanwhile():
+                    command.terminate()
+                    break
+                time.sleep(LOOK)
+            status = command.wait()
+            self.running.discard(command)
+            found = []
+            for file in (out, said):
+                file.seek(0)
+                found.append(file.read())
+            return status, *found
+
     # Beside a trial `rt try` has a check look, through `sh`, for names that a proof would refuse. It takes as long as the
     # trial and tells nothing of a run, so the `sh` that these trials find ends at once.
-    def environment(self, folder):
-        os.mkdir(f"{folder}/bin")
+    def trial(self, crate, words, folder, meanwhile=None):
+        """`rt try` in a crate's folder, with files of its own in this one."""
+        shutil.rmtree(folder, ignore_errors=True)
+        os.makedirs(f"{folder}/bin")
         with open(f"{folder}/bin/sh", "w", encoding="utf-8") as file:
             file.write("#!/bin/sh\n")
         os.chmod(f"{folder}/bin/sh", 0o755)
-        os.mkdir(f"{folder}/work")
-        return {**os.environ, "PATH": f"{folder}/bin:{os.environ['PATH']}", "TMPDIR": f"{folder}/work"}
-
-    def run(self, crate, words, given=os.devnull, meanwhile=None):
-        """Runs `rt try` in a crate's folder, with this file as standard input, and calls meanwhile with its folder until it
-        ends. Its status, what the program wrote, and what `rt try` said."""
-        folder = tempfile.mkdtemp(dir=self.room)
-        with open(given, "rb") as stdin, open(f"{folder}/out", "wb") as out, open(f"{folder}/said", "wb") as said:
-            how = {"cwd": f"{TOP}/crates/{crate}", "env": self.environment(folder)}
-            if self.is_over:
-                sys.exit(1)
-            trial = subprocess.Popen(["rt", "try", *words], stdin=stdin, stdout=out, stderr=said, **how)
-            self.running.add(trial)
-        while meanwhile and trial.poll() is None:
-            meanwhile(f"{folder}/work")
-            time.sleep(LOOK)
-        status = trial.wait()
-        self.running.discard(trial)
-        with open(f"{folder}/out", "rb") as out, open(f"{folder}/said", errors="replace", encoding="utf-8") as said:
-            found = status, out.read(), said.read()
-        shutil.rmtree(folder)
-        return found
+        env = {**os.environ, "PATH": f"{folder}/bin:{os.environ['PATH']}", "TMPDIR": folder}
+        return self.call(["rt", "try", *words], cwd=f"{TOP}/crates/{crate}", env=env, meanwhile=meanwhile)
 
     def end(self):
         self.is_over = True
-        for trial in list(self.running):
-            trial.terminate()
-        for trial in list(self.running):
-            trial.wait()
+        for command in list(self.running):
+            command.terminate()
+        for command in list(self.running):
+            command.wait()
         shutil.rmtree(self.room, ignore_errors=True)
 
 
@@ -76,32 +94,37 @@ def read(path):
         return file.read()
 
 
+def build(trials, crate, words, level, to):
+    """Compiles a crate's program, or its tests, to this file. Gives nothing where that was done, else how `rt try` ended, as
+    it does where the crate does not compile."""
+    work, module = f"{to}.work", f"{to}.bc"
+
+    # A module is whole once its object file is begun.
+    def take():
+        for begun in glob.glob(f"{work}/*/*/module-*.tmp"):
+            found = f"{os.path.dirname(begun)}/module.bc"
+            try:
+                if os.path.getsize(found) > LEAST:
+                    os.link(found, module)
+                    return True
+            except FileNotFoundError:
+                pass
+        return False
+
+    ended = trials.trial(crate, words, work, take)
+    if not os.path.isfile(module):
+        return ended
+    status = trials.call([*CLANG, level, module, "-o", f"{to}.o"])[0] or trials.call([*LINK, "-o", to, f"{to}.o", *LIBRARIES])[0]
+    return trials.trial(crate, words, work) if status else None
+
+
 # ---- the program
 
 def take_program(trials, to):
-    """Compiles the program and leaves it as this file, whose folder the trials share."""
-    folder, sessions, kept = f"{TOP}/crates/arrayd", f"{trials.room}/sessions", []
-    os.mkdir(sessions)
-    for number in range(SERVINGS):
-        shutil.copy(f"{folder}/stdin", f"{sessions}/{number}")
-        shutil.copy(f"{folder}/stdout", f"{sessions}/{number}.stdout")
-
-    # `rt try` keeps no program, but runs one in a folder of its own each time: a second name keeps it.
-    def keep(work):
-        for at, _, files in os.walk(work):
-            if "program" in files and not kept:
-                try:
-                    os.link(f"{at}/program", to)
-                    kept.append(to)
-                except FileNotFoundError:
-                    pass
-
-    words = ["--cases", sessions, "--", *read(f"{folder}/args").decode().split()]
-    status, _, said = trials.run("arrayd", words, meanwhile=keep)
-    if status:
-        sys.exit(f"{said}arrayd does not compile, or does not serve its stored session")
-    if not kept:
-        sys.exit("rt try compiled the program, but its file was not seen while it ran: run this again")
+    ended = build(trials, "arrayd", ["--", "--once"], OF_PROGRAM, f"{trials.room}/arrayd")
+    if ended:
+        sys.exit(f"{ended[2].decode(errors='replace')}arrayd was not compiled")
+    os.replace(f"{trials.room}/arrayd", to)
 
 
 # ---- the tests
@@ -130,9 +153,15 @@ def is_program(crate):
     return os.path.isfile(f"{TOP}/crates/{crate}/src/main.rt")
 
 
-def run_tests(trials, crate):
-    status, out, said = trials.run(crate, ["--test", "--seconds", SECONDS])
-    text = out.decode(errors="replace") + said
+def run_tests(trials, crate, room):
+    program = f"{room}/tests"
+    ended = build(trials, crate, ["--test", "--seconds", str(SECONDS)], OF_TESTS, program)
+    if not ended:
+        where = f"{room}/where"
+        os.mkdir(where)
+        env = {"PATH": os.environ["PATH"], "HOME": where, "TMPDIR": where}
+        ended = trials.call([f"{KIT}/bin/rattle-test", "--seconds", str(SECONDS), program], cwd=where, env=env)
+    status, text = ended[0], (ended[1] + ended[2]).decode(errors="replace")
     counted = re.search(r"^test result: \w+\. (\d+) passed; (\d+) failed", text, re.M)
     passed, failed = map(int, counted.groups()) if counted else (0, 0)
     if not failed and (status or not passed):
@@ -142,25 +171,34 @@ def run_tests(trials, crate):
     return Result(passed, failed, "".join(line for line in text.splitlines(True) if not re.match(r"test \S+ \.\.\. ok$", line)))
 
 
-def run_program(trials, crate):
+def run_program(trials, crate, room):
     """Runs a program on its files args, stdin and data/: it has to write its file stdout, and to end with 0 or with status."""
-    folder = f"{TOP}/crates/{crate}"
+    folder, program, where = f"{TOP}/crates/{crate}", f"{room}/program", f"{room}/data"
     part = lambda name, default: read(f"{folder}/{name}") if os.path.isfile(f"{folder}/{name}") else default
-    data = sorted(os.listdir(f"{folder}/data")) if os.path.isdir(f"{folder}/data") else []
-    words = [word for it in data for word in ("--data", f"{it}=data/{it}")]
-    given = f"{folder}/stdin" if os.path.isfile(f"{folder}/stdin") else os.devnull
-    status, out, said = trials.run(crate, [*words, "--", *part("args", b"").decode().splitlines()], given)
+    words = part("args", b"").decode().splitlines()
+    ended = build(trials, crate, ["--", *words], OF_PROGRAM, program)
+    if ended:
+        return Result(0, 1, ended[2].decode(errors="replace"))
+    if os.path.isdir(f"{folder}/data"):
+        shutil.copytree(f"{folder}/data", where)
+    else:
+        os.mkdir(where)
+    with open(f"{folder}/stdin" if os.path.isfile(f"{folder}/stdin") else os.devnull, "rb") as given:
+        status, out, said = trials.call(["timeout", str(SECONDS), program, *words], stdin=given, cwd=where)
     if out == part("stdout", b"") and status == int(part("status", b"0")):
         return Result(1, 0)
-    return Result(0, 1, f"{said}the program ended with status {status}, and wrote {len(out)} bytes; its file stdout has what it must write\n")
+    told = f"the program ended with status {status}, and wrote {len(out)} bytes; its file stdout has what it must write\n"
+    return Result(0, 1, said.decode(errors="replace") + told)
 
 
 def run_crate(trials, crate):
     began, result = time.monotonic(), Result(0, 0)
+    room = tempfile.mkdtemp(dir=trials.room)
     if tests_of(crate):
-        result = result.and_of(run_tests(trials, crate))
+        result = result.and_of(run_tests(trials, crate, room))
     if is_program(crate):
-        result = result.and_of(run_program(trials, crate))
+        result = result.and_of(run_program(trials, crate, room))
+    shutil.rmtree(room)
     return crate, result, time.monotonic() - began
 
 
