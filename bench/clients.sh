@@ -78,13 +78,15 @@ nbd_pid=
 
 if [ "$1" != quick ]; then
     truncate -s 64M "$place/1.img"
+    kept=$(mktemp -d)
     for url in "$one" "$two"; do
         echo "iscsi-test-cu $url"
         iscsi-test-cu --dataloss --allow-sanitize -t ALL "$url" > "$place/cu" 2>&1
         grep -a -E '^ +(suites|tests|asserts) ' "$place/cu"
         grep -a -E -B1 '^ +[0-9]+\. .* - ' "$place/cu" | head -200
-        cp "$place/cu" "/tmp/iscsi-test-cu.$array_pid.$(echo "$url" | cut -d: -f3 | cut -d/ -f1)"
+        cp "$place/cu" "$kept/$(echo "$url" | cut -d: -f3 | cut -d/ -f1)"
     done
+    echo "all that iscsi-test-cu said lies in $kept"
 fi
 
 tell_array status

@@ -81,7 +81,8 @@ class Task:
 
 
 class Session:
-    """A session of one connection. A target's name makes it a normal one, none a discovery session."""
+    """A session of one connection. A target's name makes it a normal one, none a discovery session. Without a name of
+    its own the initiator says none."""
 
     def __init__(self, host, port, target=None, name="iqn.2000-01.test:initiator", isid=0x400001370000, keys=(),
                  timeout=60):
@@ -141,7 +142,8 @@ class Session:
     # ---- login
 
     def login(self, target, name, keys):
-        asked = [("InitiatorName", name), ("SessionType", "Normal" if target else "Discovery")]
+        asked = [("InitiatorName", name)] if name else []
+        asked.append(("SessionType", "Normal" if target else "Discovery"))
         if target:
             asked.append(("TargetName", target))
         asked.append(("AuthMethod", "None"))

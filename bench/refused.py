@@ -316,6 +316,7 @@ def aborts(s):
     s.data_out(waits, transfer, bytes(512), 0, length)
     s.request(0x02, 0x81, waits, 0x22, 1)
     s.ask("28000000000500000100", 512, bytes(512))
+    s.request(0x02, 0x81, s.tag, 0x22, 1)
 
 
 def other_requests(s):

@@ -21,8 +21,8 @@ class Wrong(Exception):
 class Watched:
     """What an example asks of the array, and what became of the one allocation that was refused."""
 
-    def __init__(self, port):
-        self.port = port
+    def __init__(self, port, disk):
+        self.port, self.disk = port, disk
         self.what = "example"
 
     def becomes(self, what):
@@ -32,17 +32,26 @@ class Watched:
 
     def log_in(self, name="a", group=1, isid=0, target=TARGET):
         """A session of the initiator whose name ends so, by a portal of this group."""
+        name = name and f"iqn.2000-01.test:{name}"
         while True:
             try:
-                return Session(
-                    "127.0.0.1", self.port + 4 * (group - 1), target, name=f"iqn.2000-01.test:{name}", isid=isid, timeout=20
-                )
+                return Session("127.0.0.1", self.port + 4 * (group - 1), target, name=name, isid=isid, timeout=20)
             except Refused as refused:
                 if refused.status != 0x0302:
                     raise
                 self.becomes("0302")
             except (Closed, ConnectionError):
                 self.becomes("closed")
+
+    def turned_away(self, status, **login):
+        """A login that is refused by this status."""
+        try:
+            self.log_in(**login)
+        except Refused as refused:
+            if refused.status == status:
+                return
+            raise Wrong(f"{login}: refused by {refused.status:04x}, in place of {status:04x}") from None
+        raise Wrong(f"{login}: accepted, in place of {status:04x}")
 
     def ask(self, session, cdb, out=b"", expected=0, status=GOOD, sense=None, data=b""):
         """Sends a command, and where it is BUSY once more; it is answered so."""
@@ -114,6 +123,27 @@ def another_owner(run):
     run.ask(two, "A30A 00000000 0000001C 0000", expected=28, data=bytes.fromhex(report))
     run.told(one, 0x2A, 0x06)
     run.ask(one, read_10(0), expected=BLOCK, data=bytes(BLOCK))
+
+
+def no_other_owner(run):
+    """The same while the disk has another name, so that it cannot be opened: nothing changes, and nobody hears of it."""
+    one, two = run.log_in("a", 1), run.log_in("b", 2)
+    run.powered_on(one)
+    run.powered_on(two)
+    os.rename(run.disk, run.disk + ".away")
+    change = bytes.fromhex("0000000000000002")
+    run.ask(two, "A40A 00000000 00000008 0000", out=change, status=CHECK_CONDITION, sense=(4, 0x67, 0x0A))
+    os.rename(run.disk + ".away", run.disk)
+    report = "00000018 800F000100000001 00000001 010F000200000001 00000002"
+    run.ask(two, "A30A 00000000 0000001C 0000", expected=28, data=bytes.fromhex(report))
+    run.ask(one, read_10(0), expected=BLOCK, data=bytes(BLOCK))
+
+
+def refused_logins(run):
+    """A login to another target, one without an InitiatorName, and one that is right."""
+    run.turned_away(0x0203, target="iqn.2000-01.test:other")
+    run.turned_away(0x0207, name=None)
+    run.powered_on(run.log_in())
 
 
 def fenced(run):
@@ -198,6 +228,8 @@ EXAMPLES = {
     "discovery": discovery,
     "written here, read there": both_controllers,
     "SET TARGET PORT GROUPS": another_owner,
+    "a SET whose open fails": no_other_owner,
+    "logins that are refused": refused_logins,
     "a fenced write": fenced,
     "two COMPARE AND WRITE": compare_and_write,
     "the same port again": same_port_again,
@@ -248,7 +280,7 @@ def serve(program, folder, environment, example):
     try:
         if array.stdout.readline() != b"arrayd: ready\n":
             raise Wrong("the array does not get ready")
-        run = Watched(port)
+        run = Watched(port, disk)
         example(run)
         array.stdin.write(b"quit\n")
         if array.wait(20) != 0:

@@ -1,5 +1,5 @@
 //! Files that are refused, and why.
-use crate::files::{Asked, Sent, formatted, registry_after, set_byte};
+use crate::files::{Asked, Sent, formatted, registry_after, set_block, set_byte};
 use aptpl_file::{OpenFault, RegFile};
 use block_file::MemBlocks;
 use scsi_types::{Group, NoMemory};
@@ -281,13 +281,27 @@ fn rows(rt: HostRuntime) -> Result<(), Fail> {
     Ok(())
 }
 
+/// The blocks of a file of nothing that are not zeros. Block 0, the root, names the first slot:
+const ROOT: &[u8] = b"ALUAREG1\x00\x02\x00";
+
+/// Block 1, that slot.
+const SLOT: &[u8] = b"ALUASLT1\x00\x00\x00\xFF";
+
+// Zeros hold no root, and of a file that holds one 66 blocks are too few.
 #[test]
 fn devices_of_zeros(rt: HostRuntime) -> Result<(), Fail> {
     let alloc = rt.alloc();
     for count in [0, 66, 67, 68] {
         let device = MemBlocks::new(alloc, count)?;
         let fault = RegFile::open(alloc, device).err();
-        assert_eq!(rt; fault, Some(OpenFault::NotARegFile), "{count}");
+        assert_eq!(rt; fault, NOT, "{count}");
+    }
+    for (count, wanted) in [(66, NOT), (67, None), (68, None)] {
+        let mut device = MemBlocks::new(alloc, count)?;
+        set_block(&mut device, 0, ROOT);
+        set_block(&mut device, 1, SLOT);
+        let fault = RegFile::open(alloc, device).err();
+        assert_eq!(rt; fault, wanted, "{count}");
     }
     Ok(())
 }

@@ -6,7 +6,7 @@ ghost use Rattle.unit_history.specs.Naming.{IsNamed};
 use crate::portals::{self, Portal, Ports};
 use block_file::{Blocks, Opener};
 use command_line::{Fault, MAX_UNITS, Options};
-use console::{Watched, console};
+use console::{Array, Watched, console};
 use numbering::Array as Naming;
 use portal::{Controllers, Open, Server, SmallStacks, TargetDevice, listen, start_lanes};
 use scsi_types::Group;
@@ -82,13 +82,16 @@ pub fn serve_units<
         };
         drop(loops);
     }
-    if rt.println("arrayd: ready").is_err() {
-        return Ok(());
-    }
     let mut watched = Watched {
         rt,
         controllers: &server.device.units,
     };
+    // An output that fails counts as the end of the input.
+    if rt.println("arrayd: ready").is_err() {
+        watched.close();
+        watched.flush();
+        return Ok(());
+    }
     console(alloc, rt.reader(), &mut io::writer(rt), &mut watched);
     Ok(())
 }

@@ -4,6 +4,7 @@ use scsi_types::Group;
 use std::alloc::Global;
 use std::fmt::{self, Display, Formatter};
 use std::io::{self, BufRead, Write};
+use std::str;
 
 /// What `status` tells of a unit.
 #[derive(Clone, Copy, Debug, PartialEq, Eq)]
@@ -68,23 +69,32 @@ fn say_down<W: Write>(writer: &mut W, end: Result<(), usize>) -> io::Result<()> 
     }
 }
 
+// The text of a line, which may end by CR LF. None: it is no UTF-8.
+fn text_of(line: &[u8]) -> Option<&str> {
+    let text = match line {
+        [text @ .., b'\r'] => text,
+        _ => line,
+    };
+    str::from_utf8(text).ok()
+}
+
 /// Obeys lines until `quit`, the end of the input, or a failure of either; then no command is taken in any more, and the units
-/// are flushed.
+/// are flushed. A line that is none of these, or no UTF-8, is answered `?`.
 pub fn console<I: BufRead + Drop, W: Write, A: Array>(
     alloc: Global,
     reader: I,
     writer: &mut W,
     array: &mut A,
 ) {
-    for line in reader.lines(alloc) {
+    for line in reader.split(alloc, b'\n') {
         let Ok(line) = line else {
             break;
         };
-        let said = match line.as_str() {
-            "quit" => break,
-            "status" => say_status(writer, array),
-            "down 1" => say_down(writer, array.down(Group::One)),
-            "down 2" => say_down(writer, array.down(Group::Two)),
+        let said = match text_of(&line) {
+            Some("quit") => break,
+            Some("status") => say_status(writer, array),
+            Some("down 1") => say_down(writer, array.down(Group::One)),
+            Some("down 2") => say_down(writer, array.down(Group::Two)),
             _ => writeln!(writer, "?"),
         };
         if said.is_err() {

@@ -82,16 +82,27 @@ fn is_formatted<R: Files<File = File>>(rt: &R, new: &str) -> bool {
     {
         return false;
     }
-    let Ok(blocks) = FileBlocks::of(file) else {
+    let Ok(mut blocks) = FileBlocks::of(file) else {
         return false;
     };
-    if blocks.count() < FILE_BLOCKS {
+    if !is_filled(&mut blocks) || blocks.count() < FILE_BLOCKS {
         return false;
     }
     match RegFile::format(blocks) {
         Ok(file) => file.close().file().sync_all().is_ok(),
         Err(_) => false,
     }
+}
+
+// Whether all blocks were written and flushed, so that the file system has them, however full it becomes: a save that finds no
+// room would be a fence that cannot be had.
+fn is_filled(blocks: &mut FileBlocks<File>) -> bool {
+    for block in 0..blocks.count() {
+        if block >= blocks.count() || blocks.write_run(block, &[0; BLOCK_LENGTH]).is_err() {
+            return false;
+        }
+    }
+    blocks.flush().is_ok()
 }
 
 // The folder of a file.

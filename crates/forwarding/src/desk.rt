@@ -1,12 +1,12 @@
 //! The desk of a controller.
 ghost use Rattle.std.specs.Prelude.{◌≡◌, ◌<◌, ◌&&◌, IfOk, IfErr, IfSome, slice_get};
 ghost use Rattle.forwarding.specs.Settled.{IsSettled};
-ghost use Rattle.jobs.specs.Served.{HasAnswered, handed_of};
+ghost use Rattle.forwarding.specs.Served.{HasAnswered, handed_of};
 
 use crate::job::{Answer, Job, Ticket, Waiting, prepare};
+use crate::queue::{NotQueued, Queue};
 use block_file::{Blocks, Opener};
 use crossbeam_utils::CachePadded;
-use jobs::{NotQueued, Queue};
 use numbering::Array;
 use scsi_types::{Asked, Group, NoMemory, Reply};
 use std::alloc::Global;

@@ -1,10 +1,10 @@
 //! A command on its way: its job, its ticket and its answer.
 ghost use Rattle.std.specs.Prelude.{◌≡◌, ◌<◌, ◌&&◌, IfOk, IfErr, MatchBool};
-ghost use Rattle.jobs.specs.Served.{HasAnswered, handed, handed_of};
+ghost use Rattle.forwarding.specs.Served.{HasAnswered, handed, handed_of};
 ghost use Rattle.forwarding.specs.Jobs.{IsFor};
 
+use crate::names::Names;
 use block_file::{Blocks, Opener};
-use jobs::Names;
 use numbering::Array;
 use scsi_types::{Asked, Group, NoMemory, Reply};
 use std::alloc::Global;
@@ -26,7 +26,7 @@ struct Ended<B: Blocks, R: Blocks, O: Opener<B>, N: Array<Opened>> {
 
 impl<B: Blocks, R: Blocks, O: Opener<B>, N: Array<Opened>> Model for Ended<B, R, O, N> {
     ghost use Rattle.std.specs.Prelude.{◌≡◌, ◌&&◌};
-    ghost use Rattle.jobs.specs.Served.{HasAnswered, handed};
+    ghost use Rattle.forwarding.specs.Served.{HasAnswered, handed};
     ghost use Rattle.forwarding.specs.Jobs.{Done};
 
     ghost Value = { Done };
@@ -99,7 +99,7 @@ pub struct Job<B: Blocks, R: Blocks, O: Opener<B>, N: Array<Opened>> {
 }
 
 impl<B: Blocks, R: Blocks, O: Opener<B>, N: Array<Opened>> Model for Job<B, R, O, N> {
-    ghost use Rattle.jobs.specs.Served.{Handed, handed_of};
+    ghost use Rattle.forwarding.specs.Served.{Handed, handed_of};
 
     ghost Value = { Handed };
 
@@ -203,7 +203,7 @@ pub struct Ticket<'a, B: Blocks, R: Blocks, O: Opener<B>, N: Array<Opened>> {
 
 impl<'a, B: Blocks, R: Blocks, O: Opener<B>, N: Array<Opened>> Model for Ticket<'a, B, R, O, N> {
     ghost use Rattle.std.specs.Prelude.{◌≡◌};
-    ghost use Rattle.jobs.specs.Served.{Handed, handed};
+    ghost use Rattle.forwarding.specs.Served.{Handed, handed};
 
     ghost Value = { Handed };
 

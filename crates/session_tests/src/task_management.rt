@@ -3,9 +3,16 @@ use crate::run::run;
 use std::test::*;
 
 const ROWS: &str = r"
-ABORT TASK of a task that ended: there is none
+ABORT TASK of a tag that no task has had: there is none
 > TASK_REQUEST 1:81 20:00000009
 < TASK_RESPONSE 2:01
+
+ABORT TASK of a task that ended: there is none
+> TEST_UNIT_READY
+> TASK_REQUEST 1:81 19:02 23:01 27:02
+< GOOD
+< TASK_RESPONSE 2:01 19:02 24:000000020000000300000022
+asked 0 Ok(TestUnitReady)
 
 ABORT TASK SET
 > TASK_REQUEST 1:82
@@ -120,6 +127,16 @@ ABORT TASK of another tag leaves it, and there is no such task
 < R2T
 < TASK_RESPONSE 2:01 19:02 31:03
 < GOOD 24:000000020000000300000022
+asked 0 Ok(Write { lba: 5, blocks: 1, fua: false })
+given pattern 512
+
+ABORT TASK of the write behind its last data: it ended, and there is no such task
+> WRITE
+> DATA_OUT pattern 512
+> TASK_REQUEST 1:81 19:02 23:01 27:02
+< R2T
+< GOOD
+< TASK_RESPONSE 2:01 19:02 24:000000020000000300000022
 asked 0 Ok(Write { lba: 5, blocks: 1, fua: false })
 given pattern 512
 

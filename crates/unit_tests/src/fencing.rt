@@ -1,8 +1,8 @@
 //! Persistent reservations: who registers, who is fenced, who hears of it (SPC-4, 5.13, 6.15 and 6.16).
-use crate::bench::Call::{Attach, Forward, Send};
+use crate::bench::Call::{Attach, Detach, Forward, Send};
 use crate::bench::Fuse;
 use crate::bytes::Runs;
-use crate::run::End::{Attached, Check, Conflict, Good};
+use crate::run::End::{Attached, Check, Conflict, Done, Good};
 use crate::run::{ALWAYS, FIRST, Row, Script, UNSAVED, run, table};
 use scsi_types::Group::{One, Two};
 use std::test::Fail;
@@ -31,6 +31,13 @@ const REGISTER_33: Runs = &[(15, "00"), (1, "33"), (8, "00")];
 const KEY_11: Runs = &[(7, "00"), (1, "11"), (16, "00")];
 
 const KEY_22: Runs = &[(7, "00"), (1, "22"), (16, "00")];
+
+/// `REGISTER_11` with ALL_TG_PT.
+const EVERY_PORT_11: Runs = &[(15, "00"), (1, "11"), (4, "00"), (1, "04"), (3, "00")];
+
+/// `iqn.2026-01.example:host,i,0x000000000001`, of the first session's TransportID (SPC-4, 7.6.4.6).
+const PORT_1: &str =
+    "69716E2E 32303236 2D30312E 6578616D 706C653A 686F7374 2C692C3078 303030303030303030303031";
 
 /// Four sessions that were told of their power on.
 const FOUR: &[Row] = table! {
@@ -117,13 +124,39 @@ const FIELDS: &[Row] = table! {
     "it writes": Forward(4, "2A 00 00000001 00 0001", BLOCK) => Good(&[]);
 };
 
+/// With ALL_TG_PT the first registers both nexuses of its port, and both write, until the second preempts their key.
+const EVERY_PORT: &[Row] = table! {
+    "the first registers by every port": Send(0, REGISTER, EVERY_PORT_11) => Good(&[]);
+    "the full status": Send(0, "5E 03 0000000000 00FF", &[]) => Good(&[
+        (1, "00 00 00 01 00 00 00 90"),
+        (7, "00"), (1, "11"), (11, "00"), (1, "01 00 00 00 30 45 00 00 2C"), (1, PORT_1), (3, "00"),
+        (7, "00"), (1, "11"), (11, "00"), (1, "02 00 00 00 30 45 00 00 2C"), (1, PORT_1), (3, "00"),
+    ]);
+    "it reserves": Send(0, "5F 01 05 0000 00000018", KEY_11) => Good(&[]);
+    "its port through the other controller": Attach(1, Two) => Attached(11);
+    "its power on": Forward(4, TEST, &[]) => Check(0x06, 0x29, 0x00);
+    "it writes": Forward(4, "2A 00 00000001 00 0001", BLOCK) => Good(&[]);
+    "it releases, which changes nothing": Forward(4, "5F 02 05 0000 00000018", KEY_11) => Good(&[]);
+    "the reservation is as it was": Forward(4, READ_RESERVATION, &[]) =>
+        Good(&[(1, "00 00 00 01 00 00 00 10"), (7, "00"), (1, "11"), (5, "00"), (1, "05 00 00")]);
+    "the second registers": Send(1, REGISTER, REGISTER_22) => Good(&[]);
+    "the second preempts":
+        Send(1, "5F 04 05 0000 00000018", &[(7, "00"), (1, "22"), (7, "00"), (1, "11"), (8, "00")]) => Good(&[]);
+    "the first lost its registration": Send(0, WRITE, BLOCK) => Check(0x06, 0x2A, 0x05);
+    "so did its port through the other controller": Forward(4, WRITE, BLOCK) => Check(0x06, 0x2A, 0x05);
+    "its write is fenced": Send(0, WRITE, BLOCK) => Conflict;
+    "its write through the other controller too": Forward(4, WRITE, BLOCK) => Conflict;
+    "the keys": Send(1, READ_KEYS, &[]) => Good(&[(1, "00 00 00 03 00 00 00 08"), (7, "00"), (1, "22")]);
+};
+
 #[test]
 fn who_is_fenced(rt: HostRuntime) -> Result<(), Fail> {
-    let scripts: [(&str, &[Row]); 4] = [
+    let scripts: [(&str, &[Row]); 5] = [
         ("a holder is preempted", PREEMPTED),
         ("a write is fenced", FENCED_WRITE),
         ("all registrants hold", ALL_REGISTRANTS),
         ("fields and nexuses", FIELDS),
+        ("every port", EVERY_PORT),
     ];
     for (name, rows) in scripts {
         let script = Script {
@@ -141,7 +174,17 @@ fn who_is_fenced(rt: HostRuntime) -> Result<(), Fail> {
     Ok(())
 }
 
-/// The first has key 11h, 63 others have 22h, and the first preempts these.
+/// Behind 64 sessions that are registered, each by three entries: there is no room for a 65th registrant.
+const FULL: &[Row] = table! {
+    "the last session ends, and stays registered": Detach(63) => Done;
+    "a new nexus attaches": Attach(64, One) => Attached(193);
+    "its power on": Send(64, TEST, &[]) => Check(0x06, 0x29, 0x00);
+    "a 65th registrant": Send(64, REGISTER, REGISTER_33) => Check(0x05, 0x55, 0x04);
+    "the first by every port": Send(0, "5F 06 00 0000 00000018", EVERY_PORT_11) => Check(0x05, 0x55, 0x04);
+    "64 changes, and as many keys": Send(0, "5E 00 0000000000 0008", &[]) => Good(&[(1, "00 00 00 40 00 00 02 00")]);
+};
+
+/// The first has key 11h, 63 others have 22h, and no other can register. The first preempts these.
 #[test]
 fn all_others_are_preempted(rt: HostRuntime) -> Result<(), Fail> {
     let mut rows: Vec<Row> = Vec::new(rt.alloc());
@@ -160,6 +203,9 @@ fn all_others_are_preempted(rt: HostRuntime) -> Result<(), Fail> {
         ))?;
         rows.push(("it registers", Send(session, REGISTER, list), Good(&[])))?;
     }
+    for row in FULL {
+        rows.push(*row)?;
+    }
     let preempt: Runs = &[(7, "00"), (1, "11"), (7, "00"), (1, "22"), (8, "00")];
     rows.push((
         "the first preempts",
@@ -168,7 +214,7 @@ fn all_others_are_preempted(rt: HostRuntime) -> Result<(), Fail> {
     ))?;
     let keys: Runs = &[(1, "00 00 00 41 00 00 00 08"), (7, "00"), (1, "11")];
     rows.push(("its key alone", Send(0, READ_KEYS, &[]), Good(keys)))?;
-    for session in 1..64 {
+    for session in 1..63 {
         rows.push((
             "another hears of it",
             Send(session, TEST, &[]),

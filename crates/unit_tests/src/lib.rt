@@ -1,4 +1,5 @@
-//! Tests of a logical unit over its public calls: each table has rows of what sessions ask, and of what is answered.
+//! Tests of a logical unit over its public calls: each table has rows of what sessions ask, and of what is answered. Beside them
+//! stands a loss of power at each call of its devices.
 #![tactic(auto)]
 
 #[cfg(test)]
@@ -23,5 +24,7 @@ mod run;
 mod sessions;
 #[cfg(test)]
 mod states;
+#[cfg(test)]
+mod stops;
 #[cfg(test)]
 mod unit_attentions;

@@ -1,0 +1,36 @@
+//! Units 0 and 1 of an array in memory, of which group 1 owns the first and group 2 the second, before hosts.
+ghost use Rattle.std.specs.Prelude.{◌≡◌, ◌≤◌, length};
+ghost use Rattle.block_file.specs.Cut.{cut};
+ghost use Rattle.unit_history.specs.Naming.{IsNamed};
+
+use crate::common::{MemUnit, in_memory};
+use crate::desks::script::Line;
+use crate::desks::stage::{Array, Stage};
+use numbering::Array as Naming;
+use std::alloc::Global;
+use std::marker::Brand;
+use std::process::Abort;
+use std::sync::Wait;
+use unit_history::Opened;
+
+fn play<N: Naming<Opened>, W: Wait + Abort>(
+    rt: &W,
+    alloc: Global,
+    new: Vec<MemUnit>,
+    script: &[Line],
+)
+    requires named { IsNamed N.book N.table N.opening (λ d. cut d.count d.bytes.items) new.items }
+    requires count { length new.items ≤ 8 }
+{
+    let array = Array::<N>::new(rt, alloc, new);
+    let mut stage = Stage::new(rt, alloc, &array);
+    let wrong = stage.perform(script);
+    stage.end();
+    array.end();
+    assert!(rt; wrong.is_none(), "a line of the script: {wrong:?}");
+}
+
+/// Performs a script over units 0 and 1, whose openers pass so many opens each, and a desk without lanes.
+pub fn run<W: Wait + Abort>(rt: &W, alloc: Global, opens: [u64; 2], script: &[Line]) {
+    play::<Brand, W>(rt, alloc, in_memory(rt, alloc, &opens), script)
+}

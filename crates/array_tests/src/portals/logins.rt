@@ -1,0 +1,119 @@
+//! Sessions that begin beside others.
+use crate::portals::array::run_each;
+use std::test::*;
+
+// The same name, ISID and controller take the place of the first session; another controller does not.
+const REINSTATED: &str = r#"
+A at 1
+A > LOGIN 7:56 HOST_A
+A < LOGGED_IN 7:36 WELCOME
+A > TEST_UNIT_READY
+A < CHECK_CONDITION 0012 70000600000000 0A00000000 2900 00000000
+A > TEST_UNIT_READY
+A < GOOD
+B at 1
+B > LOGIN 7:56 HOST_A
+B < LOGGED_IN 7:36 15:02 WELCOME
+A over
+B > TEST_UNIT_READY
+B < CHECK_CONDITION 0012 70000600000000 0A00000000 2900 00000000
+C at 2
+C > LOGIN 7:56 HOST_A
+C < LOGGED_IN 7:36 15:03 WELCOME_2
+D at 1
+D > LOGIN 7:37 FINDS
+D < LOGGED_IN 7:1F 15:04 "MaxRecvDataSegmentLength=65536\0"
+B > TEST_UNIT_READY
+B < GOOD
+C > TEST_UNIT_READY
+C < CHECK_CONDITION 0012 70000600000000 0A00000000 2900 00000000
+C > TEST_UNIT_READY
+C < GOOD
+"#;
+
+// 64 sessions leave no room for another until they are over.
+const FULL: &str = r#"
+A at 1
+A > LOGIN 7:56 HOST_A
+A < LOGGED_IN 7:36 WELCOME
+63 enter 2 LOGIN 7:56 HOST_A
+B at 1
+B > LOGIN 7:56 HOST_B
+B < LOGIN_REFUSED 36:0302
+B over
+A > TEST_UNIT_READY
+A < CHECK_CONDITION 0012 70000600000000 0A00000000 2900 00000000
+all leave LOGOUT
+C at 1
+C > LOGIN 7:56 HOST_B
+C < LOGGED_IN 7:36 15:41 WELCOME
+C > TEST_UNIT_READY
+C < CHECK_CONDITION 0012 70000600000000 0A00000000 2900 00000000
+A > TEST_UNIT_READY
+A < GOOD
+"#;
+
+// Sessions of discovery take no room.
+const CROWDED: &str = r#"
+200 enter 1 LOGIN 7:37 FINDS
+A at 2
+A > LOGIN 7:56 HOST_A
+A < LOGGED_IN 7:36 15:C9 WELCOME_2
+A > TEST_UNIT_READY
+A < CHECK_CONDITION 0012 70000600000000 0A00000000 2900 00000000
+A > TEST_UNIT_READY
+A < GOOD
+"#;
+
+// A session of discovery takes the place of another of its port, and of no normal one. One that ended does not live.
+const KINDS: &str = r#"
+A at 1
+A > LOGIN 7:56 HOST_A
+A < LOGGED_IN 7:36 WELCOME
+B at 1
+B > LOGIN 7:37 FINDS
+B < LOGGED_IN 7:1F 15:02 "MaxRecvDataSegmentLength=65536\0"
+C at 1
+C > LOGIN 7:37 FINDS
+C < LOGGED_IN 7:1F 15:03 "MaxRecvDataSegmentLength=65536\0"
+B over
+A > TEST_UNIT_READY
+A < CHECK_CONDITION 0012 70000600000000 0A00000000 2900 00000000
+A > LOGOUT
+A < LOGGED_OUT
+A over
+D at 1
+D > LOGIN 7:56 15:01 HOST_A
+D < LOGIN_REFUSED 15:01 36:020A
+D over
+E at 1
+E > LOGIN 7:56 15:03 HOST_A
+E < LOGIN_REFUSED 15:03 36:0206
+E over
+C > TEXT_REQUEST 7:10 "SendTargets=All\0"
+C told
+"#;
+
+// A reset is told to the others. Of unit 2, which is not there, it is no such unit.
+const RESET: &str = r#"
+A and B
+A > TASK_REQUEST 1:85 20:FFFFFFFF
+A < TASK_RESPONSE
+A > TEST_UNIT_READY
+A < GOOD
+B > TEST_UNIT_READY
+B < CHECK_CONDITION 0012 70000600000000 0A00000000 2900 00000000
+B > TEST_UNIT_READY
+B < GOOD
+B > TASK_REQUEST 1:85 9:02 20:FFFFFFFF
+B < TASK_RESPONSE 2:02
+B > TEST_UNIT_READY 9:02
+B < CHECK_CONDITION 0012 70000500000000 0A00000000 2500 00000000
+A > TEST_UNIT_READY
+A < GOOD
+"#;
+
+#[test]
+fn sessions_that_come_again_or_find_no_room(rt: HostRuntime) {
+    run_each(&rt, rt.alloc(), &[REINSTATED, FULL, CROWDED, KINDS, RESET]);
+}

@@ -1,0 +1,103 @@
+//! The lines of the console, over units that count.
+use console::{Array, UnitStatus, console};
+use scsi_types::Group;
+use std::alloc::Global;
+use std::io::{self, BufReader, Read, Write};
+use std::test::*;
+
+// Two units, which count how often they were asked, and flushed behind the close. Of controller 2 unit 1 does not move.
+#[derive(Drop)]
+struct Two {
+    asked: u32,
+    closed: u32,
+    flushed: u32,
+}
+
+impl Array for Two {
+    fn status(&mut self, unit: u8) -> Option<UnitStatus> {
+        self.asked = self.asked.saturating_add(1);
+        match unit {
+            0 => Some(UnitStatus {
+                unit: 0,
+                owner: 1,
+                states: (0, 1),
+                generation: 4294967295,
+                keys: 64,
+                kind: 5,
+                entries: 18446744073709551615,
+            }),
+            1 => Some(UnitStatus {
+                unit: 1,
+                owner: 2,
+                states: (3, 0),
+                generation: 0,
+                keys: 0,
+                kind: 0,
+                entries: 0,
+            }),
+            _ => None,
+        }
+    }
+
+    fn down(&mut self, controller: Group) -> Result<(), usize> {
+        match controller {
+            Group::One => Ok(()),
+            Group::Two => Err(1),
+        }
+    }
+
+    fn close(&mut self) {
+        self.closed = self.closed.saturating_add(1);
+    }
+
+    fn flush(&mut self) {
+        self.flushed = self.flushed.saturating_add(self.closed);
+    }
+}
+
+const STATUS: &str =
+    "unit 0 owner 1 states 0 1 generation 4294967295 keys 64 type 5 entries 18446744073709551615
+unit 1 owner 2 states 3 0 generation 0 keys 0 type 0 entries 0
+";
+
+// What the lines are answered, and how often the units were flushed.
+fn said(alloc: Global, lines: &[u8]) -> Result<(String, u32), Fail> {
+    let mut array = Two {
+        asked: 0,
+        closed: 0,
+        flushed: 0,
+    };
+    let mut written = Vec::new(alloc);
+    console(alloc, lines, &mut written, &mut array);
+    Ok((String::from_utf8(written)?, array.flushed))
+}
+
+#[test]
+fn lines_and_what_they_are_answered(rt: HostRuntime) -> Result<(), Fail> {
+    let rows = [
+        ("", ""),
+        ("quit", ""),
+        ("quit\n", ""),
+        ("quit\nx\n", ""),
+        ("\n", "?\n"),
+        ("x", "?\n"),
+        ("x\ny\nquit\n", "?\n?\n"),
+        ("down 1\ndown 2\n", "down\nnot moved 1\n"),
+        ("down\ndown 0\ndown 3\ndown 1 \nDOWN 1\n", "?\n?\n?\n?\n?\n"),
+        ("Status\nstatus \n status\nquit \n", "?\n?\n?\n?\n"),
+        ("quit\r\n", ""),
+    ];
+    for (lines, answers) in rows {
+        let (text, flushed) = said(rt.alloc(), lines.as_bytes())?;
+        assert_eq!(rt; text.as_str(), answers, "{lines:?}");
+        assert_eq!(rt; flushed, 1, "{lines:?}");
+    }
+    let (text, flushed) = said(rt.alloc(), b"status\nquit\n")?;
+    assert_eq!(rt; text.as_str(), STATUS);
+    assert_eq!(rt; flushed, 1);
+    // no UTF-8
+    let (text, flushed) = said(rt.alloc(), b"\xFF\nstatus\xC3\ndown 1\n")?;
+    assert_eq!(rt; text.as_str(), "?\n?\ndown\n");
+    assert_eq!(rt; flushed, 1);
+    Ok(())
+}

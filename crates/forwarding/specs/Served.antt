@@ -1,0 +1,35 @@
+-- A command on its way, and what serving it comes to.
+use Rattle.std.specs.Prelude.{ℕ, Bool, List, IfOk, IfErr, Result}
+use Rattle.locked_unit.specs.Calls.{Known, PlacedPass}
+use Rattle.locked_unit.specs.declared.machine.Refused.{Refused}
+use Rattle.scsi_types.specs.ReplyValue.{ReplyValue}
+use Rattle.scsi_types.specs.declared.names.Group.{Group}
+use Rattle.scsi_types.specs.declared.command.Command.{Command as ScsiCommand}
+use Rattle.scsi_types.specs.declared.command.CdbFault.{CdbFault}
+use Rattle.unit_state.specs.State.{UnitState}
+use Rattle.unit_state.specs.Entry.{Entry}
+use Rattle.unit_history.specs.Calls.{HasServed, HasRefused}
+use Rattle.forwarding.specs.Names.{names_of}
+use Rattle.forwarding.specs.declared.names.Names.{Names}
+
+-- a job that a desk was handed: what it is known by, the data that came for its command, and what its pass had seen
+pub record Handed : Type 0 where
+  pub names : Names
+  pub data_in : List ℕ
+  pub seen : List Entry
+
+abbrev pub handed : Names → List ℕ → List Entry → Handed
+handed names bytes seen = record { names = names; data_in = bytes; seen = seen }
+
+abbrev pub handed_of : PlacedPass Entry → Result ScsiCommand CdbFault → List ℕ → Group → Handed
+handed_of held asked bytes by_group = handed (names_of held asked by_group) bytes held.pass.seen
+
+-- what the session's pass was when the job was handed in
+abbrev pub pass_of : Handed → Known Entry
+pass_of job = record { session = job.names.session; serial = job.names.serial; seen = job.seen }
+
+-- The job's command was served by the group of its desk, or refused, as a shared unit's `serve` promises.
+abbrev pub HasAnswered : Bool → UnitState → Handed → Known Entry → Result ReplyValue (Refused Group) → Type 0
+HasAnswered claims s job after end =
+    IfOk end (λ reply. HasServed claims s (pass_of job) after job.names.by_group job.names.asked job.data_in reply)
+    × IfErr end (λ why. HasRefused claims s (pass_of job) after job.names.by_group job.names.asked job.data_in why)

@@ -1,0 +1,92 @@
+//! Devices that a crash takes back, behind fuses, and the unit over them.
+use crate::stops::calls::Reach;
+use crate::stops::units::opened;
+use aptpl_file::{FILE_BLOCKS, RegFile};
+use block_file::{FusedBlocks, FusedOpener, KeepOpener, MemBlocks};
+use crash_blocks::{CrashBlocks, Pick};
+use std::alloc::Global;
+use std::test::Fail;
+use unit_state::Unit;
+
+/// How many blocks the unit has.
+pub const BLOCKS: u32 = 7;
+
+/// The calls of the registration file's device in which it is opened: the root, the slot, and a flush.
+const OPENING: u64 = 3;
+
+/// What is wrong with the devices of a unit.
+#[derive(Clone, Copy)]
+pub struct Setup {
+    /// How far the calls of each come before one fails and all behind it, counted from the opening of the unit.
+    pub blocks: Reach,
+    pub registrations: Reach,
+    /// The call of the registration file's device that fails alone, and how often the blocks are opened for another
+    /// controller before an open fails.
+    pub alone: u64,
+    pub opens: u64,
+}
+
+/// No call fails.
+pub const SOUND: Setup = Setup {
+    blocks: Reach {
+        calls: usize::MAX,
+        landed: 0,
+    },
+    registrations: Reach {
+        calls: usize::MAX,
+        landed: 0,
+    },
+    alone: u64::MAX,
+    opens: u64::MAX,
+};
+
+/// The device of the blocks, and that of the registration file.
+pub type Disk = FusedBlocks<CrashBlocks>;
+
+pub type File = FusedBlocks<FusedBlocks<CrashBlocks>>;
+
+/// The unit over them.
+pub type Tested = Unit<Disk, File, FusedOpener<KeepOpener>>;
+
+// Blocks of zeros.
+fn blocks(alloc: Global) -> Result<CrashBlocks, Fail> {
+    Ok(CrashBlocks::new(alloc, MemBlocks::new(alloc, BLOCKS)?)?)
+}
+
+// A registration file of nothing.
+fn nothing(alloc: Global) -> Result<MemBlocks, Fail> {
+    let device = MemBlocks::new(alloc, FILE_BLOCKS)?;
+    match RegFile::format(device) {
+        Ok(file) => Ok(file.close()),
+        Err(_) => Err("a registration file".into()),
+    }
+}
+
+/// A unit of blocks of zeros with a registration file of nothing, over devices that fail so.
+pub fn tested(alloc: Global, setup: Setup) -> Result<Tested, Fail> {
+    let disk = fused(blocks(alloc)?, 0, setup.blocks);
+    let file = CrashBlocks::new(alloc, nothing(alloc)?)?;
+    let window = FusedBlocks::window(file, setup.alone.saturating_add(OPENING), 1);
+    let file = fused(window, OPENING, setup.registrations);
+    opened(alloc, disk, file, FusedOpener::new(KeepOpener, setup.opens))
+}
+
+// A device whose calls come so far behind some.
+fn fused<B: block_file::Blocks>(device: B, behind: u64, reach: Reach) -> FusedBlocks<B> {
+    let calls = behind.saturating_add(reach.calls as u64);
+    FusedBlocks::inside(device, calls, reach.landed)
+}
+
+/// What a crash leaves of the devices of a unit.
+pub fn crashed(unit: Tested, pick: Pick) -> (MemBlocks, MemBlocks) {
+    let (disk, file, _opener) = unit.close();
+    (
+        crash(disk.into_inner(), pick),
+        crash(file.into_inner().into_inner(), pick),
+    )
+}
+
+// What a crash leaves of a device.
+fn crash(device: CrashBlocks, pick: Pick) -> MemBlocks {
+    device.crash(pick)
+}

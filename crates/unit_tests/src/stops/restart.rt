@@ -1,0 +1,96 @@
+//! A restart, and what it is to find.
+use crate::stops::units::{Session, TEST_UNIT_READY, attached, cdb_of, is_good, opened, send};
+use access_states::AccessState;
+use block_file::{Blocks, KeepOpener, MemBlocks, Opener};
+use scsi_types::Group;
+use std::alloc::Global;
+use std::test::Fail;
+use unit_state::{StepEnd, Unit};
+
+/// What a restart is to find: the data of PERSISTENT RESERVE IN, READ FULL STATUS and REPORT CAPABILITIES, of REPORT TARGET
+/// PORT GROUPS, and of a READ of all blocks.
+#[derive(Drop)]
+pub struct Wanted {
+    pub full_status: Vec<u8>,
+    pub capabilities: Vec<u8>,
+    pub states: Vec<u8>,
+    pub blocks: Vec<u8>,
+}
+
+/// The first thing that a restart over these devices does not find as it is to; the sessions are those of before.
+pub fn fault_of(
+    alloc: Global,
+    (blocks, registrations): (MemBlocks, MemBlocks),
+    wanted: &Wanted,
+    before: &[Session; 2],
+) -> Result<Option<&'static str>, Fail> {
+    let mut unit = opened(alloc, blocks, registrations, KeepOpener)?;
+    if !is_opening(&unit) || !are_gone(&mut unit, alloc, before) {
+        return Ok(Some("the opening state"));
+    }
+    found(&mut unit, alloc, wanted)
+}
+
+// Whether a unit is as it opens: no entry, generation 0, the first group owns it.
+fn is_opening<B: Blocks, R: Blocks, O: Opener<B>>(unit: &Unit<B, R, O>) -> bool {
+    let row = unit.row();
+    row.entries == 0
+        && row.generation == 0
+        && row.owner == Group::One
+        && row.states
+            == [
+                AccessState::ActiveOptimized,
+                AccessState::ActiveNonOptimized,
+            ]
+}
+
+// Whether none of these sessions is attached.
+fn are_gone<B: Blocks, R: Blocks, O: Opener<B>>(
+    unit: &mut Unit<B, R, O>,
+    alloc: Global,
+    sessions: &[Session; 2],
+) -> bool {
+    for session in sessions {
+        let mut session = *session;
+        let end = send(unit, alloc, &mut session, Group::One, TEST_UNIT_READY, &[]);
+        if !is_gone(&end) {
+            return false;
+        }
+    }
+    true
+}
+
+fn is_gone(end: &StepEnd) -> bool {
+    matches!(end, StepEnd::Gone)
+}
+
+// The first answer that is not as it is to be.
+fn found<B: Blocks, R: Blocks, O: Opener<B>>(
+    unit: &mut Unit<B, R, O>,
+    alloc: Global,
+    wanted: &Wanted,
+) -> Result<Option<&'static str>, Fail> {
+    let mut session = attached(unit, alloc, 3)?;
+    let questions: [(&'static str, &str, &[u8]); 4] = [
+        (
+            "the access states",
+            "A3 0A 00000000 000000FF",
+            &wanted.states,
+        ),
+        (
+            "the registrations",
+            "5E 03 0000000000 00FF",
+            &wanted.full_status,
+        ),
+        ("APTPL", "5E 02 0000000000 00FF", &wanted.capabilities),
+        ("the blocks", "28 00 00000000 00 0007", &wanted.blocks),
+    ];
+    for (name, cdb, bytes) in questions {
+        let cdb = cdb_of(alloc, cdb)?;
+        let end = send(unit, alloc, &mut session, Group::One, cdb, &[]);
+        if !is_good(&end, bytes) {
+            return Ok(Some(name));
+        }
+    }
+    Ok(None)
+}
