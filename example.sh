@@ -4,9 +4,9 @@
 # reads through the other one, compares, COMPARE AND WRITE, reserves, moves the unit. bench/first_steps.py says each step; then
 # the array is told `status` and `quit`. Ends with status 1 where a step fails. Wants the toolchain's command rt, and python3.
 #
-#   ./example.sh             in two minutes on two cores: compiles the program, but proves nothing of it
-#   ./example.sh --proved    proves the program and all that it stands on first, which takes an hour where that was not done
-#                            before; it lies at the top as ./arrayd then
+#   ./example.sh             compiles the program, but proves nothing of it
+#   ./example.sh --proved    proves the program and all that it stands on first, where that was not done before; it lies at
+#                            the top as ./arrayd then
 set -e
 cd "$(dirname "$0")"
 if [ "$*" != '' ] && [ "$*" != --proved ]; then
@@ -50,7 +50,7 @@ if [ "$*" = --proved ]; then
     ARRAYD=./arrayd
     echo 'the proved program lies here as ./arrayd'
 else
-    echo 'compiling arrayd, in about a minute: it runs unproved here (./example.sh --proved proves it first)'
+    echo 'compiling arrayd: it runs unproved here (./example.sh --proved proves it first)'
     make_program python3 bench/unproved.py program "$place/arrayd"
     ARRAYD=$place/arrayd
 fi

@@ -1,6 +1,6 @@
 #!/bin/sh
-# Runs every test of every crate, and the program on its stored session, without proofs: in ten minutes on two cores. One line a
-# crate, and what failed; the last line is 'N passed, M failed'. `rt ci` proves the code and its tests, and runs both.
+# Runs every test of every crate, and the program on its stored session, without proofs. One line a crate,
+# and what failed; the last line is 'N passed, M failed'. `rt ci` proves the code and its tests, and runs both.
 #
 #   ./tests.sh                 all crates
 #   ./tests.sh scsi_tests      one crate

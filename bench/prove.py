@@ -85,7 +85,8 @@ def prove(room):
             os.killpg(gate.pid, signal.SIGTERM)
             gate.wait()
     if status:
-        sys.exit(f"{'' if has_failed else ''.join(rest)}not all of {PROGRAM} is proved, so there is no program")
+        how = f"rt ci was stopped by signal {-status}: " if status < 0 else ""
+        sys.exit(f"{'' if has_failed else ''.join(rest)}{how}not all of {PROGRAM} is proved, so there is no program")
     # the file of a program that runs is not written to
     shutil.copy(f"{room}/repository/crates/{PROGRAM}/out/{PROGRAM}", f"{TOP}/{PROGRAM}.new")
     os.replace(f"{TOP}/{PROGRAM}.new", f"{TOP}/{PROGRAM}")

@@ -4,7 +4,7 @@
         array.ask("status", 1); array.quit()
     ended(["--port", "1"])                  exit status and standard error of a start that has to fail
 
-The program is crates/arrayd/out/arrayd, or what the environment's ARRAYD names.
+The program is ./arrayd, or what the environment's ARRAYD names.
 """
 
 import os
@@ -13,7 +13,7 @@ import signal
 import subprocess
 
 TOP = os.path.dirname(os.path.dirname(os.path.abspath(__file__)))
-ARRAYD = os.environ.get("ARRAYD", os.path.join(TOP, "crates", "arrayd", "out", "arrayd"))
+ARRAYD = os.environ.get("ARRAYD", os.path.join(TOP, "arrayd"))
 PORT = 20000 + os.getpid() % 10000
 TARGET = "iqn.2000-01.test:array"
 

@@ -7,7 +7,7 @@
 cd "$(dirname "$0")/.." || exit 1
 place=$(mktemp -d)
 port=$((20000 + $$ % 10000))
-ARRAYD=$(realpath "${ARRAYD:-crates/arrayd/out/arrayd}")
+ARRAYD=$(realpath "${ARRAYD:-./arrayd}")
 export ARRAYD
 pid=
 failed=0

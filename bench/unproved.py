@@ -1,11 +1,11 @@
 #!/usr/bin/env python3
-"""Compiles the array and its tests with no proof and runs them: the program for ./example.sh, the tests for ./tests.sh. What
-runs has checks compiled in: it stops at an index out of bounds, a sum that wraps or a failed unwrap. Says nothing of the
-compiler unless something fails.
+"""Compiles the array and its tests with no proof and runs them: the program for ./example.sh, the tests for ./tests.sh. Says
+nothing of the compiler unless something fails.
 
-`rt try` compiles without proofs, but slowly: a test then runs some hundred times slower than it must. So the module that it
-makes for LLVM is taken from it, and compiled and linked by the toolchain's own programs. Where there is no module to take,
-tests run by `rt try` alone.
+`rt try` compiles without proofs, but optimizes nothing: tests that make many sessions then run for minutes. So the module that
+it makes for LLVM is taken from it, and compiled and linked by the toolchain's own programs. In it stay the checks of sums,
+casts, shifts and divisors, at which a run stops; an access out of bounds is not looked for, as `rt try --test` in a crate's
+folder does. Where there is no module to take, tests run by `rt try` alone.
 
 usage: bench/unproved.py program FILE        compiles arrayd, and leaves it as FILE
        bench/unproved.py tests [NAME..]      runs the tests of these crates, or of all, and the stored run of each program;

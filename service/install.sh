@@ -1,12 +1,12 @@
 #!/bin/sh
 # Installs the program, its page and its service.
 #
-# usage: service/install.sh [PROGRAM]         PROGRAM is crates/arrayd/out/arrayd where none is given
+# usage: service/install.sh [PROGRAM]         PROGRAM is ./arrayd at the top where none is given
 #
 # DESTDIR stands before each name, for a package. Behind it, once: systemd-sysusers, systemctl daemon-reload.
 set -e
 here=$(dirname "$0")
-program=${1:-$here/../crates/arrayd/out/arrayd}
+program=${1:-$here/../arrayd}
 install -D -m 0755 "$program" "$DESTDIR/usr/sbin/arrayd"
 install -D -m 0755 "$here/arrayd-run" "$DESTDIR/usr/libexec/arrayd/arrayd-run"
 install -D -m 0755 "$here/arrayd-console" "$DESTDIR/usr/libexec/arrayd/arrayd-console"
