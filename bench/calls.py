@@ -333,7 +333,8 @@ class Runs:
         kinds = collections.Counter(call.kind for call in plain)
         print(f"{len(plain)} calls in a life in which none fails: {', '.join(f'{n} {kind}' for kind, n in kinds.most_common())}")
         self.of_a_life(plain, "none")
-        self.of_a_life(plain, "none", "at once")
+        # one that is killed at once never comes to what quit asks for
+        self.of_a_life(plain, "none", "at once", lambda call: call.number <= len(plain) - UNITS)
         self.of_a_life(plain, "none", "kept", lambda call: call.file == REGISTRATIONS)
         self.table.print("fails, and nothing was done", "none")
         for how, least, title in (("half", 2, "half of the blocks are written"), ("whole", 1, "all is written, and it fails")):
