@@ -1,5 +1,4 @@
 pub mod Entries
-pub mod Handles
 pub mod Live
 pub mod Passes
 pub mod Server

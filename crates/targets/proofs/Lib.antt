@@ -1,3 +1,4 @@
 pub mod Owners
 pub mod Ready
+pub mod Serials
 pub mod Stories

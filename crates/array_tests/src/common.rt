@@ -1,9 +1,0 @@
-//! What tests of shared units have in common: units in memory, the desk of a controller, and the hosts that use them.
-
-mod hosts;
-mod shared;
-mod units;
-
-pub use hosts::{End, Host, Hosts};
-pub use shared::{Shared, TestDesk, TestUnits};
-pub use units::{BLOCKS, MemUnit, Opens, in_memory, new_unit, opened, place, zeros};

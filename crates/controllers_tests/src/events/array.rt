@@ -1,0 +1,98 @@
+//! Units 0 and 1 of an array in memory as a world, and the events of a row.
+ghost use Rattle.std.specs.Prelude.{◌≡◌, IfOk};
+ghost use Rattle.unit_state.specs.Serials.{IsOpening};
+
+use crate::events::rows::{Act, Asks};
+use block_file::{FusedOpener, KeepOpener, MemBlocks};
+use scsi_types::{Group, PortName, decode};
+use std::alloc::Global;
+use std::test::Fail;
+use test_units::{Opens, opened};
+use unit_events::Bytes;
+use unit_state::Unit;
+use world::{Event, World};
+
+type MemUnit = Unit<MemBlocks, MemBlocks, Opens>;
+
+/// A world of units in memory, whose openers pass so many opens and then fail.
+pub type MemWorld = World<MemBlocks, MemBlocks, Opens>;
+
+/// The blocks of a unit.
+const BLOCKS: u32 = 16;
+
+// TEST UNIT READY
+const TEST: [u8; 16] = [0; 16];
+
+// SET TARGET PORT GROUPS with a list of 8 bytes (SPC-4, 6.45)
+const SET: [u8; 16] = [0xA4, 0x0A, 0, 0, 0, 0, 0, 0, 0, 8, 0, 0, 0, 0, 0, 0];
+
+// its list: a group is active/optimized
+const FIRST: [u8; 8] = [0, 0, 0, 0, 0, 0, 0, 1];
+
+const SECOND: [u8; 8] = [0, 0, 0, 0, 0, 0, 0, 2];
+
+fn in_memory(alloc: Global, unit: u8, opens: u64) -> Result<MemUnit, Fail>
+    ensures { IfOk result (λ u. IsOpening u.control) }
+{
+    let blocks = MemBlocks::new(alloc, BLOCKS)?;
+    opened(alloc, blocks, FusedOpener::new(KeepOpener, opens), unit, 2)
+}
+
+/// Units 0 and 1, whose openers pass so many opens each.
+pub fn two_units(alloc: Global, opens: [u64; 2]) -> Result<MemWorld, Fail> {
+    let mut units = Vec::new(alloc);
+    units.push(in_memory(alloc, 0, opens[0])?)?;
+    units.push(in_memory(alloc, 1, opens[1])?)?;
+    Ok(World::new(alloc, units)?)
+}
+
+fn list_of(group: Group) -> &'static [u8] {
+    match group {
+        Group::One => &FIRST,
+        Group::Two => &SECOND,
+    }
+}
+
+fn submit(alloc: Global, session: usize, by_group: Group, asks: Asks) -> Result<Event, Fail> {
+    let (cdb, list): (&[u8; 16], &[u8]) = match asks {
+        Asks::Test => (&TEST, &[]),
+        Asks::Set(group) => (&SET, list_of(group)),
+    };
+    Ok(Event::Submit {
+        session,
+        by_group,
+        asked: decode(cdb),
+        bytes: Bytes::new(Vec::from_slice(alloc, list)?),
+    })
+}
+
+fn event_of(alloc: Global, act: Act) -> Result<Event, Fail> {
+    match act {
+        Act::Attach(place, isid, group) => {
+            let name = Vec::from_slice(alloc, b"iqn.2000-01.test:a")?;
+            let port = PortName::new(name, isid);
+            Ok(Event::Attach { place, port, group })
+        }
+        Act::Detach(session) => Ok(Event::Detach { session }),
+        Act::Reset(session) => Ok(Event::Reset { session }),
+        Act::Move(place, group) => {
+            let list = Bytes::new(Vec::from_slice(alloc, list_of(group))?);
+            Ok(Event::Move { place, list })
+        }
+        Act::Submit(session, by_group, asks) => submit(alloc, session, by_group, asks),
+        Act::Again(session) => Ok(Event::SubmitAgain { session }),
+        Act::Take(group) => Ok(Event::Take { group }),
+        Act::Serve(session) => Ok(Event::Serve { session }),
+        Act::Post(session) => Ok(Event::Post { session }),
+        Act::Collect(session) => Ok(Event::Collect { session }),
+    }
+}
+
+/// The events of a row.
+pub fn events_of(alloc: Global, acts: &[Act]) -> Result<Vec<Event>, Fail> {
+    let mut events = Vec::new(alloc);
+    for act in acts {
+        events.push(event_of(alloc, *act)?)?;
+    }
+    Ok(events)
+}

@@ -1,0 +1,205 @@
+//! An array with a portal a controller, and a script that its hosts perform.
+ghost use Rattle.std.specs.Prelude.{◌≡◌, ◌≤◌, length};
+ghost use Rattle.unit_history.specs.Naming.{IsNamed};
+
+use crate::behind::Behind;
+use crate::host::Host;
+use crate::latch::Latch;
+use crate::no_room::NoRoom;
+use crate::stage::Stage;
+use crate::units::two;
+use block_file::{Blocks, Opener};
+use numbering::Array as Naming;
+use portal::{Controllers, Server, SmallStacks, Stop, TargetDevice, listen, start_lanes};
+use scsi_types::Group;
+use std::alloc::Global;
+use std::marker::Brand;
+use std::net::{Ipv4Addr, Net, SocketAddr, SocketAddrV4, TcpListener, TcpStream};
+use std::process::Abort;
+use std::sync::{Arc, Wait};
+use std::test::Fail;
+use std::thread::{JoinHandle, Threads};
+use std::time::Clock;
+use unit_history::{NewUnit, Opened, Pass, Units};
+
+/// What the hosts of an array do, and where it listens: at this address, and at these ports of its two controllers. So many
+/// connections to each find no thread.
+#[derive(Clone, Copy, Debug)]
+pub struct Script<'a> {
+    pub host: Ipv4Addr,
+    pub ports: [u16; 2],
+    pub refused: u32,
+    pub text: &'a str,
+}
+
+impl<'a> Script<'a> {
+    /// At two ports of the loopback that are free.
+    pub fn new(text: &'a str) -> Script<'a> {
+        Script {
+            host: Ipv4Addr::new(127, 0, 0, 1),
+            ports: [0, 0],
+            refused: 0,
+            text,
+        }
+    }
+}
+
+/// A portal that is served.
+#[derive(Drop)]
+struct Served {
+    stop: Stop,
+    worker: JoinHandle<()>,
+}
+
+// A portal at this port, or at one that is free.
+fn bind<R: Net<Listener = TcpListener, Stream = TcpStream>>(
+    rt: &R,
+    host: Ipv4Addr,
+    port: u16,
+) -> Result<(TcpListener, SocketAddrV4), Fail> {
+    let listener = TcpListener::bind(rt, (host, port))?;
+    let SocketAddr::V4(address) = listener.local_addr()? else {
+        return Err("an address".into());
+    };
+    Ok((listener, address))
+}
+
+// Serves a portal of a group, whose controller has its lanes.
+fn serve<
+    N: Naming<Opened> + Send + Sync + 'static,
+    B: Blocks + Drop + Send + Sync + 'static,
+    F: Blocks + Drop + Send + Sync + 'static,
+    O: Opener<B> + Drop + Send + Sync + 'static,
+    R: Threads + Wait + Clock + Clone + Drop + Send + Sync + 'static,
+>(
+    rt: &R,
+    alloc: Global,
+    listener: TcpListener,
+    server: &Arc<Server<Controllers<B, F, O, N>, Latch<R>>, Global>,
+    group: Group,
+    stacks: NoRoom,
+) -> Result<Served, Fail> {
+    start_lanes::<N, B, F, O, Latch<R>, R, SmallStacks>(
+        rt,
+        alloc,
+        server,
+        group,
+        &mut SmallStacks,
+    )?;
+    let stop = Stop::of(&listener)?;
+    let worker = listen::<R, Controllers<B, F, O, N>, Latch<R>, Pass<B, F, O, N>, NoRoom>(
+        rt, alloc, listener, server, group, stacks,
+    )?;
+    Ok(Served { stop, worker })
+}
+
+// Ends the accept loop of a portal.
+fn end<R: Threads>(rt: &R, served: Served) -> Result<(), Fail> {
+    served.stop.stop()?;
+    served.worker.join(rt);
+    Ok(())
+}
+
+// Where the hosts find a portal.
+fn found_at(portal: SocketAddrV4) -> SocketAddrV4 {
+    SocketAddrV4::new(Ipv4Addr::new(127, 0, 0, 1), portal.port())
+}
+
+/// Serves these units, whose devices may hang at this latch, while hosts perform a script: the ports, and the hosts, whose
+/// sessions may still be open.
+pub fn perform<
+    N: Naming<Opened> + Send + Sync + 'static,
+    B: Blocks + Drop + Send + Sync + 'static,
+    F: Blocks + Drop + Send + Sync + 'static,
+    O: Opener<B> + Drop + Send + Sync + 'static,
+    R: Threads
+        + Wait
+        + Clock
+        + Abort
+        + Net<Listener = TcpListener, Stream = TcpStream>
+        + Clone
+        + Drop
+        + Send
+        + Sync
+        + 'static,
+>(
+    rt: &R,
+    alloc: Global,
+    new: Vec<NewUnit<B, F, O>>,
+    disk: &Latch<R>,
+    script: &Script<'_>,
+) -> Result<([u16; 2], Vec<Host>), Fail>
+    requires named { IsNamed N.book N.table N.opening B.contents new.items }
+    requires count { length new.items ≤ 8 }
+{
+    let (first, first_at) = bind(rt, script.host, script.ports[0])?;
+    let (second, second_at) = bind(rt, script.host, script.ports[1])?;
+    let units = Units::<B, F, O, N>::new(rt, alloc, new)?;
+    let server = Server {
+        device: TargetDevice::new(
+            alloc,
+            Controllers::new(alloc, units)?,
+            Latch::open(rt.clone()?),
+        ),
+        target_name: Vec::from_slice(alloc, b"iqn.2000-01.test:array")?,
+        first: Vec::from_slice(alloc, &[first_at])?,
+        second: Vec::from_slice(alloc, &[second_at])?,
+    };
+    let Ok(server) = Arc::new(alloc, server) else {
+        return Err("no memory".into());
+    };
+    let stacks = NoRoom {
+        refused: script.refused,
+    };
+    let first = serve::<N, B, F, O, R>(rt, alloc, first, &server, Group::One, stacks)?;
+    let second = serve::<N, B, F, O, R>(rt, alloc, second, &server, Group::Two, stacks)?;
+    let portals = [found_at(first_at), found_at(second_at)];
+    let controllers = &server.device.units;
+    let behind = Behind { rt, controllers };
+    let mut stage = Stage::new(rt, alloc, &server.device.gate, disk, &behind, portals);
+    stage.perform(script.text)?;
+    end(rt, first)?;
+    end(rt, second)?;
+    controllers.close(rt);
+    Ok(([first_at.port(), second_at.port()], stage.into_hosts()))
+}
+
+/// Hosts perform a script before two units in memory.
+pub fn run<
+    R: Threads
+        + Wait
+        + Clock
+        + Abort
+        + Net<Listener = TcpListener, Stream = TcpStream>
+        + Clone
+        + Drop
+        + Send
+        + Sync
+        + 'static,
+>(rt: &R, alloc: Global, script: &Script<'_>) -> Result<(), Fail> {
+    let Ok(disk) = Arc::new(alloc, Latch::open(rt.clone()?)) else {
+        return Err("no memory".into());
+    };
+    let units = two(alloc, &disk)?;
+    let _ended = perform::<Brand, _, _, _, R>(rt, alloc, units, &disk, script)?;
+    Ok(())
+}
+
+/// Hosts perform each of these scripts before two units in memory.
+pub fn run_each<
+    R: Threads
+        + Wait
+        + Clock
+        + Abort
+        + Net<Listener = TcpListener, Stream = TcpStream>
+        + Clone
+        + Drop
+        + Send
+        + Sync
+        + 'static,
+>(rt: &R, alloc: Global, scripts: &[&str]) -> Result<(), Fail> {
+    for script in scripts {
+        run(rt, alloc, &Script::new(script))?;
+    }
+    Ok(())
+}

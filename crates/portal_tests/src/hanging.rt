@@ -1,0 +1,149 @@
+//! A unit that does not answer, or whose device does not.
+use crate::array::run_each;
+use std::test::*;
+
+// A's command waits before unit 1; meanwhile B is served by unit 0, and C logs in.
+const HELD: &str = r#"
+A at 1
+A > LOGIN 7:56 HOST_A
+A < LOGGED_IN 7:36 WELCOME
+A > TEST_UNIT_READY 9:01
+A < CHECK_CONDITION 0012 70000600000000 0A00000000 2900 00000000
+B at 2
+B > LOGIN 7:56 HOST_B
+B < LOGGED_IN 7:36 15:02 WELCOME_2
+B > TEST_UNIT_READY
+B < CHECK_CONDITION 0012 70000600000000 0A00000000 2900 00000000
+gate hold 1
+A > TEST_UNIT_READY 9:01
+gate held 1
+B > WRITE 5:000200 pattern 512
+B < GOOD
+B > TEST_UNIT_READY 1:C1 20:00000200 32:28000000000500000100
+B < DATA_IN 5:000200 pattern 512
+B < GOOD 36:00000001
+C at 1
+C > LOGIN 7:56 HOST_B
+C < LOGGED_IN 7:36 15:03 WELCOME
+C > TEST_UNIT_READY
+C < CHECK_CONDITION 0012 70000600000000 0A00000000 2900 00000000
+gate open
+A < GOOD
+"#;
+
+// A's write hangs in the device of unit 0; meanwhile B is served by unit 1.
+const STUCK: &str = r#"
+A at 1
+A > LOGIN 7:56 HOST_A
+A < LOGGED_IN 7:36 WELCOME
+A > TEST_UNIT_READY
+A < CHECK_CONDITION 0012 70000600000000 0A00000000 2900 00000000
+B at 2
+B > LOGIN 7:56 HOST_B
+B < LOGGED_IN 7:36 15:02 WELCOME_2
+B > TEST_UNIT_READY 9:01
+B < CHECK_CONDITION 0012 70000600000000 0A00000000 2900 00000000
+disk hold 0
+A > WRITE 5:000200 pattern 512
+disk held 1
+B > WRITE 9:01 5:000200 pattern 512
+B < GOOD
+B > TEST_UNIT_READY 1:C1 9:01 20:00000200 32:28000000000500000100
+B < DATA_IN 5:000200 pattern 512
+B < GOOD 36:00000001
+disk open
+A < GOOD
+"#;
+
+// Unit 1 moves to controller 1, so that both units are served by way of one desk. Eight writes of unit 0 stand before it, and the
+// first that reaches its device hangs there; meanwhile B is served by unit 1, and unit 0's row is read.
+const CROWDED: &str = r#"
+8 enter 1 LOGIN 7:56 HOST_A
+all > TEST_UNIT_READY
+all < CHECK_CONDITION 0012 70000600000000 0A00000000 2900 00000000
+B at 2
+B > LOGIN 7:56 HOST_B
+B < LOGGED_IN 7:36 15:09 WELCOME_2
+B > TEST_UNIT_READY 9:01
+B < CHECK_CONDITION 0012 70000600000000 0A00000000 2900 00000000
+B > WRITE 9:01 7:08 20:00000008 32:A40A00000000000000080000 0000000000000001
+B < GOOD
+gate hold 0
+all > WRITE 5:000200 pattern 512
+gate held 8
+disk hold 0
+gate open
+disk held 1
+B > WRITE 9:01 5:000200 pattern 512
+B < GOOD
+B > TEST_UNIT_READY 1:C1 9:01 20:00000200 32:28000000000500000100
+B < DATA_IN 5:000200 pattern 512
+B < GOOD 36:00000001
+0 shows 17
+disk open
+all < GOOD
+0 shows 25
+"#;
+
+// A's write hangs in the device of unit 0, and a short command of each of eight sessions waits behind it: more than are served past
+// the desk's queue at a time. Meanwhile B's go by way of the queue of the same desk, and are served by unit 1.
+const QUEUED: &str = r#"
+8 enter 1 LOGIN 7:56 HOST_A
+all > TEST_UNIT_READY
+all < CHECK_CONDITION 0012 70000600000000 0A00000000 2900 00000000
+A at 1
+A > LOGIN 7:56 HOST_B
+A < LOGGED_IN 7:36 15:09 WELCOME
+A > TEST_UNIT_READY
+A < CHECK_CONDITION 0012 70000600000000 0A00000000 2900 00000000
+B at 2
+B > LOGIN 7:56 HOST_B
+B < LOGGED_IN 7:36 15:0A WELCOME_2
+B > TEST_UNIT_READY 9:01
+B < CHECK_CONDITION 0012 70000600000000 0A00000000 2900 00000000
+B > WRITE 9:01 7:08 20:00000008 32:A40A00000000000000080000 0000000000000001
+B < GOOD
+disk hold 0
+A > WRITE 5:000200 pattern 512
+disk held 1
+all > TEST_UNIT_READY
+B > TEST_UNIT_READY 9:01
+B < GOOD
+B > WRITE 9:01 5:000200 pattern 512
+B < GOOD
+B > TEST_UNIT_READY 1:C1 9:01 20:00000200 32:28000000000500000100
+B < DATA_IN 5:000200 pattern 512
+B < GOOD 36:00000001
+0 shows 19
+disk open
+A < GOOD
+all < GOOD
+0 shows 28
+"#;
+
+// Both desks are closed while A is logged in: each command is BUSY, and what is no command goes on.
+const CLOSED: &str = r#"
+A at 1
+A > LOGIN 7:56 HOST_A
+A < LOGGED_IN 7:36 WELCOME
+A > TEST_UNIT_READY
+A < CHECK_CONDITION 0012 70000600000000 0A00000000 2900 00000000
+A > TEST_UNIT_READY
+A < GOOD
+desks close
+A > TEST_UNIT_READY
+A < GOOD 3:08
+A > WRITE 5:000200 pattern 512
+A < GOOD 3:08
+A > TEST_UNIT_READY 9:01
+A < GOOD 3:08
+A > LOGOUT
+A < LOGGED_OUT
+A over
+0 shows 4
+"#;
+
+#[test]
+fn what_hangs_holds_no_other_unit_and_closed_desks_are_busy(rt: HostRuntime) -> Result<(), Fail> {
+    run_each(&rt, rt.alloc(), &[HELD, STUCK, CROWDED, QUEUED, CLOSED])
+}

@@ -1,0 +1,46 @@
+//! Tests of the portals over the loopback: an array, its portals and its initiators in threads of one process. Each test is a
+//! script of what the initiators do and are answered.
+#![tactic(auto)]
+
+#[cfg(test)]
+mod array;
+#[cfg(test)]
+mod behind;
+#[cfg(test)]
+mod discovery;
+#[cfg(test)]
+mod failing;
+#[cfg(test)]
+mod fencing;
+#[cfg(test)]
+mod gone;
+#[cfg(test)]
+mod hanging;
+#[cfg(test)]
+mod held;
+#[cfg(test)]
+mod host;
+#[cfg(test)]
+mod lanes;
+#[cfg(test)]
+mod latch;
+#[cfg(test)]
+mod logins;
+#[cfg(test)]
+mod medium;
+#[cfg(test)]
+mod no_room;
+#[cfg(test)]
+mod restart;
+#[cfg(test)]
+mod stage;
+#[cfg(test)]
+mod streams;
+#[cfg(test)]
+mod tally;
+#[cfg(test)]
+mod units;
+#[cfg(test)]
+mod wanting;
+#[cfg(test)]
+mod worked;

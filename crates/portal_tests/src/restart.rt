@@ -1,0 +1,99 @@
+//! An array over a file that is ended while a session is open, and started again at the same ports.
+use crate::array::{Script, perform};
+use crate::latch::Latch;
+use crate::units::{Faults, NO_FAULTS, over_file};
+use std::alloc::Global;
+use std::fs::File;
+use std::marker::Brand;
+use std::net::{Net, TcpListener, TcpStream};
+use std::process::{Abort, Process};
+use std::rt::Files;
+use std::sync::Wait;
+use std::test::*;
+use std::thread::Threads;
+use std::time::Clock;
+use std::{fs, process};
+
+/// An array that fails so while hosts perform a script, and, started again, does not while they perform another. By its name
+/// its file is found.
+#[derive(Clone, Copy, Debug)]
+pub struct Story<'a> {
+    pub name: &'a str,
+    pub faults: Faults,
+    pub before: &'a str,
+    pub after: &'a str,
+}
+
+/// Runs it over a file of 16 blocks of zeros.
+pub fn run_twice<
+    R: Threads
+        + Wait
+        + Clock
+        + Abort
+        + Net<Listener = TcpListener, Stream = TcpStream>
+        + Files<File = File>
+        + Clone
+        + Drop
+        + Send
+        + Sync
+        + 'static,
+>(rt: &R, alloc: Global, process: Process, story: &Story<'_>) -> Result<(), Fail> {
+    let id = process::id(process);
+    let name = format!(in alloc; "/tmp/arrayd_{id}_{}", story.name)?;
+    let path = name.as_str();
+    File::create(rt, path)?.set_len(8192)?;
+    let disk = Latch::open(rt.clone()?);
+    let (units, lock) = over_file(rt, alloc, path, story.faults)?;
+    let before = Script::new(story.before);
+    let (ports, hosts) = perform::<Brand, _, _, _, R>(rt, alloc, units, &disk, &before)?;
+    drop(lock);
+    let (units, _lock) = over_file(rt, alloc, path, NO_FAULTS)?;
+    let again = Script {
+        ports,
+        ..Script::new(story.after)
+    };
+    let _ended = perform::<Brand, _, _, _, R>(rt, alloc, units, &disk, &again)?;
+    drop(hosts);
+    fs::remove_file(rt, path)?;
+    fs::remove_file(rt, format!(in alloc; "{path}.reg")?.as_str())?;
+    Ok(())
+}
+
+// REGISTER of 11h with APTPL, and WRITE (10) of block 5
+const BEFORE: &str = r#"
+A at 1
+A > LOGIN 7:56 HOST_A
+A < LOGGED_IN 7:36 WELCOME
+A > TEST_UNIT_READY
+A < CHECK_CONDITION 0012 70000600000000 0A00000000 2900 00000000
+A > WRITE 7:18 20:00000018 32:5F000000000000001800 0000000000000000 0000000000000011 00000000 01000000
+A < GOOD
+A > WRITE 5:000200 pattern 512
+A < GOOD
+"#;
+
+// READ KEYS, whose generation is 0 again, and READ (10)
+const AFTER: &str = r#"
+B at 2
+B > LOGIN 7:56 HOST_B
+B < LOGGED_IN 7:36 WELCOME_2
+B > TEST_UNIT_READY
+B < CHECK_CONDITION 0012 70000600000000 0A00000000 2900 00000000
+B > TEST_UNIT_READY 1:C1 20:00000010 32:5E000000000000001000
+B < DATA_IN 7:10 00000000 00000008 0000000000000011
+B < GOOD 36:00000001
+B > TEST_UNIT_READY 1:C1 20:00000200 32:28000000000500000100
+B < DATA_IN 5:000200 pattern 512
+B < GOOD 36:00000001
+"#;
+
+#[test]
+fn registrations_are_there_after_a_restart(rt: HostRuntime) -> Result<(), Fail> {
+    let story = Story {
+        name: "restart",
+        faults: NO_FAULTS,
+        before: BEFORE,
+        after: AFTER,
+    };
+    run_twice(&rt, rt.alloc(), rt.process(), &story)
+}

@@ -1,0 +1,67 @@
+//! The worked examples of a session, with its input whole, in pieces, and ended anywhere.
+use crate::row::rows_of;
+use crate::run::{WORDS, run, serve};
+use session::End;
+use std::test::*;
+use test_streams::WHOLE;
+
+// TEST UNIT READY; WRITE (10) of block 5 with 512 bytes 5Ah; READ (10) of it.
+const THREE_COMMANDS: &str = r#"
+three commands
+> TEST_UNIT_READY
+> TEST_UNIT_READY 1:A1 5:000200 16:00000002000002000000000200000002 32:2A0000000005000001 512*5A
+> TEST_UNIT_READY 1:C1 16:00000003000002000000000300000003 32:280000000005000001
+< GOOD
+< GOOD 16:00000002 24:000000020000000300000022
+< DATA_IN 5:000200 16:00000003 24:000000000000000400000023 512*5A
+< GOOD 16:00000003 24:00000003000000040000002300000001
+written 5 5A
+"#;
+
+const ROWS: &str = r#"
+TEST UNIT READY
+> TEST_UNIT_READY
+< GOOD
+
+# WRITE (10) of block 7, for which 1024 bytes are announced and 512 come: U, and 512 of them are left.
+more announced than needed
+> TEST_UNIT_READY 1:A1 5:000200 20:00000400 32:2A0000000007000001 512*5A
+< GOOD 1:82 44:00000200
+written 7 5A
+
+# The same with 256 bytes: O, INVALID FIELD IN CDB, and nothing is written.
+less announced than needed
+> TEST_UNIT_READY 1:A1 5:000100 20:00000100 32:2A0000000007000001 256*5A
+< CHECK_CONDITION 1:84 44:00000100 0012700005000000000A00000000240000000000
+"#;
+
+#[test]
+fn in_all_pieces(rt: HostRuntime) -> Result<(), Fail> {
+    run(&rt, rt.alloc(), THREE_COMMANDS)?;
+    run(&rt, rt.alloc(), ROWS)
+}
+
+// The PDUs of the input end behind its bytes 48, 608 and 656, and their answers behind 48, 96 and 704.
+#[test]
+fn an_input_that_ends_anywhere(rt: HostRuntime) -> Result<(), Fail> {
+    let alloc = rt.alloc();
+    let rows = rows_of(alloc, THREE_COMMANDS, WORDS)?;
+    let row = rows.first().ok_or("a row")?;
+    let stream = row.stream(0)?;
+    for came in 0..=656usize {
+        let answered = match came {
+            0..=47 => 0,
+            48..=607 => 48,
+            608..=655 => 96,
+            _ => 704,
+        };
+        let written: &[(u32, u8)] = if came < 608 { &[] } else { &row.written };
+        let front = stream.input.bytes.get(..came).ok_or("656 bytes")?;
+        let want = stream.output.get(..answered).ok_or("704 bytes")?;
+        let (end, sent, kept) = serve(alloc, front, WHOLE, row.fuse, (16, written))?;
+        assert_eq!(rt; end, End::EndOfInput, "after {came} bytes");
+        assert_eq!(rt; sent.as_slice(), want, "after {came} bytes");
+        assert!(rt; kept, "after {came} bytes");
+    }
+    Ok(())
+}

@@ -1,0 +1,132 @@
+//! The runner of the tables of one session over one unit.
+use crate::row::{Fuse, Row, rows_of};
+use block_file::{Blocks, DeviceFailed, FusedBlocks, MemBlocks};
+use session::{End, Identity, Watched};
+use std::alloc::Global;
+use std::net::{Ipv4Addr, SocketAddrV4};
+use std::process::Abort;
+use std::test::Fail;
+use targets::once::once;
+use test_streams::{Calls, FakeReader, FakeWriter, ONE_BYTE, WHOLE};
+
+/// The name of the target.
+pub const TARGET_NAME: &[u8] = b"iqn.2000-01.test:array";
+
+/// How many blocks the unit has.
+pub const BLOCKS: u32 = 2048;
+
+/// How many it has where an input is cut at each place: more than these rows write, in less time.
+const FEW_BLOCKS: u32 = 16;
+
+/// The words of these tables.
+pub const WORDS: &[&str] = &["fails", "lands", "all-blocks"];
+
+/// The one portal of a controller, at this port of the host itself.
+pub fn portal(port: u16) -> [SocketAddrV4; 1] {
+    [SocketAddrV4::new(Ipv4Addr::new(127, 0, 0, 1), port)]
+}
+
+// What a device holds at a place, where it can be read.
+fn block_at<B: Blocks>(device: &mut B, index: u32) -> Option<[u8; 512]> {
+    if index >= device.count() {
+        return None;
+    }
+    let mut block = [0xEE; 512];
+    match device.read_run(index, &mut block) {
+        Ok(()) => Some(block),
+        Err(DeviceFailed) => None,
+    }
+}
+
+// What all bytes of a block are: where it was not written, 0.
+fn byte_of(written: &[(u32, u8)], index: u32) -> u8 {
+    for i in 0..written.len() {
+        if written[i].0 == index {
+            return written[i].1;
+        }
+    }
+    0
+}
+
+// Whether the device has so many blocks, these of them of this byte, and all others of zeros.
+fn keeps<B: Blocks>(device: &mut B, count: u32, written: &[(u32, u8)]) -> bool {
+    for index in 0..count {
+        let byte = byte_of(written, index);
+        if block_at(device, index) != Some([byte; 512]) {
+            return false;
+        }
+    }
+    device.count() == count
+}
+
+/// Serves this input, which comes in these pieces, over so many blocks of zeros that fail so: the end, the output, and
+/// whether just these blocks are written.
+pub fn serve(
+    alloc: Global,
+    input: &[u8],
+    reads: Calls,
+    fuse: Fuse,
+    (count, written): (u32, &[(u32, u8)]),
+) -> Result<(End, Vec<u8>, bool), Fail> {
+    if count == 0 {
+        return Err("a unit of one block at least".into());
+    }
+    let blocks = MemBlocks::new(alloc, count)?;
+    let fused = FusedBlocks::inside(blocks, fuse.calls, fuse.lands);
+    let mut source = Watched::new(FakeReader::new(input, reads));
+    let mut sink = Watched::new(FakeWriter::new(alloc, WHOLE));
+    let me = Identity {
+        target_name: TARGET_NAME,
+        first: &portal(3260),
+        second: &portal(3264),
+    };
+    let (end, device, _registrations) = once(alloc, &mut source, &mut sink, fused, &me)?;
+    let kept = keeps(&mut device.into_inner(), count, written);
+    Ok((end, sink.into_inner().into_bytes(), kept))
+}
+
+// Serves a row in these pieces, and compares.
+fn compare(
+    rt: &impl Abort,
+    alloc: Global,
+    row: &Row<'_>,
+    reads: Calls,
+    count: u32,
+) -> Result<(), Fail> {
+    let stream = row.stream(0)?;
+    let input = stream.input.bytes.as_slice();
+    let (end, output, kept) = serve(alloc, input, reads, row.fuse, (count, &row.written))?;
+    expect_end(rt, alloc, end, (row.name, stream.end()))?;
+    assert_eq!(rt; output.as_slice(), stream.output.as_slice(), "{}", row.name);
+    assert!(rt; kept, "{}", row.name);
+    Ok(())
+}
+
+/// A stream of this row ended so, as `Debug` spells it.
+pub fn expect_end(
+    rt: &impl Abort,
+    alloc: Global,
+    end: End,
+    (name, want): (&str, &str),
+) -> Result<(), Fail> {
+    let end = format!(in alloc; "{end:?}")?;
+    assert_eq!(rt; end.as_str(), want, "{name}");
+    Ok(())
+}
+
+/// Serves each row with its input whole, in single bytes, and cut after each byte, and compares.
+pub fn run(rt: &impl Abort, alloc: Global, table: &str) -> Result<(), Fail> {
+    for row in &rows_of(alloc, table, WORDS)? {
+        compare(rt, alloc, row, WHOLE, BLOCKS)?;
+        compare(rt, alloc, row, ONE_BYTE, BLOCKS)?;
+        let places = if row.all_blocks {
+            0
+        } else {
+            row.stream(0)?.input.bytes.len()
+        };
+        for first in 1..places {
+            compare(rt, alloc, row, Calls { first, ..WHOLE }, FEW_BLOCKS)?;
+        }
+    }
+    Ok(())
+}
