@@ -24,7 +24,7 @@ impl Session {
         ensures on { OnPdu self.old (Header.Initiator (InitiatorHeader.NopOut request)) bytes.now (said result) self.new }
         ensures within { AreInReach result.pdus }
     {
-        let verdict = self.verdict(request.immediate, request.numbers.cmd_sn, false);
+        let verdict = self.verdict(request.immediate, request.numbers.cmd_sn, self.is_open(request.task_tag));
         match self.turned_away(verdict) {
             Some(sending) => sending,
             None => self.answer_nop_out(request, bytes),
@@ -53,7 +53,7 @@ impl Session {
             self.new }
         ensures within { AreInReach result.pdus }
     {
-        let refused = is_part(&request) || !text.is_made;
+        let refused = is_part(&request) || !text.is_made || self.is_open(request.task_tag);
         let verdict = self.verdict(request.immediate, request.numbers.cmd_sn, refused);
         match self.turned_away(verdict) {
             Some(sending) => sending,
@@ -83,7 +83,7 @@ impl Session {
             → OnPdu self.old (Header.Initiator (InitiatorHeader.TaskManagementRequest request)) d (step_of result) self.new }
         ensures within { AreInReach (pdus_of result) }
     {
-        let refused = self.discovers();
+        let refused = self.discovers() || self.is_open(request.task_tag);
         let verdict = self.verdict(request.immediate, request.numbers.cmd_sn, refused);
         match self.turned_away(verdict) {
             Some(sending) => Actions::Send(sending),
@@ -138,7 +138,7 @@ impl Session {
             → OnPdu self.old (Header.Initiator (InitiatorHeader.LogoutRequest request)) d (said result) self.new }
         ensures within { AreInReach result.pdus }
     {
-        let verdict = self.verdict(request.immediate, request.numbers.cmd_sn, false);
+        let verdict = self.verdict(request.immediate, request.numbers.cmd_sn, self.is_open(request.task_tag));
         match self.turned_away(verdict) {
             Some(sending) => sending,
             None => self.answer_logout(request),

@@ -16,7 +16,7 @@ ghost use Rattle.session_rules.specs.Tasks.{Collecting};
 ghost use Rattle.session_rules.specs.Standing.{window_of};
 ghost use Rattle.full_feature.specs.Counters.{Counters, begun, after_number, after_collecting, next_numbers};
 ghost use Rattle.session_rules.specs.TaskManagement.{IsManagement};
-ghost use Rattle.session_rules.specs.Verdict.{reason_of, window_verdict};
+ghost use Rattle.session_rules.specs.Verdict.{is_open, reason_of, window_verdict};
 ghost use Rattle.pdu_stream.specs.Pdus.{AreInReach, out_of};
 ghost use Rattle.full_feature.specs.AnswerPdus.{reply_with};
 
@@ -199,6 +199,13 @@ impl Session {
         ensures { result ≡ discovers self.now.setting.kind }
     {
         discovers(self.kind)
+    }
+
+    /// Whether a command that waits for its data has this task tag.
+    pub(crate) fn is_open(&self, task_tag: u32) -> bool
+        ensures { result ≡ is_open self.now.standing task_tag }
+    {
+        self.waiting.has(task_tag)
     }
 
     /// What a request for task management comes to. The commands that it drops wait for their data no more.

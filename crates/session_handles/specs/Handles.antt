@@ -3,7 +3,6 @@ use Rattle.std.specs.Prelude.{◌≡◌, ◌⊎◌, ℕ, ◌<◌, ◌≤◌, Boo
 use Rattle.std.specs.List.{list_any}
 use Rattle.login.specs.declared.status.Kind.{Kind}
 use Rattle.login.specs.declared.status.Kind.TheVariants.{Normal, Discovery}
-use Rattle.session_handles.specs.declared.handles.TheConstants.{LAST_TSIH}
 
 abbrev pub same_kind : Kind → Kind → Bool
 same_kind Normal Normal = true
@@ -20,19 +19,23 @@ has_tsih handle live tsih = list_any (λ s. nat_eq (handle s) tsih) live
 abbrev pub IsBetween : ℕ → ℕ → ℕ → Type 0
 IsBetween from tsih to = ((from < tsih) × (tsih < to)) ⊎ ((to ≤ from) × ((from < tsih) ⊎ (tsih < to)))
 
+-- the greatest TSIH, of two bytes (RFC 7143, 11.12.9); 0 names no session
+abbrev pub last_tsih : ℕ
+last_tsih = 0xFFFF
+
 -- a TSIH, the first behind the one that was given last that no session has
 pub record IsNextTsih {S : Type 0} (handle : S → ℕ) (last : ℕ) (live : List S) (tsih : ℕ) : Type 0 where
   pub least : 0 < tsih
-  pub greatest : tsih ≤ LAST_TSIH
+  pub greatest : tsih ≤ last_tsih
   pub free : has_tsih handle live tsih ≡ false
-  pub first : (t : ℕ) → 0 < t → t ≤ LAST_TSIH → IsBetween last t tsih → has_tsih handle live t ≡ true
+  pub first : (t : ℕ) → 0 < t → t ≤ last_tsih → IsBetween last t tsih → has_tsih handle live t ≡ true
 
 -- each of these has its session: those above one and up to another, and all
 abbrev pub AreTaken : {S : Type 0} → (S → ℕ) → List S → ℕ → ℕ → Type 0
 AreTaken handle live above to = (t : ℕ) → above < t → t ≤ to → has_tsih handle live t ≡ true
 
 abbrev pub AreAllTaken : {S : Type 0} → (S → ℕ) → List S → Type 0
-AreAllTaken handle live = AreTaken handle live 0 LAST_TSIH
+AreAllTaken handle live = AreTaken handle live 0 last_tsih
 
 -- the first of these that has none
 pub record IsFirstFree {S : Type 0} (handle : S → ℕ) (live : List S) (above to tsih : ℕ) : Type 0 where

@@ -12,7 +12,7 @@ use Rattle.session_rules.specs.{Window.wrap, Window.ahead, Window.takes_number, 
 use Rattle.session_rules.specs.Collecting.{shrinks_window, is_immediate}
 use Rattle.session_rules.specs.{Legal.AtEach, Legal.HaveWindow, Legal.Lawful, Tasks.touches, Tasks.ends, Tasks.through, Tasks.Task}
 use Rattle.session_rules.specs.{Tasks.accepted_command, Tasks.begun_by, Tasks.tasks, Tasks.has_ended, Tasks.Collecting, Tasks.collected}
-use Rattle.session_rules.specs.{Tasks.collecting_of, Verdict.IsJudged, Verdict.window_verdict, Verdict.is_refused, Verdict.unless_full}
+use Rattle.session_rules.specs.{Tasks.collecting_of, Verdict.IsJudged, Verdict.window_verdict, Verdict.is_open, Verdict.is_refused, Verdict.unless_full}
 use Rattle.session_rules.specs.Standing.{Standing, standing, numbered_waiting, window_size, last_in_window}
 use Rattle.session_rules.specs.Following.{HaveMaxCmdSn, numbers_taken, waiting_in, window_end, unless_immediate, number_in}
 
@@ -168,14 +168,15 @@ command_bit s v false full c refused e = by_bit s v false c refused e
 
 pub judged_by : (m : Setting) (s : Standing) (came : Incoming) (v : Verdict) → IsJudged m s came v
     → IsJudgedBy s v (is_numbered came) (number_in came)
-judged_by m s (pdu b (Initiator (NopOut p)) d) v k = by_bit s v p.immediate p.numbers.cmd_sn false k
+judged_by m s (pdu b (Initiator (NopOut p)) d) v k = by_bit s v p.immediate p.numbers.cmd_sn (is_open s p.task_tag) k
 judged_by m s (pdu b (Initiator (ScsiCommand p)) d) v k =
     command_bit s v p.immediate (list_any is_immediate s.collecting) p.numbers.cmd_sn
     (discovers m.kind || is_refused m.start.lengths s p d) k
-judged_by m s (pdu b (Initiator (LogoutRequest p)) d) v k = by_bit s v p.immediate p.numbers.cmd_sn false k
+judged_by m s (pdu b (Initiator (LogoutRequest p)) d) v k = by_bit s v p.immediate p.numbers.cmd_sn (is_open s p.task_tag) k
 judged_by m s (pdu b (Initiator (TaskManagementRequest p)) d) v k =
-    by_bit s v p.immediate p.numbers.cmd_sn (discovers m.kind) k
-judged_by m s (pdu b (Initiator (TextRequest p)) d) v k = by_bit s v p.immediate p.numbers.cmd_sn (is_text_refused m p d) k
+    by_bit s v p.immediate p.numbers.cmd_sn (discovers m.kind || is_open s p.task_tag) k
+judged_by m s (pdu b (Initiator (TextRequest p)) d) v k =
+    by_bit s v p.immediate p.numbers.cmd_sn (is_text_refused m p d || is_open s p.task_tag) k
 judged_by m s came v k = inl (refl, refl)
 
 -- a numbered PDU that is accepted found the window open

@@ -13,12 +13,17 @@ use Rattle.session_rules.specs.Codes.{reserved_tag, protocol_error, command_not_
 abbrev pub most_immediate : Lengths → ℕ
 most_immediate l = if l.immediate_data then l.first_burst else 0
 
--- a SCSI Command with the reserved tag, or with the tag of one that waits for data, or with more immediate data than the
--- length that it expects or than may come with a command
+-- A task tag is one of a session's own among the tasks that are outstanding (RFC 7143, 4.2.2.1 and 11.2.1.8): that of a
+-- command which waits for data is open.
+abbrev pub is_open : Standing → ℕ → Bool
+is_open s tag = list_any (has_tag tag) s.collecting
+
+-- a SCSI Command with the reserved tag, or with one that is open, or with more immediate data than the length that it
+-- expects or than may come with a command
 abbrev pub is_refused : Lengths → Standing → CommandHeader → List ℕ → Bool
 is_refused l s p d =
     (p.task_tag == reserved_tag)
-    || list_any (has_tag p.task_tag) s.collecting
+    || is_open s p.task_tag
     || nat_lt (expected_transfer p) (length d)
     || nat_lt (most_immediate l) (length d)
 
@@ -53,13 +58,15 @@ IsJudgedData s x d v =
 
 -- what becomes of a PDU: a kind that is not served, and a PDU of a target, count as an unknown opcode
 abbrev pub IsJudgedPdu : Setting → Standing → Header → List ℕ → Verdict → Type 0
-IsJudgedPdu m s (Initiator (NopOut p)) d v = v ≡ window_verdict s p.immediate p.numbers.cmd_sn false
+IsJudgedPdu m s (Initiator (NopOut p)) d v = v ≡ window_verdict s p.immediate p.numbers.cmd_sn (is_open s p.task_tag)
 IsJudgedPdu m s (Initiator (ScsiCommand p)) d v = v ≡ verdict_of m s p d
-IsJudgedPdu m s (Initiator (TaskManagementRequest p)) d v = v ≡ window_verdict s p.immediate p.numbers.cmd_sn (discovers m.kind)
+IsJudgedPdu m s (Initiator (TaskManagementRequest p)) d v =
+    v ≡ window_verdict s p.immediate p.numbers.cmd_sn (discovers m.kind || is_open s p.task_tag)
 IsJudgedPdu m s (Initiator (LoginRequest p)) d v = v ≡ Refused protocol_error
-IsJudgedPdu m s (Initiator (TextRequest p)) d v = v ≡ window_verdict s p.immediate p.numbers.cmd_sn (is_text_refused m p d)
+IsJudgedPdu m s (Initiator (TextRequest p)) d v =
+    v ≡ window_verdict s p.immediate p.numbers.cmd_sn (is_text_refused m p d || is_open s p.task_tag)
 IsJudgedPdu m s (Initiator (DataOut p)) d v = IsJudgedData s p d v
-IsJudgedPdu m s (Initiator (LogoutRequest p)) d v = v ≡ window_verdict s p.immediate p.numbers.cmd_sn false
+IsJudgedPdu m s (Initiator (LogoutRequest p)) d v = v ≡ window_verdict s p.immediate p.numbers.cmd_sn (is_open s p.task_tag)
 IsJudgedPdu m s (Target p) d v = v ≡ Refused command_not_supported
 
 abbrev pub reason_of : PduFault → ℕ

@@ -87,6 +87,46 @@ the tag of a write that waits, in an immediate command
 < R2T 42:20
 < REJECT 2:04 31:02 rejected TEST_UNIT_READY 0:41
 end Protocol
+
+the tag of a write that waits, in a NOP-Out
+> WRITE 6:2000 20:00002200 40:11 pattern 8192
+> NOP_OUT 27:02
+> TEST_UNIT_READY 19:09 24:00000002
+< R2T 42:20
+< REJECT 2:04 31:02 rejected NOP_OUT 27:02
+end Protocol
+
+the tag of a write that waits, in an immediate NOP-Out
+> WRITE 6:2000 20:00002200 40:11 pattern 8192
+> NOP_OUT 0:40
+> TEST_UNIT_READY 19:09 24:00000002
+< R2T 42:20
+< REJECT 2:04 31:02 rejected NOP_OUT 0:40
+end Protocol
+
+the tag of a write that waits, in a Text Request that would be answered
+> WRITE 6:2000 20:00002200 40:11 pattern 8192
+> TEXT_REQUEST 6:000D 27:02 "SendTargets=\0"
+> TEST_UNIT_READY 19:09 24:00000002
+< R2T 42:20
+< REJECT 2:04 31:02 rejected TEXT_REQUEST 6:000D 27:02
+end Protocol
+
+the tag of a write that waits, in an ABORT TASK of that write
+> WRITE 6:2000 20:00002200 40:11 pattern 8192
+> TASK_REQUEST 0:4281 23:01
+> TEST_UNIT_READY 19:09 24:00000002
+< R2T 42:20
+< REJECT 2:04 31:02 rejected TASK_REQUEST 0:4281 23:01
+end Protocol
+
+the tag of a write that waits, in a Logout
+> WRITE 6:2000 20:00002200 40:11 pattern 8192
+> LOGOUT 27:02
+> TEST_UNIT_READY 19:09 24:00000002
+< R2T 42:20
+< REJECT 2:04 31:02 rejected LOGOUT 27:02
+end Protocol
 ";
 
 #[test]

@@ -11,7 +11,7 @@ use Rattle.scsi_types.specs.ReplyValue.{ReplyValue}
 use Rattle.scsi_types.specs.declared.names.Group.{Group}
 use Rattle.scsi_types.specs.declared.command.Command.{Command as ScsiCommand}
 use Rattle.scsi_types.specs.declared.command.CdbFault.{CdbFault}
-use Rattle.unit_state.specs.declared.control.TheConstants.{LAST_COUNT}
+use Rattle.unit_state.specs.Limits.{last_length}
 use Rattle.session_rules.specs.declared.target.ResetAnswer.{ResetAnswer}
 use Rattle.session_rules.specs.declared.target.ResetAnswer.TheVariants as resets
 use Rattle.session_rules.specs.declared.target.TargetAnswer.{TargetAnswer}
@@ -27,10 +27,10 @@ use Rattle.targets.specs.OneUnit.{Call, Device, TargetValue, IsSame, IsCommand, 
 -- one that has its serial and is gone has no room
 pub gone_late : (c : ControlValue) (session serial : ℕ) → next_of c.sessions session ≡ Some serial
     → (IsNext c session serial → ⊥)
-    → LAST_COUNT ≤ c.count
+    → last_length ≤ c.count
 gone_late c session serial next gone =
-    ⊎_elim (λ (lt : c.count < LAST_COUNT). absurd (gone (record { room = lt; next = next })))
-    (λ (le : LAST_COUNT ≤ c.count). le) (cases_lt c.count LAST_COUNT)
+    ⊎_elim (λ (lt : c.count < last_length). absurd (gone (record { room = lt; next = next })))
+    (λ (le : last_length ≤ c.count). le) (cases_lt c.count last_length)
 
 -- behind a command its serial is the next again
 pub ready_next : (c new : ControlValue) (session serial : ℕ) (by_group : Group) (asked : Result ScsiCommand CdbFault)
@@ -75,11 +75,11 @@ is_attached (Some a) serial next = refl
 
 pub reset_late : (c : ControlValue) (session serial : ℕ) → next_of c.sessions session ≡ Some serial
     → (IsAttached c session → ⊥)
-    → LAST_COUNT ≤ c.count
+    → last_length ≤ c.count
 reset_late c session serial next gone =
-    ⊎_elim (λ (lt : c.count < LAST_COUNT). absurd
+    ⊎_elim (λ (lt : c.count < last_length). absurd
     (gone (record { room = lt; attached = is_attached (session_of c.sessions session) serial next })))
-    (λ (le : LAST_COUNT ≤ c.count). le) (cases_lt c.count LAST_COUNT)
+    (λ (le : last_length ≤ c.count). le) (cases_lt c.count last_length)
 
 -- ---- what a target answered
 

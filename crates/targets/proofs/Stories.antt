@@ -29,7 +29,7 @@ use Rattle.session_rules.specs.Phases.{Exchange, exchanges, of_login, of_turn, i
 use Rattle.session_rules.specs.Setting.{setting_of}
 use Rattle.session.specs.Transcript.{Written, IsTranscribed}
 use Rattle.session_rules.specs.Turn.{Spells, Leads}
-use Rattle.unit_state.specs.declared.control.TheConstants.{LAST_COUNT}
+use Rattle.unit_state.specs.Limits.{last_length}
 use Rattle.unit_state.specs.State.{ControlValue, UnitState, UnitValue, state_of}
 use Rattle.unit_state.specs.Choice.{Choice, Fine, ReadFailed, WriteFailed, OpenFailed, SaveFailed, IsFine, choice_of}
 use Rattle.unit_state.specs.Entry.{Entry, Reset, Command, IsAttached, IsPossible, IsReplyTo, control_after, blocks_after, after}
@@ -265,7 +265,7 @@ module _ {B : Type 0} (d : Device B) (f : Device MemBlocks) where
 
   next : (unit : Option ℕ) (asked : Result ScsiCommand CdbFault) (bytes : List ℕ) (a : TargetAnswer)
       (cs : List Asking) (s : UnitState) (x mid x' : TargetValue B) → x.at.session ≡ 0 → Matches s x
-      → IsAnsweredBy (LAST_COUNT ≤ x.unit.control.count) d f x (record { unit = unit; asked = asked; bytes = bytes }) a mid
+      → IsAnsweredBy (last_length ≤ x.unit.control.count) d f x (record { unit = unit; asked = asked; bytes = bytes }) a mid
       → ((s' : UnitState) → mid.at.session ≡ 0 → Matches s' mid → Story s' mid x' cs)
       → Story s x x' (served unit asked bytes a ∷ cs)
   next unit asked bytes (Replied reply) cs s x mid x' zero_is m led rest =
@@ -318,7 +318,7 @@ module _ {B : Type 0} (d : Device B) (f : Device MemBlocks) where
       (rest s (led.1.session ∙ zero_is) (same_unit s x mid led.1.unit m))
   next unit asked bytes Gone cs s x mid x' zero_is m led rest =
       past s x mid x' cs (served unit asked bytes Gone) refl
-      (led.0, subst (λ (c : ControlValue). LAST_COUNT ≤ c.count) (sym m.control) led.2) refl led.1
+      (led.0, subst (λ (c : ControlValue). last_length ≤ c.count) (sym m.control) led.2) refl led.1
       (rest s (led.1.session ∙ zero_is) (same_unit s x mid led.1.unit m))
 
   -- ---- a reset is the next entry
@@ -333,7 +333,7 @@ module _ {B : Type 0} (d : Device B) (f : Device MemBlocks) where
 
   reset_next : (unit : ℕ) (a : ResetAnswer) (cs : List Asking) (s : UnitState) (x mid x' : TargetValue B)
       → x.at.session ≡ 0 → Matches s x
-      → IsResetBy (LAST_COUNT ≤ x.unit.control.count) x unit a mid
+      → IsResetBy (last_length ≤ x.unit.control.count) x unit a mid
       → ((s' : UnitState) → mid.at.session ≡ 0 → Matches s' mid → Story s' mid x' cs) → Story s x x' (reset unit a ∷ cs)
   reset_next unit resets.Done cs s x mid x' zero_is m led rest =
       let done = led.1 in
@@ -363,7 +363,7 @@ module _ {B : Type 0} (d : Device B) (f : Device MemBlocks) where
       }
   reset_next unit resets.Gone cs s x mid x' zero_is m led rest =
       past s x mid x' cs (reset unit resets.Gone) refl
-      (led.0, subst (λ (c : ControlValue). LAST_COUNT ≤ c.count) (sym m.control) led.2) refl led.1
+      (led.0, subst (λ (c : ControlValue). last_length ≤ c.count) (sym m.control) led.2) refl led.1
       (rest s (led.1.session ∙ zero_is) (same_unit s x mid led.1.unit m))
   reset_next unit resets.Failed cs s x mid x' zero_is m led rest =
       past s x mid x' cs (reset unit resets.Failed) refl led.0 refl led.1 (rest s (led.1.session

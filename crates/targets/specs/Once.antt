@@ -30,7 +30,7 @@ use Rattle.session_rules.specs.Legal.{Lawful}
 use Rattle.session_rules.specs.Phases.{of_turn, incoming, asked}
 use Rattle.session_rules.specs.Ends.{EndsBy}
 use Rattle.session.specs.Transcript.{Written}
-use Rattle.unit_state.specs.declared.control.TheConstants.{LAST_COUNT}
+use Rattle.unit_state.specs.Limits.{last_length}
 use Rattle.unit_state.specs.State.{UnitState, opening}
 use Rattle.unit_state.specs.Choice.{Fine}
 use Rattle.unit_state.specs.Entry.{Entry, Attach, Detach, Reset, Move, Command, after}
@@ -129,9 +129,9 @@ IsAnswerable s (served unit asked bytes (Replied reply)) = unit ≡ Some 0
 IsAnswerable s (served unit asked bytes (Outside reply)) = (unit ≢ Some 0) × (reply ≡ absent_reply asked)
 IsAnswerable s (served unit asked bytes Busy) =
     IsBusy s.control 0 (record { unit = unit; asked = asked; bytes = bytes })
-IsAnswerable s (served unit asked bytes Gone) = (unit ≡ Some 0) × (LAST_COUNT ≤ s.control.count)
+IsAnswerable s (served unit asked bytes Gone) = (unit ≡ Some 0) × (last_length ≤ s.control.count)
 IsAnswerable s (reset unit resets.Done) = unit ≡ 0
-IsAnswerable s (reset unit resets.Gone) = (unit ≡ 0) × (LAST_COUNT ≤ s.control.count)
+IsAnswerable s (reset unit resets.Gone) = (unit ≡ 0) × (last_length ≤ s.control.count)
 IsAnswerable s (reset unit resets.Failed) = unit ≢ 0
 IsAnswerable s over = Unit {0}
 

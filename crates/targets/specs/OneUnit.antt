@@ -17,7 +17,7 @@ use Rattle.session_rules.specs.declared.target.TargetAnswer.{TargetAnswer}
 use Rattle.session_rules.specs.declared.target.TargetAnswer.TheVariants.{Replied, Outside, Busy, Gone}
 use Rattle.session_rules.specs.declared.target.ResetAnswer.{ResetAnswer}
 use Rattle.session_rules.specs.declared.target.ResetAnswer.TheVariants as resets
-use Rattle.unit_state.specs.declared.control.TheConstants.{LAST_COUNT}
+use Rattle.unit_state.specs.Limits.{last_length}
 use Rattle.unit_state.specs.State.{ControlValue, UnitValue, state_of, failures_of}
 use Rattle.unit_state.specs.Answer.{Lasts}
 use Rattle.unit_state.specs.Choice.{IsFine, choice_of}
@@ -166,7 +166,7 @@ IsResetBy late old unit resets.Failed new = (unit ≢ 0) × IsSame old new
 abbrev pub LeadsOn : {B : Type 0} → Device B → Device MemBlocks → TargetValue B → Asking → TargetValue B → Type 0
 LeadsOn d f old (began port kind answer) new = (answer ≡ Refused) × IsSame old new
 LeadsOn d f old (lives tsih port answer) new = (answer ≡ false) × IsSame old new
-LeadsOn d f old (served unit asked bytes answer) new = IsAnsweredBy (LAST_COUNT ≤ old.unit.control.count) d f old
+LeadsOn d f old (served unit asked bytes answer) new = IsAnsweredBy (last_length ≤ old.unit.control.count) d f old
     (record { unit = unit; asked = asked; bytes = bytes }) answer new
-LeadsOn d f old (reset unit answer) new = IsResetBy (LAST_COUNT ≤ old.unit.control.count) old unit answer new
+LeadsOn d f old (reset unit answer) new = IsResetBy (last_length ≤ old.unit.control.count) old unit answer new
 LeadsOn d f old over new = IsSame old new

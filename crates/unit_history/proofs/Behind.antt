@@ -15,7 +15,7 @@ use Rattle.scsi_types.specs.declared.names.Group.{Group}
 use Rattle.scsi_types.specs.declared.command.Command.{Command as ScsiCommand}
 use Rattle.scsi_types.specs.declared.command.CdbFault.{CdbFault}
 use Rattle.status.specs.Views.{counted, IsOwn}
-use Rattle.unit_state.specs.declared.control.TheConstants.{LAST_COUNT}
+use Rattle.unit_state.specs.Limits.{last_length}
 use Rattle.unit_state.specs.declared.sessions.Attached.{Attached}
 use Rattle.unit_state.specs.declared.unit.MoveFault.{MoveFault}
 use Rattle.unit_state.specs.declared.unit.MoveFault.TheVariants as faults
@@ -61,7 +61,7 @@ is_command i n g asked bytes choice = rw (same i) refl
 
 -- ---- the room of an entry
 
-room_of : (claims : Bool) (s : UnitState) (e : Entry) → IsPossible claims s e → s.control.count < LAST_COUNT
+room_of : (claims : Bool) (s : UnitState) (e : Entry) → IsPossible claims s e → s.control.count < last_length
 room_of claims s (Attach nexus) p = p.room
 room_of claims s (Detach i) p = p.room
 room_of claims s (Reset i) p = p.room
@@ -78,10 +78,10 @@ some_of None f = absurd (cc)
 some_of (Some n) f = (n, refl)
 
 gone_by : (c : ControlValue) (i : ℕ) (o : Option Attached) → session_of c.sessions i ≡ o → (IsAttached c i → ⊥)
-    → (session_of c.sessions i ≡ None) ⊎ (LAST_COUNT ≤ c.count)
+    → (session_of c.sessions i ≡ None) ⊎ (last_length ≤ c.count)
 gone_by c i None is n = inl is
 gone_by c i (Some a) is n =
-    let full : c.count < LAST_COUNT → ⊥ = λ room. n record { room = room; attached = rw is refl } in
+    let full : c.count < last_length → ⊥ = λ room. n record { room = room; attached = rw is refl } in
     inr (omega (arith, full))
 
 pub gone : (s : UnitState) (h : List Entry) (c : ControlValue) (i : ℕ) → c ≡ (state_after s h).control

@@ -7,7 +7,7 @@ use Rattle.scsi_types.specs.Nexus.{Nexus}
 use Rattle.scsi_types.specs.declared.names.Group.{Group}
 use Rattle.scsi_types.specs.declared.command.Command.{Command as ScsiCommand}
 use Rattle.scsi_types.specs.declared.command.CdbFault.{CdbFault}
-use Rattle.unit_state.specs.declared.control.TheConstants.{LAST_COUNT}
+use Rattle.unit_state.specs.Limits.{last_length}
 use Rattle.unit_state.specs.declared.unit.MoveFault.{MoveFault}
 use Rattle.unit_state.specs.declared.unit.MoveFault.TheVariants as faults
 use Rattle.unit_state.specs.State.{ControlValue, UnitState}
@@ -29,7 +29,7 @@ IsAbsent s history session = session_of (state_after s history).control.sessions
 
 -- behind it this session is not attached, or it has its last length
 abbrev pub IsGone : UnitState → List Entry → ℕ → Type 0
-IsGone s history session = IsAbsent s history session ⊎ (LAST_COUNT ≤ (state_after s history).control.count)
+IsGone s history session = IsAbsent s history session ⊎ (last_length ≤ (state_after s history).control.count)
 
 -- behind the history this group owns the unit
 abbrev pub IsOwner : UnitState → List Entry → Group → Type 0
@@ -42,7 +42,7 @@ WantsMemory s history session asked bytes = TakesMemory (state_after s history).
 -- The unit does not move as the list says: the history has its last length; the list is one that the access states cannot
 -- follow; or it changes the owner, and the blocks could not be opened for the other.
 abbrev pub StaysAt : ControlValue → List ℕ → MoveFault → Type 0
-StaysAt c list faults.Gone = LAST_COUNT ≤ c.count
+StaysAt c list faults.Gone = last_length ≤ c.count
 StaysAt c list (faults.List fault) = move_by c list ≡ Err fault
 StaysAt c list faults.OpenFailed = is_moved_by c.access (move_by c list) ≡ true
 
