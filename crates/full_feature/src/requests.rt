@@ -24,7 +24,11 @@ impl Session {
         ensures on { OnPdu self.old (Header.Initiator (InitiatorHeader.NopOut request)) bytes.now (said result) self.new }
         ensures within { AreInReach result.pdus }
     {
-        let verdict = self.verdict(request.immediate, request.numbers.cmd_sn, self.is_open(request.task_tag));
+        let verdict = self.verdict(
+            request.immediate,
+            request.numbers.cmd_sn,
+            self.is_open(request.task_tag),
+        );
         match self.turned_away(verdict) {
             Some(sending) => sending,
             None => self.answer_nop_out(request, bytes),
@@ -138,7 +142,11 @@ impl Session {
             → OnPdu self.old (Header.Initiator (InitiatorHeader.LogoutRequest request)) d (said result) self.new }
         ensures within { AreInReach result.pdus }
     {
-        let verdict = self.verdict(request.immediate, request.numbers.cmd_sn, self.is_open(request.task_tag));
+        let verdict = self.verdict(
+            request.immediate,
+            request.numbers.cmd_sn,
+            self.is_open(request.task_tag),
+        );
         match self.turned_away(verdict) {
             Some(sending) => sending,
             None => self.answer_logout(request),

@@ -1,4 +1,5 @@
 pub mod Entries
+pub mod Handles
 pub mod Live
 pub mod Passes
 pub mod Server

@@ -5,8 +5,8 @@ use Rattle.login.specs.declared.status.Kind.{Kind}
 use Rattle.reservations.specs.Nexus.{same_group, same_port}
 use Rattle.scsi_types.specs.Nexus.{Port, Nexus}
 use Rattle.portal.specs.declared.live.LiveSession.{LiveSession}
-use Rattle.session_handles.specs.Handles.{AreAllTaken, IsNextTsih, same_kind}
-use Rattle.session_handles.specs.declared.handles.TheConstants.{LAST_NUMBER}
+use Rattle.portal.specs.Handles.{AreAllTaken, IsNextTsih, same_kind}
+use Rattle.portal.specs.declared.handles.TheConstants.{LAST_NUMBER}
 use Rattle.portal.specs.declared.live.EnterFault.{EnterFault}
 use Rattle.portal.specs.declared.live.EnterFault.TheVariants as faults
 

@@ -4,9 +4,9 @@ ghost use Rattle.reservations.specs.Nexus.{through, same_port};
 ghost use Rattle.portal.specs.Live.{HasEntered, IsCauseOf, is_live, others, without};
 
 use crate::connection::Connection;
+use crate::handles::{Handled, LAST_NUMBER, next_tsih};
 use login::Kind;
 use scsi_types::{Group, PortName};
-use session_handles::{Handled, LAST_NUMBER, next_tsih};
 use std::alloc::{AllocError, Global};
 use std::marker::Model;
 use thiserror::Error;

@@ -1,33 +1,15 @@
 //! A session whose place another has taken, and whose connection did not end: what it asks is not served.
-ghost use Rattle.std.specs.Prelude.{◌≡◌, ◌≤◌, length};
-ghost use Rattle.unit_history.specs.Naming.{IsNamed};
-
-use crate::latch::Latch;
-use crate::units::two;
-use block_file::{Blocks, Opener};
+use crate::memory::{Played, Scene, play_alone};
 use login::Kind;
 use numbering::Array as Naming;
-use portal::{Connection, Controllers, Open, SessionTarget, TargetDevice};
-use scsi_types::{Group, decode};
+use scsi_types::{Command, decode};
 use session::{BeginAnswer, ResetAnswer, Target, TargetAnswer};
-use std::alloc::Global;
-use std::marker::Brand;
 use std::process::Abort;
-use std::sync::{Arc, Wait};
+use std::sync::Wait;
 use std::test::*;
-use unit_history::{NewUnit, Opened, Pass, Units};
+use unit_history::Opened;
 
-/// A connection that nothing ends.
-#[derive(Clone, Copy, Debug, Drop)]
-struct Endless;
-
-impl Connection for Endless {
-    fn shut(&self) {}
-
-    fn settle(&self) {}
-}
-
-// The initiator port of both sessions.
+// The initiator port of the sessions.
 const NAME: &[u8] = b"iqn.2000-01.test:a";
 
 const ISID: u64 = 0x4000_0137_0000;
@@ -40,69 +22,63 @@ fn status_of<T: Target>(target: &mut T) -> Option<u8> {
     }
 }
 
+// Whether neither a WRITE of block 5 nor a reset is served.
 fn is_gone<T: Target>(target: &mut T) -> bool {
-    matches!(
-        target.serve(Some(0), decode(&[0; 16]), &[]),
-        TargetAnswer::Gone
-    )
+    let write = Command::Write {
+        lba: 5,
+        blocks: 1,
+        fua: false,
+    };
+    let answer = target.serve(Some(0), Ok(write), &[0xFF; 512]);
+    matches!(answer, TargetAnswer::Gone) && target.reset(0) == ResetAnswer::Gone
 }
 
-// The first session begins, and then the second, of the same nexus.
-fn begin_both<T: Target, R: Abort>(rt: &R, first: &mut T, second: &mut T) {
+// Whether block 5 is of zeros.
+fn reads_zeros<T: Target>(target: &mut T) -> bool {
+    let read = Command::Read {
+        lba: 5,
+        blocks: 1,
+        fua: false,
+    };
+    match target.serve(Some(0), Ok(read), &[]) {
+        TargetAnswer::Replied(reply) => reply.bytes() == [0; 512].as_slice(),
+        _ => false,
+    }
+}
+
+// The first session begins, and then the second, of the same nexus, and one of discovery, which is attached to no unit.
+fn begin_all<T: Target, R: Abort>(rt: &R, first: &mut T, second: &mut T, found: &mut T) {
+    assert!(rt; is_gone(first));
     assert!(rt; first.begin(NAME, ISID, Kind::Normal) == BeginAnswer::Begun(1));
     assert!(rt; status_of(first) == Some(2));
     assert!(rt; status_of(first) == Some(0));
     assert!(rt; second.begin(NAME, ISID, Kind::Normal) == BeginAnswer::Begun(2));
+    assert!(rt; found.begin(NAME, ISID, Kind::Discovery) == BeginAnswer::Begun(3));
 }
 
 // The first one is over, and its end does not touch the second.
-fn compare<T: Target, R: Abort>(rt: &R, first: &mut T, second: &mut T) {
-    assert!(rt; is_gone(first));
-    assert!(rt; first.reset(0) == ResetAnswer::Gone);
-    assert!(rt; second.lives(2, NAME, ISID));
-    assert!(rt; !second.lives(1, NAME, ISID));
+fn compare<T: Target, R: Abort>(rt: &R, first: &mut T, second: &mut T, found: &mut T) {
+    assert!(rt; is_gone(first) && is_gone(found));
+    assert!(rt; second.lives(2, NAME, ISID) && second.lives(3, NAME, ISID));
+    assert!(rt; !second.lives(1, NAME, ISID) && !second.lives(2, NAME, 0));
     first.end();
     assert!(rt; status_of(second) == Some(2));
-    assert!(rt; status_of(second) == Some(0));
+    assert!(rt; reads_zeros(second));
     assert!(rt; second.reset(0) == ResetAnswer::Done);
     second.end();
-    assert!(rt; !second.lives(2, NAME, ISID));
+    assert!(rt; is_gone(second) && !second.lives(2, NAME, ISID));
 }
 
-fn begin_twice<N: Naming<Opened>, B: Blocks, F: Blocks, O: Opener<B>, R: Wait + Abort>(
-    rt: &R,
-    alloc: Global,
-    new: Vec<NewUnit<B, F, O>>,
-) -> Result<(), Fail>
-    requires named { IsNamed N.book N.table N.opening B.contents new.items }
-    requires count { length new.items ≤ 8 }
-{
-    let units = Units::<B, F, O, N>::new(rt, alloc, new)?;
-    let device = TargetDevice::new(alloc, Controllers::new(alloc, units)?, Open);
-    let mut first = SessionTarget::<
-        R,
-        Controllers<B, F, O, N>,
-        Open,
-        Endless,
-        Pass<B, F, O, N>,
-    >::new(rt, alloc, &device, Group::One, Endless);
-    let mut second = SessionTarget::<
-        R,
-        Controllers<B, F, O, N>,
-        Open,
-        Endless,
-        Pass<B, F, O, N>,
-    >::new(rt, alloc, &device, Group::One, Endless);
-    begin_both(rt, &mut first, &mut second);
-    compare(rt, &mut first, &mut second);
-    Ok(())
+/// Two sessions of one nexus, and one of discovery.
+pub fn the_older_session_is_gone<R: Wait + Abort, N: Naming<Opened>>(scene: &Scene<'_, R, N>) {
+    let mut first = scene.arrive();
+    let mut second = scene.arrive();
+    let mut found = scene.arrive();
+    begin_all(scene.rt, &mut first, &mut second, &mut found);
+    compare(scene.rt, &mut first, &mut second, &mut found);
 }
 
 #[test]
-fn the_older_session_is_gone(rt: HostRuntime) -> Result<(), Fail> {
-    let Ok(disk) = Arc::new(rt.alloc(), Latch::open(rt)) else {
-        return Err("no memory".into());
-    };
-    let units = two(rt.alloc(), &disk)?;
-    begin_twice::<Brand, _, _, _, HostRuntime>(&rt, rt.alloc(), units)
+fn an_older_session_is_gone(rt: HostRuntime) -> Result<(), Fail> {
+    play_alone(&rt, rt.alloc(), &Played::OneNexus)
 }

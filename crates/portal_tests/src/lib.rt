@@ -1,11 +1,14 @@
 //! Tests of the portals over the loopback: an array, its portals and its initiators in threads of one process. Each test is a
-//! script of what the initiators do and are answered.
+//! script of what the initiators do and are answered. Beside them stand sessions over memory, whose bytes come and go without
+//! a socket.
 #![tactic(auto)]
 
 #[cfg(test)]
 mod array;
 #[cfg(test)]
 mod behind;
+#[cfg(test)]
+mod clients;
 #[cfg(test)]
 mod discovery;
 #[cfg(test)]
@@ -14,6 +17,8 @@ mod failing;
 mod fencing;
 #[cfg(test)]
 mod gone;
+#[cfg(test)]
+mod handles;
 #[cfg(test)]
 mod hanging;
 #[cfg(test)]
@@ -25,13 +30,19 @@ mod lanes;
 #[cfg(test)]
 mod latch;
 #[cfg(test)]
+mod lives;
+#[cfg(test)]
 mod logins;
 #[cfg(test)]
 mod medium;
 #[cfg(test)]
+mod memory;
+#[cfg(test)]
 mod no_room;
 #[cfg(test)]
 mod restart;
+#[cfg(test)]
+mod row;
 #[cfg(test)]
 mod stage;
 #[cfg(test)]

@@ -1,4 +1,3 @@
 pub mod Owners
 pub mod Ready
-pub mod Serials
 pub mod Stories

@@ -153,13 +153,6 @@ module _ {B : Type 0} (d : Device B) (f : Device MemBlocks) (old new : TargetVal
     fits_answered Busy fits k = fits_same old new k.1 fits
     fits_answered Gone fits k = fits_same old new k.1 fits
 
-    pub grows_answered : (a : TargetAnswer) → IsAnsweredBy late d f old call a new
-        → old.unit.control.count ≤ new.unit.control.count
-    grows_answered (Replied reply) k = let e = counted reply k.1 k.2 k.3 in omega arith
-    grows_answered (Outside reply) k = grows_same old new k.2
-    grows_answered Busy k = grows_same old new k.1
-    grows_answered Gone k = grows_same old new k.1
-
 module _ {B : Type 0} (late : Type 0) (old new : TargetValue B) (number : ℕ) where
   pub reset_over : (also : Type 0) → (late → also) → (a : ResetAnswer) → IsResetBy late old number a new
       → IsResetBy also old number a new

@@ -1,3 +1,2 @@
 pub mod Once
 pub mod OneUnit
-pub mod Sessions

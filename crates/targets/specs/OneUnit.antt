@@ -138,13 +138,12 @@ IsAnsweredBy late d f old call (Outside reply) new =
 IsAnsweredBy late d f old call Busy new = IsBusy old.unit.control old.at.session call × IsSame old new
 IsAnsweredBy late d f old call Gone new = (call.unit ≡ Some 0) × IsSame old new × late
 
--- What a session is answered that is attached to no unit, and so changes none: it is gone; of a unit that is not there as
--- any other.
-abbrev pub IsTurnedAway : Option ℕ → Result ScsiCommand CdbFault → TargetAnswer → Type 0
-IsTurnedAway unit asked (Replied reply) = ⊥
-IsTurnedAway unit asked (Outside reply) = (unit ≢ Some 0) × (reply ≡ absent_reply asked)
-IsTurnedAway unit asked Busy = (unit ≢ Some 0) × ((absent_reply asked).status ≡ Good)
-IsTurnedAway unit asked Gone = unit ≡ Some 0
+-- what is answered for a unit that is not there: that it is not, or that there was no memory to tell it
+abbrev pub IsAbsent : Result ScsiCommand CdbFault → TargetAnswer → Type 0
+IsAbsent asked (Replied reply) = ⊥
+IsAbsent asked (Outside reply) = reply ≡ absent_reply asked
+IsAbsent asked Busy = (absent_reply asked).status ≡ Good
+IsAbsent asked Gone = ⊥
 
 -- The session reset the unit, which its other sessions are to be told. Its devices are as they were.
 pub record IsReset {B : Type 0} (old new : TargetValue B) : Type 0 where

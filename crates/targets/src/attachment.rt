@@ -1,7 +1,7 @@
 //! A session at a unit: how its commands are submitted, and what a target answers for them.
 ghost use Rattle.std.specs.Prelude.{◌≡◌, ◌<◌, ◌≤◌, IfOk, Some};
 ghost use Rattle.targets.specs.Once.{nothing, place};
-ghost use Rattle.targets.specs.OneUnit.{IsStepped, IsOwnStep, IsAnsweredBy, IsResetBy, IsTurnedAway};
+ghost use Rattle.targets.specs.OneUnit.{IsStepped, IsOwnStep, IsAnsweredBy, IsResetBy, IsAbsent};
 ghost use Rattle.unit_state.specs.Entry.{IsAttached, IsNext};
 ghost use Rattle.unit_state.specs.State.{opening_control};
 
@@ -15,10 +15,10 @@ use std::alloc::Global;
 use unit_state::{SessionId, StepEnd, Unit};
 
 /// The place of the unit.
-pub const UNIT: u8 = 0;
+const UNIT: u8 = 0;
 
 /// A session that was attached to a unit.
-#[derive(Clone, Copy, Debug, PartialEq, Eq)]
+#[derive(Clone, Copy)]
 pub struct Attachment {
     /// The unit's session.
     pub session: SessionId,
@@ -91,13 +91,10 @@ fn step_by_owner<B: Blocks>(
     }
 }
 
-/// What a session that is attached to no unit is answered to a command.
-pub fn turn_away(alloc: Global, number: Option<u8>, asked: &Asked) -> TargetAnswer
-    ensures { IsTurnedAway number asked.now result }
+// What a session is answered to a command of a unit that is not there.
+fn turn_away(alloc: Global, asked: &Asked) -> TargetAnswer
+    ensures { IsAbsent asked.now result }
 {
-    if number == Some(UNIT) {
-        return TargetAnswer::Gone;
-    }
     match absent(alloc, asked) {
         Ok(reply) => TargetAnswer::Outside(reply),
         Err(NoMemory) => TargetAnswer::Busy,
@@ -119,7 +116,7 @@ pub fn answer<B: Blocks>(
         (record { unit = number; asked = asked; bytes = bytes.now }) result (record { unit = unit.new; at = at.new }) }
 {
     if number != Some(UNIT) {
-        return turn_away(alloc, number, &asked);
+        return turn_away(alloc, &asked);
     }
     match step_by_owner(alloc, unit, at, asked, bytes) {
         StepEnd::Reply(reply) => TargetAnswer::Replied(reply),

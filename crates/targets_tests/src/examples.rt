@@ -1,6 +1,6 @@
 //! The worked examples of a session, with its input whole, in pieces, and ended anywhere.
-use crate::row::rows_of;
-use crate::run::{WORDS, run, serve};
+use crate::row::Row;
+use crate::run::{run, serve};
 use session::End;
 use std::test::*;
 use test_streams::WHOLE;
@@ -45,9 +45,7 @@ fn in_all_pieces(rt: HostRuntime) -> Result<(), Fail> {
 #[test]
 fn an_input_that_ends_anywhere(rt: HostRuntime) -> Result<(), Fail> {
     let alloc = rt.alloc();
-    let rows = rows_of(alloc, THREE_COMMANDS, WORDS)?;
-    let row = rows.first().ok_or("a row")?;
-    let stream = row.stream(0)?;
+    let row = Row::new(alloc, THREE_COMMANDS)?;
     for came in 0..=656usize {
         let answered = match came {
             0..=47 => 0,
@@ -56,8 +54,8 @@ fn an_input_that_ends_anywhere(rt: HostRuntime) -> Result<(), Fail> {
             _ => 704,
         };
         let written: &[(u32, u8)] = if came < 608 { &[] } else { &row.written };
-        let front = stream.input.bytes.get(..came).ok_or("656 bytes")?;
-        let want = stream.output.get(..answered).ok_or("704 bytes")?;
+        let front = row.input.get(..came).ok_or("656 bytes")?;
+        let want = row.output.get(..answered).ok_or("704 bytes")?;
         let (end, sent, kept) = serve(alloc, front, WHOLE, row.fuse, (16, written))?;
         assert_eq!(rt; end, End::EndOfInput, "after {came} bytes");
         assert_eq!(rt; sent.as_slice(), want, "after {came} bytes");

@@ -1,5 +1,5 @@
 //! The runner of the tables of one session over one unit.
-use crate::row::{Fuse, Row, rows_of};
+use crate::row::{Fuse, Row};
 use block_file::{Blocks, DeviceFailed, FusedBlocks, MemBlocks};
 use session::{End, Identity, Watched};
 use std::alloc::Global;
@@ -9,20 +9,14 @@ use std::test::Fail;
 use targets::once::once;
 use test_streams::{Calls, FakeReader, FakeWriter, ONE_BYTE, WHOLE};
 
-/// The name of the target.
-pub const TARGET_NAME: &[u8] = b"iqn.2000-01.test:array";
-
 /// How many blocks the unit has.
-pub const BLOCKS: u32 = 2048;
+const BLOCKS: u32 = 2048;
 
 /// How many it has where an input is cut at each place: more than these rows write, in less time.
 const FEW_BLOCKS: u32 = 16;
 
-/// The words of these tables.
-pub const WORDS: &[&str] = &["fails", "lands", "all-blocks"];
-
-/// The one portal of a controller, at this port of the host itself.
-pub fn portal(port: u16) -> [SocketAddrV4; 1] {
+// The one portal of a controller, at this port of the host itself.
+fn portal(port: u16) -> [SocketAddrV4; 1] {
     [SocketAddrV4::new(Ipv4Addr::new(127, 0, 0, 1), port)]
 }
 
@@ -40,9 +34,9 @@ fn block_at<B: Blocks>(device: &mut B, index: u32) -> Option<[u8; 512]> {
 
 // What all bytes of a block are: where it was not written, 0.
 fn byte_of(written: &[(u32, u8)], index: u32) -> u8 {
-    for i in 0..written.len() {
-        if written[i].0 == index {
-            return written[i].1;
+    for (block, byte) in written {
+        if *block == index {
+            return *byte;
         }
     }
     0
@@ -76,7 +70,7 @@ pub fn serve(
     let mut source = Watched::new(FakeReader::new(input, reads));
     let mut sink = Watched::new(FakeWriter::new(alloc, WHOLE));
     let me = Identity {
-        target_name: TARGET_NAME,
+        target_name: b"iqn.2000-01.test:array",
         first: &portal(3260),
         second: &portal(3264),
     };
@@ -93,38 +87,29 @@ fn compare(
     reads: Calls,
     count: u32,
 ) -> Result<(), Fail> {
-    let stream = row.stream(0)?;
-    let input = stream.input.bytes.as_slice();
-    let (end, output, kept) = serve(alloc, input, reads, row.fuse, (count, &row.written))?;
-    expect_end(rt, alloc, end, (row.name, stream.end()))?;
-    assert_eq!(rt; output.as_slice(), stream.output.as_slice(), "{}", row.name);
-    assert!(rt; kept, "{}", row.name);
-    Ok(())
-}
-
-/// A stream of this row ended so, as `Debug` spells it.
-pub fn expect_end(
-    rt: &impl Abort,
-    alloc: Global,
-    end: End,
-    (name, want): (&str, &str),
-) -> Result<(), Fail> {
-    let end = format!(in alloc; "{end:?}")?;
-    assert_eq!(rt; end.as_str(), want, "{name}");
+    let told = serve(alloc, &row.input, reads, row.fuse, (count, &row.written))?;
+    assert!(rt;
+        told.0 == End::EndOfInput && told.1 == row.output && told.2,
+        "{}, {reads:?}: {:?}",
+        row.name,
+        told
+    );
     Ok(())
 }
 
 /// Serves each row with its input whole, in single bytes, and cut after each byte, and compares.
 pub fn run(rt: &impl Abort, alloc: Global, table: &str) -> Result<(), Fail> {
-    for row in &rows_of(alloc, table, WORDS)? {
-        compare(rt, alloc, row, WHOLE, BLOCKS)?;
-        compare(rt, alloc, row, ONE_BYTE, BLOCKS)?;
-        let places = if row.all_blocks {
-            0
-        } else {
-            row.stream(0)?.input.bytes.len()
-        };
-        for first in 1..places {
+    for text in table.split("\n\n") {
+        run_row(rt, alloc, &Row::new(alloc, text)?)?;
+    }
+    Ok(())
+}
+
+fn run_row(rt: &impl Abort, alloc: Global, row: &Row<'_>) -> Result<(), Fail> {
+    compare(rt, alloc, row, WHOLE, BLOCKS)?;
+    compare(rt, alloc, row, ONE_BYTE, BLOCKS)?;
+    if !row.all_blocks {
+        for first in 1..row.input.len() {
             compare(rt, alloc, row, Calls { first, ..WHOLE }, FEW_BLOCKS)?;
         }
     }

@@ -1,6 +1,6 @@
 //! Target Session Identifying Handles (RFC 7143, 11.12.9).
 ghost use Rattle.std.specs.Prelude.{◌≡◌, ℕ, MatchOption};
-ghost use Rattle.session_handles.specs.Handles.{AreAllTaken, AreTaken, IsFirstFree, IsNextTsih, has_tsih};
+ghost use Rattle.portal.specs.Handles.{AreAllTaken, AreTaken, IsFirstFree, IsNextTsih, has_tsih};
 
 /// The greatest TSIH, which 1 follows.
 pub const LAST_TSIH: u16 = 65535;

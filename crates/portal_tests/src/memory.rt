@@ -1,0 +1,261 @@
+//! Sessions whose bytes come and go in memory, over an array of one unit, which lies in memory too.
+ghost use Rattle.std.specs.Prelude.{◌≡◌, ◌≤◌, length};
+ghost use Rattle.block_file.specs.Cut.{cut};
+ghost use Rattle.unit_history.specs.Naming.{IsNamed};
+
+use crate::gone::the_older_session_is_gone;
+use crate::handles::begin_again;
+use crate::row::{Row, Stream};
+use crate::units::{BLOCKS, one};
+use block_file::{KeepOpener, MemBlocks};
+use login::Kind;
+use numbering::Array as Naming;
+use portal::{
+    BeginFault, Connection, Controllers, Open, SessionTarget, TargetDevice, serve_session,
+};
+use scsi_types::Group;
+use session::{Identity, Watched};
+use std::alloc::Global;
+use std::io;
+use std::io::Read;
+use std::marker::Brand;
+use std::net::{Ipv4Addr, SocketAddrV4};
+use std::process::Abort;
+use std::sync::Wait;
+use std::test::Fail;
+use test_streams::{Calls, FakeReader, FakeWriter, ONE_BYTE, WHOLE};
+use test_units::TestUnits;
+use unit_history::{NewUnit, Opened, Pass};
+
+/// So many blocks the unit has where an input is cut at each place: as many as such rows need, in less time.
+const FEW_BLOCKS: u32 = 16;
+
+/// So many sessions are attached to a unit at most.
+const MOST_SESSIONS: u64 = 64;
+
+/// The initiator whose ports have the other sessions, from ISID 0 on, and whose port has ISID 2^40 for each one more.
+const OTHER: &[u8] = b"iqn.2000-01.test:other";
+
+/// A connection that nothing ends.
+#[derive(Clone, Copy, Drop)]
+pub struct Endless;
+
+impl Connection for Endless {
+    fn shut(&self) {}
+
+    fn settle(&self) {}
+}
+
+/// The controllers of the array.
+type Both<N> = Controllers<MemBlocks, MemBlocks, KeepOpener, N>;
+
+/// The target of a session that comes by controller 1.
+pub type Arrived<'a, R, N> = SessionTarget<
+    'a,
+    R,
+    Both<N>,
+    Open,
+    Endless,
+    Pass<MemBlocks, MemBlocks, KeepOpener, N>,
+>;
+
+/// An array that sessions share.
+#[derive(Drop)]
+pub struct Scene<'a, R: Wait, N: Naming<Opened>> {
+    pub rt: &'a R,
+    pub alloc: Global,
+    device: &'a TargetDevice<Both<N>, Open, Endless>,
+}
+
+impl<'a, R: Wait + Abort, N: Naming<Opened>> Scene<'a, R, N> {
+    /// A session comes, and has not begun.
+    pub fn arrive(&self) -> Arrived<'a, R, N> {
+        SessionTarget::new(self.rt, self.alloc, self.device, Group::One, Endless)
+    }
+
+    // Begins a session of the other initiator, which then lives.
+    fn begin_other(&self, isid: u64) -> Result<u16, BeginFault> {
+        let mut other = self.arrive();
+        other.try_begin(OTHER, isid, Kind::Normal)
+    }
+
+    // How many sessions live.
+    fn live(&self) -> u64 {
+        self.device.sessions.lock(self.rt).count() as u64
+    }
+
+    // Whether just so many sessions are attached: the unit takes as many more as it has room for, and no other.
+    fn has_attached(&self, sessions: u64) -> bool {
+        for more in sessions..MOST_SESSIONS {
+            if self.begin_other((1 << 40) | more).is_err() {
+                return false;
+            }
+        }
+        self.begin_other(1 << 41) == Err(BeginFault::NoRoom(0))
+    }
+
+    // Serves what comes by a connection, and compares.
+    fn serve<S: Read + Drop>(&self, name: &str, stream: &Stream, reader: S) {
+        let mut source = Watched::new(reader);
+        let mut sink = Watched::new(FakeWriter::new(self.alloc, WHOLE));
+        let me = Identity {
+            target_name: b"iqn.2000-01.test:array",
+            first: &[portal(3260)],
+            second: &[portal(3264)],
+        };
+        let end = serve_session::<
+            R,
+            Both<N>,
+            Open,
+            Endless,
+            Pass<MemBlocks, MemBlocks, KeepOpener, N>,
+            Watched<S>,
+            Watched<FakeWriter>,
+        >(
+            self.rt,
+            self.alloc,
+            self.device,
+            Group::One,
+            Endless,
+            &mut source,
+            &mut sink,
+            &me,
+        )
+        .expect(self.rt, name);
+        let sent = sink.into_inner().into_bytes();
+        assert!(self.rt;
+            end == stream.end && sent == stream.output,
+            "{name}: {end:?}, {sent:?}"
+        );
+    }
+
+    // Serves the connections of a row, which come so, and compares. Behind it the other sessions live.
+    fn serve_row(&self, row: &Row<'_>, reads: Calls) {
+        for isid in 0..row.others {
+            assert!(self.rt; self.begin_other(isid).is_ok());
+        }
+        let first = Broken {
+            scene: self,
+            row,
+            reads,
+            front: FakeReader::new(&row.first.front, reads),
+            back: FakeReader::new(&row.first.back, reads),
+            is_back: false,
+        };
+        self.serve(row.name, &row.first, first);
+        if !row.later.front.is_empty() {
+            let later = FakeReader::new(&row.later.front, reads);
+            self.serve(row.name, &row.later, later);
+        }
+        assert!(self.rt; self.live() == row.others, "{}", row.name);
+        // Once is enough: each look makes the unit full.
+        if reads.first == WHOLE.first {
+            assert!(self.rt; self.has_attached(row.others), "{}", row.name);
+        }
+    }
+}
+
+// A portal at this port of the host itself.
+fn portal(port: u16) -> SocketAddrV4 {
+    SocketAddrV4::new(Ipv4Addr::new(127, 0, 0, 1), port)
+}
+
+/// What comes by the first connection of a row; where it breaks off, another connection is served.
+#[derive(Drop)]
+struct Broken<'s, 'd, 'r, 't, R: Wait, N: Naming<Opened>> {
+    scene: &'s Scene<'d, R, N>,
+    row: &'r Row<'t>,
+    reads: Calls,
+    front: FakeReader<'r>,
+    back: FakeReader<'r>,
+    is_back: bool,
+}
+
+impl<R: Wait + Abort, N: Naming<Opened>> Read for Broken<'_, '_, '_, '_, R, N> {
+    fn read(&mut self, buf: &mut [u8]) -> io::Result<usize> {
+        let came = self.front.read(buf)?;
+        if came > 0 {
+            return Ok(came);
+        }
+        let meanwhile = &self.row.meanwhile;
+        if !self.is_back && !meanwhile.front.is_empty() {
+            let other = FakeReader::new(&meanwhile.front, self.reads);
+            self.scene.serve(self.row.name, meanwhile, other);
+        }
+        self.is_back = true;
+        self.back.read(buf)
+    }
+}
+
+/// What is played before an array.
+#[derive(Clone, Copy)]
+pub enum Played<'a> {
+    /// A row, whose bytes come so.
+    Row(&'a Row<'a>, Calls),
+    /// Two sessions of one nexus.
+    OneNexus,
+    /// All TSIHs are used up.
+    Handles,
+}
+
+// Plays it before an array of these units.
+fn play<R: Wait + Abort, N: Naming<Opened>>(
+    rt: &R,
+    alloc: Global,
+    new: Vec<NewUnit<MemBlocks, MemBlocks, KeepOpener>>,
+    played: &Played<'_>,
+)
+    requires named { IsNamed N.book N.table N.opening (λ d. cut d.count d.bytes.items) new.items }
+    requires count { length new.items ≤ 8 }
+{
+    let units = TestUnits::<MemBlocks, KeepOpener, N>::new(rt, alloc, new).expect(rt, "memory");
+    let controllers = Controllers::new(alloc, units).expect(rt, "memory");
+    let device = TargetDevice::new(alloc, controllers, Open);
+    let scene = Scene {
+        rt,
+        alloc,
+        device: &device,
+    };
+    match played {
+        Played::Row(row, reads) => scene.serve_row(row, *reads),
+        Played::OneNexus => the_older_session_is_gone(&scene),
+        Played::Handles => begin_again(&scene),
+    }
+}
+
+/// Plays it before an array of one unit.
+pub fn play_alone<R: Wait + Abort>(rt: &R, alloc: Global, played: &Played<'_>) -> Result<(), Fail> {
+    let blocks = match played {
+        Played::Row(row, _) if !row.each_place => BLOCKS,
+        _ => FEW_BLOCKS,
+    };
+    play::<R, Brand>(rt, alloc, one(alloc, blocks)?, played);
+    Ok(())
+}
+
+/// So many bytes at a time, one less than a header segment.
+const PIECES: Calls = Calls {
+    first: 47,
+    later: 47,
+    ..WHOLE
+};
+
+/// Serves each row of a table: whole, in single bytes, in pieces, and where it says so in two at each place.
+pub fn run<R: Wait + Abort>(rt: &R, alloc: Global, table: &str) -> Result<(), Fail> {
+    for text in table.split("\n\n") {
+        run_row(rt, alloc, &Row::new(rt, alloc, text))?;
+    }
+    Ok(())
+}
+
+fn run_row<R: Wait + Abort>(rt: &R, alloc: Global, row: &Row<'_>) -> Result<(), Fail> {
+    for reads in [WHOLE, ONE_BYTE, PIECES] {
+        play_alone(rt, alloc, &Played::Row(row, reads))?;
+    }
+    if row.each_place {
+        for first in 1..row.first.front.len() {
+            play_alone(rt, alloc, &Played::Row(row, Calls { first, ..WHOLE }))?;
+        }
+    }
+    Ok(())
+}
