@@ -26,7 +26,10 @@
 #include <sys/syscall.h>
 #include <unistd.h>
 
-enum { BLOCK = 512, PLACES = 16384, HANDLES = 4096, NAMES = 64 };
+enum { BLOCK = 512, PLACES = 16384, HANDLES = 4096, NAMES = 64, NAMES_OF_UNIT = 4 };
+
+/* A disk is opened for its device, for its lock, and then for its preparer, which gets no handle here: each call is the device's. */
+enum { OF_PREPARER = 3 };
 
 /* The numbers of both are known to bench/calls.py too. */
 enum kind { OPEN = 1, STATX, FLOCK, LSEEK, PREAD, PWRITE, FDATASYNC, FSYNC, FTRUNCATE, RENAME };
@@ -145,7 +148,12 @@ static long answered(struct entry *entry, long answer)
 
 static int open_at(int folder, const char *path, int flags, mode_t mode)
 {
+    static _Atomic int opens[NAMES];
     int file = named(path);
+    if (file >= 0 && file % NAMES_OF_UNIT == 0 && atomic_fetch_add(&opens[file], 1) + 1 == OF_PREPARER) {
+        errno = EMFILE;
+        return -1;
+    }
     struct entry *entry = file < 0 ? NULL : enter(OPEN, file, 0, 0);
     if (entry && fails(entry))
         return -1;

@@ -11,7 +11,8 @@ files, where nothing fails, and asked for all that is there.
 The calls are open, openat, statx, flock, lseek, pread, pwrite, fdatasync, fsync, ftruncate and rename on a disk, on its
 registration file, on the file as which that is made, and on their folder. A call fails with EIO and with nothing done; a
 write also with half of its blocks written, and with all of them; and then so that all later calls on the same file fail too.
-The same is done to a start over files that are there.
+The same is done to a start over files that are there. Of a disk's preparer no call is made: it gets no handle, and the units are
+served without it.
 
 A model of what may be stands beside it. By that
 - each reply is GOOD, with the one data that there can be, or has the sense of the call that failed: 03 11/00 of a read,

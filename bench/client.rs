@@ -1,9 +1,10 @@
 // An iSCSI initiator for benchmarks and for tests under load: fast, and no more than they need. `rustc -O` builds it; the
 // scripts beside it do so.
 //
-// client HOST:PORT[,HOST:PORT..] TARGET UNIT read|write SIZE DEPTH SESSIONS SECONDS [REGION]
-//     commands of SIZE bytes at random places of the unit's first REGION bytes, DEPTH of them open in each of the SESSIONS;
-//     prints how many ended a second
+// client HOST:PORT[,HOST:PORT..] TARGET UNIT read|write|fua|flush SIZE DEPTH SESSIONS SECONDS [REGION [FIRST]]
+//     commands of SIZE bytes at random places of the unit's first REGION bytes, DEPTH of them open in each of the SESSIONS,
+//     whose names are counted from FIRST on; prints how many ended a second. `fua` writes with FUA; `flush` has a SYNCHRONIZE
+//     CACHE behind each write, and nothing else open: it counts both as one
 // client HOST:PORT[,HOST:PORT..] TARGET UNIT[,UNIT..] load SIZE DEPTH SESSIONS SECONDS
 //     each session writes numbered blocks to places of its own and reads them back, all the time; when the time is over, or
 //     the connections break, it logs in again, for a minute, and reads all: each block has the last write of it that was
@@ -50,6 +51,8 @@ struct Session {
     first_burst: usize,
     // a command whose end came with its last data
     ended: Option<(u32, u8)>,
+    // whether writes go out with FUA
+    is_fua: bool,
 }
 
 /// What an answer means to whoever sent the command.
@@ -76,6 +79,7 @@ impl Session {
             segment: 8192,
             first_burst: 65536,
             ended: None,
+            is_fua: false,
         };
         let first = format!(
             "InitiatorName=iqn.2000-01.test:load{number}\0TargetName={target}\0SessionType=Normal\0AuthMethod=None\0"
@@ -193,12 +197,31 @@ impl Session {
         put32(&mut header, 24, self.cmd_sn);
         put32(&mut header, 28, self.stat_sn);
         header[32] = if data.is_some() { 0x8A } else { 0x88 };
+        header[33] = if data.is_some() && self.is_fua { 0x08 } else { 0 };
         header[34..42].copy_from_slice(&lba.to_be_bytes());
         put32(&mut header, 42, blocks as u32);
         self.cmd_sn = self.cmd_sn.wrapping_add(1);
         let data = data.unwrap_or(&[]);
         let first = data.len().min(self.first_burst).min(self.segment);
         self.put(header, &data[..first]);
+    }
+
+    // SYNCHRONIZE CACHE (16) of all blocks, to its end.
+    fn synchronize(&mut self, unit: u8, tag: u32) -> io::Result<()> {
+        let mut header = [0u8; 48];
+        header[0] = 0x01;
+        header[1] = 0x81;
+        header[9] = unit;
+        put32(&mut header, 16, tag);
+        put32(&mut header, 24, self.cmd_sn);
+        put32(&mut header, 28, self.stat_sn);
+        header[32] = 0x91;
+        self.cmd_sn = self.cmd_sn.wrapping_add(1);
+        self.put(header, &[]);
+        match self.event()? {
+            Event::Done { status: 0, .. } => Ok(()),
+            _ => Err(broken("SYNCHRONIZE CACHE is not GOOD")),
+        }
     }
 
     fn ready(&mut self, unit: u8) -> io::Result<()> {
@@ -342,14 +365,16 @@ struct Plan {
     sessions: usize,
     time: Duration,
     region: u64,
+    first: usize,
 }
 
 impl Plan {
     fn login(&self, number: usize) -> io::Result<(Session, u8)> {
         let address = &self.addresses[number % self.addresses.len()];
         let unit = self.units[number / self.addresses.len() % self.units.len()];
-        let mut session = Session::login(address, &self.target, number as u32)?;
+        let mut session = Session::login(address, &self.target, (self.first + number) as u32)?;
         session.ready(unit)?;
+        session.is_fua = self.work == "fua";
         Ok((session, unit))
     }
 }
@@ -361,11 +386,12 @@ fn measure(plan: &Plan, number: usize, start: &Barrier, is_over: &AtomicBool) ->
     let places = session.capacity(unit)?.min(plan.region / BLOCK as u64) / blocks as u64;
     let mut random = Random(0x9E3779B97F4A7C15 ^ (number as u64 + 1));
     let data = vec![0x5A; plan.size];
-    let is_write = plan.work == "write";
+    let is_write = plan.work != "read";
+    let depth = if plan.work == "flush" { 1 } else { plan.depth };
     let (mut open, mut ended, mut tag) = (0, 0, 0);
     start.wait();
     while !is_over.load(Ordering::Relaxed) {
-        while open < plan.depth && session.has_room() {
+        while open < depth && session.has_room() {
             let lba = random.below(places) * blocks as u64;
             session.command(unit, tag, lba, blocks, is_write.then_some(&data[..]));
             tag = (tag + 1) % 0x7FFF0000;
@@ -386,6 +412,9 @@ fn measure(plan: &Plan, number: usize, start: &Barrier, is_over: &AtomicBool) ->
             if session.ended.is_none() && !session.has_pdu() {
                 break;
             }
+        }
+        if plan.work == "flush" && open == 0 {
+            session.synchronize(unit, tag)?;
         }
     }
     Ok(ended)
@@ -634,7 +663,7 @@ fn load(plan: &Plan) -> io::Result<()> {
 fn main() -> io::Result<()> {
     let words: Vec<String> = std::env::args().skip(1).collect();
     if words.len() < 8 {
-        eprintln!("client ADDRESS[,ADDRESS..] TARGET UNIT[,UNIT..] read|write|load SIZE DEPTH SESSIONS SECONDS [REGION]");
+        eprintln!("client ADDRESS[,ADDRESS..] TARGET UNIT[,UNIT..] read|write|fua|flush|load SIZE DEPTH SESSIONS SECONDS [REGION [FIRST]]");
         std::process::exit(2);
     }
     let number = |at: usize| words[at].parse::<u64>().expect("a number");
@@ -648,6 +677,7 @@ fn main() -> io::Result<()> {
         sessions: number(6) as usize,
         time: Duration::from_millis((words[7].parse::<f64>().expect("seconds") * 1000.0) as u64),
         region: if words.len() > 8 { number(8) } else { u64::MAX },
+        first: if words.len() > 9 { number(9) as usize } else { 0 },
     };
     if plan.work == "load" { load(&plan) } else { benchmark(&plan) }
 }

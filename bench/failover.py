@@ -5,6 +5,8 @@ other path where its own is not accessible. At the end each unit's history has a
 lost and none is done twice; and every block, by both paths, is the last one written. Ends with status 1 otherwise.
 
 usage: bench/failover.py [HOSTS [SECONDS]]
+
+The disks lie in $DISKS, or in a folder of /dev/shm. Over those that bench/slow_disk.c makes slow, reads are looked ahead to.
 """
 
 import os
@@ -21,6 +23,8 @@ ARRAYD = os.environ.get("ARRAYD", os.path.join(TOP, "arrayd"))
 PORT = 20000 + os.getpid() % 10000
 TARGET = "iqn.2000-01.test:array"
 UNITS, PLACES, BLOCKS = 2, 16, 8
+# So many reads of a host are open at a time.
+AT_ONCE = 8
 OPTIMIZED, NON_OPTIMIZED = 0, 1
 
 
@@ -37,24 +41,31 @@ class Host:
         self.held = {}
         self.fault = None
 
+    # Whether a command ended GOOD that came by this path; else it is to be sent again, maybe by the other one.
+    def is_good(self, unit, by, reply):
+        if reply.status == BUSY:
+            self.busy += 1
+            return False
+        self.entries[unit] += 1
+        if reply.status == GOOD:
+            return True
+        key = reply.sense_key()
+        if key and key[0] == 0x06:
+            self.told += 1
+        elif key == (0x02, 0x04, 0x0C):
+            self.changed += 1
+            self.by[unit] = by ^ 1
+        else:
+            raise AssertionError(f"status {reply.status:02x} sense {reply.sense_text()}")
+        return False
+
     # The data of a command that ends GOOD, by the path that serves it.
     def good(self, unit, cdb, out=b"", expected=0):
         while True:
-            reply = self.paths[self.by[unit]].command(unit, cdb, out, expected)
-            if reply.status == BUSY:
-                self.busy += 1
-                continue
-            self.entries[unit] += 1
-            if reply.status == GOOD:
+            by = self.by[unit]
+            reply = self.paths[by].command(unit, cdb, out, expected)
+            if self.is_good(unit, by, reply):
                 return reply.data
-            key = reply.sense_key()
-            if key and key[0] == 0x06:
-                self.told += 1
-            elif key == (0x02, 0x04, 0x0C):
-                self.changed += 1
-                self.by[unit] ^= 1
-            else:
-                raise AssertionError(f"status {reply.status:02x} sense {reply.sense_text()}")
 
     def place(self, place):
         return (self.number * PLACES + place) * BLOCKS
@@ -66,11 +77,27 @@ class Host:
         self.good(unit, bytes([0x2A, 0, *lba.to_bytes(4, "big"), 0, 0, BLOCKS]), out=data)
         self.held[unit, place] = data
 
-    def check(self, unit, place):
-        lba = self.place(place)
-        data = self.good(unit, bytes([0x28, 0, *lba.to_bytes(4, "big"), 0, 0, BLOCKS]), expected=BLOCKS * BLOCK)
+    def read_of(self, place):
+        return bytes([0x28, 0, *self.place(place).to_bytes(4, "big"), 0, 0, BLOCKS])
+
+    def compare(self, unit, place, data):
         if data != self.held[unit, place]:
-            raise AssertionError(f"unit {unit} LBA {lba}: {data[:20]}, and not {self.held[unit, place][:20]}")
+            raise AssertionError(f"unit {unit} LBA {self.place(place)}: {data[:20]}, and not {self.held[unit, place][:20]}")
+
+    def check(self, unit, place):
+        self.compare(unit, place, self.good(unit, self.read_of(place), expected=BLOCKS * BLOCK))
+
+    # Several places at once, so that the array has commands to look ahead to; each that is not GOOD once more.
+    def check_some(self, unit):
+        by = self.by[unit]
+        places = [place for of, place in self.held if of == unit][:AT_ONCE]
+        tags = [self.paths[by].submit(unit, self.read_of(place), expected=BLOCKS * BLOCK) for place in places]
+        replies = [self.paths[by].wait(tag) for tag in tags]
+        for place, reply in zip(places, replies):
+            if self.is_good(unit, by, reply):
+                self.compare(unit, place, reply.data)
+            else:
+                self.check(unit, place)
 
     def run(self, until):
         count = 0
@@ -79,6 +106,7 @@ class Host:
                 unit, place = count % UNITS, count // UNITS % PLACES
                 self.write(unit, place, count)
                 self.check(unit, place)
+                self.check_some(unit)
                 count += 1
         except Exception as fault:
             self.fault = f"host {self.number}: {fault!r}"
@@ -138,7 +166,7 @@ def move_about(array, host, until):
 
 def main():
     count, seconds = (int(word) for word in (sys.argv[1:] + ["8", "20"][len(sys.argv) - 1:]))
-    with tempfile.TemporaryDirectory(dir="/dev/shm") as folder:
+    with tempfile.TemporaryDirectory(dir=os.environ.get("DISKS", "/dev/shm")) as folder:
         disks = [os.path.join(folder, f"{unit}.img") for unit in range(UNITS)]
         for disk in disks:
             with open(disk, "wb") as file:

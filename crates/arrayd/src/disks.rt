@@ -5,13 +5,16 @@ ghost use Rattle.unit_state.specs.Serials.{IsOpening};
 use aptpl_file::{OpenFault, RegFile};
 use command_line::{Fault, MAX_UNITS, Options};
 use disk_files::{
-    DiskFault, DiskLock, FileBlocks, FileOpener, RegistrationsFault, open_disk, open_registrations,
+    DiskFault, DiskLock, FileBlocks, FileOpener, FilePreparer, RegistrationsFault, open_disk,
+    open_registrations,
 };
 use reservations::Record;
 use scsi_types::Place;
 use std::alloc::Global;
 use std::fs::File;
 use std::rt::Files;
+use std::sync::Wait;
+use std::time::Clock;
 use unit_history::NewUnit;
 use unit_state::{Unit, laws};
 
@@ -52,37 +55,47 @@ fn open_record<R: Files<File = File>>(
     }
 }
 
+/// What stands beside a unit for as long as it is served: the lock of its disk, and its preparer.
+#[derive(Drop)]
+pub struct Beside<R: Files<File = File> + Clock + Wait + Drop> {
+    pub locks: Vec<DiskLock>,
+    pub preparers: Vec<FilePreparer<R>>,
+}
+
 // Opens the unit at this place over the file of this name, and locks it.
-fn open_unit<R: Files<File = File> + Clone + Drop>(
+fn open_unit<R: Files<File = File> + Clock + Wait + Clone + Drop>(
     rt: &R,
     alloc: Global,
     place: Place,
     path: &str,
-) -> Result<(FileUnit<R>, DiskLock), Fault>
+) -> Result<(FileUnit<R>, DiskLock, FilePreparer<R>), Fault>
     ensures { IfOk result (λ r. IsOpening r.0.control) }
 {
     let mine = rt.clone()?;
-    let disk = match open_disk(mine, alloc, path) {
+    let preparers = rt.clone()?;
+    let mut disk = match open_disk(mine, alloc, path) {
         Ok(disk) => disk,
         Err(fault) => return Err(disk_fault(place.unit, fault)),
     };
+    let preparer = FilePreparer::open(preparers, alloc, path, &mut disk.blocks);
     let (file, record) = open_record(rt, alloc, place.unit, path)?;
     laws::nobody_is_attached_at_first();
     let unit = Unit::open(alloc, place, disk.blocks, disk.opener, file, record)?;
-    Ok((unit, disk.lock))
+    Ok((unit, disk.lock, preparer))
 }
 
-/// Opens the units that the words name, in order, each with its lock, which has to live as long as it does.
-pub fn open_units<R: Files<File = File> + Clone + Drop>(
+/// Opens the units that the words name, in order, each with what stands beside it.
+pub fn open_units<R: Files<File = File> + Clock + Wait + Clone + Drop>(
     rt: &R,
     alloc: Global,
     options: &Options<'_>,
-) -> Result<(FileUnits<R>, Vec<DiskLock>), Fault>
+) -> Result<(FileUnits<R>, Beside<R>), Fault>
     requires { length options.now.paths.items ≤ MAX_UNITS }
     ensures { IfOk result (λ r. length r.0.items ≤ MAX_UNITS) }
 {
     let mut units = Vec::new(alloc);
     let mut locks = Vec::new(alloc);
+    let mut preparers = Vec::new(alloc);
     let count = options.paths.len() as u8;
     for unit in 0..count {
         let place = Place {
@@ -91,9 +104,10 @@ pub fn open_units<R: Files<File = File> + Clone + Drop>(
             array: options.array,
         };
         let path = options.paths[usize::from(unit)];
-        let (opened, lock) = open_unit(rt, alloc, place, path)?;
+        let (opened, lock, preparer) = open_unit(rt, alloc, place, path)?;
         units.push(NewUnit::new(alloc, opened)?)?;
         locks.push(lock)?;
+        preparers.push(preparer)?;
     }
-    Ok((units, locks))
+    Ok((units, Beside { locks, preparers }))
 }

@@ -10,8 +10,9 @@ mod serve;
 
 use block_file::Blocks;
 use command_line::{Fault, MAX_UNITS, Options};
-use disk_files::{DiskLock, FileBlocks, FileOpener};
-use disks::{FileUnits, open_units};
+use disk_files::{FileBlocks, FileOpener, FilePreparer};
+use disks::{Beside, FileUnits, open_units};
+use portal::Prepared;
 use serve::serve_units;
 use std::alloc::Global;
 use std::env::Env;
@@ -19,6 +20,8 @@ use std::fs::File;
 use std::marker::Brand;
 use std::process::ExitCode;
 use std::rt::Files;
+use std::sync::Wait;
+use std::time::Clock;
 use std::{env, io};
 
 // The program's words, its own name first.
@@ -32,31 +35,30 @@ fn all_words(rt: &(impl Env + AllocGlobal)) -> Result<Vec<String>, Fault> {
 
 /// An array that is to be served.
 #[derive(Drop)]
-struct Prepared<'a, R: Files<File = File> + Drop> {
+struct Asked<'a, R: Files<File = File> + Clock + Wait + Drop> {
     options: Options<'a>,
     units: FileUnits<R>,
-    // They live as long as the array is served.
-    locks: Vec<DiskLock>,
+    beside: Beside<R>,
 }
 
 // Does what the words ask for, but that it only opens the units of an array: it is to be served then.
-fn prepare<'a, R: Files<File = File> + Input + Print + Clone + Drop>(
+fn prepare<'a, R: Files<File = File> + Clock + Wait + Input + Print + Clone + Drop>(
     rt: &R,
     alloc: Global,
     words: &'a [String],
-) -> Result<Option<Prepared<'a, R>>, Fault>
-    ensures { IfOk result (λ p. IfSome p (λ prepared. length prepared.units.items ≤ MAX_UNITS)) }
+) -> Result<Option<Asked<'a, R>>, Fault>
+    ensures { IfOk result (λ p. IfSome p (λ asked. length asked.units.items ≤ MAX_UNITS)) }
 {
     let options = command_line::read(alloc, words)?;
     if options.is_once {
         once::serve_once(rt, alloc)?;
         return Ok(None);
     }
-    let (units, locks) = open_units(rt, alloc, &options)?;
-    Ok(Some(Prepared {
+    let (units, beside) = open_units(rt, alloc, &options)?;
+    Ok(Some(Asked {
         options,
         units,
-        locks,
+        beside,
     }))
 }
 
@@ -72,10 +74,10 @@ fn main(rt: HostRuntime) -> ExitCode {
         Ok(words) => words,
         Err(fault) => return complain(&rt, fault),
     };
-    let Prepared {
+    let Asked {
         options,
         units,
-        locks,
+        beside,
     } = match prepare(&rt, alloc, words.as_slice()) {
         Ok(Some(prepared)) => prepared,
         Ok(None) => return ExitCode::SUCCESS,
@@ -86,9 +88,11 @@ fn main(rt: HostRuntime) -> ExitCode {
         FileBlocks<File>,
         FileBlocks<File>,
         FileOpener<HostRuntime>,
+        Prepared<FilePreparer<HostRuntime>>,
         HostRuntime,
-    >(&rt, alloc, &options, units);
-    drop(locks);
+    >(&rt, alloc, &options, units, Prepared::new(beside.preparers));
+    // They live as long as the array is served.
+    drop(beside.locks);
     match served {
         Ok(()) => ExitCode::SUCCESS,
         Err(fault) => complain(&rt, fault),

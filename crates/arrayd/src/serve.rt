@@ -8,7 +8,7 @@ use block_file::{Blocks, Opener};
 use command_line::{Fault, MAX_UNITS, Options};
 use console::{Array, Watched, console};
 use numbering::Array as Naming;
-use portal::{Controllers, Open, Server, SmallStacks, TargetDevice, listen, start_lanes};
+use portal::{Controllers, Gate, Server, SmallStacks, TargetDevice, listen, start_lanes};
 use scsi_types::Group;
 use std::alloc::Global;
 use std::io;
@@ -18,13 +18,14 @@ use std::thread::Threads;
 use std::time::Clock;
 use unit_history::{NewUnit, Opened, Pass, Units};
 
-/// Serves these units at the portals that the words ask for, until the console ends. The names of the units are picked
+/// Serves these units, behind this gate, at the portals that the words ask for, until the console ends. The names of the units are picked
 /// where it is called.
 pub fn serve_units<
     N: Naming<Opened> + Send + Sync + 'static,
     B: Blocks + Drop + Send + Sync + 'static,
     F: Blocks + Drop + Send + Sync + 'static,
     O: Opener<B> + Drop + Send + Sync + 'static,
+    G: Gate + Drop + Send + Sync + 'static,
     R: Threads
         + Wait
         + Clock
@@ -35,7 +36,13 @@ pub fn serve_units<
         + Drop
         + Send
         + 'static,
->(rt: &R, alloc: Global, options: &Options<'_>, units: Vec<NewUnit<B, F, O>>) -> Result<(), Fault>
+>(
+    rt: &R,
+    alloc: Global,
+    options: &Options<'_>,
+    units: Vec<NewUnit<B, F, O>>,
+    gate: G,
+) -> Result<(), Fault>
     requires named { IsNamed N.book N.table N.opening B.contents units.items }
     requires count { length units.items ≤ MAX_UNITS }
 {
@@ -47,7 +54,7 @@ pub fn serve_units<
     let portals = portals::open(rt, alloc, ports)?;
     let units = Units::<B, F, O, N>::new(rt, alloc, units)?;
     let server = Server {
-        device: TargetDevice::new(alloc, Controllers::new(alloc, units)?, Open),
+        device: TargetDevice::new(alloc, Controllers::new(alloc, units)?, gate),
         target_name: Vec::from_slice(alloc, options.target.as_bytes())?,
         first: ports.of(Group::One).addresses(alloc)?,
         second: ports.of(Group::Two).addresses(alloc)?,
@@ -57,7 +64,7 @@ pub fn serve_units<
     };
     for group in [Group::One, Group::Two] {
         let mut stacks = SmallStacks;
-        let started = start_lanes::<N, B, F, O, Open, R, SmallStacks>(
+        let started = start_lanes::<N, B, F, O, G, R, SmallStacks>(
             rt,
             alloc,
             &server,
@@ -69,7 +76,7 @@ pub fn serve_units<
         }
     }
     for Portal { listener, group } in portals {
-        let loops = listen::<R, Controllers<B, F, O, N>, Open, Pass<B, F, O, N>, SmallStacks>(
+        let loops = listen::<R, Controllers<B, F, O, N>, G, Pass<B, F, O, N>, SmallStacks>(
             rt,
             alloc,
             listener,

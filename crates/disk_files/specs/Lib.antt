@@ -1,2 +1,3 @@
 pub mod FileDisk
+pub mod Lasting
 pub mod Lengths

@@ -4,17 +4,22 @@ ghost use Rattle.std.proofs.Common.{arith};
 ghost use Rattle.block_file.specs.Cut.{IsRun};
 ghost use Rattle.block_file.specs.Failures.{Counts, last_count};
 ghost use Rattle.disk_files.specs.FileDisk.{all_failures, IsSameDisk, IsUnused};
+ghost use Rattle.disk_files.specs.Lasting.{IsSettled};
 ghost use Rattle.disk_files.specs.Lengths.{IsLengthFault};
 
 use crate::FileFault;
+use crate::flushes::{Flushes, LastingFile};
 use block_file::{BLOCK_LENGTH, Blocks, DeviceFailed};
-use std::fs::{File, OpenFile};
+use std::alloc::Global;
+use std::fs::File;
 use std::io::{ErrorKind, Seek, SeekFrom};
 use std::marker::Model;
 use std::os::unix::fs::FileExt;
 use std::rt::Files;
+use std::sync::Arc;
 
-/// A file as a device of blocks: each run is one read or write at its place, and a flush is `fdatasync`.
+/// A file as a device of blocks: each run is one read or write at its place. A flush is `fdatasync`, and nothing where no write has
+/// ended since one began that its preparer made, and that is done.
 ///
 /// Of what it holds nothing is claimed. Its number of blocks is that of its length when it was opened; where the file has
 /// become shorter a call that reaches behind its end fails.
@@ -22,17 +27,21 @@ use std::rt::Files;
 /// A flush that failed is not made good by the next one: the system drops what it could not write. So each later flush
 /// fails too, also through a handle that was opened anew.
 #[derive(Drop)]
-pub struct FileBlocks<F: FileExt + OpenFile + Seek + Drop> {
+pub struct FileBlocks<F: FileExt + LastingFile + Seek + Drop> {
     file: F,
     count: u32,
+    // How many writes have ended.
+    written: u64,
     failed_reads: u64,
     failed_writes: u64,
     is_lost: bool,
+    // What its preparer has flushed, where it has one.
+    flushes: Option<Arc<Flushes<F>, Global>>,
     ghost fits: { count < 2 ^ 32 },
     ghost some: { 0 < count },
 }
 
-impl<F: FileExt + OpenFile + Seek + Drop> Model for FileBlocks<F> {
+impl<F: FileExt + LastingFile + Seek + Drop> Model for FileBlocks<F> {
     ghost use Rattle.std.specs.Prelude.{◌<◌, ◌^◌};
     ghost use Rattle.disk_files.specs.FileDisk.{FileDisk};
 
@@ -41,6 +50,7 @@ impl<F: FileExt + OpenFile + Seek + Drop> Model for FileBlocks<F> {
     ghost view = { λ d. record {
       file = d.file;
       count = d.count;
+      written = d.written;
       failed_reads = d.failed_reads;
       failed_writes = d.failed_writes;
       is_lost = d.is_lost;
@@ -66,7 +76,7 @@ pub fn blocks_in(bytes: u64) -> Result<u32, FileFault>
     }
 }
 
-impl<F: FileExt + OpenFile + Seek + Drop> FileBlocks<F> {
+impl<F: FileExt + LastingFile + Seek + Drop> FileBlocks<F> {
     /// A file that is open for reading and writing. Its length is where it ends, which a block device has too.
     pub fn of(mut file: F) -> Result<FileBlocks<F>, FileFault>
         ensures { IfOk result (λ d. IsUnused d) }
@@ -81,15 +91,40 @@ impl<F: FileExt + OpenFile + Seek + Drop> FileBlocks<F> {
         Ok(FileBlocks {
             file,
             count,
+            written: 0,
             failed_reads: 0,
             failed_writes: 0,
             is_lost: false,
+            flushes: None,
         })
     }
 
     /// The handle.
     pub(crate) fn file(&self) -> &F {
         &self.file
+    }
+
+    /// From now on a preparer flushes the file before the device does, as it tells here.
+    pub fn share(&mut self, flushes: Arc<Flushes<F>, Global>)
+        ensures { IsSameDisk self.old self.new }
+    {
+        flushes.tell(self.written);
+        self.flushes = Some(flushes);
+    }
+
+    // Makes what was written last, where no flush has failed: nothing is to be done where the preparer did it.
+    fn make_last(&self) -> Result<(), DeviceFailed>
+        ensures { OnOk result (IsSettled F.lasts self.now.written) }
+    {
+        if let Some(flushes) = &self.flushes {
+            if flushes.is_lost() {
+                return Err(DeviceFailed);
+            }
+            if flushes.covers(self.written) {
+                return Ok(());
+            }
+        }
+        self.file.make_last(self.written)
     }
 
     /// Takes a handle through which the same file was opened anew, as the other controller's opener does. Its length has
@@ -127,7 +162,7 @@ fn ends_at<F: Seek>(file: &mut F, count: u32) -> bool {
     }
 }
 
-impl<F: FileExt + OpenFile + Seek + Drop> Blocks for FileBlocks<F> {
+impl<F: FileExt + LastingFile + Seek + Drop> Blocks for FileBlocks<F> {
     ghost claims = { false };
 
     ghost claims_moments = { false };
@@ -176,6 +211,7 @@ impl<F: FileExt + OpenFile + Seek + Drop> Blocks for FileBlocks<F> {
             result }
         ensures failed_writes { self.new.failed_writes ≡ self.old.failed_writes }
         ensures lost { self.new.is_lost ≡ self.old.is_lost }
+        ensures written { self.new.written ≡ self.old.written }
     {
         match self.file.read_exact_at(bytes, at(first)) {
             Ok(()) => Ok(()),
@@ -191,12 +227,17 @@ impl<F: FileExt + OpenFile + Seek + Drop> Blocks for FileBlocks<F> {
         ensures failed_writes { Counts (min self.old.failed_writes last_count) (min self.new.failed_writes last_count)
             result }
         ensures lost { self.new.is_lost ≡ self.old.is_lost }
+        // One that was begun has ended, well or not.
+        ensures written { OnOk result (self.new.written ≡ min (self.old.written + 1) last_count) }
+        ensures rises { self.old.written ≤ self.new.written }
     {
         // A write behind the end would make the file longer, with zeros in place of what was there.
         if !ends_at(&mut self.file, self.count) {
             return failed(&mut self.failed_writes);
         }
-        match self.file.write_all_at(bytes, at(first)) {
+        let end = self.file.write_all_at(bytes, at(first));
+        self.written = one_more(self.written, &self.flushes);
+        match end {
             Ok(()) => Ok(()),
             Err(_) => failed(&mut self.failed_writes),
         }
@@ -210,8 +251,10 @@ impl<F: FileExt + OpenFile + Seek + Drop> Blocks for FileBlocks<F> {
             result }
         ensures lost { self.old.is_lost ≡ true → IsErr result }
         ensures loses { OnErr result (self.new.is_lost ≡ true) }
+        ensures written { self.new.written ≡ self.old.written }
+        ensures lasts { OnOk result (IsSettled F.lasts self.old.written) }
     {
-        if !self.is_lost && self.file.sync_data().is_ok() {
+        if !self.is_lost && self.make_last().is_ok() {
             return Ok(());
         }
         self.is_lost = true;
@@ -222,6 +265,17 @@ impl<F: FileExt + OpenFile + Seek + Drop> Blocks for FileBlocks<F> {
 // The place of a block in its file.
 fn at(first: u32) -> u64 {
     BLOCK_LENGTH as u64 * u64::from(first)
+}
+
+// How many writes have ended behind one more, well or not.
+fn one_more<F: LastingFile>(written: u64, flushes: &Option<Arc<Flushes<F>, Global>>) -> u64
+    ensures { result ≡ min (written + 1) last_count }
+{
+    let written = written.saturating_add(1);
+    if let Some(flushes) = flushes {
+        flushes.tell(written);
+    }
+    written
 }
 
 // Counts a call that failed.

@@ -5,6 +5,8 @@
 mod blocks;
 mod disk;
 mod fault;
+mod file_preparer;
+mod flushes;
 pub mod laws;
 mod opener;
 mod registrations;
@@ -12,5 +14,7 @@ mod registrations;
 pub use blocks::{FileBlocks, blocks_in};
 pub use disk::{Disk, DiskLock, open_disk};
 pub use fault::{DiskFault, FileFault, RegistrationsFault};
+pub use file_preparer::FilePreparer;
+pub use flushes::{Flushes, LastingFile};
 pub use opener::FileOpener;
 pub use registrations::open_registrations;

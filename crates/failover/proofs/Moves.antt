@@ -1,11 +1,12 @@
 -- One more unit that went down.
-use Rattle.std.proofs.Common.{◌≡◌, ◌<◌, ◌≤◌, ◌+◌, ⊎_elim, ℕ, zero, suc, Bool, List, [], ◌∷◌, length, Option, Some}
+use Rattle.std.proofs.Common.{◌≡◌, ◌<◌, ◌≤◌, ◌+◌, ⊎_elim, ℕ, zero, suc, List, [], ◌∷◌, length, Option, Some}
 use Rattle.std.proofs.Common.{refl, arith, subst, ◌∙◌}
 use Rattle.std.proofs.lemmas.Bool.{cases_lt}
 use Rattle.std.specs.Prelude.{slice_get, slice_set, IfOk, IfErr, Result, Ok, Err}
 use Rattle.scsi_types.specs.declared.names.Group.{Group}
 use Rattle.unit_state.specs.Entry.{Entry}
 use Rattle.unit_state.specs.State.{UnitState}
+use Rattle.unit_history.specs.Devices.{Devices}
 use Rattle.failover.specs.Down.{AreDown, IsDown}
 
 -- what a call says of its end, where that is known
@@ -32,11 +33,11 @@ module _ {X : Type 0} where
   length_written (y ∷ xs) zero x = refl
   length_written (y ∷ xs) (suc n) x = let e = length_written xs n x in omega (arith, e)
 
-module _ (claims : Bool) (opening : ℕ → UnitState) (controller : Group) where
+module _ {B R O : Type 0} (d : Devices B R O) (opening : ℕ → UnitState) (controller : Group) where
   -- where the first n units are down, and the next goes down, so are the first n + 1
   pub one_more : (n : ℕ) (moves : List (Option (ℕ × List Entry))) (seen : ℕ × List Entry) → n < length moves
-      → AreDown claims opening controller n moves → IsDown claims (opening n) controller n (Some seen)
-      → AreDown claims opening controller (n + 1) (slice_set moves n (Some seen))
+      → AreDown d opening controller n moves → IsDown d (opening n) controller n (Some seen)
+      → AreDown d opening controller (n + 1) (slice_set moves n (Some seen))
   one_more n moves seen lt down is = λ place bound.
       ⊎_elim
       (λ (before : place < n).
@@ -45,6 +46,6 @@ module _ (claims : Bool) (opening : ℕ → UnitState) (controller : Group) wher
       (λ (from : n ≤ place).
       let e : n ≡ place = omega (arith, bound, from) in
       subst (λ (p : ℕ). (s : Option (ℕ × List Entry)) × (slice_get (slice_set moves n (Some seen)) p ≡ Some s)
-      × IsDown claims (opening p) controller p s) e
+      × IsDown d (opening p) controller p s) e
       (Some seen, get_written moves n (Some seen) lt, is))
       (cases_lt place n)

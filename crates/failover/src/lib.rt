@@ -1,8 +1,9 @@
 //! Moves of an array's units between its controllers, without a session that asks for them.
 #![tactic(auto)]
 
-ghost use Rattle.std.specs.Prelude.{◌≡◌, ◌<◌, ◌&&◌, IfOk, IfErr};
+ghost use Rattle.std.specs.Prelude.{◌≡◌, ◌<◌, IfOk, IfErr};
 ghost use Rattle.unit_history.specs.Calls.{HasMoved, HasStayed};
+ghost use Rattle.unit_history.specs.Devices.{devices};
 ghost use Rattle.failover.specs.Down.{AreDown, IsStopped, down_list};
 
 use access_states::Change;
@@ -50,9 +51,9 @@ pub fn set_groups<B: Blocks, R: Blocks, O: Opener<B>, N: Array<Opened>, W: Wait>
     requires { place < units.now }
     ensures place { result.0.0 ≡ place }
     ensures moved { IfOk result.1 (λ told.
-        HasMoved (O.claims && B.claims) (N.opening place) list.now result.0.1 told) }
+        HasMoved (devices B.Blocks R.Blocks O.Opener) (N.opening place) list.now result.0.1 told) }
     ensures stays { IfErr result.1 (λ why.
-        HasStayed (O.claims && B.claims) (N.opening place) list.now result.0.1 why) }
+        HasStayed (devices B.Blocks R.Blocks O.Opener) (N.opening place) list.now result.0.1 why) }
 {
     units.move_to(rt, place, list)
 }
@@ -65,10 +66,10 @@ pub fn take_down<B: Blocks, R: Blocks, O: Opener<B>, N: Array<Opened>, W: Wait>(
     units: &Units<B, R, O, N>,
     controller: Group,
 ) -> (Moves<B, R, O, N>, Result<(), NotMoved<B, R, O, N>>)
-    ensures down { IfOk result.1 (λ done. AreDown (O.claims && B.claims) N.opening controller units.now result.0) }
+    ensures down { IfOk result.1 (λ done. AreDown (devices B.Blocks R.Blocks O.Opener) N.opening controller units.now result.0) }
     ensures stopped { IfErr result.1 (λ end. (end.unit < units.now)
-        × AreDown (O.claims && B.claims) N.opening controller end.unit result.0
-        × IsStopped (O.claims && B.claims) (N.opening end.unit) controller end.unit end.seen end.why) }
+        × AreDown (devices B.Blocks R.Blocks O.Opener) N.opening controller end.unit result.0
+        × IsStopped (devices B.Blocks R.Blocks O.Opener) (N.opening end.unit) controller end.unit end.seen end.why) }
 {
     let list = down_list(controller);
     let mut moves = [None, None, None, None, None, None, None, None];

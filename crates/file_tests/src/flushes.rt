@@ -1,12 +1,13 @@
 //! Flushes after one that failed.
 use crate::files::want;
-use block_file::Blocks;
-use disk_files::FileBlocks;
+use block_file::{Blocks, DeviceFailed};
+use disk_files::{FileBlocks, Flushes, LastingFile};
+use std::alloc::Global;
 use std::cell::Cell;
-use std::fs::{Metadata, OpenFile};
 use std::io;
-use std::io::{ErrorKind, Seek, SeekFrom};
+use std::io::{Seek, SeekFrom};
 use std::os::unix::fs::FileExt;
+use std::sync::Arc;
 use std::test::Fail;
 
 /// A file of four blocks, of which one flush fails, counted from 0, or none.
@@ -41,24 +42,14 @@ impl Seek for Flushed {
     }
 }
 
-impl OpenFile for Flushed {
-    fn metadata(&self) -> io::Result<Metadata> {
-        Err(io::Error::from(ErrorKind::Unsupported))
-    }
+impl LastingFile for Flushed {
+    ghost lasts = { λ writes. Unit {0} };
 
-    fn set_len(&self, _size: u64) -> io::Result<()> {
-        Err(io::Error::from(ErrorKind::Unsupported))
-    }
-
-    fn sync_all(&self) -> io::Result<()> {
-        self.sync_data()
-    }
-
-    fn sync_data(&self) -> io::Result<()> {
+    fn make_last(&self, _writes: u64) -> Result<(), DeviceFailed> {
         let before = self.flushes.get();
         self.flushes.set(before.wrapping_add(1));
         if self.fails_at == Some(before) {
-            Err(io::Error::from(ErrorKind::Other))
+            Err(DeviceFailed)
         } else {
             Ok(())
         }
@@ -102,4 +93,39 @@ fn is_renewed(device: &mut FileBlocks<Flushed>, is_done: bool) -> Result<(), Fai
         want(flushes(device) == is_done, "a flush behind it")?;
     }
     Ok(())
+}
+
+// A device of that file, with a preparer that flushes before it.
+fn prepared(
+    alloc: Global,
+    fails_at: Option<u32>,
+) -> Result<(FileBlocks<Flushed>, Arc<Flushes<Flushed>, Global>), Fail> {
+    let mut device = device(fails_at)?;
+    let before = Arc::new(alloc, Flushes::new(0))?;
+    device.share(Arc::try_clone(&before)?);
+    Ok((device, before))
+}
+
+// The flushes of the device itself would all be done.
+#[test]
+fn a_flush_before_that_failed_is_told(rt: HostRuntime) -> Result<(), Fail> {
+    let (mut device, before) = prepared(rt.alloc(), None)?;
+    want(flushes(&mut device), "a flush that nothing stands before")?;
+    before.flush_before(&rt, &Flushed::new(Some(0)));
+    for _ in 0..2 {
+        want(!flushes(&mut device), "a flush behind one that failed")?;
+    }
+    Ok(())
+}
+
+// The flushes of the device itself would all fail.
+#[test]
+fn a_flush_before_is_enough_until_a_write_ends(rt: HostRuntime) -> Result<(), Fail> {
+    let (mut device, before) = prepared(rt.alloc(), Some(0))?;
+    before.flush_before(&rt, &Flushed::new(None));
+    for _ in 0..2 {
+        want(flushes(&mut device), "a flush behind one before")?;
+    }
+    want(device.write_run(1, &[0x11; 512]).is_ok(), "a write")?;
+    want(!flushes(&mut device), "a flush behind a write")
 }

@@ -12,4 +12,6 @@ mod lengths;
 #[cfg(test)]
 mod locks;
 #[cfg(test)]
+mod preparers;
+#[cfg(test)]
 mod registrations;

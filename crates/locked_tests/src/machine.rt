@@ -83,7 +83,12 @@ impl Machine<Noted, Opened> for Counter {
 
     ghost moved = { λ s h list change. ⊥ };
 
-    ghost lasts = { λ c. Unit {0} };
+    // It has no device.
+    ghost worked = { λ session ask bytes reply old new. Unit {0} };
+
+    ghost handed_over = { λ old new. Unit {0} };
+
+    ghost flushed = { λ old new end. Unit {0} };
 
     fn row(&self) -> Row {
         self.shown()

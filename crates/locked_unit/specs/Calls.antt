@@ -39,6 +39,26 @@ IsAdded own legal before after P =
     (between : List _) × (e : _) × (counted own before.session between ≡ 0)
     × (after.seen ≡ (before.seen ++ between) ++ e ∷ []) × legal after.seen × P (before.seen ++ between) e
 
+-- What is locked was what the beginning of a history leaves, and is what the history leaves that has one entry more; and this
+-- is so of both.
+pub record IsBetween {E X : Type 0} (after : List E → X → Type 0) (history : List E) (P : X → X → Type 0) : Type 0 where
+  pub earlier : List E
+  pub entry : E
+  pub ends : history ≡ earlier ++ entry ∷ []
+  pub old : X
+  pub new : X
+  pub before : after earlier old
+  pub behind : after history new
+  pub is : P old new
+
+-- It was what a history leaves, before a call that is no entry and behind it; and this is so of both.
+pub record IsBeside {E X : Type 0} (after : List E → X → Type 0) (history : List E) (P : X → X → Type 0) : Type 0 where
+  pub old : X
+  pub new : X
+  pub before : after history old
+  pub behind : after history new
+  pub is : P old new
+
 -- What a call that is none leaves: the pass has seen a legal history, which begins with all that it had seen and has no new
 -- entry of the session's own.
 abbrev pub IsRefused : {E : Type 0} → (ℕ → E → ℕ) → (List E → Type 0) → Known E → Known E → Type 0

@@ -1,7 +1,7 @@
 //! The unit under its lock.
 ghost use Rattle.std.specs.Prelude.{◌≡◌, ◌+◌, ◌++◌, ◌∷◌, [], length, IfOk, IfErr, MatchBool, List};
 ghost use mathlib.Core.List.{IsPrefix};
-ghost use Rattle.locked_unit.specs.Calls.{IsAdded, IsRefused, IsCause};
+ghost use Rattle.locked_unit.specs.Calls.{IsAdded, IsBeside, IsBetween, IsRefused, IsCause};
 
 use crate::machine::{Machine, Refused};
 use crate::pass::PassAt;
@@ -137,6 +137,8 @@ impl<E, S, X: Machine<E, S>, N: Array<S>, const U: usize> Locked<E, S, X, N, U> 
         ensures reply { IfOk result.1 (λ reply. IsAdded X.own (X.legal (N.opening U)) pass result.0
             (λ h e. X.asks pass.session pass.serial by_group.now ask.now bytes.now e × X.told (N.opening U) h e reply)) }
         ensures next { IfOk result.1 (λ reply. (result.0.session ≡ pass.session) × (result.0.serial ≡ pass.serial + 1)) }
+        ensures worked { IfOk result.1 (λ reply. IsBetween (X.after (N.opening U)) result.0.seen
+            (X.worked pass.session ask.now bytes.now reply)) }
         ensures refused { IfErr result.1 (λ why. IsRefused X.own (X.legal (N.opening U)) pass result.0) }
         ensures cause { IfErr result.1 (λ why. IsCause (X.gone (N.opening U) result.0.seen pass.session)
             (X.owner (N.opening U) result.0.seen)
@@ -290,6 +292,10 @@ impl<E, S, X: Machine<E, S>, N: Array<S>, const U: usize> Locked<E, S, X, N, U> 
         ensures legal { X.legal (N.opening U) result.0 }
         ensures moved { IfOk result.1 (λ change. (result.0 ≡ self.old ++ X.moving list.now ∷ [])
             × X.moved (N.opening U) self.old list.now change) }
+        ensures handed_over { IfOk result.1 (λ change. IsBetween (X.after (N.opening U)) result.0
+            (λ old new. X.handed_over old new result.1)) }
+        ensures not_handed_over { IfErr result.1 (λ why. IsBeside (X.after (N.opening U)) result.0
+            (λ old new. X.handed_over old new result.1)) }
         ensures stays { IfErr result.1 (λ why. X.stays (N.opening U) result.0 list.now why × (result.0 ≡ self.old)) }
         ensures seen { self.new ≡ result.0 }
     {
@@ -316,7 +322,8 @@ impl<E, S, X: Machine<E, S>, N: Array<S>, const U: usize> Locked<E, S, X, N, U> 
     /// Makes what was written last. It is no entry.
     pub(crate) fn flush(&mut self) -> Result<(), X::Fault>
         ensures same { self.new ≡ self.old }
-        ensures done { IfOk result (λ done. (h : List E) × (x : X) × X.legal (N.opening U) h × X.after (N.opening U) h x × X.lasts x) }
+        ensures flushed { (h : List E) × X.legal (N.opening U) h
+            × IsBeside (X.after (N.opening U)) h (λ old new. X.flushed old new result) }
     {
         self.object.flush()
     }

@@ -16,6 +16,7 @@ pub enum Refused<G> {
 /// A state whose calls are the entries of a history. Each call says what it makes of any history that leads to the state.
 pub trait Machine<E, S>: Published<E, S> + Drop {
     ghost use Rattle.std.specs.Prelude.{◌≡◌, ℕ, ◌+◌, ◌<◌, ◌^◌, ◌++◌, ◌∷◌, [], List, length, IfSome, IfNone, IfOk, IfErr};
+    ghost use Rattle.std.specs.Prelude.{Result};
     ghost use Rattle.std.specs.Prelude.{MatchBool};
     ghost use Rattle.status.specs.Views.{IsOwn, IsFree, counted};
     ghost use Rattle.locked_unit.specs.Calls.{IsCause};
@@ -67,6 +68,10 @@ pub trait Machine<E, S>: Published<E, S> + Drop {
     // Behind this history this entry is answered so.
     ghost told: { S → List E → E → Self.Reply → Type 0 };
 
+    // What became of the devices in a command of this session: by what was asked, its reply, and the state before it and after
+    // it.
+    ghost worked: { ℕ → Self.Ask → List ℕ → Self.Reply → Self → Self → Type 0 };
+
     // No session of this name may attach.
     ghost full: { S → List E → Self.Name → Type 0 };
 
@@ -88,8 +93,11 @@ pub trait Machine<E, S>: Published<E, S> + Drop {
     // What it moved by this list told.
     ghost moved: { S → List E → List ℕ → Self.Change → Type 0 };
 
-    // What was written lasts.
-    ghost lasts: { Self → Type 0 };
+    // What became of them in a move with this end.
+    ghost handed_over: { Self → Self → Result Self.Change Self.Stays → Type 0 };
+
+    // What became of them in a flush with this end.
+    ghost flushed: { Self → Self → Result (Unit {0}) Self.Fault → Type 0 };
 
     /// The row of its history.
     fn row(&self) -> Row
@@ -131,13 +139,14 @@ pub trait Machine<E, S>: Published<E, S> + Drop {
             → Self.legal s (h ++ moving list.now ∷ []) × after s (h ++ moving list.now ∷ []) self.new
             × moved s h list.now change × (length h + 1 < 2 ^ 64)) }
         ensures entry { IsFree Self.own Self.command (moving list.now) }
+        ensures handed_over { handed_over self.old self.new result }
         ensures refused { IfErr result (λ why. (s : S) (h : List E) → Self.legal s h → after s h self.old
             → after s h self.new × stays s h list.now why) };
 
     /// Makes what was written last. It is no entry.
     fn flush(&mut self) -> Result<(), Self::Fault>
         ensures same { (s : S) (h : List E) → Self.legal s h → after s h self.old → after s h self.new }
-        ensures done { IfOk result (λ done. lasts self.new) };
+        ensures flushed { flushed self.old self.new result };
 
     /// Serves a command of a session.
     fn step(
@@ -159,6 +168,7 @@ pub trait Machine<E, S>: Published<E, S> + Drop {
             × (Self.command session (serving session serial by_group.now ask.now bytes.now reply self.new) ≡ 1)
             × asks session serial by_group.now ask.now bytes.now (serving session serial by_group.now ask.now bytes.now reply self.new)
             × (serial + 1 < 2 ^ 64)) }
+        ensures worked { IfOk result (λ reply. worked session ask.now bytes.now reply self.old self.new) }
         ensures same { IfErr result (λ why. (s : S) (h : List E) → Self.legal s h → after s h self.old → after s h self.new) }
         ensures cause { IfErr result (λ why. (s : S) (h : List E) → Self.legal s h → after s h self.old
             → counted Self.command session h + 1 ≡ serial

@@ -1,5 +1,5 @@
 //! What a session has seen, and its right to add to it.
-ghost use Rattle.std.specs.Prelude.{◌≡◌, length, MatchBool};
+ghost use Rattle.std.specs.Prelude.{◌≡◌, ◌⊎◌, length, MatchBool};
 ghost use mathlib.Core.List.{IsPrefix};
 
 use numbering::{AnyHistory, Array, At, History};
@@ -48,6 +48,25 @@ impl<E, S, P: Published<E, S>, N: Array<S>> LegalHistory<E, S, P, N> {
         ensures { result ≡ length self.now.1 }
     {
         self.seen.len()
+    }
+
+    /// All that is seen of one unit stands in one history: of two such, one begins the other. It does nothing, and waits for
+    /// nobody.
+    pub fn in_one_history(&self, other: &LegalHistory<E, S, P, N>)
+        requires { other.now.0 ≡ self.now.0 }
+        ensures { IsPrefix self.now.1 other.now.1 ⊎ IsPrefix other.now.1 self.now.1 }
+    {
+        self.seen.in_one_history(&other.seen);
+    }
+
+    /// A copy, which takes no memory.
+    pub fn again(&self) -> LegalHistory<E, S, P, N>
+        ensures { result ≡ self.now }
+    {
+        LegalHistory {
+            seen: self.seen.again(),
+            of: PhantomData,
+        }
     }
 
     /// Whether it is of the same unit and as long: then it is the same history.

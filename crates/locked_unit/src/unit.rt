@@ -1,7 +1,7 @@
 //! One unit, which all threads share.
 ghost use Rattle.std.specs.Prelude.{◌≡◌, ◌≤◌, ◌+◌, ◌++◌, ◌∷◌, [], length, IfOk, IfErr, MatchBool, List, All};
 ghost use mathlib.Core.List.{IsPrefix};
-ghost use Rattle.locked_unit.specs.Calls.{IsAdded, IsRefused, IsCause};
+ghost use Rattle.locked_unit.specs.Calls.{IsAdded, IsBeside, IsBetween, IsRefused, IsCause};
 
 use crate::locked::Locked;
 use crate::machine::{Machine, Refused};
@@ -126,6 +126,8 @@ impl<E, S, X: Machine<E, S>, N: Array<S>, const U: usize> SharedUnit<E, S, X, N,
             × X.told (N.opening U) h e reply)) }
         ensures next { IfOk result.1 (λ reply. (result.0.pass.session ≡ pass.pass.session)
             × (result.0.pass.serial ≡ pass.pass.serial + 1)) }
+        ensures worked { IfOk result.1 (λ reply. IsBetween (X.after (N.opening U)) result.0.pass.seen
+            (X.worked pass.pass.session ask.now bytes.now reply)) }
         ensures refused { IfErr result.1 (λ why. IsRefused X.own (X.legal (N.opening U)) pass.pass result.0.pass) }
         ensures cause { IfErr result.1 (λ why. IsCause (X.gone (N.opening U) result.0.pass.seen pass.pass.session)
             (X.owner (N.opening U) result.0.pass.seen)
@@ -181,6 +183,10 @@ impl<E, S, X: Machine<E, S>, N: Array<S>, const U: usize> SharedUnit<E, S, X, N,
         ensures legal { (result.0.0 ≡ U) × X.legal (N.opening U) result.0.1 }
         ensures moved { IfOk result.1 (λ change. (h : List E) × (result.0.1 ≡ h ++ X.moving list.now ∷ [])
             × X.moved (N.opening U) h list.now change) }
+        ensures handed_over { IfOk result.1 (λ change. IsBetween (X.after (N.opening U)) result.0.1
+            (λ old new. X.handed_over old new result.1)) }
+        ensures not_handed_over { IfErr result.1 (λ why. IsBeside (X.after (N.opening U)) result.0.1
+            (λ old new. X.handed_over old new result.1)) }
         ensures stays { IfErr result.1 (λ why. X.stays (N.opening U) result.0.1 list.now why) }
     {
         let (seen, end) = self.lock(rt).move_to(rt, &self.posted, list);
@@ -206,10 +212,10 @@ impl<E, S, X: Machine<E, S>, N: Array<S>, const U: usize> SharedUnit<E, S, X, N,
         (Pass::of::<U>(one), Pass::of::<U>(two))
     }
 
-    /// Makes what was written last: where it is done, the unit that some legal history led to lasts. It is no entry.
+    /// Makes what was written last, of the unit that some legal history led to. It is no entry.
     pub fn flush<R: Wait>(&self, rt: &R) -> Result<(), X::Fault>
-        ensures { IfOk result (λ done. (h : List E) × (x : X) × X.legal (N.opening U) h × X.after (N.opening U) h x
-            × X.lasts x) }
+        ensures { (h : List E) × X.legal (N.opening U) h
+            × IsBeside (X.after (N.opening U)) h (λ old new. X.flushed old new result) }
     {
         self.lock(rt).flush()
     }

@@ -1,5 +1,5 @@
 -- Beginnings of one list.
-use Rattle.std.proofs.Common.{◌≡◌, ◌≤◌, List, [], ◌∷◌, ◌++◌, length, refl, ap, sym, ◌∙◌, arith, append_assoc}
+use Rattle.std.proofs.Common.{◌≡◌, ◌≤◌, ◌⊎◌, inl, inr, ⊎_elim, List, [], ◌∷◌, ◌++◌, length, refl, ap, sym, ◌∙◌, arith, append_assoc}
 use mathlib.Core.List.{IsPrefix}
 
 -- of two beginnings of one list the shorter begins the longer
@@ -12,6 +12,16 @@ prefix_shorter (x ∷ xs) (y ∷ ys) (z ∷ zs) p q le =
     let heads : x ≡ y = cc (p.1, q.1) in
     let rest = prefix_shorter xs ys zs (p.0, cc (p.1)) (q.0, cc (q.1)) (omega arith) in
     (rest.0, cc (heads, rest.1))
+
+-- of two beginnings of one list one begins the other
+pub one_begins : {A : Type 0} (xs ys zs : List A) → IsPrefix xs zs → IsPrefix ys zs → IsPrefix xs ys ⊎ IsPrefix ys xs
+one_begins [] ys zs p q = inl (ys, refl)
+one_begins (x ∷ xs) [] zs p q = inr (x ∷ xs, refl)
+one_begins (x ∷ xs) (y ∷ ys) [] p q = absurd (cc (p.1))
+one_begins (x ∷ xs) (y ∷ ys) (z ∷ zs) p q =
+    let heads : x ≡ y = cc (p.1, q.1) in
+    ⊎_elim (λ (l : IsPrefix xs ys). inl (l.0, cc (heads, l.1))) (λ (r : IsPrefix ys xs). inr (r.0, cc (heads, r.1)))
+    (one_begins xs ys zs (p.0, cc (p.1)) (q.0, cc (q.1)))
 
 -- a beginning as long as the whole is the whole
 pub prefix_whole : {A : Type 0} (xs ys : List A) → IsPrefix xs ys → length ys ≤ length xs → xs ≡ ys

@@ -120,6 +120,15 @@ impl<E, S, N: Array<S>> AnyHistory<E, S, N> {
         true
     }
 
+    /// All that is seen of one unit stands in one history: of two such, one begins the other.
+    pub fn in_one_history(&self, other: &AnyHistory<E, S, N>)
+        requires { other.now.0 ≡ self.now.0 }
+        ensures { IsPrefix self.now.1 other.now.1 ⊎ IsPrefix other.now.1 self.now.1 }
+    {
+        let mut both = self.seen.again();
+        both.learn(&other.seen);
+    }
+
     /// As a history of the unit at its place.
     pub fn at<const U: usize>(self) -> History<E, At<S, N, U>>
         requires { self.0 ≡ U }

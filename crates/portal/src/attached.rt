@@ -88,7 +88,7 @@ impl<P: Pass> Attached<P> {
         let Some(pass) = self.pass.take() else {
             unreachable!()
         };
-        gate.pass(unit, pass.next_serial());
+        gate.pass(unit, pass.next_serial(), asked);
         let (pass, end) = units.serve(rt, alloc, pass, self.by_group, asked, bytes);
         self.pass = Some(pass);
         if let Err(Unserved::ByUnit(Refused::Moved(owner))) = end {

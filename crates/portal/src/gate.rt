@@ -1,15 +1,71 @@
 //! What stands before a unit.
 
-/// What each command passes before its unit is asked: in a test it may wait there.
+use preparer::Preparer;
+use scsi_types::{Asked, Command};
+
+/// What each command passes before its unit is asked. It answers nothing: it may take its time, and no more.
 pub trait Gate {
     /// The command with this serial of a session is about to be submitted to a unit.
-    fn pass(&self, unit: u8, serial: u64);
+    fn pass(&self, unit: u8, serial: u64, asked: &Asked);
+
+    /// A command that waits to be served, of a unit or of none.
+    fn foresee(&self, _unit: u8, _asked: &Asked) {}
 }
 
-/// The gate of the product, which is open.
+/// The gate that is open.
 #[derive(Clone, Copy, Debug, Drop)]
 pub struct Open;
 
 impl Gate for Open {
-    fn pass(&self, _unit: u8, _serial: u64) {}
+    fn pass(&self, _unit: u8, _serial: u64, _asked: &Asked) {}
+}
+
+/// The gate of the product: each unit's disk is made ready for what is to come, by a preparer of its own.
+#[derive(Drop)]
+pub struct Prepared<P: Preparer> {
+    of: Vec<P>,
+}
+
+impl<P: Preparer> Prepared<P> {
+    /// The gate before units with these preparers, in order.
+    pub fn new(of: Vec<P>) -> Prepared<P> {
+        Prepared { of }
+    }
+}
+
+impl<P: Preparer> Gate for Prepared<P> {
+    fn pass(&self, unit: u8, _serial: u64, asked: &Asked) {
+        let Some(preparer) = self.of.get(usize::from(unit)) else {
+            return;
+        };
+        match asked {
+            Ok(Command::Read { lba, blocks, .. }) => preparer.warm(*lba, *blocks),
+            Ok(Command::Write { lba, blocks, fua }) => {
+                preparer.warm_edges(*lba, *blocks);
+                if *fua {
+                    preparer.flush();
+                }
+            }
+            Ok(Command::CompareAndWrite { lba, blocks, fua }) => {
+                preparer.warm(*lba, *blocks);
+                if *fua {
+                    preparer.flush();
+                }
+            }
+            Ok(Command::SynchronizeCache { .. }) => preparer.flush(),
+            _ => {}
+        }
+    }
+
+    fn foresee(&self, unit: u8, asked: &Asked) {
+        let Some(preparer) = self.of.get(usize::from(unit)) else {
+            return;
+        };
+        match asked {
+            Ok(Command::Read { lba, blocks, .. }) => preparer.advise(*lba, *blocks),
+            Ok(Command::CompareAndWrite { lba, blocks, .. }) => preparer.advise(*lba, *blocks),
+            Ok(Command::Write { lba, blocks, .. }) => preparer.advise_edges(*lba, *blocks),
+            _ => {}
+        }
+    }
 }

@@ -346,6 +346,12 @@ impl<'a, R: Wait, U: LogicalUnits<P> + Drop, G: Gate + Drop, C: Connection + Dro
         }
     }
 
+    fn foresee(&self, unit: Option<u8>, asked: &Asked) {
+        if let Some(unit) = unit {
+            self.device.gate.foresee(unit, asked);
+        }
+    }
+
     fn serve(&mut self, unit: Option<u8>, asked: Asked, bytes: &[u8]) -> TargetAnswer {
         match unit {
             Some(unit) if unit < self.device.units.units() => { self.serve_at(unit, &asked, bytes) }

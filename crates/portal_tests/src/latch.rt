@@ -1,5 +1,6 @@
 //! A latch that holds what comes to a unit: its commands before they reach it, or the writes of its device.
 use portal::Gate;
+use scsi_types::Asked;
 use std::sync::{Condvar, Mutex, Wait};
 
 /// What a latch does, and how many calls it holds.
@@ -62,7 +63,7 @@ impl<R: Wait + Drop> Latch<R> {
 }
 
 impl<R: Wait + Drop> Gate for Latch<R> {
-    fn pass(&self, unit: u8, _serial: u64) {
+    fn pass(&self, unit: u8, _serial: u64, _asked: &Asked) {
         self.wait_at(unit);
     }
 }

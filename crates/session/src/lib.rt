@@ -11,6 +11,7 @@
 //! the two phases, `waiting_commands` the writes that wait for data, `pdu_stream` how bytes come and leave.
 #![tactic(auto)]
 
+mod ahead;
 mod phases;
 mod stream;
 

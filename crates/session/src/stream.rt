@@ -9,6 +9,7 @@ ghost use Rattle.session_rules.specs.declared.opening.Opening.{Opening};
 ghost use Rattle.session.specs.Stream.{OpensWith, IsFresh};
 ghost use Rattle.session.specs.Transcript.{HasPassed, IsTranscribed, IsFailureOf};
 
+use crate::ahead::look_ahead;
 use crate::phases::Phases;
 use iscsi_pdu::LONGEST_PDU;
 use pdu_stream::{Failed, Front, INBOX_CAPACITY, Inbox, Outbox, Sink, Source, front_of};
@@ -118,7 +119,10 @@ fn pass<S: Source, K: Sink, T: Target>(
                 }
                 match read_more(inbox, outbox, source) {
                     Ok(0) => return End::EndOfInput,
-                    Ok(_) => reads += 1,
+                    Ok(_) => {
+                        look_ahead(target, inbox.bytes());
+                        reads += 1;
+                    }
                     Err(_) => return End::InputFailed,
                 }
             }

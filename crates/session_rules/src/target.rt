@@ -64,6 +64,10 @@ pub trait Target {
     fn end(&mut self)
         ensures { leads self.old over self.new };
 
+    /// A command that has come, for the unit that its LUN names, and that is to be served when those before it are. A target
+    /// may have its disk fetch what the command needs: nothing else, for it may never be served.
+    fn foresee(&self, _unit: Option<u8>, _asked: &Asked) {}
+
     /// Serves a command of the unit that its LUN names, with the bytes that came for it: of a write as many as it
     /// needs and the initiator expects to send, else none. `unit` is none where the LUN names no unit.
     fn serve(&mut self, unit: Option<u8>, asked: Asked, bytes: &[u8]) -> TargetAnswer

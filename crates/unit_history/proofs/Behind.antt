@@ -2,12 +2,11 @@
 use Rattle.std.proofs.Common.{◌≡◌, ◌≢◌, ◌⊎◌, inl, inr, ⊎_elim, ℕ, ◌+◌, ◌<◌, ◌≤◌, ◌^◌, nat_eq, Bool, true, false, not}
 use Rattle.std.proofs.Common.{if◌then◌else◌, ◌&&◌, List, [], ◌∷◌, ◌++◌, length, Option, Some, None, Result, Ok, Err, refl, sym, ap}
 use Rattle.std.proofs.Common.{◌∙◌, subst, arith}
-use Rattle.std.specs.Prelude.{IfOk, IsSome, IsTrue}
+use Rattle.std.specs.Prelude.{IsSome, IsTrue}
 use Rattle.std.proofs.lemmas.Bool.Decides.{eqb_tells}
 use Rattle.access_states.specs.AccessMap.{AccessMapValue, owner_of}
 use Rattle.access_states.specs.Change.{change_between}
 use Rattle.access_states.specs.declared.change.Change.{Change}
-use Rattle.block_file.specs.Disk.{Only}
 use Rattle.block_file.specs.Failures.{Tells, last_count}
 use Rattle.scsi_types.specs.Nexus.{Nexus}
 use Rattle.scsi_types.specs.ReplyValue.{ReplyValue}
@@ -33,7 +32,6 @@ use Rattle.unit_state.specs.Serials.{IsNumbered, IsOpening, commands_of}
 use Rattle.unit_state.specs.SerialLaws.{numbered}
 use Rattle.unit_state.specs.Step.{IsStep, TakesMemory, entry_of}
 use Rattle.unit_history.specs.Histories.{IsHistory, IsBehind, IsToldBehind, own, command}
-use Rattle.unit_history.specs.Calls.{HasFlushed}
 use Rattle.unit_history.specs.Causes.{IsFull, IsGone, IsAbsent, IsOwner, WantsMemory, IsMoveTold}
 
 -- ---- whose entries they are
@@ -322,10 +320,3 @@ module _ {B R O : Type 0} (claims : Bool) (contents : B → List (List ℕ)) (fa
     blocks = λ c. ap (λ (x : UnitState). x.blocks) (sym is);
     failed = omega arith;
   }
-
-  pub flushed : (device_claims : Bool) (may_hold : B → ℕ → List ℕ → Type 0) (s : UnitState) {T F : Type 0} (r : Result T F)
-      → IfOk r (λ done. (h : List Entry) × (u : UnitValue B R O) × IsHistory claims s h × Is s h u
-      × (IsTrue device_claims → Only (contents u.device) (may_hold u.device)))
-      → IfOk r (λ done. HasFlushed claims device_claims contents may_hold failures opens_failed file_failures s)
-  flushed device_claims may_hold s (Ok done) f = record { history = f.0; unit = f.1; legal = f.2; behind = f.3; lasts = f.4 }
-  flushed device_claims may_hold s (Err why) f = tt

@@ -1,9 +1,9 @@
 -- What each call of a shared unit promises, said of the history that its pass has then seen.
-use Rattle.std.specs.Prelude.{◌≡◌, ℕ, ◌+◌, Bool, IsTrue, List, [], ◌∷◌, ◌++◌, length, Result}
+use Rattle.std.specs.Prelude.{◌≡◌, ℕ, ◌+◌, Bool, List, [], ◌∷◌, ◌++◌, length, Result, Ok, Err}
 use mathlib.Core.List.{IsPrefix}
 use Rattle.access_states.specs.declared.change.Change.{Change}
-use Rattle.block_file.specs.Disk.{Only}
-use Rattle.locked_unit.specs.Calls.{Known, IsAdded, IsRefused, IsCause}
+use Rattle.block_file.specs.declared.blocks.DeviceFailed.{DeviceFailed}
+use Rattle.locked_unit.specs.Calls.{Known, IsAdded, IsBeside, IsBetween, IsRefused, IsCause}
 use Rattle.locked_unit.specs.declared.machine.Refused.{Refused}
 use Rattle.scsi_types.specs.Nexus.{Nexus}
 use Rattle.scsi_types.specs.ReplyValue.{ReplyValue}
@@ -15,6 +15,7 @@ use Rattle.status.specs.declared.row.Row.{Row}
 use Rattle.unit_state.specs.State.{UnitState, UnitValue}
 use Rattle.unit_state.specs.Choice.{Fine}
 use Rattle.unit_state.specs.Entry.{Entry, Attach, Reset, Move}
+use Rattle.unit_history.specs.Devices.{Devices, claims_of, HaveFlushed, HaveMoved, HaveWorked}
 use Rattle.unit_history.specs.Histories.{IsBehind, IsHistory, IsCommand, IsToldBehind, own}
 use Rattle.unit_history.specs.RowOf.{row_behind}
 use Rattle.unit_history.specs.Causes.{IsAbsent, IsFull, IsGone, IsMoveTold, IsOwner, IsStay, WantsMemory}
@@ -42,6 +43,16 @@ HasServed claims s before after by_group asked bytes reply =
     (λ h e. IsCommand before.session before.serial by_group asked bytes e × IsToldBehind claims s h e reply)
     × IsNextSerial before after
 
+-- the unit is what the history leaves, as far as its devices' types claim it, and they have counted what it tells as failed
+abbrev pub IsLeft : {B R O : Type 0} → Devices B R O → UnitState → List Entry → UnitValue B R O → Type 0
+IsLeft d s = IsBehind (claims_of d) d.blocks.contents d.blocks.failures d.opener.opens_failed d.file.failures s
+
+-- What became of the devices in a command that was served, which is the last entry of this history: of the unit that the history
+-- before it left, and the one that it left.
+abbrev pub HasWorked : {B R O : Type 0} → Devices B R O → UnitState → ℕ → Result ScsiCommand CdbFault → List ℕ → ReplyValue
+    → List Entry → Type 0
+HasWorked d s session asked bytes reply history = IsBetween (IsLeft d s) history (HaveWorked d session asked bytes reply)
+
 -- A command was not served: its pass has seen a legal history that begins with all that it had seen and has no new Command,
 -- Reset or Detach of its session; and behind it the session is gone, or this other group owns the unit, or the command takes
 -- memory.
@@ -68,15 +79,19 @@ abbrev pub HasRetired : Bool → UnitState → Known Entry → List Entry → Ty
 HasRetired claims s before history =
     IsPrefix before.seen history × IsHistory claims s history × IsAbsent s history before.session
 
--- The unit moved: this is a legal history that ends with this Move, and this is what changed.
-abbrev pub HasMoved : Bool → UnitState → List ℕ → List Entry → Change → Type 0
-HasMoved claims s list history told =
-    IsHistory claims s history
-    × ((h : List Entry) × (history ≡ h ++ Move list Fine ∷ []) × IsMoveTold s h list told)
+-- The unit moved: this is a legal history that ends with this Move, this is what changed, and this became of the devices.
+pub record HasMoved {B R O : Type 0} (d : Devices B R O) (s : UnitState) (list : List ℕ) (history : List Entry) (told : Change)
+    : Type 0 where
+  pub legal : IsHistory (claims_of d) s history
+  pub ends : (h : List Entry) × (history ≡ h ++ Move list Fine ∷ []) × IsMoveTold s h list told
+  pub moved : IsBetween (IsLeft d s) history (λ old new. HaveMoved d old new (Ok told))
 
--- The unit stays: this is a legal history that shows why.
-abbrev pub HasStayed : Bool → UnitState → List ℕ → List Entry → MoveFault → Type 0
-HasStayed claims s list history why = IsHistory claims s history × IsStay s history list why
+-- The unit stays: this is a legal history that shows why, and this became of the devices.
+pub record HasStayed {B R O : Type 0} (d : Devices B R O) (s : UnitState) (list : List ℕ) (history : List Entry) (why : MoveFault)
+    : Type 0 where
+  pub legal : IsHistory (claims_of d) s history
+  pub stays : IsStay s history list why
+  pub kept : IsBeside (IsLeft d s) history (λ old new. HaveMoved d old new (Err why))
 
 -- Two sessions have met: both passes have then seen one legal history, which begins with all that either had seen.
 pub record HaveMet (claims : Bool) (s : UnitState) (one two first second : Known Entry) : Type 0 where
@@ -87,14 +102,11 @@ pub record HaveMet (claims : Bool) (s : UnitState) (one two first second : Known
   pub sessions : (first.session ≡ one.session) × (second.session ≡ two.session)
   pub serials : (first.serial ≡ one.serial) × (second.serial ≡ two.serial)
 
--- What was written lasts: there was a legal history, and the unit that it led to, of which a crash left just its blocks.
-pub record HasFlushed {B R O : Type 0} (claims device_claims : Bool) (contents : B → List (List ℕ)) (may_hold : B → ℕ → List ℕ → Type 0)
-    (failures : B → ℕ) (opens_failed : O → ℕ) (file_failures : R → ℕ) (s : UnitState) : Type 0 where
+-- The unit that a legal history left was flushed, which came to this end.
+pub record HasFlushed {B R O : Type 0} (d : Devices B R O) (s : UnitState) (end : Result (Unit {0}) DeviceFailed) : Type 0 where
   pub history : List Entry
-  pub unit : UnitValue B R O
-  pub legal : IsHistory claims s history
-  pub behind : IsBehind claims contents failures opens_failed file_failures s history unit
-  pub lasts : IsTrue device_claims → Only (contents unit.device) (may_hold unit.device)
+  pub legal : IsHistory (claims_of d) s history
+  pub flushed : IsBeside (IsLeft d s) history (λ old new. HaveFlushed d old new end)
 
 -- The board shows the row of a legal history.
 pub record IsShown (claims : Bool) (s : UnitState) (row : Row) : Type 0 where

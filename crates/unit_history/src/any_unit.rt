@@ -3,7 +3,8 @@ ghost use Rattle.std.specs.Prelude.{◌≡◌, ◌≤◌, ◌&&◌, ℕ, [], len
 ghost use mathlib.Core.List.{IsPrefix};
 ghost use Rattle.reservations.specs.Nexus.{IsPortName, through};
 ghost use Rattle.unit_history.specs.Calls.{HasAttached, HasNoRoom, HasServed, HasRefused, HasReset, WasGone, HasRetired};
-ghost use Rattle.unit_history.specs.Calls.{HasFlushed, HasMoved, HasStayed, HaveMet, IsShown};
+ghost use Rattle.unit_history.specs.Calls.{HasFlushed, HasMoved, HasStayed, HasWorked, HaveMet, IsShown};
+ghost use Rattle.unit_history.specs.Devices.{devices};
 ghost use Rattle.unit_history.specs.Places.{place_of};
 
 use crate::entry::Opened;
@@ -95,6 +96,8 @@ impl<B: Blocks, R: Blocks, O: Opener<B>, N: Array<Opened>> AnyUnit<B, R, O, N> {
         ensures place { result.0.place ≡ place_of self.now }
         ensures served { IfOk result.1 (λ reply. HasServed (O.claims && B.claims) (N.opening (place_of self.now)) pass.pass
             result.0.pass by_group.now asked.now bytes.now reply) }
+        ensures worked { IfOk result.1 (λ reply. HasWorked (devices B.Blocks R.Blocks O.Opener) (N.opening (place_of self.now))
+            pass.pass.session asked.now bytes.now reply result.0.pass.seen) }
         ensures refused { IfErr result.1 (λ why. HasRefused (O.claims && B.claims) (N.opening (place_of self.now)) pass.pass
             result.0.pass by_group.now asked.now bytes.now why) }
     {
@@ -139,9 +142,9 @@ impl<B: Blocks, R: Blocks, O: Opener<B>, N: Array<Opened>> AnyUnit<B, R, O, N> {
     ) -> (LegalHistory<B, R, O, N>, Result<Change, MoveFault>)
         ensures place { result.0.0 ≡ place_of self.now }
         ensures moved { IfOk result.1 (λ told.
-            HasMoved (O.claims && B.claims) (N.opening (place_of self.now)) list.now result.0.1 told) }
+            HasMoved (devices B.Blocks R.Blocks O.Opener) (N.opening (place_of self.now)) list.now result.0.1 told) }
         ensures stays { IfErr result.1 (λ why.
-            HasStayed (O.claims && B.claims) (N.opening (place_of self.now)) list.now result.0.1 why) }
+            HasStayed (devices B.Blocks R.Blocks O.Opener) (N.opening (place_of self.now)) list.now result.0.1 why) }
     {
         each!(self, seated, seated.unit.move_to(rt, list))
     }
@@ -161,8 +164,7 @@ impl<B: Blocks, R: Blocks, O: Opener<B>, N: Array<Opened>> AnyUnit<B, R, O, N> {
 
     /// Makes what was written last, as [`SharedUnit::flush`].
     pub(crate) fn flush<W: Wait>(&self, rt: &W) -> Result<(), DeviceFailed>
-        ensures { IfOk result (λ done. HasFlushed (O.claims && B.claims) B.claims B.contents B.may_hold B.failures O.opens_failed
-            R.failures (N.opening (place_of self.now))) }
+        ensures { HasFlushed (devices B.Blocks R.Blocks O.Opener) (N.opening (place_of self.now)) result }
     {
         each!(self, seated, seated.unit.flush(rt))
     }

@@ -65,14 +65,14 @@ fn row_of<B: Blocks, R: Blocks, O: Opener<B>>(unit: &Unit<B, R, O>) -> Row
 }
 
 impl<B: Blocks, R: Blocks, O: Opener<B>> Machine<Noted, Opened> for Unit<B, R, O> {
-    ghost use Rattle.std.specs.Prelude.{◌&&◌, IsTrue};
-    ghost use Rattle.block_file.specs.Disk.{Only};
+    ghost use Rattle.std.specs.Prelude.{◌&&◌};
     ghost use Rattle.reservations.specs.Nexus.{IsPortName};
     ghost use Rattle.unit_state.specs.State.{state_of};
     ghost use Rattle.unit_state.specs.Choice.{Fine};
     ghost use Rattle.unit_state.specs.Entry.{Attach, Detach, Reset, Move};
     ghost use Rattle.unit_state.specs.Sessions.{last_nexus};
     ghost use Rattle.unit_state.specs.Step.{entry_of};
+    ghost use Rattle.unit_history.specs.Devices.{devices, HaveFlushed, HaveMoved, HaveWorked};
     ghost use Rattle.unit_history.specs.Histories.{IsBehind, IsCommand, IsToldBehind};
     ghost use Rattle.unit_history.specs.Causes.{IsFull, IsGone, IsAbsent, IsOwner, WantsMemory, IsStay, IsMoveTold};
 
@@ -125,7 +125,11 @@ impl<B: Blocks, R: Blocks, O: Opener<B>> Machine<Noted, Opened> for Unit<B, R, O
 
     ghost moved = { IsMoveTold };
 
-    ghost lasts = { λ u. IsTrue B.claims → Only (B.contents u.device) (B.may_hold u.device) };
+    ghost worked = { HaveWorked (devices B.Blocks R.Blocks O.Opener) };
+
+    ghost handed_over = { HaveMoved (devices B.Blocks R.Blocks O.Opener) };
+
+    ghost flushed = { HaveFlushed (devices B.Blocks R.Blocks O.Opener) };
 
     fn row(&self) -> Row {
         row_of(self)

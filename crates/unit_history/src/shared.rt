@@ -6,7 +6,8 @@ ghost use Rattle.unit_state.specs.State.{state_of};
 ghost use Rattle.unit_state.specs.Serials.{IsOpening};
 ghost use Rattle.unit_history.specs.Histories.{IsBehind, IsHistory};
 ghost use Rattle.unit_history.specs.Calls.{HasAttached, HasNoRoom, HasServed, HasRefused, HasReset, WasGone, HasRetired};
-ghost use Rattle.unit_history.specs.Calls.{HasFlushed, HasMoved, HasStayed, HaveMet};
+ghost use Rattle.unit_history.specs.Calls.{HasFlushed, HasMoved, HasStayed, HasWorked, HaveMet};
+ghost use Rattle.unit_history.specs.Devices.{devices};
 ghost use Rattle.unit_history.specs.Naming.{IsNamedAt};
 
 use crate::entry::{Arrival, Noted, Opened};
@@ -123,6 +124,8 @@ impl<B: Blocks, R: Blocks, O: Opener<B>, N: Array<Opened>, const U: usize> Share
         ensures place { result.0.place ≡ U }
         ensures served { IfOk result.1 (λ reply. HasServed (O.claims && B.claims) (N.opening U) pass.pass result.0.pass
             by_group.now asked.now bytes.now reply) }
+        ensures worked { IfOk result.1 (λ reply. HasWorked (devices B.Blocks R.Blocks O.Opener) (N.opening U)
+            pass.pass.session asked.now bytes.now reply result.0.pass.seen) }
         ensures refused { IfErr result.1 (λ why. HasRefused (O.claims && B.claims) (N.opening U) pass.pass result.0.pass
             by_group.now asked.now bytes.now why) }
     {
@@ -159,8 +162,8 @@ impl<B: Blocks, R: Blocks, O: Opener<B>, N: Array<Opened>, const U: usize> Share
         list: &[u8],
     ) -> (LegalHistory<B, R, O, N>, Result<Change, MoveFault>)
         ensures place { result.0.0 ≡ U }
-        ensures moved { IfOk result.1 (λ told. HasMoved (O.claims && B.claims) (N.opening U) list.now result.0.1 told) }
-        ensures stays { IfErr result.1 (λ why. HasStayed (O.claims && B.claims) (N.opening U) list.now result.0.1 why) }
+        ensures moved { IfOk result.1 (λ told. HasMoved (devices B.Blocks R.Blocks O.Opener) (N.opening U) list.now result.0.1 told) }
+        ensures stays { IfErr result.1 (λ why. HasStayed (devices B.Blocks R.Blocks O.Opener) (N.opening U) list.now result.0.1 why) }
     {
         self.unit.move_to(rt, list)
     }
@@ -181,8 +184,7 @@ impl<B: Blocks, R: Blocks, O: Opener<B>, N: Array<Opened>, const U: usize> Share
     /// Makes what was written last: after a success there was a legal history behind which a crash left the blocks that the
     /// unit held. It is no entry.
     pub fn flush<W: Wait>(&self, rt: &W) -> Result<(), DeviceFailed>
-        ensures { IfOk result (λ done. HasFlushed (O.claims && B.claims) B.claims B.contents B.may_hold B.failures O.opens_failed
-            R.failures (N.opening U)) }
+        ensures { HasFlushed (devices B.Blocks R.Blocks O.Opener) (N.opening U) result }
     {
         self.unit.flush(rt)
     }

@@ -2,7 +2,8 @@
 ghost use Rattle.std.specs.Prelude.{◌≡◌, ◌<◌, ◌≤◌, ◌&&◌, length, IfOk, IfErr, IsTrue, MatchBool, List};
 ghost use Rattle.reservations.specs.Nexus.{IsPortName, through};
 ghost use Rattle.unit_history.specs.Calls.{HasAttached, HasNoRoom, HasServed, HasRefused, HasReset, WasGone, HasRetired};
-ghost use Rattle.unit_history.specs.Calls.{HasFlushed, HasMoved, HasStayed, HaveMet, IsShown};
+ghost use Rattle.unit_history.specs.Calls.{HasFlushed, HasMoved, HasStayed, HasWorked, HaveMet, IsShown};
+ghost use Rattle.unit_history.specs.Devices.{devices};
 ghost use Rattle.unit_history.specs.Naming.{IsNamed, IsNamedAt};
 ghost use Rattle.unit_history.specs.Places.{place_of};
 
@@ -153,6 +154,8 @@ impl<B: Blocks, R: Blocks, O: Opener<B>, N: Array<Opened>> Units<B, R, O, N> {
         ensures place { result.0.place ≡ pass.place }
         ensures served { IfOk result.1 (λ reply. HasServed (O.claims && B.claims) (N.opening pass.place) pass.pass
             result.0.pass by_group.now asked.now bytes.now reply) }
+        ensures worked { IfOk result.1 (λ reply. HasWorked (devices B.Blocks R.Blocks O.Opener) (N.opening pass.place)
+            pass.pass.session asked.now bytes.now reply result.0.pass.seen) }
         ensures refused { IfErr result.1 (λ why. HasRefused (O.claims && B.claims) (N.opening pass.place) pass.pass
             result.0.pass by_group.now asked.now bytes.now why) }
     {
@@ -199,9 +202,9 @@ impl<B: Blocks, R: Blocks, O: Opener<B>, N: Array<Opened>> Units<B, R, O, N> {
         requires { place < self.now }
         ensures place { result.0.0 ≡ place }
         ensures moved { IfOk result.1 (λ told.
-            HasMoved (O.claims && B.claims) (N.opening place) list.now result.0.1 told) }
+            HasMoved (devices B.Blocks R.Blocks O.Opener) (N.opening place) list.now result.0.1 told) }
         ensures stays { IfErr result.1 (λ why.
-            HasStayed (O.claims && B.claims) (N.opening place) list.now result.0.1 why) }
+            HasStayed (devices B.Blocks R.Blocks O.Opener) (N.opening place) list.now result.0.1 why) }
     {
         self.at(place).move_to(rt, list)
     }
@@ -225,8 +228,7 @@ impl<B: Blocks, R: Blocks, O: Opener<B>, N: Array<Opened>> Units<B, R, O, N> {
     /// Makes what was written to the unit at a place last, as [`crate::SharedUnit::flush`].
     pub fn flush<W: Wait>(&self, rt: &W, place: usize) -> Result<(), DeviceFailed>
         requires { place < self.now }
-        ensures { IfOk result (λ done. HasFlushed (O.claims && B.claims) B.claims B.contents B.may_hold B.failures O.opens_failed
-            R.failures (N.opening place)) }
+        ensures { HasFlushed (devices B.Blocks R.Blocks O.Opener) (N.opening place) result }
     {
         self.at(place).flush(rt)
     }

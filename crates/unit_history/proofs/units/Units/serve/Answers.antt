@@ -1,6 +1,7 @@
 use Rattle.std.proofs.Common.{◌&&◌, ◌∙◌, ℕ, subst}
 use Rattle.std.specs.Prelude.{IfErr, IfOk}
-use Rattle.unit_history.specs.Calls.{HasRefused, HasServed}
+use Rattle.unit_history.specs.Calls.{HasRefused, HasServed, HasWorked}
+use Rattle.unit_history.specs.Devices.{devices}
 use Rattle.unit_history.proofs.units.Units.serve.Goals as goal
 
 pub returns-clause-served : goal.returns-clause-served
@@ -10,6 +11,13 @@ returns-clause-served g c =
     subst (λ (u : ℕ). IfOk r.1 (λ reply. HasServed (g.O.Opener.claims && g.B.Blocks.claims) (g.N.Array.opening u) before
     r.0.pass c.args.by_group.now c.args.asked.now c.args.bytes.now reply)) (c.at.ensures ∙ c.place-place.ensures.place)
     c.serve.ensures.served
+
+pub returns-clause-worked : goal.returns-clause-worked
+returns-clause-worked g c =
+    let r = c.serve.result in
+    subst (λ (u : ℕ). IfOk r.1 (λ reply. HasWorked (devices g.B.Blocks g.R.Blocks g.O.Opener) (g.N.Array.opening u)
+    c.args.pass.pass.session c.args.asked.now c.args.bytes.now reply r.0.pass.seen))
+    (c.at.ensures ∙ c.place-place.ensures.place) c.serve.ensures.worked
 
 pub returns-clause-refused : goal.returns-clause-refused
 returns-clause-refused g c =

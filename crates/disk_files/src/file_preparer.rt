@@ -1,0 +1,249 @@
+//! A file made ready for the calls of its device.
+ghost use Rattle.disk_files.specs.FileDisk.{IsSameDisk};
+
+use crate::FileBlocks;
+use crate::flushes::Flushes;
+use crate::opener::node_of;
+use block_file::BLOCK_LENGTH;
+use libc::{POSIX_FADV_WILLNEED, posix_fadvise};
+use preparer::Preparer;
+use std::alloc::Global;
+use std::fs::File;
+use std::os::fd::AsRawFd;
+use std::os::unix::fs::FileExt;
+use std::rt::Files;
+use std::sync::atomic::{AtomicU64, Ordering};
+use std::sync::{Arc, Wait};
+use std::time::{Clock, Duration};
+
+/// So many bytes are read at a time and thrown away, of a run that has no more, and of one that has.
+const FEW: usize = 4096;
+
+const MOST: usize = 16384;
+
+/// The system keeps pages of so many blocks in memory.
+const PAGE: u64 = 8;
+
+/// A read that takes so many microseconds came from the disk, and not from the memory of the system; one of many bytes may take
+/// one more for each so many of them.
+const SLOW: u64 = 25;
+
+const FOR_BYTES: usize = 4096;
+
+/// So many slow reads in a row, of those that are looked at, make a disk count as slow.
+const IN_A_ROW: u64 = 3;
+
+/// It then counts as slow for so many reads.
+const LATELY: u64 = 8192;
+
+/// Each slow read among them makes it so many more, up to as many again: so a disk counts as fast of which fewer are slow, as
+/// where a thread was kept from its processor.
+const MORE: u64 = 64;
+
+/// Of so many reads one is looked at while the disk counts as fast.
+const LOOKED_AT: u64 = 16;
+
+/// A file as its preparer has it: through a handle of its own, so that it waits beside the device.
+///
+/// While the disk counts as fast, as where the system has the file in memory, it only looks now and then whether a read takes time.
+#[derive(Drop)]
+pub struct FilePreparer<R: Clock + Wait + Drop> {
+    rt: R,
+    // None where there was no handle for it: then nothing is prepared.
+    file: Option<File>,
+    // What it tells the device of its flushes; none where it makes none.
+    flushes: Option<Arc<Flushes<File>, Global>>,
+    // How many reads there were, as far as threads that count at one time do not miss each other's.
+    reads: AtomicU64,
+    // For how many reads more the disk counts as slow; below IN_A_ROW how many slow ones in a row were looked at.
+    slow: AtomicU64,
+}
+
+impl<R: Clock + Wait + Files<File = File> + Drop> FilePreparer<R> {
+    /// The preparer of a device, whose file has this name. Where the name is another file's by now, or has none, it does nothing;
+    /// where there is no memory it makes no flush.
+    pub fn open(rt: R, alloc: Global, path: &str, blocks: &mut FileBlocks<File>) -> FilePreparer<R>
+        ensures { IsSameDisk blocks.old blocks.new }
+    {
+        let file = match File::options().read(true).write(true).open(&rt, path) {
+            Ok(file) if node_of(&file) == node_of(blocks.file()) => Some(file),
+            _ => None,
+        };
+        let flushes = match file {
+            Some(_) => shared(alloc, blocks),
+            None => None,
+        };
+        FilePreparer {
+            rt,
+            file,
+            flushes,
+            reads: AtomicU64::new(0),
+            slow: AtomicU64::new(0),
+        }
+    }
+}
+
+// What a device and its preparer are to tell each other, which both have from now on.
+fn shared(alloc: Global, blocks: &mut FileBlocks<File>) -> Option<Arc<Flushes<File>, Global>>
+    ensures { IsSameDisk blocks.old blocks.new }
+{
+    let Ok(flushes) = Arc::new(alloc, Flushes::new(0)) else {
+        return None;
+    };
+    let Ok(mine) = Arc::try_clone(&flushes) else {
+        return None;
+    };
+    blocks.share(flushes);
+    Some(mine)
+}
+
+impl<R: Clock + Wait + Drop> FilePreparer<R> {
+    // Whether the disk counts as slow.
+    fn is_slow(&self) -> bool {
+        self.slow.load(Ordering::Relaxed) >= IN_A_ROW
+    }
+
+    // Whether this read is one of those that are looked at while the disk counts as fast: at its first bytes, that is.
+    fn is_looked_at(&self) -> bool {
+        let reads = self.reads.load(Ordering::Relaxed);
+        self.reads.store(reads.wrapping_add(1), Ordering::Relaxed);
+        reads % LOOKED_AT == 0
+    }
+
+    // A read was looked at.
+    fn count(&self, is_slow: bool) {
+        let slow = self.slow.load(Ordering::Relaxed);
+        let next = if slow >= IN_A_ROW {
+            match is_slow {
+                true => slow.saturating_add(MORE).min(LATELY),
+                false => slow.saturating_sub(1),
+            }
+        } else {
+            match is_slow {
+                true if slow + 1 == IN_A_ROW => LATELY,
+                true => slow + 1,
+                false => 0,
+            }
+        };
+        if next != slow {
+            self.slow.store(next, Ordering::Relaxed);
+        }
+    }
+
+    // Reads some bytes of the file, and looks how long that takes.
+    fn fetch(&self, file: &File, at: u64, length: usize) {
+        let Ok(begun) = self.rt.monotonic() else {
+            return;
+        };
+        read_away(file, at, length);
+        let Ok(ended) = self.rt.monotonic() else {
+            return;
+        };
+        let slow = SLOW + (length / FOR_BYTES) as u64;
+        self.count(ended.saturating_sub(begun) >= Duration::from_micros(slow));
+    }
+}
+
+// Asks the system for a part of a file.
+fn ask(file: &File, at: u64, length: usize) {
+    if let (Ok(at), Ok(length)) = (i64::try_from(at), i64::try_from(length as u64)) {
+        let _ = posix_fadvise(file.as_raw_fd(), at, length, POSIX_FADV_WILLNEED);
+    }
+}
+
+// Reads a part of a file, by as many bytes at a time as there is room for, until one read fails.
+fn read_by(room: &mut [u8], file: &File, at: u64, length: usize) {
+    for turn in 0..length / FEW + 1 {
+        let done = room.len().saturating_mul(turn);
+        let piece = length.saturating_sub(done).min(room.len());
+        let place = at.saturating_add(done as u64);
+        if piece == 0 || file.read_exact_at(&mut room[..piece], place).is_err() {
+            return;
+        }
+    }
+}
+
+// Reads a part of a file, of which the system fetches all pages side by side.
+fn read_side_by_side(file: &File, at: u64, length: usize) {
+    ask(file, at, length);
+    read_by(&mut [0; MOST], file, at, length);
+}
+
+// Reads a part of a file away.
+fn read_away(file: &File, at: u64, length: usize) {
+    if length > FEW {
+        read_side_by_side(file, at, length);
+    } else {
+        read_by(&mut [0; FEW], file, at, length);
+    }
+}
+
+// Where a run of blocks lies in a file: its place and its length.
+fn place_of(first: u64, blocks: u16) -> Option<(u64, usize)> {
+    let at = first.checked_mul(BLOCK_LENGTH as u64)?;
+    Some((at, BLOCK_LENGTH * usize::from(blocks)))
+}
+
+// The first block of a run and its last one, where they lie in pages of which the run has only a part.
+fn edges_of(first: u64, blocks: u16) -> (Option<u64>, Option<u64>) {
+    let behind = first.saturating_add(u64::from(blocks));
+    let head = if blocks > 0 && first % PAGE != 0 {
+        Some(first)
+    } else {
+        None
+    };
+    let tail = if blocks > 0 && behind % PAGE != 0 {
+        Some(behind.saturating_sub(1))
+    } else {
+        None
+    };
+    (head, tail)
+}
+
+impl<R: Clock + Wait + Drop> Preparer for FilePreparer<R> {
+    fn advise(&self, first: u64, blocks: u16) {
+        if !self.is_slow() {
+            return;
+        }
+        if let (Some(file), Some((at, length))) = (&self.file, place_of(first, blocks)) {
+            ask(file, at, length);
+        }
+    }
+
+    fn advise_edges(&self, first: u64, blocks: u16) {
+        let (head, tail) = edges_of(first, blocks);
+        if let Some(head) = head {
+            self.advise(head, 1);
+        }
+        if let Some(tail) = tail {
+            self.advise(tail, 1);
+        }
+    }
+
+    fn warm(&self, first: u64, blocks: u16) {
+        let (Some(file), Some((at, length))) = (&self.file, place_of(first, blocks)) else {
+            return;
+        };
+        if self.is_slow() {
+            self.fetch(file, at, length);
+        } else if self.is_looked_at() {
+            self.fetch(file, at, length.min(FEW));
+        }
+    }
+
+    fn warm_edges(&self, first: u64, blocks: u16) {
+        let (head, tail) = edges_of(first, blocks);
+        if let Some(head) = head {
+            self.warm(head, 1);
+        }
+        if let Some(tail) = tail {
+            self.warm(tail, 1);
+        }
+    }
+
+    fn flush(&self) {
+        if let (Some(file), Some(flushes)) = (&self.file, &self.flushes) {
+            flushes.flush_before(&self.rt, file);
+        }
+    }
+}

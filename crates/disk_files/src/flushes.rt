@@ -1,0 +1,137 @@
+//! Flushes of a file that stand before those of its device.
+ghost use Rattle.std.specs.Prelude.{ℕ, IsTrue, OnOk};
+ghost use Rattle.disk_files.specs.Lasting.{IsSettled};
+
+use block_file::DeviceFailed;
+use std::fs::File;
+use std::marker::{Model, PhantomData};
+use std::sync::atomic::{AtomicBool, AtomicU64, Ordering};
+use std::sync::{Mutex, Wait};
+
+/// A file that can be flushed.
+pub trait LastingFile {
+    /// What the first so many writes of the file's device left lasts. Nothing but `make_last` says so.
+    ghost lasts: { ℕ → Type 0 };
+
+    /// Makes all that was written last, where so many writes of the file's device have ended.
+    fn make_last(&self, writes: u64) -> Result<(), DeviceFailed>
+        ensures { OnOk result (lasts writes) };
+}
+
+impl LastingFile for File {
+    ghost lasts = { λ writes. Unit {0} };
+
+    fn make_last(&self, _writes: u64) -> Result<(), DeviceFailed> {
+        match self.sync_data() {
+            Ok(()) => Ok(()),
+            Err(_) => Err(DeviceFailed),
+        }
+    }
+}
+
+/// So many flushes of a file run at a time. Sessions that want one while these run wait, and share the next.
+const AT_A_TIME: usize = 4;
+
+// How many writes of the device had ended when the last flush began that is done, of those flushes that stand before.
+#[derive(Drop)]
+struct Settled<F: LastingFile> {
+    writes: Option<u64>,
+    of: PhantomData<F>,
+}
+
+impl<F: LastingFile> Model for Settled<F> {
+    ghost use Rattle.std.specs.Prelude.{Option, ℕ, IfSome};
+
+    ghost Value = { Option ℕ };
+
+    ghost view = { λ s. s.writes };
+
+    ghost invariant = { λ s. IfSome s.writes F.lasts };
+}
+
+impl<F: LastingFile> Settled<F> {
+    // Whether so many writes are among those.
+    fn has(&self, writes: u64) -> bool
+        ensures { IsTrue result → IsSettled F.lasts writes }
+    {
+        match self.writes {
+            Some(settled) => writes <= settled,
+            None => false,
+        }
+    }
+
+    // A flush that began behind so many writes is done.
+    fn put(&mut self, writes: u64)
+        requires { F.lasts writes }
+    {
+        if !self.has(writes) {
+            self.writes = Some(writes);
+        }
+    }
+}
+
+/// What a device and its preparer tell each other of the flushes of their file: how many writes have ended, how many of them a
+/// flush that stood before has made last, and whether such a flush has failed.
+#[derive(Drop)]
+pub struct Flushes<F: LastingFile> {
+    written: AtomicU64,
+    settled: Mutex<Settled<F>>,
+    is_lost: AtomicBool,
+    turns: AtomicU64,
+    running: [Mutex<()>; AT_A_TIME],
+}
+
+impl<F: LastingFile> Flushes<F> {
+    /// None was made yet, of a device of which so many writes have ended.
+    pub fn new(written: u64) -> Flushes<F> {
+        Flushes {
+            written: AtomicU64::new(written),
+            settled: Mutex::new(Settled {
+                writes: None,
+                of: PhantomData,
+            }),
+            is_lost: AtomicBool::new(false),
+            turns: AtomicU64::new(0),
+            running: [
+                Mutex::new(()),
+                Mutex::new(()),
+                Mutex::new(()),
+                Mutex::new(()),
+            ],
+        }
+    }
+
+    /// So many writes of the device have ended.
+    pub fn tell(&self, written: u64) {
+        self.written.store(written, Ordering::Release);
+    }
+
+    /// Whether a flush that stood before has failed.
+    pub fn is_lost(&self) -> bool {
+        self.is_lost.load(Ordering::Acquire)
+    }
+
+    /// Whether a flush that stood before has made the first so many writes last, as far as is seen without waiting.
+    pub fn covers(&self, writes: u64) -> bool
+        ensures { IsTrue result → IsSettled F.lasts writes }
+    {
+        match self.settled.try_lock() {
+            Some(settled) => settled.has(writes),
+            None => false,
+        }
+    }
+
+    /// Makes last what the writes left that have ended by now. A failure is remembered, and told by the device's next flush.
+    pub fn flush_before<R: Wait>(&self, rt: &R, file: &F) {
+        let turn = self.turns.fetch_add(1, Ordering::Relaxed) as usize % AT_A_TIME;
+        let _running = self.running[turn].lock(rt);
+        let writes = self.written.load(Ordering::Acquire);
+        if self.settled.lock(rt).has(writes) {
+            return;
+        }
+        match file.make_last(writes) {
+            Ok(()) => self.settled.lock(rt).put(writes),
+            Err(DeviceFailed) => self.is_lost.store(true, Ordering::Release),
+        }
+    }
+}
