@@ -1,5 +1,5 @@
 -- A command on its way, and what serving it comes to.
-use Rattle.std.specs.Prelude.{ℕ, Bool, List, IfOk, IfErr, Result}
+use Rattle.std.specs.Prelude.{ℕ, List, IfOk, IfErr, Result}
 use Rattle.locked_unit.specs.Calls.{Known, PlacedPass}
 use Rattle.locked_unit.specs.declared.machine.Refused.{Refused}
 use Rattle.scsi_types.specs.ReplyValue.{ReplyValue}
@@ -8,7 +8,8 @@ use Rattle.scsi_types.specs.declared.command.Command.{Command as ScsiCommand}
 use Rattle.scsi_types.specs.declared.command.CdbFault.{CdbFault}
 use Rattle.unit_state.specs.State.{UnitState}
 use Rattle.unit_state.specs.Entry.{Entry}
-use Rattle.unit_history.specs.Calls.{HasServed, HasRefused}
+use Rattle.unit_history.specs.Calls.{HasServed, HasRefused, HasWorked}
+use Rattle.unit_history.specs.Devices.{Devices, claims_of}
 use Rattle.forwarding.specs.Names.{names_of}
 use Rattle.forwarding.specs.declared.names.Names.{Names}
 
@@ -28,8 +29,10 @@ handed_of held asked bytes by_group = handed (names_of held asked by_group) byte
 abbrev pub pass_of : Handed → Known Entry
 pass_of job = record { session = job.names.session; serial = job.names.serial; seen = job.seen }
 
--- The job's command was served by the group of its desk, or refused, as a shared unit's `serve` promises.
-abbrev pub HasAnswered : Bool → UnitState → Handed → Known Entry → Result ReplyValue (Refused Group) → Type 0
-HasAnswered claims s job after end =
-    IfOk end (λ reply. HasServed claims s (pass_of job) after job.names.by_group job.names.asked job.data_in reply)
-    × IfErr end (λ why. HasRefused claims s (pass_of job) after job.names.by_group job.names.asked job.data_in why)
+-- The job's command was served by the group of its desk, or refused, as a shared unit's `serve` promises, of its devices too.
+abbrev pub HasAnswered : {B R O : Type 0} → Devices B R O → UnitState → Handed → Known Entry → Result ReplyValue (Refused Group)
+    → Type 0
+HasAnswered d s job after end =
+    IfOk end (λ reply. HasServed (claims_of d) s (pass_of job) after job.names.by_group job.names.asked job.data_in reply)
+    × IfOk end (λ reply. HasWorked d s job.names.session job.names.asked job.data_in reply after.seen)
+    × IfErr end (λ why. HasRefused (claims_of d) s (pass_of job) after job.names.by_group job.names.asked job.data_in why)

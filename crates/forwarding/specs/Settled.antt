@@ -1,11 +1,12 @@
 -- What becomes of a command at a desk.
-use Rattle.std.specs.Prelude.{◌≡◌, Bool, IfOk, IfErr, Result}
+use Rattle.std.specs.Prelude.{◌≡◌, IfOk, IfErr, Result}
 use Rattle.locked_unit.specs.Calls.{PlacedPass}
 use Rattle.locked_unit.specs.declared.machine.Refused.{Refused}
 use Rattle.scsi_types.specs.ReplyValue.{ReplyValue}
 use Rattle.scsi_types.specs.declared.names.Group.{Group}
 use Rattle.unit_state.specs.State.{UnitState}
 use Rattle.unit_state.specs.Entry.{Entry}
+use Rattle.unit_history.specs.Devices.{Devices}
 use Rattle.forwarding.specs.Served.{Handed, HasAnswered}
 use Rattle.forwarding.specs.declared.desk.DeskFault.{DeskFault}
 use Rattle.forwarding.specs.declared.desk.DeskFault.TheVariants.{Full, Closed, NoMemory}
@@ -17,9 +18,9 @@ IsFullOrClosed Closed = Unit {0}
 IsFullOrClosed NoMemory = ⊥
 
 -- A desk has settled a command of a pass: its unit has answered, or the desk, full or closed, has given the pass back as it was.
-abbrev pub IsSettled : Bool → UnitState → PlacedPass Entry → Handed → PlacedPass Entry
+abbrev pub IsSettled : {B R O : Type 0} → Devices B R O → UnitState → PlacedPass Entry → Handed → PlacedPass Entry
     → Result (Result ReplyValue (Refused Group)) DeskFault → Type 0
-IsSettled claims s before job after end =
+IsSettled d s before job after end =
     (after.place ≡ before.place)
-    × IfOk end (λ answer. HasAnswered claims s job after.pass answer)
+    × IfOk end (λ answer. HasAnswered d s job after.pass answer)
     × IfErr end (λ fault. (after ≡ before) × IsFullOrClosed fault)

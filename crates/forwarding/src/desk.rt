@@ -1,7 +1,8 @@
 //! The desk of a controller.
-ghost use Rattle.std.specs.Prelude.{◌≡◌, ◌<◌, ◌&&◌, IfOk, IfErr, IfSome, slice_get};
+ghost use Rattle.std.specs.Prelude.{◌≡◌, ◌<◌, IfOk, IfErr, IfSome, slice_get};
 ghost use Rattle.forwarding.specs.Settled.{IsSettled};
 ghost use Rattle.forwarding.specs.Served.{HasAnswered, handed_of};
+ghost use Rattle.unit_history.specs.Devices.{devices};
 
 use crate::job::{Answer, Job, Ticket, Waiting, prepare};
 use crate::queue::{NotQueued, Queue};
@@ -181,7 +182,7 @@ impl<B: Blocks, R: Blocks, O: Opener<B>, N: Array<Opened>> Desk<B, R, O, N> {
         ticket: Ticket<'_, B, R, O, N>,
     ) -> (Pass<B, R, O, N>, Result<Reply, Refused<Group>>)
         ensures place { result.0.place ≡ ticket.entry.names.place }
-        ensures end { HasAnswered (O.claims && B.claims) (N.opening ticket.entry.names.place) ticket.entry
+        ensures end { HasAnswered (devices B.Blocks R.Blocks O.Opener) (N.opening ticket.entry.names.place) ticket.entry
             result.0.pass result.1 }
     {
         self.filled.notify_one();
@@ -213,7 +214,7 @@ impl<B: Blocks, R: Blocks, O: Opener<B>, N: Array<Opened>> Desk<B, R, O, N> {
     ) -> (Pass<B, R, O, N>, Result<Reply, Refused<Group>>)
         requires { ticket.names.place < units.now }
         ensures place { result.0.place ≡ ticket.entry.names.place }
-        ensures end { HasAnswered (O.claims && B.claims) (N.opening ticket.entry.names.place) ticket.entry
+        ensures end { HasAnswered (devices B.Blocks R.Blocks O.Opener) (N.opening ticket.entry.names.place) ticket.entry
             result.0.pass result.1 }
     {
         match self.take_back(rt, &ticket) {
@@ -237,7 +238,7 @@ impl<B: Blocks, R: Blocks, O: Opener<B>, N: Array<Opened>> Desk<B, R, O, N> {
         Result<Result<Reply, Refused<Group>>, DeskFault>,
     )
         requires { pass.place < units.now }
-        ensures { IsSettled (O.claims && B.claims) (N.opening pass.place) pass
+        ensures { IsSettled (devices B.Blocks R.Blocks O.Opener) (N.opening pass.place) pass
             (handed_of pass asked.now bytes.now self.now) result.0 result.1 }
     {
         if self.is_closed.load(Ordering::SeqCst) {
@@ -262,7 +263,7 @@ impl<B: Blocks, R: Blocks, O: Opener<B>, N: Array<Opened>> Desk<B, R, O, N> {
         Result<Result<Reply, Refused<Group>>, DeskFault>,
     )
         requires { pass.place < units.now }
-        ensures { IsSettled (O.claims && B.claims) (N.opening pass.place) pass
+        ensures { IsSettled (devices B.Blocks R.Blocks O.Opener) (N.opening pass.place) pass
             (handed_of pass asked.now bytes.now self.now) result.0 result.1 }
     {
         match self.submit(rt, alloc, pass, asked, bytes) {
@@ -294,7 +295,7 @@ impl<B: Blocks, R: Blocks, O: Opener<B>, N: Array<Opened>> Desk<B, R, O, N> {
         Result<Result<Reply, Refused<Group>>, DeskFault>,
     )
         requires { pass.place < units.now }
-        ensures { IsSettled (O.claims && B.claims) (N.opening pass.place) pass
+        ensures { IsSettled (devices B.Blocks R.Blocks O.Opener) (N.opening pass.place) pass
             (handed_of pass asked.now bytes.now self.now) result.0 result.1 }
     {
         if bytes.len() > LONGEST_COPY {

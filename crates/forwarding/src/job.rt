@@ -1,7 +1,8 @@
 //! A command on its way: its job, its ticket and its answer.
-ghost use Rattle.std.specs.Prelude.{◌≡◌, ◌<◌, ◌&&◌, IfOk, IfErr, MatchBool};
+ghost use Rattle.std.specs.Prelude.{◌≡◌, ◌<◌, IfOk, IfErr, MatchBool};
 ghost use Rattle.forwarding.specs.Served.{HasAnswered, handed, handed_of};
 ghost use Rattle.forwarding.specs.Jobs.{IsFor};
+ghost use Rattle.unit_history.specs.Devices.{devices};
 
 use crate::names::Names;
 use block_file::{Blocks, Opener};
@@ -25,7 +26,8 @@ struct Ended<B: Blocks, R: Blocks, O: Opener<B>, N: Array<Opened>> {
 }
 
 impl<B: Blocks, R: Blocks, O: Opener<B>, N: Array<Opened>> Model for Ended<B, R, O, N> {
-    ghost use Rattle.std.specs.Prelude.{◌≡◌, ◌&&◌};
+    ghost use Rattle.std.specs.Prelude.{◌≡◌};
+    ghost use Rattle.unit_history.specs.Devices.{devices};
     ghost use Rattle.forwarding.specs.Served.{HasAnswered, handed};
     ghost use Rattle.forwarding.specs.Jobs.{Done};
 
@@ -34,7 +36,7 @@ impl<B: Blocks, R: Blocks, O: Opener<B>, N: Array<Opened>> Model for Ended<B, R,
     ghost view = { λ e. record { job = handed e.names e.bytes.items e.before.1; after = e.pass.pass; end = e.end } };
 
     ghost invariant = { λ e. (e.before.0 ≡ e.names.place) × (e.pass.place ≡ e.names.place)
-        × HasAnswered (O.claims && B.claims) (N.opening e.names.place) (handed e.names e.bytes.items e.before.1)
+        × HasAnswered (devices B.Blocks R.Blocks O.Opener) (N.opening e.names.place) (handed e.names e.bytes.items e.before.1)
         e.pass.pass e.end };
 }
 
@@ -49,7 +51,7 @@ impl<B: Blocks, R: Blocks, O: Opener<B>, N: Array<Opened>> Ended<B, R, O, N> {
     // The pass and the end.
     fn open(self) -> (Pass<B, R, O, N>, Result<Reply, Refused<Group>>)
         ensures place { result.0.place ≡ self.job.names.place }
-        ensures end { HasAnswered (O.claims && B.claims) (N.opening self.job.names.place) self.job result.0.pass result.1 }
+        ensures end { HasAnswered (devices B.Blocks R.Blocks O.Opener) (N.opening self.job.names.place) self.job result.0.pass result.1 }
     {
         (self.pass, self.end)
     }
@@ -260,7 +262,7 @@ impl<'a, B: Blocks, R: Blocks, O: Opener<B>, N: Array<Opened>> Ticket<'a, B, R, 
         requires own { handed_of pass self.names.asked self.data_in self.names.by_group ≡ self }
         requires place { self.names.place < units.now }
         ensures place { result.0.place ≡ self.entry.names.place }
-        ensures end { HasAnswered (O.claims && B.claims) (N.opening self.entry.names.place) self.entry
+        ensures end { HasAnswered (devices B.Blocks R.Blocks O.Opener) (N.opening self.entry.names.place) self.entry
             result.0.pass result.1 }
     {
         self.names.serve(rt, alloc, units, pass, self.bytes)
@@ -286,7 +288,7 @@ impl<'a, B: Blocks, R: Blocks, O: Opener<B>, N: Array<Opened>> Ticket<'a, B, R, 
         rt: &W,
     ) -> (Pass<B, R, O, N>, Result<Reply, Refused<Group>>)
         ensures place { result.0.place ≡ self.entry.names.place }
-        ensures end { HasAnswered (O.claims && B.claims) (N.opening self.entry.names.place) self.entry
+        ensures end { HasAnswered (devices B.Blocks R.Blocks O.Opener) (N.opening self.entry.names.place) self.entry
             result.0.pass result.1 }
     {
         self.ended(rt).open()

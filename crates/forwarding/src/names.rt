@@ -1,7 +1,8 @@
 //! What a job is known by, and how its command is served.
-ghost use Rattle.std.specs.Prelude.{◌≡◌, ◌<◌, ◌&&◌, MatchBool};
+ghost use Rattle.std.specs.Prelude.{◌≡◌, ◌<◌, MatchBool};
 ghost use Rattle.forwarding.specs.Names.{names_of};
 ghost use Rattle.forwarding.specs.Served.{HasAnswered, handed};
+ghost use Rattle.unit_history.specs.Devices.{devices};
 
 use block_file::{Blocks, Opener};
 use numbering::Array;
@@ -89,7 +90,7 @@ impl Names {
         requires own { names_of pass self.now.asked self.now.by_group ≡ self.now }
         requires place { self.now.place < units.now }
         ensures place { result.0.place ≡ self.now.place }
-        ensures end { HasAnswered (O.claims && B.claims) (N.opening self.now.place)
+        ensures end { HasAnswered (devices B.Blocks R.Blocks O.Opener) (N.opening self.now.place)
             (handed self.now bytes.now pass.pass.seen) result.0.pass result.1 }
     {
         units.serve(rt, pass, alloc, &self.by_group, &self.asked, bytes)

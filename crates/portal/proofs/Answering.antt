@@ -28,6 +28,7 @@ use Rattle.session_rules.specs.declared.target.ResetAnswer.TheVariants as resets
 use Rattle.unit_state.specs.State.{UnitState}
 use Rattle.unit_state.specs.Entry.{Entry, Attach}
 use Rattle.unit_history.specs.Histories.{IsHistory}
+use Rattle.portal.specs.Units.{Claims}
 use Rattle.portal.specs.Submitted.{At, IsServed, IsResetAnswer}
 use Rattle.portal.specs.Entries.{Done, done_by, reset_by, of_unit, done_in, done_at, AreEntries, HasDone, HasDoneNothing, IsNormal, AreAnswered}
 use Rattle.portal.specs.Target.{TargetValue, IsAbsent, IsAttachedTo, AreAttached, HasBegun, IsServedAt, IsResetIn, LeadsOn, unbegun}
@@ -51,7 +52,7 @@ at_same : (unit : ℕ) (asks : List Asking) (ask : Asking) → done_in unit ask 
 at_same unit asks ask is =
     at_more unit asks ask ∙ ap (λ (ds : List Done). done_at unit asks ++ ds) is ∙ append-nil (done_at unit asks)
 
-module _ (claims : Bool) (opening : ℕ → UnitState) where
+module _ (claims : Claims) (opening : ℕ → UnitState) where
   -- the session at a unit has done this since it attached
   record DoneAt (nexus : Nexus) (unit : ℕ) (done : List Done) (a : At) : Type 0 where
     place : a.place ≡ unit
@@ -59,7 +60,7 @@ module _ (claims : Bool) (opening : ℕ → UnitState) where
     behind : List Entry
     seen : a.pass.seen ≡ (before ++ Attach nexus ∷ []) ++ behind
     session : a.pass.session ≡ length before
-    legal : IsHistory claims (opening unit) a.pass.seen
+    legal : IsHistory claims.contents (opening unit) a.pass.seen
     entries : AreEntries claims (opening unit) (length before) (before ++ Attach nexus ∷ []) done behind
 
   done_first : (nexus : Nexus) (unit : ℕ) (a : At) → IsAttachedTo claims opening nexus unit a → DoneAt nexus unit [] a
@@ -85,7 +86,7 @@ module _ (claims : Bool) (opening : ℕ → UnitState) where
         seen = g.seen ∙ ap (λ (h : List Entry). h ++ g.more) is.seen
             ∙ append_assoc (is.before ++ Attach nexus ∷ []) is.behind g.more;
         session = g.session ∙ is.session;
-        legal = subst (λ (n : ℕ). IsHistory claims (opening n) b.pass.seen) is.place g.legal;
+        legal = subst (λ (n : ℕ). IsHistory claims.contents (opening n) b.pass.seen) is.place g.legal;
         entries = both_of claims (opening unit) (length is.before) (is.before ++ Attach nexus ∷ []) done is.behind more g.more
             is.entries
             (subst (λ (h : List Entry). AreEntries claims (opening unit) (length is.before) h more g.more) is.seen
@@ -98,7 +99,7 @@ module _ (claims : Bool) (opening : ℕ → UnitState) where
       record {
         before = is.before;
         behind = is.behind;
-        legal = subst (λ (h : List Entry). IsHistory claims (opening unit) h) is.seen is.legal;
+        legal = subst (λ (h : List Entry). IsHistory claims.contents (opening unit) h) is.seen is.legal;
         entries = is.entries;
       }
 
@@ -113,7 +114,7 @@ module _ (claims : Bool) (opening : ℕ → UnitState) where
   attached_at nexus first (b ∷ at) (suc n) a are is =
       subst (λ (k : ℕ). IsAttachedTo claims opening nexus k a) (omega arith) (attached_at nexus (first + 1) at n a are.1 is)
 
-module _ (claims : Bool) (opening : ℕ → UnitState) (units : ℕ) (group : Group) where
+module _ (claims : Claims) (opening : ℕ → UnitState) (units : ℕ) (group : Group) where
   record Fresh (asks : List Asking) (t : TargetValue) : Type 0 where
     begun : t.begun ≡ false
     at : t.at ≡ []

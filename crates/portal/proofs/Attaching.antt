@@ -1,12 +1,13 @@
 -- One unit more.
-use Rattle.std.proofs.Common.{◌≡◌, ℕ, ◌+◌, ◌<◌, All, Bool, List, [], ◌∷◌, ◌++◌, length, length-append, subst, sym, arith}
+use Rattle.std.proofs.Common.{◌≡◌, ℕ, ◌+◌, ◌<◌, All, List, [], ◌∷◌, ◌++◌, length, length-append, subst, sym, arith}
 use Rattle.std.proofs.lemmas.List.Elements.{All-push}
 use Rattle.scsi_types.specs.Nexus.{Nexus}
 use Rattle.unit_state.specs.State.{UnitState}
+use Rattle.portal.specs.Units.{Claims}
 use Rattle.portal.specs.Submitted.{At}
 use Rattle.portal.specs.Target.{AreAttached, IsAttachedTo}
 
-module _ (claims : Bool) (opening : ℕ → UnitState) (nexus : Nexus) where
+module _ (claims : Claims) (opening : ℕ → UnitState) (nexus : Nexus) where
   -- a session that is attached to units in order is attached to the next one too
   pub attached_more : (unit : ℕ) (at : List At) (a : At) → AreAttached claims opening nexus unit at
       → IsAttachedTo claims opening nexus (unit + length at) a

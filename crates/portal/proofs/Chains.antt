@@ -19,7 +19,7 @@ use Rattle.locked_unit.specs.declared.machine.Refused.TheVariants as refusals
 use Rattle.unit_state.specs.Entry.{Entry, Reset, Command}
 use Rattle.unit_history.specs.Histories.{IsHistory, IsCommand, IsToldBehind, is_own, own}
 use Rattle.unit_history.specs.Calls.{HasServed}
-use Rattle.portal.specs.Units.{IsSubmitted, IsResetBy}
+use Rattle.portal.specs.Units.{Claims, IsSubmitted, IsResetBy}
 use Rattle.portal.specs.Submitted.{At, IsOnce, IsTwice, IsServed, IsResetAt, IsResetAnswer, answer_of, is_moved}
 use Rattle.portal.specs.declared.units.Unserved.{Unserved}
 use Rattle.portal.specs.declared.units.Unserved.TheVariants.{ByUnit, ByDesk}
@@ -32,7 +32,7 @@ same n = ⊎_elim (λ (t : (nat_eq n n ≡ true) × (n ≡ n)). t.0)
 one_more : (session : ℕ) (e : Entry) (more : List Entry) → counted own session (e ∷ more) ≡ own session e + counted own session more
 one_more session e more = let q = sum_by-append (own session) (e ∷ []) more in omega arith
 
-module _ (claims : Bool) (s : UnitState) (session : ℕ) where
+module _ (claims : Claims) (s : UnitState) (session : ℕ) where
   -- entries of others alone are none of its own
   pub none_of : (before more : List Entry) → counted own session more ≡ 0 → AreEntries claims s session before [] more
   none_of before [] none = refl
@@ -83,12 +83,12 @@ module _ (claims : Bool) (s : UnitState) (session : ℕ) where
       (IsNextDone claims s before e (d ∷ []) (λ rest. AreEntries claims s session (before ++ e ∷ []) rest []))
       (AreEntries claims s session (before ++ e ∷ []) (d ∷ []) [])) (sym own) (is, refl)
 
-module _ (claims : Bool) (s : UnitState) where
+module _ (claims : Claims) (s : UnitState) where
   -- the pass has seen more, of which these are the session's own
   pub record Grows (old new : Known Entry) (done : List Done) : Type 0 where
     pub more : List Entry
     pub seen : new.seen ≡ old.seen ++ more
-    pub legal : IsHistory claims s new.seen
+    pub legal : IsHistory claims.contents s new.seen
     pub session : new.session ≡ old.session
     pub entries : AreEntries claims s old.session old.seen done more
 
@@ -104,7 +104,7 @@ module _ (claims : Bool) (s : UnitState) where
             (subst (λ (n : ℕ). AreEntries claims s n b.seen after next.more) first.session next.entries));
       }
 
-  pub grows_later : (old new : Known Entry) → IsRefused own (IsHistory claims s) old new → Grows old new []
+  pub grows_later : (old new : Known Entry) → IsRefused own (IsHistory claims.contents s) old new → Grows old new []
   grows_later old new is =
       let q = sum_by-append (own old.session) old.seen is.0.0 in
       let r = ap (counted own old.session) is.0.1 in
@@ -119,13 +119,13 @@ module _ (claims : Bool) (s : UnitState) where
       }
 
   -- a pass that is as it was
-  grows_not : (old new : Known Entry) → (new ≡ old) × IsHistory claims s old.seen → Grows old new []
+  grows_not : (old new : Known Entry) → (new ≡ old) × IsHistory claims.contents s old.seen → Grows old new []
   grows_not old new is =
       subst (λ (p : Known Entry). Grows old p []) (sym is.0)
       (record { more = []; seen = sym (append-nil old.seen); legal = is.1; session = refl; entries = refl })
 
   grows_added : (old new : Known Entry) (between : List Entry) (e : Entry) (d : Done) → counted own old.session between ≡ 0
-      → new.seen ≡ (old.seen ++ between) ++ e ∷ [] → IsHistory claims s new.seen → new.session ≡ old.session
+      → new.seen ≡ (old.seen ++ between) ++ e ∷ [] → IsHistory claims.contents s new.seen → new.session ≡ old.session
       → is_own old.session e ≡ true → IsEntry claims s (old.seen ++ between) e d
       → Grows old new (d ∷ [])
   grows_added old new between e d none seen legal session is_its entry =
@@ -142,19 +142,19 @@ module _ (claims : Bool) (s : UnitState) where
   module _ (asked : Result ScsiCommand CdbFault) (bytes : List ℕ) where
     -- the entry is this command, with this reply
     command_is : (before : List Entry) (session serial : ℕ) (by_group : Group) (reply : ReplyValue) (e : Entry)
-        → IsCommand session serial by_group asked bytes e → IsToldBehind claims s before e reply
+        → IsCommand session serial by_group asked bytes e → IsToldBehind claims.contents s before e reply
         → IsEntry claims s before e (replied asked bytes reply)
     command_is before session serial by_group reply e is told =
         let c : Entry = Command session serial by_group asked bytes is.0 in
         subst (λ (x : Entry). IsEntry claims s before x (replied asked bytes reply)) (sym is.1)
-        (refl, refl, subst (λ (x : Entry). IsToldBehind claims s before x reply) is.1 told)
+        (refl, refl, subst (λ (x : Entry). IsToldBehind claims.contents s before x reply) is.1 told)
 
     own_command : (session serial : ℕ) (by_group : Group) (e : Entry) → IsCommand session serial by_group asked bytes e
         → is_own session e ≡ true
     own_command session serial by_group e is = subst (λ (x : Entry). is_own session x ≡ true) (sym is.1) (same session)
 
     grows_replied : (old new : Known Entry) (by_group : Group) (reply : ReplyValue)
-        → HasServed claims s old new by_group asked bytes reply
+        → HasServed claims.contents s old new by_group asked bytes reply
         → Grows old new (replied asked bytes reply ∷ [])
     grows_replied old new by_group reply is =
         let a = is.0 in
@@ -165,7 +165,7 @@ module _ (claims : Bool) (s : UnitState) where
     pub grows_submitted : (old new : Known Entry) (by_group : Group) (end : Result ReplyValue Unserved)
         → IsSubmitted claims s old by_group asked bytes end new
         → Grows old new (done_by asked bytes (answer_of end))
-    grows_submitted old new by_group (Ok reply) is = grows_replied old new by_group reply is
+    grows_submitted old new by_group (Ok reply) is = grows_replied old new by_group reply is.0
     grows_submitted old new by_group (Err (ByUnit refusals.Gone)) is = grows_later old new is.0
     grows_submitted old new by_group (Err (ByUnit (refusals.Moved owner))) is = grows_later old new is.0
     grows_submitted old new by_group (Err (ByUnit refusals.NoMemory)) is = grows_later old new is.0
@@ -192,7 +192,7 @@ module _ (claims : Bool) (s : UnitState) where
       (subst (λ (x : Entry). IsEntry claims s (old.seen ++ a.0) x was_reset) (sym a.5) tt)
   grows_reset old new false is = grows_later old new is.0
 
-module _ (claims : Bool) (opening : ℕ → UnitState) where
+module _ (claims : Claims) (opening : ℕ → UnitState) where
   -- a session at one unit, which stays the same
   pub record GrowsAt (old new : At) (done : List Done) : Type 0 where
     pub place : new.place ≡ old.place

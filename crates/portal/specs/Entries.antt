@@ -18,6 +18,7 @@ use Rattle.session_rules.specs.declared.target.ResetAnswer.TheVariants as resets
 use Rattle.unit_state.specs.State.{UnitState}
 use Rattle.unit_state.specs.Entry.{Entry, Attach, Detach, Reset, Move, Command}
 use Rattle.unit_history.specs.Histories.{IsHistory, IsToldBehind, is_own}
+use Rattle.portal.specs.Units.{Claims}
 
 -- a command that a unit replied to, or a reset of it that was done
 pub data Done : Type 0 where
@@ -52,7 +53,7 @@ abbrev pub done_at : ℕ → List Asking → List Done
 done_at unit asks = flat_map (done_in unit) asks
 
 -- a unit that opened in this state, over devices whose types claim what is said of a disk or not
-module _ (claims : Bool) (s : UnitState) where
+module _ (claims : Claims) (s : UnitState) where
   -- The entry behind this history is this command, and the reply is what the model gives there; or it is the reset.
   abbrev pub IsEntry : List Entry → Entry → Done → Type 0
   IsEntry before (Attach nexus) done = ⊥
@@ -62,7 +63,7 @@ module _ (claims : Bool) (s : UnitState) where
   IsEntry before (Move list choice) done = ⊥
   IsEntry before (Command session serial by asked bytes choice) (replied told came reply) =
       (told ≡ asked) × (came ≡ bytes)
-      × IsToldBehind claims s before (Command session serial by asked bytes choice) reply
+      × IsToldBehind claims.contents s before (Command session serial by asked bytes choice) reply
   IsEntry before (Command session serial by asked bytes choice) was_reset = ⊥
 
   abbrev pub IsNextDone : List Entry → Entry → List Done → (List Done → Type 0) → Type 0
@@ -82,7 +83,7 @@ module _ (claims : Bool) (s : UnitState) where
   pub record HasDone (nexus : Nexus) (done : List Done) : Type 0 where
     pub before : List Entry
     pub behind : List Entry
-    pub legal : IsHistory claims s ((before ++ Attach nexus ∷ []) ++ behind)
+    pub legal : IsHistory claims.contents s ((before ++ Attach nexus ∷ []) ++ behind)
     pub entries : AreEntries (length before) (before ++ Attach nexus ∷ []) done behind
 
 -- it has done nothing at any unit
@@ -91,7 +92,7 @@ HasDoneNothing asks = (unit : ℕ) → done_at unit asks ≡ []
 
 -- A normal session has begun, and at each of the units it has done what stands in the unit's history: through the group of its
 -- portal, as the port that its login named.
-pub record IsNormal (claims : Bool) (opening : ℕ → UnitState) (units : ℕ) (group : Group) (asks : List Asking) : Type 0 where
+pub record IsNormal (claims : Claims) (opening : ℕ → UnitState) (units : ℕ) (group : Group) (asks : List Asking) : Type 0 where
   pub port : Port
   pub tsih : ℕ
   pub front : List Asking
@@ -102,5 +103,5 @@ pub record IsNormal (claims : Bool) (opening : ℕ → UnitState) (units : ℕ) 
 
 -- What a session has asked: it has done nothing at any unit, as where it is a discovery session or its login is refused; or it is a
 -- normal session, whose commands that were replied to and whose resets are its entries of these histories, in order.
-abbrev pub AreAnswered : Bool → (ℕ → UnitState) → ℕ → Group → List Asking → Type 0
+abbrev pub AreAnswered : Claims → (ℕ → UnitState) → ℕ → Group → List Asking → Type 0
 AreAnswered claims opening units group asks = HasDoneNothing asks ⊎ IsNormal claims opening units group asks

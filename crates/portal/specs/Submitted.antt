@@ -13,7 +13,7 @@ use Rattle.session_rules.specs.declared.target.ResetAnswer.{ResetAnswer}
 use Rattle.session_rules.specs.declared.target.ResetAnswer.TheVariants as resets
 use Rattle.unit_state.specs.State.{UnitState}
 use Rattle.unit_state.specs.Entry.{Entry}
-use Rattle.portal.specs.Units.{IsSubmitted, IsResetBy}
+use Rattle.portal.specs.Units.{Claims, IsSubmitted, IsResetBy}
 use Rattle.portal.specs.declared.units.Unserved.{Unserved}
 use Rattle.portal.specs.declared.units.Unserved.TheVariants.{ByUnit, ByDesk}
 
@@ -55,7 +55,7 @@ is_moved (Err (ByDesk desks.Closed)) = false
 is_moved (Err (ByDesk desks.NoMemory)) = false
 
 -- the unit that opened in a state by its place, over devices whose types claim what is said of a disk or not
-module _ (claims : Bool) (opening : ℕ → UnitState) where
+module _ (claims : Claims) (opening : ℕ → UnitState) where
   -- a command is submitted once, to the group that is believed to own the unit
   pub record IsOnce (old : At) (asked : Result ScsiCommand CdbFault) (bytes : List ℕ) (end : Result ReplyValue Unserved)
       (new : At) : Type 0 where

@@ -19,7 +19,7 @@ use Rattle.session_rules.specs.declared.target.ResetAnswer.{ResetAnswer}
 use Rattle.session_rules.specs.declared.target.ResetAnswer.TheVariants as resets
 use Rattle.unit_state.specs.State.{UnitState}
 use Rattle.unit_history.specs.Calls.{HasAttached}
-use Rattle.portal.specs.Units.{IsFull, IsRetired}
+use Rattle.portal.specs.Units.{Claims, IsFull, IsRetired}
 use Rattle.portal.specs.Submitted.{At, IsServed, IsResetAnswer}
 use Rattle.portal.specs.declared.live.EnterFault.{EnterFault}
 use Rattle.portal.specs.declared.live.EnterFault.TheVariants as enters
@@ -52,11 +52,11 @@ fault_of enters.NoNumber = faults.NoNumber
 fault_of enters.NoMemory = faults.NoMemory
 
 -- units that opened in these states by their places, over devices whose types claim what is said of a disk or not
-module _ (claims : Bool) (opening : ℕ → UnitState) where
+module _ (claims : Claims) (opening : ℕ → UnitState) where
   -- the session of this nexus has attached to this unit, through the group that it believes to own it
   pub record IsAttachedTo (nexus : Nexus) (unit : ℕ) (a : At) : Type 0 where
     pub place : a.place ≡ unit
-    pub attached : HasAttached claims (opening unit) nexus a.pass
+    pub attached : HasAttached claims.contents (opening unit) nexus a.pass
     pub by_is : a.by_group ≡ nexus.group
 
   -- and to each in order, from this one on

@@ -13,25 +13,33 @@ use Rattle.unit_history.specs.Calls.{HasNoRoom, HasServed, HasRefused, HasReset,
 use Rattle.portal.specs.declared.units.Unserved.{Unserved}
 use Rattle.portal.specs.declared.units.Unserved.TheVariants.{ByUnit, ByDesk}
 
--- a unit that opened in this state, over devices whose types claim what is said of a disk or not
-module _ (claims : Bool) (s : UnitState) where
+-- What is known of the devices of units: whether their types claim what is said of a disk; and what became of a unit's in a command
+-- that was served, the last entry of a history, which is said of the state that the unit opened in, the session, the command with
+-- its data, the reply and that history.
+pub record Claims : Type 1 where
+  pub contents : Bool
+  pub worked : UnitState → ℕ → Result ScsiCommand CdbFault → List ℕ → ReplyValue → List Entry → Type 0
+
+-- a unit that opened in this state, over devices of which so much is known
+module _ (claims : Claims) (s : UnitState) where
   -- there was a legal history behind which no session of this nexus has room
   abbrev pub IsFull : Nexus → Type 0
-  IsFull nexus = (history : List Entry) × HasNoRoom claims s nexus history
+  IsFull nexus = (history : List Entry) × HasNoRoom claims.contents s nexus history
 
   -- What a command comes to that is submitted to this group. Where the group's desk does not take it, no unit was asked: the pass is
   -- as it was, and has seen what it had seen.
   abbrev pub IsSubmitted : Known Entry → Group → Result ScsiCommand CdbFault → List ℕ → Result ReplyValue Unserved → Known Entry
       → Type 0
-  IsSubmitted old by asked bytes (Ok reply) new = HasServed claims s old new by asked bytes reply
-  IsSubmitted old by asked bytes (Err (ByUnit why)) new = HasRefused claims s old new by asked bytes why
-  IsSubmitted old by asked bytes (Err (ByDesk why)) new = (new ≡ old) × IsHistory claims s old.seen
+  IsSubmitted old by asked bytes (Ok reply) new =
+      HasServed claims.contents s old new by asked bytes reply × claims.worked s old.session asked bytes reply new.seen
+  IsSubmitted old by asked bytes (Err (ByUnit why)) new = HasRefused claims.contents s old new by asked bytes why
+  IsSubmitted old by asked bytes (Err (ByDesk why)) new = (new ≡ old) × IsHistory claims.contents s old.seen
 
   -- the session has reset the unit, or it is gone
   abbrev pub IsResetBy : Known Entry → Bool → Known Entry → Type 0
-  IsResetBy old done new = MatchBool done (HasReset claims s old new) (WasGone claims s old new)
+  IsResetBy old done new = MatchBool done (HasReset claims.contents s old new) (WasGone claims.contents s old new)
 
   -- The session has ended at the unit: there was a legal history, later than all that it had seen, behind which it is not
   -- attached; or it was gone before.
   abbrev pub IsRetired : Known Entry → Type 0
-  IsRetired old = ((history : List Entry) × HasRetired claims s old history) ⊎ ((new : Known Entry) × WasGone claims s old new)
+  IsRetired old = ((history : List Entry) × HasRetired claims.contents s old history) ⊎ ((new : Known Entry) × WasGone claims.contents s old new)

@@ -1,5 +1,5 @@
 -- A whole session, from the first byte of its login to its end.
-use Rattle.std.specs.Prelude.{ℕ, Bool, List, Option}
+use Rattle.std.specs.Prelude.{ℕ, List, Option}
 use Rattle.scsi_types.specs.declared.names.Group.{Group}
 use Rattle.scsi_types.specs.declared.names.Group.TheVariants.{One, Two}
 use Rattle.session_rules.specs.declared.end.End.{End}
@@ -8,6 +8,7 @@ use Rattle.session_rules.specs.declared.opening.Opening.TheVariants.{Login}
 use Rattle.session_rules.specs.Phases.{asked, exchanges}
 use Rattle.session.specs.Transcript.{IsTranscribed}
 use Rattle.unit_state.specs.State.{UnitState}
+use Rattle.portal.specs.Units.{Claims}
 use Rattle.portal.specs.Entries.{AreAnswered}
 use Rattle.portal.specs.Target.{TargetValue, LeadsOn, unbegun}
 
@@ -18,7 +19,7 @@ tag_of Two = 2
 
 -- What was written spells a legal transcript of what was read, of a login by a portal of this group, and what the session
 -- asked led its target from where it is at no unit to its end. What it asked of units is answered by their histories.
-pub record IsSession (claims : Bool) (opening : ℕ → UnitState) (units : ℕ) (group : Group) (me : Identity)
+pub record IsSession (claims : Claims) (opening : ℕ → UnitState) (units : ℕ) (group : Group) (me : Identity)
     (left left' held held' : Option (List ℕ)) (end : End) : Type 0 where
   pub after : TargetValue
   pub transcribed : IsTranscribed (LeadsOn claims opening) units me (Login (tag_of group)) left left' held held'

@@ -77,11 +77,15 @@ impl<B: Blocks, R: Blocks, O: Opener<B>, N: Array<Opened>> Controllers<B, R, O, 
 
 impl<B: Blocks, R: Blocks, O: Opener<B>, N: Array<Opened>> LogicalUnits<UnitPass<B, R, O, N>>
     for Controllers<B, R, O, N> {
-    ghost use Rattle.std.specs.Prelude.{◌&&◌};
+    ghost use Rattle.unit_history.specs.Calls.{HasWorked};
+    ghost use Rattle.unit_history.specs.Devices.{claims_of, devices};
 
     ghost unit_count = { λ c. c };
 
-    ghost claims = { O.claims && B.claims };
+    ghost claims = { record {
+      contents = claims_of (devices B.Blocks R.Blocks O.Opener);
+      worked = HasWorked (devices B.Blocks R.Blocks O.Opener);
+    } };
 
     ghost opening = { N.opening };
 

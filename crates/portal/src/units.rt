@@ -1,11 +1,11 @@
 //! The units of an array, as a session reaches them.
-ghost use Rattle.std.specs.Prelude.{◌≡◌, ◌<◌, ℕ, Bool, IfOk, OnErr};
+ghost use Rattle.std.specs.Prelude.{◌≡◌, ◌<◌, ℕ, IfOk, OnErr};
 ghost use Rattle.reservations.specs.Nexus.{IsPortName, through};
 ghost use Rattle.unit_state.specs.State.{UnitState};
 ghost use Rattle.locked_unit.specs.Calls.{PlacedPass};
 ghost use Rattle.unit_state.specs.Entry.{Entry};
 ghost use Rattle.unit_history.specs.Calls.{HasAttached};
-ghost use Rattle.portal.specs.Units.{IsFull, IsSubmitted, IsResetBy, IsRetired};
+ghost use Rattle.portal.specs.Units.{Claims, IsFull, IsSubmitted, IsResetBy, IsRetired};
 
 use forwarding::DeskFault;
 use scsi_types::{Asked, Group, PortName, Reply};
@@ -41,8 +41,8 @@ pub trait LogicalUnits<P: Pass> {
     /// How many units there are, from unit 0 on.
     ghost unit_count: { Self → ℕ };
 
-    /// Whether the devices' types claim what is said of a disk.
-    ghost claims: { Bool };
+    /// What is known of the units' devices.
+    ghost claims: { Claims };
 
     /// The state that the unit at a place opened with.
     ghost opening: { ℕ → UnitState };
@@ -55,7 +55,7 @@ pub trait LogicalUnits<P: Pass> {
         requires name { IsPortName port }
         requires unit { unit < unit_count self.now }
         ensures place { IfOk result (λ p. (P.held p).place ≡ unit) }
-        ensures attached { IfOk result (λ p. HasAttached claims (opening unit) (through port group) (P.held p).pass) }
+        ensures attached { IfOk result (λ p. HasAttached claims.contents (opening unit) (through port group) (P.held p).pass) }
         ensures full { OnErr result (IsFull claims (opening unit) (through port group)) };
 
     /// Submits a command of the session to a group.
