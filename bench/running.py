@@ -29,8 +29,8 @@ def made(path, blocks):
     return path
 
 
-def begins(user=None, largest=None):
-    """What the array's process does first: it becomes this user; no file of it grows past so many bytes."""
+def begins(user=None, largest=None, limit=None):
+    """What the array's process does first: it becomes this user; no file of it grows past so many bytes; it has this limit."""
     def begin():
         if largest is not None:
             # a write past the limit fails then, and does not end the program
@@ -40,17 +40,27 @@ def begins(user=None, largest=None):
             os.setgroups([])
             os.setgid(user)
             os.setuid(user)
+        if limit is not None:
+            resource.setrlimit(*limit)
     return begin
+
+
+def environment(log):
+    """The environment of an array whose log is this file; none: it has none."""
+    kept = {name: value for name, value in os.environ.items() if name != "ARRAYD_LOG"}
+    if log is not None:
+        kept["ARRAYD_LOG"] = log
+    return kept
 
 
 class Array:
     """A running array."""
 
-    def __init__(self, disks, port=PORT, options=(), user=None, largest=None):
+    def __init__(self, disks, port=PORT, options=(), user=None, largest=None, limit=None, log=None):
         self.port = port
         words = [ARRAYD, "--port", str(port), *options, *disks]
         self.process = subprocess.Popen(words, stdin=subprocess.PIPE, stdout=subprocess.PIPE, stderr=subprocess.PIPE,
-                                        text=True, preexec_fn=begins(user, largest))
+                                        text=True, preexec_fn=begins(user, largest, limit), env=environment(log))
         if self.process.stdout.readline() != "arrayd: ready\n":
             raise Wrong(f"the array is not ready: {self.process.stderr.read().strip()}")
 
@@ -92,8 +102,8 @@ class Array:
         self.kill()
 
 
-def ended(words, user=None, largest=None):
+def ended(words, user=None, largest=None, log=None):
     """Exit status and standard error of a start that fails."""
     done = subprocess.run([ARRAYD, *words], stdin=subprocess.DEVNULL, stdout=subprocess.PIPE, stderr=subprocess.PIPE,
-                          text=True, timeout=30, check=False, preexec_fn=begins(user, largest))
+                          text=True, timeout=30, check=False, preexec_fn=begins(user, largest), env=environment(log))
     return done.returncode, done.stderr.strip()

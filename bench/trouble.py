@@ -499,6 +499,8 @@ def block_device(folder):
             is_so("it moves", array.ask("down 1"), ["down"])
             is_so("the device itself is busy", ended(["--port", str(PORT + 16), device]), (1, "arrayd: cannot use unit 0"))
             array.quit()
+        is_so("the device itself is refused", ended(["--port", str(PORT + 16), device]),
+              (1, "arrayd: cannot use registration file 0"))
         is_so("its registration file lies beside the link", os.path.exists(folder + "/unit0.reg"), True)
         is_so("and none in /dev", os.path.exists(device + ".reg"), False)
         with open(folder + "/file", "rb") as file:

@@ -5,9 +5,10 @@ ghost use Rattle.unit_state.specs.Serials.{IsOpening};
 use aptpl_file::{OpenFault, RegFile};
 use command_line::{Fault, MAX_UNITS, Options};
 use disk_files::{
-    DiskFault, DiskLock, FileBlocks, FileOpener, FilePreparer, RegistrationsFault, open_disk,
-    open_registrations,
+    Disk, DiskFault, DiskLock, FileBlocks, FileFault, FileOpener, FilePreparer, RegistrationsFault,
+    Voice, open_disk, open_registrations,
 };
+use event_log::{Event, Log, Part, Unusable};
 use reservations::Record;
 use scsi_types::Place;
 use std::alloc::Global;
@@ -24,34 +25,107 @@ pub type FileUnit<R> = Unit<FileBlocks<File>, FileBlocks<File>, FileOpener<R>>;
 /// Units over files, before they are shared.
 pub type FileUnits<R> = Vec<NewUnit<FileBlocks<File>, FileBlocks<File>, FileOpener<R>>>;
 
-// That a file is no disk of this unit, or that there was no memory.
-fn disk_fault(unit: u8, fault: DiskFault) -> Fault {
+// Why a file is no device of blocks, as the log names it.
+fn file_unusable(fault: FileFault) -> Unusable {
     match fault {
-        DiskFault::NoMemory => Fault::NoMemory,
-        _ => Fault::CannotUseUnit(unit),
+        FileFault::NotThere => Unusable::NotThere,
+        FileFault::NotOpened => Unusable::NotOpened,
+        FileFault::Length => Unusable::Length,
+        FileFault::Empty => Unusable::Empty,
+        FileFault::TooLong => Unusable::TooLong,
     }
 }
 
-// The same of its registration file.
-fn registrations_fault(unit: u8, fault: RegistrationsFault) -> Fault {
+// The same of a disk.
+fn disk_unusable(fault: DiskFault) -> Unusable {
     match fault {
-        RegistrationsFault::NoMemory | RegistrationsFault::Held(OpenFault::NoMemory) => {
-            Fault::NoMemory
-        }
-        _ => Fault::CannotUseRegistrationFile(unit),
+        DiskFault::File(fault) => file_unusable(fault),
+        DiskFault::InUse => Unusable::InUse,
+        DiskFault::NotLocked => Unusable::NotLocked,
+        DiskFault::NoMemory => Unusable::NoMemory,
     }
+}
+
+// The same of a registration file.
+fn registrations_unusable(fault: RegistrationsFault) -> Unusable {
+    match fault {
+        RegistrationsFault::File(fault) => file_unusable(fault),
+        RegistrationsFault::NotMade => Unusable::NotMade,
+        RegistrationsFault::Held(OpenFault::NotARegFile) => Unusable::NotARegistrationFile,
+        RegistrationsFault::Held(OpenFault::Version) => Unusable::Version,
+        RegistrationsFault::Held(OpenFault::DeviceFailed) => Unusable::Failed,
+        RegistrationsFault::Held(OpenFault::NoMemory) => Unusable::NoMemory,
+        RegistrationsFault::Forgotten => Unusable::Forgotten,
+        RegistrationsFault::NoMemory => Unusable::NoMemory,
+    }
+}
+
+// That a file of a unit cannot be used, or that there was no memory.
+fn fault_of(unit: u8, part: Part, why: Unusable) -> Fault {
+    match (why, part) {
+        (Unusable::NoMemory, _) => Fault::NoMemory,
+        (_, Part::Disk) => Fault::CannotUseUnit(unit),
+        (_, Part::Registrations) => Fault::CannotUseRegistrationFile(unit),
+    }
+}
+
+// What tells of calls that fail on a file of a unit.
+fn voice(log: &Log, unit: u8, part: Part) -> Result<Voice, Fault> {
+    Ok(Voice::new(log.share()?, unit, part))
+}
+
+// The disk of a unit.
+fn open_blocks<R: Files<File = File> + Clone + Drop>(
+    rt: &R,
+    alloc: Global,
+    log: &Log,
+    unit: u8,
+    path: &str,
+) -> Result<Disk<R>, Fault> {
+    let mine = rt.clone()?;
+    match open_disk(mine, alloc, path) {
+        Ok(mut disk) => {
+            disk.blocks.tell_by(voice(log, unit, Part::Disk)?);
+            Ok(disk)
+        }
+        Err(fault) => {
+            let why = disk_unusable(fault);
+            log.note(&Event::CannotUse(unit, Part::Disk, path.as_bytes(), why));
+            Err(fault_of(unit, Part::Disk, why))
+        }
+    }
+}
+
+// The preparer of a disk, which tells of its own flushes that fail.
+fn open_preparer<R: Files<File = File> + Clock + Wait + Clone + Drop>(
+    rt: &R,
+    alloc: Global,
+    log: &Log,
+    unit: u8,
+    path: &str,
+    blocks: &mut FileBlocks<File>,
+) -> Result<FilePreparer<R>, Fault> {
+    let mine = rt.clone()?;
+    let voice = voice(log, unit, Part::Disk)?;
+    Ok(FilePreparer::open(mine, alloc, path, blocks, Some(voice)))
 }
 
 // The registration file of a unit, and its record.
 fn open_record<R: Files<File = File>>(
     rt: &R,
     alloc: Global,
+    log: &Log,
     unit: u8,
     path: &str,
 ) -> Result<(RegFile<FileBlocks<File>>, Record), Fault> {
-    match open_registrations(rt, alloc, path) {
+    let voice = voice(log, unit, Part::Registrations)?;
+    match open_registrations(rt, alloc, path, Some(voice)) {
         Ok(found) => Ok(found),
-        Err(fault) => Err(registrations_fault(unit, fault)),
+        Err(fault) => {
+            let why = registrations_unusable(fault);
+            log.note(&Event::CannotUse(unit, Part::Registrations, path.as_bytes(), why));
+            Err(fault_of(unit, Part::Registrations, why))
+        }
     }
 }
 
@@ -66,19 +140,15 @@ pub struct Beside<R: Files<File = File> + Clock + Wait + Drop> {
 fn open_unit<R: Files<File = File> + Clock + Wait + Clone + Drop>(
     rt: &R,
     alloc: Global,
+    log: &Log,
     place: Place,
     path: &str,
 ) -> Result<(FileUnit<R>, DiskLock, FilePreparer<R>), Fault>
     ensures { IfOk result (λ r. IsOpening r.0.control) }
 {
-    let mine = rt.clone()?;
-    let preparers = rt.clone()?;
-    let mut disk = match open_disk(mine, alloc, path) {
-        Ok(disk) => disk,
-        Err(fault) => return Err(disk_fault(place.unit, fault)),
-    };
-    let preparer = FilePreparer::open(preparers, alloc, path, &mut disk.blocks);
-    let (file, record) = open_record(rt, alloc, place.unit, path)?;
+    let mut disk = open_blocks(rt, alloc, log, place.unit, path)?;
+    let preparer = open_preparer(rt, alloc, log, place.unit, path, &mut disk.blocks)?;
+    let (file, record) = open_record(rt, alloc, log, place.unit, path)?;
     laws::nobody_is_attached_at_first();
     let unit = Unit::open(alloc, place, disk.blocks, disk.opener, file, record)?;
     Ok((unit, disk.lock, preparer))
@@ -88,6 +158,7 @@ fn open_unit<R: Files<File = File> + Clock + Wait + Clone + Drop>(
 pub fn open_units<R: Files<File = File> + Clock + Wait + Clone + Drop>(
     rt: &R,
     alloc: Global,
+    log: &Log,
     options: &Options<'_>,
 ) -> Result<(FileUnits<R>, Beside<R>), Fault>
     requires { length options.now.paths.items ≤ MAX_UNITS }
@@ -104,7 +175,7 @@ pub fn open_units<R: Files<File = File> + Clock + Wait + Clone + Drop>(
             array: options.array,
         };
         let path = options.paths[usize::from(unit)];
-        let (opened, lock, preparer) = open_unit(rt, alloc, place, path)?;
+        let (opened, lock, preparer) = open_unit(rt, alloc, log, place, path)?;
         units.push(NewUnit::new(alloc, opened)?)?;
         locks.push(lock)?;
         preparers.push(preparer)?;

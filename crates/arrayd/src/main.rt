@@ -1,9 +1,10 @@
 //! A disk array over iSCSI.
 #![tactic(auto)]
 
-ghost use Rattle.std.specs.Prelude.{◌≤◌, IfOk, IfSome, length};
+ghost use Rattle.std.specs.Prelude.{◌≤◌, IfOk, length};
 
 mod disks;
+mod log_file;
 mod once;
 mod portals;
 mod serve;
@@ -12,6 +13,8 @@ use block_file::Blocks;
 use command_line::{Fault, MAX_UNITS, Options};
 use disk_files::{FileBlocks, FileOpener, FilePreparer};
 use disks::{Beside, FileUnits, open_units};
+use event_log::{Log, start};
+use log_file::LogFile;
 use portal::Prepared;
 use serve::serve_units;
 use std::alloc::Global;
@@ -21,6 +24,7 @@ use std::marker::Brand;
 use std::process::ExitCode;
 use std::rt::Files;
 use std::sync::Wait;
+use std::thread::Threads;
 use std::time::Clock;
 use std::{env, io};
 
@@ -41,25 +45,45 @@ struct Asked<'a, R: Files<File = File> + Clock + Wait + Drop> {
     beside: Beside<R>,
 }
 
-// Does what the words ask for, but that it only opens the units of an array: it is to be served then.
-fn prepare<'a, R: Files<File = File> + Clock + Wait + Input + Print + Clone + Drop>(
+// Opens the units of an array.
+fn prepare<'a, R: Files<File = File> + Clock + Wait + Clone + Drop>(
     rt: &R,
     alloc: Global,
-    words: &'a [String],
-) -> Result<Option<Asked<'a, R>>, Fault>
-    ensures { IfOk result (λ p. IfSome p (λ asked. length asked.units.items ≤ MAX_UNITS)) }
+    log: &Log,
+    options: Options<'a>,
+) -> Result<Asked<'a, R>, Fault>
+    requires { length options.paths.items ≤ MAX_UNITS }
+    ensures { IfOk result (λ asked. length asked.units.items ≤ MAX_UNITS) }
 {
-    let options = command_line::read(alloc, words)?;
-    if options.is_once {
-        once::serve_once(rt, alloc)?;
-        return Ok(None);
-    }
-    let (units, beside) = open_units(rt, alloc, &options)?;
-    Ok(Some(Asked {
+    let (units, beside) = open_units(rt, alloc, log, &options)?;
+    Ok(Asked {
         options,
         units,
         beside,
-    }))
+    })
+}
+
+// The log, where the environment names a file for it; else one that is off.
+fn asked_log<
+    R: Threads
+        + Wait
+        + Clock
+        + Env
+        + AllocGlobal
+        + Files<File = File>
+        + Clone
+        + Drop
+        + Send
+        + 'static,
+>(rt: &R, alloc: Global) -> Result<Log, Fault> {
+    let Some(file) = LogFile::named(rt.clone()?)? else {
+        return Ok(Log::off());
+    };
+    let log = Log::new(alloc)?;
+    match start::<R, LogFile<R>>(rt, alloc, &log, file) {
+        Ok(()) => Ok(log),
+        Err(_) => Err(Fault::NoMemory),
+    }
 }
 
 // Says why the program ends, and with which status.
@@ -74,14 +98,30 @@ fn main(rt: HostRuntime) -> ExitCode {
         Ok(words) => words,
         Err(fault) => return complain(&rt, fault),
     };
+    let options = match command_line::read(alloc, words.as_slice()) {
+        Ok(options) => options,
+        Err(fault) => return complain(&rt, Fault::from(fault)),
+    };
+    if options.is_once {
+        return match once::serve_once(&rt, alloc) {
+            Ok(()) => ExitCode::SUCCESS,
+            Err(fault) => complain(&rt, fault),
+        };
+    }
+    let log = match asked_log(&rt, alloc) {
+        Ok(log) => log,
+        Err(fault) => return complain(&rt, fault),
+    };
     let Asked {
         options,
         units,
         beside,
-    } = match prepare(&rt, alloc, words.as_slice()) {
-        Ok(Some(prepared)) => prepared,
-        Ok(None) => return ExitCode::SUCCESS,
-        Err(fault) => return complain(&rt, fault),
+    } = match prepare(&rt, alloc, &log, options) {
+        Ok(prepared) => prepared,
+        Err(fault) => {
+            event_log::close(&rt, &log);
+            return complain(&rt, fault);
+        }
     };
     let served = serve_units::<
         Brand,
@@ -90,7 +130,15 @@ fn main(rt: HostRuntime) -> ExitCode {
         FileOpener<HostRuntime>,
         Prepared<FilePreparer<HostRuntime>>,
         HostRuntime,
-    >(&rt, alloc, &options, units, Prepared::new(beside.preparers));
+    >(
+        &rt,
+        alloc,
+        &options,
+        units,
+        Prepared::new(beside.preparers),
+        &log,
+    );
+    event_log::close(&rt, &log);
     // They live as long as the array is served.
     drop(beside.locks);
     match served {

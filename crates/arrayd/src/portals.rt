@@ -1,9 +1,11 @@
 //! The portals of both controllers.
 
 use command_line::Fault;
+use event_log::{Event, Log};
 use scsi_types::Group;
 use std::alloc::{AllocError, Global};
 use std::net::{Ipv4Addr, Net, SocketAddrV4, TcpListener, TcpStream};
+use std::time::Clock;
 
 /// How far the ports of the two controllers lie apart.
 const APART: u16 = 4;
@@ -55,19 +57,28 @@ fn controller(group: Group) -> u8 {
 }
 
 /// Opens the portals of controller 1 in order, then those of controller 2.
-pub fn open<R: Net<Listener = TcpListener, Stream = TcpStream>>(
+pub fn open<R: Net<Listener = TcpListener, Stream = TcpStream> + Clock>(
     rt: &R,
     alloc: Global,
     ports: Ports,
+    log: &Log,
 ) -> Result<Vec<Portal>, Fault> {
     let mut portals = Vec::new(alloc);
     for group in [Group::One, Group::Two] {
         let ports = ports.of(group);
         for portal in 0..ports.count {
             let port = ports.first.saturating_add(portal);
-            let Ok(listener) = TcpListener::bind(rt, (ports.host, port)) else {
-                return Err(Fault::CannotListen(controller(group), portal));
+            let controller = controller(group);
+            let at = SocketAddrV4::new(ports.host, port);
+            let listener = match TcpListener::bind(rt, (ports.host, port)) {
+                Ok(listener) => listener,
+                Err(e) => {
+                    let error = u32::try_from(e.raw_os_error().unwrap_or(0)).unwrap_or(0);
+                    log.tell(rt, &Event::CannotListen(u16::from(controller), at, error));
+                    return Err(Fault::CannotListen(controller, portal));
+                }
             };
+            log.tell(rt, &Event::Listening(u16::from(controller), at));
             portals.push(Portal { listener, group })?;
         }
     }

@@ -7,6 +7,7 @@ use crate::portals::{self, Portal, Ports};
 use block_file::{Blocks, Opener};
 use command_line::{Fault, MAX_UNITS, Options};
 use console::{Array, Watched, console};
+use event_log::{Event, Log};
 use numbering::Array as Naming;
 use portal::{Controllers, Gate, Server, SmallStacks, TargetDevice, listen, start_lanes};
 use scsi_types::Group;
@@ -42,6 +43,7 @@ pub fn serve_units<
     options: &Options<'_>,
     units: Vec<NewUnit<B, F, O>>,
     gate: G,
+    log: &Log,
 ) -> Result<(), Fault>
     requires named { IsNamed N.book N.table N.opening B.contents units.items }
     requires count { length units.items ≤ MAX_UNITS }
@@ -51,13 +53,14 @@ pub fn serve_units<
         first: options.port,
         count: options.portals,
     };
-    let portals = portals::open(rt, alloc, ports)?;
+    let portals = portals::open(rt, alloc, ports, log)?;
     let units = Units::<B, F, O, N>::new(rt, alloc, units)?;
     let server = Server {
         device: TargetDevice::new(alloc, Controllers::new(alloc, units)?, gate),
         target_name: Vec::from_slice(alloc, options.target.as_bytes())?,
         first: ports.of(Group::One).addresses(alloc)?,
         second: ports.of(Group::Two).addresses(alloc)?,
+        log: log.share()?,
     };
     let Ok(server) = Arc::new(alloc, server) else {
         return Err(Fault::NoMemory);
@@ -92,7 +95,9 @@ pub fn serve_units<
     let mut watched = Watched {
         rt,
         controllers: &server.device.units,
+        log,
     };
+    log.tell(rt, &Event::Ready);
     // An output that fails counts as the end of the input.
     if rt.println("arrayd: ready").is_err() {
         watched.close();

@@ -4,17 +4,19 @@ ghost use Rattle.unit_history.specs.Naming.{IsNamed};
 
 use block_file::{Blocks, Opener};
 use console::{Watched, console};
+use event_log::Log;
 use numbering::Array as Naming;
 use portal::Controllers;
 use std::alloc::Global;
 use std::marker::Brand;
 use std::sync::Wait;
 use std::test::*;
+use std::time::Clock;
 use test_units::in_memory;
 use unit_history::{NewUnit, Opened, Units};
 
 // What these lines are answered.
-fn said<N: Naming<Opened>, B: Blocks, F: Blocks, O: Opener<B>, R: Wait>(
+fn said<N: Naming<Opened>, B: Blocks, F: Blocks, O: Opener<B>, R: Wait + Clock>(
     rt: &R,
     alloc: Global,
     new: Vec<NewUnit<B, F, O>>,
@@ -28,20 +30,30 @@ fn said<N: Naming<Opened>, B: Blocks, F: Blocks, O: Opener<B>, R: Wait>(
     answered(rt, alloc, &controllers, lines)
 }
 
-fn answered<'a, N: Naming<Opened>, B: Blocks, F: Blocks, O: Opener<B>, R: Wait>(
+fn answered<'a, N: Naming<Opened>, B: Blocks, F: Blocks, O: Opener<B>, R: Wait + Clock>(
     rt: &'a R,
     alloc: Global,
     controllers: &'a Controllers<B, F, O, N>,
     lines: &[u8],
 ) -> Result<String, Fail> {
     let mut written = Vec::new(alloc);
-    let mut watched = Watched { rt, controllers };
+    let log = Log::off();
+    let mut watched = Watched {
+        rt,
+        controllers,
+        log: &log,
+    };
     console(alloc, lines, &mut written, &mut watched);
     Ok(String::from_utf8(written)?)
 }
 
 // What these lines are answered, over units that are opened so often.
-fn asked<R: Wait>(rt: &R, alloc: Global, opens: &[u64], lines: &str) -> Result<String, Fail> {
+fn asked<R: Wait + Clock>(
+    rt: &R,
+    alloc: Global,
+    opens: &[u64],
+    lines: &str,
+) -> Result<String, Fail> {
     let units = in_memory(alloc, opens)?;
     said::<Brand, _, _, _, R>(rt, alloc, units, lines.as_bytes())
 }

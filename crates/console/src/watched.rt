@@ -1,21 +1,70 @@
 //! The array as its console sees it.
 use crate::lines::{Array, UnitStatus};
 use block_file::{Blocks, Opener};
+use event_log::{By, Event, Log, Stayed};
 use failover::take_down;
 use numbering::Array as Naming;
 use portal::Controllers;
 use scsi_types::Group;
 use std::sync::Wait;
+use std::time::Clock;
 use unit_history::Opened;
+use unit_state::MoveFault;
 
 /// Both controllers, as the console sees them.
 #[derive(Drop)]
-pub struct Watched<'a, R: Wait, B: Blocks, F: Blocks, O: Opener<B>, N: Naming<Opened>> {
+pub struct Watched<'a, R: Wait + Clock, B: Blocks, F: Blocks, O: Opener<B>, N: Naming<Opened>> {
     pub rt: &'a R,
     pub controllers: &'a Controllers<B, F, O, N>,
+    /// What happens is told to it.
+    pub log: &'a Log,
 }
 
-impl<R: Wait, B: Blocks, F: Blocks, O: Opener<B>, N: Naming<Opened>> Array
+// The other one of two groups.
+fn other(group: Group) -> u16 {
+    match group {
+        Group::One => 2,
+        Group::Two => 1,
+    }
+}
+
+// The number of the unit at a place.
+fn number(place: usize) -> u8 {
+    u8::try_from(place).unwrap_or(u8::MAX)
+}
+
+// Why a unit stays, as the log names it.
+fn stayed(why: MoveFault) -> Stayed {
+    match why {
+        MoveFault::List(_) => Stayed::BadList,
+        MoveFault::OpenFailed => Stayed::NotOpened,
+        MoveFault::Gone => Stayed::Gone,
+    }
+}
+
+impl<R: Wait + Clock, B: Blocks, F: Blocks, O: Opener<B>, N: Naming<Opened>> Watched<
+    '_,
+    R,
+    B,
+    F,
+    O,
+    N,
+> {
+    // Tells that a controller is down at so many units, and why the next one stays, where it does.
+    fn tell_down(&self, controller: Group, units: usize, end: Option<MoveFault>) {
+        let owner = other(controller);
+        for unit in 0..units {
+            let set = Event::GroupsSet(number(unit), owner, By::Console);
+            self.log.tell(self.rt, &set);
+        }
+        if let Some(why) = end {
+            let stays = Event::NotMoved(number(units), owner, stayed(why), By::Console);
+            self.log.tell(self.rt, &stays);
+        }
+    }
+}
+
+impl<R: Wait + Clock, B: Blocks, F: Blocks, O: Opener<B>, N: Naming<Opened>> Array
     for Watched<'_, R, B, F, O, N> {
     fn status(&mut self, unit: u8) -> Option<UnitStatus> {
         let place = usize::from(unit);
@@ -36,21 +85,31 @@ impl<R: Wait, B: Blocks, F: Blocks, O: Opener<B>, N: Naming<Opened>> Array
     }
 
     fn down(&mut self, controller: Group) -> Result<(), usize> {
-        let (_moves, end) = take_down(self.rt, self.controllers.units(), controller);
+        let units = self.controllers.units();
+        let (_moves, end) = take_down(self.rt, units, controller);
         match end {
-            Ok(()) => Ok(()),
-            Err(stopped) => Err(stopped.unit),
+            Ok(()) => {
+                self.tell_down(controller, units.count(), None);
+                Ok(())
+            }
+            Err(stopped) => {
+                self.tell_down(controller, stopped.unit, Some(stopped.why));
+                Err(stopped.unit)
+            }
         }
     }
 
     fn close(&mut self) {
+        self.log.tell(self.rt, &Event::Stopping);
         self.controllers.close(self.rt);
     }
 
     fn flush(&mut self) {
         let units = self.controllers.units();
         for place in 0..units.count() {
-            let _ = units.flush(self.rt, place);
+            if units.flush(self.rt, place).is_err() {
+                self.log.tell(self.rt, &Event::NotFlushed(number(place)));
+            }
         }
     }
 }

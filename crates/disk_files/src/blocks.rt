@@ -9,7 +9,9 @@ ghost use Rattle.disk_files.specs.Lengths.{IsLengthFault};
 
 use crate::FileFault;
 use crate::flushes::{Flushes, LastingFile};
+use crate::voice::{Voice, number_of};
 use block_file::{BLOCK_LENGTH, Blocks, DeviceFailed};
+use event_log::Call;
 use std::alloc::Global;
 use std::fs::File;
 use std::io::{ErrorKind, Seek, SeekFrom};
@@ -37,6 +39,8 @@ pub struct FileBlocks<F: FileExt + LastingFile + Seek + Drop> {
     is_lost: bool,
     // What its preparer has flushed, where it has one.
     flushes: Option<Arc<Flushes<F>, Global>>,
+    // What tells of calls that failed.
+    voice: Option<Voice>,
     ghost fits: { count < 2 ^ 32 },
     ghost some: { 0 < count },
 }
@@ -96,7 +100,22 @@ impl<F: FileExt + LastingFile + Seek + Drop> FileBlocks<F> {
             failed_writes: 0,
             is_lost: false,
             flushes: None,
+            voice: None,
         })
+    }
+
+    /// From now on calls that fail are told.
+    pub fn tell_by(&mut self, voice: Voice)
+        ensures { self.new ≡ self.old }
+    {
+        self.voice = Some(voice);
+    }
+
+    // Tells that a call failed at so many bytes from this block on, with this error of the system.
+    pub(crate) fn tell(&self, call: Call, first: u32, bytes: usize, error: u32) {
+        if let Some(voice) = &self.voice {
+            voice.tell(call, first, bytes / BLOCK_LENGTH, error);
+        }
     }
 
     /// The handle.
@@ -112,7 +131,8 @@ impl<F: FileExt + LastingFile + Seek + Drop> FileBlocks<F> {
         self.flushes = Some(flushes);
     }
 
-    // Makes what was written last, where no flush has failed: nothing is to be done where the preparer did it.
+    // Makes what was written last, where no flush has failed: nothing is to be done where the preparer did it, and nothing to be told
+    // where it has told already.
     fn make_last(&self) -> Result<(), DeviceFailed>
         ensures { OnOk result (IsSettled F.lasts self.now.written) }
     {
@@ -124,7 +144,13 @@ impl<F: FileExt + LastingFile + Seek + Drop> FileBlocks<F> {
                 return Ok(());
             }
         }
-        self.file.make_last(self.written)
+        match self.file.make_last(self.written) {
+            Ok(()) => Ok(()),
+            Err(error) => {
+                self.tell(Call::Flush, 0, 0, error);
+                Err(DeviceFailed)
+            }
+        }
     }
 
     /// Takes a handle through which the same file was opened anew, as the other controller's opener does. Its length has
@@ -133,7 +159,8 @@ impl<F: FileExt + LastingFile + Seek + Drop> FileBlocks<F> {
         ensures ok { OnOk result (IsSameDisk self.old self.new) }
         ensures err { OnErr result (self.new ≡ self.old) }
     {
-        if !ends_at(&mut file, self.count) {
+        if let Err(error) = ends_at(&mut file, self.count) {
+            self.tell(Call::Seek, 0, 0, error);
             return Err(DeviceFailed);
         }
         self.file = file;
@@ -154,11 +181,12 @@ impl FileBlocks<File> {
     }
 }
 
-// Whether a file still has so many blocks.
-fn ends_at<F: Seek>(file: &mut F, count: u32) -> bool {
+// Whether a file still has so many blocks; else the error of the system, 0 where it has another length.
+fn ends_at<F: Seek>(file: &mut F, count: u32) -> Result<(), u32> {
     match file.seek(SeekFrom::End(0)) {
-        Ok(end) => end == BLOCK_LENGTH as u64 * u64::from(count),
-        Err(_) => false,
+        Ok(end) if end == BLOCK_LENGTH as u64 * u64::from(count) => Ok(()),
+        Ok(_) => Err(0),
+        Err(e) => Err(number_of(&e)),
     }
 }
 
@@ -215,7 +243,10 @@ impl<F: FileExt + LastingFile + Seek + Drop> Blocks for FileBlocks<F> {
     {
         match self.file.read_exact_at(bytes, at(first)) {
             Ok(()) => Ok(()),
-            Err(_) => failed(&mut self.failed_reads),
+            Err(e) => {
+                self.tell(Call::Read, first, bytes.len(), number_of(&e));
+                failed(&mut self.failed_reads)
+            }
         }
     }
 
@@ -232,14 +263,18 @@ impl<F: FileExt + LastingFile + Seek + Drop> Blocks for FileBlocks<F> {
         ensures rises { self.old.written ≤ self.new.written }
     {
         // A write behind the end would make the file longer, with zeros in place of what was there.
-        if !ends_at(&mut self.file, self.count) {
+        if let Err(error) = ends_at(&mut self.file, self.count) {
+            self.tell(Call::Seek, first, bytes.len(), error);
             return failed(&mut self.failed_writes);
         }
         let end = self.file.write_all_at(bytes, at(first));
         self.written = one_more(self.written, &self.flushes);
         match end {
             Ok(()) => Ok(()),
-            Err(_) => failed(&mut self.failed_writes),
+            Err(e) => {
+                self.tell(Call::Write, first, bytes.len(), number_of(&e));
+                failed(&mut self.failed_writes)
+            }
         }
     }
 

@@ -51,6 +51,9 @@ pub enum RegistrationsFault {
     /// It is there and is no registration file that can be read.
     #[error("{0}")]
     Held(OpenFault),
+    /// It would lie where a reboot forgets it, and its disk would not.
+    #[error("a reboot would forget the registration file")]
+    Forgotten,
     /// There was no memory for its name.
     #[error("no memory")]
     NoMemory,

@@ -4,7 +4,9 @@ ghost use Rattle.disk_files.specs.FileDisk.{IsSameDisk};
 use crate::FileBlocks;
 use crate::flushes::Flushes;
 use crate::opener::node_of;
+use crate::voice::Voice;
 use block_file::BLOCK_LENGTH;
+use event_log::Call;
 use libc::{POSIX_FADV_WILLNEED, posix_fadvise};
 use preparer::Preparer;
 use std::alloc::Global;
@@ -51,6 +53,8 @@ pub struct FilePreparer<R: Clock + Wait + Drop> {
     rt: R,
     // None where there was no handle for it: then nothing is prepared.
     file: Option<File>,
+    // What tells of its flushes that failed.
+    voice: Option<Voice>,
     // What it tells the device of its flushes; none where it makes none.
     flushes: Option<Arc<Flushes<File>, Global>>,
     // How many reads there were, as far as threads that count at one time do not miss each other's.
@@ -62,7 +66,13 @@ pub struct FilePreparer<R: Clock + Wait + Drop> {
 impl<R: Clock + Wait + Files<File = File> + Drop> FilePreparer<R> {
     /// The preparer of a device, whose file has this name. Where the name is another file's by now, or has none, it does nothing;
     /// where there is no memory it makes no flush.
-    pub fn open(rt: R, alloc: Global, path: &str, blocks: &mut FileBlocks<File>) -> FilePreparer<R>
+    pub fn open(
+        rt: R,
+        alloc: Global,
+        path: &str,
+        blocks: &mut FileBlocks<File>,
+        voice: Option<Voice>,
+    ) -> FilePreparer<R>
         ensures { IsSameDisk blocks.old blocks.new }
     {
         let file = match File::options().read(true).write(true).open(&rt, path) {
@@ -76,6 +86,7 @@ impl<R: Clock + Wait + Files<File = File> + Drop> FilePreparer<R> {
         FilePreparer {
             rt,
             file,
+            voice,
             flushes,
             reads: AtomicU64::new(0),
             slow: AtomicU64::new(0),
@@ -127,6 +138,13 @@ impl<R: Clock + Wait + Drop> FilePreparer<R> {
         };
         if next != slow {
             self.slow.store(next, Ordering::Relaxed);
+        }
+    }
+
+    // Tells that a flush failed.
+    fn tell(&self, error: u32) {
+        if let Some(voice) = &self.voice {
+            voice.tell(Call::Flush, 0, 0, error);
         }
     }
 
@@ -243,7 +261,9 @@ impl<R: Clock + Wait + Drop> Preparer for FilePreparer<R> {
 
     fn flush(&self) {
         if let (Some(file), Some(flushes)) = (&self.file, &self.flushes) {
-            flushes.flush_before(&self.rt, file);
+            if let Err(error) = flushes.flush_before(&self.rt, file) {
+                self.tell(error);
+            }
         }
     }
 }

@@ -2,7 +2,7 @@
 ghost use Rattle.std.specs.Prelude.{ℕ, IsTrue, OnOk};
 ghost use Rattle.disk_files.specs.Lasting.{IsSettled};
 
-use block_file::DeviceFailed;
+use crate::voice::number_of;
 use std::fs::File;
 use std::marker::{Model, PhantomData};
 use std::sync::atomic::{AtomicBool, AtomicU64, Ordering};
@@ -13,18 +13,19 @@ pub trait LastingFile {
     /// What the first so many writes of the file's device left lasts. Nothing but `make_last` says so.
     ghost lasts: { ℕ → Type 0 };
 
-    /// Makes all that was written last, where so many writes of the file's device have ended.
-    fn make_last(&self, writes: u64) -> Result<(), DeviceFailed>
+    /// Makes all that was written last, where so many writes of the file's device have ended; else the error of the system, 0
+    /// where it told none.
+    fn make_last(&self, writes: u64) -> Result<(), u32>
         ensures { OnOk result (lasts writes) };
 }
 
 impl LastingFile for File {
     ghost lasts = { λ writes. Unit {0} };
 
-    fn make_last(&self, _writes: u64) -> Result<(), DeviceFailed> {
+    fn make_last(&self, _writes: u64) -> Result<(), u32> {
         match self.sync_data() {
             Ok(()) => Ok(()),
-            Err(_) => Err(DeviceFailed),
+            Err(e) => Err(number_of(&e)),
         }
     }
 }
@@ -121,17 +122,24 @@ impl<F: LastingFile> Flushes<F> {
         }
     }
 
-    /// Makes last what the writes left that have ended by now. A failure is remembered, and told by the device's next flush.
-    pub fn flush_before<R: Wait>(&self, rt: &R, file: &F) {
+    /// Makes last what the writes left that have ended by now. A failure is remembered, and told by the device's next flush;
+    /// it is the error of the system, 0 where that told none.
+    pub fn flush_before<R: Wait>(&self, rt: &R, file: &F) -> Result<(), u32> {
         let turn = self.turns.fetch_add(1, Ordering::Relaxed) as usize % AT_A_TIME;
         let _running = self.running[turn].lock(rt);
         let writes = self.written.load(Ordering::Acquire);
         if self.settled.lock(rt).has(writes) {
-            return;
+            return Ok(());
         }
         match file.make_last(writes) {
-            Ok(()) => self.settled.lock(rt).put(writes),
-            Err(DeviceFailed) => self.is_lost.store(true, Ordering::Release),
+            Ok(()) => {
+                self.settled.lock(rt).put(writes);
+                Ok(())
+            }
+            Err(error) => {
+                self.is_lost.store(true, Ordering::Release);
+                Err(error)
+            }
         }
     }
 }

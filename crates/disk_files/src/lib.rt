@@ -10,6 +10,7 @@ mod flushes;
 pub mod laws;
 mod opener;
 mod registrations;
+mod voice;
 
 pub use blocks::{FileBlocks, blocks_in};
 pub use disk::{Disk, DiskLock, open_disk};
@@ -18,3 +19,4 @@ pub use file_preparer::FilePreparer;
 pub use flushes::{Flushes, LastingFile};
 pub use opener::FileOpener;
 pub use registrations::open_registrations;
+pub use voice::Voice;

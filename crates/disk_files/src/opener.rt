@@ -5,7 +5,9 @@ ghost use Rattle.block_file.specs.Failures.{Counts, last_count};
 ghost use Rattle.disk_files.specs.FileDisk.{IsSameDisk};
 
 use crate::FileBlocks;
+use crate::voice::number_of;
 use block_file::{DeviceFailed, Opener};
+use event_log::Call;
 use std::alloc::{AllocError, Global};
 use std::fs::{File, OpenFile};
 use std::os::unix::fs::MetadataExt;
@@ -63,14 +65,19 @@ impl<R: Files<File = File> + Drop> FileOpener<R> {
         ensures ok { OnOk result (IsSameDisk device.old device.new) }
         ensures err { OnErr result (device.new ≡ device.old) }
     {
-        let Ok(file) = File::options()
+        let opened = File::options()
             .read(true)
             .write(true)
-            .open(&self.rt, self.path.as_str())
-        else {
-            return Err(DeviceFailed);
+            .open(&self.rt, self.path.as_str());
+        let file = match opened {
+            Ok(file) => file,
+            Err(e) => {
+                device.tell(Call::Open, 0, 0, number_of(&e));
+                return Err(DeviceFailed);
+            }
         };
         if node_of(&file) != Some(self.node) {
+            device.tell(Call::Open, 0, 0, 0);
             return Err(DeviceFailed);
         }
         device.renew(file)

@@ -1,31 +1,61 @@
 //! The registration file of a unit.
-use crate::{FileBlocks, FileFault, RegistrationsFault};
+use crate::{FileBlocks, FileFault, RegistrationsFault, Voice};
 use aptpl_file::{FILE_BLOCKS, OpenFault, RegFile};
 use block_file::{BLOCK_LENGTH, Blocks};
 use reservations::Record;
 use std::alloc::{AllocError, Global};
 use std::fs;
 use std::fs::{File, OpenFile};
+use std::os::unix::fs::MetadataExt;
 use std::rt::Files;
 
 /// Opens the registration file beside the disk of this name, which has `.reg` behind it, and gives the record that it
-/// holds. Where there is none it is made. A file that is there and is no registration file is left as it was.
+/// holds. Where there is none it is made. A file that is there and is no registration file is left as it was. Calls on it that
+/// fail are told by this voice.
 pub fn open_registrations<R: Files<File = File>>(
     rt: &R,
     alloc: Global,
     disk: &str,
+    voice: Option<Voice>,
 ) -> Result<(RegFile<FileBlocks<File>>, Record), RegistrationsFault> {
+    if is_forgotten(rt, disk) {
+        return Err(RegistrationsFault::Forgotten);
+    }
     let Ok(path) = joined(alloc, disk, ".reg") else {
         return Err(RegistrationsFault::NoMemory);
     };
-    let blocks = match opened_or_made(rt, alloc, path.as_str()) {
+    let mut blocks = match opened_or_made(rt, alloc, path.as_str()) {
         Ok(blocks) => blocks,
         Err(fault) => return Err(fault),
     };
+    if let Some(voice) = voice {
+        blocks.tell_by(voice);
+    }
     match RegFile::open(alloc, blocks) {
         Ok(found) => Ok(found),
         Err(OpenFault::NoMemory) => Err(RegistrationsFault::NoMemory),
         Err(fault) => Err(RegistrationsFault::Held(fault)),
+    }
+}
+
+// Whether the disk outlasts a reboot and what lies beside it does not: it is no regular file, and its folder lies in the file system
+// of `/dev`, which is a mount of its own. A reboot makes that anew, and registrations that were told GOOD would be gone.
+fn is_forgotten<R: Files<File = File>>(rt: &R, disk: &str) -> bool {
+    let Ok(metadata) = fs::metadata(rt, disk) else {
+        return false;
+    };
+    let devices = device_of(rt, "/dev");
+    !metadata.is_file()
+        && devices.is_some()
+        && device_of(rt, folder_of(disk)) == devices
+        && device_of(rt, "/") != devices
+}
+
+// The file system in which a folder lies.
+fn device_of<R: Files<File = File>>(rt: &R, folder: &str) -> Option<u64> {
+    match fs::metadata(rt, folder) {
+        Ok(metadata) => Some(metadata.dev()),
+        Err(_) => None,
     }
 }
 

@@ -1,6 +1,6 @@
 //! Flushes after one that failed.
 use crate::files::want;
-use block_file::{Blocks, DeviceFailed};
+use block_file::Blocks;
 use disk_files::{FileBlocks, Flushes, LastingFile};
 use std::alloc::Global;
 use std::cell::Cell;
@@ -9,6 +9,9 @@ use std::io::{Seek, SeekFrom};
 use std::os::unix::fs::FileExt;
 use std::sync::Arc;
 use std::test::Fail;
+
+/// The error of its flush that fails, as a system numbers EIO.
+const FAILED: u32 = 5;
 
 /// A file of four blocks, of which one flush fails, counted from 0, or none.
 #[derive(Drop)]
@@ -45,11 +48,11 @@ impl Seek for Flushed {
 impl LastingFile for Flushed {
     ghost lasts = { λ writes. Unit {0} };
 
-    fn make_last(&self, _writes: u64) -> Result<(), DeviceFailed> {
+    fn make_last(&self, _writes: u64) -> Result<(), u32> {
         let before = self.flushes.get();
         self.flushes.set(before.wrapping_add(1));
         if self.fails_at == Some(before) {
-            Err(DeviceFailed)
+            Err(FAILED)
         } else {
             Ok(())
         }
@@ -111,7 +114,8 @@ fn prepared(
 fn a_flush_before_that_failed_is_told(rt: HostRuntime) -> Result<(), Fail> {
     let (mut device, before) = prepared(rt.alloc(), None)?;
     want(flushes(&mut device), "a flush that nothing stands before")?;
-    before.flush_before(&rt, &Flushed::new(Some(0)));
+    let end = before.flush_before(&rt, &Flushed::new(Some(0)));
+    want(end == Err(FAILED), "a flush before that fails")?;
     for _ in 0..2 {
         want(!flushes(&mut device), "a flush behind one that failed")?;
     }
@@ -122,7 +126,8 @@ fn a_flush_before_that_failed_is_told(rt: HostRuntime) -> Result<(), Fail> {
 #[test]
 fn a_flush_before_is_enough_until_a_write_ends(rt: HostRuntime) -> Result<(), Fail> {
     let (mut device, before) = prepared(rt.alloc(), Some(0))?;
-    before.flush_before(&rt, &Flushed::new(None));
+    let end = before.flush_before(&rt, &Flushed::new(None));
+    want(end == Ok(()), "a flush before")?;
     for _ in 0..2 {
         want(flushes(&mut device), "a flush behind one before")?;
     }

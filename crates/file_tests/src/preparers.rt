@@ -20,7 +20,7 @@ fn a_preparer_costs_time_alone(rt: HostRuntime) -> Result<(), Fail> {
         let name = beside(rt.alloc(), path.as_str(), name)?;
         make(&rt, path.as_str(), 2048)?;
         let mut blocks = opened(rt, path.as_str())?.blocks;
-        let preparer = FilePreparer::open(rt, rt.alloc(), name.as_str(), &mut blocks);
+        let preparer = FilePreparer::open(rt, rt.alloc(), name.as_str(), &mut blocks, None);
         is_as_ever(&mut blocks, &preparer)?;
         make(&rt, path.as_str(), 512)?;
         prepare(&preparer);

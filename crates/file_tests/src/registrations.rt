@@ -63,7 +63,7 @@ fn length(rt: HostRuntime, path: &str, end: &str) -> Result<Option<usize>, Fail>
 
 // The file of a disk has the record of this key, or nothing, and then this one is saved.
 fn is_saved(rt: HostRuntime, path: &str, found: Option<u64>, key: u64) -> Result<(), Fail> {
-    let Ok((mut file, record)) = open_registrations(&rt, rt.alloc(), path) else {
+    let Ok((mut file, record)) = open_registrations(&rt, rt.alloc(), path, None) else {
         return Err("a registration file".into());
     };
     is_found(rt.alloc(), &record, found)?;
@@ -94,7 +94,7 @@ fn put(rt: HostRuntime, path: &str, end: &str, bytes: &[u8]) -> Result<(), Fail>
 
 // Why the registration file of a disk is not opened.
 fn fault(rt: HostRuntime, path: &str) -> Option<RegistrationsFault> {
-    open_registrations(&rt, rt.alloc(), path).err()
+    open_registrations(&rt, rt.alloc(), path, None).err()
 }
 
 #[test]

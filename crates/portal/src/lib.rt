@@ -13,7 +13,10 @@ mod live;
 mod server;
 mod stacks;
 mod target;
+mod told;
 mod units;
+mod wire;
+mod witness;
 mod worker;
 
 pub use attached::Attached;
@@ -28,4 +31,6 @@ pub use server::{Server, Socket, Stop, accept, listen};
 pub use stacks::{SmallStacks, Stacks};
 pub use target::{BeginFault, SessionTarget};
 pub use units::{Full, LogicalUnits, Pass, Unserved};
+pub use wire::{Heard, LastSaid, Said};
+pub use witness::{Visitor, Witness};
 pub use worker::{serve_session, tag_of};

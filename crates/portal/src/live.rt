@@ -1,5 +1,6 @@
 //! The sessions that live at an array, and their handles.
-ghost use Rattle.std.specs.Prelude.{◌≡◌, ◌<◌, ◌++◌, ◌∷◌, [], length, vec_capacity, IfOk, IfErr, OnErr};
+ghost use Rattle.std.specs.Prelude.{◌≡◌, ◌<◌, ◌++◌, ◌∷◌, [], length, nat_eq, vec_capacity, IfOk, IfErr, OnErr};
+ghost use Rattle.std.specs.List.{list_any};
 ghost use Rattle.reservations.specs.Nexus.{through, same_port};
 ghost use Rattle.portal.specs.Live.{HasEntered, IsCauseOf, is_live, others, without};
 
@@ -183,6 +184,13 @@ impl<C> Table<C> {
         ensures { result ≡ is_live self.now.live tsih (record { name = name.now; isid = isid }) }
     {
         self.live.iter().any(|session| session.tsih == tsih && is_of_port(session, name, isid))
+    }
+
+    /// Whether the session with this number lives.
+    pub fn has(&self, number: u64) -> bool
+        ensures { result ≡ list_any (λ s. nat_eq s.number number) self.now.live }
+    {
+        self.live.iter().any(|session| session.number == number)
     }
 
     /// How many sessions live.

@@ -7,7 +7,10 @@ use crate::device::TargetDevice;
 use crate::gate::Gate;
 use crate::stacks::{STACK, Stacks};
 use crate::units::{LogicalUnits, Pass};
-use crate::worker::serve_session;
+use crate::wire::{Heard, LastSaid, Said};
+use crate::witness::Visitor;
+use crate::worker::{serve_session, tag_of};
+use event_log::{Event, Initiator, Log, Path, Resource, Why};
 use scsi_types::{Group, NoMemory};
 use session::{End, Identity, Watched};
 use std::alloc::{AllocError, Global};
@@ -25,6 +28,11 @@ const LOGIN_SILENCE: u64 = 30;
 /// So many milliseconds an accept loop rests where no connection could be accepted.
 const REST: u64 = 100;
 
+/// ENFILE and EMFILE, as Linux numbers them.
+const NO_FILE_OF_SYSTEM: i32 = 23;
+
+const NO_FILE: i32 = 24;
+
 /// What a connection is to the table of sessions: its socket, of which it has a share.
 pub type Socket = Arc<TcpStream, Global>;
 
@@ -39,6 +47,8 @@ pub struct Server<U: Drop, G: Drop> {
     pub first: Vec<SocketAddrV4>,
     /// The portals of the second controller, in order.
     pub second: Vec<SocketAddrV4>,
+    /// What happens is told to it.
+    pub log: Log,
 }
 
 // The address that initiators are told of a portal: its own, or that which a connection reached.
@@ -67,26 +77,74 @@ fn named(
     Ok(told)
 }
 
-// The address that a connection reached.
-fn reached(socket: &TcpStream) -> Ipv4Addr {
-    match socket.local_addr() {
-        Ok(SocketAddr::V4(address)) => *address.ip(),
-        _ => Ipv4Addr::UNSPECIFIED,
+// How a connection came, by a portal of a group. The address and the port are zeros where the system does not tell them.
+fn path_of(socket: &TcpStream, group: Group) -> Path {
+    Path {
+        from: v4(socket.peer_addr()),
+        portal: v4(socket.local_addr()),
+        tag: tag_of(group),
+    }
+}
+
+fn v4(address: io::Result<SocketAddr>) -> SocketAddrV4 {
+    match address {
+        Ok(SocketAddr::V4(address)) => address,
+        _ => SocketAddrV4::new(Ipv4Addr::UNSPECIFIED, 0),
+    }
+}
+
+// Why a session ended, as the log tells it.
+fn why(end: End, visitor: &Visitor, last: LastSaid) -> Why {
+    match (end, last) {
+        (End::LoggedOut, _) => Why::Logout,
+        (End::Protocol, LastSaid::Reject(reason, opcode, task)) => {
+            Why::Rejected(reason, opcode, task)
+        }
+        (End::Protocol, _) => Why::Gap,
+        (End::Reinstated, _) => Why::Replaced,
+        (End::EndOfInput | End::InputFailed | End::OutputFailed, _) if visitor.is_replaced => {
+            Why::Replaced
+        }
+        (End::EndOfInput, _) => Why::Closed,
+        (End::InputFailed, _) => Why::InputFailed,
+        (End::OutputFailed, _) => Why::OutputFailed,
+    }
+}
+
+// Tells how a session, or a login, ended.
+fn tell_end<R: Clock>(
+    rt: &R,
+    log: &Log,
+    path: Path,
+    end: End,
+    visitor: &Visitor,
+    last: LastSaid,
+    named: Initiator<'_>,
+) {
+    let why = why(end, visitor, last);
+    if visitor.tsih != 0 {
+        let ended = Event::SessionEnded(visitor.initiator(), path, visitor.tsih, why);
+        return log.tell(rt, &ended);
+    }
+    match last {
+        LastSaid::Refusal(status) => {
+            log.tell(rt, &Event::LoginRefused(named, path, status, visitor.lacks));
+        }
+        _ => log.tell(rt, &Event::ConnectionEnded(path, why)),
     }
 }
 
 // Serves the session of a connection, which then ends.
-fn serve_socket<R: Wait, U: LogicalUnits<P> + Drop, G: Gate + Drop, P: Pass>(
+fn serve_socket<R: Wait + Clock, U: LogicalUnits<P> + Drop, G: Gate + Drop, P: Pass>(
     rt: &R,
     alloc: Global,
     server: &Server<U, G>,
     group: Group,
     socket: &Socket,
-) -> Result<End, NoMemory> {
+    path: Path,
+) -> Result<(), NoMemory> {
     let stream: &TcpStream = socket;
-    let _ = stream.set_nodelay(true);
-    let _ = stream.set_read_timeout(Some(Duration::from_secs(LOGIN_SILENCE)));
-    let reached = reached(stream);
+    let reached = *path.portal.ip();
     let first = named(alloc, reached, &server.first)?;
     let second = named(alloc, reached, &server.second)?;
     let me = Identity {
@@ -97,9 +155,18 @@ fn serve_socket<R: Wait, U: LogicalUnits<P> + Drop, G: Gate + Drop, P: Pass>(
     let Ok(connection) = Arc::try_clone(socket) else {
         return Err(NoMemory);
     };
-    let mut source = Watched::new(stream);
-    let mut sink = Watched::new(stream);
-    serve_session::<R, U, G, Socket, P, Watched<&TcpStream>, Watched<&TcpStream>>(
+    let is_told = server.log.is_on();
+    let mut source = Heard::new(alloc, Watched::new(stream), is_told);
+    let mut sink = Said::new(Watched::new(stream), is_told);
+    let (end, visitor) = serve_session::<
+        R,
+        U,
+        G,
+        Socket,
+        P,
+        Heard<Watched<&TcpStream>>,
+        Said<Watched<&TcpStream>>,
+    >(
         rt,
         alloc,
         &server.device,
@@ -108,12 +175,37 @@ fn serve_socket<R: Wait, U: LogicalUnits<P> + Drop, G: Gate + Drop, P: Pass>(
         &mut source,
         &mut sink,
         &me,
-    )
+        &server.log,
+        path,
+    )?;
+    let (isid, name) = source.initiator();
+    let named = Initiator { name, isid };
+    tell_end(rt, &server.log, path, end, &visitor, sink.last(), named);
+    Ok(())
+}
+
+// Serves the session of a connection, and tells where there was no memory for it.
+fn work<R: Wait + Clock, U: LogicalUnits<P> + Drop, G: Gate + Drop, P: Pass>(
+    rt: &R,
+    alloc: Global,
+    server: &Server<U, G>,
+    group: Group,
+    socket: &Socket,
+) {
+    let stream: &TcpStream = socket;
+    let _ = stream.set_nodelay(true);
+    let _ = stream.set_read_timeout(Some(Duration::from_secs(LOGIN_SILENCE)));
+    let path = path_of(stream, group);
+    if serve_socket::<R, U, G, P>(rt, alloc, server, group, socket, path).is_err() {
+        server
+            .log
+            .tell(rt, &Event::ConnectionEnded(path, Why::NoMemory));
+    }
 }
 
 // Starts the worker of a connection. Where there is no memory or no thread for it, the connection ends.
 fn start<
-    R: Threads + Wait + Clone + Drop + Send + 'static,
+    R: Threads + Wait + Clock + Clone + Drop + Send + 'static,
     U: LogicalUnits<P> + Drop + Send + Sync + 'static,
     G: Gate + Drop + Send + Sync + 'static,
     P: Pass + Send + 'static,
@@ -130,13 +222,32 @@ fn start<
     let server = Arc::try_clone(server)?;
     let mine = rt.clone()?;
     let work = move || {
-        let _ = serve_socket::<R, U, G, P>(&mine, alloc, &server, group, &socket);
+        work::<R, U, G, P>(&mine, alloc, &server, group, &socket);
         socket.shut();
     };
     let _worker: JoinHandle<()> = Builder::new()
         .stack_size(stacks.next_stack())
         .spawn(rt, work)?;
     Ok(())
+}
+
+// What was wanting where no thread was started.
+fn wanted(e: &io::Error) -> Resource {
+    if e.kind() == ErrorKind::OutOfMemory {
+        Resource::Memory
+    } else {
+        Resource::Thread
+    }
+}
+
+// What was wanting where no connection was accepted: a descriptor, where the process or the system has no more of them.
+fn unaccepted(e: &io::Error) -> Resource {
+    let error = e.raw_os_error().unwrap_or(0);
+    if error == NO_FILE_OF_SYSTEM || error == NO_FILE {
+        Resource::Descriptor
+    } else {
+        Resource::Connection
+    }
 }
 
 /// Accepts connections by a portal of a group, a worker each, until the portal is stopped. An accept that fails for want of a
@@ -155,17 +266,28 @@ pub fn accept<
     group: Group,
     stacks: &mut S,
 ) {
+    // What was wanting is told once, until a connection is served again.
+    let mut is_told = false;
     for stream in listener.incoming() {
-        match stream {
-            Ok(stream) => {
-                let _ = start::<R, U, G, P, S>(rt, alloc, server, group, stream, stacks);
-            }
+        let wanting = match stream {
+            Ok(stream) => match start::<R, U, G, P, S>(rt, alloc, server, group, stream, stacks) {
+                Ok(()) => None,
+                Err(e) => Some(wanted(&e)),
+            },
             Err(e) => match e.kind() {
                 ErrorKind::InvalidInput => return,
-                ErrorKind::ConnectionAborted => {}
-                _ => thread::sleep(rt, Duration::from_millis(REST)),
+                ErrorKind::ConnectionAborted => continue,
+                _ => {
+                    thread::sleep(rt, Duration::from_millis(REST));
+                    Some(unaccepted(&e))
+                }
             },
+        };
+        match wanting {
+            Some(what) if !is_told => server.log.tell(rt, &Event::Wanting(what)),
+            _ => {}
         }
+        is_told = wanting.is_some();
     }
 }
 

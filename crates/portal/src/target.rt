@@ -285,6 +285,14 @@ impl<
         }
     }
 
+    /// Whether the session has begun, and no other one has taken its place.
+    pub(crate) fn is_live(&self) -> bool {
+        match self.number {
+            Some(number) => self.device.sessions.lock(self.rt).has(number),
+            None => false,
+        }
+    }
+
     // Serves a command of a unit that is there.
     fn serve_at(&mut self, unit: u8, asked: &Asked, bytes: &[u8]) -> TargetAnswer
         ensures { IsServedAt U.claims U.opening self.old unit asked.now bytes.now result self.new }

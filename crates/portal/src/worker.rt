@@ -9,10 +9,13 @@ use crate::device::TargetDevice;
 use crate::gate::Gate;
 use crate::target::SessionTarget;
 use crate::units::{LogicalUnits, Pass};
+use crate::witness::{Visitor, Witness};
+use event_log::{Log, Path};
 use scsi_types::{Group, NoMemory};
 use session::{End, Identity, Opening, Sink, Source, serve_stream};
 use std::alloc::Global;
 use std::sync::Wait;
+use std::time::Clock;
 
 /// The tag of a target port group, which is that of the portals of its controller (RFC 7143, 13.9).
 pub fn tag_of(group: Group) -> u16
@@ -25,10 +28,11 @@ pub fn tag_of(group: Group) -> u16
 }
 
 /// Serves a session that comes by the portals of a group over a connection, from the first byte of its login to its end.
-/// Refused for want of memory, it has read, written and asked nothing.
+/// Refused for want of memory, it has read, written and asked nothing. It says how the session ended, and whose it was; of what
+/// happens meanwhile the log is told.
 #[tactic(auto, using(crate::proofs::Answering::session_of))]
 pub fn serve_session<
-    R: Wait,
+    R: Wait + Clock,
     U: LogicalUnits<P> + Drop,
     G: Gate + Drop,
     C: Connection + Drop,
@@ -44,20 +48,25 @@ pub fn serve_session<
     source: &mut S,
     sink: &mut K,
     me: &Identity<'_>,
-) -> Result<End, NoMemory>
-    ensures served { IfOk result (IsSession U.claims U.opening (U.unit_count device.now.units) group me.now
-        (S.left source.old) (S.left source.new) (K.held sink.old) (K.held sink.new)) }
-    ensures input_failed { IfOk result (IsFailureOf InputFailed (S.failures source.old) (S.failures source.new)) }
-    ensures output_failed { IfOk result (IsFailureOf OutputFailed (K.failures sink.old) (K.failures sink.new)) }
+    log: &Log,
+    path: Path,
+) -> Result<(End, Visitor), NoMemory>
+    ensures served { IfOk result (λ r. IsSession U.claims U.opening (U.unit_count device.now.units) group me.now
+        (S.left source.old) (S.left source.new) (K.held sink.old) (K.held sink.new) r.0) }
+    ensures input_failed { IfOk result (λ r. IsFailureOf InputFailed (S.failures source.old) (S.failures source.new) r.0) }
+    ensures output_failed { IfOk result (λ r. IsFailureOf OutputFailed (K.failures sink.old) (K.failures sink.new) r.0) }
     ensures no_memory { OnErr result ((source.new ≡ source.old) × (sink.new ≡ sink.old)) }
 {
-    let mut target = SessionTarget::<R, U, G, C, P>::new(rt, alloc, device, group, connection);
-    serve_stream(
+    let target = SessionTarget::<R, U, G, C, P>::new(rt, alloc, device, group, connection);
+    let mut target = Witness::new(rt, alloc, target, log, path);
+    let end = serve_stream(
         alloc,
         source,
         sink,
         &mut target,
         Opening::Login(tag_of(group)),
         me,
-    )
+    )?;
+    let visitor = target.take_visitor();
+    Ok((end, visitor))
 }

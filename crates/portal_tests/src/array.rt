@@ -9,6 +9,7 @@ use crate::no_room::NoRoom;
 use crate::stage::Stage;
 use crate::units::two;
 use block_file::{Blocks, Opener};
+use event_log::Log;
 use numbering::Array as Naming;
 use portal::{Controllers, Server, SmallStacks, Stop, TargetDevice, listen, start_lanes};
 use scsi_types::Group;
@@ -144,6 +145,7 @@ pub fn perform<
         target_name: Vec::from_slice(alloc, b"iqn.2000-01.test:array")?,
         first: Vec::from_slice(alloc, &[first_at])?,
         second: Vec::from_slice(alloc, &[second_at])?,
+        log: Log::off(),
     };
     let Ok(server) = Arc::new(alloc, server) else {
         return Err("no memory".into());

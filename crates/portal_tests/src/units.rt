@@ -109,7 +109,7 @@ pub fn over_file<R: Files<File = File> + Clone + Drop>(
     let Ok(disk) = open_disk(rt.clone()?, alloc, path) else {
         return Err("a disk".into());
     };
-    let Ok((file, _)) = open_registrations(rt, alloc, path) else {
+    let Ok((file, _)) = open_registrations(rt, alloc, path, None) else {
         return Err("a registration file".into());
     };
     let fused = FusedBlocks::new(file.close(), faults.saving.saturating_add(OPEN_CALLS));

@@ -1,0 +1,530 @@
+#!/usr/bin/env python3
+"""Provokes what the log tells, and compares each line with what it has to be. Every line of every case is looked at too: one
+line an event, its time, then `key=value`, printing characters alone, quotes where a name stands. Prints a line for each case;
+ends with status 1 where something is otherwise.
+
+usage: bench/log.py [NAME..]        all, where none is named
+
+The program is ./arrayd, or what the environment's ARRAYD names. Some cases want root, a loop device or a file system of their own,
+and say so where they are left out. Not provoked are `lacks` of a TSIH, a number or memory, `wanting what=memory` and `connection`,
+`why=no_memory`, `bad_list` and `gone`.
+"""
+
+import os
+import re
+import resource
+import shutil
+import socket
+import struct
+import sys
+import tempfile
+import time
+
+from initiator import CHECK_CONDITION, GOOD, Closed, Refused, Session
+from running import PORT, TARGET, Array, Wrong, ended, made
+from trouble import Mounted, NotHere, flush, run
+
+ISID = 0x400001370000
+NOBODY = 65534
+TIME = re.compile(r"time=(\d{4})-(\d\d)-(\d\d)T(\d\d):(\d\d):(\d\d)\.(\d{6})Z ")
+FIELD = re.compile(r'([a-z_]+)=("(?:[^"\\]|\\["\\]|\\x[0-9a-f]{2})*"|[^ "]+)(?: |$)')
+CASES = []
+
+# InitiatorNames as nobody should have them: each is one line's text, and what it was.
+HOSTILE = [
+    "a\ntime=2026-01-01T00:00:00.000000Z event=ready", "quote\" event=\"", "back\\slash\\", "\x1b[2J\x1b]0;title\x07",
+    "\r\r\t\x7f", "\u2028\u00e9\U0001f600", "x" * 223, " ", "=", "\\x41",
+]
+
+
+def case(function):
+    CASES.append(function)
+    return function
+
+
+def is_so(what, found, wanted):
+    if found != wanted:
+        raise Wrong(f"{what}: {found!r}, and not {wanted!r}")
+
+
+def unquoted(value):
+    """What a quoted value names."""
+    if not value.startswith('"'):
+        return value
+    parts = re.findall(rb'\\x([0-9a-f]{2})|\\(["\\])|([^\\])', value[1:-1].encode())
+    return b"".join(bytes([int(a, 16)]) if a else b or c for a, b, c in parts).decode("utf-8", "replace")
+
+
+def fields_of(line):
+    """The fields of a line, which has to be spelled as lines are."""
+    if not TIME.match(line) or any(not 32 <= ord(c) < 127 for c in line):
+        raise Wrong(f"no line of a log: {line!r}")
+    rest, fields = line[TIME.match(line).end():], {}
+    while rest:
+        field = FIELD.match(rest)
+        if not field or field[1] in fields:
+            raise Wrong(f"no fields: {rest!r} of {line!r}")
+        fields[field[1]] = unquoted(field[2])
+        rest = rest[field.end():]
+    if next(iter(fields)) != "event":
+        raise Wrong(f"no event: {line!r}")
+    return fields
+
+
+class Log:
+    """The log of an array."""
+
+    def __init__(self, folder):
+        self.path = os.path.join(folder, "log")
+
+    def all(self):
+        try:
+            with open(self.path, "rb") as file:
+                text = file.read().decode("latin-1")
+        except FileNotFoundError:
+            return []
+        if text and not text.endswith("\n"):
+            return self.all()
+        return [fields_of(line) for line in text.split("\n")[:-1]]
+
+    def find(self, event, count=1, seconds=5, **wanted):
+        """The only line of this event that has these fields, or so many: waits for them."""
+        until = time.monotonic() + seconds
+        while True:
+            lines = [line for line in self.all() if line["event"] == event and wanted.items() <= line.items()]
+            if len(lines) >= count:
+                is_so(f"lines of {event} {wanted}", len(lines), count)
+                return lines[0]
+            if time.monotonic() > until:
+                raise Wrong(f"no line of {event} with {wanted} among {self.all()}")
+            time.sleep(0.01)
+
+    def events(self):
+        return [line["event"] for line in self.all()]
+
+
+def disk(folder, name="disk", blocks=64):
+    return made(os.path.join(folder, name), blocks)
+
+
+def login(controller=1, number=0, name="iqn.2000-01.test:host"):
+    session = Session("127.0.0.1", PORT + 4 * (controller - 1), TARGET, name, ISID + number, timeout=20)
+    session.ready(0)
+    return session
+
+
+def end_of(reply):
+    return reply.status if reply.status != CHECK_CONDITION else "%02X %02X/%02X" % reply.sense_key()
+
+
+def write(session, lba=0):
+    return end_of(session.command(0, [0x2A, 0, *lba.to_bytes(4, "big"), 0, 0, 1, 0], out=bytes(512)))
+
+
+def read(session, lba=0):
+    return end_of(session.command(0, [0x28, 0, *lba.to_bytes(4, "big"), 0, 0, 1, 0], expected=512))
+
+
+# ---- start and end
+
+@case
+def start_and_stop(folder, log):
+    before = time.time()
+    with Array([disk(folder)], options=["--portals", "2"], log=log.path) as array:
+        for controller, port in ((1, PORT), (1, PORT + 1), (2, PORT + 4), (2, PORT + 5)):
+            log.find("listening", controller=str(controller), portal=f"127.0.0.1:{port}")
+        log.find("ready")
+        array.quit()
+    is_so("events in order", log.events(), ["listening"] * 4 + ["ready", "stopping"])
+    with open(log.path, encoding="ascii") as file:
+        when = TIME.match(file.readline())
+    told = time.mktime(tuple(map(int, when.groups()[:6])) + (0, 0, 0)) - time.timezone
+    is_so("the time is the clock's", before - 2 <= told <= time.time() + 2, True)
+
+
+@case
+def off_by_default(folder, log):
+    with Array([disk(folder)]) as array:
+        login().logout()
+        array.quit()
+        is_so("standard error", array.process.stderr.read(), "")
+    with Array([folder + "/disk"], log="") as array:
+        array.quit()
+    is_so("files", sorted(os.listdir(folder)), ["disk", "disk.reg"])
+    is_so("lines", log.all(), [])
+
+
+@case
+def files_that_cannot_be_used(folder, log):
+    name = os.path.join(folder, 'no\n"disk"\x1b[2J')
+    is_so("not there", ended([name], log=log.path), (1, "arrayd: cannot use unit 0"))
+    log.find("cannot_use", unit="0", file="disk", disk=name, why="not_there")
+    for length, why in ((0, "empty"), (513, "length_no_multiple_of_512"), (512 << 32, "too_long")):
+        with open(folder + "/odd", "wb") as file:
+            file.truncate(length)
+        is_so(why, ended([folder + "/odd"], log=log.path), (1, "arrayd: cannot use unit 0"))
+        log.find("cannot_use", file="disk", disk=folder + "/odd", why=why)
+    is_so("a folder", ended([folder], log=log.path), (1, "arrayd: cannot use unit 0"))
+    log.find("cannot_use", disk=folder, why="not_opened")
+    good = disk(folder)
+    with Array([good]):
+        is_so("in use", ended(["--port", str(PORT + 16), good], log=log.path), (1, "arrayd: cannot use unit 0"))
+    log.find("cannot_use", disk=good, why="in_use")
+    for text, why in ((b"x" * 512, "no_registration_file"), (b"", "empty")):
+        with open(good + ".reg", "wb") as file:
+            file.write(text)
+        is_so(why, ended([good], log=log.path), (1, "arrayd: cannot use registration file 0"))
+        log.find("cannot_use", unit="0", file="registrations", disk=good, why=why)
+
+
+@case
+def port_taken(folder, log):
+    with socket.socket() as other:
+        other.setsockopt(socket.SOL_SOCKET, socket.SO_REUSEADDR, 1)
+        other.bind(("127.0.0.1", PORT + 4))
+        other.listen()
+        is_so("status", ended(["--port", str(PORT), disk(folder)], log=log.path),
+              (1, "arrayd: cannot listen at controller 2 portal 0"))
+    log.find("cannot_listen", controller="2", portal=f"127.0.0.1:{PORT + 4}", errno="98", error="EADDRINUSE")
+
+
+# ---- sessions
+
+@case
+def login_and_logout(folder, log):
+    with Array([disk(folder)], log=log.path):
+        session = login(2, 7)
+        address = "%s:%d" % session.socket.getsockname()
+        same = {"initiator": "iqn.2000-01.test:host", "isid": "0x400001370007", "from": address,
+                "portal": f"127.0.0.1:{PORT + 4}", "tag": "2", "tsih": str(session.tsih)}
+        log.find("login", type="normal", **same)
+        for lba in range(32):
+            is_so("a write", write(session, lba), GOOD)
+            is_so("a read", read(session, lba), GOOD)
+        session.logout()
+        log.find("session_ended", why="logout", **same)
+        Session("127.0.0.1", PORT).logout()
+        log.find("login", type="discovery", tag="1")
+        log.find("session_ended", why="logout", tag="1")
+    is_so("reads and writes that go well tell nothing", log.events(),
+          ["listening", "listening", "ready", "login", "session_ended", "login", "session_ended"])
+
+
+@case
+def hostile_names(folder, log):
+    with Array([disk(folder)], log=log.path):
+        for name in HOSTILE:
+            name = name.encode()[:223].decode("utf-8", "ignore")
+            try:
+                login(name=name).logout()
+                log.find("login", initiator=name)
+                log.find("session_ended", initiator=name, why="logout")
+            except Refused as refused:
+                log.find("login_refused", initiator=name, status=hex(refused.status))
+            try:
+                Session("127.0.0.1", PORT, TARGET + "x", name)
+                raise Wrong("another target is found")
+            except Refused:
+                log.find("login_refused", initiator=name, status="0x203", words="Not found")
+    is_so("nobody told an event of its own", log.events().count("ready"), 1)
+
+
+@case
+def login_refused(folder, log):
+    with Array([disk(folder)], log=log.path):
+        for target, name, status, words in ((TARGET + "x", "iqn.a", 0x203, "Not found"), (TARGET, "", 0x207, "Missing parameter")):
+            try:
+                Session("127.0.0.1", PORT, target, name)
+                raise Wrong("it is not refused")
+            except Refused as refused:
+                is_so("status", refused.status, status)
+            line = log.find("login_refused", initiator=name, status=hex(status), words=words, isid=hex(ISID), tag="1")
+            is_so("lacks", line.get("lacks"), None)
+        sessions = [login(1 + number % 2, number) for number in range(64)]
+        try:
+            login(number=64)
+            raise Wrong("a 65th session")
+        except Refused as refused:
+            is_so("a 65th session", refused.status, 0x302)
+        log.find("login_refused", status="0x302", words="Out of resources", lacks="room", unit="0", isid=hex(ISID + 64),
+                 initiator="iqn.2000-01.test:host")
+        del sessions
+
+
+@case
+def session_ended(folder, log):
+    with Array([disk(folder)], log=log.path):
+        login(number=1).socket.close()
+        log.find("session_ended", isid=hex(ISID + 1), why="connection_closed")
+        lost = login(number=2)
+        lost.socket.setsockopt(socket.SOL_SOCKET, socket.SO_LINGER, struct.pack("ii", 1, 0))
+        lost.socket.close()
+        log.find("session_ended", isid=hex(ISID + 2), why="connection_lost", **{"in": "read"})
+        first = login(number=3)
+        login(number=3)
+        log.find("session_ended", isid=hex(ISID + 3), why="replaced_by_same_initiator", tsih=str(first.tsih))
+        bad = login(number=4)
+        bad.send(struct.pack(">B15xI28x", 0x1C | 0x40, 0x1234))
+        log.find("session_ended", isid=hex(ISID + 4), why="protocol_error", reason="0x5", words="Command not supported",
+                 opcode="0x1c", task="0x1234")
+        bad = login(number=5)
+        bad.send(struct.pack(">BB14xIIII16x", 0x01, 0xE0, 0x77, 0, bad.cmd_sn, 0))
+        log.find("session_ended", isid=hex(ISID + 5), why="protocol_error", reason="0x9", words="Invalid PDU field", opcode="0x1",
+                 task="0x77")
+        gap = login(number=6)
+        gap.cmd_sn += 5
+        gap.submit(0, [0] * 6)
+        log.find("session_ended", isid=hex(ISID + 6), why="protocol_error", words="CmdSN leaves a gap")
+        early = socket.create_connection(("127.0.0.1", PORT))
+        address = "%s:%d" % early.getsockname()
+        early.close()
+        log.find("connection_ended", why="connection_closed", **{"from": address})
+
+
+# ---- units
+
+@case
+def groups_set(folder, log):
+    path = disk(folder)
+    with Array([path, disk(folder, "second")], log=log.path) as array:
+        session = login(1, 1)
+        is_so("set", end_of(session.set_port_groups(0, [(2, 0), (1, 1)])), GOOD)
+        log.find("groups_set", unit="0", owner="2", by="session", initiator="iqn.2000-01.test:host", isid=hex(ISID + 1))
+        is_so("down", array.ask("down 2"), ["down"])
+        for unit in ("0", "1"):
+            log.find("groups_set", unit=unit, owner="1", by="console")
+        os.rename(path, path + ".away")
+        is_so("not moved", array.ask("down 1"), ["not moved 0"])
+        log.find("device_failed", unit="0", file="disk", call="open", errno="2", error="ENOENT")
+        log.find("not_moved", unit="0", to="2", why="not_opened", by="console")
+        session.ready(0)
+        is_so("set", end_of(session.set_port_groups(0, [(2, 0), (1, 1)])), "04 67/0A")
+        log.find("command_failed", unit="0", command="set_target_port_groups", key="0x4", asc="0x67", ascq="0xa", group="1",
+                 initiator="iqn.2000-01.test:host")
+
+
+@case
+def reservations(folder, log):
+    with Array([disk(folder)], log=log.path):
+        one, two = login(1, 1), login(2, 2)
+        steps = [(one, 0, 0, 0, 0xA, "register"), (two, 6, 0, 0, 0xB, "register_and_ignore_existing_key"),
+                 (one, 1, 5, 0xA, 0, "reserve"), (two, 4, 5, 0xB, 0xA, "preempt"), (two, 2, 5, 0xB, 0, "release"),
+                 (two, 5, 5, 0xB, 0xB, "preempt_and_abort"), (two, 6, 0, 0, 0xC, "register_and_ignore_existing_key"),
+                 (two, 3, 0, 0xC, 0, "clear")]
+        for session, action, kind, key, sakey, name in steps:
+            session.ready(0)
+            is_so(name, end_of(session.reserve_out(0, action, kind=kind, key=key, new_key=sakey)), GOOD)
+            log.find("reservation", unit="0", action=name, key=hex(key), service_action_key=hex(sakey), type=str(kind),
+                     group="1" if session is one else "2", isid=hex(session.isid), initiator="iqn.2000-01.test:host")
+        two.reserve_out(0, 1, kind=5, key=0xC)
+    is_so("what was refused tells nothing", log.events().count("reservation"), len(steps))
+
+
+@case
+def unit_reset(folder, log):
+    with Array([disk(folder)], log=log.path):
+        login(2, 3).manage(5, 0)
+        log.find("unit_reset", unit="0", group="2", isid=hex(ISID + 3))
+
+
+@case
+def device_failed(folder, log):
+    path = disk(folder)
+    with Array([path], log=log.path) as array:
+        session = login()
+        os.truncate(path, 8 * 512)
+        is_so("read", read(session, 9), "03 11/00")
+        log.find("device_failed", unit="0", file="disk", call="read", block="9", blocks="1", errno="0", error="none")
+        log.find("command_failed", unit="0", command="read", key="0x3", asc="0x11", ascq="0x0", group="1")
+        is_so("write", write(session, 9), "03 0C/00")
+        log.find("device_failed", file="disk", call="seek", block="9", blocks="1", errno="0")
+        log.find("command_failed", unit="0", command="write", key="0x3", asc="0xc")
+        array.quit()
+
+
+@case
+def full_disk(folder, log):
+    path = disk(folder, blocks=256)
+    with Array([path], log=log.path, largest=128 * 512) as array:
+        session = login()
+        is_so("write", write(session, 200), "03 0C/00")
+        log.find("device_failed", file="disk", call="write", block="200", errno="27", error="EFBIG")
+        log.find("command_failed", unit="0", command="write", key="0x3", asc="0xc", ascq="0x0", isid=hex(ISID))
+        array.quit()
+
+
+@case
+def save_failed(folder, log):
+    path = disk(folder)
+    with Array([path]) as array:
+        array.quit()
+    with Array([path], log=log.path) as array:
+        session = login()
+        os.truncate(path + ".reg", 512)
+        is_so("a save", end_of(session.reserve_out(0, 0, new_key=5, aptpl=True)), "04 44/00")
+        log.find("device_failed", unit="0", file="registrations", call="seek", errno="0")
+        log.find("command_failed", unit="0", command="persistent_reserve_out", key="0x4", asc="0x44")
+
+
+@case
+def flush_failed(folder, log):
+    with Mounted(folder) as place:
+        place.mount("-t", "tmpfs", "-o", "size=256k", "none")
+        device = place.loop(made(place.place + "/file", 4096))
+        os.symlink(device, folder + "/unit0")
+        with Array([folder + "/unit0"], log=log.path) as array:
+            session = login()
+            for lba in range(0, 4096, 8):
+                is_so("a write is taken", write(session, lba), GOOD)
+            is_so("the flush fails", flush(session), "03 0C/00")
+            line = log.find("device_failed", unit="0", file="disk", call="flush")
+            is_so("the system's error", line["error"] in ("EIO", "ENOSPC"), True)
+            log.find("command_failed", command="synchronize_cache", key="0x3", asc="0xc")
+            array.quit()
+        log.find("not_flushed", unit="0")
+
+
+@case
+def registrations_that_a_reboot_forgets(folder, log):
+    with Mounted(folder) as place:
+        device = place.loop(disk(folder))
+        is_so("a node of /dev", ended([device], log=log.path), (1, "arrayd: cannot use registration file 0"))
+        log.find("cannot_use", unit="0", file="registrations", disk=device, why="forgotten_by_a_reboot")
+        is_so("nothing was made there", os.path.exists(device + ".reg"), False)
+
+
+@case
+def busy(folder, log):
+    with Mounted(folder) as place:
+        image = made(folder + "/image", 32768)
+        run("mkfs.ext4", "-q", "-F", image)
+        place.mount(place.loop(image))
+        with Array([made(place.place + "/disk", 2048), disk(folder, "other")], log=log.path) as array:
+            session, other = login(), login(2, 1)
+            other.ready(1)
+            run("fsfreeze", "-f", place.place)
+            try:
+                session.submit(0, [0x2A, 0, 0, 0, 0, 0, 0, 0, 1, 0], out=bytes(512))
+                time.sleep(0.3)
+                array.tell("quit")
+                log.find("stopping")
+                other.command(1, [0x2A, 0, 0, 0, 0, 0, 0, 0, 1, 0], out=bytes(512))
+                log.find("busy", unit="1", command="write", group="2", isid=hex(ISID + 1))
+            finally:
+                run("fsfreeze", "-u", place.place)
+            array.process.wait(20)
+
+
+# ---- want
+
+@case
+def want_of_descriptors(folder, log):
+    with Array([disk(folder)], log=log.path, limit=(resource.RLIMIT_NOFILE, (24, 24))):
+        held = [socket.create_connection(("127.0.0.1", PORT)) for _ in range(40)]
+        time.sleep(2)
+        told = log.events().count("wanting")
+        is_so(f"told at first, and again only behind a connection that was served: {told}", 1 <= told <= 5, True)
+        is_so("what", {line.get("what") for line in log.all() if line["event"] == "wanting"}, {"descriptor"})
+        for one in held:
+            one.close()
+        login()
+
+
+@case
+def want_of_threads(folder, log):
+    if os.geteuid() != 0:
+        return "left out: it wants root"
+    path = disk(folder)
+    os.chown(path, NOBODY, NOBODY)
+    os.chown(folder, NOBODY, NOBODY)
+    with Array([path], log=log.path, user=NOBODY, limit=(resource.RLIMIT_NPROC, (16, 16))):
+        held = [socket.create_connection(("127.0.0.1", PORT)) for _ in range(40)]
+        log.find("wanting", what="thread")
+        for one in held:
+            one.close()
+
+
+# ---- the log itself
+
+@case
+def log_that_cannot_be_written(folder, log):
+    room = os.path.join(folder, "room")
+    log.path = os.path.join(room, "log")
+    with Array([disk(folder)], log=log.path) as array:
+        login(number=1)
+        os.mkdir(room)
+        time.sleep(0.2)
+        login(number=2)
+        log.find("login", isid=hex(ISID + 2))
+        lost = sum(int(line["lines"]) for line in log.all() if line["event"] == "dropped")
+        is_so("lines that were dropped", lost + len([e for e in log.events() if e != "dropped"]), 5 + log.events().count("session_ended"))
+        array.quit()
+
+
+@case
+def log_that_nobody_takes(folder, log):
+    fifo = os.path.join(folder, "fifo")
+    os.mkfifo(fifo)
+    with Array([disk(folder)], log=fifo) as array:
+        for number in range(200):
+            session = login(number=number % 50)
+            is_so("it serves", write(session), GOOD)
+            session.logout()
+        before = time.monotonic()
+        is_so("it ends", array.quit(), 0)
+        is_so("it ends soon", time.monotonic() - before < 3, True)
+
+
+@case
+def log_that_is_given_another_name(folder, log):
+    with Array([disk(folder)], log=log.path):
+        login(number=1).logout()
+        log.find("session_ended", why="logout")
+        os.rename(log.path, log.path + ".1")
+        login(number=2).logout()
+        log.find("session_ended", why="logout", isid=hex(ISID + 2))
+    is_so("the new one begins anew", log.events(), ["login", "session_ended"])
+
+
+@case
+def many_at_once(folder, log):
+    with Array([disk(folder)], log=log.path) as array:
+        for _ in range(10):
+            for session in [login(1 + number % 2, number) for number in range(30)]:
+                session.logout()
+        until = time.monotonic() + 20
+        while log.events().count("session_ended") < 295 and time.monotonic() < until:
+            time.sleep(0.1)
+        time.sleep(1)
+        array.quit()
+    events, lost = log.events(), sum(int(line["lines"]) for line in log.all() if line["event"] == "dropped")
+    is_so("each is told, or counted", events.count("login") + events.count("session_ended") + lost, 600)
+    is_so(f"{lost} were dropped", lost < 6, True)
+
+
+def tried(function):
+    folder = tempfile.mkdtemp(prefix="arrayd-log-")
+    try:
+        left_out = function(folder, Log(folder))
+        print(f"{function.__name__:36} {left_out or 'so'}", flush=True)
+        return True
+    except NotHere as why:
+        print(f"{function.__name__:36} left out: {why}", flush=True)
+        return True
+    except (Wrong, Refused, Closed, OSError) as fault:
+        print(f"{function.__name__:36} NOT SO: {type(fault).__name__} {fault}", flush=True)
+        return False
+    finally:
+        shutil.rmtree(folder, ignore_errors=True)
+
+
+def main():
+    named = sys.argv[1:]
+    chosen = [function for function in CASES if not named or function.__name__ in named]
+    ends = [tried(function) for function in chosen]
+    print(f"{ends.count(True)} so, {ends.count(False)} not")
+    sys.exit(0 if all(ends) else 1)
+
+
+if __name__ == "__main__":
+    main()

@@ -1,0 +1,46 @@
+//! The file of the log, where one is asked for.
+
+use command_line::Fault;
+use event_log::Page;
+use std::env::{self, Env, VarError};
+use std::fs::{File, OpenFile};
+use std::rt::Files;
+
+/// The variable of the environment that names the file.
+const VARIABLE: &str = "ARRAYD_LOG";
+
+/// The file of this name. Where there is none it is made.
+#[derive(Drop)]
+pub struct LogFile<R: Files<File = File> + Drop> {
+    rt: R,
+    path: String,
+}
+
+impl<R: Files<File = File> + Drop> LogFile<R> {
+    /// The file that the environment names, where it names one.
+    pub fn named(rt: R) -> Result<Option<LogFile<R>>, Fault>
+    where
+        R: Env + AllocGlobal,
+    {
+        match env::var(&rt, VARIABLE) {
+            Ok(path) if !path.is_empty() => Ok(Some(LogFile { rt, path })),
+            Err(VarError::OutOfMemory) => Err(Fault::NoMemory),
+            _ => Ok(None),
+        }
+    }
+}
+
+impl<R: Files<File = File> + Drop> Page for LogFile<R> {
+    fn open(&self) -> Option<File> {
+        // For reading too: so a pipe that nobody reads is opened at once.
+        let file = File::options()
+            .read(true)
+            .append(true)
+            .create(true)
+            .open(&self.rt, self.path.as_str());
+        match file {
+            Ok(file) => Some(file),
+            Err(_) => None,
+        }
+    }
+}

@@ -1,0 +1,96 @@
+//! The lines of the log, as they are to be read.
+use event_log::{
+    Action, By, Call, Cause, Event, Initiator, Kind, Part, Path, Place, Reservation, Stamp, Why,
+    spell,
+};
+use std::alloc::Global;
+use std::net::{Ipv4Addr, SocketAddrV4};
+use std::test::*;
+use std::time::Duration;
+
+// An initiator port whose name would begin a line, and move a terminal.
+const WHO: Initiator<'static> = Initiator {
+    name: b"iqn.a\n\"b\\\x1b[2J\xff",
+    isid: 0x4000_0137_0000,
+};
+
+// How it came.
+fn path() -> Path {
+    Path {
+        from: SocketAddrV4::new(Ipv4Addr::new(10, 0, 5, 7), 41022),
+        portal: SocketAddrV4::new(Ipv4Addr::new(10, 0, 5, 1), 3264),
+        tag: 2,
+    }
+}
+
+// The line of an event.
+fn spelled(alloc: Global, event: &Event<'_>) -> Result<String, Fail> {
+    let mut line = String::new(alloc);
+    spell(&mut line, event)?;
+    Ok(line)
+}
+
+const RESERVATION: Reservation = Reservation {
+    action: Action::Preempt,
+    key: 0xA,
+    service_action_key: 0xFFFF_FFFF_FFFF_FFFF,
+    kind: 5,
+};
+
+const PLACE: Place = Place {
+    first: 200,
+    count: 8,
+};
+
+#[test]
+fn events_are_spelled(rt: HostRuntime) -> Result<(), Fail> {
+    let rows = [
+        (Event::Ready, "event=ready"),
+        (
+            Event::LoggedIn(WHO, path(), 3, Kind::Normal),
+            "event=login initiator=\"iqn.a\\x0a\\\"b\\\\\\x1b[2J\\xff\" isid=0x400001370000 from=10.0.5.7:41022 portal=10.0.5.1:3264 tag=2 tsih=3 type=normal",
+        ),
+        (
+            Event::LoginRefused(WHO, path(), 0x0302, Cause::NoRoom(7)),
+            "event=login_refused initiator=\"iqn.a\\x0a\\\"b\\\\\\x1b[2J\\xff\" isid=0x400001370000 from=10.0.5.7:41022 portal=10.0.5.1:3264 tag=2 status=0x302 words=\"Out of resources\" lacks=room unit=7",
+        ),
+        (
+            Event::ConnectionEnded(path(), Why::Rejected(9, 1, 0x77)),
+            "event=connection_ended from=10.0.5.7:41022 portal=10.0.5.1:3264 tag=2 why=protocol_error reason=0x9 words=\"Invalid PDU field\" opcode=0x1 task=0x77",
+        ),
+        (
+            Event::GroupsSet(1, 2, By::Console),
+            "event=groups_set unit=1 owner=2 by=console",
+        ),
+        (
+            Event::Reserved(0, RESERVATION, WHO, 2),
+            "event=reservation unit=0 action=preempt key=0xa service_action_key=0xffffffffffffffff type=5 group=2 initiator=\"iqn.a\\x0a\\\"b\\\\\\x1b[2J\\xff\" isid=0x400001370000",
+        ),
+        (
+            Event::DeviceFailed(0, Part::Disk, Call::Write, PLACE, 28),
+            "event=device_failed unit=0 file=disk call=write block=200 blocks=8 errno=28 error=ENOSPC",
+        ),
+    ];
+    for (event, wanted) in rows {
+        let line = spelled(rt.alloc(), &event)?;
+        assert_eq!(rt; line.as_str(), wanted);
+    }
+    Ok(())
+}
+
+#[test]
+fn moments_are_spelled(rt: HostRuntime) -> Result<(), Fail> {
+    let rows = [
+        (0, 0, "time=1970-01-01T00:00:00.000000Z"),
+        (951_827_696, 7, "time=2000-02-29T12:34:56.000007Z"),
+        (1_767_225_599, 999_999, "time=2025-12-31T23:59:59.999999Z"),
+        (4_107_542_399, 1000, "time=2100-02-28T23:59:59.001000Z"),
+        (4_107_542_400, 0, "time=2100-03-01T00:00:00.000000Z"),
+    ];
+    for (seconds, micros, wanted) in rows {
+        let stamp = Stamp::of(Duration::new(seconds, micros * 1000));
+        let text = stamp.to_string(rt.alloc())?;
+        assert_eq!(rt; text.as_str(), wanted);
+    }
+    Ok(())
+}

@@ -1,0 +1,34 @@
+//! What tells the log of calls that failed on a file of a unit.
+
+use event_log::{Call, Event, Log, Part, Place};
+use std::io;
+
+/// Tells the log of calls that failed on a file of a unit.
+#[derive(Drop)]
+pub struct Voice {
+    log: Log,
+    unit: u8,
+    part: Part,
+}
+
+impl Voice {
+    /// Tells this log of this file of the unit with this number.
+    pub fn new(log: Log, unit: u8, part: Part) -> Voice {
+        Voice { log, unit, part }
+    }
+
+    /// Tells that a call failed at so many blocks from the first on, with this error of the system, 0 where it told none.
+    pub fn tell(&self, call: Call, first: u32, blocks: usize, error: u32) {
+        let count = u32::try_from(blocks).unwrap_or(u32::MAX);
+        let place = Place { first, count };
+        self.log.note(&Event::DeviceFailed(self.unit, self.part, call, place, error));
+    }
+}
+
+/// The number of an error of the system, 0 where it told none, as where fewer bytes came than were asked for.
+pub(crate) fn number_of(e: &io::Error) -> u32 {
+    match e.raw_os_error() {
+        Some(number) => u32::try_from(number).unwrap_or(0),
+        None => 0,
+    }
+}

@@ -1,0 +1,22 @@
+//! The log of an array: what happened, one line an event, for who runs it. A line has `key=value` fields. What an initiator or a path
+//! names is quoted and escaped, so that none of them can begin a line of its own or reach a terminal. Telling holds nobody up: what
+//! cannot be kept at once is dropped and counted.
+#![tactic(auto)]
+
+mod event;
+pub mod laws;
+mod line;
+mod log;
+mod spelling;
+mod stamp;
+mod words;
+mod writer;
+
+pub use event::{By, Event, Initiator, Path, Place, Reservation};
+pub use log::Log;
+pub use spelling::spell;
+pub use stamp::Stamp;
+pub use words::{
+    Action, Call, Cause, Kind, Operation, Part, Resource, Sense, Stayed, Unusable, Why,
+};
+pub use writer::{Page, close, start};

@@ -1,0 +1,145 @@
+//! The thread that writes the lines of a log to its file.
+
+use crate::event::Event;
+use crate::log::{Log, ROOM, Shared};
+use crate::spelling::spell;
+use crate::stamp::Stamp;
+use std::alloc::Global;
+use std::fs::File;
+use std::io::{self, Write};
+use std::sync::atomic::Ordering;
+use std::sync::{Arc, Wait};
+use std::thread::{Builder, JoinHandle, Threads};
+use std::time::{Clock, Duration};
+use std::{mem, thread};
+
+/// What the writer's stack takes.
+const STACK: usize = 256 * 1024;
+
+/// So many milliseconds at most does the end of a program wait for its last lines.
+const PATIENCE: u64 = 1000;
+
+/// Where lines are written.
+pub trait Page {
+    /// Opens it, to write behind what it has, and waits for nobody; none: it cannot be opened.
+    fn open(&self) -> Option<File>;
+}
+
+/// What the writer has: the file, where it could be opened, and the lines that it writes.
+#[derive(Drop)]
+struct Writer {
+    file: Option<File>,
+    lines: String,
+    // The last line that was written is none that is whole.
+    is_torn: bool,
+}
+
+impl Writer {
+    // Opens the file anew, so that one that was given another name is left; where it cannot be, the one of before stays.
+    fn open<P: Page>(&mut self, page: &P) {
+        if let Some(file) = page.open() {
+            self.file = Some(file);
+        }
+    }
+
+    // Writes the lines. False: they were not, or not all.
+    fn write(&mut self) -> bool {
+        let Some(file) = &self.file else {
+            return false;
+        };
+        let mut file: &File = file;
+        if self.is_torn && file.write_all(b"\n").is_err() {
+            return false;
+        }
+        self.is_torn = file.write_all(self.lines.as_bytes()).is_err();
+        !self.is_torn
+    }
+}
+
+// How many lines a text has.
+fn lines_in(text: &str) -> u64 {
+    let mut count = 0u64;
+    for _ in text.lines() {
+        count = count.saturating_add(1);
+    }
+    count
+}
+
+// Takes the lines that wait, and behind them how many were dropped: how many that are.
+fn take<R: Wait + Clock>(rt: &R, shared: &Shared, lines: &mut String) -> u64 {
+    let now = Stamp::of(rt.since_1970().unwrap_or(Duration::ZERO));
+    lines.clear();
+    let untold = {
+        let mut waiting = shared.waiting.lock(rt);
+        let untold = waiting.give_time(now);
+        mem::swap(&mut waiting.lines, lines);
+        untold
+    };
+    let dropped = shared
+        .dropped
+        .swap(0, Ordering::SeqCst)
+        .saturating_add(untold);
+    if dropped != 0 {
+        let _ = write!(lines, "{now} ");
+        let _ = spell(lines, &Event::Dropped(dropped));
+        let _ = lines.push('\n');
+    }
+    dropped
+}
+
+// Writes what is told, until the log is closed.
+fn write_on<R: Wait + Clock, P: Page>(rt: &R, shared: &Shared, page: &P, writer: &mut Writer) {
+    for _ in rt.forever() {
+        shared.bell.park(rt);
+        let is_last = shared.end.load(Ordering::SeqCst) != 0;
+        let dropped = take(rt, shared, &mut writer.lines);
+        if !writer.lines.is_empty() {
+            writer.open(page);
+            if !writer.write() {
+                let told = if dropped == 0 { 0 } else { 1 };
+                let lost = lines_in(writer.lines.as_str()).saturating_sub(told);
+                shared.drop_lines(lost.saturating_add(dropped));
+            }
+        }
+        if is_last {
+            break;
+        }
+    }
+    shared.end.store(2, Ordering::SeqCst);
+}
+
+/// Starts the thread that writes the lines of a log that is on.
+pub fn start<
+    R: Threads + Wait + Clock + Clone + Drop + Send + 'static,
+    P: Page + Drop + Send + 'static,
+>(rt: &R, alloc: Global, log: &Log, page: P) -> io::Result<()> {
+    let Some(shared) = &log.shared else {
+        return Ok(());
+    };
+    let shared = Arc::try_clone(shared)?;
+    let mine = rt.clone()?;
+    // Opened before descriptors may be wanting.
+    let mut writer = Writer {
+        file: page.open(),
+        lines: String::with_capacity(alloc, ROOM)?,
+        is_torn: false,
+    };
+    let work = move || write_on(&mine, &shared, &page, &mut writer);
+    let _thread: JoinHandle<()> = Builder::new().stack_size(STACK).spawn(rt, work)?;
+    Ok(())
+}
+
+/// Has the last lines written, and waits for that, but not for long.
+pub fn close<R: Clock>(rt: &R, log: &Log) {
+    let Some(shared) = &log.shared else {
+        return;
+    };
+    shared.end.store(1, Ordering::SeqCst);
+    shared.bell.unpark();
+    for _ in 0..PATIENCE {
+        if shared.end.load(Ordering::SeqCst) == 2 {
+            break;
+        }
+        thread::sleep(rt, Duration::from_millis(1));
+    }
+}

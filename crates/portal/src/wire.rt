@@ -1,0 +1,175 @@
+//! What a session's bytes tell who runs the array: the Login Request that came first, and the PDU that went out last.
+ghost use Rattle.std.specs.Prelude.{◌≡◌, ◌≤◌, ◌<◌, IfOk, OnOk, OnErr, length, take};
+
+use session::{Failed, Sink, Source};
+use std::alloc::Global;
+
+/// How many of the bytes that come first are kept.
+const FIRST: usize = 4096;
+
+/// The length of a header segment (RFC 7143, 11.2.1).
+const BHS: usize = 48;
+
+/// A source of which the first bytes are kept.
+#[derive(Drop)]
+pub struct Heard<S> {
+    inner: S,
+    first: Vec<u8>,
+}
+
+impl<S> Heard<S> {
+    /// A source, of which bytes are kept where they are wanted and there is memory.
+    pub fn new(alloc: Global, inner: S, is_wanted: bool) -> Heard<S> {
+        let room = if is_wanted { FIRST } else { 0 };
+        let first = Vec::with_capacity(alloc, room).unwrap_or(Vec::new(alloc));
+        Heard { inner, first }
+    }
+
+    // Keeps bytes as far as there is room.
+    fn keep(&mut self, bytes: &[u8])
+        ensures { self.new.inner ≡ self.old.inner }
+    {
+        let room = self.first.capacity().saturating_sub(self.first.len());
+        if room != 0 {
+            let _ = self
+                .first
+                .extend_from_slice(&bytes[..room.min(bytes.len())]);
+        }
+    }
+
+    /// The ISID and the InitiatorName of the first Login Request, as far as they were kept.
+    pub fn initiator(&self) -> (u64, &[u8]) {
+        login_in(&self.first)
+    }
+}
+
+impl<S: Source> Source for Heard<S> {
+    ghost left = { λ h. S.left h.inner };
+
+    ghost failures = { λ h. S.failures h.inner };
+
+    fn read_some(&mut self, buf: &mut [u8]) -> Result<usize, Failed> {
+        let count = self.inner.read_some(buf)?;
+        self.keep(&buf[..count]);
+        Ok(count)
+    }
+}
+
+// The six bytes of an ISID as a number.
+fn isid_in(bytes: &[u8]) -> u64 {
+    let mut isid = 0u64;
+    for byte in bytes {
+        isid = (isid << 8) | u64::from(*byte);
+    }
+    isid
+}
+
+// The ISID and the InitiatorName of a Login Request that stands in front of these bytes.
+fn login_in(bytes: &[u8]) -> (u64, &[u8]) {
+    if bytes.len() < BHS || bytes[0] & 0x3F != 0x03 {
+        return (0, &[]);
+    }
+    (isid_in(&bytes[8..14]), name_in(&bytes[BHS..]))
+}
+
+// What stands behind `InitiatorName=` in a text (RFC 7143, 6.1).
+fn name_in(text: &[u8]) -> &[u8] {
+    for pair in text.split(|byte| *byte == 0) {
+        if let Some(name) = pair.strip_prefix(b"InitiatorName=") {
+            return name;
+        }
+    }
+    &[]
+}
+
+/// A sink of which the last PDU is kept.
+#[derive(Drop)]
+pub struct Said<K> {
+    inner: K,
+    is_wanted: bool,
+    // The header segments of the last PDU, and of the PDU that it rejects, where it does.
+    last: [u8; 96],
+    length: usize,
+}
+
+/// What the last PDU of a session tells of its end.
+#[derive(Clone, Copy, Debug, PartialEq, Eq)]
+pub enum LastSaid {
+    /// A Login Response with this Status-Class and Status-Detail, which are not 0 (RFC 7143, 11.13.5).
+    Refusal(u16),
+    /// A Reject: its reason, and opcode and Initiator Task Tag of what it rejects (RFC 7143, 11.17).
+    Reject(u8, u8, u32),
+    /// Another PDU, or none.
+    Other,
+}
+
+// The PDU that ends with these bytes, which are whole PDUs without digests.
+fn last_in(bytes: &[u8]) -> &[u8] {
+    let mut rest = bytes;
+    for _ in 0..bytes.len() {
+        if rest.len() < BHS {
+            break;
+        }
+        let data = (usize::from(rest[5]) << 16)
+            | (usize::from(rest[6]) << 8)
+            | usize::from(rest[7]);
+        let end = BHS + (data + 3) / 4 * 4;
+        if end >= rest.len() {
+            break;
+        }
+        rest = &rest[end..];
+    }
+    rest
+}
+
+impl<K> Said<K> {
+    /// A sink, of which the last PDU is kept where it is wanted.
+    pub fn new(inner: K, is_wanted: bool) -> Said<K> {
+        Said {
+            inner,
+            is_wanted,
+            last: [0; 96],
+            length: 0,
+        }
+    }
+
+    // Keeps the front of the last of these PDUs.
+    fn keep(&mut self, bytes: &[u8])
+        ensures { self.new.inner ≡ self.old.inner }
+    {
+        let last = last_in(bytes);
+        let length = last.len().min(96);
+        self.last = [0; 96];
+        self.last[..length].copy_from_slice(&last[..length]);
+        self.length = length;
+    }
+
+    /// What the last PDU tells.
+    pub fn last(&self) -> LastSaid {
+        let pdu = &self.last;
+        match pdu[0] & 0x3F {
+            0x23 if pdu[36] != 0 => {
+                LastSaid::Refusal((u16::from(pdu[36]) << 8) | u16::from(pdu[37]))
+            }
+            0x3F if self.length == 96 => {
+                let tag = u32::from_be_bytes([pdu[64], pdu[65], pdu[66], pdu[67]]);
+                LastSaid::Reject(pdu[2], pdu[48] & 0x3F, tag)
+            }
+            _ => LastSaid::Other,
+        }
+    }
+}
+
+impl<K: Sink> Sink for Said<K> {
+    ghost held = { λ s. K.held s.inner };
+
+    ghost failures = { λ s. K.failures s.inner };
+
+    fn write_whole(&mut self, bytes: &[u8]) -> Result<(), Failed> {
+        let end = self.inner.write_whole(bytes);
+        if self.is_wanted && end.is_ok() {
+            self.keep(bytes);
+        }
+        end
+    }
+}
