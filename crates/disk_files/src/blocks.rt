@@ -106,7 +106,7 @@ impl<F: FileExt + LastingFile + Seek + Drop> FileBlocks<F> {
 
     /// From now on calls that fail are told.
     pub fn tell_by(&mut self, voice: Voice)
-        ensures { self.new ≡ self.old }
+        ensures { IsSameDisk self.old self.new }
     {
         self.voice = Some(voice);
     }

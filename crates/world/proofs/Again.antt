@@ -1,5 +1,5 @@
 -- A session whose command is looked at before it goes on.
-use Rattle.std.proofs.Common.{◌≡◌, ℕ, Bool, true, false, nat_eq, if◌then◌else◌, List, [], ◌∷◌, ◌++◌, length, Option, Some, None}
+use Rattle.std.proofs.Common.{◌≡◌, ◌||◌, ℕ, Bool, true, false, nat_eq, if◌then◌else◌, List, [], ◌∷◌, ◌++◌, length, Option, Some, None}
 use Rattle.std.proofs.Common.{refl, ap, subst, ◌∙◌}
 use Rattle.std.specs.Prelude.{IfSome, ◌<◌, slice_get, slice_index_or, slice_set}
 use Rattle.std.proofs.lemmas.Option.{slice_get_read}
@@ -7,7 +7,8 @@ use Rattle.std.proofs.lemmas.List.{set-set}
 use Rattle.locked_unit.specs.declared.machine.Refused.TheVariants.{Gone as IsGone, Moved, NoMemory}
 use Rattle.scsi_types.specs.declared.names.Group.{Group}
 use Rattle.scsi_types.specs.declared.names.Group.TheVariants.{One, Two}
-use Rattle.world.specs.Traffic.{Traffic, at_stage, given, given_up, handed_in, heard, note_of, noted, waiting, with_waiting}
+use Rattle.world.specs.Traffic.{Traffic, at_stage, given, given_up, handed_in, heard, in_hand, is_closed, note_of, noted, waiting}
+use Rattle.world.specs.Traffic.{with_waiting}
 use Rattle.world.specs.declared.note.What.{What}
 use Rattle.world.specs.declared.note.What.TheVariants.{Submitted, Replied as HasReply, Busy, Gone}
 use Rattle.unit_events.specs.declared.job.Job.{Job}
@@ -15,7 +16,7 @@ use Rattle.unit_events.specs.declared.job.End.{End}
 use Rattle.unit_events.specs.declared.job.End.TheVariants.{Replied, Refused as IsRefused}
 use Rattle.world.specs.declared.session.Session.{Session}
 use Rattle.world.specs.declared.session.Stage.{Stage}
-use Rattle.world.specs.declared.session.Stage.TheVariants.{Idle, Waits, Returned}
+use Rattle.world.specs.declared.session.Stage.TheVariants.{Idle, InLane, Waits, Returned}
 use Rattle.world.proofs.Lists.{get_written, set_same}
 
 pub there_is : {X : Type 0} (xs : List X) (n : ℕ) (x : X) → n < length xs → x ≡ slice_index_or xs n x → slice_get xs n ≡ Some x
@@ -52,6 +53,8 @@ module _ (t : Traffic) (n : ℕ) (x : Session) (stage : Stage) where
         sessions = slice_set then_at.sessions n (record x { stage = Waits job });
         one = one;
         two = two;
+        one_is_closed = t.one_is_closed;
+        two_is_closed = t.two_is_closed;
         notes = t.notes ++ note_of count x Submitted ∷ [];
       } in a)
       ≡ (if full
@@ -60,23 +63,45 @@ module _ (t : Traffic) (n : ℕ) (x : Session) (stage : Stage) where
         sessions = slice_set t.sessions n (record x { stage = Waits job });
         one = one;
         two = two;
+        one_is_closed = t.one_is_closed;
+        two_is_closed = t.two_is_closed;
         notes = t.notes ++ note_of count x Submitted ∷ [];
       })
   handed count job true one two = given_up_again count Busy
   handed count job false one two =
-      ap (λ (xs : List Session). record { sessions = xs; one = one; two = two; notes = t.notes ++ note_of count x Submitted ∷ [] })
+      ap (λ (xs : List Session). record t { sessions = xs; one = one; two = two; notes = t.notes ++ note_of count x Submitted ∷ [] })
       (twice (record x { stage = Waits job }))
 
   handed_to : (count : ℕ) (job : Job) (group : Group)
-      → (let a : Traffic = if nat_eq (length (waiting then_at group)) 64
+      → (let a : Traffic = if is_closed then_at group || nat_eq (length (waiting then_at group)) 64
       then given_up count then_at n seen Busy
       else with_waiting (noted (at_stage then_at n seen (Waits job)) (note_of count seen Submitted)) group
       (waiting then_at group ++ n ∷ []) in a)
-      ≡ (if nat_eq (length (waiting t group)) 64
+      ≡ (if is_closed t group || nat_eq (length (waiting t group)) 64
       then given_up count t n x Busy
       else with_waiting (noted (at_stage t n x (Waits job)) (note_of count x Submitted)) group (waiting t group ++ n ∷ []))
-  handed_to count job One = handed count job (nat_eq (length t.one) 64) (t.one ++ n ∷ []) t.two
-  handed_to count job Two = handed count job (nat_eq (length t.two) 64) t.one (t.two ++ n ∷ [])
+  handed_to count job One = handed count job (t.one_is_closed || nat_eq (length t.one) 64) (t.one ++ n ∷ []) t.two
+  handed_to count job Two = handed count job (t.two_is_closed || nat_eq (length t.two) 64) t.one (t.two ++ n ∷ [])
+
+  held : (count : ℕ) (job : Job) (shut : Bool)
+      → (let a : Traffic = if shut
+      then given_up count then_at n seen Busy
+      else noted (at_stage then_at n seen (InLane job)) (note_of count seen Submitted) in a)
+      ≡ (if shut then given_up count t n x Busy else noted (at_stage t n x (InLane job)) (note_of count x Submitted))
+  held count job true = given_up_again count Busy
+  held count job false =
+      ap (λ (xs : List Session). record t { sessions = xs; notes = t.notes ++ note_of count x Submitted ∷ [] })
+      (twice (record x { stage = InLane job }))
+
+  held_by : (count : ℕ) (job : Job) (group : Group)
+      → (let a : Traffic = if is_closed then_at group
+      then given_up count then_at n seen Busy
+      else noted (at_stage then_at n seen (InLane job)) (note_of count seen Submitted) in a)
+      ≡ (if is_closed t group
+      then given_up count t n x Busy
+      else noted (at_stage t n x (InLane job)) (note_of count x Submitted))
+  held_by count job One = held count job t.one_is_closed
+  held_by count job Two = held count job t.two_is_closed
 
   moved_again : (count : ℕ) (after : Job) (second : Bool)
       → (let a : Traffic = if second then given_up count then_at n seen Busy else at_stage then_at n seen (Returned after) in a)
@@ -110,6 +135,13 @@ module _ (t : Traffic) (n : ℕ) (x : Session) (stage : Stage) where
       → new ≡ given t (slice_get t.sessions n) (λ y. given t (in_stage y) (λ j. handed_in count t n y j))
   hands_in_again in_stage count job new there is did =
       goes_on in_stage (λ u y j. handed_in count u n y j) job new there is (handed_to count job job.by_group) did
+
+  pub takes_in_hand : (in_stage : Session → Option Job) (count : ℕ) (job : Job) (new : Traffic)
+      → slice_get t.sessions n ≡ Some x → in_stage x ≡ Some job
+      → IfSome (slice_get then_at.sessions n) (λ y. new ≡ in_hand count then_at n y job)
+      → new ≡ given t (slice_get t.sessions n) (λ y. given t (in_stage y) (λ j. in_hand count t n y j))
+  takes_in_hand in_stage count job new there is did =
+      goes_on in_stage (λ u y j. in_hand count u n y j) job new there is (held_by count job job.by_group) did
 
   pub hears_it : (in_stage : Session → Option (Job × End)) (count : ℕ) (job : Job) (end : End) (new : Traffic)
       → slice_get t.sessions n ≡ Some x → in_stage x ≡ Some (job, end)

@@ -11,7 +11,7 @@ use Rattle.unit_state.specs.Choice.{Fine}
 use Rattle.unit_state.specs.Entry.{Entry, Attach, Detach, Reset, Move, Command}
 use Rattle.unit_state.specs.Serials.{IsOpening}
 use Rattle.unit_history.specs.Histories.{IsHistory, command}
-use Rattle.world.specs.Traffic.{Traffic, at_stage, attached, given, in_lane, new_job, taken_from, waiting, with_waiting}
+use Rattle.world.specs.Traffic.{Traffic, at_stage, attached, closed, given, in_lane, new_job, taken_from, waiting, with_waiting}
 use Rattle.world.specs.Events.{Scene, scene, with_entry, with_traffic, Takes, IsEntry, IsServed, IsServing, IsStep, AreSteps, IsReached, count_at, start}
 use Rattle.world.specs.Orders.{IsEntryOf, IsNone, IsNoted, IsOrderly, IsSubmittedBehind}
 use Rattle.world.specs.declared.event.Event.{Event}
@@ -26,7 +26,8 @@ use Rattle.world.specs.declared.session.Session.{Session}
 use Rattle.world.specs.declared.session.Stage.{Stage}
 use Rattle.world.specs.declared.session.Stage.TheVariants.{Idle, Waits, InLane, Ended, Answered, Returned}
 use Rattle.world.proofs.Sound.{Sound, no_entry, quiet_entry, StageOk, IsUnserved, WhatOk}
-use Rattle.world.proofs.Steps.{sound_attached, sound_elsewhere, sound_submitted, sound_submitted_again, sound_in_lane}
+use Rattle.world.proofs.Steps.{sound_attached, sound_begun, sound_begun_again, sound_closed, sound_elsewhere, sound_submitted}
+use Rattle.world.proofs.Steps.{sound_submitted_again, sound_in_lane, sound_taken_back}
 use Rattle.world.proofs.Steps.{sound_posted, sound_collected, sound_ended, sound_served, sound_waiting}
 
 module _ (claims : Bool) (units : ℕ) (opening : ℕ → UnitState) where
@@ -202,6 +203,25 @@ module _ (claims : Bool) (units : ℕ) (opening : ℕ → UnitState) where
       (does w (slice_get w.traffic.sessions n) _ holds
       (λ place x is. sound_submitted_again claims (opening place) place (w.past place) w.traffic n x (holds.sound place) is _
       (count_is w x place)))
+  step_holds w new (events.Begin n group asked bytes) step holds =
+      subst Holds (sym step)
+      (does w (slice_get w.traffic.sessions n) _ holds
+      (λ place x is. sound_begun claims (opening place) place (w.past place) w.traffic n x (holds.sound place) is _
+      (new_job group asked bytes) (count_is w x place)))
+  step_holds w new (events.BeginAgain n) step holds =
+      subst Holds (sym step)
+      (does w (slice_get w.traffic.sessions n) _ holds
+      (λ place x is. sound_begun_again claims (opening place) place (w.past place) w.traffic n x (holds.sound place) is _
+      (count_is w x place)))
+  step_holds w new (events.TakeBack n) step holds =
+      of_session w new (slice_get w.traffic.sessions n) _ holds step
+      (λ x is did. subst Holds (sym did.2)
+      (quiet w did.0 holds
+      (λ place. sound_taken_back claims (opening place) place (w.past place) w.traffic n x (holds.sound place) is did.0 did.1)))
+  step_holds w new (events.Close group) step holds =
+      subst Holds (sym step)
+      (quiet w (closed w.traffic group) holds
+      (λ place. sound_closed claims (opening place) place (w.past place) w.traffic group (holds.sound place)))
   step_holds w new (events.Take group) step holds =
       subst Holds (sym step) (take_holds w group (waiting w.traffic group) holds)
   step_holds w new (events.Serve n) step holds =

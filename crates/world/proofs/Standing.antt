@@ -12,8 +12,8 @@ use Rattle.scsi_types.specs.Nexus.{Port}
 use Rattle.scsi_types.specs.declared.names.Group.{Group}
 use Rattle.std.proofs.lemmas.List.{length-set, take_more}
 use Rattle.unit_history.specs.Histories.{IsBehind, IsHistory, no_state}
-use Rattle.world.specs.Traffic.{Traffic, at_stage, attached, ended, given, no_traffic}
-use Rattle.world.specs.Events.{Scene, scene, count_at, with_entry, start, IsEntry, IsReached, IsServed, IsStep, AreSteps}
+use Rattle.world.specs.Traffic.{Traffic, IsTakenBack, at_stage, attached, ended, given, no_traffic}
+use Rattle.world.specs.Events.{Scene, scene, count_at, with_entry, with_traffic, start, IsEntry, IsReached, IsServed, IsStep, AreSteps}
 use Rattle.world.specs.Worlds.{WorldValue, opened, opening_of, AllHappen, AreBehind, Stands, Happens, IsCountAt, IsCountOf}
 use Rattle.unit_events.specs.Entries.{IsUnitAttach, IsUnitEntry, IsUnitServed, IsUnitServing}
 use Rattle.unit_events.proofs.Counted.{counts_all}
@@ -49,6 +49,14 @@ module _ (claims : Bool) (units : ℕ) (opening : ℕ → UnitState) where
     events = reached.events ++ e ∷ [];
     steps = steps_pushed start w new reached.events e reached.steps is;
   }
+
+-- what a job that is taken back makes of the world
+pub back_step : (claims : Bool) (units : ℕ) (opening : ℕ → UnitState) (past : ℕ → List Entry) (t : Traffic) (n : ℕ) (new : Traffic)
+    (o : Option Session) → MatchOption o (new ≡ t) (λ x. IsTakenBack t n x new)
+    → MatchOption o (scene past new ≡ scene past t)
+    (λ x. (u : Traffic) × IsTakenBack t n x u × (scene past new ≡ with_traffic (scene past t) u))
+back_step claims units opening past t n new None did = ap (λ (u : Traffic). scene past u) did
+back_step claims units opening past t n new (Some x) did = (new, did, refl)
 
 module _ {B R O : Type 0} (claims : Bool) (contents : B → List (List ℕ)) (failures : B → ℕ) (opens_failed : O → ℕ)
     (file_failures : R → ℕ) where

@@ -1,7 +1,8 @@
 -- Each event keeps what carries the order of a world, of the unit at one place.
-use Rattle.std.proofs.Common.{◌≡◌, ◌≢◌, ⊎_elim, ℕ, ◌+◌, ◌<◌, Bool, true, false, nat_eq, if◌then◌else◌}
+use Rattle.std.proofs.Common.{◌≡◌, ◌≢◌, ◌⊎◌, ◌||◌, ⊎_elim, ℕ, ◌+◌, ◌<◌, Bool, true, false, nat_eq, if◌then◌else◌}
 use Rattle.std.proofs.Common.{List, [], ◌∷◌, ◌++◌, length, Some, refl, sym, ap, subst, ◌∙◌, arith}
-use Rattle.std.specs.Prelude.{slice_get, slice_set}
+use Rattle.std.specs.Prelude.{MatchOption, slice_get, slice_set}
+use Rattle.std.specs.List.{remove}
 use Rattle.std.proofs.lemmas.Option.{slice_get_within}
 use Rattle.locked_unit.specs.declared.machine.Refused.TheVariants.{Gone as IsGone, Moved, NoMemory}
 use Rattle.scsi_types.specs.ReplyValue.{ReplyValue}
@@ -13,9 +14,9 @@ use Rattle.unit_state.specs.Choice.{Choice}
 use Rattle.unit_state.specs.Entry.{Entry, Attach, Command}
 use Rattle.unit_history.specs.Histories.{IsToldBehind, command}
 use Rattle.world.specs.Orders.{IsEntryOf, IsNone, IsNoted}
-use Rattle.world.specs.Traffic.{Traffic, answered_in, at_stage, attached, collected, ended_in, free, given, given_up, handed_in}
-use Rattle.world.specs.Traffic.{heard, in_lane, is_idle, note_of, noted, posted, returned_in, submitted, submitted_again}
-use Rattle.world.specs.Traffic.{waiting, waits_in, with_waiting}
+use Rattle.world.specs.Traffic.{Traffic, IsTakenBack, answered_in, at_stage, attached, begun, begun_again, closed, collected, ended_in}
+use Rattle.world.specs.Traffic.{free, given, given_up, handed_in, heard, in_hand, in_lane, is_closed, is_idle, note_of, noted, posted}
+use Rattle.world.specs.Traffic.{returned_in, submitted, submitted_again, taken_back, waiting, waits_in, with_waiting}
 use Rattle.world.specs.declared.note.Note.{Note}
 use Rattle.world.specs.declared.note.What.{What}
 use Rattle.world.specs.declared.note.What.TheVariants.{Submitted, Replied as HasReply, Busy, Gone}
@@ -45,6 +46,10 @@ module _ (claims : Bool) (s : UnitState) (place : ℕ) (h : List Entry) where
   pub sound_waiting : (t : Traffic) (group : Group) (xs : List ℕ) → IsSound t → IsSound (with_waiting t group xs)
   sound_waiting t One xs sound = sound
   sound_waiting t Two xs sound = sound
+
+  pub sound_closed : (t : Traffic) (group : Group) → IsSound t → IsSound (closed t group)
+  sound_closed t One sound = sound
+  sound_closed t Two sound = sound
 
   -- no entry has the serial of a session whose command was not served
   unserved_none : (t : Traffic) (x : Session) (at : ℕ) → IsSound t → IsUnserved h x → IsEntryOf h at x.id x.next → ⊥
@@ -82,23 +87,19 @@ module _ (claims : Bool) (s : UnitState) (place : ℕ) (h : List Entry) where
         (λ no unit id serial. absurd (o.0 (sound.apart n m x y there o.1 (unit ∙ at) at id))))
         (get_set t.sessions n m new x y there other))
 
-    handed : (count : ℕ) (job : Job) (full : Bool) → (x.place ≡ place → count ≡ length h)
-        → (x.place ≡ place → IsUnserved h x)
-        → IsSound (if full
-        then given_up count t n x Busy
-        else with_waiting (noted (at_stage t n x (Waits job)) (note_of count x Submitted)) job.by_group
-        (waiting t job.by_group ++ n ∷ []))
-    handed count job true is unserved = sound_given_up count Busy tt is unserved
-    handed count job false is unserved =
+    -- a submit was noted, and its command goes on from there
+    submit_noted : (count : ℕ) (stage : Stage) → (x.place ≡ place → count ≡ length h) → (x.place ≡ place → IsUnserved h x)
+        → (IsUnserved h x × IsHandedIn h (t.notes ++ note_of count x Submitted ∷ []) x.place x.id x.next
+        → StageOk claims s h (t.notes ++ note_of count x Submitted ∷ []) (record x { stage = stage }) stage)
+        → IsSound (noted (at_stage t n x stage) (note_of count x Submitted))
+    submit_noted count stage is unserved ok =
         let note = note_of count x Submitted in
         let told : Sound claims s place h t.sessions (t.notes ++ note ∷ []) =
         note_added claims s place h t.sessions t.notes note sound
         (λ at. (is at, λ k of. absurd (unserved_none t x k sound (unserved at) of)))
         (λ m y other at. on_its_way claims s y.stage (IsOther claims s note y) (λ no unit id serial. absurd no)) in
-        let new = record x { stage = Waits job } in
-        sound_waiting (noted (at_stage t n x (Waits job)) note) job.by_group (waiting t job.by_group ++ n ∷ [])
-        (session_changes claims s place h t.sessions (t.notes ++ note ∷ []) n x new told there refl refl
-        (λ at. (
+        session_changes claims s place h t.sessions (t.notes ++ note ∷ []) n x (record x { stage = stage }) told there refl refl
+        (λ at. ok (
           unserved at,
           record {
             place = length t.notes;
@@ -115,11 +116,34 @@ module _ (claims : Bool) (s : UnitState) (place : ℕ) (h : List Entry) where
                 let no : ⊥ = subst (λ (b : Note). IsNone b.what) (sym u.1) none in absurd no)
                 (get_pushed t.notes note i a noted);
           },
-        )))
+        ))
+
+    handed : (count : ℕ) (job : Job) (full : Bool) → (x.place ≡ place → count ≡ length h)
+        → (x.place ≡ place → IsUnserved h x)
+        → IsSound (if full
+        then given_up count t n x Busy
+        else with_waiting (noted (at_stage t n x (Waits job)) (note_of count x Submitted)) job.by_group
+        (waiting t job.by_group ++ n ∷ []))
+    handed count job true is unserved = sound_given_up count Busy tt is unserved
+    handed count job false is unserved =
+        sound_waiting (noted (at_stage t n x (Waits job)) (note_of count x Submitted)) job.by_group
+        (waiting t job.by_group ++ n ∷ []) (submit_noted count (Waits job) is unserved (λ p. p))
+
+    at_once : (count : ℕ) (job : Job) (shut : Bool) → (x.place ≡ place → count ≡ length h)
+        → (x.place ≡ place → IsUnserved h x)
+        → IsSound (if shut
+        then given_up count t n x Busy
+        else noted (at_stage t n x (InLane job)) (note_of count x Submitted))
+    at_once count job true is unserved = sound_given_up count Busy tt is unserved
+    at_once count job false is unserved = submit_noted count (InLane job) is unserved (λ p. p)
+
+    pub sound_in_hand : (count : ℕ) (job : Job) → (x.place ≡ place → count ≡ length h)
+        → (x.place ≡ place → IsUnserved h x) → IsSound (in_hand count t n x job)
+    sound_in_hand count job is unserved = at_once count job (is_closed t job.by_group) is unserved
 
     pub sound_handed_in : (count : ℕ) (job : Job) → (x.place ≡ place → count ≡ length h)
         → (x.place ≡ place → IsUnserved h x) → IsSound (handed_in count t n x job)
-    sound_handed_in count job is unserved = handed count job (nat_eq (length (waiting t job.by_group)) 64) is unserved
+    sound_handed_in count job is unserved = handed count job (is_closed t job.by_group || nat_eq (length (waiting t job.by_group)) 64) is unserved
 
     -- by the stage of its command
     stage_is : (stage : Stage) → x.stage ≡ stage → x.place ≡ place → StageOk claims s h t.notes x stage
@@ -149,6 +173,53 @@ module _ (claims : Bool) (s : UnitState) (place : ℕ) (h : List Entry) where
 
     pub sound_submitted_again : (count : ℕ) → (x.place ≡ place → count ≡ length h) → IsSound (submitted_again count t n x)
     sound_submitted_again count c = returned_or_not count x.stage refl c
+
+    begun_or_not : (count : ℕ) (job : Job) (stage : Stage) → x.stage ≡ stage → (x.place ≡ place → count ≡ length h)
+        → IsSound (if is_idle stage then in_hand count t n x job else t)
+    begun_or_not count job Idle is c = sound_in_hand count job c (λ at. stage_is Idle is at)
+    begun_or_not count job (Waits other) is c = sound
+    begun_or_not count job (InLane other) is c = sound
+    begun_or_not count job (Ended other end) is c = sound
+    begun_or_not count job (Answered other end) is c = sound
+    begun_or_not count job (Returned other) is c = sound
+
+    pub sound_begun : (count : ℕ) (job : Job) → (x.place ≡ place → count ≡ length h) → IsSound (begun count t n x job)
+    sound_begun count job c = begun_or_not count job x.stage refl c
+
+    begun_again_or_not : (count : ℕ) (stage : Stage) → x.stage ≡ stage → (x.place ≡ place → count ≡ length h)
+        → IsSound (given t (returned_in stage) (λ job. in_hand count t n x job))
+    begun_again_or_not count Idle is c = sound
+    begun_again_or_not count (Waits job) is c = sound
+    begun_again_or_not count (InLane job) is c = sound
+    begun_again_or_not count (Ended job end) is c = sound
+    begun_again_or_not count (Answered job end) is c = sound
+    begun_again_or_not count (Returned job) is c = sound_in_hand count job c (λ at. stage_is (Returned job) is at)
+
+    pub sound_begun_again : (count : ℕ) → (x.place ≡ place → count ≡ length h) → IsSound (begun_again count t n x)
+    sound_begun_again count c = begun_again_or_not count x.stage refl c
+
+    abbrev Back : Traffic → Job → Type 0
+    Back new job = ((at : ℕ) × (slice_get (waiting t job.by_group) at ≡ Some n) × (new ≡ taken_back t n x job at))
+        ⊎ (((at : ℕ) → slice_get (waiting t job.by_group) at ≡ Some n → ⊥) × (new ≡ t))
+
+    back_or_not : (new : Traffic) (stage : Stage) → x.stage ≡ stage → MatchOption (waits_in stage) (new ≡ t) (Back new)
+        → IsSound new
+    back_or_not new Idle is did = subst IsSound (sym did) sound
+    back_or_not new (Waits job) is did =
+        ⊎_elim
+        (λ (b : (at : ℕ) × (slice_get (waiting t job.by_group) at ≡ Some n) × (new ≡ taken_back t n x job at)).
+        subst IsSound (sym b.2)
+        (sound_waiting (at_stage t n x (InLane job)) job.by_group (remove (waiting t job.by_group) b.0)
+        (to_stage (InLane job) (λ at. stage_is (Waits job) is at))))
+        (λ (b : ((at : ℕ) → slice_get (waiting t job.by_group) at ≡ Some n → ⊥) × (new ≡ t)).
+        subst IsSound (sym b.1) sound) did
+    back_or_not new (InLane job) is did = subst IsSound (sym did) sound
+    back_or_not new (Ended job end) is did = subst IsSound (sym did) sound
+    back_or_not new (Answered job end) is did = subst IsSound (sym did) sound
+    back_or_not new (Returned job) is did = subst IsSound (sym did) sound
+
+    pub sound_taken_back : (new : Traffic) → IsTakenBack t n x new → IsSound new
+    sound_taken_back new did = back_or_not new x.stage refl did
 
     waits_or_not : (stage : Stage) → x.stage ≡ stage → IsSound (given t (waits_in stage) (λ job. at_stage t n x (InLane job)))
     waits_or_not Idle is = sound

@@ -10,8 +10,8 @@ use Rattle.unit_state.specs.Serials.{IsOpening}
 use Rattle.unit_state.specs.declared.unit.MoveFault.{MoveFault}
 use Rattle.unit_history.specs.Histories.{IsHistory, IsToldBehind}
 use Rattle.unit_history.specs.Causes.{IsFull, IsGone, IsOwner, IsStay, WantsMemory}
-use Rattle.world.specs.Traffic.{Traffic, at_stage, attached, given, collected, new_job, no_traffic, posted, submitted}
-use Rattle.world.specs.Traffic.{submitted_again, taken}
+use Rattle.world.specs.Traffic.{Traffic, at_stage, attached, begun, begun_again, closed, given, collected, new_job, no_traffic}
+use Rattle.world.specs.Traffic.{IsTakenBack, posted, submitted, submitted_again, taken}
 use Rattle.world.specs.declared.event.Event.{Event}
 use Rattle.world.specs.declared.event.Event.TheVariants as events
 use Rattle.unit_events.specs.declared.job.Job.{Job}
@@ -93,6 +93,16 @@ module _ (claims : Bool) (units : ℕ) (opening : ℕ → UnitState) where
   IsStep w (events.SubmitAgain n) new =
       new ≡ with_traffic w (given w.traffic (slice_get w.traffic.sessions n)
       (λ x. submitted_again (count_at w x) w.traffic n x))
+  IsStep w (events.Begin n by_group asked bytes) new =
+      new ≡ with_traffic w (given w.traffic (slice_get w.traffic.sessions n)
+      (λ x. begun (count_at w x) w.traffic n x (new_job by_group asked bytes)))
+  IsStep w (events.BeginAgain n) new =
+      new ≡ with_traffic w (given w.traffic (slice_get w.traffic.sessions n)
+      (λ x. begun_again (count_at w x) w.traffic n x))
+  IsStep w (events.TakeBack n) new =
+      MatchOption (slice_get w.traffic.sessions n) (new ≡ w)
+      (λ x. (t : Traffic) × IsTakenBack w.traffic n x t × (new ≡ with_traffic w t))
+  IsStep w (events.Close group) new = new ≡ with_traffic w (closed w.traffic group)
   IsStep w (events.Take group) new = new ≡ with_traffic w (taken w.traffic group)
   IsStep w (events.Serve n) new =
       MatchOption (slice_get w.traffic.sessions n) (new ≡ w) (λ x. IsServing w n x x.stage new)

@@ -4,7 +4,14 @@ use Rattle.world.specs.Traffic.{Traffic}
 use Rattle.world.specs.declared.records.Records.{Records}
 
 abbrev pub traffic_of : Records → Traffic
-traffic_of r = record { sessions = r.sessions.items; one = r.one; two = r.two; notes = r.notes.items }
+traffic_of r = record {
+  sessions = r.sessions.items;
+  one = r.one;
+  two = r.two;
+  one_is_closed = r.one_is_closed;
+  two_is_closed = r.two_is_closed;
+  notes = r.notes.items;
+}
 
 -- one session and one note more find room
 pub record HasRoom (r : Records) : Type 0 where

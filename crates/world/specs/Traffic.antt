@@ -1,6 +1,7 @@
 -- What is on its way in the array, and what an event makes of it.
-use Rattle.std.specs.Prelude.{ℕ, Bool, true, false, nat_eq, if◌then◌else◌, List, [], ◌∷◌, ◌++◌, length, Option, Some, None}
+use Rattle.std.specs.Prelude.{◌≡◌, ◌⊎◌, ◌||◌, MatchOption, ℕ, Bool, true, false, nat_eq, if◌then◌else◌, List, [], ◌∷◌, ◌++◌, length, Option, Some, None}
 use Rattle.std.specs.Prelude.{Result, slice_get, slice_set}
+use Rattle.std.specs.List.{remove}
 use Rattle.locked_unit.specs.declared.machine.Refused.TheVariants.{Gone as IsGone, Moved, NoMemory}
 use Rattle.scsi_types.specs.declared.command.Command.{Command as ScsiCommand}
 use Rattle.scsi_types.specs.declared.command.CdbFault.{CdbFault}
@@ -16,17 +17,20 @@ use Rattle.world.specs.declared.session.Session.{Session}
 use Rattle.world.specs.declared.session.Stage.{Stage}
 use Rattle.world.specs.declared.session.Stage.TheVariants.{Idle, Waits, InLane, Ended, Answered, Returned}
 
--- the sessions, in the order in which they attached; by group, the sessions whose jobs wait at its desk, the first one first;
--- and what was submitted and collected so far
+-- the sessions, in the order in which they attached; by group, the sessions whose jobs wait at its desk, the first one first,
+-- and whether it is closed; and what was submitted and collected so far
 pub record Traffic : Type 0 where
   pub sessions : List Session
   pub one : List ℕ
   pub two : List ℕ
+  pub one_is_closed : Bool
+  pub two_is_closed : Bool
   pub notes : List Note
 
 -- nobody has attached
 abbrev pub no_traffic : Traffic
-no_traffic = record { sessions = []; one = []; two = []; notes = [] }
+no_traffic =
+    record { sessions = []; one = []; two = []; one_is_closed = false; two_is_closed = false; notes = [] }
 
 abbrev pub waiting : Traffic → Group → List ℕ
 waiting t One = t.one
@@ -35,6 +39,15 @@ waiting t Two = t.two
 abbrev pub with_waiting : Traffic → Group → List ℕ → Traffic
 with_waiting t One sessions = record t { one = sessions }
 with_waiting t Two sessions = record t { two = sessions }
+
+abbrev pub is_closed : Traffic → Group → Bool
+is_closed t One = t.one_is_closed
+is_closed t Two = t.two_is_closed
+
+-- from now on the desk of a group takes no job
+abbrev pub closed : Traffic → Group → Traffic
+closed t One = record t { one_is_closed = true }
+closed t Two = record t { two_is_closed = true }
 
 -- a command that a session hands in for the first time
 abbrev pub new_job : Group → Result ScsiCommand CdbFault → List ℕ → Job
@@ -68,13 +81,21 @@ free x serial = record x { next = serial; stage = Idle }
 abbrev pub given_up : ℕ → Traffic → ℕ → Session → What → Traffic
 given_up count t n x what = noted (with_session t n (free x x.next)) (note_of count x what)
 
--- A job goes to the desk of its group, behind all that wait there. Where 64 wait, it ends in BUSY.
+-- A job goes to the desk of its group, behind all that wait there. Where the desk is closed, or 64 wait, it ends in BUSY.
 abbrev pub handed_in : ℕ → Traffic → ℕ → Session → Job → Traffic
 handed_in count t n x job =
-    if nat_eq (length (waiting t job.by_group)) 64
+    if is_closed t job.by_group || nat_eq (length (waiting t job.by_group)) 64
     then given_up count t n x Busy
     else with_waiting (noted (at_stage t n x (Waits job)) (note_of count x Submitted)) job.by_group
     (waiting t job.by_group ++ n ∷ [])
+
+-- The session's worker takes a command in hand itself, past those that wait at the desk of its group. Where the desk is closed, it
+-- ends in BUSY.
+abbrev pub in_hand : ℕ → Traffic → ℕ → Session → Job → Traffic
+in_hand count t n x job =
+    if is_closed t job.by_group
+    then given_up count t n x Busy
+    else noted (at_stage t n x (InLane job)) (note_of count x Submitted)
 
 -- ---- the stages that an event asks for
 
@@ -139,6 +160,25 @@ submitted count t n x job = if is_idle x.stage then handed_in count t n x job el
 -- one that came to Moved is handed in once more
 abbrev pub submitted_again : ℕ → Traffic → ℕ → Session → Traffic
 submitted_again count t n x = given t (returned_in x.stage) (λ job. handed_in count t n x job)
+
+-- or the worker serves it at once
+abbrev pub begun : ℕ → Traffic → ℕ → Session → Job → Traffic
+begun count t n x job = if is_idle x.stage then in_hand count t n x job else t
+
+abbrev pub begun_again : ℕ → Traffic → ℕ → Session → Traffic
+begun_again count t n x = given t (returned_in x.stage) (λ job. in_hand count t n x job)
+
+-- the worker takes back the job that waits at this place of the desk
+abbrev pub taken_back : Traffic → ℕ → Session → Job → ℕ → Traffic
+taken_back t n x job at =
+    with_waiting (at_stage t n x (InLane job)) job.by_group (remove (waiting t job.by_group) at)
+
+-- its job waits somewhere at the desk, and no lane has taken it; else nothing changes
+abbrev pub IsTakenBack : Traffic → ℕ → Session → Traffic → Type 0
+IsTakenBack t n x new =
+    MatchOption (waits_in x.stage) (new ≡ t)
+    (λ job. ((at : ℕ) × (slice_get (waiting t job.by_group) at ≡ Some n) × (new ≡ taken_back t n x job at))
+    ⊎ (((at : ℕ) → slice_get (waiting t job.by_group) at ≡ Some n → ⊥) × (new ≡ t)))
 
 -- a lane takes the job that waits first at a desk
 abbrev pub in_lane : Traffic → ℕ → Session → Traffic

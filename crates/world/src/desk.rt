@@ -1,5 +1,6 @@
 //! A desk: the sessions whose jobs wait at it.
-ghost use Rattle.std.specs.Prelude.{◌≡◌, ◌++◌, ◌∷◌, [], length, not, if◌then◌else◌, IfOk, IfSome, IfNone, nat_eq};
+ghost use Rattle.std.specs.Prelude.{◌≡◌, ◌<◌, ◌≤◌, ◌++◌, ◌∷◌, [], ℕ, length, not, if◌then◌else◌, IfOk, IfSome, IfNone, Some, nat_eq, slice_get};
+ghost use Rattle.std.specs.List.{remove};
 
 use std::alloc::{AllocError, Global};
 use std::collections::VecDeque;
@@ -45,6 +46,38 @@ impl Desk {
         }
         self.waiting.push_back_reserved(session);
         true
+    }
+
+    // Whose job waits at a place.
+    #[tactic(auto, using(std::proofs::lemmas::Option::slice_get_read))]
+    fn get(&self, at: usize) -> Option<&usize>
+        ensures some { IfSome result (λ one. slice_get self.now at ≡ Some one.now) }
+        ensures none { IfNone result (length self.now ≤ at) }
+    {
+        self.waiting.get(at)
+    }
+
+    /// Where a session's job waits.
+    pub fn index_of(&self, session: usize) -> Option<usize>
+        ensures there { IfSome result (λ at. slice_get self.now at ≡ Some session) }
+        ensures nowhere { IfNone result ((at : ℕ) → slice_get self.now at ≡ Some session → ⊥) }
+    {
+        for at in 0..self.waiting.len() {
+            if let Some(one) = self.get(at) {
+                if *one == session {
+                    return Some(at);
+                }
+            }
+        }
+        None
+    }
+
+    /// Takes out what waits at a place.
+    pub fn take_at(&mut self, at: usize)
+        requires { at < length self.old }
+        ensures { self.new ≡ remove self.old at }
+    {
+        self.waiting.remove(at);
     }
 
     /// Takes the first.

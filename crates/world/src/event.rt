@@ -36,15 +36,35 @@ pub enum Event {
     SubmitAgain {
         session: usize,
     },
+    /// A session that has no command on its way has its worker serve one at once, past those that wait at the desk of a group: its
+    /// data is long, few others are served so, or there was no memory for a job.
+    Begin {
+        session: usize,
+        by_group: Group,
+        asked: Asked,
+        bytes: Bytes,
+    },
+    /// A session whose command came to Moved has its worker serve it at once, past those that wait at the desk that this named.
+    BeginAgain {
+        session: usize,
+    },
+    /// A session's worker takes its job back from the desk where it waits, to serve it itself.
+    TakeBack {
+        session: usize,
+    },
+    /// The desk of a group closes: it takes no command any more.
+    Close {
+        group: Group,
+    },
     /// A lane takes the first job of a group's desk.
     Take {
         group: Group,
     },
-    /// A lane has the unit serve a session's command.
+    /// A lane, or its worker, has the unit serve a session's command.
     Serve {
         session: usize,
     },
-    /// A lane posts the answer of a session's command.
+    /// A lane, or its worker, posts the answer of a session's command.
     Post {
         session: usize,
     },

@@ -1,8 +1,10 @@
 //! What is on its way in the array.
-ghost use Rattle.std.specs.Prelude.{◌≡◌, ◌<◌, ◌∷◌, [], length, slice_get, OnOk, IfOk, IfSome, IfNone, MatchOption};
+ghost use Rattle.std.specs.Prelude.{◌≡◌, ◌<◌, ◌∷◌, [], ℕ, Some, length, slice_get, OnOk, IfOk, IfSome, IfNone, MatchOption};
+ghost use Rattle.std.specs.List.{remove};
 ghost use Rattle.world.specs.Records.{HasRoom, traffic_of};
-ghost use Rattle.world.specs.Traffic.{attached, collected, ended, given, given_up, handed_in, heard, in_lane, no_traffic, note_of};
-ghost use Rattle.world.specs.Traffic.{posted, submitted, submitted_again, taken, waiting, with_waiting};
+ghost use Rattle.world.specs.Traffic.{attached, begun, begun_again, closed, collected, ended, given, given_up, handed_in, heard};
+ghost use Rattle.world.specs.Traffic.{IsTakenBack, in_hand, in_lane, is_closed, no_traffic, note_of, posted, submitted};
+ghost use Rattle.world.specs.Traffic.{submitted_again, taken, waiting, with_waiting};
 ghost use Rattle.locked_unit.specs.declared.machine.Refused.TheVariants as causes;
 ghost use Rattle.unit_events.specs.declared.job.End.TheVariants as ends;
 
@@ -20,6 +22,8 @@ pub(crate) struct Records {
     pub(crate) sessions: Vec<Session>,
     pub(crate) one: Desk,
     pub(crate) two: Desk,
+    pub(crate) one_is_closed: bool,
+    pub(crate) two_is_closed: bool,
     pub(crate) notes: Vec<Note>,
 }
 
@@ -48,6 +52,8 @@ impl Records {
             sessions: Vec::new(alloc),
             one,
             two,
+            one_is_closed: false,
+            two_is_closed: false,
             notes: Vec::new(alloc),
         })
     }
@@ -105,8 +111,8 @@ impl Records {
             (λ x. traffic_of self.new ≡ handed_in count (traffic_of self.old) n x job) }
     {
         let is_taken = match job.by_group {
-            Group::One => self.one.push(n),
-            Group::Two => self.two.push(n),
+            Group::One => !self.one_is_closed && self.one.push(n),
+            Group::Two => !self.two_is_closed && self.two.push(n),
         };
         if !is_taken {
             self.give_up(n, count, What::Busy);
@@ -144,6 +150,112 @@ impl Records {
         if let Some(job) = session.stage.take_returned() {
             self.hand_in(n, count, job);
         }
+    }
+
+    // Whether the desk of a group is closed.
+    fn is_closed(&self, group: Group) -> bool
+        ensures { result ≡ is_closed (traffic_of self.now) group }
+    {
+        match group {
+            Group::One => self.one_is_closed,
+            Group::Two => self.two_is_closed,
+        }
+    }
+
+    // From now on the desk of a group takes no job.
+    pub(crate) fn close(&mut self, group: Group)
+        ensures { traffic_of self.new ≡ closed (traffic_of self.old) group }
+    {
+        match group {
+            Group::One => self.one_is_closed = true,
+            Group::Two => self.two_is_closed = true,
+        }
+    }
+
+    // A session's worker takes its command in hand itself.
+    fn take_in_hand(&mut self, n: usize, count: u64, job: Job)
+        requires room { HasRoom self.old }
+        requires there { n < length self.old.sessions.items }
+        ensures { IfSome (slice_get self.old.sessions.items n)
+            (λ x. traffic_of self.new ≡ in_hand count (traffic_of self.old) n x job) }
+    {
+        if self.is_closed(job.by_group) {
+            self.give_up(n, count, What::Busy);
+            return;
+        }
+        let session = &mut self.sessions[n];
+        let note = note_of(session, count, What::Submitted);
+        session.go_to(Stage::InLane(job));
+        self.notes.push_reserved(note);
+    }
+
+    // A session's worker serves a new command at once, where it has none on its way.
+    pub(crate) fn begin(&mut self, n: usize, count: u64, job: Job)
+        requires { HasRoom self.old }
+        ensures { traffic_of self.new ≡ given (traffic_of self.old) (slice_get self.old.sessions.items n)
+            (λ x. begun count (traffic_of self.old) n x job) }
+    {
+        let Some(session) = self.sessions.get(n) else {
+            return;
+        };
+        if session.stage.is_idle() {
+            self.take_in_hand(n, count, job);
+        }
+    }
+
+    // And one that came to Moved.
+    pub(crate) fn begin_again(&mut self, n: usize, count: u64)
+        requires { HasRoom self.old }
+        ensures { traffic_of self.new ≡ given (traffic_of self.old) (slice_get self.old.sessions.items n)
+            (λ x. begun_again count (traffic_of self.old) n x) }
+    {
+        let Some(session) = self.sessions.get_mut(n) else {
+            return;
+        };
+        if let Some(job) = session.stage.take_returned() {
+            self.take_in_hand(n, count, job);
+        }
+    }
+
+    // Where a session's job waits at the desk of a group.
+    fn index_of(&self, group: Group, n: usize) -> Option<usize>
+        ensures there { IfSome result (λ at. slice_get (waiting (traffic_of self.now) group) at ≡ Some n) }
+        ensures nowhere { IfNone result ((at : ℕ) → slice_get (waiting (traffic_of self.now) group) at ≡ Some n → ⊥) }
+    {
+        match group {
+            Group::One => self.one.index_of(n),
+            Group::Two => self.two.index_of(n),
+        }
+    }
+
+    // Takes out what waits at a place of the desk of a group.
+    fn take_at(&mut self, group: Group, at: usize)
+        requires { at < length (waiting (traffic_of self.old) group) }
+        ensures { traffic_of self.new
+            ≡ with_waiting (traffic_of self.old) group (remove (waiting (traffic_of self.old) group) at) }
+    {
+        match group {
+            Group::One => self.one.take_at(at),
+            Group::Two => self.two.take_at(at),
+        }
+    }
+
+    // A session's worker takes its job back from the desk.
+    pub(crate) fn take_back(&mut self, n: usize)
+        ensures { MatchOption (slice_get self.old.sessions.items n) (traffic_of self.new ≡ traffic_of self.old)
+            (λ x. IsTakenBack (traffic_of self.old) n x (traffic_of self.new)) }
+    {
+        let Some(session) = self.sessions.get(n) else {
+            return;
+        };
+        let Some(group) = session.stage.waits_at() else {
+            return;
+        };
+        let Some(at) = self.index_of(group, n) else {
+            return;
+        };
+        self.take_at(group, at);
+        self.to_lane(n);
     }
 
     // Takes the session whose job waits first at the desk of a group.

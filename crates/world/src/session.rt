@@ -1,7 +1,8 @@
 //! The sessions of a world, and where their commands are.
-ghost use Rattle.std.specs.Prelude.{◌≡◌, IfNone};
+ghost use Rattle.std.specs.Prelude.{◌≡◌, IfNone, MatchOption, None};
 ghost use Rattle.world.specs.Traffic.{answered_in, ended_in, is_idle, lane_in, returned_in, waits_in};
 
+use scsi_types::Group;
 use std::mem;
 use unit_events::{End, Job};
 
@@ -12,9 +13,9 @@ pub enum Stage {
     Idle,
     /// Its job waits at a desk.
     Waits(Job),
-    /// A lane holds its job.
+    /// A lane, or its worker, holds its job.
     InLane(Job),
-    /// A lane holds its answer.
+    /// A lane, or its worker, holds its answer.
     Ended(Job, End),
     /// Its answer was posted.
     Answered(Job, End),
@@ -61,6 +62,20 @@ impl Stage {
                 *self = other;
                 None
             }
+        }
+    }
+
+    // The group at whose desk its job waits.
+    pub(crate) fn waits_at(&self) -> Option<Group>
+        ensures { MatchOption result (waits_in self.now ≡ None) (λ group. MatchOption (waits_in self.now) ⊥ (λ job. job.by_group ≡ group)) }
+    {
+        match self {
+            Stage::Waits(job) => Some(job.by_group),
+            Stage::Idle
+            | Stage::InLane(_)
+            | Stage::Ended(_, _)
+            | Stage::Answered(_, _)
+            | Stage::Returned(_) => None,
         }
     }
 

@@ -2,7 +2,8 @@
 ghost use Rattle.std.specs.Prelude.{◌≡◌, ◌<◌, ◌↔◌, ◌&&◌, [], ℕ, All, IfOk, IfErr, IfSome, IsTrue, MatchOption, OnOk, OnErr, length, slice_get, take};
 ghost use Rattle.reservations.specs.Nexus.{IsPortName};
 ghost use Rattle.unit_state.specs.Serials.{IsOpening};
-ghost use Rattle.world.specs.Traffic.{collected, given, new_job, no_traffic, posted, submitted, submitted_again, taken};
+ghost use Rattle.world.specs.Traffic.{IsTakenBack, begun, begun_again, closed, collected, given, new_job, no_traffic, posted};
+ghost use Rattle.world.specs.Traffic.{submitted, submitted_again, taken};
 ghost use Rattle.world.specs.Worlds.{AllHappen, Happens, IsCountAt, IsCountOf, Stands, opening_of};
 ghost use Rattle.world.specs.declared.event.Event.TheVariants as events;
 
@@ -267,6 +268,64 @@ impl<B: Blocks, R: Blocks, O: Opener<B>> World<B, R, O> {
         Ok(())
     }
 
+    // A session's worker serves a command at once.
+    fn begin(
+        &mut self,
+        session: usize,
+        by_group: Group,
+        asked: Asked,
+        bytes: &Bytes,
+    ) -> Result<(), NoMemory>
+        ensures units { self.new.units ≡ self.old.units }
+        ensures traffic { OnOk result ((count : ℕ) × IsCountOf self.old session count × (self.new.traffic
+            ≡ given self.old.traffic (slice_get self.old.traffic.sessions session)
+            (λ x. begun count self.old.traffic session x (new_job by_group asked bytes.now)))) }
+        ensures err { OnErr result (self.new ≡ self.old) }
+    {
+        let bytes = bytes.copy(self.alloc)?;
+        self.records.make_room()?;
+        let count = self.count_of(session);
+        let job = Job {
+            by_group,
+            asked,
+            bytes,
+            is_second: false,
+        };
+        self.records.begin(session, count, job);
+        Ok(())
+    }
+
+    // A session's worker serves one that came to Moved at once.
+    fn begin_again(&mut self, session: usize) -> Result<(), NoMemory>
+        ensures units { self.new.units ≡ self.old.units }
+        ensures traffic { OnOk result ((count : ℕ) × IsCountOf self.old session count × (self.new.traffic
+            ≡ given self.old.traffic (slice_get self.old.traffic.sessions session)
+            (λ x. begun_again count self.old.traffic session x))) }
+        ensures err { OnErr result (self.new ≡ self.old) }
+    {
+        self.records.make_room()?;
+        let count = self.count_of(session);
+        self.records.begin_again(session, count);
+        Ok(())
+    }
+
+    // A session's worker takes its job back from the desk.
+    fn take_back(&mut self, session: usize)
+        ensures units { self.new.units ≡ self.old.units }
+        ensures traffic { MatchOption (slice_get self.old.traffic.sessions session) (self.new.traffic ≡ self.old.traffic)
+            (λ x. IsTakenBack self.old.traffic session x self.new.traffic) }
+    {
+        self.records.take_back(session);
+    }
+
+    // The desk of a group closes.
+    fn close(&mut self, group: Group)
+        ensures units { self.new.units ≡ self.old.units }
+        ensures traffic { self.new.traffic ≡ closed self.old.traffic group }
+    {
+        self.records.close(group);
+    }
+
     // One event.
     fn step(&mut self, event: &Event) -> Result<(), NoMemory>
         ensures done { OnOk result (Happens (O.claims && B.claims) B.contents B.failures O.opens_failed R.failures
@@ -285,6 +344,15 @@ impl<B: Blocks, R: Blocks, O: Opener<B>> World<B, R, O> {
                 bytes,
             } => return self.submit(*session, *by_group, *asked, bytes),
             Event::SubmitAgain { session } => return self.submit_again(*session),
+            Event::Begin {
+                session,
+                by_group,
+                asked,
+                bytes,
+            } => return self.begin(*session, *by_group, *asked, bytes),
+            Event::BeginAgain { session } => return self.begin_again(*session),
+            Event::TakeBack { session } => self.take_back(*session),
+            Event::Close { group } => self.close(*group),
             Event::Take { group } => self.take(*group),
             Event::Serve { session } => self.serve(*session),
             Event::Post { session } => self.post(*session),

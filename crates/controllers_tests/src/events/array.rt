@@ -4,7 +4,7 @@ ghost use Rattle.unit_state.specs.Serials.{IsOpening};
 
 use crate::events::rows::{Act, Asks};
 use block_file::{FusedOpener, KeepOpener, MemBlocks};
-use scsi_types::{Group, PortName, decode};
+use scsi_types::{Asked, Group, PortName, decode};
 use std::alloc::Global;
 use std::test::Fail;
 use test_units::{Opens, opened};
@@ -53,16 +53,32 @@ fn list_of(group: Group) -> &'static [u8] {
     }
 }
 
-fn submit(alloc: Global, session: usize, by_group: Group, asks: Asks) -> Result<Event, Fail> {
+// What a command asks, and its data.
+fn asked(alloc: Global, asks: Asks) -> Result<(Asked, Bytes), Fail> {
     let (cdb, list): (&[u8; 16], &[u8]) = match asks {
         Asks::Test => (&TEST, &[]),
         Asks::Set(group) => (&SET, list_of(group)),
     };
+    Ok((decode(cdb), Bytes::new(Vec::from_slice(alloc, list)?)))
+}
+
+fn submit(alloc: Global, session: usize, by_group: Group, asks: Asks) -> Result<Event, Fail> {
+    let (asked, bytes) = asked(alloc, asks)?;
     Ok(Event::Submit {
         session,
         by_group,
-        asked: decode(cdb),
-        bytes: Bytes::new(Vec::from_slice(alloc, list)?),
+        asked,
+        bytes,
+    })
+}
+
+fn begin(alloc: Global, session: usize, by_group: Group, asks: Asks) -> Result<Event, Fail> {
+    let (asked, bytes) = asked(alloc, asks)?;
+    Ok(Event::Begin {
+        session,
+        by_group,
+        asked,
+        bytes,
     })
 }
 
@@ -81,6 +97,10 @@ fn event_of(alloc: Global, act: Act) -> Result<Event, Fail> {
         }
         Act::Submit(session, by_group, asks) => submit(alloc, session, by_group, asks),
         Act::Again(session) => Ok(Event::SubmitAgain { session }),
+        Act::Begin(session, by_group, asks) => begin(alloc, session, by_group, asks),
+        Act::BeginAgain(session) => Ok(Event::BeginAgain { session }),
+        Act::TakeBack(session) => Ok(Event::TakeBack { session }),
+        Act::Close(group) => Ok(Event::Close { group }),
         Act::Take(group) => Ok(Event::Take { group }),
         Act::Serve(session) => Ok(Event::Serve { session }),
         Act::Post(session) => Ok(Event::Post { session }),

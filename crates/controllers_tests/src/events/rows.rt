@@ -23,6 +23,14 @@ pub enum Act {
     Submit(usize, Group, Asks),
     /// It hands in once more what came to Moved.
     Again(usize),
+    /// Its worker serves a command at once.
+    Begin(usize, Group, Asks),
+    /// It serves so what came to Moved.
+    BeginAgain(usize),
+    /// Its worker takes its job back.
+    TakeBack(usize),
+    /// A desk closes.
+    Close(Group),
     Take(Group),
     Serve(usize),
     Post(usize),

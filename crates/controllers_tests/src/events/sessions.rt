@@ -1,16 +1,19 @@
 //! One command on its way, events that can't happen, and sessions that end.
 use crate::events::rows::Act::{
-    Again, Attach, Collect, Detach, Move, Post, Reset, Serve, Submit, Take,
+    Again, Attach, Begin, BeginAgain, Close, Collect, Detach, Move, Post, Reset, Serve, Submit,
+    Take, TakeBack,
 };
 use crate::events::rows::Asks::Test;
 use crate::events::rows::At::{Answered, Ended, Idle, InLane, Waits};
-use crate::events::rows::Said::{Check, Gone, Good, Submitted};
+use crate::events::rows::Said::{Busy, Check, Gone, Good, Submitted};
 use crate::events::rows::{Noted, Row, Stands, rows};
 use crate::events::run::run;
 use scsi_types::Group::{One, Two};
 use std::test::Fail;
 
 const POWER_ON: (u8, u8, u8) = (0x06, 0x29, 0x00);
+
+const CHANGED: (u8, u8, u8) = (0x06, 0x2A, 0x06);
 
 /// An ISID of more than six bytes.
 const NO_ISID: u64 = 1 << 48;
@@ -24,6 +27,30 @@ const ONE_COMMAND: &[Row] = rows! {
     "it collects": [Collect(0)] => [Noted(0, 0, 1, 2, Check(One, 1, POWER_ON))], (2, 0), [Stands(0, 0, 2, Idle)];
     "its second": [Submit(0, One, Test), Take(One), Serve(0), Post(0), Collect(0)]
         => [Noted(0, 0, 2, 2, Submitted), Noted(0, 0, 2, 3, Good(One, 2))], (3, 0), [Stands(0, 0, 3, Idle)];
+};
+
+const WORKERS: &[Row] = rows! {
+    "two sessions": [Attach(0, 1, One), Attach(0, 2, One)]
+        => [], (2, 0), [Stands(0, 0, 1, Idle), Stands(0, 1, 1, Idle)];
+    "one waits, and the other's worker serves past it": [Submit(0, One, Test), Begin(1, One, Test)]
+        => [Noted(0, 0, 1, 2, Submitted), Noted(0, 1, 1, 2, Submitted)], (2, 0),
+        [Stands(0, 0, 1, Waits), Stands(0, 1, 1, InLane)];
+    "so its entry comes first": [Serve(1), Post(1), Collect(1)]
+        => [Noted(0, 1, 1, 3, Check(One, 2, POWER_ON))], (3, 0), [Stands(0, 0, 1, Waits), Stands(0, 1, 2, Idle)];
+    "a job that is taken back goes to no lane": [TakeBack(0), Take(One)]
+        => [], (3, 0), [Stands(0, 0, 1, InLane), Stands(0, 1, 2, Idle)];
+    "its worker serves it": [Serve(0), Post(0), Collect(0)]
+        => [Noted(0, 0, 1, 4, Check(One, 3, POWER_ON))], (4, 0), [Stands(0, 0, 2, Idle), Stands(0, 1, 2, Idle)];
+    "none waits, and none came to Moved": [TakeBack(0), TakeBack(7), BeginAgain(0), BeginAgain(7)]
+        => [], (4, 0), [Stands(0, 0, 2, Idle), Stands(0, 1, 2, Idle)];
+    "Moved, and served at once at the other desk": [Move(0, Two), Begin(0, One, Test), Serve(0), Post(0), Collect(0),
+        BeginAgain(0), Serve(0), Post(0), Collect(0)] => [Noted(0, 0, 2, 5, Submitted), Noted(0, 0, 2, 5, Submitted),
+        Noted(0, 0, 2, 6, Check(Two, 5, CHANGED))], (6, 0), [Stands(0, 0, 3, Idle), Stands(0, 1, 2, Idle)];
+    "a desk that closes": [Submit(1, Two, Test), Close(Two), Submit(0, Two, Test), Begin(0, Two, Test)]
+        => [Noted(0, 1, 2, 6, Submitted), Noted(0, 0, 3, 6, Busy), Noted(0, 0, 3, 6, Busy)], (6, 0),
+        [Stands(0, 0, 3, Idle), Stands(0, 1, 2, Waits)];
+    "what waits there is served": [Take(Two), Serve(1), Post(1), Collect(1)]
+        => [Noted(0, 1, 2, 7, Check(Two, 6, CHANGED))], (7, 0), [Stands(0, 0, 3, Idle), Stands(0, 1, 3, Idle)];
 };
 
 const IMPOSSIBLE: &[Row] = rows! {
@@ -75,6 +102,7 @@ const ENDS: &[Row] = rows! {
 #[test]
 fn commands_of_sessions(rt: HostRuntime) -> Result<(), Fail> {
     run(&rt, rt.alloc(), [9, 9], ONE_COMMAND)?;
+    run(&rt, rt.alloc(), [9, 9], WORKERS)?;
     run(&rt, rt.alloc(), [9, 9], IMPOSSIBLE)?;
     run(&rt, rt.alloc(), [9, 9], ENDS)
 }

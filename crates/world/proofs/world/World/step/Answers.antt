@@ -1,7 +1,8 @@
-use Rattle.std.proofs.Common.{◌&&◌, refl}
-use Rattle.world.specs.Traffic.{collected, new_job, submitted, submitted_again}
+use Rattle.std.proofs.Common.{◌&&◌, length, refl}
+use Rattle.std.specs.Prelude.{slice_get}
+use Rattle.world.specs.Traffic.{begun, begun_again, collected, new_job, submitted, submitted_again}
 use Rattle.world.specs.declared.event.Event.TheVariants as events
-use Rattle.world.proofs.Standing.{counted_goes, on_done, quiet_goes}
+use Rattle.world.proofs.Standing.{back_step, counted_goes, on_done, quiet_goes}
 use Rattle.world.proofs.world.World.step.Goals as goal
 
 pub returns-in-Detach-clause-done : goal.returns-in-Detach-clause-done
@@ -67,3 +68,44 @@ returns-in-Collect-clause-done g c =
     (events.Collect c.in-Collect.session) c.args.self.now
     c.collect.new.self c.in-Collect.session did.0 (λ count x. collected count t c.in-Collect.session x)
     did.1 c.collect.ensures.units did.2 (λ opening past. refl)))
+
+pub returns-in-Begin-clause-done : goal.returns-in-Begin-clause-done
+returns-in-Begin-clause-done g c =
+    let t = c.args.self.now.traffic in
+    rw c.in-Begin.is
+    (on_done c.begin.result c.begin.ensures.traffic
+    (λ did. counted_goes (g.O.Opener.claims && g.B.Blocks.claims) g.B.Blocks.contents g.B.Blocks.failures g.O.Opener.opens_failed
+    g.R.Blocks.failures
+    (events.Begin c.in-Begin.session c.in-Begin.by_group c.in-Begin.asked c.in-Begin.bytes) c.args.self.now
+    c.begin.new.self c.in-Begin.session did.0 (λ count x. begun count t c.in-Begin.session x (new_job c.in-Begin.by_group c.in-Begin.asked c.in-Begin.bytes))
+    did.1 c.begin.ensures.units did.2 (λ opening past. refl)))
+
+pub returns-in-BeginAgain-clause-done : goal.returns-in-BeginAgain-clause-done
+returns-in-BeginAgain-clause-done g c =
+    let t = c.args.self.now.traffic in
+    rw c.in-BeginAgain.is
+    (on_done c.begin_again.result c.begin_again.ensures.traffic
+    (λ did. counted_goes (g.O.Opener.claims && g.B.Blocks.claims) g.B.Blocks.contents g.B.Blocks.failures g.O.Opener.opens_failed
+    g.R.Blocks.failures
+    (events.BeginAgain c.in-BeginAgain.session) c.args.self.now
+    c.begin_again.new.self c.in-BeginAgain.session did.0 (λ count x. begun_again count t c.in-BeginAgain.session x)
+    did.1 c.begin_again.ensures.units did.2 (λ opening past. refl)))
+
+pub returns-in-Close-clause-done : goal.returns-in-Close-clause-done
+returns-in-Close-clause-done g c =
+    rw c.in-Close.is
+    (quiet_goes (g.O.Opener.claims && g.B.Blocks.claims) g.B.Blocks.contents g.B.Blocks.failures g.O.Opener.opens_failed
+    g.R.Blocks.failures
+    (events.Close c.in-Close.group) c.args.self.now _ _ c.close.ensures.units c.close.ensures.traffic
+    (λ opening past stands. refl))
+
+pub returns-in-TakeBack-clause-done : goal.returns-in-TakeBack-clause-done
+returns-in-TakeBack-clause-done g c =
+    let claims = g.O.Opener.claims && g.B.Blocks.claims in
+    let old = c.args.self.now in
+    rw c.in-TakeBack.is
+    (quiet_goes claims g.B.Blocks.contents g.B.Blocks.failures g.O.Opener.opens_failed
+    g.R.Blocks.failures
+    (events.TakeBack c.in-TakeBack.session) old _ c.take_back.new.self.traffic c.take_back.ensures.units refl
+    (λ opening past stands. back_step claims (length old.units) opening past old.traffic c.in-TakeBack.session
+    c.take_back.new.self.traffic (slice_get old.traffic.sessions c.in-TakeBack.session) c.take_back.ensures.traffic))

@@ -1,0 +1,18 @@
+use Rattle.std.proofs.Common.{sym}
+use Rattle.world.specs.Records.{traffic_of}
+use Rattle.world.specs.Traffic.{in_hand, returned_in}
+use Rattle.world.proofs.Again.{takes_in_hand, put_back, there_is}
+use Rattle.world.proofs.records.Records.begin_again.Goals as goal
+
+pub returns-in-Some-take_returned : goal.returns-in-Some-take_returned
+returns-in-Some-take_returned c =
+    takes_in_hand (traffic_of c.args.self.now) c.args.n c.in-Some.session.now c.take_returned.new.self
+    (λ x. returned_in x.stage) c.args.count _ _ (there_is c.args.self.now.sessions.items c.args.n c.in-Some.session.now c.in-Some.ensures.item.3.0 c.in-Some.ensures.item.1) (sym c.in-Some-take_returned.ensures.job)
+    c.take_in_hand.ensures
+
+pub returns-in_default-take_returned : goal.returns-in_default-take_returned
+returns-in_default-take_returned c =
+    let t = traffic_of c.args.self.now in
+    put_back t c.args.n c.in-Some.session.now c.take_returned.new.self (λ x. returned_in x.stage)
+    (λ y job. in_hand c.args.count t c.args.n y job) (there_is c.args.self.now.sessions.items c.args.n c.in-Some.session.now c.in-Some.ensures.item.3.0 c.in-Some.ensures.item.1)
+    (sym c.in_default-take_returned.ensures.job) c.in_default-take_returned.ensures.none
