@@ -40,18 +40,8 @@ impl<P: Preparer> Gate for Prepared<P> {
         };
         match asked {
             Ok(Command::Read { lba, blocks, .. }) => preparer.warm(*lba, *blocks),
-            Ok(Command::Write { lba, blocks, fua }) => {
-                preparer.warm_edges(*lba, *blocks);
-                if *fua {
-                    preparer.flush();
-                }
-            }
-            Ok(Command::CompareAndWrite { lba, blocks, fua }) => {
-                preparer.warm(*lba, *blocks);
-                if *fua {
-                    preparer.flush();
-                }
-            }
+            Ok(Command::Write { lba, blocks, .. }) => preparer.warm_edges(*lba, *blocks),
+            Ok(Command::CompareAndWrite { lba, blocks, .. }) => preparer.warm(*lba, *blocks),
             Ok(Command::SynchronizeCache { .. }) => preparer.flush(),
             _ => {}
         }

@@ -355,8 +355,12 @@ impl<'a, R: Wait, U: LogicalUnits<P> + Drop, G: Gate + Drop, C: Connection + Dro
     }
 
     fn foresee(&self, unit: Option<u8>, asked: &Asked) {
-        if let Some(unit) = unit {
-            self.device.gate.foresee(unit, asked);
+        match unit {
+            Some(unit) if usize::from(unit) < self.at.len() => self
+                .device
+                .gate
+                .foresee(unit, asked),
+            _ => {}
         }
     }
 
