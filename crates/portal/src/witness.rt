@@ -257,6 +257,10 @@ impl<
         self.target.end();
     }
 
+    fn foresee(&self, unit: Option<u8>, asked: &Asked) {
+        self.target.foresee(unit, asked);
+    }
+
     fn serve(&mut self, unit: Option<u8>, asked: Asked, bytes: &[u8]) -> TargetAnswer {
         let deed = self.deed_of(&asked, bytes);
         let answer = self.target.serve(unit, asked, bytes);

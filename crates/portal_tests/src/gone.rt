@@ -7,6 +7,7 @@ use session::{BeginAnswer, ResetAnswer, Target, TargetAnswer};
 use std::process::Abort;
 use std::sync::Wait;
 use std::test::*;
+use std::time::Clock;
 use unit_history::Opened;
 
 // The initiator port of the sessions.
@@ -70,7 +71,9 @@ fn compare<T: Target, R: Abort>(rt: &R, first: &mut T, second: &mut T, found: &m
 }
 
 /// Two sessions of one nexus, and one of discovery.
-pub fn the_older_session_is_gone<R: Wait + Abort, N: Naming<Opened>>(scene: &Scene<'_, R, N>) {
+pub fn the_older_session_is_gone<R: Wait + Clock + Abort, N: Naming<Opened>>(
+    scene: &Scene<'_, R, N>,
+) {
     let mut first = scene.arrive();
     let mut second = scene.arrive();
     let mut found = scene.arrive();

@@ -6,6 +6,7 @@ use session::{BeginAnswer, Target};
 use std::process::Abort;
 use std::sync::Wait;
 use std::test::*;
+use std::time::Clock;
 use unit_history::Opened;
 
 const NAME: &[u8] = b"iqn.2000-01.test:a";
@@ -13,7 +14,10 @@ const NAME: &[u8] = b"iqn.2000-01.test:a";
 const LAST_TSIH: u16 = 65535;
 
 // Begins a session of this kind, which is over where it is one of discovery: its TSIH.
-fn begin<R: Wait + Abort, N: Naming<Opened>>(scene: &Scene<'_, R, N>, kind: Kind) -> BeginAnswer {
+fn begin<R: Wait + Clock + Abort, N: Naming<Opened>>(
+    scene: &Scene<'_, R, N>,
+    kind: Kind,
+) -> BeginAnswer {
     let mut session = scene.arrive();
     let answer = session.begin(NAME, 1, kind);
     if kind == Kind::Discovery {
@@ -23,7 +27,7 @@ fn begin<R: Wait + Abort, N: Naming<Opened>>(scene: &Scene<'_, R, N>, kind: Kind
 }
 
 /// A normal session has TSIH 1, and sessions of discovery have the others; 1 comes behind 65535, but its session lives.
-pub fn begin_again<R: Wait + Abort, N: Naming<Opened>>(scene: &Scene<'_, R, N>) {
+pub fn begin_again<R: Wait + Clock + Abort, N: Naming<Opened>>(scene: &Scene<'_, R, N>) {
     assert!(scene.rt; begin(scene, Kind::Normal) == BeginAnswer::Begun(1));
     for before in 1..LAST_TSIH {
         assert!(scene.rt; begin(scene, Kind::Discovery) == BeginAnswer::Begun(before + 1));

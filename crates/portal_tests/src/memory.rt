@@ -8,6 +8,7 @@ use crate::handles::begin_again;
 use crate::row::{Row, Stream};
 use crate::units::{BLOCKS, one};
 use block_file::{KeepOpener, MemBlocks};
+use event_log::{Log, Path};
 use login::Kind;
 use numbering::Array as Naming;
 use portal::{
@@ -23,6 +24,7 @@ use std::net::{Ipv4Addr, SocketAddrV4};
 use std::process::Abort;
 use std::sync::Wait;
 use std::test::Fail;
+use std::time::Clock;
 use test_streams::{Calls, FakeReader, FakeWriter, ONE_BYTE, WHOLE};
 use test_units::TestUnits;
 use unit_history::{NewUnit, Opened, Pass};
@@ -67,7 +69,7 @@ pub struct Scene<'a, R: Wait, N: Naming<Opened>> {
     device: &'a TargetDevice<Both<N>, Open, Endless>,
 }
 
-impl<'a, R: Wait + Abort, N: Naming<Opened>> Scene<'a, R, N> {
+impl<'a, R: Wait + Clock + Abort, N: Naming<Opened>> Scene<'a, R, N> {
     /// A session comes, and has not begun.
     pub fn arrive(&self) -> Arrived<'a, R, N> {
         SessionTarget::new(self.rt, self.alloc, self.device, Group::One, Endless)
@@ -103,7 +105,12 @@ impl<'a, R: Wait + Abort, N: Naming<Opened>> Scene<'a, R, N> {
             first: &[portal(3260)],
             second: &[portal(3264)],
         };
-        let end = serve_session::<
+        let path = Path {
+            from: portal(49152),
+            portal: portal(3260),
+            tag: 1,
+        };
+        let (end, _visitor) = serve_session::<
             R,
             Both<N>,
             Open,
@@ -120,6 +127,8 @@ impl<'a, R: Wait + Abort, N: Naming<Opened>> Scene<'a, R, N> {
             &mut source,
             &mut sink,
             &me,
+            &Log::off(),
+            path,
         )
         .expect(self.rt, name);
         let sent = sink.into_inner().into_bytes();
@@ -171,7 +180,7 @@ struct Broken<'s, 'd, 'r, 't, R: Wait, N: Naming<Opened>> {
     is_back: bool,
 }
 
-impl<R: Wait + Abort, N: Naming<Opened>> Read for Broken<'_, '_, '_, '_, R, N> {
+impl<R: Wait + Clock + Abort, N: Naming<Opened>> Read for Broken<'_, '_, '_, '_, R, N> {
     fn read(&mut self, buf: &mut [u8]) -> io::Result<usize> {
         let came = self.front.read(buf)?;
         if came > 0 {
@@ -199,7 +208,7 @@ pub enum Played<'a> {
 }
 
 // Plays it before an array of these units.
-fn play<R: Wait + Abort, N: Naming<Opened>>(
+fn play<R: Wait + Clock + Abort, N: Naming<Opened>>(
     rt: &R,
     alloc: Global,
     new: Vec<NewUnit<MemBlocks, MemBlocks, KeepOpener>>,
@@ -224,7 +233,11 @@ fn play<R: Wait + Abort, N: Naming<Opened>>(
 }
 
 /// Plays it before an array of one unit.
-pub fn play_alone<R: Wait + Abort>(rt: &R, alloc: Global, played: &Played<'_>) -> Result<(), Fail> {
+pub fn play_alone<R: Wait + Clock + Abort>(
+    rt: &R,
+    alloc: Global,
+    played: &Played<'_>,
+) -> Result<(), Fail> {
     let blocks = match played {
         Played::Row(row, _) if !row.each_place => BLOCKS,
         _ => FEW_BLOCKS,
@@ -241,14 +254,14 @@ const PIECES: Calls = Calls {
 };
 
 /// Serves each row of a table: whole, in single bytes, in pieces, and where it says so in two at each place.
-pub fn run<R: Wait + Abort>(rt: &R, alloc: Global, table: &str) -> Result<(), Fail> {
+pub fn run<R: Wait + Clock + Abort>(rt: &R, alloc: Global, table: &str) -> Result<(), Fail> {
     for text in table.split("\n\n") {
         run_row(rt, alloc, &Row::new(rt, alloc, text))?;
     }
     Ok(())
 }
 
-fn run_row<R: Wait + Abort>(rt: &R, alloc: Global, row: &Row<'_>) -> Result<(), Fail> {
+fn run_row<R: Wait + Clock + Abort>(rt: &R, alloc: Global, row: &Row<'_>) -> Result<(), Fail> {
     for reads in [WHOLE, ONE_BYTE, PIECES] {
         play_alone(rt, alloc, &Played::Row(row, reads))?;
     }
