@@ -86,7 +86,7 @@ impl Machine<Noted, Opened> for Counter {
     // It has no device.
     ghost worked = { λ session ask bytes reply old new. Unit {0} };
 
-    ghost handed_over = { λ old new. Unit {0} };
+    ghost handed_over = { λ old new end. Unit {0} };
 
     ghost flushed = { λ old new end. Unit {0} };
 
