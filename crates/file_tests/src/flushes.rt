@@ -1,5 +1,5 @@
 //! Flushes after one that failed.
-use crate::files::want;
+use crate::files::{want, writes};
 use block_file::Blocks;
 use disk_files::{FileBlocks, Flushes, LastingFile};
 use std::alloc::Global;
@@ -131,6 +131,6 @@ fn a_flush_before_is_enough_until_a_write_ends(rt: HostRuntime) -> Result<(), Fa
     for _ in 0..2 {
         want(flushes(&mut device), "a flush behind one before")?;
     }
-    want(device.write_run(1, &[0x11; 512]).is_ok(), "a write")?;
+    want(writes(&mut device, 1, &[0x11]), "a write")?;
     want(!flushes(&mut device), "a flush behind a write")
 }
