@@ -24,7 +24,6 @@ use std::marker::Brand;
 use std::process::ExitCode;
 use std::rt::Files;
 use std::sync::Wait;
-use std::thread::Threads;
 use std::time::Clock;
 use std::{env, io};
 
@@ -63,26 +62,14 @@ fn prepare<'a, R: Files<File = File> + Clock + Wait + Clone + Drop>(
     })
 }
 
-// The log, where the environment names a file for it; else one that is off.
-fn asked_log<
-    R: Threads
-        + Wait
-        + Clock
-        + Env
-        + AllocGlobal
-        + Files<File = File>
-        + Clone
-        + Drop
-        + Send
-        + 'static,
->(rt: &R, alloc: Global) -> Result<Log, Fault> {
-    let Some(file) = LogFile::named(rt.clone()?)? else {
-        return Ok(Log::off());
-    };
-    let log = Log::new(alloc)?;
-    match start::<R, LogFile<R>>(rt, alloc, &log, file) {
-        Ok(()) => Ok(log),
-        Err(_) => Err(Fault::NoMemory),
+// The log, with its file where the environment names one; else one that is off.
+fn asked_log<R: Env + AllocGlobal + Files<File = File> + Clone + Drop>(
+    rt: &R,
+    alloc: Global,
+) -> Result<(Log, Option<LogFile<R>>), Fault> {
+    match LogFile::named(rt.clone()?)? {
+        Some(file) => Ok((Log::new(alloc)?, Some(file))),
+        None => Ok((Log::off(), None)),
     }
 }
 
@@ -108,10 +95,16 @@ fn main(rt: HostRuntime) -> ExitCode {
             Err(fault) => complain(&rt, fault),
         };
     }
-    let log = match asked_log(&rt, alloc) {
-        Ok(log) => log,
+    let (log, file) = match asked_log(&rt, alloc) {
+        Ok(asked) => asked,
         Err(fault) => return complain(&rt, fault),
     };
+    // What threads may do is known here alone.
+    if let Some(file) = file {
+        if start::<HostRuntime, LogFile<HostRuntime>>(&rt, alloc, &log, file).is_err() {
+            return complain(&rt, Fault::NoMemory);
+        }
+    }
     let Asked {
         options,
         units,
