@@ -1,6 +1,5 @@
 //! Tests of the portals over the loopback: an array, its portals and its initiators in threads of one process. Each test is a
-//! script of what the initiators do and are answered. Beside them stand sessions over memory, whose bytes come and go without
-//! a socket.
+//! script of what the initiators do and are answered.
 #![tactic(auto)]
 
 #[cfg(test)]
@@ -8,17 +7,11 @@ mod array;
 #[cfg(test)]
 mod behind;
 #[cfg(test)]
-mod clients;
-#[cfg(test)]
 mod discovery;
 #[cfg(test)]
 mod failing;
 #[cfg(test)]
 mod fencing;
-#[cfg(test)]
-mod gone;
-#[cfg(test)]
-mod handles;
 #[cfg(test)]
 mod hanging;
 #[cfg(test)]
@@ -30,19 +23,13 @@ mod lanes;
 #[cfg(test)]
 mod latch;
 #[cfg(test)]
-mod lives;
-#[cfg(test)]
 mod logins;
 #[cfg(test)]
 mod medium;
 #[cfg(test)]
-mod memory;
-#[cfg(test)]
 mod no_room;
 #[cfg(test)]
 mod restart;
-#[cfg(test)]
-mod row;
 #[cfg(test)]
 mod stage;
 #[cfg(test)]

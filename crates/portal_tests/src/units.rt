@@ -18,7 +18,7 @@ use unit_history::NewUnit;
 use unit_state::{Unit, laws};
 
 /// So many blocks a unit in memory has.
-pub const BLOCKS: u32 = 2048;
+const BLOCKS: u32 = 2048;
 
 /// A unit in memory, whose device may hang.
 pub type HeldUnit<R> = NewUnit<HeldBlocks<MemBlocks, R>, MemBlocks, KeepOpener>;
@@ -28,19 +28,6 @@ type FusedFile = FusedBlocks<FileBlocks<File>>;
 
 /// A unit over a file, with its registration file, which may fail.
 pub type FileUnit = NewUnit<FusedFile, FusedFile, FusedOpener<KeepOpener>>;
-
-/// The one unit of an array, in memory, of so many blocks.
-pub fn one(
-    alloc: Global,
-    blocks: u32,
-) -> Result<Vec<NewUnit<MemBlocks, MemBlocks, KeepOpener>>, Fail>
-    ensures { IfOk result (λ v. length v.items ≤ 8) }
-{
-    let mut units = Vec::new(alloc);
-    let blocks = MemBlocks::new(alloc, blocks)?;
-    units.push(new_unit(alloc, blocks, KeepOpener, 0, 1)?)?;
-    Ok(units)
-}
 
 // A unit of zeros, which holds no registrations, and whose device hangs at this latch.
 fn in_memory<R: Wait + Drop>(

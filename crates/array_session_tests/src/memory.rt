@@ -1,12 +1,11 @@
 //! Sessions whose bytes come and go in memory, over an array of one unit, which lies in memory too.
-ghost use Rattle.std.specs.Prelude.{◌≡◌, ◌≤◌, length};
+ghost use Rattle.std.specs.Prelude.{◌≡◌, ◌≤◌, IfOk, length};
 ghost use Rattle.block_file.specs.Cut.{cut};
 ghost use Rattle.unit_history.specs.Naming.{IsNamed};
 
 use crate::gone::the_older_session_is_gone;
 use crate::handles::begin_again;
 use crate::row::{Row, Stream};
-use crate::units::{BLOCKS, one};
 use block_file::{KeepOpener, MemBlocks};
 use event_log::{Log, Path};
 use login::Kind;
@@ -26,10 +25,13 @@ use std::sync::Wait;
 use std::test::Fail;
 use std::time::Clock;
 use test_streams::{Calls, FakeReader, FakeWriter, ONE_BYTE, WHOLE};
-use test_units::TestUnits;
+use test_units::{TestUnits, new_unit};
 use unit_history::{NewUnit, Opened, Pass};
 
-/// So many blocks the unit has where an input is cut at each place: as many as such rows need, in less time.
+/// So many blocks the unit has.
+const BLOCKS: u32 = 2048;
+
+/// So many blocks it has where an input is cut at each place: as many as such rows need, in less time.
 const FEW_BLOCKS: u32 = 16;
 
 /// So many sessions are attached to a unit at most.
@@ -194,6 +196,16 @@ impl<R: Wait + Clock + Abort, N: Naming<Opened>> Read for Broken<'_, '_, '_, '_,
         self.is_back = true;
         self.back.read(buf)
     }
+}
+
+// The one unit of an array, in memory, of so many blocks.
+fn one(alloc: Global, blocks: u32) -> Result<Vec<NewUnit<MemBlocks, MemBlocks, KeepOpener>>, Fail>
+    ensures { IfOk result (λ v. length v.items ≤ 8) }
+{
+    let mut units = Vec::new(alloc);
+    let blocks = MemBlocks::new(alloc, blocks)?;
+    units.push(new_unit(alloc, blocks, KeepOpener, 0, 1)?)?;
+    Ok(units)
 }
 
 /// What is played before an array.
