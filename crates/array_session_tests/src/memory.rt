@@ -275,11 +275,11 @@ pub fn run<R: Wait + Clock + Abort>(rt: &R, alloc: Global, table: &str) -> Resul
 
 fn run_row<R: Wait + Clock + Abort>(rt: &R, alloc: Global, row: &Row<'_>) -> Result<(), Fail> {
     for reads in [WHOLE, ONE_BYTE, PIECES] {
-        play_alone(rt, alloc, &Played::Row(row, reads))?;
+        play_alone(rt, alloc, &Played::Row(&*row, reads))?;
     }
     if row.each_place {
         for first in 1..row.first.front.len() {
-            play_alone(rt, alloc, &Played::Row(row, Calls { first, ..WHOLE }))?;
+            play_alone(rt, alloc, &Played::Row(&*row, Calls { first, ..WHOLE }))?;
         }
     }
     Ok(())
