@@ -26,7 +26,7 @@ use std::test::Fail;
 use std::time::Clock;
 use test_streams::{Calls, FakeReader, FakeWriter, ONE_BYTE, WHOLE};
 use test_units::{TestUnits, new_unit};
-use unit_history::{NewUnit, Opened, Pass};
+use unit_history::{LegalHistory, NewUnit, Opened, Pass};
 
 /// So many blocks the unit has.
 const BLOCKS: u32 = 2048;
@@ -53,6 +53,9 @@ impl Connection for Endless {
 /// The controllers of the array.
 type Both<N> = Controllers<MemBlocks, MemBlocks, KeepOpener, N>;
 
+/// What is seen of its unit.
+type Seen<N> = LegalHistory<MemBlocks, MemBlocks, KeepOpener, N>;
+
 /// The target of a session that comes by controller 1.
 pub type Arrived<'a, R, N> = SessionTarget<
     'a,
@@ -61,7 +64,16 @@ pub type Arrived<'a, R, N> = SessionTarget<
     Open,
     Endless,
     Pass<MemBlocks, MemBlocks, KeepOpener, N>,
+    Seen<N>,
 >;
+
+// Whether what a session saw as it left the unit is longer than what one before it had seen.
+fn is_later<N: Naming<Opened>>(before: &[Seen<N>], after: &[Seen<N>]) -> bool {
+    match (before.first(), after.first()) {
+        (Some(before), Some(after)) => before.len() < after.len(),
+        _ => true,
+    }
+}
 
 /// An array that sessions share.
 #[derive(Drop)]
@@ -98,8 +110,8 @@ impl<'a, R: Wait + Clock + Abort, N: Naming<Opened>> Scene<'a, R, N> {
         self.begin_other(1 << 41) == Err(BeginFault::NoRoom(0))
     }
 
-    // Serves what comes by a connection, and compares.
-    fn serve<S: Read + Drop>(&self, name: &str, stream: &Stream, reader: S) {
+    // Serves what comes by a connection, and compares: what was seen of the unit at the end.
+    fn serve<S: Read + Drop>(&self, name: &str, stream: &Stream, reader: S) -> Vec<Seen<N>> {
         let mut source = Watched::new(reader);
         let mut sink = Watched::new(FakeWriter::new(self.alloc, WHOLE));
         let me = Identity {
@@ -112,12 +124,13 @@ impl<'a, R: Wait + Clock + Abort, N: Naming<Opened>> Scene<'a, R, N> {
             portal: portal(3260),
             tag: 1,
         };
-        let (end, _visitor) = serve_session::<
+        let (end, _visitor, seen) = serve_session::<
             R,
             Both<N>,
             Open,
             Endless,
             Pass<MemBlocks, MemBlocks, KeepOpener, N>,
+            Seen<N>,
             Watched<S>,
             Watched<FakeWriter>,
         >(
@@ -138,6 +151,7 @@ impl<'a, R: Wait + Clock + Abort, N: Naming<Opened>> Scene<'a, R, N> {
             end == stream.end && sent == stream.output,
             "{name}: {end:?}, {sent:?}"
         );
+        seen
     }
 
     // Serves the connections of a row, which come so, and compares. Behind it the other sessions live.
@@ -153,10 +167,11 @@ impl<'a, R: Wait + Clock + Abort, N: Naming<Opened>> Scene<'a, R, N> {
             back: FakeReader::new(&row.first.back, reads),
             is_back: false,
         };
-        self.serve(row.name, &row.first, first);
+        let seen = self.serve(row.name, &row.first, first);
         if !row.later.front.is_empty() {
             let later = FakeReader::new(&row.later.front, reads);
-            self.serve(row.name, &row.later, later);
+            let then = self.serve(row.name, &row.later, later);
+            assert!(self.rt; is_later(&seen, &then), "{}: what was seen", row.name);
         }
         assert!(self.rt; self.live() == row.others, "{}", row.name);
         // Once is enough: each look makes the unit full.

@@ -17,7 +17,7 @@ use std::net::{Net, TcpListener, TcpStream};
 use std::sync::{Arc, Wait};
 use std::thread::Threads;
 use std::time::Clock;
-use unit_history::{NewUnit, Opened, Pass, Units};
+use unit_history::{LegalHistory, NewUnit, Opened, Pass, Units};
 
 /// Serves these units, behind this gate, at the portals that the words ask for, until the console ends. The names of the units are picked
 /// where it is called.
@@ -79,14 +79,14 @@ pub fn serve_units<
         }
     }
     for Portal { listener, group } in portals {
-        let loops = listen::<R, Controllers<B, F, O, N>, G, Pass<B, F, O, N>, SmallStacks>(
-            rt,
-            alloc,
-            listener,
-            &server,
-            group,
+        let loops = listen::<
+            R,
+            Controllers<B, F, O, N>,
+            G,
+            Pass<B, F, O, N>,
+            LegalHistory<B, F, O, N>,
             SmallStacks,
-        );
+        >(rt, alloc, listener, &server, group, SmallStacks);
         let Ok(loops) = loops else {
             return Err(Fault::NoMemory);
         };

@@ -39,6 +39,11 @@ IsAdded own legal before after P =
     (between : List _) × (e : _) × (counted own before.session between ≡ 0)
     × (after.seen ≡ (before.seen ++ between) ++ e ∷ []) × legal after.seen × P (before.seen ++ between) e
 
+-- What the end of a session leaves, which is an entry: the history that was seen begins with all that its pass had seen, has no
+-- other new entry of the session's own, and ends with this entry.
+abbrev pub IsEnded : {E : Type 0} → (ℕ → E → ℕ) → (List E → Type 0) → Known E → List E → E → Type 0
+IsEnded own legal before history end = IsAdded own legal before (record before { seen = history }) (λ h e. e ≡ end)
+
 -- What is locked was what the beginning of a history leaves, and is what the history leaves that has one entry more; and this
 -- is so of both.
 pub record IsBetween {E X : Type 0} (after : List E → X → Type 0) (history : List E) (P : X → X → Type 0) : Type 0 where

@@ -1,7 +1,6 @@
 //! The unit under its lock.
 ghost use Rattle.std.specs.Prelude.{◌≡◌, ◌+◌, ◌++◌, ◌∷◌, [], length, IfOk, IfErr, MatchBool, List};
-ghost use mathlib.Core.List.{IsPrefix};
-ghost use Rattle.locked_unit.specs.Calls.{IsAdded, IsBeside, IsBetween, IsRefused, IsCause};
+ghost use Rattle.locked_unit.specs.Calls.{IsAdded, IsBeside, IsBetween, IsEnded, IsRefused, IsCause};
 
 use crate::machine::{Machine, Refused};
 use crate::pass::PassAt;
@@ -257,7 +256,8 @@ impl<E, S, X: Machine<E, S>, N: Array<S>, const U: usize> Locked<E, S, X, N, U> 
         posted: &Posted<E, S, X, At<S, N, U>>,
         pass: PassAt<E, S, X, N, U>,
     ) -> Result<History<E, At<S, N, U>>, PassAt<E, S, X, N, U>>
-        ensures done { IfOk result (λ f. IsPrefix pass.seen f × X.legal (N.opening U) f × X.absent (N.opening U) f pass.session) }
+        ensures done { IfOk result (λ f. IsEnded X.own (X.legal (N.opening U)) pass f (X.detaching pass.session)
+            × X.absent (N.opening U) f pass.session) }
         ensures gone { IfErr result (λ p. IsRefused X.own (X.legal (N.opening U)) pass p × X.gone (N.opening U) p.seen pass.session) }
         ensures ends { IfOk result (λ f. (self.new ≡ f) × (f ≡ self.old ++ X.detaching pass.session ∷ [])) }
         ensures same { IfErr result (λ p. (self.new ≡ p.seen) × (self.new ≡ self.old)) }

@@ -1,7 +1,7 @@
 //! One unit, which all threads share.
 ghost use Rattle.std.specs.Prelude.{◌≡◌, ◌≤◌, ◌+◌, ◌++◌, ◌∷◌, [], length, IfOk, IfErr, MatchBool, List, All};
 ghost use mathlib.Core.List.{IsPrefix};
-ghost use Rattle.locked_unit.specs.Calls.{IsAdded, IsBeside, IsBetween, IsRefused, IsCause};
+ghost use Rattle.locked_unit.specs.Calls.{IsAdded, IsBeside, IsBetween, IsEnded, IsRefused, IsCause};
 
 use crate::locked::Locked;
 use crate::machine::{Machine, Refused};
@@ -162,7 +162,8 @@ impl<E, S, X: Machine<E, S>, N: Array<S>, const U: usize> SharedUnit<E, S, X, N,
         pass: Pass<E, S, X, N>,
     ) -> Result<LegalHistory<E, S, X, N>, Pass<E, S, X, N>>
         requires { pass.place ≡ U }
-        ensures done { IfOk result (λ f. (f.0 ≡ U) × IsPrefix pass.pass.seen f.1 × X.legal (N.opening U) f.1
+        ensures done { IfOk result (λ f. (f.0 ≡ U)
+            × IsEnded X.own (X.legal (N.opening U)) pass.pass f.1 (X.detaching pass.pass.session)
             × X.absent (N.opening U) f.1 pass.pass.session) }
         ensures gone { IfErr result (λ p. (p.place ≡ U) × IsRefused X.own (X.legal (N.opening U)) pass.pass p.pass
             × X.gone (N.opening U) p.pass.seen pass.pass.session) }

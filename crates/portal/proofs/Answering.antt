@@ -30,10 +30,14 @@ use Rattle.unit_state.specs.Entry.{Entry, Attach}
 use Rattle.unit_history.specs.Histories.{IsHistory}
 use Rattle.portal.specs.Units.{Claims}
 use Rattle.portal.specs.Submitted.{At, IsServed, IsResetAnswer}
-use Rattle.portal.specs.Entries.{Done, done_by, reset_by, of_unit, done_in, done_at, AreEntries, HasDone, HasDoneNothing, IsNormal, AreAnswered}
-use Rattle.portal.specs.Target.{TargetValue, IsAbsent, IsAttachedTo, AreAttached, HasBegun, IsServedAt, IsResetIn, LeadsOn, unbegun}
+use Rattle.portal.specs.Entries.{Done, done_by, reset_by, of_unit, done_in, done_at, AreEntries, HasDone, HasDoneNothing, IsLast, IsNormal}
+use Rattle.portal.specs.Entries.{AreAnswered}
+use Rattle.portal.specs.Target.{TargetValue, Sight, IsAbsent, IsAttachedTo, AreAttached, AreOver, HasBegun, IsOver, IsOverAt, IsRefused}
+use Rattle.portal.specs.Target.{IsServedAt, IsResetIn, LeadsOn, unbegun}
+use Rattle.portal.specs.declared.target.BeginFault.{BeginFault}
 use Rattle.portal.specs.Worker.{IsSession, tag_of}
 use Rattle.portal.proofs.Chains.{both_of, GrowsAt, grows_served, grows_reset_at}
+use Rattle.portal.proofs.Retiring.{Ended, ended, over_at, over_none}
 use Rattle.portal.proofs.Slots.{get_written, get_other, length_written, nowhere, there}
 
 either_none : (b : Bool) (ds : List Done) → ds ≡ [] → cond b ds [] ≡ []
@@ -94,13 +98,20 @@ module _ (claims : Claims) (opening : ℕ → UnitState) where
             (subst (λ (n : ℕ). AreEntries claims (opening n) a.pass.session a.pass.seen more g.more) is.place g.entries)));
       }
 
-  has_done : (nexus : Nexus) (unit : ℕ) (done : List Done) (a : At) → DoneAt nexus unit done a → HasDone claims (opening unit) nexus done
-  has_done nexus unit done a is =
+  has_done : (nexus : Nexus) (unit : ℕ) (done : List Done) (a : At) (one : Sight) → DoneAt nexus unit done a
+      → IsOverAt claims opening a one
+      → HasDone claims (opening unit) nexus done one.1
+  has_done nexus unit done a one is left =
+      let e : Ended claims (opening unit) a.pass one.1 =
+      subst (λ (n : ℕ). Ended claims (opening n) a.pass one.1) is.place (ended claims (opening a.place) a.pass one.1 left.1) in
       record {
         before = is.before;
         behind = is.behind;
-        legal = subst (λ (h : List Entry). IsHistory claims.contents (opening unit) h) is.seen is.legal;
+        rest = e.rest;
+        legal = e.legal;
+        is = e.is ∙ ap (λ (h : List Entry). h ++ e.rest) is.seen;
         entries = is.entries;
+        ends = subst (λ (n : ℕ). IsLast n e.rest) is.session e.last;
       }
 
   attached_at : (nexus : Nexus) (first : ℕ) (at : List At) (n : ℕ) (a : At) → AreAttached claims opening nexus first at
@@ -123,10 +134,11 @@ module _ (claims : Claims) (opening : ℕ → UnitState) (units : ℕ) (group : 
   record Idle (asks : List Asking) (t : TargetValue) : Type 0 where
     begun : t.begun ≡ true
     at : t.at ≡ []
-    answered : AreAnswered claims opening units group asks
+    answered : AreAnswered claims opening units group asks t.seen
 
   record Running (asks : List Asking) (t : TargetValue) : Type 0 where
     begun : t.begun ≡ true
+    unseen : t.seen ≡ []
     port : Port
     tsih : ℕ
     front : List Asking
@@ -143,26 +155,6 @@ module _ (claims : Claims) (opening : ℕ → UnitState) (units : ℕ) (group : 
     group_is : t.group ≡ group
     stage : Fresh asks t ⊎ (Idle asks t ⊎ Running asks t)
 
-  -- what a running session has done stands in the histories
-  ran : (asks : List Asking) (t : TargetValue) → Running asks t → AreAnswered claims opening units group asks
-  ran asks t is =
-      inr (record {
-        port = is.port;
-        tsih = is.tsih;
-        front = is.front;
-        rest = is.rest;
-        began_is = is.began_is;
-        done = λ (unit : ℕ) (lt : unit < units).
-            let here = there t.at unit (subst (λ (n : ℕ). unit < n) (sym is.count) lt) in
-            has_done claims opening (through is.port group) unit (done_at unit asks) here.0 (is.at unit here.0 here.1);
-        none = is.none;
-      })
-
-  pub answered_by : (asks : List Asking) (t : TargetValue) → Standing asks t → AreAnswered claims opening units group asks
-  answered_by asks t is =
-      ⊎_elim (λ (f : Fresh asks t). inl f.nothing)
-      (⊎_elim (λ (i : Idle asks t). i.answered) (λ (r : Running asks t). ran asks t r)) is.stage
-
   -- ---- a question by which nothing is done
 
   abbrev Idles : Asking → Type 0
@@ -171,11 +163,12 @@ module _ (claims : Claims) (opening : ℕ → UnitState) (units : ℕ) (group : 
   nothing_more : (asks : List Asking) (ask : Asking) → Idles ask → HasDoneNothing asks → HasDoneNothing (asks ++ ask ∷ [])
   nothing_more asks ask idles nothing = λ (unit : ℕ). at_same unit asks ask (idles unit) ∙ nothing unit
 
-  answered_more : (asks : List Asking) (ask : Asking) → Idles ask → AreAnswered claims opening units group asks
-      → AreAnswered claims opening units group (asks ++ ask ∷ [])
-  answered_more asks ask idles answered =
+  answered_more : (asks : List Asking) (ask : Asking) (seen : List Sight) → Idles ask
+      → AreAnswered claims opening units group asks seen
+      → AreAnswered claims opening units group (asks ++ ask ∷ []) seen
+  answered_more asks ask seen idles answered =
       ⊎_elim (λ (n : HasDoneNothing asks). inl (nothing_more asks ask idles n))
-      (λ (r : IsNormal claims opening units group asks). inr (record {
+      (λ (r : IsNormal claims opening units group asks seen). inr (record {
         port = r.port;
         tsih = r.tsih;
         front = r.front;
@@ -183,8 +176,13 @@ module _ (claims : Claims) (opening : ℕ → UnitState) (units : ℕ) (group : 
         began_is = ap (λ (l : List Asking). l ++ ask ∷ []) r.began_is
             ∙ append_assoc r.front (began r.port Normal (Begun r.tsih) ∷ r.rest) (ask ∷ []);
         done = λ (unit : ℕ) (lt : unit < units).
-            subst (λ (ds : List Done). HasDone claims (opening unit) (through r.port group) ds)
-            (sym (at_same unit asks ask (idles unit))) (r.done unit lt);
+            let d = r.done unit lt in (
+              d.0,
+              d.1,
+              d.2,
+              subst (λ (ds : List Done). HasDone claims (opening unit) (through r.port group) ds d.0.1)
+                  (sym (at_same unit asks ask (idles unit))) d.3,
+            );
         none = λ (unit : ℕ) (le : units ≤ unit). at_same unit asks ask (idles unit) ∙ r.none unit le;
       })) answered
 
@@ -192,6 +190,7 @@ module _ (claims : Claims) (opening : ℕ → UnitState) (units : ℕ) (group : 
   running_more asks ask t idles r =
       record {
         begun = r.begun;
+        unseen = r.unseen;
         port = r.port;
         tsih = r.tsih;
         front = r.front;
@@ -216,7 +215,7 @@ module _ (claims : Claims) (opening : ℕ → UnitState) (units : ℕ) (group : 
             (⊎_elim (λ (i : Idle asks t). inr (inl (record {
               begun = i.begun;
               at = i.at;
-              answered = answered_more asks ask idles i.answered;
+              answered = answered_more asks ask t.seen idles i.answered;
             })))
             (λ (r : Running asks t). inr (inr (running_more asks ask t idles r)))) standing.stage;
       })
@@ -263,6 +262,7 @@ module _ (claims : Claims) (opening : ℕ → UnitState) (units : ℕ) (group : 
     running_on r =
         record {
           begun = r.begun;
+          unseen = r.unseen;
           port = r.port;
           tsih = r.tsih;
           front = r.front;
@@ -348,6 +348,7 @@ module _ (claims : Claims) (opening : ℕ → UnitState) (units : ℕ) (group : 
   begun_as asks t new port Normal tsih standing is nothing =
       inr (inr (record {
         begun = ap (λ (x : TargetValue). x.begun) is.rest;
+        unseen = ap (λ (x : TargetValue). x.seen) is.rest ∙ is.fresh.2;
         port = port;
         tsih = tsih;
         front = asks;
@@ -385,37 +386,104 @@ module _ (claims : Claims) (opening : ℕ → UnitState) (units : ℕ) (group : 
       not_again : t.begun ≡ true → ⊥
       not_again before = let e : true ≡ false = sym before ∙ is.fresh.0 in absurd (cc)
 
-  -- a session is over
-  ends : (asks : List Asking) (t : TargetValue) → Standing asks t → Standing (asks ++ over ∷ []) (record t { at = [] })
-  ends asks t standing =
-      record {
-        units_is = standing.units_is;
-        group_is = standing.group_is;
-        stage = ⊎_elim
-            (λ (f : Fresh asks t). inl (record {
-              begun = f.begun;
-              at = refl;
-              nothing = nothing_more asks over (λ (unit : ℕ). refl) f.nothing;
-            }))
-            (⊎_elim
-            (λ (i : Idle asks t). inr (inl (record {
-              begun = i.begun;
-              at = refl;
-              answered = answered_more asks over (λ (unit : ℕ). refl) i.answered;
-            })))
-            (λ (r : Running asks t). inr (inl (record {
-              begun = r.begun;
-              at = refl;
-              answered = answered_more asks over (λ (unit : ℕ). refl) (ran asks t r);
-            }))))
-            standing.stage;
-      }
+  -- it does not begin
+  turned_back : (asks : List Asking) (t new : TargetValue) (port : Port) (kind : Kind) (fault : BeginFault)
+      → IsRefused claims opening t port kind fault new → Standing asks t
+      → Standing (asks ++ began port kind Refused ∷ []) new
+  turned_back asks t new port kind fault is standing =
+      ⊎_elim (λ (f : Fresh asks t). record {
+        units_is = ap (λ (x : TargetValue). x.units) is.rest ∙ standing.units_is;
+        group_is = ap (λ (x : TargetValue). x.group) is.rest ∙ standing.group_is;
+        stage = inl (record {
+          begun = ap (λ (x : TargetValue). x.begun) is.rest ∙ f.begun;
+          at = ap (λ (x : TargetValue). x.at) is.rest ∙ f.at;
+          nothing = nothing_more asks (began port kind Refused) (λ (unit : ℕ). refl) f.nothing;
+        });
+      })
+      (⊎_elim (λ (i : Idle asks t). as_it_was i.begun) (λ (r : Running asks t). as_it_was r.begun)) standing.stage
+    where
+      as_it_was : t.begun ≡ true → Standing (asks ++ began port kind Refused ∷ []) new
+      as_it_was before = kept asks (began port kind Refused) t new (λ (unit : ℕ). refl) (is.again before) standing
+
+  -- ---- a session is over
+
+  -- what a running session has done stands in the histories that were seen
+  ran : (asks : List Asking) (t : TargetValue) (seen : List Sight) → Running asks t → AreOver claims opening t.at seen
+      → AreAnswered claims opening units group asks seen
+  ran asks t seen is left =
+      inr (record {
+        port = is.port;
+        tsih = is.tsih;
+        front = is.front;
+        rest = is.rest;
+        began_is = is.began_is;
+        done = λ (unit : ℕ) (lt : unit < units).
+            let here = there t.at unit (subst (λ (n : ℕ). unit < n) (sym is.count) lt) in
+            let one = over_at claims opening t.at seen unit here.0 left here.1 in
+            let at = is.at unit here.0 here.1 in (
+              one.0,
+              one.1,
+              one.2.0 ∙ at.place,
+              has_done claims opening (through is.port group) unit (done_at unit asks) here.0 one.0 at one.2,
+            );
+        none = is.none;
+      })
+
+  module _ (asks : List Asking) (t new : TargetValue) (is : IsOver claims opening t new) where
+    nowhere_now : new.at ≡ []
+    nowhere_now = ap (λ (x : TargetValue). x.at) is.rest
+
+    begun_is : new.begun ≡ t.begun
+    begun_is = ap (λ (x : TargetValue). x.begun) is.rest
+
+    idle_still : Idle asks t → Idle (asks ++ over ∷ []) new
+    idle_still i =
+        let none = over_none claims opening t.at is.ended.seen i.at is.ended.over in
+        let same : new.seen ≡ t.seen = is.ended.ends ∙ ap (λ (l : List Sight). t.seen ++ l) none ∙ append-nil t.seen in
+        record {
+          begun = begun_is ∙ i.begun;
+          at = nowhere_now;
+          answered = answered_more asks over new.seen (λ (unit : ℕ). refl)
+              (subst (λ (l : List Sight). AreAnswered claims opening units group asks l) (sym same) i.answered);
+        }
+
+    idle_now : Running asks t → Idle (asks ++ over ∷ []) new
+    idle_now r =
+        let all : is.ended.seen ≡ new.seen = sym (is.ended.ends ∙ ap (λ (l : List Sight). l ++ is.ended.seen) r.unseen) in
+        record {
+          begun = begun_is ∙ r.begun;
+          at = nowhere_now;
+          answered = answered_more asks over new.seen (λ (unit : ℕ). refl) (ran asks t new.seen r
+              (subst (λ (l : List Sight). AreOver claims opening t.at l) all is.ended.over));
+        }
+
+    ends : Standing asks t → Fresh (asks ++ over ∷ []) new ⊎ Idle (asks ++ over ∷ []) new
+    ends standing =
+        ⊎_elim (λ (f : Fresh asks t). inl (record {
+          begun = begun_is ∙ f.begun;
+          at = nowhere_now;
+          nothing = nothing_more asks over (λ (unit : ℕ). refl) f.nothing;
+        }))
+        (⊎_elim (λ (i : Idle asks t). inr (idle_still i)) (λ (r : Running asks t). inr (idle_now r))) standing.stage
+
+    over_on : Standing asks t → Standing (asks ++ over ∷ []) new
+    over_on standing =
+        record {
+          units_is = ap (λ (x : TargetValue). x.units) is.rest ∙ standing.units_is;
+          group_is = ap (λ (x : TargetValue). x.group) is.rest ∙ standing.group_is;
+          stage = ⊎_elim (λ (f : Fresh (asks ++ over ∷ []) new). inl f)
+              (λ (i : Idle (asks ++ over ∷ []) new). inr (inl i)) (ends standing);
+        }
+
+    pub answered_at_last : Standing asks t → AreAnswered claims opening units group (asks ++ over ∷ []) new.seen
+    answered_at_last standing =
+        ⊎_elim (λ (f : Fresh (asks ++ over ∷ []) new). inl f.nothing) (λ (i : Idle (asks ++ over ∷ []) new). i.answered)
+        (ends standing)
 
   step : (asks : List Asking) (ask : Asking) (t new : TargetValue) → Standing asks t → LeadsOn claims opening t ask new
       → Standing (asks ++ ask ∷ []) new
   step asks (began port kind (Begun tsih)) t new standing is = begins asks t new port kind tsih standing is
-  step asks (began port kind Refused) t new standing is =
-      kept asks (began port kind Refused) t new (λ (unit : ℕ). refl) is.0 standing
+  step asks (began port kind Refused) t new standing is = turned_back asks t new port kind is.0 is.1 standing
   step asks (lives tsih port answer) t new standing is =
       kept asks (lives tsih port answer) t new (λ (unit : ℕ). refl) is standing
   step asks (served None asked bytes answer) t new standing is =
@@ -436,8 +504,7 @@ module _ (claims : Claims) (opening : ℕ → UnitState) (units : ℕ) (group : 
       kept asks (reset n answer) t new
       (λ (unit : ℕ). ap (λ (x : ResetAnswer). of_unit unit n (reset_by x)) away.0 ∙ nothing_of unit n)
       away.1 standing) (cases_lt n units)
-  step asks over t new standing is =
-      subst (λ (x : TargetValue). Standing (asks ++ over ∷ []) x) (sym is.rest) (ends asks t standing)
+  step asks over t new standing is = over_on asks t new is standing
 
   led : (asks more : List Asking) (t new : TargetValue) → Standing asks t → Leads (LeadsOn claims opening) more t new
       → Standing (asks ++ more) new
@@ -448,19 +515,23 @@ module _ (claims : Claims) (opening : ℕ → UnitState) (units : ℕ) (group : 
       subst (λ (l : List Asking). Standing l new) (append_assoc asks (c ∷ []) more)
       (led (asks ++ c ∷ []) more is.0 new (step asks c t is.0 standing is.1) is.2)
 
-  pub answered_all : (asks : List Asking) (new : TargetValue) → Leads (LeadsOn claims opening) asks (unbegun units group) new
-      → AreAnswered claims opening units group asks
-  answered_all asks new is =
-      answered_by asks new (led [] asks (unbegun units group) new
+  pub answered_all : (asks : List Asking) (mid new : TargetValue) → Leads (LeadsOn claims opening) asks (unbegun units group) mid
+      → IsOver claims opening mid new
+      → AreAnswered claims opening units group (asks ++ over ∷ []) new.seen
+  answered_all asks mid new is ends =
+      answered_at_last asks mid new ends (led [] asks (unbegun units group) mid
       (record { units_is = refl; group_is = refl; stage = inl (record { begun = refl; at = refl; nothing = λ (unit : ℕ). refl }) })
       is)
 
-  pub session_of : (me : Identity) (left left' held held' : Option (List ℕ)) (after : TargetValue) (end : End)
+  pub session_of : (me : Identity) (left left' held held' : Option (List ℕ)) (after : TargetValue) (end : End) (seen : List Sight)
       → IsTranscribed (LeadsOn claims opening) units me (Login (tag_of group)) left left' held held' (unbegun units group) after end
-      → IsSession claims opening units group me left left' held held' end
-  session_of me left left' held held' after end is =
+      → seen ≡ after.seen
+      → IsSession claims opening units group me left left' held held' end seen
+  session_of me left left' held held' after end seen is same =
       record {
         after = after;
         transcribed = is;
-        answered = answered_all (asked (exchanges is.passed.transcript)) is.at_end is.passed.led;
+        seen_is = same;
+        answered = subst (λ (l : List Sight). AreAnswered claims opening units group (asked (exchanges is.passed.transcript) ++ over ∷ []) l)
+            (sym same) (answered_all (asked (exchanges is.passed.transcript)) is.at_end after is.passed.led is.told);
       }

@@ -2,4 +2,5 @@ pub mod Answering
 pub mod Attaching
 pub mod Chains
 pub mod Retiring
+pub mod Refusing
 pub mod Slots

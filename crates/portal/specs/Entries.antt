@@ -1,6 +1,6 @@
 -- Which of what a session asked are entries of a unit's history, and that these are all of its own there, in order.
 use Rattle.std.specs.Prelude.{◌≡◌, ◌⊎◌, ℕ, ◌<◌, ◌≤◌, Bool, nat_eq, if◌then◌else◌, List, [], ◌∷◌, ◌++◌, length, MatchBool}
-use Rattle.std.specs.Prelude.{Option, Some, None, Result}
+use Rattle.std.specs.Prelude.{Option, Some, None, Result, slice_get}
 use Rattle.std.specs.List.{flat_map}
 use Rattle.login.specs.declared.status.Kind.TheVariants.{Normal}
 use Rattle.reservations.specs.Nexus.{through}
@@ -17,7 +17,8 @@ use Rattle.session_rules.specs.declared.target.ResetAnswer.{ResetAnswer}
 use Rattle.session_rules.specs.declared.target.ResetAnswer.TheVariants as resets
 use Rattle.unit_state.specs.State.{UnitState}
 use Rattle.unit_state.specs.Entry.{Entry, Attach, Detach, Reset, Move, Command}
-use Rattle.unit_history.specs.Histories.{IsHistory, IsToldBehind, is_own}
+use Rattle.status.specs.Views.{counted}
+use Rattle.unit_history.specs.Histories.{IsHistory, IsToldBehind, is_own, own}
 use Rattle.portal.specs.Units.{Claims}
 
 -- a command that a unit replied to, or a reset of it that was done
@@ -52,6 +53,13 @@ done_in unit over = []
 abbrev pub done_at : ℕ → List Asking → List Done
 done_at unit asks = flat_map (done_in unit) asks
 
+-- Behind the last that it has done a session has no entry of its own but its Detach, the last of all; and none where it was gone
+-- before, as another of its nexus has attached.
+abbrev pub IsLast : ℕ → List Entry → Type 0
+IsLast session rest =
+    (counted own session rest ≡ 0)
+    ⊎ ((others : List Entry) × (counted own session others ≡ 0) × (rest ≡ others ++ Detach session ∷ []))
+
 -- a unit that opened in this state, over devices whose types claim what is said of a disk or not
 module _ (claims : Claims) (s : UnitState) where
   -- The entry behind this history is this command, and the reply is what the model gives there; or it is the reset.
@@ -78,30 +86,37 @@ module _ (claims : Claims) (s : UnitState) where
       (IsNextDone before e done (λ more. AreEntries session (before ++ e ∷ []) more behind))
       (AreEntries session (before ++ e ∷ []) done behind)
 
-  -- A session of this nexus has attached in a legal history, in which its own entries since are what it has done at the unit,
-  -- in order. Its number is the place of its Attach.
-  pub record HasDone (nexus : Nexus) (done : List Done) : Type 0 where
+  -- In this legal history a session of this nexus has attached. Its own entries since are what it has done at the unit, in order,
+  -- and its end. Its number is the place of its Attach.
+  pub record HasDone (nexus : Nexus) (done : List Done) (history : List Entry) : Type 0 where
     pub before : List Entry
     pub behind : List Entry
-    pub legal : IsHistory claims.contents s ((before ++ Attach nexus ∷ []) ++ behind)
+    pub rest : List Entry
+    pub legal : IsHistory claims.contents s history
+    pub is : history ≡ ((before ++ Attach nexus ∷ []) ++ behind) ++ rest
     pub entries : AreEntries (length before) (before ++ Attach nexus ∷ []) done behind
+    pub ends : IsLast (length before) rest
 
 -- it has done nothing at any unit
 abbrev pub HasDoneNothing : List Asking → Type 0
 HasDoneNothing asks = (unit : ℕ) → done_at unit asks ≡ []
 
--- A normal session has begun, and at each of the units it has done what stands in the unit's history: through the group of its
--- portal, as the port that its login named.
-pub record IsNormal (claims : Claims) (opening : ℕ → UnitState) (units : ℕ) (group : Group) (asks : List Asking) : Type 0 where
+-- A normal session has begun, and at each of the units it has done what stands in the unit's history, as that was seen when it
+-- left the unit: through the group of its portal, as the port that its login named.
+pub record IsNormal (claims : Claims) (opening : ℕ → UnitState) (units : ℕ) (group : Group) (asks : List Asking)
+    (seen : List (ℕ × List Entry)) : Type 0 where
   pub port : Port
   pub tsih : ℕ
   pub front : List Asking
   pub rest : List Asking
   pub began_is : asks ≡ front ++ began port Normal (Begun tsih) ∷ rest
-  pub done : (unit : ℕ) → unit < units → HasDone claims (opening unit) (through port group) (done_at unit asks)
+  pub done : (unit : ℕ) → unit < units
+      → (one : ℕ × List Entry) × (slice_get seen unit ≡ Some one) × (one.0 ≡ unit)
+      × HasDone claims (opening unit) (through port group) (done_at unit asks) one.1
   pub none : (unit : ℕ) → units ≤ unit → done_at unit asks ≡ []
 
 -- What a session has asked: it has done nothing at any unit, as where it is a discovery session or its login is refused; or it is a
--- normal session, whose commands that were replied to and whose resets are its entries of these histories, in order.
-abbrev pub AreAnswered : Claims → (ℕ → UnitState) → ℕ → Group → List Asking → Type 0
-AreAnswered claims opening units group asks = HasDoneNothing asks ⊎ IsNormal claims opening units group asks
+-- normal session, whose commands that were replied to and whose resets are its entries of the histories that were seen as it left
+-- the units, in order.
+abbrev pub AreAnswered : Claims → (ℕ → UnitState) → ℕ → Group → List Asking → List (ℕ × List Entry) → Type 0
+AreAnswered claims opening units group asks seen = HasDoneNothing asks ⊎ IsNormal claims opening units group asks seen

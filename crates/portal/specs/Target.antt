@@ -1,7 +1,6 @@
 -- The target of a session: how it begins at all units, what it asks of them, and how it is over (RFC 7143, 6.3).
-use Rattle.std.specs.Prelude.{◌≡◌, ◌≢◌, ℕ, ◌+◌, ◌<◌, ◌≤◌, Bool, true, false, List, [], ◌∷◌, length, slice_get, slice_set}
+use Rattle.std.specs.Prelude.{◌≡◌, ℕ, ◌+◌, ◌<◌, ◌≤◌, Bool, true, false, List, [], ◌∷◌, ◌++◌, length, slice_get, slice_set}
 use Rattle.std.specs.Prelude.{Option, Some, None, MatchOption, Result}
-use Rattle.std.specs.List.{AllByRecursion}
 use Rattle.identity.specs.Absent.{absent_reply}
 use Rattle.login.specs.declared.status.Kind.{Kind}
 use Rattle.login.specs.declared.status.Kind.TheVariants.{Normal, Discovery}
@@ -18,25 +17,32 @@ use Rattle.session_rules.specs.declared.target.TargetAnswer.TheVariants.{Replied
 use Rattle.session_rules.specs.declared.target.ResetAnswer.{ResetAnswer}
 use Rattle.session_rules.specs.declared.target.ResetAnswer.TheVariants as resets
 use Rattle.unit_state.specs.State.{UnitState}
-use Rattle.unit_history.specs.Calls.{HasAttached}
-use Rattle.portal.specs.Units.{Claims, IsFull, IsRetired}
+use Rattle.unit_history.specs.Calls.{HasAttached, HasNoRoom}
+use Rattle.unit_state.specs.Entry.{Entry}
+use Rattle.portal.specs.Units.{Claims, IsRetired}
 use Rattle.portal.specs.Submitted.{At, IsServed, IsResetAnswer}
 use Rattle.portal.specs.declared.live.EnterFault.{EnterFault}
 use Rattle.portal.specs.declared.live.EnterFault.TheVariants as enters
 use Rattle.portal.specs.declared.target.BeginFault.{BeginFault}
 use Rattle.portal.specs.declared.target.BeginFault.TheVariants as faults
 
+-- What was seen of a unit: its place, and a history of it.
+abbrev pub Sight : Type 0
+Sight = ℕ × List Entry
+
 -- What contracts see of it: how many units there are; the group of the portals by which its initiator came; whether the
--- session has begun; and the session at each unit in order, from its beginning to its end. A discovery session is at none.
+-- session has begun; the session at each unit in order, from its beginning to its end; and what was seen of units as it left
+-- them, or was refused there. A discovery session is at none.
 pub record TargetValue : Type 0 where
   pub units : ℕ
   pub group : Group
   pub begun : Bool
   pub at : List At
+  pub seen : List Sight
 
 -- no session has begun
 abbrev pub unbegun : ℕ → Group → TargetValue
-unbegun units group = record { units = units; group = group; begun = false; at = [] }
+unbegun units group = record { units = units; group = group; begun = false; at = []; seen = [] }
 
 -- the reply for a unit that is not there, or that there was no memory for it
 abbrev pub IsAbsent : Result ScsiCommand CdbFault → TargetAnswer → Type 0
@@ -64,12 +70,22 @@ module _ (claims : Claims) (opening : ℕ → UnitState) where
   AreAttached nexus unit [] = Unit {0}
   AreAttached nexus unit (a ∷ at) = IsAttachedTo nexus unit a × AreAttached nexus (unit + 1) at
 
-  -- it is over at a unit, and at each of these
-  abbrev pub IsOverAt : At → Type 0
-  IsOverAt a = IsRetired claims (opening a.place) a.pass
+  -- it is over at a unit, where this was seen then
+  abbrev pub IsOverAt : At → Sight → Type 0
+  IsOverAt a seen = (seen.0 ≡ a.place) × IsRetired claims (opening a.place) a.pass seen.1
 
-  abbrev pub AreOver : List At → Type 0
-  AreOver at = AllByRecursion IsOverAt at
+  -- and at each of these, in order
+  abbrev pub AreOver : List At → List Sight → Type 0
+  AreOver [] [] = Unit {0}
+  AreOver [] (one ∷ seen) = ⊥
+  AreOver (a ∷ at) [] = ⊥
+  AreOver (a ∷ at) (one ∷ seen) = IsOverAt a one × AreOver at seen
+
+  -- of what was seen so much is new, as it was over at each of these
+  pub record Leaves (at : List At) (old new : List Sight) : Type 0 where
+    pub seen : List Sight
+    pub over : AreOver at seen
+    pub ends : new ≡ old ++ seen
 
   -- A normal session is attached to all units; a discovery session serves no commands, and is attached to none (RFC 7143, 4.3).
   abbrev pub IsJoined : Kind → Nexus → ℕ → List At → Type 0
@@ -79,36 +95,34 @@ module _ (claims : Claims) (opening : ℕ → UnitState) where
   -- it has begun
   pub record HasBegun (old : TargetValue) (port : Port) (kind : Kind) (new : TargetValue) : Type 0 where
     pub name : IsPortName port
-    pub fresh : (old.begun ≡ false) × (old.at ≡ [])
+    pub fresh : (old.begun ≡ false) × (old.at ≡ []) × (old.seen ≡ [])
     pub joined : IsJoined kind (through port old.group) old.units new.at
     pub rest : new ≡ record old { begun = true; at = new.at }
 
-  -- why it was not attached to this unit: there was no room, or no memory
-  abbrev pub IsRefusedAt : Nexus → ℕ → BeginFault → Type 0
-  IsRefusedAt nexus unit faults.Begun = ⊥
-  IsRefusedAt nexus unit faults.NoPortName = ⊥
-  IsRefusedAt nexus unit (faults.NoRoom full) = (full ≡ unit) × IsFull claims (opening unit) nexus
-  IsRefusedAt nexus unit faults.NoTsih = ⊥
-  IsRefusedAt nexus unit faults.NoNumber = ⊥
-  IsRefusedAt nexus unit faults.NoMemory = Unit {0}
+  -- this was seen of this unit: behind it no session of the nexus has room
+  abbrev pub IsFullAt : Nexus → ℕ → Sight → Type 0
+  IsFullAt nexus unit seen = (seen.0 ≡ unit) × HasNoRoom claims.contents (opening unit) nexus seen.1
 
-  -- Why it may not begin: it did before; it has no name of a port; this unit had no room for one that is normal; or there was
-  -- no TSIH, no number or no memory for it, of which no fact tells.
-  abbrev pub IsCauseOf : Nexus → Kind → List At → BeginFault → Type 0
-  IsCauseOf nexus kind at faults.Begun = at ≡ []
-  IsCauseOf nexus kind at faults.NoPortName = (at ≡ []) × (IsPortName nexus.port → ⊥)
-  IsCauseOf nexus kind at (faults.NoRoom unit) =
-      (kind ≡ Normal) × (length at ≡ unit) × IsFull claims (opening unit) nexus
-  IsCauseOf nexus kind at faults.NoTsih = Unit {0}
-  IsCauseOf nexus kind at faults.NoNumber = Unit {0}
-  IsCauseOf nexus kind at faults.NoMemory = Unit {0}
+  -- Why it may not begin, and what was seen then of a unit: it did before; it has no name of a port; this unit had no room for one
+  -- that is normal; there was no TSIH or no number for it, which is asked once it is attached to all; or there was no memory.
+  abbrev pub IsCauseOf : Nexus → Kind → ℕ → List At → BeginFault → List Sight → Type 0
+  IsCauseOf nexus kind units at faults.Begun seen = (at ≡ []) × (seen ≡ [])
+  IsCauseOf nexus kind units at faults.NoPortName seen = (at ≡ []) × (seen ≡ []) × (IsPortName nexus.port → ⊥)
+  IsCauseOf nexus kind units at (faults.NoRoom unit) seen =
+      (kind ≡ Normal) × (length at ≡ unit) × ((one : Sight) × (seen ≡ one ∷ []) × IsFullAt nexus unit one)
+  IsCauseOf nexus kind units at faults.NoTsih seen = IsJoined kind nexus units at × (seen ≡ [])
+  IsCauseOf nexus kind units at faults.NoNumber seen = IsJoined kind nexus units at × (seen ≡ [])
+  IsCauseOf nexus kind units at faults.NoMemory seen = seen ≡ []
 
-  -- It may not begin: where it was attached to units, it is over at each of them.
-  pub record IsTurnedBack (nexus : Nexus) (kind : Kind) (fault : BeginFault) : Type 0 where
+  -- It may not begin: where it was attached to units, it is over at each of them. Of what was seen so much is new.
+  pub record IsTurnedBack (nexus : Nexus) (kind : Kind) (units : ℕ) (fault : BeginFault) (old new : List Sight) : Type 0 where
     pub at : List At
     pub attached : AreAttached nexus 0 at
-    pub over : AreOver at
-    pub cause : IsCauseOf nexus kind at fault
+    pub left : List Sight
+    pub over : AreOver at left
+    pub full : List Sight
+    pub cause : IsCauseOf nexus kind units at fault full
+    pub ends : new ≡ (old ++ left) ++ full
 
   -- A command of a unit is served through the session at that unit, and no other; a session that is not attached to it is gone.
   abbrev pub IsServedAt : TargetValue → ℕ → Result ScsiCommand CdbFault → List ℕ → TargetAnswer → TargetValue → Type 0
@@ -137,14 +151,19 @@ module _ (claims : Claims) (opening : ℕ → UnitState) where
 
   -- it is over at all its units
   pub record IsOver (old new : TargetValue) : Type 0 where
-    pub ended : AreOver old.at
-    pub rest : new ≡ record old { at = [] }
+    pub ended : Leaves old.at old.seen new.seen
+    pub rest : new ≡ record old { at = []; seen = new.seen }
+
+  -- It does not begin, and is as it was but for what was seen of units; one that had begun before sees no more.
+  pub record IsRefused (old : TargetValue) (port : Port) (kind : Kind) (fault : BeginFault) (new : TargetValue) : Type 0 where
+    pub turned_back : IsTurnedBack (through port old.group) kind old.units fault old.seen new.seen
+    pub again : old.begun ≡ true → new ≡ old
+    pub rest : new ≡ record old { seen = new.seen }
 
   -- where a question with its answer leads the target
   abbrev pub LeadsOn : TargetValue → Asking → TargetValue → Type 0
   LeadsOn old (began port kind (Begun tsih)) new = HasBegun old port kind new
-  LeadsOn old (began port kind Refused) new =
-      (new ≡ old) × (fault : BeginFault) × IsTurnedBack (through port old.group) kind fault
+  LeadsOn old (began port kind Refused) new = (fault : BeginFault) × IsRefused old port kind fault new
   LeadsOn old (lives tsih port answer) new = new ≡ old
   LeadsOn old (served unit asked bytes answer) new = IsAnswered old unit asked bytes answer new
   LeadsOn old (reset unit answer) new = IsReset old unit answer new

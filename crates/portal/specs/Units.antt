@@ -1,7 +1,6 @@
 -- What the calls of a session at a unit promise, said of the unit's one history (`unit_history`).
 use Rattle.std.specs.Prelude.{◌≡◌, ◌⊎◌, ℕ, Bool, List, MatchBool, Result, Ok, Err}
 use Rattle.locked_unit.specs.Calls.{Known}
-use Rattle.scsi_types.specs.Nexus.{Nexus}
 use Rattle.scsi_types.specs.ReplyValue.{ReplyValue}
 use Rattle.scsi_types.specs.declared.names.Group.{Group}
 use Rattle.scsi_types.specs.declared.command.Command.{Command as ScsiCommand}
@@ -9,7 +8,7 @@ use Rattle.scsi_types.specs.declared.command.CdbFault.{CdbFault}
 use Rattle.unit_state.specs.State.{UnitState}
 use Rattle.unit_state.specs.Entry.{Entry}
 use Rattle.unit_history.specs.Histories.{IsHistory}
-use Rattle.unit_history.specs.Calls.{HasNoRoom, HasServed, HasRefused, HasReset, WasGone, HasRetired}
+use Rattle.unit_history.specs.Calls.{HasServed, HasRefused, HasReset, WasGone, HasRetired}
 use Rattle.portal.specs.declared.units.Unserved.{Unserved}
 use Rattle.portal.specs.declared.units.Unserved.TheVariants.{ByUnit, ByDesk}
 
@@ -22,10 +21,6 @@ pub record Claims : Type 1 where
 
 -- a unit that opened in this state, over devices of which so much is known
 module _ (claims : Claims) (s : UnitState) where
-  -- there was a legal history behind which no session of this nexus has room
-  abbrev pub IsFull : Nexus → Type 0
-  IsFull nexus = (history : List Entry) × HasNoRoom claims.contents s nexus history
-
   -- What a command comes to that is submitted to this group. Where the group's desk does not take it, no unit was asked: the pass is
   -- as it was, and has seen what it had seen.
   abbrev pub IsSubmitted : Known Entry → Group → Result ScsiCommand CdbFault → List ℕ → Result ReplyValue Unserved → Known Entry
@@ -39,7 +34,9 @@ module _ (claims : Claims) (s : UnitState) where
   abbrev pub IsResetBy : Known Entry → Bool → Known Entry → Type 0
   IsResetBy old done new = MatchBool done (HasReset claims.contents s old new) (WasGone claims.contents s old new)
 
-  -- The session has ended at the unit: there was a legal history, later than all that it had seen, behind which it is not
-  -- attached; or it was gone before.
-  abbrev pub IsRetired : Known Entry → Type 0
-  IsRetired old = ((history : List Entry) × HasRetired claims.contents s old history) ⊎ ((new : Known Entry) × WasGone claims.contents s old new)
+  -- The session has ended at the unit. This was seen there: a legal history that begins with all that the session had seen, behind
+  -- which it is not attached; or, where it was gone before, one that shows that.
+  abbrev pub IsRetired : Known Entry → List Entry → Type 0
+  IsRetired old history =
+      HasRetired claims.contents s old history
+      ⊎ ((new : Known Entry) × (new.seen ≡ history) × WasGone claims.contents s old new)

@@ -72,7 +72,7 @@ impl<P: Pass> Attached<P> {
     }
 
     // Submits a command once, to the group that is believed to own the unit.
-    fn submit<R: Wait, U: LogicalUnits<P>, G: Gate>(
+    fn submit<R: Wait, U: LogicalUnits<P, H>, H: Drop, G: Gate>(
         &mut self,
         rt: &R,
         alloc: Global,
@@ -98,7 +98,7 @@ impl<P: Pass> Attached<P> {
     }
 
     /// Serves a command of the session: once more where the unit has moved.
-    pub fn serve<R: Wait, U: LogicalUnits<P>, G: Gate>(
+    pub fn serve<R: Wait, U: LogicalUnits<P, H>, H: Drop, G: Gate>(
         &mut self,
         rt: &R,
         alloc: Global,
@@ -120,7 +120,11 @@ impl<P: Pass> Attached<P> {
     }
 
     /// Resets the unit for the session.
-    pub fn reset<R: Wait, U: LogicalUnits<P>>(&mut self, rt: &R, units: &U) -> ResetAnswer
+    pub fn reset<R: Wait, U: LogicalUnits<P, H>, H: Drop>(
+        &mut self,
+        rt: &R,
+        units: &U,
+    ) -> ResetAnswer
         requires { self.old.place < U.unit_count units.now }
         ensures { IsResetAnswer U.claims U.opening self.old result self.new }
     {

@@ -1,7 +1,7 @@
 //! The controllers of an array: its units, each under its lock, and the desk of each controller.
 ghost use Rattle.std.specs.Prelude.{◌≡◌, IfOk};
 
-use crate::units::{Full, LogicalUnits, Pass, Unserved};
+use crate::units::{LogicalUnits, Pass, Unserved};
 use block_file::{Blocks, Opener};
 use forwarding::Desk;
 use numbering::Array;
@@ -9,7 +9,7 @@ use scsi_types::{Asked, Group, NoMemory, PortName, Reply};
 use std::alloc::Global;
 use std::marker::Model;
 use std::sync::Wait;
-use unit_history::{Opened, Pass as UnitPass, Units};
+use unit_history::{LegalHistory, Opened, Pass as UnitPass, Units};
 
 impl<B: Blocks, R: Blocks, O: Opener<B>, N: Array<Opened>> Pass for UnitPass<B, R, O, N> {
     ghost held = { λ p. p };
@@ -75,8 +75,10 @@ impl<B: Blocks, R: Blocks, O: Opener<B>, N: Array<Opened>> Controllers<B, R, O, 
     }
 }
 
-impl<B: Blocks, R: Blocks, O: Opener<B>, N: Array<Opened>> LogicalUnits<UnitPass<B, R, O, N>>
-    for Controllers<B, R, O, N> {
+impl<B: Blocks, R: Blocks, O: Opener<B>, N: Array<Opened>> LogicalUnits<
+    UnitPass<B, R, O, N>,
+    LegalHistory<B, R, O, N>,
+> for Controllers<B, R, O, N> {
     ghost use Rattle.unit_history.specs.Calls.{HasWorked};
     ghost use Rattle.unit_history.specs.Devices.{claims_of, devices};
 
@@ -89,8 +91,14 @@ impl<B: Blocks, R: Blocks, O: Opener<B>, N: Array<Opened>> LogicalUnits<UnitPass
 
     ghost opening = { N.opening };
 
+    ghost seen = { λ s. s };
+
     fn units(&self) -> u8 {
         self.units.count() as u8
+    }
+
+    fn in_one_history(one: &LegalHistory<B, R, O, N>, other: &LegalHistory<B, R, O, N>) {
+        one.in_one_history(other);
     }
 
     fn attach<W: Wait>(
@@ -99,11 +107,8 @@ impl<B: Blocks, R: Blocks, O: Opener<B>, N: Array<Opened>> LogicalUnits<UnitPass
         unit: u8,
         port: PortName,
         group: Group,
-    ) -> Result<UnitPass<B, R, O, N>, Full> {
-        match self.units.attach(rt, usize::from(unit), port, group) {
-            Ok(pass) => Ok(pass),
-            Err(_) => Err(Full),
-        }
+    ) -> Result<UnitPass<B, R, O, N>, LegalHistory<B, R, O, N>> {
+        self.units.attach(rt, usize::from(unit), port, group)
     }
 
     // By way of the group's desk.
@@ -132,7 +137,10 @@ impl<B: Blocks, R: Blocks, O: Opener<B>, N: Array<Opened>> LogicalUnits<UnitPass
         self.units.reset(rt, pass)
     }
 
-    fn retire<W: Wait>(&self, rt: &W, pass: UnitPass<B, R, O, N>) {
-        let _ = self.units.retire(rt, pass);
+    fn retire<W: Wait>(&self, rt: &W, pass: UnitPass<B, R, O, N>) -> LegalHistory<B, R, O, N> {
+        match self.units.retire(rt, pass) {
+            Ok(seen) => seen,
+            Err(gone) => gone.history(),
+        }
     }
 }

@@ -30,7 +30,7 @@ pub use live::{EnterFault, LiveSession, Table};
 pub use server::{Server, Socket, Stop, accept, listen};
 pub use stacks::{SmallStacks, Stacks};
 pub use target::{BeginFault, SessionTarget};
-pub use units::{Full, LogicalUnits, Pass, Unserved};
+pub use units::{LogicalUnits, Pass, Unserved};
 pub use wire::{Heard, LastSaid, Said};
 pub use witness::{Visitor, Witness};
 pub use worker::{serve_session, tag_of};

@@ -135,7 +135,7 @@ fn tell_end<R: Clock>(
 }
 
 // Serves the session of a connection, which then ends.
-fn serve_socket<R: Wait + Clock, U: LogicalUnits<P> + Drop, G: Gate + Drop, P: Pass>(
+fn serve_socket<R: Wait + Clock, U: LogicalUnits<P, H> + Drop, G: Gate + Drop, P: Pass, H: Drop>(
     rt: &R,
     alloc: Global,
     server: &Server<U, G>,
@@ -158,12 +158,13 @@ fn serve_socket<R: Wait + Clock, U: LogicalUnits<P> + Drop, G: Gate + Drop, P: P
     let is_told = server.log.is_on();
     let mut source = Heard::new(alloc, Watched::new(stream), is_told);
     let mut sink = Said::new(Watched::new(stream), is_told);
-    let (end, visitor) = serve_session::<
+    let (end, visitor, _seen) = serve_session::<
         R,
         U,
         G,
         Socket,
         P,
+        H,
         Heard<Watched<&TcpStream>>,
         Said<Watched<&TcpStream>>,
     >(
@@ -185,7 +186,7 @@ fn serve_socket<R: Wait + Clock, U: LogicalUnits<P> + Drop, G: Gate + Drop, P: P
 }
 
 // Serves the session of a connection, and tells where there was no memory for it.
-fn work<R: Wait + Clock, U: LogicalUnits<P> + Drop, G: Gate + Drop, P: Pass>(
+fn work<R: Wait + Clock, U: LogicalUnits<P, H> + Drop, G: Gate + Drop, P: Pass, H: Drop>(
     rt: &R,
     alloc: Global,
     server: &Server<U, G>,
@@ -196,7 +197,7 @@ fn work<R: Wait + Clock, U: LogicalUnits<P> + Drop, G: Gate + Drop, P: Pass>(
     let _ = stream.set_nodelay(true);
     let _ = stream.set_read_timeout(Some(Duration::from_secs(LOGIN_SILENCE)));
     let path = path_of(stream, group);
-    if serve_socket::<R, U, G, P>(rt, alloc, server, group, socket, path).is_err() {
+    if serve_socket::<R, U, G, P, H>(rt, alloc, server, group, socket, path).is_err() {
         server
             .log
             .tell(rt, &Event::ConnectionEnded(path, Why::NoMemory));
@@ -206,9 +207,10 @@ fn work<R: Wait + Clock, U: LogicalUnits<P> + Drop, G: Gate + Drop, P: Pass>(
 // Starts the worker of a connection. Where there is no memory or no thread for it, the connection ends.
 fn start<
     R: Threads + Wait + Clock + Clone + Drop + Send + 'static,
-    U: LogicalUnits<P> + Drop + Send + Sync + 'static,
+    U: LogicalUnits<P, H> + Drop + Send + Sync + 'static,
     G: Gate + Drop + Send + Sync + 'static,
     P: Pass + Send + 'static,
+    H: Drop + Send + 'static,
     S: Stacks,
 >(
     rt: &R,
@@ -222,7 +224,7 @@ fn start<
     let server = Arc::try_clone(server)?;
     let mine = rt.clone()?;
     let work = move || {
-        work::<R, U, G, P>(&mine, alloc, &server, group, &socket);
+        work::<R, U, G, P, H>(&mine, alloc, &server, group, &socket);
         socket.shut();
     };
     let _worker: JoinHandle<()> = Builder::new()
@@ -254,9 +256,10 @@ fn unaccepted(e: &io::Error) -> Resource {
 /// descriptor, or by a peer that went away, is no end; nor is a connection for which there is no thread, which is closed.
 pub fn accept<
     R: Threads + Wait + Clock + Clone + Drop + Send + 'static,
-    U: LogicalUnits<P> + Drop + Send + Sync + 'static,
+    U: LogicalUnits<P, H> + Drop + Send + Sync + 'static,
     G: Gate + Drop + Send + Sync + 'static,
     P: Pass + Send + 'static,
+    H: Drop + Send + 'static,
     S: Stacks,
 >(
     rt: &R,
@@ -270,7 +273,9 @@ pub fn accept<
     let mut is_told = false;
     for stream in listener.incoming() {
         let wanting = match stream {
-            Ok(stream) => match start::<R, U, G, P, S>(rt, alloc, server, group, stream, stacks) {
+            Ok(stream) => match start::<R, U, G, P, H, S>(
+                rt, alloc, server, group, stream, stacks,
+            ) {
                 Ok(()) => None,
                 Err(e) => Some(wanted(&e)),
             },
@@ -294,9 +299,10 @@ pub fn accept<
 /// Starts the accept loop of a portal of a group in a thread of its own. The workers of its connections have these stacks.
 pub fn listen<
     R: Threads + Wait + Clock + Clone + Drop + Send + 'static,
-    U: LogicalUnits<P> + Drop + Send + Sync + 'static,
+    U: LogicalUnits<P, H> + Drop + Send + Sync + 'static,
     G: Gate + Drop + Send + Sync + 'static,
     P: Pass + Send + 'static,
+    H: Drop + Send + 'static,
     S: Stacks + Drop + Send + 'static,
 >(
     rt: &R,
@@ -310,7 +316,7 @@ pub fn listen<
     let mine = rt.clone()?;
     let mut stacks = stacks;
     let work = move || {
-        accept::<R, U, G, P, S>(&mine, alloc, &listener, &server, group, &mut stacks)
+        accept::<R, U, G, P, H, S>(&mine, alloc, &listener, &server, group, &mut stacks)
     };
     Builder::new().stack_size(STACK).spawn(rt, work)
 }

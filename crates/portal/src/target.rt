@@ -1,15 +1,17 @@
 //! The target of one session: its passes of all units.
-ghost use Rattle.std.specs.Prelude.{◌≡◌, ◌<◌, ◌≤◌, ◌↔◌, [], false, All, IfErr, IfOk, IsTrue, length, vec_len};
+ghost use Rattle.std.specs.Prelude.{◌≡◌, ◌+◌, ◌<◌, ◌≤◌, ◌↔◌, ◌∷◌, ◌++◌, [], false, All, IfErr, IfOk, IfSome, IsTrue, MatchOption};
+ghost use Rattle.std.specs.Prelude.{length, map, vec_capacity};
 ghost use Rattle.reservations.specs.Nexus.{IsPortName, through};
-ghost use Rattle.portal.specs.Target.{AreAttached, AreOver, IsOverAt, IsAbsent, IsAttachedTo, IsJoined, IsRefusedAt, IsTurnedBack};
+ghost use Rattle.portal.specs.Target.{IsAbsent, IsAttachedTo, IsFullAt, IsJoined, IsOverAt, IsRefused, IsTurnedBack, Leaves};
 ghost use Rattle.portal.specs.Target.{HasBegun, IsServedAt, IsResetIn, unbegun};
+ghost use Rattle.portal.specs.declared.target.BeginFault.TheVariants as faults;
 
 use crate::attached::Attached;
 use crate::connection::Connection;
 use crate::device::TargetDevice;
 use crate::gate::Gate;
 use crate::live::EnterFault;
-use crate::units::{Full, LogicalUnits, Pass};
+use crate::units::{LogicalUnits, Pass};
 use identity::absent;
 use login::Kind;
 use scsi_types::{Asked, Group, NoMemory, PortName};
@@ -61,15 +63,16 @@ impl From<EnterFault> for BeginFault {
 }
 
 /// What a session's worker asks: it reaches the units by the session's passes, which it has from the session's beginning to
-/// its end.
+/// its end. What was seen of the units then stays.
 #[derive(Drop)]
 pub struct SessionTarget<
     'a,
     R: Wait,
-    U: LogicalUnits<P> + Drop,
+    U: LogicalUnits<P, H> + Drop,
     G: Gate + Drop,
     C: Connection + Drop,
     P: Pass,
+    H: Drop,
 > {
     rt: &'a R,
     alloc: Global,
@@ -84,18 +87,34 @@ pub struct SessionTarget<
     begun: bool,
     // The session at each unit in order.
     at: Vec<Attached<P>>,
+    // What was seen of units that it has left, or at which it was refused. There is room for the others.
+    seen: Vec<H>,
 }
 
-impl<'a, R: Wait, U: LogicalUnits<P> + Drop, G: Gate + Drop, C: Connection + Drop, P: Pass> Model
-    for SessionTarget<'a, R, U, G, C, P> {
-    ghost use Rattle.std.specs.Prelude.{All, ◌<◌};
+impl<
+    'a,
+    R: Wait,
+    U: LogicalUnits<P, H> + Drop,
+    G: Gate + Drop,
+    C: Connection + Drop,
+    P: Pass,
+    H: Drop,
+> Model for SessionTarget<'a, R, U, G, C, P, H> {
+    ghost use Rattle.std.specs.Prelude.{All, ◌+◌, ◌<◌, ◌≤◌, length, map, vec_capacity};
     ghost use Rattle.portal.specs.Target.{TargetValue};
 
     ghost Value = { TargetValue };
 
-    ghost view = { λ t. record { units = U.unit_count t.device.now.units; group = t.group; begun = t.begun; at = t.at.items } };
+    ghost view = { λ t. record {
+      units = U.unit_count t.device.now.units;
+      group = t.group;
+      begun = t.begun;
+      at = t.at.items;
+      seen = map U.seen t.seen.items;
+    } };
 
-    ghost invariant = { λ t. All (λ a. a.place < U.unit_count t.device.now.units) t.at.items };
+    ghost invariant = { λ t. All (λ a. a.place < U.unit_count t.device.now.units) t.at.items
+        × (length t.seen.items + length t.at.items ≤ vec_capacity t.seen) };
 }
 
 // Whether these name an initiator port: a name of 1 to 223 bytes, and an ISID of six.
@@ -105,8 +124,8 @@ fn is_port_name(name: &[u8], isid: u64) -> bool
     !name.is_empty() && name.len() <= 223 && isid < 1 << 48
 }
 
-// Attaches a session to a unit.
-fn attach_to<R: Wait, U: LogicalUnits<P>, P: Pass>(
+// Attaches a session to a unit. Refused, this was seen of a unit that is full, or there was no memory.
+fn attach_to<R: Wait, U: LogicalUnits<P, H>, P: Pass, H: Drop>(
     rt: &R,
     alloc: Global,
     units: &U,
@@ -114,63 +133,100 @@ fn attach_to<R: Wait, U: LogicalUnits<P>, P: Pass>(
     name: &[u8],
     isid: u64,
     group: Group,
-) -> Result<Attached<P>, BeginFault>
+) -> Result<Attached<P>, Option<H>>
     requires unit { unit < U.unit_count units.now }
     requires name { IsPortName (record { name = name.now; isid = isid }) }
     ensures attached { IfOk result (IsAttachedTo U.claims U.opening
         (through (record { name = name.now; isid = isid }) group) unit) }
-    ensures full { IfErr result (IsRefusedAt U.claims U.opening
-        (through (record { name = name.now; isid = isid }) group) unit) }
+    ensures full { IfErr result (λ full. IfSome full (λ s. IsFullAt U.claims U.opening
+        (through (record { name = name.now; isid = isid }) group) unit (U.seen s))) }
 {
-    let port = PortName::new(name.to_vec(alloc)?, isid);
-    match units.attach(rt, unit, port, group) {
+    let Ok(name) = name.to_vec(alloc) else {
+        return Err(None);
+    };
+    match units.attach(rt, unit, PortName::new(name, isid), group) {
         Ok(pass) => Ok(Attached::new(pass, group)),
-        Err(Full) => Err(BeginFault::NoRoom(unit)),
+        Err(seen) => Err(Some(seen)),
     }
 }
 
-// Ends a session at a unit.
-fn retire<R: Wait, U: LogicalUnits<P>, P: Pass>(rt: &R, units: &U, attached: Attached<P>)
+// Ends a session at a unit: what was seen there.
+fn retire<R: Wait, U: LogicalUnits<P, H>, P: Pass, H: Drop>(
+    rt: &R,
+    units: &U,
+    attached: Attached<P>,
+) -> H
     requires { attached.place < U.unit_count units.now }
-    ensures { IsOverAt U.claims U.opening attached }
+    ensures { IsOverAt U.claims U.opening attached (U.seen result) }
 {
-    units.retire(rt, attached.into_pass());
+    units.retire(rt, attached.into_pass())
 }
 
-// Ends a session at each of these units.
-fn retire_all<R: Wait, U: LogicalUnits<P>, P: Pass>(rt: &R, units: &U, attached: Vec<Attached<P>>)
-    requires { All (λ a. a.place < U.unit_count units.now) attached.items }
-    ensures { AreOver U.claims U.opening attached.items }
+// Ends a session at each of these units, and keeps what was seen there.
+fn retire_all<R: Wait, U: LogicalUnits<P, H>, P: Pass, H: Drop>(
+    rt: &R,
+    units: &U,
+    attached: Vec<Attached<P>>,
+    seen: &mut Vec<H>,
+)
+    requires placed { All (λ a. a.place < U.unit_count units.now) attached.items }
+    requires room { length seen.old.items + length attached.items ≤ vec_capacity seen.old }
+    ensures over { Leaves U.claims U.opening attached.items (map U.seen seen.old.items) (map U.seen seen.new.items) }
+    ensures room { length seen.new.items ≡ length seen.old.items + length attached.items }
+    ensures capacity { vec_capacity seen.new ≡ vec_capacity seen.old }
 {
-    for one in attached {
-        retire(rt, units, one);
+    let mut attached = attached;
+    'units: while !attached.is_empty() {
+        let one = attached.remove(0);
+        seen.push_reserved(retire(rt, units, one));
     }
 }
 
-// Attaches a normal session to all units in order. Where one refuses, it is over at those before.
-fn attach_all<R: Wait, U: LogicalUnits<P>, P: Pass>(
+// Why a session was refused at this unit, of which this was seen, which is kept; or there was no memory.
+fn refused_at<S: Drop>(unit: u8, full: Option<S>, seen: &mut Vec<S>) -> BeginFault
+    requires { length seen.old.items < vec_capacity seen.old }
+    ensures { MatchOption full ((result ≡ faults.NoMemory) × (seen.new.items ≡ seen.old.items))
+        (λ one. (result ≡ faults.NoRoom unit) × (seen.new.items ≡ seen.old.items ++ one ∷ [])) }
+{
+    match full {
+        Some(one) => {
+            seen.push_reserved(one);
+            BeginFault::NoRoom(unit)
+        }
+        None => BeginFault::NoMemory,
+    }
+}
+
+// Attaches a normal session to all units in order. Where one refuses, it is over at those before. What was seen then is kept.
+fn attach_all<R: Wait, U: LogicalUnits<P, H>, P: Pass, H: Drop>(
     rt: &R,
     alloc: Global,
     units: &U,
     name: &[u8],
     isid: u64,
     group: Group,
+    seen: &mut Vec<H>,
 ) -> Result<Vec<Attached<P>>, BeginFault>
     requires name { IsPortName (record { name = name.now; isid = isid }) }
+    requires room { length seen.old.items + U.unit_count units.now ≤ vec_capacity seen.old }
     ensures joined { IfOk result (λ v. IsJoined U.claims U.opening Kind.Normal
         (through (record { name = name.now; isid = isid }) group) (U.unit_count units.now) v.items) }
     ensures placed { IfOk result (λ v. All (λ a. a.place < U.unit_count units.now) v.items) }
-    ensures turned_back { IfErr result (IsTurnedBack U.claims U.opening
-        (through (record { name = name.now; isid = isid }) group) Kind.Normal) }
+    ensures unseen { IfOk result (λ v. seen.new ≡ seen.old) }
+    ensures turned_back { IfErr result (λ fault. IsTurnedBack U.claims U.opening
+        (through (record { name = name.now; isid = isid }) group) Kind.Normal (U.unit_count units.now) fault
+        (map U.seen seen.old.items) (map U.seen seen.new.items)) }
 {
     let count = units.units();
-    let mut attached = Vec::with_capacity(alloc, usize::from(count))?;
+    let Ok(mut attached) = Vec::with_capacity(alloc, usize::from(count)) else {
+        return Err(BeginFault::NoMemory);
+    };
     for unit in 0..count {
         match attach_to(rt, alloc, units, unit, name, isid, group) {
             Ok(one) => attached.push_reserved(one),
-            Err(fault) => {
-                retire_all(rt, units, attached);
-                return Err(fault);
+            Err(full) => {
+                retire_all(rt, units, attached, seen);
+                return Err(refused_at(unit, full, seen));
             }
         }
     }
@@ -190,11 +246,12 @@ fn turn_away(alloc: Global, asked: &Asked) -> TargetAnswer
 impl<
     'a,
     R: Wait,
-    U: LogicalUnits<P> + Drop,
+    U: LogicalUnits<P, H> + Drop,
     G: Gate + Drop,
     C: Connection + Drop,
     P: Pass,
-> SessionTarget<'a, R, U, G, C, P> {
+    H: Drop,
+> SessionTarget<'a, R, U, G, C, P, H> {
     /// The target of a session that has not begun, which comes over this connection by the portals of this group.
     pub fn new(
         rt: &'a R,
@@ -202,7 +259,7 @@ impl<
         device: &'a TargetDevice<U, G, C>,
         group: Group,
         connection: C,
-    ) -> SessionTarget<'a, R, U, G, C, P>
+    ) -> SessionTarget<'a, R, U, G, C, P, H>
         ensures { result ≡ unbegun (U.unit_count device.now.units) group }
     {
         SessionTarget {
@@ -214,45 +271,82 @@ impl<
             number: None,
             begun: false,
             at: Vec::new(alloc),
+            seen: Vec::new(alloc),
         }
     }
 
-    // The session begins to live: its TSIH.
-    fn enter(&mut self, port: PortName, kind: Kind, connection: C) -> Result<u16, EnterFault>
-        ensures same { self.new ≡ self.old }
-        ensures handle { IfOk result (λ tsih. 0 < tsih) }
+    // The session begins to live: its number and its TSIH.
+    fn enter(&self, port: PortName, kind: Kind, connection: C) -> Result<(u64, u16), EnterFault>
+        ensures { IfOk result (λ r. 0 < r.1) }
     {
         connection.settle();
         let mut guard = self.device.sessions.lock(self.rt);
-        let (number, tsih) = guard.enter(port, self.group, kind, connection)?;
-        self.number = Some(number);
-        Ok(tsih)
+        guard.enter(port, self.group, kind, connection)
     }
 
     // Attaches a normal session to all units; then it begins to live.
     fn join(&mut self, name: &[u8], isid: u64, connection: C) -> Result<u16, BeginFault>
-        requires fresh { (self.old.begun ≡ false) × (self.old.at ≡ []) }
+        requires fresh { (self.old.begun ≡ false) × (self.old.at ≡ []) × (self.old.seen ≡ []) }
         requires name { IsPortName (record { name = name.now; isid = isid }) }
         ensures begun { IfOk result (λ tsih. (0 < tsih) × HasBegun U.claims U.opening self.old
             (record { name = name.now; isid = isid }) Kind.Normal self.new) }
-        ensures refused { IfErr result (λ fault. (self.new ≡ self.old)
-            × IsTurnedBack U.claims U.opening (through (record { name = name.now; isid = isid }) self.old.group)
-            Kind.Normal fault) }
+        ensures refused { IfErr result (λ fault. IsRefused U.claims U.opening self.old
+            (record { name = name.now; isid = isid }) Kind.Normal fault self.new) }
     {
-        let port = PortName::new(name.to_vec(self.alloc)?, isid);
+        let Ok(own_name) = name.to_vec(self.alloc) else {
+            return Err(BeginFault::NoMemory);
+        };
         let units = &self.device.units;
+        let Ok(seen) = Vec::with_capacity(self.alloc, usize::from(units.units())) else {
+            return Err(BeginFault::NoMemory);
+        };
+        self.seen = seen;
         let _turn = self.device.beginning.lock(self.rt);
-        let at = attach_all(self.rt, self.alloc, units, name, isid, self.group)?;
-        match self.enter(port, Kind::Normal, connection) {
-            Ok(tsih) => {
+        let at = match attach_all(
+            self.rt,
+            self.alloc,
+            units,
+            name,
+            isid,
+            self.group,
+            &mut self.seen,
+        ) {
+            Ok(at) => at,
+            Err(fault) => return Err(fault),
+        };
+        match self.enter(PortName::new(own_name, isid), Kind::Normal, connection) {
+            Ok((number, tsih)) => {
+                self.number = Some(number);
                 self.begun = true;
                 self.at = at;
                 Ok(tsih)
             }
             Err(fault) => {
-                retire_all(self.rt, units, at);
+                retire_all(self.rt, units, at, &mut self.seen);
                 Err(BeginFault::from(fault))
             }
+        }
+    }
+
+    // A discovery session, which is attached to no unit, begins to live.
+    fn join_none(&mut self, name: &[u8], isid: u64, connection: C) -> Result<u16, BeginFault>
+        requires fresh { (self.old.begun ≡ false) × (self.old.at ≡ []) × (self.old.seen ≡ []) }
+        requires name { IsPortName (record { name = name.now; isid = isid }) }
+        ensures begun { IfOk result (λ tsih. (0 < tsih) × HasBegun U.claims U.opening self.old
+            (record { name = name.now; isid = isid }) Kind.Discovery self.new) }
+        ensures refused { IfErr result (λ fault. IsRefused U.claims U.opening self.old
+            (record { name = name.now; isid = isid }) Kind.Discovery fault self.new) }
+    {
+        let Ok(own_name) = name.to_vec(self.alloc) else {
+            return Err(BeginFault::NoMemory);
+        };
+        match self.enter(PortName::new(own_name, isid), Kind::Discovery, connection) {
+            Ok((number, tsih)) => {
+                self.number = Some(number);
+                self.begun = true;
+                Ok(tsih)
+            }
+            Err(fault) => Err(BeginFault::from(fault)),
         }
     }
 
@@ -261,14 +355,13 @@ impl<
     pub fn try_begin(&mut self, name: &[u8], isid: u64, kind: Kind) -> Result<u16, BeginFault>
         ensures begun { IfOk result (λ tsih. (0 < tsih) × HasBegun U.claims U.opening self.old
             (record { name = name.now; isid = isid }) kind self.new) }
-        ensures refused { IfErr result (λ fault. (self.new ≡ self.old)
-            × IsTurnedBack U.claims U.opening (through (record { name = name.now; isid = isid }) self.old.group)
-            kind fault) }
+        ensures refused { IfErr result (λ fault. IsRefused U.claims U.opening self.old
+            (record { name = name.now; isid = isid }) kind fault self.new) }
     {
         let Some(connection) = self.connection.take() else {
             return Err(BeginFault::Begun);
         };
-        if self.begun || !self.at.is_empty() {
+        if self.begun || !self.at.is_empty() || !self.seen.is_empty() {
             return Err(BeginFault::Begun);
         }
         if !is_port_name(name, isid) {
@@ -276,13 +369,15 @@ impl<
         }
         match kind {
             Kind::Normal => self.join(name, isid, connection),
-            Kind::Discovery => {
-                let port = PortName::new(name.to_vec(self.alloc)?, isid);
-                let tsih = self.enter(port, Kind::Discovery, connection)?;
-                self.begun = true;
-                Ok(tsih)
-            }
+            Kind::Discovery => self.join_none(name, isid, connection),
         }
+    }
+
+    /// What was seen of the units as the session left them, or was refused there.
+    pub fn into_seen(self) -> Vec<H>
+        ensures { map U.seen result.items ≡ self.entry.seen }
+    {
+        self.seen
     }
 
     /// Whether the session has begun, and no other one has taken its place.
@@ -323,8 +418,15 @@ impl<
     }
 }
 
-impl<'a, R: Wait, U: LogicalUnits<P> + Drop, G: Gate + Drop, C: Connection + Drop, P: Pass> Target
-    for SessionTarget<'a, R, U, G, C, P> {
+impl<
+    'a,
+    R: Wait,
+    U: LogicalUnits<P, H> + Drop,
+    G: Gate + Drop,
+    C: Connection + Drop,
+    P: Pass,
+    H: Drop,
+> Target for SessionTarget<'a, R, U, G, C, P, H> {
     ghost use Rattle.portal.specs.Target.{LeadsOn};
 
     ghost leads = { LeadsOn U.claims U.opening };
@@ -348,7 +450,7 @@ impl<'a, R: Wait, U: LogicalUnits<P> + Drop, G: Gate + Drop, C: Connection + Dro
 
     fn end(&mut self) {
         let at = mem::replace(&mut self.at, Vec::new(self.alloc));
-        retire_all(self.rt, &self.device.units, at);
+        retire_all(self.rt, &self.device.units, at, &mut self.seen);
         if let Some(number) = self.number.take() {
             self.device.sessions.lock(self.rt).leave(number);
         }

@@ -1,21 +1,18 @@
 //! The units of an array, as a session reaches them.
-ghost use Rattle.std.specs.Prelude.{◌≡◌, ◌<◌, ℕ, IfOk, OnErr};
+ghost use Rattle.std.specs.Prelude.{◌≡◌, ◌<◌, ◌⊎◌, ℕ, List, IfOk, IfErr};
+ghost use mathlib.Core.List.{IsPrefix};
 ghost use Rattle.reservations.specs.Nexus.{IsPortName, through};
 ghost use Rattle.unit_state.specs.State.{UnitState};
 ghost use Rattle.locked_unit.specs.Calls.{PlacedPass};
 ghost use Rattle.unit_state.specs.Entry.{Entry};
-ghost use Rattle.unit_history.specs.Calls.{HasAttached};
-ghost use Rattle.portal.specs.Units.{Claims, IsFull, IsSubmitted, IsResetBy, IsRetired};
+ghost use Rattle.unit_history.specs.Calls.{HasAttached, HasNoRoom};
+ghost use Rattle.portal.specs.Units.{Claims, IsSubmitted, IsResetBy, IsRetired};
 
 use forwarding::DeskFault;
 use scsi_types::{Asked, Group, PortName, Reply};
 use std::alloc::Global;
 use std::sync::Wait;
 use unit_history::Refused;
-
-/// The unit has no room for a session.
-#[derive(Clone, Copy, Debug, PartialEq, Eq)]
-pub struct Full;
 
 /// Why a command that was submitted has no reply.
 #[derive(Clone, Copy, Debug)]
@@ -37,7 +34,8 @@ pub trait Pass: Drop {
 }
 
 /// The units of an array, which all threads share. Each has one history, and what a session does at a unit is an entry there.
-pub trait LogicalUnits<P: Pass> {
+/// What was seen of the history of a unit is an `H`: nothing but a call of the units gives one.
+pub trait LogicalUnits<P: Pass, H: Drop> {
     /// How many units there are, from unit 0 on.
     ghost unit_count: { Self → ℕ };
 
@@ -47,16 +45,26 @@ pub trait LogicalUnits<P: Pass> {
     /// The state that the unit at a place opened with.
     ghost opening: { ℕ → UnitState };
 
+    /// The place of the unit, and the entries that were seen.
+    ghost seen: { H → ℕ × List Entry };
+
     fn units(&self) -> u8
         ensures { result ≡ unit_count self.now };
 
-    /// Attaches a session of this port through this group to a unit; one that its nexus had there ends.
-    fn attach<R: Wait>(&self, rt: &R, unit: u8, port: PortName, group: Group) -> Result<P, Full>
+    /// All that is seen of one unit stands in one history: of two such, one begins the other. It does nothing.
+    fn in_one_history(one: &H, other: &H)
+        requires { (seen other.now).0 ≡ (seen one.now).0 }
+        ensures { IsPrefix (seen one.now).1 (seen other.now).1 ⊎ IsPrefix (seen other.now).1 (seen one.now).1 };
+
+    /// Attaches a session of this port through this group to a unit; one that its nexus had there ends. Refused, there is no room
+    /// for it: what was seen of the unit shows that.
+    fn attach<R: Wait>(&self, rt: &R, unit: u8, port: PortName, group: Group) -> Result<P, H>
         requires name { IsPortName port }
         requires unit { unit < unit_count self.now }
         ensures place { IfOk result (λ p. (P.held p).place ≡ unit) }
         ensures attached { IfOk result (λ p. HasAttached claims.contents (opening unit) (through port group) (P.held p).pass) }
-        ensures full { OnErr result (IsFull claims (opening unit) (through port group)) };
+        ensures full { IfErr result (λ s. ((seen s).0 ≡ unit)
+            × HasNoRoom claims.contents (opening unit) (through port group) (seen s).1) };
 
     /// Submits a command of the session to a group.
     fn serve<R: Wait>(
@@ -79,8 +87,9 @@ pub trait LogicalUnits<P: Pass> {
         ensures place { (P.held result.0).place ≡ (P.held pass).place }
         ensures end { IsResetBy claims (opening (P.held pass).place) (P.held pass).pass result.1 (P.held result.0).pass };
 
-    /// Ends the session at the unit.
-    fn retire<R: Wait>(&self, rt: &R, pass: P)
+    /// Ends the session at the unit: what was seen there shows that it is over.
+    fn retire<R: Wait>(&self, rt: &R, pass: P) -> H
         requires unit { (P.held pass).place < unit_count self.now }
-        ensures { IsRetired claims (opening (P.held pass).place) (P.held pass).pass };
+        ensures place { (seen result).0 ≡ (P.held pass).place }
+        ensures end { IsRetired claims (opening (P.held pass).place) (P.held pass).pass (seen result).1 };
 }

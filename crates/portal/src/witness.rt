@@ -1,5 +1,5 @@
 //! The target of one session, of which the log is told what happens.
-ghost use Rattle.std.specs.Prelude.{◌≡◌};
+ghost use Rattle.std.specs.Prelude.{◌≡◌, map};
 ghost use Rattle.portal.specs.Target.{unbegun};
 
 use crate::connection::Connection;
@@ -13,7 +13,6 @@ use scsi_types::{Asked, Status};
 use session::{BeginAnswer, ResetAnswer, Target, TargetAnswer};
 use std::alloc::Global;
 use std::marker::Model;
-use std::mem;
 use std::sync::Wait;
 use std::time::Clock;
 
@@ -67,12 +66,13 @@ struct Deed {
 pub struct Witness<
     'a,
     R: Wait + Clock,
-    U: LogicalUnits<P> + Drop,
+    U: LogicalUnits<P, H> + Drop,
     G: Gate + Drop,
     C: Connection + Drop,
     P: Pass,
+    H: Drop,
 > {
-    target: SessionTarget<'a, R, U, G, C, P>,
+    target: SessionTarget<'a, R, U, G, C, P, H>,
     rt: &'a R,
     alloc: Global,
     log: &'a Log,
@@ -83,11 +83,12 @@ pub struct Witness<
 impl<
     'a,
     R: Wait + Clock,
-    U: LogicalUnits<P> + Drop,
+    U: LogicalUnits<P, H> + Drop,
     G: Gate + Drop,
     C: Connection + Drop,
     P: Pass,
-> Model for Witness<'a, R, U, G, C, P> {
+    H: Drop,
+> Model for Witness<'a, R, U, G, C, P, H> {
     ghost use Rattle.portal.specs.Target.{TargetValue};
 
     ghost Value = { TargetValue };
@@ -98,19 +99,20 @@ impl<
 impl<
     'a,
     R: Wait + Clock,
-    U: LogicalUnits<P> + Drop,
+    U: LogicalUnits<P, H> + Drop,
     G: Gate + Drop,
     C: Connection + Drop,
     P: Pass,
-> Witness<'a, R, U, G, C, P> {
+    H: Drop,
+> Witness<'a, R, U, G, C, P, H> {
     /// The target of a session that has not begun, which came by this path.
     pub fn new(
         rt: &'a R,
         alloc: Global,
-        target: SessionTarget<'a, R, U, G, C, P>,
+        target: SessionTarget<'a, R, U, G, C, P, H>,
         log: &'a Log,
         path: Path,
-    ) -> Witness<'a, R, U, G, C, P>
+    ) -> Witness<'a, R, U, G, C, P, H>
         ensures { result ≡ target.entry }
     {
         Witness {
@@ -123,9 +125,11 @@ impl<
         }
     }
 
-    /// Whose session it was.
-    pub fn take_visitor(&mut self) -> Visitor {
-        mem::replace(&mut self.visitor, Visitor::nobody(self.alloc))
+    /// Whose session it was, and what was seen of the units as it left them, or was refused there.
+    pub fn into_parts(self) -> (Visitor, Vec<H>)
+        ensures { map U.seen result.1.items ≡ self.entry.seen }
+    {
+        (self.visitor, self.target.into_seen())
     }
 
     // Keeps whose session is to begin.
@@ -212,11 +216,12 @@ fn kind_of(kind: Kind) -> event_log::Kind {
 impl<
     'a,
     R: Wait + Clock,
-    U: LogicalUnits<P> + Drop,
+    U: LogicalUnits<P, H> + Drop,
     G: Gate + Drop,
     C: Connection + Drop,
     P: Pass,
-> Target for Witness<'a, R, U, G, C, P> {
+    H: Drop,
+> Target for Witness<'a, R, U, G, C, P, H> {
     ghost use Rattle.portal.specs.Target.{LeadsOn};
 
     ghost leads = { LeadsOn U.claims U.opening };

@@ -1,5 +1,5 @@
 //! What a session's worker runs.
-ghost use Rattle.std.specs.Prelude.{◌≡◌, [], IfOk, OnErr};
+ghost use Rattle.std.specs.Prelude.{◌≡◌, [], map, IfOk, OnErr};
 ghost use Rattle.session_rules.specs.declared.end.End.TheVariants.{InputFailed, OutputFailed};
 ghost use Rattle.session.specs.Transcript.{IsFailureOf};
 ghost use Rattle.portal.specs.Worker.{IsSession, tag_of};
@@ -28,15 +28,17 @@ pub fn tag_of(group: Group) -> u16
 }
 
 /// Serves a session that comes by the portals of a group over a connection, from the first byte of its login to its end.
-/// Refused for want of memory, it has read, written and asked nothing. It says how the session ended, and whose it was; of what
-/// happens meanwhile the log is told.
+/// Refused for want of memory, it has read, written and asked nothing. It says how the session ended, and whose it was, and hands
+/// out what was seen of each unit as the session left it, or was refused there: of what several sessions have so seen of a unit, one
+/// history begins the other (`LogicalUnits::in_one_history`). Of what happens meanwhile the log is told.
 #[tactic(auto, using(crate::proofs::Answering::session_of))]
 pub fn serve_session<
     R: Wait + Clock,
-    U: LogicalUnits<P> + Drop,
+    U: LogicalUnits<P, H> + Drop,
     G: Gate + Drop,
     C: Connection + Drop,
     P: Pass,
+    H: Drop,
     S: Source,
     K: Sink,
 >(
@@ -50,14 +52,14 @@ pub fn serve_session<
     me: &Identity<'_>,
     log: &Log,
     path: Path,
-) -> Result<(End, Visitor), NoMemory>
+) -> Result<(End, Visitor, Vec<H>), NoMemory>
     ensures served { IfOk result (λ r. IsSession U.claims U.opening (U.unit_count device.now.units) group me.now
-        (S.left source.old) (S.left source.new) (K.held sink.old) (K.held sink.new) r.0) }
+        (S.left source.old) (S.left source.new) (K.held sink.old) (K.held sink.new) r.0 (map U.seen r.2.items)) }
     ensures input_failed { IfOk result (λ r. IsFailureOf InputFailed (S.failures source.old) (S.failures source.new) r.0) }
     ensures output_failed { IfOk result (λ r. IsFailureOf OutputFailed (K.failures sink.old) (K.failures sink.new) r.0) }
     ensures no_memory { OnErr result ((source.new ≡ source.old) × (sink.new ≡ sink.old)) }
 {
-    let target = SessionTarget::<R, U, G, C, P>::new(rt, alloc, device, group, connection);
+    let target = SessionTarget::<R, U, G, C, P, H>::new(rt, alloc, device, group, connection);
     let mut target = Witness::new(rt, alloc, target, log, path);
     let end = serve_stream(
         alloc,
@@ -67,6 +69,6 @@ pub fn serve_session<
         Opening::Login(tag_of(group)),
         me,
     )?;
-    let visitor = target.take_visitor();
-    Ok((end, visitor))
+    let (visitor, seen) = target.into_parts();
+    Ok((end, visitor, seen))
 }

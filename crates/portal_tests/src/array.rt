@@ -21,7 +21,7 @@ use std::sync::{Arc, Wait};
 use std::test::Fail;
 use std::thread::{JoinHandle, Threads};
 use std::time::Clock;
-use unit_history::{NewUnit, Opened, Pass, Units};
+use unit_history::{LegalHistory, NewUnit, Opened, Pass, Units};
 
 /// What the hosts of an array do, and where it listens: at this address, and at these ports of its two controllers. So many
 /// connections to each find no thread.
@@ -88,9 +88,14 @@ fn serve<
         &mut SmallStacks,
     )?;
     let stop = Stop::of(&listener)?;
-    let worker = listen::<R, Controllers<B, F, O, N>, Latch<R>, Pass<B, F, O, N>, NoRoom>(
-        rt, alloc, listener, server, group, stacks,
-    )?;
+    let worker = listen::<
+        R,
+        Controllers<B, F, O, N>,
+        Latch<R>,
+        Pass<B, F, O, N>,
+        LegalHistory<B, F, O, N>,
+        NoRoom,
+    >(rt, alloc, listener, server, group, stacks)?;
     Ok(Served { stop, worker })
 }
 

@@ -3,7 +3,7 @@ use Rattle.std.specs.Prelude.{◌≡◌, ℕ, ◌+◌, Bool, List, [], ◌∷◌
 use mathlib.Core.List.{IsPrefix}
 use Rattle.access_states.specs.declared.change.Change.{Change}
 use Rattle.block_file.specs.declared.blocks.DeviceFailed.{DeviceFailed}
-use Rattle.locked_unit.specs.Calls.{Known, IsAdded, IsBeside, IsBetween, IsRefused, IsCause}
+use Rattle.locked_unit.specs.Calls.{Known, IsAdded, IsBeside, IsBetween, IsEnded, IsRefused, IsCause}
 use Rattle.locked_unit.specs.declared.machine.Refused.{Refused}
 use Rattle.scsi_types.specs.Nexus.{Nexus}
 use Rattle.scsi_types.specs.ReplyValue.{ReplyValue}
@@ -14,7 +14,7 @@ use Rattle.unit_state.specs.declared.unit.MoveFault.{MoveFault}
 use Rattle.status.specs.declared.row.Row.{Row}
 use Rattle.unit_state.specs.State.{UnitState, UnitValue}
 use Rattle.unit_state.specs.Choice.{Fine}
-use Rattle.unit_state.specs.Entry.{Entry, Attach, Reset, Move}
+use Rattle.unit_state.specs.Entry.{Entry, Attach, Detach, Reset, Move}
 use Rattle.unit_history.specs.Devices.{Devices, claims_of, HaveFlushed, HaveMoved, HaveWorked}
 use Rattle.unit_history.specs.Histories.{IsBehind, IsHistory, IsCommand, IsToldBehind, own}
 use Rattle.unit_history.specs.RowOf.{row_behind}
@@ -74,10 +74,11 @@ abbrev pub WasGone : Bool → UnitState → Known Entry → Known Entry → Type
 WasGone claims s before after =
     IsRefused own (IsHistory claims s) before after × IsGone s after.seen before.session
 
--- The session ended: this is a legal history that begins with all that its pass had seen, behind which it is not attached.
+-- The session ended: this is a legal history that begins with all that its pass had seen, has no other new Command, Reset or
+-- Detach of its session, and ends with its Detach, behind which it is not attached.
 abbrev pub HasRetired : Bool → UnitState → Known Entry → List Entry → Type 0
 HasRetired claims s before history =
-    IsPrefix before.seen history × IsHistory claims s history × IsAbsent s history before.session
+    IsEnded own (IsHistory claims s) before history (Detach before.session) × IsAbsent s history before.session
 
 -- The unit moved: this is a legal history that ends with this Move, this is what changed, and this became of the devices.
 pub record HasMoved {B R O : Type 0} (d : Devices B R O) (s : UnitState) (list : List ℕ) (history : List Entry) (told : Change)

@@ -1,8 +1,10 @@
-use Rattle.std.proofs.Common.{rules, subst, sym, List, ◌≤◌, arith}
+use Rattle.std.proofs.Common.{rules, map, subst, sym, List, ◌≤◌, arith}
 use Rattle.reservations.specs.Nexus.{through}
 use Rattle.std.specs.Vec.{vec_capacity}
 use Rattle.portal.specs.Submitted.{At}
 use Rattle.portal.proofs.Attaching.{Onward, onward}
+use Rattle.portal.proofs.Refusing.{at_a_unit, at_once}
+use Rattle.portal.specs.Target.{Leaves}
 use Rattle.portal.proofs.target.attach_all.Goals as goal
 
 pub loop-unit-preserved : goal.loop-unit-preserved
@@ -14,6 +16,19 @@ loop-unit-preserved g c =
     subst (λ (at : List At). Onward g.U.LogicalUnits.claims g.U.LogicalUnits.opening nexus
     (g.U.LogicalUnits.unit_count c.args.units.now) c.loop-unit.unit at) (sym c.push_reserved.ensures.items)
     (onward g.U.LogicalUnits.claims g.U.LogicalUnits.opening nexus (g.U.LogicalUnits.unit_count c.args.units.now)
-    c.loop-unit.unit _ _ (search rules) before.0 before.2 before.3 c.in-Ok.ensures.attached) in
+    c.loop-unit.unit _ _ (search rules) before.0 before.2 before.3 c.in-Ok-attach_to.ensures.attached) in
     let room : c.units-count.result ≤ vec_capacity c.push_reserved.new.self = search rules in
-    (done.count, room, done.attached, done.placed)
+    (done.count, room, done.attached, done.placed, before.4)
+
+pub returns-in-Err-clause-turned_back : goal.returns-in-Err-clause-turned_back
+returns-in-Err-clause-turned_back g c =
+    let before = c.loop-unit.invariant in
+    at_a_unit g.U.LogicalUnits.claims g.U.LogicalUnits.opening g.U.LogicalUnits.seen _ _ c.loop-unit.unit c.loop-unit.attached.items
+    (map g.U.LogicalUnits.seen c.args.seen.now.items) c.retire_all.new.seen.items c.refused_at.new.seen.items c.in-Err.full
+    c.refused_at.result c.refused_at.ensures c.in-Err.ensures.full
+    (subst (λ v. Leaves g.U.LogicalUnits.claims g.U.LogicalUnits.opening c.loop-unit.attached.items
+    (map g.U.LogicalUnits.seen v.items) (map g.U.LogicalUnits.seen c.retire_all.new.seen.items)) before.4 c.retire_all.ensures.over)
+    before.2 before.0
+
+pub returns-clause-unseen : goal.returns-clause-unseen
+returns-clause-unseen g c = c.loop-unit.invariant.4

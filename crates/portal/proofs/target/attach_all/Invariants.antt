@@ -9,3 +9,4 @@ invariant-loop-unit g l =
     × AreAttached g.U.LogicalUnits.claims g.U.LogicalUnits.opening
     (through (record { name = l.name; isid = l.isid }) l.group) 0 l.attached.items
     × All (λ a. a.place < g.U.LogicalUnits.unit_count l.units) l.attached.items
+    × (l.seen ≡ l.fn.seen)

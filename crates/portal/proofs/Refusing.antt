@@ -1,0 +1,126 @@
+-- A session that does not begin.
+use Rattle.std.proofs.Common.{◌≡◌, ℕ, false, true, List, [], ◌∷◌, ◌++◌, length, map, Option, Some, None}
+use Rattle.std.proofs.Common.{refl, sym, ap, ◌∙◌, subst, append-nil}
+use Rattle.std.proofs.lemmas.List.{map-append}
+use Rattle.std.specs.Prelude.{IfSome, MatchOption}
+use Rattle.login.specs.declared.status.Kind.{Kind}
+use Rattle.login.specs.declared.status.Kind.TheVariants.{Normal, Discovery}
+use Rattle.reservations.specs.Nexus.{through}
+use Rattle.scsi_types.specs.Nexus.{Port, Nexus}
+use Rattle.unit_state.specs.State.{UnitState}
+use Rattle.portal.specs.Units.{Claims}
+use Rattle.portal.specs.Submitted.{At}
+use Rattle.portal.specs.Target.{TargetValue, Sight, AreAttached, IsCauseOf, IsFullAt, IsJoined, IsRefused, IsTurnedBack, Leaves, fault_of}
+use Rattle.portal.specs.declared.live.EnterFault.{EnterFault}
+use Rattle.portal.specs.declared.live.EnterFault.TheVariants as enters
+use Rattle.portal.specs.declared.target.BeginFault.{BeginFault}
+use Rattle.portal.specs.declared.target.BeginFault.TheVariants as faults
+
+module _ (claims : Claims) (opening : ℕ → UnitState) where
+  -- for want of memory, before it was attached to a unit
+  pub at_once : (nexus : Nexus) (kind : Kind) (units : ℕ) (seen : List Sight)
+      → IsTurnedBack claims opening nexus kind units faults.NoMemory seen seen
+  at_once nexus kind units seen =
+      record {
+        at = [];
+        attached = tt;
+        left = [];
+        over = tt;
+        full = [];
+        cause = refl;
+        ends = sym (append-nil seen) ∙ sym (append-nil (seen ++ []));
+      }
+
+  pub as_it_was : (old : TargetValue) (port : Port) (kind : Kind) → IsRefused claims opening old port kind faults.NoMemory old
+  as_it_was old port kind =
+      record {
+        turned_back = at_once (through port old.group) kind old.units old.seen;
+        again = λ begun. refl;
+        rest = refl;
+      }
+
+  -- one that is attached to no unit
+  alone : (nexus : Nexus) (units : ℕ) (fault : EnterFault) → IsCauseOf claims opening nexus Discovery units [] (fault_of fault) []
+  alone nexus units enters.NoTsih = (refl, refl)
+  alone nexus units enters.NoNumber = (refl, refl)
+  alone nexus units enters.NoMemory = refl
+
+  pub at_none : (old : TargetValue) (port : Port) (fault : EnterFault)
+      → IsRefused claims opening old port Discovery (fault_of fault) old
+  at_none old port fault =
+      record {
+        turned_back = record {
+          at = [];
+          attached = tt;
+          left = [];
+          over = tt;
+          full = [];
+          cause = alone (through port old.group) old.units fault;
+          ends = sym (append-nil old.seen) ∙ sym (append-nil (old.seen ++ []));
+        };
+        again = λ begun. refl;
+        rest = refl;
+      }
+
+  -- at a unit behind those that it was attached to, and has left
+  pub at_a_unit : {H : Type 0} (f : H → Sight) (nexus : Nexus) (units unit : ℕ) (at : List At) (old : List Sight) (mid new : List H)
+      (full : Option H) (fault : BeginFault)
+      → MatchOption full ((fault ≡ faults.NoMemory) × (new ≡ mid)) (λ one. (fault ≡ faults.NoRoom unit) × (new ≡ mid ++ one ∷ []))
+      → IfSome full (λ s. IsFullAt claims opening nexus unit (f s)) → Leaves claims opening at old (map f mid)
+      → AreAttached claims opening nexus 0 at → length at ≡ unit
+      → IsTurnedBack claims opening nexus Normal units fault old (map f new)
+  at_a_unit f nexus units unit at old mid new None fault is full leaves attached count =
+      record {
+        at = at;
+        attached = attached;
+        left = leaves.seen;
+        over = leaves.over;
+        full = [];
+        cause = subst (λ (x : BeginFault). IsCauseOf claims opening nexus Normal units at x []) (sym is.0) refl;
+        ends = ap (map f) is.1 ∙ leaves.ends ∙ sym (append-nil (old ++ leaves.seen));
+      }
+  at_a_unit f nexus units unit at old mid new (Some one) fault is full leaves attached count =
+      record {
+        at = at;
+        attached = attached;
+        left = leaves.seen;
+        over = leaves.over;
+        full = f one ∷ [];
+        cause = subst (λ (x : BeginFault). IsCauseOf claims opening nexus Normal units at x (f one ∷ [])) (sym is.0)
+            (refl, count, (f one, refl, full));
+        ends = ap (map f) is.1 ∙ map-append f mid (one ∷ []) ∙ ap (λ (l : List Sight). l ++ f one ∷ []) leaves.ends;
+      }
+
+  -- why one that is attached to all units does not live
+  cause_of : (nexus : Nexus) (units : ℕ) (at : List At) (fault : EnterFault) → IsJoined claims opening Normal nexus units at
+      → IsCauseOf claims opening nexus Normal units at (fault_of fault) []
+  cause_of nexus units at enters.NoTsih joined = (joined, refl)
+  cause_of nexus units at enters.NoNumber joined = (joined, refl)
+  cause_of nexus units at enters.NoMemory joined = refl
+
+  pub behind_all : (nexus : Nexus) (units : ℕ) (at : List At) (old new : List Sight) (fault : EnterFault)
+      → IsJoined claims opening Normal nexus units at → Leaves claims opening at old new
+      → IsTurnedBack claims opening nexus Normal units (fault_of fault) old new
+  behind_all nexus units at old new fault joined leaves =
+      record {
+        at = at;
+        attached = joined.1;
+        left = leaves.seen;
+        over = leaves.over;
+        full = [];
+        cause = cause_of nexus units at fault joined;
+        ends = leaves.ends ∙ sym (append-nil (old ++ leaves.seen));
+      }
+
+  -- so it is said of its target
+  pub turned_back : (old new : TargetValue) (port : Port) (kind : Kind) (fault : BeginFault) (before after : List Sight)
+      → old.begun ≡ false → before ≡ old.seen → after ≡ new.seen → new ≡ record old { seen = new.seen }
+      → IsTurnedBack claims opening (through port old.group) kind old.units fault before after
+      → IsRefused claims opening old port kind fault new
+  turned_back old new port kind fault before after fresh one two rest is =
+      record {
+        turned_back = subst (λ (l : List Sight). IsTurnedBack claims opening (through port old.group) kind old.units fault l new.seen) one
+            (subst (λ (l : List Sight). IsTurnedBack claims opening (through port old.group) kind old.units fault before l) two is);
+        again = λ (begun : old.begun ≡ true). let e : true ≡ false = sym begun ∙ fresh in absurd (cc);
+        rest = rest;
+      }
