@@ -1,3 +1,5 @@
-pub mod FileDisk
+pub mod Backing
+pub mod BackingLaws
 pub mod Lasting
 pub mod Lengths
+pub mod Tally

@@ -1,66 +1,50 @@
 //! A file as a device of blocks.
-ghost use Rattle.std.specs.Prelude.{◌≡◌, ◌≢◌, ◌<◌, ◌≤◌, ◌+◌, ◌*◌, ◌^◌, [], length, min, true, false, IfOk, IfErr, IsErr, OnOk, OnErr};
+ghost use Rattle.std.specs.Prelude.{◌≡◌, ◌≢◌, ◌<◌, ◌≤◌, ◌+◌, ◌*◌, ◌/◌, ◌^◌, length, min, true, false, None};
+ghost use Rattle.std.specs.Prelude.{IfOk, IfErr, IsTrue, IsErr, OnOk, OnErr};
 ghost use Rattle.std.proofs.Common.{arith};
-ghost use Rattle.block_file.specs.Cut.{IsRun};
+ghost use Rattle.block_file.specs.declared.blocks.TheConstants.{BLOCK_LENGTH};
+ghost use Rattle.block_file.specs.Cut.{run_of, IsRun};
+ghost use Rattle.block_file.specs.Disk.{written, range_bytes, Between, NoMore, Adds, Only};
 ghost use Rattle.block_file.specs.Failures.{Counts, last_count};
-ghost use Rattle.disk_files.specs.FileDisk.{all_failures, IsSameDisk, IsUnused};
+ghost use Rattle.disk_files.specs.BackingLaws.{as_many, as_wide, lies_before};
+ghost use Rattle.disk_files.specs.Tally.{none, all_failures, once_more_opened};
 ghost use Rattle.disk_files.specs.Lasting.{IsSettled};
 ghost use Rattle.disk_files.specs.Lengths.{IsLengthFault};
 
 use crate::FileFault;
+use crate::backing::BackingFile;
 use crate::flushes::{Flushes, LastingFile};
-use crate::voice::{Voice, number_of};
+use crate::tally::Tally;
+use crate::voice::Voice;
 use block_file::{BLOCK_LENGTH, Blocks, DeviceFailed};
 use event_log::Call;
 use std::alloc::Global;
 use std::fs::File;
-use std::io::{ErrorKind, Seek, SeekFrom};
-use std::marker::Model;
-use std::os::unix::fs::FileExt;
+use std::io::ErrorKind;
 use std::rt::Files;
 use std::sync::Arc;
 
-/// A file as a device of blocks: each run is one read or write at its place. A flush is `fdatasync`, and nothing where no write has
-/// ended since one began that its preparer made, and that is done.
+/// A file as a device of blocks: each run is one read or write at its place, 512 times the number of its first block. A flush is one
+/// of the file, and nothing where no write has ended since one began that its preparer made, and that is done.
 ///
-/// Of what it holds nothing is claimed. Its number of blocks is that of its length when it was opened; where the file has
-/// become shorter a call that reaches behind its end fails.
+/// It claims what its file claims, which of a file of the system is nothing. Its number of blocks is that of its length when it
+/// was opened; where the file has become shorter a call that reaches behind its end fails.
 ///
 /// A flush that failed is not made good by the next one: the system drops what it could not write. So each later flush
 /// fails too, also through a handle that was opened anew.
 #[derive(Drop)]
-pub struct FileBlocks<F: FileExt + LastingFile + Seek + Drop> {
+pub struct FileBlocks<F: BackingFile> {
     file: F,
     count: u32,
-    // How many writes have ended.
-    written: u64,
-    failed_reads: u64,
-    failed_writes: u64,
-    is_lost: bool,
+    tally: Tally,
     // What its preparer has flushed, where it has one.
     flushes: Option<Arc<Flushes<F>, Global>>,
     // What tells of calls that failed.
     voice: Option<Voice>,
     ghost fits: { count < 2 ^ 32 },
     ghost some: { 0 < count },
-}
-
-impl<F: FileExt + LastingFile + Seek + Drop> Model for FileBlocks<F> {
-    ghost use Rattle.std.specs.Prelude.{◌<◌, ◌^◌};
-    ghost use Rattle.disk_files.specs.FileDisk.{FileDisk};
-
-    ghost Value = { FileDisk F };
-
-    ghost view = { λ d. record {
-      file = d.file;
-      count = d.count;
-      written = d.written;
-      failed_reads = d.failed_reads;
-      failed_writes = d.failed_writes;
-      is_lost = d.is_lost;
-      some = d.some;
-      fits = d.fits;
-    } };
+    ghost whole: { IsTrue F.claims → length (F.bytes file) ≡ BLOCK_LENGTH * count },
+    ghost alone: { IsTrue F.claims → flushes ≡ None },
 }
 
 /// How many blocks a file of so many bytes has.
@@ -80,12 +64,13 @@ pub fn blocks_in(bytes: u64) -> Result<u32, FileFault>
     }
 }
 
-impl<F: FileExt + LastingFile + Seek + Drop> FileBlocks<F> {
+impl<F: BackingFile> FileBlocks<F> {
     /// A file that is open for reading and writing. Its length is where it ends, which a block device has too.
-    pub fn of(mut file: F) -> Result<FileBlocks<F>, FileFault>
-        ensures { IfOk result (λ d. IsUnused d) }
+    pub fn of(file: F) -> Result<FileBlocks<F>, FileFault>
+        ensures unused { IfOk result (λ d. d.tally ≡ none) }
+        ensures file { IfOk result (λ d. d.file ≡ file) }
     {
-        let Ok(end) = file.seek(SeekFrom::End(0)) else {
+        let Ok(end) = file.end() else {
             return Err(FileFault::NotOpened);
         };
         let count = match blocks_in(end) {
@@ -95,10 +80,7 @@ impl<F: FileExt + LastingFile + Seek + Drop> FileBlocks<F> {
         Ok(FileBlocks {
             file,
             count,
-            written: 0,
-            failed_reads: 0,
-            failed_writes: 0,
-            is_lost: false,
+            tally: Tally::NONE,
             flushes: None,
             voice: None,
         })
@@ -106,7 +88,8 @@ impl<F: FileExt + LastingFile + Seek + Drop> FileBlocks<F> {
 
     /// From now on calls that fail are told.
     pub fn tell_by(&mut self, voice: Voice)
-        ensures { IsSameDisk self.old self.new }
+        ensures { (self.new.file ≡ self.old.file) × (self.new.count ≡ self.old.count)
+            × (self.new.tally ≡ self.old.tally) }
     {
         self.voice = Some(voice);
     }
@@ -123,28 +106,32 @@ impl<F: FileExt + LastingFile + Seek + Drop> FileBlocks<F> {
         &self.file
     }
 
-    /// From now on a preparer flushes the file before the device does, as it tells here.
-    pub fn share(&mut self, flushes: Arc<Flushes<F>, Global>)
-        ensures { IsSameDisk self.old self.new }
+    /// Ends the device and gives the handle.
+    pub fn into_file(self) -> F
+        ensures { result ≡ self.file }
     {
-        flushes.tell(self.written);
-        self.flushes = Some(flushes);
+        self.file
     }
 
     // Makes what was written last, where no flush has failed: nothing is to be done where the preparer did it, and nothing to be told
     // where it has told already.
-    fn make_last(&self) -> Result<(), DeviceFailed>
-        ensures { OnOk result (IsSettled F.lasts self.now.written) }
+    fn make_last(&mut self) -> Result<(), DeviceFailed>
+        ensures size { self.new.count ≡ self.old.count }
+        ensures tally { self.new.tally ≡ self.old.tally }
+        ensures bytes { IsTrue F.claims → F.bytes self.new.file ≡ F.bytes self.old.file }
+        ensures durable { IsTrue F.claims → OnOk result (Only (run_of (F.bytes self.old.file)) (F.may_hold self.new.file)) }
+        ensures crash { IsTrue F.claims → NoMore (F.may_hold self.old.file) (F.may_hold self.new.file) }
+        ensures lasts { OnOk result (IsSettled F.lasts self.old.tally.written) }
     {
         if let Some(flushes) = &self.flushes {
             if flushes.is_lost() {
                 return Err(DeviceFailed);
             }
-            if flushes.covers(self.written) {
+            if flushes.covers(self.tally.written) {
                 return Ok(());
             }
         }
-        match self.file.make_last(self.written) {
+        match self.file.flush(self.tally.written) {
             Ok(()) => Ok(()),
             Err(error) => {
                 self.tell(Call::Flush, 0, 0, error);
@@ -155,23 +142,37 @@ impl<F: FileExt + LastingFile + Seek + Drop> FileBlocks<F> {
 
     /// Takes a handle through which the same file was opened anew, as the other controller's opener does. Its length has
     /// to be the same: else the old handle stays. The counts of failures go over, and that a flush failed.
-    pub fn renew(&mut self, mut file: F) -> Result<(), DeviceFailed>
-        ensures ok { OnOk result (IsSameDisk self.old self.new) }
+    pub fn renew(&mut self, file: F) -> Result<(), DeviceFailed>
+        ensures ok { OnOk result (self.new.tally ≡ once_more_opened self.old.tally) }
+        ensures size { self.new.count ≡ self.old.count }
+        ensures file { OnOk result (self.new.file ≡ file) }
         ensures err { OnErr result (self.new ≡ self.old) }
     {
-        if let Err(error) = ends_at(&mut file, self.count) {
+        if let Err(error) = ends_at(&file, self.count) {
             self.tell(Call::Seek, 0, 0, error);
             return Err(DeviceFailed);
         }
         self.file = file;
+        self.tally.opened = self.tally.opened.saturating_add(1);
         Ok(())
+    }
+}
+
+impl<F: LastingFile> FileBlocks<F> {
+    /// From now on a preparer flushes the file before the device does, as it tells here.
+    pub fn share(&mut self, flushes: Arc<Flushes<F>, Global>)
+        ensures { (self.new.file ≡ self.old.file) × (self.new.count ≡ self.old.count)
+            × (self.new.tally ≡ self.old.tally) }
+    {
+        flushes.tell(self.tally.written);
+        self.flushes = Some(flushes);
     }
 }
 
 impl FileBlocks<File> {
     /// Opens a file for reading and writing, as long as it is.
     pub fn open<R: Files<File = File>>(rt: &R, path: &str) -> Result<FileBlocks<File>, FileFault>
-        ensures { IfOk result (λ d. IsUnused d) }
+        ensures { IfOk result (λ d. d.tally ≡ none) }
     {
         match File::options().read(true).write(true).open(rt, path) {
             Ok(file) => FileBlocks::of(file),
@@ -182,34 +183,36 @@ impl FileBlocks<File> {
 }
 
 // Whether a file still has so many blocks; else the error of the system, 0 where it has another length.
-fn ends_at<F: Seek>(file: &mut F, count: u32) -> Result<(), u32> {
-    match file.seek(SeekFrom::End(0)) {
-        Ok(end) if end == BLOCK_LENGTH as u64 * u64::from(count) => Ok(()),
+fn ends_at<F: BackingFile>(file: &F, count: u32) -> Result<(), u32>
+    ensures { IsTrue F.claims → OnOk result (length (F.bytes file.now) ≡ BLOCK_LENGTH * count) }
+{
+    match file.end() {
+        Ok(end) if end == at(count) => Ok(()),
         Ok(_) => Err(0),
-        Err(e) => Err(number_of(&e)),
+        Err(error) => Err(error),
     }
 }
 
-impl<F: FileExt + LastingFile + Seek + Drop> Blocks for FileBlocks<F> {
-    ghost claims = { false };
+impl<F: BackingFile> Blocks for FileBlocks<F> {
+    ghost claims = { F.claims };
 
     ghost claims_moments = { false };
 
     ghost size = { λ d. d.count };
 
-    ghost contents = { λ d. [] };
+    ghost contents = { λ d. run_of (F.bytes d.file) };
 
-    ghost may_hold = { λ d k value. Unit {0} };
+    ghost may_hold = { λ d. F.may_hold d.file };
 
     ghost moment = { λ d. 0 };
 
     ghost left_since = { λ d t disk. Unit {0} };
 
-    ghost reads_failed = { λ d. min d.failed_reads last_count };
+    ghost reads_failed = { λ d. min d.tally.failed_reads last_count };
 
-    ghost writes_failed = { λ d. min d.failed_writes last_count };
+    ghost writes_failed = { λ d. min d.tally.failed_writes last_count };
 
-    ghost failures = { λ d. all_failures d };
+    ghost failures = { λ d. all_failures d.tally };
 
     ghost fits = { λ d. d.fits };
 
@@ -217,11 +220,11 @@ impl<F: FileExt + LastingFile + Seek + Drop> Blocks for FileBlocks<F> {
 
     ghost bounded = { λ d. Prim.omega arith };
 
-    ghost sized = { λ d h. Prim.cc };
+    ghost sized = { λ d h. as_many d.count (F.bytes d.file) (d.whole h) };
 
-    ghost wide = { λ d k h. Prim.cc };
+    ghost wide = { λ d k h. as_wide d.count (F.bytes d.file) (d.whole h) k };
 
-    ghost is_outcome = { λ d k h lt. tt };
+    ghost is_outcome = { λ d k h lt. F.is_outcome d.file k h (lies_before d.count (F.bytes d.file) (d.whole h) k lt) };
 
     ghost counts_now = { λ d t disk h. Prim.cc };
 
@@ -234,18 +237,21 @@ impl<F: FileExt + LastingFile + Seek + Drop> Blocks for FileBlocks<F> {
     fn read_run(&mut self, first: u32, bytes: &mut [u8]) -> Result<(), DeviceFailed>
         requires { IsRun self.old.count first (length bytes.old) }
         ensures size { self.new.count ≡ self.old.count }
-        ensures failures { Counts (all_failures self.old) (all_failures self.new) result }
-        ensures failed_reads { Counts (min self.old.failed_reads last_count) (min self.new.failed_reads last_count)
+        ensures file { self.new.file ≡ self.old.file }
+        ensures read { IsTrue F.claims → OnOk result
+            (bytes.new ≡ range_bytes (run_of (F.bytes self.old.file)) first (length bytes.old / BLOCK_LENGTH)) }
+        ensures failures { Counts (all_failures self.old.tally) (all_failures self.new.tally) result }
+        ensures failed_reads { Counts (min self.old.tally.failed_reads last_count) (min self.new.tally.failed_reads last_count)
             result }
-        ensures failed_writes { self.new.failed_writes ≡ self.old.failed_writes }
-        ensures lost { self.new.is_lost ≡ self.old.is_lost }
-        ensures written { self.new.written ≡ self.old.written }
+        ensures failed_writes { self.new.tally.failed_writes ≡ self.old.tally.failed_writes }
+        ensures lost { self.new.tally.is_lost ≡ self.old.tally.is_lost }
+        ensures written { self.new.tally.written ≡ self.old.tally.written }
     {
-        match self.file.read_exact_at(bytes, at(first)) {
+        match self.file.read_at(bytes, at(first)) {
             Ok(()) => Ok(()),
-            Err(e) => {
-                self.tell(Call::Read, first, bytes.len(), number_of(&e));
-                failed(&mut self.failed_reads)
+            Err(error) => {
+                self.tell(Call::Read, first, bytes.len(), error);
+                failed(&mut self.tally.failed_reads)
             }
         }
     }
@@ -253,57 +259,68 @@ impl<F: FileExt + LastingFile + Seek + Drop> Blocks for FileBlocks<F> {
     fn write_run(&mut self, first: u32, bytes: &[u8]) -> Result<(), DeviceFailed>
         requires { IsRun self.old.count first (length bytes.now) }
         ensures size { self.new.count ≡ self.old.count }
-        ensures failures { Counts (all_failures self.old) (all_failures self.new) result }
-        ensures failed_reads { self.new.failed_reads ≡ self.old.failed_reads }
-        ensures failed_writes { Counts (min self.old.failed_writes last_count) (min self.new.failed_writes last_count)
+        ensures done { IsTrue F.claims → OnOk result
+            (run_of (F.bytes self.new.file) ≡ written (run_of (F.bytes self.old.file)) first (run_of bytes.now)) }
+        ensures torn { IsTrue F.claims
+            → Between (run_of (F.bytes self.old.file)) first (run_of bytes.now) (run_of (F.bytes self.new.file)) }
+        ensures crash { IsTrue F.claims
+            → Adds first (run_of bytes.now) (F.may_hold self.old.file) (F.may_hold self.new.file) }
+        ensures failures { Counts (all_failures self.old.tally) (all_failures self.new.tally) result }
+        ensures failed_reads { self.new.tally.failed_reads ≡ self.old.tally.failed_reads }
+        ensures failed_writes { Counts (min self.old.tally.failed_writes last_count) (min self.new.tally.failed_writes last_count)
             result }
-        ensures lost { self.new.is_lost ≡ self.old.is_lost }
+        ensures lost { self.new.tally.is_lost ≡ self.old.tally.is_lost }
         // One that was begun has ended, well or not.
-        ensures written { OnOk result (self.new.written ≡ min (self.old.written + 1) last_count) }
-        ensures rises { self.old.written ≤ self.new.written }
+        ensures written { OnOk result (self.new.tally.written ≡ min (self.old.tally.written + 1) last_count) }
+        ensures rises { self.old.tally.written ≤ self.new.tally.written }
     {
         // A write behind the end would make the file longer, with zeros in place of what was there.
-        if let Err(error) = ends_at(&mut self.file, self.count) {
+        if let Err(error) = ends_at(&self.file, self.count) {
             self.tell(Call::Seek, first, bytes.len(), error);
-            return failed(&mut self.failed_writes);
+            return failed(&mut self.tally.failed_writes);
         }
-        let end = self.file.write_all_at(bytes, at(first));
-        self.written = one_more(self.written, &self.flushes);
+        let end = self.file.write_at(bytes, at(first));
+        self.tally.written = one_more(self.tally.written, &self.flushes);
         match end {
             Ok(()) => Ok(()),
-            Err(e) => {
-                self.tell(Call::Write, first, bytes.len(), number_of(&e));
-                failed(&mut self.failed_writes)
+            Err(error) => {
+                self.tell(Call::Write, first, bytes.len(), error);
+                failed(&mut self.tally.failed_writes)
             }
         }
     }
 
     fn flush(&mut self) -> Result<(), DeviceFailed>
         ensures size { self.new.count ≡ self.old.count }
-        ensures failures { Counts (all_failures self.old) (all_failures self.new) result }
-        ensures failed_reads { self.new.failed_reads ≡ self.old.failed_reads }
-        ensures failed_writes { Counts (min self.old.failed_writes last_count) (min self.new.failed_writes last_count)
+        ensures bytes { IsTrue F.claims → F.bytes self.new.file ≡ F.bytes self.old.file }
+        ensures durable { IsTrue F.claims → OnOk result (Only (run_of (F.bytes self.old.file)) (F.may_hold self.new.file)) }
+        ensures crash { IsTrue F.claims → NoMore (F.may_hold self.old.file) (F.may_hold self.new.file) }
+        ensures failures { Counts (all_failures self.old.tally) (all_failures self.new.tally) result }
+        ensures failed_reads { self.new.tally.failed_reads ≡ self.old.tally.failed_reads }
+        ensures failed_writes { Counts (min self.old.tally.failed_writes last_count) (min self.new.tally.failed_writes last_count)
             result }
-        ensures lost { self.old.is_lost ≡ true → IsErr result }
-        ensures loses { OnErr result (self.new.is_lost ≡ true) }
-        ensures written { self.new.written ≡ self.old.written }
-        ensures lasts { OnOk result (IsSettled F.lasts self.old.written) }
+        ensures lost { self.old.tally.is_lost ≡ true → IsErr result }
+        ensures loses { OnErr result (self.new.tally.is_lost ≡ true) }
+        ensures written { self.new.tally.written ≡ self.old.tally.written }
+        ensures lasts { OnOk result (IsSettled F.lasts self.old.tally.written) }
     {
-        if !self.is_lost && self.make_last().is_ok() {
+        if !self.tally.is_lost && self.make_last().is_ok() {
             return Ok(());
         }
-        self.is_lost = true;
-        failed(&mut self.failed_writes)
+        self.tally.is_lost = true;
+        failed(&mut self.tally.failed_writes)
     }
 }
 
 // The place of a block in its file.
-fn at(first: u32) -> u64 {
+fn at(first: u32) -> u64
+    ensures { result ≡ BLOCK_LENGTH * first }
+{
     BLOCK_LENGTH as u64 * u64::from(first)
 }
 
 // How many writes have ended behind one more, well or not.
-fn one_more<F: LastingFile>(written: u64, flushes: &Option<Arc<Flushes<F>, Global>>) -> u64
+fn one_more<F: BackingFile>(written: u64, flushes: &Option<Arc<Flushes<F>, Global>>) -> u64
     ensures { result ≡ min (written + 1) last_count }
 {
     let written = written.saturating_add(1);

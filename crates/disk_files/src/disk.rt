@@ -1,6 +1,6 @@
 //! The disk of a unit.
-ghost use Rattle.std.specs.Prelude.{IfOk};
-ghost use Rattle.disk_files.specs.FileDisk.{IsUnused};
+ghost use Rattle.std.specs.Prelude.{◌≡◌, IfOk};
+ghost use Rattle.disk_files.specs.Tally.{none};
 
 use crate::opener::{Node, node_of};
 use crate::{DiskFault, FileBlocks, FileFault, FileOpener};
@@ -52,7 +52,7 @@ pub fn open_disk<R: Files<File = File> + Drop>(
     alloc: Global,
     path: &str,
 ) -> Result<Disk<R>, DiskFault>
-    ensures { IfOk result (λ disk. IsUnused disk.blocks) }
+    ensures { IfOk result (λ disk. disk.blocks.tally ≡ none) }
 {
     let blocks = match FileBlocks::open(&rt, path) {
         Ok(blocks) => blocks,

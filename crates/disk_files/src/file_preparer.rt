@@ -1,5 +1,5 @@
 //! A file made ready for the calls of its device.
-ghost use Rattle.disk_files.specs.FileDisk.{IsSameDisk};
+ghost use Rattle.std.specs.Prelude.{◌≡◌};
 
 use crate::FileBlocks;
 use crate::flushes::Flushes;
@@ -73,7 +73,8 @@ impl<R: Clock + Wait + Files<File = File> + Drop> FilePreparer<R> {
         blocks: &mut FileBlocks<File>,
         voice: Option<Voice>,
     ) -> FilePreparer<R>
-        ensures { IsSameDisk blocks.old blocks.new }
+        ensures { (blocks.new.file ≡ blocks.old.file) × (blocks.new.count ≡ blocks.old.count)
+            × (blocks.new.tally ≡ blocks.old.tally) }
     {
         let file = match File::options().read(true).write(true).open(&rt, path) {
             Ok(file) if node_of(&file) == node_of(blocks.file()) => Some(file),
@@ -96,7 +97,8 @@ impl<R: Clock + Wait + Files<File = File> + Drop> FilePreparer<R> {
 
 // What a device and its preparer are to tell each other, which both have from now on.
 fn shared(alloc: Global, blocks: &mut FileBlocks<File>) -> Option<Arc<Flushes<File>, Global>>
-    ensures { IsSameDisk blocks.old blocks.new }
+    ensures { (blocks.new.file ≡ blocks.old.file) × (blocks.new.count ≡ blocks.old.count)
+        × (blocks.new.tally ≡ blocks.old.tally) }
 {
     let Ok(flushes) = Arc::new(alloc, Flushes::new(0)) else {
         return None;

@@ -1,26 +1,28 @@
 //! Flushes of a file that stand before those of its device.
-ghost use Rattle.std.specs.Prelude.{ℕ, IsTrue, OnOk};
+ghost use Rattle.std.specs.Prelude.{◌≡◌, IsTrue, OnOk, false, refl};
 ghost use Rattle.disk_files.specs.Lasting.{IsSettled};
 
+use crate::backing::BackingFile;
 use crate::voice::number_of;
 use std::fs::File;
 use std::marker::{Model, PhantomData};
 use std::sync::atomic::{AtomicBool, AtomicU64, Ordering};
 use std::sync::{Mutex, Wait};
 
-/// A file that can be flushed.
-pub trait LastingFile {
-    /// What the first so many writes of the file's device left lasts. Nothing but `make_last` says so.
-    ghost lasts: { ℕ → Type 0 };
-
+/// A file of which threads may flush several handles at one time. What one of them has made last is not seen in the others, so
+/// its type claims nothing.
+pub trait LastingFile: BackingFile {
     /// Makes all that was written last, where so many writes of the file's device have ended; else the error of the system, 0
     /// where it told none.
     fn make_last(&self, writes: u64) -> Result<(), u32>
-        ensures { OnOk result (lasts writes) };
+        ensures { OnOk result (Self.lasts writes) };
+
+    /// It claims nothing.
+    ghost unclaimed: { Self.claims ≡ false };
 }
 
 impl LastingFile for File {
-    ghost lasts = { λ writes. Unit {0} };
+    ghost unclaimed = { refl };
 
     fn make_last(&self, _writes: u64) -> Result<(), u32> {
         match self.sync_data() {
@@ -35,12 +37,12 @@ const AT_A_TIME: usize = 4;
 
 // How many writes of the device had ended when the last flush began that is done, of those flushes that stand before.
 #[derive(Drop)]
-struct Settled<F: LastingFile> {
+struct Settled<F: BackingFile> {
     writes: Option<u64>,
     of: PhantomData<F>,
 }
 
-impl<F: LastingFile> Model for Settled<F> {
+impl<F: BackingFile> Model for Settled<F> {
     ghost use Rattle.std.specs.Prelude.{Option, ℕ, IfSome};
 
     ghost Value = { Option ℕ };
@@ -50,7 +52,7 @@ impl<F: LastingFile> Model for Settled<F> {
     ghost invariant = { λ s. IfSome s.writes F.lasts };
 }
 
-impl<F: LastingFile> Settled<F> {
+impl<F: BackingFile> Settled<F> {
     // Whether so many writes are among those.
     fn has(&self, writes: u64) -> bool
         ensures { IsTrue result → IsSettled F.lasts writes }
@@ -74,7 +76,7 @@ impl<F: LastingFile> Settled<F> {
 /// What a device and its preparer tell each other of the flushes of their file: how many writes have ended, how many of them a
 /// flush that stood before has made last, and whether such a flush has failed.
 #[derive(Drop)]
-pub struct Flushes<F: LastingFile> {
+pub struct Flushes<F: BackingFile> {
     written: AtomicU64,
     settled: Mutex<Settled<F>>,
     is_lost: AtomicBool,
@@ -82,7 +84,7 @@ pub struct Flushes<F: LastingFile> {
     running: [Mutex<()>; AT_A_TIME],
 }
 
-impl<F: LastingFile> Flushes<F> {
+impl<F: BackingFile> Flushes<F> {
     /// None was made yet, of a device of which so many writes have ended.
     pub fn new(written: u64) -> Flushes<F> {
         Flushes {
@@ -121,7 +123,9 @@ impl<F: LastingFile> Flushes<F> {
             None => false,
         }
     }
+}
 
+impl<F: LastingFile> Flushes<F> {
     /// Makes last what the writes left that have ended by now. A failure is remembered, and told by the device's next flush;
     /// it is the error of the system, 0 where that told none.
     pub fn flush_before<R: Wait>(&self, rt: &R, file: &F) -> Result<(), u32> {

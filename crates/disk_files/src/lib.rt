@@ -1,7 +1,9 @@
-//! Disks and registration files that are files of the system. What a file holds cannot be said: of these devices it is
-//! proved that they keep their number of blocks, and that a call fails just where its count of failures rises.
+//! Disks and registration files that are files. What a file of the system holds cannot be said: of its device it is proved
+//! that it keeps its number of blocks, and that a call fails just where its count of failures rises. The device of a file
+//! that claims its bytes, as one in memory does, claims its blocks.
 #![tactic(auto)]
 
+mod backing;
 mod blocks;
 mod disk;
 mod fault;
@@ -10,8 +12,10 @@ mod flushes;
 pub mod laws;
 mod opener;
 mod registrations;
+mod tally;
 mod voice;
 
+pub use backing::BackingFile;
 pub use blocks::{FileBlocks, blocks_in};
 pub use disk::{Disk, DiskLock, open_disk};
 pub use fault::{DiskFault, FileFault, RegistrationsFault};
@@ -19,4 +23,5 @@ pub use file_preparer::FilePreparer;
 pub use flushes::{Flushes, LastingFile};
 pub use opener::FileOpener;
 pub use registrations::open_registrations;
+pub use tally::Tally;
 pub use voice::Voice;

@@ -2,7 +2,7 @@
 ghost use Rattle.std.specs.Prelude.{◌≡◌, ◌+◌, min, false, OnOk, OnErr};
 ghost use Rattle.std.proofs.Common.{arith};
 ghost use Rattle.block_file.specs.Failures.{Counts, last_count};
-ghost use Rattle.disk_files.specs.FileDisk.{IsSameDisk};
+ghost use Rattle.disk_files.specs.Tally.{once_more_opened};
 
 use crate::FileBlocks;
 use crate::voice::number_of;
@@ -62,7 +62,8 @@ impl<R: Files<File = File> + Drop> FileOpener<R> {
 
     // Opens the file again and puts its handle into the device.
     fn renew(&self, device: &mut FileBlocks<File>) -> Result<(), DeviceFailed>
-        ensures ok { OnOk result (IsSameDisk device.old device.new) }
+        ensures ok { OnOk result (device.new.tally ≡ once_more_opened device.old.tally) }
+        ensures size { device.new.count ≡ device.old.count }
         ensures err { OnErr result (device.new ≡ device.old) }
     {
         let opened = File::options()
@@ -87,7 +88,7 @@ impl<R: Files<File = File> + Drop> FileOpener<R> {
 impl<R: Files<File = File> + Drop> Opener<FileBlocks<File>> for FileOpener<R> {
     ghost claims = { false };
 
-    ghost opened = { IsSameDisk };
+    ghost opened = { λ old new. new.tally ≡ once_more_opened old.tally };
 
     ghost opens_failed = { λ o. min o.failed last_count };
 

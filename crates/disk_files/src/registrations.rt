@@ -119,7 +119,7 @@ fn is_formatted<R: Files<File = File>>(rt: &R, new: &str) -> bool {
         return false;
     }
     match RegFile::format(blocks) {
-        Ok(file) => file.close().file().sync_all().is_ok(),
+        Ok(file) => file.close().into_file().sync_all().is_ok(),
         Err(_) => false,
     }
 }

@@ -17,31 +17,31 @@ fn what_is_written_is_there_after_a_restart(rt: HostRuntime) -> Result<(), Fail>
 
 fn are_written(rt: HostRuntime, path: &str) -> Result<(), Fail> {
     let mut disk = opened(rt, path)?;
-    write_three(&mut disk)
+    write_three(&mut disk.blocks)?;
+    want(disk.blocks.flush().is_ok(), "a flush")
 }
 
-fn write_three(disk: &mut Disk<HostRuntime>) -> Result<(), Fail> {
-    want(disk.blocks.count() == 4, "four blocks")?;
-    want(reads(&mut disk.blocks, 0, &[0, 0, 0, 0]), "zeros at first")?;
-    want(
-        writes(&mut disk.blocks, 1, &[7, 8]),
-        "a write of two blocks",
-    )?;
-    want(writes(&mut disk.blocks, 3, &[9]), "a write of the last")?;
-    want(disk.blocks.flush().is_ok(), "a flush")
+/// Writes three blocks of a device of four, by two runs.
+pub fn write_three<B: Blocks>(blocks: &mut B) -> Result<(), Fail> {
+    want(blocks.count() == 4, "four blocks")?;
+    want(reads(blocks, 0, &[0, 0, 0, 0]), "zeros at first")?;
+    want(writes(blocks, 1, &[7, 8]), "a write of two blocks")?;
+    want(writes(blocks, 3, &[9]), "a write of the last")
 }
 
 fn are_there(rt: HostRuntime, path: &str) -> Result<(), Fail> {
     let mut disk = opened(rt, path)?;
-    read_them(&mut disk)
+    read_them(&mut disk.blocks)
 }
 
-fn read_them(disk: &mut Disk<HostRuntime>) -> Result<(), Fail> {
-    want(reads(&mut disk.blocks, 0, &[0, 7, 8, 9]), "all four")?;
-    want(reads(&mut disk.blocks, 2, &[8, 9]), "the last two")
+/// Reads them, by two runs.
+pub fn read_them<B: Blocks>(blocks: &mut B) -> Result<(), Fail> {
+    want(reads(blocks, 0, &[0, 7, 8, 9]), "all four")?;
+    want(reads(blocks, 2, &[8, 9]), "the last two")
 }
 
-fn lie_in_turn(bytes: &[u8]) -> Result<(), Fail> {
+/// The bytes of their file.
+pub fn lie_in_turn(bytes: &[u8]) -> Result<(), Fail> {
     if bytes.len() != 2048 {
         return Err("the file's length".into());
     }

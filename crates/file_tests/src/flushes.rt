@@ -1,12 +1,11 @@
 //! Flushes after one that failed.
+ghost use Rattle.std.specs.Prelude.{[], false, refl};
+
 use crate::files::{want, writes};
 use block_file::Blocks;
-use disk_files::{FileBlocks, Flushes, LastingFile};
+use disk_files::{BackingFile, FileBlocks, Flushes, LastingFile};
 use std::alloc::Global;
 use std::cell::Cell;
-use std::io;
-use std::io::{Seek, SeekFrom};
-use std::os::unix::fs::FileExt;
 use std::sync::Arc;
 use std::test::Fail;
 
@@ -29,24 +28,36 @@ impl Flushed {
     }
 }
 
-impl FileExt for Flushed {
-    fn read_at(&self, buf: &mut [u8], _offset: u64) -> io::Result<usize> {
-        Ok(buf.len())
-    }
+impl BackingFile for Flushed {
+    ghost claims = { false };
 
-    fn write_at(&self, buf: &[u8], _offset: u64) -> io::Result<usize> {
-        Ok(buf.len())
-    }
-}
+    ghost bytes = { λ f. [] };
 
-impl Seek for Flushed {
-    fn seek(&mut self, _to: SeekFrom) -> io::Result<u64> {
+    ghost may_hold = { λ f k value. Unit {0} };
+
+    ghost lasts = { λ writes. Unit {0} };
+
+    ghost is_outcome = { λ f k h lt. tt };
+
+    fn end(&self) -> Result<u64, u32> {
         Ok(2048)
+    }
+
+    fn read_at(&self, _room: &mut [u8], _offset: u64) -> Result<(), u32> {
+        Ok(())
+    }
+
+    fn write_at(&mut self, _part: &[u8], _offset: u64) -> Result<(), u32> {
+        Ok(())
+    }
+
+    fn flush(&mut self, writes: u64) -> Result<(), u32> {
+        self.make_last(writes)
     }
 }
 
 impl LastingFile for Flushed {
-    ghost lasts = { λ writes. Unit {0} };
+    ghost unclaimed = { refl };
 
     fn make_last(&self, _writes: u64) -> Result<(), u32> {
         let before = self.flushes.get();

@@ -12,6 +12,10 @@ mod lengths;
 #[cfg(test)]
 mod locks;
 #[cfg(test)]
+mod memory;
+#[cfg(test)]
 mod preparers;
 #[cfg(test)]
 mod registrations;
+#[cfg(test)]
+mod units;

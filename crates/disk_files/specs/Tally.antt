@@ -1,0 +1,15 @@
+-- What the device of a file counts.
+use Rattle.std.specs.Prelude.{ℕ, ◌+◌, false, min}
+use Rattle.block_file.specs.Failures.{last_count}
+use Rattle.disk_files.specs.declared.tally.Tally.{Tally}
+
+-- no call was made yet
+abbrev pub none : Tally
+none = record { opened = 0; written = 0; failed_reads = 0; failed_writes = 0; is_lost = false }
+
+abbrev pub all_failures : Tally → ℕ
+all_failures c = min (c.failed_reads + c.failed_writes) last_count
+
+-- it was opened once more; the failures go over, and that a flush failed
+abbrev pub once_more_opened : Tally → Tally
+once_more_opened c = record c { opened = min (c.opened + 1) last_count }

@@ -1,0 +1,147 @@
+//! A file in memory, which claims what it holds.
+ghost use Rattle.std.specs.Prelude.{◌≡◌, ◌⊎◌, ◌+◌, ◌≤◌, length, true, refl, replicate, IfOk, IfSome, IfNone};
+ghost use Rattle.std.proofs.Common.{inl};
+ghost use Rattle.block_file.specs.Cut.{run_of};
+ghost use Rattle.block_file.specs.Disk.{block_at};
+ghost use Rattle.disk_files.specs.Backing.{put};
+
+use crate::disks::{lie_in_turn, read_them, write_three};
+use crate::files::want;
+use block_file::Blocks;
+use disk_files::{BackingFile, FileBlocks};
+use std::alloc::{AllocError, Global};
+use std::test::Fail;
+
+/// A file in memory. A crash leaves each sector as it was when it was flushed last, or as it is.
+#[derive(Drop)]
+pub struct MemFile {
+    bytes: Vec<u8>,
+    lasting: Vec<u8>,
+    ghost as_long: { length lasting.items ≡ length bytes.items },
+}
+
+impl MemFile {
+    /// So many zero bytes.
+    pub fn new(alloc: Global, bytes: usize) -> Result<MemFile, AllocError>
+        ensures { IfOk result (λ f. f.bytes.items ≡ replicate bytes 0) }
+    {
+        Ok(MemFile {
+            bytes: vec![in alloc; 0u8; bytes]?,
+            lasting: vec![in alloc; 0u8; bytes]?,
+        })
+    }
+
+    /// The bytes.
+    pub fn bytes(&self) -> &[u8] {
+        &self.bytes
+    }
+
+    /// What a crash leaves that takes back all that was not flushed.
+    pub fn crash(self) -> MemFile
+        ensures { result.bytes.items ≡ self.lasting.items }
+    {
+        let MemFile { mut bytes, lasting } = self;
+        bytes.copy_from_slice(&lasting);
+        MemFile { bytes, lasting }
+    }
+
+    // Where a call of so many bytes at an offset begins, if it lies in the file.
+    fn place(&self, offset: u64, len: usize) -> Option<usize>
+        ensures some { IfSome result (λ from. (from ≡ offset) × (from + len ≤ length self.now.bytes.items)) }
+        ensures none { IfNone result (offset + len ≤ length self.now.bytes.items → ⊥) }
+    {
+        let from = usize::try_from(offset).ok()?;
+        match from.checked_add(len) {
+            Some(end) if end <= self.bytes.len() => Some(from),
+            _ => None,
+        }
+    }
+}
+
+impl BackingFile for MemFile {
+    ghost claims = { true };
+
+    ghost bytes = { λ f. f.bytes.items };
+
+    ghost may_hold = { λ f k value. (value ≡ block_at (run_of f.bytes.items) k)
+        ⊎ (value ≡ block_at (run_of f.lasting.items) k) };
+
+    // No other handle flushes it, so nobody asks.
+    ghost lasts = { λ writes. Unit {0} };
+
+    ghost is_outcome = { λ f k h lt. inl refl };
+
+    fn end(&self) -> Result<u64, u32> {
+        Ok(self.bytes.len() as u64)
+    }
+
+    fn read_at(&self, room: &mut [u8], offset: u64) -> Result<(), u32> {
+        let Some(from) = self.place(offset, room.len()) else {
+            return Err(0);
+        };
+        room.copy_from_slice(&self.bytes[from..from + room.len()]);
+        Ok(())
+    }
+
+    fn write_at(&mut self, part: &[u8], offset: u64) -> Result<(), u32> {
+        let Some(from) = self.place(offset, part.len()) else {
+            return Err(0);
+        };
+        lay(&mut self.bytes, from, part);
+        Ok(())
+    }
+
+    fn flush(&mut self, _writes: u64) -> Result<(), u32> {
+        self.lasting.copy_from_slice(&self.bytes);
+        Ok(())
+    }
+}
+
+// Lays bytes over those from a place on.
+fn lay(bytes: &mut Vec<u8>, from: usize, part: &[u8])
+    requires { from + length part.now ≤ length bytes.old.items }
+    ensures long { length bytes.new.items ≡ length bytes.old.items }
+    ensures is { bytes.new.items ≡ put bytes.old.items from part.now }
+{
+    bytes[from..from + part.len()].copy_from_slice(part);
+}
+
+/// The device of a file of so many zero blocks.
+pub fn device(alloc: Global, blocks: usize) -> Result<FileBlocks<MemFile>, Fail> {
+    device_of(MemFile::new(alloc, blocks.saturating_mul(512))?)
+}
+
+/// The device of this file.
+pub fn device_of(file: MemFile) -> Result<FileBlocks<MemFile>, Fail> {
+    match FileBlocks::of(file) {
+        Ok(device) => Ok(device),
+        Err(_) => Err("a device".into()),
+    }
+}
+
+#[test]
+fn blocks_lie_at_their_places(rt: HostRuntime) -> Result<(), Fail> {
+    let mut blocks = device(rt.alloc(), 4)?;
+    write_three(&mut blocks)?;
+    read_them(&mut blocks)?;
+    lie_in_turn(blocks.into_file().bytes())
+}
+
+#[test]
+fn a_crash_takes_back_what_was_not_flushed(rt: HostRuntime) -> Result<(), Fail> {
+    let mut blocks = device(rt.alloc(), 4)?;
+    write_three(&mut blocks)?;
+    let zeros = blocks.into_file().crash();
+    want(
+        zeros.bytes() == [0; 2048].as_slice(),
+        "zeros behind a crash",
+    )
+}
+
+#[test]
+fn a_crash_leaves_what_was_flushed(rt: HostRuntime) -> Result<(), Fail> {
+    let mut blocks = device(rt.alloc(), 4)?;
+    write_three(&mut blocks)?;
+    want(blocks.flush().is_ok(), "a flush")?;
+    lie_in_turn(blocks.into_file().crash().bytes())
+}
