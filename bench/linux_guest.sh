@@ -42,6 +42,17 @@ fails() {
     shift
     if "$@" > $F 2>&1; then echo "FAILED  $what: $* did not fail"; else echo "ok      $what"; fi
 }
+# what, for how many seconds at most, then the command
+soon() {
+    local what=$1 seconds=$2
+    shift 2
+    for ((i = 0; i < seconds; i++)); do
+        "$@" > $F 2>&1 && echo "ok      $what (after $i s)" && return
+        sleep 1
+    done
+    echo "FAILED  $what: $*"
+    tail -15 $F
+}
 has() {
     if grep -q -e "$1" $F; then echo "ok        it says: $1"; else echo "FAILED    it does not say: $1"; tail -15 $F; fi
 }
@@ -147,9 +158,12 @@ down_and_look() {
 }
 what='down 1'
 over x 30 down_and_look 1 '3 0'
+# controller 1 is brought back, and the host has both paths again, before the other one goes down
+both_paths() { test "$(multipath -ll $map0 | grep -c 'active ready')" = 2; }
+try 'sg_stpg brings controller 1 back' sg_stpg --tp 1,2 --state 0,1 $path2
+soon 'the host has both paths again' 60 both_paths
 what='down 2'
 over x 30 down_and_look 2 '0 3'
-# brought back by a host
 try 'sg_rtpg' sg_rtpg -d $path1
 cat $F
 what='a restart of the array'
@@ -162,20 +176,26 @@ over x 40 kill_it
 what='a dropped connection'
 drop() { ss -K dst $A dport = 24260 > /dev/null; ss -K dst $A dport = 24264 > /dev/null; }
 over x 30 drop
-sleep 8
-try 'both sessions are there again' sh -c 'test $(iscsiadm -m session -P 1 2> /dev/null | grep -c "LOGGED IN") = 2'
+soon 'both sessions are there again' 60 sh -c 'test $(iscsiadm -m session -P 1 2> /dev/null | grep -c "LOGGED IN") = 2'
 multipath -ll $map0
 
 # what a host does by itself with failback immediate
 conf immediate
 multipathd reconfigure > /dev/null
 sleep 5
+# it depends on the path that the map uses, and on its load: what is seen is told
 taken_back() {
     tell 'down 1'
-    become 'failback immediate: the host takes controller 1 again by itself' 20 '0 1'
+    was=
+    for ((i = 0; i < 60; i++)); do
+        now=$(states)
+        [ "$now" = "$was" ] || echo "seen    failback immediate, after $i s: $now"
+        was=$now
+        sleep 1
+    done
 }
 what='down 1 with failback immediate'
-over x 30 taken_back
+over x 75 taken_back
 conf manual
 multipathd reconfigure > /dev/null
 sleep 3

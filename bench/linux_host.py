@@ -2,7 +2,8 @@
 """Boots a Linux host with the kernel's own iSCSI initiator and dm-multipath in qemu, and runs bench/linux_guest.sh there
 against the array: discovery, both paths, multipath's table, IO with verification over `down`, over a restart and over a dropped
 connection, persistent reservations by sg_persist and mpathpersist, COMPARE AND WRITE, a bigger disk. Not part of the gate: it
-takes some minutes, since the host's processor is emulated.
+takes some minutes, since the host's processor is emulated. On a machine that has much else to do the host stalls, and its own time-outs
+run off: give it priority there.
 
 usage: bench/linux_host.py build FOLDER       makes FOLDER/vmlinuz and FOLDER/initrd.gz of Debian's packages (root, the network)
        bench/linux_host.py run FOLDER         starts the array, boots the host, prints what it says; status 1 where a line of it

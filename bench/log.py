@@ -1,17 +1,17 @@
 #!/usr/bin/env python3
 """Provokes what the log tells, and compares each line with what it has to be. Every line of every case is looked at too: one
 line an event, its time, then `key=value`, printing characters alone, quotes where a name stands. Prints a line for each case;
-ends with status 1 where something is otherwise.
+then, where all were tried, each word that a line may have and that no case had, and why. Ends with status 1 where something is
+otherwise, or where a word is missing that a case has to provoke.
 
-usage: bench/log.py [NAME..]        all, where none is named
+usage: bench/log.py [--table] [NAME..]      all, where none is named; --table prints which cases had which words
 
-The program is ./arrayd, or what the environment's ARRAYD names. Some cases want root, a loop device or a file system of their own,
-and say so where they are left out. Not provoked are `lacks` of a TSIH, a number or memory, `wanting what=memory` and `connection`,
-`why=no_memory`, `bad_list` and `gone`.
+The program is ./arrayd, or what the environment's ARRAYD names. Some cases want root, a loop device, a file system of their own, or
+a C compiler (bench/failing.py), and say so where they are left out.
 """
 
+import argparse
 import os
-import re
 import resource
 import shutil
 import socket
@@ -20,109 +20,31 @@ import sys
 import tempfile
 import time
 
-from initiator import CHECK_CONDITION, GOOD, Closed, Refused, Session
+import log_failing  # its cases
+import log_lines
+from initiator import BUSY, GOOD, Closed, Refused, Session
+from log_lines import CASES, ISID, TIME, Log, case, disk, login, read, write
 from running import PORT, TARGET, Array, Wrong, ended, made
-from trouble import Mounted, NotHere, flush, run
+from trouble import Mounted, NotHere, end_of, flush, is_so, root, run
 
-ISID = 0x400001370000
 NOBODY = 65534
-TIME = re.compile(r"time=(\d{4})-(\d\d)-(\d\d)T(\d\d):(\d\d):(\d\d)\.(\d{6})Z ")
-FIELD = re.compile(r'([a-z_]+)=("(?:[^"\\]|\\["\\]|\\x[0-9a-f]{2})*"|[^ "]+)(?: |$)')
-CASES = []
+
+# Each command that has a name in the log, and one that has none, at unit 1.
+COMMANDS = {
+    "read": lambda s: s.command(1, [0x28, 0, 0, 0, 0, 0, 0, 0, 1, 0], expected=512),
+    "write": lambda s: s.command(1, [0x2A, 0, 0, 0, 0, 0, 0, 0, 1, 0], out=bytes(512)),
+    "compare_and_write": lambda s: s.compare_and_write(1, 0, bytes(512), bytes(512)),
+    "synchronize_cache": lambda s: s.command(1, [0x35] + [0] * 9),
+    "persistent_reserve_out": lambda s: s.reserve_out(1, 0, new_key=5),
+    "set_target_port_groups": lambda s: s.set_port_groups(1, [(2, 0), (1, 1)]),
+    "other": lambda s: s.command(1, [0x12, 0, 0, 0, 252, 0], expected=252),
+}
 
 # InitiatorNames as nobody should have them: each is one line's text, and what it was.
 HOSTILE = [
     "a\ntime=2026-01-01T00:00:00.000000Z event=ready", "quote\" event=\"", "back\\slash\\", "\x1b[2J\x1b]0;title\x07",
     "\r\r\t\x7f", "\u2028\u00e9\U0001f600", "x" * 223, " ", "=", "\\x41",
 ]
-
-
-def case(function):
-    CASES.append(function)
-    return function
-
-
-def is_so(what, found, wanted):
-    if found != wanted:
-        raise Wrong(f"{what}: {found!r}, and not {wanted!r}")
-
-
-def unquoted(value):
-    """What a quoted value names."""
-    if not value.startswith('"'):
-        return value
-    parts = re.findall(rb'\\x([0-9a-f]{2})|\\(["\\])|([^\\])', value[1:-1].encode())
-    return b"".join(bytes([int(a, 16)]) if a else b or c for a, b, c in parts).decode("utf-8", "replace")
-
-
-def fields_of(line):
-    """The fields of a line, which has to be spelled as lines are."""
-    if not TIME.match(line) or any(not 32 <= ord(c) < 127 for c in line):
-        raise Wrong(f"no line of a log: {line!r}")
-    rest, fields = line[TIME.match(line).end():], {}
-    while rest:
-        field = FIELD.match(rest)
-        if not field or field[1] in fields:
-            raise Wrong(f"no fields: {rest!r} of {line!r}")
-        fields[field[1]] = unquoted(field[2])
-        rest = rest[field.end():]
-    if next(iter(fields)) != "event":
-        raise Wrong(f"no event: {line!r}")
-    return fields
-
-
-class Log:
-    """The log of an array."""
-
-    def __init__(self, folder):
-        self.path = os.path.join(folder, "log")
-
-    def all(self):
-        try:
-            with open(self.path, "rb") as file:
-                text = file.read().decode("latin-1")
-        except FileNotFoundError:
-            return []
-        if text and not text.endswith("\n"):
-            return self.all()
-        return [fields_of(line) for line in text.split("\n")[:-1]]
-
-    def find(self, event, count=1, seconds=5, **wanted):
-        """The only line of this event that has these fields, or so many: waits for them."""
-        until = time.monotonic() + seconds
-        while True:
-            lines = [line for line in self.all() if line["event"] == event and wanted.items() <= line.items()]
-            if len(lines) >= count:
-                is_so(f"lines of {event} {wanted}", len(lines), count)
-                return lines[0]
-            if time.monotonic() > until:
-                raise Wrong(f"no line of {event} with {wanted} among {self.all()}")
-            time.sleep(0.01)
-
-    def events(self):
-        return [line["event"] for line in self.all()]
-
-
-def disk(folder, name="disk", blocks=64):
-    return made(os.path.join(folder, name), blocks)
-
-
-def login(controller=1, number=0, name="iqn.2000-01.test:host"):
-    session = Session("127.0.0.1", PORT + 4 * (controller - 1), TARGET, name, ISID + number, timeout=20)
-    session.ready(0)
-    return session
-
-
-def end_of(reply):
-    return reply.status if reply.status != CHECK_CONDITION else "%02X %02X/%02X" % reply.sense_key()
-
-
-def write(session, lba=0):
-    return end_of(session.command(0, [0x2A, 0, *lba.to_bytes(4, "big"), 0, 0, 1, 0], out=bytes(512)))
-
-
-def read(session, lba=0):
-    return end_of(session.command(0, [0x28, 0, *lba.to_bytes(4, "big"), 0, 0, 1, 0], expected=512))
 
 
 # ---- start and end
@@ -408,8 +330,9 @@ def busy(folder, log):
                 time.sleep(0.3)
                 array.tell("quit")
                 log.find("stopping")
-                other.command(1, [0x2A, 0, 0, 0, 0, 0, 0, 0, 1, 0], out=bytes(512))
-                log.find("busy", unit="1", command="write", group="2", isid=hex(ISID + 1))
+                for command, send in COMMANDS.items():
+                    is_so(command, send(other).status, BUSY)
+                    log.find("busy", unit="1", command=command, group="2", isid=hex(ISID + 1))
             finally:
                 run("fsfreeze", "-u", place.place)
             array.process.wait(20)
@@ -432,8 +355,7 @@ def want_of_descriptors(folder, log):
 
 @case
 def want_of_threads(folder, log):
-    if os.geteuid() != 0:
-        return "left out: it wants root"
+    root()
     path = disk(folder)
     os.chown(path, NOBODY, NOBODY)
     os.chown(folder, NOBODY, NOBODY)
@@ -472,7 +394,7 @@ def log_that_nobody_takes(folder, log):
             session.logout()
         before = time.monotonic()
         is_so("it ends", array.quit(), 0)
-        is_so("it ends soon", time.monotonic() - before < 3, True)
+        is_so("it ends soon", time.monotonic() - before < 10, True)
 
 
 @case
@@ -502,28 +424,73 @@ def many_at_once(folder, log):
     is_so(f"{lost} were dropped", lost < 6, True)
 
 
+# ---- all of it
+
+# Events and words that no case provokes, and why.
+NEVER = {
+    ("login_refused", "lacks", "tsih"): "there are 65,535, and so many sessions at once take some 20 GiB of memory",
+    ("login_refused", "lacks", "number"): "2^64 sessions have to begin before",
+    ("not_moved", "why", "bad_list"): "the console's list is a good one, whatever the states are",
+    ("not_moved", "why", "gone"): "a unit has to be asked 2^64 times before",
+    ("not_moved", "by", "session"): "a session is answered, and the line is command_failed",
+    ("session_ended", "why", "no_memory"): "a session that has logged in has what it needs",
+    ("connection_ended", "why", "logout"): "who has not logged in is refused: login_refused",
+    ("connection_ended", "why", "replaced_by_same_initiator"): "who has not logged in has no place that another takes",
+    ("command_failed", "command", "other"): "no other command reaches a device",
+    **{("login_refused", "words", words): "the array never answers so" for words in (
+        "Authorization failure", "Target removed", "Can't include in session", "Target error", "Service unavailable")},
+}
+
+
 def tried(function):
+    """Whether a case is as it has to be, and whether it was tried."""
     folder = tempfile.mkdtemp(prefix="arrayd-log-")
+    log, said, is_right, was_tried = Log(folder, function.__name__), "so", True, True
     try:
-        left_out = function(folder, Log(folder))
-        print(f"{function.__name__:36} {left_out or 'so'}", flush=True)
-        return True
+        function(folder, log)
     except NotHere as why:
-        print(f"{function.__name__:36} left out: {why}", flush=True)
-        return True
+        said, was_tried = f"left out: {why}", False
     except (Wrong, Refused, Closed, OSError) as fault:
-        print(f"{function.__name__:36} NOT SO: {type(fault).__name__} {fault}", flush=True)
-        return False
+        said, is_right = f"NOT SO: {type(fault).__name__} {fault}", False
     finally:
+        log.all()
         shutil.rmtree(folder, ignore_errors=True)
+    print(f"{function.__name__:42} {said}", flush=True)
+    return is_right, was_tried
+
+
+def is_each_word_told():
+    """Whether each word that a line may have was told, but for those that never are."""
+    spelled = log_lines.spelled()
+    for event, field, word in sorted(spelled - set(log_lines.TOLD)):
+        why = NEVER.get((event, field, word), "NOT PROVOKED, though it has to be")
+        print(f"event={event} {field}={word}: {why}")
+    told = [row for row in NEVER if row in log_lines.TOLD or row not in spelled]
+    if told:
+        print(f"told, or not to be spelled, though it is listed as never told: {told}")
+    return spelled - set(log_lines.TOLD) <= set(NEVER) and not told
+
+
+def print_table():
+    for event, field, word in sorted(log_lines.spelled() & set(log_lines.TOLD)):
+        cases = list(log_lines.TOLD[event, field, word])
+        print(f"event={event} {field}={word}: {' '.join(cases[:3])}{' ..' if len(cases) > 3 else ''}")
 
 
 def main():
-    named = sys.argv[1:]
-    chosen = [function for function in CASES if not named or function.__name__ in named]
+    words = argparse.ArgumentParser(usage=__doc__.split("usage: ")[1].splitlines()[0])
+    words.add_argument("--table", action="store_true")
+    words.add_argument("names", nargs="*")
+    words = words.parse_args()
+    chosen = [function for function in CASES if not words.names or function.__name__ in words.names]
     ends = [tried(function) for function in chosen]
-    print(f"{ends.count(True)} so, {ends.count(False)} not")
-    sys.exit(0 if all(ends) else 1)
+    print(f"{sum(right for right, _ in ends)} so, {sum(not right for right, _ in ends)} not")
+    if words.table:
+        print_table()
+    is_right = all(right for right, _ in ends)
+    if not words.names and all(was_tried for _, was_tried in ends):
+        is_right = is_each_word_told() and is_right
+    sys.exit(0 if is_right else 1)
 
 
 if __name__ == "__main__":

@@ -45,22 +45,22 @@ def begins(user=None, largest=None, limit=None):
     return begin
 
 
-def environment(log):
-    """The environment of an array whose log is this file; none: it has none."""
+def environment(log, more=None):
+    """The environment of an array whose log is this file; none: it has none. And more of it."""
     kept = {name: value for name, value in os.environ.items() if name != "ARRAYD_LOG"}
     if log is not None:
         kept["ARRAYD_LOG"] = log
-    return kept
+    return {**kept, **(more or {})}
 
 
 class Array:
     """A running array."""
 
-    def __init__(self, disks, port=PORT, options=(), user=None, largest=None, limit=None, log=None):
+    def __init__(self, disks, port=PORT, options=(), user=None, largest=None, limit=None, log=None, more=None):
         self.port = port
         words = [ARRAYD, "--port", str(port), *options, *disks]
         self.process = subprocess.Popen(words, stdin=subprocess.PIPE, stdout=subprocess.PIPE, stderr=subprocess.PIPE,
-                                        text=True, preexec_fn=begins(user, largest, limit), env=environment(log))
+                                        text=True, preexec_fn=begins(user, largest, limit), env=environment(log, more))
         if self.process.stdout.readline() != "arrayd: ready\n":
             raise Wrong(f"the array is not ready: {self.process.stderr.read().strip()}")
 
@@ -102,8 +102,9 @@ class Array:
         self.kill()
 
 
-def ended(words, user=None, largest=None, log=None):
+def ended(words, user=None, largest=None, log=None, more=None):
     """Exit status and standard error of a start that fails."""
     done = subprocess.run([ARRAYD, *words], stdin=subprocess.DEVNULL, stdout=subprocess.PIPE, stderr=subprocess.PIPE,
-                          text=True, timeout=30, check=False, preexec_fn=begins(user, largest), env=environment(log))
+                          text=True, timeout=30, check=False, preexec_fn=begins(user, largest),
+                          env=environment(log, more))
     return done.returncode, done.stderr.strip()

@@ -1,7 +1,7 @@
 //! The lines of the log, as they are to be read.
 use event_log::{
-    Action, By, Call, Cause, Event, Initiator, Kind, Part, Path, Place, Reservation, Stamp, Why,
-    spell,
+    Action, By, Call, Cause, Event, Initiator, Kind, Part, Path, Place, Reservation, Stamp, Stayed,
+    Why, spell,
 };
 use std::alloc::Global;
 use std::net::{Ipv4Addr, SocketAddrV4};
@@ -12,6 +12,12 @@ use std::time::Duration;
 const WHO: Initiator<'static> = Initiator {
     name: b"iqn.a\n\"b\\\x1b[2J\xff",
     isid: 0x4000_0137_0000,
+};
+
+// An initiator port for which nothing was left.
+const LATE: Initiator<'static> = Initiator {
+    name: b"iqn.late",
+    isid: 1,
 };
 
 // How it came.
@@ -69,6 +75,23 @@ fn events_are_spelled(rt: HostRuntime) -> Result<(), Fail> {
         (
             Event::DeviceFailed(0, Part::Disk, Call::Write, PLACE, 28),
             "event=device_failed unit=0 file=disk call=write block=200 blocks=8 errno=28 error=ENOSPC",
+        ),
+        // No array comes to these while somebody looks on.
+        (
+            Event::LoginRefused(LATE, path(), 0x0302, Cause::NoTsih),
+            "event=login_refused initiator=\"iqn.late\" isid=0x1 from=10.0.5.7:41022 portal=10.0.5.1:3264 tag=2 status=0x302 words=\"Out of resources\" lacks=tsih",
+        ),
+        (
+            Event::LoginRefused(LATE, path(), 0x0302, Cause::NoNumber),
+            "event=login_refused initiator=\"iqn.late\" isid=0x1 from=10.0.5.7:41022 portal=10.0.5.1:3264 tag=2 status=0x302 words=\"Out of resources\" lacks=number",
+        ),
+        (
+            Event::NotMoved(3, 2, Stayed::BadList, By::Console),
+            "event=not_moved unit=3 to=2 why=bad_list by=console",
+        ),
+        (
+            Event::NotMoved(7, 1, Stayed::Gone, By::Console),
+            "event=not_moved unit=7 to=1 why=gone by=console",
         ),
     ];
     for (event, wanted) in rows {

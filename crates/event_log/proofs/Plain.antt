@@ -1,7 +1,7 @@
 -- The line of an event has printing characters alone, whatever an initiator or a path is called.
-use Rattle.std.proofs.Common.{◌≡◌, ℕ, zero, suc, ◌+◌, ◌<◌, ◌≤◌, ◌/◌, ◌%◌, List, [], ◌∷◌, ◌++◌, Bool, true, false, ◌&&◌, ◌∙◌, not, refl, ap, arith}
+use Rattle.std.proofs.Common.{◌≡◌, ℕ, zero, suc, ◌<◌, ◌/◌, ◌%◌, List, [], ◌∷◌, ◌++◌, Bool, true, false, ◌&&◌, ◌∙◌, refl, arith}
 use Rattle.std.specs.Bool.{◌==◌}
-use Rattle.std.specs.Prelude.{slice_index, nat_lt, nat_eq, if◌then◌else◌, codes}
+use Rattle.std.specs.Prelude.{slice_index, nat_eq, if◌then◌else◌, codes}
 use Rattle.std.specs.List.{list_all, flat_map}
 use Rattle.std.specs.Fmt.{decimal, digits, digits_onto, digit_glyph}
 use Rattle.std.specs.Net.Addr.{ipv4_octets}
@@ -13,16 +13,14 @@ use Rattle.std.proofs.lemmas.List.Folds.{list_all-append}
 use Rattle.event_log.specs.Words.{kind_text, stayed_text, action_text, operation_text, part_text, call_text, resource_text}
 use Rattle.event_log.specs.Words.{unusable_text, named, statuses, status_text, rejects, reject_text, errors, error_text}
 use Rattle.event_log.specs.Text.{is_plain, are_plain, hex_digit, escaped, quoted, joined, hex, initiator_in, path_in, by_in, cause_in}
-use Rattle.event_log.specs.Text.{why_in, session_in, portal_in, error_in, command_in, sense_in, file_in, failed_in, set_in, stay_in}
+use Rattle.event_log.specs.Text.{why_in, session_in, error_in}
 use Rattle.event_log.specs.Text.{parts, text_of}
 use Rattle.event_log.specs.declared.words.Cause.{Cause}
 use Rattle.event_log.specs.declared.words.Cause.TheVariants as causes
 use Rattle.event_log.specs.declared.words.Why.{Why}
 use Rattle.event_log.specs.declared.words.Why.TheVariants as whys
-use Rattle.event_log.specs.declared.words.Sense.{Sense}
 use Rattle.event_log.specs.declared.event.Initiator.{Initiator}
 use Rattle.event_log.specs.declared.event.Path.{Path}
-use Rattle.event_log.specs.declared.event.Place.{Place}
 use Rattle.event_log.specs.declared.event.By.{By}
 use Rattle.event_log.specs.declared.event.By.TheVariants.{Console, Session}
 use Rattle.event_log.specs.declared.event.Event.{Event}

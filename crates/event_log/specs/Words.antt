@@ -1,5 +1,5 @@
 -- The words of the log: one name each, of lower-case letters, or what the standard calls it.
-use Rattle.std.specs.Prelude.{ℕ, Bool, nat_eq, if◌then◌else◌, List, [], ◌∷◌, codes}
+use Rattle.std.specs.Prelude.{ℕ, nat_eq, if◌then◌else◌, List, [], ◌∷◌, codes}
 use Rattle.event_log.specs.declared.words.Kind.{Kind}
 use Rattle.event_log.specs.declared.words.Kind.TheVariants as kinds
 use Rattle.event_log.specs.declared.words.Stayed.{Stayed}

@@ -1,4 +1,7 @@
 //! What tellers and the writer of a log share.
+ghost use Rattle.std.specs.Prelude.{◌≡◌, ◌++◌, codes, if◌then◌else◌};
+ghost use Rattle.std.specs.String.{string_bytes};
+ghost use Rattle.event_log.specs.Text.{text_of};
 
 use crate::event::Event;
 use crate::spelling::spell;
@@ -55,7 +58,10 @@ impl Waiting {
     }
 
     // Keeps the line of an event without its time. False: there was no room for it.
-    fn keep(&mut self, event: &Event<'_>) -> bool {
+    fn keep(&mut self, event: &Event<'_>) -> bool
+        ensures { string_bytes self.new.untimed ≡ (if result then string_bytes self.old.untimed ++ text_of event.now ++ codes "\n"
+            else string_bytes self.old.untimed) }
+    {
         self.line.clear();
         if spell(&mut self.line, event).is_err() || self.line.push('\n').is_err() {
             return false;
