@@ -2,7 +2,7 @@
 use crate::lines::{Array, UnitStatus};
 use block_file::{Blocks, Opener};
 use event_log::{By, Event, Log, Stayed};
-use failover::take_down;
+use failover::{Mover, take_down};
 use numbering::Array as Naming;
 use portal::Controllers;
 use scsi_types::Group;
@@ -86,8 +86,8 @@ impl<R: Wait + Clock, B: Blocks, F: Blocks, O: Opener<B>, N: Naming<Opened>> Arr
 
     fn down(&mut self, controller: Group) -> Result<(), usize> {
         let units = self.controllers.units();
-        let (_moves, end) = take_down(self.rt, units, controller);
-        match end {
+        let mut mover = Mover::new(units);
+        match take_down(self.rt, &mut mover, controller) {
             Ok(()) => {
                 self.tell_down(controller, units.count(), None);
                 Ok(())

@@ -1,1 +1,2 @@
-mod Moves
+mod Down
+mod Kept

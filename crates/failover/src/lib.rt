@@ -1,36 +1,34 @@
 //! Moves of an array's units between its controllers, without a session that asks for them.
 #![tactic(auto)]
 
-ghost use Rattle.std.specs.Prelude.{◌≡◌, ◌<◌, IfOk, IfErr};
+ghost use Rattle.std.specs.Prelude.{◌≡◌, ◌<◌, [], IfOk, IfErr};
 ghost use Rattle.unit_history.specs.Calls.{HasMoved, HasStayed};
 ghost use Rattle.unit_history.specs.Devices.{devices};
 ghost use Rattle.failover.specs.Down.{AreDown, IsStopped, down_list};
 
+mod mover;
+
 use access_states::Change;
 use block_file::{Blocks, Opener};
+pub use mover::{GroupsList, Mover, Moves};
 use numbering::Array;
 use scsi_types::Group;
 use std::sync::Wait;
-use unit_history::{LegalHistory, MOST_UNITS, Opened, Units};
+use unit_history::{LegalHistory, Opened, Units};
 use unit_state::MoveFault;
 
-/// What was seen of each unit as it moved, by the units' places.
-pub type Moves<B, R, O, N> = [Option<LegalHistory<B, R, O, N>>; MOST_UNITS];
-
 /// A unit did not move.
-#[derive(Drop)]
-pub struct NotMoved<B: Blocks, R: Blocks, O: Opener<B>, N: Array<Opened>> {
+#[derive(Clone, Copy, Debug, PartialEq, Eq)]
+pub struct NotMoved {
     /// The place of the first that did not. Those before it moved, and those behind it were not asked.
     pub unit: usize,
-    /// What was seen of it.
-    pub seen: LegalHistory<B, R, O, N>,
     /// Why it stays.
     pub why: MoveFault,
 }
 
 /// The parameter list by which a controller goes down (SPC-4, 6.45): the other group becomes active/optimized, and its own
 /// unavailable.
-fn down_list(controller: Group) -> [u8; 12]
+fn down_list(controller: Group) -> GroupsList
     ensures { result ≡ down_list controller }
 {
     match controller {
@@ -59,31 +57,23 @@ pub fn set_groups<B: Blocks, R: Blocks, O: Opener<B>, N: Array<Opened>, W: Wait>
 }
 
 /// Takes a controller down, unit by unit: the other group becomes active/optimized, and its own unavailable. It stops at the
-/// first unit that does not move; those before it stay moved. What was seen of each unit that moved is handed out. The
+/// first unit that does not move; those before it stay moved. Nothing else is moved, as the moves that are kept show. The
 /// controller's portals stay open, and SET TARGET PORT GROUPS brings it back.
-pub fn take_down<B: Blocks, R: Blocks, O: Opener<B>, N: Array<Opened>, W: Wait>(
+pub fn take_down<W: Wait, M: Moves>(
     rt: &W,
-    units: &Units<B, R, O, N>,
+    units: &mut M,
     controller: Group,
-) -> (Moves<B, R, O, N>, Result<(), NotMoved<B, R, O, N>>)
-    ensures down { IfOk result.1 (λ done. AreDown (devices B.Blocks R.Blocks O.Opener) N.opening controller units.now result.0) }
-    ensures stopped { IfErr result.1 (λ end. (end.unit < units.now)
-        × AreDown (devices B.Blocks R.Blocks O.Opener) N.opening controller end.unit result.0
-        × IsStopped (devices B.Blocks R.Blocks O.Opener) (N.opening end.unit) controller end.unit end.seen end.why) }
+) -> Result<(), NotMoved>
+    requires fresh { M.moved units.old ≡ [] }
+    ensures down { IfOk result (λ done. AreDown M.made controller (M.units units.old) (M.moved units.new)) }
+    ensures stopped { IfErr result (λ end. (end.unit < M.units units.old)
+        × IsStopped M.made controller end.unit end.why (M.moved units.new)) }
 {
     let list = down_list(controller);
-    let mut moves = [None, None, None, None, None, None, None, None];
     for place in 0..units.count() {
-        let (seen, end) = set_groups(rt, units, place, &list);
-        if let Err(why) = end {
-            let stopped = NotMoved {
-                unit: place,
-                seen,
-                why,
-            };
-            return (moves, Err(stopped));
+        if let Err(why) = units.move_to(rt, place, &list) {
+            return Err(NotMoved { unit: place, why });
         }
-        moves[place] = Some(seen);
     }
-    (moves, Ok(()))
+    Ok(())
 }

@@ -3,7 +3,7 @@ ghost use Rattle.std.specs.Prelude.{◌≡◌, ◌<◌, ◌≤◌, length};
 ghost use Rattle.unit_history.specs.Naming.{IsNamed};
 
 use block_file::{Blocks, MemBlocks, Opener};
-use failover::{set_groups, take_down};
+use failover::{Mover, set_groups, take_down};
 use forwarding::{Desk, Job};
 use numbering::Array as Naming;
 use scsi_types::Group;
@@ -80,8 +80,8 @@ impl<B: Blocks, O: Opener<B>, N: Naming<Opened>> Shared<B, O, N> {
 
     /// The controller of a group goes down, or the first unit that does not move is told.
     pub fn take_down<W: Wait>(&self, rt: &W, group: Group) -> Result<(), (usize, MoveFault)> {
-        let (_moves, end) = take_down(rt, &self.units, group);
-        match end {
+        let mut mover = Mover::new(&self.units);
+        match take_down(rt, &mut mover, group) {
             Ok(()) => Ok(()),
             Err(stopped) => Err((stopped.unit, stopped.why)),
         }

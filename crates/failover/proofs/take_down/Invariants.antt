@@ -1,9 +1,8 @@
-use Rattle.std.proofs.Common.{◌≡◌, length}
-use Rattle.unit_history.specs.Devices.{devices}
+use Rattle.std.specs.Prelude.{◌≡◌}
 use Rattle.failover.specs.Down.{AreDown}
 use Rattle.failover.proofs.take_down.Given as goal
 
 abbrev pub invariant-loop-place : goal.invariant-loop-place
 invariant-loop-place g l =
-    (length l.moves ≡ 8)
-    × AreDown (devices g.B.Blocks g.R.Blocks g.O.Opener) g.N.Array.opening l.fn.controller l.place l.moves
+    (g.M.Moves.units l.units ≡ g.M.Moves.units l.fn.units)
+    × AreDown g.M.Moves.made l.fn.controller l.place (g.M.Moves.moved l.units)

@@ -1,0 +1,158 @@
+//! Who moves the units of an array, and keeps what was moved.
+ghost use Rattle.std.specs.Prelude.{◌≡◌, ◌<◌, ◌≤◌, ◌++◌, ◌∷◌, [], ℕ, List, length};
+ghost use Rattle.failover.specs.Down.{Move};
+
+use crate::set_groups;
+use access_states::Change;
+use block_file::{Blocks, Opener};
+use numbering::Array;
+use std::marker::Model;
+use std::sync::Wait;
+use unit_history::{LegalHistory, MOST_UNITS, Opened, Units};
+use unit_state::MoveFault;
+
+/// A parameter list of SET TARGET PORT GROUPS with a descriptor for each group (SPC-4, 6.45).
+pub type GroupsList = [u8; 12];
+
+/// The way to the units for who is to move them and nothing else. Each move that is made by it is kept.
+pub trait Moves {
+    /// How many units there are.
+    ghost units: { Self → ℕ };
+
+    /// The moves that were made, the first first.
+    ghost moved: { Self → List Move };
+
+    /// What such a move shows.
+    ghost made: { Move → Type 0 };
+
+    /// How many units there are.
+    fn count(&self) -> usize
+        ensures count { result ≡ units self.now }
+        ensures few { result ≤ 8 };
+
+    /// Moves the unit at a place as a list says, or tells why it stays. There is room for eight moves.
+    fn move_to<W: Wait>(
+        &mut self,
+        rt: &W,
+        place: usize,
+        list: &GroupsList,
+    ) -> Result<Change, MoveFault>
+        requires place { place < units self.old }
+        requires room { length (moved self.old) < 8 }
+        ensures units { units self.new ≡ units self.old }
+        ensures moved { (m : Move) × (moved self.new ≡ moved self.old ++ m ∷ [])
+            × (m.place ≡ place) × (m.list ≡ list.now) × (m.end ≡ result) × made m };
+}
+
+/// A move, as it is kept.
+#[derive(Drop)]
+struct Moved<B: Blocks, R: Blocks, O: Opener<B>, N: Array<Opened>> {
+    list: GroupsList,
+    seen: LegalHistory<B, R, O, N>,
+    end: Result<Change, MoveFault>,
+}
+
+impl<B: Blocks, R: Blocks, O: Opener<B>, N: Array<Opened>> Model for Moved<B, R, O, N> {
+    ghost use Rattle.failover.specs.Down.{Move};
+
+    ghost Value = { Move };
+
+    ghost view = { λ m. record { place = m.seen.0; list = m.list; seen = m.seen.1; end = m.end } };
+}
+
+/// Moves that were made, the first first. It has room for eight.
+#[derive(Drop)]
+struct Kept<B: Blocks, R: Blocks, O: Opener<B>, N: Array<Opened>> {
+    moves: [Option<Moved<B, R, O, N>>; MOST_UNITS],
+    count: usize,
+}
+
+impl<B: Blocks, R: Blocks, O: Opener<B>, N: Array<Opened>> Model for Kept<B, R, O, N> {
+    ghost use Rattle.std.specs.Prelude.{◌≡◌, List, length};
+    ghost use Rattle.failover.specs.Down.{AreFirst, Move, kept_in};
+
+    ghost Value = { List Move };
+
+    ghost view = { λ k. kept_in k.moves };
+
+    ghost invariant = { λ k. (length k.moves ≡ 8) × AreFirst k.moves × (k.count ≡ length (kept_in k.moves)) };
+}
+
+impl<B: Blocks, R: Blocks, O: Opener<B>, N: Array<Opened>> Kept<B, R, O, N> {
+    // None yet.
+    fn new() -> Kept<B, R, O, N>
+        ensures { result ≡ [] }
+    {
+        Kept {
+            moves: [None, None, None, None, None, None, None, None],
+            count: 0,
+        }
+    }
+
+    // One more.
+    fn push(&mut self, moved: Moved<B, R, O, N>)
+        requires { length self.old < 8 }
+        ensures { self.new ≡ self.old ++ moved ∷ [] }
+    {
+        self.moves[self.count] = Some(moved);
+        self.count += 1;
+    }
+}
+
+/// Moves the units of an array, and keeps what was moved. It takes no memory.
+#[derive(Drop)]
+pub struct Mover<'a, B: Blocks, R: Blocks, O: Opener<B>, N: Array<Opened>> {
+    units: &'a Units<B, R, O, N>,
+    kept: Kept<B, R, O, N>,
+}
+
+impl<'a, B: Blocks, R: Blocks, O: Opener<B>, N: Array<Opened>> Model for Mover<'a, B, R, O, N> {
+    ghost use Rattle.failover.specs.Down.{MoverValue};
+
+    ghost Value = { MoverValue };
+
+    ghost view = { λ m. record { units = m.units.now; moved = m.kept } };
+}
+
+impl<'a, B: Blocks, R: Blocks, O: Opener<B>, N: Array<Opened>> Mover<'a, B, R, O, N> {
+    /// By it nothing was moved yet.
+    pub fn new(units: &'a Units<B, R, O, N>) -> Mover<'a, B, R, O, N>
+        ensures units { result.units ≡ units.now }
+        ensures moved { result.moved ≡ [] }
+    {
+        Mover {
+            units,
+            kept: Kept::new(),
+        }
+    }
+}
+
+impl<'a, B: Blocks, R: Blocks, O: Opener<B>, N: Array<Opened>> Moves for Mover<'a, B, R, O, N> {
+    ghost use Rattle.unit_history.specs.Devices.{devices};
+    ghost use Rattle.failover.specs.Down.{IsMade};
+
+    ghost units = { λ m. m.units };
+
+    ghost moved = { λ m. m.moved };
+
+    ghost made = { IsMade (devices B.Blocks R.Blocks O.Opener) N.opening };
+
+    fn count(&self) -> usize {
+        self.units.count()
+    }
+
+    fn move_to<W: Wait>(
+        &mut self,
+        rt: &W,
+        place: usize,
+        list: &GroupsList,
+    ) -> Result<Change, MoveFault> {
+        let (seen, end) = set_groups(rt, self.units, place, list);
+        self.kept.push(Moved {
+            list: *list,
+            seen,
+            end,
+        });
+        end
+    }
+}
