@@ -1,30 +1,21 @@
 //! A disk array over iSCSI.
 #![tactic(auto)]
 
-ghost use Rattle.std.specs.Prelude.{◌≤◌, IfOk, length};
-
-mod disks;
 mod log_file;
 mod once;
-mod portals;
-mod serve;
 
-use block_file::Blocks;
-use command_line::{Fault, MAX_UNITS, Options};
+use array::{open, serve};
+use command_line::Fault;
 use disk_files::{FileBlocks, FileOpener, FilePreparer};
-use disks::{Beside, FileUnits, open_units};
 use event_log::{Log, start};
 use log_file::LogFile;
 use portal::Prepared;
-use serve::serve_units;
 use std::alloc::Global;
 use std::env::Env;
 use std::fs::File;
 use std::marker::Brand;
 use std::process::ExitCode;
 use std::rt::Files;
-use std::sync::Wait;
-use std::time::Clock;
 use std::{env, io};
 
 // The program's words, its own name first.
@@ -34,32 +25,6 @@ fn all_words(rt: &(impl Env + AllocGlobal)) -> Result<Vec<String>, Fault> {
         Err(e) if e.kind() == io::ErrorKind::OutOfMemory => Err(Fault::NoMemory),
         Err(_) => Err(Fault::WrongWords),
     }
-}
-
-/// An array that is to be served.
-#[derive(Drop)]
-struct Asked<'a, R: Files<File = File> + Clock + Wait + Drop> {
-    options: Options<'a>,
-    units: FileUnits<R>,
-    beside: Beside<R>,
-}
-
-// Opens the units of an array.
-fn prepare<'a, R: Files<File = File> + Clock + Wait + Clone + Drop>(
-    rt: &R,
-    alloc: Global,
-    log: &Log,
-    options: Options<'a>,
-) -> Result<Asked<'a, R>, Fault>
-    requires { length options.paths.items ≤ MAX_UNITS }
-    ensures { IfOk result (λ asked. length asked.units.items ≤ MAX_UNITS) }
-{
-    let (units, beside) = open_units(rt, alloc, log, &options)?;
-    Ok(Asked {
-        options,
-        units,
-        beside,
-    })
 }
 
 // The log, with its file where the environment names one; else one that is off.
@@ -105,35 +70,31 @@ fn main(rt: HostRuntime) -> ExitCode {
             return complain(&rt, Fault::NoMemory);
         }
     }
-    let Asked {
-        options,
-        units,
-        beside,
-    } = match prepare(&rt, alloc, &log, options) {
-        Ok(prepared) => prepared,
+    let array = match open(&rt, alloc, &log, &options) {
+        Ok(array) => array,
         Err(fault) => {
             event_log::close(&rt, &log);
             return complain(&rt, fault);
         }
     };
-    let served = serve_units::<
+    let served = serve::<
         Brand,
         FileBlocks<File>,
         FileBlocks<File>,
         FileOpener<HostRuntime>,
         Prepared<FilePreparer<HostRuntime>>,
         HostRuntime,
+        _,
+        _,
     >(
         &rt,
         alloc,
         &options,
-        units,
-        Prepared::new(beside.preparers),
+        array,
         &log,
+        rt.reader(),
+        &mut io::writer(&rt),
     );
-    event_log::close(&rt, &log);
-    // They live as long as the array is served.
-    drop(beside.locks);
     match served {
         Ok(()) => ExitCode::SUCCESS,
         Err(fault) => complain(&rt, fault),

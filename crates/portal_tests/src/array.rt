@@ -3,7 +3,6 @@ ghost use Rattle.std.specs.Prelude.{◌≡◌, ◌≤◌, length};
 ghost use Rattle.unit_history.specs.Naming.{IsNamed};
 
 use crate::behind::Behind;
-use crate::host::Host;
 use crate::latch::Latch;
 use crate::no_room::NoRoom;
 use crate::stage::Stage;
@@ -21,6 +20,7 @@ use std::sync::{Arc, Wait};
 use std::test::Fail;
 use std::thread::{JoinHandle, Threads};
 use std::time::Clock;
+use test_hosts::Host;
 use unit_history::{LegalHistory, NewUnit, Opened, Pass, Units};
 
 /// What the hosts of an array do, and where it listens: at this address, and at these ports of its two controllers. So many

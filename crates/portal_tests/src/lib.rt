@@ -17,8 +17,6 @@ mod hanging;
 #[cfg(test)]
 mod held;
 #[cfg(test)]
-mod host;
-#[cfg(test)]
 mod lanes;
 #[cfg(test)]
 mod latch;

@@ -19,13 +19,13 @@
 //! - `0 shows 3`: the row of unit 0 tells of three entries, whoever has its lock;
 //! - `desks close`: the desks of both controllers are closed.
 use crate::behind::Console;
-use crate::host::{Host, is_text, put};
 use crate::latch::Latch;
 use std::alloc::{AllocError, Global};
 use std::net::{Net, SocketAddrV4, TcpListener, TcpStream};
 use std::process::Abort;
 use std::sync::Wait;
 use std::test::Fail;
+use test_hosts::{Host, is_text, put};
 use test_streams::{HOST_A, RowError, WELCOME, lines_of, pdu_of};
 
 /// The hosts of a script, and the array that they reach.

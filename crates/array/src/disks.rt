@@ -3,12 +3,14 @@ ghost use Rattle.std.specs.Prelude.{◌≡◌, ◌≤◌, IfOk, length};
 ghost use Rattle.unit_state.specs.Serials.{IsOpening};
 
 use aptpl_file::{OpenFault, RegFile};
+use block_file::{Blocks, Opener};
 use command_line::{Fault, MAX_UNITS, Options};
 use disk_files::{
     Disk, DiskFault, DiskLock, FileBlocks, FileFault, FileOpener, FilePreparer, RegistrationsFault,
     Voice, open_disk, open_registrations,
 };
 use event_log::{Event, Log, Part, Unusable};
+use portal::Prepared;
 use reservations::Record;
 use scsi_types::Place;
 use std::alloc::Global;
@@ -20,10 +22,23 @@ use unit_history::NewUnit;
 use unit_state::{Unit, laws};
 
 /// A unit over a file, with the registration file beside it.
-pub type FileUnit<R> = Unit<FileBlocks<File>, FileBlocks<File>, FileOpener<R>>;
+type FileUnit<R> = Unit<FileBlocks<File>, FileBlocks<File>, FileOpener<R>>;
 
-/// Units over files, before they are shared.
-pub type FileUnits<R> = Vec<NewUnit<FileBlocks<File>, FileBlocks<File>, FileOpener<R>>>;
+/// An array before it is served: its units, what stands before them, and the locks of their disks, for as long as it is served.
+#[derive(Drop)]
+pub struct OpenArray<B: Blocks, F: Blocks, O: Opener<B>, G> {
+    pub units: Vec<NewUnit<B, F, O>>,
+    pub gate: G,
+    pub locks: Vec<DiskLock>,
+}
+
+/// One over files.
+pub type FileArray<R> = OpenArray<
+    FileBlocks<File>,
+    FileBlocks<File>,
+    FileOpener<R>,
+    Prepared<FilePreparer<R>>,
+>;
 
 // Why a file is no device of blocks, as the log names it.
 fn file_unusable(fault: FileFault) -> Unusable {
@@ -129,13 +144,6 @@ fn open_record<R: Files<File = File>>(
     }
 }
 
-/// What stands beside a unit for as long as it is served: the lock of its disk, and its preparer.
-#[derive(Drop)]
-pub struct Beside<R: Files<File = File> + Clock + Wait + Drop> {
-    pub locks: Vec<DiskLock>,
-    pub preparers: Vec<FilePreparer<R>>,
-}
-
 // Opens the unit at this place over the file of this name, and locks it.
 fn open_unit<R: Files<File = File> + Clock + Wait + Clone + Drop>(
     rt: &R,
@@ -154,15 +162,15 @@ fn open_unit<R: Files<File = File> + Clock + Wait + Clone + Drop>(
     Ok((unit, disk.lock, preparer))
 }
 
-/// Opens the units that the words name, in order, each with what stands beside it.
-pub fn open_units<R: Files<File = File> + Clock + Wait + Clone + Drop>(
+/// Opens the units of the array that the words ask for, in order, each over its file. From then on no other server may have these.
+pub fn open<R: Files<File = File> + Clock + Wait + Clone + Drop>(
     rt: &R,
     alloc: Global,
     log: &Log,
     options: &Options<'_>,
-) -> Result<(FileUnits<R>, Beside<R>), Fault>
+) -> Result<FileArray<R>, Fault>
     requires { length options.now.paths.items ≤ MAX_UNITS }
-    ensures { IfOk result (λ r. length r.0.items ≤ MAX_UNITS) }
+    ensures { IfOk result (λ array. length array.units.items ≤ MAX_UNITS) }
 {
     let mut units = Vec::new(alloc);
     let mut locks = Vec::new(alloc);
@@ -180,5 +188,9 @@ pub fn open_units<R: Files<File = File> + Clock + Wait + Clone + Drop>(
         locks.push(lock)?;
         preparers.push(preparer)?;
     }
-    Ok((units, Beside { locks, preparers }))
+    Ok(OpenArray {
+        units,
+        gate: Prepared::new(preparers),
+        locks,
+    })
 }

@@ -1,8 +1,9 @@
-//! The array: its units, its portals, its console.
+//! The array as it is served.
 
 ghost use Rattle.std.specs.Prelude.{◌≡◌, ◌≤◌, length};
 ghost use Rattle.unit_history.specs.Naming.{IsNamed};
 
+use crate::disks::OpenArray;
 use crate::portals::{self, Portal, Ports};
 use block_file::{Blocks, Opener};
 use command_line::{Fault, MAX_UNITS, Options};
@@ -12,16 +13,15 @@ use numbering::Array as Naming;
 use portal::{Controllers, Gate, Server, SmallStacks, TargetDevice, listen, start_lanes};
 use scsi_types::Group;
 use std::alloc::Global;
-use std::io;
+use std::io::{BufRead, Write};
 use std::net::{Net, TcpListener, TcpStream};
 use std::sync::{Arc, Wait};
 use std::thread::Threads;
 use std::time::Clock;
 use unit_history::{LegalHistory, NewUnit, Opened, Pass, Units};
 
-/// Serves these units, behind this gate, at the portals that the words ask for, until the console ends. The names of the units are picked
-/// where it is called.
-pub fn serve_units<
+// Serves these units, behind this gate, at the portals that the words ask for, until the console ends.
+fn serve_units<
     N: Naming<Opened> + Send + Sync + 'static,
     B: Blocks + Drop + Send + Sync + 'static,
     F: Blocks + Drop + Send + Sync + 'static,
@@ -31,12 +31,12 @@ pub fn serve_units<
         + Wait
         + Clock
         + Net<Listener = TcpListener, Stream = TcpStream>
-        + Input
-        + Print
         + Clone
         + Drop
         + Send
         + 'static,
+    I: BufRead + Drop,
+    C: Write,
 >(
     rt: &R,
     alloc: Global,
@@ -44,6 +44,8 @@ pub fn serve_units<
     units: Vec<NewUnit<B, F, O>>,
     gate: G,
     log: &Log,
+    reader: I,
+    writer: &mut C,
 ) -> Result<(), Fault>
     requires named { IsNamed N.book N.table N.opening B.contents units.items }
     requires count { length units.items ≤ MAX_UNITS }
@@ -99,11 +101,52 @@ pub fn serve_units<
     };
     log.tell(rt, &Event::Ready);
     // An output that fails counts as the end of the input.
-    if rt.println("arrayd: ready").is_err() {
+    if writer.write_all(b"arrayd: ready\n").is_err() {
         watched.close();
         watched.flush();
         return Ok(());
     }
-    console(alloc, rt.reader(), &mut io::writer(rt), &mut watched);
+    console(alloc, reader, writer, &mut watched);
     Ok(())
+}
+
+/// Serves an array whose files are open, at the portals that the words ask for, until its console has no more lines for it or says
+/// `quit`. Behind it the last lines of the log are written, and only then another server may have the files. The names of the
+/// units are picked where it is called.
+pub fn serve<
+    N: Naming<Opened> + Send + Sync + 'static,
+    B: Blocks + Drop + Send + Sync + 'static,
+    F: Blocks + Drop + Send + Sync + 'static,
+    O: Opener<B> + Drop + Send + Sync + 'static,
+    G: Gate + Drop + Send + Sync + 'static,
+    R: Threads
+        + Wait
+        + Clock
+        + Net<Listener = TcpListener, Stream = TcpStream>
+        + Clone
+        + Drop
+        + Send
+        + 'static,
+    I: BufRead + Drop,
+    C: Write,
+>(
+    rt: &R,
+    alloc: Global,
+    options: &Options<'_>,
+    array: OpenArray<B, F, O, G>,
+    log: &Log,
+    reader: I,
+    writer: &mut C,
+) -> Result<(), Fault>
+    requires named { IsNamed N.book N.table N.opening B.contents array.units.items }
+    requires count { length array.units.items ≤ MAX_UNITS }
+{
+    let OpenArray { units, gate, locks } = array;
+    let served = serve_units::<N, B, F, O, G, R, I, C>(
+        rt, alloc, options, units, gate, log, reader, writer,
+    );
+    event_log::close(rt, log);
+    // They live as long as the array is served.
+    drop(locks);
+    served
 }

@@ -1,0 +1,95 @@
+//! What hosts do at an array, and are answered. A script has a line for each PDU: `> PDU` is sent, and `< PDU` comes.
+//! `test_streams` says how a PDU is spelled.
+use crate::site::Site;
+use std::alloc::{AllocError, Global};
+use std::net::{Net, SocketAddrV4, TcpListener, TcpStream};
+use std::process::Abort;
+use std::test::Fail;
+use test_hosts::{Host, is_text};
+use test_streams::{HOST_A, RowError, WELCOME, lines_of, pdu_of};
+
+// The texts of a login.
+const HOST_B: &str =
+    r"InitiatorName=iqn.2000-01.test:b\0TargetName=iqn.2000-01.test:array\0SessionType=Normal\0";
+
+const FINDS: &str = r"InitiatorName=iqn.2000-01.test:a\0SessionType=Discovery\0";
+
+const WELCOME_2: &str = r"TargetPortalGroupTag=2\0MaxRecvDataSegmentLength=65536\0";
+
+// What this line spells.
+fn spelled(alloc: Global, line: &str) -> Result<Vec<u8>, RowError> {
+    let texts = [
+        ("HOST_A", HOST_A),
+        ("HOST_B", HOST_B),
+        ("FINDS", FINDS),
+        ("WELCOME", WELCOME),
+        ("WELCOME_2", WELCOME_2),
+    ];
+    pdu_of(alloc, &texts, line)
+}
+
+// Sends what a line spells, or compares it with what comes.
+fn obey<R: Abort>(rt: &R, alloc: Global, host: &mut Host, line: &str) -> Result<(), Fail> {
+    let (verb, spelling) = line.split_once(' ').ok_or("a line")?;
+    let mut pdu = spelled(alloc, spelling)?;
+    if verb == ">" {
+        return host.send(pdu.as_mut_slice());
+    }
+    let came = host.receive(alloc)?;
+    let is_answer = host.is_answer(came.as_slice(), pdu.as_mut_slice());
+    assert!(rt; is_answer, "{line}, and not {came:?}");
+    Ok(())
+}
+
+/// A host does what the lines of a script say.
+pub fn perform<R: Abort>(rt: &R, alloc: Global, host: &mut Host, script: &str) -> Result<(), Fail> {
+    let lines = lines_of(alloc, script)?;
+    for line in &lines {
+        obey(rt, alloc, host, line)?;
+    }
+    Ok(())
+}
+
+/// A host connects to a portal, and does what the lines of a script say.
+pub fn come<R: Abort + Net<Listener = TcpListener, Stream = TcpStream>>(
+    rt: &R,
+    alloc: Global,
+    portal: SocketAddrV4,
+    script: &str,
+) -> Result<Host, Fail> {
+    let mut host = Host::connect(rt, portal)?;
+    perform(rt, alloc, &mut host, script)?;
+    Ok(host)
+}
+
+// What an initiator finds at the portals of a discovery session.
+const DISCOVERY: &str = r#"
+> LOGIN 7:37 FINDS
+< LOGGED_IN 7:1F "MaxRecvDataSegmentLength=65536\0"
+> TEXT_REQUEST 7:10 "SendTargets=All\0"
+"#;
+
+// What initiators are told of the target: its portals, each with the tag of its group (RFC 7143, appendix C).
+fn told(alloc: Global, site: &Site<'_>) -> Result<String, AllocError> {
+    format!(in alloc;
+        "TargetName=iqn.2000-01.test:array\0TargetAddress={},1\0TargetAddress={},1\0TargetAddress={},2\0TargetAddress={},2\0",
+        site.portal(1, 0),
+        site.portal(1, 1),
+        site.portal(2, 0),
+        site.portal(2, 1)
+    )
+}
+
+/// An initiator finds all portals, each with its group, by the last of controller 2.
+pub fn finds<R: Abort + Net<Listener = TcpListener, Stream = TcpStream>>(
+    rt: &R,
+    alloc: Global,
+    site: &Site<'_>,
+) -> Result<(), Fail> {
+    let mut host = come(rt, alloc, site.portal(2, 1), DISCOVERY)?;
+    let wanted = told(alloc, site)?;
+    let came = host.receive(alloc)?;
+    let is_told = is_text(came.as_slice(), wanted.as_bytes());
+    assert!(rt; is_told, "{wanted}, and not {came:?}");
+    Ok(())
+}

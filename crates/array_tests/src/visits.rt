@@ -1,0 +1,161 @@
+//! The console of an array whose hosts come between two of its lines.
+use crate::hosts::{come, finds};
+use crate::site::{SIZE, Site, copy};
+use disk_files::{DiskFault, open_disk};
+use std::alloc::Global;
+use std::fs::File;
+use std::io::{self, BufReader, ErrorKind, Read};
+use std::net::{Net, TcpListener, TcpStream};
+use std::process::{Abort, Termination};
+use std::rt::Files;
+use std::test::Fail;
+use test_hosts::Host;
+use test_streams::bytes_of;
+
+/// A host comes by this portal of this controller, and performs this script.
+#[derive(Clone, Copy, Debug)]
+pub struct Visit<'a>(pub u16, pub u16, pub &'a str);
+
+/// An array that is visited by these hosts, one behind the other, and what its console is told. Where power is to be lost then,
+/// its files are copied there as they are.
+#[derive(Clone, Copy, Debug)]
+pub struct Visited<'a> {
+    pub site: Site<'a>,
+    pub visits: &'a [Visit<'a>],
+    pub said: &'a str,
+    pub left: Option<Site<'a>>,
+}
+
+/// The console of an array that is visited.
+pub type Console<'a, R> = BufReader<Lines<'a, R>>;
+
+/// Its lines: `status`, then one that is none of its own, once the hosts have been there, and `quit`.
+#[derive(Drop)]
+pub struct Lines<'a, R> {
+    rt: &'a R,
+    alloc: Global,
+    visited: &'a Visited<'a>,
+    hosts: &'a mut Vec<Host>,
+    // How often it was read.
+    reads: u32,
+}
+
+// Whether a block of a file is this part of the pattern.
+fn lies<R: Files<File = File>>(
+    rt: &R,
+    alloc: Global,
+    path: &str,
+    block: usize,
+    parts: &str,
+) -> Result<bool, Fail> {
+    let mut bytes = vec![in alloc; 0u8; SIZE as usize]?;
+    File::open(rt, path)?.read_exact(bytes.as_mut_slice())?;
+    let wanted = bytes_of(alloc, &[], parts)?;
+    Ok(bytes.as_slice().chunks(512).nth(block) == Some(wanted.as_slice()))
+}
+
+// Whether another server is refused this file.
+fn is_refused<R: Files<File = File> + Clone + Drop>(
+    rt: &R,
+    alloc: Global,
+    file: &str,
+) -> Result<bool, Fail> {
+    let end = open_disk(rt.clone()?, alloc, file);
+    Ok(matches!(end, Err(DiskFault::InUse)))
+}
+
+// What the hosts wrote lies in the files, each unit's in its own, and no other server may have these.
+fn compare<R: Abort + Files<File = File> + Clone + Drop>(
+    rt: &R,
+    alloc: Global,
+    site: &Site<'_>,
+) -> Result<(), Fail> {
+    assert!(rt; lies(rt, alloc, site.one, 5, "pattern 512")?);
+    assert!(rt; lies(rt, alloc, site.one, 6, "512*00")?);
+    assert!(rt; lies(rt, alloc, site.two, 5, "512*00")?);
+    assert!(rt; lies(rt, alloc, site.two, 6, "pattern 100+512")?);
+    assert!(rt; is_refused(rt, alloc, site.one)?);
+    assert!(rt; is_refused(rt, alloc, site.two)?);
+    Ok(())
+}
+
+// The hosts come.
+fn come_all<R: Abort + Net<Listener = TcpListener, Stream = TcpStream>>(
+    rt: &R,
+    alloc: Global,
+    visited: &Visited<'_>,
+    hosts: &mut Vec<Host>,
+) -> Result<(), Fail> {
+    for Visit(controller, portal, script) in visited.visits {
+        let portal = visited.site.portal(*controller, *portal);
+        let host = come(rt, alloc, portal, script)?;
+        hosts.push(host)?;
+    }
+    Ok(())
+}
+
+// The hosts come, and what they leave is looked at. Then power is lost, where it is to be.
+fn receive<
+    R: Abort + Net<Listener = TcpListener, Stream = TcpStream> + Files<File = File> + Clone + Drop,
+>(rt: &R, alloc: Global, visited: &Visited<'_>, hosts: &mut Vec<Host>) -> Result<(), Fail> {
+    finds(rt, alloc, &visited.site)?;
+    come_all(rt, alloc, visited, hosts)?;
+    compare(rt, alloc, &visited.site)?;
+    if let Some(left) = visited.left {
+        copy(rt, alloc, visited.site.one, left.one)?;
+        copy(rt, alloc, visited.site.two, left.two)?;
+    }
+    Ok(())
+}
+
+impl<
+    'a,
+    R: Abort
+        + Eprint
+        + Net<Listener = TcpListener, Stream = TcpStream>
+        + Files<File = File>
+        + Clone
+        + Drop,
+> Read for Lines<'a, R> {
+    fn read(&mut self, buf: &mut [u8]) -> io::Result<usize> {
+        self.reads = self.reads.saturating_add(1);
+        let mut lines: &[u8] = match self.reads {
+            1 => b"status\n",
+            2 => {
+                let end = receive(self.rt, self.alloc, self.visited, self.hosts);
+                if let Err(fault) = end {
+                    let _told = Err::<(), Fail>(fault).report(self.rt);
+                    return Err(io::Error::from(ErrorKind::Other));
+                }
+                b"visited\nquit\n"
+            }
+            _ => b"",
+        };
+        lines.read(buf)
+    }
+}
+
+/// The console of an array that is visited, and those who come, with their sessions open.
+pub fn console<
+    'a,
+    R: Abort
+        + Eprint
+        + Net<Listener = TcpListener, Stream = TcpStream>
+        + Files<File = File>
+        + Clone
+        + Drop,
+>(
+    rt: &'a R,
+    alloc: Global,
+    visited: &'a Visited<'a>,
+    hosts: &'a mut Vec<Host>,
+) -> Result<Console<'a, R>, Fail> {
+    let lines = Lines {
+        rt,
+        alloc,
+        visited,
+        hosts,
+        reads: 0,
+    };
+    Ok(BufReader::new(alloc, lines)?)
+}

@@ -1,0 +1,212 @@
+//! An array over two files that loses power and is started again.
+use crate::hosts::perform;
+use crate::site::{Site, free_site, make};
+use crate::visits::{Console, Visit, Visited, console};
+use array::{open, serve};
+use disk_files::{FileBlocks, FileOpener, FilePreparer};
+use event_log::Log;
+use portal::Prepared;
+use std::alloc::Global;
+use std::fs::{self, File};
+use std::marker::Brand;
+use std::net::{Net, TcpListener, TcpStream};
+use std::process::{self, Abort};
+use std::test::*;
+use test_hosts::Host;
+
+// Each login is told the group of its portal.
+const AT_1: &str = r#"
+> LOGIN 7:56 HOST_B
+< LOGGED_IN 7:36 15:02 WELCOME
+"#;
+
+const AT_2: &str = r#"
+> LOGIN 7:56 HOST_A
+< LOGGED_IN 7:36 15:03 WELCOME_2
+"#;
+
+// By controller 1: power came on at both units; WRITE (10) of block 5 of unit 0 and of block 6 of unit 1; REGISTER of 11h with
+// APTPL at unit 1; SYNCHRONIZE CACHE (10) of both.
+const WRITES: &str = r#"
+> LOGIN 7:56 HOST_A
+< LOGGED_IN 7:36 15:04 WELCOME
+> TEST_UNIT_READY
+< CHECK_CONDITION 0012 70000600000000 0A00000000 2900 00000000
+> TEST_UNIT_READY 9:01
+< CHECK_CONDITION 0012 70000600000000 0A00000000 2900 00000000
+> WRITE 5:000200 pattern 512
+< GOOD
+> WRITE 5:000200 9:01 37:06 pattern 100+512
+< GOOD
+> WRITE 7:18 9:01 20:00000018 32:5F000000000000001800 0000000000000000 0000000000000011 00000000 01000000
+< GOOD
+> TEST_UNIT_READY 32:35
+< GOOD
+> TEST_UNIT_READY 9:01 32:35
+< GOOD
+"#;
+
+// By controller 2: power came on; READ (10) of both blocks, each at its unit, and of block 6 of unit 0, where nothing was written.
+const READS: &str = r#"
+> LOGIN 7:56 HOST_B
+< LOGGED_IN 7:36 15:05 WELCOME_2
+> TEST_UNIT_READY
+< CHECK_CONDITION 0012 70000600000000 0A00000000 2900 00000000
+> TEST_UNIT_READY 9:01
+< CHECK_CONDITION 0012 70000600000000 0A00000000 2900 00000000
+> TEST_UNIT_READY 1:C1 20:00000200 32:28000000000500000100
+< DATA_IN 5:000200 pattern 512
+< GOOD 36:00000001
+> TEST_UNIT_READY 1:C1 9:01 20:00000200 32:28000000000600000100
+< DATA_IN 5:000200 pattern 100+512
+< GOOD 36:00000001
+> TEST_UNIT_READY 1:C1 20:00000200 32:28000000000600000100
+< DATA_IN 5:000200 512*00
+< GOOD 36:00000001
+"#;
+
+// Behind the restart: power came on, and both blocks are there; READ KEYS, whose generation is 0, tells of the key at unit 1 alone.
+const FINDS_ALL: &str = r#"
+> LOGIN 7:56 HOST_B
+< LOGGED_IN 7:36 15:02 WELCOME_2
+> TEST_UNIT_READY
+< CHECK_CONDITION 0012 70000600000000 0A00000000 2900 00000000
+> TEST_UNIT_READY 9:01
+< CHECK_CONDITION 0012 70000600000000 0A00000000 2900 00000000
+> TEST_UNIT_READY 1:C1 20:00000200 32:28000000000500000100
+< DATA_IN 5:000200 pattern 512
+< GOOD 36:00000001
+> TEST_UNIT_READY 1:C1 9:01 20:00000200 32:28000000000600000100
+< DATA_IN 5:000200 pattern 100+512
+< GOOD 36:00000001
+> TEST_UNIT_READY 1:C1 20:00000008 32:5E000000000000000800
+< DATA_IN 7:08 00000000 00000000
+< GOOD 36:00000001
+> TEST_UNIT_READY 1:C1 9:01 20:00000010 32:5E000000000000001000
+< DATA_IN 7:10 00000000 00000008 0000000000000011
+< GOOD 36:00000001
+"#;
+
+// Behind `quit`: the desks are closed, so that a command is BUSY.
+const BUSY: &str = r#"
+> TEST_UNIT_READY
+< GOOD 3:08
+"#;
+
+// What the console of the first array tells before the hosts come, and that of the second.
+const NEW: &str = "arrayd: ready
+unit 0 owner 1 states 0 1 generation 0 keys 0 type 0 entries 0
+unit 1 owner 2 states 1 0 generation 0 keys 0 type 0 entries 0
+?
+";
+
+const RESTARTED: &str = "arrayd: ready
+unit 0 owner 1 states 0 1 generation 0 keys 0 type 0 entries 0
+unit 1 owner 2 states 1 0 generation 0 keys 1 type 0 entries 0
+?
+";
+
+const BEFORE: &[Visit<'static>] = &[
+    Visit(1, 0, AT_1),
+    Visit(2, 1, AT_2),
+    Visit(1, 1, WRITES),
+    Visit(2, 0, READS),
+];
+
+const AFTER: &[Visit<'static>] = &[Visit(2, 1, FINDS_ALL)];
+
+// The files of the first array in a folder, and of the second, which are what lay in the first when power was lost.
+fn paths(alloc: Global, folder: &str) -> Result<[String; 4], Fail> {
+    Ok([
+        format!(in alloc; "{folder}/one")?,
+        format!(in alloc; "{folder}/two")?,
+        format!(in alloc; "{folder}/one_left")?,
+        format!(in alloc; "{folder}/two_left")?,
+    ])
+}
+
+// Where the array over new files is served, or the one over what lay in these.
+fn site_of<'a, R: Net<Listener = TcpListener, Stream = TcpStream>>(
+    rt: &R,
+    process: u32,
+    paths: &'a [String; 4],
+    is_left: bool,
+) -> Result<Site<'a>, Fail> {
+    if is_left {
+        let other = process.wrapping_add(500);
+        free_site(rt, other, paths[2].as_str(), paths[3].as_str())
+    } else {
+        free_site(rt, process, paths[0].as_str(), paths[1].as_str())
+    }
+}
+
+// An array over new files, and one over what lies in these when power is lost.
+fn story<'a>(site: Site<'a>, left: Site<'a>) -> [Visited<'a>; 2] {
+    [
+        Visited {
+            site,
+            visits: BEFORE,
+            said: NEW,
+            left: Some(left),
+        },
+        Visited {
+            site: left,
+            visits: AFTER,
+            said: RESTARTED,
+            left: None,
+        },
+    ]
+}
+
+// What was told, and that the sessions which are still open find the desks closed.
+fn compare<R: Abort>(
+    rt: &R,
+    alloc: Global,
+    visited: &Visited<'_>,
+    said: &[u8],
+    hosts: &mut [Host],
+) -> Result<(), Fail> {
+    assert_eq!(rt; said, visited.said.as_bytes());
+    for host in hosts {
+        perform(rt, alloc, host, BUSY)?;
+    }
+    Ok(())
+}
+
+#[test]
+fn units_have_their_files_and_portals_their_groups(rt: HostRuntime) -> Result<(), Fail> {
+    let alloc = rt.alloc();
+    let process = process::id(rt.process());
+    let folder = format!(in alloc; "/tmp/arrayd_{process}_whole")?;
+    let _ = fs::remove_dir_all(&rt, folder.as_str());
+    fs::create_dir(&rt, folder.as_str())?;
+    let paths = &paths(alloc, folder.as_str())?;
+    let site = site_of(&rt, process, paths, false)?;
+    let left = site_of(&rt, process, paths, true)?;
+    make(&rt, site.one)?;
+    make(&rt, site.two)?;
+    for visited in story(site, left) {
+        let options = visited.site.options(alloc)?;
+        let mut hosts = Vec::new(alloc);
+        let mut said = Vec::new(alloc);
+        let reader = console(&rt, alloc, &visited, &mut hosts)?;
+        let log = Log::off();
+        let Ok(array) = open(&rt, alloc, &log, &options) else {
+            return Err("an array that is opened".into());
+        };
+        let end = serve::<
+            Brand,
+            FileBlocks<File>,
+            FileBlocks<File>,
+            FileOpener<HostRuntime>,
+            Prepared<FilePreparer<HostRuntime>>,
+            HostRuntime,
+            Console<'_, HostRuntime>,
+            Vec<u8>,
+        >(&rt, alloc, &options, array, &log, reader, &mut said);
+        assert!(rt; end.is_ok());
+        compare(&rt, alloc, &visited, said.as_slice(), hosts.as_mut_slice())?;
+    }
+    fs::remove_dir_all(&rt, folder.as_str())?;
+    Ok(())
+}
