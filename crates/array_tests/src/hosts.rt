@@ -5,16 +5,8 @@ use std::alloc::{AllocError, Global};
 use std::net::{Net, SocketAddrV4, TcpListener, TcpStream};
 use std::process::Abort;
 use std::test::Fail;
-use test_hosts::{Host, is_text};
+use test_hosts::{FINDS, HOST_B, Host, WELCOME_2, is_text};
 use test_streams::{HOST_A, RowError, WELCOME, lines_of, pdu_of};
-
-// The texts of a login.
-const HOST_B: &str =
-    r"InitiatorName=iqn.2000-01.test:b\0TargetName=iqn.2000-01.test:array\0SessionType=Normal\0";
-
-const FINDS: &str = r"InitiatorName=iqn.2000-01.test:a\0SessionType=Discovery\0";
-
-const WELCOME_2: &str = r"TargetPortalGroupTag=2\0MaxRecvDataSegmentLength=65536\0";
 
 // What this line spells.
 fn spelled(alloc: Global, line: &str) -> Result<Vec<u8>, RowError> {

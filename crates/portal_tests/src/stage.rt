@@ -25,7 +25,7 @@ use std::net::{Net, SocketAddrV4, TcpListener, TcpStream};
 use std::process::Abort;
 use std::sync::Wait;
 use std::test::Fail;
-use test_hosts::{Host, is_text, put};
+use test_hosts::{FINDS, HOST_B, Host, WELCOME_2, is_text, put};
 use test_streams::{HOST_A, RowError, WELCOME, lines_of, pdu_of};
 
 /// The hosts of a script, and the array that they reach.
@@ -43,14 +43,6 @@ pub struct Stage<'a, R: Wait + Drop, C: Console> {
     crowd: Vec<Host>,
     won: &'static str,
 }
-
-// The texts of a login.
-const HOST_B: &str =
-    r"InitiatorName=iqn.2000-01.test:b\0TargetName=iqn.2000-01.test:array\0SessionType=Normal\0";
-
-const FINDS: &str = r"InitiatorName=iqn.2000-01.test:a\0SessionType=Discovery\0";
-
-const WELCOME_2: &str = r"TargetPortalGroupTag=2\0MaxRecvDataSegmentLength=65536\0";
 
 // How A and B come.
 const A_AND_B: &str = r#"

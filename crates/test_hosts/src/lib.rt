@@ -2,5 +2,7 @@
 #![tactic(auto)]
 
 mod host;
+mod texts;
 
 pub use host::{Host, is_text, put};
+pub use texts::{FINDS, HOST_B, WELCOME_2};
