@@ -12,6 +12,9 @@ use std::test::Fail;
 use test_hosts::Host;
 use test_streams::bytes_of;
 
+// The name of the host that registers.
+const REGISTRANT: &[u8] = b"iqn.2000-01.test:a";
+
 /// A host comes by this portal of this controller, and performs this script.
 #[derive(Clone, Copy, Debug)]
 pub struct Visit<'a>(pub u16, pub u16, pub &'a str);
@@ -54,6 +57,23 @@ fn lies<R: Files<File = File>>(
     Ok(bytes.as_slice().chunks(512).nth(block) == Some(wanted.as_slice()))
 }
 
+// Whether the registration file beside a disk names the host that registers.
+fn names_registrant<R: Files<File = File>>(
+    rt: &R,
+    alloc: Global,
+    disk: &str,
+) -> Result<bool, Fail> {
+    let beside = format!(in alloc; "{disk}.reg")?;
+    let mut bytes = Vec::new(alloc);
+    File::open(rt, beside.as_str())?.read_to_end(&mut bytes)?;
+    Ok(
+        bytes
+            .as_slice()
+            .windows(REGISTRANT.len())
+            .any(|part| part == REGISTRANT),
+    )
+}
+
 // Whether another server is refused this file.
 fn is_refused<R: Files<File = File> + Clone + Drop>(
     rt: &R,
@@ -64,7 +84,8 @@ fn is_refused<R: Files<File = File> + Clone + Drop>(
     Ok(matches!(end, Err(DiskFault::InUse)))
 }
 
-// What the hosts wrote lies in the files, each unit's in its own, and no other server may have these.
+// What the hosts wrote lies in the files, each unit's in its own, the registration beside unit 1, and no other server may have
+// these.
 fn compare<R: Abort + Files<File = File> + Clone + Drop>(
     rt: &R,
     alloc: Global,
@@ -74,6 +95,8 @@ fn compare<R: Abort + Files<File = File> + Clone + Drop>(
     assert!(rt; lies(rt, alloc, site.one, 6, "512*00")?);
     assert!(rt; lies(rt, alloc, site.two, 5, "512*00")?);
     assert!(rt; lies(rt, alloc, site.two, 6, "pattern 100+512")?);
+    assert!(rt; !names_registrant(rt, alloc, site.one)?);
+    assert!(rt; names_registrant(rt, alloc, site.two)?);
     assert!(rt; is_refused(rt, alloc, site.one)?);
     assert!(rt; is_refused(rt, alloc, site.two)?);
     Ok(())

@@ -25,10 +25,10 @@ use std::rt::Files;
 use std::sync::Arc;
 
 /// A file as a device of blocks: each run is one read or write at its place, 512 times the number of its first block. A flush is one
-/// of the file, and nothing where no write has ended since one began that its preparer made, and that is done.
+/// of the file. It does nothing where a flush of its preparer is done, behind whose beginning no write has ended.
 ///
 /// It claims what its file claims, which of a file of the system is nothing. Its number of blocks is that of its length when it
-/// was opened; where the file has become shorter a call that reaches behind its end fails.
+/// was opened. Where the file has another length by now each write fails, and a read behind its end.
 ///
 /// A flush that failed is not made good by the next one: the system drops what it could not write. So each later flush
 /// fails too, also through a handle that was opened anew.
@@ -117,6 +117,7 @@ impl<F: BackingFile> FileBlocks<F> {
     // where it has told already.
     fn make_last(&mut self) -> Result<(), DeviceFailed>
         ensures size { self.new.count ≡ self.old.count }
+        ensures flushes { self.new.flushes ≡ self.old.flushes }
         ensures tally { self.new.tally ≡ self.old.tally }
         ensures bytes { IsTrue F.claims → F.bytes self.new.file ≡ F.bytes self.old.file }
         ensures durable { IsTrue F.claims → OnOk result (Only (run_of (F.bytes self.old.file)) (F.may_hold self.new.file)) }
@@ -146,6 +147,7 @@ impl<F: BackingFile> FileBlocks<F> {
         ensures ok { OnOk result (self.new.tally ≡ once_more_opened self.old.tally) }
         ensures size { self.new.count ≡ self.old.count }
         ensures file { OnOk result (self.new.file ≡ file) }
+        ensures flushes { self.new.flushes ≡ self.old.flushes }
         ensures err { OnErr result (self.new ≡ self.old) }
     {
         if let Err(error) = ends_at(&file, self.count) {
@@ -238,6 +240,7 @@ impl<F: BackingFile> Blocks for FileBlocks<F> {
         requires { IsRun self.old.count first (length bytes.old) }
         ensures size { self.new.count ≡ self.old.count }
         ensures file { self.new.file ≡ self.old.file }
+        ensures flushes { self.new.flushes ≡ self.old.flushes }
         ensures read { IsTrue F.claims → OnOk result
             (bytes.new ≡ range_bytes (run_of (F.bytes self.old.file)) first (length bytes.old / BLOCK_LENGTH)) }
         ensures failures { Counts (all_failures self.old.tally) (all_failures self.new.tally) result }
@@ -259,6 +262,7 @@ impl<F: BackingFile> Blocks for FileBlocks<F> {
     fn write_run(&mut self, first: u32, bytes: &[u8]) -> Result<(), DeviceFailed>
         requires { IsRun self.old.count first (length bytes.now) }
         ensures size { self.new.count ≡ self.old.count }
+        ensures flushes { self.new.flushes ≡ self.old.flushes }
         ensures done { IsTrue F.claims → OnOk result
             (run_of (F.bytes self.new.file) ≡ written (run_of (F.bytes self.old.file)) first (run_of bytes.now)) }
         ensures torn { IsTrue F.claims
@@ -270,13 +274,14 @@ impl<F: BackingFile> Blocks for FileBlocks<F> {
         ensures failed_writes { Counts (min self.old.tally.failed_writes last_count) (min self.new.tally.failed_writes last_count)
             result }
         ensures lost { self.new.tally.is_lost ≡ self.old.tally.is_lost }
-        // One that was begun has ended, well or not.
-        ensures written { OnOk result (self.new.tally.written ≡ min (self.old.tally.written + 1) last_count) }
+        // It has ended, well or not.
+        ensures written { self.new.tally.written ≡ min (self.old.tally.written + 1) last_count }
         ensures rises { self.old.tally.written ≤ self.new.tally.written }
     {
         // A write behind the end would make the file longer, with zeros in place of what was there.
         if let Err(error) = ends_at(&self.file, self.count) {
             self.tell(Call::Seek, first, bytes.len(), error);
+            self.tally.written = one_more(self.tally.written, &self.flushes);
             return failed(&mut self.tally.failed_writes);
         }
         let end = self.file.write_at(bytes, at(first));
@@ -292,6 +297,7 @@ impl<F: BackingFile> Blocks for FileBlocks<F> {
 
     fn flush(&mut self) -> Result<(), DeviceFailed>
         ensures size { self.new.count ≡ self.old.count }
+        ensures flushes { self.new.flushes ≡ self.old.flushes }
         ensures bytes { IsTrue F.claims → F.bytes self.new.file ≡ F.bytes self.old.file }
         ensures durable { IsTrue F.claims → OnOk result (Only (run_of (F.bytes self.old.file)) (F.may_hold self.new.file)) }
         ensures crash { IsTrue F.claims → NoMore (F.may_hold self.old.file) (F.may_hold self.new.file) }
