@@ -14,8 +14,8 @@ use std::os::unix::fs::FileExt;
 
 /// A file that is read and written at offsets. A call that fails gives the error of the system, 0 where that told none.
 ///
-/// What is said of its bytes, and of a crash between two calls, holds where the type claims it, and of calls that lie in the file. A crash, and a
-/// write that failed, leave of each sector of 512 bytes one that it had or was to have.
+/// What is said of its bytes, and of a crash between two calls, holds where the type claims it, and of calls that lie in the
+/// file. A crash, and a write that failed, leave of each sector of 512 bytes one that it had or was to have.
 pub trait BackingFile: Drop {
     /// Whether the type keeps what is said of bytes and of a crash now.
     ghost claims: { Bool };

@@ -42,8 +42,9 @@ const LATELY: u64 = 8192;
 /// where a thread was kept from its processor.
 const MORE: u64 = 64;
 
-/// Of so many reads one is looked at while the disk counts as fast.
-const LOOKED_AT: u64 = 16;
+/// Of so many commands of a session one is looked at while the disk counts as fast. It is a prime number, so that no pattern of
+/// reads and writes hides the reads.
+const LOOKED_AT: u64 = 61;
 
 /// A file as its preparer has it: through a handle of its own, so that it waits beside the device.
 ///
@@ -57,8 +58,6 @@ pub struct FilePreparer<R: Clock + Wait + Drop> {
     voice: Option<Voice>,
     // What it tells the device of its flushes; none where it makes none.
     flushes: Option<Arc<Flushes<File>, Global>>,
-    // How many reads there were, as far as threads that count at one time do not miss each other's.
-    reads: AtomicU64,
     // For how many reads more the disk counts as slow; below IN_A_ROW how many slow ones in a row were looked at.
     slow: AtomicU64,
 }
@@ -89,7 +88,6 @@ impl<R: Clock + Wait + Files<File = File> + Drop> FilePreparer<R> {
             file,
             voice,
             flushes,
-            reads: AtomicU64::new(0),
             slow: AtomicU64::new(0),
         }
     }
@@ -111,18 +109,6 @@ fn shared(alloc: Global, blocks: &mut FileBlocks<File>) -> Option<Arc<Flushes<Fi
 }
 
 impl<R: Clock + Wait + Drop> FilePreparer<R> {
-    // Whether the disk counts as slow.
-    fn is_slow(&self) -> bool {
-        self.slow.load(Ordering::Relaxed) >= IN_A_ROW
-    }
-
-    // Whether this read is one of those that are looked at while the disk counts as fast: at its first bytes, that is.
-    fn is_looked_at(&self) -> bool {
-        let reads = self.reads.load(Ordering::Relaxed);
-        self.reads.store(reads.wrapping_add(1), Ordering::Relaxed);
-        reads % LOOKED_AT == 0
-    }
-
     // A read was looked at.
     fn count(&self, is_slow: bool) {
         let slow = self.slow.load(Ordering::Relaxed);
@@ -221,6 +207,10 @@ fn edges_of(first: u64, blocks: u16) -> (Option<u64>, Option<u64>) {
 }
 
 impl<R: Clock + Wait + Drop> Preparer for FilePreparer<R> {
+    fn is_slow(&self) -> bool {
+        self.slow.load(Ordering::Relaxed) >= IN_A_ROW
+    }
+
     fn advise(&self, first: u64, blocks: u16) {
         if !self.is_slow() {
             return;
@@ -240,24 +230,25 @@ impl<R: Clock + Wait + Drop> Preparer for FilePreparer<R> {
         }
     }
 
-    fn warm(&self, first: u64, blocks: u16) {
-        let (Some(file), Some((at, length))) = (&self.file, place_of(first, blocks)) else {
+    // A disk that counts as fast is looked at by the first bytes of one command of many.
+    fn warm(&self, serial: u64, first: u64, blocks: u16) {
+        let is_slow = self.is_slow();
+        if !is_slow && serial % LOOKED_AT != 0 {
             return;
-        };
-        if self.is_slow() {
+        }
+        if let (Some(file), Some((at, length))) = (&self.file, place_of(first, blocks)) {
+            let length = if is_slow { length } else { length.min(FEW) };
             self.fetch(file, at, length);
-        } else if self.is_looked_at() {
-            self.fetch(file, at, length.min(FEW));
         }
     }
 
-    fn warm_edges(&self, first: u64, blocks: u16) {
+    fn warm_edges(&self, serial: u64, first: u64, blocks: u16) {
         let (head, tail) = edges_of(first, blocks);
         if let Some(head) = head {
-            self.warm(head, 1);
+            self.warm(serial, head, 1);
         }
         if let Some(tail) = tail {
-            self.warm(tail, 1);
+            self.warm(serial, tail, 1);
         }
     }
 

@@ -8,6 +8,11 @@ pub trait Gate {
     /// The command with this serial of a session is about to be submitted to a unit.
     fn pass(&self, unit: u8, serial: u64, asked: &Asked);
 
+    /// Whether it has a use for commands that wait.
+    fn foresees(&self) -> bool {
+        false
+    }
+
     /// A command that waits to be served, of a unit or of none.
     fn foresee(&self, _unit: u8, _asked: &Asked) {}
 }
@@ -34,17 +39,29 @@ impl<P: Preparer> Prepared<P> {
 }
 
 impl<P: Preparer> Gate for Prepared<P> {
-    fn pass(&self, unit: u8, _serial: u64, asked: &Asked) {
+    fn pass(&self, unit: u8, serial: u64, asked: &Asked) {
         let Some(preparer) = self.of.get(usize::from(unit)) else {
             return;
         };
         match asked {
-            Ok(Command::Read { lba, blocks, .. }) => preparer.warm(*lba, *blocks),
-            Ok(Command::Write { lba, blocks, .. }) => preparer.warm_edges(*lba, *blocks),
-            Ok(Command::CompareAndWrite { lba, blocks, .. }) => preparer.warm(*lba, *blocks),
+            Ok(Command::Read { lba, blocks, .. }) => preparer.warm(serial, *lba, *blocks),
+            Ok(Command::Write { lba, blocks, .. }) => preparer.warm_edges(serial, *lba, *blocks),
+            Ok(Command::CompareAndWrite { lba, blocks, .. }) => {
+                preparer.warm(serial, *lba, *blocks)
+            }
             Ok(Command::SynchronizeCache { .. }) => preparer.flush(),
             _ => {}
         }
+    }
+
+    // As long as any disk is slow, commands of all units are told.
+    fn foresees(&self) -> bool {
+        for preparer in &self.of {
+            if preparer.is_slow() {
+                return true;
+            }
+        }
+        false
     }
 
     fn foresee(&self, unit: u8, asked: &Asked) {

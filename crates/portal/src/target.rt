@@ -456,6 +456,10 @@ impl<
         }
     }
 
+    fn foresees(&self) -> bool {
+        self.device.gate.foresees()
+    }
+
     fn foresee(&self, unit: Option<u8>, asked: &Asked) {
         match unit {
             Some(unit) if usize::from(unit) < self.at.len() => self

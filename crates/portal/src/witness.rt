@@ -262,6 +262,10 @@ impl<
         self.target.end();
     }
 
+    fn foresees(&self) -> bool {
+        self.target.foresees()
+    }
+
     fn foresee(&self, unit: Option<u8>, asked: &Asked) {
         self.target.foresee(unit, asked);
     }

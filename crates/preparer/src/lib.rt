@@ -7,17 +7,21 @@
 
 /// Makes a disk ready for calls of its device, beside the device.
 pub trait Preparer: Drop {
+    /// Whether the disk has been slow of late: only then does it serve to tell of calls that are to come.
+    fn is_slow(&self) -> bool;
+
     /// These blocks will be read soon: has the disk fetch them, and waits for none.
     fn advise(&self, first: u64, blocks: u16);
 
     /// These blocks will be written soon: has the disk fetch what the system has to read before it can write a part of a page.
     fn advise_edges(&self, first: u64, blocks: u16);
 
-    /// These blocks are read next: waits until the disk has fetched them, where it has been slow of late.
-    fn warm(&self, first: u64, blocks: u16);
+    /// These blocks are read next, by the session's command with this serial: waits until the disk has fetched them, where it has
+    /// been slow of late. Of a disk that has not been, some commands are looked at, by their serials.
+    fn warm(&self, serial: u64, first: u64, blocks: u16);
 
     /// These blocks are written next: waits likewise for what the system has to read first.
-    fn warm_edges(&self, first: u64, blocks: u16);
+    fn warm_edges(&self, serial: u64, first: u64, blocks: u16);
 
     /// What was written is to be made last next: waits until what was written until now lasts.
     fn flush(&self);
@@ -28,13 +32,17 @@ pub trait Preparer: Drop {
 pub struct NoPreparer;
 
 impl Preparer for NoPreparer {
+    fn is_slow(&self) -> bool {
+        false
+    }
+
     fn advise(&self, _first: u64, _blocks: u16) {}
 
     fn advise_edges(&self, _first: u64, _blocks: u16) {}
 
-    fn warm(&self, _first: u64, _blocks: u16) {}
+    fn warm(&self, _serial: u64, _first: u64, _blocks: u16) {}
 
-    fn warm_edges(&self, _first: u64, _blocks: u16) {}
+    fn warm_edges(&self, _serial: u64, _first: u64, _blocks: u16) {}
 
     fn flush(&self) {}
 }

@@ -25,9 +25,12 @@ fn tell<T: Target>(target: &T, bhs: &[u8; BHS_LENGTH]) {
     target.foresee(Lun::parse(&lun), &decode(&cdb));
 }
 
-/// Tells the target of the commands that wait in these bytes, where more than one PDU does: a command that came alone is
-/// served now. What is no PDU ends it: the session finds that when it comes to it.
+/// Tells the target of the commands that wait in these bytes, where it wants that and more than one PDU does: a command that
+/// came alone is served now. What is no PDU ends it: the session finds that when it comes to it.
 pub fn look_ahead<T: Target>(target: &T, bytes: &[u8]) {
+    if bytes.len() <= BHS_LENGTH || !target.foresees() {
+        return;
+    }
     let mut rest = bytes;
     for _ in 0..bytes.len() / BHS_LENGTH {
         let Some(bhs) = rest.first_chunk::<BHS_LENGTH>() else {

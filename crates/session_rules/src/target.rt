@@ -64,6 +64,11 @@ pub trait Target {
     fn end(&mut self)
         ensures { leads self.old over self.new };
 
+    /// Whether it is told of commands that wait: a target whose disks take no time has no use for it.
+    fn foresees(&self) -> bool {
+        false
+    }
+
     /// A command that has come, for the unit that its LUN names, and that is to be served when those before it are. A target
     /// may have its disk fetch what the command needs: nothing else, for it may never be served.
     fn foresee(&self, _unit: Option<u8>, _asked: &Asked) {}
