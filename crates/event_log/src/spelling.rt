@@ -1,23 +1,206 @@
 //! How an event is spelled.
-ghost use Rattle.std.specs.Prelude.{◌≡◌, ◌∷◌, [], codes, OnOk};
+ghost use Rattle.std.specs.Prelude.{◌≡◌, ◌∷◌, [], OnOk};
+ghost use Rattle.std.specs.Fmt.{decimal};
 ghost use Rattle.std.specs.String.{string_bytes};
-ghost use Rattle.event_log.specs.Text.{file_in, joined, parts, quoted, set_in, stay_in};
-ghost use Rattle.event_log.specs.Words.{unusable_text};
+ghost use Rattle.event_log.specs.Text.{by_in, cause_in, command_in, error_in, failed_in, file_in, initiator_in, joined, parts, path_in};
+ghost use Rattle.event_log.specs.Text.{portal_in, sense_in, session_in, set_in, stay_in, why_in};
 ghost use Rattle.event_log.specs.declared.event.Event.TheVariants as events;
+ghost use Rattle.event_log.specs.declared.words.Why.TheVariants as whys;
 
 use crate::event::{By, Event, Initiator, Path, Place, Reservation};
-use crate::line::{
-    by, cause, command, error, failed, file, hex_number, initiator, name, number, path, portal,
-    sense, session, text, why,
-};
+use crate::line::Piece::{Address, Hex, Name, Number, Text};
+use crate::line::put;
 use crate::words::{
-    Call, Cause, Kind, Operation, Part, Resource, Sense, Stayed, Unusable, Why, status_text,
+    Call, Cause, Kind, Operation, Part, Sense, Stayed, Unusable, Why, error_text, reject_text,
+    status_text,
 };
 use std::alloc::AllocError;
 use std::net::SocketAddrV4;
 
-// A login's end.
-fn login(
+// A word, and a number behind it.
+fn counted(line: &mut String, what: &str, n: u64) -> Result<(), AllocError>
+    ensures { OnOk result (string_bytes line.new ≡ joined (string_bytes line.old) (what.now ∷ decimal n ∷ [])) }
+{
+    put(line, &[Text(what), Number(n)])
+}
+
+fn initiator(line: &mut String, who: &Initiator<'_>) -> Result<(), AllocError>
+    ensures { OnOk result (string_bytes line.new ≡ joined (string_bytes line.old) (initiator_in who.now [])) }
+{
+    put(
+        line,
+        &[
+            Text(" initiator="),
+            Name(who.name),
+            Text(" isid=0x"),
+            Hex(who.isid),
+        ],
+    )
+}
+
+fn path(line: &mut String, path: &Path) -> Result<(), AllocError>
+    ensures { OnOk result (string_bytes line.new ≡ joined (string_bytes line.old) (path_in path.now [])) }
+{
+    put(
+        line,
+        &[
+            Text(" from="),
+            Address(path.from),
+            Text(" portal="),
+            Address(path.portal),
+            Text(" tag="),
+            Number(u64::from(path.tag)),
+        ],
+    )
+}
+
+// What an initiator did, and how it came.
+fn came(line: &mut String, what: &str, who: &Initiator<'_>, by: &Path) -> Result<(), AllocError>
+    ensures { OnOk result (string_bytes line.new
+        ≡ joined (string_bytes line.old) (what.now ∷ initiator_in who.now (path_in by.now []))) }
+{
+    line.push_str(what)?;
+    initiator(line, who)?;
+    path(line, by)
+}
+
+fn by(line: &mut String, by: &By<'_>) -> Result<(), AllocError>
+    ensures { OnOk result (string_bytes line.new ≡ joined (string_bytes line.old) (by_in by.now)) }
+{
+    match by {
+        By::Console => line.push_str(" by=console"),
+        By::Session(who) => {
+            line.push_str(" by=session")?;
+            initiator(line, who)
+        }
+    }
+}
+
+fn cause(line: &mut String, cause: Cause) -> Result<(), AllocError>
+    ensures { OnOk result (string_bytes line.new ≡ joined (string_bytes line.old) (cause_in cause)) }
+{
+    match cause {
+        Cause::Request => Ok(()),
+        Cause::NoRoom(unit) => counted(line, " lacks=room unit=", u64::from(unit)),
+        Cause::NoTsih => line.push_str(" lacks=tsih"),
+        Cause::NoNumber => line.push_str(" lacks=number"),
+        Cause::NoMemory => line.push_str(" lacks=memory"),
+    }
+}
+
+fn rejected(line: &mut String, reason: u8, opcode: u8, task: u32) -> Result<(), AllocError>
+    ensures { OnOk result (string_bytes line.new
+        ≡ joined (string_bytes line.old) (why_in (whys.Rejected reason opcode task))) }
+{
+    put(
+        line,
+        &[
+            Text(" why=protocol_error reason=0x"),
+            Hex(u64::from(reason)),
+            Text(" words=\""),
+            Text(reject_text(reason)),
+            Text("\" opcode=0x"),
+            Hex(u64::from(opcode)),
+            Text(" task=0x"),
+            Hex(u64::from(task)),
+        ],
+    )
+}
+
+fn why(line: &mut String, why: Why) -> Result<(), AllocError>
+    ensures { OnOk result (string_bytes line.new ≡ joined (string_bytes line.old) (why_in why)) }
+{
+    match why {
+        Why::Logout => line.push_str(" why=logout"),
+        Why::Closed => line.push_str(" why=connection_closed"),
+        Why::InputFailed => line.push_str(" why=connection_lost in=read"),
+        Why::OutputFailed => line.push_str(" why=connection_lost in=write"),
+        Why::Replaced => line.push_str(" why=replaced_by_same_initiator"),
+        Why::Rejected(reason, opcode, task) => rejected(line, reason, opcode, task),
+        Why::Gap => line.push_str(" why=protocol_error words=\"CmdSN leaves a gap\""),
+        Why::NoMemory => line.push_str(" why=no_memory"),
+    }
+}
+
+// A session at a unit: the group of its portal, and its initiator port.
+fn session(line: &mut String, who: &Initiator<'_>, group: u16) -> Result<(), AllocError>
+    ensures { OnOk result (string_bytes line.new ≡ joined (string_bytes line.old) (session_in who.now group)) }
+{
+    counted(line, " group=", u64::from(group))?;
+    initiator(line, who)
+}
+
+// What happened to a portal of a controller.
+fn portal(
+    line: &mut String,
+    what: &str,
+    controller: u16,
+    portal: SocketAddrV4,
+) -> Result<(), AllocError>
+    ensures { OnOk result (string_bytes line.new
+        ≡ joined (string_bytes line.old) (what.now ∷ portal_in controller portal [])) }
+{
+    put(
+        line,
+        &[
+            Text(what),
+            Text(" controller="),
+            Number(u64::from(controller)),
+            Text(" portal="),
+            Address(portal),
+        ],
+    )
+}
+
+// An error of the system.
+fn error(line: &mut String, error: u32) -> Result<(), AllocError>
+    ensures { OnOk result (string_bytes line.new ≡ joined (string_bytes line.old) (error_in error)) }
+{
+    put(
+        line,
+        &[
+            Text(" errno="),
+            Number(u64::from(error)),
+            Text(" error="),
+            Text(error_text(error)),
+        ],
+    )
+}
+
+// What happened to a command of a session at a unit.
+fn command(line: &mut String, what: &str, unit: u8, operation: Operation) -> Result<(), AllocError>
+    ensures { OnOk result (string_bytes line.new
+        ≡ joined (string_bytes line.old) (what.now ∷ command_in unit operation [])) }
+{
+    put(
+        line,
+        &[
+            Text(what),
+            Text(" unit="),
+            Number(u64::from(unit)),
+            Text(" command="),
+            Text(operation.text()),
+        ],
+    )
+}
+
+// What happened to a file of a unit.
+fn file(line: &mut String, what: &str, unit: u8, part: Part) -> Result<(), AllocError>
+    ensures { OnOk result (string_bytes line.new ≡ joined (string_bytes line.old) (what.now ∷ file_in unit part [])) }
+{
+    put(
+        line,
+        &[
+            Text(what),
+            Text(" unit="),
+            Number(u64::from(unit)),
+            Text(" file="),
+            Text(part.text()),
+        ],
+    )
+}
+
+fn logged_in(
     line: &mut String,
     who: &Initiator<'_>,
     by: &Path,
@@ -27,13 +210,16 @@ fn login(
     ensures { OnOk result (string_bytes line.new
         ≡ joined (string_bytes line.old) (parts (events.LoggedIn who.now by.now tsih kind))) }
 {
-    text(line, "event=login")?;
-    initiator(line, who)?;
-    path(line, by)?;
-    text(line, " tsih=")?;
-    number(line, u64::from(tsih))?;
-    text(line, " type=")?;
-    text(line, kind.text())
+    came(line, "event=login", who, by)?;
+    put(
+        line,
+        &[
+            Text(" tsih="),
+            Number(u64::from(tsih)),
+            Text(" type="),
+            Text(kind.text()),
+        ],
+    )
 }
 
 fn refused(
@@ -46,18 +232,21 @@ fn refused(
     ensures { OnOk result (string_bytes line.new
         ≡ joined (string_bytes line.old) (parts (events.LoginRefused who.now by.now status lacks))) }
 {
-    text(line, "event=login_refused")?;
-    initiator(line, who)?;
-    path(line, by)?;
-    text(line, " status=0x")?;
-    hex_number(line, u64::from(status))?;
-    text(line, " words=\"")?;
-    text(line, status_text(status))?;
-    text(line, "\"")?;
+    came(line, "event=login_refused", who, by)?;
+    put(
+        line,
+        &[
+            Text(" status=0x"),
+            Hex(u64::from(status)),
+            Text(" words=\""),
+            Text(status_text(status)),
+            Text("\""),
+        ],
+    )?;
     cause(line, lacks)
 }
 
-fn ended(
+fn session_ended(
     line: &mut String,
     who: &Initiator<'_>,
     by: &Path,
@@ -67,48 +256,41 @@ fn ended(
     ensures { OnOk result (string_bytes line.new
         ≡ joined (string_bytes line.old) (parts (events.SessionEnded who.now by.now tsih end))) }
 {
-    text(line, "event=session_ended")?;
-    initiator(line, who)?;
-    path(line, by)?;
-    text(line, " tsih=")?;
-    number(line, u64::from(tsih))?;
+    came(line, "event=session_ended", who, by)?;
+    counted(line, " tsih=", u64::from(tsih))?;
     why(line, end)
-}
-
-// That a unit was to move, and why it stays.
-fn stay(line: &mut String, unit: u8, group: u16, end: Stayed) -> Result<(), AllocError>
-    ensures { OnOk result (string_bytes line.new ≡ joined (string_bytes line.old) (stay_in unit group end [])) }
-{
-    text(line, "event=not_moved unit=")?;
-    number(line, u64::from(unit))?;
-    text(line, " to=")?;
-    number(line, u64::from(group))?;
-    text(line, " why=")?;
-    text(line, end.text())
-}
-
-fn stayed(
-    line: &mut String,
-    unit: u8,
-    group: u16,
-    end: Stayed,
-    whom: &By<'_>,
-) -> Result<(), AllocError>
-    ensures { OnOk result (string_bytes line.new
-        ≡ joined (string_bytes line.old) (parts (events.NotMoved unit group end whom.now))) }
-{
-    stay(line, unit, group, end)?;
-    by(line, whom)
 }
 
 // That the groups of a unit were set.
 fn set(line: &mut String, unit: u8, group: u16) -> Result<(), AllocError>
     ensures { OnOk result (string_bytes line.new ≡ joined (string_bytes line.old) (set_in unit group [])) }
 {
-    text(line, "event=groups_set unit=")?;
-    number(line, u64::from(unit))?;
-    text(line, " owner=")?;
-    number(line, u64::from(group))
+    put(
+        line,
+        &[
+            Text("event=groups_set unit="),
+            Number(u64::from(unit)),
+            Text(" owner="),
+            Number(u64::from(group)),
+        ],
+    )
+}
+
+// That a unit was to move, and why it stays.
+fn stay(line: &mut String, unit: u8, group: u16, end: Stayed) -> Result<(), AllocError>
+    ensures { OnOk result (string_bytes line.new ≡ joined (string_bytes line.old) (stay_in unit group end [])) }
+{
+    put(
+        line,
+        &[
+            Text("event=not_moved unit="),
+            Number(u64::from(unit)),
+            Text(" to="),
+            Number(u64::from(group)),
+            Text(" why="),
+            Text(end.text()),
+        ],
+    )
 }
 
 fn reserved(
@@ -121,82 +303,77 @@ fn reserved(
     ensures { OnOk result (string_bytes line.new
         ≡ joined (string_bytes line.old) (parts (events.Reserved unit asked.now who.now group))) }
 {
-    text(line, "event=reservation unit=")?;
-    number(line, u64::from(unit))?;
-    text(line, " action=")?;
-    text(line, asked.action.text())?;
-    text(line, " key=0x")?;
-    hex_number(line, asked.key)?;
-    text(line, " service_action_key=0x")?;
-    hex_number(line, asked.service_action_key)?;
-    text(line, " type=")?;
-    number(line, u64::from(asked.kind))?;
+    put(
+        line,
+        &[
+            Text("event=reservation unit="),
+            Number(u64::from(unit)),
+            Text(" action="),
+            Text(asked.action.text()),
+            Text(" key=0x"),
+            Hex(asked.key),
+            Text(" service_action_key=0x"),
+            Hex(asked.service_action_key),
+            Text(" type="),
+            Number(u64::from(asked.kind)),
+        ],
+    )?;
     session(line, who, group)
 }
 
-fn listening(line: &mut String, controller: u16, at: SocketAddrV4) -> Result<(), AllocError>
-    ensures { OnOk result (string_bytes line.new
-        ≡ joined (string_bytes line.old) (parts (events.Listening controller at))) }
+fn sense(line: &mut String, sense: Sense) -> Result<(), AllocError>
+    ensures { OnOk result (string_bytes line.new ≡ joined (string_bytes line.old) (sense_in sense [])) }
 {
-    text(line, "event=listening")?;
-    portal(line, controller, at)
+    put(
+        line,
+        &[
+            Text(" key=0x"),
+            Hex(u64::from(sense.key)),
+            Text(" asc=0x"),
+            Hex(u64::from(sense.code)),
+            Text(" ascq=0x"),
+            Hex(u64::from(sense.qualifier)),
+        ],
+    )
 }
 
-fn cannot_listen(
-    line: &mut String,
-    controller: u16,
-    at: SocketAddrV4,
-    errno: u32,
-) -> Result<(), AllocError>
-    ensures { OnOk result (string_bytes line.new
-        ≡ joined (string_bytes line.old) (parts (events.CannotListen controller at errno))) }
+fn failed(line: &mut String, call: Call, place: Place, errno: u32) -> Result<(), AllocError>
+    ensures { OnOk result (string_bytes line.new ≡ joined (string_bytes line.old) (failed_in call place errno)) }
 {
-    text(line, "event=cannot_listen")?;
-    portal(line, controller, at)?;
+    put(
+        line,
+        &[
+            Text(" call="),
+            Text(call.text()),
+            Text(" block="),
+            Number(u64::from(place.first)),
+            Text(" blocks="),
+            Number(u64::from(place.count)),
+        ],
+    )?;
     error(line, errno)
 }
 
-fn connection_ended(line: &mut String, by: &Path, end: Why) -> Result<(), AllocError>
-    ensures { OnOk result (string_bytes line.new
-        ≡ joined (string_bytes line.old) (parts (events.ConnectionEnded by.now end))) }
-{
-    text(line, "event=connection_ended")?;
-    path(line, by)?;
-    why(line, end)
-}
-
-fn groups_set(line: &mut String, unit: u8, group: u16, whom: &By<'_>) -> Result<(), AllocError>
-    ensures { OnOk result (string_bytes line.new
-        ≡ joined (string_bytes line.old) (parts (events.GroupsSet unit group whom.now))) }
-{
-    set(line, unit, group)?;
-    by(line, whom)
-}
-
-fn reset(line: &mut String, unit: u8, who: &Initiator<'_>, group: u16) -> Result<(), AllocError>
-    ensures { OnOk result (string_bytes line.new
-        ≡ joined (string_bytes line.old) (parts (events.Reset unit who.now group))) }
-{
-    text(line, "event=unit_reset unit=")?;
-    number(line, u64::from(unit))?;
-    session(line, who, group)
-}
-
-fn command_failed(
+fn cannot_use(
     line: &mut String,
     unit: u8,
-    operation: Operation,
-    told: Sense,
-    who: &Initiator<'_>,
-    group: u16,
+    part: Part,
+    disk: &[u8],
+    cause: Unusable,
 ) -> Result<(), AllocError>
     ensures { OnOk result (string_bytes line.new
-        ≡ joined (string_bytes line.old) (parts (events.CommandFailed unit operation told who.now group))) }
+        ≡ joined (string_bytes line.old) (parts (events.CannotUse unit part disk.entry cause))) }
 {
-    text(line, "event=command_failed")?;
-    command(line, unit, operation)?;
-    sense(line, told)?;
-    session(line, who, group)
+    file(line, "event=cannot_use", unit, part)?;
+    put(
+        line,
+        &[
+            Text(" disk="),
+            Name(disk),
+            Text(" why="),
+            Text(cause.text()),
+        ],
+    )
 }
 
 fn busy(
@@ -209,72 +386,8 @@ fn busy(
     ensures { OnOk result (string_bytes line.new
         ≡ joined (string_bytes line.old) (parts (events.Busy unit operation who.now group))) }
 {
-    text(line, "event=busy")?;
-    command(line, unit, operation)?;
+    command(line, "event=busy", unit, operation)?;
     session(line, who, group)
-}
-
-// That a call on a file of a unit failed.
-fn device(line: &mut String, unit: u8, part: Part) -> Result<(), AllocError>
-    ensures { OnOk result (string_bytes line.new
-        ≡ joined (string_bytes line.old) (codes "event=device_failed" ∷ file_in unit part [])) }
-{
-    text(line, "event=device_failed")?;
-    file(line, unit, part)
-}
-
-fn device_failed(
-    line: &mut String,
-    unit: u8,
-    part: Part,
-    call: Call,
-    place: Place,
-    errno: u32,
-) -> Result<(), AllocError>
-    ensures { OnOk result (string_bytes line.new
-        ≡ joined (string_bytes line.old) (parts (events.DeviceFailed unit part call place errno))) }
-{
-    device(line, unit, part)?;
-    failed(line, call, place, errno)
-}
-
-fn not_flushed(line: &mut String, unit: u8) -> Result<(), AllocError>
-    ensures { OnOk result (string_bytes line.new ≡ joined (string_bytes line.old) (parts (events.NotFlushed unit))) }
-{
-    text(line, "event=not_flushed unit=")?;
-    number(line, u64::from(unit))
-}
-
-fn cannot_use(
-    line: &mut String,
-    unit: u8,
-    part: Part,
-    disk: &[u8],
-    cause: Unusable,
-) -> Result<(), AllocError>
-    ensures { OnOk result (string_bytes line.new ≡ joined (string_bytes line.old)
-        (codes "event=cannot_use" ∷ file_in unit part (codes " disk=" ∷ quoted disk.now ∷ codes " why=" ∷ unusable_text cause ∷ []))) }
-{
-    text(line, "event=cannot_use")?;
-    file(line, unit, part)?;
-    text(line, " disk=")?;
-    name(line, disk)?;
-    text(line, " why=")?;
-    text(line, cause.text())
-}
-
-fn wanting(line: &mut String, what: Resource) -> Result<(), AllocError>
-    ensures { OnOk result (string_bytes line.new ≡ joined (string_bytes line.old) (parts (events.Wanting what))) }
-{
-    text(line, "event=wanting what=")?;
-    text(line, what.text())
-}
-
-fn dropped(line: &mut String, count: u64) -> Result<(), AllocError>
-    ensures { OnOk result (string_bytes line.new ≡ joined (string_bytes line.old) (parts (events.Dropped count))) }
-{
-    text(line, "event=dropped lines=")?;
-    number(line, count)
 }
 
 /// Spells an event behind what a line has.
@@ -282,28 +395,47 @@ pub fn spell(line: &mut String, event: &Event<'_>) -> Result<(), AllocError>
     ensures { OnOk result (string_bytes line.new ≡ joined (string_bytes line.old) (parts event.now)) }
 {
     match event {
-        Event::Listening(controller, at) => listening(line, *controller, *at),
-        Event::CannotListen(controller, at, errno) => cannot_listen(line, *controller, *at, *errno),
-        Event::Ready => text(line, "event=ready"),
-        Event::Stopping => text(line, "event=stopping"),
-        Event::LoggedIn(who, by, tsih, kind) => login(line, who, by, *tsih, *kind),
+        Event::Listening(controller, at) => portal(line, "event=listening", *controller, *at),
+        Event::CannotListen(controller, at, errno) => {
+            portal(line, "event=cannot_listen", *controller, *at)?;
+            error(line, *errno)
+        }
+        Event::Ready => line.push_str("event=ready"),
+        Event::Stopping => line.push_str("event=stopping"),
+        Event::LoggedIn(who, by, tsih, kind) => logged_in(line, who, by, *tsih, *kind),
         Event::LoginRefused(who, by, status, lacks) => refused(line, who, by, *status, *lacks),
-        Event::SessionEnded(who, by, tsih, end) => ended(line, who, by, *tsih, *end),
-        Event::ConnectionEnded(by, end) => connection_ended(line, by, *end),
-        Event::GroupsSet(unit, group, whom) => groups_set(line, *unit, *group, whom),
-        Event::NotMoved(unit, group, end, whom) => stayed(line, *unit, *group, *end, whom),
+        Event::SessionEnded(who, by, tsih, end) => session_ended(line, who, by, *tsih, *end),
+        Event::ConnectionEnded(by, end) => {
+            line.push_str("event=connection_ended")?;
+            path(line, by)?;
+            why(line, *end)
+        }
+        Event::GroupsSet(unit, group, whom) => {
+            set(line, *unit, *group)?;
+            by(line, whom)
+        }
+        Event::NotMoved(unit, group, end, whom) => {
+            stay(line, *unit, *group, *end)?;
+            by(line, whom)
+        }
         Event::Reserved(unit, asked, who, group) => reserved(line, *unit, asked, who, *group),
-        Event::Reset(unit, who, group) => reset(line, *unit, who, *group),
+        Event::Reset(unit, who, group) => {
+            counted(line, "event=unit_reset unit=", u64::from(*unit))?;
+            session(line, who, *group)
+        }
         Event::CommandFailed(unit, operation, told, who, group) => {
-            command_failed(line, *unit, *operation, *told, who, *group)
+            command(line, "event=command_failed", *unit, *operation)?;
+            sense(line, *told)?;
+            session(line, who, *group)
         }
         Event::Busy(unit, operation, who, group) => busy(line, *unit, *operation, who, *group),
         Event::DeviceFailed(unit, part, call, place, errno) => {
-            device_failed(line, *unit, *part, *call, *place, *errno)
+            file(line, "event=device_failed", *unit, *part)?;
+            failed(line, *call, *place, *errno)
         }
-        Event::NotFlushed(unit) => not_flushed(line, *unit),
+        Event::NotFlushed(unit) => counted(line, "event=not_flushed unit=", u64::from(*unit)),
         Event::CannotUse(unit, part, disk, cause) => cannot_use(line, *unit, *part, disk, *cause),
-        Event::Wanting(what) => wanting(line, *what),
-        Event::Dropped(count) => dropped(line, *count),
+        Event::Wanting(what) => put(line, &[Text("event=wanting what="), Text(what.text())]),
+        Event::Dropped(count) => counted(line, "event=dropped lines=", *count),
     }
 }
