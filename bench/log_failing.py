@@ -264,7 +264,9 @@ def want_of_memory_at_the_start(folder, log):
     path = disk(folder)
     with Array([path]) as array:
         array.quit()
+    told = 0
     for behind in range(500):
+        before = len(log.all())
         fail.let("memory", errno.ENOMEM, behind)
         end = ended(["--port", str(PORT), path], log=log.path, more=fail.environment)
         if not fail.is_over("memory"):
@@ -272,6 +274,12 @@ def want_of_memory_at_the_start(folder, log):
             break
         # at some it does without; then it ends with its input
         is_so(f"allocation {behind}", end in ((1, "arrayd: no memory"), (0, "")), True)
+        lines = log.all()[before:]
+        # before the log is open nothing is told
+        if end[0] == 1 and lines:
+            is_so(f"last line of allocation {behind}", (lines[-1]["event"], lines[-1].get("what")), ("wanting", "memory"))
+            told += 1
+    is_so("told at least once", told > 0, True)
     for file in ("disk", "registrations"):
         lines = [line for line in log.all() if line["event"] == "cannot_use" and line["file"] == file]
         is_so(file, [line["why"] for line in lines], ["no_memory"] * len(lines))

@@ -6,4 +6,4 @@ mod portals;
 mod served;
 
 pub use disks::{FileArray, OpenArray, open};
-pub use served::serve;
+pub use served::{serve, tell_want};

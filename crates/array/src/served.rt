@@ -8,7 +8,7 @@ use crate::portals::{self, Portal, Ports};
 use block_file::{Blocks, Opener};
 use command_line::{Fault, MAX_UNITS, Options};
 use console::{Array, Watched, console};
-use event_log::{Event, Log};
+use event_log::{Event, Log, Resource};
 use numbering::Array as Naming;
 use portal::{Controllers, Gate, Server, SmallStacks, TargetDevice, listen, start_lanes};
 use scsi_types::Group;
@@ -110,6 +110,13 @@ fn serve_units<
     Ok(())
 }
 
+/// Tells the log of an array that ends for want of memory, or of a thread.
+pub fn tell_want<R: Clock>(rt: &R, log: &Log, fault: Fault) {
+    if fault == Fault::NoMemory {
+        log.tell(rt, &Event::Wanting(Resource::Memory));
+    }
+}
+
 /// Serves an array whose files are open, at the portals that the words ask for, until its console has no more lines for it or says
 /// `quit`. Behind it the last lines of the log are written, and only then another server may have the files. The names of the
 /// units are picked where it is called.
@@ -145,6 +152,9 @@ pub fn serve<
     let served = serve_units::<N, B, F, O, G, R, I, C>(
         rt, alloc, options, units, gate, log, reader, writer,
     );
+    if let Err(fault) = served {
+        tell_want(rt, log, fault);
+    }
     event_log::close(rt, log);
     // They live as long as the array is served.
     drop(locks);

@@ -4,7 +4,7 @@
 mod log_file;
 mod once;
 
-use array::{open, serve};
+use array::{open, serve, tell_want};
 use command_line::Fault;
 use disk_files::{FileBlocks, FileOpener, FilePreparer};
 use event_log::{Log, start};
@@ -73,6 +73,7 @@ fn main(rt: HostRuntime) -> ExitCode {
     let array = match open(&rt, alloc, &log, &options) {
         Ok(array) => array,
         Err(fault) => {
+            tell_want(&rt, &log, fault);
             event_log::close(&rt, &log);
             return complain(&rt, fault);
         }
