@@ -1,4 +1,4 @@
-//! Who moves the units of an array, and keeps what was moved.
+//! Who moves the units of an array, and keeps each move that is asked of it, done or not.
 ghost use Rattle.std.specs.Prelude.{◌≡◌, ◌<◌, ◌≤◌, ◌++◌, ◌∷◌, [], ℕ, List, length};
 ghost use Rattle.failover.specs.Down.{Move};
 
@@ -14,12 +14,12 @@ use unit_state::MoveFault;
 /// A parameter list of SET TARGET PORT GROUPS with a descriptor for each group (SPC-4, 6.45).
 pub type GroupsList = [u8; 12];
 
-/// The way to the units for who is to move them and nothing else. Each move that is made by it is kept.
+/// The way to the units for who is to move them and nothing else. Each move that is asked by it is kept, with its end.
 pub trait Moves {
     /// How many units there are.
     ghost units: { Self → ℕ };
 
-    /// The moves that were made, the first first.
+    /// The moves that were asked, the first first.
     ghost moved: { Self → List Move };
 
     /// What such a move shows.
@@ -60,7 +60,7 @@ impl<B: Blocks, R: Blocks, O: Opener<B>, N: Array<Opened>> Model for Moved<B, R,
     ghost view = { λ m. record { place = m.seen.0; list = m.list; seen = m.seen.1; end = m.end } };
 }
 
-/// Moves that were made, the first first. It has room for eight.
+/// Moves that were asked, the first first. It has room for eight.
 #[derive(Drop)]
 struct Kept<B: Blocks, R: Blocks, O: Opener<B>, N: Array<Opened>> {
     moves: [Option<Moved<B, R, O, N>>; MOST_UNITS],
@@ -99,7 +99,7 @@ impl<B: Blocks, R: Blocks, O: Opener<B>, N: Array<Opened>> Kept<B, R, O, N> {
     }
 }
 
-/// Moves the units of an array, and keeps what was moved. It takes no memory.
+/// Moves the units of an array, and keeps each move that is asked. It takes no memory.
 #[derive(Drop)]
 pub struct Mover<'a, B: Blocks, R: Blocks, O: Opener<B>, N: Array<Opened>> {
     units: &'a Units<B, R, O, N>,
@@ -115,7 +115,7 @@ impl<'a, B: Blocks, R: Blocks, O: Opener<B>, N: Array<Opened>> Model for Mover<'
 }
 
 impl<'a, B: Blocks, R: Blocks, O: Opener<B>, N: Array<Opened>> Mover<'a, B, R, O, N> {
-    /// By it nothing was moved yet.
+    /// By it no move was asked yet.
     pub fn new(units: &'a Units<B, R, O, N>) -> Mover<'a, B, R, O, N>
         ensures units { result.units ≡ units.now }
         ensures moved { result.moved ≡ [] }

@@ -53,8 +53,8 @@ done_in unit over = []
 abbrev pub done_at : ℕ → List Asking → List Done
 done_at unit asks = flat_map (done_in unit) asks
 
--- Behind the last that it has done a session has no entry of its own but its Detach, the last of all; and none where it was gone
--- before, as another of its nexus has attached.
+-- Behind the last that it has done a session has no entry of its own, as where it was gone before since another of its nexus has
+-- attached; or one, its Detach, the last of all.
 abbrev pub IsLast : ℕ → List Entry → Type 0
 IsLast session rest =
     (counted own session rest ≡ 0)

@@ -1,6 +1,6 @@
 -- The target of a session: how it begins at all units, what it asks of them, and how it is over (RFC 7143, 6.3).
 use Rattle.std.specs.Prelude.{◌≡◌, ℕ, ◌+◌, ◌<◌, ◌≤◌, Bool, true, false, List, [], ◌∷◌, ◌++◌, length, slice_get, slice_set}
-use Rattle.std.specs.Prelude.{Option, Some, None, MatchOption, Result}
+use Rattle.std.specs.Prelude.{Option, Some, None, MatchOption, Result, Ok, Err}
 use Rattle.identity.specs.Absent.{absent_reply}
 use Rattle.login.specs.declared.status.Kind.{Kind}
 use Rattle.login.specs.declared.status.Kind.TheVariants.{Normal, Discovery}
@@ -103,7 +103,7 @@ module _ (claims : Claims) (opening : ℕ → UnitState) where
   abbrev pub IsFullAt : Nexus → ℕ → Sight → Type 0
   IsFullAt nexus unit seen = (seen.0 ≡ unit) × HasNoRoom claims.contents (opening unit) nexus seen.1
 
-  -- Why it may not begin, and what was seen then of a unit: it did before; it has no name of a port; this unit had no room for one
+  -- Why it may not begin, and what was seen then of a unit: it was asked before; it has no name of a port; this unit had no room for one
   -- that is normal; there was no TSIH or no number for it, which is asked once it is attached to all; or there was no memory.
   abbrev pub IsCauseOf : Nexus → Kind → ℕ → List At → BeginFault → List Sight → Type 0
   IsCauseOf nexus kind units at faults.Begun seen = (at ≡ []) × (seen ≡ [])
@@ -159,6 +159,11 @@ module _ (claims : Claims) (opening : ℕ → UnitState) where
     pub turned_back : IsTurnedBack (through port old.group) kind old.units fault old.seen new.seen
     pub again : old.begun ≡ true → new ≡ old
     pub rest : new ≡ record old { seen = new.seen }
+
+  -- It was asked to begin: its TSIH, or why it may not.
+  abbrev pub HasTried : TargetValue → Port → Kind → Result ℕ BeginFault → TargetValue → Type 0
+  HasTried old port kind (Ok tsih) new = (0 < tsih) × HasBegun old port kind new
+  HasTried old port kind (Err fault) new = IsRefused old port kind fault new
 
   -- where a question with its answer leads the target
   abbrev pub LeadsOn : TargetValue → Asking → TargetValue → Type 0

@@ -2,8 +2,8 @@
 ghost use Rattle.std.specs.Prelude.{◌≡◌, ◌+◌, ◌<◌, ◌≤◌, ◌↔◌, ◌∷◌, ◌++◌, [], false, All, IfErr, IfOk, IfSome, IsTrue, MatchOption};
 ghost use Rattle.std.specs.Prelude.{length, map, vec_capacity};
 ghost use Rattle.reservations.specs.Nexus.{IsPortName, through};
-ghost use Rattle.portal.specs.Target.{IsAbsent, IsAttachedTo, IsFullAt, IsJoined, IsOverAt, IsRefused, IsTurnedBack, Leaves};
-ghost use Rattle.portal.specs.Target.{HasBegun, IsServedAt, IsResetIn, unbegun};
+ghost use Rattle.portal.specs.Target.{IsAbsent, IsAttachedTo, IsFullAt, IsJoined, IsOverAt, IsTurnedBack, Leaves};
+ghost use Rattle.portal.specs.Target.{HasTried, IsServedAt, IsResetIn, unbegun};
 ghost use Rattle.portal.specs.declared.target.BeginFault.TheVariants as faults;
 
 use crate::attached::Attached;
@@ -24,7 +24,7 @@ use std::sync::Wait;
 /// Why a session does not begin. It is attached to no unit.
 #[derive(Clone, Copy, Debug, PartialEq, Eq)]
 pub enum BeginFault {
-    /// It did begin before.
+    /// It was asked before.
     Begun,
     /// The InitiatorName has not 1 to 223 bytes, or the ISID is not below 2^48.
     NoPortName,
@@ -288,10 +288,7 @@ impl<
     fn join(&mut self, name: &[u8], isid: u64, connection: C) -> Result<u16, BeginFault>
         requires fresh { (self.old.begun ≡ false) × (self.old.at ≡ []) × (self.old.seen ≡ []) }
         requires name { IsPortName (record { name = name.now; isid = isid }) }
-        ensures begun { IfOk result (λ tsih. (0 < tsih) × HasBegun U.claims U.opening self.old
-            (record { name = name.now; isid = isid }) Kind.Normal self.new) }
-        ensures refused { IfErr result (λ fault. IsRefused U.claims U.opening self.old
-            (record { name = name.now; isid = isid }) Kind.Normal fault self.new) }
+        ensures { HasTried U.claims U.opening self.old (record { name = name.now; isid = isid }) Kind.Normal result self.new }
     {
         let Ok(own_name) = name.to_vec(self.alloc) else {
             return Err(BeginFault::NoMemory);
@@ -332,10 +329,7 @@ impl<
     fn join_none(&mut self, name: &[u8], isid: u64, connection: C) -> Result<u16, BeginFault>
         requires fresh { (self.old.begun ≡ false) × (self.old.at ≡ []) × (self.old.seen ≡ []) }
         requires name { IsPortName (record { name = name.now; isid = isid }) }
-        ensures begun { IfOk result (λ tsih. (0 < tsih) × HasBegun U.claims U.opening self.old
-            (record { name = name.now; isid = isid }) Kind.Discovery self.new) }
-        ensures refused { IfErr result (λ fault. IsRefused U.claims U.opening self.old
-            (record { name = name.now; isid = isid }) Kind.Discovery fault self.new) }
+        ensures { HasTried U.claims U.opening self.old (record { name = name.now; isid = isid }) Kind.Discovery result self.new }
     {
         let Ok(own_name) = name.to_vec(self.alloc) else {
             return Err(BeginFault::NoMemory);
@@ -353,10 +347,7 @@ impl<
     /// Begins the session, of this kind and of the initiator port with this name and ISID: its TSIH. A normal session is
     /// attached to all units in order. The one of the same port, group and kind is over from then on (RFC 7143, 6.3.5).
     pub fn try_begin(&mut self, name: &[u8], isid: u64, kind: Kind) -> Result<u16, BeginFault>
-        ensures begun { IfOk result (λ tsih. (0 < tsih) × HasBegun U.claims U.opening self.old
-            (record { name = name.now; isid = isid }) kind self.new) }
-        ensures refused { IfErr result (λ fault. IsRefused U.claims U.opening self.old
-            (record { name = name.now; isid = isid }) kind fault self.new) }
+        ensures { HasTried U.claims U.opening self.old (record { name = name.now; isid = isid }) kind result self.new }
     {
         let Some(connection) = self.connection.take() else {
             return Err(BeginFault::Begun);

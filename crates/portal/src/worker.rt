@@ -28,7 +28,7 @@ pub fn tag_of(group: Group) -> u16
 }
 
 /// Serves a session that comes by the portals of a group over a connection, from the first byte of its login to its end.
-/// Refused for want of memory, it has read, written and asked nothing. It says how the session ended, and whose it was, and hands
+/// Refused for want of memory, it has read and written nothing. It says how the session ended, and whose it was, and hands
 /// out what was seen of each unit as the session left it, or was refused there: of what several sessions have so seen of a unit, one
 /// history begins the other (`LogicalUnits::in_one_history`). Of what happens meanwhile the log is told.
 #[tactic(auto, using(crate::proofs::Answering::session_of))]

@@ -8,8 +8,8 @@ use Rattle.portal.specs.declared.target.BeginFault.{BeginFault}
 use Rattle.portal.proofs.Refusing.{behind_all, turned_back}
 use Rattle.portal.proofs.target.SessionTarget.join.Goals as goal
 
-pub returns-clause-refused : goal.returns-clause-refused
-returns-clause-refused g c =
+pub returns : goal.returns
+returns g c =
     let claims = g.U.LogicalUnits.claims in
     let opening = g.U.LogicalUnits.opening in
     let f = g.U.LogicalUnits.seen in
