@@ -21,8 +21,6 @@ ip link set "$card" up
 ip addr add 10.0.2.15/24 dev "$card"
 ip route add default via 10.0.2.2
 /lib/systemd/systemd-udevd --daemon
-udevadm trigger
-udevadm settle
 echo InitiatorName=iqn.2000-01.test:linux > /etc/iscsi/initiatorname.iscsi
 iscsid
 sleep 1
@@ -33,21 +31,22 @@ F=/run/out
 
 # what it is, then the command
 try() {
-    what=$1
+    local what=$1
     shift
     if "$@" > $F 2>&1; then echo "ok      $what"; else echo "FAILED  $what: $*"; tail -15 $F; fi
 }
 fails() {
-    what=$1
+    local what=$1
     shift
     if "$@" > $F 2>&1; then echo "FAILED  $what: $* did not fail"; else echo "ok      $what"; fi
 }
+# Seconds are those of the host's clock: on a busy machine a command of the host may take some of them.
 # what, for how many seconds at most, then the command
 soon() {
-    local what=$1 seconds=$2
+    local what=$1 seconds=$2 began=$SECONDS
     shift 2
-    for ((i = 0; i < seconds; i++)); do
-        "$@" > $F 2>&1 && echo "ok      $what (after $i s)" && return
+    while ((SECONDS - began < seconds)); do
+        "$@" > $F 2>&1 && echo "ok      $what (after $((SECONDS - began)) s)" && return
         sleep 1
     done
     echo "FAILED  $what: $*"
@@ -69,18 +68,23 @@ states() {
 }
 # what, for how many seconds at most, the states
 become() {
-    for ((i = 0; i < $2; i++)); do
-        [ "$(states)" = "$3" ] && echo "ok      $1 (after $i s)" && return
+    local began=$SECONDS
+    while ((SECONDS - began < $2)); do
+        [ "$(states)" = "$3" ] && echo "ok      $1 (after $((SECONDS - began)) s)" && return
         sleep 1
     done
     echo "FAILED  $1: $(states), and not $3"
 }
+# what, for how many seconds at least, the states
 stay() {
-    for ((i = 0; i < $2; i++)); do
-        [ "$(states)" = "$3" ] || { echo "FAILED  $1: $(states) after $i s"; return; }
+    local began=$SECONDS now seconds=0
+    while ((seconds < $2)); do
         sleep 1
+        seconds=$((SECONDS - began))
+        now=$(states)
+        [ "$now" = "$3" ] || { echo "FAILED  $1: $now after $seconds s"; return; }
     done
-    echo "ok      $1 ($2 s)"
+    echo "ok      $1 ($seconds s)"
 }
 conf() {
     cat > /etc/multipath.conf << END
@@ -140,43 +144,45 @@ D=/dev/mapper/$map0
 try 'mkfs.ext4' mkfs.ext4 -q $D
 try 'mount' mount $D /mnt
 
-# fio with verification, while something happens
+# fio with verification, while something happens: what it is, for how many seconds fio runs, then the command. The file is there before, so
+# that it is reads, writes and their verification that go on meanwhile.
 over() {
-    fio --name=over --directory=/mnt --size=32M --rw=randrw --bs=4k --iodepth=8 --ioengine=libaio --direct=1 --time_based --runtime=$2 \
+    local what=$1 seconds=$2 fio is_still=no ended
+    shift 2
+    fio --name=over --directory=/mnt --size=32M --rw=randrw --bs=4k --iodepth=8 --ioengine=libaio --direct=1 --time_based --runtime=$seconds \
         --verify=crc32c --verify_backlog=64 --verify_fatal=1 --fsync=16 > /run/fio 2>&1 &
     fio=$!
     sleep 5
-    shift 2
     "$@"
+    kill -0 $fio 2> /dev/null && is_still=yes
     wait $fio
     ended=$?
     if [ $ended = 0 ]; then echo "ok      fio with verification over $what"; else echo "FAILED  fio over $what"; tail -20 /run/fio; fi
+    if [ $is_still = yes ]; then echo "ok        it was running all the time"; else echo "FAILED    it had ended before"; fi
+    sed -n 's/^ *\(read\|write\): \(IOPS=[^ ,]*\).*\/\([0-9]*msec\).*/seen      fio: \1 \2 in \3/p' /run/fio
 }
 down_and_look() {
     [ "$(tell "down $1")" = down ] && echo "ok      down $1" || echo "FAILED  down $1"
     stay "failback manual: controller $1 stays down" 20 "$2"
 }
-what='down 1'
-over x 30 down_and_look 1 '3 0'
+try "fio's file" fio --name=over --directory=/mnt --size=32M --rw=write --bs=1M --end_fsync=1
+over 'down 1' 60 down_and_look 1 '3 0'
 # controller 1 is brought back, and the host has both paths again, before the other one goes down
 both_paths() { test "$(multipath -ll $map0 | grep -c 'active ready')" = 2; }
 try 'sg_stpg brings controller 1 back' sg_stpg --tp 1,2 --state 0,1 $path2
 soon 'the host has both paths again' 60 both_paths
-what='down 2'
-over x 30 down_and_look 2 '0 3'
+over 'down 2' 60 down_and_look 2 '0 3'
 try 'sg_rtpg' sg_rtpg -d $path1
 cat $F
-what='a restart of the array'
 restart() { tell restart; }
-over x 40 restart
+over 'a restart of the array' 40 restart
 become 'after the restart both serve' 30 '0 1'
-what='a kill of the array'
 kill_it() { tell kill; }
-over x 40 kill_it
-what='a dropped connection'
+over 'a kill of the array' 40 kill_it
 drop() { ss -K dst $A dport = 24260 > /dev/null; ss -K dst $A dport = 24264 > /dev/null; }
-over x 30 drop
-soon 'both sessions are there again' 60 sh -c 'test $(iscsiadm -m session -P 1 2> /dev/null | grep -c "LOGGED IN") = 2'
+over 'a dropped connection' 30 drop
+both_sessions() { test "$(iscsiadm -m session -P 1 2> /dev/null | grep -c 'LOGGED IN')" = 2; }
+soon 'both sessions are there again' 60 both_sessions
 multipath -ll $map0
 
 # what a host does by itself with failback immediate
@@ -185,20 +191,23 @@ multipathd reconfigure > /dev/null
 sleep 5
 # it depends on the path that the map uses, and on its load: what is seen is told
 taken_back() {
+    local was= now began seconds=0
     tell 'down 1'
-    was=
-    for ((i = 0; i < 60; i++)); do
+    began=$SECONDS
+    while ((seconds < 60)); do
         now=$(states)
-        [ "$now" = "$was" ] || echo "seen    failback immediate, after $i s: $now"
+        seconds=$((SECONDS - began))
+        [ "$now" = "$was" ] || echo "seen    failback immediate, after $seconds s: $now"
         was=$now
         sleep 1
     done
 }
-what='down 1 with failback immediate'
-over x 75 taken_back
+over 'down 1 with failback immediate' 80 taken_back
 conf manual
 multipathd reconfigure > /dev/null
-sleep 3
+# whatever was seen, both controllers serve before one goes down again
+try 'sg_stpg lets both serve' sg_stpg --tp 1,2 --state 0,1 $path2
+soon 'the host has both paths again' 60 both_paths
 tell 'down 1'
 stay 'failback manual: it stays down' 15 '3 0'
 try 'sg_stpg brings it back' sg_stpg --tp 1,2 --state 0,1 $path2
@@ -214,7 +223,8 @@ try 'fsck finds it clean' fsck.ext4 -f -n $D
 # reservations, as fence_scsi sends them
 try 'sg_persist: register by path 1' sg_persist -n -o -I -S 6aa10001 -Z -d $path1
 try 'sg_persist: register by path 2' sg_persist -n -o -I -S 6aa10001 -Z -d $path2
-try 'sg_persist: reserve' sg_persist -n -o -R -T 5 -K 6aa10001 -d $D
+# by path 1: the map may be using path 2, and whoever holds a reservation of this type ends it by unregistering
+try 'sg_persist: reserve' sg_persist -n -o -R -T 5 -K 6aa10001 -d $path1
 try 'keys' sg_persist -n -i -k -d $path1
 try 'two of them' test "$(grep -c 0x6aa10001 $F)" = 2
 try 'who' sg_persist -n -i -s -d $path1
@@ -226,9 +236,11 @@ try 'register it again' sg_persist -n -o -I -S 6aa10002 -Z -d $path2
 try 'preempt and abort' sg_persist -n -o -A -T 5 -K 6aa10001 -S 6aa10002 -d $path1
 fails 'the fenced path may not write' dd if=/dev/zero of=$path2 bs=4096 count=1 seek=1000 oflag=direct
 tell restart
-sleep 10
-try 'after a restart the fence stands' sg_persist -n -i -r -d $path1
-has 'Key\|key'
+soon 'both sessions are there after a restart' 60 both_sessions
+soon 'the host has both paths again' 60 both_paths
+try 'after a restart there is a reservation' sg_persist -n -i -r -d $path1
+has 'Key=0x6aa10001'
+fails 'and the fenced path may not write' dd if=/dev/zero of=$path2 bs=4096 count=1 seek=1000 oflag=direct
 try 'clear' sg_persist -n -o -C -K 6aa10001 -d $path1
 
 # mpathpersist, with its key from multipath.conf
@@ -255,16 +267,22 @@ fails 'once more there is a difference' sg_compare_and_write --in=/run/caw --lba
 
 # a bigger disk
 tell grow
-sleep 10
-iscsiadm -m session --rescan > /dev/null
-sleep 2
-multipathd resize map $map1
-sleep 2
-try 'a bigger disk after rescan and resize' test "$(blockdev --getsize64 /dev/mapper/$map1)" = $((384 << 20))
+soon 'both sessions are there after a restart' 60 both_sessions
+bigger() {
+    iscsiadm -m session --rescan
+    sleep 2
+    multipathd resize map $map1
+    sleep 2
+    test "$(blockdev --getsize64 /dev/mapper/$map1)" = $((384 << 20))
+}
+soon 'a bigger disk after rescan and resize' 60 bigger
 
 multipath -F
 try 'logout' iscsiadm -m node --logoutall=all
-dmesg | grep -i -e 'I/O error' -e 'critical target' | head -20
+dmesg > /run/dmesg
+echo "seen    errors that the kernel told of single paths: $(grep -c 'error, dev sd' /run/dmesg); the kernel leaves out some of many"
+grep 'error, dev dm-' /run/dmesg
+try 'no I/O error of a map' sh -c '! grep "I/O error, dev dm-" /run/dmesg'
 echo 'the host has ended'
 sync
 echo o > /proc/sysrq-trigger

@@ -5,7 +5,7 @@ connection, persistent reservations by sg_persist and mpathpersist, COMPARE AND 
 takes some minutes, since the host's processor is emulated. On a machine that has much else to do the host stalls, and its own time-outs
 run off: give it priority there.
 
-usage: bench/linux_host.py build FOLDER       makes FOLDER/vmlinuz and FOLDER/initrd.gz of Debian's packages (root, the network)
+usage: bench/linux_host.py build FOLDER       makes FOLDER/vmlinuz and FOLDER/initrd of Debian's packages (root, the network)
        bench/linux_host.py run FOLDER         starts the array, boots the host, prints what it says; status 1 where a line of it
                                               begins with FAILED, or its last one does not come
 
@@ -33,7 +33,7 @@ NEEDLESS = ("sound", "net/wireless", "net/bluetooth", "net/mac80211", "net/netfi
             "drivers/misc", "drivers/target", "drivers/xen", "drivers/leds", "drivers/net/ethernet")
 # The host sees this machine so.
 GATEWAY, PORT, CONTROL = "10.0.2.2", 24260, 24270
-MINUTES = 40
+MINUTES = 90
 
 
 def run(*words, **more):
@@ -85,11 +85,10 @@ def pack(folder):
     root = os.path.join(folder, "root")
     shutil.copy(os.path.join(TOP, "bench", "linux_guest.sh"), os.path.join(root, "guest"))
     os.chmod(os.path.join(root, "guest"), 0o755)
-    with open(os.path.join(folder, "initrd.gz"), "wb") as packed:
+    # not compressed: to unpack it would take the emulated processor longer than anything else of the boot
+    with open(os.path.join(folder, "initrd"), "wb") as packed:
         found = subprocess.Popen(["find", ".", "-xdev"], cwd=root, stdout=subprocess.PIPE)
-        archive = subprocess.Popen(["cpio", "-o", "-H", "newc", "--quiet"], cwd=root, stdin=found.stdout,
-                                   stdout=subprocess.PIPE)
-        run("gzip", "-1", stdin=archive.stdout, stdout=packed)
+        run("cpio", "-o", "-H", "newc", "--quiet", cwd=root, stdin=found.stdout, stdout=packed)
 
 
 class Served:
@@ -138,6 +137,11 @@ class Served:
         return self.console(*line.split())
 
 
+class Control(socketserver.ThreadingTCPServer):
+    """Where the host asks. A run may follow on another at once, while connections of that one still linger."""
+    allow_reuse_address = True
+
+
 def serve(folder):
     with tempfile.TemporaryDirectory() as place:
         array = Served(place)
@@ -146,11 +150,14 @@ def serve(folder):
             def handle(self):
                 self.wfile.write(array.ask(self.rfile.readline().decode().strip()).encode())
 
-        with socketserver.ThreadingTCPServer(("127.0.0.1", CONTROL), Asked) as control:
-            threading.Thread(target=control.serve_forever, daemon=True).start()
-            told = boot(folder)
-            control.shutdown()
-        if array.stop() != 0:
+        try:
+            with Control(("127.0.0.1", CONTROL), Asked) as control:
+                threading.Thread(target=control.serve_forever, daemon=True).start()
+                told = boot(folder)
+                control.shutdown()
+        finally:
+            ended = array.stop()
+        if ended != 0:
             told.append("FAILED  the array did not end well")
     bad = [line for line in told if line.startswith("FAILED")]
     if bad or "the host has ended" not in told:
@@ -158,23 +165,26 @@ def serve(folder):
 
 
 def boot(folder):
-    """Boots the host, prints what it says behind its first line, and answers its lines."""
+    """Boots the host, and prints what it says from its first line on; where that does not come, the last that it said."""
     words = ["qemu-system-x86_64", "-accel", "tcg,thread=multi", "-cpu", "max", "-m", "3072", "-smp", "2", "-nographic",
-             "-no-reboot", "-kernel", os.path.join(folder, "vmlinuz"), "-initrd", os.path.join(folder, "initrd.gz"),
-             "-append", "console=ttyS0 rdinit=/guest panic=5 loglevel=5",
+             "-no-reboot", "-kernel", os.path.join(folder, "vmlinuz"), "-initrd", os.path.join(folder, "initrd"),
+             "-append", "console=ttyS0 rdinit=/guest panic=5 loglevel=5 mitigations=off tsc=reliable",
              "-netdev", "user,id=n", "-device", "virtio-net-pci,netdev=n"]
     host = subprocess.Popen(words, stdin=subprocess.DEVNULL, stdout=subprocess.PIPE, text=True, errors="replace")
     timer = threading.Timer(MINUTES * 60, host.kill)
     timer.start()
-    told, is_up = [], False
+    told, before = [], []
     for line in host.stdout:
         line = line.replace("\r", "").rstrip()
-        is_up = is_up or line.startswith("the host is up")
-        if is_up:
+        if told or line.startswith("the host is up"):
             told.append(line)
             print(line, flush=True)
+        else:
+            before.append(line)
     timer.cancel()
     host.wait()
+    if not told:
+        print("\n".join(before[-20:]), flush=True)
     return told
 
 
