@@ -54,15 +54,19 @@ fn events_are_spelled(rt: HostRuntime) -> Result<(), Fail> {
         (Event::Ready, "event=ready"),
         (
             Event::LoggedIn(WHO, path(), 3, Kind::Normal),
-            "event=login initiator=\"iqn.a\\x0a\\\"b\\\\\\x1b[2J\\xff\" isid=0x400001370000 from=10.0.5.7:41022 portal=10.0.5.1:3264 tag=2 tsih=3 type=normal",
+            "event=login initiator=\"iqn.a\\x0a\\\"b\\\\\\x1b[2J\\xff\" isid=0x400001370000 \
+             from=10.0.5.7:41022 portal=10.0.5.1:3264 tag=2 tsih=3 type=normal",
         ),
         (
             Event::LoginRefused(WHO, path(), 0x0302, Cause::NoRoom(7)),
-            "event=login_refused initiator=\"iqn.a\\x0a\\\"b\\\\\\x1b[2J\\xff\" isid=0x400001370000 from=10.0.5.7:41022 portal=10.0.5.1:3264 tag=2 status=0x302 words=\"Out of resources\" lacks=room unit=7",
+            "event=login_refused initiator=\"iqn.a\\x0a\\\"b\\\\\\x1b[2J\\xff\" isid=0x400001370000 \
+             from=10.0.5.7:41022 portal=10.0.5.1:3264 tag=2 status=0x302 words=\"Out of resources\" \
+             lacks=room unit=7",
         ),
         (
             Event::ConnectionEnded(path(), Why::Rejected(9, 1, 0x77)),
-            "event=connection_ended from=10.0.5.7:41022 portal=10.0.5.1:3264 tag=2 why=protocol_error reason=0x9 words=\"Invalid PDU field\" opcode=0x1 task=0x77",
+            "event=connection_ended from=10.0.5.7:41022 portal=10.0.5.1:3264 tag=2 \
+             why=protocol_error reason=0x9 words=\"Invalid PDU field\" opcode=0x1 task=0x77",
         ),
         (
             Event::GroupsSet(1, 2, By::Console),
@@ -70,7 +74,8 @@ fn events_are_spelled(rt: HostRuntime) -> Result<(), Fail> {
         ),
         (
             Event::Reserved(0, RESERVATION, WHO, 2),
-            "event=reservation unit=0 action=preempt key=0xa service_action_key=0xffffffffffffffff type=5 group=2 initiator=\"iqn.a\\x0a\\\"b\\\\\\x1b[2J\\xff\" isid=0x400001370000",
+            "event=reservation unit=0 action=preempt key=0xa service_action_key=0xffffffffffffffff \
+             type=5 group=2 initiator=\"iqn.a\\x0a\\\"b\\\\\\x1b[2J\\xff\" isid=0x400001370000",
         ),
         (
             Event::DeviceFailed(0, Part::Disk, Call::Write, PLACE, 28),
@@ -79,11 +84,13 @@ fn events_are_spelled(rt: HostRuntime) -> Result<(), Fail> {
         // No array comes to these while somebody looks on.
         (
             Event::LoginRefused(LATE, path(), 0x0302, Cause::NoTsih),
-            "event=login_refused initiator=\"iqn.late\" isid=0x1 from=10.0.5.7:41022 portal=10.0.5.1:3264 tag=2 status=0x302 words=\"Out of resources\" lacks=tsih",
+            "event=login_refused initiator=\"iqn.late\" isid=0x1 from=10.0.5.7:41022 \
+             portal=10.0.5.1:3264 tag=2 status=0x302 words=\"Out of resources\" lacks=tsih",
         ),
         (
             Event::LoginRefused(LATE, path(), 0x0302, Cause::NoNumber),
-            "event=login_refused initiator=\"iqn.late\" isid=0x1 from=10.0.5.7:41022 portal=10.0.5.1:3264 tag=2 status=0x302 words=\"Out of resources\" lacks=number",
+            "event=login_refused initiator=\"iqn.late\" isid=0x1 from=10.0.5.7:41022 \
+             portal=10.0.5.1:3264 tag=2 status=0x302 words=\"Out of resources\" lacks=number",
         ),
         (
             Event::NotMoved(3, 2, Stayed::BadList, By::Console),
