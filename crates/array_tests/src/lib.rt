@@ -1,11 +1,33 @@
-//! Tests of the array as the program serves it: over real files, through the portals of both controllers.
+//! Tests of the array and of the program that serves it. Over real files, through the portals of both controllers (`whole`); of whole
+//! sessions whose bytes come and go in memory, without a socket (`lives`, `clients`, `gone`, `handles`); of what needs no file: words,
+//! the texts of faults, the console, and the lines of the log (`words`, `lines`, `down`, `log_lines`).
 #![tactic(auto)]
 
 #[cfg(test)]
+mod clients;
+#[cfg(test)]
+mod down;
+#[cfg(test)]
+mod gone;
+#[cfg(test)]
+mod handles;
+#[cfg(test)]
 mod hosts;
+#[cfg(test)]
+mod lines;
+#[cfg(test)]
+mod lives;
+#[cfg(test)]
+mod log_lines;
+#[cfg(test)]
+mod memory;
+#[cfg(test)]
+mod row;
 #[cfg(test)]
 mod site;
 #[cfg(test)]
 mod visits;
 #[cfg(test)]
 mod whole;
+#[cfg(test)]
+mod words;

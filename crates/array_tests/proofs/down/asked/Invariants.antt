@@ -1,6 +1,6 @@
 use Rattle.block_file.specs.Cut.{cut}
 use Rattle.unit_history.specs.Naming.{book_of, opening_of, table_of}
-use Rattle.arrayd_tests.proofs.down.asked.Given as goal
+use Rattle.array_tests.proofs.down.asked.Given as goal
 
 abbrev pub ghosts-said : goal.ghosts-said
 ghosts-said g a = record {

@@ -1,6 +1,6 @@
 use Rattle.block_file.specs.Cut.{cut}
 use Rattle.unit_history.specs.Naming.{book_of, opening_of, table_of}
-use Rattle.array_session_tests.proofs.memory.play_alone.Given as goal
+use Rattle.array_tests.proofs.memory.play_alone.Given as goal
 
 abbrev pub ghosts-play : goal.ghosts-play
 ghosts-play g a = record {
