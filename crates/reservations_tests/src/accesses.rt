@@ -1,6 +1,6 @@
 //! Who may read and write beside a reservation of each type (SPC-4, 5.13.1).
 use crate::run::run;
-use std::test::Fail;
+use std::test::*;
 
 const ROWS: &str = "
 type 1
@@ -56,6 +56,6 @@ allows C rwo
 ";
 
 #[test]
-fn beside_each_type(rt: HostRuntime) -> Result<(), Fail> {
-    run(rt.alloc(), ROWS)
+fn beside_each_type(rt: HostRuntime) {
+    run(&rt, rt.alloc(), ROWS);
 }

@@ -1,7 +1,7 @@
 //! Each action by each kind of nexus: the holder, the same port through the other group, the same name with another
 //! ISID, another registrant, and one that isn't registered.
 use crate::run::run_each;
-use std::test::Fail;
+use std::test::*;
 
 // A holds type 5 with the key 11h; its port is registered with that key through the other group too, and B with 22h.
 const SET_UP: &str = "
@@ -72,6 +72,6 @@ C PreemptAndAbort 6 0 11; Conflict;; 3; 11 11 22; 11 5
 ";
 
 #[test]
-fn each_action(rt: HostRuntime) -> Result<(), Fail> {
-    run_each(rt.alloc(), SET_UP, ROWS)
+fn each_action(rt: HostRuntime) {
+    run_each(&rt, rt.alloc(), SET_UP, ROWS);
 }

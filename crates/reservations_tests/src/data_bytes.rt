@@ -1,6 +1,6 @@
 //! The data of PERSISTENT RESERVE IN, byte for byte; flags; and what lasts.
 use crate::run::run;
-use std::test::Fail;
+use std::test::*;
 
 const ROWS: &str = r#"
 the reservation of a holder
@@ -37,11 +37,6 @@ A Register 0 0 11 APTPL; Good;; 1; 11; 0 0
 capabilities 8 0008 05 81 EA01 0000
 "#;
 
-#[test]
-fn data(rt: HostRuntime) -> Result<(), Fail> {
-    run(rt.alloc(), ROWS)
-}
-
 // SPEC_I_PT comes before the key, and ALL_TG_PT is looked at only where a nexus registers.
 const FLAGS: &str = "
 SPEC_I_PT
@@ -54,11 +49,6 @@ A Register 0 0 11 ALL_TG_PT; Good;; 1; 11 11; 0 0
 ALL_TG_PT without a registration
 A Reserve 5 11 0 ALL_TG_PT; Conflict;; 0;; 0 0
 ";
-
-#[test]
-fn flags(rt: HostRuntime) -> Result<(), Fail> {
-    run(rt.alloc(), FLAGS)
-}
 
 const LASTING: &str = r#"
 with APTPL
@@ -81,6 +71,8 @@ full-status 999 00000000 00000000
 "#;
 
 #[test]
-fn what_lasts(rt: HostRuntime) -> Result<(), Fail> {
-    run(rt.alloc(), LASTING)
+fn data_flags_and_what_lasts(rt: HostRuntime) {
+    run(&rt, rt.alloc(), ROWS);
+    run(&rt, rt.alloc(), FLAGS);
+    run(&rt, rt.alloc(), LASTING);
 }

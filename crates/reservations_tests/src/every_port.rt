@@ -1,6 +1,6 @@
 //! ALL_TG_PT: one registration for every port. The bit counts in the two actions that register; the others ignore it.
 use crate::run::{run, run_each};
-use std::test::Fail;
+use std::test::*;
 
 const ROWS: &str = "
 the holder writes through either port, until both are preempted
@@ -23,8 +23,8 @@ B Register 0 22 0 ALL_TG_PT; Good;; 4;; 0 0
 ";
 
 #[test]
-fn over_several_steps(rt: HostRuntime) -> Result<(), Fail> {
-    run(rt.alloc(), ROWS)
+fn over_several_steps(rt: HostRuntime) {
+    run(&rt, rt.alloc(), ROWS);
 }
 
 // Without the bit: the holder is A through the other group, and B is registered.
@@ -53,6 +53,6 @@ B Clear 0 22 0 ALL_TG_PT; Good; A:ReservationsPreempted A_TWO:ReservationsPreemp
 ";
 
 #[test]
-fn each_kind_of_sender(rt: HostRuntime) -> Result<(), Fail> {
-    run_each(rt.alloc(), A_TWO_HOLDS, SENDERS)
+fn each_kind_of_sender(rt: HostRuntime) {
+    run_each(&rt, rt.alloc(), A_TWO_HOLDS, SENDERS);
 }

@@ -1,87 +1,103 @@
 //! The table's end: it has room for 64 nexuses.
-use crate::row::{A, B, Fault, Want, Who, asking};
-use crate::run::{ends_so, expect, port_of, told_to};
+use crate::row::{A, B, Want, Who, asking};
+use crate::run::{ends_so, port_of, registry, told_to};
 use reservations::{PrEnd, PrOut, Registry};
-use scsi_types::{Group, NoMemory, PrOutAction, UnitAttention};
+use scsi_types::{Group, PrOutAction, UnitAttention};
 use std::alloc::Global;
-use std::test::Fail;
+use std::process::Abort;
+use std::test::*;
 
-// Does a request.
-fn out(alloc: Global, registry: &mut Registry, who: Who, asked: PrOut) -> Result<PrEnd, NoMemory> {
-    Ok(registry.out(&port_of(alloc, who)?, who.2, asked))
+// Does a request, which ends so.
+fn out(
+    rt: &impl Abort,
+    alloc: Global,
+    registry: &mut Registry,
+    who: Who,
+    asked: PrOut,
+    want: Want,
+) -> PrEnd {
+    let end = registry.out(&port_of(rt, alloc, who), who.2, asked);
+    assert!(rt; ends_so(&end, want), "how it ends");
+    end
 }
 
 // So many ports of the name of A register through a group: the first with the key 11h, the others with 22h.
-fn registered(alloc: Global, ports: u32, group: Group) -> Result<Registry, Fault> {
-    let mut registry = Registry::new(alloc)?;
+fn registered(rt: &impl Abort, alloc: Global, ports: u32, group: Group) -> Registry {
+    let mut registry = registry(rt, alloc);
     for isid in 0..ports {
         let key = if isid == 0 { 0x11 } else { 0x22 };
         let asked = asking(PrOutAction::Register, 0, 0, key);
-        let end = out(alloc, &mut registry, (b'a', isid, group), asked)?;
-        expect(ends_so(&end, Want::Good), "a registration")?;
+        out(
+            rt,
+            alloc,
+            &mut registry,
+            (b'a', isid, group),
+            asked,
+            Want::Good,
+        );
     }
-    Ok(registry)
+    registry
+}
+
+// So many nexuses are registered.
+fn has(rt: &impl Abort, registry: &Registry, registrants: usize) {
+    assert_eq!(rt; registry.registrant_count(), registrants, "the registrants");
 }
 
 #[test]
-fn a_65th_registrant(rt: HostRuntime) -> Result<(), Fail> {
+fn a_65th_registrant(rt: HostRuntime) {
     let alloc = rt.alloc();
-    let mut registry = registered(alloc, 64, Group::Two)?;
+    let mut registry = registered(&rt, alloc, 64, Group::Two);
     let asked = asking(PrOutAction::Register, 0, 0, 0x11);
-    let end = out(alloc, &mut registry, (b'a', 64, Group::Two), asked)?;
-    expect(ends_so(&end, Want::Full), "the 65th")?;
-    expect(registry.generation() == 64, "the generation")?;
-    expect(registry.registrant_count() == 64, "the registrants")?;
-    Ok(())
+    out(
+        &rt,
+        alloc,
+        &mut registry,
+        (b'a', 64, Group::Two),
+        asked,
+        Want::Full,
+    );
+    assert_eq!(rt; registry.generation(), 64, "the generation");
+    has(&rt, &registry, 64);
 }
 
-// The first of 64 preempts the others.
+// The first of 64 preempts the others, and all but the first hear of it.
 #[test]
-fn sixty_three_are_preempted(rt: HostRuntime) -> Result<(), Fail> {
+fn sixty_three_are_preempted(rt: HostRuntime) {
     let alloc = rt.alloc();
-    let mut registry = registered(alloc, 64, Group::One)?;
-    let found = registry.copy()?;
+    let mut registry = registered(&rt, alloc, 64, Group::One);
+    let found = registry.copy().expect(&rt, "memory");
     let asked = asking(PrOutAction::Preempt, 0, 0x11, 0x22);
-    let end = out(alloc, &mut registry, A, asked)?;
-    expect(ends_so(&end, Want::Good), "the PREEMPT")?;
-    expect(registry.registrant_count() == 1, "the registrants")?;
-    are_told(alloc, &found, &end)?;
-    Ok(())
-}
-
-// All but the first hear of it.
-fn are_told(alloc: Global, found: &Registry, end: &PrEnd) -> Result<(), Fault> {
+    let end = out(&rt, alloc, &mut registry, A, asked, Want::Good);
+    has(&rt, &registry, 1);
     for isid in 0..64 {
-        let told = told_to(alloc, found, end, (b'a', isid, Group::One))?;
+        let told = told_to(&rt, alloc, &found, &end, (b'a', isid, Group::One));
         let want = if isid == 0 {
             None
         } else {
             Some(UnitAttention::RegistrationsPreempted)
         };
-        expect(told == want, "who is told")?;
+        assert!(rt; told == want, "who is told: {isid}");
     }
-    Ok(())
 }
 
 // So many are registered, and this port registers through both groups.
-fn room(alloc: Global, ports: u32, who: Who, want: Want, after: usize) -> Result<(), Fault> {
-    let mut registry = registered(alloc, ports, Group::One)?;
+fn room(rt: &impl Abort, alloc: Global, ports: u32, who: Who, want: Want, after: usize) {
+    let mut registry = registered(rt, alloc, ports, Group::One);
     let asked = PrOut {
         all_tg_pt: true,
         ..asking(PrOutAction::RegisterAndIgnoreExistingKey, 0, 0, 0x11)
     };
-    let end = out(alloc, &mut registry, who, asked)?;
-    expect(ends_so(&end, want), "how it ends")?;
-    expect(registry.registrant_count() == after, "the registrants")
+    out(rt, alloc, &mut registry, who, asked, want);
+    has(rt, &registry, after);
 }
 
 // B is one more, and A the first of those that are registered.
 #[test]
-fn room_for_every_port(rt: HostRuntime) -> Result<(), Fail> {
+fn room_for_every_port(rt: HostRuntime) {
     let alloc = rt.alloc();
-    room(alloc, 62, B, Want::Good, 64)?;
-    room(alloc, 63, B, Want::Full, 63)?;
-    room(alloc, 63, A, Want::Good, 64)?;
-    room(alloc, 64, A, Want::Full, 64)?;
-    Ok(())
+    room(&rt, alloc, 62, B, Want::Good, 64);
+    room(&rt, alloc, 63, B, Want::Full, 63);
+    room(&rt, alloc, 63, A, Want::Good, 64);
+    room(&rt, alloc, 64, A, Want::Full, 64);
 }

@@ -2,12 +2,13 @@
 //! requests drawn by a fixed seed that runs on both.
 ghost use Rattle.std.specs.Prelude.{◌<◌};
 
-use crate::row::{A, A_TWO, B, B_TWO, Fault, Step, Want, Who, asking};
-use crate::run::{check, expect};
+use crate::row::{A, A_TWO, B, B_TWO, Step, Want, Who, asking};
+use crate::run::{check, registry};
 use reservations::{PrOut, Registry};
-use scsi_types::{NoMemory, PrOutAction, UnitAttention};
+use scsi_types::{PrOutAction, UnitAttention};
 use std::alloc::Global;
-use std::test::Fail;
+use std::process::Abort;
+use std::test::*;
 
 // Two ports, each through both groups.
 const NEXUSES: [Who; 4] = [A, A_TWO, B, B_TWO];
@@ -250,24 +251,24 @@ impl Draws {
 }
 
 // Those who are told, in their order.
-fn told_of(alloc: Global, codes: Codes) -> Result<Vec<(Who, UnitAttention)>, NoMemory> {
+fn told_of(rt: &impl Abort, alloc: Global, codes: Codes) -> Vec<(Who, UnitAttention)> {
     let mut told = Vec::new(alloc);
     for (who, code) in NEXUSES.iter().zip(&codes) {
         if let Some(code) = code {
-            told.push((*who, *code))?;
+            told.push((*who, *code)).expect(rt, "memory");
         }
     }
-    Ok(told)
+    told
 }
 
-fn registered_keys(alloc: Global, keys: &[u64; 4]) -> Result<Vec<u64>, NoMemory> {
+fn registered_keys(rt: &impl Abort, alloc: Global, keys: &[u64; 4]) -> Vec<u64> {
     let mut registered = Vec::new(alloc);
     for key in keys {
         if *key != 0 {
-            registered.push(*key)?;
+            registered.push(*key).expect(rt, "memory");
         }
     }
-    Ok(registered)
+    registered
 }
 
 // A request of a nexus that has this key, mostly with it.
@@ -286,11 +287,12 @@ fn drawn(draws: &mut Draws, own: u64) -> PrOut {
 
 // One request that is drawn, on both.
 fn one_step(
+    rt: &impl Abort,
     alloc: Global,
     draws: &mut Draws,
     model: &mut Model,
     registry: &mut Registry,
-) -> Result<(), Fault> {
+) {
     let by = draws.below(4);
     let asked = drawn(draws, model.keys[by]);
     let (want, codes) = model.step(by, asked);
@@ -300,16 +302,18 @@ fn one_step(
         want,
         generation: model.generation,
         held: model.held(),
-        told: told_of(alloc, codes)?,
-        keys: registered_keys(alloc, &model.keys)?,
+        told: told_of(rt, alloc, codes),
+        keys: registered_keys(rt, alloc, &model.keys),
     };
-    check(alloc, registry, &step)?;
-    expect(registry.lasting().aptpl() == model.aptpl, "APTPL")
+    if let Some(what) = check(rt, alloc, registry, &step) {
+        panic!(rt; "request {}: {what} differs", model.generation);
+    }
+    assert!(rt; registry.lasting().aptpl() == model.aptpl, "APTPL");
 }
 
 #[test]
-fn a_thousand_requests(rt: HostRuntime) -> Result<(), Fail> {
-    let mut registry = Registry::new(rt.alloc())?;
+fn a_thousand_requests(rt: HostRuntime) {
+    let mut registry = registry(&rt, rt.alloc());
     let mut draws = Draws(2026);
     let mut model = Model {
         keys: [0; 4],
@@ -319,7 +323,6 @@ fn a_thousand_requests(rt: HostRuntime) -> Result<(), Fail> {
         generation: 0,
     };
     for _ in 0..1000 {
-        one_step(rt.alloc(), &mut draws, &mut model, &mut registry)?;
+        one_step(&rt, rt.alloc(), &mut draws, &mut model, &mut registry);
     }
-    Ok(())
 }

@@ -1,10 +1,9 @@
 //! A request of a script and what must come of it, as a line of text.
-ghost use Rattle.std.specs.Prelude.{◌≡◌};
-ghost use Rattle.reservations_tests.specs.declared.row.Fault.{Fault};
-
 use reservations::PrOut;
-use scsi_types::{Group, NoMemory, PrOutAction, UnitAttention};
-use std::alloc::{AllocError, Global};
+use scsi_types::{Group, PrOutAction, UnitAttention};
+use std::alloc::Global;
+use std::process::Abort;
+use std::test::*;
 use test_streams::RowError;
 
 /// A nexus of a script: the last letter of its name, its ISID without the qualifier, which is 0, and its group.
@@ -52,52 +51,18 @@ pub struct Step {
     pub keys: Vec<u64>,
 }
 
-/// Why a line is not met.
-#[derive(Debug, Drop)]
-pub enum Fault {
-    /// It can't be read.
-    Row(RowError),
-    NoMemory,
-    /// This is otherwise.
-    Differs(&'static str),
-}
-
-impl From<RowError> for Fault {
-    ghost from_gives = { λ e r. r ≡ Fault.Row e };
-
-    fn from(error: RowError) -> Self {
-        Fault::Row(error)
-    }
-}
-
-impl From<NoMemory> for Fault {
-    ghost from_gives = { λ e r. r ≡ Fault.NoMemory };
-
-    fn from(_error: NoMemory) -> Self {
-        Fault::NoMemory
-    }
-}
-
-impl From<AllocError> for Fault {
-    ghost from_gives = { λ e r. r ≡ Fault.NoMemory };
-
-    fn from(_error: AllocError) -> Self {
-        Fault::NoMemory
-    }
-}
-
 impl Step {
     /// The step of this line.
-    pub fn read(alloc: Global, line: &str) -> Result<Step, RowError> {
-        Ok(Step {
-            by: who_named(word(part(line, 0), 0))?,
-            asked: request_of(part(line, 0))?,
-            want: want_of(part(line, 1).trim())?,
-            generation: number_of(part(line, 3).trim())?,
-            held: held_of(part(line, 5))?,
-            told: told_of(alloc, part(line, 2))?,
-            keys: keys_of(alloc, part(line, 4))?,
-        })
+    pub fn read(rt: &impl Abort, alloc: Global, line: &str) -> Step {
+        Step {
+            by: who_named(word(part(line, 0), 0)).expect(rt, line),
+            asked: request_of(part(line, 0)).expect(rt, line),
+            want: want_of(part(line, 1).trim()).expect(rt, line),
+            generation: number_of(part(line, 3).trim()).expect(rt, line),
+            held: held_of(part(line, 5)).expect(rt, line),
+            told: told_of(rt, alloc, part(line, 2)),
+            keys: keys_of(rt, alloc, part(line, 4)),
+        }
     }
 }
 
@@ -215,12 +180,13 @@ fn key_of(text: &str) -> Result<u64, RowError> {
     }
 }
 
-fn keys_of(alloc: Global, words: &str) -> Result<Vec<u64>, RowError> {
+fn keys_of(rt: &impl Abort, alloc: Global, words: &str) -> Vec<u64> {
     let mut keys = Vec::new(alloc);
     for word in words.split_ascii_whitespace() {
-        keys.extend_from_slice(&[key_of(word)?])?;
+        keys.push(key_of(word).expect(rt, word))
+            .expect(rt, "memory");
     }
-    Ok(keys)
+    keys
 }
 
 fn held_of(words: &str) -> Result<(u64, u8), RowError> {
@@ -228,12 +194,13 @@ fn held_of(words: &str) -> Result<(u64, u8), RowError> {
 }
 
 // Who is told what, as `A:ReservationsReleased`.
-fn told_of(alloc: Global, words: &str) -> Result<Vec<(Who, UnitAttention)>, RowError> {
+fn told_of(rt: &impl Abort, alloc: Global, words: &str) -> Vec<(Who, UnitAttention)> {
     let mut told = Vec::new(alloc);
     for word in words.split_ascii_whitespace() {
-        told.extend_from_slice(&[tells_of(word)?])?;
+        told.push(tells_of(word).expect(rt, word))
+            .expect(rt, "memory");
     }
-    Ok(told)
+    told
 }
 
 fn tells_of(word: &str) -> Result<(Who, UnitAttention), RowError> {

@@ -25,17 +25,15 @@
 ghost use Rattle.std.specs.Prelude.{IfOk};
 ghost use Rattle.reservations.specs.Nexus.{IsPortName};
 
-use crate::row::{
-    A, A_ISID, A_LONG, A_TWO, B, B_TWO, C, D, Fault, Step, Want, Who, number_of, who_named,
-};
+use crate::row::{A, A_ISID, A_LONG, A_TWO, B, B_TWO, C, D, Step, Want, Who, number_of, who_named};
 use reservations::{Access, PrEnd, Registry};
 use scsi_types::{NoMemory, PortName, UnitAttention};
 use std::alloc::Global;
-use std::test::Fail;
-use test_streams::{RowError, bytes_of, lines_of};
+use std::process::Abort;
+use std::test::*;
+use test_streams::{bytes_of, lines_of};
 
-/// The port of a nexus.
-pub fn port_of(alloc: Global, who: Who) -> Result<PortName, NoMemory>
+fn named(alloc: Global, who: Who) -> Result<PortName, NoMemory>
     ensures { IfOk result (λ port. IsPortName port) }
 {
     let mut name = Vec::from_slice(alloc, b"iqn.2000-01.test:")?;
@@ -43,97 +41,102 @@ pub fn port_of(alloc: Global, who: Who) -> Result<PortName, NoMemory>
     Ok(PortName::new(name, u64::from(who.1) * 0x1_0000))
 }
 
-/// Runs each row of a table.
-pub fn run(alloc: Global, table: &str) -> Result<(), Fail> {
-    let mut is_empty = true;
-    for text in table.split("\n\n") {
-        let lines = lines_of(alloc, text)?;
-        if let Some((name, lines)) = lines.split_first() {
-            run_row(alloc, name, lines)?;
-            is_empty = false;
-        }
-    }
-    has_rows(!is_empty)
+/// The port of a nexus.
+pub fn port_of(rt: &impl Abort, alloc: Global, who: Who) -> PortName
+    ensures { IsPortName result }
+{
+    named(alloc, who).expect(rt, "memory")
 }
 
-fn run_row(alloc: Global, name: &str, lines: &[&str]) -> Result<(), Fail> {
-    if lines.is_empty() || name.contains(';') {
-        return Err(Fail::new(format_args!("{name}: a row has a name, and lines")));
+/// A registry as it is at first.
+pub fn registry(rt: &impl Abort, alloc: Global) -> Registry {
+    Registry::new(alloc).expect(rt, "memory")
+}
+
+/// Runs each row of a table.
+pub fn run(rt: &impl Abort, alloc: Global, table: &str) {
+    for text in table.split("\n\n") {
+        let lines = lines_of(alloc, text).expect(rt, "memory");
+        let (name, lines) = lines.split_first().expect(rt, "a table has a row");
+        assert!(rt;
+            !lines.is_empty() && !name.contains(';'),
+            "{name}: a row has a name, and lines"
+        );
+        run_lines(rt, alloc, &mut registry(rt, alloc), name, lines);
     }
-    run_lines(alloc, &mut Registry::new(alloc)?, name, lines)
 }
 
 /// Runs each line of a table behind those that set it up, on a registry of its own.
-pub fn run_each(alloc: Global, set_up: &str, table: &str) -> Result<(), Fail> {
-    let set_up = lines_of(alloc, set_up)?;
-    let lines = lines_of(alloc, table)?;
+pub fn run_each(rt: &impl Abort, alloc: Global, set_up: &str, table: &str) {
+    let set_up = lines_of(alloc, set_up).expect(rt, "memory");
+    let lines = lines_of(alloc, table).expect(rt, "memory");
+    assert!(rt; !lines.is_empty(), "a table has a row");
     for line in &lines {
-        let mut registry = Registry::new(alloc)?;
-        run_lines(alloc, &mut registry, "set up", &set_up)?;
-        run_lines(alloc, &mut registry, "one line", &[*line])?;
-    }
-    has_rows(!lines.is_empty())
-}
-
-fn has_rows(has: bool) -> Result<(), Fail> {
-    if has {
-        Ok(())
-    } else {
-        Err("a table has a row".into())
+        let mut registry = registry(rt, alloc);
+        run_lines(rt, alloc, &mut registry, "set up", &set_up);
+        run_lines(rt, alloc, &mut registry, "one line", &[*line]);
     }
 }
 
 // Runs lines from where the registry stands.
-fn run_lines(
-    alloc: Global,
-    registry: &mut Registry,
-    name: &str,
-    lines: &[&str],
-) -> Result<(), Fail> {
+fn run_lines(rt: &impl Abort, alloc: Global, registry: &mut Registry, name: &str, lines: &[&str]) {
     for line in lines {
-        if let Err(fault) = run_line(alloc, registry, line) {
-            return Err(Fail::new(format_args!("{name}: {line}: {fault:?}")));
+        if let Some(what) = run_line(rt, alloc, registry, line) {
+            panic!(rt; "{name}: {line}: {what} differs");
         }
     }
-    Ok(())
 }
 
-fn run_line(alloc: Global, registry: &mut Registry, line: &str) -> Result<(), Fault> {
+// Runs a line: what differs then.
+fn run_line(
+    rt: &impl Abort,
+    alloc: Global,
+    registry: &mut Registry,
+    line: &str,
+) -> Option<&'static str> {
     let (word, rest) = line.split_once(' ').unwrap_or((line, ""));
     match word {
-        "allows" => allows(alloc, registry, rest),
-        "copied" => go_on(registry, registry.copy()),
-        "lasted" => go_on(registry, lasted(alloc, registry)),
-        "reservation" | "full-status" | "capabilities" => shows(alloc, registry, word, rest),
-        _ => check(alloc, registry, &Step::read(alloc, line)?),
+        "allows" => unless(allows(rt, alloc, registry, rest), "what it may do"),
+        "reservation" | "full-status" | "capabilities" => {
+            unless(shows(rt, alloc, registry, word, rest), "the data")
+        }
+        "copied" => {
+            *registry = registry.copy().expect(rt, "memory");
+            None
+        }
+        "lasted" => {
+            *registry = lasted(rt, alloc, registry);
+            None
+        }
+        _ => check(rt, alloc, registry, &Step::read(rt, alloc, line)),
     }
 }
 
-/// A fault, where this does not hold.
-pub fn expect(holds: bool, what: &'static str) -> Result<(), Fault> {
-    if holds {
-        Ok(())
-    } else {
-        Err(Fault::Differs(what))
-    }
+fn unless(holds: bool, what: &'static str) -> Option<&'static str> {
+    if holds { None } else { Some(what) }
 }
 
-/// Does a request, and compares what comes of it.
-pub fn check(alloc: Global, registry: &mut Registry, step: &Step) -> Result<(), Fault> {
-    let port = port_of(alloc, step.by)?;
-    let found = registry.copy()?;
+/// Does a request: what comes of it otherwise than the step says.
+pub fn check(
+    rt: &impl Abort,
+    alloc: Global,
+    registry: &mut Registry,
+    step: &Step,
+) -> Option<&'static str> {
+    let port = port_of(rt, alloc, step.by);
+    let found = registry.copy().expect(rt, "memory");
     let end = registry.out(&port, step.by.2, step.asked);
-    expect(ends_so(&end, step.want), "how it ends")?;
-    expect(tells(alloc, &found, &end, &step.told)?, "who is told")?;
-    leaves(alloc, registry, step)
-}
-
-// Compares what a step leaves.
-fn leaves(alloc: Global, registry: &Registry, step: &Step) -> Result<(), Fault> {
-    let keys = keys_data(alloc, step.generation, &step.keys)?;
-    expect(registry.keys(4096)? == keys, "READ KEYS")?;
-    let held = held_data(alloc, step.generation, step.held)?;
-    expect(registry.reservation(4096)? == held, "READ RESERVATION")
+    if !ends_so(&end, step.want) {
+        Some("how it ends")
+    } else if !tells(rt, alloc, &found, &end, &step.told) {
+        Some("who is told")
+    } else if !has_keys(rt, alloc, registry, step.generation, &step.keys) {
+        Some("READ KEYS")
+    } else if !has_held(rt, alloc, registry, step) {
+        Some("READ RESERVATION")
+    } else {
+        None
+    }
 }
 
 /// Whether a request ended so.
@@ -148,29 +151,31 @@ pub fn ends_so(end: &PrEnd, want: Want) -> bool {
 
 // Whether a request that found this registry tells these, and no other nexus of a script.
 fn tells(
+    rt: &impl Abort,
     alloc: Global,
     found: &Registry,
     end: &PrEnd,
     want: &[(Who, UnitAttention)],
-) -> Result<bool, NoMemory> {
+) -> bool {
     for who in &[A, A_TWO, A_ISID, A_LONG, B, B_TWO, C, D] {
-        if told_to(alloc, found, end, *who)? != wanted(want, *who) {
-            return Ok(false);
+        if told_to(rt, alloc, found, end, *who) != wanted(want, *who) {
+            return false;
         }
     }
-    Ok(true)
+    true
 }
 
 /// What a request that found this registry tells a nexus.
 pub fn told_to(
+    rt: &impl Abort,
     alloc: Global,
     found: &Registry,
     end: &PrEnd,
     who: Who,
-) -> Result<Option<UnitAttention>, NoMemory> {
+) -> Option<UnitAttention> {
     match end {
-        PrEnd::Good(telling) => Ok(found.told(telling, &port_of(alloc, who)?, who.2)),
-        PrEnd::Conflict | PrEnd::Illegal(..) | PrEnd::TableFull => Ok(None),
+        PrEnd::Good(telling) => found.told(telling, &port_of(rt, alloc, who), who.2),
+        PrEnd::Conflict | PrEnd::Illegal(..) | PrEnd::TableFull => None,
     }
 }
 
@@ -183,40 +188,51 @@ fn wanted(want: &[(Who, UnitAttention)], who: Who) -> Option<UnitAttention> {
     None
 }
 
-// The data of READ KEYS (SPC-4, 6.15.2).
-fn keys_data(alloc: Global, generation: u32, keys: &[u64]) -> Result<Vec<u8>, NoMemory> {
-    let mut data = Vec::from_slice(alloc, &generation.to_be_bytes())?;
-    data.extend_from_slice(&(8 * keys.len() as u64 % 65536).to_be_bytes()[4..])?;
+// Whether the data of READ KEYS (SPC-4, 6.15.2) is that which a step leaves.
+fn has_keys(
+    rt: &impl Abort,
+    alloc: Global,
+    registry: &Registry,
+    generation: u32,
+    keys: &[u64],
+) -> bool {
+    let mut want = Vec::from_slice(alloc, &generation.to_be_bytes()).expect(rt, "memory");
+    let length = (8 * keys.len() as u64 % 65536).to_be_bytes();
+    want.extend_from_slice(&length[4..]).expect(rt, "memory");
     for key in keys {
-        data.extend_from_slice(&key.to_be_bytes())?;
+        want.extend_from_slice(&key.to_be_bytes())
+            .expect(rt, "memory");
     }
-    Ok(data)
+    registry.keys(4096).expect(rt, "memory") == want
 }
 
-// The data of READ RESERVATION (SPC-4, 6.15.3).
-fn held_data(alloc: Global, generation: u32, held: (u64, u8)) -> Result<Vec<u8>, NoMemory> {
-    let mut data = Vec::from_slice(alloc, &generation.to_be_bytes())?;
-    if held.1 == 0 {
-        data.extend_from_slice(&[0, 0, 0, 0])?;
-        return Ok(data);
+// Whether the data of READ RESERVATION (SPC-4, 6.15.3) is that which a step leaves.
+fn has_held(rt: &impl Abort, alloc: Global, registry: &Registry, step: &Step) -> bool {
+    let (key, kind) = step.held;
+    let mut want = Vec::from_slice(alloc, &step.generation.to_be_bytes()).expect(rt, "memory");
+    let length = if kind == 0 { 0 } else { 16 };
+    want.extend_from_slice(&[0, 0, 0, length])
+        .expect(rt, "memory");
+    if kind != 0 {
+        want.extend_from_slice(&key.to_be_bytes())
+            .expect(rt, "memory");
+        want.extend_from_slice(&[0, 0, 0, 0, 0, kind, 0, 0])
+            .expect(rt, "memory");
     }
-    data.extend_from_slice(&[0, 0, 0, 16])?;
-    data.extend_from_slice(&held.0.to_be_bytes())?;
-    data.extend_from_slice(&[0, 0, 0, 0, 0, held.1, 0, 0])?;
-    Ok(data)
+    registry.reservation(4096).expect(rt, "memory") == want
 }
 
 // Compares the letters of the accesses that a nexus has.
-fn allows(alloc: Global, registry: &Registry, words: &str) -> Result<(), Fault> {
-    let (who, want) = words.split_once(' ').ok_or(RowError::Word)?;
-    let who = who_named(who)?;
-    let port = port_of(alloc, who)?;
+fn allows(rt: &impl Abort, alloc: Global, registry: &Registry, words: &str) -> bool {
+    let (who, want) = words.split_once(' ').expect(rt, words);
+    let who = who_named(who).expect(rt, words);
+    let port = port_of(rt, alloc, who);
     let letters = [
         letter(b'r', registry.allows(&port, who.2, Access::Read)),
         letter(b'w', registry.allows(&port, who.2, Access::Write)),
         letter(b'o', registry.allows(&port, who.2, Access::Other)),
     ];
-    expect(letters.as_slice() == want.as_bytes(), "what it may do")
+    letters.as_slice() == want.as_bytes()
 }
 
 fn letter(letter: u8, is_allowed: bool) -> u8 {
@@ -224,27 +240,20 @@ fn letter(letter: u8, is_allowed: bool) -> u8 {
 }
 
 // Compares the data of PERSISTENT RESERVE IN.
-fn shows(alloc: Global, registry: &Registry, of: &str, words: &str) -> Result<(), Fault> {
+fn shows(rt: &impl Abort, alloc: Global, registry: &Registry, of: &str, words: &str) -> bool {
     let (room, bytes) = words.split_once(' ').unwrap_or((words, ""));
-    let want = bytes_of(alloc, &[], bytes)?;
-    let data = data_of(registry, of, number_of(room)?)?;
-    expect(data == want, "the data")
-}
-
-fn data_of(registry: &Registry, of: &str, room: u32) -> Result<Vec<u8>, Fault> {
-    match of {
-        "reservation" => Ok(registry.reservation(room)?),
-        "full-status" => Ok(registry.full_status(room)?),
-        _ => Ok(registry.capabilities(room)?),
-    }
+    let want = bytes_of(alloc, &[], bytes).expect(rt, words);
+    let room = number_of(room).expect(rt, words);
+    let data = match of {
+        "reservation" => registry.reservation(room),
+        "full-status" => registry.full_status(room),
+        _ => registry.capabilities(room),
+    };
+    data.expect(rt, "memory") == want
 }
 
 // The registry behind a loss of power.
-fn lasted(alloc: Global, registry: &Registry) -> Result<Registry, NoMemory> {
-    Registry::from_record(alloc, registry.record()?)
-}
-
-fn go_on(registry: &mut Registry, next: Result<Registry, NoMemory>) -> Result<(), Fault> {
-    *registry = next?;
-    Ok(())
+fn lasted(rt: &impl Abort, alloc: Global, registry: &Registry) -> Registry {
+    let record = registry.record().expect(rt, "memory");
+    Registry::from_record(alloc, record).expect(rt, "memory")
 }

@@ -1,6 +1,6 @@
 //! Scripts over several steps.
 use crate::run::run;
-use std::test::Fail;
+use std::test::*;
 
 const ROWS: &str = "
 the holder is preempted
@@ -38,6 +38,6 @@ B Release 7 22 0; Good; A:ReservationsReleased; 6; 11 22; 0 0
 ";
 
 #[test]
-fn over_several_steps(rt: HostRuntime) -> Result<(), Fail> {
-    run(rt.alloc(), ROWS)
+fn over_several_steps(rt: HostRuntime) {
+    run(&rt, rt.alloc(), ROWS);
 }

@@ -131,8 +131,8 @@ end OutputFailed",
     },
 ];
 
-fn check(rt: &impl Abort, alloc: Global, batch: &Batch) -> Result<(), Fail> {
-    let row = first_row(alloc, batch.row)?;
+fn check(rt: &impl Abort, alloc: Global, batch: &Batch) {
+    let row = first_row(rt, alloc, ("batches", batch.row));
     let reads = Calls {
         first: batch.first,
         ..WHOLE
@@ -142,17 +142,15 @@ fn check(rt: &impl Abort, alloc: Global, batch: &Batch) -> Result<(), Fail> {
         kind: ErrorKind::BrokenPipe,
         ..WHOLE
     };
-    let ran = serve(alloc, &row.input, reads, writes, &row)?;
-    expect_end(rt, alloc, ran.end, &row)?;
+    let ran = serve(rt, alloc, &row.input, reads, writes, &row);
+    expect_end(rt, alloc, ran.end, &row);
     assert_eq!(rt; ran.sizes.as_slice(), batch.writes, "{}", row.name);
     assert_eq!(rt; ran.commands, batch.calls, "{}", row.name);
-    Ok(())
 }
 
 #[test]
-fn batches(rt: HostRuntime) -> Result<(), Fail> {
+fn batches(rt: HostRuntime) {
     for batch in BATCHES {
-        check(&rt, rt.alloc(), batch)?;
+        check(&rt, rt.alloc(), batch);
     }
-    Ok(())
 }

@@ -1,8 +1,5 @@
 //! Data-Out that does not continue the R2T that is outstanding, and other PDUs that a command that waits makes wrong:
 //! each is a Reject for a protocol error and the end, and nothing is called (RFC 7143, 7.3 and 11.7).
-use crate::run::run;
-use std::test::*;
-
 // A write of 17 blocks brings 8192 bytes, and its R2T is for the 512 bytes at 8192. The command behind would be served,
 // had the session not ended.
 const FAULTS: &str = r#"
@@ -129,7 +126,6 @@ the tag of a write that waits, in a Logout
 end Protocol
 "#;
 
-#[test]
-fn faults_of_data_out(rt: HostRuntime) -> Result<(), Fail> {
-    run(&rt, rt.alloc(), FAULTS)
+pub fn faults() -> &'static str {
+    FAULTS
 }

@@ -1,7 +1,4 @@
 //! Discovery sessions from their login on (RFC 7143, 4.3, 11.10 and appendix C).
-use crate::run::run;
-use std::test::*;
-
 // Each login but the last begins a session of discovery.
 const SERVED: &str = r#"
 SendTargets=All, NOP-Out, and Logout
@@ -75,6 +72,10 @@ login 1
 asked begin iqn.2000-01.test:a 400001370000 Normal
 "#;
 
+pub fn served() -> &'static str {
+    SERVED
+}
+
 const REJECTED: &str = r#"
 576 bytes of an answer, where the initiator takes 512
 login 1
@@ -129,12 +130,6 @@ asked begin iqn.2000-01.test:a 400001370000 Discovery
 end Protocol
 "#;
 
-#[test]
-fn discovery(rt: HostRuntime) -> Result<(), Fail> {
-    run(&rt, rt.alloc(), SERVED)
-}
-
-#[test]
-fn rejected_in_discovery(rt: HostRuntime) -> Result<(), Fail> {
-    run(&rt, rt.alloc(), REJECTED)
+pub fn rejected() -> &'static str {
+    REJECTED
 }

@@ -1,4 +1,5 @@
-//! Tests of the session over its public calls: each table has rows of PDUs that come, and of PDUs that go out.
+//! Tests of the session over its public calls: each table has rows of PDUs that come, and of PDUs that go out. Those of a
+//! login and of PDUs by themselves stand beside them, in `negotiation` and `pdus`.
 #![tactic(auto)]
 
 #[cfg(test)]
@@ -44,9 +45,13 @@ mod negotiated_reads;
 #[cfg(test)]
 mod negotiated_writes;
 #[cfg(test)]
+mod negotiation;
+#[cfg(test)]
 mod nop;
 #[cfg(test)]
 mod open_iscsi;
+#[cfg(test)]
+mod pdus;
 #[cfg(test)]
 mod r2ts;
 #[cfg(test)]
@@ -63,6 +68,8 @@ mod run;
 mod runs;
 #[cfg(test)]
 mod streams;
+#[cfg(test)]
+mod tables;
 #[cfg(test)]
 mod task_management;
 #[cfg(test)]

@@ -1,9 +1,6 @@
 //! What the initiator libiscsi sends, by what is known of it, and the answers by the rules. The keys and their order are
 //! those of its `lib/login.c`, which sends the names in both stages; the discovery is that of its `lib/discovery.c`. It
 //! chooses its ISID, its tags and its first CmdSN at random, and begins with TEST UNIT READY.
-use crate::run::run;
-use std::test::*;
-
 // INQUIRY is answered by standard data of a disk (SPC-4, 6.6.2), READ CAPACITY (16) by 2048 blocks of 512 bytes (SBC-3).
 const ROWS: &str = r#"
 libiscsi: a session, its first commands, and its logout
@@ -60,7 +57,6 @@ asked begin iqn.2007-10.com.github:sahlberg:libiscsi:test 803B1F620000 Discovery
 end LoggedOut
 "#;
 
-#[test]
-fn what_libiscsi_sends(rt: HostRuntime) -> Result<(), Fail> {
-    run(&rt, rt.alloc(), ROWS)
+pub fn rows() -> &'static str {
+    ROWS
 }

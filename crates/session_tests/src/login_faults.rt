@@ -1,8 +1,5 @@
 //! What is rejected in a login (RFC 7143, 7.3 and 11.17.1): 05 for an opcode that no PDU of an initiator has, 09 for
 //! another fault.
-use crate::run::run;
-use std::test::*;
-
 // In place of the first Login Request: ExpCmdSN is 0.
 const FIRST: &str = r"
 an opcode that no PDU has
@@ -75,6 +72,10 @@ login 1
 < REJECT 2:09 24:00000001000000000000001F rejected TEST_UNIT_READY 1:E1
 end Protocol
 ";
+
+pub fn first() -> &'static str {
+    FIRST
+}
 
 // Behind a Login Request: ExpCmdSN is its CmdSN.
 const SECOND: &str = r#"
@@ -178,12 +179,6 @@ login 1
 end Protocol
 "#;
 
-#[test]
-fn a_fault_first(rt: HostRuntime) -> Result<(), Fail> {
-    run(&rt, rt.alloc(), FIRST)
-}
-
-#[test]
-fn a_fault_behind_a_request(rt: HostRuntime) -> Result<(), Fail> {
-    run(&rt, rt.alloc(), SECOND)
+pub fn second() -> &'static str {
+    SECOND
 }

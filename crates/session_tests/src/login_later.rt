@@ -1,7 +1,4 @@
 //! Logins that are refused at a later request (RFC 7143, 6.2, 6.3 and 11.13.5).
-use crate::run::run;
-use std::test::*;
-
 const FLAGS: &str = r#"
 stage 1, where stage 0 stays
 login 1
@@ -48,6 +45,10 @@ login 1
 < LOGIN_REFUSED 24:00000002
 end Protocol
 "#;
+
+pub fn flags() -> &'static str {
+    FLAGS
+}
 
 const TEXTS: &str = r#"
 a pair without =
@@ -96,6 +97,10 @@ login 1
 end Protocol
 "#;
 
+pub fn texts() -> &'static str {
+    TEXTS
+}
+
 const LIMITS: &str = r#"
 64 pairs, and one more
 login 1
@@ -138,6 +143,10 @@ login 1
 end Protocol
 "#;
 
+pub fn limits() -> &'static str {
+    LIMITS
+}
+
 const RUNS: &str = r#"
 a run with C of another stage
 login 1
@@ -170,22 +179,6 @@ asked begin iqn.2000-01.test:a 400001370000 Normal
 end Protocol
 "#;
 
-#[test]
-fn flags_of_later_requests(rt: HostRuntime) -> Result<(), Fail> {
-    run(&rt, rt.alloc(), FLAGS)
-}
-
-#[test]
-fn texts_of_later_requests(rt: HostRuntime) -> Result<(), Fail> {
-    run(&rt, rt.alloc(), TEXTS)
-}
-
-#[test]
-fn limits_of_a_negotiation(rt: HostRuntime) -> Result<(), Fail> {
-    run(&rt, rt.alloc(), LIMITS)
-}
-
-#[test]
-fn runs_that_are_refused(rt: HostRuntime) -> Result<(), Fail> {
-    run(&rt, rt.alloc(), RUNS)
+pub fn runs() -> &'static str {
+    RUNS
 }

@@ -1,7 +1,4 @@
 //! Logins that are refused for their names, session types, TSIH and AuthMethod (RFC 7143, 6.3 and 11.13.5).
-use crate::run::run;
-use std::test::*;
-
 const MISSING: &str = r#"
 no text
 login 1
@@ -53,6 +50,10 @@ login 1
 end Protocol
 "#;
 
+pub fn missing() -> &'static str {
+    MISSING
+}
+
 const TARGETS: &str = r#"
 an unknown target
 login 1
@@ -91,6 +92,10 @@ lives
 end Protocol
 "#;
 
+pub fn targets() -> &'static str {
+    TARGETS
+}
+
 const SESSIONS: &str = r#"
 one connection more in a session that lives
 login 1
@@ -127,6 +132,10 @@ asked lives 4660 iqn.2000-01.test:a 400001370000
 end Protocol
 "#;
 
+pub fn sessions() -> &'static str {
+    SESSIONS
+}
+
 const METHODS: &str = r#"
 AuthMethod without None
 login 1
@@ -152,22 +161,6 @@ asked begin iqn.2000-01.test:a 400001370000 Normal
 end Protocol
 "#;
 
-#[test]
-fn names_that_are_missing(rt: HostRuntime) -> Result<(), Fail> {
-    run(&rt, rt.alloc(), MISSING)
-}
-
-#[test]
-fn targets_that_are_not_there(rt: HostRuntime) -> Result<(), Fail> {
-    run(&rt, rt.alloc(), TARGETS)
-}
-
-#[test]
-fn sessions_that_are_named(rt: HostRuntime) -> Result<(), Fail> {
-    run(&rt, rt.alloc(), SESSIONS)
-}
-
-#[test]
-fn what_comes_last(rt: HostRuntime) -> Result<(), Fail> {
-    run(&rt, rt.alloc(), METHODS)
+pub fn methods() -> &'static str {
+    METHODS
 }

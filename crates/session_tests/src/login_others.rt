@@ -1,7 +1,4 @@
 //! PDUs of an initiator that are no Login Requests, in a login (RFC 7143, 11.13.5): 020B.
-use crate::run::{run, run_cut};
-use std::test::*;
-
 // In place of the first Login Request: ExpCmdSN is 0. The response has the tag that came, and no other field of it. The
 // task management request is LOGICAL UNIT RESET of LUN 0.
 const FIRST: &str = r#"
@@ -68,6 +65,10 @@ login 1
 < NOT_IN_LOGIN 16:0A0B0C0D
 end Protocol
 "#;
+
+pub fn first() -> &'static str {
+    FIRST
+}
 
 // Behind a Login Request: ExpCmdSN is its CmdSN.
 const SECOND: &str = r#"
@@ -153,18 +154,6 @@ login 1
 end Protocol
 "#;
 
-#[test]
-fn another_pdu_first(rt: HostRuntime) -> Result<(), Fail> {
-    run(&rt, rt.alloc(), FIRST)
-}
-
-#[test]
-fn another_pdu_behind_a_request(rt: HostRuntime) -> Result<(), Fail> {
-    run(&rt, rt.alloc(), SECOND)
-}
-
-#[test]
-fn another_pdu_cut_in_two(rt: HostRuntime) -> Result<(), Fail> {
-    run_cut(&rt, rt.alloc(), FIRST)?;
-    run_cut(&rt, rt.alloc(), SECOND)
+pub fn second() -> &'static str {
+    SECOND
 }

@@ -1,7 +1,4 @@
 //! Logins that are refused for their flags and versions (RFC 7143, 6.3.1, 11.12 and 11.13.5): 0200 and 0205.
-use crate::run::run;
-use std::test::*;
-
 // A refusal has neither T, C, NSG nor text. The target is asked nothing, and nothing behind it is looked at.
 const ROWS: &str = r#"
 T with C
@@ -110,7 +107,6 @@ login 1
 end Protocol
 "#;
 
-#[test]
-fn flags_and_versions(rt: HostRuntime) -> Result<(), Fail> {
-    run(&rt, rt.alloc(), ROWS)
+pub fn rows() -> &'static str {
+    ROWS
 }

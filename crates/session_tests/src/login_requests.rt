@@ -1,7 +1,4 @@
 //! Logins of several requests that are accepted (RFC 7143, 6.2, 6.3 and 11.12).
-use crate::run::run;
-use std::test::*;
-
 // Login responses have TSIH 0 until the last.
 const ROWS: &str = r#"
 stage 0, then stage 1, with the names again
@@ -80,7 +77,6 @@ asked begin iqn.2000-01.test:a 400001370000 Normal
 asked 0 Ok(TestUnitReady)
 "#;
 
-#[test]
-fn several_requests(rt: HostRuntime) -> Result<(), Fail> {
-    run(&rt, rt.alloc(), ROWS)
+pub fn rows() -> &'static str {
+    ROWS
 }

@@ -1,7 +1,9 @@
 //! A login of two requests and a command, over streams that end anywhere and that fail at each call in turn.
-use crate::run::{first_row, run_cut, run_front};
+use crate::row::Row;
+use crate::run::{calls_of, first_row, run_front};
 use session::End;
-use std::io::ErrorKind;
+use std::alloc::Global;
+use std::process::Abort;
 use std::test::*;
 use test_streams::{Calls, ONE_BYTE, WHOLE};
 
@@ -19,6 +21,10 @@ asked begin iqn.2000-01.test:a 400001370000 Normal
 asked 0 Ok(TestUnitReady)
 "#;
 
+pub fn session() -> &'static str {
+    SESSION
+}
+
 const ALL: usize = 212;
 
 // What so many bytes come to, where no stream fails: the answers of whole PDUs, and whether the session begins.
@@ -31,28 +37,10 @@ fn answered(came: usize, end: End) -> (End, usize, usize) {
     }
 }
 
-#[test]
-fn the_login_comes_in_two(rt: HostRuntime) -> Result<(), Fail> {
-    run_cut(&rt, rt.alloc(), SESSION)
-}
-
-#[test]
-fn the_login_ends_anywhere(rt: HostRuntime) -> Result<(), Fail> {
-    let row = first_row(rt.alloc(), SESSION)?;
+fn the_login_ends_anywhere(rt: &impl Abort, alloc: Global, row: &Row<'_>) {
     for came in 0..=ALL {
         let wanted = answered(came, End::EndOfInput);
-        run_front(&rt, rt.alloc(), &row, came, (WHOLE, WHOLE), wanted)?;
-    }
-    Ok(())
-}
-
-// Forty bytes a call.
-fn forties(fail_at: u64) -> Calls {
-    Calls {
-        first: 40,
-        later: 40,
-        fail_at,
-        kind: ErrorKind::BrokenPipe,
+        run_front(rt, alloc, row, came, (WHOLE, WHOLE), wanted);
     }
 }
 
@@ -65,23 +53,18 @@ login 1
 end Protocol
 ";
 
-#[test]
-fn a_fault_is_answered_once_its_header_is_there(rt: HostRuntime) -> Result<(), Fail> {
-    let row = first_row(rt.alloc(), UNKNOWN)?;
+fn a_fault_is_answered_once_its_header_is_there(rt: &impl Abort, alloc: Global, row: &Row<'_>) {
     for came in 0..=48usize {
         let wanted = if came < 48 {
             (End::EndOfInput, 0, 0)
         } else {
             (End::Protocol, 96, 0)
         };
-        run_front(&rt, rt.alloc(), &row, came, (WHOLE, WHOLE), wanted)?;
+        run_front(rt, alloc, row, came, (WHOLE, WHOLE), wanted);
     }
-    Ok(())
 }
 
-#[test]
-fn a_read_of_a_login_fails(rt: HostRuntime) -> Result<(), Fail> {
-    let row = first_row(rt.alloc(), SESSION)?;
+fn a_read_of_a_login_fails(rt: &impl Abort, alloc: Global, row: &Row<'_>) {
     // Six calls bring the bytes, and the seventh finds the end.
     for k in 1..=8u64 {
         let came = (40 * (k as usize - 1)).min(ALL);
@@ -91,15 +74,14 @@ fn a_read_of_a_login_fails(rt: HostRuntime) -> Result<(), Fail> {
             End::EndOfInput
         };
         run_front(
-            &rt,
-            rt.alloc(),
-            &row,
+            rt,
+            alloc,
+            row,
             ALL,
-            (forties(k), WHOLE),
+            (calls_of(40, k), WHOLE),
             answered(came, end),
-        )?;
+        );
     }
-    Ok(())
 }
 
 // The call of a writer of forty bytes that fails, how many bytes it took before, and how many sessions began: each response
@@ -113,15 +95,13 @@ const FAILING_WRITES: &[(u64, usize, usize)] = &[
     (6, 192, 1),
 ];
 
-#[test]
-fn a_write_of_a_login_fails(rt: HostRuntime) -> Result<(), Fail> {
-    let row = first_row(rt.alloc(), SESSION)?;
+fn a_write_of_a_login_fails(rt: &impl Abort, alloc: Global, row: &Row<'_>) {
     for (k, written, begins) in FAILING_WRITES {
         let wanted = (End::OutputFailed, *written, *begins);
-        run_front(&rt, rt.alloc(), &row, ALL, (ONE_BYTE, forties(*k)), wanted)?;
+        run_front(rt, alloc, row, ALL, (ONE_BYTE, calls_of(40, *k)), wanted);
     }
     let wanted = answered(ALL, End::EndOfInput);
-    run_front(&rt, rt.alloc(), &row, ALL, (ONE_BYTE, forties(7)), wanted)
+    run_front(rt, alloc, row, ALL, (ONE_BYTE, calls_of(40, 7)), wanted);
 }
 
 // 136 bytes, and 104 are written.
@@ -146,29 +126,14 @@ fn responded(came: usize, end: End) -> (End, usize, usize) {
     }
 }
 
-// One byte a call.
-fn ones(fail_at: u64) -> Calls {
-    Calls {
-        first: 1,
-        later: 1,
-        fail_at,
-        kind: ErrorKind::BrokenPipe,
-    }
-}
-
-#[test]
-fn a_login_of_one_request_ends_anywhere(rt: HostRuntime) -> Result<(), Fail> {
-    let row = first_row(rt.alloc(), ONE_REQUEST)?;
+fn a_login_of_one_request_ends_anywhere(rt: &impl Abort, alloc: Global, row: &Row<'_>) {
     for came in 0..=WHOLE_REQUEST {
         let wanted = responded(came, End::EndOfInput);
-        run_front(&rt, rt.alloc(), &row, came, (WHOLE, WHOLE), wanted)?;
+        run_front(rt, alloc, row, came, (WHOLE, WHOLE), wanted);
     }
-    Ok(())
 }
 
-#[test]
-fn any_read_of_a_login_fails(rt: HostRuntime) -> Result<(), Fail> {
-    let row = first_row(rt.alloc(), ONE_REQUEST)?;
+fn any_read_of_a_login_fails(rt: &impl Abort, alloc: Global, row: &Row<'_>) {
     // The last call but one finds the end.
     for k in 1..=WHOLE_REQUEST + 2 {
         let end = if k <= WHOLE_REQUEST + 1 {
@@ -176,30 +141,37 @@ fn any_read_of_a_login_fails(rt: HostRuntime) -> Result<(), Fail> {
         } else {
             End::EndOfInput
         };
-        let how = (ones(k as u64), WHOLE);
-        run_front(
-            &rt,
-            rt.alloc(),
-            &row,
-            WHOLE_REQUEST,
-            how,
-            responded(k - 1, end),
-        )?;
+        let how = (calls_of(1, k as u64), WHOLE);
+        run_front(rt, alloc, row, WHOLE_REQUEST, how, responded(k - 1, end));
     }
-    Ok(())
 }
 
-#[test]
-fn any_write_of_a_login_fails(rt: HostRuntime) -> Result<(), Fail> {
-    let row = first_row(rt.alloc(), ONE_REQUEST)?;
+fn any_write_of_a_login_fails(rt: &impl Abort, alloc: Global, row: &Row<'_>) {
     for k in 1..=WHOLE_RESPONSE + 1 {
         let wanted = if k <= WHOLE_RESPONSE {
             (End::OutputFailed, k - 1, 1)
         } else {
             (End::EndOfInput, WHOLE_RESPONSE, 1)
         };
-        let how = (WHOLE, ones(k as u64));
-        run_front(&rt, rt.alloc(), &row, WHOLE_REQUEST, how, wanted)?;
+        let how = (WHOLE, calls_of(1, k as u64));
+        run_front(rt, alloc, row, WHOLE_REQUEST, how, wanted);
     }
-    Ok(())
+}
+
+#[test]
+fn a_login_and_a_command(rt: HostRuntime) {
+    let row = first_row(&rt, rt.alloc(), ("a login and a command", SESSION));
+    the_login_ends_anywhere(&rt, rt.alloc(), &row);
+    a_read_of_a_login_fails(&rt, rt.alloc(), &row);
+    a_write_of_a_login_fails(&rt, rt.alloc(), &row);
+    let row = first_row(&rt, rt.alloc(), ("an unknown opcode", UNKNOWN));
+    a_fault_is_answered_once_its_header_is_there(&rt, rt.alloc(), &row);
+}
+
+#[test]
+fn a_login_of_one_request(rt: HostRuntime) {
+    let row = first_row(&rt, rt.alloc(), ("a login of one request", ONE_REQUEST));
+    a_login_of_one_request_ends_anywhere(&rt, rt.alloc(), &row);
+    any_read_of_a_login_fails(&rt, rt.alloc(), &row);
+    any_write_of_a_login_fails(&rt, rt.alloc(), &row);
 }

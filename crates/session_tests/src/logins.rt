@@ -1,7 +1,4 @@
 //! Logins of one request that are accepted (RFC 7143, 6.3, 11.12 and 11.13).
-use crate::run::{run, run_cut};
-use std::test::*;
-
 // 86 bytes are the text of a login of one request, 67 of them the names of both sides; 54 bytes are what the target says
 // by itself. The target is asked once to begin the session.
 const ONE_REQUEST: &str = r#"
@@ -80,12 +77,6 @@ login 1
 asked begin iqn.2000-01.test:a 400001370000 Normal
 "#;
 
-#[test]
-fn one_request(rt: HostRuntime) -> Result<(), Fail> {
-    run(&rt, rt.alloc(), ONE_REQUEST)
-}
-
-#[test]
-fn one_request_cut_in_two(rt: HostRuntime) -> Result<(), Fail> {
-    run_cut(&rt, rt.alloc(), ONE_REQUEST)
+pub fn one_request() -> &'static str {
+    ONE_REQUEST
 }

@@ -1,7 +1,4 @@
 //! Logout (RFC 7143, 11.14 and 11.15).
-use crate::run::run;
-use std::test::*;
-
 const ROWS: &str = r"
 reason 0 closes the session, and nothing behind it is served
 > LOGOUT
@@ -40,7 +37,6 @@ outside the window it is ignored
 asked 0 Ok(TestUnitReady)
 ";
 
-#[test]
-fn logout(rt: HostRuntime) -> Result<(), Fail> {
-    run(&rt, rt.alloc(), ROWS)
+pub fn rows() -> &'static str {
+    ROWS
 }

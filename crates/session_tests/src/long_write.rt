@@ -1,9 +1,8 @@
 //! WRITE (10) of 2048 blocks: 8192 bytes come with it, the others by four R2Ts of at most MaxBurstLength, 262144
 //! (RFC 7143, 11.8 and 13.13), in Data-Out of at most 65536.
-use crate::run::{first_row, run_reads};
-use std::io::ErrorKind;
+use crate::run::{calls_of, first_row, run_reads};
 use std::test::*;
-use test_streams::{Calls, ONE_BYTE, WHOLE};
+use test_streams::{ONE_BYTE, WHOLE};
 
 const MEGABYTE: &str = r"
 1 MiB, of which 8192 bytes come with the command
@@ -33,24 +32,10 @@ asked 0 Ok(Write { lba: 0, blocks: 2048, fua: false })
 given pattern 1048576
 ";
 
-const SEVEN_BYTES: Calls = Calls {
-    first: 7,
-    later: 7,
-    fail_at: 0,
-    kind: ErrorKind::Other,
-};
-
 #[test]
-fn a_write_of_a_megabyte(rt: HostRuntime) -> Result<(), Fail> {
-    let row = first_row(rt.alloc(), MEGABYTE)?;
-    for reads in [WHOLE, SEVEN_BYTES] {
-        run_reads(&rt, rt.alloc(), &row, reads)?;
+fn a_write_of_a_megabyte(rt: HostRuntime) {
+    let row = first_row(&rt, rt.alloc(), ("a write of a megabyte", MEGABYTE));
+    for reads in [WHOLE, calls_of(7, 0), ONE_BYTE] {
+        run_reads(&rt, rt.alloc(), &row, reads);
     }
-    Ok(())
-}
-
-#[test]
-fn a_write_of_a_megabyte_byte_by_byte(rt: HostRuntime) -> Result<(), Fail> {
-    let row = first_row(rt.alloc(), MEGABYTE)?;
-    run_reads(&rt, rt.alloc(), &row, ONE_BYTE)
 }

@@ -1,7 +1,4 @@
 //! What goes out by the lengths that a login negotiated (RFC 7143, 13.12 and 13.13).
-use crate::run::run;
-use std::test::*;
-
 const ROWS: &str = r#"
 a read in Data-In of MaxRecvDataSegmentLength, in runs of MaxBurstLength
 login 1
@@ -87,7 +84,6 @@ asked begin iqn.2000-01.test:a 400001370000 Normal
 asked 0 Ok(Read { lba: 5, blocks: 3, fua: false })
 "#;
 
-#[test]
-fn reads_by_negotiated_lengths(rt: HostRuntime) -> Result<(), Fail> {
-    run(&rt, rt.alloc(), ROWS)
+pub fn rows() -> &'static str {
+    ROWS
 }

@@ -1,7 +1,4 @@
 //! What comes in by the lengths that a login negotiated (RFC 7143, 13.10, 13.11, 13.13 and 13.14).
-use crate::run::run;
-use std::test::*;
-
 const ROWS: &str = r#"
 a write in R2Ts of MaxBurstLength
 login 1
@@ -62,7 +59,6 @@ asked begin iqn.2000-01.test:a 400001370000 Normal
 end Protocol
 "#;
 
-#[test]
-fn writes_by_negotiated_lengths(rt: HostRuntime) -> Result<(), Fail> {
-    run(&rt, rt.alloc(), ROWS)
+pub fn rows() -> &'static str {
+    ROWS
 }

@@ -1,9 +1,6 @@
 //! What the initiator open-iscsi sends, by what is known of it, and the answers by the rules. The keys and their order are
 //! those of its `usr/login.c`, the values those that its `iscsid.conf` documents as defaults, and the discovery is that of
 //! `iscsiadm -m discovery -t st`. The ISID and CmdSN 1 are such as it chooses; the tags stand for any.
-use crate::run::run;
-use std::test::*;
-
 // INQUIRY is answered by standard data of a disk (SPC-4, 6.6.2), READ CAPACITY (10) by 2048 blocks of 512 bytes (SBC-3).
 const ROWS: &str = r#"
 open-iscsi: a session, its first commands, and its logout
@@ -58,7 +55,6 @@ asked begin iqn.1993-08.org.debian:01:5d4a7c91e2f0 00023D000000 Discovery
 end LoggedOut
 "#;
 
-#[test]
-fn what_open_iscsi_sends(rt: HostRuntime) -> Result<(), Fail> {
-    run(&rt, rt.alloc(), ROWS)
+pub fn rows() -> &'static str {
+    ROWS
 }

@@ -1,8 +1,5 @@
 //! Writes whose data comes by R2T (RFC 7143, 11.7 and 11.8): what did not come with the command is asked for in
 //! ranges of MaxBurstLength, one outstanding at a time, and the command is called once, with all of it.
-use crate::run::run;
-use std::test::*;
-
 const ROWS: &str = r"
 a write of 512 without its data
 > WRITE
@@ -92,6 +89,10 @@ asked 0 Ok(Write { lba: 5, blocks: 1, fua: false })
 given pattern 512
 ";
 
+pub fn rows() -> &'static str {
+    ROWS
+}
+
 // What is expected and what the command needs differ (RFC 7143, 11.4.5): as much is collected as both have.
 const RESIDUALS: &str = r"
 a write of 512 that expects 1024: U, and the R2T is for 512
@@ -128,12 +129,6 @@ a write of 512 that expects 256 and sends none: O, and no R2T
 asked 0 Ok(Write { lba: 5, blocks: 1, fua: false })
 ";
 
-#[test]
-fn writes_that_collect(rt: HostRuntime) -> Result<(), Fail> {
-    run(&rt, rt.alloc(), ROWS)
-}
-
-#[test]
-fn residuals_with_r2t(rt: HostRuntime) -> Result<(), Fail> {
-    run(&rt, rt.alloc(), RESIDUALS)
+pub fn residuals() -> &'static str {
+    RESIDUALS
 }

@@ -1,8 +1,5 @@
 //! How much moves, and the Residual Count with U and O (RFC 7143, 11.4.1 and 11.4.5): WRITE (10) and READ (10) of
 //! block 5 (SBC-3), where the target returns 512 bytes of a read.
-use crate::run::run;
-use std::test::*;
-
 const ROWS: &str = r"
 a write of 512 that expects 512 and sends 512
 > TEST_UNIT_READY 1:A1 6:0200 20:00000200 32:2A0000000005000001 pattern 512
@@ -58,7 +55,6 @@ answer good pattern 512
 asked 0 Ok(Read { lba: 5, blocks: 1, fua: false })
 ";
 
-#[test]
-fn residuals(rt: HostRuntime) -> Result<(), Fail> {
-    run(&rt, rt.alloc(), ROWS)
+pub fn rows() -> &'static str {
+    ROWS
 }

@@ -40,8 +40,9 @@ use crate::fixed::{Answer, Answers};
 use login::Kind;
 use session::{BeginAnswer, Lengths, Opening, ResetAnswer, Start};
 use std::alloc::Global;
+use std::process::Abort;
 use std::str::FromStr;
-use std::test::Fail;
+use std::test::*;
 use test_streams::{HOST_A, RowError, THE_TARGET, Texts, WELCOME, bytes_of, lines_of, pdu_of};
 
 /// The texts that rows name: those of both sides of a login, what the target says by itself, and what it tells of itself.
@@ -84,6 +85,7 @@ const FROM_ONE: Begin = Begin {
 /// A session as a row of a table.
 #[derive(Drop)]
 pub struct Row<'a> {
+    pub table: &'a str,
     pub name: &'a str,
     /// The group of the portal by which it logs in; none where it begins in full feature phase, of this kind and with
     /// this start.
@@ -105,34 +107,35 @@ pub struct Row<'a> {
 }
 
 impl<'a> Row<'a> {
-    /// The row of these lines; none where they are comments.
-    pub fn read(alloc: Global, text: &'a str) -> Result<Option<Row<'a>>, Fail> {
-        let lines = lines_of(alloc, text)?;
-        let mut row = Row::new(alloc);
-        for line in &lines {
-            if row.name.is_empty() {
-                row.name = *line;
-                continue;
-            }
-            if let Err(error) = row.take(alloc, *line) {
-                return Err(Fail::new(format_args!("{}: {line}: {error:?}", row.name)));
-            }
+    /// The row of these lines of a table; without a name where they are comments.
+    pub fn read(rt: &impl Abort, alloc: Global, table: &'a str, text: &'a str) -> Row<'a> {
+        let mut row = Row::new(alloc, table);
+        for line in &lines_of(alloc, text).expect(rt, "memory") {
+            row.add(rt, alloc, *line);
         }
-        if row.name.is_empty() {
-            return Ok(None);
+        let is_whole = !row.name.starts_with(['>', '<']);
+        let has_pdus = !row.input.is_empty() || !row.output.is_empty();
+        assert!(rt;
+            row.name.is_empty() || is_whole && has_pdus,
+            "{table}: {}: a row has a name, and what comes or goes out",
+            row.name
+        );
+        row
+    }
+
+    // Adds a line.
+    fn add(&mut self, rt: &impl Abort, alloc: Global, line: &'a str) {
+        if self.name.is_empty() {
+            self.name = line;
+        } else if let Err(error) = self.take(alloc, line) {
+            panic!(rt; "{}: {}: {line}: {error:?}", self.table, self.name);
         }
-        if row.name.starts_with(['>', '<']) || row.input.is_empty() && row.output.is_empty() {
-            return Err(Fail::new(format_args!(
-                "{}: a row has a name, and what comes or goes out",
-                row.name
-            )));
-        }
-        Ok(Some(row))
     }
 
     // The row of no lines.
-    fn new(alloc: Global) -> Row<'a> {
+    fn new(alloc: Global, table: &'a str) -> Row<'a> {
         Row {
+            table,
             name: "",
             login: None,
             kind: Kind::Normal,
@@ -154,10 +157,10 @@ impl<'a> Row<'a> {
     }
 
     /// How its session begins.
-    pub fn opening(&self) -> Result<Opening, Fail> {
+    pub fn opening(&self, rt: &impl Abort) -> Opening {
         match self.login {
-            Some(group) => Ok(Opening::Login(group)),
-            None => Ok(Opening::FullFeature(self.kind, self.begin.start()?)),
+            Some(group) => Opening::Login(group),
+            None => Opening::FullFeature(self.kind, self.begin.start(rt)),
         }
     }
 
@@ -219,11 +222,12 @@ impl Begin {
     }
 
     // The same as a start, whose lengths are 512 at least.
-    fn start(&self) -> Result<Start, Fail> {
-        if self.data_segment < 512 || self.burst < 512 {
-            return Err("a length is below 512".into());
-        }
-        Ok(Start {
+    fn start(&self, rt: &impl Abort) -> Start {
+        assert!(rt;
+            self.data_segment >= 512 && self.burst >= 512,
+            "a length is below 512"
+        );
+        Start {
             exp_cmd_sn: self.exp_cmd_sn,
             stat_sn: self.stat_sn,
             lengths: Lengths {
@@ -232,7 +236,7 @@ impl Begin {
                 first_burst: self.first_burst,
                 immediate_data: self.immediate_data,
             },
-        })
+        }
     }
 }
 
@@ -259,25 +263,32 @@ fn command_answer(alloc: Global, text: &str) -> Result<Answer<'_>, RowError> {
     let (word, rest) = text.split_once(' ').unwrap_or((text, ""));
     match word {
         "good" => {
-            let _data = bytes_of(alloc, TEXTS, rest)?;
+            spells(alloc, rest)?;
             Ok(Answer::Good(rest))
         }
         "in-turn" => {
             for data in rest.split('|') {
-                let _data = bytes_of(alloc, TEXTS, data)?;
+                spells(alloc, data)?;
             }
             Ok(Answer::InTurn(rest))
         }
-        "check" => {
-            let sense = bytes_of(alloc, TEXTS, rest)?;
-            if sense.len() != 3 {
-                return Err(RowError::Digits);
-            }
-            Ok(Answer::Check(sense[0], sense[1], sense[2]))
-        }
+        "check" => check_answer(&bytes_of(alloc, TEXTS, rest)?),
         "busy" if rest.is_empty() => Ok(Answer::Busy),
         "gone" if rest.is_empty() => Ok(Answer::Gone),
         _ => Err(RowError::Word),
+    }
+}
+
+// A text that spells no bytes is a fault.
+fn spells(alloc: Global, text: &str) -> Result<(), RowError> {
+    let _bytes = bytes_of(alloc, TEXTS, text)?;
+    Ok(())
+}
+
+fn check_answer(sense: &[u8]) -> Result<Answer<'static>, RowError> {
+    match sense {
+        [key, code, qualifier] => Ok(Answer::Check(*key, *code, *qualifier)),
+        _ => Err(RowError::Digits),
     }
 }
 

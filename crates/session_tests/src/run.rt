@@ -3,9 +3,10 @@ use crate::fixed::Fixed;
 use crate::row::Row;
 use session::{End, Identity, Watched, serve_stream};
 use std::alloc::Global;
+use std::io::ErrorKind;
 use std::net::{Ipv4Addr, SocketAddrV4};
 use std::process::Abort;
-use std::test::Fail;
+use std::test::*;
 use test_streams::{Calls, FakeReader, FakeWriter, ONE_BYTE, WHOLE};
 
 /// How a session ended, what it wrote and by how many bytes a call, and what its target was asked and given.
@@ -26,31 +27,55 @@ pub fn portal(port: u16) -> SocketAddrV4 {
     SocketAddrV4::new(Ipv4Addr::new(127, 0, 0, 1), port)
 }
 
+/// A table: its name, and its rows.
+pub type Table = (&'static str, &'static str);
+
+/// Appends these bytes.
+pub fn put(rt: &impl Abort, out: &mut Vec<u8>, bytes: &[u8]) {
+    out.extend_from_slice(bytes).expect(rt, "memory");
+}
+
+/// So many bytes a call, of which the one of this number fails.
+pub fn calls_of(bytes: usize, fail_at: u64) -> Calls {
+    Calls {
+        first: bytes,
+        later: bytes,
+        fail_at,
+        kind: ErrorKind::BrokenPipe,
+    }
+}
+
 /// Serves this input, read and written so, in the session of this row: its target has one portal of the first controller.
 /// Fails where the target does not hear once, and last, that the session is over.
 pub fn serve(
+    rt: &impl Abort,
     alloc: Global,
     input: &[u8],
     reads: Calls,
     writes: Calls,
     row: &Row<'_>,
-) -> Result<Ran, Fail> {
+) -> Ran {
     let second = [portal(3264), portal(3265), portal(3266)];
+    let second = second.get(..row.portals);
     let me = Identity {
         target_name: b"iqn.2000-01.test:array",
         first: &[portal(3260)],
-        second: second.get(..row.portals).ok_or("three portals at most")?,
+        second: second.expect(rt, "three portals at most"),
     };
+    let opening = row.opening(rt);
     let mut source = Watched::new(FakeReader::new(input, reads));
     let mut sink = Watched::new(FakeWriter::new(alloc, writes));
     let mut target = Fixed::new(alloc, row.answers);
-    let opening = row.opening()?;
-    let end = serve_stream(alloc, &mut source, &mut sink, &mut target, opening, &me)?;
-    if !target.ended_once() {
-        return Err("the session is over once, and nothing is asked then".into());
-    }
+    let end = serve_stream(alloc, &mut source, &mut sink, &mut target, opening, &me);
+    let end = end.expect(rt, "memory");
+    assert!(rt;
+        target.ended_once(),
+        "{}: {}: the session is over once, and nothing is asked then",
+        row.table,
+        row.name
+    );
     let (output, sizes) = sink.into_inner().into_parts();
-    Ok(Ran {
+    Ran {
         end,
         output,
         sizes,
@@ -58,88 +83,97 @@ pub fn serve(
         given: target.given,
         commands: target.commands,
         logins: target.logins,
-    })
+    }
 }
 
 /// The first row of a table.
-pub fn first_row<'a>(alloc: Global, table: &'a str) -> Result<Row<'a>, Fail> {
-    for text in table.split("\n\n") {
-        if let Some(row) = Row::read(alloc, text)? {
-            return Ok(row);
-        }
-    }
-    Err("a table has a row".into())
+pub fn first_row(rt: &impl Abort, alloc: Global, (table, rows): Table) -> Row<'static> {
+    let (text, _) = rows.split_once("\n\n").unwrap_or((rows, ""));
+    let row = Row::read(rt, alloc, table, text);
+    assert!(rt; !row.name.is_empty(), "{table}: no row comes first");
+    row
 }
 
 /// Serves each row, and compares.
-pub fn run(rt: &impl Abort, alloc: Global, table: &str) -> Result<(), Fail> {
+pub fn run(rt: &impl Abort, alloc: Global, (table, rows): Table) {
     let mut is_empty = true;
-    for text in table.split("\n\n") {
-        if let Some(row) = Row::read(alloc, text)? {
-            run_row(rt, alloc, &row)?;
+    for text in rows.split("\n\n") {
+        if run_text(rt, alloc, table, text) {
             is_empty = false;
         }
     }
-    if is_empty {
-        return Err("a table has a row".into());
+    assert!(rt; !is_empty, "{table}: a table has a row");
+}
+
+// Serves the row of these lines; whether they are one, and no comments.
+fn run_text(rt: &impl Abort, alloc: Global, table: &str, text: &str) -> bool {
+    let row = Row::read(rt, alloc, table, text);
+    let is_row = !row.name.is_empty();
+    if is_row {
+        run_row(rt, alloc, &row);
     }
-    Ok(())
+    is_row
 }
 
 /// The most bytes of an input that is cut at each of its places.
 const FEW_BYTES: usize = 96;
 
 // Serves a row: whole, one byte after the other, and, where they are few, in two at each place.
-fn run_row(rt: &impl Abort, alloc: Global, row: &Row<'_>) -> Result<(), Fail> {
-    run_reads(rt, alloc, row, WHOLE)?;
-    run_reads(rt, alloc, row, ONE_BYTE)?;
+fn run_row(rt: &impl Abort, alloc: Global, row: &Row<'_>) {
+    run_reads(rt, alloc, row, WHOLE);
+    run_reads(rt, alloc, row, ONE_BYTE);
     if row.input.len() <= FEW_BYTES {
-        cut_anywhere(rt, alloc, row)?;
+        cut_anywhere(rt, alloc, row);
     }
-    Ok(())
 }
 
 /// Serves the first row of a table, cut in two at each place, and compares.
-pub fn run_cut(rt: &impl Abort, alloc: Global, table: &str) -> Result<(), Fail> {
-    cut_anywhere(rt, alloc, &first_row(alloc, table)?)
+pub fn run_cut(rt: &impl Abort, alloc: Global, table: Table) {
+    cut_anywhere(rt, alloc, &first_row(rt, alloc, table));
 }
 
 // Serves a row, in two at each place.
-fn cut_anywhere(rt: &impl Abort, alloc: Global, row: &Row<'_>) -> Result<(), Fail> {
+fn cut_anywhere(rt: &impl Abort, alloc: Global, row: &Row<'_>) {
     for first in 1..row.input.len() {
-        run_reads(rt, alloc, row, Calls { first, ..WHOLE })?;
+        run_reads(rt, alloc, row, Calls { first, ..WHOLE });
     }
-    Ok(())
 }
 
 /// Serves a row, read so, and compares.
-pub fn run_reads(rt: &impl Abort, alloc: Global, row: &Row<'_>, reads: Calls) -> Result<(), Fail> {
-    let ran = serve(alloc, &row.input, reads, WHOLE, row)?;
-    assert_eq!(rt;
-        ran.output.as_slice(),
-        row.output.as_slice(),
-        "{}, {reads:?}",
-        row.name
-    );
-    expect_end(rt, alloc, ran.end, row)?;
-    for (asked, want) in ran.asked.iter().zip(&row.asked) {
-        assert_eq!(rt; asked.as_str(), *want, "{}, {reads:?}", row.name);
+pub fn run_reads(rt: &impl Abort, alloc: Global, row: &Row<'_>, reads: Calls) {
+    let ran = serve(rt, alloc, &row.input, reads, WHOLE, row);
+    expect_end(rt, alloc, ran.end, row);
+    if let Some(what) = differs(&ran, row) {
+        panic!(rt;
+            "{}: {}, {reads:?}: {what}: {:?}",
+            row.table, row.name, ran.output
+        );
     }
-    assert_eq!(rt; ran.asked.len(), row.asked.len(), "{}, {reads:?}", row.name);
-    assert_eq!(rt;
-        ran.given.as_slice(),
-        row.given.as_slice(),
-        "{}, {reads:?}",
-        row.name
-    );
-    Ok(())
+}
+
+// What a session that was served whole did otherwise than its row says.
+fn differs(ran: &Ran, row: &Row<'_>) -> Option<&'static str> {
+    for (asked, want) in ran.asked.iter().zip(&row.asked) {
+        if asked.as_str() != *want {
+            return Some("it asked something else, and wrote");
+        }
+    }
+    if ran.asked.len() != row.asked.len() {
+        return Some("it asked more or less, and wrote");
+    }
+    if ran.given.as_slice() != row.given.as_slice() {
+        return Some("it gave other bytes, and wrote");
+    }
+    if ran.output.as_slice() != row.output.as_slice() {
+        return Some("it wrote");
+    }
+    None
 }
 
 /// A session ended as its row says.
-pub fn expect_end(rt: &impl Abort, alloc: Global, end: End, row: &Row<'_>) -> Result<(), Fail> {
-    let end = format!(in alloc; "{end:?}")?;
-    assert_eq!(rt; end.as_str(), row.end, "{}", row.name);
-    Ok(())
+pub fn expect_end(rt: &impl Abort, alloc: Global, end: End, row: &Row<'_>) {
+    let end = format!(in alloc; "{end:?}").expect(rt, "memory");
+    assert_eq!(rt; end.as_str(), row.end, "{}: {}", row.table, row.name);
 }
 
 /// Serves the first bytes of a row's input, read and written so: the session ends so, so many bytes of the row's output are
@@ -151,19 +185,14 @@ pub fn run_front(
     came: usize,
     (reads, writes): (Calls, Calls),
     (end, written, logins): (End, usize, usize),
-) -> Result<(), Fail> {
-    let front = row.input.get(..came).ok_or("so many bytes come")?;
-    let want = row.output.get(..written).ok_or("so many bytes go out")?;
-    let ran = serve(alloc, front, reads, writes, row)?;
-    assert_eq!(rt;
-        ran.output.as_slice(),
-        want,
-        "{came} bytes, {reads:?}, {writes:?}"
+) {
+    let front = row.input.get(..came).expect(rt, "so many bytes come");
+    let want = row.output.get(..written).expect(rt, "so many bytes go out");
+    let ran = serve(rt, alloc, front, reads, writes, row);
+    let is_as_wanted = (ran.end, ran.logins) == (end, logins) && ran.output.as_slice() == want;
+    assert!(rt;
+        is_as_wanted,
+        "{}: {came} bytes, {reads:?}, {writes:?}: {:?}",
+        row.table, ran.end
     );
-    assert_eq!(rt;
-        (ran.end, ran.logins),
-        (end, logins),
-        "{came} bytes, {reads:?}, {writes:?}"
-    );
-    Ok(())
 }

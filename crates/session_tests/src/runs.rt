@@ -1,7 +1,4 @@
 //! The data of a read in runs of MaxBurstLength (RFC 7143, 11.7.1 and 13.13): F stands at the end of each and of the data.
-use crate::run::run;
-use std::test::*;
-
 const ROWS: &str = r"
 # Five blocks in runs of 1024 bytes: F at 1024, 2048 and 2560.
 runs of two segments, and a shorter one
@@ -73,7 +70,6 @@ answer good 512*01 512*02 512*03
 asked 0 Ok(Read { lba: 5, blocks: 3, fua: false })
 ";
 
-#[test]
-fn runs(rt: HostRuntime) -> Result<(), Fail> {
-    run(&rt, rt.alloc(), ROWS)
+pub fn rows() -> &'static str {
+    ROWS
 }

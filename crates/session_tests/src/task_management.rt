@@ -1,7 +1,4 @@
 //! Task management (RFC 7143, 11.5 and 11.6), on a target of one unit.
-use crate::run::run;
-use std::test::*;
-
 const ROWS: &str = r"
 ABORT TASK of a tag that no task has had: there is none
 > TASK_REQUEST 1:81 20:00000009
@@ -100,6 +97,10 @@ inside the window, but not the next, it leaves a gap
 end Protocol
 ";
 
+pub fn rows() -> &'static str {
+    ROWS
+}
+
 // A write that waits for its 512 bytes, by its R2T, and what becomes of it. The request has CmdSN 2 and the tag 2. The
 // third command has the tag 9, and its answer StatSN 2, ExpCmdSN 4 and MaxCmdSN 35, as no write waits any more.
 const WAITING: &str = r"
@@ -182,12 +183,6 @@ asked 0 Ok(Write { lba: 5, blocks: 1, fua: false })
 given pattern 512
 ";
 
-#[test]
-fn a_write_that_waits(rt: HostRuntime) -> Result<(), Fail> {
-    run(&rt, rt.alloc(), WAITING)
-}
-
-#[test]
-fn task_management(rt: HostRuntime) -> Result<(), Fail> {
-    run(&rt, rt.alloc(), ROWS)
+pub fn waiting() -> &'static str {
+    WAITING
 }

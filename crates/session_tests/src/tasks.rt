@@ -1,8 +1,5 @@
 //! Several writes that wait for their data at once, and other commands between: answers come in the order in which commands
 //! are completed (RFC 7143, 4.2.2 and 11.8).
-use crate::run::run;
-use std::test::*;
-
 const ROWS: &str = r"
 # Of two writes of two blocks the second is complete first; a read is answered between.
 two writes, their Data-Out interleaved, and a read
@@ -75,9 +72,8 @@ an immediate command, while a numbered write waits
 asked 0 Ok(TestUnitReady)
 ";
 
-#[test]
-fn tasks_at_once(rt: HostRuntime) -> Result<(), Fail> {
-    run(&rt, rt.alloc(), ROWS)
+pub fn rows() -> &'static str {
+    ROWS
 }
 
 // 32 numbered writes that wait, of which the window is full, and what comes behind them.
@@ -175,7 +171,6 @@ asked 0 Ok(TestUnitReady)
 given pattern 1024
 ";
 
-#[test]
-fn a_full_window_of_writes(rt: HostRuntime) -> Result<(), Fail> {
-    run(&rt, rt.alloc(), BEHIND_32)
+pub fn behind_32() -> &'static str {
+    BEHIND_32
 }

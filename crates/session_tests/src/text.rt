@@ -1,7 +1,4 @@
 //! Text Requests and discovery sessions (RFC 7143, 11.10, 11.11 and 4.3).
-use crate::run::run;
-use std::test::*;
-
 const ROWS: &str = r#"
 SendTargets=All in a discovery session
 discovery
@@ -65,6 +62,10 @@ portals 3
 > TEXT_REQUEST 6:02A4 52*"SendTargets=\0"
 < TEXT_RESPONSE 6:2018 52*TOLD_OF_FOUR
 "#;
+
+pub fn rows() -> &'static str {
+    ROWS
+}
 
 // Each is rejected with its header segment, and ends the session.
 const REFUSED: &str = r#"
@@ -131,12 +132,6 @@ portals 3
 end Protocol
 "#;
 
-#[test]
-fn text(rt: HostRuntime) -> Result<(), Fail> {
-    run(&rt, rt.alloc(), ROWS)
-}
-
-#[test]
-fn refused_in_text_and_discovery(rt: HostRuntime) -> Result<(), Fail> {
-    run(&rt, rt.alloc(), REFUSED)
+pub fn refused() -> &'static str {
+    REFUSED
 }

@@ -1,7 +1,4 @@
 //! The command window (RFC 7143, 4.2.2.1).
-use crate::run::run;
-use std::test::*;
-
 const ROWS: &str = r"
 TEST UNIT READY
 > TEST_UNIT_READY
@@ -55,7 +52,6 @@ asked 0 Ok(TestUnitReady)
 asked 0 Ok(TestUnitReady)
 ";
 
-#[test]
-fn the_window(rt: HostRuntime) -> Result<(), Fail> {
-    run(&rt, rt.alloc(), ROWS)
+pub fn rows() -> &'static str {
+    ROWS
 }

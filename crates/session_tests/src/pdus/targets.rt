@@ -1,18 +1,17 @@
 //! Each of a target's PDUs.
-
-use crate::rows::{Figure, ISID, LUN, NUMBERS, bytes_of, expect_decoded, expect_encoded};
+use crate::pdus::rows::{Figure, ISID, LUN, NUMBERS, bytes_of, expect_decoded, expect_encoded};
 use iscsi_pdu::{
     DataIn, Header, LoginResponse, LogoutResponse, NopIn, R2t, Reject, ScsiResponse, TargetHeader,
     TaskManagementResponse, TextResponse,
 };
 use std::alloc::Global;
 use std::process::Abort;
-use std::test::Fail;
+use std::test::*;
 
 /// A name, a header, and its figure.
 type Row = (&'static str, TargetHeader, Figure);
 
-const ROWS: [Row; 12] = [
+const ROWS: &[Row] = &[
     (
         "NOP-In",
         TargetHeader::NopIn(NopIn {
@@ -21,10 +20,7 @@ const ROWS: [Row; 12] = [
             transfer_tag: 0x1A1B1C1D,
             numbers: NUMBERS,
         }),
-        [
-            0x20800000, 2, 0x01020304, 0x05060708, 0x0A0B0C0D, 0x1A1B1C1D, 0x21222324, 0x31323334,
-            0x41424344, 0, 0, 0,
-        ],
+        "20800000 2 01020304 05060708 0A0B0C0D 1A1B1C1D 21222324 31323334 41424344 0 0 0",
     ),
     (
         "a SCSI Response with overflow",
@@ -38,10 +34,7 @@ const ROWS: [Row; 12] = [
             exp_data_sn: 0x51525354,
             residual: 0x71727374,
         }),
-        [
-            0x21840102, 2, 0, 0, 0x0A0B0C0D, 0, 0x21222324, 0x31323334, 0x41424344, 0x51525354, 0,
-            0x71727374,
-        ],
+        "21840102 2 0 0 0A0B0C0D 0 21222324 31323334 41424344 51525354 0 71727374",
     ),
     (
         "a SCSI Response with underflow",
@@ -55,9 +48,7 @@ const ROWS: [Row; 12] = [
             exp_data_sn: 0,
             residual: 256,
         }),
-        [
-            0x21820000, 2, 0, 0, 1, 0, 0x21222324, 0x31323334, 0x41424344, 0, 0, 0x100,
-        ],
+        "21820000 2 0 0 1 0 21222324 31323334 41424344 0 0 100",
     ),
     (
         "a Task Management Function Response",
@@ -66,9 +57,7 @@ const ROWS: [Row; 12] = [
             task_tag: 0x0A0B0C0D,
             numbers: NUMBERS,
         }),
-        [
-            0x22800500, 2, 0, 0, 0x0A0B0C0D, 0, 0x21222324, 0x31323334, 0x41424344, 0, 0, 0,
-        ],
+        "22800500 2 0 0 0A0B0C0D 0 21222324 31323334 41424344 0 0 0",
     ),
     (
         "a Login Response that goes from stage 1 to 3",
@@ -84,10 +73,7 @@ const ROWS: [Row; 12] = [
             status_class: 0,
             status_detail: 0,
         }),
-        [
-            0x23870000, 2, 0x00023D01, 0x02030405, 0x0A0B0C0D, 0, 0x21222324, 0x31323334,
-            0x41424344, 0, 0, 0,
-        ],
+        "23870000 2 23D01 02030405 0A0B0C0D 0 21222324 31323334 41424344 0 0 0",
     ),
     (
         "a Login Response that refuses",
@@ -103,10 +89,7 @@ const ROWS: [Row; 12] = [
             status_class: 2,
             status_detail: 7,
         }),
-        [
-            0x23400000, 2, 0x00023D01, 0x02030000, 0x0A0B0C0D, 0, 0x21222324, 0x31323334,
-            0x41424344, 0x02070000, 0, 0,
-        ],
+        "23400000 2 23D01 02030000 0A0B0C0D 0 21222324 31323334 41424344 02070000 0 0",
     ),
     (
         "a Text Response",
@@ -115,10 +98,7 @@ const ROWS: [Row; 12] = [
             transfer_tag: 0x1A1B1C1D,
             numbers: NUMBERS,
         }),
-        [
-            0x24800000, 2, 0, 0, 0x0A0B0C0D, 0x1A1B1C1D, 0x21222324, 0x31323334, 0x41424344, 0, 0,
-            0,
-        ],
+        "24800000 2 0 0 0A0B0C0D 1A1B1C1D 21222324 31323334 41424344 0 0 0",
     ),
     (
         "the last Data-In",
@@ -130,10 +110,7 @@ const ROWS: [Row; 12] = [
             data_sn: 0x51525354,
             offset: 0x61626364,
         }),
-        [
-            0x25800000, 2, 0, 0, 0x0A0B0C0D, 0x1A1B1C1D, 0x21222324, 0x31323334, 0x41424344,
-            0x51525354, 0x61626364, 0,
-        ],
+        "25800000 2 0 0 0A0B0C0D 1A1B1C1D 21222324 31323334 41424344 51525354 61626364 0",
     ),
     (
         "a Data-In before the last",
@@ -145,9 +122,7 @@ const ROWS: [Row; 12] = [
             data_sn: 0,
             offset: 0,
         }),
-        [
-            0x25000000, 2, 0, 0, 3, 0xFFFFFFFF, 0x21222324, 0x31323334, 0x41424344, 0, 0, 0,
-        ],
+        "25000000 2 0 0 3 FFFFFFFF 21222324 31323334 41424344 0 0 0",
     ),
     (
         "a Logout Response",
@@ -158,10 +133,7 @@ const ROWS: [Row; 12] = [
             time_to_wait: 0x6162,
             time_to_retain: 0x6364,
         }),
-        [
-            0x26800200, 2, 0, 0, 0x0A0B0C0D, 0, 0x21222324, 0x31323334, 0x41424344, 0, 0x61626364,
-            0,
-        ],
+        "26800200 2 0 0 0A0B0C0D 0 21222324 31323334 41424344 0 61626364 0",
     ),
     (
         "an R2T",
@@ -174,10 +146,7 @@ const ROWS: [Row; 12] = [
             offset: 0x61626364,
             desired_length: 0x71727374,
         }),
-        [
-            0x31800000, 2, 0x01020304, 0x05060708, 0x0A0B0C0D, 0x1A1B1C1D, 0x21222324, 0x31323334,
-            0x41424344, 0x51525354, 0x61626364, 0x71727374,
-        ],
+        "31800000 2 01020304 05060708 0A0B0C0D 1A1B1C1D 21222324 31323334 41424344 51525354 61626364 71727374",
     ),
     (
         "a Reject",
@@ -185,23 +154,20 @@ const ROWS: [Row; 12] = [
             reason: 9,
             numbers: NUMBERS,
         }),
-        [
-            0x3F800900, 2, 0, 0, 0xFFFFFFFF, 0, 0x21222324, 0x31323334, 0x41424344, 0, 0, 0,
-        ],
+        "3F800900 2 0 0 FFFFFFFF 0 21222324 31323334 41424344 0 0 0",
     ),
 ];
 
-fn expect_rows(rt: &impl Abort, alloc: Global, rows: &[Row]) -> Result<(), Fail> {
-    for (name, header, figure) in rows {
-        let header = Header::Target(*header);
-        expect_encoded(rt, alloc, name, header, figure)?;
-        let bytes = bytes_of(alloc, figure, [7, 8, 0, 0])?;
-        expect_decoded(rt, name, &bytes, header)?;
-    }
-    Ok(())
+fn check(rt: &impl Abort, alloc: Global, (name, header, figure): &Row) {
+    let header = Header::Target(*header);
+    expect_encoded(rt, alloc, name, header, figure);
+    let bytes = bytes_of(rt, alloc, figure, [7, 8, 0, 0]);
+    expect_decoded(rt, name, &bytes, header);
 }
 
 #[test]
-fn each_target_pdu_has_its_bytes(rt: HostRuntime) -> Result<(), Fail> {
-    expect_rows(&rt, rt.alloc(), &ROWS)
+fn each_target_pdu_has_its_bytes(rt: HostRuntime) {
+    for row in ROWS {
+        check(&rt, rt.alloc(), row);
+    }
 }

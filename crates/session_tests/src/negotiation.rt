@@ -1,0 +1,7 @@
+//! Tests of `login` over its public calls.
+mod keys;
+mod limits;
+mod logins;
+mod refusals;
+mod scripts;
+mod targets;
