@@ -1,8 +1,8 @@
 //! The worked examples of a session, with its input whole, in pieces, and ended anywhere.
 use crate::row::Row;
-use crate::run::{run, serve};
-use session::End;
-use std::test::*;
+use crate::run::{FEW_BLOCKS, Served, run, serve};
+use std::alloc::Global;
+use std::process::Abort;
 use test_streams::WHOLE;
 
 // TEST UNIT READY; WRITE (10) of block 5 with 512 bytes 5Ah; READ (10) of it.
@@ -35,31 +35,30 @@ less announced than needed
 < CHECK_CONDITION 1:84 44:00000100 0012700005000000000A00000000240000000000
 "#;
 
-#[test]
-fn in_all_pieces(rt: HostRuntime) -> Result<(), Fail> {
-    run(&rt, rt.alloc(), THREE_COMMANDS)?;
-    run(&rt, rt.alloc(), ROWS)
+// The PDUs of the input end behind its bytes 48, 608 and 656, and their answers behind 48, 96 and 704.
+fn ends_behind(rt: &impl Abort, alloc: Global, row: &Row<'_>, came: usize) {
+    let answered = match came {
+        0..=47 => 0,
+        48..=607 => 48,
+        608..=655 => 96,
+        _ => 704,
+    };
+    let served = Served {
+        input: row.input.get(..came).expect(rt, "656 bytes"),
+        reads: WHOLE,
+        output: row.output.get(..answered).expect(rt, "704 bytes"),
+        blocks: FEW_BLOCKS,
+        written: if came < 608 { &[] } else { &row.written },
+    };
+    serve(rt, alloc, row, served);
 }
 
-// The PDUs of the input end behind its bytes 48, 608 and 656, and their answers behind 48, 96 and 704.
 #[test]
-fn an_input_that_ends_anywhere(rt: HostRuntime) -> Result<(), Fail> {
-    let alloc = rt.alloc();
-    let row = Row::new(alloc, THREE_COMMANDS)?;
+fn in_all_pieces_and_ended_anywhere(rt: HostRuntime) {
+    run(&rt, rt.alloc(), THREE_COMMANDS);
+    run(&rt, rt.alloc(), ROWS);
+    let row = Row::new(&rt, rt.alloc(), THREE_COMMANDS);
     for came in 0..=656usize {
-        let answered = match came {
-            0..=47 => 0,
-            48..=607 => 48,
-            608..=655 => 96,
-            _ => 704,
-        };
-        let written: &[(u32, u8)] = if came < 608 { &[] } else { &row.written };
-        let front = row.input.get(..came).ok_or("656 bytes")?;
-        let want = row.output.get(..answered).ok_or("704 bytes")?;
-        let (end, sent, kept) = serve(alloc, front, WHOLE, row.fuse, (16, written))?;
-        assert_eq!(rt; end, End::EndOfInput, "after {came} bytes");
-        assert_eq!(rt; sent.as_slice(), want, "after {came} bytes");
-        assert!(rt; kept, "after {came} bytes");
+        ends_behind(&rt, rt.alloc(), &row, came);
     }
-    Ok(())
 }

@@ -19,9 +19,8 @@
 //!   blocks of its run; `written 10 5A`: afterwards this block is of this byte; all others are of zeros. `all-blocks`: a row
 //!   that is not the same over a few blocks as over all.
 use std::alloc::Global;
-use std::str::FromStr;
-use std::test::Fail;
-use test_streams::{RowError, lines_of, pdu_of};
+use std::process::Abort;
+use test_streams::{lines_of, pdu_of};
 
 /// How the device fails: after so many calls, where the first one that fails, as a write, lands so many blocks of its run.
 #[derive(Clone, Copy)]
@@ -45,7 +44,7 @@ pub struct Row<'a> {
 
 impl<'a> Row<'a> {
     /// The row of these lines.
-    pub fn new(alloc: Global, text: &'a str) -> Result<Row<'a>, Fail> {
+    pub fn new(rt: &impl Abort, alloc: Global, text: &'a str) -> Row<'a> {
         let mut row = Row {
             name: "",
             input: Vec::new(alloc),
@@ -57,60 +56,49 @@ impl<'a> Row<'a> {
             written: Vec::new(alloc),
             all_blocks: false,
         };
-        match row.read(alloc, text) {
-            Ok(()) if !row.input.is_empty() => Ok(row),
-            end => Err(Fail::new(format_args!("{}: {end:?}", row.name))),
-        }
-    }
-
-    // Takes these lines, up to the first that is none.
-    fn read(&mut self, alloc: Global, text: &'a str) -> Result<(), RowError> {
-        for line in &lines_of(alloc, text)? {
-            if self.name.is_empty() {
-                self.name = *line;
+        for line in &lines_of(alloc, text).expect(rt, "memory") {
+            if row.name.is_empty() {
+                row.name = *line;
             } else {
-                self.take(alloc, line)?;
+                row.take(rt, alloc, line);
             }
         }
-        Ok(())
+        assert!(rt; !row.input.is_empty(), "{}", row.name);
+        row
     }
 
     // Takes a line.
-    fn take(&mut self, alloc: Global, line: &str) -> Result<(), RowError> {
+    fn take(&mut self, rt: &impl Abort, alloc: Global, line: &str) {
         let (word, rest) = line.split_once(' ').unwrap_or((line, ""));
         match word {
-            ">" => put_pdu(alloc, &mut self.input, rest)?,
-            "<" => put_pdu(alloc, &mut self.output, rest)?,
-            "fails" => self.fuse.calls = number_of(rest)?,
+            ">" => put_pdu(rt, alloc, &mut self.input, rest),
+            "<" => put_pdu(rt, alloc, &mut self.output, rest),
+            "fails" => self.fuse.calls = rest.parse().expect(rt, line),
             "lands" => {
                 self.fuse = Fuse {
                     calls: 0,
-                    lands: number_of(rest)?,
+                    lands: rest.parse().expect(rt, line),
                 }
             }
             "written" => {
-                let (block, byte) = rest.split_once(' ').ok_or(RowError::Word)?;
-                let byte = u8::from_str_radix(byte, 16).ok().ok_or(RowError::Digits)?;
-                self.written
-                    .extend_from_slice(&[(number_of(block)?, byte)])?
+                let written = written_of(rt, rest);
+                self.written.push(written).expect(rt, "memory");
             }
             "all-blocks" => self.all_blocks = true,
-            _ => return Err(RowError::Word),
+            _ => panic!(rt; "{line}"),
         }
-        Ok(())
     }
 }
 
-// Appends a PDU.
-fn put_pdu(alloc: Global, bytes: &mut Vec<u8>, line: &str) -> Result<(), RowError> {
-    let pdu = pdu_of(alloc, &[], line)?;
-    Ok(bytes.extend_from_slice(&pdu)?)
+// A block, and the byte of which it is.
+fn written_of(rt: &impl Abort, words: &str) -> (u32, u8) {
+    let (block, byte) = words.split_once(' ').expect(rt, words);
+    let block = block.parse().expect(rt, words);
+    (block, u8::from_str_radix(byte, 16).expect(rt, words))
 }
 
-// The number of these decimal digits.
-fn number_of<T: FromStr>(text: &str) -> Result<T, RowError>
-where
-    T::Err: Drop,
-{
-    text.parse().ok().ok_or(RowError::Digits)
+// Appends a PDU.
+fn put_pdu(rt: &impl Abort, alloc: Global, bytes: &mut Vec<u8>, line: &str) {
+    let pdu = pdu_of(alloc, &[], line).expect(rt, line);
+    bytes.extend_from_slice(&pdu).expect(rt, "memory");
 }

@@ -5,7 +5,6 @@ use session::{End, Identity, Watched};
 use std::alloc::Global;
 use std::net::{Ipv4Addr, SocketAddrV4};
 use std::process::Abort;
-use std::test::Fail;
 use targets::once::once;
 use test_streams::{Calls, FakeReader, FakeWriter, ONE_BYTE, WHOLE};
 
@@ -13,7 +12,7 @@ use test_streams::{Calls, FakeReader, FakeWriter, ONE_BYTE, WHOLE};
 const BLOCKS: u32 = 2048;
 
 /// How many it has where an input is cut at each place: more than these rows write, in less time.
-const FEW_BLOCKS: u32 = 16;
+pub const FEW_BLOCKS: u32 = 16;
 
 // The one portal of a controller, at this port of the host itself.
 fn portal(port: u16) -> [SocketAddrV4; 1] {
@@ -53,65 +52,68 @@ fn keeps<B: Blocks>(device: &mut B, count: u32, written: &[(u32, u8)]) -> bool {
     device.count() == count
 }
 
-/// Serves this input, which comes in these pieces, over so many blocks of zeros that fail so: the end, the output, and
-/// whether just these blocks are written.
-pub fn serve(
-    alloc: Global,
-    input: &[u8],
-    reads: Calls,
-    fuse: Fuse,
-    (count, written): (u32, &[(u32, u8)]),
-) -> Result<(End, Vec<u8>, bool), Fail> {
-    if count == 0 {
-        return Err("a unit of one block at least".into());
-    }
-    let blocks = MemBlocks::new(alloc, count)?;
-    let fused = FusedBlocks::inside(blocks, fuse.calls, fuse.lands);
-    let mut source = Watched::new(FakeReader::new(input, reads));
+/// How a row is served: its input, which comes in these pieces, and the output that is to come, over so many blocks.
+#[derive(Clone, Copy)]
+pub struct Served<'a> {
+    pub input: &'a [u8],
+    pub reads: Calls,
+    pub output: &'a [u8],
+    pub blocks: u32,
+    /// The blocks that are written then, and how all bytes of each are.
+    pub written: &'a [(u32, u8)],
+}
+
+/// Serves this over blocks of zeros that fail as the row says, and compares.
+pub fn serve(rt: &impl Abort, alloc: Global, row: &Row<'_>, served: Served<'_>) {
+    assert!(rt; served.blocks > 0, "a unit of one block at least");
+    let blocks = MemBlocks::new(alloc, served.blocks).expect(rt, "memory");
+    let fused = FusedBlocks::inside(blocks, row.fuse.calls, row.fuse.lands);
+    let mut source = Watched::new(FakeReader::new(served.input, served.reads));
     let mut sink = Watched::new(FakeWriter::new(alloc, WHOLE));
     let me = Identity {
         target_name: b"iqn.2000-01.test:array",
         first: &portal(3260),
         second: &portal(3264),
     };
-    let (end, device, _registrations) = once(alloc, &mut source, &mut sink, fused, &me)?;
-    let kept = keeps(&mut device.into_inner(), count, written);
-    Ok((end, sink.into_inner().into_bytes(), kept))
+    let (end, device, _registrations) = once(alloc, &mut source, &mut sink, fused, &me).expect(
+        rt, row.name,
+    );
+    let kept = keeps(&mut device.into_inner(), served.blocks, served.written);
+    let sent = sink.into_inner().into_bytes();
+    assert!(rt;
+        end == End::EndOfInput && sent.as_slice() == served.output && kept,
+        "{}, {:?}, {} bytes: {end:?}, {sent:?}, {kept}",
+        row.name,
+        served.reads,
+        served.input.len()
+    );
 }
 
-// Serves a row in these pieces, and compares.
-fn compare(
-    rt: &impl Abort,
-    alloc: Global,
-    row: &Row<'_>,
-    reads: Calls,
-    count: u32,
-) -> Result<(), Fail> {
-    let told = serve(alloc, &row.input, reads, row.fuse, (count, &row.written))?;
-    assert!(rt;
-        told.0 == End::EndOfInput && told.1 == row.output && told.2,
-        "{}, {reads:?}: {:?}",
-        row.name,
-        told
-    );
-    Ok(())
+// Serves all of a row in these pieces, and compares.
+fn compare(rt: &impl Abort, alloc: Global, row: &Row<'_>, reads: Calls, blocks: u32) {
+    let served = Served {
+        input: &row.input,
+        reads,
+        output: &row.output,
+        blocks,
+        written: &row.written,
+    };
+    serve(rt, alloc, row, served);
 }
 
 /// Serves each row with its input whole, in single bytes, and cut after each byte, and compares.
-pub fn run(rt: &impl Abort, alloc: Global, table: &str) -> Result<(), Fail> {
+pub fn run(rt: &impl Abort, alloc: Global, table: &str) {
     for text in table.split("\n\n") {
-        run_row(rt, alloc, &Row::new(alloc, text)?)?;
+        run_row(rt, alloc, &Row::new(rt, alloc, text));
     }
-    Ok(())
 }
 
-fn run_row(rt: &impl Abort, alloc: Global, row: &Row<'_>) -> Result<(), Fail> {
-    compare(rt, alloc, row, WHOLE, BLOCKS)?;
-    compare(rt, alloc, row, ONE_BYTE, BLOCKS)?;
+fn run_row(rt: &impl Abort, alloc: Global, row: &Row<'_>) {
+    compare(rt, alloc, row, WHOLE, BLOCKS);
+    compare(rt, alloc, row, ONE_BYTE, BLOCKS);
     if !row.all_blocks {
         for first in 1..row.input.len() {
-            compare(rt, alloc, row, Calls { first, ..WHOLE }, FEW_BLOCKS)?;
+            compare(rt, alloc, row, Calls { first, ..WHOLE }, FEW_BLOCKS);
         }
     }
-    Ok(())
 }

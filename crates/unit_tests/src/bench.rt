@@ -1,45 +1,13 @@
-//! A unit with the sessions of a test, and its device.
-use crate::bytes::{Runs, cdb_of, spelled};
+//! A unit with the sessions of a script, and its device.
+use crate::rows::{Row, cdb_of};
 use access_states::Change;
 use aptpl_file::{FILE_BLOCKS, RegFile};
 use block_file::{Blocks, DeviceFailed, FusedBlocks, FusedOpener, KeepOpener, MemBlocks};
 use reservations::Record;
 use scsi_types::{Group, Place, PortName, decode};
 use std::alloc::Global;
-use std::test::Fail;
-use test_streams::RowError;
+use std::process::Abort;
 use unit_state::{AttachFault, Gone, MoveFault, SessionId, StepEnd, Unit};
-
-/// How a device in memory fails.
-#[derive(Clone, Copy, Debug)]
-pub enum Fuse {
-    Never,
-    /// Behind so many calls: each is the read or the write of a run, or a flush.
-    After(u64),
-    /// The same, but where the first that fails is a write, so many blocks of its run have been written.
-    Inside(u64, u32),
-}
-
-/// A call of a unit. Sessions go by the order in which they were attached: 0, 1, 2, ..
-#[derive(Clone, Copy)]
-pub enum Call {
-    /// Attaches the port of this ISID through a group.
-    Attach(u64, Group),
-    Detach(usize),
-    Reset(usize),
-    /// Moves the unit as a list says.
-    Move(Runs),
-    /// Flushes the unit.
-    Flush,
-    /// Not a call: the power is lost, and the unit opens again.
-    Restart,
-    /// The next command of a session with its data, by the session's own group.
-    Send(usize, &'static str, Runs),
-    /// The same, and where the unit belongs to the other group, once more by that one.
-    Forward(usize, &'static str, Runs),
-    /// A command of the session of this id with this serial, by the first group.
-    Serial(SessionId, u64, &'static str, Runs),
-}
 
 /// What a call ended with.
 #[derive(Debug, Drop)]
@@ -49,6 +17,22 @@ pub enum Ended {
     Session(Result<(), Gone>),
     Move(Result<Change, MoveFault>),
     Flush(Result<(), DeviceFailed>),
+}
+
+/// The unit that a script has: its number among two of the array 1, how many blocks of zeros it has, how its device fails, how
+/// often the blocks are opened for another controller before an open fails, and how many calls the registration file's
+/// device makes before one fails.
+#[derive(Clone, Copy)]
+pub struct Setup<'a> {
+    pub script: &'a str,
+    pub place: Place,
+    pub blocks: u32,
+    /// The calls behind which the device fails: each is the read or the write of a run, or a flush.
+    pub calls: u64,
+    /// Where the first call that fails is a write, so many blocks of its run have been written.
+    pub lands: u32,
+    pub opens: u64,
+    pub saves: u64,
 }
 
 /// A session that was attached: its id, its group, and the serial of its next command.
@@ -67,98 +51,65 @@ pub const SAVE: u64 = 4;
 /// attached to it.
 #[derive(Drop)]
 pub struct Bench {
-    alloc: Global,
     unit: Unit<FusedBlocks<MemBlocks>, FusedBlocks<MemBlocks>, FusedOpener<KeepOpener>>,
     sessions: Vec<Attached>,
 }
 
 impl Bench {
-    /// A unit of so many blocks of zeros, which are opened for another controller so often before an open fails, and with a
-    /// registration file of nothing, whose device makes so many calls before one fails.
-    pub fn open(
-        alloc: Global,
-        place: Place,
-        blocks: u32,
-        fuse: Fuse,
-        opens: u64,
-        saves: u64,
-    ) -> Result<Bench, Fail> {
-        let registrations = MemBlocks::new(alloc, FILE_BLOCKS)?;
-        let fused = FusedBlocks::new(registrations, saves.saturating_add(SAVE));
-        let Ok(file) = RegFile::format(fused) else {
-            return Err(Fail::from("a registration file"));
-        };
-        if blocks == 0 {
-            return Err(Fail::from("a unit of one block at least"));
-        }
-        let memory = MemBlocks::new(alloc, blocks)?;
-        let device = match fuse {
-            Fuse::Never => FusedBlocks::new(memory, u64::MAX),
-            Fuse::After(calls) => FusedBlocks::new(memory, calls),
-            Fuse::Inside(calls, landed) => FusedBlocks::inside(memory, calls, landed),
-        };
-        Ok(Bench {
-            alloc,
-            unit: Unit::open(
-                alloc,
-                place,
-                device,
-                FusedOpener::new(KeepOpener, opens),
-                file,
-                Record::empty(alloc),
-            )?,
+    /// The unit of a script, with a registration file of nothing.
+    pub fn open(rt: &impl Abort, alloc: Global, setup: &Setup) -> Bench {
+        let registrations = MemBlocks::new(alloc, FILE_BLOCKS).expect(rt, "memory");
+        let fused = FusedBlocks::new(registrations, setup.saves.saturating_add(SAVE));
+        let file = RegFile::format(fused).expect(rt, "a registration file");
+        assert!(rt; setup.blocks > 0, "a unit of one block at least");
+        let memory = MemBlocks::new(alloc, setup.blocks).expect(rt, "memory");
+        let device = FusedBlocks::inside(memory, setup.calls, setup.lands);
+        let opener = FusedOpener::new(KeepOpener, setup.opens);
+        let none = Record::empty(alloc);
+        let unit = Unit::open(alloc, setup.place, device, opener, file, none).expect(rt, "memory");
+        Bench {
+            unit,
             sessions: Vec::new(alloc),
-        })
+        }
     }
 
-    /// Makes a call.
-    pub fn call(&mut self, call: Call) -> Result<Ended, Fail> {
-        match call {
-            Call::Attach(isid, group) => Ok(Ended::Attach(self.attach(isid, group)?)),
-            Call::Detach(session) => {
-                let id = self.session(session)?.id;
-                Ok(Ended::Session(self.unit.detach(id)))
+    /// Makes the call of a row.
+    pub fn call(&mut self, rt: &impl Abort, alloc: Global, row: &Row) -> Ended {
+        let (word, rest) = row.call();
+        match word {
+            "attach" => Ended::Attach(self.attach(rt, alloc, row, rest)),
+            "detach" => {
+                let id = self.session(rt, row, rest).id;
+                Ended::Session(self.unit.detach(id))
             }
-            Call::Reset(session) => {
-                let id = self.session(session)?.id;
-                Ok(Ended::Session(self.unit.reset(id)))
+            "reset" => {
+                let id = self.session(rt, row, rest).id;
+                Ended::Session(self.unit.reset(id))
             }
-            Call::Move(runs) => Ok(Ended::Move(self.unit.move_to(&spelled(self.alloc, runs)?))),
-            Call::Restart => Err(Fail::from("a call of the unit")),
-            Call::Flush => Ok(Ended::Flush(self.unit.flush())),
-            Call::Send(session, cdb, runs) => Ok(Ended::Step(self.send(
-                session, cdb, runs, false,
-            )?)),
-            Call::Forward(session, cdb, runs) => Ok(Ended::Step(self.send(
-                session, cdb, runs, true,
-            )?)),
-            Call::Serial(id, serial, cdb, runs) => {
-                let end = self.submit(id, serial, Group::One, cdb, runs)?;
-                Ok(Ended::Step(end))
-            }
+            "move" => Ended::Move(self.unit.move_to(&row.data(rt, alloc))),
+            "flush" => Ended::Flush(self.unit.flush()),
+            "send" => Ended::Step(self.send(rt, alloc, row, rest, false)),
+            "forward" => Ended::Step(self.send(rt, alloc, row, rest, true)),
+            "serial" => Ended::Step(self.serial(rt, alloc, row, rest)),
+            _ => panic!(rt; "{}: no call", row.text),
         }
     }
 
     /// The unit as it opens after a power loss: with the blocks and the registration file that were left. No call fails.
-    pub fn restart(self, place: Place) -> Result<Bench, Fail> {
-        let Bench { alloc, unit, .. } = self;
+    pub fn restart(self, rt: &impl Abort, alloc: Global, setup: &Setup) -> Bench {
+        let Bench { unit, .. } = self;
         let (device, registrations, _opener) = unit.close();
+        let device = FusedBlocks::new(device.into_inner(), u64::MAX);
         let fused = FusedBlocks::new(registrations.into_inner(), u64::MAX);
-        let Ok((file, lasted)) = RegFile::open(alloc, fused) else {
-            return Err(Fail::from("a record that lasted"));
-        };
-        Ok(Bench {
-            alloc,
-            unit: Unit::open(
-                alloc,
-                place,
-                FusedBlocks::new(device.into_inner(), u64::MAX),
-                FusedOpener::new(KeepOpener, u64::MAX),
-                file,
-                lasted,
-            )?,
+        let opener = FusedOpener::new(KeepOpener, u64::MAX);
+        let (file, lasted) = RegFile::open(alloc, fused).expect(rt, "a record that lasted");
+        let unit = Unit::open(alloc, setup.place, device, opener, file, lasted).expect(
+            rt, "memory",
+        );
+        Bench {
+            unit,
             sessions: Vec::new(alloc),
-        })
+        }
     }
 
     /// Hands the memory back.
@@ -168,51 +119,76 @@ impl Bench {
         device.into_inner()
     }
 
-    fn session(&self, at: usize) -> Result<Attached, Fail> {
-        let session = self.sessions.get(at).ok_or("a session that was attached")?;
-        Ok(*session)
+    // The session of this place: 0 is the first that was attached.
+    fn session(&self, rt: &impl Abort, row: &Row, place: &str) -> Attached {
+        let place = row.number(rt, place) as usize;
+        *self.sessions.get(place).expect(rt, row.text)
     }
 
-    fn attach(&mut self, isid: u64, group: Group) -> Result<Result<SessionId, AttachFault>, Fail> {
-        let name = b"iqn.2026-01.example:host".to_vec(self.alloc)?;
-        if isid >= 0x1_0000_0000_0000 {
-            return Err(Fail::from("an ISID of six bytes"));
-        }
+    // Attaches the port of an ISID, `attach 1 2` by the second group.
+    fn attach(
+        &mut self,
+        rt: &impl Abort,
+        alloc: Global,
+        row: &Row,
+        words: &str,
+    ) -> Result<SessionId, AttachFault> {
+        let (isid, group) = words.split_once(' ').expect(rt, row.text);
+        let isid = row.number(rt, isid);
+        assert!(rt; isid < 0x1_0000_0000_0000, "an ISID of six bytes");
+        let group = if group == "1" { Group::One } else { Group::Two };
+        let name = b"iqn.2026-01.example:host"
+            .to_vec(alloc)
+            .expect(rt, "memory");
         let end = self.unit.attach(PortName::new(name, isid), group);
         if let Ok(id) = end {
-            self.sessions.push(Attached { id, group, next: 1 })?;
+            let session = Attached { id, group, next: 1 };
+            self.sessions.push(session).expect(rt, "memory");
         }
-        Ok(end)
+        end
     }
 
-    // A reply counts; what has none is no command of the session.
-    fn send(&mut self, at: usize, cdb: &str, runs: Runs, again: bool) -> Result<StepEnd, Fail> {
-        let Attached { id, group, next } = self.session(at)?;
-        let mut end = self.submit(id, next, group, cdb, runs)?;
-        if let StepEnd::Moved(owner) = end {
-            if again {
-                end = self.submit(id, next, owner, cdb, runs)?;
-            }
-        }
-        if let StepEnd::Reply(_) = end {
-            if let Some(session) = self.sessions.get_mut(at) {
-                session.next = next.wrapping_add(1);
-            }
-        }
-        Ok(end)
-    }
-
-    fn submit(
+    // The next command of a session, `send 0 25`, by the session's own group, and where the unit belongs to the other one and
+    // it is forwarded, once more by that. A reply counts; what has none is no command of the session.
+    fn send(
         &mut self,
-        id: SessionId,
-        serial: u64,
-        by: Group,
-        cdb: &str,
-        runs: Runs,
-    ) -> Result<StepEnd, RowError> {
-        let asked = decode(&cdb_of(self.alloc, cdb)?);
-        let bytes = spelled(self.alloc, runs)?;
-        Ok(self.unit.step(self.alloc, id, serial, by, asked, &bytes))
+        rt: &impl Abort,
+        alloc: Global,
+        row: &Row,
+        words: &str,
+        forwards: bool,
+    ) -> StepEnd {
+        let (place, cdb) = words.split_once(' ').expect(rt, row.text);
+        let Attached { id, group, next } = self.session(rt, row, place);
+        let cdb = cdb_of(rt, alloc, cdb);
+        let bytes = row.data(rt, alloc);
+        let end = match self.unit.step(alloc, id, next, group, decode(&cdb), &bytes) {
+            StepEnd::Moved(owner) if forwards => {
+                self.unit.step(alloc, id, next, owner, decode(&cdb), &bytes)
+            }
+            end => end,
+        };
+        if let StepEnd::Reply(_) = end {
+            self.pass(row.number(rt, place) as usize);
+        }
+        end
+    }
+
+    // A command of a session went by.
+    fn pass(&mut self, place: usize) {
+        if let Some(session) = self.sessions.get_mut(place) {
+            session.next = session.next.wrapping_add(1);
+        }
+    }
+
+    // A command of the session of an id with a serial, `serial 0 2 25`, by the first group.
+    fn serial(&mut self, rt: &impl Abort, alloc: Global, row: &Row, words: &str) -> StepEnd {
+        let (id, rest) = words.split_once(' ').expect(rt, row.text);
+        let (serial, cdb) = rest.split_once(' ').expect(rt, row.text);
+        let (id, serial) = (row.number(rt, id), row.number(rt, serial));
+        let asked = decode(&cdb_of(rt, alloc, cdb));
+        let bytes = row.data(rt, alloc);
+        self.unit.step(alloc, id, serial, Group::One, asked, &bytes)
     }
 }
 

@@ -1,13 +1,11 @@
-//! Tests of a logical unit over its public calls: each table has rows of what sessions ask, and of what is answered. Beside them
-//! stands a loss of power at each call of its devices.
+//! Tests of a logical unit over its public calls: each table is a text with rows of what sessions ask, and of what is answered. Beside
+//! them stand a loss of power at each call of its devices, and the registration file by itself.
 #![tactic(auto)]
 
 #[cfg(test)]
 mod access;
 #[cfg(test)]
 mod bench;
-#[cfg(test)]
-mod bytes;
 #[cfg(test)]
 mod failing;
 #[cfg(test)]
@@ -18,6 +16,10 @@ mod identities;
 mod lasting;
 #[cfg(test)]
 mod medium;
+#[cfg(test)]
+mod reg_file;
+#[cfg(test)]
+mod rows;
 #[cfg(test)]
 mod run;
 #[cfg(test)]

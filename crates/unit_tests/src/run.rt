@@ -1,185 +1,153 @@
-//! The runner of the tables.
-use crate::bench::{Bench, Call, Ended, Fuse, filled_by};
-use crate::bytes::{Runs, spelled};
+//! The runner of the scripts.
+use crate::bench::{Bench, Ended, Setup, filled_by};
+use crate::rows::{Row, is_row, setup_of, spelled, written_at};
+use access_states::{AsetFault, Change};
 use block_file::Blocks;
-use scsi_types::{Group, Place, Reply, Sense, Status};
+use scsi_types::{Group, Reply, Sense, Status};
 use std::alloc::Global;
 use std::process::Abort;
-use std::test::Fail;
-use test_streams::{RowError, bytes_of_digits};
-use unit_state::{AttachFault, MoveFault, SessionId, StepEnd};
-
-/// How a call is to end.
-#[derive(Clone, Copy)]
-pub enum End {
-    /// GOOD with this data.
-    Good(Runs),
-    /// CHECK CONDITION with this sense key, additional sense code and qualifier.
-    Check(u8, u8, u8),
-    /// CHECK CONDITION with these 18 bytes of sense.
-    Told(&'static str),
-    /// RESERVATION CONFLICT.
-    Conflict,
-    Moved(Group),
-    Gone,
-    Attached(SessionId),
-    TooMany,
-    /// The session was ended, its reset done, or the unit flushed.
-    Done,
-    /// The unit moved: whether the state of group 1 and of group 2 is another, and the new owner.
-    MovedTo([bool; 2], Option<Group>),
-    NotMoved(MoveFault),
-    NotFlushed,
-}
-
-/// What a row is called, a call, and how it is to end.
-pub type Row = (&'static str, Call, End);
-
-/// A table of rows, each "name": call => end.
-macro_rules! table {
-    ($($name:literal: $call:expr => $end:expr;)*) => {
-        &[$(($name, $call, $end)),*]
-    };
-}
-
-pub(crate) use table;
-
-/// A unit of so many blocks of zeros, the calls that are made, and then the blocks that are not zeros: each with the
-/// byte that fills it.
-#[derive(Clone, Copy)]
-pub struct Script<'a> {
-    pub name: &'a str,
-    pub place: Place,
-    pub blocks: u32,
-    pub fuse: Fuse,
-    /// How often the blocks are opened for another controller before an open fails.
-    pub opens: u64,
-    /// How many calls the registration file's device makes before one fails.
-    pub saves: u64,
-    pub tables: &'a [&'a [Row]],
-    pub after: &'a [(u32, u8)],
-}
-
-/// Opens that never fail.
-pub const ALWAYS: u64 = u64::MAX;
-
-/// The first of two units of the array 1: its first group owns it.
-pub const FIRST: Place = Place {
-    unit: 0,
-    units: 2,
-    array: 1,
-};
-
-/// The second: its second group owns it.
-pub const SECOND: Place = Place {
-    unit: 1,
-    units: 2,
-    array: 1,
-};
+use test_streams::lines_of;
+use unit_state::{AttachFault, MoveFault, StepEnd};
 
 /// A session through the first group that was told of the power on.
-pub const ONE_SESSION: &[Row] = table! {
-    "attach": Call::Attach(1, Group::One) => End::Attached(0);
-    "the power on": Call::Send(0, "00", &[]) => End::Check(0x06, 0x29, 0x00);
-};
+pub const ONE_SESSION: &str = "
+attach; attach 1 1;; ATTACHED 0
+the power on; send 0 00;; CHECK 06 29 00
+";
 
-/// No call of the registration file's device.
-pub const UNSAVED: u64 = 0;
+/// Rows that are played once for each of these numbers, the first and the one behind the last.
+pub type Part<'a> = (&'a str, u64, u64);
 
-/// Makes the calls of each table in turn, and looks at all blocks afterwards.
-pub fn run(rt: &impl Abort, alloc: Global, script: &Script) -> Result<(), Fail> {
-    let mut bench = Bench::open(
-        alloc,
-        script.place,
-        script.blocks,
-        script.fuse,
-        script.opens,
-        script.saves,
-    )?;
-    for table in script.tables {
-        for (name, call, end) in *table {
-            if let Call::Restart = call {
-                bench = bench.restart(script.place)?;
-                continue;
-            }
-            let ended = bench.call(*call)?;
-            assert!(rt;
-                is_met(alloc, &ended, *end)?,
-                "{}, {name}: {ended:?}",
-                script.name
-            );
+/// Plays each script of a table, behind these rows.
+pub fn run(rt: &impl Abort, alloc: Global, before: &str, table: &str) {
+    for script in table.split("\n\n") {
+        play(rt, alloc, script, &[(before, 0, 1), (script, 0, 1)]);
+    }
+}
+
+/// Plays these parts in turn over the unit of a script, and looks at all blocks afterwards.
+pub fn play(rt: &impl Abort, alloc: Global, script: &str, parts: &[Part]) {
+    let lines = lines_of(alloc, script).expect(rt, "memory");
+    let setup = setup_of(rt, &lines);
+    let mut bench = Bench::open(rt, alloc, &setup);
+    for (text, first, end) in parts {
+        let rows = lines_of(alloc, text).expect(rt, "memory");
+        for n in *first..*end {
+            bench = behind(rt, alloc, bench, &setup, &rows, n);
         }
     }
     let mut device = bench.close();
     for index in 0..device.count() {
-        let byte = filled_by(&mut device, index);
-        assert_eq!(rt;
-            byte,
-            Some(wanted(script.after, index)),
+        assert!(rt;
+            filled_by(&mut device, index) == Some(written_at(rt, &lines, index)),
             "{}, block {index}",
-            script.name
+            setup.script
         );
     }
-    Ok(())
 }
 
-fn wanted(after: &[(u32, u8)], index: u32) -> u8 {
-    for (place, byte) in after {
-        if *place == index {
-            return *byte;
+// Makes the calls of these rows.
+fn behind(
+    rt: &impl Abort,
+    alloc: Global,
+    bench: Bench,
+    setup: &Setup,
+    rows: &[&str],
+    n: u64,
+) -> Bench {
+    let mut bench = bench;
+    for text in rows {
+        let row = Row { text: *text, n };
+        if row.call().0 == "restart" {
+            bench = bench.restart(rt, alloc, setup);
+        } else if is_row(text) {
+            make(rt, alloc, &mut bench, setup, &row);
         }
     }
-    0
+    bench
 }
 
-fn is_met(alloc: Global, ended: &Ended, end: End) -> Result<bool, RowError> {
+// Makes the call of a row.
+fn make(rt: &impl Abort, alloc: Global, bench: &mut Bench, setup: &Setup, row: &Row) {
+    let ended = bench.call(rt, alloc, row);
+    assert!(rt;
+        is_met(rt, alloc, &ended, row),
+        "{}, {} ({}): {ended:?}",
+        setup.script,
+        row.text,
+        row.n
+    );
+}
+
+fn is_met(rt: &impl Abort, alloc: Global, ended: &Ended, row: &Row) -> bool {
+    let (word, rest) = row.end();
     match ended {
-        Ended::Step(StepEnd::Reply(reply)) => is_reply(alloc, reply, end),
-        Ended::Step(StepEnd::Moved(owner)) => Ok(
-            matches!(end, End::Moved(group) if group == *owner),
-        ),
-        Ended::Step(StepEnd::Gone) | Ended::Session(Err(_)) => Ok(matches!(end, End::Gone)),
-        Ended::Step(StepEnd::NoMemory) => Ok(false),
-        Ended::Attach(Ok(id)) => Ok(matches!(end, End::Attached(wanted) if wanted == *id)),
-        Ended::Attach(Err(AttachFault::TooManySessions)) => Ok(matches!(end, End::TooMany)),
-        Ended::Session(Ok(())) | Ended::Flush(Ok(())) => Ok(matches!(end, End::Done)),
-        Ended::Move(Ok(change)) => Ok(
-            matches!(end, End::MovedTo(changed, owner) if change.changed == changed && change.owner == owner),
-        ),
-        Ended::Move(Err(fault)) => Ok(matches!(end, End::NotMoved(wanted) if wanted == *fault)),
-        Ended::Flush(Err(_)) => Ok(matches!(end, End::NotFlushed)),
+        Ended::Step(StepEnd::Reply(reply)) => is_reply(rt, alloc, reply, word, rest),
+        Ended::Step(StepEnd::Moved(owner)) => word == "MOVED" && rest == number(*owner),
+        Ended::Step(StepEnd::Gone) | Ended::Session(Err(_)) => word == "GONE",
+        Ended::Step(StepEnd::NoMemory) => false,
+        Ended::Attach(Ok(id)) => word == "ATTACHED" && row.number(rt, rest) == *id,
+        Ended::Attach(Err(AttachFault::TooManySessions)) => word == "TOO-MANY",
+        Ended::Session(Ok(())) | Ended::Flush(Ok(())) => word == "DONE",
+        Ended::Move(Ok(change)) => is_change(*change, word, rest),
+        Ended::Move(Err(fault)) => fault_of(word) == Some(*fault),
+        Ended::Flush(Err(_)) => word == "FAILED",
     }
 }
 
-fn is_reply(alloc: Global, reply: &Reply, end: End) -> Result<bool, RowError> {
-    match end {
-        End::Good(runs) => {
-            let bytes = spelled(alloc, runs)?;
-            Ok(
-                reply.status() == Status::Good
-                    && reply.sense() == None
-                    && reply.bytes() == bytes.as_slice(),
-            )
-        }
-        End::Check(key, asc, ascq) => {
-            Ok(is_check(reply) && reply.sense() == Some(Sense::new(key, asc, ascq)))
-        }
-        End::Told(digits) => {
-            let bytes = bytes_of_digits(alloc, digits)?;
-            let Some(sense) = reply.sense() else {
-                return Ok(false);
-            };
-            Ok(is_check(reply) && sense.to_bytes().as_slice() == bytes.as_slice())
-        }
-        End::Conflict => Ok(
-            reply.status() == Status::ReservationConflict
-                && reply.sense() == None
-                && reply.bytes().is_empty(),
-        ),
-        _ => Ok(false),
+// The number of a group.
+fn number(group: Group) -> &'static str {
+    match group {
+        Group::One => "1",
+        Group::Two => "2",
     }
 }
 
-fn is_check(reply: &Reply) -> bool {
-    reply.status() == Status::CheckCondition && reply.bytes().is_empty()
+// Whether a move changed the states as these words say.
+fn is_change(change: Change, word: &str, owner: &str) -> bool {
+    match change.owner {
+        None => change.changed == [false, false] && word == "NEITHER-CHANGES",
+        Some(new) => {
+            change.changed == [true, true] && word == "BOTH-CHANGE" && owner == number(new)
+        }
+    }
+}
+
+// Why a unit does not move, by its word.
+fn fault_of(word: &str) -> Option<MoveFault> {
+    match word {
+        "BAD-LENGTH" => Some(MoveFault::List(AsetFault::Length)),
+        "BAD-LIST" => Some(MoveFault::List(AsetFault::BadList)),
+        "NOT-OPENED" => Some(MoveFault::OpenFailed),
+        _ => None,
+    }
+}
+
+// Whether a reply is as these words say.
+fn is_reply(rt: &impl Abort, alloc: Global, reply: &Reply, word: &str, bytes: &str) -> bool {
+    if !matches!(word, "GOOD" | "CONFLICT" | "CHECK") {
+        return false;
+    }
+    let bytes = spelled(rt, alloc, bytes);
+    match reply.status() {
+        Status::Good => {
+            word == "GOOD" && reply.sense() == None && reply.bytes() == bytes.as_slice()
+        }
+        Status::ReservationConflict => {
+            word == "CONFLICT" && reply.sense() == None && reply.bytes().is_empty()
+        }
+        Status::CheckCondition => {
+            word == "CHECK" && is_sense(reply.sense(), &bytes) && reply.bytes().is_empty()
+        }
+        _ => false,
+    }
+}
+
+// Whether a sense is of this key, code and qualifier, or of these 18 bytes.
+fn is_sense(sense: Option<Sense>, bytes: &[u8]) -> bool {
+    match (sense, bytes) {
+        (Some(sense), [key, asc, ascq]) => sense == Sense::new(*key, *asc, *ascq),
+        (Some(sense), bytes) => sense.to_bytes().as_slice() == bytes,
+        (None, _) => false,
+    }
 }

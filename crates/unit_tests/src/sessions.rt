@@ -1,143 +1,87 @@
 //! Sessions, their serials, and the group that owns a unit.
-use crate::bench::Call::{Attach, Detach, Forward, Send, Serial};
-use crate::bench::Fuse;
-use crate::run::End::{Attached, Check, Done, Good, Moved, TooMany};
-use crate::run::{ALWAYS, End, FIRST, ONE_SESSION, Row, SECOND, Script, UNSAVED, run, table};
-use scsi_types::Group::{One, Two};
+use crate::run::{play, run};
 use std::test::Fail;
 use unit_state::{AttachFault, Gone, laws};
 
-const TEST: &str = "00";
+const ROWS: &str = r#"
+# A session's id is the number of the unit's entries before it.
+serials
+the session attaches; attach 1 1;; ATTACHED 0
+its second command first; serial 0 2 00;; GONE
+no command; serial 0 0 00;; GONE
+its first; send 0 00;; CHECK 06 29 00
+its first again; serial 0 1 00;; GONE
+its second; send 0 2A 00 00000005 00 0001; 512*22; GOOD
+its second again; serial 0 2 2A 00 00000005 00 0001; 512*5A; GONE
+its third, refused; send 0 04;; CHECK 05 20 00
+its third again; serial 0 3 2A 00 00000005 00 0001; 512*5A; GONE
+its fifth; serial 0 5 2A 00 00000005 00 0001; 512*5A; GONE
+its fourth; send 0 28 00 00000005 00 0001;; GOOD 512*22
+a session that never was; serial 7 1 2A 00 00000005 00 0001; 512*5A; GONE
+the session's next id; serial 1 1 2A 00 00000005 00 0001; 512*5A; GONE
+written 5 22
 
-const READ: &str = "28 00 00000005 00 0001";
+unit 0
+a session through the second group; attach 1 2;; ATTACHED 0
+its command by that group; send 0 00;; MOVED 1
+by the first; forward 0 00;; CHECK 06 29 00
+a write by the second; send 0 2A 00 00000005 00 0001; 512*5A; MOVED 1
+an INQUIRY by the second; send 0 12 00 00 0024;; MOVED 1
+a write by the first; forward 0 2A 00 00000005 00 0001; 512*11; GOOD
+a session through the first; attach 1 1;; ATTACHED 3
+its command; send 1 00;; CHECK 06 29 00
+its read; send 1 28 00 00000005 00 0001;; GOOD 512*11
+written 5 11
 
-const WRITE: &str = "2A 00 00000005 00 0001";
+unit 1
+unit 1
+a session through the first group; attach 1 1;; ATTACHED 0
+its command by that group; send 0 00;; MOVED 2
+by the second; forward 0 00;; CHECK 06 29 00
+a write by the second; forward 0 2A 00 00000005 00 0001; 512*11; GOOD
+a session through the second; attach 1 2;; ATTACHED 3
+its command; send 1 00;; CHECK 06 29 00
+its read; send 1 28 00 00000005 00 0001;; GOOD 512*11
+written 5 11
 
-/// A session's id is the number of the unit's entries before it.
-const SERIALS: &[Row] = table! {
-    "the session attaches": Attach(1, One) => Attached(0);
-    "its second command first": Serial(0, 2, TEST, &[]) => End::Gone;
-    "no command": Serial(0, 0, TEST, &[]) => End::Gone;
-    "its first": Send(0, TEST, &[]) => Check(0x06, 0x29, 0x00);
-    "its first again": Serial(0, 1, TEST, &[]) => End::Gone;
-    "its second": Send(0, WRITE, &[(512, "22")]) => Good(&[]);
-    "its second again": Serial(0, 2, WRITE, &[(512, "5A")]) => End::Gone;
-    "its third, refused": Send(0, "04", &[]) => Check(0x05, 0x20, 0x00);
-    "its third again": Serial(0, 3, WRITE, &[(512, "5A")]) => End::Gone;
-    "its fifth": Serial(0, 5, WRITE, &[(512, "5A")]) => End::Gone;
-    "its fourth": Send(0, READ, &[]) => Good(&[(512, "22")]);
-    "a session that never was": Serial(7, 1, WRITE, &[(512, "5A")]) => End::Gone;
-    "the session's next id": Serial(1, 1, WRITE, &[(512, "5A")]) => End::Gone;
-};
+nexuses
+attach; attach 1 1;; ATTACHED 0
+the power on; send 0 00;; CHECK 06 29 00
+the same port through the second group; attach 1 2;; ATTACHED 2
+another port; attach 2 1;; ATTACHED 3
+the first session beside them; send 0 2A 00 00000005 00 0001; 512*11; GOOD
+the nexus of the first session; attach 1 1;; ATTACHED 5
+the session that it had; send 0 2A 00 00000005 00 0001; 512*5A; GONE
+its new session; send 3 00;; CHECK 06 29 00
+its read; send 3 28 00 00000005 00 0001;; GOOD 512*11
+the second group's session; forward 1 00;; CHECK 06 29 00
+the other port's session; send 2 00;; CHECK 06 29 00
+written 5 11
+"#;
 
-const OWNED_BY_ONE: &[Row] = table! {
-    "a session through the second group": Attach(1, Two) => Attached(0);
-    "its command by that group": Send(0, TEST, &[]) => Moved(One);
-    "by the first": Forward(0, TEST, &[]) => Check(0x06, 0x29, 0x00);
-    "a write by the second": Send(0, WRITE, &[(512, "5A")]) => Moved(One);
-    "an INQUIRY by the second": Send(0, "12 00 00 0024", &[]) => Moved(One);
-    "a write by the first": Forward(0, WRITE, &[(512, "11")]) => Good(&[]);
-    "a session through the first": Attach(1, One) => Attached(3);
-    "its command": Send(1, TEST, &[]) => Check(0x06, 0x29, 0x00);
-    "its read": Send(1, READ, &[]) => Good(&[(512, "11")]);
-};
-
-const OWNED_BY_TWO: &[Row] = table! {
-    "a session through the first group": Attach(1, One) => Attached(0);
-    "its command by that group": Send(0, TEST, &[]) => Moved(Two);
-    "by the second": Forward(0, TEST, &[]) => Check(0x06, 0x29, 0x00);
-    "a write by the second": Forward(0, WRITE, &[(512, "11")]) => Good(&[]);
-    "a session through the second": Attach(1, Two) => Attached(3);
-    "its command": Send(1, TEST, &[]) => Check(0x06, 0x29, 0x00);
-    "its read": Send(1, READ, &[]) => Good(&[(512, "11")]);
-};
-
-const NEXUSES: &[Row] = table! {
-    "the same port through the second group": Attach(1, Two) => Attached(2);
-    "another port": Attach(2, One) => Attached(3);
-    "the first session beside them": Send(0, WRITE, &[(512, "11")]) => Good(&[]);
-    "the nexus of the first session": Attach(1, One) => Attached(5);
-    "the session that it had": Send(0, WRITE, &[(512, "5A")]) => End::Gone;
-    "its new session": Send(3, TEST, &[]) => Check(0x06, 0x29, 0x00);
-    "its read": Send(3, READ, &[]) => Good(&[(512, "11")]);
-    "the second group's session": Forward(1, TEST, &[]) => Check(0x06, 0x29, 0x00);
-    "the other port's session": Send(2, TEST, &[]) => Check(0x06, 0x29, 0x00);
-};
+const ONE_OF_64: &str = r#"
+one of 64; attach N 1;; ATTACHED N
+"#;
 
 /// Behind 64 sessions of as many nexuses.
-const FULL: &[Row] = table! {
-    "a new nexus": Attach(64, One) => TooMany;
-    "a port that is there, through the other group": Attach(5, Two) => TooMany;
-    "a nexus that is there": Attach(5, One) => Attached(64);
-    "the session that it had": Send(5, TEST, &[]) => End::Gone;
-    "its new one": Send(64, TEST, &[]) => Check(0x06, 0x29, 0x00);
-    "another": Send(6, TEST, &[]) => Check(0x06, 0x29, 0x00);
-    "a new nexus again": Attach(64, One) => TooMany;
-    "one that ends": Detach(6) => Done;
-    "a new nexus in its place": Attach(64, One) => Attached(68);
-    "its command": Send(65, TEST, &[]) => Check(0x06, 0x29, 0x00);
-};
-
-// A unit of 16 blocks, of which block 5 is written.
-const SMALL: Script = Script {
-    name: "",
-    place: FIRST,
-    blocks: 16,
-    fuse: Fuse::Never,
-    opens: ALWAYS,
-    saves: UNSAVED,
-    tables: &[],
-    after: &[(5, 0x11)],
-};
+const FULL: &str = r#"
+a new nexus; attach 64 1;; TOO-MANY
+a port that is there, through the other group; attach 5 2;; TOO-MANY
+a nexus that is there; attach 5 1;; ATTACHED 64
+the session that it had; send 5 00;; GONE
+its new one; send 64 00;; CHECK 06 29 00
+another; send 6 00;; CHECK 06 29 00
+a new nexus again; attach 64 1;; TOO-MANY
+one that ends; detach 6;; DONE
+a new nexus in its place; attach 64 1;; ATTACHED 68
+its command; send 65 00;; CHECK 06 29 00
+"#;
 
 #[test]
-fn sessions_and_their_commands(rt: HostRuntime) -> Result<(), Fail> {
-    let scripts = [
-        Script {
-            name: "serials",
-            tables: &[SERIALS],
-            after: &[(5, 0x22)],
-            ..SMALL
-        },
-        Script {
-            name: "unit 0",
-            tables: &[OWNED_BY_ONE],
-            ..SMALL
-        },
-        Script {
-            name: "unit 1",
-            place: SECOND,
-            tables: &[OWNED_BY_TWO],
-            ..SMALL
-        },
-        Script {
-            name: "nexuses",
-            tables: &[ONE_SESSION, NEXUSES],
-            ..SMALL
-        },
-    ];
-    for script in scripts {
-        run(&rt, rt.alloc(), &script)?;
-    }
-    Ok(())
-}
-
-#[test]
-fn there_are_at_most_64_sessions(rt: HostRuntime) -> Result<(), Fail> {
-    let mut attached = Vec::new(rt.alloc());
-    for isid in 0..64 {
-        attached.push(("one of 64", Attach(isid, One), Attached(isid)))?;
-    }
-    run(
-        &rt,
-        rt.alloc(),
-        &Script {
-            name: "64 sessions",
-            tables: &[&attached, FULL],
-            after: &[],
-            ..SMALL
-        },
-    )
+fn sessions_and_their_commands(rt: HostRuntime) {
+    run(&rt, rt.alloc(), "", ROWS);
+    let parts = [(ONE_OF_64, 0, 64), (FULL, 0, 1)];
+    play(&rt, rt.alloc(), "64 sessions", &parts);
 }
 
 #[test]

@@ -1,8 +1,7 @@
 //! The calls that a script makes of a device, and the values that its blocks had since the last flush.
 use crash_blocks::Pick;
-use std::alloc::{AllocError, Global};
-use std::str::FromStr;
-use test_streams::{RowError, bytes_of_digits};
+use std::alloc::Global;
+use std::process::Abort;
 
 /// What a call does.
 #[derive(Clone, Copy)]
@@ -31,41 +30,26 @@ pub struct Reach {
 
 /// Appends the calls of a command that these words say: `read`, `flush`, `no-flush` for one that fails, and `1+2=11` for a write of
 /// two blocks from block 1 on, which then have the value 11h.
-pub fn put_calls(
-    alloc: Global,
-    calls: &mut Vec<Call>,
-    command: usize,
-    words: &str,
-) -> Result<(), RowError> {
+pub fn put_calls(rt: &impl Abort, calls: &mut Vec<Call>, command: usize, words: &str) {
     for word in words.split_ascii_whitespace() {
         let does = match word {
             "read" => Does::Reads,
             "flush" => Does::Flushes,
             "no-flush" => Does::Fails,
-            _ => write_of(alloc, word)?,
+            _ => write_of(rt, word),
         };
-        calls.extend_from_slice(&[Call { command, does }])?;
+        calls.push(Call { command, does }).expect(rt, "memory");
     }
-    Ok(())
 }
 
 // The write of this word.
-fn write_of(alloc: Global, word: &str) -> Result<Does, RowError> {
-    let (run, value) = word.split_once('=').ok_or(RowError::Word)?;
-    let (first, blocks) = run.split_once('+').ok_or(RowError::Word)?;
-    let value = bytes_of_digits(alloc, value)?;
-    Ok(Does::Writes {
-        first: number_of(first)?,
-        blocks: number_of(blocks)?,
-        value: *value.first().ok_or(RowError::Digits)?,
-    })
-}
-
-// The number of these decimal digits.
-fn number_of(text: &str) -> Result<u32, RowError> {
-    match text.parse() {
-        Ok(number) => Ok(number),
-        Err(_) => Err(RowError::Digits),
+fn write_of(rt: &impl Abort, word: &str) -> Does {
+    let (run, value) = word.split_once('=').expect(rt, word);
+    let (first, blocks) = run.split_once('+').expect(rt, word);
+    Does::Writes {
+        first: first.parse().expect(rt, word),
+        blocks: blocks.parse().expect(rt, word),
+        value: u8::from_str_radix(value, 16).expect(rt, word),
     }
 }
 
@@ -96,13 +80,14 @@ fn landed(reach: Reach, place: usize, blocks: u32) -> u32 {
 
 /// The values that a block had since the last flush that was done, the oldest first. At first it has the value 0.
 pub fn values_of(
+    rt: &impl Abort,
     alloc: Global,
     calls: &[Call],
     reach: Reach,
     block: u32,
-) -> Result<Vec<u8>, AllocError> {
+) -> Vec<u8> {
     let mut values = Vec::new(alloc);
-    values.push(0)?;
+    values.push(0).expect(rt, "memory");
     let mut place = 0usize;
     for call in calls {
         match call.does {
@@ -113,7 +98,7 @@ pub fn values_of(
             } => {
                 let landed = landed(reach, place, blocks);
                 if block >= first && block < first.saturating_add(landed) {
-                    values.push(value)?;
+                    values.push(value).expect(rt, "memory");
                 }
             }
             Does::Flushes if place < reach.calls => keep_last(&mut values),
@@ -121,7 +106,7 @@ pub fn values_of(
         }
         place = place.wrapping_add(1);
     }
-    Ok(values)
+    values
 }
 
 // Drops all but the last.

@@ -5,7 +5,7 @@ use aptpl_file::{FILE_BLOCKS, RegFile};
 use block_file::{FusedBlocks, FusedOpener, KeepOpener, MemBlocks};
 use crash_blocks::{CrashBlocks, Pick};
 use std::alloc::Global;
-use std::test::Fail;
+use std::process::Abort;
 use unit_state::Unit;
 
 /// How many blocks the unit has.
@@ -48,27 +48,34 @@ pub type File = FusedBlocks<FusedBlocks<CrashBlocks>>;
 /// The unit over them.
 pub type Tested = Unit<Disk, File, FusedOpener<KeepOpener>>;
 
-// Blocks of zeros.
-fn blocks(alloc: Global) -> Result<CrashBlocks, Fail> {
-    Ok(CrashBlocks::new(alloc, MemBlocks::new(alloc, BLOCKS)?)?)
+// A registration file of nothing.
+fn nothing(rt: &impl Abort, alloc: Global) -> MemBlocks {
+    let device = MemBlocks::new(alloc, FILE_BLOCKS).expect(rt, "memory");
+    RegFile::format(device)
+        .expect(rt, "a registration file")
+        .close()
 }
 
-// A registration file of nothing.
-fn nothing(alloc: Global) -> Result<MemBlocks, Fail> {
-    let device = MemBlocks::new(alloc, FILE_BLOCKS)?;
-    match RegFile::format(device) {
-        Ok(file) => Ok(file.close()),
-        Err(_) => Err("a registration file".into()),
-    }
+// A device that a crash takes back.
+fn crashing(rt: &impl Abort, alloc: Global, device: MemBlocks) -> CrashBlocks {
+    CrashBlocks::new(alloc, device).expect(rt, "memory")
 }
 
 /// A unit of blocks of zeros with a registration file of nothing, over devices that fail so.
-pub fn tested(alloc: Global, setup: Setup) -> Result<Tested, Fail> {
-    let disk = fused(blocks(alloc)?, 0, setup.blocks);
-    let file = CrashBlocks::new(alloc, nothing(alloc)?)?;
+pub fn tested(rt: &impl Abort, alloc: Global, setup: Setup) -> Tested {
+    let blocks = MemBlocks::new(alloc, BLOCKS).expect(rt, "memory");
+    let disk = crashing(rt, alloc, blocks);
+    let disk = fused(disk, 0, setup.blocks);
+    let file = crashing(rt, alloc, nothing(rt, alloc));
     let window = FusedBlocks::window(file, setup.alone.saturating_add(OPENING), 1);
     let file = fused(window, OPENING, setup.registrations);
-    opened(alloc, disk, file, FusedOpener::new(KeepOpener, setup.opens))
+    opened(
+        rt,
+        alloc,
+        disk,
+        file,
+        FusedOpener::new(KeepOpener, setup.opens),
+    )
 }
 
 // A device whose calls come so far behind some.

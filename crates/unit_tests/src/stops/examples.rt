@@ -1,12 +1,13 @@
 //! A save behind one that failed at its last flush, and a change of owner whose open fails.
+use crate::rows::cdb_of;
 use crate::stops::devices::{SOUND, Setup, tested};
 use crate::stops::power::{Play, played};
 use crate::stops::script::{Device, Script};
 use crate::stops::stops::lose_at_each;
-use crate::stops::units::{cdb_of, is_good, send};
+use crate::stops::units::{is_good, send};
 use scsi_types::Group;
 use std::alloc::Global;
-use std::test::Fail;
+use std::process::Abort;
 
 /// The last flush of the first save fails alone, so the next save writes the old root once more.
 const REGISTERS_TWICE: &str = "
@@ -15,14 +16,13 @@ A 1; 5F 00 00 0000 00000018; 15*00 22 4*00 01 3*00; GOOD;; 0+1=00 flush 34+33=05
 ";
 
 #[test]
-fn a_second_register_after_a_failed_flush(rt: HostRuntime) -> Result<(), Fail> {
+fn a_second_register_after_a_failed_flush(rt: HostRuntime) {
     let play = Play {
-        script: Script::read(rt.alloc(), REGISTERS_TWICE)?,
+        script: Script::read(&rt, rt.alloc(), REGISTERS_TWICE),
         setup: Setup { alone: 3, ..SOUND },
     };
-    let stops = lose_at_each(&rt, rt.alloc(), &play, Device::Registrations, 4)?;
+    let stops = lose_at_each(&rt, rt.alloc(), &play, Device::Registrations, 4);
     assert!(rt; stops == 41, "{stops}");
-    Ok(())
 }
 
 /// No open is done: the first group serves on.
@@ -33,28 +33,21 @@ A 1; 2A 00 00000002 00 0001; 512*22; GOOD; 2+1=22;
 ";
 
 /// Whether the first group then reads what was written.
-fn is_read(alloc: Global, play: &Play) -> Result<bool, Fail> {
-    let mut unit = tested(alloc, play.setup)?;
-    let ([mut session, _], _) = played(alloc, &mut unit, &play.script.commands)?;
-    let read = send(
-        &mut unit,
-        alloc,
-        &mut session,
-        Group::One,
-        cdb_of(alloc, "28 00 00000001 00 0001")?,
-        &[],
-    );
-    Ok(is_good(&read, &[0x11; 512]))
+fn is_read(rt: &impl Abort, alloc: Global, play: &Play) -> bool {
+    let mut unit = tested(rt, alloc, play.setup);
+    let ([mut session, _], _) = played(rt, alloc, &mut unit, &play.script.commands);
+    let cdb = cdb_of(rt, alloc, "28 00 00000001 00 0001");
+    let read = send(&mut unit, alloc, &mut session, Group::One, cdb, &[]);
+    is_good(&read, &[0x11; 512])
 }
 
 #[test]
-fn a_set_whose_open_fails(rt: HostRuntime) -> Result<(), Fail> {
+fn a_set_whose_open_fails(rt: HostRuntime) {
     let play = Play {
-        script: Script::read(rt.alloc(), SETS)?,
+        script: Script::read(&rt, rt.alloc(), SETS),
         setup: Setup { opens: 0, ..SOUND },
     };
-    assert!(rt; is_read(rt.alloc(), &play)?, "the first group reads");
-    let stops = lose_at_each(&rt, rt.alloc(), &play, Device::Blocks, 0)?;
+    assert!(rt; is_read(&rt, rt.alloc(), &play), "the first group reads");
+    let stops = lose_at_each(&rt, rt.alloc(), &play, Device::Blocks, 0);
     assert!(rt; stops == 5, "{stops}");
-    Ok(())
 }

@@ -2,7 +2,7 @@
 use block_file::{Blocks, DeviceFailed, MemBlocks};
 use crash_blocks::{CrashBlocks, Pick};
 use std::alloc::Global;
-use std::test::Fail;
+use std::process::Abort;
 
 /// Block 2 had A1h at the last flush, then B2h and C3h; block 3 had 0, then B2h; the others had 0 alone. The value of block i
 /// by a turn of n is that at (i + n) modulo the count of its values.
@@ -43,13 +43,11 @@ fn are_written<B: Blocks>(device: &mut B) -> bool {
 }
 
 /// The blocks that a crash leaves.
-fn left(alloc: Global, pick: Pick) -> Result<Option<[Option<u8>; 4]>, Fail> {
-    let mut device = CrashBlocks::new(alloc, MemBlocks::new(alloc, 4)?)?;
-    if !are_written(&mut device) {
-        return Ok(None);
-    }
-    let mut left = device.crash(pick);
-    Ok(Some(bytes_of(&mut left)))
+fn left(rt: &impl Abort, alloc: Global, pick: Pick) -> [Option<u8>; 4] {
+    let blocks = MemBlocks::new(alloc, 4).expect(rt, "memory");
+    let mut device = CrashBlocks::new(alloc, blocks).expect(rt, "memory");
+    assert!(rt; are_written(&mut device), "the writes");
+    bytes_of(&mut device.crash(pick))
 }
 
 fn bytes_of<B: Blocks>(device: &mut B) -> [Option<u8>; 4] {
@@ -62,13 +60,9 @@ fn bytes_of<B: Blocks>(device: &mut B) -> [Option<u8>; 4] {
 }
 
 #[test]
-fn what_a_crash_leaves(rt: HostRuntime) -> Result<(), Fail> {
+fn what_a_crash_leaves(rt: HostRuntime) {
     for (pick, [a, b, c, d]) in ROWS {
-        let left = left(rt.alloc(), pick)?;
-        assert!(rt;
-            left == Some([Some(a), Some(b), Some(c), Some(d)]),
-            "{pick:?}"
-        );
+        let left = left(&rt, rt.alloc(), pick);
+        assert!(rt; left == [Some(a), Some(b), Some(c), Some(d)], "{pick:?}");
     }
-    Ok(())
 }

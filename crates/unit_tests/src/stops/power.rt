@@ -1,4 +1,5 @@
 //! The power is lost: a script comes so far, a crash follows, and a restart.
+use crate::rows::spelled;
 use crate::stops::calls::{Reach, picked, values_of};
 use crate::stops::devices::{BLOCKS, Setup, Tested, crashed, tested};
 use crate::stops::restart::{Wanted, fault_of};
@@ -6,17 +7,11 @@ use crate::stops::script::{Command, Device, Script, play};
 use crate::stops::units::{Ended, Session, attached};
 use crash_blocks::Pick;
 use std::alloc::Global;
-use std::test::Fail;
-use test_streams::{Texts, bytes_of, lines_of};
+use std::process::Abort;
+use test_streams::lines_of;
 
 /// What a crash leaves: of each block the value that these pick.
 pub const PICKS: [Pick; 4] = [Pick::Oldest, Pick::Newest, Pick::Turn(0), Pick::Turn(1)];
-
-/// The TransportIDs of the sessions' ports, behind their first four bytes (SPC-4, 7.6.4.6).
-const TEXTS: Texts = &[
-    ("PORT_1", r"iqn.2026-01.example:host,i,0x000000000001\0\0\0"),
-    ("PORT_2", r"iqn.2026-01.example:host,i,0x000000000002\0\0\0"),
-];
 
 /// The records by their numbers, as READ FULL STATUS tells them behind a restart (SPC-4, 6.15.5): nothing; the first session with
 /// key 11h; the second with 22h beside; the first reserves with type 5; the second has preempted it; the first with 22h
@@ -61,13 +56,15 @@ pub struct Stop {
 
 /// Two sessions, and the commands of the script, up to the first that does not end as it says.
 pub fn played(
+    rt: &impl Abort,
     alloc: Global,
     unit: &mut Tested,
     commands: &[Command],
-) -> Result<([Session; 2], (usize, Option<Ended>)), Fail> {
-    let mut sessions = [attached(unit, alloc, 1)?, attached(unit, alloc, 2)?];
+) -> ([Session; 2], (usize, Option<Ended>)) {
+    let first = attached(rt, alloc, unit, 1);
+    let mut sessions = [first, attached(rt, alloc, unit, 2)];
     let end = play(unit, alloc, &mut sessions, commands);
-    Ok((sessions, end))
+    (sessions, end)
 }
 
 /// The devices where the power is lost there.
@@ -85,64 +82,69 @@ fn setup_of(setup: Setup, stop: Stop) -> Setup {
 }
 
 /// The number of the record that a restart is to find.
-fn record_wanted(alloc: Global, script: &Script, stop: Stop, pick: Pick) -> Result<u8, Fail> {
+fn record_wanted(rt: &impl Abort, alloc: Global, script: &Script, stop: Stop, pick: Pick) -> u8 {
     let reach = script.reach(Device::Registrations, stop.of, stop.reach);
-    let values = values_of(alloc, &script.registrations, reach, 0)?;
-    Ok(picked(&values, 0, pick).ok_or("a record")?)
+    let values = values_of(rt, alloc, &script.registrations, reach, 0);
+    picked(&values, 0, pick).expect(rt, "a record")
 }
 
 /// What READ FULL STATUS tells of the record of a number.
-fn full_status(alloc: Global, record: u8) -> Result<Vec<u8>, Fail> {
-    let records = lines_of(alloc, RECORDS)?;
-    let line: &str = records
-        .get(usize::from(record))
-        .copied()
-        .ok_or("a record of that number")?;
-    Ok(bytes_of(alloc, TEXTS, line)?)
+fn full_status(rt: &impl Abort, alloc: Global, record: u8) -> Vec<u8> {
+    let records = lines_of(alloc, RECORDS).expect(rt, "memory");
+    let line: &str = records.get(usize::from(record)).expect(rt, "a record");
+    spelled(rt, alloc, line)
 }
 
 /// What a restart is to find.
-fn wanted(alloc: Global, script: &Script, stop: Stop, pick: Pick) -> Result<Wanted, Fail> {
-    let record = record_wanted(alloc, script, stop, pick)?;
+fn wanted(rt: &impl Abort, alloc: Global, script: &Script, stop: Stop, pick: Pick) -> Wanted {
+    let record = record_wanted(rt, alloc, script, stop, pick);
     let capabilities = if record == 0 {
         NOTHING_LASTS
     } else {
         APTPL_IS_SET
     };
-    Ok(Wanted {
-        full_status: full_status(alloc, record)?,
-        capabilities: bytes_of(alloc, TEXTS, capabilities)?,
-        states: bytes_of(alloc, TEXTS, OPENING)?,
-        blocks: blocks_wanted(alloc, script, stop, pick)?,
-    })
+    Wanted {
+        full_status: full_status(rt, alloc, record),
+        capabilities: spelled(rt, alloc, capabilities),
+        states: spelled(rt, alloc, OPENING),
+        blocks: blocks_wanted(rt, alloc, script, stop, pick),
+    }
 }
 
 /// All blocks, of each the value that is picked.
-fn blocks_wanted(alloc: Global, script: &Script, stop: Stop, pick: Pick) -> Result<Vec<u8>, Fail> {
+fn blocks_wanted(
+    rt: &impl Abort,
+    alloc: Global,
+    script: &Script,
+    stop: Stop,
+    pick: Pick,
+) -> Vec<u8> {
     let reach = script.reach(Device::Blocks, stop.of, stop.reach);
     let mut bytes = Vec::new(alloc);
     for block in 0..BLOCKS {
-        let values = values_of(alloc, &script.blocks, reach, block)?;
-        let value = picked(&values, block, pick).ok_or("a value")?;
-        bytes.extend_from_slice(&[value; 512])?;
+        let values = values_of(rt, alloc, &script.blocks, reach, block);
+        let value = picked(&values, block, pick).expect(rt, "a value");
+        bytes.extend_from_slice(&[value; 512]).expect(rt, "memory");
     }
-    Ok(bytes)
+    bytes
 }
 
 /// What is not as it is to be where the power is lost there, a crash leaves what these pick, and the unit opens again.
 pub fn fault(
+    rt: &impl Abort,
     alloc: Global,
     play: &Play,
     stop: Stop,
     pick: Pick,
-) -> Result<Option<&'static str>, Fail> {
-    let mut unit = tested(alloc, setup_of(play.setup, stop))?;
-    let played = played(alloc, &mut unit, &play.script.commands);
-    let left = crashed(unit, pick);
-    let (sessions, end) = played?;
-    if end != play.script.played(stop.of, stop.reach) {
-        return Ok(Some("how far the script came"));
+) -> Option<&'static str> {
+    let mut unit = tested(rt, alloc, setup_of(play.setup, stop));
+    let (sessions, end) = played(rt, alloc, &mut unit, &play.script.commands);
+    let (blocks, registrations) = crashed(unit, pick);
+    let wanted = wanted(rt, alloc, &play.script, stop, pick);
+    let found = fault_of(rt, alloc, (blocks, registrations), &wanted, &sessions);
+    if end == play.script.played(stop.of, stop.reach) {
+        found
+    } else {
+        Some("how far the script came")
     }
-    let wanted = wanted(alloc, &play.script, stop, pick)?;
-    fault_of(alloc, left, &wanted, &sessions)
 }

@@ -1,10 +1,11 @@
 //! A restart, and what it is to find.
-use crate::stops::units::{Session, TEST_UNIT_READY, attached, cdb_of, is_good, opened, send};
+use crate::rows::cdb_of;
+use crate::stops::units::{Session, TEST_UNIT_READY, attached, is_good, opened, send};
 use access_states::AccessState;
 use block_file::{Blocks, KeepOpener, MemBlocks, Opener};
 use scsi_types::Group;
 use std::alloc::Global;
-use std::test::Fail;
+use std::process::Abort;
 use unit_state::{StepEnd, Unit};
 
 /// What a restart is to find: the data of PERSISTENT RESERVE IN, READ FULL STATUS and REPORT CAPABILITIES, of REPORT TARGET
@@ -19,16 +20,18 @@ pub struct Wanted {
 
 /// The first thing that a restart over these devices does not find as it is to; the sessions are those of before.
 pub fn fault_of(
+    rt: &impl Abort,
     alloc: Global,
     (blocks, registrations): (MemBlocks, MemBlocks),
     wanted: &Wanted,
     before: &[Session; 2],
-) -> Result<Option<&'static str>, Fail> {
-    let mut unit = opened(alloc, blocks, registrations, KeepOpener)?;
-    if !is_opening(&unit) || !are_gone(&mut unit, alloc, before) {
-        return Ok(Some("the opening state"));
+) -> Option<&'static str> {
+    let mut unit = opened(rt, alloc, blocks, registrations, KeepOpener);
+    if is_opening(&unit) && are_gone(&mut unit, alloc, before) {
+        found(rt, alloc, &mut unit, wanted)
+    } else {
+        Some("the opening state")
     }
-    found(&mut unit, alloc, wanted)
 }
 
 // Whether a unit is as it opens: no entry, generation 0, the first group owns it.
@@ -66,11 +69,12 @@ fn is_gone(end: &StepEnd) -> bool {
 
 // The first answer that is not as it is to be.
 fn found<B: Blocks, R: Blocks, O: Opener<B>>(
-    unit: &mut Unit<B, R, O>,
+    rt: &impl Abort,
     alloc: Global,
+    unit: &mut Unit<B, R, O>,
     wanted: &Wanted,
-) -> Result<Option<&'static str>, Fail> {
-    let mut session = attached(unit, alloc, 3)?;
+) -> Option<&'static str> {
+    let mut session = attached(rt, alloc, unit, 3);
     let questions: [(&'static str, &str, &[u8]); 4] = [
         (
             "the access states",
@@ -86,11 +90,11 @@ fn found<B: Blocks, R: Blocks, O: Opener<B>>(
         ("the blocks", "28 00 00000000 00 0007", &wanted.blocks),
     ];
     for (name, cdb, bytes) in questions {
-        let cdb = cdb_of(alloc, cdb)?;
+        let cdb = cdb_of(rt, alloc, cdb);
         let end = send(unit, alloc, &mut session, Group::One, cdb, &[]);
         if !is_good(&end, bytes) {
-            return Ok(Some(name));
+            return Some(name);
         }
     }
-    Ok(None)
+    None
 }

@@ -1,11 +1,12 @@
 //! The scripts, and what is known of them.
+use crate::rows::{cdb_of, part, spelled};
 use crate::stops::calls::{Call, Does, Reach, put_calls, reach_before};
-use crate::stops::units::{Ended, Session, cdb_of, how_ended, send};
+use crate::stops::units::{Ended, Session, how_ended, send};
 use block_file::{Blocks, Opener};
 use scsi_types::{Group, Sense};
 use std::alloc::Global;
-use std::test::Fail;
-use test_streams::{RowError, bytes_of, bytes_of_digits, lines_of};
+use std::process::Abort;
+use test_streams::lines_of;
 use unit_state::Unit;
 
 /// The two devices of a unit.
@@ -39,20 +40,25 @@ pub struct Script {
 
 impl Script {
     /// The script of this text.
-    pub fn read(alloc: Global, text: &str) -> Result<Script, Fail> {
-        let mut commands = Vec::new(alloc);
-        let mut blocks = Vec::new(alloc);
-        let mut registrations = Vec::new(alloc);
-        for line in lines_of(alloc, text)? {
-            put_calls(alloc, &mut blocks, commands.len(), part(line, 4))?;
-            put_calls(alloc, &mut registrations, commands.len(), part(line, 5))?;
-            commands.push(command_of(alloc, line)?)?;
+    pub fn read(rt: &impl Abort, alloc: Global, text: &str) -> Script {
+        let mut script = Script {
+            commands: Vec::new(alloc),
+            blocks: Vec::new(alloc),
+            registrations: Vec::new(alloc),
+        };
+        for line in &lines_of(alloc, text).expect(rt, "memory") {
+            script.add(rt, alloc, line);
         }
-        Ok(Script {
-            commands,
-            blocks,
-            registrations,
-        })
+        script
+    }
+
+    // Adds the command of a line.
+    fn add(&mut self, rt: &impl Abort, alloc: Global, line: &str) {
+        let at = self.commands.len();
+        put_calls(rt, &mut self.blocks, at, part(line, 4));
+        put_calls(rt, &mut self.registrations, at, part(line, 5));
+        let command = command_of(rt, alloc, line);
+        self.commands.push(command).expect(rt, "memory");
     }
 
     /// The calls of a device.
@@ -99,42 +105,37 @@ fn sense_of(of: Device, does: Does) -> Sense {
     }
 }
 
-// A part of a line, counted from 0.
-fn part(line: &str, at: usize) -> &str {
-    line.split(';').nth(at).unwrap_or("")
-}
-
 // The session of a line and its group: `A` is the first, `B` the second.
-fn sender_of(words: &str) -> Result<(usize, Group), RowError> {
+fn sender_of(rt: &impl Abort, words: &str) -> (usize, Group) {
     match words.trim() {
-        "A 1" => Ok((0, Group::One)),
-        "B 1" => Ok((1, Group::One)),
-        "B 2" => Ok((1, Group::Two)),
-        _ => Err(RowError::Word),
+        "A 1" => (0, Group::One),
+        "B 1" => (1, Group::One),
+        "B 2" => (1, Group::Two),
+        _ => panic!(rt; "{words}"),
     }
 }
 
 // The end of a command that these words say.
-fn end_of(alloc: Global, words: &str) -> Result<Ended, RowError> {
+fn end_of(rt: &impl Abort, alloc: Global, words: &str) -> Ended {
     if words.trim() == "GOOD" {
-        return Ok(Ended::Good);
+        return Ended::Good;
     }
-    match bytes_of_digits(alloc, words)?.as_slice() {
-        [key, asc, ascq] => Ok(Ended::Check(Sense::new(*key, *asc, *ascq))),
-        _ => Err(RowError::Digits),
+    match spelled(rt, alloc, words).as_slice() {
+        [key, asc, ascq] => Ended::Check(Sense::new(*key, *asc, *ascq)),
+        _ => panic!(rt; "{words}"),
     }
 }
 
 // The command of a line.
-fn command_of(alloc: Global, line: &str) -> Result<Command, RowError> {
-    let (session, by) = sender_of(part(line, 0))?;
-    Ok(Command {
+fn command_of(rt: &impl Abort, alloc: Global, line: &str) -> Command {
+    let (session, by) = sender_of(rt, part(line, 0));
+    Command {
         session,
         by,
-        cdb: cdb_of(alloc, part(line, 1))?,
-        data: bytes_of(alloc, &[], part(line, 2))?,
-        end: end_of(alloc, part(line, 3))?,
-    })
+        cdb: cdb_of(rt, alloc, part(line, 1)),
+        data: spelled(rt, alloc, part(line, 2)),
+        end: end_of(rt, alloc, part(line, 3)),
+    }
 }
 
 /// Sends these commands, up to the first that does not end as it is to: how many did, and how that one ended.

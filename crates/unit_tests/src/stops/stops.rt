@@ -5,7 +5,6 @@ use crate::stops::power::{PICKS, Play, Stop, fault};
 use crate::stops::script::{Device, Script};
 use std::alloc::Global;
 use std::process::Abort;
-use std::test::Fail;
 
 /// WRITE, WRITE with FUA, COMPARE AND WRITE, REGISTER with APTPL by two sessions, RESERVE by the first, PREEMPT by the second, SET
 /// TARGET PORT GROUPS with a change of owner, and writes through the new owner.
@@ -25,42 +24,35 @@ B 2; 89 08 0000000000000004 000000 02; 512*55 512*66 1024*77; GOOD; read 4+2=77 
 ";
 
 /// The script over devices that are sound until the power is lost.
-fn script(alloc: Global) -> Result<Play, Fail> {
-    Ok(Play {
-        script: Script::read(alloc, SCRIPT)?,
+fn script(rt: &impl Abort, alloc: Global) -> Play {
+    Play {
+        script: Script::read(rt, alloc, SCRIPT),
         setup: SOUND,
-    })
+    }
 }
 
 /// Loses the power there, with each crash.
-fn lose(rt: &impl Abort, alloc: Global, play: &Play, stop: Stop) -> Result<(), Fail> {
+fn lose(rt: &impl Abort, alloc: Global, play: &Play, stop: Stop) {
     for pick in PICKS {
-        if let Some(fault) = fault(alloc, play, stop, pick)? {
+        if let Some(fault) = fault(rt, alloc, play, stop, pick) {
             panic!(rt; "{fault}: {stop:?}, {pick:?}");
         }
     }
-    Ok(())
 }
 
 /// Loses the power at each call of a device from this one on, inside a run behind each number of its blocks, and once
 /// where no call fails. Gives the number of stops.
-pub fn lose_at_each(
-    rt: &impl Abort,
-    alloc: Global,
-    play: &Play,
-    of: Device,
-    from: usize,
-) -> Result<u64, Fail> {
+pub fn lose_at_each(rt: &impl Abort, alloc: Global, play: &Play, of: Device, from: usize) -> u64 {
     let mut stops = 0u64;
     let all = play.script.calls(of).len();
     for calls in from..all {
         for landed in 0..=run_at(play, at(of, calls, 0)) {
-            lose(rt, alloc, play, at(of, calls, landed))?;
+            lose(rt, alloc, play, at(of, calls, landed));
             stops = stops.wrapping_add(1);
         }
     }
-    lose(rt, alloc, play, at(of, all, 0))?;
-    Ok(stops)
+    lose(rt, alloc, play, at(of, all, 0));
+    stops
 }
 
 // A stop of a device.
@@ -82,23 +74,12 @@ fn run_at(play: &Play, stop: Stop) -> u32 {
     }
 }
 
-#[test]
-fn at_each_call_of_the_blocks(rt: HostRuntime) -> Result<(), Fail> {
-    let stops = lose_at_each(&rt, rt.alloc(), &script(rt.alloc())?, Device::Blocks, 0)?;
-    assert!(rt; stops == 25, "{stops}");
-    Ok(())
-}
-
 // Each of the four saves: 34 in the run of a slot, 2 in the root, and 2 at a flush.
 #[test]
-fn at_each_call_of_the_registration_file(rt: HostRuntime) -> Result<(), Fail> {
-    let stops = lose_at_each(
-        &rt,
-        rt.alloc(),
-        &script(rt.alloc())?,
-        Device::Registrations,
-        0,
-    )?;
-    assert!(rt; stops == 152, "{stops}");
-    Ok(())
+fn at_each_call_of_both_devices(rt: HostRuntime) {
+    let play = script(&rt, rt.alloc());
+    for (of, count) in [(Device::Blocks, 25), (Device::Registrations, 152)] {
+        let stops = lose_at_each(&rt, rt.alloc(), &play, of, 0);
+        assert!(rt; stops == count, "{of:?}: {stops}");
+    }
 }

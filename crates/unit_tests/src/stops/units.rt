@@ -1,13 +1,9 @@
 //! The calls of a unit, each at one place.
-ghost use Rattle.reservations.specs.Nexus.{IsPortName};
-ghost use Rattle.std.specs.Prelude.{IfOk};
-
 use aptpl_file::RegFile;
 use block_file::{Blocks, Opener};
 use scsi_types::{Group, Place, PortName, Reply, Sense, Status, decode};
-use std::alloc::{AllocError, Global};
-use std::test::Fail;
-use test_streams::{RowError, bytes_of_digits};
+use std::alloc::Global;
+use std::process::Abort;
 use unit_state::{SessionId, StepEnd, Unit};
 
 /// The first of two units of the array 1: its first group owns it.
@@ -36,44 +32,36 @@ pub enum Ended {
 
 /// A unit over these blocks, and with what its registration file holds: as after a power loss.
 pub fn opened<B: Blocks, R: Blocks, O: Opener<B>>(
+    rt: &impl Abort,
     alloc: Global,
     blocks: B,
     registrations: R,
     opener: O,
-) -> Result<Unit<B, R, O>, Fail> {
-    if blocks.count() == 0 {
-        return Err("a unit of one block at least".into());
-    }
-    let Ok((file, lasted)) = RegFile::open(alloc, registrations) else {
-        return Err("a record that lasted".into());
-    };
-    Ok(Unit::open(alloc, FIRST, blocks, opener, file, lasted)?)
-}
-
-// The host's port of this ISID.
-fn port(alloc: Global, isid: u8) -> Result<PortName, AllocError>
-    ensures { IfOk result (λ port. IsPortName port) }
-{
-    let name = b"iqn.2026-01.example:host".to_vec(alloc)?;
-    Ok(PortName::new(name, u64::from(isid)))
+) -> Unit<B, R, O> {
+    assert!(rt; blocks.count() > 0, "a unit of one block at least");
+    let (file, lasted) = RegFile::open(alloc, registrations).expect(rt, "a record that lasted");
+    Unit::open(alloc, FIRST, blocks, opener, file, lasted).expect(rt, "memory")
 }
 
 /// A session of the host's port of this ISID, attached through the first group and told of the power on.
 pub fn attached<B: Blocks, R: Blocks, O: Opener<B>>(
-    unit: &mut Unit<B, R, O>,
+    rt: &impl Abort,
     alloc: Global,
+    unit: &mut Unit<B, R, O>,
     isid: u8,
-) -> Result<Session, Fail> {
-    let port = port(alloc, isid)?;
-    let Ok(id) = unit.attach(port, Group::One) else {
-        return Err("a session".into());
-    };
+) -> Session {
+    let name = b"iqn.2026-01.example:host"
+        .to_vec(alloc)
+        .expect(rt, "memory");
+    let port = PortName::new(name, u64::from(isid));
+    let id = unit.attach(port, Group::One).expect(rt, "a session");
     let mut session = Session { id, next: 1 };
     let power_on = send(unit, alloc, &mut session, Group::One, TEST_UNIT_READY, &[]);
-    if how_ended(&power_on) != Ended::Check(Sense::POWER_ON) {
-        return Err("a session that is told of the power on".into());
-    }
-    Ok(session)
+    assert!(rt;
+        how_ended(&power_on) == Ended::Check(Sense::POWER_ON),
+        "the power on"
+    );
+    session
 }
 
 /// Serves the next command of a session, through a group.
@@ -92,16 +80,6 @@ pub fn send<B: Blocks, R: Blocks, O: Opener<B>>(
 
 /// The CDB of TEST UNIT READY.
 pub const TEST_UNIT_READY: [u8; 16] = [0; 16];
-
-/// The CDB of these digits, with zeros behind.
-pub fn cdb_of(alloc: Global, digits: &str) -> Result<[u8; 16], RowError> {
-    let bytes = bytes_of_digits(alloc, digits)?;
-    let mut cdb = [0; 16];
-    for (place, byte) in cdb.iter_mut().zip(bytes.iter()) {
-        *place = *byte;
-    }
-    Ok(cdb)
-}
 
 /// How a command ended.
 pub fn how_ended(end: &StepEnd) -> Ended {

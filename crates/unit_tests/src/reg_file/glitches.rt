@@ -3,12 +3,11 @@ ghost use Rattle.std.specs.Prelude.{◌+◌, [], false, min};
 ghost use Rattle.std.proofs.Common.{arith};
 ghost use Rattle.block_file.specs.Failures.{last_count};
 
-use crate::files::{OPEN_CALLS, formatted, record_of, told};
+use crate::reg_file::files::{OPEN_CALLS, fault_of, formatted, found, record_of, told};
 use aptpl_file::{RegFile, SaveFault};
 use block_file::{Blocks, DeviceFailed, MemBlocks};
-use scsi_types::NoMemory;
 use std::alloc::Global;
-use std::test::Fail;
+use std::process::Abort;
 
 /// A device that fails one call of read, write and flush, counted from 0; a write that fails is done. Of its contents it
 /// claims nothing.
@@ -131,47 +130,37 @@ const ROWS: &[Row] = &[
 ];
 
 /// Saves 11h over a device that fails this call of the save, and then 22h: where the first save failed, the calls that were
-/// made in all, and the blocks that are left. None: the second failed.
+/// made in all, and the blocks that are left.
 fn saved_twice(
+    rt: &impl Abort,
     alloc: Global,
     fails_at: u64,
-) -> Result<Option<(Option<SaveFault>, u64, MemBlocks)>, NoMemory> {
-    let (first, second) = (record_of(alloc, 0x11)?, record_of(alloc, 0x22)?);
-    let Some(file) = formatted(alloc)? else {
-        return Ok(None);
-    };
+) -> (Option<SaveFault>, u64, MemBlocks) {
     let glitch = Glitch {
-        inner: file.close(),
+        inner: formatted(rt, alloc).close(),
         calls: 0,
         fails_at: OPEN_CALLS + fails_at % 100,
         failed_reads: 0,
         failed_writes: 0,
     };
-    let Ok((mut file, _)) = RegFile::open(alloc, glitch) else {
-        return Ok(None);
-    };
-    let fault = file.save(&first.lasting()).err();
-    if file.save(&second.lasting()).is_err() {
-        return Ok(None);
-    }
+    let (mut file, _none) = RegFile::open(alloc, glitch).expect(rt, "a registration file");
+    let fault = fault_of(rt, alloc, &mut file, 0x11);
+    assert!(rt;
+        fault_of(rt, alloc, &mut file, 0x22) == None,
+        "{fails_at}: the second save"
+    );
     let left = file.close();
-    Ok(Some((fault, left.calls, left.inner)))
+    (fault, left.calls, left.inner)
 }
 
 #[test]
-fn an_undecided_root_is_written_again(rt: HostRuntime) -> Result<(), Fail> {
+fn an_undecided_root_is_written_again(rt: HostRuntime) {
     let alloc = rt.alloc();
-    let wanted = told(alloc, record_of(alloc, 0x22)?)?;
     for row in ROWS {
-        let Some((fault, calls, left)) = saved_twice(alloc, row.fails_at)? else {
-            panic!(rt; "{}", row.fails_at)
-        };
-        assert_eq!(rt; fault, row.fault, "{}", row.fails_at);
-        assert_eq!(rt; calls, OPEN_CALLS + row.calls, "{}", row.fails_at);
-        let Ok((_, record)) = RegFile::open(alloc, left) else {
-            panic!(rt; "{}", row.fails_at)
-        };
-        assert_eq!(rt; told(alloc, record)?, wanted, "{}", row.fails_at);
+        let (fault, calls, left) = saved_twice(&rt, alloc, row.fails_at);
+        let is = fault == row.fault && calls == OPEN_CALLS + row.calls;
+        assert!(rt; is, "{}: {fault:?}, {calls}", row.fails_at);
+        let wanted = told(&rt, alloc, record_of(&rt, alloc, 0x22));
+        assert!(rt; found(&rt, alloc, left) == wanted, "{}", row.fails_at);
     }
-    Ok(())
 }

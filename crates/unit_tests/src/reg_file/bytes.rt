@@ -1,8 +1,9 @@
 //! The bytes of a file, as they stand in the format.
-use crate::files::{Asked, Sent, block_of, formatted, registry_after};
+use crate::reg_file::files::{Asked, Sent, block_of, formatted, record_after};
 use block_file::{Blocks, MemBlocks};
 use scsi_types::Group;
-use std::test::Fail;
+use std::alloc::Global;
+use std::process::Abort;
 
 /// Requests of `iqn.2000-01.test:` and a letter, ISID 400001370000h, each of which is saved, and how blocks of the file
 /// begin then. The rest of a block is zeros, and so is each block that is not named.
@@ -186,20 +187,24 @@ fn other_block(device: &mut MemBlocks, row: &Row) -> Option<u32> {
     None
 }
 
-#[test]
-fn rows(rt: HostRuntime) -> Result<(), Fail> {
-    let alloc = rt.alloc();
-    for row in ROWS {
-        let Some(mut file) = formatted(alloc)? else {
-            panic!(rt; "{}", row.name)
-        };
-        for saved in 1..row.requests.len() + 1 {
-            let record = registry_after(alloc, &row.requests[..saved])?.record()?;
-            assert!(rt; file.save(&record.lasting()).is_ok(), "{}", row.name);
-        }
-        let mut device = file.close();
-        assert_eq!(rt; device.count(), 67);
-        assert_eq!(rt; other_block(&mut device, row), None, "{}", row.name);
+/// The blocks after a save behind each request.
+fn saved(rt: &impl Abort, alloc: Global, row: &Row) -> MemBlocks {
+    let mut file = formatted(rt, alloc);
+    for saved in 1..row.requests.len() + 1 {
+        let record = record_after(rt, alloc, &row.requests[..saved]);
+        assert!(rt; file.save(&record.lasting()).is_ok(), "{}", row.name);
     }
-    Ok(())
+    file.close()
+}
+
+#[test]
+fn rows(rt: HostRuntime) {
+    for row in ROWS {
+        let mut device = saved(&rt, rt.alloc(), row);
+        assert!(rt;
+            device.count() == 67 && other_block(&mut device, row) == None,
+            "{}",
+            row.name
+        );
+    }
 }

@@ -1,10 +1,10 @@
 //! Files that are refused, and why.
-use crate::files::{Asked, Sent, formatted, registry_after, set_block, set_byte};
+use crate::reg_file::files::{Asked, Sent, formatted, registry_after, set_block, set_byte};
 use aptpl_file::{OpenFault, RegFile};
 use block_file::MemBlocks;
-use scsi_types::{Group, NoMemory};
+use scsi_types::Group;
 use std::alloc::Global;
-use std::test::Fail;
+use std::process::Abort;
 
 /// Bytes put into a file, and why it is refused, if it is.
 struct Row {
@@ -250,35 +250,19 @@ const ROWS_OF_ONE: &[Row] = &[
 
 /// Why a file with the record of these requests is refused, once these bytes are put into it.
 fn fault_of(
+    rt: &impl Abort,
     alloc: Global,
     sent: &[Sent],
     puts: &[(u32, usize, u8)],
-) -> Result<Option<OpenFault>, NoMemory> {
-    let Some(mut file) = formatted(alloc)? else {
-        return Ok(None);
-    };
-    let registry = registry_after(alloc, sent)?;
+) -> Option<OpenFault> {
+    let mut file = formatted(rt, alloc);
+    let registry = registry_after(rt, alloc, sent);
     let _ = file.save(&registry.lasting());
     let mut device = file.close();
     for (index, at, value) in puts {
         set_byte(&mut device, *index, *at, *value);
     }
-    Ok(RegFile::open(alloc, device).err())
-}
-
-#[test]
-fn rows(rt: HostRuntime) -> Result<(), Fail> {
-    let alloc = rt.alloc();
-    for (sent, rows) in [
-        (TWO, ROWS_OF_TWO),
-        (ONE_PORT, ROWS_OF_ONE_PORT),
-        (ONE, ROWS_OF_ONE),
-    ] {
-        for row in rows {
-            assert_eq!(rt; fault_of(alloc, sent, row.puts)?, row.fault, "{}", row.name);
-        }
-    }
-    Ok(())
+    RegFile::open(alloc, device).err()
 }
 
 /// The blocks of a file of nothing that are not zeros. Block 0, the root, names the first slot:
@@ -287,21 +271,43 @@ const ROOT: &[u8] = b"ALUAREG1\x00\x02\x00";
 /// Block 1, that slot.
 const SLOT: &[u8] = b"ALUASLT1\x00\x00\x00\xFF";
 
-// Zeros hold no root, and of a file that holds one 66 blocks are too few.
-#[test]
-fn devices_of_zeros(rt: HostRuntime) -> Result<(), Fail> {
-    let alloc = rt.alloc();
-    for count in [0, 66, 67, 68] {
-        let device = MemBlocks::new(alloc, count)?;
-        let fault = RegFile::open(alloc, device).err();
-        assert_eq!(rt; fault, NOT, "{count}");
-    }
-    for (count, wanted) in [(66, NOT), (67, None), (68, None)] {
-        let mut device = MemBlocks::new(alloc, count)?;
+/// How many blocks a device has, whether it holds them, and why it is refused: zeros hold no root, and of a file that holds one 66
+/// blocks are too few.
+const DEVICES: [(u32, bool, Option<OpenFault>); 7] = [
+    (0, false, NOT),
+    (66, false, NOT),
+    (67, false, NOT),
+    (68, false, NOT),
+    (66, true, NOT),
+    (67, true, None),
+    (68, true, None),
+];
+
+/// A device of so many blocks of zeros, or with those of a file of nothing.
+fn device(rt: &impl Abort, alloc: Global, count: u32, holds: bool) -> MemBlocks {
+    let mut device = MemBlocks::new(alloc, count).expect(rt, "memory");
+    if holds {
         set_block(&mut device, 0, ROOT);
         set_block(&mut device, 1, SLOT);
-        let fault = RegFile::open(alloc, device).err();
-        assert_eq!(rt; fault, wanted, "{count}");
     }
-    Ok(())
+    device
+}
+
+#[test]
+fn what_is_refused(rt: HostRuntime) {
+    let alloc = rt.alloc();
+    for (sent, rows) in [
+        (TWO, ROWS_OF_TWO),
+        (ONE_PORT, ROWS_OF_ONE_PORT),
+        (ONE, ROWS_OF_ONE),
+    ] {
+        for row in rows {
+            let fault = fault_of(&rt, alloc, sent, row.puts);
+            assert!(rt; fault == row.fault, "{}: {fault:?}", row.name);
+        }
+    }
+    for (count, holds, wanted) in DEVICES {
+        let fault = RegFile::open(alloc, device(&rt, alloc, count, holds)).err();
+        assert!(rt; fault == wanted, "{count}, {holds}: {fault:?}");
+    }
 }

@@ -1,9 +1,10 @@
 //! Records, and devices with their blocks.
-use aptpl_file::{FILE_BLOCKS, RegFile};
+use aptpl_file::{FILE_BLOCKS, RegFile, SaveFault};
 use block_file::{Blocks, MemBlocks};
 use reservations::{PrOut, Record, Registry};
-use scsi_types::{Group, NoMemory, PortName, PrOutAction};
-use std::alloc::{AllocError, Global};
+use scsi_types::{Group, PortName, PrOutAction};
+use std::alloc::Global;
+use std::process::Abort;
 
 /// The calls of an open: the root, the slot, and a flush.
 pub const OPEN_CALLS: u64 = 3;
@@ -46,27 +47,51 @@ pub fn request(asked: Asked) -> PrOut {
 pub type Sent = (u8, Group, Asked);
 
 /// A registry after these requests of nexuses, `iqn.2000-01.test:` and a letter with ISID 400001370000h.
-pub fn registry_after(alloc: Global, requests: &[Sent]) -> Result<Registry, NoMemory> {
-    let mut registry = Registry::new(alloc)?;
+pub fn registry_after(rt: &impl Abort, alloc: Global, requests: &[Sent]) -> Registry {
+    let mut registry = Registry::new(alloc).expect(rt, "memory");
     for (letter, group, asked) in requests {
-        let mut name = Vec::from_slice(alloc, b"iqn.2000-01.test:")?;
-        name.push(*letter)?;
+        let mut name = Vec::from_slice(alloc, b"iqn.2000-01.test:").expect(rt, "memory");
+        name.push(*letter).expect(rt, "memory");
         let port = PortName::new(name, 0x4000_0137_0000);
         let _ = registry.out(&port, *group, request(*asked));
     }
-    Ok(registry)
+    registry
+}
+
+/// The record of a registry after these requests.
+pub fn record_after(rt: &impl Abort, alloc: Global, requests: &[Sent]) -> Record {
+    registry_after(rt, alloc, requests)
+        .record()
+        .expect(rt, "memory")
 }
 
 /// The record of one nexus with this key.
-pub fn record_of(alloc: Global, key: u64) -> Result<Record, NoMemory> {
-    registry_after(alloc, &[(b'a', Group::One, Asked::Register(key))])?.record()
+pub fn record_of(rt: &impl Abort, alloc: Global, key: u64) -> Record {
+    record_after(rt, alloc, &[(b'a', Group::One, Asked::Register(key))])
 }
 
 /// What a record says, as READ FULL STATUS of the registry that begins with it, and whether APTPL is set.
-pub fn told(alloc: Global, record: Record) -> Result<(bool, Vec<u8>), NoMemory> {
+pub fn told(rt: &impl Abort, alloc: Global, record: Record) -> (bool, Vec<u8>) {
     let aptpl = record.aptpl();
-    let registry = Registry::from_record(alloc, record)?;
-    Ok((aptpl, registry.full_status(65535)?))
+    let registry = Registry::from_record(alloc, record).expect(rt, "memory");
+    (aptpl, registry.full_status(65535).expect(rt, "memory"))
+}
+
+/// What the file of a device says, opened.
+pub fn found<B: Blocks>(rt: &impl Abort, alloc: Global, device: B) -> (bool, Vec<u8>) {
+    let (_file, record) = RegFile::open(alloc, device).expect(rt, "a registration file");
+    told(rt, alloc, record)
+}
+
+/// Whether a save of the record of one nexus with this key fails, and where.
+pub fn fault_of<B: Blocks>(
+    rt: &impl Abort,
+    alloc: Global,
+    file: &mut RegFile<B>,
+    key: u64,
+) -> Option<SaveFault> {
+    let record = record_of(rt, alloc, key);
+    file.save(&record.lasting()).err()
 }
 
 /// Writes the beginning of a block, and zeros behind it.
@@ -79,9 +104,9 @@ pub fn set_block<B: Blocks>(device: &mut B, index: u32, begin: &[u8]) {
 }
 
 /// A formatted file in memory.
-pub fn formatted(alloc: Global) -> Result<Option<RegFile<MemBlocks>>, AllocError> {
-    let device = MemBlocks::new(alloc, FILE_BLOCKS)?;
-    Ok(RegFile::format(device).ok())
+pub fn formatted(rt: &impl Abort, alloc: Global) -> RegFile<MemBlocks> {
+    let device = MemBlocks::new(alloc, FILE_BLOCKS).expect(rt, "memory");
+    RegFile::format(device).expect(rt, "a registration file")
 }
 
 /// The bytes of a block; zeros where it cannot be read.
