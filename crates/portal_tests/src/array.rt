@@ -2,6 +2,7 @@
 ghost use Rattle.std.specs.Prelude.{◌≡◌, ◌≤◌, length};
 ghost use Rattle.unit_history.specs.Naming.{IsNamed};
 
+use crate::at::At;
 use crate::behind::Behind;
 use crate::latch::Latch;
 use crate::no_room::NoRoom;
@@ -13,11 +14,11 @@ use numbering::Array as Naming;
 use portal::{Controllers, Server, SmallStacks, Stop, TargetDevice, listen, start_lanes};
 use scsi_types::Group;
 use std::alloc::Global;
+use std::io::Eprint;
 use std::marker::Brand;
 use std::net::{Ipv4Addr, Net, SocketAddr, SocketAddrV4, TcpListener, TcpStream};
 use std::process::Abort;
 use std::sync::{Arc, Wait};
-use std::test::Fail;
 use std::thread::{JoinHandle, Threads};
 use std::time::Clock;
 use test_hosts::Host;
@@ -25,8 +26,9 @@ use unit_history::{LegalHistory, NewUnit, Opened, Pass, Units};
 
 /// What the hosts of an array do, and where it listens: at this address, and at these ports of its two controllers. So many
 /// connections to each find no thread.
-#[derive(Clone, Copy, Debug)]
+#[derive(Clone, Copy)]
 pub struct Script<'a> {
+    pub name: &'a str,
     pub host: Ipv4Addr,
     pub ports: [u16; 2],
     pub refused: u32,
@@ -35,8 +37,9 @@ pub struct Script<'a> {
 
 impl<'a> Script<'a> {
     /// At two ports of the loopback that are free.
-    pub fn new(text: &'a str) -> Script<'a> {
+    pub fn new(name: &'a str, text: &'a str) -> Script<'a> {
         Script {
+            name,
             host: Ipv4Addr::new(127, 0, 0, 1),
             ports: [0, 0],
             refused: 0,
@@ -53,16 +56,16 @@ struct Served {
 }
 
 // A portal at this port, or at one that is free.
-fn bind<R: Net<Listener = TcpListener, Stream = TcpStream>>(
+fn bind<R: Abort + Net<Listener = TcpListener, Stream = TcpStream>>(
     rt: &R,
     host: Ipv4Addr,
     port: u16,
-) -> Result<(TcpListener, SocketAddrV4), Fail> {
-    let listener = TcpListener::bind(rt, (host, port))?;
-    let SocketAddr::V4(address) = listener.local_addr()? else {
-        return Err("an address".into());
-    };
-    Ok((listener, address))
+) -> (TcpListener, SocketAddrV4) {
+    let listener = TcpListener::bind(rt, (host, port)).expect(rt, "a portal");
+    match listener.local_addr().expect(rt, "an address") {
+        SocketAddr::V4(address) => (listener, address),
+        SocketAddr::V6(_) => panic!(*rt; "an address"),
+    }
 }
 
 // Serves a portal of a group, whose controller has its lanes.
@@ -71,7 +74,7 @@ fn serve<
     B: Blocks + Drop + Send + Sync + 'static,
     F: Blocks + Drop + Send + Sync + 'static,
     O: Opener<B> + Drop + Send + Sync + 'static,
-    R: Threads + Wait + Clock + Clone + Drop + Send + Sync + 'static,
+    R: Threads + Wait + Clock + Abort + Clone + Drop + Send + Sync + 'static,
 >(
     rt: &R,
     alloc: Global,
@@ -79,15 +82,15 @@ fn serve<
     server: &Arc<Server<Controllers<B, F, O, N>, Latch<R>>, Global>,
     group: Group,
     stacks: NoRoom,
-) -> Result<Served, Fail> {
+) -> Served {
     start_lanes::<N, B, F, O, Latch<R>, R, SmallStacks>(
         rt,
         alloc,
         server,
         group,
         &mut SmallStacks,
-    )?;
-    let stop = Stop::of(&listener)?;
+    ).expect(rt, "lanes");
+    let stop = Stop::of(&listener).expect(rt, "a stop");
     let worker = listen::<
         R,
         Controllers<B, F, O, N>,
@@ -95,15 +98,14 @@ fn serve<
         Pass<B, F, O, N>,
         LegalHistory<B, F, O, N>,
         NoRoom,
-    >(rt, alloc, listener, server, group, stacks)?;
-    Ok(Served { stop, worker })
+    >(rt, alloc, listener, server, group, stacks).expect(rt, "a worker");
+    Served { stop, worker }
 }
 
 // Ends the accept loop of a portal.
-fn end<R: Threads>(rt: &R, served: Served) -> Result<(), Fail> {
-    served.stop.stop()?;
+fn end<R: Threads + Abort>(rt: &R, served: Served) {
+    served.stop.stop().expect(rt, "a stop");
     served.worker.join(rt);
-    Ok(())
 }
 
 // Where the hosts find a portal.
@@ -122,6 +124,7 @@ pub fn perform<
         + Wait
         + Clock
         + Abort
+        + Eprint
         + Net<Listener = TcpListener, Stream = TcpStream>
         + Clone
         + Drop
@@ -134,41 +137,38 @@ pub fn perform<
     new: Vec<NewUnit<B, F, O>>,
     disk: &Latch<R>,
     script: &Script<'_>,
-) -> Result<([u16; 2], Vec<Host>), Fail>
+) -> ([u16; 2], Vec<Host>)
     requires named { IsNamed N.book N.table N.opening B.contents new.items }
     requires count { length new.items ≤ 8 }
 {
-    let (first, first_at) = bind(rt, script.host, script.ports[0])?;
-    let (second, second_at) = bind(rt, script.host, script.ports[1])?;
-    let units = Units::<B, F, O, N>::new(rt, alloc, new)?;
+    let (first, first_at) = bind(rt, script.host, script.ports[0]);
+    let (second, second_at) = bind(rt, script.host, script.ports[1]);
+    let units = Units::<B, F, O, N>::new(rt, alloc, new).expect(rt, "memory");
+    let controllers = Controllers::new(alloc, units).expect(rt, "memory");
+    let gate = Latch::open(rt.clone().expect(rt, "memory"));
     let server = Server {
-        device: TargetDevice::new(
-            alloc,
-            Controllers::new(alloc, units)?,
-            Latch::open(rt.clone()?),
-        ),
-        target_name: Vec::from_slice(alloc, b"iqn.2000-01.test:array")?,
-        first: Vec::from_slice(alloc, &[first_at])?,
-        second: Vec::from_slice(alloc, &[second_at])?,
+        device: TargetDevice::new(alloc, controllers, gate),
+        target_name: Vec::from_slice(alloc, b"iqn.2000-01.test:array").expect(rt, "memory"),
+        first: Vec::from_slice(alloc, &[first_at]).expect(rt, "memory"),
+        second: Vec::from_slice(alloc, &[second_at]).expect(rt, "memory"),
         log: Log::off(),
     };
-    let Ok(server) = Arc::new(alloc, server) else {
-        return Err("no memory".into());
-    };
+    let server = Arc::new(alloc, server).expect(rt, "memory");
     let stacks = NoRoom {
         refused: script.refused,
     };
-    let first = serve::<N, B, F, O, R>(rt, alloc, first, &server, Group::One, stacks)?;
-    let second = serve::<N, B, F, O, R>(rt, alloc, second, &server, Group::Two, stacks)?;
+    let first = serve::<N, B, F, O, R>(rt, alloc, first, &server, Group::One, stacks);
+    let second = serve::<N, B, F, O, R>(rt, alloc, second, &server, Group::Two, stacks);
     let portals = [found_at(first_at), found_at(second_at)];
     let controllers = &server.device.units;
     let behind = Behind { rt, controllers };
-    let mut stage = Stage::new(rt, alloc, &server.device.gate, disk, &behind, portals);
-    stage.perform(script.text)?;
-    end(rt, first)?;
-    end(rt, second)?;
+    let gate = &server.device.gate;
+    let mut stage = Stage::new(rt, alloc, gate, disk, &behind, portals, script.name);
+    stage.perform(script.text);
+    end(rt, first);
+    end(rt, second);
     controllers.close(rt);
-    Ok(([first_at.port(), second_at.port()], stage.into_hosts()))
+    ([first_at.port(), second_at.port()], stage.into_hosts())
 }
 
 /// Hosts perform a script before two units in memory.
@@ -177,36 +177,21 @@ pub fn run<
         + Wait
         + Clock
         + Abort
+        + Eprint
         + Net<Listener = TcpListener, Stream = TcpStream>
         + Clone
         + Drop
         + Send
         + Sync
         + 'static,
->(rt: &R, alloc: Global, script: &Script<'_>) -> Result<(), Fail> {
-    let Ok(disk) = Arc::new(alloc, Latch::open(rt.clone()?)) else {
-        return Err("no memory".into());
+>(rt: &R, alloc: Global, script: &Script<'_>) {
+    let latch = Latch::open(rt.clone().expect(rt, "memory"));
+    let disk = Arc::new(alloc, latch).expect(rt, "memory");
+    let at = At {
+        rt,
+        script: script.name,
+        line: "",
     };
-    let units = two(alloc, &disk)?;
-    let _ended = perform::<Brand, _, _, _, R>(rt, alloc, units, &disk, script)?;
-    Ok(())
-}
-
-/// Hosts perform each of these scripts before two units in memory.
-pub fn run_each<
-    R: Threads
-        + Wait
-        + Clock
-        + Abort
-        + Net<Listener = TcpListener, Stream = TcpStream>
-        + Clone
-        + Drop
-        + Send
-        + Sync
-        + 'static,
->(rt: &R, alloc: Global, scripts: &[&str]) -> Result<(), Fail> {
-    for script in scripts {
-        run(rt, alloc, &Script::new(script))?;
-    }
-    Ok(())
+    let units = at.must(two(alloc, &disk));
+    let _ended = perform::<Brand, _, _, _, R>(rt, alloc, units, &disk, script);
 }

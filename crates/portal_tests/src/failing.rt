@@ -1,5 +1,5 @@
 //! Devices and openers that fail, what is then seen through both controllers, and what an array finds that is started again.
-use crate::restart::{Story, run_twice};
+use crate::restart::{RESTART, Story, run_twice};
 use crate::units::{Faults, NO_FAULTS};
 use std::test::*;
 
@@ -87,9 +87,8 @@ B < GOOD 1:82 36:00000001 44:00000008 / GOOD 36:00000001
 };
 
 #[test]
-fn a_write_an_open_and_a_save_that_fail(rt: HostRuntime) -> Result<(), Fail> {
-    for story in [TORN, UNOPENED, UNSAVED] {
-        run_twice(&rt, rt.alloc(), rt.process(), &story)?;
+fn a_restart_and_a_write_an_open_and_a_save_that_fail(rt: HostRuntime) {
+    for story in &[RESTART, TORN, UNOPENED, UNSAVED] {
+        run_twice(&rt, rt.alloc(), rt.process(), story);
     }
-    Ok(())
 }

@@ -1,9 +1,7 @@
 //! A session that is preempted by one of the other controller.
-use crate::array::{Script, run};
-use std::test::*;
 
 // A holds type 5 by the key 11h. Its write of block 5 collects its data while B, registered by 22h, preempts 11h.
-const PREEMPTED: &str = r#"
+pub const PREEMPTED: &str = r#"
 A and B
 A > WRITE 7:18 20:00000018 32:5F000000000000001800 0000000000000000 0000000000000011 0000000000000000
 A < GOOD
@@ -23,8 +21,3 @@ B > TEST_UNIT_READY 1:C1 20:00000200 32:28000000000500000100
 B < DATA_IN 5:000200 512*00
 B < GOOD 36:00000001
 "#;
-
-#[test]
-fn a_preempted_write_that_collects(rt: HostRuntime) -> Result<(), Fail> {
-    run(&rt, rt.alloc(), &Script::new(PREEMPTED))
-}

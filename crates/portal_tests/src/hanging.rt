@@ -1,9 +1,7 @@
 //! A unit that does not answer, or whose device does not.
-use crate::array::run_each;
-use std::test::*;
 
 // A's command waits before unit 1; meanwhile B is served by unit 0, and C logs in.
-const HELD: &str = r#"
+pub const HELD: &str = r#"
 A at 1
 A > LOGIN 7:56 HOST_A
 A < LOGGED_IN 7:36 WELCOME
@@ -32,7 +30,7 @@ A < GOOD
 "#;
 
 // A's write hangs in the device of unit 0; meanwhile B is served by unit 1.
-const STUCK: &str = r#"
+pub const STUCK: &str = r#"
 A at 1
 A > LOGIN 7:56 HOST_A
 A < LOGGED_IN 7:36 WELCOME
@@ -57,7 +55,7 @@ A < GOOD
 
 // Unit 1 moves to controller 1, so that both units are served by way of one desk. Eight writes of unit 0 stand before it, and the
 // first that reaches its device hangs there; meanwhile B is served by unit 1, and unit 0's row is read.
-const CROWDED: &str = r#"
+pub const CROWDED: &str = r#"
 8 enter 1 LOGIN 7:56 HOST_A
 all > TEST_UNIT_READY
 all < CHECK_CONDITION 0012 70000600000000 0A00000000 2900 00000000
@@ -87,7 +85,7 @@ all < GOOD
 
 // A's write hangs in the device of unit 0, and a short command of each of eight sessions waits behind it: more than are served past
 // the desk's queue at a time. Meanwhile B's go by way of the queue of the same desk, and are served by unit 1.
-const QUEUED: &str = r#"
+pub const QUEUED: &str = r#"
 8 enter 1 LOGIN 7:56 HOST_A
 all > TEST_UNIT_READY
 all < CHECK_CONDITION 0012 70000600000000 0A00000000 2900 00000000
@@ -122,7 +120,7 @@ all < GOOD
 "#;
 
 // Both desks are closed while A is logged in: each command is BUSY, and what is no command goes on.
-const CLOSED: &str = r#"
+pub const CLOSED: &str = r#"
 A at 1
 A > LOGIN 7:56 HOST_A
 A < LOGGED_IN 7:36 WELCOME
@@ -142,8 +140,3 @@ A < LOGGED_OUT
 A over
 0 shows 4
 "#;
-
-#[test]
-fn what_hangs_holds_no_other_unit_and_closed_desks_are_busy(rt: HostRuntime) -> Result<(), Fail> {
-    run_each(&rt, rt.alloc(), &[HELD, STUCK, CROWDED, QUEUED, CLOSED])
-}

@@ -2,6 +2,7 @@
 ghost use Rattle.std.specs.Prelude.{◌≡◌, ◌≤◌, [], length};
 ghost use Rattle.unit_history.specs.Naming.{IsNamed};
 
+use crate::at::At;
 use crate::held::HeldBlocks;
 use crate::latch::Latch;
 use crate::tally::Tally;
@@ -10,7 +11,9 @@ use block_file::{KeepOpener, MemBlocks};
 use numbering::Array;
 use scsi_types::{Command, Group, Sense};
 use std::alloc::Global;
+use std::io::Eprint;
 use std::marker::Brand;
+use std::process::Abort;
 use std::sync::{Arc, Wait};
 use std::test::*;
 use std::thread::{Threads, join};
@@ -246,7 +249,7 @@ where
 }
 
 /// What is played.
-#[derive(Clone, Copy, Debug, PartialEq, Eq)]
+#[derive(Clone, Copy)]
 enum Played {
     OneHangs,
     AllHang,
@@ -295,19 +298,19 @@ where
 }
 
 // Plays it at a desk with four lanes, which serve so many jobs meanwhile.
-fn perform<'a, N: Array<Opened> + Send + Sync, R: Threads + Wait + Send + Sync + Drop>(
+fn perform<'a, N: Array<Opened> + Send + Sync, R: Threads + Wait + Abort + Send + Sync + Drop>(
     rt: &'a R,
     alloc: Global,
     new: Vec<HeldUnit<R>>,
     disk: &'a Latch<R>,
     played: Played,
     by_lanes: u32,
-) -> Result<(), Fail>
+)
     requires named { IsNamed N.book N.table N.opening (λ d. []) new.items }
     requires count { length new.items ≤ 8 }
 {
-    let units = HeldUnits::<R, N>::new(rt, alloc, new)?;
-    let desk = HeldDesk::<R, N>::new(alloc, Group::One)?;
+    let units = HeldUnits::<R, N>::new(rt, alloc, new).expect(rt, "memory");
+    let desk = HeldDesk::<R, N>::new(alloc, Group::One).expect(rt, "memory");
     let taken = Tally::new();
     let scene = Scene {
         rt,
@@ -317,36 +320,32 @@ fn perform<'a, N: Array<Opened> + Send + Sync, R: Threads + Wait + Send + Sync +
         disk,
         taken: &taken,
     };
-    if !share(&scene, played) {
-        return Err("what was told".into());
-    }
-    if taken.count(rt) != by_lanes {
-        return Err("jobs that lanes served".into());
-    }
-    Ok(())
+    let is_right = share(&scene, played);
+    assert!(*rt; is_right, "what was told, where the lanes serve {by_lanes}");
+    assert_eq!(*rt; taken.count(rt), by_lanes, "jobs that lanes served");
 }
 
-fn run<R: Threads + Wait + Clone + Send + Sync + Drop>(
+fn run<R: Threads + Wait + Abort + Eprint + Clone + Send + Sync + Drop>(
     rt: &R,
     alloc: Global,
     played: Played,
     by_lanes: u32,
-) -> Result<(), Fail> {
-    let Ok(disk) = Arc::new(alloc, Latch::open(rt.clone()?)) else {
-        return Err("no memory".into());
+) {
+    let latch = Latch::open(rt.clone().expect(rt, "memory"));
+    let disk = Arc::new(alloc, latch).expect(rt, "memory");
+    let at = At {
+        rt,
+        script: "lanes",
+        line: "",
     };
-    let units = two(alloc, &disk)?;
-    perform::<Brand, R>(rt, alloc, units, &disk, played, by_lanes)
+    let units = at.must(two(alloc, &disk));
+    perform::<Brand, R>(rt, alloc, units, &disk, played, by_lanes);
 }
 
+// A device that hangs holds one lane. Where all lanes are held, workers serve: of the 34 commands the lanes serve 10, those that
+// only they can. The workers of eight sessions serve theirs, 16 out of the queue, since no lane is free.
 #[test]
-fn a_device_that_hangs_holds_one_lane(rt: HostRuntime) -> Result<(), Fail> {
-    run(&rt, rt.alloc(), Played::OneHangs, 5)
-}
-
-// Of the 34 commands the lanes serve 10: those that only they can. The workers of eight sessions serve theirs, 16 out of the
-// queue, since no lane is free.
-#[test]
-fn workers_serve_where_all_lanes_are_held(rt: HostRuntime) -> Result<(), Fail> {
-    run(&rt, rt.alloc(), Played::AllHang, 10)
+fn lanes_that_a_device_holds(rt: HostRuntime) {
+    run(&rt, rt.alloc(), Played::OneHangs, 5);
+    run(&rt, rt.alloc(), Played::AllHang, 10);
 }

@@ -5,6 +5,8 @@
 #[cfg(test)]
 mod array;
 #[cfg(test)]
+mod at;
+#[cfg(test)]
 mod behind;
 #[cfg(test)]
 mod discovery;
@@ -28,6 +30,8 @@ mod medium;
 mod no_room;
 #[cfg(test)]
 mod restart;
+#[cfg(test)]
+mod scripts;
 #[cfg(test)]
 mod stage;
 #[cfg(test)]

@@ -1,9 +1,7 @@
 //! Sessions that begin beside others.
-use crate::array::run_each;
-use std::test::*;
 
 // The same name, ISID and controller take the place of the first session; another controller does not.
-const REINSTATED: &str = r#"
+pub const REINSTATED: &str = r#"
 A at 1
 A > LOGIN 7:56 HOST_A
 A < LOGGED_IN 7:36 WELCOME
@@ -32,7 +30,7 @@ C < GOOD
 "#;
 
 // 64 sessions leave no room for another until they are over.
-const FULL: &str = r#"
+pub const FULL: &str = r#"
 A at 1
 A > LOGIN 7:56 HOST_A
 A < LOGGED_IN 7:36 WELCOME
@@ -54,7 +52,7 @@ A < GOOD
 "#;
 
 // Sessions of discovery take no room.
-const CROWDED: &str = r#"
+pub const CROWDED: &str = r#"
 200 enter 1 LOGIN 7:37 FINDS
 A at 2
 A > LOGIN 7:56 HOST_A
@@ -64,8 +62,3 @@ A < CHECK_CONDITION 0012 70000600000000 0A00000000 2900 00000000
 A > TEST_UNIT_READY
 A < GOOD
 "#;
-
-#[test]
-fn sessions_that_come_again_or_find_no_room(rt: HostRuntime) -> Result<(), Fail> {
-    run_each(&rt, rt.alloc(), &[REINSTATED, FULL, CROWDED])
-}

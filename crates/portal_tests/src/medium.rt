@@ -1,8 +1,6 @@
 //! Blocks, through both controllers.
-use crate::array::run_each;
-use std::test::*;
 
-const WRITTEN_AND_READ: &str = r#"
+pub const WRITTEN_AND_READ: &str = r#"
 A and B
 # WRITE (10) of block 2047, and READ (10)
 A > WRITE 5:000200 34:000007FF pattern 512
@@ -19,7 +17,7 @@ B < GOOD 36:00000001
 "#;
 
 // Both expect zeros in block 10.
-const COMPARED: &str = r#"
+pub const COMPARED: &str = r#"
 A and B
 gate hold 0
 A > WRITE 5:000400 20:00000400 32:8900000000000000000A000000010000 512*00 512*"a"
@@ -33,7 +31,7 @@ B < GOOD 36:00000001
 "#;
 
 // Data so long that no desk copies it: 64 blocks, of which the last is read.
-const LONG: &str = r#"
+pub const LONG: &str = r#"
 A and B
 B > WRITE 5:008000 20:00008000 32:2A000000000500004000 pattern 32768
 B < GOOD
@@ -44,8 +42,3 @@ desks close
 B > WRITE 5:008000 20:00008000 32:2A000000000500004000 32768*FF
 B < GOOD 3:08
 "#;
-
-#[test]
-fn what_one_controller_writes_the_other_reads(rt: HostRuntime) -> Result<(), Fail> {
-    run_each(&rt, rt.alloc(), &[WRITTEN_AND_READ, COMPARED, LONG])
-}

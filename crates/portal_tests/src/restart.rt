@@ -4,19 +4,19 @@ use crate::latch::Latch;
 use crate::units::{Faults, NO_FAULTS, over_file};
 use std::alloc::Global;
 use std::fs::File;
+use std::io::Eprint;
 use std::marker::Brand;
 use std::net::{Net, TcpListener, TcpStream};
 use std::process::{Abort, Process};
 use std::rt::Files;
 use std::sync::Wait;
-use std::test::*;
 use std::thread::Threads;
 use std::time::Clock;
 use std::{fs, process};
 
 /// An array that fails so while hosts perform a script, and, started again, does not while they perform another. By its name
 /// its file is found.
-#[derive(Clone, Copy, Debug)]
+#[derive(Clone, Copy)]
 pub struct Story<'a> {
     pub name: &'a str,
     pub faults: Faults,
@@ -30,6 +30,7 @@ pub fn run_twice<
         + Wait
         + Clock
         + Abort
+        + Eprint
         + Net<Listener = TcpListener, Stream = TcpStream>
         + Files<File = File>
         + Clone
@@ -37,26 +38,29 @@ pub fn run_twice<
         + Send
         + Sync
         + 'static,
->(rt: &R, alloc: Global, process: Process, story: &Story<'_>) -> Result<(), Fail> {
+>(rt: &R, alloc: Global, process: Process, story: &Story<'_>) {
     let id = process::id(process);
-    let name = format!(in alloc; "/tmp/arrayd_{id}_{}", story.name)?;
-    let path = name.as_str();
-    File::create(rt, path)?.set_len(8192)?;
-    let disk = Latch::open(rt.clone()?);
-    let (units, lock) = over_file(rt, alloc, path, story.faults)?;
-    let before = Script::new(story.before);
-    let (ports, hosts) = perform::<Brand, _, _, _, R>(rt, alloc, units, &disk, &before)?;
+    let path = format!(in alloc; "/tmp/arrayd_{id}_{}", story.name).expect(rt, "memory");
+    let path = path.as_str();
+    File::create(rt, path)
+        .expect(rt, path)
+        .set_len(8192)
+        .expect(rt, path);
+    let disk = Latch::open(rt.clone().expect(rt, "memory"));
+    let before = Script::new(story.name, story.before);
+    let (units, lock) = over_file(rt, alloc, path, story.faults);
+    let (ports, hosts) = perform::<Brand, _, _, _, R>(rt, alloc, units, &disk, &before);
     drop(lock);
-    let (units, _lock) = over_file(rt, alloc, path, NO_FAULTS)?;
     let again = Script {
         ports,
-        ..Script::new(story.after)
+        ..Script::new(story.name, story.after)
     };
-    let _ended = perform::<Brand, _, _, _, R>(rt, alloc, units, &disk, &again)?;
+    let (units, _lock) = over_file(rt, alloc, path, NO_FAULTS);
+    let _ended = perform::<Brand, _, _, _, R>(rt, alloc, units, &disk, &again);
     drop(hosts);
-    fs::remove_file(rt, path)?;
-    fs::remove_file(rt, format!(in alloc; "{path}.reg")?.as_str())?;
-    Ok(())
+    fs::remove_file(rt, path).expect(rt, path);
+    let registrations = format!(in alloc; "{path}.reg").expect(rt, "memory");
+    fs::remove_file(rt, registrations.as_str()).expect(rt, path);
 }
 
 // REGISTER of 11h with APTPL, and WRITE (10) of block 5
@@ -87,13 +91,10 @@ B < DATA_IN 5:000200 pattern 512
 B < GOOD 36:00000001
 "#;
 
-#[test]
-fn registrations_are_there_after_a_restart(rt: HostRuntime) -> Result<(), Fail> {
-    let story = Story {
-        name: "restart",
-        faults: NO_FAULTS,
-        before: BEFORE,
-        after: AFTER,
-    };
-    run_twice(&rt, rt.alloc(), rt.process(), &story)
-}
+/// Nothing fails, and the registrations are there after the restart.
+pub const RESTART: Story = Story {
+    name: "restart",
+    faults: NO_FAULTS,
+    before: BEFORE,
+    after: AFTER,
+};

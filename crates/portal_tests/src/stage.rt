@@ -18,20 +18,21 @@
 //!   in place of `gate`: the writes of its device wait;
 //! - `0 shows 3`: the row of unit 0 tells of three entries, whoever has its lock;
 //! - `desks close`: the desks of both controllers are closed.
+use crate::at::At;
 use crate::behind::Console;
 use crate::latch::Latch;
 use std::alloc::{AllocError, Global};
+use std::io::Eprint;
 use std::net::{Net, SocketAddrV4, TcpListener, TcpStream};
 use std::process::Abort;
 use std::sync::Wait;
-use std::test::Fail;
 use test_hosts::{FINDS, HOST_B, Host, WELCOME_2, is_text, put};
-use test_streams::{HOST_A, RowError, WELCOME, lines_of, pdu_of};
+use test_streams::{HOST_A, WELCOME, lines_of, pdu_of};
 
 /// The hosts of a script, and the array that they reach.
 #[derive(Drop)]
 pub struct Stage<'a, R: Wait + Drop, C: Console> {
-    rt: &'a R,
+    at: At<'a, R>,
     alloc: Global,
     gate: &'a Latch<R>,
     disk: &'a Latch<R>,
@@ -58,14 +59,6 @@ B > TEST_UNIT_READY
 B < CHECK_CONDITION 0012 70000600000000 0A00000000 2900 00000000
 "#;
 
-// A unit's place.
-fn unit_of(word: &str) -> Result<u8, Fail> {
-    let Ok(unit) = word.parse() else {
-        return Err("a unit".into());
-    };
-    Ok(unit)
-}
-
 // What initiators are told of the target: both portals, each with the tag of its group (RFC 7143, appendix C).
 fn told(alloc: Global, portals: [SocketAddrV4; 2]) -> Result<String, AllocError> {
     let [first, second] = portals;
@@ -76,20 +69,13 @@ fn told(alloc: Global, portals: [SocketAddrV4; 2]) -> Result<String, AllocError>
     )
 }
 
-// A decimal number.
-fn number_of(word: &str) -> Result<u32, Fail> {
-    let Ok(number) = word.parse() else {
-        return Err("a number".into());
-    };
-    Ok(number)
-}
-
 impl<
     'a,
-    R: Wait + Abort + Net<Listener = TcpListener, Stream = TcpStream> + Drop,
+    R: Wait + Abort + Eprint + Net<Listener = TcpListener, Stream = TcpStream> + Drop,
     C: Console,
 > Stage<'a, R, C> {
-    /// A stage before the portals of an array with this gate, whose devices hang at this latch, and whose console this is.
+    /// A stage before the portals of an array with this gate, whose devices hang at this latch, and whose console this is. It
+    /// is for the script of this name.
     pub fn new(
         rt: &'a R,
         alloc: Global,
@@ -97,9 +83,14 @@ impl<
         disk: &'a Latch<R>,
         behind: &'a C,
         portals: [SocketAddrV4; 2],
+        script: &'a str,
     ) -> Stage<'a, R, C> {
         Stage {
-            rt,
+            at: At {
+                rt,
+                script,
+                line: "",
+            },
             alloc,
             gate,
             disk,
@@ -113,24 +104,22 @@ impl<
     }
 
     /// Does what the lines of a script say.
-    pub fn perform(&mut self, script: &'a str) -> Result<(), Fail> {
-        let lines = lines_of(self.alloc, script)?;
+    pub fn perform(&mut self, text: &'a str) {
+        let lines = lines_of(self.alloc, text).expect(self.at.rt, "memory");
         for line in &lines {
             if *line == "A and B" {
-                self.obey_all(A_AND_B)?;
+                self.obey_all(A_AND_B);
             } else {
-                self.obey(line)?;
+                self.obey(line);
             }
         }
-        Ok(())
     }
 
-    fn obey_all(&mut self, script: &'a str) -> Result<(), Fail> {
-        let lines = lines_of(self.alloc, script)?;
+    fn obey_all(&mut self, text: &'a str) {
+        let lines = lines_of(self.alloc, text).expect(self.at.rt, "memory");
         for line in &lines {
-            self.obey(line)?;
+            self.obey(line);
         }
-        Ok(())
     }
 
     /// The hosts, as they are behind it.
@@ -139,13 +128,18 @@ impl<
     }
 
     // The host of this name.
-    fn host(&mut self, name: &str) -> Result<&mut Host, Fail> {
-        let place = self.names.iter().position(|n| *n == name).ok_or("a host")?;
-        Ok(self.hosts.get_mut(place).ok_or("a host")?)
+    fn host(&mut self, name: &str) -> &mut Host {
+        let place = self
+            .names
+            .iter()
+            .position(|n| *n == name)
+            .expect(self.at.rt, "a host");
+        self.hosts.get_mut(place).expect(self.at.rt, "a host")
     }
 
-    fn obey(&mut self, line: &'a str) -> Result<(), Fail> {
-        let (who, rest) = line.split_once(' ').ok_or("a line")?;
+    fn obey(&mut self, line: &'a str) {
+        self.at.line = line;
+        let (who, rest) = line.split_once(' ').unwrap_or((line, ""));
         let (verb, rest) = rest.split_once(' ').unwrap_or((rest, ""));
         match verb {
             "at" => self.connect(who, rest),
@@ -155,35 +149,30 @@ impl<
             "<" => self.compare(who, rest),
             ">>" => self.send_as_is(who, rest),
             "<<" => self.compare_exactly(who, rest),
-            "pieces" => {
-                let piece = number_of(rest)? as usize;
-                self.host(who)?.send_in_pieces(piece)
-            }
+            "pieces" => self.cut_up(who, rest),
             "cut" => self.cut(who, rest),
             "told" => self.compare_text(who),
             "over" => self.end(who),
-            "race" => self.race(who, rest),
-            "enter" => self.enter(number_of(who)?, rest),
+            "race" => self.race(rest),
+            "enter" => self.enter(who, rest),
             "leave" => self.leave(rest),
-            "hold" => {
-                self.latch(who).hold(Some(unit_of(rest)?));
-                Ok(())
-            }
-            "held" => {
-                self.latch(who).await_held(number_of(rest)?);
-                Ok(())
-            }
-            "open" => {
-                self.latch(who).hold(None);
-                Ok(())
-            }
+            "hold" => self.latch(who).hold(Some(self.unit(rest))),
+            "held" => self.latch(who).await_held(self.number(rest)),
+            "open" => self.latch(who).hold(None),
             "shows" => self.compare_row(who, rest),
-            "close" => {
-                self.behind.close();
-                Ok(())
-            }
-            _ => Err("a verb".into()),
+            "close" => self.behind.close(),
+            _ => self.at.stop("a verb"),
         }
+    }
+
+    // A decimal number.
+    fn number(&self, word: &str) -> u32 {
+        word.parse().expect(self.at.rt, self.at.line)
+    }
+
+    // A unit's place.
+    fn unit(&self, word: &str) -> u8 {
+        word.parse().expect(self.at.rt, self.at.line)
     }
 
     // The latch of this name.
@@ -192,7 +181,7 @@ impl<
     }
 
     // What this line spells.
-    fn spelled(&self, line: &str) -> Result<Vec<u8>, RowError> {
+    fn spelled(&self, line: &str) -> Vec<u8> {
         let texts = [
             ("HOST_A", HOST_A),
             ("HOST_B", HOST_B),
@@ -201,186 +190,185 @@ impl<
             ("WELCOME_2", WELCOME_2),
             ("WON", self.won),
         ];
-        pdu_of(self.alloc, &texts, line)
+        pdu_of(self.alloc, &texts, line).expect(self.at.rt, self.at.line)
     }
 
     // The portal of a controller.
-    fn portal(&self, controller: &str) -> Result<SocketAddrV4, Fail> {
+    fn portal(&self, controller: &str) -> SocketAddrV4 {
         match controller {
-            "1" => Ok(self.portals[0]),
-            "2" => Ok(self.portals[1]),
-            _ => Err("a controller".into()),
+            "1" => self.portals[0],
+            "2" => self.portals[1],
+            _ => self.at.stop("a controller"),
         }
     }
 
-    fn connect(&mut self, name: &'a str, controller: &str) -> Result<(), Fail> {
-        let host = Host::connect(self.rt, self.portal(controller)?)?;
-        self.names.push(name)?;
-        self.hosts.push(host)?;
-        Ok(())
+    fn connect(&mut self, name: &'a str, controller: &str) {
+        let portal = self.portal(controller);
+        let host = self.at.must(Host::connect(self.at.rt, portal));
+        self.names.push(name).expect(self.at.rt, "memory");
+        self.hosts.push(host).expect(self.at.rt, "memory");
     }
 
-    fn send(&mut self, name: &str, line: &str) -> Result<(), Fail> {
-        let mut pdu = self.spelled(line)?;
-        self.host(name)?.send(pdu.as_mut_slice())
+    fn send(&mut self, name: &str, line: &str) {
+        let mut pdu = self.spelled(line);
+        let sent = self.host(name).send(pdu.as_mut_slice());
+        self.at.must(sent);
     }
 
-    fn send_as_is(&mut self, name: &str, line: &str) -> Result<(), Fail> {
-        let pdu = self.spelled(line)?;
-        self.host(name)?.send_as_is(pdu.as_slice())
+    fn send_as_is(&mut self, name: &str, line: &str) {
+        let pdu = self.spelled(line);
+        let sent = self.host(name).send_as_is(pdu.as_slice());
+        self.at.must(sent);
     }
 
-    fn cut(&mut self, name: &str, line: &str) -> Result<(), Fail> {
-        let (length, line) = line.split_once(' ').ok_or("a PDU")?;
-        let length = number_of(length)? as usize;
-        let pdu = self.spelled(line)?;
-        let host = self.host(name)?;
-        host.send_as_is(pdu.as_slice().get(..length).ok_or("a longer PDU")?)?;
-        host.end_output()
+    fn cut_up(&mut self, name: &str, piece: &str) {
+        let piece = self.number(piece) as usize;
+        let done = self.host(name).send_in_pieces(piece);
+        self.at.must(done);
+    }
+
+    fn cut(&mut self, name: &str, line: &str) {
+        let (length, line) = line.split_once(' ').unwrap_or((line, ""));
+        let length = self.number(length) as usize;
+        let pdu = self.spelled(line);
+        let part = pdu
+            .as_slice()
+            .get(..length)
+            .expect(self.at.rt, "a longer PDU");
+        let sent = self.host(name).send_as_is(part);
+        self.at.must(sent);
+        let ended = self.host(name).end_output();
+        self.at.must(ended);
+    }
+
+    fn receive(&mut self, name: &str) -> Vec<u8> {
+        let alloc = self.alloc;
+        let came = self.host(name).receive(alloc);
+        self.at.must(came)
     }
 
     // Whether what came to a host is what this line spells.
-    fn is_answer(&mut self, name: &str, came: &[u8], line: &str) -> Result<bool, Fail> {
-        let mut wanted = self.spelled(line)?;
-        let host = self.host(name)?;
-        Ok(host.is_answer(came, wanted.as_mut_slice()))
+    fn is_answer(&mut self, name: &str, came: &[u8], line: &str) -> bool {
+        let mut wanted = self.spelled(line);
+        self.host(name).is_answer(came, wanted.as_mut_slice())
     }
 
     // Whether what came to a host is what one of these lines spells.
-    fn is_one_of(&mut self, name: &str, came: &[u8], lines: &str) -> Result<bool, Fail> {
+    fn is_one_of(&mut self, name: &str, came: &[u8], lines: &str) -> bool {
+        let mut is_one = false;
         for line in lines.split(" / ") {
-            if self.is_answer(name, came, line)? {
-                return Ok(true);
-            }
+            is_one = is_one || self.is_answer(name, came, line);
         }
-        Ok(false)
+        is_one
     }
 
-    fn compare(&mut self, name: &str, lines: &str) -> Result<(), Fail> {
-        let alloc = self.alloc;
-        let came = self.host(name)?.receive(alloc)?;
-        let is_one = self.is_one_of(name, came.as_slice(), lines)?;
-        assert!(self.rt; is_one, "{name} < {lines}, and not {came:?}");
-        Ok(())
+    fn compare(&mut self, name: &str, lines: &str) {
+        let came = self.receive(name);
+        let is_one = self.is_one_of(name, came.as_slice(), lines);
+        self.at.check(is_one, &came);
     }
 
-    fn compare_exactly(&mut self, name: &str, line: &str) -> Result<(), Fail> {
-        let alloc = self.alloc;
-        let wanted = self.spelled(line)?;
-        let came = self.host(name)?.receive(alloc)?;
-        assert_eq!(self.rt; came.as_slice(), wanted.as_slice(), "{name} << {line}");
-        Ok(())
+    fn compare_exactly(&mut self, name: &str, line: &str) {
+        let wanted = self.spelled(line);
+        let came = self.receive(name);
+        self.at.check(came.as_slice() == wanted.as_slice(), &came);
     }
 
-    fn compare_text(&mut self, name: &str) -> Result<(), Fail> {
-        let alloc = self.alloc;
-        let wanted = told(alloc, self.portals)?;
-        let came = self.host(name)?.receive(alloc)?;
-        let is_told = is_text(came.as_slice(), wanted.as_bytes());
-        assert!(self.rt; is_told, "{name} told {wanted}, and not {came:?}");
-        Ok(())
+    fn compare_text(&mut self, name: &str) {
+        let wanted = told(self.alloc, self.portals).expect(self.at.rt, "memory");
+        let came = self.receive(name);
+        self.at
+            .check(is_text(came.as_slice(), wanted.as_bytes()), &came);
     }
 
-    fn end(&mut self, name: &str) -> Result<(), Fail> {
-        let is_over = self.host(name)?.is_over();
-        assert!(self.rt; is_over, "{name} over");
-        Ok(())
+    fn end(&mut self, name: &str) {
+        let is_over = self.host(name).is_over();
+        self.at.check(is_over, &"its end");
     }
 
-    fn race(&mut self, names: &str, lines: &str) -> Result<(), Fail> {
-        let (first, second) = lines.split_once(" / ").ok_or("two answers")?;
-        let alloc = self.alloc;
-        let came = self.host("A")?.receive(alloc)?;
-        if self.is_answer("A", came.as_slice(), first)? {
-            self.won = "a";
-            return self.compare("B", second);
+    fn race(&mut self, lines: &str) {
+        let (first, second) = lines.split_once(" / ").unwrap_or((lines, ""));
+        let came = self.receive("A");
+        self.won = "a";
+        if self.is_answer("A", came.as_slice(), first) {
+            self.compare("B", second);
+        } else {
+            self.won = "b";
+            let is_answer = self.is_answer("A", came.as_slice(), second);
+            self.at.check(is_answer, &came);
+            self.compare("B", first);
         }
-        self.won = "b";
-        let is_answer = self.is_answer("A", came.as_slice(), second)?;
-        assert!(self.rt; is_answer, "{names} race {lines}, and not {came:?}");
-        self.compare("B", first)
     }
 
-    fn enter(&mut self, count: u32, line: &str) -> Result<(), Fail> {
-        let (controller, line) = line.split_once(' ').ok_or("a login")?;
-        let portal = self.portal(controller)?;
-        let mut pdu = self.spelled(line)?;
-        for number in 0..count {
-            let host = entered(self.rt, self.alloc, portal, pdu.as_mut_slice(), number)?;
-            self.crowd.push(host)?;
+    fn enter(&mut self, count: &str, line: &str) {
+        let (controller, line) = line.split_once(' ').unwrap_or((line, ""));
+        let portal = self.portal(controller);
+        let mut pdu = self.spelled(line);
+        for number in 0..self.number(count) {
+            put(pdu.as_mut_slice(), 10, 0x0137_0100 | number);
+            let host = entered(&self.at, self.alloc, portal, pdu.as_mut_slice());
+            self.crowd.push(host).expect(self.at.rt, "memory");
         }
-        Ok(())
     }
 
-    fn send_all(&mut self, line: &str) -> Result<(), Fail> {
-        let mut pdu = self.spelled(line)?;
+    fn send_all(&mut self, line: &str) {
+        let mut pdu = self.spelled(line);
         for host in &mut self.crowd {
-            host.send(pdu.as_mut_slice())?;
+            self.at.must(host.send(pdu.as_mut_slice()));
         }
-        Ok(())
     }
 
-    fn compare_all(&mut self, line: &str) -> Result<(), Fail> {
-        let mut wanted = self.spelled(line)?;
+    fn compare_all(&mut self, line: &str) {
+        let mut wanted = self.spelled(line);
         for host in &mut self.crowd {
-            compare_one(self.rt, self.alloc, host, wanted.as_mut_slice())?;
+            compare_one(&self.at, self.alloc, host, wanted.as_mut_slice());
         }
-        Ok(())
     }
 
-    fn compare_row(&self, unit: &str, entries: &str) -> Result<(), Fail> {
-        let shown = self.behind.entries(unit_of(unit)?);
-        let wanted = u64::from(number_of(entries)?);
-        assert!(self.rt;
-            shown == Some(wanted),
-            "{unit} shows {entries}, and not {shown:?}"
-        );
-        Ok(())
+    fn compare_row(&self, unit: &str, entries: &str) {
+        let shown = self.behind.entries(self.unit(unit));
+        let wanted = u64::from(self.number(entries));
+        self.at.check(shown == Some(wanted), &shown);
     }
 
-    fn leave(&mut self, line: &str) -> Result<(), Fail> {
-        let mut pdu = self.spelled(line)?;
+    fn leave(&mut self, line: &str) {
+        let mut pdu = self.spelled(line);
         for host in &mut self.crowd {
-            leave(self.rt, self.alloc, host, pdu.as_mut_slice())?;
+            leave(&self.at, self.alloc, host, pdu.as_mut_slice());
         }
-        Ok(())
     }
 }
 
-// A host that logs in by this PDU, with another ISID for each number.
-fn entered<R: Abort + Net<Listener = TcpListener, Stream = TcpStream>>(
-    rt: &R,
+// A host that logs in by this PDU.
+fn entered<R: Abort + Eprint + Net<Listener = TcpListener, Stream = TcpStream>>(
+    at: &At<'_, R>,
     alloc: Global,
     portal: SocketAddrV4,
     pdu: &mut [u8],
-    number: u32,
-) -> Result<Host, Fail> {
-    let mut host = Host::connect(rt, portal)?;
-    put(pdu, 10, 0x0137_0100 | number);
-    host.send(pdu)?;
-    let came = host.receive(alloc)?;
-    assert_eq!(rt; came.first(), Some(&0x23), "{number}");
-    assert_eq!(rt; came.get(36..38), Some([0u8, 0].as_slice()), "{number}");
-    Ok(host)
+) -> Host {
+    let mut host = at.must(Host::connect(at.rt, portal));
+    at.must(host.send(pdu));
+    let came = at.must(host.receive(alloc));
+    at.check(came.first() == Some(&0x23), &came);
+    at.check(came.get(36..38) == Some([0u8, 0].as_slice()), &came);
+    host
 }
 
 // A host is answered by this.
-fn compare_one<R: Abort>(
-    rt: &R,
+fn compare_one<R: Abort + Eprint>(
+    at: &At<'_, R>,
     alloc: Global,
     host: &mut Host,
     wanted: &mut [u8],
-) -> Result<(), Fail> {
-    let came = host.receive(alloc)?;
-    assert!(rt; host.is_answer(came.as_slice(), wanted), "all < {came:?}");
-    Ok(())
+) {
+    let came = at.must(host.receive(alloc));
+    at.check(host.is_answer(came.as_slice(), wanted), &came);
 }
 
 // A host that sends this logs out.
-fn leave<R: Abort>(rt: &R, alloc: Global, host: &mut Host, pdu: &mut [u8]) -> Result<(), Fail> {
-    host.send(pdu)?;
-    let came = host.receive(alloc)?;
-    assert_eq!(rt; came.first(), Some(&0x26));
-    assert!(rt; host.is_over());
-    Ok(())
+fn leave<R: Abort + Eprint>(at: &At<'_, R>, alloc: Global, host: &mut Host, pdu: &mut [u8]) {
+    at.must(host.send(pdu));
+    let came = at.must(host.receive(alloc));
+    at.check(came.first() == Some(&0x26), &came);
+    at.check(host.is_over(), &"its end");
 }

@@ -1,10 +1,8 @@
 //! How the bytes of sessions come, at both controllers: in pieces, numbered, cut short; and logins that are refused.
-use crate::array::run_each;
-use std::test::*;
 
 // All that A sends comes in pieces of 7 bytes: WRITE (10) of 2048 blocks, 8192 bytes of it with the command. Through the other
 // controller B reads the first 256 of them by READ (6), 8192 bytes a Data-In, and the last one. One answer came to the write.
-const IN_PIECES: &str = r#"
+pub const IN_PIECES: &str = r#"
 A at 1
 A pieces 7
 A > LOGIN 7:6C HOST_A "MaxBurstLength=262144\0"
@@ -67,7 +65,7 @@ A over
 // A and B begin with CmdSN FFFFFFFFh. Their WRITE with that number comes when it is below the window: it is not answered, and
 // nothing is written. At the end each sends 47 bytes of a command. C and D begin with CmdSN 1, which their first command has
 // and, as it is immediate, leaves to the next.
-const NUMBERED: &str = r#"
+pub const NUMBERED: &str = r#"
 A at 1
 A > LOGIN 7:56 24:FFFFFFFF HOST_A
 A < LOGGED_IN 7:36 28:FFFFFFFF0000001E WELCOME
@@ -113,7 +111,7 @@ D << GOOD 16:00000002 24:000000030000000200000021
 "#;
 
 // Another target's name, and no InitiatorName.
-const REFUSED: &str = r#"
+pub const REFUSED: &str = r#"
 A at 1
 A > LOGIN 7:56 "InitiatorName=iqn.2000-01.test:a\0TargetName=iqn.2000-01.test:other\0SessionType=Normal\0"
 A < LOGIN_REFUSED 36:0203
@@ -131,8 +129,3 @@ D > LOGIN 7:35 "TargetName=iqn.2000-01.test:array\0SessionType=Normal\0"
 D < LOGIN_REFUSED 36:0207
 D over
 "#;
-
-#[test]
-fn pieces_numbers_and_refused_logins(rt: HostRuntime) -> Result<(), Fail> {
-    run_each(&rt, rt.alloc(), &[IN_PIECES, NUMBERED, REFUSED])
-}

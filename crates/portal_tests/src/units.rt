@@ -10,6 +10,7 @@ use disk_files::{DiskLock, FileBlocks, open_disk, open_registrations};
 use scsi_types::Place;
 use std::alloc::Global;
 use std::fs::File;
+use std::process::Abort;
 use std::rt::Files;
 use std::sync::{Arc, Wait};
 use std::test::Fail;
@@ -60,7 +61,7 @@ pub fn two<R: Wait + Drop>(
 const OPEN_CALLS: u64 = 3;
 
 /// When the devices of a unit and its opener fail.
-#[derive(Clone, Copy, Debug)]
+#[derive(Clone, Copy)]
 pub struct Faults {
     /// So many calls of its blocks pass, and none behind them. The first of these, as a write, lands so many blocks of its run.
     pub passed: u64,
@@ -80,34 +81,30 @@ pub const NO_FAULTS: Faults = Faults {
 };
 
 /// The unit over the file of this name, which fails so, and its lock.
-pub fn over_file<R: Files<File = File> + Clone + Drop>(
+pub fn over_file<R: Files<File = File> + Abort + Clone + Drop>(
     rt: &R,
     alloc: Global,
     path: &str,
     faults: Faults,
-) -> Result<(Vec<FileUnit>, DiskLock), Fail>
-    ensures { IfOk result (λ r. length r.0.items ≤ 8) }
+) -> (Vec<FileUnit>, DiskLock)
+    ensures { length result.0.items ≤ 8 }
 {
     let place = Place {
         unit: 0,
         units: 1,
         array: 1,
     };
-    let Ok(disk) = open_disk(rt.clone()?, alloc, path) else {
-        return Err("a disk".into());
-    };
-    let Ok((file, _)) = open_registrations(rt, alloc, path, None) else {
-        return Err("a registration file".into());
-    };
+    let disk = open_disk(rt.clone().expect(rt, "memory"), alloc, path).expect(rt, path);
+    let (file, _) = open_registrations(rt, alloc, path, None).expect(rt, path);
     let fused = FusedBlocks::new(file.close(), faults.saving.saturating_add(OPEN_CALLS));
-    let Ok((file, record)) = RegFile::open(alloc, fused) else {
-        return Err("a registration file".into());
-    };
+    let (file, record) = RegFile::open(alloc, fused).expect(rt, path);
     let blocks = FusedBlocks::inside(disk.blocks, faults.passed, faults.landed);
     let opener = FusedOpener::new(KeepOpener, faults.opened);
     laws::nobody_is_attached_at_first();
-    let unit = Unit::open(alloc, place, blocks, opener, file, record)?;
+    let unit = Unit::open(alloc, place, blocks, opener, file, record).expect(rt, "memory");
     let mut units = Vec::new(alloc);
-    units.push(NewUnit::new(alloc, unit)?)?;
-    Ok((units, disk.lock))
+    units
+        .push(NewUnit::new(alloc, unit).expect(rt, "memory"))
+        .expect(rt, "memory");
+    (units, disk.lock)
 }

@@ -1,9 +1,7 @@
 //! Connections for which there is no thread.
-use crate::array::{Script, run};
-use std::test::*;
 
 // Two connections to each portal find no thread: they are closed. The next one is served.
-const WITHOUT_THREADS: &str = r#"
+pub const WITHOUT_THREADS: &str = r#"
 A at 1
 A over
 B at 2
@@ -23,12 +21,3 @@ F < LOGGED_IN 7:36 15:02 WELCOME_2
 E > TEST_UNIT_READY
 E < GOOD
 "#;
-
-#[test]
-fn a_connection_without_a_thread_is_closed(rt: HostRuntime) -> Result<(), Fail> {
-    let script = Script {
-        refused: 2,
-        ..Script::new(WITHOUT_THREADS)
-    };
-    run(&rt, rt.alloc(), &script)
-}

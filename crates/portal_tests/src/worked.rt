@@ -6,11 +6,9 @@
 //! write one block; `fencing.rt` the write that collects while its key is preempted; `streams.rt` the long write in pieces,
 //! READ (6) of 256 blocks, the numbers of a session, also those of its one TEST UNIT READY, a PDU that is cut, and logins that
 //! are refused; `failing.rt` a write, an open and a save that fail.
-use crate::array::run_each;
-use std::test::*;
 
 // All of them is a session at each controller, which ask the same.
-const ASKED: &str = r#"
+pub const ASKED: &str = r#"
 1 enter 1 LOGIN 7:56 HOST_A
 1 enter 2 LOGIN 7:56 HOST_A
 all > TEST_UNIT_READY
@@ -38,7 +36,7 @@ all < CHECK_CONDITION 1:82 44:00008400 0012 70000500000000 0A00000000 2400 00000
 "#;
 
 // What is refused through one controller, or is written for less than it announced, is read through the other.
-const WRITTEN: &str = r#"
+pub const WRITTEN: &str = r#"
 A and B
 # COMPARE AND WRITE of block 10, whose zeros differ first at byte 5
 A > WRITE 5:000400 20:00000400 32:8900000000000000000A000000010000 5*00 01 506*00 512*5A
@@ -78,7 +76,7 @@ A < GOOD 36:00000001
 "#;
 
 // REPORT TARGET PORT GROUPS through both controllers, before and behind SET TARGET PORT GROUPS.
-const MOVED: &str = r#"
+pub const MOVED: &str = r#"
 A and B
 A > WRITE 5:000200 pattern 512
 A < GOOD
@@ -117,7 +115,7 @@ A < GOOD 36:00000001
 
 // A registers 11h with APTPL through controller 1, and then reserves; all of them ask, each through its controller:
 // REPORT CAPABILITIES, READ FULL STATUS, READ RESERVATION.
-const RESERVED: &str = r#"
+pub const RESERVED: &str = r#"
 1 enter 1 LOGIN 7:56 HOST_B
 1 enter 2 LOGIN 7:56 HOST_B
 all > TEST_UNIT_READY
@@ -145,8 +143,3 @@ all > TEST_UNIT_READY 1:C1 20:00000018 32:5E010000000000001800
 all < DATA_IN 7:18 00000001 00000010 0000000000000011 00000000 00050000
 all < GOOD 36:00000001
 "#;
-
-#[test]
-fn the_worked_examples_through_both_controllers(rt: HostRuntime) -> Result<(), Fail> {
-    run_each(&rt, rt.alloc(), &[ASKED, WRITTEN, MOVED, RESERVED])
-}
