@@ -37,7 +37,7 @@ pub type FileArray<R> = OpenArray<
     FileBlocks<File>,
     FileBlocks<File>,
     FileOpener<R>,
-    Prepared<FilePreparer<R>>,
+    Prepared<FilePreparer<R, File>>,
 >;
 
 // Why a file is no device of blocks, as the log names it.
@@ -119,7 +119,7 @@ fn open_preparer<R: Files<File = File> + Clock + Wait + Clone + Drop>(
     unit: u8,
     path: &str,
     blocks: &mut FileBlocks<File>,
-) -> Result<FilePreparer<R>, Fault> {
+) -> Result<FilePreparer<R, File>, Fault> {
     let mine = rt.clone()?;
     let voice = voice(log, unit, Part::Disk)?;
     Ok(FilePreparer::open(mine, alloc, path, blocks, Some(voice)))
@@ -151,7 +151,7 @@ fn open_unit<R: Files<File = File> + Clock + Wait + Clone + Drop>(
     log: &Log,
     place: Place,
     path: &str,
-) -> Result<(FileUnit<R>, DiskLock, FilePreparer<R>), Fault>
+) -> Result<(FileUnit<R>, DiskLock, FilePreparer<R, File>), Fault>
     ensures { IfOk result (λ r. IsOpening r.0.control) }
 {
     let mut disk = open_blocks(rt, alloc, log, place.unit, path)?;

@@ -199,7 +199,7 @@ fn units_have_their_files_and_portals_their_groups(rt: HostRuntime) -> Result<()
             FileBlocks<File>,
             FileBlocks<File>,
             FileOpener<HostRuntime>,
-            Prepared<FilePreparer<HostRuntime>>,
+            Prepared<FilePreparer<HostRuntime, File>>,
             HostRuntime,
             Console<'_, HostRuntime>,
             Vec<u8>,

@@ -83,7 +83,7 @@ fn main(rt: HostRuntime) -> ExitCode {
         FileBlocks<File>,
         FileBlocks<File>,
         FileOpener<HostRuntime>,
-        Prepared<FilePreparer<HostRuntime>>,
+        Prepared<FilePreparer<HostRuntime, File>>,
         HostRuntime,
         _,
         _,

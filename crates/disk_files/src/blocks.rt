@@ -25,7 +25,7 @@ use std::rt::Files;
 use std::sync::Arc;
 
 /// A file as a device of blocks: each run is one read or write at its place, 512 times the number of its first block. A flush is one
-/// of the file. It does nothing where a flush of its preparer is done, behind whose beginning no write has ended.
+/// of the file. It does nothing where a flush beside the device is done, behind whose beginning no write has ended.
 ///
 /// It claims what its file claims, which of a file of the system is nothing. Its number of blocks is that of its length when it
 /// was opened. Where the file has another length by now each write fails, and a read behind its end.
@@ -37,7 +37,7 @@ pub struct FileBlocks<F: BackingFile> {
     file: F,
     count: u32,
     tally: Tally,
-    // What its preparer has flushed, where it has one.
+    // What its preparer flushes, where it has one.
     flushes: Option<Arc<Flushes<F>, Global>>,
     // What tells of calls that failed.
     voice: Option<Voice>,
@@ -113,8 +113,8 @@ impl<F: BackingFile> FileBlocks<F> {
         self.file
     }
 
-    // Makes what was written last, where no flush has failed: nothing is to be done where the preparer did it, and nothing to be told
-    // where it has told already.
+    // Makes what was written last, where no flush of the device has failed: nothing is to be done where the preparer did it, and
+    // nothing to be told where it has told already.
     fn make_last(&mut self) -> Result<(), DeviceFailed>
         ensures size { self.new.count ≡ self.old.count }
         ensures flushes { self.new.flushes ≡ self.old.flushes }
@@ -161,7 +161,7 @@ impl<F: BackingFile> FileBlocks<F> {
 }
 
 impl<F: LastingFile> FileBlocks<F> {
-    /// From now on a preparer flushes the file before the device does, as it tells here.
+    /// From now on a preparer flushes the file too, as it tells here.
     pub fn share(&mut self, flushes: Arc<Flushes<F>, Global>)
         ensures { (self.new.file ≡ self.old.file) × (self.new.count ≡ self.old.count)
             × (self.new.tally ≡ self.old.tally) }
@@ -314,6 +314,9 @@ impl<F: BackingFile> Blocks for FileBlocks<F> {
             return Ok(());
         }
         self.tally.is_lost = true;
+        if let Some(flushes) = &self.flushes {
+            flushes.lose();
+        }
         failed(&mut self.tally.failed_writes)
     }
 }

@@ -1,8 +1,8 @@
 //! A file made ready for the calls of its device.
-ghost use Rattle.std.specs.Prelude.{◌≡◌};
+ghost use Rattle.std.specs.Prelude.{◌≡◌, ℕ, true};
 
 use crate::FileBlocks;
-use crate::flushes::Flushes;
+use crate::flushes::{FlushFault, Flushes, LastingFile};
 use crate::opener::node_of;
 use crate::voice::Voice;
 use block_file::BLOCK_LENGTH;
@@ -15,7 +15,7 @@ use std::os::fd::AsRawFd;
 use std::os::unix::fs::FileExt;
 use std::rt::Files;
 use std::sync::atomic::{AtomicU64, Ordering};
-use std::sync::{Arc, Wait};
+use std::sync::{Arc, Mutex, Wait};
 use std::time::{Clock, Duration};
 
 /// So many bytes are read at a time and thrown away, of a run that has no more, and of one that has.
@@ -38,6 +38,10 @@ const IN_A_ROW: u64 = 3;
 /// It then counts as slow for so many reads.
 const LATELY: u64 = 8192;
 
+/// So many flushes of a file run at a time, each by a handle of its own. Sessions that want one while these run wait, and share the
+/// next.
+const AT_A_TIME: usize = 4;
+
 /// Each slow read among them makes it so many more, up to as many again: so a disk counts as fast of which fewer are slow, as
 /// where a thread was kept from its processor.
 const MORE: u64 = 64;
@@ -46,43 +50,37 @@ const MORE: u64 = 64;
 /// reads and writes hides the reads.
 const LOOKED_AT: u64 = 61;
 
-/// A file as its preparer has it: through a handle of its own, so that it waits beside the device.
+/// A file as its preparer has it: through handles of its own, so that it waits beside the device.
 ///
 /// While the disk counts as fast, as where the system has the file in memory, it only looks now and then whether a read takes time.
 #[derive(Drop)]
-pub struct FilePreparer<R: Clock + Wait + Drop> {
+pub struct FilePreparer<R: Clock + Wait + Drop, F: LastingFile> {
     rt: R,
     // None where there was no handle for it: then nothing is prepared.
     file: Option<File>,
     // What tells of its flushes that failed.
     voice: Option<Voice>,
-    // What it tells the device of its flushes; none where it makes none.
-    flushes: Option<Arc<Flushes<File>, Global>>,
+    // Its flushes; none where it makes none.
+    flushes: Option<Arc<Flushes<F>, Global>>,
     // For how many reads more the disk counts as slow; below IN_A_ROW how many slow ones in a row were looked at.
     slow: AtomicU64,
 }
 
-impl<R: Clock + Wait + Files<File = File> + Drop> FilePreparer<R> {
+impl<R: Clock + Wait + Files<File = File> + Drop> FilePreparer<R, File> {
     /// The preparer of a device, whose file has this name. Where the name is another file's by now, or has none, it does nothing;
-    /// where there is no memory it makes no flush.
+    /// where there is no memory, or no handle more, it makes no flush.
     pub fn open(
         rt: R,
         alloc: Global,
         path: &str,
         blocks: &mut FileBlocks<File>,
         voice: Option<Voice>,
-    ) -> FilePreparer<R>
+    ) -> FilePreparer<R, File>
         ensures { (blocks.new.file ≡ blocks.old.file) × (blocks.new.count ≡ blocks.old.count)
             × (blocks.new.tally ≡ blocks.old.tally) }
     {
-        let file = match File::options().read(true).write(true).open(&rt, path) {
-            Ok(file) if node_of(&file) == node_of(blocks.file()) => Some(file),
-            _ => None,
-        };
-        let flushes = match file {
-            Some(_) => shared(alloc, blocks),
-            None => None,
-        };
+        let file = again(&rt, path, blocks.file());
+        let flushes = shared(alloc, &rt, path, blocks);
         FilePreparer {
             rt,
             file,
@@ -93,12 +91,45 @@ impl<R: Clock + Wait + Files<File = File> + Drop> FilePreparer<R> {
     }
 }
 
-// What a device and its preparer are to tell each other, which both have from now on.
-fn shared(alloc: Global, blocks: &mut FileBlocks<File>) -> Option<Arc<Flushes<File>, Global>>
+// A handle more on a file that has this name, unless the name is another's by now.
+fn again<R: Files<File = File>>(rt: &R, path: &str, file: &File) -> Option<File> {
+    match File::options().read(true).write(true).open(rt, path) {
+        Ok(again) if node_of(&again) == node_of(file) => Some(again),
+        _ => None,
+    }
+}
+
+// Handles for flushes, as many as there are.
+fn handles<R: Files<File = File>>(
+    alloc: Global,
+    rt: &R,
+    path: &str,
+    file: &File,
+) -> Vec<Mutex<File>> {
+    let mut handles = Vec::new(alloc);
+    for _ in 0..AT_A_TIME {
+        if let Some(handle) = again(rt, path, file) {
+            let _ = handles.push(Mutex::new(handle));
+        }
+    }
+    handles
+}
+
+// The flushes of a device's preparer, which the device has from now on.
+fn shared<R: Files<File = File>>(
+    alloc: Global,
+    rt: &R,
+    path: &str,
+    blocks: &mut FileBlocks<File>,
+) -> Option<Arc<Flushes<File>, Global>>
     ensures { (blocks.new.file ≡ blocks.old.file) × (blocks.new.count ≡ blocks.old.count)
         × (blocks.new.tally ≡ blocks.old.tally) }
 {
-    let Ok(flushes) = Arc::new(alloc, Flushes::new(0)) else {
+    let handles = handles(alloc, rt, path, blocks.file());
+    if handles.is_empty() {
+        return None;
+    }
+    let Ok(flushes) = Arc::new(alloc, Flushes::new(0, handles)) else {
         return None;
     };
     let Ok(mine) = Arc::try_clone(&flushes) else {
@@ -108,7 +139,7 @@ fn shared(alloc: Global, blocks: &mut FileBlocks<File>) -> Option<Arc<Flushes<Fi
     Some(mine)
 }
 
-impl<R: Clock + Wait + Drop> FilePreparer<R> {
+impl<R: Clock + Wait + Drop, F: LastingFile> FilePreparer<R, F> {
     // A read was looked at.
     fn count(&self, is_slow: bool) {
         let slow = self.slow.load(Ordering::Relaxed);
@@ -129,9 +160,9 @@ impl<R: Clock + Wait + Drop> FilePreparer<R> {
         }
     }
 
-    // Tells that a flush failed.
-    fn tell(&self, error: u32) {
-        if let Some(voice) = &self.voice {
+    // Tells that a flush failed, once.
+    fn tell(&self, fault: FlushFault) {
+        if let (Some(voice), FlushFault::Failed(error)) = (&self.voice, fault) {
             voice.tell(Call::Flush, 0, 0, error);
         }
     }
@@ -206,7 +237,11 @@ fn edges_of(first: u64, blocks: u16) -> (Option<u64>, Option<u64>) {
     (head, tail)
 }
 
-impl<R: Clock + Wait + Drop> Preparer for FilePreparer<R> {
+impl<R: Clock + Wait + Drop, F: LastingFile> Preparer for FilePreparer<R, F> {
+    ghost may_flush = { true };
+
+    ghost has_flushed = { (writes : ℕ) × F.lasts writes };
+
     fn is_slow(&self) -> bool {
         self.slow.load(Ordering::Relaxed) >= IN_A_ROW
     }
@@ -252,10 +287,19 @@ impl<R: Clock + Wait + Drop> Preparer for FilePreparer<R> {
         }
     }
 
-    fn flush(&self) {
-        if let (Some(file), Some(flushes)) = (&self.file, &self.flushes) {
-            if let Err(error) = flushes.flush_before(&self.rt, file) {
-                self.tell(error);
+    fn flushes(&self) -> bool {
+        self.flushes.is_some()
+    }
+
+    fn flush(&self) -> bool {
+        let Some(flushes) = &self.flushes else {
+            return false;
+        };
+        match flushes.flush(&self.rt) {
+            Ok(()) => true,
+            Err(fault) => {
+                self.tell(fault);
+                false
             }
         }
     }

@@ -1,12 +1,12 @@
-//! Flushes of a file that stand before those of its device.
-ghost use Rattle.std.specs.Prelude.{◌≡◌, IsTrue, OnOk, false, refl};
+//! Flushes of a file beside its device.
+ghost use Rattle.std.specs.Prelude.{◌≡◌, ℕ, IsTrue, OnOk, false, refl};
 ghost use Rattle.disk_files.specs.Lasting.{IsSettled};
 
 use crate::backing::BackingFile;
 use crate::voice::number_of;
 use std::fs::File;
 use std::marker::{Model, PhantomData};
-use std::sync::atomic::{AtomicBool, AtomicU64, Ordering};
+use std::sync::atomic::{AtomicBool, AtomicU64, AtomicUsize, Ordering};
 use std::sync::{Mutex, Wait};
 
 /// A file of which threads may flush several handles at one time. What one of them has made last is not seen in the others, so
@@ -32,10 +32,7 @@ impl LastingFile for File {
     }
 }
 
-/// So many flushes of a file run at a time. Sessions that want one while these run wait, and share the next.
-const AT_A_TIME: usize = 4;
-
-// How many writes of the device had ended when the last flush began that is done, of those flushes that stand before.
+// How many writes of the device had ended when the last flush began that is done, of those beside the device.
 #[derive(Drop)]
 struct Settled<F: BackingFile> {
     writes: Option<u64>,
@@ -74,19 +71,31 @@ impl<F: BackingFile> Settled<F> {
 }
 
 /// What a device and its preparer tell each other of the flushes of their file: how many writes have ended, how many of them a
-/// flush that stood before has made last, and whether such a flush has failed.
+/// flush beside the device has made last, and whether a flush has failed.
+///
+/// Each of its handles makes one flush at a time. The system tells an error of what it could not write once by each handle: so where
+/// several flushes run by one handle, one of them would end well in place of the one that was told.
 #[derive(Drop)]
 pub struct Flushes<F: BackingFile> {
     written: AtomicU64,
     settled: Mutex<Settled<F>>,
     is_lost: AtomicBool,
-    turns: AtomicU64,
-    running: [Mutex<()>; AT_A_TIME],
+    turns: AtomicUsize,
+    handles: Vec<Mutex<F>>,
+}
+
+/// Why a flush is not done.
+#[derive(Clone, Copy, Debug, PartialEq, Eq)]
+pub enum FlushFault {
+    /// It failed by this error of the system, 0 where that told none.
+    Failed(u32),
+    /// One before it had failed, or there is no handle for it.
+    Lost,
 }
 
 impl<F: BackingFile> Flushes<F> {
-    /// None was made yet, of a device of which so many writes have ended.
-    pub fn new(written: u64) -> Flushes<F> {
+    /// Flushes by these handles on the file of a device of which so many writes have ended.
+    pub fn new(written: u64, handles: Vec<Mutex<F>>) -> Flushes<F> {
         Flushes {
             written: AtomicU64::new(written),
             settled: Mutex::new(Settled {
@@ -94,13 +103,8 @@ impl<F: BackingFile> Flushes<F> {
                 of: PhantomData,
             }),
             is_lost: AtomicBool::new(false),
-            turns: AtomicU64::new(0),
-            running: [
-                Mutex::new(()),
-                Mutex::new(()),
-                Mutex::new(()),
-                Mutex::new(()),
-            ],
+            turns: AtomicUsize::new(0),
+            handles,
         }
     }
 
@@ -109,12 +113,17 @@ impl<F: BackingFile> Flushes<F> {
         self.written.store(written, Ordering::Release);
     }
 
-    /// Whether a flush that stood before has failed.
+    /// A flush has failed, the device's or one beside it: none that comes later makes that good.
+    pub fn lose(&self) {
+        self.is_lost.store(true, Ordering::Release);
+    }
+
+    /// Whether a flush has failed.
     pub fn is_lost(&self) -> bool {
         self.is_lost.load(Ordering::Acquire)
     }
 
-    /// Whether a flush that stood before has made the first so many writes last, as far as is seen without waiting.
+    /// Whether a flush beside the device has made the first so many writes last, as far as is seen without waiting.
     pub fn covers(&self, writes: u64) -> bool
         ensures { IsTrue result → IsSettled F.lasts writes }
     {
@@ -126,23 +135,27 @@ impl<F: BackingFile> Flushes<F> {
 }
 
 impl<F: LastingFile> Flushes<F> {
-    /// Makes last what the writes left that have ended by now. A failure is remembered, and told by the device's next flush;
-    /// it is the error of the system, 0 where that told none.
-    pub fn flush_before<R: Wait>(&self, rt: &R, file: &F) -> Result<(), u32> {
-        let turn = self.turns.fetch_add(1, Ordering::Relaxed) as usize % AT_A_TIME;
-        let _running = self.running[turn].lock(rt);
+    /// Makes last what the writes left that have ended by now. A failure is remembered, and told by each later flush.
+    pub fn flush<R: Wait>(&self, rt: &R) -> Result<(), FlushFault>
+        ensures { OnOk result ((writes : ℕ) × F.lasts writes) }
+    {
+        if self.is_lost() || self.handles.is_empty() {
+            return Err(FlushFault::Lost);
+        }
+        let turn = self.turns.fetch_add(1, Ordering::Relaxed) % self.handles.len();
+        let handle = self.handles[turn].lock(rt);
         let writes = self.written.load(Ordering::Acquire);
         if self.settled.lock(rt).has(writes) {
             return Ok(());
         }
-        match file.make_last(writes) {
+        match handle.make_last(writes) {
             Ok(()) => {
                 self.settled.lock(rt).put(writes);
                 Ok(())
             }
             Err(error) => {
-                self.is_lost.store(true, Ordering::Release);
-                Err(error)
+                self.lose();
+                Err(FlushFault::Failed(error))
             }
         }
     }

@@ -20,7 +20,7 @@ pub use blocks::{FileBlocks, blocks_in};
 pub use disk::{Disk, DiskLock, open_disk};
 pub use fault::{DiskFault, FileFault, RegistrationsFault};
 pub use file_preparer::FilePreparer;
-pub use flushes::{Flushes, LastingFile};
+pub use flushes::{FlushFault, Flushes, LastingFile};
 pub use opener::FileOpener;
 pub use registrations::open_registrations;
 pub use tally::Tally;

@@ -3,10 +3,10 @@ ghost use Rattle.std.specs.Prelude.{[], false, refl};
 
 use crate::files::{want, writes};
 use block_file::Blocks;
-use disk_files::{BackingFile, FileBlocks, Flushes, LastingFile};
+use disk_files::{BackingFile, FileBlocks, FlushFault, Flushes, LastingFile};
 use std::alloc::Global;
 use std::cell::Cell;
-use std::sync::Arc;
+use std::sync::{Arc, Mutex};
 use std::test::Fail;
 
 /// The error of its flush that fails, as a system numbers EIO.
@@ -109,38 +109,71 @@ fn is_renewed(device: &mut FileBlocks<Flushed>, is_done: bool) -> Result<(), Fai
     Ok(())
 }
 
-// A device of that file, with a preparer that flushes before it.
+// A device of that file, and flushes beside it by two handles, of which each fails at this one of its flushes.
 fn prepared(
     alloc: Global,
     fails_at: Option<u32>,
+    beside: Option<u32>,
 ) -> Result<(FileBlocks<Flushed>, Arc<Flushes<Flushed>, Global>), Fail> {
     let mut device = device(fails_at)?;
-    let before = Arc::new(alloc, Flushes::new(0))?;
-    device.share(Arc::try_clone(&before)?);
-    Ok((device, before))
+    let mut handles = Vec::new(alloc);
+    for _ in 0..2 {
+        handles.push(Mutex::new(Flushed::new(beside)))?;
+    }
+    let flushes = Arc::new(alloc, Flushes::new(0, handles))?;
+    device.share(Arc::try_clone(&flushes)?);
+    Ok((device, flushes))
 }
 
-// The flushes of the device itself would all be done.
+// All other flushes would be done.
 #[test]
-fn a_flush_before_that_failed_is_told(rt: HostRuntime) -> Result<(), Fail> {
-    let (mut device, before) = prepared(rt.alloc(), None)?;
+fn a_flush_beside_the_device_that_failed_is_told(rt: HostRuntime) -> Result<(), Fail> {
+    let (mut device, beside) = prepared(rt.alloc(), None, Some(1))?;
     want(flushes(&mut device), "a flush that nothing stands before")?;
-    let end = before.flush_before(&rt, &Flushed::new(Some(0)));
-    want(end == Err(FAILED), "a flush before that fails")?;
+    // One by each handle, and then a second one.
+    want(beside.flush(&rt) == Ok(()), "a flush beside it")?;
+    want(writes(&mut device, 1, &[0x11]), "a write")?;
+    want(beside.flush(&rt) == Ok(()), "by the other handle")?;
+    want(writes(&mut device, 1, &[0x12]), "a write")?;
+    let failed = Err(FlushFault::Failed(FAILED));
+    want(beside.flush(&rt) == failed, "one that fails")?;
+    want(beside.flush(&rt) == Err(FlushFault::Lost), "one behind it")?;
     for _ in 0..2 {
         want(!flushes(&mut device), "a flush behind one that failed")?;
     }
     Ok(())
 }
 
+// The flushes beside it would all be done.
+#[test]
+fn a_flush_of_the_device_that_failed_is_told_beside_it(rt: HostRuntime) -> Result<(), Fail> {
+    let (mut device, beside) = prepared(rt.alloc(), Some(0), None)?;
+    want(!flushes(&mut device), "a flush of the device that fails")?;
+    for _ in 0..2 {
+        want(
+            beside.flush(&rt) == Err(FlushFault::Lost),
+            "a flush beside it",
+        )?;
+    }
+    Ok(())
+}
+
+#[test]
+fn without_a_handle_no_flush_is_done(rt: HostRuntime) -> Result<(), Fail> {
+    let flushes: Flushes<Flushed> = Flushes::new(0, Vec::new(rt.alloc()));
+    want(
+        flushes.flush(&rt) == Err(FlushFault::Lost),
+        "a flush without a handle",
+    )
+}
+
 // The flushes of the device itself would all fail.
 #[test]
-fn a_flush_before_is_enough_until_a_write_ends(rt: HostRuntime) -> Result<(), Fail> {
-    let (mut device, before) = prepared(rt.alloc(), Some(0))?;
-    let end = before.flush_before(&rt, &Flushed::new(None));
-    want(end == Ok(()), "a flush before")?;
+fn a_flush_beside_the_device_is_enough_until_a_write_ends(rt: HostRuntime) -> Result<(), Fail> {
+    let (mut device, beside) = prepared(rt.alloc(), Some(0), None)?;
+    want(beside.flush(&rt) == Ok(()), "a flush beside it")?;
     for _ in 0..2 {
-        want(flushes(&mut device), "a flush behind one before")?;
+        want(flushes(&mut device), "a flush behind that")?;
     }
     want(writes(&mut device, 1, &[0x11]), "a write")?;
     want(!flushes(&mut device), "a flush behind a write")

@@ -5,8 +5,9 @@ use disk_files::FilePreparer;
 use preparer::Preparer;
 use std::test::Fail;
 
-// What stands behind the path of the disk in the name that the preparer opens: of the disk, of another file, of none.
-const NAMES: [&str; 3] = ["", "_other", "_none"];
+// What stands behind the path of the disk in the name that the preparer opens, and whether that is the disk's: or that of another
+// file, or of none.
+const NAMES: [(&str, bool); 3] = [("", true), ("_other", false), ("_none", false)];
 
 // Runs that lie in the disk of four blocks, reach behind it, or lie behind all that a file can have.
 const RUNS: [(u64, u16); 5] = [(0, 4), (1, 1), (3, 2048), (8, 1), (u64::MAX, 65535)];
@@ -16,11 +17,13 @@ fn a_preparer_costs_time_alone(rt: HostRuntime) -> Result<(), Fail> {
     let path = disk(&rt, "preparers")?;
     let other = beside(rt.alloc(), path.as_str(), "_other")?;
     make(&rt, other.as_str(), 2048)?;
-    for name in NAMES {
+    for (name, is_own) in NAMES {
         let name = beside(rt.alloc(), path.as_str(), name)?;
         make(&rt, path.as_str(), 2048)?;
         let mut blocks = opened(rt, path.as_str())?.blocks;
         let preparer = FilePreparer::open(rt, rt.alloc(), name.as_str(), &mut blocks, None);
+        want(preparer.flushes() == is_own, "whether it flushes")?;
+        want(preparer.flush() == is_own, "a flush of its own")?;
         is_as_ever(&mut blocks, &preparer)?;
         make(&rt, path.as_str(), 512)?;
         prepare(&preparer);

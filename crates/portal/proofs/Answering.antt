@@ -28,6 +28,7 @@ use Rattle.session_rules.specs.declared.target.ResetAnswer.TheVariants as resets
 use Rattle.unit_state.specs.State.{UnitState}
 use Rattle.unit_state.specs.Entry.{Entry, Attach}
 use Rattle.unit_history.specs.Histories.{IsHistory}
+use Rattle.portal.specs.Late.{Late}
 use Rattle.portal.specs.Units.{Claims}
 use Rattle.portal.specs.Submitted.{At, IsServed, IsResetAnswer}
 use Rattle.portal.specs.Entries.{Done, done_by, reset_by, of_unit, done_in, done_at, AreEntries, HasDone, HasDoneNothing, IsLast, IsNormal}
@@ -56,7 +57,7 @@ at_same : (unit : ℕ) (asks : List Asking) (ask : Asking) → done_in unit ask 
 at_same unit asks ask is =
     at_more unit asks ask ∙ ap (λ (ds : List Done). done_at unit asks ++ ds) is ∙ append-nil (done_at unit asks)
 
-module _ (claims : Claims) (opening : ℕ → UnitState) where
+module _ (claims : Claims) (late : Late) (opening : ℕ → UnitState) where
   -- the session at a unit has done this since it attached
   record DoneAt (nexus : Nexus) (unit : ℕ) (done : List Done) (a : At) : Type 0 where
     place : a.place ≡ unit
@@ -65,7 +66,7 @@ module _ (claims : Claims) (opening : ℕ → UnitState) where
     seen : a.pass.seen ≡ (before ++ Attach nexus ∷ []) ++ behind
     session : a.pass.session ≡ length before
     legal : IsHistory claims.contents (opening unit) a.pass.seen
-    entries : AreEntries claims (opening unit) (length before) (before ++ Attach nexus ∷ []) done behind
+    entries : AreEntries claims late (opening unit) (length before) (before ++ Attach nexus ∷ []) done behind
 
   done_first : (nexus : Nexus) (unit : ℕ) (a : At) → IsAttachedTo claims opening nexus unit a → DoneAt nexus unit [] a
   done_first nexus unit a is =
@@ -79,7 +80,7 @@ module _ (claims : Claims) (opening : ℕ → UnitState) where
         entries = refl;
       }
 
-  done_more : (nexus : Nexus) (unit : ℕ) (done more : List Done) (a b : At) → DoneAt nexus unit done a → GrowsAt claims opening a b more
+  done_more : (nexus : Nexus) (unit : ℕ) (done more : List Done) (a b : At) → DoneAt nexus unit done a → GrowsAt claims late opening a b more
       → DoneAt nexus unit (done ++ more) b
   done_more nexus unit done more a b is grows =
       let g = grows.grown in
@@ -91,16 +92,16 @@ module _ (claims : Claims) (opening : ℕ → UnitState) where
             ∙ append_assoc (is.before ++ Attach nexus ∷ []) is.behind g.more;
         session = g.session ∙ is.session;
         legal = subst (λ (n : ℕ). IsHistory claims.contents (opening n) b.pass.seen) is.place g.legal;
-        entries = both_of claims (opening unit) (length is.before) (is.before ++ Attach nexus ∷ []) done is.behind more g.more
+        entries = both_of claims late (opening unit) (length is.before) (is.before ++ Attach nexus ∷ []) done is.behind more g.more
             is.entries
-            (subst (λ (h : List Entry). AreEntries claims (opening unit) (length is.before) h more g.more) is.seen
-            (subst (λ (n : ℕ). AreEntries claims (opening unit) n a.pass.seen more g.more) is.session
-            (subst (λ (n : ℕ). AreEntries claims (opening n) a.pass.session a.pass.seen more g.more) is.place g.entries)));
+            (subst (λ (h : List Entry). AreEntries claims late (opening unit) (length is.before) h more g.more) is.seen
+            (subst (λ (n : ℕ). AreEntries claims late (opening unit) n a.pass.seen more g.more) is.session
+            (subst (λ (n : ℕ). AreEntries claims late (opening n) a.pass.session a.pass.seen more g.more) is.place g.entries)));
       }
 
   has_done : (nexus : Nexus) (unit : ℕ) (done : List Done) (a : At) (one : Sight) → DoneAt nexus unit done a
       → IsOverAt claims opening a one
-      → HasDone claims (opening unit) nexus done one.1
+      → HasDone claims late (opening unit) nexus done one.1
   has_done nexus unit done a one is left =
       let e : Ended claims (opening unit) a.pass one.1 =
       subst (λ (n : ℕ). Ended claims (opening n) a.pass one.1) is.place (ended claims (opening a.place) a.pass one.1 left.1) in
@@ -125,7 +126,7 @@ module _ (claims : Claims) (opening : ℕ → UnitState) where
   attached_at nexus first (b ∷ at) (suc n) a are is =
       subst (λ (k : ℕ). IsAttachedTo claims opening nexus k a) (omega arith) (attached_at nexus (first + 1) at n a are.1 is)
 
-module _ (claims : Claims) (opening : ℕ → UnitState) (units : ℕ) (group : Group) where
+module _ (claims : Claims) (late : Late) (opening : ℕ → UnitState) (units : ℕ) (group : Group) where
   record Fresh (asks : List Asking) (t : TargetValue) : Type 0 where
     begun : t.begun ≡ false
     at : t.at ≡ []
@@ -134,7 +135,7 @@ module _ (claims : Claims) (opening : ℕ → UnitState) (units : ℕ) (group : 
   record Idle (asks : List Asking) (t : TargetValue) : Type 0 where
     begun : t.begun ≡ true
     at : t.at ≡ []
-    answered : AreAnswered claims opening units group asks t.seen
+    answered : AreAnswered claims late opening units group asks t.seen
 
   record Running (asks : List Asking) (t : TargetValue) : Type 0 where
     begun : t.begun ≡ true
@@ -146,7 +147,7 @@ module _ (claims : Claims) (opening : ℕ → UnitState) (units : ℕ) (group : 
     began_is : asks ≡ front ++ began port Normal (Begun tsih) ∷ rest
     count : length t.at ≡ units
     at : (unit : ℕ) (a : At) → slice_get t.at unit ≡ Some a
-        → DoneAt claims opening (through port group) unit (done_at unit asks) a
+        → DoneAt claims late opening (through port group) unit (done_at unit asks) a
     none : (unit : ℕ) → units ≤ unit → done_at unit asks ≡ []
 
   -- where a session is behind what it has asked
@@ -164,11 +165,11 @@ module _ (claims : Claims) (opening : ℕ → UnitState) (units : ℕ) (group : 
   nothing_more asks ask idles nothing = λ (unit : ℕ). at_same unit asks ask (idles unit) ∙ nothing unit
 
   answered_more : (asks : List Asking) (ask : Asking) (seen : List Sight) → Idles ask
-      → AreAnswered claims opening units group asks seen
-      → AreAnswered claims opening units group (asks ++ ask ∷ []) seen
+      → AreAnswered claims late opening units group asks seen
+      → AreAnswered claims late opening units group (asks ++ ask ∷ []) seen
   answered_more asks ask seen idles answered =
       ⊎_elim (λ (n : HasDoneNothing asks). inl (nothing_more asks ask idles n))
-      (λ (r : IsNormal claims opening units group asks seen). inr (record {
+      (λ (r : IsNormal claims late opening units group asks seen). inr (record {
         port = r.port;
         tsih = r.tsih;
         front = r.front;
@@ -180,7 +181,7 @@ module _ (claims : Claims) (opening : ℕ → UnitState) (units : ℕ) (group : 
               d.0,
               d.1,
               d.2,
-              subst (λ (ds : List Done). HasDone claims (opening unit) (through r.port group) ds d.0.1)
+              subst (λ (ds : List Done). HasDone claims late (opening unit) (through r.port group) ds d.0.1)
                   (sym (at_same unit asks ask (idles unit))) d.3,
             );
         none = λ (unit : ℕ) (le : units ≤ unit). at_same unit asks ask (idles unit) ∙ r.none unit le;
@@ -199,7 +200,7 @@ module _ (claims : Claims) (opening : ℕ → UnitState) (units : ℕ) (group : 
             ∙ append_assoc r.front (began r.port Normal (Begun r.tsih) ∷ r.rest) (ask ∷ []);
         count = r.count;
         at = λ (unit : ℕ) (a : At) (here : slice_get t.at unit ≡ Some a).
-            subst (λ (ds : List Done). DoneAt claims opening (through r.port group) unit ds a)
+            subst (λ (ds : List Done). DoneAt claims late opening (through r.port group) unit ds a)
             (sym (at_same unit asks ask (idles unit))) (r.at unit a here);
         none = λ (unit : ℕ) (le : units ≤ unit). at_same unit asks ask (idles unit) ∙ r.none unit le;
       }
@@ -223,21 +224,21 @@ module _ (claims : Claims) (opening : ℕ → UnitState) (units : ℕ) (group : 
   -- ---- something is done at a unit
 
   module _ (asks : List Asking) (ask : Asking) (t : TargetValue) (n : ℕ) (a after : At) (done : List Done)
-      (here : slice_get t.at n ≡ Some a) (lt : n < units) (grows : GrowsAt claims opening a after done)
+      (here : slice_get t.at n ≡ Some a) (lt : n < units) (grows : GrowsAt claims late opening a after done)
       (does : (unit : ℕ) → done_in unit ask ≡ of_unit unit n done) where
     done_here : (nexus : Nexus) (unit : ℕ) (b : At) → nat_eq n unit ≡ true → n ≡ unit
         → slice_get (slice_set t.at n after) unit ≡ Some b
-        → ((u : ℕ) (x : At) → slice_get t.at u ≡ Some x → DoneAt claims opening nexus u (done_at u asks) x)
-        → DoneAt claims opening nexus unit (done_at unit (asks ++ ask ∷ [])) b
+        → ((u : ℕ) (x : At) → slice_get t.at u ≡ Some x → DoneAt claims late opening nexus u (done_at u asks) x)
+        → DoneAt claims late opening nexus unit (done_at unit (asks ++ ask ∷ [])) b
     done_here nexus unit b hit is at before =
         let written : slice_get (slice_set t.at n after) unit ≡ Some after =
         subst (λ (k : ℕ). slice_get (slice_set t.at n after) k ≡ Some after) is (get_written t.at n after a here) in
         let e : after ≡ b = some_is after b (sym written ∙ at) in
         let d : done_in unit ask ≡ done = does unit ∙ ap (λ (c : Bool). cond c done []) hit in
-        subst (λ (x : At). DoneAt claims opening nexus unit (done_at unit (asks ++ ask ∷ [])) x) e
-        (subst (λ (ds : List Done). DoneAt claims opening nexus unit ds after)
+        subst (λ (x : At). DoneAt claims late opening nexus unit (done_at unit (asks ++ ask ∷ [])) x) e
+        (subst (λ (ds : List Done). DoneAt claims late opening nexus unit ds after)
         (sym (at_more unit asks ask ∙ ap (λ (ds : List Done). done_at unit asks ++ ds) d))
-        (done_more claims opening nexus unit (done_at unit asks) done a after
+        (done_more claims late opening nexus unit (done_at unit asks) done a after
         (before unit a (subst (λ (k : ℕ). slice_get t.at k ≡ Some a) is here)) grows))
       where
         some_is : (x y : At) → Some x ≡ Some y → x ≡ y
@@ -245,11 +246,11 @@ module _ (claims : Claims) (opening : ℕ → UnitState) (units : ℕ) (group : 
 
     done_there : (nexus : Nexus) (unit : ℕ) (b : At) → nat_eq n unit ≡ false → n ≢ unit
         → slice_get (slice_set t.at n after) unit ≡ Some b
-        → ((u : ℕ) (x : At) → slice_get t.at u ≡ Some x → DoneAt claims opening nexus u (done_at u asks) x)
-        → DoneAt claims opening nexus unit (done_at unit (asks ++ ask ∷ [])) b
+        → ((u : ℕ) (x : At) → slice_get t.at u ≡ Some x → DoneAt claims late opening nexus u (done_at u asks) x)
+        → DoneAt claims late opening nexus unit (done_at unit (asks ++ ask ∷ [])) b
     done_there nexus unit b miss other at before =
         let d : done_in unit ask ≡ [] = does unit ∙ ap (λ (c : Bool). cond c done []) miss in
-        subst (λ (ds : List Done). DoneAt claims opening nexus unit ds b) (sym (at_same unit asks ask d))
+        subst (λ (ds : List Done). DoneAt claims late opening nexus unit ds b) (sym (at_same unit asks ask d))
         (before unit b (sym (get_other t.at n unit after other) ∙ at))
 
     none_there : (unit : ℕ) → units ≤ unit → done_at unit asks ≡ [] → done_at unit (asks ++ ask ∷ []) ≡ []
@@ -301,7 +302,7 @@ module _ (claims : Claims) (opening : ℕ → UnitState) (units : ℕ) (group : 
   absent_nothing asked bytes Gone is = refl
 
   served_in : (asks : List Asking) (t new : TargetValue) (n : ℕ) (asked : Result ScsiCommand CdbFault) (bytes : List ℕ)
-      (answer : TargetAnswer) → n < units → IsServedAt claims opening t n asked bytes answer new → Standing asks t
+      (answer : TargetAnswer) → n < units → IsServedAt claims late opening t n asked bytes answer new → Standing asks t
       → Standing (asks ++ served (Some n) asked bytes answer ∷ []) new
   served_in asks t new n asked bytes answer lt is standing = by (slice_get t.at n) refl is
     where
@@ -310,7 +311,7 @@ module _ (claims : Claims) (opening : ℕ → UnitState) (units : ℕ) (group : 
 
       by : (o : Option At) → slice_get t.at n ≡ o
           → MatchOption o ((answer ≡ Gone) × (new ≡ t))
-          (λ a. (after : At) × IsServed claims opening a asked bytes answer after × (new ≡ record t { at = slice_set t.at n after }))
+          (λ a. (after : At) × IsServed claims late opening a asked bytes answer after × (new ≡ record t { at = slice_set t.at n after }))
           → Standing (asks ++ ask ∷ []) new
       by None here gone =
           kept asks ask t new
@@ -318,7 +319,7 @@ module _ (claims : Claims) (opening : ℕ → UnitState) (units : ℕ) (group : 
       by (Some a) here done =
           subst (λ (x : TargetValue). Standing (asks ++ ask ∷ []) x) (sym done.2)
           (stepped asks ask t n a done.0 (done_by asked bytes answer) here lt
-          (grows_served claims opening a done.0 asked bytes answer done.1) (λ (unit : ℕ). refl) standing)
+          (grows_served claims late opening a done.0 asked bytes answer done.1) (λ (unit : ℕ). refl) standing)
 
   reset_in : (asks : List Asking) (t new : TargetValue) (n : ℕ) (answer : ResetAnswer) → n < units
       → IsResetIn claims opening t n answer new → Standing asks t
@@ -338,7 +339,7 @@ module _ (claims : Claims) (opening : ℕ → UnitState) (units : ℕ) (group : 
       by (Some a) here done =
           subst (λ (x : TargetValue). Standing (asks ++ ask ∷ []) x) (sym done.2)
           (stepped asks ask t n a done.0 (reset_by answer) here lt
-          (grows_reset_at claims opening a done.0 answer done.1) (λ (unit : ℕ). refl) standing)
+          (grows_reset_at claims late opening a done.0 answer done.1) (λ (unit : ℕ). refl) standing)
 
   -- a session begins
   begun_as : (asks : List Asking) (t new : TargetValue) (port : Port) (kind : Kind) (tsih : ℕ) → Standing asks t
@@ -356,12 +357,12 @@ module _ (claims : Claims) (opening : ℕ → UnitState) (units : ℕ) (group : 
         began_is = refl;
         count = is.joined.0 ∙ standing.units_is;
         at = λ (unit : ℕ) (a : At) (here : slice_get new.at unit ≡ Some a).
-            subst (λ (ds : List Done). DoneAt claims opening (through port group) unit ds a)
+            subst (λ (ds : List Done). DoneAt claims late opening (through port group) unit ds a)
             (sym (at_same unit asks (began port Normal (Begun tsih)) refl ∙ nothing unit))
-            (done_first claims opening (through port group) unit a
+            (done_first claims late opening (through port group) unit a
             (subst (λ (g : Group). IsAttachedTo claims opening (through port g) unit a) standing.group_is
             (subst (λ (k : ℕ). IsAttachedTo claims opening (through port t.group) k a) (omega arith)
-            (attached_at claims opening (through port t.group) 0 new.at unit a is.joined.1 here))));
+            (attached_at claims late opening (through port t.group) 0 new.at unit a is.joined.1 here))));
         none = λ (unit : ℕ) (le : units ≤ unit). at_same unit asks (began port Normal (Begun tsih)) refl ∙ nothing unit;
       }))
   begun_as asks t new port Discovery tsih standing is nothing =
@@ -409,7 +410,7 @@ module _ (claims : Claims) (opening : ℕ → UnitState) (units : ℕ) (group : 
 
   -- what a running session has done stands in the histories that were seen
   ran : (asks : List Asking) (t : TargetValue) (seen : List Sight) → Running asks t → AreOver claims opening t.at seen
-      → AreAnswered claims opening units group asks seen
+      → AreAnswered claims late opening units group asks seen
   ran asks t seen is left =
       inr (record {
         port = is.port;
@@ -424,7 +425,7 @@ module _ (claims : Claims) (opening : ℕ → UnitState) (units : ℕ) (group : 
               one.0,
               one.1,
               one.2.0 ∙ at.place,
-              has_done claims opening (through is.port group) unit (done_at unit asks) here.0 one.0 at one.2,
+              has_done claims late opening (through is.port group) unit (done_at unit asks) here.0 one.0 at one.2,
             );
         none = is.none;
       })
@@ -444,7 +445,7 @@ module _ (claims : Claims) (opening : ℕ → UnitState) (units : ℕ) (group : 
           begun = begun_is ∙ i.begun;
           at = nowhere_now;
           answered = answered_more asks over new.seen (λ (unit : ℕ). refl)
-              (subst (λ (l : List Sight). AreAnswered claims opening units group asks l) (sym same) i.answered);
+              (subst (λ (l : List Sight). AreAnswered claims late opening units group asks l) (sym same) i.answered);
         }
 
     idle_now : Running asks t → Idle (asks ++ over ∷ []) new
@@ -475,12 +476,12 @@ module _ (claims : Claims) (opening : ℕ → UnitState) (units : ℕ) (group : 
               (λ (i : Idle (asks ++ over ∷ []) new). inr (inl i)) (ends standing);
         }
 
-    pub answered_at_last : Standing asks t → AreAnswered claims opening units group (asks ++ over ∷ []) new.seen
+    pub answered_at_last : Standing asks t → AreAnswered claims late opening units group (asks ++ over ∷ []) new.seen
     answered_at_last standing =
         ⊎_elim (λ (f : Fresh (asks ++ over ∷ []) new). inl f.nothing) (λ (i : Idle (asks ++ over ∷ []) new). i.answered)
         (ends standing)
 
-  step : (asks : List Asking) (ask : Asking) (t new : TargetValue) → Standing asks t → LeadsOn claims opening t ask new
+  step : (asks : List Asking) (ask : Asking) (t new : TargetValue) → Standing asks t → LeadsOn claims late opening t ask new
       → Standing (asks ++ ask ∷ []) new
   step asks (began port kind (Begun tsih)) t new standing is = begins asks t new port kind tsih standing is
   step asks (began port kind Refused) t new standing is = turned_back asks t new port kind is.0 is.1 standing
@@ -506,7 +507,7 @@ module _ (claims : Claims) (opening : ℕ → UnitState) (units : ℕ) (group : 
       away.1 standing) (cases_lt n units)
   step asks over t new standing is = over_on asks t new is standing
 
-  led : (asks more : List Asking) (t new : TargetValue) → Standing asks t → Leads (LeadsOn claims opening) more t new
+  led : (asks more : List Asking) (t new : TargetValue) → Standing asks t → Leads (LeadsOn claims late opening) more t new
       → Standing (asks ++ more) new
   led asks [] t new standing is =
       subst (λ (l : List Asking). Standing l new) (sym (append-nil asks))
@@ -515,23 +516,23 @@ module _ (claims : Claims) (opening : ℕ → UnitState) (units : ℕ) (group : 
       subst (λ (l : List Asking). Standing l new) (append_assoc asks (c ∷ []) more)
       (led (asks ++ c ∷ []) more is.0 new (step asks c t is.0 standing is.1) is.2)
 
-  pub answered_all : (asks : List Asking) (mid new : TargetValue) → Leads (LeadsOn claims opening) asks (unbegun units group) mid
+  pub answered_all : (asks : List Asking) (mid new : TargetValue) → Leads (LeadsOn claims late opening) asks (unbegun units group) mid
       → IsOver claims opening mid new
-      → AreAnswered claims opening units group (asks ++ over ∷ []) new.seen
+      → AreAnswered claims late opening units group (asks ++ over ∷ []) new.seen
   answered_all asks mid new is ends =
       answered_at_last asks mid new ends (led [] asks (unbegun units group) mid
       (record { units_is = refl; group_is = refl; stage = inl (record { begun = refl; at = refl; nothing = λ (unit : ℕ). refl }) })
       is)
 
   pub session_of : (me : Identity) (left left' held held' : Option (List ℕ)) (after : TargetValue) (end : End) (seen : List Sight)
-      → IsTranscribed (LeadsOn claims opening) units me (Login (tag_of group)) left left' held held' (unbegun units group) after end
+      → IsTranscribed (LeadsOn claims late opening) units me (Login (tag_of group)) left left' held held' (unbegun units group) after end
       → seen ≡ after.seen
-      → IsSession claims opening units group me left left' held held' end seen
+      → IsSession claims late opening units group me left left' held held' end seen
   session_of me left left' held held' after end seen is same =
       record {
         after = after;
         transcribed = is;
         seen_is = same;
-        answered = subst (λ (l : List Sight). AreAnswered claims opening units group (asked (exchanges is.passed.transcript) ++ over ∷ []) l)
+        answered = subst (λ (l : List Sight). AreAnswered claims late opening units group (asked (exchanges is.passed.transcript) ++ over ∷ []) l)
             (sym same) (answered_all (asked (exchanges is.passed.transcript)) is.at_end after is.passed.led is.told);
       }

@@ -1,5 +1,5 @@
 -- Which of what a session asked are entries of a unit's history, and that these are all of its own there, in order.
-use Rattle.std.specs.Prelude.{◌≡◌, ◌⊎◌, ℕ, ◌<◌, ◌≤◌, Bool, nat_eq, if◌then◌else◌, List, [], ◌∷◌, ◌++◌, length, MatchBool}
+use Rattle.std.specs.Prelude.{◌≡◌, ◌⊎◌, ℕ, ◌<◌, ◌≤◌, Bool, false, IsTrue, nat_eq, if◌then◌else◌, List, [], ◌∷◌, ◌++◌, length, MatchBool}
 use Rattle.std.specs.Prelude.{Option, Some, None, Result, slice_get}
 use Rattle.std.specs.List.{flat_map}
 use Rattle.login.specs.declared.status.Kind.TheVariants.{Normal}
@@ -9,6 +9,7 @@ use Rattle.scsi_types.specs.Nexus.{Port, Nexus}
 use Rattle.scsi_types.specs.declared.names.Group.{Group}
 use Rattle.scsi_types.specs.declared.command.Command.{Command as ScsiCommand}
 use Rattle.scsi_types.specs.declared.command.CdbFault.{CdbFault}
+use Rattle.scsi_types.specs.declared.status.Status.TheVariants.{Good}
 use Rattle.session_rules.specs.Asking.{Asking, began, lives, served, reset, over}
 use Rattle.session_rules.specs.declared.target.BeginAnswer.TheVariants.{Begun}
 use Rattle.session_rules.specs.declared.target.TargetAnswer.{TargetAnswer}
@@ -16,9 +17,13 @@ use Rattle.session_rules.specs.declared.target.TargetAnswer.TheVariants.{Replied
 use Rattle.session_rules.specs.declared.target.ResetAnswer.{ResetAnswer}
 use Rattle.session_rules.specs.declared.target.ResetAnswer.TheVariants as resets
 use Rattle.unit_state.specs.State.{UnitState}
-use Rattle.unit_state.specs.Entry.{Entry, Attach, Detach, Reset, Move, Command}
+use Rattle.unit_state.specs.Choice.{Choice}
+use Rattle.unit_state.specs.Entry.{Entry, Attach, Detach, Reset, Move, Command, IsPossible, after}
+use Rattle.unit_state.specs.History.{state_after}
+use Rattle.locked_unit.specs.Calls.{PlacedPass}
 use Rattle.status.specs.Views.{counted}
 use Rattle.unit_history.specs.Histories.{IsHistory, IsToldBehind, is_own, own}
+use Rattle.portal.specs.Late.{Late, IsUnflushed}
 use Rattle.portal.specs.Units.{Claims}
 
 -- a command that a unit replied to, or a reset of it that was done
@@ -60,9 +65,26 @@ IsLast session rest =
     (counted own session rest ≡ 0)
     ⊎ ((others : List Entry) × (counted own session others ≡ 0) × (rest ≡ others ++ Detach session ∷ []))
 
--- a unit that opened in this state, over devices whose types claim what is said of a disk or not
-module _ (claims : Claims) (s : UnitState) where
-  -- The entry behind this history is this command, and the reply is what the model gives there; or it is the reset.
+-- a unit that opened in this state, over devices whose types claim what is said of a disk or not, behind a gate to which flushes may
+-- be left
+module _ (claims : Claims) (late : Late) (s : UnitState) where
+  -- The entry behind this history stands for a command whose flush came behind it. The command as it was asked could stand in its
+  -- place, over any device, with this choice: it is possible there, leaves the unit as the entry does, and is answered so. GOOD came
+  -- behind a flush that began when the session's pass had seen the entry.
+  pub record IsLate (before : List Entry) (session serial : ℕ) (by : Group) (served : Result ScsiCommand CdbFault) (bytes : List ℕ)
+      (choice : Choice) (asked : Result ScsiCommand CdbFault) (reply : ReplyValue) : Type 0 where
+    pub is_late : IsTrue late.is_late
+    pub unflushed : IsUnflushed asked served
+    pub end : Choice
+    pub possible : IsPossible false (state_after s before) (Command session serial by asked bytes end)
+    pub same : after (state_after s before) (Command session serial by asked bytes end)
+        ≡ after (state_after s before) (Command session serial by served bytes choice)
+    pub told : IsToldBehind false s before (Command session serial by asked bytes end) reply
+    pub lasts : reply.status ≡ Good → (pass : PlacedPass Entry)
+        × (pass.pass.seen ≡ before ++ Command session serial by served bytes choice ∷ []) × late.lasts pass
+
+  -- The entry behind this history is this command, and the reply is what the model gives there, or stands for it so; or it is the
+  -- reset.
   abbrev pub IsEntry : List Entry → Entry → Done → Type 0
   IsEntry before (Attach nexus) done = ⊥
   IsEntry before (Detach session) done = ⊥
@@ -70,8 +92,8 @@ module _ (claims : Claims) (s : UnitState) where
   IsEntry before (Reset session) was_reset = Unit {0}
   IsEntry before (Move list choice) done = ⊥
   IsEntry before (Command session serial by asked bytes choice) (replied told came reply) =
-      (told ≡ asked) × (came ≡ bytes)
-      × IsToldBehind claims.contents s before (Command session serial by asked bytes choice) reply
+      (came ≡ bytes) × (((told ≡ asked) × IsToldBehind claims.contents s before (Command session serial by asked bytes choice) reply)
+      ⊎ IsLate before session serial by asked bytes choice told reply)
   IsEntry before (Command session serial by asked bytes choice) was_reset = ⊥
 
   abbrev pub IsNextDone : List Entry → Entry → List Done → (List Done → Type 0) → Type 0
@@ -103,7 +125,7 @@ HasDoneNothing asks = (unit : ℕ) → done_at unit asks ≡ []
 
 -- A normal session has begun, and at each of the units it has done what stands in the unit's history, as that was seen when it
 -- left the unit: through the group of its portal, as the port that its login named.
-pub record IsNormal (claims : Claims) (opening : ℕ → UnitState) (units : ℕ) (group : Group) (asks : List Asking)
+pub record IsNormal (claims : Claims) (late : Late) (opening : ℕ → UnitState) (units : ℕ) (group : Group) (asks : List Asking)
     (seen : List (ℕ × List Entry)) : Type 0 where
   pub port : Port
   pub tsih : ℕ
@@ -112,11 +134,11 @@ pub record IsNormal (claims : Claims) (opening : ℕ → UnitState) (units : ℕ
   pub began_is : asks ≡ front ++ began port Normal (Begun tsih) ∷ rest
   pub done : (unit : ℕ) → unit < units
       → (one : ℕ × List Entry) × (slice_get seen unit ≡ Some one) × (one.0 ≡ unit)
-      × HasDone claims (opening unit) (through port group) (done_at unit asks) one.1
+      × HasDone claims late (opening unit) (through port group) (done_at unit asks) one.1
   pub none : (unit : ℕ) → units ≤ unit → done_at unit asks ≡ []
 
 -- What a session has asked: it has done nothing at any unit, as where it is a discovery session or its login is refused; or it is a
 -- normal session, whose commands that were replied to and whose resets are its entries of the histories that were seen as it left
 -- the units, in order.
-abbrev pub AreAnswered : Claims → (ℕ → UnitState) → ℕ → Group → List Asking → List (ℕ × List Entry) → Type 0
-AreAnswered claims opening units group asks seen = HasDoneNothing asks ⊎ IsNormal claims opening units group asks seen
+abbrev pub AreAnswered : Claims → Late → (ℕ → UnitState) → ℕ → Group → List Asking → List (ℕ × List Entry) → Type 0
+AreAnswered claims late opening units group asks seen = HasDoneNothing asks ⊎ IsNormal claims late opening units group asks seen

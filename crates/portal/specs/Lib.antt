@@ -1,5 +1,6 @@
 pub mod Entries
 pub mod Handles
+pub mod Late
 pub mod Live
 pub mod Passes
 pub mod Server

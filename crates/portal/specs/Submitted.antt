@@ -1,6 +1,6 @@
 -- How a session has a command served by a unit that may have moved: what its worker submits, and what it answers.
-use Rattle.std.specs.Prelude.{◌≡◌, ◌⊎◌, ℕ, Bool, true, false, List, Result, Ok, Err}
-use Rattle.locked_unit.specs.Calls.{Known}
+use Rattle.std.specs.Prelude.{◌≡◌, ◌⊎◌, ℕ, Bool, true, false, IsTrue, List, Result, Ok, Err}
+use Rattle.locked_unit.specs.Calls.{Known, PlacedPass}
 use Rattle.forwarding.specs.declared.desk.DeskFault.TheVariants as desks
 use Rattle.locked_unit.specs.declared.machine.Refused.TheVariants as refusals
 use Rattle.scsi_types.specs.ReplyValue.{ReplyValue}
@@ -13,6 +13,7 @@ use Rattle.session_rules.specs.declared.target.ResetAnswer.{ResetAnswer}
 use Rattle.session_rules.specs.declared.target.ResetAnswer.TheVariants as resets
 use Rattle.unit_state.specs.State.{UnitState}
 use Rattle.unit_state.specs.Entry.{Entry}
+use Rattle.portal.specs.Late.{Late, IsUnflushed, IsToldEnd}
 use Rattle.portal.specs.Units.{Claims, IsSubmitted, IsResetBy}
 use Rattle.portal.specs.declared.units.Unserved.{Unserved}
 use Rattle.portal.specs.declared.units.Unserved.TheVariants.{ByUnit, ByDesk}
@@ -22,6 +23,10 @@ pub record At : Type 0 where
   pub place : ℕ
   pub pass : Known Entry
   pub by_group : Group
+
+-- its pass
+abbrev pub held_of : At → PlacedPass Entry
+held_of a = record { place = a.place; pass = a.pass }
 
 -- who is believed to own the unit behind a call that was made by this group: a Moved names the owner
 abbrev pub believed : {R : Type 0} → Group → Result R Unserved → Group
@@ -54,13 +59,30 @@ is_moved (Err (ByDesk desks.Full)) = false
 is_moved (Err (ByDesk desks.Closed)) = false
 is_moved (Err (ByDesk desks.NoMemory)) = false
 
--- the unit that opened in a state by its place, over devices whose types claim what is said of a disk or not
-module _ (claims : Claims) (opening : ℕ → UnitState) where
+-- the unit that opened in a state by its place, over devices whose types claim what is said of a disk or not, behind a gate to which
+-- flushes may be left
+module _ (claims : Claims) (late : Late) (opening : ℕ → UnitState) where
+  -- A command is submitted without its flush, which comes behind it: what it comes to is told by that too.
+  pub record IsSettled (old : PlacedPass Entry) (by : Group) (asked : Result ScsiCommand CdbFault) (bytes : List ℕ)
+      (end : Result ReplyValue Unserved) (new : PlacedPass Entry) : Type 0 where
+    pub is_late : IsTrue late.is_late
+    pub served : Result ScsiCommand CdbFault
+    pub unflushed : IsUnflushed asked served
+    pub first : Result ReplyValue Unserved
+    pub call : IsSubmitted claims (opening old.place) old.pass by served bytes first new.pass
+    pub told : IsToldEnd (late.lasts new) first end
+
+  -- a command is submitted, as it was asked or without its flush
+  abbrev pub IsCalled : PlacedPass Entry → Group → Result ScsiCommand CdbFault → List ℕ → Result ReplyValue Unserved → PlacedPass Entry
+      → Type 0
+  IsCalled old by asked bytes end new =
+      IsSubmitted claims (opening old.place) old.pass by asked bytes end new.pass ⊎ IsSettled old by asked bytes end new
+
   -- a command is submitted once, to the group that is believed to own the unit
   pub record IsOnce (old : At) (asked : Result ScsiCommand CdbFault) (bytes : List ℕ) (end : Result ReplyValue Unserved)
       (new : At) : Type 0 where
     pub place : new.place ≡ old.place
-    pub call : IsSubmitted claims (opening old.place) old.pass old.by_group asked bytes end new.pass
+    pub call : IsCalled (held_of old) old.by_group asked bytes end (held_of new)
     pub by_is : new.by_group ≡ believed old.by_group end
 
   -- a command that its unit has moved away from is submitted once more, to the group that was named
@@ -79,6 +101,8 @@ module _ (claims : Claims) (opening : ℕ → UnitState) where
     pub answer_is : answer ≡ answer_of end
     pub calls : (IsOnce old asked bytes end new × (is_moved end ≡ false)) ⊎ IsTwice old asked bytes end new
 
+-- whatever is left to the gate
+module _ (claims : Claims) (opening : ℕ → UnitState) where
   -- a reset of the unit, and what the session is answered
   pub record IsResetAt (done : Bool) (old new : At) : Type 0 where
     pub place : new.place ≡ old.place

@@ -19,6 +19,7 @@ use Rattle.session_rules.specs.declared.target.ResetAnswer.TheVariants as resets
 use Rattle.unit_state.specs.State.{UnitState}
 use Rattle.unit_history.specs.Calls.{HasAttached, HasNoRoom}
 use Rattle.unit_state.specs.Entry.{Entry}
+use Rattle.portal.specs.Late.{Late}
 use Rattle.portal.specs.Units.{Claims, IsRetired}
 use Rattle.portal.specs.Submitted.{At, IsServed, IsResetAnswer}
 use Rattle.portal.specs.declared.live.EnterFault.{EnterFault}
@@ -124,20 +125,7 @@ module _ (claims : Claims) (opening : ℕ → UnitState) where
     pub cause : IsCauseOf nexus kind units at fault full
     pub ends : new ≡ (old ++ left) ++ full
 
-  -- A command of a unit is served through the session at that unit, and no other; a session that is not attached to it is gone.
-  abbrev pub IsServedAt : TargetValue → ℕ → Result ScsiCommand CdbFault → List ℕ → TargetAnswer → TargetValue → Type 0
-  IsServedAt old unit asked bytes answer new =
-      MatchOption (slice_get old.at unit) ((answer ≡ Gone) × (new ≡ old))
-      (λ a. (after : At) × IsServed claims opening a asked bytes answer after
-      × (new ≡ record old { at = slice_set old.at unit after }))
-
-  abbrev pub IsAnswered : TargetValue → Option ℕ → Result ScsiCommand CdbFault → List ℕ → TargetAnswer → TargetValue → Type 0
-  IsAnswered old None asked bytes answer new = IsAbsent asked answer × (new ≡ old)
-  IsAnswered old (Some unit) asked bytes answer new =
-      (unit < old.units → IsServedAt old unit asked bytes answer new)
-      × (old.units ≤ unit → IsAbsent asked answer × (new ≡ old))
-
-  -- so is a reset
+  -- a unit is reset through the session at that unit, and no other; a session that is not attached to it is gone
   abbrev pub IsResetIn : TargetValue → ℕ → ResetAnswer → TargetValue → Type 0
   IsResetIn old unit answer new =
       MatchOption (slice_get old.at unit) ((answer ≡ resets.Gone) × (new ≡ old))
@@ -165,11 +153,26 @@ module _ (claims : Claims) (opening : ℕ → UnitState) where
   HasTried old port kind (Ok tsih) new = (0 < tsih) × HasBegun old port kind new
   HasTried old port kind (Err fault) new = IsRefused old port kind fault new
 
+-- behind a gate to which flushes may be left
+module _ (claims : Claims) (late : Late) (opening : ℕ → UnitState) where
+  -- A command of a unit is served through the session at that unit, and no other; a session that is not attached to it is gone.
+  abbrev pub IsServedAt : TargetValue → ℕ → Result ScsiCommand CdbFault → List ℕ → TargetAnswer → TargetValue → Type 0
+  IsServedAt old unit asked bytes answer new =
+      MatchOption (slice_get old.at unit) ((answer ≡ Gone) × (new ≡ old))
+      (λ a. (after : At) × IsServed claims late opening a asked bytes answer after
+      × (new ≡ record old { at = slice_set old.at unit after }))
+
+  abbrev pub IsAnswered : TargetValue → Option ℕ → Result ScsiCommand CdbFault → List ℕ → TargetAnswer → TargetValue → Type 0
+  IsAnswered old None asked bytes answer new = IsAbsent asked answer × (new ≡ old)
+  IsAnswered old (Some unit) asked bytes answer new =
+      (unit < old.units → IsServedAt old unit asked bytes answer new)
+      × (old.units ≤ unit → IsAbsent asked answer × (new ≡ old))
+
   -- where a question with its answer leads the target
   abbrev pub LeadsOn : TargetValue → Asking → TargetValue → Type 0
-  LeadsOn old (began port kind (Begun tsih)) new = HasBegun old port kind new
-  LeadsOn old (began port kind Refused) new = (fault : BeginFault) × IsRefused old port kind fault new
+  LeadsOn old (began port kind (Begun tsih)) new = HasBegun claims opening old port kind new
+  LeadsOn old (began port kind Refused) new = (fault : BeginFault) × IsRefused claims opening old port kind fault new
   LeadsOn old (lives tsih port answer) new = new ≡ old
   LeadsOn old (served unit asked bytes answer) new = IsAnswered old unit asked bytes answer new
-  LeadsOn old (reset unit answer) new = IsReset old unit answer new
-  LeadsOn old over new = IsOver old new
+  LeadsOn old (reset unit answer) new = IsReset claims opening old unit answer new
+  LeadsOn old over new = IsOver claims opening old new

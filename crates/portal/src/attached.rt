@@ -1,8 +1,11 @@
 //! A session at one unit.
 ghost use Rattle.std.specs.Prelude.{◌≡◌, ◌<◌};
-ghost use Rattle.portal.specs.Submitted.{IsOnce, IsServed, IsResetAnswer, answer_of};
+ghost use Rattle.portal.specs.Late.{IsToldEnd, late_of};
+ghost use Rattle.portal.specs.Submitted.{IsCalled, IsOnce, IsServed, IsResetAnswer, answer_of};
+ghost use Rattle.portal.specs.Units.{IsSubmitted};
 
 use crate::gate::Gate;
+use crate::late::{told, without_flush};
 use crate::units::{LogicalUnits, Pass, Unserved};
 use forwarding::DeskFault;
 use scsi_types::{Asked, Group, Reply};
@@ -47,6 +50,57 @@ fn answered(end: Result<Reply, Unserved>) -> TargetAnswer
     }
 }
 
+// Submits a command without its flush, which comes behind it: what it comes to is told by that too.
+fn settled<R: Wait, U: LogicalUnits<P, H>, P: Pass, H: Drop, G: Gate>(
+    rt: &R,
+    alloc: Global,
+    units: &U,
+    gate: &G,
+    unit: u8,
+    pass: P,
+    by_group: Group,
+    served: &Asked,
+    bytes: &[u8],
+) -> (P, Result<Reply, Unserved>)
+    requires { (P.held pass).place < U.unit_count units.now }
+    ensures place { (P.held result.0).place ≡ (P.held pass).place }
+    ensures end { (first : _) × IsSubmitted U.claims (U.opening (P.held pass).place) (P.held pass).pass by_group served.now bytes.now first
+        (P.held result.0).pass × IsToldEnd (G.lasts (P.held result.0)) first result.1 }
+{
+    match units.serve(rt, alloc, pass, by_group, served, bytes) {
+        (pass, Ok(reply)) => {
+            let reply = told(alloc, gate, unit, &pass, reply);
+            (pass, Ok(reply))
+        }
+        (pass, Err(why)) => (pass, Err(why)),
+    }
+}
+
+// Submits a command as it was asked, or without its flush where that is left to the gate.
+fn call<R: Wait, U: LogicalUnits<P, H>, P: Pass, H: Drop, G: Gate>(
+    rt: &R,
+    alloc: Global,
+    units: &U,
+    gate: &G,
+    unit: u8,
+    pass: P,
+    by_group: Group,
+    asked: &Asked,
+    bytes: &[u8],
+) -> (P, Result<Reply, Unserved>)
+    requires { (P.held pass).place < U.unit_count units.now }
+    ensures place { (P.held result.0).place ≡ (P.held pass).place }
+    ensures end { IsCalled U.claims (late_of G.is_late G.lasts) U.opening (P.held pass) by_group asked.now bytes.now result.1 (P.held result.0) }
+{
+    let Some(served) = without_flush(asked) else {
+        return units.serve(rt, alloc, pass, by_group, asked, bytes);
+    };
+    if !gate.settles(unit) {
+        return units.serve(rt, alloc, pass, by_group, asked, bytes);
+    }
+    settled(rt, alloc, units, gate, unit, pass, by_group, &served, bytes)
+}
+
 impl<P: Pass> Attached<P> {
     /// A session that was attached to a unit through this group, which it believes to own it.
     pub fn new(pass: P, by_group: Group) -> Attached<P>
@@ -83,13 +137,14 @@ impl<P: Pass> Attached<P> {
         bytes: &[u8],
     ) -> Result<Reply, Unserved>
         requires { self.old.place < U.unit_count units.now }
-        ensures { IsOnce U.claims U.opening self.old asked.now bytes.now result self.new }
+        ensures { IsOnce U.claims (late_of G.is_late G.lasts) U.opening self.old asked.now bytes.now result self.new }
     {
         let Some(pass) = self.pass.take() else {
             unreachable!()
         };
         gate.pass(unit, pass.next_serial(), asked);
-        let (pass, end) = units.serve(rt, alloc, pass, self.by_group, asked, bytes);
+        let by_group = self.by_group;
+        let (pass, end) = call(rt, alloc, units, gate, unit, pass, by_group, asked, bytes);
         self.pass = Some(pass);
         if let Err(Unserved::ByUnit(Refused::Moved(owner))) = end {
             self.by_group = owner;
@@ -109,7 +164,7 @@ impl<P: Pass> Attached<P> {
         bytes: &[u8],
     ) -> TargetAnswer
         requires { self.old.place < U.unit_count units.now }
-        ensures { IsServed U.claims U.opening self.old asked.now bytes.now result self.new }
+        ensures { IsServed U.claims (late_of G.is_late G.lasts) U.opening self.old asked.now bytes.now result self.new }
     {
         match self.submit(rt, alloc, units, gate, unit, asked, bytes) {
             Err(Unserved::ByUnit(Refused::Moved(_))) => {

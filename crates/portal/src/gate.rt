@@ -1,10 +1,21 @@
 //! What stands before a unit.
+ghost use Rattle.std.specs.Prelude.{Bool, IsTrue, false};
+ghost use Rattle.locked_unit.specs.Calls.{PlacedPass};
+ghost use Rattle.unit_state.specs.Entry.{Entry};
 
+use crate::units::Pass;
 use preparer::Preparer;
 use scsi_types::{Asked, Command};
 
-/// What each command passes before its unit is asked. It answers nothing: it may take its time, and no more.
+/// What each command passes before its unit is asked, and what makes last behind it what the unit was not asked to. It answers no
+/// command: it may take its time, and tell that a flush has failed.
 pub trait Gate {
+    /// Whether flushes are ever left to it.
+    ghost is_late: { Bool };
+
+    /// A flush is done that began when a session's pass was this. Nothing but a call of `settle` says so.
+    ghost lasts: { PlacedPass Entry → Type 0 };
+
     /// The command with this serial of a session is about to be submitted to a unit.
     fn pass(&self, unit: u8, serial: u64, asked: &Asked);
 
@@ -13,8 +24,17 @@ pub trait Gate {
         false
     }
 
-    /// A command that waits to be served, of a unit or of none.
+    /// A command of this unit waits to be served.
     fn foresee(&self, _unit: u8, _asked: &Asked) {}
+
+    /// Whether the flushes of this unit's commands are left to it.
+    fn settles(&self, unit: u8) -> bool
+        ensures { IsTrue result → IsTrue is_late };
+
+    /// Makes all last that was written to this unit until now, behind a command of the session that has this pass. False: this flush
+    /// has failed, or one before it.
+    fn settle<P: Pass>(&self, unit: u8, pass: &P) -> bool
+        ensures { IsTrue result → lasts (P.held pass.now) };
 }
 
 /// The gate that is open.
@@ -22,10 +42,22 @@ pub trait Gate {
 pub struct Open;
 
 impl Gate for Open {
+    ghost is_late = { false };
+
+    ghost lasts = { λ pass. ⊥ };
+
     fn pass(&self, _unit: u8, _serial: u64, _asked: &Asked) {}
+
+    fn settles(&self, _unit: u8) -> bool {
+        false
+    }
+
+    fn settle<P: Pass>(&self, _unit: u8, _pass: &P) -> bool {
+        false
+    }
 }
 
-/// The gate of the product: each unit's disk is made ready for what is to come, by a preparer of its own.
+/// The gate of the product: each unit's disk is made ready for what is to come, and flushed, by a preparer of its own.
 #[derive(Drop)]
 pub struct Prepared<P: Preparer> {
     of: Vec<P>,
@@ -39,6 +71,10 @@ impl<P: Preparer> Prepared<P> {
 }
 
 impl<P: Preparer> Gate for Prepared<P> {
+    ghost is_late = { P.may_flush };
+
+    ghost lasts = { λ pass. P.has_flushed };
+
     fn pass(&self, unit: u8, serial: u64, asked: &Asked) {
         let Some(preparer) = self.of.get(usize::from(unit)) else {
             return;
@@ -49,7 +85,6 @@ impl<P: Preparer> Gate for Prepared<P> {
             Ok(Command::CompareAndWrite { lba, blocks, .. }) => {
                 preparer.warm(serial, *lba, *blocks)
             }
-            Ok(Command::SynchronizeCache { .. }) => preparer.flush(),
             _ => {}
         }
     }
@@ -73,6 +108,20 @@ impl<P: Preparer> Gate for Prepared<P> {
             Ok(Command::CompareAndWrite { lba, blocks, .. }) => preparer.advise(*lba, *blocks),
             Ok(Command::Write { lba, blocks, .. }) => preparer.advise_edges(*lba, *blocks),
             _ => {}
+        }
+    }
+
+    fn settles(&self, unit: u8) -> bool {
+        match self.of.get(usize::from(unit)) {
+            Some(preparer) => preparer.flushes(),
+            None => false,
+        }
+    }
+
+    fn settle<Q: Pass>(&self, unit: u8, _pass: &Q) -> bool {
+        match self.of.get(usize::from(unit)) {
+            Some(preparer) => preparer.flush(),
+            None => false,
         }
     }
 }

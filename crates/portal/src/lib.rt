@@ -9,6 +9,8 @@ mod device;
 mod gate;
 mod handles;
 mod lanes;
+mod late;
+pub mod laws;
 mod live;
 mod server;
 mod stacks;

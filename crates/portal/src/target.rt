@@ -3,6 +3,7 @@ ghost use Rattle.std.specs.Prelude.{◌≡◌, ◌+◌, ◌<◌, ◌≤◌, ◌�
 ghost use Rattle.std.specs.Prelude.{length, map, vec_capacity};
 ghost use Rattle.reservations.specs.Nexus.{IsPortName, through};
 ghost use Rattle.portal.specs.Target.{IsAbsent, IsAttachedTo, IsFullAt, IsJoined, IsOverAt, IsTurnedBack, Leaves};
+ghost use Rattle.portal.specs.Late.{late_of};
 ghost use Rattle.portal.specs.Target.{HasTried, IsServedAt, IsResetIn, unbegun};
 ghost use Rattle.portal.specs.declared.target.BeginFault.TheVariants as faults;
 
@@ -381,7 +382,7 @@ impl<
 
     // Serves a command of a unit that is there.
     fn serve_at(&mut self, unit: u8, asked: &Asked, bytes: &[u8]) -> TargetAnswer
-        ensures { IsServedAt U.claims U.opening self.old unit asked.now bytes.now result self.new }
+        ensures { IsServedAt U.claims (late_of G.is_late G.lasts) U.opening self.old unit asked.now bytes.now result self.new }
     {
         let Some(at) = self.at.get_mut(usize::from(unit)) else {
             return TargetAnswer::Gone;
@@ -420,7 +421,7 @@ impl<
 > Target for SessionTarget<'a, R, U, G, C, P, H> {
     ghost use Rattle.portal.specs.Target.{LeadsOn};
 
-    ghost leads = { LeadsOn U.claims U.opening };
+    ghost leads = { LeadsOn U.claims (late_of G.is_late G.lasts) U.opening };
 
     ghost unit_count = { λ t. t.units };
 

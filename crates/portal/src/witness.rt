@@ -222,9 +222,10 @@ impl<
     P: Pass,
     H: Drop,
 > Target for Witness<'a, R, U, G, C, P, H> {
+    ghost use Rattle.portal.specs.Late.{late_of};
     ghost use Rattle.portal.specs.Target.{LeadsOn};
 
-    ghost leads = { LeadsOn U.claims U.opening };
+    ghost leads = { LeadsOn U.claims (late_of G.is_late G.lasts) U.opening };
 
     ghost unit_count = { λ t. t.units };
 

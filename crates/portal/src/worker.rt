@@ -2,6 +2,7 @@
 ghost use Rattle.std.specs.Prelude.{◌≡◌, [], map, IfOk, OnErr};
 ghost use Rattle.session_rules.specs.declared.end.End.TheVariants.{InputFailed, OutputFailed};
 ghost use Rattle.session.specs.Transcript.{IsFailureOf};
+ghost use Rattle.portal.specs.Late.{late_of};
 ghost use Rattle.portal.specs.Worker.{IsSession, tag_of};
 
 use crate::connection::Connection;
@@ -53,7 +54,7 @@ pub fn serve_session<
     log: &Log,
     path: Path,
 ) -> Result<(End, Visitor, Vec<H>), NoMemory>
-    ensures served { IfOk result (λ r. IsSession U.claims U.opening (U.unit_count device.now.units) group me.now
+    ensures served { IfOk result (λ r. IsSession U.claims (late_of G.is_late G.lasts) U.opening (U.unit_count device.now.units) group me.now
         (S.left source.old) (S.left source.new) (K.held sink.old) (K.held sink.new) r.0 (map U.seen r.2.items)) }
     ensures input_failed { IfOk result (λ r. IsFailureOf InputFailed (S.failures source.old) (S.failures source.new) r.0) }
     ensures output_failed { IfOk result (λ r. IsFailureOf OutputFailed (K.failures sink.old) (K.failures sink.new) r.0) }

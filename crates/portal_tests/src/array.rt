@@ -4,6 +4,7 @@ ghost use Rattle.unit_history.specs.Naming.{IsNamed};
 
 use crate::at::At;
 use crate::behind::Behind;
+use crate::doors::Doors;
 use crate::latch::Latch;
 use crate::no_room::NoRoom;
 use crate::stage::Stage;
@@ -79,11 +80,11 @@ fn serve<
     rt: &R,
     alloc: Global,
     listener: TcpListener,
-    server: &Arc<Server<Controllers<B, F, O, N>, Latch<R>>, Global>,
+    server: &Arc<Server<Controllers<B, F, O, N>, Doors<R>>, Global>,
     group: Group,
     stacks: NoRoom,
 ) -> Served {
-    start_lanes::<N, B, F, O, Latch<R>, R, SmallStacks>(
+    start_lanes::<N, B, F, O, Doors<R>, R, SmallStacks>(
         rt,
         alloc,
         server,
@@ -94,7 +95,7 @@ fn serve<
     let worker = listen::<
         R,
         Controllers<B, F, O, N>,
-        Latch<R>,
+        Doors<R>,
         Pass<B, F, O, N>,
         LegalHistory<B, F, O, N>,
         NoRoom,
@@ -145,7 +146,11 @@ pub fn perform<
     let (second, second_at) = bind(rt, script.host, script.ports[1]);
     let units = Units::<B, F, O, N>::new(rt, alloc, new).expect(rt, "memory");
     let controllers = Controllers::new(alloc, units).expect(rt, "memory");
-    let gate = Latch::open(rt.clone().expect(rt, "memory"));
+    let gate = Doors::new(
+        rt.clone().expect(rt, "memory"),
+        Latch::open(rt.clone().expect(rt, "memory")),
+        Latch::open(rt.clone().expect(rt, "memory")),
+    );
     let server = Server {
         device: TargetDevice::new(alloc, controllers, gate),
         target_name: Vec::from_slice(alloc, b"iqn.2000-01.test:array").expect(rt, "memory"),

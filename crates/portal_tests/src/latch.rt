@@ -1,6 +1,4 @@
-//! A latch that holds what comes to a unit: its commands before they reach it, or the writes of its device.
-use portal::Gate;
-use scsi_types::Asked;
+//! A latch that holds what comes to a unit: its commands before they reach it, the writes of its device, or flushes behind it.
 use std::sync::{Condvar, Mutex, Wait};
 
 /// What a latch does, and how many calls it holds.
@@ -59,11 +57,5 @@ impl<R: Wait + Drop> Latch<R> {
                 .changed
                 .wait_while(&self.rt, holding, |h| h.unit == Some(unit));
         }
-    }
-}
-
-impl<R: Wait + Drop> Gate for Latch<R> {
-    fn pass(&self, unit: u8, _serial: u64, _asked: &Asked) {
-        self.wait_at(unit);
     }
 }

@@ -11,6 +11,8 @@ mod behind;
 #[cfg(test)]
 mod discovery;
 #[cfg(test)]
+mod doors;
+#[cfg(test)]
 mod failing;
 #[cfg(test)]
 mod fencing;
@@ -22,6 +24,8 @@ mod held;
 mod lanes;
 #[cfg(test)]
 mod latch;
+#[cfg(test)]
+mod late;
 #[cfg(test)]
 mod logins;
 #[cfg(test)]

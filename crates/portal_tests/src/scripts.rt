@@ -1,6 +1,6 @@
 //! The scripts of an array of two units in memory, and their test.
 use crate::array::{Script, run};
-use crate::{discovery, fencing, hanging, logins, medium, streams, wanting, worked};
+use crate::{discovery, fencing, hanging, late, logins, medium, streams, wanting, worked};
 use std::net::Ipv4Addr;
 use std::test::*;
 
@@ -15,6 +15,8 @@ const SCRIPTS: &[(&str, &str)] = &[
     ),
     ("short commands behind a write that hangs", hanging::QUEUED),
     ("closed desks are busy", hanging::CLOSED),
+    ("a unit is free while a flush runs", late::BEHIND),
+    ("a flush behind a command fails", late::LOST),
     ("sessions that come again", logins::REINSTATED),
     ("sessions that find no room", logins::FULL),
     ("sessions of discovery take no room", logins::CROWDED),

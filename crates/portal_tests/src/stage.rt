@@ -15,11 +15,14 @@
 //!   `all leave PDU`: each of them sends this, is answered by a Logout Response, and the target closes the connection;
 //! - `all > PDU`, `all < PDU`: each of those connections sends it, and each is answered by it;
 //! - `gate hold 1`: from now on commands of unit 1 wait before it; `gate held 2`: once two of them wait; `gate open`; `disk`
-//!   in place of `gate`: the writes of its device wait;
+//!   in place of `gate`: the writes of its device wait; `flush` in place of it: flushes wait that are left to the gate;
+//! - `gate flushes done`: from now on flushes are left to the gate, and done; `fail`: they fail; `in place`: none is left to it;
+//! - `gate flushed`: since the last such line a flush was asked of the gate, and `gate unflushed`: none was;
 //! - `0 shows 3`: the row of unit 0 tells of three entries, whoever has its lock;
 //! - `desks close`: the desks of both controllers are closed.
 use crate::at::At;
 use crate::behind::Console;
+use crate::doors::{Doors, Flushes};
 use crate::latch::Latch;
 use std::alloc::{AllocError, Global};
 use std::io::Eprint;
@@ -34,7 +37,7 @@ use test_streams::{HOST_A, WELCOME, lines_of, pdu_of};
 pub struct Stage<'a, R: Wait + Drop, C: Console> {
     at: At<'a, R>,
     alloc: Global,
-    gate: &'a Latch<R>,
+    gate: &'a Doors<R>,
     disk: &'a Latch<R>,
     behind: &'a C,
     portals: [SocketAddrV4; 2],
@@ -79,7 +82,7 @@ impl<
     pub fn new(
         rt: &'a R,
         alloc: Global,
-        gate: &'a Latch<R>,
+        gate: &'a Doors<R>,
         disk: &'a Latch<R>,
         behind: &'a C,
         portals: [SocketAddrV4; 2],
@@ -159,6 +162,9 @@ impl<
             "hold" => self.latch(who).hold(Some(self.unit(rest))),
             "held" => self.latch(who).await_held(self.number(rest)),
             "open" => self.latch(who).hold(None),
+            "flushes" => self.gate.come_to(self.flushes(rest)),
+            "flushed" => self.at.check(self.gate.was_asked(), &"a flush"),
+            "unflushed" => self.at.check(!self.gate.was_asked(), &"no flush"),
             "shows" => self.compare_row(who, rest),
             "close" => self.behind.close(),
             _ => self.at.stop("a verb"),
@@ -177,7 +183,21 @@ impl<
 
     // The latch of this name.
     fn latch(&self, name: &str) -> &Latch<R> {
-        if name == "disk" { self.disk } else { self.gate }
+        match name {
+            "disk" => self.disk,
+            "flush" => &self.gate.flushes,
+            _ => &self.gate.commands,
+        }
+    }
+
+    // What becomes of flushes.
+    fn flushes(&self, word: &str) -> Flushes {
+        match word {
+            "done" => Flushes::Done,
+            "fail" => Flushes::Failed,
+            "in place" => Flushes::InPlace,
+            _ => self.at.stop("what becomes of flushes"),
+        }
     }
 
     // What this line spells.

@@ -1,12 +1,21 @@
 //! What makes a disk ready for the calls that are to come.
 //!
 //! A device serves one call at a time, under its unit's lock, and waits there for its disk. A [`Preparer`] is a handle of its own
-//! on the same disk, which any thread has wait before it takes the lock. It answers nothing and changes no block: a unit that is
-//! not prepared, or by a preparer that fails, does the same and waits longer.
+//! on the same disk, by which any thread waits without the lock: before it takes the lock, for the blocks that it will read; and
+//! behind it, for the flush of what it wrote. It changes no block: a unit that is not prepared, or by a preparer that fails to read,
+//! does the same and waits longer.
 #![tactic(auto)]
 
-/// Makes a disk ready for calls of its device, beside the device.
+ghost use Rattle.std.specs.Prelude.{Bool, IsTrue, false};
+
+/// Makes a disk ready for calls of its device, and flushes it, beside the device.
 pub trait Preparer: Drop {
+    /// Whether it ever flushes.
+    ghost may_flush: { Bool };
+
+    /// A flush of its disk is done. Nothing but a flush says so.
+    ghost has_flushed: { Type 0 };
+
     /// Whether the disk has been slow of late: only then does it serve to tell of calls that are to come.
     fn is_slow(&self) -> bool;
 
@@ -23,8 +32,13 @@ pub trait Preparer: Drop {
     /// These blocks are written next: waits likewise for what the system has to read first.
     fn warm_edges(&self, serial: u64, first: u64, blocks: u16);
 
-    /// What was written is to be made last next: waits until what was written until now lasts.
-    fn flush(&self);
+    /// Whether flushes may be left to it.
+    fn flushes(&self) -> bool
+        ensures { IsTrue result → IsTrue may_flush };
+
+    /// Makes all last that was written until now. False: this flush has failed, or one before it.
+    fn flush(&self) -> bool
+        ensures { IsTrue result → has_flushed };
 }
 
 /// The preparer of a disk that takes no time, as one in memory: it does nothing.
@@ -32,6 +46,10 @@ pub trait Preparer: Drop {
 pub struct NoPreparer;
 
 impl Preparer for NoPreparer {
+    ghost may_flush = { false };
+
+    ghost has_flushed = { ⊥ };
+
     fn is_slow(&self) -> bool {
         false
     }
@@ -44,5 +62,11 @@ impl Preparer for NoPreparer {
 
     fn warm_edges(&self, _serial: u64, _first: u64, _blocks: u16) {}
 
-    fn flush(&self) {}
+    fn flushes(&self) -> bool {
+        false
+    }
+
+    fn flush(&self) -> bool {
+        false
+    }
 }
