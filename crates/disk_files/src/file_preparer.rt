@@ -18,7 +18,10 @@ use std::sync::atomic::{AtomicU64, Ordering};
 use std::sync::{Arc, Mutex, Wait};
 use std::time::{Clock, Duration};
 
-/// So many bytes are read at a time and thrown away, of a run that has no more, and of one that has.
+/// So many bytes are read at a time and thrown away: of a disk that counts as fast, which has no more looked at; of a run that has no
+/// more; and of one that has.
+const LEAST: usize = 512;
+
 const FEW: usize = 4096;
 
 const MOST: usize = 16384;
@@ -190,7 +193,7 @@ fn ask(file: &File, at: u64, length: usize) {
 
 // Reads a part of a file, by as many bytes at a time as there is room for, until one read fails.
 fn read_by(room: &mut [u8], file: &File, at: u64, length: usize) {
-    for turn in 0..length / FEW + 1 {
+    for turn in 0..length / LEAST + 1 {
         let done = room.len().saturating_mul(turn);
         let piece = length.saturating_sub(done).min(room.len());
         let place = at.saturating_add(done as u64);
@@ -210,8 +213,10 @@ fn read_side_by_side(file: &File, at: u64, length: usize) {
 fn read_away(file: &File, at: u64, length: usize) {
     if length > FEW {
         read_side_by_side(file, at, length);
-    } else {
+    } else if length > LEAST {
         read_by(&mut [0; FEW], file, at, length);
+    } else {
+        read_by(&mut [0; LEAST], file, at, length);
     }
 }
 
@@ -265,25 +270,29 @@ impl<R: Clock + Wait + Drop, F: LastingFile> Preparer for FilePreparer<R, F> {
         }
     }
 
-    // A disk that counts as fast is looked at by the first bytes of one command of many.
-    fn warm(&self, serial: u64, first: u64, blocks: u16) {
-        let is_slow = self.is_slow();
-        if !is_slow && serial % LOOKED_AT != 0 {
-            return;
-        }
+    fn wants(&self, serial: u64) -> bool {
+        self.is_slow() || serial % LOOKED_AT == 0
+    }
+
+    // A disk that counts as fast is looked at by the first bytes.
+    fn warm(&self, first: u64, blocks: u16) {
         if let (Some(file), Some((at, length))) = (&self.file, place_of(first, blocks)) {
-            let length = if is_slow { length } else { length.min(FEW) };
+            let length = if self.is_slow() {
+                length
+            } else {
+                length.min(LEAST)
+            };
             self.fetch(file, at, length);
         }
     }
 
-    fn warm_edges(&self, serial: u64, first: u64, blocks: u16) {
+    fn warm_edges(&self, first: u64, blocks: u16) {
         let (head, tail) = edges_of(first, blocks);
         if let Some(head) = head {
-            self.warm(serial, head, 1);
+            self.warm(head, 1);
         }
         if let Some(tail) = tail {
-            self.warm(serial, tail, 1);
+            self.warm(tail, 1);
         }
     }
 

@@ -47,8 +47,8 @@ fn prepare(preparer: &impl Preparer) {
     for (first, blocks) in RUNS {
         preparer.advise(first, blocks);
         preparer.advise_edges(first, blocks);
-        preparer.warm(0, first, blocks);
-        preparer.warm_edges(0, first, blocks);
+        preparer.warm(first, blocks);
+        preparer.warm_edges(first, blocks);
         preparer.flush();
     }
 }

@@ -1,8 +1,7 @@
 //! A session at one unit.
 ghost use Rattle.std.specs.Prelude.{◌≡◌, ◌<◌};
-ghost use Rattle.portal.specs.Late.{IsToldEnd, late_of};
+ghost use Rattle.portal.specs.Late.{late_of};
 ghost use Rattle.portal.specs.Submitted.{IsCalled, IsOnce, IsServed, IsResetAnswer, answer_of};
-ghost use Rattle.portal.specs.Units.{IsSubmitted};
 
 use crate::gate::Gate;
 use crate::late::{told, without_flush};
@@ -50,33 +49,7 @@ fn answered(end: Result<Reply, Unserved>) -> TargetAnswer
     }
 }
 
-// Submits a command without its flush, which comes behind it: what it comes to is told by that too.
-fn settled<R: Wait, U: LogicalUnits<P, H>, P: Pass, H: Drop, G: Gate>(
-    rt: &R,
-    alloc: Global,
-    units: &U,
-    gate: &G,
-    unit: u8,
-    pass: P,
-    by_group: Group,
-    served: &Asked,
-    bytes: &[u8],
-) -> (P, Result<Reply, Unserved>)
-    requires { (P.held pass).place < U.unit_count units.now }
-    ensures place { (P.held result.0).place ≡ (P.held pass).place }
-    ensures end { (first : _) × IsSubmitted U.claims (U.opening (P.held pass).place) (P.held pass).pass by_group served.now bytes.now first
-        (P.held result.0).pass × IsToldEnd (G.lasts (P.held result.0)) first result.1 }
-{
-    match units.serve(rt, alloc, pass, by_group, served, bytes) {
-        (pass, Ok(reply)) => {
-            let reply = told(alloc, gate, unit, &pass, reply);
-            (pass, Ok(reply))
-        }
-        (pass, Err(why)) => (pass, Err(why)),
-    }
-}
-
-// Submits a command as it was asked, or without its flush where that is left to the gate.
+// Submits a command as it was asked; or without its flush, where that is left to the gate, and comes behind it.
 fn call<R: Wait, U: LogicalUnits<P, H>, P: Pass, H: Drop, G: Gate>(
     rt: &R,
     alloc: Global,
@@ -92,13 +65,22 @@ fn call<R: Wait, U: LogicalUnits<P, H>, P: Pass, H: Drop, G: Gate>(
     ensures place { (P.held result.0).place ≡ (P.held pass).place }
     ensures end { IsCalled U.claims (late_of G.is_late G.lasts) U.opening (P.held pass) by_group asked.now bytes.now result.1 (P.held result.0) }
 {
-    let Some(served) = without_flush(asked) else {
-        return units.serve(rt, alloc, pass, by_group, asked, bytes);
+    let unflushed = without_flush(asked);
+    let (served, is_late) = match &unflushed {
+        Some(served) if gate.settles(unit) => (served, true),
+        _ => (asked, false),
     };
-    if !gate.settles(unit) {
-        return units.serve(rt, alloc, pass, by_group, asked, bytes);
+    let (pass, end) = units.serve(rt, alloc, pass, by_group, served, bytes);
+    if !is_late {
+        return (pass, end);
     }
-    settled(rt, alloc, units, gate, unit, pass, by_group, &served, bytes)
+    match end {
+        Ok(reply) => {
+            let reply = told(alloc, gate, unit, &pass, reply);
+            (pass, Ok(reply))
+        }
+        Err(why) => (pass, Err(why)),
+    }
 }
 
 impl<P: Pass> Attached<P> {

@@ -79,12 +79,13 @@ impl<P: Preparer> Gate for Prepared<P> {
         let Some(preparer) = self.of.get(usize::from(unit)) else {
             return;
         };
+        if !preparer.wants(serial) {
+            return;
+        }
         match asked {
-            Ok(Command::Read { lba, blocks, .. }) => preparer.warm(serial, *lba, *blocks),
-            Ok(Command::Write { lba, blocks, .. }) => preparer.warm_edges(serial, *lba, *blocks),
-            Ok(Command::CompareAndWrite { lba, blocks, .. }) => {
-                preparer.warm(serial, *lba, *blocks)
-            }
+            Ok(Command::Read { lba, blocks, .. }) => preparer.warm(*lba, *blocks),
+            Ok(Command::Write { lba, blocks, .. }) => preparer.warm_edges(*lba, *blocks),
+            Ok(Command::CompareAndWrite { lba, blocks, .. }) => preparer.warm(*lba, *blocks),
             _ => {}
         }
     }

@@ -272,10 +272,14 @@ impl<
     }
 
     fn serve(&mut self, unit: Option<u8>, asked: Asked, bytes: &[u8]) -> TargetAnswer {
-        let deed = self.deed_of(&asked, bytes);
+        let deed = if self.log.is_on() {
+            Some(self.deed_of(&asked, bytes))
+        } else {
+            None
+        };
         let answer = self.target.serve(unit, asked, bytes);
-        if let Some(unit) = unit {
-            self.tell_answer(unit, &deed, &answer);
+        if let (Some(unit), Some(deed)) = (unit, &deed) {
+            self.tell_answer(unit, deed, &answer);
         }
         answer
     }

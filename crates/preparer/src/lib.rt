@@ -25,12 +25,16 @@ pub trait Preparer: Drop {
     /// These blocks will be written soon: has the disk fetch what the system has to read before it can write a part of a page.
     fn advise_edges(&self, first: u64, blocks: u16);
 
-    /// These blocks are read next, by the session's command with this serial: waits until the disk has fetched them, where it has
-    /// been slow of late. Of a disk that has not been, some commands are looked at, by their serials.
-    fn warm(&self, serial: u64, first: u64, blocks: u16);
+    /// Whether it has a use for the session's command with this serial: for each where the disk has been slow of late, else for some
+    /// of them, by which it sees that.
+    fn wants(&self, serial: u64) -> bool;
+
+    /// These blocks are read next: waits until the disk has fetched them, where it has been slow of late; else it looks how long the
+    /// first of them take.
+    fn warm(&self, first: u64, blocks: u16);
 
     /// These blocks are written next: waits likewise for what the system has to read first.
-    fn warm_edges(&self, serial: u64, first: u64, blocks: u16);
+    fn warm_edges(&self, first: u64, blocks: u16);
 
     /// Whether flushes may be left to it.
     fn flushes(&self) -> bool
@@ -58,9 +62,13 @@ impl Preparer for NoPreparer {
 
     fn advise_edges(&self, _first: u64, _blocks: u16) {}
 
-    fn warm(&self, _serial: u64, _first: u64, _blocks: u16) {}
+    fn wants(&self, _serial: u64) -> bool {
+        false
+    }
 
-    fn warm_edges(&self, _serial: u64, _first: u64, _blocks: u16) {}
+    fn warm(&self, _first: u64, _blocks: u16) {}
+
+    fn warm_edges(&self, _first: u64, _blocks: u16) {}
 
     fn flushes(&self) -> bool {
         false
