@@ -67,7 +67,7 @@ possible_at_end claims s (x ∷ h) e is = possible_at_end claims (after s x) h e
 
 -- ---- another entry in its place
 
-weaker : (claims : Bool) (s : UnitState) (e : Entry) → IsPossible claims s e → IsPossible false s e
+pub weaker : (claims : Bool) (s : UnitState) (e : Entry) → IsPossible claims s e → IsPossible false s e
 weaker claims s (Attach nexus) is = is
 weaker claims s (Detach session) is = is
 weaker claims s (Reset session) is = is
@@ -75,7 +75,7 @@ weaker claims s (Move list choice) is = is
 weaker claims s (Command session serial by asked bytes choice) is =
     record { next = is.next; owner = is.owner; chosen = is.chosen; torn = λ (h : IsTrue false). absurd (false≢true h) }
 
-all_weaker : (claims : Bool) (s : UnitState) (h : List Entry) → IsLegal claims s h → IsLegal false s h
+pub all_weaker : (claims : Bool) (s : UnitState) (h : List Entry) → IsLegal claims s h → IsLegal false s h
 all_weaker claims s [] is = tt
 all_weaker claims s (e ∷ h) is = (weaker claims s e is.0, all_weaker claims (after s e) h is.1)
 

@@ -1,5 +1,5 @@
 -- Which of what a session asked are entries of a unit's history, and that these are all of its own there, in order.
-use Rattle.std.specs.Prelude.{◌≡◌, ◌⊎◌, ℕ, ◌<◌, ◌≤◌, Bool, false, IsTrue, nat_eq, if◌then◌else◌, List, [], ◌∷◌, ◌++◌, length, MatchBool}
+use Rattle.std.specs.Prelude.{◌≡◌, ◌⊎◌, ℕ, ◌<◌, ◌≤◌, Bool, false, true, IsTrue, nat_eq, if◌then◌else◌, List, [], ◌∷◌, ◌++◌, length, MatchBool}
 use Rattle.std.specs.Prelude.{Option, Some, None, Result, slice_get}
 use Rattle.std.specs.List.{flat_map}
 use Rattle.login.specs.declared.status.Kind.TheVariants.{Normal}
@@ -118,6 +118,14 @@ module _ (claims : Claims) (late : Late) (s : UnitState) where
     pub is : history ≡ ((before ++ Attach nexus ∷ []) ++ behind) ++ rest
     pub entries : AreEntries (length before) (before ++ Attach nexus ∷ []) done behind
     pub ends : IsLast (length before) rest
+
+-- Two histories of one unit that differ in entries of this session's own alone, each of which stands where the other has one.
+abbrev pub AreAlike : ℕ → List Entry → List Entry → Type 0
+AreAlike session [] [] = Unit {0}
+AreAlike session [] (f ∷ more) = ⊥
+AreAlike session (e ∷ history) [] = ⊥
+AreAlike session (e ∷ history) (f ∷ more) =
+    ((f ≡ e) ⊎ ((is_own session e ≡ true) × (is_own session f ≡ true))) × AreAlike session history more
 
 -- it has done nothing at any unit
 abbrev pub HasDoneNothing : List Asking → Type 0

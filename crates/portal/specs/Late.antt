@@ -20,6 +20,10 @@ pub record Late : Type 1 where
 abbrev pub late_of : Bool → (PlacedPass Entry → Type 0) → Late
 late_of is_late lasts = record { is_late = is_late; lasts = lasts }
 
+-- no flush is ever left to them
+abbrev pub never : Late
+never = late_of false (λ pass. ⊥)
+
 -- a command that ends with a flush, by its LBA and its number of blocks
 pub data Flushing : Type 0 where
   writes : ℕ → ℕ → Flushing

@@ -1,5 +1,5 @@
 -- What the calls of a session at a unit promise, said of the unit's one history (`unit_history`).
-use Rattle.std.specs.Prelude.{◌≡◌, ◌⊎◌, ℕ, Bool, List, MatchBool, Result, Ok, Err}
+use Rattle.std.specs.Prelude.{◌≡◌, ◌⊎◌, ℕ, Bool, false, List, MatchBool, Result, Ok, Err}
 use Rattle.locked_unit.specs.Calls.{Known}
 use Rattle.scsi_types.specs.ReplyValue.{ReplyValue}
 use Rattle.scsi_types.specs.declared.names.Group.{Group}
@@ -18,6 +18,10 @@ use Rattle.portal.specs.declared.units.Unserved.TheVariants.{ByUnit, ByDesk}
 pub record Claims : Type 1 where
   pub contents : Bool
   pub worked : UnitState → ℕ → Result ScsiCommand CdbFault → List ℕ → ReplyValue → List Entry → Type 0
+
+-- of a device of any kind nothing is known
+abbrev pub any_device : Claims
+any_device = record { contents = false; worked = λ s session asked bytes reply history. Unit {0} }
 
 -- a unit that opened in this state, over devices of which so much is known
 module _ (claims : Claims) (s : UnitState) where
