@@ -33,6 +33,8 @@ mod medium;
 #[cfg(test)]
 mod no_room;
 #[cfg(test)]
+mod prepared;
+#[cfg(test)]
 mod restart;
 #[cfg(test)]
 mod scripts;
