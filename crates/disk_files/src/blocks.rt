@@ -113,6 +113,14 @@ impl<F: BackingFile> FileBlocks<F> {
         self.file
     }
 
+    // Whether a flush beside the device has failed.
+    fn is_lost_beside(&self) -> bool {
+        match &self.flushes {
+            Some(flushes) => flushes.is_lost(),
+            None => false,
+        }
+    }
+
     // Makes what was written last, where no flush of the device has failed: nothing is to be done where the preparer did it, and
     // nothing to be told where it has told already.
     fn make_last(&mut self) -> Result<(), DeviceFailed>
@@ -124,15 +132,17 @@ impl<F: BackingFile> FileBlocks<F> {
         ensures crash { IsTrue F.claims → NoMore (F.may_hold self.old.file) (F.may_hold self.new.file) }
         ensures lasts { OnOk result (IsSettled F.lasts self.old.tally.written) }
     {
+        if self.is_lost_beside() {
+            return Err(DeviceFailed);
+        }
         if let Some(flushes) = &self.flushes {
-            if flushes.is_lost() {
-                return Err(DeviceFailed);
-            }
             if flushes.covers(self.tally.written) {
                 return Ok(());
             }
         }
         match self.file.flush(self.tally.written) {
+            // One that ran beside it may have had its blocks in hand.
+            Ok(()) if self.is_lost_beside() => Err(DeviceFailed),
             Ok(()) => Ok(()),
             Err(error) => {
                 self.tell(Call::Flush, 0, 0, error);

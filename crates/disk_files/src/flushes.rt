@@ -139,16 +139,23 @@ impl<F: LastingFile> Flushes<F> {
     pub fn flush<R: Wait>(&self, rt: &R) -> Result<(), FlushFault>
         ensures { OnOk result ((writes : ℕ) × F.lasts writes) }
     {
-        if self.is_lost() || self.handles.is_empty() {
+        if self.handles.is_empty() {
             return Err(FlushFault::Lost);
         }
+        let wanted = self.written.load(Ordering::Acquire);
         let turn = self.turns.fetch_add(1, Ordering::Relaxed) % self.handles.len();
         let handle = self.handles[turn].lock(rt);
-        let writes = self.written.load(Ordering::Acquire);
-        if self.settled.lock(rt).has(writes) {
+        // One that failed by this handle was told of it, and the system tells no other.
+        if self.is_lost() {
+            return Err(FlushFault::Lost);
+        }
+        if self.settled.lock(rt).has(wanted) {
             return Ok(());
         }
+        let writes = self.written.load(Ordering::Acquire);
         match handle.make_last(writes) {
+            // One that ran beside it may have had its blocks in hand.
+            Ok(()) if self.is_lost() => Err(FlushFault::Lost),
             Ok(()) => {
                 self.settled.lock(rt).put(writes);
                 Ok(())

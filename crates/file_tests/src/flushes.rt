@@ -6,11 +6,15 @@ use block_file::Blocks;
 use disk_files::{BackingFile, FileBlocks, FlushFault, Flushes, LastingFile};
 use std::alloc::Global;
 use std::cell::Cell;
+use std::fs::File;
 use std::sync::{Arc, Mutex};
 use std::test::Fail;
 
 /// The error of its flush that fails, as a system numbers EIO.
 const FAILED: u32 = 5;
+
+/// The error of a flush of what cannot be flushed, as Linux numbers EINVAL.
+const NOT_FLUSHED: u32 = 22;
 
 /// A file of four blocks, of which one flush fails, counted from 0, or none.
 #[derive(Drop)]
@@ -177,4 +181,20 @@ fn a_flush_beside_the_device_is_enough_until_a_write_ends(rt: HostRuntime) -> Re
     }
     want(writes(&mut device, 1, &[0x11]), "a write")?;
     want(!flushes(&mut device), "a flush behind a write")
+}
+
+// The system cannot flush the null device, and says so; so a flush is one call of the system.
+#[test]
+fn a_flush_of_a_file_is_one_of_the_system(rt: HostRuntime) -> Result<(), Fail> {
+    let Ok(null) = File::options()
+        .read(true)
+        .write(true)
+        .open(&rt, "/dev/null")
+    else {
+        return Err("the null device".into());
+    };
+    want(
+        null.make_last(0) == Err(NOT_FLUSHED),
+        "a flush of the null device",
+    )
 }

@@ -28,7 +28,7 @@ use Rattle.session_rules.specs.declared.target.ResetAnswer.TheVariants as resets
 use Rattle.unit_state.specs.State.{UnitState}
 use Rattle.unit_state.specs.Entry.{Entry, Attach}
 use Rattle.unit_history.specs.Histories.{IsHistory}
-use Rattle.portal.specs.Late.{Late}
+use Rattle.portal.specs.Late.{Late, late_at}
 use Rattle.portal.specs.Units.{Claims}
 use Rattle.portal.specs.Submitted.{At, IsServed, IsResetAnswer}
 use Rattle.portal.specs.Entries.{Done, done_by, reset_by, of_unit, done_in, done_at, AreEntries, HasDone, HasDoneNothing, IsLast, IsNormal}
@@ -66,7 +66,7 @@ module _ (claims : Claims) (late : Late) (opening : ℕ → UnitState) where
     seen : a.pass.seen ≡ (before ++ Attach nexus ∷ []) ++ behind
     session : a.pass.session ≡ length before
     legal : IsHistory claims.contents (opening unit) a.pass.seen
-    entries : AreEntries claims late (opening unit) (length before) (before ++ Attach nexus ∷ []) done behind
+    entries : AreEntries claims (late_at late unit) (opening unit) (length before) (before ++ Attach nexus ∷ []) done behind
 
   done_first : (nexus : Nexus) (unit : ℕ) (a : At) → IsAttachedTo claims opening nexus unit a → DoneAt nexus unit [] a
   done_first nexus unit a is =
@@ -92,16 +92,16 @@ module _ (claims : Claims) (late : Late) (opening : ℕ → UnitState) where
             ∙ append_assoc (is.before ++ Attach nexus ∷ []) is.behind g.more;
         session = g.session ∙ is.session;
         legal = subst (λ (n : ℕ). IsHistory claims.contents (opening n) b.pass.seen) is.place g.legal;
-        entries = both_of claims late (opening unit) (length is.before) (is.before ++ Attach nexus ∷ []) done is.behind more g.more
+        entries = both_of claims (late_at late unit) (opening unit) (length is.before) (is.before ++ Attach nexus ∷ []) done is.behind more g.more
             is.entries
-            (subst (λ (h : List Entry). AreEntries claims late (opening unit) (length is.before) h more g.more) is.seen
-            (subst (λ (n : ℕ). AreEntries claims late (opening unit) n a.pass.seen more g.more) is.session
-            (subst (λ (n : ℕ). AreEntries claims late (opening n) a.pass.session a.pass.seen more g.more) is.place g.entries)));
+            (subst (λ (h : List Entry). AreEntries claims (late_at late unit) (opening unit) (length is.before) h more g.more) is.seen
+            (subst (λ (n : ℕ). AreEntries claims (late_at late unit) (opening unit) n a.pass.seen more g.more) is.session
+            (subst (λ (n : ℕ). AreEntries claims (late_at late n) (opening n) a.pass.session a.pass.seen more g.more) is.place g.entries)));
       }
 
   has_done : (nexus : Nexus) (unit : ℕ) (done : List Done) (a : At) (one : Sight) → DoneAt nexus unit done a
       → IsOverAt claims opening a one
-      → HasDone claims late (opening unit) nexus done one.1
+      → HasDone claims (late_at late unit) (opening unit) nexus done one.1
   has_done nexus unit done a one is left =
       let e : Ended claims (opening unit) a.pass one.1 =
       subst (λ (n : ℕ). Ended claims (opening n) a.pass one.1) is.place (ended claims (opening a.place) a.pass one.1 left.1) in
@@ -181,7 +181,7 @@ module _ (claims : Claims) (late : Late) (opening : ℕ → UnitState) (units : 
               d.0,
               d.1,
               d.2,
-              subst (λ (ds : List Done). HasDone claims late (opening unit) (through r.port group) ds d.0.1)
+              subst (λ (ds : List Done). HasDone claims (late_at late unit) (opening unit) (through r.port group) ds d.0.1)
                   (sym (at_same unit asks ask (idles unit))) d.3,
             );
         none = λ (unit : ℕ) (le : units ≤ unit). at_same unit asks ask (idles unit) ∙ r.none unit le;

@@ -4,7 +4,9 @@ use Rattle.std.proofs.Common.{Result, Ok, Err, refl, sym, ap, ◌∙◌, subst, 
 use Rattle.std.proofs.lemmas.Bool.Decides.{eqb_tells}
 use Rattle.std.proofs.lemmas.List.Sums.{sum_by-append}
 use Rattle.std.specs.Prelude.{MatchBool, ◌⊎◌, IsTrue}
-use Rattle.scsi_types.specs.ReplyValue.{ReplyValue}
+use Rattle.scsi_types.specs.ReplyValue.{ReplyValue, check}
+use Rattle.scsi_types.specs.Sense.{write_error}
+use Rattle.scsi_types.specs.declared.status.Status.TheVariants.{Good}
 use Rattle.scsi_types.specs.declared.names.Group.{Group}
 use Rattle.scsi_types.specs.declared.command.Command.{Command as ScsiCommand}
 use Rattle.scsi_types.specs.declared.command.CdbFault.{CdbFault}
@@ -19,7 +21,7 @@ use Rattle.locked_unit.specs.declared.machine.Refused.TheVariants as refusals
 use Rattle.unit_state.specs.Entry.{Entry, Reset, Command}
 use Rattle.unit_history.specs.Histories.{IsHistory, IsCommand, IsToldBehind, is_own, own}
 use Rattle.unit_history.specs.Calls.{HasServed}
-use Rattle.portal.specs.Late.{Late, Flushing, asked_by, served_by, IsTold, IsToldEnd}
+use Rattle.portal.specs.Late.{Late, late_at, Flushing, asked_by, served_by, IsTold, IsToldEnd}
 use Rattle.portal.specs.Units.{Claims, IsSubmitted, IsResetBy}
 use Rattle.portal.specs.Submitted.{At, held_of, IsOnce, IsSettled, IsTwice, IsServed, IsResetAt, IsResetAnswer, answer_of, is_moved}
 use Rattle.portal.specs.declared.units.Unserved.{Unserved}
@@ -239,11 +241,20 @@ module _ (claims : Claims) (late : Late) (s : UnitState) where
       (subst (λ (x : Entry). IsEntry claims late s (old.seen ++ a.0) x was_reset) (sym a.5) tt)
   grows_reset old new false is = grows_later old new is.0
 
+-- what is told for more than is said
+told_for : (one other : Type 0) → (one → other) → (first end : Result ReplyValue Unserved) → IsToldEnd one first end → IsToldEnd other first end
+told_for one other gives (Ok reply) (Ok told) is =
+    ⊎_elim (λ (so : (told ≡ reply) × (reply.status ≡ Good → one)). inl (so.0, λ (good : reply.status ≡ Good). gives (so.1 good)))
+    (λ (lost : (reply.status ≡ Good) × (told ≡ check write_error)). inr lost) is
+told_for one other gives (Ok reply) (Err why) is = is
+told_for one other gives (Err why) (Ok told) is = is
+told_for one other gives (Err why) (Err same) is = is
+
 module _ (claims : Claims) (late : Late) (opening : ℕ → UnitState) where
   -- a session at one unit, which stays the same
   pub record GrowsAt (old new : At) (done : List Done) : Type 0 where
     pub place : new.place ≡ old.place
-    pub grown : Grows claims late (opening old.place) old.pass new.pass done
+    pub grown : Grows claims (late_at late old.place) (opening old.place) old.pass new.pass done
 
   grows_once : (old new : At) (asked : Result ScsiCommand CdbFault) (bytes : List ℕ) (end : Result ReplyValue Unserved)
       → IsOnce claims late opening old asked bytes end new
@@ -253,19 +264,21 @@ module _ (claims : Claims) (late : Late) (opening : ℕ → UnitState) where
         place = is.place;
         grown = ⊎_elim
             (λ (call : IsSubmitted claims (opening old.place) old.pass old.by_group asked bytes end new.pass).
-            grows_submitted claims late (opening old.place) asked bytes old.pass new.pass old.by_group end call)
+            grows_submitted claims (late_at late old.place) (opening old.place) asked bytes old.pass new.pass old.by_group end call)
             (λ (call : IsSettled claims late opening (held_of old) old.by_group asked bytes end (held_of new)). settled call) is.call;
       }
     where
       settled : IsSettled claims late opening (held_of old) old.by_group asked bytes end (held_of new)
-          → Grows claims late (opening old.place) old.pass new.pass (done_by asked bytes (answer_of end))
+          → Grows claims (late_at late old.place) (opening old.place) old.pass new.pass (done_by asked bytes (answer_of end))
       settled call =
           let f = call.unflushed.0 in
-          subst (λ (x : Result ScsiCommand CdbFault). Grows claims late (opening old.place) old.pass new.pass
+          subst (λ (x : Result ScsiCommand CdbFault). Grows claims (late_at late old.place) (opening old.place) old.pass new.pass
           (done_by x bytes (answer_of end))) (sym call.unflushed.1)
-          (grows_settled claims late (opening old.place) f bytes call.is_late old.pass new.pass old.by_group new.place call.first end
+          (grows_settled claims (late_at late old.place) (opening old.place) f bytes call.is_late old.pass new.pass old.by_group new.place call.first end
           (subst (λ (x : Result ScsiCommand CdbFault). IsSubmitted claims (opening old.place) old.pass old.by_group x bytes call.first
-          new.pass) call.unflushed.2 call.call) call.told)
+          new.pass) call.unflushed.2 call.call)
+          (told_for (late.lasts (held_of new)) ((new.place ≡ old.place) × late.lasts (held_of new))
+          (λ (lasts : late.lasts (held_of new)). (is.place, lasts)) call.first end call.told))
 
   grows_again : (old new : At) (asked : Result ScsiCommand CdbFault) (bytes : List ℕ) (end : Result ReplyValue Unserved)
       → IsTwice claims late opening old asked bytes end new
@@ -275,10 +288,10 @@ module _ (claims : Claims) (late : Late) (opening : ℕ → UnitState) where
       let two = grows_once is.between new asked bytes end is.again in
       record {
         place = two.place ∙ one.place;
-        grown = grows_twice claims late (opening old.place) old.pass is.between.pass new.pass [] (done_by asked bytes (answer_of end))
-            (subst (λ (ds : List Done). Grows claims late (opening old.place) old.pass is.between.pass ds)
-            (nothing_moved claims late (opening old.place) asked bytes is.first is.moved) one.grown)
-            (subst (λ (n : ℕ). Grows claims late (opening n) is.between.pass new.pass (done_by asked bytes (answer_of end))) one.place
+        grown = grows_twice claims (late_at late old.place) (opening old.place) old.pass is.between.pass new.pass [] (done_by asked bytes (answer_of end))
+            (subst (λ (ds : List Done). Grows claims (late_at late old.place) (opening old.place) old.pass is.between.pass ds)
+            (nothing_moved claims (late_at late old.place) (opening old.place) asked bytes is.first is.moved) one.grown)
+            (subst (λ (n : ℕ). Grows claims (late_at late n) (opening n) is.between.pass new.pass (done_by asked bytes (answer_of end))) one.place
             two.grown);
       }
 
@@ -295,7 +308,7 @@ module _ (claims : Claims) (late : Late) (opening : ℕ → UnitState) where
   pub grows_reset_at : (old new : At) (answer : ResetAnswer) → IsResetAnswer claims opening old answer new
       → GrowsAt old new (reset_by answer)
   grows_reset_at old new resets.Done is =
-      record { place = is.place; grown = grows_reset claims late (opening old.place) old.pass new.pass true is.call }
+      record { place = is.place; grown = grows_reset claims (late_at late old.place) (opening old.place) old.pass new.pass true is.call }
   grows_reset_at old new resets.Gone is =
-      record { place = is.place; grown = grows_reset claims late (opening old.place) old.pass new.pass false is.call }
+      record { place = is.place; grown = grows_reset claims (late_at late old.place) (opening old.place) old.pass new.pass false is.call }
   grows_reset_at old new resets.Failed is = absurd is

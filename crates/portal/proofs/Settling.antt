@@ -406,7 +406,9 @@ module _ (claims : Claims) (late : Late) (s : UnitState) (h : List Entry) (sessi
         same = same_so claims.contents now session serial by bytes choice f;
         told = told_at_end false s h (as_asked claims.contents now session serial by bytes choice f choice) reply
             (told_so claims.contents now session serial by bytes choice f reply is);
-        lasts = λ (good : reply.status ≡ Good). (p, seen, lasts good);
+        first = reply;
+        replied_first = told_at_end claims.contents s h it reply is;
+        told_is = inl (refl, λ (good : reply.status ≡ Good). (p, seen, lasts good));
       }
 
   lost_so : (reply : ReplyValue) → reply.status ≡ Good → IsReplyTo claims.contents now it reply → Late_of (check write_error)
@@ -421,7 +423,9 @@ module _ (claims : Claims) (late : Late) (s : UnitState) (h : List Entry) (sessi
         told = told_at_end false s h
             (as_asked claims.contents now session serial by bytes choice f (lost claims.contents now session serial by bytes choice f))
             (check write_error) (told_lost claims.contents now session serial by bytes choice f none);
-        lasts = λ (good : (check write_error).status ≡ Good). absurd (cc);
+        first = reply;
+        replied_first = told_at_end claims.contents s h it reply is;
+        told_is = inr (good, refl);
       }
 
   pub late_entry : (reply told : ReplyValue) → IsToldBehind claims.contents s h it reply → IsTold (late.lasts p) reply told → Late_of told

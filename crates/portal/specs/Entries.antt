@@ -9,7 +9,6 @@ use Rattle.scsi_types.specs.Nexus.{Port, Nexus}
 use Rattle.scsi_types.specs.declared.names.Group.{Group}
 use Rattle.scsi_types.specs.declared.command.Command.{Command as ScsiCommand}
 use Rattle.scsi_types.specs.declared.command.CdbFault.{CdbFault}
-use Rattle.scsi_types.specs.declared.status.Status.TheVariants.{Good}
 use Rattle.session_rules.specs.Asking.{Asking, began, lives, served, reset, over}
 use Rattle.session_rules.specs.declared.target.BeginAnswer.TheVariants.{Begun}
 use Rattle.session_rules.specs.declared.target.TargetAnswer.{TargetAnswer}
@@ -23,7 +22,7 @@ use Rattle.unit_state.specs.History.{state_after}
 use Rattle.locked_unit.specs.Calls.{PlacedPass}
 use Rattle.status.specs.Views.{counted}
 use Rattle.unit_history.specs.Histories.{IsHistory, IsToldBehind, is_own, own}
-use Rattle.portal.specs.Late.{Late, IsUnflushed}
+use Rattle.portal.specs.Late.{Late, IsTold, IsUnflushed, late_at}
 use Rattle.portal.specs.Units.{Claims}
 
 -- a command that a unit replied to, or a reset of it that was done
@@ -69,8 +68,8 @@ IsLast session rest =
 -- be left
 module _ (claims : Claims) (late : Late) (s : UnitState) where
   -- The entry behind this history stands for a command whose flush came behind it. The command as it was asked could stand in its
-  -- place, over any device, with this choice: it is possible there, leaves the unit as the entry does, and is answered so. GOOD came
-  -- behind a flush that began when the session's pass had seen the entry.
+  -- place, over any device, with this choice: it is possible there, leaves the unit as the entry does, and is answered so. It is what
+  -- was told in place of the entry's reply, GOOD behind a flush that began when the session's pass had seen the entry.
   pub record IsLate (before : List Entry) (session serial : ℕ) (by : Group) (served : Result ScsiCommand CdbFault) (bytes : List ℕ)
       (choice : Choice) (asked : Result ScsiCommand CdbFault) (reply : ReplyValue) : Type 0 where
     pub is_late : IsTrue late.is_late
@@ -80,8 +79,10 @@ module _ (claims : Claims) (late : Late) (s : UnitState) where
     pub same : after (state_after s before) (Command session serial by asked bytes end)
         ≡ after (state_after s before) (Command session serial by served bytes choice)
     pub told : IsToldBehind false s before (Command session serial by asked bytes end) reply
-    pub lasts : reply.status ≡ Good → (pass : PlacedPass Entry)
-        × (pass.pass.seen ≡ before ++ Command session serial by served bytes choice ∷ []) × late.lasts pass
+    pub first : ReplyValue
+    pub replied_first : IsToldBehind claims.contents s before (Command session serial by served bytes choice) first
+    pub told_is : IsTold ((pass : PlacedPass Entry) × (pass.pass.seen ≡ before ++ Command session serial by served bytes choice ∷ [])
+        × late.lasts pass) first reply
 
   -- The entry behind this history is this command, and the reply is what the model gives there, or stands for it so; or it is the
   -- reset.
@@ -142,7 +143,7 @@ pub record IsNormal (claims : Claims) (late : Late) (opening : ℕ → UnitState
   pub began_is : asks ≡ front ++ began port Normal (Begun tsih) ∷ rest
   pub done : (unit : ℕ) → unit < units
       → (one : ℕ × List Entry) × (slice_get seen unit ≡ Some one) × (one.0 ≡ unit)
-      × HasDone claims late (opening unit) (through port group) (done_at unit asks) one.1
+      × HasDone claims (late_at late unit) (opening unit) (through port group) (done_at unit asks) one.1
   pub none : (unit : ℕ) → units ≤ unit → done_at unit asks ≡ []
 
 -- What a session has asked: it has done nothing at any unit, as where it is a discovery session or its login is refused; or it is a

@@ -20,6 +20,10 @@ pub record Late : Type 1 where
 abbrev pub late_of : Bool → (PlacedPass Entry → Type 0) → Late
 late_of is_late lasts = record { is_late = is_late; lasts = lasts }
 
+-- of the unit at this place
+abbrev pub late_at : Late → ℕ → Late
+late_at late unit = record { is_late = late.is_late; lasts = λ pass. (pass.place ≡ unit) × late.lasts pass }
+
 -- no flush is ever left to them
 abbrev pub never : Late
 never = late_of false (λ pass. ⊥)

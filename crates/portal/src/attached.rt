@@ -55,7 +55,6 @@ fn call<R: Wait, U: LogicalUnits<P, H>, P: Pass, H: Drop, G: Gate>(
     alloc: Global,
     units: &U,
     gate: &G,
-    unit: u8,
     pass: P,
     by_group: Group,
     asked: &Asked,
@@ -67,7 +66,7 @@ fn call<R: Wait, U: LogicalUnits<P, H>, P: Pass, H: Drop, G: Gate>(
 {
     let unflushed = without_flush(asked);
     let (served, is_late) = match &unflushed {
-        Some(served) if gate.settles(unit) => (served, true),
+        Some(served) if gate.settles(pass.place()) => (served, true),
         _ => (asked, false),
     };
     let (pass, end) = units.serve(rt, alloc, pass, by_group, served, bytes);
@@ -76,7 +75,7 @@ fn call<R: Wait, U: LogicalUnits<P, H>, P: Pass, H: Drop, G: Gate>(
     }
     match end {
         Ok(reply) => {
-            let reply = told(alloc, gate, unit, &pass, reply);
+            let reply = told(alloc, gate, &pass, reply);
             (pass, Ok(reply))
         }
         Err(why) => (pass, Err(why)),
@@ -114,7 +113,6 @@ impl<P: Pass> Attached<P> {
         alloc: Global,
         units: &U,
         gate: &G,
-        unit: u8,
         asked: &Asked,
         bytes: &[u8],
     ) -> Result<Reply, Unserved>
@@ -124,9 +122,9 @@ impl<P: Pass> Attached<P> {
         let Some(pass) = self.pass.take() else {
             unreachable!()
         };
-        gate.pass(unit, pass.next_serial(), asked);
+        gate.pass(pass.place(), pass.next_serial(), asked);
         let by_group = self.by_group;
-        let (pass, end) = call(rt, alloc, units, gate, unit, pass, by_group, asked, bytes);
+        let (pass, end) = call(rt, alloc, units, gate, pass, by_group, asked, bytes);
         self.pass = Some(pass);
         if let Err(Unserved::ByUnit(Refused::Moved(owner))) = end {
             self.by_group = owner;
@@ -141,16 +139,15 @@ impl<P: Pass> Attached<P> {
         alloc: Global,
         units: &U,
         gate: &G,
-        unit: u8,
         asked: &Asked,
         bytes: &[u8],
     ) -> TargetAnswer
         requires { self.old.place < U.unit_count units.now }
         ensures { IsServed U.claims (late_of G.is_late G.lasts) U.opening self.old asked.now bytes.now result self.new }
     {
-        match self.submit(rt, alloc, units, gate, unit, asked, bytes) {
+        match self.submit(rt, alloc, units, gate, asked, bytes) {
             Err(Unserved::ByUnit(Refused::Moved(_))) => {
-                answered(self.submit(rt, alloc, units, gate, unit, asked, bytes))
+                answered(self.submit(rt, alloc, units, gate, asked, bytes))
             }
             end => answered(end),
         }

@@ -14,6 +14,10 @@ use unit_history::{LegalHistory, Opened, Pass as UnitPass, Units};
 impl<B: Blocks, R: Blocks, O: Opener<B>, N: Array<Opened>> Pass for UnitPass<B, R, O, N> {
     ghost held = { λ p. p };
 
+    fn place(&self) -> usize {
+        self.place()
+    }
+
     fn next_serial(&self) -> u64 {
         self.serial()
     }

@@ -16,8 +16,8 @@ pub trait Gate {
     /// A flush is done that began when a session's pass was this. Nothing but a call of `settle` says so.
     ghost lasts: { PlacedPass Entry → Type 0 };
 
-    /// The command with this serial of a session is about to be submitted to a unit.
-    fn pass(&self, unit: u8, serial: u64, asked: &Asked);
+    /// The command with this serial of a session is about to be submitted to the unit at this place.
+    fn pass(&self, unit: usize, serial: u64, asked: &Asked);
 
     /// Whether it has a use for commands that wait.
     fn foresees(&self) -> bool {
@@ -27,13 +27,13 @@ pub trait Gate {
     /// A command of this unit waits to be served.
     fn foresee(&self, _unit: u8, _asked: &Asked) {}
 
-    /// Whether the flushes of this unit's commands are left to it.
-    fn settles(&self, unit: u8) -> bool
+    /// Whether the flushes of the commands of the unit at this place are left to it.
+    fn settles(&self, unit: usize) -> bool
         ensures { IsTrue result → IsTrue is_late };
 
-    /// Makes all last that was written to this unit until now, behind a command of the session that has this pass. False: this flush
-    /// has failed, or one before it.
-    fn settle<P: Pass>(&self, unit: u8, pass: &P) -> bool
+    /// Makes all last that was written to a pass's unit until now, behind a command of its session. False: this flush has failed, or
+    /// one before it.
+    fn settle<P: Pass>(&self, pass: &P) -> bool
         ensures { IsTrue result → lasts (P.held pass.now) };
 }
 
@@ -46,13 +46,13 @@ impl Gate for Open {
 
     ghost lasts = { λ pass. ⊥ };
 
-    fn pass(&self, _unit: u8, _serial: u64, _asked: &Asked) {}
+    fn pass(&self, _unit: usize, _serial: u64, _asked: &Asked) {}
 
-    fn settles(&self, _unit: u8) -> bool {
+    fn settles(&self, _unit: usize) -> bool {
         false
     }
 
-    fn settle<P: Pass>(&self, _unit: u8, _pass: &P) -> bool {
+    fn settle<P: Pass>(&self, _pass: &P) -> bool {
         false
     }
 }
@@ -75,8 +75,8 @@ impl<P: Preparer> Gate for Prepared<P> {
 
     ghost lasts = { λ pass. P.has_flushed };
 
-    fn pass(&self, unit: u8, serial: u64, asked: &Asked) {
-        let Some(preparer) = self.of.get(usize::from(unit)) else {
+    fn pass(&self, unit: usize, serial: u64, asked: &Asked) {
+        let Some(preparer) = self.of.get(unit) else {
             return;
         };
         if !preparer.wants(serial) {
@@ -112,15 +112,15 @@ impl<P: Preparer> Gate for Prepared<P> {
         }
     }
 
-    fn settles(&self, unit: u8) -> bool {
-        match self.of.get(usize::from(unit)) {
+    fn settles(&self, unit: usize) -> bool {
+        match self.of.get(unit) {
             Some(preparer) => preparer.flushes(),
             None => false,
         }
     }
 
-    fn settle<Q: Pass>(&self, unit: u8, _pass: &Q) -> bool {
-        match self.of.get(usize::from(unit)) {
+    fn settle<Q: Pass>(&self, pass: &Q) -> bool {
+        match self.of.get(pass.place()) {
             Some(preparer) => preparer.flush(),
             None => false,
         }

@@ -1,12 +1,12 @@
 //! What is said of sessions, in a storage engineer's words.
-ghost use Rattle.std.specs.Prelude.{◌≡◌, ◌++◌, ◌∷◌, [], List, Bool, false, length};
+ghost use Rattle.std.specs.Prelude.{◌≡◌, ◌++◌, ◌∷◌, [], List, Bool, ℕ, false, length};
 ghost use Rattle.unit_state.specs.State.{UnitState};
 ghost use Rattle.unit_state.specs.Entry.{Entry, IsPossible, after};
 ghost use Rattle.unit_state.specs.History.{state_after};
 ghost use Rattle.unit_history.specs.Histories.{IsHistory};
 ghost use Rattle.scsi_types.specs.Nexus.{Nexus};
 ghost use Rattle.portal.specs.Entries.{AreAlike, Done, HasDone};
-ghost use Rattle.portal.specs.Late.{late_of, never};
+ghost use Rattle.portal.specs.Late.{late_at, late_of, never};
 ghost use Rattle.portal.specs.Units.{any_device};
 
 use crate::gate::Gate;
@@ -30,7 +30,7 @@ pub fn a_command_with_a_late_flush_is_one_step()
 /// device. That differs from the one that was seen in entries of the session's own alone: so all sessions have done so in one history.
 #[tactic(auto, using(crate::proofs::AsTold::has_done_as_told))]
 pub fn what_was_told_stands_in_one_history<U: LogicalUnits<P, H>, P: Pass, H: Drop, G: Gate>()
-    ensures { (s : UnitState) (nexus : Nexus) (done : List Done) (history : List Entry)
-        → (is : HasDone U.claims (late_of G.is_late G.lasts) s nexus done history)
+    ensures { (s : UnitState) (unit : ℕ) (nexus : Nexus) (done : List Done) (history : List Entry)
+        → (is : HasDone U.claims (late_at (late_of G.is_late G.lasts) unit) s nexus done history)
         → (told : List Entry) × HasDone any_device never s nexus done told × AreAlike (length is.before) history told }
 {}

@@ -393,7 +393,6 @@ impl<
             self.alloc,
             &device.units,
             &device.gate,
-            unit,
             asked,
             bytes,
         )

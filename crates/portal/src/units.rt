@@ -28,6 +28,10 @@ pub trait Pass: Drop {
     /// What the session knows of the unit.
     ghost held: { Self → PlacedPass Entry };
 
+    /// The place of its unit.
+    fn place(&self) -> usize
+        ensures { result ≡ (held self.now).place };
+
     /// The serial of the session's next command.
     fn next_serial(&self) -> u64
         ensures { result ≡ (held self.now).pass.serial };

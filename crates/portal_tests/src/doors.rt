@@ -4,8 +4,11 @@ ghost use Rattle.std.specs.Prelude.{true};
 use crate::latch::Latch;
 use portal::{Gate, Pass};
 use scsi_types::Asked;
-use std::sync::atomic::{AtomicBool, Ordering};
+use std::sync::atomic::{AtomicUsize, Ordering};
 use std::sync::{Mutex, Wait};
+
+/// The place of no unit.
+const NONE: usize = usize::MAX;
 
 /// What becomes of the flushes that are left to a gate.
 #[derive(Clone, Copy, Debug, PartialEq, Eq)]
@@ -25,7 +28,8 @@ pub struct Doors<R: Wait + Drop> {
     pub commands: Latch<R>,
     pub flushes: Latch<R>,
     come_to: Mutex<Flushes>,
-    was_asked: AtomicBool,
+    // The place of the unit of the last flush that was asked for, or none.
+    asked_for: AtomicUsize,
 }
 
 impl<R: Wait + Drop> Doors<R> {
@@ -36,7 +40,7 @@ impl<R: Wait + Drop> Doors<R> {
             commands,
             flushes,
             come_to: Mutex::new(Flushes::InPlace),
-            was_asked: AtomicBool::new(false),
+            asked_for: AtomicUsize::new(NONE),
         }
     }
 
@@ -45,9 +49,12 @@ impl<R: Wait + Drop> Doors<R> {
         *self.come_to.lock(&self.rt) = end;
     }
 
-    /// Whether a flush was asked for since this was asked last.
-    pub fn was_asked(&self) -> bool {
-        self.was_asked.swap(false, Ordering::Relaxed)
+    /// The unit of the last flush that was asked for since this was asked last.
+    pub fn asked_for(&self) -> Option<usize> {
+        match self.asked_for.swap(NONE, Ordering::Relaxed) {
+            NONE => None,
+            unit => Some(unit),
+        }
     }
 }
 
@@ -56,17 +63,17 @@ impl<R: Wait + Drop> Gate for Doors<R> {
 
     ghost lasts = { λ pass. Unit {0} };
 
-    fn pass(&self, unit: u8, _serial: u64, _asked: &Asked) {
+    fn pass(&self, unit: usize, _serial: u64, _asked: &Asked) {
         self.commands.wait_at(unit);
     }
 
-    fn settles(&self, _unit: u8) -> bool {
+    fn settles(&self, _unit: usize) -> bool {
         *self.come_to.lock(&self.rt) != Flushes::InPlace
     }
 
-    fn settle<P: Pass>(&self, unit: u8, _pass: &P) -> bool {
-        self.flushes.wait_at(unit);
-        self.was_asked.store(true, Ordering::Relaxed);
+    fn settle<P: Pass>(&self, pass: &P) -> bool {
+        self.flushes.wait_at(pass.place());
+        self.asked_for.store(pass.place(), Ordering::Relaxed);
         *self.come_to.lock(&self.rt) == Flushes::Done
     }
 }

@@ -10,7 +10,7 @@ use std::sync::{Arc, Wait};
 #[derive(Drop)]
 pub struct HeldBlocks<B: Blocks, R: Wait + Drop> {
     pub inner: B,
-    pub unit: u8,
+    pub unit: usize,
     pub latch: Arc<Latch<R>, Global>,
 }
 

@@ -4,7 +4,7 @@ use std::sync::{Condvar, Mutex, Wait};
 /// What a latch does, and how many calls it holds.
 #[derive(Drop)]
 struct Holding {
-    unit: Option<u8>,
+    unit: Option<usize>,
     held: u32,
 }
 
@@ -31,7 +31,7 @@ impl<R: Wait + Drop> Latch<R> {
     }
 
     /// From now on it holds the calls of this unit; or it lets all pass that it held.
-    pub fn hold(&self, unit: Option<u8>) {
+    pub fn hold(&self, unit: Option<usize>) {
         let mut holding = self.holding.lock(&self.rt);
         holding.unit = unit;
         holding.held = 0;
@@ -48,7 +48,7 @@ impl<R: Wait + Drop> Latch<R> {
     }
 
     /// Waits here as long as it holds the calls of this unit.
-    pub fn wait_at(&self, unit: u8) {
+    pub fn wait_at(&self, unit: usize) {
         let mut holding = self.holding.lock(&self.rt);
         if holding.unit == Some(unit) {
             holding.held = holding.held.saturating_add(1);

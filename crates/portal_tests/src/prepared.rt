@@ -57,12 +57,18 @@ impl Preparer for Counted {
     }
 }
 
-/// A pass of which nothing is asked.
+/// A pass of a unit at this place.
 #[derive(Drop)]
-struct NoPass;
+struct At {
+    place: usize,
+}
 
-impl Pass for NoPass {
-    ghost held = { λ p. record { place = 0; pass = record { session = 0; serial = 0; seen = [] } } };
+impl Pass for At {
+    ghost held = { λ p. record { place = p.place; pass = record { session = 0; serial = 0; seen = [] } } };
+
+    fn place(&self) -> usize {
+        self.place
+    }
 
     fn next_serial(&self) -> u64 {
         0
@@ -107,7 +113,7 @@ fn each_unit_has_its_own_disk_made_ready_and_flushed(rt: HostRuntime) -> Result<
         (3, (false, false)),
     ] {
         assert!(rt; gate.settles(unit) == settles, "{unit}");
-        assert!(rt; gate.settle(unit, &NoPass) == is_done, "{unit}");
+        assert!(rt; gate.settle(&At { place: unit }) == is_done, "{unit}");
     }
     assert!(rt; !gate.foresees());
     gate.pass(1, 7, &read);

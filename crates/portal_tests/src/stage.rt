@@ -17,7 +17,7 @@
 //! - `gate hold 1`: from now on commands of unit 1 wait before it; `gate held 2`: once two of them wait; `gate open`; `disk`
 //!   in place of `gate`: the writes of its device wait; `flush` in place of it: flushes wait that are left to the gate;
 //! - `gate flushes done`: from now on flushes are left to the gate, and done; `fail`: they fail; `in place`: none is left to it;
-//! - `gate flushed`: since the last such line a flush was asked of the gate, and `gate unflushed`: none was;
+//! - `gate flushed 1`: since the last such line a flush was asked of the gate, the last one of unit 1; `gate unflushed`: none was;
 //! - `0 shows 3`: the row of unit 0 tells of three entries, whoever has its lock;
 //! - `desks close`: the desks of both controllers are closed.
 use crate::at::At;
@@ -159,12 +159,12 @@ impl<
             "race" => self.race(rest),
             "enter" => self.enter(who, rest),
             "leave" => self.leave(rest),
-            "hold" => self.latch(who).hold(Some(self.unit(rest))),
+            "hold" => self.latch(who).hold(Some(self.number(rest) as usize)),
             "held" => self.latch(who).await_held(self.number(rest)),
             "open" => self.latch(who).hold(None),
             "flushes" => self.gate.come_to(self.flushes(rest)),
-            "flushed" => self.at.check(self.gate.was_asked(), &"a flush"),
-            "unflushed" => self.at.check(!self.gate.was_asked(), &"no flush"),
+            "flushed" => self.compare_flush(Some(self.number(rest) as usize)),
+            "unflushed" => self.compare_flush(None),
             "shows" => self.compare_row(who, rest),
             "close" => self.behind.close(),
             _ => self.at.stop("a verb"),
@@ -188,6 +188,12 @@ impl<
             "flush" => &self.gate.flushes,
             _ => &self.gate.commands,
         }
+    }
+
+    // Of which unit a flush was asked for last.
+    fn compare_flush(&self, unit: Option<usize>) {
+        let asked_for = self.gate.asked_for();
+        self.at.check(asked_for == unit, &asked_for);
     }
 
     // What becomes of flushes.

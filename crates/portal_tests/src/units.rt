@@ -38,7 +38,7 @@ fn in_memory<R: Wait + Drop>(
 ) -> Result<HeldUnit<R>, Fail> {
     let blocks = HeldBlocks {
         inner: MemBlocks::new(alloc, BLOCKS)?,
-        unit,
+        unit: usize::from(unit),
         latch: Arc::try_clone(latch)?,
     };
     new_unit(alloc, blocks, KeepOpener, unit, 2)
