@@ -9,6 +9,9 @@ use std::cell::Cell;
 use std::fs::File;
 use std::sync::{Arc, Mutex};
 use std::test::Fail;
+use std::thread;
+use std::thread::join;
+use std::time::Duration;
 
 /// The error of its flush that fails, as a system numbers EIO.
 const FAILED: u32 = 5;
@@ -16,11 +19,15 @@ const FAILED: u32 = 5;
 /// The error of a flush of what cannot be flushed, as Linux numbers EINVAL.
 const NOT_FLUSHED: u32 = 22;
 
-/// A file of four blocks, of which one flush fails, counted from 0, or none.
+/// So many milliseconds are a while.
+const A_WHILE: u64 = 100;
+
+/// A file of four blocks, of which one flush fails, counted from 0, or none. Where it has a clock, that one takes a while.
 #[derive(Drop)]
 struct Flushed {
     flushes: Cell<u32>,
     fails_at: Option<u32>,
+    clock: Option<HostRuntime>,
 }
 
 impl Flushed {
@@ -28,6 +35,7 @@ impl Flushed {
         Flushed {
             flushes: Cell::new(0),
             fails_at,
+            clock: None,
         }
     }
 }
@@ -67,6 +75,9 @@ impl LastingFile for Flushed {
         let before = self.flushes.get();
         self.flushes.set(before.wrapping_add(1));
         if self.fails_at == Some(before) {
+            if let Some(clock) = &self.clock {
+                thread::sleep(clock, Duration::from_millis(A_WHILE));
+            }
             Err(FAILED)
         } else {
             Ok(())
@@ -197,4 +208,16 @@ fn a_flush_of_a_file_is_one_of_the_system(rt: HostRuntime) -> Result<(), Fail> {
         null.make_last(0) == Err(NOT_FLUSHED),
         "a flush of the null device",
     )
+}
+
+// One of two waits for the handle by which the other fails. The system would tell it nothing of that.
+#[test]
+fn who_waits_behind_a_flush_that_fails_is_told(rt: HostRuntime) -> Result<(), Fail> {
+    let mut file = Flushed::new(Some(0));
+    file.clock = Some(rt);
+    let mut handles = Vec::new(rt.alloc());
+    handles.push(Mutex::new(file))?;
+    let flushes = Flushes::new(0, handles);
+    let (one, other) = join(&rt, || flushes.flush(&rt), || flushes.flush(&rt));
+    want(one.is_err() && other.is_err(), "both are told")
 }
