@@ -4,6 +4,7 @@
  *   CALLS_FILES=LIST   the names of the files that concern it, each on a line of its own; the others it leaves alone
  *   CALLS_LIST=F       F, a file that is long enough for `struct list`, has what was called so far
  *   CALLS_AT=N         the N-th of these calls fails with EIO, counted from 1; 0: none does
+ *   CALLS_IN_PLACE=1   a preparer gets no handle to flush by: each flush is the device's
  *   CALLS_HOW=         how it fails:
  *     none             nothing was done
  *     half             a write of two blocks or more: the first half of its blocks is written and that many bytes are answered;
@@ -28,8 +29,9 @@
 
 enum { BLOCK = 512, PLACES = 16384, HANDLES = 4096, NAMES = 64, NAMES_OF_UNIT = 4 };
 
-/* A disk is opened for its device, for its lock, and then for its preparer, which gets no handle here: each call is the device's. */
-enum { OF_PREPARER = 3 };
+/* A disk is opened for its device, for its lock, and then for its preparer: once to read by, which gets no handle here, so that
+ * each read is the device's; and four times to flush by. Of these handles only the flushes are in the list. */
+enum { TO_READ_BY = 3, LAST_TO_FLUSH_BY = 7 };
 
 /* The numbers of both are known to bench/calls.py too. */
 enum kind { OPEN = 1, STATX, FLOCK, LSEEK, PREAD, PWRITE, FDATASYNC, FSYNC, FTRUNCATE, RENAME };
@@ -50,8 +52,9 @@ static uint64_t at;
 static enum { NONE, HALF, WHOLE, DEAD } how;
 static char *names[NAMES];
 static int count_of_names;
-/* By handle: the number of its file and one more, or 0. */
+/* By handle: the number of its file and one more, or 0; less than 0 where only its flushes count. */
 static _Atomic int files[HANDLES];
+static int in_place;
 /* The number of the file whose calls fail from now on, or whose next write does, and one more, or 0. */
 static _Atomic int dead, wants_rest;
 
@@ -70,6 +73,7 @@ __attribute__((constructor)) static void begin(void)
     at = strtoull(getenv("CALLS_AT"), NULL, 10);
     how = !strcmp(word, "half") ? HALF : !strcmp(word, "whole") ? WHOLE : !strcmp(word, "dead") ? DEAD : NONE;
     read_names(strdup(getenv("CALLS_FILES")));
+    in_place = getenv("CALLS_IN_PLACE") != NULL;
     int file = syscall(SYS_openat, AT_FDCWD, path, O_RDWR | O_CLOEXEC);
     void *map = file < 0 ? MAP_FAILED : mmap(NULL, sizeof(struct list), PROT_READ | PROT_WRITE, MAP_SHARED, file, 0);
     if (map == MAP_FAILED)
@@ -91,6 +95,12 @@ static int named(const char *path)
 static int held(int handle)
 {
     return list && 0 <= handle && handle < HANDLES ? atomic_load(&files[handle]) - 1 : -1;
+}
+
+/* That, also where only its flushes count. */
+static int flushed_by(int handle)
+{
+    return list && 0 <= handle && handle < HANDLES ? abs(atomic_load(&files[handle])) - 1 : -1;
 }
 
 /* Enters a call in the list. Its end says whether it is to be passed on. */
@@ -136,23 +146,31 @@ static long answered(struct entry *entry, long answer)
     return answer;
 }
 
-/* A call on a handle with so much to tell, where F is the number of its file and ASK what is asked of the system. */
-#define ON_HANDLE(KIND, OFFSET, LENGTH, ASK)                                      \
+/* A call on a file with so much to tell, where ASK is what is asked of the system. */
+#define ON_FILE(FILE, KIND, OFFSET, LENGTH, ASK)                                  \
     do {                                                                          \
-        int file_ = held(handle);                                                 \
+        int file_ = (FILE);                                                       \
         if (file_ < 0)                                                            \
             return ASK;                                                           \
         struct entry *entry_ = enter(KIND, file_, OFFSET, LENGTH);                \
         return fails(entry_) ? -1 : answered(entry_, ASK);                        \
     } while (0)
 
+#define ON_HANDLE(KIND, OFFSET, LENGTH, ASK) ON_FILE(held(handle), KIND, OFFSET, LENGTH, ASK)
+
 static int open_at(int folder, const char *path, int flags, mode_t mode)
 {
     static _Atomic int opens[NAMES];
     int file = named(path);
-    if (file >= 0 && file % NAMES_OF_UNIT == 0 && atomic_fetch_add(&opens[file], 1) + 1 == OF_PREPARER) {
+    int n = file >= 0 && file % NAMES_OF_UNIT == 0 ? atomic_fetch_add(&opens[file], 1) + 1 : 0;
+    if (TO_READ_BY <= n && n <= LAST_TO_FLUSH_BY) {
+        int handle = -1;
         errno = EMFILE;
-        return -1;
+        if (n > TO_READ_BY && !in_place)
+            handle = syscall(SYS_openat, folder, path, flags, mode);
+        if (0 <= handle && handle < HANDLES)
+            atomic_store(&files[handle], -(file + 1));
+        return handle;
     }
     struct entry *entry = file < 0 ? NULL : enter(OPEN, file, 0, 0);
     if (entry && fails(entry))
@@ -242,7 +260,7 @@ ssize_t pwrite(int handle, const void *bytes, size_t size, off_t offset)
 
 int fdatasync(int handle)
 {
-    ON_HANDLE(FDATASYNC, 0, 0, syscall(SYS_fdatasync, handle));
+    ON_FILE(flushed_by(handle), FDATASYNC, 0, 0, syscall(SYS_fdatasync, handle));
 }
 
 int fsync(int handle)

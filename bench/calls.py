@@ -11,8 +11,9 @@ files, where nothing fails, and asked for all that is there.
 The calls are open, openat, statx, flock, lseek, pread, pwrite, fdatasync, fsync, ftruncate and rename on a disk, on its
 registration file, on the file as which that is made, and on their folder. A call fails with EIO and with nothing done; a
 write also with half of its blocks written, and with all of them; and then so that all later calls on the same file fail too.
-The same is done to a start over files that are there. Of a disk's preparer no call is made: it gets no handle, and the units are
-served without it.
+The same is done to a start over files that are there. A disk's preparer reads nothing here: it gets no handle for that. By those
+that it flushes by only the flushes count, which come behind their commands. With --in-place it has none of them, so that each flush
+is the device's, under its unit's lock.
 
 A model of what may be stands beside it. By that
 - each reply is GOOD, with the one data that there can be, or has the sense of the call that failed: 03 11/00 of a read,
@@ -28,8 +29,8 @@ are asked for, and told where they fail. A loss of power is tried by the proved 
 
 Prints a table; ends with status 1 at the first thing that is otherwise, with all that was asked and answered up to there.
 
-usage: bench/calls.py [--jobs J] [PROGRAM]
-       bench/calls.py --at N [--how HOW] [--end END] [PROGRAM]     one run, with all that was said
+usage: bench/calls.py [--in-place] [--jobs J] [PROGRAM]
+       bench/calls.py [--in-place] --at N [--how HOW] [--end END] [PROGRAM]     one run, with all that was said
 
 J runs are made at a time, 1 where that is not said. HOW is none, half, whole or dead, as bench/calls.c has them; END is "at
 once", kill, quit, or kept: killed at once, but behind another GOOD. PROGRAM is ./arrayd where none is given; `./example.sh
@@ -279,14 +280,14 @@ def one(program, calls, folder, at, how, end):
 class Runs:
     """All runs of a program, so many at a time, each with a folder and a list of its own; and what they came to."""
 
-    def __init__(self, program, folder, jobs):
+    def __init__(self, program, folder, jobs, in_place):
         self.program, self.folder, self.table = program, folder, Table()
         self.pool = concurrent.futures.ThreadPoolExecutor(jobs)
         self.places = queue.SimpleQueue()
         for job in range(jobs):
             place = os.path.join(folder, str(job))
             os.mkdir(place)
-            self.places.put((Calls(place), place))
+            self.places.put((Calls(place, in_place), place))
 
     def in_a_place(self, ask, *words):
         calls, place = self.places.get()
@@ -381,11 +382,12 @@ def main():
     words.add_argument("--at", type=int)
     words.add_argument("--how", default="none", choices=("none", "half", "whole", "dead"))
     words.add_argument("--end", default="quit", choices=ENDS_OF_RUNS)
+    words.add_argument("--in-place", action="store_true")
     words.add_argument("--jobs", type=int, default=1)
     words.add_argument("program", nargs="?", default=BUILT)
     words = words.parse_args()
     with tempfile.TemporaryDirectory() as folder:
-        runs = Runs(os.path.abspath(words.program), folder, words.jobs)
+        runs = Runs(os.path.abspath(words.program), folder, words.jobs, words.in_place)
         try:
             if words.at is None:
                 runs.all()

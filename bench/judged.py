@@ -117,8 +117,17 @@ class Judged(Life):
                 return True
         return False
 
+    def note_flushes(self, unit, seen):
+        """Notes whether a flush was done behind all writes of the unit, these calls' too."""
+        for call in seen:
+            if call.kind == "pwrite":
+                unit.is_flushed = False
+            elif call.kind in FLUSHES and call.is_done():
+                unit.is_flushed = True
+
     def medium_end(self, unit, seen, fua, failed):
         """What the device's failures make of a command that flushes last, where that was wanted; else nothing."""
+        self.note_flushes(unit, seen)
         for call in seen:
             if call.has_failed() and call.kind not in FLUSHES:
                 return failed[call.kind]
@@ -130,7 +139,7 @@ class Judged(Life):
             self.flushes_refused += 1
         if unit.is_disk_lost:
             return WRITE_FAILED
-        if not self.has_flushed(seen):
+        if not unit.is_flushed:
             raise Wrong("GOOD, and no flush was done behind its writes")
         return None
 

@@ -51,7 +51,8 @@ class Call:
 class Calls:
     """The list that the preloaded library keeps, in a file that is shared with it."""
 
-    def __init__(self, folder):
+    def __init__(self, folder, in_place=False):
+        self.in_place = in_place
         self.library = os.path.join(folder, "calls.so")
         source = os.path.join(TOP, "bench", "calls.c")
         subprocess.run(["cc", "-O2", "-shared", "-fPIC", "-o", self.library, source], check=True)
@@ -65,8 +66,9 @@ class Calls:
         """For a program that is to be started: the N-th call fails so. Begins a new list."""
         self.map[:8] = bytes(8)
         names = [name for disk in disks for name in (disk, disk + ".reg", disk + ".reg.new", os.path.dirname(disk))]
+        more = {"CALLS_IN_PLACE": "1"} if self.in_place else {}
         return {"LD_PRELOAD": self.library, "CALLS_FILES": "\n".join(names), "CALLS_LIST": self.path,
-                "CALLS_AT": str(at), "CALLS_HOW": how}
+                "CALLS_AT": str(at), "CALLS_HOW": how, **more}
 
     def count(self):
         return struct.unpack_from("=Q", self.map)[0]
@@ -179,7 +181,7 @@ class Life:
         self.heard("quit", "status 0", seen)
         for unit in self.units:
             flushes = self.calls_of([call for call in seen if call.unit == unit.number], unit, DISK, FLUSHES)
-            if not flushes and not unit.is_disk_lost:
+            if not flushes and not unit.is_disk_lost and not unit.is_flushed:
                 raise Wrong(f"quit did not flush unit {unit.number}")
         if any(call.has_failed() for call in seen):
             self.came("passed over")

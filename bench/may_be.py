@@ -140,6 +140,8 @@ class Unit:
         self.states = {preferred: OPTIMIZED, 3 - preferred: NON_OPTIMIZED}
         self.attentions = {}
         self.is_disk_lost = self.is_file_lost = self.is_in_doubt = False
+        # whether a flush of its disk was done behind all writes
+        self.is_flushed = False
         self.entries = 0
 
     def owner(self):
