@@ -30,7 +30,8 @@
 enum { BLOCK = 512, PLACES = 16384, HANDLES = 4096, NAMES = 64, NAMES_OF_UNIT = 4 };
 
 /* A disk is opened for its device, for its lock, and then for its preparer: once to read by, which gets no handle here, so that
- * each read is the device's; and four times to flush by. Of these handles only the flushes are in the list. */
+ * each read is the device's; and four times to flush by. Of these handles only the flushes are in the list, and nothing of how
+ * they are compared with the device's. */
 enum { TO_READ_BY = 3, LAST_TO_FLUSH_BY = 7 };
 
 /* The numbers of both are known to bench/calls.py too. */
@@ -55,6 +56,8 @@ static int count_of_names;
 /* By handle: the number of its file and one more, or 0; less than 0 where only its flushes count. */
 static _Atomic int files[HANDLES];
 static int in_place;
+/* How often each file was opened. */
+static _Atomic int opens[NAMES];
 /* The number of the file whose calls fail from now on, or whose next write does, and one more, or 0. */
 static _Atomic int dead, wants_rest;
 
@@ -160,7 +163,6 @@ static long answered(struct entry *entry, long answer)
 
 static int open_at(int folder, const char *path, int flags, mode_t mode)
 {
-    static _Atomic int opens[NAMES];
     int file = named(path);
     int n = file >= 0 && file % NAMES_OF_UNIT == 0 ? atomic_fetch_add(&opens[file], 1) + 1 : 0;
     if (TO_READ_BY <= n && n <= LAST_TO_FLUSH_BY) {
@@ -295,7 +297,10 @@ int flock(int handle, int operation)
 
 int statx(int handle, const char *restrict path, int flags, unsigned mask, struct statx *restrict out)
 {
-    ON_HANDLE(STATX, 0, 0, syscall(SYS_statx, handle, path, flags, mask, out));
+    int file = held(handle);
+    if (file >= 0 && TO_READ_BY <= atomic_load(&opens[file]) && atomic_load(&opens[file]) <= LAST_TO_FLUSH_BY)
+        return syscall(SYS_statx, handle, path, flags, mask, out);
+    ON_FILE(file, STATX, 0, 0, syscall(SYS_statx, handle, path, flags, mask, out));
 }
 
 int rename(const char *old, const char *new)
