@@ -1,8 +1,9 @@
 #!/usr/bin/env python3
-"""Failover under load: hosts with a path through each controller write and read back while the console takes controllers
-down and SET TARGET PORT GROUPS brings them up again. A host tries again after BUSY and a unit attention, and goes by its
-other path where its own is not accessible. At the end each unit's history has as many entries as were answered: none is
-lost and none is done twice; and every block, by both paths, is the last one written. Ends with status 1 otherwise.
+"""Failover under load: hosts with a path through each controller write, with FUA and without, flush and read back while the
+console takes controllers down and SET TARGET PORT GROUPS brings them up again. A host tries again after BUSY and a unit
+attention, and goes by its other path where its own is not accessible. At the end each unit's history has as many entries as
+were answered: none is lost and none is done twice; and every block, by both paths, is the last one written. Ends with status 1
+otherwise.
 
 usage: bench/failover.py [HOSTS [SECONDS]]
 
@@ -25,6 +26,8 @@ TARGET = "iqn.2000-01.test:array"
 UNITS, PLACES, BLOCKS = 2, 16, 8
 # So many reads of a host are open at a time.
 AT_ONCE = 8
+# Of so many writes one has FUA, and behind one of so many comes a SYNCHRONIZE CACHE.
+WITH_FUA, FLUSHED = 3, 10
 OPTIMIZED, NON_OPTIMIZED = 0, 1
 
 
@@ -74,8 +77,11 @@ class Host:
         data = b"%8d %d %3d" % (count, unit, self.number)
         data = data.ljust(BLOCK, b".") * BLOCKS
         lba = self.place(place)
-        self.good(unit, bytes([0x2A, 0, *lba.to_bytes(4, "big"), 0, 0, BLOCKS]), out=data)
+        fua = 0x08 if count % WITH_FUA == 0 else 0
+        self.good(unit, bytes([0x2A, fua, *lba.to_bytes(4, "big"), 0, 0, BLOCKS]), out=data)
         self.held[unit, place] = data
+        if count % FLUSHED == 0:
+            self.good(unit, bytes([0x35, *bytes(9)]))
 
     def read_of(self, place):
         return bytes([0x28, 0, *self.place(place).to_bytes(4, "big"), 0, 0, BLOCKS])
