@@ -144,15 +144,18 @@ fn prepared(
 #[test]
 fn a_flush_beside_the_device_that_failed_is_told(rt: HostRuntime) -> Result<(), Fail> {
     let (mut device, beside) = prepared(rt.alloc(), None, Some(1))?;
-    want(flushes(&mut device), "a flush that nothing stands before")?;
-    // One by each handle, and then a second one.
-    want(beside.flush(&rt) == Ok(()), "a flush beside it")?;
-    want(writes(&mut device, 1, &[0x11]), "a write")?;
-    want(beside.flush(&rt) == Ok(()), "by the other handle")?;
-    want(writes(&mut device, 1, &[0x12]), "a write")?;
     let failed = Err(FlushFault::Failed(FAILED));
-    want(beside.flush(&rt) == failed, "one that fails")?;
-    want(beside.flush(&rt) == Err(FlushFault::Lost), "one behind it")?;
+    let steps = [
+        flushes(&mut device),
+        // One by each handle, and then a second one.
+        beside.flush(&rt) == Ok(()),
+        writes(&mut device, 1, &[0x11]),
+        beside.flush(&rt) == Ok(()),
+        writes(&mut device, 1, &[0x12]),
+        beside.flush(&rt) == failed,
+        beside.flush(&rt) == Err(FlushFault::Lost),
+    ];
+    want(steps == [true; 7], "two that are done, and one that fails")?;
     for _ in 0..2 {
         want(!flushes(&mut device), "a flush behind one that failed")?;
     }

@@ -26,8 +26,8 @@ fn link(rt: HostRuntime, path: &str) -> Result<(), Fail> {
 }
 
 fn each_ends(rt: HostRuntime, path: &str, want: Option<DiskFault>) -> Result<(), Fail> {
-    for name in NAMES {
-        let path = beside(rt.alloc(), path, name)?;
+    for name in &NAMES {
+        let path = beside(rt.alloc(), path, *name)?;
         if open_disk(rt, rt.alloc(), path.as_str()).err() != want {
             return Err(Fail::new(format_args!("{path}")));
         }

@@ -17,13 +17,13 @@ fn a_preparer_costs_time_alone(rt: HostRuntime) -> Result<(), Fail> {
     let path = disk(&rt, "preparers")?;
     let other = beside(rt.alloc(), path.as_str(), "_other")?;
     make(&rt, other.as_str(), 2048)?;
-    for (name, is_own) in NAMES {
+    for (name, is_own) in &NAMES {
         let name = beside(rt.alloc(), path.as_str(), name)?;
         make(&rt, path.as_str(), 2048)?;
         let mut blocks = opened(rt, path.as_str())?.blocks;
         let preparer = FilePreparer::open(rt, rt.alloc(), name.as_str(), &mut blocks, None);
-        want(preparer.flushes() == is_own, "whether it flushes")?;
-        want(preparer.flush() == is_own, "a flush of its own")?;
+        want(preparer.flushes() == *is_own, "whether it flushes")?;
+        want(preparer.flush() == *is_own, "a flush of its own")?;
         is_as_ever(&mut blocks, &preparer)?;
         make(&rt, path.as_str(), 512)?;
         prepare(&preparer);
@@ -44,11 +44,11 @@ fn is_as_ever<B: Blocks>(blocks: &mut B, preparer: &impl Preparer) -> Result<(),
 }
 
 fn prepare(preparer: &impl Preparer) {
-    for (first, blocks) in RUNS {
-        preparer.advise(first, blocks);
-        preparer.advise_edges(first, blocks);
-        preparer.warm(first, blocks);
-        preparer.warm_edges(first, blocks);
+    for (first, blocks) in &RUNS {
+        preparer.advise(*first, *blocks);
+        preparer.advise_edges(*first, *blocks);
+        preparer.warm(*first, *blocks);
+        preparer.warm_edges(*first, *blocks);
         preparer.flush();
     }
 }
