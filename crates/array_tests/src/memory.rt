@@ -11,7 +11,7 @@ use event_log::{Log, Path};
 use login::Kind;
 use numbering::Array as Naming;
 use portal::{
-    BeginFault, Connection, Controllers, Open, SessionTarget, TargetDevice, serve_session,
+    BeginFault, Connection, Controllers, Open, SessionTarget, Table, TargetDevice, serve_session,
 };
 use scsi_types::Group;
 use session::{Identity, Watched};
@@ -21,7 +21,7 @@ use std::io::Read;
 use std::marker::Brand;
 use std::net::{Ipv4Addr, SocketAddrV4};
 use std::process::Abort;
-use std::sync::Wait;
+use std::sync::{Mutex, Wait};
 use std::test::Fail;
 use std::time::Clock;
 use test_streams::{Calls, FakeReader, FakeWriter, ONE_BYTE, WHOLE};
@@ -53,6 +53,9 @@ impl Connection for Endless {
 /// The controllers of the array.
 type Both<N> = Controllers<MemBlocks, MemBlocks, KeepOpener, N>;
 
+/// The table of its live sessions.
+type Sessions = Mutex<Table<Endless>>;
+
 /// What is seen of its unit.
 type Seen<N> = LegalHistory<MemBlocks, MemBlocks, KeepOpener, N>;
 
@@ -62,6 +65,7 @@ pub type Arrived<'a, R, N> = SessionTarget<
     R,
     Both<N>,
     Open,
+    Sessions,
     Endless,
     Pass<MemBlocks, MemBlocks, KeepOpener, N>,
     Seen<N>,
@@ -80,7 +84,7 @@ fn is_later<N: Naming<Opened>>(before: &[Seen<N>], after: &[Seen<N>]) -> bool {
 pub struct Scene<'a, R: Wait, N: Naming<Opened>> {
     pub rt: &'a R,
     pub alloc: Global,
-    device: &'a TargetDevice<Both<N>, Open, Endless>,
+    device: &'a TargetDevice<Both<N>, Open, Sessions>,
 }
 
 impl<'a, R: Wait + Clock + Abort, N: Naming<Opened>> Scene<'a, R, N> {
@@ -128,6 +132,7 @@ impl<'a, R: Wait + Clock + Abort, N: Naming<Opened>> Scene<'a, R, N> {
             R,
             Both<N>,
             Open,
+            Sessions,
             Endless,
             Pass<MemBlocks, MemBlocks, KeepOpener, N>,
             Seen<N>,

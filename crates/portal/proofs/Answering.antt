@@ -19,7 +19,6 @@ use Rattle.session_rules.specs.Turn.{Leads}
 use Rattle.session_rules.specs.declared.end.End.{End}
 use Rattle.session_rules.specs.declared.identity.Identity.{Identity}
 use Rattle.session_rules.specs.declared.opening.Opening.TheVariants.{Login}
-use Rattle.session_rules.specs.declared.target.BeginAnswer.{BeginAnswer}
 use Rattle.session_rules.specs.declared.target.BeginAnswer.TheVariants.{Begun, Refused}
 use Rattle.session_rules.specs.declared.target.TargetAnswer.{TargetAnswer}
 use Rattle.session_rules.specs.declared.target.TargetAnswer.TheVariants.{Replied, Outside, Busy, Gone}
@@ -29,6 +28,7 @@ use Rattle.unit_state.specs.State.{UnitState}
 use Rattle.unit_state.specs.Entry.{Entry, Attach}
 use Rattle.unit_history.specs.Histories.{IsHistory}
 use Rattle.portal.specs.Late.{Late, late_at}
+use Rattle.portal.specs.Sessions.{Sayings}
 use Rattle.portal.specs.Units.{Claims}
 use Rattle.portal.specs.Submitted.{At, IsServed, IsResetAnswer}
 use Rattle.portal.specs.Entries.{Done, done_by, reset_by, of_unit, done_in, done_at, AreEntries, HasDone, HasDoneNothing, IsLast, IsNormal}
@@ -126,7 +126,7 @@ module _ (claims : Claims) (late : Late) (opening : ℕ → UnitState) where
   attached_at nexus first (b ∷ at) (suc n) a are is =
       subst (λ (k : ℕ). IsAttachedTo claims opening nexus k a) (omega arith) (attached_at nexus (first + 1) at n a are.1 is)
 
-module _ (claims : Claims) (late : Late) (opening : ℕ → UnitState) (units : ℕ) (group : Group) where
+module _ (claims : Claims) (table : Sayings) (late : Late) (opening : ℕ → UnitState) (units : ℕ) (group : Group) where
   record Fresh (asks : List Asking) (t : TargetValue) : Type 0 where
     begun : t.begun ≡ false
     at : t.at ≡ []
@@ -343,7 +343,7 @@ module _ (claims : Claims) (late : Late) (opening : ℕ → UnitState) (units : 
 
   -- a session begins
   begun_as : (asks : List Asking) (t new : TargetValue) (port : Port) (kind : Kind) (tsih : ℕ) → Standing asks t
-      → HasBegun claims opening t port kind new → HasDoneNothing asks
+      → HasBegun claims table opening t port kind tsih new → HasDoneNothing asks
       → Fresh (asks ++ began port kind (Begun tsih) ∷ []) new ⊎ (Idle (asks ++ began port kind (Begun tsih) ∷ []) new
       ⊎ Running (asks ++ began port kind (Begun tsih) ∷ []) new)
   begun_as asks t new port Normal tsih standing is nothing =
@@ -373,7 +373,7 @@ module _ (claims : Claims) (late : Late) (opening : ℕ → UnitState) (units : 
       }))
 
   begins : (asks : List Asking) (t new : TargetValue) (port : Port) (kind : Kind) (tsih : ℕ) → Standing asks t
-      → HasBegun claims opening t port kind new
+      → HasBegun claims table opening t port kind tsih new
       → Standing (asks ++ began port kind (Begun tsih) ∷ []) new
   begins asks t new port kind tsih standing is =
       record {
@@ -389,7 +389,7 @@ module _ (claims : Claims) (late : Late) (opening : ℕ → UnitState) (units : 
 
   -- it does not begin
   turned_back : (asks : List Asking) (t new : TargetValue) (port : Port) (kind : Kind) (fault : BeginFault)
-      → IsRefused claims opening t port kind fault new → Standing asks t
+      → IsRefused claims table opening t port kind fault new → Standing asks t
       → Standing (asks ++ began port kind Refused ∷ []) new
   turned_back asks t new port kind fault is standing =
       ⊎_elim (λ (f : Fresh asks t). record {
@@ -430,7 +430,7 @@ module _ (claims : Claims) (late : Late) (opening : ℕ → UnitState) (units : 
         none = is.none;
       })
 
-  module _ (asks : List Asking) (t new : TargetValue) (is : IsOver claims opening t new) where
+  module _ (asks : List Asking) (t new : TargetValue) (is : IsOver claims table opening t new) where
     nowhere_now : new.at ≡ []
     nowhere_now = ap (λ (x : TargetValue). x.at) is.rest
 
@@ -481,12 +481,12 @@ module _ (claims : Claims) (late : Late) (opening : ℕ → UnitState) (units : 
         ⊎_elim (λ (f : Fresh (asks ++ over ∷ []) new). inl f.nothing) (λ (i : Idle (asks ++ over ∷ []) new). i.answered)
         (ends standing)
 
-  step : (asks : List Asking) (ask : Asking) (t new : TargetValue) → Standing asks t → LeadsOn claims late opening t ask new
+  step : (asks : List Asking) (ask : Asking) (t new : TargetValue) → Standing asks t → LeadsOn claims table late opening t ask new
       → Standing (asks ++ ask ∷ []) new
   step asks (began port kind (Begun tsih)) t new standing is = begins asks t new port kind tsih standing is
   step asks (began port kind Refused) t new standing is = turned_back asks t new port kind is.0 is.1 standing
   step asks (lives tsih port answer) t new standing is =
-      kept asks (lives tsih port answer) t new (λ (unit : ℕ). refl) is standing
+      kept asks (lives tsih port answer) t new (λ (unit : ℕ). refl) is.1 standing
   step asks (served None asked bytes answer) t new standing is =
       kept asks (served None asked bytes answer) t new (λ (unit : ℕ). refl) is.1 standing
   step asks (served (Some n) asked bytes answer) t new standing is =
@@ -507,7 +507,7 @@ module _ (claims : Claims) (late : Late) (opening : ℕ → UnitState) (units : 
       away.1 standing) (cases_lt n units)
   step asks over t new standing is = over_on asks t new is standing
 
-  led : (asks more : List Asking) (t new : TargetValue) → Standing asks t → Leads (LeadsOn claims late opening) more t new
+  led : (asks more : List Asking) (t new : TargetValue) → Standing asks t → Leads (LeadsOn claims table late opening) more t new
       → Standing (asks ++ more) new
   led asks [] t new standing is =
       subst (λ (l : List Asking). Standing l new) (sym (append-nil asks))
@@ -516,8 +516,8 @@ module _ (claims : Claims) (late : Late) (opening : ℕ → UnitState) (units : 
       subst (λ (l : List Asking). Standing l new) (append_assoc asks (c ∷ []) more)
       (led (asks ++ c ∷ []) more is.0 new (step asks c t is.0 standing is.1) is.2)
 
-  pub answered_all : (asks : List Asking) (mid new : TargetValue) → Leads (LeadsOn claims late opening) asks (unbegun units group) mid
-      → IsOver claims opening mid new
+  pub answered_all : (asks : List Asking) (mid new : TargetValue) → Leads (LeadsOn claims table late opening) asks (unbegun units group) mid
+      → IsOver claims table opening mid new
       → AreAnswered claims late opening units group (asks ++ over ∷ []) new.seen
   answered_all asks mid new is ends =
       answered_at_last asks mid new ends (led [] asks (unbegun units group) mid
@@ -525,9 +525,9 @@ module _ (claims : Claims) (late : Late) (opening : ℕ → UnitState) (units : 
       is)
 
   pub session_of : (me : Identity) (left left' held held' : Option (List ℕ)) (after : TargetValue) (end : End) (seen : List Sight)
-      → IsTranscribed (LeadsOn claims late opening) units me (Login (tag_of group)) left left' held held' (unbegun units group) after end
+      → IsTranscribed (LeadsOn claims table late opening) units me (Login (tag_of group)) left left' held held' (unbegun units group) after end
       → seen ≡ after.seen
-      → IsSession claims late opening units group me left left' held held' end seen
+      → IsSession claims table late opening units group me left left' held held' end seen
   session_of me left left' held held' after end seen is same =
       record {
         after = after;

@@ -1,16 +1,12 @@
 -- What a session has done behind a gate that flushes late, it has done in a history of the model as it was asked and told.
-use Rattle.std.proofs.Common.{◌≡◌, ℕ, ◌+◌, Bool, true, false, nat_eq, List, [], ◌∷◌, ◌++◌, length, Option, Some, None, Result, Ok, Err}
-use Rattle.std.proofs.Common.{refl, sym, ap, ◌∙◌, subst, append_assoc, append-nil, ⊎_elim, inl, inr}
+use Rattle.std.proofs.Common.{◌≡◌, ℕ, Bool, true, false, List, [], ◌∷◌, ◌++◌, length, Option, Some, None}
+use Rattle.std.proofs.Common.{refl, sym, ap, ◌∙◌, subst, append_assoc, ⊎_elim, inl, inr}
 use Rattle.std.proofs.lemmas.Bool.{false≢true}
 use Rattle.std.specs.Prelude.{◌⊎◌, IsTrue, MatchBool}
 use Rattle.scsi_types.specs.Nexus.{Nexus}
 use Rattle.scsi_types.specs.ReplyValue.{ReplyValue}
-use Rattle.scsi_types.specs.declared.names.Group.{Group}
-use Rattle.scsi_types.specs.declared.command.Command.{Command as ScsiCommand}
-use Rattle.scsi_types.specs.declared.command.CdbFault.{CdbFault}
 use Rattle.unit_state.specs.declared.refusal.Refusal.{Refusal}
 use Rattle.unit_state.specs.State.{UnitState}
-use Rattle.unit_state.specs.Choice.{Choice}
 use Rattle.unit_state.specs.Entry.{Entry, Attach, Detach, Reset, Move, Command, IsPossible, IsReplyTo, IsReplyWith, after}
 use Rattle.unit_state.specs.History.{state_after, IsLegal}
 use Rattle.unit_state.specs.Refusal.{refusal, request}

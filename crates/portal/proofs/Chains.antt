@@ -1,9 +1,9 @@
 -- What calls one after another add to what a session's pass has seen.
-use Rattle.std.proofs.Common.{◌≡◌, ◌≢◌, ℕ, ◌+◌, Bool, true, false, nat_eq, List, [], ◌∷◌, ◌++◌, length, filter, cond}
+use Rattle.std.proofs.Common.{◌≡◌, ◌≢◌, ℕ, ◌+◌, Bool, true, false, nat_eq, List, [], ◌∷◌, ◌++◌, cond}
 use Rattle.std.proofs.Common.{Result, Ok, Err, refl, sym, ap, ◌∙◌, subst, append_assoc, append-nil, ⊎_elim, inl, inr, arith}
 use Rattle.std.proofs.lemmas.Bool.Decides.{eqb_tells}
 use Rattle.std.proofs.lemmas.List.Sums.{sum_by-append}
-use Rattle.std.specs.Prelude.{MatchBool, ◌⊎◌, IsTrue}
+use Rattle.std.specs.Prelude.{MatchBool, IsTrue}
 use Rattle.scsi_types.specs.ReplyValue.{ReplyValue, check}
 use Rattle.scsi_types.specs.Sense.{write_error}
 use Rattle.scsi_types.specs.declared.status.Status.TheVariants.{Good}
@@ -18,12 +18,12 @@ use Rattle.status.specs.Views.{counted}
 use Rattle.locked_unit.specs.Calls.{Known, PlacedPass, IsRefused}
 use Rattle.forwarding.specs.declared.desk.DeskFault.TheVariants as desks
 use Rattle.locked_unit.specs.declared.machine.Refused.TheVariants as refusals
-use Rattle.unit_state.specs.Entry.{Entry, Reset, Command}
+use Rattle.unit_state.specs.Entry.{Entry, Command}
 use Rattle.unit_history.specs.Histories.{IsHistory, IsCommand, IsToldBehind, is_own, own}
 use Rattle.unit_history.specs.Calls.{HasServed}
 use Rattle.portal.specs.Late.{Late, late_at, Flushing, asked_by, served_by, IsTold, IsToldEnd}
 use Rattle.portal.specs.Units.{Claims, IsSubmitted, IsResetBy}
-use Rattle.portal.specs.Submitted.{At, held_of, IsOnce, IsSettled, IsTwice, IsServed, IsResetAt, IsResetAnswer, answer_of, is_moved}
+use Rattle.portal.specs.Submitted.{At, held_of, IsOnce, IsSettled, IsTwice, IsServed, IsResetAnswer, answer_of, is_moved}
 use Rattle.portal.specs.declared.units.Unserved.{Unserved}
 use Rattle.portal.specs.declared.units.Unserved.TheVariants.{ByUnit, ByDesk}
 use Rattle.portal.proofs.Settling.{late_entry}

@@ -1,5 +1,5 @@
 -- A session that does not begin.
-use Rattle.std.proofs.Common.{◌≡◌, ℕ, false, true, List, [], ◌∷◌, ◌++◌, length, map, Option, Some, None}
+use Rattle.std.proofs.Common.{◌≡◌, ℕ, Bool, false, true, List, [], ◌∷◌, ◌++◌, length, map, Option, Some, None}
 use Rattle.std.proofs.Common.{refl, sym, ap, ◌∙◌, subst, append-nil}
 use Rattle.std.proofs.lemmas.List.{map-append}
 use Rattle.std.specs.Prelude.{IfSome, MatchOption}
@@ -8,9 +8,11 @@ use Rattle.login.specs.declared.status.Kind.TheVariants.{Normal, Discovery}
 use Rattle.reservations.specs.Nexus.{through}
 use Rattle.scsi_types.specs.Nexus.{Port, Nexus}
 use Rattle.unit_state.specs.State.{UnitState}
+use Rattle.portal.specs.Sessions.{Sayings}
 use Rattle.portal.specs.Units.{Claims}
 use Rattle.portal.specs.Submitted.{At}
-use Rattle.portal.specs.Target.{TargetValue, Sight, AreAttached, IsCauseOf, IsFullAt, IsJoined, IsRefused, IsTurnedBack, Leaves, fault_of}
+use Rattle.portal.specs.Target.{TargetValue, Sight, AreAttached, IsCauseOf, IsFullAt, IsJoined, IsGrounded, IsRefused, IsTurnedBack, Leaves, fault_of}
+use Rattle.portal.specs.Target.{IsOfUnits, is_taken}
 use Rattle.portal.specs.declared.live.EnterFault.{EnterFault}
 use Rattle.portal.specs.declared.live.EnterFault.TheVariants as enters
 use Rattle.portal.specs.declared.target.BeginFault.{BeginFault}
@@ -31,35 +33,23 @@ module _ (claims : Claims) (opening : ℕ → UnitState) where
         ends = sym (append-nil seen) ∙ sym (append-nil (seen ++ []));
       }
 
-  pub as_it_was : (old : TargetValue) (port : Port) (kind : Kind) → IsRefused claims opening old port kind faults.NoMemory old
-  as_it_was old port kind =
-      record {
-        turned_back = at_once (through port old.group) kind old.units old.seen;
-        again = λ begun. refl;
-        rest = refl;
-      }
-
   -- one that is attached to no unit
   alone : (nexus : Nexus) (units : ℕ) (fault : EnterFault) → IsCauseOf claims opening nexus Discovery units [] (fault_of fault) []
   alone nexus units enters.NoTsih = (refl, refl)
   alone nexus units enters.NoNumber = (refl, refl)
   alone nexus units enters.NoMemory = refl
 
-  pub at_none : (old : TargetValue) (port : Port) (fault : EnterFault)
-      → IsRefused claims opening old port Discovery (fault_of fault) old
-  at_none old port fault =
+  pub at_none : (nexus : Nexus) (units : ℕ) (seen : List Sight) (fault : EnterFault)
+      → IsTurnedBack claims opening nexus Discovery units (fault_of fault) seen seen
+  at_none nexus units seen fault =
       record {
-        turned_back = record {
-          at = [];
-          attached = tt;
-          left = [];
-          over = tt;
-          full = [];
-          cause = alone (through port old.group) old.units fault;
-          ends = sym (append-nil old.seen) ∙ sym (append-nil (old.seen ++ []));
-        };
-        again = λ begun. refl;
-        rest = refl;
+        at = [];
+        attached = tt;
+        left = [];
+        over = tt;
+        full = [];
+        cause = alone nexus units fault;
+        ends = sym (append-nil seen) ∙ sym (append-nil (seen ++ []));
       }
 
   -- at a unit behind those that it was attached to, and has left
@@ -112,15 +102,38 @@ module _ (claims : Claims) (opening : ℕ → UnitState) where
         ends = leaves.ends ∙ sym (append-nil (old ++ leaves.seen));
       }
 
-  -- so it is said of its target
+-- nothing is said of what is in a slot from which it was taken
+pub taken : {C : Type 0} (slot : Option C) (P : C → Type 0) → is_taken slot ≡ true → IfSome slot P
+taken (Some c) P is = let e : false ≡ true = is in absurd (cc)
+taken None P is = tt
+
+-- a cause that lies in the units stands by itself
+pub grounds_of_units : (table : Sayings) (asked : Bool) (fault : BeginFault) → IsOfUnits fault → IsGrounded table asked fault
+grounds_of_units table asked faults.Begun is = absurd is
+grounds_of_units table asked faults.NoPortName is = absurd is
+grounds_of_units table asked (faults.NoRoom unit) is = tt
+grounds_of_units table asked faults.NoTsih is = absurd is
+grounds_of_units table asked faults.NoNumber is = absurd is
+grounds_of_units table asked faults.NoMemory is = tt
+
+-- what stands behind the table's cause
+pub grounds_of : (table : Sayings) (asked : Bool) (fault : EnterFault) → table.refused fault → IsGrounded table asked (fault_of fault)
+grounds_of table asked enters.NoTsih said = said
+grounds_of table asked enters.NoNumber said = said
+grounds_of table asked enters.NoMemory said = tt
+
+module _ (claims : Claims) (table : Sayings) (opening : ℕ → UnitState) where
+  -- So it is said of the target of a session that was not asked before: it had not begun.
   pub turned_back : (old new : TargetValue) (port : Port) (kind : Kind) (fault : BeginFault) (before after : List Sight)
-      → old.begun ≡ false → before ≡ old.seen → after ≡ new.seen → new ≡ record old { seen = new.seen }
+      → old.begun ≡ false → before ≡ old.seen → after ≡ new.seen → new ≡ record old { asked = true; seen = new.seen }
+      → IsGrounded table old.asked fault
       → IsTurnedBack claims opening (through port old.group) kind old.units fault before after
-      → IsRefused claims opening old port kind fault new
-  turned_back old new port kind fault before after fresh one two rest is =
+      → IsRefused claims table opening old port kind fault new
+  turned_back old new port kind fault before after fresh one two rest grounds is =
       record {
         turned_back = subst (λ (l : List Sight). IsTurnedBack claims opening (through port old.group) kind old.units fault l new.seen) one
             (subst (λ (l : List Sight). IsTurnedBack claims opening (through port old.group) kind old.units fault before l) two is);
+        grounds = grounds;
         again = λ (begun : old.begun ≡ true). let e : true ≡ false = sym begun ∙ fresh in absurd (cc);
         rest = rest;
       }

@@ -1,11 +1,9 @@
 -- A command whose flush came behind it could stand, as it was asked, in the place of its entry.
-use Rattle.std.proofs.Common.{◌≡◌, ℕ, ◌+◌, ◌-◌, ◌<◌, ◌≤◌, Bool, true, false, ◌&&◌, cond, List, [], ◌∷◌, ◌++◌, length, take, drop}
-use Rattle.std.proofs.Common.{Option, Some, None, Result, Ok, Err, refl, sym, ap, ◌∙◌, subst, ⊎_elim, inl, inr, arith}
+use Rattle.std.proofs.Common.{◌≡◌, ℕ, ◌+◌, ◌-◌, ◌<◌, ◌≤◌, Bool, true, false, ◌&&◌, cond, List, [], ◌∷◌, ◌++◌}
+use Rattle.std.proofs.Common.{Option, Some, None, Ok, refl, sym, ap, ◌∙◌, subst, ⊎_elim, inl, inr, arith}
 use Rattle.std.proofs.lemmas.Bool.{false≢true, and_from, and_left, and_right, cases_lt, lt-ltb, le-ltb, le-leb, lt-leb}
-use Rattle.std.proofs.lemmas.List.{append-nil, take-append-drop}
-use Rattle.std.specs.Prelude.{◌⊎◌, IsTrue, nat_lt, nat_le}
-use Rattle.std.specs.Option.{option_map, option_or}
-use Rattle.access_states.specs.State.{refusal_in}
+use Rattle.std.specs.Prelude.{IsTrue, nat_lt, nat_le}
+use Rattle.std.specs.Option.{option_or}
 use Rattle.access_states.specs.declared.state.AccessState.{AccessState}
 use Rattle.access_states.specs.declared.state.AccessState.TheVariants.{ActiveOptimized, ActiveNonOptimized, Standby, Unavailable}
 use Rattle.block_file.specs.DiskLaws.{written_none}
@@ -13,22 +11,19 @@ use Rattle.locked_unit.specs.Calls.{PlacedPass}
 use Rattle.scsi_types.specs.ReplyValue.{ReplyValue, check}
 use Rattle.scsi_types.specs.Sense.{lba_out_of_range, write_error}
 use Rattle.scsi_types.specs.declared.names.Group.{Group}
-use Rattle.scsi_types.specs.declared.command.Op.{Op}
 use Rattle.scsi_types.specs.declared.command.Op.TheVariants as ops
-use Rattle.scsi_types.specs.declared.command.Command.{Command as ScsiCommand}
 use Rattle.scsi_types.specs.declared.command.Command.TheVariants as commands
-use Rattle.scsi_types.specs.declared.command.CdbFault.{CdbFault}
 use Rattle.scsi_types.specs.declared.status.Status.TheVariants.{Good}
 use Rattle.unit_state.specs.declared.refusal.Refusal.{Refusal}
 use Rattle.unit_state.specs.declared.refusal.Refusal.TheVariants.{Attention, Conflict, Check}
 use Rattle.unit_state.specs.State.{ControlValue, UnitState}
 use Rattle.unit_state.specs.Choice.{Choice, Fine, ReadFailed, WriteFailed, OpenFailed, SaveFailed}
-use Rattle.unit_state.specs.Entry.{Entry, Attach, Detach, Reset, Move, Command, CanChoose, CanCome, IsPossible, IsReplyTo, IsReplyWith, MayCome, after, blocks_with}
+use Rattle.unit_state.specs.Entry.{Entry, Attach, Detach, Reset, Move, Command, CanChoose, IsPossible, IsReplyTo, IsReplyWith, MayCome, after, blocks_with}
 use Rattle.unit_state.specs.Entry.{control_with, left_control, pass, returned}
-use Rattle.unit_state.specs.History.{state_after, IsLegal, IsReplyAt}
-use Rattle.unit_state.specs.Medium.{Finding, MayFind, Range, WriteError, left, work_of}
+use Rattle.unit_state.specs.History.{state_after, IsLegal}
+use Rattle.unit_state.specs.Medium.{Finding, MayFind, WriteError, left, work_of}
 use Rattle.unit_state.specs.Refusal.{Request, request, refusal, refusal_reply, access_by, attention_rule, conflict_rule, field_rule, list_rule, opcode_rule}
-use Rattle.unit_state.specs.Refusal.{outside, range_by, saved_rule, state_for}
+use Rattle.unit_state.specs.Refusal.{outside, saved_rule, state_for}
 use Rattle.unit_history.specs.Histories.{IsHistory, IsToldBehind}
 use Rattle.portal.specs.Units.{Claims}
 use Rattle.portal.specs.Late.{Late, Flushing, writes, compares, synchronizes, asked_by, served_by, IsTold, IsUnflushed}

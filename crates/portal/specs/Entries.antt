@@ -1,6 +1,6 @@
 -- Which of what a session asked are entries of a unit's history, and that these are all of its own there, in order.
-use Rattle.std.specs.Prelude.{◌≡◌, ◌⊎◌, ℕ, ◌<◌, ◌≤◌, Bool, false, true, IsTrue, nat_eq, if◌then◌else◌, List, [], ◌∷◌, ◌++◌, length, MatchBool}
-use Rattle.std.specs.Prelude.{Option, Some, None, Result, slice_get}
+use Rattle.std.specs.Prelude.{◌≡◌, ◌⊎◌, ℕ, ◌<◌, ◌≤◌, false, true, IsTrue, nat_eq, if◌then◌else◌, List, [], ◌∷◌, ◌++◌, length, MatchBool}
+use Rattle.std.specs.Prelude.{Some, None, Result, slice_get}
 use Rattle.std.specs.List.{flat_map}
 use Rattle.login.specs.declared.status.Kind.TheVariants.{Normal}
 use Rattle.reservations.specs.Nexus.{through}

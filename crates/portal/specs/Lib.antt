@@ -4,6 +4,7 @@ pub mod Late
 pub mod Live
 pub mod Passes
 pub mod Server
+pub mod Sessions
 pub mod Submitted
 pub mod Target
 pub mod Units

@@ -1,5 +1,5 @@
 -- What initiators are told of a portal.
-use Rattle.std.specs.Prelude.{ℕ, Bool, List, [], ◌∷◌, nat_eq, if◌then◌else◌}
+use Rattle.std.specs.Prelude.{Bool, [], ◌∷◌, nat_eq, if◌then◌else◌}
 use lib.Pointwise.{pointwise}
 use Rattle.std.specs.declared.net.ipv4_addr.Ipv4Addr.{Ipv4Addr}
 use Rattle.std.specs.declared.net.socket_addr.SocketAddrV4.{SocketAddrV4}

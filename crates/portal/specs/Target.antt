@@ -20,6 +20,7 @@ use Rattle.unit_state.specs.State.{UnitState}
 use Rattle.unit_history.specs.Calls.{HasAttached, HasNoRoom}
 use Rattle.unit_state.specs.Entry.{Entry}
 use Rattle.portal.specs.Late.{Late}
+use Rattle.portal.specs.Sessions.{Sayings}
 use Rattle.portal.specs.Units.{Claims, IsRetired}
 use Rattle.portal.specs.Submitted.{At, IsServed, IsResetAnswer}
 use Rattle.portal.specs.declared.live.EnterFault.{EnterFault}
@@ -27,23 +28,32 @@ use Rattle.portal.specs.declared.live.EnterFault.TheVariants as enters
 use Rattle.portal.specs.declared.target.BeginFault.{BeginFault}
 use Rattle.portal.specs.declared.target.BeginFault.TheVariants as faults
 
+-- whether what was in a slot was taken out
+abbrev pub is_taken : {C : Type 0} → Option C → Bool
+is_taken (Some c) = false
+is_taken None = true
+
 -- What was seen of a unit: its place, and a history of it.
 abbrev pub Sight : Type 0
 Sight = ℕ × List Entry
 
--- What contracts see of it: how many units there are; the group of the portals by which its initiator came; whether the
--- session has begun; the session at each unit in order, from its beginning to its end; and what was seen of units as it left
--- them, or was refused there. A discovery session is at none.
+-- What contracts see of it: how many units there are; the group of the portals by which its initiator came; whether it was asked to
+-- begin, as it is once; whether the session has begun, and its number in the table of those that live, until it is over; the session
+-- at each unit in order, from its beginning to its end; and what was seen of units as it left them, or was refused there. A discovery
+-- session is at none.
 pub record TargetValue : Type 0 where
   pub units : ℕ
   pub group : Group
+  pub asked : Bool
   pub begun : Bool
+  pub number : Option ℕ
   pub at : List At
   pub seen : List Sight
 
 -- no session has begun
 abbrev pub unbegun : ℕ → Group → TargetValue
-unbegun units group = record { units = units; group = group; begun = false; at = []; seen = [] }
+unbegun units group =
+    record { units = units; group = group; asked = false; begun = false; number = None; at = []; seen = [] }
 
 -- the reply for a unit that is not there, or that there was no memory for it
 abbrev pub IsAbsent : Result ScsiCommand CdbFault → TargetAnswer → Type 0
@@ -93,13 +103,6 @@ module _ (claims : Claims) (opening : ℕ → UnitState) where
   IsJoined Normal nexus units at = (length at ≡ units) × AreAttached nexus 0 at
   IsJoined Discovery nexus units at = at ≡ []
 
-  -- it has begun
-  pub record HasBegun (old : TargetValue) (port : Port) (kind : Kind) (new : TargetValue) : Type 0 where
-    pub name : IsPortName port
-    pub fresh : (old.begun ≡ false) × (old.at ≡ []) × (old.seen ≡ [])
-    pub joined : IsJoined kind (through port old.group) old.units new.at
-    pub rest : new ≡ record old { begun = true; at = new.at }
-
   -- this was seen of this unit: behind it no session of the nexus has room
   abbrev pub IsFullAt : Nexus → ℕ → Sight → Type 0
   IsFullAt nexus unit seen = (seen.0 ≡ unit) × HasNoRoom claims.contents (opening unit) nexus seen.1
@@ -137,21 +140,54 @@ module _ (claims : Claims) (opening : ℕ → UnitState) where
       (unit < old.units → IsResetIn old unit answer new)
       × (old.units ≤ unit → (answer ≡ resets.Failed) × (new ≡ old))
 
-  -- it is over at all its units
-  pub record IsOver (old new : TargetValue) : Type 0 where
-    pub ended : Leaves old.at old.seen new.seen
-    pub rest : new ≡ record old { at = []; seen = new.seen }
+-- a cause that lies in the units, or in memory
+abbrev pub IsOfUnits : BeginFault → Type 0
+IsOfUnits faults.Begun = ⊥
+IsOfUnits faults.NoPortName = ⊥
+IsOfUnits (faults.NoRoom unit) = Unit {0}
+IsOfUnits faults.NoTsih = ⊥
+IsOfUnits faults.NoNumber = ⊥
+IsOfUnits faults.NoMemory = Unit {0}
 
-  -- It does not begin, and is as it was but for what was seen of units; one that had begun before sees no more.
+-- What stands behind a cause beside the units: it was asked before; or the table of the sessions that live says that it has no TSIH or
+-- no number.
+abbrev pub IsGrounded : Sayings → Bool → BeginFault → Type 0
+IsGrounded table asked faults.Begun = asked ≡ true
+IsGrounded table asked faults.NoPortName = Unit {0}
+IsGrounded table asked (faults.NoRoom unit) = Unit {0}
+IsGrounded table asked faults.NoTsih = table.refused enters.NoTsih
+IsGrounded table asked faults.NoNumber = table.refused enters.NoNumber
+IsGrounded table asked faults.NoMemory = Unit {0}
+
+-- beside a table of the sessions that live
+module _ (claims : Claims) (table : Sayings) (opening : ℕ → UnitState) where
+  -- It has begun: it is attached to what its kind is attached to, and lives by this TSIH, as the table says.
+  pub record HasBegun (old : TargetValue) (port : Port) (kind : Kind) (tsih : ℕ) (new : TargetValue) : Type 0 where
+    pub name : IsPortName port
+    pub first : old.asked ≡ false
+    pub fresh : (old.begun ≡ false) × (old.at ≡ []) × (old.seen ≡ [])
+    pub joined : IsJoined claims opening kind (through port old.group) old.units new.at
+    pub number : ℕ
+    pub entered : table.entered (through port old.group) kind number tsih
+    pub rest : new ≡ record old { asked = true; begun = true; number = Some number; at = new.at }
+
+  -- It does not begin, and is as it was but for what was seen of units, and that it was asked; one that had begun before sees no more.
   pub record IsRefused (old : TargetValue) (port : Port) (kind : Kind) (fault : BeginFault) (new : TargetValue) : Type 0 where
-    pub turned_back : IsTurnedBack (through port old.group) kind old.units fault old.seen new.seen
+    pub turned_back : IsTurnedBack claims opening (through port old.group) kind old.units fault old.seen new.seen
+    pub grounds : IsGrounded table old.asked fault
     pub again : old.begun ≡ true → new ≡ old
-    pub rest : new ≡ record old { seen = new.seen }
+    pub rest : new ≡ record old { asked = true; seen = new.seen }
 
   -- It was asked to begin: its TSIH, or why it may not.
   abbrev pub HasTried : TargetValue → Port → Kind → Result ℕ BeginFault → TargetValue → Type 0
-  HasTried old port kind (Ok tsih) new = (0 < tsih) × HasBegun old port kind new
+  HasTried old port kind (Ok tsih) new = (0 < tsih) × HasBegun old port kind tsih new
   HasTried old port kind (Err fault) new = IsRefused old port kind fault new
+
+  -- It is over at all its units, and in the table, where it lived.
+  pub record IsOver (old new : TargetValue) : Type 0 where
+    pub ended : Leaves claims opening old.at old.seen new.seen
+    pub left : MatchOption old.number (Unit {0}) table.left
+    pub rest : new ≡ record old { number = None; at = []; seen = new.seen }
 
 -- behind a gate to which flushes may be left
 module _ (claims : Claims) (late : Late) (opening : ℕ → UnitState) where
@@ -168,11 +204,13 @@ module _ (claims : Claims) (late : Late) (opening : ℕ → UnitState) where
       (unit < old.units → IsServedAt old unit asked bytes answer new)
       × (old.units ≤ unit → IsAbsent asked answer × (new ≡ old))
 
+-- beside a table of the sessions that live
+module _ (claims : Claims) (table : Sayings) (late : Late) (opening : ℕ → UnitState) where
   -- where a question with its answer leads the target
   abbrev pub LeadsOn : TargetValue → Asking → TargetValue → Type 0
-  LeadsOn old (began port kind (Begun tsih)) new = HasBegun claims opening old port kind new
-  LeadsOn old (began port kind Refused) new = (fault : BeginFault) × IsRefused claims opening old port kind fault new
-  LeadsOn old (lives tsih port answer) new = new ≡ old
-  LeadsOn old (served unit asked bytes answer) new = IsAnswered old unit asked bytes answer new
+  LeadsOn old (began port kind (Begun tsih)) new = HasBegun claims table opening old port kind tsih new
+  LeadsOn old (began port kind Refused) new = (fault : BeginFault) × IsRefused claims table opening old port kind fault new
+  LeadsOn old (lives tsih port answer) new = table.lived tsih port answer × (new ≡ old)
+  LeadsOn old (served unit asked bytes answer) new = IsAnswered claims late opening old unit asked bytes answer new
   LeadsOn old (reset unit answer) new = IsReset claims opening old unit answer new
-  LeadsOn old over new = IsOver claims opening old new
+  LeadsOn old over new = IsOver claims table opening old new

@@ -11,6 +11,7 @@ use Rattle.session.specs.Transcript.{IsTranscribed}
 use Rattle.unit_state.specs.Entry.{Entry}
 use Rattle.unit_state.specs.State.{UnitState}
 use Rattle.portal.specs.Late.{Late}
+use Rattle.portal.specs.Sessions.{Sayings}
 use Rattle.portal.specs.Units.{Claims}
 use Rattle.portal.specs.Entries.{AreAnswered}
 use Rattle.portal.specs.Target.{TargetValue, LeadsOn, unbegun}
@@ -23,10 +24,10 @@ tag_of Two = 2
 -- What was written spells a legal transcript of what was read, of a login by a portal of this group, and what the session
 -- asked led its target from where it is at no unit to its end. What it asked of units, to the last, that it is over, is answered by
 -- their histories, as they were seen when it left them: these are handed out.
-pub record IsSession (claims : Claims) (late : Late) (opening : ℕ → UnitState) (units : ℕ) (group : Group) (me : Identity)
+pub record IsSession (claims : Claims) (table : Sayings) (late : Late) (opening : ℕ → UnitState) (units : ℕ) (group : Group) (me : Identity)
     (left left' held held' : Option (List ℕ)) (end : End) (seen : List (ℕ × List Entry)) : Type 0 where
   pub after : TargetValue
-  pub transcribed : IsTranscribed (LeadsOn claims late opening) units me (Login (tag_of group)) left left' held held'
+  pub transcribed : IsTranscribed (LeadsOn claims table late opening) units me (Login (tag_of group)) left left' held held'
       (unbegun units group) after end
   pub seen_is : seen ≡ after.seen
   pub answered : AreAnswered claims late opening units group (asked (exchanges transcribed.passed.transcript) ++ over ∷ []) seen

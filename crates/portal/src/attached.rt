@@ -1,5 +1,5 @@
 //! A session at one unit.
-ghost use Rattle.std.specs.Prelude.{◌≡◌, ◌<◌};
+ghost use Rattle.std.specs.Prelude.{◌≡◌, ◌<◌, Some, None};
 ghost use Rattle.portal.specs.Late.{late_of};
 ghost use Rattle.portal.specs.Submitted.{IsCalled, IsOnce, IsServed, IsResetAnswer, answer_of};
 
@@ -11,6 +11,7 @@ use scsi_types::{Asked, Group, Reply};
 use session::{ResetAnswer, TargetAnswer};
 use std::alloc::Global;
 use std::marker::Model;
+use std::mem;
 use std::sync::Wait;
 use unit_history::Refused;
 
@@ -46,6 +47,17 @@ fn answered(end: Result<Reply, Unserved>) -> TargetAnswer
         Err(Unserved::ByDesk(DeskFault::Full)) => TargetAnswer::Busy,
         Err(Unserved::ByDesk(DeskFault::Closed)) => TargetAnswer::Busy,
         Err(Unserved::ByDesk(DeskFault::NoMemory)) => TargetAnswer::Busy,
+    }
+}
+
+// Puts a pass that was out back into its slot.
+fn put_back<P: Pass>(slot: &mut Option<P>, pass: P)
+    requires { slot.old ≡ None }
+    ensures { slot.new ≡ Some pass }
+{
+    match mem::replace(slot, Some(pass)) {
+        None => {}
+        Some(_) => unreachable!(),
     }
 }
 
@@ -125,7 +137,7 @@ impl<P: Pass> Attached<P> {
         gate.pass(pass.place(), pass.next_serial(), asked);
         let by_group = self.by_group;
         let (pass, end) = call(rt, alloc, units, gate, pass, by_group, asked, bytes);
-        self.pass = Some(pass);
+        put_back(&mut self.pass, pass);
         if let Err(Unserved::ByUnit(Refused::Moved(owner))) = end {
             self.by_group = owner;
         }
@@ -166,7 +178,7 @@ impl<P: Pass> Attached<P> {
             unreachable!()
         };
         let (pass, is_reset) = units.reset(rt, pass);
-        self.pass = Some(pass);
+        put_back(&mut self.pass, pass);
         if is_reset {
             ResetAnswer::Done
         } else {

@@ -6,23 +6,23 @@ use std::sync::Mutex;
 
 /// A SCSI target device with its logical units (SAM-5, 4.5), and the sessions that live at it.
 #[derive(Drop)]
-pub struct TargetDevice<U: Drop, G: Drop, C: Drop> {
+pub struct TargetDevice<U: Drop, G: Drop, S: Drop> {
     /// Its units.
     pub units: U,
     /// What each command passes before its unit is asked.
     pub gate: G,
-    /// Its live sessions. No lock is taken while this one is held.
-    pub sessions: Mutex<Table<C>>,
+    /// Its live sessions. No lock is taken while theirs is held.
+    pub sessions: S,
     /// Held while a normal session is attached to the units and enters the table: so of two of one nexus the later one is the
     /// later one at each unit and in the table.
     pub beginning: Mutex<()>,
 }
 
-impl<U: Drop, G: Drop, C: Drop> TargetDevice<U, G, C> {
+impl<U: Drop, G: Drop, C: Drop> TargetDevice<U, G, Mutex<Table<C>>> {
     ghost use Rattle.std.specs.Prelude.{◌≡◌};
 
     /// A target device of which no session has begun.
-    pub fn new(alloc: Global, units: U, gate: G) -> TargetDevice<U, G, C>
+    pub fn new(alloc: Global, units: U, gate: G) -> TargetDevice<U, G, Mutex<Table<C>>>
         ensures { result.units ≡ units }
     {
         TargetDevice {

@@ -5,6 +5,7 @@ ghost use Rattle.portal.specs.Server.{named_by};
 use crate::connection::Connection;
 use crate::device::TargetDevice;
 use crate::gate::Gate;
+use crate::live::Table;
 use crate::stacks::{STACK, Stacks};
 use crate::units::{LogicalUnits, Pass};
 use crate::wire::{Heard, LastSaid, Said};
@@ -17,7 +18,7 @@ use std::alloc::{AllocError, Global};
 use std::io::ErrorKind;
 use std::net::{Ipv4Addr, Shutdown, SocketAddr, SocketAddrV4, TcpListener, TcpStream};
 use std::os::fd::OwnedFd;
-use std::sync::{Arc, Wait};
+use std::sync::{Arc, Mutex, Wait};
 use std::thread::{Builder, JoinHandle, Threads};
 use std::time::{Clock, Duration};
 use std::{io, thread};
@@ -40,7 +41,7 @@ pub type Socket = Arc<TcpStream, Global>;
 #[derive(Drop)]
 pub struct Server<U: Drop, G: Drop> {
     /// Its units and its sessions.
-    pub device: TargetDevice<U, G, Socket>,
+    pub device: TargetDevice<U, G, Mutex<Table<Socket>>>,
     /// The target's name (RFC 7143, 4.2.7).
     pub target_name: Vec<u8>,
     /// The portals of the first controller, in order. The address 0.0.0.0 stands for that which a connection reached.
@@ -162,6 +163,7 @@ fn serve_socket<R: Wait + Clock, U: LogicalUnits<P, H> + Drop, G: Gate + Drop, P
         R,
         U,
         G,
+        Mutex<Table<Socket>>,
         Socket,
         P,
         H,

@@ -1,8 +1,8 @@
 //! The target of one session: its passes of all units.
-ghost use Rattle.std.specs.Prelude.{◌≡◌, ◌+◌, ◌<◌, ◌≤◌, ◌↔◌, ◌∷◌, ◌++◌, [], false, All, IfErr, IfOk, IfSome, IsTrue, MatchOption};
+ghost use Rattle.std.specs.Prelude.{◌≡◌, ◌+◌, ◌<◌, ◌≤◌, ◌↔◌, ◌∷◌, ◌++◌, [], false, true, All, IfErr, IfOk, IfSome, IsTrue, MatchOption};
 ghost use Rattle.std.specs.Prelude.{length, map, vec_capacity};
 ghost use Rattle.reservations.specs.Nexus.{IsPortName, through};
-ghost use Rattle.portal.specs.Target.{IsAbsent, IsAttachedTo, IsFullAt, IsJoined, IsOverAt, IsTurnedBack, Leaves};
+ghost use Rattle.portal.specs.Target.{IsAbsent, IsAttachedTo, IsFullAt, IsJoined, IsOfUnits, IsOverAt, IsTurnedBack, Leaves};
 ghost use Rattle.portal.specs.Late.{late_of};
 ghost use Rattle.portal.specs.Target.{HasTried, IsServedAt, IsResetIn, unbegun};
 ghost use Rattle.portal.specs.declared.target.BeginFault.TheVariants as faults;
@@ -12,6 +12,7 @@ use crate::connection::Connection;
 use crate::device::TargetDevice;
 use crate::gate::Gate;
 use crate::live::EnterFault;
+use crate::sessions::Sessions;
 use crate::units::{LogicalUnits, Pass};
 use identity::absent;
 use login::Kind;
@@ -71,18 +72,19 @@ pub struct SessionTarget<
     R: Wait,
     U: LogicalUnits<P, H> + Drop,
     G: Gate + Drop,
+    S: Sessions<C> + Drop,
     C: Connection + Drop,
     P: Pass,
     H: Drop,
 > {
     rt: &'a R,
     alloc: Global,
-    device: &'a TargetDevice<U, G, C>,
+    device: &'a TargetDevice<U, G, S>,
     // The group of the portals by which the initiator came.
     group: Group,
-    // What the session runs over, until it has begun.
+    // What the session runs over, until it is asked to begin.
     connection: Option<C>,
-    // The number of the session that has begun.
+    // The number of the session that has begun, until it is over.
     number: Option<u64>,
     // Whether the session has begun.
     begun: bool,
@@ -97,25 +99,29 @@ impl<
     R: Wait,
     U: LogicalUnits<P, H> + Drop,
     G: Gate + Drop,
+    S: Sessions<C> + Drop,
     C: Connection + Drop,
     P: Pass,
     H: Drop,
-> Model for SessionTarget<'a, R, U, G, C, P, H> {
-    ghost use Rattle.std.specs.Prelude.{All, ◌+◌, ◌<◌, ◌≤◌, length, map, vec_capacity};
-    ghost use Rattle.portal.specs.Target.{TargetValue};
+> Model for SessionTarget<'a, R, U, G, S, C, P, H> {
+    ghost use Rattle.std.specs.Prelude.{All, ◌≡◌, ◌+◌, ◌<◌, ◌≤◌, [], false, IfSome, length, map, vec_capacity};
+    ghost use Rattle.portal.specs.Target.{TargetValue, is_taken};
 
     ghost Value = { TargetValue };
 
     ghost view = { λ t. record {
       units = U.unit_count t.device.now.units;
       group = t.group;
+      asked = is_taken t.connection;
       begun = t.begun;
+      number = t.number;
       at = t.at.items;
       seen = map U.seen t.seen.items;
     } };
 
     ghost invariant = { λ t. All (λ a. a.place < U.unit_count t.device.now.units) t.at.items
-        × (length t.seen.items + length t.at.items ≤ vec_capacity t.seen) };
+        × (length t.seen.items + length t.at.items ≤ vec_capacity t.seen)
+        × IfSome t.connection (λ c. (t.begun ≡ false) × (t.at.items ≡ []) × (t.seen.items ≡ [])) };
 }
 
 // Whether these name an initiator port: a name of 1 to 223 bytes, and an ISID of six.
@@ -181,13 +187,15 @@ fn retire_all<R: Wait, U: LogicalUnits<P, H>, P: Pass, H: Drop>(
         let one = attached.remove(0);
         seen.push_reserved(retire(rt, units, one));
     }
+    attached.destroy_empty();
 }
 
 // Why a session was refused at this unit, of which this was seen, which is kept; or there was no memory.
 fn refused_at<S: Drop>(unit: u8, full: Option<S>, seen: &mut Vec<S>) -> BeginFault
     requires { length seen.old.items < vec_capacity seen.old }
-    ensures { MatchOption full ((result ≡ faults.NoMemory) × (seen.new.items ≡ seen.old.items))
+    ensures fault { MatchOption full ((result ≡ faults.NoMemory) × (seen.new.items ≡ seen.old.items))
         (λ one. (result ≡ faults.NoRoom unit) × (seen.new.items ≡ seen.old.items ++ one ∷ [])) }
+    ensures of_units { IsOfUnits result }
 {
     match full {
         Some(one) => {
@@ -217,6 +225,7 @@ fn attach_all<R: Wait, U: LogicalUnits<P, H>, P: Pass, H: Drop>(
     ensures turned_back { IfErr result (λ fault. IsTurnedBack U.claims U.opening
         (through (record { name = name.now; isid = isid }) group) Kind.Normal (U.unit_count units.now) fault
         (map U.seen seen.old.items) (map U.seen seen.new.items)) }
+    ensures of_units { IfErr result IsOfUnits }
 {
     let count = units.units();
     let Ok(mut attached) = Vec::with_capacity(alloc, usize::from(count)) else {
@@ -249,18 +258,19 @@ impl<
     R: Wait,
     U: LogicalUnits<P, H> + Drop,
     G: Gate + Drop,
+    S: Sessions<C> + Drop,
     C: Connection + Drop,
     P: Pass,
     H: Drop,
-> SessionTarget<'a, R, U, G, C, P, H> {
+> SessionTarget<'a, R, U, G, S, C, P, H> {
     /// The target of a session that has not begun, which comes over this connection by the portals of this group.
     pub fn new(
         rt: &'a R,
         alloc: Global,
-        device: &'a TargetDevice<U, G, C>,
+        device: &'a TargetDevice<U, G, S>,
         group: Group,
         connection: C,
-    ) -> SessionTarget<'a, R, U, G, C, P, H>
+    ) -> SessionTarget<'a, R, U, G, S, C, P, H>
         ensures { result ≡ unbegun (U.unit_count device.now.units) group }
     {
         SessionTarget {
@@ -278,18 +288,23 @@ impl<
 
     // The session begins to live: its number and its TSIH.
     fn enter(&self, port: PortName, kind: Kind, connection: C) -> Result<(u64, u16), EnterFault>
-        ensures { IfOk result (λ r. 0 < r.1) }
+        ensures entered { IfOk result (λ r. S.says.entered (through port self.now.group) kind r.0 r.1) }
+        ensures tsih { IfOk result (λ r. 0 < r.1) }
+        ensures refused { IfErr result S.says.refused }
     {
         connection.settle();
-        let mut guard = self.device.sessions.lock(self.rt);
-        guard.enter(port, self.group, kind, connection)
+        self.device
+            .sessions
+            .enter(self.rt, port, self.group, kind, connection)
     }
 
     // Attaches a normal session to all units; then it begins to live.
     fn join(&mut self, name: &[u8], isid: u64, connection: C) -> Result<u16, BeginFault>
         requires fresh { (self.old.begun ≡ false) × (self.old.at ≡ []) × (self.old.seen ≡ []) }
+        requires asked { self.old.asked ≡ true }
         requires name { IsPortName (record { name = name.now; isid = isid }) }
-        ensures { HasTried U.claims U.opening self.old (record { name = name.now; isid = isid }) Kind.Normal result self.new }
+        ensures { HasTried U.claims S.says U.opening (record self.old { asked = false })
+            (record { name = name.now; isid = isid }) Kind.Normal result self.new }
     {
         let Ok(own_name) = name.to_vec(self.alloc) else {
             return Err(BeginFault::NoMemory);
@@ -316,7 +331,7 @@ impl<
             Ok((number, tsih)) => {
                 self.number = Some(number);
                 self.begun = true;
-                self.at = at;
+                mem::replace(&mut self.at, at).destroy_empty();
                 Ok(tsih)
             }
             Err(fault) => {
@@ -329,8 +344,10 @@ impl<
     // A discovery session, which is attached to no unit, begins to live.
     fn join_none(&mut self, name: &[u8], isid: u64, connection: C) -> Result<u16, BeginFault>
         requires fresh { (self.old.begun ≡ false) × (self.old.at ≡ []) × (self.old.seen ≡ []) }
+        requires asked { self.old.asked ≡ true }
         requires name { IsPortName (record { name = name.now; isid = isid }) }
-        ensures { HasTried U.claims U.opening self.old (record { name = name.now; isid = isid }) Kind.Discovery result self.new }
+        ensures { HasTried U.claims S.says U.opening (record self.old { asked = false })
+            (record { name = name.now; isid = isid }) Kind.Discovery result self.new }
     {
         let Ok(own_name) = name.to_vec(self.alloc) else {
             return Err(BeginFault::NoMemory);
@@ -348,14 +365,11 @@ impl<
     /// Begins the session, of this kind and of the initiator port with this name and ISID: its TSIH. A normal session is
     /// attached to all units in order. The one of the same port, group and kind is over from then on (RFC 7143, 6.3.5).
     pub fn try_begin(&mut self, name: &[u8], isid: u64, kind: Kind) -> Result<u16, BeginFault>
-        ensures { HasTried U.claims U.opening self.old (record { name = name.now; isid = isid }) kind result self.new }
+        ensures { HasTried U.claims S.says U.opening self.old (record { name = name.now; isid = isid }) kind result self.new }
     {
         let Some(connection) = self.connection.take() else {
             return Err(BeginFault::Begun);
         };
-        if self.begun || !self.at.is_empty() || !self.seen.is_empty() {
-            return Err(BeginFault::Begun);
-        }
         if !is_port_name(name, isid) {
             return Err(BeginFault::NoPortName);
         }
@@ -365,17 +379,19 @@ impl<
         }
     }
 
-    /// What was seen of the units as the session left them, or was refused there.
+    /// What was seen of the units as the session left them, or was refused there. It is over at each.
     pub fn into_seen(self) -> Vec<H>
+        requires { self.at ≡ [] }
         ensures { map U.seen result.items ≡ self.entry.seen }
     {
+        self.at.destroy_empty();
         self.seen
     }
 
     /// Whether the session has begun, and no other one has taken its place.
     pub(crate) fn is_live(&self) -> bool {
         match self.number {
-            Some(number) => self.device.sessions.lock(self.rt).has(number),
+            Some(number) => self.device.sessions.has(self.rt, number),
             None => false,
         }
     }
@@ -414,13 +430,14 @@ impl<
     R: Wait,
     U: LogicalUnits<P, H> + Drop,
     G: Gate + Drop,
+    S: Sessions<C> + Drop,
     C: Connection + Drop,
     P: Pass,
     H: Drop,
-> Target for SessionTarget<'a, R, U, G, C, P, H> {
+> Target for SessionTarget<'a, R, U, G, S, C, P, H> {
     ghost use Rattle.portal.specs.Target.{LeadsOn};
 
-    ghost leads = { LeadsOn U.claims (late_of G.is_late G.lasts) U.opening };
+    ghost leads = { LeadsOn U.claims S.says (late_of G.is_late G.lasts) U.opening };
 
     ghost unit_count = { λ t. t.units };
 
@@ -436,14 +453,14 @@ impl<
     }
 
     fn lives(&mut self, tsih: u16, name: &[u8], isid: u64) -> bool {
-        self.device.sessions.lock(self.rt).lives(tsih, name, isid)
+        self.device.sessions.lives(self.rt, tsih, name, isid)
     }
 
     fn end(&mut self) {
         let at = mem::replace(&mut self.at, Vec::new(self.alloc));
         retire_all(self.rt, &self.device.units, at, &mut self.seen);
         if let Some(number) = self.number.take() {
-            self.device.sessions.lock(self.rt).leave(number);
+            self.device.sessions.leave(self.rt, number);
         }
     }
 

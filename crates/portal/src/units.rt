@@ -23,8 +23,9 @@ pub enum Unserved {
     ByDesk(DeskFault),
 }
 
-/// The one right to add a session's entries to the history of a unit.
-pub trait Pass: Drop {
+/// The one right to add a session's entries to the history of a unit. It need not be `Drop`: who is generic over it can not let go of it, so
+/// each that was given out by `attach` goes back by `retire`.
+pub trait Pass {
     /// What the session knows of the unit.
     ghost held: { Self → PlacedPass Entry };
 

@@ -1,9 +1,10 @@
 //! The target of one session, of which the log is told what happens.
-ghost use Rattle.std.specs.Prelude.{◌≡◌, map};
+ghost use Rattle.std.specs.Prelude.{◌≡◌, [], map};
 ghost use Rattle.portal.specs.Target.{unbegun};
 
 use crate::connection::Connection;
 use crate::gate::Gate;
+use crate::sessions::Sessions;
 use crate::target::{BeginFault, SessionTarget};
 use crate::told::{groups_in, is_trouble, operation_of, reservation_in, sense_of};
 use crate::units::{LogicalUnits, Pass};
@@ -68,11 +69,12 @@ pub struct Witness<
     R: Wait + Clock,
     U: LogicalUnits<P, H> + Drop,
     G: Gate + Drop,
+    S: Sessions<C> + Drop,
     C: Connection + Drop,
     P: Pass,
     H: Drop,
 > {
-    target: SessionTarget<'a, R, U, G, C, P, H>,
+    target: SessionTarget<'a, R, U, G, S, C, P, H>,
     rt: &'a R,
     alloc: Global,
     log: &'a Log,
@@ -85,10 +87,11 @@ impl<
     R: Wait + Clock,
     U: LogicalUnits<P, H> + Drop,
     G: Gate + Drop,
+    S: Sessions<C> + Drop,
     C: Connection + Drop,
     P: Pass,
     H: Drop,
-> Model for Witness<'a, R, U, G, C, P, H> {
+> Model for Witness<'a, R, U, G, S, C, P, H> {
     ghost use Rattle.portal.specs.Target.{TargetValue};
 
     ghost Value = { TargetValue };
@@ -101,18 +104,19 @@ impl<
     R: Wait + Clock,
     U: LogicalUnits<P, H> + Drop,
     G: Gate + Drop,
+    S: Sessions<C> + Drop,
     C: Connection + Drop,
     P: Pass,
     H: Drop,
-> Witness<'a, R, U, G, C, P, H> {
+> Witness<'a, R, U, G, S, C, P, H> {
     /// The target of a session that has not begun, which came by this path.
     pub fn new(
         rt: &'a R,
         alloc: Global,
-        target: SessionTarget<'a, R, U, G, C, P, H>,
+        target: SessionTarget<'a, R, U, G, S, C, P, H>,
         log: &'a Log,
         path: Path,
-    ) -> Witness<'a, R, U, G, C, P, H>
+    ) -> Witness<'a, R, U, G, S, C, P, H>
         ensures { result ≡ target.entry }
     {
         Witness {
@@ -127,6 +131,7 @@ impl<
 
     /// Whose session it was, and what was seen of the units as it left them, or was refused there.
     pub fn into_parts(self) -> (Visitor, Vec<H>)
+        requires { self.at ≡ [] }
         ensures { map U.seen result.1.items ≡ self.entry.seen }
     {
         (self.visitor, self.target.into_seen())
@@ -218,14 +223,15 @@ impl<
     R: Wait + Clock,
     U: LogicalUnits<P, H> + Drop,
     G: Gate + Drop,
+    S: Sessions<C> + Drop,
     C: Connection + Drop,
     P: Pass,
     H: Drop,
-> Target for Witness<'a, R, U, G, C, P, H> {
+> Target for Witness<'a, R, U, G, S, C, P, H> {
     ghost use Rattle.portal.specs.Late.{late_of};
     ghost use Rattle.portal.specs.Target.{LeadsOn};
 
-    ghost leads = { LeadsOn U.claims (late_of G.is_late G.lasts) U.opening };
+    ghost leads = { LeadsOn U.claims S.says (late_of G.is_late G.lasts) U.opening };
 
     ghost unit_count = { λ t. t.units };
 

@@ -8,6 +8,7 @@ ghost use Rattle.portal.specs.Worker.{IsSession, tag_of};
 use crate::connection::Connection;
 use crate::device::TargetDevice;
 use crate::gate::Gate;
+use crate::sessions::Sessions;
 use crate::target::SessionTarget;
 use crate::units::{LogicalUnits, Pass};
 use crate::witness::{Visitor, Witness};
@@ -37,6 +38,7 @@ pub fn serve_session<
     R: Wait + Clock,
     U: LogicalUnits<P, H> + Drop,
     G: Gate + Drop,
+    T: Sessions<C> + Drop,
     C: Connection + Drop,
     P: Pass,
     H: Drop,
@@ -45,7 +47,7 @@ pub fn serve_session<
 >(
     rt: &R,
     alloc: Global,
-    device: &TargetDevice<U, G, C>,
+    device: &TargetDevice<U, G, T>,
     group: Group,
     connection: C,
     source: &mut S,
@@ -54,13 +56,13 @@ pub fn serve_session<
     log: &Log,
     path: Path,
 ) -> Result<(End, Visitor, Vec<H>), NoMemory>
-    ensures served { IfOk result (λ r. IsSession U.claims (late_of G.is_late G.lasts) U.opening (U.unit_count device.now.units) group me.now
+    ensures served { IfOk result (λ r. IsSession U.claims T.says (late_of G.is_late G.lasts) U.opening (U.unit_count device.now.units) group me.now
         (S.left source.old) (S.left source.new) (K.held sink.old) (K.held sink.new) r.0 (map U.seen r.2.items)) }
     ensures input_failed { IfOk result (λ r. IsFailureOf InputFailed (S.failures source.old) (S.failures source.new) r.0) }
     ensures output_failed { IfOk result (λ r. IsFailureOf OutputFailed (K.failures sink.old) (K.failures sink.new) r.0) }
     ensures no_memory { OnErr result ((source.new ≡ source.old) × (sink.new ≡ sink.old)) }
 {
-    let target = SessionTarget::<R, U, G, C, P, H>::new(rt, alloc, device, group, connection);
+    let target = SessionTarget::<R, U, G, T, C, P, H>::new(rt, alloc, device, group, connection);
     let mut target = Witness::new(rt, alloc, target, log, path);
     let end = serve_stream(
         alloc,
@@ -69,7 +71,7 @@ pub fn serve_session<
         &mut target,
         Opening::Login(tag_of(group)),
         me,
-    )?;
+    );
     let (visitor, seen) = target.into_parts();
-    Ok((end, visitor, seen))
+    Ok((end?, visitor, seen))
 }

@@ -1,6 +1,5 @@
-use Rattle.std.proofs.Common.{◌≡◌, ℕ, ◌+◌, ◌-◌, refl, arith, rules, Ok, true, false}
-use Rattle.portal.specs.Late.{IsUnflushed, writes, compares, synchronizes}
-use Rattle.portal.proofs.Settling.{write_unflushed, compare_unflushed, flush_unflushed}
+use Rattle.std.proofs.Common.{rules}
+use Rattle.portal.specs.Late.{writes, compares, synchronizes}
 use Rattle.portal.proofs.late.without_flush.Goals as goal
 
 pub returns-in-Ok-Write-default-default-true : goal.returns-in-Ok-Write-default-default-true

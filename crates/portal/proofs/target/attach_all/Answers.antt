@@ -1,9 +1,9 @@
-use Rattle.std.proofs.Common.{rules, map, subst, sym, List, ◌≤◌, arith}
+use Rattle.std.proofs.Common.{rules, map, subst, sym, List, ◌≤◌}
 use Rattle.reservations.specs.Nexus.{through}
 use Rattle.std.specs.Vec.{vec_capacity}
 use Rattle.portal.specs.Submitted.{At}
 use Rattle.portal.proofs.Attaching.{Onward, onward}
-use Rattle.portal.proofs.Refusing.{at_a_unit, at_once}
+use Rattle.portal.proofs.Refusing.{at_a_unit}
 use Rattle.portal.specs.Target.{Leaves}
 use Rattle.portal.proofs.target.attach_all.Goals as goal
 
@@ -25,7 +25,7 @@ returns-in-Err-clause-turned_back g c =
     let before = c.loop-unit.invariant in
     at_a_unit g.U.LogicalUnits.claims g.U.LogicalUnits.opening g.U.LogicalUnits.seen _ _ c.loop-unit.unit c.loop-unit.attached.items
     (map g.U.LogicalUnits.seen c.args.seen.now.items) c.retire_all.new.seen.items c.refused_at.new.seen.items c.in-Err.full
-    c.refused_at.result c.refused_at.ensures c.in-Err.ensures.full
+    c.refused_at.result c.refused_at.ensures.fault c.in-Err.ensures.full
     (subst (λ v. Leaves g.U.LogicalUnits.claims g.U.LogicalUnits.opening c.loop-unit.attached.items
     (map g.U.LogicalUnits.seen v.items) (map g.U.LogicalUnits.seen c.retire_all.new.seen.items)) before.4 c.retire_all.ensures.over)
     before.2 before.0

@@ -1,4 +1,4 @@
-use Rattle.std.proofs.Common.{rules, All, ◌≡◌, ◌<◌, ◌∷◌, ◌++◌, [], List, sym, subst, ap, ◌∙◌, map, length, arith}
+use Rattle.std.proofs.Common.{rules, All, ◌≡◌, ◌<◌, ◌∷◌, ◌++◌, [], List, sym, subst, ap, ◌∙◌, map}
 use Rattle.std.proofs.lemmas.List.{map-append}
 use Rattle.portal.specs.Target.{Sight}
 use Rattle.portal.proofs.Retiring.{SoFar, all_left, one_more}
