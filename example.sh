@@ -45,7 +45,7 @@ make_program() {
 }
 
 if [ "$*" = --proved ]; then
-    echo 'proving arrayd and each crate that it stands on; what an earlier run proved is kept'
+    echo 'proving arrayd and each crate that it stands on, unless that was done here over the same text'
     make_program python3 bench/prove.py
     ARRAYD=./arrayd
     echo 'the proved program lies here as ./arrayd'

@@ -2,7 +2,8 @@
 """Runs the gate, and prints the processor seconds that it took, crate by crate: for the proof, for the proof of the tests, and for
 the wrong bodies that were tried, with how many checks these were. What runs beside it on the machine makes each second dearer.
 
-usage: bench/gate.py [--log FILE] [WORD..]      the words of `rt ci`, `--anew` where there are none
+usage: bench/gate.py [--log FILE] [WORD..]      the words of `rt ci`; where there are none, those by which it keeps nothing
+                                                that an earlier run proved, if this toolchain's keeps any
 """
 
 import os
@@ -56,6 +57,12 @@ def sums(seen):
     return crates, others
 
 
+def anew():
+    """The words by which `rt ci` proves all from nothing: some toolchains' gates keep what was proved over the same text, and have a word for that."""
+    told = subprocess.run(["rt", "help"], capture_output=True, text=True, check=False)
+    return ["--anew"] if "--anew" in told.stdout + told.stderr else []
+
+
 def main():
     words = sys.argv[1:]
     log = os.devnull
@@ -63,7 +70,7 @@ def main():
         log, words = words[1], words[2:]
     seen, began = {}, time.time()
     with open(log, "w") as out:
-        gate = subprocess.Popen(["rt", "ci", *(words or ["--anew"])], stdout=out, stderr=subprocess.STDOUT,
+        gate = subprocess.Popen(["rt", "ci", *(words or anew())], stdout=out, stderr=subprocess.STDOUT,
                                 stdin=subprocess.DEVNULL, start_new_session=True)
         while gate.poll() is None:
             look(gate.pid, seen)

@@ -3,12 +3,13 @@
 the top. Prints a line for each crate that is proved, with its number and the time since the start, and nothing of the prover
 but what it said of a crate that is not proved; then the status is 1.
 
-It is `rt ci` over a copy that has these crates alone, without the edits that are tried at the gate, so that what is proved
-here is kept for the gate, and what was proved before is not proved again.
+It is `rt ci` over a copy that has these crates alone, without the edits that are tried at the gate. Where the program that lies
+there was proved over the same text by the same toolchain, nothing is proved again.
 
 usage: bench/prove.py
 """
 
+import hashlib
 import os
 import re
 import shutil
@@ -21,6 +22,8 @@ import time
 from proved import TOP, below, needs
 
 PROGRAM = "arrayd"
+# What the program that lies at the top was proved over, as a digest.
+STAMP = f"{TOP}/out/{PROGRAM}.proved_over"
 # The line that ends what `rt ci` says of a crate, or of the tests inside one.
 END = re.compile(r"rt: (\w+)(: its tests are)? (proved|is kept: .*|NOT PROVED.*)\n")
 
@@ -70,8 +73,38 @@ def follow(lines, count):
     return section, has_failed
 
 
+def digest(paths, top):
+    found = hashlib.sha256()
+    for path in sorted(paths):
+        with open(path, "rb") as file:
+            text = file.read()
+        found.update(f"{os.path.relpath(path, top)} {len(text)}\n".encode() + text)
+    return found.hexdigest()
+
+
+# What a program is proved over: the toolchain, and the text of the repository that lies here.
+def text_of(repository):
+    toolchain = subprocess.run(["rt", "version"], stdout=subprocess.PIPE, text=True, check=True).stdout
+    return toolchain + digest([os.path.join(at, name) for at, _, names in os.walk(repository) for name in names], repository)
+
+
+def stamp_of(text):
+    return f"{text}\n{digest([f'{TOP}/{PROGRAM}'], TOP)}\n"
+
+
+def was_proved(text):
+    if not os.path.isfile(STAMP) or not os.path.isfile(f"{TOP}/{PROGRAM}"):
+        return False
+    with open(STAMP, encoding="utf-8") as file:
+        return file.read() == stamp_of(text)
+
+
 def prove(room):
     count = copy(f"{room}/repository")
+    text = text_of(f"{room}/repository")
+    if was_proved(text):
+        print(f"{PROGRAM} and the {count - 1} crates below it were proved over this text before")
+        return
     os.mkdir(f"{room}/work")
     how = {"stdout": subprocess.PIPE, "stderr": subprocess.STDOUT, "text": True, "errors": "replace"}
     how["env"] = {**os.environ, "TMPDIR": f"{room}/work"}
@@ -90,6 +123,9 @@ def prove(room):
     # the file of a program that runs is not written to
     shutil.copy(f"{room}/repository/crates/{PROGRAM}/out/{PROGRAM}", f"{TOP}/{PROGRAM}.new")
     os.replace(f"{TOP}/{PROGRAM}.new", f"{TOP}/{PROGRAM}")
+    os.makedirs(os.path.dirname(STAMP), exist_ok=True)
+    with open(STAMP, "w", encoding="utf-8") as file:
+        file.write(stamp_of(text))
 
 
 def main():
