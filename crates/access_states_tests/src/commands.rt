@@ -33,20 +33,20 @@ fn refusal(is_served: bool, ascq: u8) -> Option<Sense> {
 #[test]
 fn each_command_in_each_state(rt: HostRuntime) {
     for (op, in_standby, in_unavailable) in ROWS {
-        for (state, want) in [
+        for (state, want) in &[
             (AccessState::ActiveOptimized, None),
             (AccessState::ActiveNonOptimized, None),
             (AccessState::Standby, refusal(*in_standby, 0x0B)),
             (AccessState::Unavailable, refusal(*in_unavailable, 0x0C)),
         ] {
-            assert_eq!(rt; permits(state, *op), want, "{op:?} in {state:?}");
+            assert_eq!(rt; permits(*state, *op), *want, "{op:?} in {state:?}");
         }
     }
 }
 
 #[test]
 fn each_state_by_its_code(rt: HostRuntime) {
-    for (code, want) in [
+    for (code, want) in &[
         (0x0, Some(AccessState::ActiveOptimized)),
         (0x1, Some(AccessState::ActiveNonOptimized)),
         (0x2, Some(AccessState::Standby)),
@@ -55,6 +55,6 @@ fn each_state_by_its_code(rt: HostRuntime) {
         (0xE, None),
         (0xF, None),
     ] {
-        assert_eq!(rt; AccessState::from_code(code), want, "{code}");
+        assert_eq!(rt; AccessState::from_code(*code), *want, "{code}");
     }
 }

@@ -201,10 +201,10 @@ fn each_list_is_obeyed(rt: HostRuntime) {
 
 #[test]
 fn the_preferred_group_owns_a_unit_as_it_opens(rt: HostRuntime) {
-    for (preferred, then) in [(Group::One, [0, 0, 1, 0]), (Group::Two, [1, 0, 0, 0])] {
-        let map = AccessMap::opening(preferred);
-        assert_eq!(rt; map.owner(), preferred, "{preferred:?}");
-        assert_eq!(rt; codes(&map), then, "{preferred:?}");
+    for (preferred, then) in &[(Group::One, [0, 0, 1, 0]), (Group::Two, [1, 0, 0, 0])] {
+        let map = AccessMap::opening(*preferred);
+        assert_eq!(rt; map.owner(), *preferred, "{preferred:?}");
+        assert_eq!(rt; codes(&map), *then, "{preferred:?}");
     }
 }
 

@@ -71,8 +71,8 @@ fn each_bad_list_changes_nothing(rt: HostRuntime) -> Result<(), Fail> {
     for (name, list, fault) in ROWS {
         let mut map = AccessMap::opening(Group::One);
         let before = map.report(rt.alloc(), Group::One, 28)?;
-        for cause in [Cause::Explicit, Cause::Implicit] {
-            assert_eq!(rt; map.set(cause, list), Err(*fault), "{name}");
+        for cause in &[Cause::Explicit, Cause::Implicit] {
+            assert_eq!(rt; map.set(*cause, list), Err(*fault), "{name}");
             let data = map.report(rt.alloc(), Group::One, 28)?;
             assert_eq!(rt; data, before, "{name}");
         }
@@ -82,7 +82,7 @@ fn each_bad_list_changes_nothing(rt: HostRuntime) -> Result<(), Fail> {
 
 #[test]
 fn each_fault_by_its_sense(rt: HostRuntime) {
-    for (fault, asc) in [(AsetFault::Length, 0x1A), (AsetFault::BadList, 0x26)] {
-        assert_eq!(rt; fault.sense(), Sense::new(0x05, asc, 0x00), "{fault}");
+    for (fault, asc) in &[(AsetFault::Length, 0x1A), (AsetFault::BadList, 0x26)] {
+        assert_eq!(rt; fault.sense(), Sense::new(0x05, *asc, 0x00), "{fault}");
     }
 }

@@ -42,9 +42,9 @@ fn each_report_is_cut_to_the_allocation_length(rt: HostRuntime) -> Result<(), Fa
     for row in ROWS {
         let mut map = AccessMap::opening(Group::One);
         assert!(rt; map.set(Cause::Explicit, row.list).is_ok(), "{}", row.name);
-        for allocation in [0, 4, 27, 28, 255] {
-            let end = row.bytes.len().min(allocation as usize);
-            let data = map.report(rt.alloc(), Group::One, allocation)?;
+        for allocation in &[0, 4, 27, 28, 255] {
+            let end = row.bytes.len().min(*allocation as usize);
+            let data = map.report(rt.alloc(), Group::One, *allocation)?;
             assert_eq!(rt;
                 data.as_slice(),
                 &row.bytes[..end],

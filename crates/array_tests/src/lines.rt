@@ -87,9 +87,9 @@ fn lines_and_what_they_are_answered(rt: HostRuntime) -> Result<(), Fail> {
         ("Status\nstatus \n status\nquit \n", "?\n?\n?\n?\n"),
         ("quit\r\n", ""),
     ];
-    for (lines, answers) in rows {
+    for (lines, answers) in &rows {
         let (text, flushed) = said(rt.alloc(), lines.as_bytes())?;
-        assert_eq!(rt; text.as_str(), answers, "{lines:?}");
+        assert_eq!(rt; text.as_str(), *answers, "{lines:?}");
         assert_eq!(rt; flushed, 1, "{lines:?}");
     }
     let (text, flushed) = said(rt.alloc(), b"status\nquit\n")?;

@@ -101,9 +101,9 @@ fn events_are_spelled(rt: HostRuntime) -> Result<(), Fail> {
             "event=not_moved unit=7 to=1 why=gone by=console",
         ),
     ];
-    for (event, wanted) in rows {
-        let line = spelled(rt.alloc(), &event)?;
-        assert_eq!(rt; line.as_str(), wanted);
+    for (event, wanted) in &rows {
+        let line = spelled(rt.alloc(), event)?;
+        assert_eq!(rt; line.as_str(), *wanted);
     }
     Ok(())
 }
@@ -117,10 +117,10 @@ fn moments_are_spelled(rt: HostRuntime) -> Result<(), Fail> {
         (4_107_542_399, 1000, "time=2100-02-28T23:59:59.001000Z"),
         (4_107_542_400, 0, "time=2100-03-01T00:00:00.000000Z"),
     ];
-    for (seconds, micros, wanted) in rows {
-        let stamp = Stamp::of(Duration::new(seconds, micros * 1000));
+    for (seconds, micros, wanted) in &rows {
+        let stamp = Stamp::of(Duration::new(*seconds, *micros * 1000));
         let text = stamp.to_string(rt.alloc())?;
-        assert_eq!(rt; text.as_str(), wanted);
+        assert_eq!(rt; text.as_str(), *wanted);
     }
     Ok(())
 }

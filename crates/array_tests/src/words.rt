@@ -203,7 +203,7 @@ fn wrong_words(rt: HostRuntime) -> Result<(), Fail> {
         &["arrayd", "--portals", "5", "a"],
         &["arrayd", "--portals", "two", "a"],
     ];
-    for words in wrong {
+    for words in &wrong {
         assert!(rt; is_wrong(rt.alloc(), words)?, "{words:?}");
     }
     Ok(())
@@ -249,9 +249,9 @@ fn texts_of_the_faults(rt: HostRuntime) -> Result<(), Fail> {
         ),
         (Fault::NoMemory, "no memory"),
     ];
-    for (fault, text) in rows {
+    for (fault, text) in &rows {
         let said = fault.to_string(rt.alloc())?;
-        assert_eq!(rt; said.as_str(), text);
+        assert_eq!(rt; said.as_str(), *text);
     }
     Ok(())
 }

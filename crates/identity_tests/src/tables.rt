@@ -212,9 +212,9 @@ fn each_table_is_cut_to_the_allocation_length(rt: HostRuntime) -> Result<(), Fai
     for row in ROWS {
         let bytes = whole(alloc, row)?;
         let own = u8::try_from(bytes.len()).unwrap_or(255);
-        for allocation in [0, 1, 10, own, 255] {
-            let end = bytes.len().min(allocation as usize);
-            let answer = answer(alloc, row.ask, allocation)?;
+        for allocation in &[0, 1, 10, own, 255] {
+            let end = bytes.len().min(*allocation as usize);
+            let answer = answer(alloc, row.ask, *allocation)?;
             assert_eq!(rt;
                 answer.as_slice(),
                 &bytes[..end],
@@ -228,7 +228,7 @@ fn each_table_is_cut_to_the_allocation_length(rt: HostRuntime) -> Result<(), Fai
 
 #[test]
 fn capacity_of_a_small_unit_and_of_the_largest(rt: HostRuntime) -> Result<(), Fail> {
-    for (blocks, bytes) in [
+    for (blocks, bytes) in &[
         (1, [0x00, 0x00, 0x00, 0x00, 0x00, 0x00, 0x02, 0x00]),
         (2048, [0x00, 0x00, 0x07, 0xFF, 0x00, 0x00, 0x02, 0x00]),
         (
@@ -236,7 +236,7 @@ fn capacity_of_a_small_unit_and_of_the_largest(rt: HostRuntime) -> Result<(), Fa
             [0xFF, 0xFF, 0xFF, 0xFE, 0x00, 0x00, 0x02, 0x00],
         ),
     ] {
-        let answer = read_capacity_10(rt.alloc(), blocks)?;
+        let answer = read_capacity_10(rt.alloc(), *blocks)?;
         assert_eq!(rt; answer.as_slice(), &bytes[..], "{blocks} blocks");
     }
     Ok(())

@@ -81,7 +81,7 @@ const DISKS: [(bool, bool); 3] = [(true, true), (true, false), (false, true)];
 fn disks(alloc: Global) -> Result<(Vec<Counted>, Vec<Arc<Counts, Global>>), Fail> {
     let mut of = Vec::new(alloc);
     let mut seen = Vec::new(alloc);
-    for (flushes, is_done) in DISKS {
+    for (flushes, is_done) in &DISKS {
         let counts = Counts {
             flushed: AtomicU64::new(0),
             fetched: AtomicU64::new(0),
@@ -90,8 +90,8 @@ fn disks(alloc: Global) -> Result<(Vec<Counted>, Vec<Arc<Counts, Global>>), Fail
         seen.push(Arc::try_clone(&counts)?)?;
         of.push(Counted {
             counts,
-            flushes,
-            is_done,
+            flushes: *flushes,
+            is_done: *is_done,
         })?;
     }
     Ok((of, seen))
@@ -106,24 +106,24 @@ fn each_unit_has_its_own_disk_made_ready_and_flushed(rt: HostRuntime) -> Result<
         blocks: 1,
         fua: false,
     });
-    for (unit, (settles, is_done)) in [
+    for (unit, (settles, is_done)) in &[
         (0, (true, true)),
         (1, (true, false)),
         (2, (false, true)),
         (3, (false, false)),
     ] {
-        assert!(rt; gate.settles(unit) == settles, "{unit}");
-        assert!(rt; gate.settle(&At { place: unit }) == is_done, "{unit}");
+        assert!(rt; gate.settles(*unit) == *settles, "{unit}");
+        assert!(rt; gate.settle(&At { place: *unit }) == *is_done, "{unit}");
     }
     assert!(rt; !gate.foresees());
     gate.pass(1, 7, &read);
     gate.pass(0, 8, &read);
     gate.pass(3, 7, &read);
     let mut counts = seen.iter();
-    for fetched in [0, 1, 0] {
+    for fetched in &[0, 1, 0] {
         let disk = counts.next().expect(&rt, "a disk");
         assert!(rt; disk.flushed.load(Ordering::Relaxed) == 1);
-        assert!(rt; disk.fetched.load(Ordering::Relaxed) == fetched);
+        assert!(rt; disk.fetched.load(Ordering::Relaxed) == *fetched);
     }
     Ok(())
 }

@@ -84,7 +84,7 @@ const RESERVATIONS: &[Row] = table! {
 
 #[test]
 fn commands_by_their_fields(rt: HostRuntime) {
-    for rows in [READS, WRITES, CACHES, INQUIRIES, MODES, RESERVATIONS] {
+    for rows in &[READS, WRITES, CACHES, INQUIRIES, MODES, RESERVATIONS] {
         expect(&rt, rows);
     }
 }

@@ -235,10 +235,12 @@ const PORTS: &[(&[u8], u64, &[u8], u64, Ordering)] = &[
 ];
 
 #[test]
-fn initiator_ports(rt: HostRuntime) -> Result<(), AllocError> {
+fn initiator_ports(rt: HostRuntime) {
     for (name, isid, other_name, other_isid, order) in PORTS {
-        let port = PortName::new(name.to_vec(rt.alloc())?, *isid);
-        let other = PortName::new(other_name.to_vec(rt.alloc())?, *other_isid);
+        let name = name.to_vec(rt.alloc()).expect(&rt, "memory");
+        let other_name = other_name.to_vec(rt.alloc()).expect(&rt, "memory");
+        let port = PortName::new(name, *isid);
+        let other = PortName::new(other_name, *other_isid);
         assert_eq!(rt; port.compare(&other), *order, "{isid} and {other_isid}");
         assert_eq!(rt;
             port.same(&other),
@@ -246,5 +248,4 @@ fn initiator_ports(rt: HostRuntime) -> Result<(), AllocError> {
             "{isid} and {other_isid}"
         );
     }
-    Ok(())
 }

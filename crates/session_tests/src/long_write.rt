@@ -35,7 +35,7 @@ given pattern 1048576
 #[test]
 fn a_write_of_a_megabyte(rt: HostRuntime) {
     let row = first_row(&rt, rt.alloc(), ("a write of a megabyte", MEGABYTE));
-    for reads in [WHOLE, calls_of(7, 0), ONE_BYTE] {
-        run_reads(&rt, rt.alloc(), &row, reads);
+    for reads in &[WHOLE, calls_of(7, 0), ONE_BYTE] {
+        run_reads(&rt, rt.alloc(), &row, *reads);
     }
 }

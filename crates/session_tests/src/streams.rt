@@ -18,8 +18,8 @@ two commands
 ";
 
 fn bytes_one_by_one(rt: &impl Abort, alloc: Global, row: &Row<'_>) {
-    for how in [(WHOLE, WHOLE), (ONE_BYTE, WHOLE), (WHOLE, ONE_BYTE)] {
-        run_front(rt, alloc, row, 96, how, (End::EndOfInput, 96, 0));
+    for how in &[(WHOLE, WHOLE), (ONE_BYTE, WHOLE), (WHOLE, ONE_BYTE)] {
+        run_front(rt, alloc, row, 96, *how, (End::EndOfInput, 96, 0));
     }
 }
 

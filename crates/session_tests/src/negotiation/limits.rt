@@ -33,18 +33,18 @@ fn put_key(rt: &impl Abort, alloc: Global, text: &mut Vec<u8>, i: usize) {
 #[test]
 fn limits(rt: HostRuntime) {
     // The pairs and the bytes of a text, and whether a login may have it.
-    for (pairs, length, fits) in [
+    for (pairs, length, fits) in &[
         (64, 0, true),
         (65, 0, false),
         (3, 8192, true),
         (3, 8193, false),
     ] {
-        let text = text_of(&rt, rt.alloc(), pairs, length);
-        for flags in ["1>3", "1+"] {
+        let text = text_of(&rt, rt.alloc(), *pairs, *length);
+        for flags in &["1>3", "1+"] {
             let mut login = login_of_tag(&rt, rt.alloc(), 1);
             let end = login.request(&mut room(&rt, rt.alloc()), flags_of(&rt, flags), &text);
             let refused = matches!(end, LoginEnd::Refused(LoginStatus::InitiatorError));
-            assert!(rt; refused != fits, "{pairs} pairs, {length} bytes");
+            assert!(rt; refused != *fits, "{pairs} pairs, {length} bytes");
         }
     }
 }
@@ -64,8 +64,8 @@ fn long_runs(rt: HostRuntime) {
     let long = text_of(&rt, rt.alloc(), 3, 8193);
     let (begin, rest) = fits.split_at_checked(5000).expect(&rt, "long");
     let (_, long) = long.split_at_checked(5000).expect(&rt, "long");
-    for row in LONG {
-        long_run(&rt, rt.alloc(), begin, rest, long, row);
+    for row in &LONG {
+        long_run(&rt, rt.alloc(), begin, rest, long, *row);
     }
 }
 
@@ -120,7 +120,7 @@ fn put_unknown_keys(rt: &impl Abort, alloc: Global, text: &mut Vec<u8>, want: &m
 #[test]
 fn codes(rt: HostRuntime) {
     // Status-Class and Status-Detail (RFC 7143, 11.13.5).
-    for (status, class, detail) in [
+    for (status, class, detail) in &[
         (LoginStatus::InitiatorError, 0x02, 0x00),
         (LoginStatus::AuthenticationFailure, 0x02, 0x01),
         (LoginStatus::NotFound, 0x02, 0x03),
@@ -133,7 +133,7 @@ fn codes(rt: HostRuntime) {
         (LoginStatus::OutOfResources, 0x03, 0x02),
     ] {
         assert!(rt;
-            status.class() == class && status.detail() == detail,
+            status.class() == *class && status.detail() == *detail,
             "{status:?}"
         );
     }

@@ -90,7 +90,7 @@ fn four_portals(rt: HostRuntime) {
 
 #[test]
 fn faults(rt: HostRuntime) {
-    for text in ["SendTargets|", "SendTargets=All", "=All|", "|"] {
+    for text in &["SendTargets|", "SendTargets=All", "=All|", "|"] {
         let request = bytes(&rt, rt.alloc(), text);
         let end = send_targets(rt.alloc(), b"t", Kind::Discovery, &[], &[], &request);
         assert!(rt; matches!(end, TextEnd::Fault), "{text}");

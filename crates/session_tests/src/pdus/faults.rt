@@ -76,8 +76,8 @@ const TEXTS: [(PduFault, &str); 6] = [
 
 #[test]
 fn texts_of_faults(rt: HostRuntime) {
-    for (fault, text) in TEXTS {
+    for (fault, text) in &TEXTS {
         let shown = format!(in rt.alloc(); "{fault}").expect(&rt, "memory");
-        assert_eq!(rt; shown.as_str(), text);
+        assert_eq!(rt; shown.as_str(), *text);
     }
 }

@@ -43,9 +43,9 @@ fn save(rt: &impl Abort, alloc: Global, calls: u64, lands: u32) {
 
 #[test]
 fn each_call_of_a_save_and_a_format(rt: HostRuntime) {
-    for lands in [0, 1, 2, 32, 33] {
+    for lands in &[0, 1, 2, 32, 33] {
         for calls in 0..SAVE_CALLS + 1 {
-            save(&rt, rt.alloc(), calls, lands);
+            save(&rt, rt.alloc(), calls, *lands);
         }
     }
     // A format fails that stops at one of its four calls.

@@ -296,18 +296,18 @@ fn device(rt: &impl Abort, alloc: Global, count: u32, holds: bool) -> MemBlocks 
 #[test]
 fn what_is_refused(rt: HostRuntime) {
     let alloc = rt.alloc();
-    for (sent, rows) in [
+    for (sent, rows) in &[
         (TWO, ROWS_OF_TWO),
         (ONE_PORT, ROWS_OF_ONE_PORT),
         (ONE, ROWS_OF_ONE),
     ] {
-        for row in rows {
+        for row in *rows {
             let fault = fault_of(&rt, alloc, sent, row.puts);
             assert!(rt; fault == row.fault, "{}: {fault:?}", row.name);
         }
     }
-    for (count, holds, wanted) in DEVICES {
-        let fault = RegFile::open(alloc, device(&rt, alloc, count, holds)).err();
-        assert!(rt; fault == wanted, "{count}, {holds}: {fault:?}");
+    for (count, holds, wanted) in &DEVICES {
+        let fault = RegFile::open(alloc, device(&rt, alloc, *count, *holds)).err();
+        assert!(rt; fault == *wanted, "{count}, {holds}: {fault:?}");
     }
 }

@@ -71,14 +71,14 @@ const ROWS: [(u32, bool, u8); 13] = [
 
 #[test]
 fn counts_and_types(rt: HostRuntime) {
-    for (ports, both, kind) in ROWS {
-        let (asked, group, each) = if both {
+    for (ports, both, kind) in &ROWS {
+        let (asked, group, each) = if *both {
             (Asked::RegisterEveryPort(KEY), Group::One, 2)
         } else {
             (Asked::Register(KEY), Group::Two, 1)
         };
-        let registry = registry_of(&rt, rt.alloc(), ports, asked, group, kind);
-        let is = is_found(&rt, rt.alloc(), &registry, each * ports as usize, ports);
+        let registry = registry_of(&rt, rt.alloc(), *ports, asked, group, *kind);
+        let is = is_found(&rt, rt.alloc(), &registry, each * *ports as usize, *ports);
         assert!(rt; is, "{ports}, {both}, {kind}");
     }
 }

@@ -78,9 +78,9 @@ fn it_is_read_and_replaced(rt: HostRuntime) {
         fault == None && block_of(&mut device, 0) == root,
         "the new root"
     );
-    for lands in [0, 1, 2, 32, 33] {
+    for lands in &[0, 1, 2, 32, 33] {
         for calls in 0..SAVE_CALLS + 1 {
-            stop(&rt, alloc, calls, lands);
+            stop(&rt, alloc, calls, *lands);
         }
     }
 }

@@ -61,8 +61,11 @@ fn bytes_of<B: Blocks>(device: &mut B) -> [Option<u8>; 4] {
 
 #[test]
 fn what_a_crash_leaves(rt: HostRuntime) {
-    for (pick, [a, b, c, d]) in ROWS {
-        let left = left(&rt, rt.alloc(), pick);
-        assert!(rt; left == [Some(a), Some(b), Some(c), Some(d)], "{pick:?}");
+    for (pick, [a, b, c, d]) in &ROWS {
+        let left = left(&rt, rt.alloc(), *pick);
+        assert!(rt;
+            left == [Some(*a), Some(*b), Some(*c), Some(*d)],
+            "{pick:?}"
+        );
     }
 }

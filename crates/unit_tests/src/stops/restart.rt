@@ -89,11 +89,11 @@ fn found<B: Blocks, R: Blocks, O: Opener<B>>(
         ("APTPL", "5E 02 0000000000 00FF", &wanted.capabilities),
         ("the blocks", "28 00 00000000 00 0007", &wanted.blocks),
     ];
-    for (name, cdb, bytes) in questions {
+    for (name, cdb, bytes) in &questions {
         let cdb = cdb_of(rt, alloc, cdb);
         let end = send(unit, alloc, &mut session, Group::One, cdb, &[]);
         if !is_good(&end, bytes) {
-            return Some(name);
+            return Some(*name);
         }
     }
     None

@@ -33,8 +33,8 @@ fn script(rt: &impl Abort, alloc: Global) -> Play {
 
 /// Loses the power there, with each crash.
 fn lose(rt: &impl Abort, alloc: Global, play: &Play, stop: Stop) {
-    for pick in PICKS {
-        if let Some(fault) = fault(rt, alloc, play, stop, pick) {
+    for pick in &PICKS {
+        if let Some(fault) = fault(rt, alloc, play, stop, *pick) {
             panic!(rt; "{fault}: {stop:?}, {pick:?}");
         }
     }
@@ -78,8 +78,8 @@ fn run_at(play: &Play, stop: Stop) -> u32 {
 #[test]
 fn at_each_call_of_both_devices(rt: HostRuntime) {
     let play = script(&rt, rt.alloc());
-    for (of, count) in [(Device::Blocks, 25), (Device::Registrations, 152)] {
-        let stops = lose_at_each(&rt, rt.alloc(), &play, of, 0);
-        assert!(rt; stops == count, "{of:?}: {stops}");
+    for (of, count) in &[(Device::Blocks, 25), (Device::Registrations, 152)] {
+        let stops = lose_at_each(&rt, rt.alloc(), &play, *of, 0);
+        assert!(rt; stops == *count, "{of:?}: {stops}");
     }
 }
