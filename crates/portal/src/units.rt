@@ -23,8 +23,8 @@ pub enum Unserved {
     ByDesk(DeskFault),
 }
 
-/// The one right to add a session's entries to the history of a unit. It need not be `Drop`: who is generic over it can not let go of it, so
-/// each that was given out by `attach` goes back by `retire`.
+/// The one right to add a session's entries to the history of a unit. It need not be `Drop`, so who is generic over it cannot let go of
+/// one: each that `attach` gave out goes back by `retire`.
 pub trait Pass {
     /// What the session knows of the unit.
     ghost held: { Self → PlacedPass Entry };
