@@ -2,18 +2,34 @@
 ghost use Rattle.std.specs.Prelude.{◌≡◌, ◌+◌, ◌++◌, ◌∷◌, [], length};
 ghost use mathlib.Core.List.{IsPrefix};
 ghost use Rattle.crossbeam_utils.specs.Seq.{cell_view, IsSamePass};
-ghost use Rattle.crossbeam_utils.specs.Register.{Turns};
+ghost use Rattle.crossbeam_utils.specs.Register.{Forks, Merges, Turns};
 ghost use Rattle.status.specs.Views.{IsBoard, IsFree, IsOwn, claim_of, counted, first_view, holder, publisher, right, worded};
 ghost use Rattle.status.specs.Views.{reader as reader_of};
 
 use crate::law::{
-    Becomes, Cell, Holds, Learns, Looks, Now, Origin, Published, Reads, Token, Words,
+    Becomes, Cell, Holds, Learns, Looks, Now, Origin, Published, Reads, Token, View, Words,
 };
 use crate::row::Row;
+use atomic_table::{Join, Split};
+use crossbeam_utils::rule::Outcome;
 use logbook::Plain;
 use numbering::Answer;
 use std::marker::Brand;
 use std::sync::Wait;
+
+/// Reads the words, and learns what this says.
+fn load_as<E, S, P: Published<E, S>, O: Outcome<Words, View<E, S>>, R: Wait>(
+    rt: &R,
+    cell: &Cell<E, S, P>,
+    seat: &mut Token<E, S>,
+) -> Words
+    requires cell { seat.old.table_id ≡ cell.now.table.shared.table_id }
+    requires rule { Turns (IsBoard P.own P.command P.legal (worded P.rows)) seat.old.id (cell_view seat.old) (λ x. x) O.then }
+    ensures cell { IsSamePass seat.old seat.new }
+    ensures rule { O.then (cell_view seat.old) result result (cell_view seat.new) }
+{
+    cell.load_as::<O, R>(rt, seat)
+}
 
 /// Reads the words of a history that begins with what the reader had seen.
 pub(crate) fn look<E, S, P: Published<E, S>, J: Origin<S>, R: Wait>(
@@ -29,7 +45,36 @@ pub(crate) fn look<E, S, P: Published<E, S>, J: Origin<S>, R: Wait>(
     ensures words { result ≡ worded P.rows J.from (cell_view seat.new).seen }
     ensures legal { P.legal J.from (cell_view seat.new).seen }
 {
-    cell.load_as::<Looks<P, J>, R>(rt, seat)
+    load_as::<E, S, P, Looks<P, J>, R>(rt, cell, seat)
+}
+
+/// Makes a seat of what is known at another.
+fn split<E, S, P: Published<E, S>, M: Split<View<E, S>>>(
+    cell: &Cell<E, S, P>,
+    from: &mut Token<E, S>,
+) -> Token<E, S>
+    requires cell { from.old.table_id ≡ cell.now.table.shared.table_id }
+    requires rule { Forks (IsBoard P.own P.command P.legal (worded P.rows)) from.old.id (cell_view from.old)
+        (M.left (cell_view from.old)) (M.right (cell_view from.old)) }
+    ensures kept { IsSamePass from.old from.new × (cell_view from.new ≡ M.left (cell_view from.old)) }
+    ensures given { (result.table_id ≡ from.old.table_id) × (cell_view result ≡ M.right (cell_view from.old)) × (result.me.1 ≡ []) }
+{
+    cell.split_pass::<M>(from)
+}
+
+/// Takes in what is known at a seat.
+fn join<E, S, P: Published<E, S>, M: Join<View<E, S>>>(
+    cell: &Cell<E, S, P>,
+    keeper: &mut Token<E, S>,
+    token: Token<E, S>,
+)
+    requires cell { (keeper.old.table_id ≡ cell.now.table.shared.table_id) × (token.table_id ≡ keeper.old.table_id)
+        × (token.me.1 ≡ []) }
+    requires rule { Merges (IsBoard P.own P.command P.legal (worded P.rows)) keeper.old.id (cell_view keeper.old)
+        token.id (cell_view token) (M.both (cell_view keeper.old) (cell_view token)) M.spent }
+    ensures { IsSamePass keeper.old keeper.new × (cell_view keeper.new ≡ M.both (cell_view keeper.old) (cell_view token)) }
+{
+    cell.join_pass::<M>(keeper, token);
 }
 
 /// Makes a reader's seat.
@@ -42,7 +87,7 @@ pub(crate) fn split_reader<E, S, P: Published<E, S>, J: Origin<S>>(
     ensures new { (result.table_id ≡ from.old.table_id) × (cell_view result ≡ reader_of J.from (cell_view from.old).seen) }
     ensures same { IsSamePass from.old from.new × (cell_view from.new ≡ cell_view from.old) }
 {
-    cell.split_pass::<Reads>(from)
+    split::<E, S, P, Reads>(cell, from)
 }
 
 /// The publisher takes a session's right in hand.
@@ -58,7 +103,7 @@ pub(crate) fn join_right<E, S, P: Published<E, S>, J: Origin<S>>(
     ensures { IsSamePass keeper.old keeper.new
         × (cell_view keeper.new ≡ holder J.from (cell_view keeper.old).seen (claim_of (cell_view token))) }
 {
-    cell.join_pass::<Holds>(keeper, token);
+    join::<E, S, P, Holds>(cell, keeper, token);
 }
 
 /// The publisher gives the right back.
@@ -72,7 +117,7 @@ pub(crate) fn split_right<E, S, P: Published<E, S>, J: Origin<S>>(
     ensures token { (result.table_id ≡ keeper.old.table_id) × (result.me.1 ≡ [])
         × (cell_view result ≡ right (claim_of (cell_view keeper.old))) }
 {
-    cell.split_pass::<Holds>(keeper)
+    split::<E, S, P, Holds>(cell, keeper)
 }
 
 /// Writes a row, whatever is known then.
@@ -203,5 +248,5 @@ pub(crate) fn audit<E, S, P: Published<E, S>, J: Origin<S>, R: Wait>(
     ensures count { counted P.own (cell_view keeper.old).session (cell_view keeper.old).seen ≡ (cell_view keeper.old).count }
     ensures commands { counted P.command (cell_view keeper.old).session (cell_view keeper.old).seen ≡ (cell_view keeper.old).commands }
 {
-    cell.load_as::<Learns<P>, R>(rt, keeper);
+    load_as::<E, S, P, Learns<P>, R>(rt, cell, keeper);
 }

@@ -1,15 +1,5 @@
-use Rattle.std.proofs.Common.{rules}
 use Rattle.status.proofs.Steps.{looks_as}
 use Rattle.status.proofs.moves.look.Goals as goal
 
-pub load_as-requires : goal.load_as-requires
-load_as-requires g c = (
-  search rules,
-  (
-    search rules,
-    (
-      c.requires.cell,
-      looks_as g.P.Published.own g.P.Published.command g.P.Published.legal g.P.Published.rows _ _ _ c.requires.reads,
-    ),
-  ),
-)
+pub load_as-requires-clause-rule : goal.load_as-requires-clause-rule
+load_as-requires-clause-rule g c = looks_as g.P.Published.own g.P.Published.command g.P.Published.legal g.P.Published.rows _ _ _ c.requires.reads
