@@ -18,7 +18,8 @@ use std::net::{Net, TcpListener, TcpStream};
 use std::sync::{Arc, Wait};
 use std::thread::Threads;
 use std::time::Clock;
-use unit_history::{LegalHistory, NewUnit, Opened, Pass, Units};
+use array_units::Units;
+use unit_history::{LegalHistory, NewUnit, Opened, Pass};
 
 // Serves these units, behind this gate, at the portals that the words ask for, until the console ends.
 fn serve_units<

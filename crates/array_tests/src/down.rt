@@ -13,7 +13,8 @@ use std::sync::Wait;
 use std::test::*;
 use std::time::Clock;
 use test_units::in_memory;
-use unit_history::{NewUnit, Opened, Units};
+use array_units::Units;
+use unit_history::{NewUnit, Opened};
 
 // What these lines are answered.
 fn said<N: Naming<Opened>, B: Blocks, F: Blocks, O: Opener<B>, R: Wait + Clock>(

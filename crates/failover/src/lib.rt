@@ -14,7 +14,8 @@ pub use mover::{GroupsList, Mover, Moves};
 use numbering::Array;
 use scsi_types::Group;
 use std::sync::Wait;
-use unit_history::{LegalHistory, Opened, Units};
+use array_units::Units;
+use unit_history::{LegalHistory, Opened};
 use unit_state::MoveFault;
 
 /// A unit did not move.

@@ -8,7 +8,8 @@ use block_file::{Blocks, Opener};
 use numbering::Array;
 use std::marker::Model;
 use std::sync::Wait;
-use unit_history::{LegalHistory, MOST_UNITS, Opened, Units};
+use array_units::{MOST_UNITS, Units};
+use unit_history::{LegalHistory, Opened};
 use unit_state::MoveFault;
 
 /// A parameter list of SET TARGET PORT GROUPS with a descriptor for each group (SPC-4, 6.45).

@@ -15,7 +15,8 @@ use std::marker::Model;
 use std::sync::atomic::{AtomicBool, AtomicU64, Ordering};
 use std::sync::{Condvar, Mutex, Wait};
 use thiserror::Error;
-use unit_history::{Opened, Pass, Refused, Units};
+use array_units::Units;
+use unit_history::{Opened, Pass, Refused};
 
 /// Longer data is not copied for a desk: the worker that it came to serves its command at once, past those that wait.
 pub const LONGEST_COPY: usize = 256;

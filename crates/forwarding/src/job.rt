@@ -12,7 +12,8 @@ use std::alloc::Global;
 use std::marker::Model;
 use std::mem;
 use std::sync::{Arc, Condvar, Mutex, Wait};
-use unit_history::{LegalHistory, Opened, Pass, Refused, Units};
+use array_units::Units;
+use unit_history::{LegalHistory, Opened, Pass, Refused};
 
 // What a command came to. It keeps what the job's pass had seen, and that the pass has since seen what the reply or the refusal
 // says.

@@ -9,7 +9,8 @@ use numbering::Array;
 use scsi_types::{Asked, CdbFault, Command, Group, Reply};
 use std::alloc::Global;
 use std::sync::Wait;
-use unit_history::{Opened, Pass, Refused, Units};
+use array_units::Units;
+use unit_history::{Opened, Pass, Refused};
 
 /// What a job is known by, beside its data: the place of its unit, the session there, the serial of the command, the group whose
 /// desk has the job, and the command.

@@ -14,7 +14,8 @@ use std::marker::Brand;
 use std::sync::Wait;
 use std::test::Fail;
 use std::thread::Threads;
-use unit_history::{NewUnit, Opened, Units};
+use array_units::Units;
+use unit_history::{NewUnit, Opened};
 use unit_state::{Unit, laws};
 
 /// Memory behind a fuse.

@@ -9,7 +9,8 @@ use scsi_types::{Asked, Group, NoMemory, PortName, Reply};
 use std::alloc::Global;
 use std::marker::Model;
 use std::sync::Wait;
-use unit_history::{LegalHistory, Opened, Pass as UnitPass, Units};
+use array_units::Units;
+use unit_history::{LegalHistory, Opened, Pass as UnitPass};
 
 impl<B: Blocks, R: Blocks, O: Opener<B>, N: Array<Opened>> Pass for UnitPass<B, R, O, N> {
     ghost held = { λ p. p };

@@ -23,7 +23,8 @@ use std::sync::{Arc, Wait};
 use std::thread::{JoinHandle, Threads};
 use std::time::Clock;
 use test_hosts::Host;
-use unit_history::{LegalHistory, NewUnit, Opened, Pass, Units};
+use array_units::Units;
+use unit_history::{LegalHistory, NewUnit, Opened, Pass};
 
 /// What the hosts of an array do, and where it listens: at this address, and at these ports of its two controllers. So many
 /// connections to each find no thread.

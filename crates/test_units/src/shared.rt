@@ -10,7 +10,8 @@ use scsi_types::Group;
 use std::alloc::Global;
 use std::sync::Wait;
 use std::test::Fail;
-use unit_history::{NewUnit, Opened, Units};
+use array_units::Units;
+use unit_history::{NewUnit, Opened};
 use unit_state::MoveFault;
 
 /// Units whose registration files lie in memory.

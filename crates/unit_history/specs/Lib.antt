@@ -4,4 +4,3 @@ pub mod RowOf
 pub mod Devices
 pub mod Calls
 pub mod Naming
-pub mod Places

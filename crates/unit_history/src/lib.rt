@@ -6,16 +6,12 @@
 //! answer. Nothing of a history is stored. A status board shows the row of each, for which no reader takes the lock.
 #![tactic(auto)]
 
-mod any_unit;
 mod entry;
 mod machine;
 mod new_unit;
 mod shared;
-mod units;
 
-pub use any_unit::{AnyUnit, Seated};
 pub use entry::{Arrival, Noted, Opened};
 pub use locked_unit::Refused;
 pub use new_unit::NewUnit;
 pub use shared::{Board, LegalHistory, Pass, Seat, SharedUnit};
-pub use units::{MOST_UNITS, Units};

@@ -2,7 +2,7 @@ use Rattle.std.proofs.Common.{◌≡◌, ◌&&◌, ℕ, subst}
 use Rattle.std.specs.Prelude.{IfErr, IfOk}
 use Rattle.reservations.specs.Nexus.{through}
 use Rattle.unit_history.specs.Calls.{HasAttached, HasNoRoom}
-use Rattle.unit_history.proofs.units.Units.attach.Goals as goal
+use Rattle.array_units.proofs.units.Units.attach.Goals as goal
 
 pub returns-clause-attached : goal.returns-clause-attached
 returns-clause-attached g c =

@@ -2,8 +2,8 @@
 use Rattle.std.specs.Prelude.{◌≡◌, ℕ, List, Some, slice_get}
 use Rattle.crossbeam_utils.specs.declared.cache_padded.CachePadded.{CachePadded}
 use Rattle.crossbeam_utils.specs.Padded.{padded_value}
-use Rattle.unit_history.specs.declared.any_unit.AnyUnit.{AnyUnit}
-use Rattle.unit_history.specs.declared.any_unit.AnyUnit.TheVariants as units
+use Rattle.array_units.specs.declared.any_unit.AnyUnit.{AnyUnit}
+use Rattle.array_units.specs.declared.any_unit.AnyUnit.TheVariants as units
 
 abbrev pub place_of : {B R O N : Type 0} → AnyUnit B R O N → ℕ
 place_of (units.Zero unit) = 0

@@ -5,12 +5,9 @@ ghost use Rattle.unit_history.specs.Calls.{HasAttached, HasNoRoom, HasServed, Ha
 ghost use Rattle.unit_history.specs.Calls.{HasFlushed, HasMoved, HasStayed, HasWorked, HaveMet, IsShown};
 ghost use Rattle.unit_history.specs.Devices.{devices};
 ghost use Rattle.unit_history.specs.Naming.{IsNamed, IsNamedAt};
-ghost use Rattle.unit_history.specs.Places.{place_of};
+ghost use Rattle.array_units.specs.Places.{place_of};
 
 use crate::any_unit::{AnyUnit, Seated};
-use crate::entry::Opened;
-use crate::new_unit::NewUnit;
-use crate::shared::{LegalHistory, Pass, SharedUnit};
 use access_states::Change;
 use block_file::{Blocks, DeviceFailed, Opener};
 use crossbeam_utils::CachePadded;
@@ -21,6 +18,7 @@ use status::Row;
 use std::alloc::Global;
 use std::marker::Model;
 use std::sync::{Mutex, Wait};
+use unit_history::{LegalHistory, NewUnit, Opened, Pass, SharedUnit};
 use unit_state::MoveFault;
 
 /// The most units of an array.
@@ -35,7 +33,7 @@ pub struct Units<B: Blocks, R: Blocks, O: Opener<B>, N: Array<Opened>> {
 
 impl<B: Blocks, R: Blocks, O: Opener<B>, N: Array<Opened>> Model for Units<B, R, O, N> {
     ghost use Rattle.std.specs.Prelude.{ℕ, ◌≤◌, length};
-    ghost use Rattle.unit_history.specs.Places.{AreInOrder};
+    ghost use Rattle.array_units.specs.Places.{AreInOrder};
 
     ghost Value = { ℕ };
 
@@ -122,7 +120,7 @@ impl<B: Blocks, R: Blocks, O: Opener<B>, N: Array<Opened>> Units<B, R, O, N> {
         &self.units[place]
     }
 
-    /// Attaches a session of this port by this group to the unit at a place, as [`crate::SharedUnit::attach`].
+    /// Attaches a session of this port by this group to the unit at a place, as [`unit_history::SharedUnit::attach`].
     pub fn attach<W: Wait>(
         &self,
         rt: &W,
@@ -140,7 +138,7 @@ impl<B: Blocks, R: Blocks, O: Opener<B>, N: Array<Opened>> Units<B, R, O, N> {
         self.at(place).attach(rt, port, group)
     }
 
-    /// Serves a command of the session, as [`crate::SharedUnit::serve`].
+    /// Serves a command of the session, as [`unit_history::SharedUnit::serve`].
     pub fn serve<W: Wait>(
         &self,
         rt: &W,
@@ -164,7 +162,7 @@ impl<B: Blocks, R: Blocks, O: Opener<B>, N: Array<Opened>> Units<B, R, O, N> {
             .serve(rt, pass, alloc, by_group, asked, bytes)
     }
 
-    /// Resets the unit of the session, as [`crate::SharedUnit::reset`].
+    /// Resets the unit of the session, as [`unit_history::SharedUnit::reset`].
     pub fn reset<W: Wait>(&self, rt: &W, pass: Pass<B, R, O, N>) -> (Pass<B, R, O, N>, bool)
         requires { pass.place < self.now }
         ensures place { result.0.place ≡ pass.place }
@@ -176,7 +174,7 @@ impl<B: Blocks, R: Blocks, O: Opener<B>, N: Array<Opened>> Units<B, R, O, N> {
         self.at(place).reset(rt, pass)
     }
 
-    /// Ends the session, as [`crate::SharedUnit::retire`].
+    /// Ends the session, as [`unit_history::SharedUnit::retire`].
     pub fn retire<W: Wait>(
         &self,
         rt: &W,
@@ -192,7 +190,7 @@ impl<B: Blocks, R: Blocks, O: Opener<B>, N: Array<Opened>> Units<B, R, O, N> {
         self.at(place).retire(rt, pass)
     }
 
-    /// Moves the unit at a place as a list says, as [`crate::SharedUnit::move_to`].
+    /// Moves the unit at a place as a list says, as [`unit_history::SharedUnit::move_to`].
     pub fn move_to<W: Wait>(
         &self,
         rt: &W,
@@ -210,7 +208,7 @@ impl<B: Blocks, R: Blocks, O: Opener<B>, N: Array<Opened>> Units<B, R, O, N> {
     }
 
     /// Two sessions of one unit have then seen what either had: one legal history. It waits for nobody, as
-    /// [`crate::SharedUnit::meet`].
+    /// [`unit_history::SharedUnit::meet`].
     pub fn meet(
         &self,
         one: Pass<B, R, O, N>,
@@ -225,7 +223,7 @@ impl<B: Blocks, R: Blocks, O: Opener<B>, N: Array<Opened>> Units<B, R, O, N> {
         self.at(place).meet(one, two)
     }
 
-    /// Makes what was written to the unit at a place last, as [`crate::SharedUnit::flush`].
+    /// Makes what was written to the unit at a place last, as [`unit_history::SharedUnit::flush`].
     pub fn flush<W: Wait>(&self, rt: &W, place: usize) -> Result<(), DeviceFailed>
         requires { place < self.now }
         ensures { HasFlushed (devices B.Blocks R.Blocks O.Opener) (N.opening place) result }

@@ -1,6 +1,6 @@
 use Rattle.std.proofs.Common.{◌&&◌, ℕ, subst}
 use Rattle.unit_history.specs.Calls.{IsShown}
-use Rattle.unit_history.proofs.units.Units.read.Goals as goal
+use Rattle.array_units.proofs.units.Units.read.Goals as goal
 
 pub returns : goal.returns
 returns g c =

@@ -2,7 +2,7 @@ use Rattle.std.proofs.Common.{ℕ, subst}
 use Rattle.std.specs.Prelude.{IfErr, IfOk}
 use Rattle.unit_history.specs.Calls.{HasMoved, HasStayed}
 use Rattle.unit_history.specs.Devices.{devices}
-use Rattle.unit_history.proofs.units.Units.move_to.Goals as goal
+use Rattle.array_units.proofs.units.Units.move_to.Goals as goal
 
 pub returns-clause-moved : goal.returns-clause-moved
 returns-clause-moved g c =

@@ -6,10 +6,10 @@ use Rattle.crossbeam_utils.specs.declared.cache_padded.CachePadded.{CachePadded}
 use Rattle.crossbeam_utils.specs.Padded.{padded_value}
 use Rattle.logbook.specs.Pages.{Book}
 use Rattle.unit_state.specs.State.{UnitState}
-use Rattle.unit_history.specs.declared.any_unit.AnyUnit.{AnyUnit}
+use Rattle.array_units.specs.declared.any_unit.AnyUnit.{AnyUnit}
 use Rattle.unit_history.specs.declared.new_unit.NewUnit.{NewUnit}
 use Rattle.unit_history.specs.Naming.{IsNamed, IsNamedAt, book_in, table_in, opening_in}
-use Rattle.unit_history.specs.Places.{AreInOrder, place_of}
+use Rattle.array_units.specs.Places.{AreInOrder, place_of}
 
 module _ {B R O : Type 0} (book : ℕ → Book) (table : ℕ → TableId) (opening : ℕ → UnitState) (contents : B → List (List ℕ)) where
   pub named_at : (units : List (NewUnit B R O)) (place : ℕ) (new : NewUnit B R O) → IsNamed book table opening contents units

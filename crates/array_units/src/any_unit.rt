@@ -5,10 +5,8 @@ ghost use Rattle.reservations.specs.Nexus.{IsPortName, through};
 ghost use Rattle.unit_history.specs.Calls.{HasAttached, HasNoRoom, HasServed, HasRefused, HasReset, WasGone, HasRetired};
 ghost use Rattle.unit_history.specs.Calls.{HasFlushed, HasMoved, HasStayed, HasWorked, HaveMet, IsShown};
 ghost use Rattle.unit_history.specs.Devices.{devices};
-ghost use Rattle.unit_history.specs.Places.{place_of};
+ghost use Rattle.array_units.specs.Places.{place_of};
 
-use crate::entry::Opened;
-use crate::shared::{LegalHistory, Pass, Seat, SharedUnit};
 use access_states::Change;
 use block_file::{Blocks, DeviceFailed, Opener};
 use locked_unit::Refused;
@@ -17,6 +15,7 @@ use scsi_types::{Asked, Group, PortName, Reply};
 use status::Row;
 use std::alloc::Global;
 use std::sync::{Mutex, Wait};
+use unit_history::{LegalHistory, Opened, Pass, Seat, SharedUnit};
 use unit_state::MoveFault;
 
 /// A shared unit, and a reader's seat at its board.

@@ -1,6 +1,6 @@
 use Rattle.std.proofs.Common.{◌≡◌, length, drop}
-use Rattle.unit_history.specs.Places.{AreInOrder}
-use Rattle.unit_history.proofs.units.Units.new.Given as goal
+use Rattle.array_units.specs.Places.{AreInOrder}
+use Rattle.array_units.proofs.units.Units.new.Given as goal
 
 abbrev pub invariant-loop-place : goal.invariant-loop-place
 invariant-loop-place g l = (l.new.items ≡ drop l.place l.initial.new.items) × (length l.units.items ≡ l.place)

@@ -1,7 +1,7 @@
 use Rattle.std.proofs.Common.{ℕ, subst}
 use Rattle.unit_history.specs.Calls.{HasFlushed}
 use Rattle.unit_history.specs.Devices.{devices}
-use Rattle.unit_history.proofs.units.Units.flush.Goals as goal
+use Rattle.array_units.proofs.units.Units.flush.Goals as goal
 
 pub returns : goal.returns
 returns g c =

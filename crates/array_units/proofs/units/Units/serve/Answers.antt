@@ -2,7 +2,7 @@ use Rattle.std.proofs.Common.{◌&&◌, ◌∙◌, ℕ, subst}
 use Rattle.std.specs.Prelude.{IfErr, IfOk}
 use Rattle.unit_history.specs.Calls.{HasRefused, HasServed, HasWorked}
 use Rattle.unit_history.specs.Devices.{devices}
-use Rattle.unit_history.proofs.units.Units.serve.Goals as goal
+use Rattle.array_units.proofs.units.Units.serve.Goals as goal
 
 pub returns-clause-served : goal.returns-clause-served
 returns-clause-served g c =

@@ -1,7 +1,7 @@
 use Rattle.std.proofs.Common.{◌≡◌, ◌&&◌, ◌∙◌, ℕ, subst}
 use Rattle.std.specs.Prelude.{IfErr, IfOk}
 use Rattle.unit_history.specs.Calls.{HasRetired, WasGone}
-use Rattle.unit_history.proofs.units.Units.retire.Goals as goal
+use Rattle.array_units.proofs.units.Units.retire.Goals as goal
 
 pub returns-clause-done : goal.returns-clause-done
 returns-clause-done g c =

@@ -1,8 +1,8 @@
 use Rattle.std.proofs.Common.{◌∙◌, ap, arith, drop, length, ◌<◌}
 use Rattle.std.proofs.lemmas.List.{drop-drop}
-use Rattle.unit_history.specs.Places.{place_of}
-use Rattle.unit_history.proofs.Naming.{named_at, placed, removed}
-use Rattle.unit_history.proofs.units.Units.new.Goals as goal
+use Rattle.array_units.specs.Places.{place_of}
+use Rattle.array_units.proofs.Naming.{named_at, placed, removed}
+use Rattle.array_units.proofs.units.Units.new.Goals as goal
 
 pub any_seated-requires-clause-named : goal.any_seated-requires-clause-named
 any_seated-requires-clause-named g c =
