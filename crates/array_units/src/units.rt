@@ -3,7 +3,7 @@ ghost use Rattle.std.specs.Prelude.{◌≡◌, ◌<◌, ◌≤◌, ◌&&◌, len
 ghost use Rattle.reservations.specs.Nexus.{IsPortName, through};
 ghost use Rattle.unit_history.specs.Calls.{HasAttached, HasNoRoom, HasServed, HasRefused, HasReset, WasGone, HasRetired};
 ghost use Rattle.unit_history.specs.Calls.{HasFlushed, HasMoved, HasStayed, HasWorked, HaveMet, IsShown};
-ghost use Rattle.unit_history.specs.Devices.{devices};
+ghost use Rattle.unit_entries.specs.Devices.{devices};
 ghost use Rattle.unit_history.specs.Naming.{IsNamed, IsNamedAt};
 ghost use Rattle.array_units.specs.Places.{place_of};
 

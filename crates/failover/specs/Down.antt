@@ -4,7 +4,7 @@ use Rattle.access_states.specs.declared.change.Change.{Change}
 use Rattle.scsi_types.specs.declared.names.Group.{Group}
 use Rattle.scsi_types.specs.declared.names.Group.TheVariants.{One, Two}
 use Rattle.unit_history.specs.Calls.{HasMoved, HasStayed}
-use Rattle.unit_history.specs.Devices.{Devices}
+use Rattle.unit_entries.specs.Devices.{Devices}
 use Rattle.unit_state.specs.Entry.{Entry}
 use Rattle.unit_state.specs.State.{UnitState}
 use Rattle.unit_state.specs.declared.unit.MoveFault.{MoveFault}

@@ -3,7 +3,7 @@
 
 ghost use Rattle.std.specs.Prelude.{◌≡◌, ◌<◌, [], IfOk, IfErr};
 ghost use Rattle.unit_history.specs.Calls.{HasMoved, HasStayed};
-ghost use Rattle.unit_history.specs.Devices.{devices};
+ghost use Rattle.unit_entries.specs.Devices.{devices};
 ghost use Rattle.failover.specs.Down.{AreDown, IsStopped, down_list};
 
 mod mover;

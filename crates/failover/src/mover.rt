@@ -129,7 +129,7 @@ impl<'a, B: Blocks, R: Blocks, O: Opener<B>, N: Array<Opened>> Mover<'a, B, R, O
 }
 
 impl<'a, B: Blocks, R: Blocks, O: Opener<B>, N: Array<Opened>> Moves for Mover<'a, B, R, O, N> {
-    ghost use Rattle.unit_history.specs.Devices.{devices};
+    ghost use Rattle.unit_entries.specs.Devices.{devices};
     ghost use Rattle.failover.specs.Down.{IsMade};
 
     ghost units = { λ m. m.units };

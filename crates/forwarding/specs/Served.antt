@@ -9,7 +9,7 @@ use Rattle.scsi_types.specs.declared.command.CdbFault.{CdbFault}
 use Rattle.unit_state.specs.State.{UnitState}
 use Rattle.unit_state.specs.Entry.{Entry}
 use Rattle.unit_history.specs.Calls.{HasServed, HasRefused, HasWorked}
-use Rattle.unit_history.specs.Devices.{Devices, claims_of}
+use Rattle.unit_entries.specs.Devices.{Devices, claims_of}
 use Rattle.forwarding.specs.Names.{names_of}
 use Rattle.forwarding.specs.declared.names.Names.{Names}
 

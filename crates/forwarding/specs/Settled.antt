@@ -6,7 +6,7 @@ use Rattle.scsi_types.specs.ReplyValue.{ReplyValue}
 use Rattle.scsi_types.specs.declared.names.Group.{Group}
 use Rattle.unit_state.specs.State.{UnitState}
 use Rattle.unit_state.specs.Entry.{Entry}
-use Rattle.unit_history.specs.Devices.{Devices}
+use Rattle.unit_entries.specs.Devices.{Devices}
 use Rattle.forwarding.specs.Served.{Handed, HasAnswered}
 use Rattle.forwarding.specs.declared.desk.DeskFault.{DeskFault}
 use Rattle.forwarding.specs.declared.desk.DeskFault.TheVariants.{Full, Closed, NoMemory}

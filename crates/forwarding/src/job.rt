@@ -2,7 +2,7 @@
 ghost use Rattle.std.specs.Prelude.{◌≡◌, ◌<◌, IfOk, IfErr, MatchBool};
 ghost use Rattle.forwarding.specs.Served.{HasAnswered, handed, handed_of};
 ghost use Rattle.forwarding.specs.Jobs.{IsFor};
-ghost use Rattle.unit_history.specs.Devices.{devices};
+ghost use Rattle.unit_entries.specs.Devices.{devices};
 
 use crate::names::Names;
 use block_file::{Blocks, Opener};
@@ -28,7 +28,7 @@ struct Ended<B: Blocks, R: Blocks, O: Opener<B>, N: Array<Opened>> {
 
 impl<B: Blocks, R: Blocks, O: Opener<B>, N: Array<Opened>> Model for Ended<B, R, O, N> {
     ghost use Rattle.std.specs.Prelude.{◌≡◌};
-    ghost use Rattle.unit_history.specs.Devices.{devices};
+    ghost use Rattle.unit_entries.specs.Devices.{devices};
     ghost use Rattle.forwarding.specs.Served.{HasAnswered, handed};
     ghost use Rattle.forwarding.specs.Jobs.{Done};
 

@@ -2,7 +2,7 @@
 ghost use Rattle.std.specs.Prelude.{◌≡◌, ◌<◌, MatchBool};
 ghost use Rattle.forwarding.specs.Names.{names_of};
 ghost use Rattle.forwarding.specs.Served.{HasAnswered, handed};
-ghost use Rattle.unit_history.specs.Devices.{devices};
+ghost use Rattle.unit_entries.specs.Devices.{devices};
 
 use block_file::{Blocks, Opener};
 use numbering::Array;

@@ -26,7 +26,7 @@ use Rattle.session_rules.specs.declared.target.ResetAnswer.{ResetAnswer}
 use Rattle.session_rules.specs.declared.target.ResetAnswer.TheVariants as resets
 use Rattle.unit_state.specs.State.{UnitState}
 use Rattle.unit_state.specs.Entry.{Entry, Attach}
-use Rattle.unit_history.specs.Histories.{IsHistory}
+use Rattle.unit_entries.specs.Histories.{IsHistory}
 use Rattle.portal.specs.Late.{Late, late_at}
 use Rattle.portal.specs.Sessions.{Sayings}
 use Rattle.portal.specs.Units.{Claims}

@@ -10,7 +10,7 @@ use Rattle.unit_state.specs.State.{UnitState}
 use Rattle.unit_state.specs.Entry.{Entry, Attach, Detach, Reset, Move, Command, IsPossible, IsReplyTo, IsReplyWith, after}
 use Rattle.unit_state.specs.History.{state_after, IsLegal}
 use Rattle.unit_state.specs.Refusal.{refusal, request}
-use Rattle.unit_history.specs.Histories.{IsHistory, IsToldBehind, is_own}
+use Rattle.unit_entries.specs.Histories.{IsHistory, IsToldBehind, is_own}
 use Rattle.portal.specs.Units.{Claims, any_device}
 use Rattle.portal.specs.Late.{Late, never}
 use Rattle.portal.specs.Entries.{Done, replied, was_reset, AreAlike, AreEntries, HasDone, IsEntry, IsLate, IsNextDone}

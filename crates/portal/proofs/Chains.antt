@@ -19,7 +19,7 @@ use Rattle.locked_unit.specs.Calls.{Known, PlacedPass, IsRefused}
 use Rattle.forwarding.specs.declared.desk.DeskFault.TheVariants as desks
 use Rattle.locked_unit.specs.declared.machine.Refused.TheVariants as refusals
 use Rattle.unit_state.specs.Entry.{Entry, Command}
-use Rattle.unit_history.specs.Histories.{IsHistory, IsCommand, IsToldBehind, is_own, own}
+use Rattle.unit_entries.specs.Histories.{IsHistory, IsCommand, IsToldBehind, is_own, own}
 use Rattle.unit_history.specs.Calls.{HasServed}
 use Rattle.portal.specs.Late.{Late, late_at, Flushing, asked_by, served_by, IsTold, IsToldEnd}
 use Rattle.portal.specs.Units.{Claims, IsSubmitted, IsResetBy}

@@ -7,7 +7,7 @@ use Rattle.std.specs.Prelude.{slice_get, slice_index_or}
 use Rattle.locked_unit.specs.Calls.{Known}
 use Rattle.status.specs.Views.{counted}
 use Rattle.unit_history.specs.Calls.{HasRetired, WasGone}
-use Rattle.unit_history.specs.Histories.{IsHistory, own}
+use Rattle.unit_entries.specs.Histories.{IsHistory, own}
 use Rattle.unit_state.specs.Entry.{Entry, Detach}
 use Rattle.unit_state.specs.State.{UnitState}
 use Rattle.portal.specs.Units.{Claims, IsRetired}

@@ -24,7 +24,7 @@ use Rattle.unit_state.specs.History.{state_after, IsLegal}
 use Rattle.unit_state.specs.Medium.{Finding, MayFind, WriteError, left, work_of}
 use Rattle.unit_state.specs.Refusal.{Request, request, refusal, refusal_reply, access_by, attention_rule, conflict_rule, field_rule, list_rule, opcode_rule}
 use Rattle.unit_state.specs.Refusal.{outside, saved_rule, state_for}
-use Rattle.unit_history.specs.Histories.{IsHistory, IsToldBehind}
+use Rattle.unit_entries.specs.Histories.{IsHistory, IsToldBehind}
 use Rattle.portal.specs.Units.{Claims}
 use Rattle.portal.specs.Late.{Late, Flushing, writes, compares, synchronizes, asked_by, served_by, IsTold, IsUnflushed}
 use Rattle.portal.specs.Entries.{IsLate}

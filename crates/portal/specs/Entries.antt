@@ -21,7 +21,7 @@ use Rattle.unit_state.specs.Entry.{Entry, Attach, Detach, Reset, Move, Command, 
 use Rattle.unit_state.specs.History.{state_after}
 use Rattle.locked_unit.specs.Calls.{PlacedPass}
 use Rattle.status.specs.Views.{counted}
-use Rattle.unit_history.specs.Histories.{IsHistory, IsToldBehind, is_own, own}
+use Rattle.unit_entries.specs.Histories.{IsHistory, IsToldBehind, is_own, own}
 use Rattle.portal.specs.Late.{Late, IsTold, IsUnflushed, late_at}
 use Rattle.portal.specs.Units.{Claims}
 

@@ -85,7 +85,7 @@ impl<B: Blocks, R: Blocks, O: Opener<B>, N: Array<Opened>> LogicalUnits<
     LegalHistory<B, R, O, N>,
 > for Controllers<B, R, O, N> {
     ghost use Rattle.unit_history.specs.Calls.{HasWorked};
-    ghost use Rattle.unit_history.specs.Devices.{claims_of, devices};
+    ghost use Rattle.unit_entries.specs.Devices.{claims_of, devices};
 
     ghost unit_count = { λ c. c };
 

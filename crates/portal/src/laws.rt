@@ -3,7 +3,7 @@ ghost use Rattle.std.specs.Prelude.{◌≡◌, ◌++◌, ◌∷◌, [], List, Bo
 ghost use Rattle.unit_state.specs.State.{UnitState};
 ghost use Rattle.unit_state.specs.Entry.{Entry, IsPossible, after};
 ghost use Rattle.unit_state.specs.History.{state_after};
-ghost use Rattle.unit_history.specs.Histories.{IsHistory};
+ghost use Rattle.unit_entries.specs.Histories.{IsHistory};
 ghost use Rattle.scsi_types.specs.Nexus.{Nexus};
 ghost use Rattle.portal.specs.Entries.{AreAlike, Done, HasDone};
 ghost use Rattle.portal.specs.Late.{late_at, late_of, never};

@@ -3,8 +3,8 @@ use Rattle.std.specs.Prelude.{◌≡◌, ◌⊎◌, ℕ, ◌+◌, Bool, List, []
 use Rattle.unit_state.specs.State.{UnitState, UnitValue}
 use Rattle.unit_state.specs.Choice.{Choice}
 use Rattle.unit_state.specs.Entry.{Entry, Attach, Command}
-use Rattle.unit_history.specs.Causes.{IsFull, IsGone, IsOwner, WantsMemory}
-use Rattle.unit_history.specs.Histories.{IsBehind, IsHistory, IsToldBehind, command}
+use Rattle.unit_entries.specs.Causes.{IsFull, IsGone, IsOwner, WantsMemory}
+use Rattle.unit_entries.specs.Histories.{IsBehind, IsHistory, IsToldBehind, command}
 use Rattle.locked_unit.specs.Calls.{IsCause}
 use Rattle.scsi_types.specs.Nexus.{Nexus}
 use Rattle.status.specs.Views.{counted}

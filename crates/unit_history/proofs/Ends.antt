@@ -8,9 +8,9 @@ use Rattle.unit_state.specs.Choice.{Fine}
 use Rattle.unit_state.specs.Entry.{Entry, Move}
 use Rattle.unit_state.specs.State.{UnitState}
 use Rattle.unit_history.specs.Calls.{HasMoved, HasStayed, IsLeft}
-use Rattle.unit_history.specs.Causes.{IsMoveTold, IsStay}
-use Rattle.unit_history.specs.Devices.{Devices, HaveMoved, claims_of}
-use Rattle.unit_history.specs.Histories.{IsHistory}
+use Rattle.unit_entries.specs.Causes.{IsMoveTold, IsStay}
+use Rattle.unit_entries.specs.Devices.{Devices, HaveMoved, claims_of}
+use Rattle.unit_entries.specs.Histories.{IsHistory}
 
 pub ok_both : {T E : Type 0} (P Q : T → Type 0) (r : Result T E) → IfOk r P → IfOk r Q → IfOk r (λ x. P x × Q x)
 ok_both P Q (Ok x) p q = (p, q)

@@ -15,10 +15,10 @@ use Rattle.status.specs.declared.row.Row.{Row}
 use Rattle.unit_state.specs.State.{UnitState, UnitValue}
 use Rattle.unit_state.specs.Choice.{Fine}
 use Rattle.unit_state.specs.Entry.{Entry, Attach, Detach, Reset, Move}
-use Rattle.unit_history.specs.Devices.{Devices, claims_of, HaveFlushed, HaveMoved, HaveWorked}
-use Rattle.unit_history.specs.Histories.{IsBehind, IsHistory, IsCommand, IsToldBehind, own}
-use Rattle.unit_history.specs.RowOf.{row_behind}
-use Rattle.unit_history.specs.Causes.{IsAbsent, IsFull, IsGone, IsMoveTold, IsOwner, IsStay, WantsMemory}
+use Rattle.unit_entries.specs.Devices.{Devices, claims_of, HaveFlushed, HaveMoved, HaveWorked}
+use Rattle.unit_entries.specs.Histories.{IsBehind, IsHistory, IsCommand, IsToldBehind, own}
+use Rattle.unit_entries.specs.RowOf.{row_behind}
+use Rattle.unit_entries.specs.Causes.{IsAbsent, IsFull, IsGone, IsMoveTold, IsOwner, IsStay, WantsMemory}
 
 -- A session attached: its pass has seen a legal history that ends with its Attach, whose place is the session's number.
 abbrev pub HasAttached : Bool → UnitState → Nexus → Known Entry → Type 0

@@ -1,6 +1,2 @@
-pub mod Histories
-pub mod Causes
-pub mod RowOf
-pub mod Devices
 pub mod Calls
 pub mod Naming

@@ -4,7 +4,7 @@ use Rattle.atomic_table.specs.Seated.{TableId}
 use Rattle.logbook.specs.Pages.{Book}
 use Rattle.numbering.specs.Rights.{no_book, no_table}
 use Rattle.unit_state.specs.State.{UnitState, state_of}
-use Rattle.unit_history.specs.Histories.{no_state}
+use Rattle.unit_entries.specs.Histories.{no_state}
 use Rattle.unit_history.specs.declared.new_unit.NewUnit.{NewUnit}
 
 module _ {B R O : Type 0} where

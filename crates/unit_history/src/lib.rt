@@ -6,12 +6,10 @@
 //! answer. Nothing of a history is stored. A status board shows the row of each, for which no reader takes the lock.
 #![tactic(auto)]
 
-mod entry;
-mod machine;
 mod new_unit;
 mod shared;
 
-pub use entry::{Arrival, Noted, Opened};
 pub use locked_unit::Refused;
 pub use new_unit::NewUnit;
 pub use shared::{Board, LegalHistory, Pass, Seat, SharedUnit};
+pub use unit_entries::{Arrival, Noted, Opened};

@@ -2,11 +2,11 @@
 ghost use Rattle.std.specs.Prelude.{◌≡◌, ◌<◌, ◌+◌, IfOk};
 ghost use Rattle.unit_state.specs.Serials.{IsOpening};
 
-use crate::entry::{Noted, Opened};
 use block_file::{Blocks, Opener};
 use locked_unit::NewUnit as Posted;
 use scsi_types::NoMemory;
 use std::alloc::Global;
+use unit_entries::{Noted, Opened};
 use unit_state::Unit;
 
 /// A unit of which nothing was asked yet, before it has a name.

@@ -4,13 +4,12 @@ ghost use mathlib.Core.List.{IsPrefix};
 ghost use Rattle.reservations.specs.Nexus.{IsPortName, through};
 ghost use Rattle.unit_state.specs.State.{state_of};
 ghost use Rattle.unit_state.specs.Serials.{IsOpening};
-ghost use Rattle.unit_history.specs.Histories.{IsBehind, IsHistory};
+ghost use Rattle.unit_entries.specs.Histories.{IsBehind, IsHistory};
 ghost use Rattle.unit_history.specs.Calls.{HasAttached, HasNoRoom, HasServed, HasRefused, HasReset, WasGone, HasRetired};
 ghost use Rattle.unit_history.specs.Calls.{HasFlushed, HasMoved, HasStayed, HasWorked, HaveMet};
-ghost use Rattle.unit_history.specs.Devices.{devices};
+ghost use Rattle.unit_entries.specs.Devices.{devices};
 ghost use Rattle.unit_history.specs.Naming.{IsNamedAt};
 
-use crate::entry::{Arrival, Noted, Opened};
 use crate::new_unit::NewUnit;
 use access_states::Change;
 use block_file::{Blocks, DeviceFailed, Opener};
@@ -20,6 +19,8 @@ use scsi_types::{Asked, Group, NoMemory, PortName, Reply};
 use status::{Board as StatusBoard, MOST_SEATS, Seat as BoardSeat};
 use std::alloc::Global;
 use std::sync::Wait;
+use unit_entries::laws::a_unit_that_opened_has_the_history_without_an_entry;
+use unit_entries::{Arrival, Noted, Opened};
 use unit_state::{MoveFault, Unit};
 
 /// A session of a unit: what it has seen of the unit's history, and the one right to add the session's entries. Contracts see
@@ -52,16 +53,6 @@ pub struct SharedUnit<B: Blocks, R: Blocks, O: Opener<B>, N: Array<Opened>, cons
     unit: locked_unit::SharedUnit<Noted, Opened, Unit<B, R, O>, N, U>,
 }
 
-/// A unit of which nothing was asked yet is what the history without an entry leaves.
-fn opens<B: Blocks, R: Blocks, O: Opener<B>, N: Array<Opened>, const U: usize>(unit: &Unit<B, R, O>)
-    requires state { N.opening U ≡ state_of B.contents unit.now }
-    requires opens { IsOpening unit.now.control }
-    ensures legal { IsHistory (O.claims && B.claims) (N.opening U) [] }
-    ensures behind { IsBehind (O.claims && B.claims) B.contents B.failures O.opens_failed R.failures (N.opening U) [] unit.now }
-{
-    let _ = unit;
-}
-
 impl<B: Blocks, R: Blocks, O: Opener<B>, N: Array<Opened>, const U: usize> SharedUnit<
     B,
     R,
@@ -81,7 +72,7 @@ impl<B: Blocks, R: Blocks, O: Opener<B>, N: Array<Opened>, const U: usize> Share
         ensures { IfOk result (λ r. (length r.1.items ≡ seats) × All (λ seat. seat ≡ []) r.1.items) }
     {
         let NewUnit { posted, unit } = new;
-        opens::<B, R, O, N, U>(&unit);
+        a_unit_that_opened_has_the_history_without_an_entry::<B, R, O, N, U>(&unit);
         match locked_unit::SharedUnit::new(rt, alloc, posted, unit, seats) {
             Ok((unit, seats)) => Ok((SharedUnit { unit }, seats)),
             Err(_) => Err(NoMemory),

@@ -10,7 +10,7 @@ use Rattle.unit_state.specs.State.{UnitState}
 use Rattle.unit_state.specs.Choice.{Fine}
 use Rattle.unit_state.specs.Entry.{Entry, Attach, Detach, Reset, Move, Command}
 use Rattle.unit_state.specs.Serials.{IsOpening}
-use Rattle.unit_history.specs.Histories.{IsHistory, command}
+use Rattle.unit_entries.specs.Histories.{IsHistory, command}
 use Rattle.world.specs.Traffic.{Traffic, at_stage, attached, closed, given, in_lane, new_job, taken_from, waiting, with_waiting}
 use Rattle.world.specs.Events.{Scene, scene, with_entry, with_traffic, Takes, IsEntry, IsServed, IsServing, IsStep, AreSteps, IsReached, count_at, start}
 use Rattle.world.specs.Orders.{IsEntryOf, IsNone, IsNoted, IsOrderly, IsSubmittedBehind}

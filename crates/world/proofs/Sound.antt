@@ -13,7 +13,7 @@ use Rattle.scsi_types.specs.declared.command.CdbFault.{CdbFault}
 use Rattle.unit_state.specs.State.{UnitState}
 use Rattle.unit_state.specs.Entry.{Entry, Attach, Detach, Reset, Move, Command, after}
 use Rattle.unit_state.specs.History.{IsReplyAt}
-use Rattle.unit_history.specs.Histories.{IsCommand, command}
+use Rattle.unit_entries.specs.Histories.{IsCommand, command}
 use Rattle.world.specs.Orders.{IsEntryOf, IsNone, IsNoted, IsSubmittedBehind}
 use Rattle.world.specs.declared.note.Note.{Note}
 use Rattle.world.specs.declared.note.What.{What}

@@ -11,7 +11,7 @@ use Rattle.reservations.specs.Nexus.{through}
 use Rattle.scsi_types.specs.Nexus.{Port}
 use Rattle.scsi_types.specs.declared.names.Group.{Group}
 use Rattle.std.proofs.lemmas.List.{length-set, take_more}
-use Rattle.unit_history.specs.Histories.{IsBehind, IsHistory, no_state}
+use Rattle.unit_entries.specs.Histories.{IsBehind, IsHistory, no_state}
 use Rattle.world.specs.Traffic.{Traffic, IsTakenBack, at_stage, attached, ended, given, no_traffic}
 use Rattle.world.specs.Events.{Scene, scene, count_at, with_entry, with_traffic, start, IsEntry, IsReached, IsServed, IsStep, AreSteps}
 use Rattle.world.specs.Worlds.{WorldValue, opened, opening_of, AllHappen, AreBehind, Stands, Happens, IsCountAt, IsCountOf}

@@ -12,7 +12,7 @@ use Rattle.scsi_types.specs.declared.names.Group.TheVariants.{One, Two}
 use Rattle.unit_state.specs.State.{UnitState}
 use Rattle.unit_state.specs.Choice.{Choice}
 use Rattle.unit_state.specs.Entry.{Entry, Attach, Command}
-use Rattle.unit_history.specs.Histories.{IsToldBehind, command}
+use Rattle.unit_entries.specs.Histories.{IsToldBehind, command}
 use Rattle.world.specs.Orders.{IsEntryOf, IsNone, IsNoted}
 use Rattle.world.specs.Traffic.{Traffic, IsTakenBack, answered_in, at_stage, attached, begun, begun_again, closed, collected, ended_in}
 use Rattle.world.specs.Traffic.{free, given, given_up, handed_in, heard, in_hand, in_lane, is_closed, is_idle, note_of, noted, posted}

@@ -8,8 +8,8 @@ use Rattle.unit_state.specs.Choice.{Choice, Fine}
 use Rattle.unit_state.specs.Entry.{Entry, Attach, Detach, Reset, Move, Command}
 use Rattle.unit_state.specs.Serials.{IsOpening}
 use Rattle.unit_state.specs.declared.unit.MoveFault.{MoveFault}
-use Rattle.unit_history.specs.Histories.{IsHistory, IsToldBehind}
-use Rattle.unit_history.specs.Causes.{IsFull, IsGone, IsOwner, IsStay, WantsMemory}
+use Rattle.unit_entries.specs.Histories.{IsHistory, IsToldBehind}
+use Rattle.unit_entries.specs.Causes.{IsFull, IsGone, IsOwner, IsStay, WantsMemory}
 use Rattle.world.specs.Traffic.{Traffic, at_stage, attached, begun, begun_again, closed, given, collected, new_job, no_traffic}
 use Rattle.world.specs.Traffic.{IsTakenBack, posted, submitted, submitted_again, taken}
 use Rattle.world.specs.declared.event.Event.{Event}

@@ -5,7 +5,7 @@ use Rattle.scsi_types.specs.declared.names.Group.{Group}
 use Rattle.unit_state.specs.State.{UnitState}
 use Rattle.unit_state.specs.Entry.{Entry}
 use Rattle.unit_state.specs.History.{IsReplyAt}
-use Rattle.unit_history.specs.Histories.{IsCommand, IsHistory}
+use Rattle.unit_entries.specs.Histories.{IsCommand, IsHistory}
 use Rattle.world.specs.Events.{Scene}
 use Rattle.world.specs.declared.note.Note.{Note}
 use Rattle.world.specs.declared.note.What.{What}

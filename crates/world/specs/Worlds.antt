@@ -2,7 +2,7 @@
 use Rattle.std.specs.Prelude.{◌≡◌, ℕ, Bool, List, length, Option, Some, None, IfSome, MatchOption, slice_get}
 use Rattle.unit_state.specs.State.{UnitState, UnitValue, state_of}
 use Rattle.unit_state.specs.Entry.{Entry}
-use Rattle.unit_history.specs.Histories.{IsBehind, no_state}
+use Rattle.unit_entries.specs.Histories.{IsBehind, no_state}
 use Rattle.world.specs.Events.{Scene, scene, AreSteps, IsReached, IsStep}
 use Rattle.world.specs.Orders.{IsOrderly}
 use Rattle.world.specs.Traffic.{Traffic}

@@ -1,6 +1,6 @@
 use Rattle.std.proofs.Common.{ℕ, subst}
 use Rattle.unit_history.specs.Calls.{HasFlushed}
-use Rattle.unit_history.specs.Devices.{devices}
+use Rattle.unit_entries.specs.Devices.{devices}
 use Rattle.array_units.proofs.units.Units.flush.Goals as goal
 
 pub returns : goal.returns

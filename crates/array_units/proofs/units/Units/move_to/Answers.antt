@@ -1,7 +1,7 @@
 use Rattle.std.proofs.Common.{ℕ, subst}
 use Rattle.std.specs.Prelude.{IfErr, IfOk}
 use Rattle.unit_history.specs.Calls.{HasMoved, HasStayed}
-use Rattle.unit_history.specs.Devices.{devices}
+use Rattle.unit_entries.specs.Devices.{devices}
 use Rattle.array_units.proofs.units.Units.move_to.Goals as goal
 
 pub returns-clause-moved : goal.returns-clause-moved

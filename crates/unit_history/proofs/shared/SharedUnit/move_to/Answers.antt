@@ -1,5 +1,5 @@
 use Rattle.unit_history.proofs.Ends.{has_moved, has_stayed}
-use Rattle.unit_history.specs.Devices.{devices}
+use Rattle.unit_entries.specs.Devices.{devices}
 use Rattle.unit_history.proofs.shared.SharedUnit.move_to.Goals as goal
 
 pub returns-clause-moved : goal.returns-clause-moved

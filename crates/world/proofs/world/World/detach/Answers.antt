@@ -1,5 +1,5 @@
 use Rattle.std.proofs.Common.{◌&&◌}
-use Rattle.unit_history.specs.Causes.{IsGone}
+use Rattle.unit_entries.specs.Causes.{IsGone}
 use Rattle.unit_state.specs.Entry.{Detach}
 use Rattle.world.specs.Records.{traffic_of}
 use Rattle.world.specs.Worlds.{WorldValue}

@@ -1,5 +1,5 @@
 use Rattle.std.proofs.Common.{◌&&◌}
-use Rattle.unit_history.specs.Causes.{IsStay}
+use Rattle.unit_entries.specs.Causes.{IsStay}
 use Rattle.unit_state.specs.Choice.{Fine}
 use Rattle.unit_state.specs.Entry.{Move}
 use Rattle.unit_state.specs.declared.unit.MoveFault.{MoveFault}

@@ -1,6 +1,6 @@
 use Rattle.std.proofs.Common.{◌&&◌}
-use Rattle.unit_history.proofs.Behind.{detach_done}
-use Rattle.unit_history.proofs.machine.UnitMachineNotedOpened.detach.Goals as goal
+use Rattle.unit_entries.proofs.Behind.{detach_done}
+use Rattle.unit_entries.proofs.machine.UnitMachineNotedOpened.detach.Goals as goal
 
 pub returns-in-Ok-clause-done : goal.returns-in-Ok-clause-done
 returns-in-Ok-clause-done g c =

@@ -31,8 +31,8 @@ use Rattle.unit_state.specs.Refusal.{request}
 use Rattle.unit_state.specs.Serials.{IsNumbered, IsOpening, commands_of}
 use Rattle.unit_state.specs.SerialLaws.{numbered}
 use Rattle.unit_state.specs.Step.{IsStep, TakesMemory, entry_of}
-use Rattle.unit_history.specs.Histories.{IsHistory, IsBehind, IsToldBehind, own, command}
-use Rattle.unit_history.specs.Causes.{IsFull, IsGone, IsAbsent, IsOwner, WantsMemory, IsMoveTold}
+use Rattle.unit_entries.specs.Histories.{IsHistory, IsBehind, IsToldBehind, own, command}
+use Rattle.unit_entries.specs.Causes.{IsFull, IsGone, IsAbsent, IsOwner, WantsMemory, IsMoveTold}
 
 -- ---- whose entries they are
 

@@ -1,6 +1,6 @@
 use Rattle.std.proofs.Common.{◌&&◌, refl}
-use Rattle.unit_history.proofs.Behind.{attach_done, joined_last}
-use Rattle.unit_history.proofs.machine.UnitMachineNotedOpened.attach.Goals as goal
+use Rattle.unit_entries.proofs.Behind.{attach_done, joined_last}
+use Rattle.unit_entries.proofs.machine.UnitMachineNotedOpened.attach.Goals as goal
 
 pub returns-in-Ok-clause-done : goal.returns-in-Ok-clause-done
 returns-in-Ok-clause-done g c =

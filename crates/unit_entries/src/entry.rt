@@ -22,7 +22,7 @@ pub struct Opened {
 
 impl Model for Opened {
     ghost use Rattle.unit_state.specs.State.{UnitState};
-    ghost use Rattle.unit_history.specs.Histories.{no_state};
+    ghost use Rattle.unit_entries.specs.Histories.{no_state};
 
     ghost Value = { UnitState };
 

@@ -1,6 +1,6 @@
 use Rattle.std.proofs.Common.{◌&&◌}
-use Rattle.unit_history.proofs.Behind.{gone_cause, step_done}
-use Rattle.unit_history.proofs.machine.UnitMachineNotedOpened.step.Goals as goal
+use Rattle.unit_entries.proofs.Behind.{gone_cause, step_done}
+use Rattle.unit_entries.proofs.machine.UnitMachineNotedOpened.step.Goals as goal
 
 pub returns-in-Reply-clause-done : goal.returns-in-Reply-clause-done
 returns-in-Reply-clause-done g c =

@@ -1,7 +1,7 @@
 //! The unit as what is locked: each of its calls is one entry.
 ghost use Rattle.std.specs.Prelude.{◌≡◌};
 ghost use Rattle.access_states.specs.List.{group_number};
-ghost use Rattle.unit_history.specs.RowOf.{row_of};
+ghost use Rattle.unit_entries.specs.RowOf.{row_of};
 
 use crate::entry::{Arrival, Noted, Opened};
 use access_states::Change;
@@ -16,8 +16,8 @@ use unit_state::{MoveFault, StepEnd, Unit};
 
 impl<B: Blocks, R: Blocks, O: Opener<B>> Published<Noted, Opened> for Unit<B, R, O> {
     ghost use Rattle.std.specs.Prelude.{◌&&◌};
-    ghost use Rattle.unit_history.specs.Histories.{IsHistory, own, command};
-    ghost use Rattle.unit_history.specs.RowOf.{row_behind};
+    ghost use Rattle.unit_entries.specs.Histories.{IsHistory, own, command};
+    ghost use Rattle.unit_entries.specs.RowOf.{row_behind};
 
     ghost legal = { IsHistory (O.claims && B.claims) };
 
@@ -30,7 +30,7 @@ impl<B: Blocks, R: Blocks, O: Opener<B>> Published<Noted, Opened> for Unit<B, R,
 
 impl Array<Opened> for Brand {
     ghost use Rattle.numbering.specs.Rights.{no_book, no_table};
-    ghost use Rattle.unit_history.specs.Histories.{no_state};
+    ghost use Rattle.unit_entries.specs.Histories.{no_state};
 
     ghost book = { λ place. no_book };
 
@@ -72,9 +72,9 @@ impl<B: Blocks, R: Blocks, O: Opener<B>> Machine<Noted, Opened> for Unit<B, R, O
     ghost use Rattle.unit_state.specs.Entry.{Attach, Detach, Reset, Move};
     ghost use Rattle.unit_state.specs.Sessions.{last_nexus};
     ghost use Rattle.unit_state.specs.Step.{entry_of};
-    ghost use Rattle.unit_history.specs.Devices.{devices, HaveFlushed, HaveMoved, HaveWorked};
-    ghost use Rattle.unit_history.specs.Histories.{IsBehind, IsCommand, IsToldBehind};
-    ghost use Rattle.unit_history.specs.Causes.{IsFull, IsGone, IsAbsent, IsOwner, WantsMemory, IsStay, IsMoveTold};
+    ghost use Rattle.unit_entries.specs.Devices.{devices, HaveFlushed, HaveMoved, HaveWorked};
+    ghost use Rattle.unit_entries.specs.Histories.{IsBehind, IsCommand, IsToldBehind};
+    ghost use Rattle.unit_entries.specs.Causes.{IsFull, IsGone, IsAbsent, IsOwner, WantsMemory, IsStay, IsMoveTold};
 
     type Name = Arrival;
 

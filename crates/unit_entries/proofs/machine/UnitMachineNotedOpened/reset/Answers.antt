@@ -1,6 +1,6 @@
 use Rattle.std.proofs.Common.{◌&&◌}
-use Rattle.unit_history.proofs.Behind.{reset_done}
-use Rattle.unit_history.proofs.machine.UnitMachineNotedOpened.reset.Goals as goal
+use Rattle.unit_entries.proofs.Behind.{reset_done}
+use Rattle.unit_entries.proofs.machine.UnitMachineNotedOpened.reset.Goals as goal
 
 pub returns-in-Ok-clause-done : goal.returns-in-Ok-clause-done
 returns-in-Ok-clause-done g c =

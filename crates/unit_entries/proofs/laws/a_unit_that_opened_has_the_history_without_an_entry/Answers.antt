@@ -1,6 +1,6 @@
 use Rattle.std.proofs.Common.{◌&&◌}
-use Rattle.unit_history.proofs.Behind.{opens_behind, opens_history}
-use Rattle.unit_history.proofs.shared.opens.Goals as goal
+use Rattle.unit_entries.proofs.Behind.{opens_behind, opens_history}
+use Rattle.unit_entries.proofs.laws.a_unit_that_opened_has_the_history_without_an_entry.Goals as goal
 
 pub returns-clause-legal : goal.returns-clause-legal
 returns-clause-legal g c =

@@ -1,0 +1,4 @@
+pub mod Histories
+pub mod Causes
+pub mod RowOf
+pub mod Devices
