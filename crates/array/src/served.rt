@@ -5,6 +5,7 @@ ghost use Rattle.unit_history.specs.Naming.{IsNamed};
 
 use crate::disks::OpenArray;
 use crate::portals::{self, Portal, Ports};
+use array_units::Units;
 use block_file::{Blocks, Opener};
 use command_line::{Fault, MAX_UNITS, Options};
 use console::{Array, Watched, console};
@@ -14,14 +15,146 @@ use portal::{Controllers, Gate, Server, SmallStacks, TargetDevice, listen, start
 use scsi_types::Group;
 use std::alloc::Global;
 use std::io::{BufRead, Write};
-use std::net::{Net, TcpListener, TcpStream};
+use std::net::{Net, SocketAddrV4, TcpListener, TcpStream};
 use std::sync::{Arc, Wait};
 use std::thread::Threads;
 use std::time::Clock;
-use array_units::Units;
 use unit_history::{LegalHistory, NewUnit, Opened, Pass};
 
-// Serves these units, behind this gate, at the portals that the words ask for, until the console ends.
+/// What the portals serve.
+type Served<B, F, O, N, G> = Arc<Server<Controllers<B, F, O, N>, G>, Global>;
+
+// By what hosts find the array: the target's name, and where each controller's portals listen.
+struct Found {
+    target_name: Vec<u8>,
+    first: Vec<SocketAddrV4>,
+    second: Vec<SocketAddrV4>,
+    log: Log,
+}
+
+// The same, as the words ask for it, with a log of its own.
+fn found(alloc: Global, options: &Options<'_>, ports: Ports, log: &Log) -> Result<Found, Fault> {
+    let target_name = Vec::from_slice(alloc, options.target.as_bytes())?;
+    let first = ports.of(Group::One).addresses(alloc)?;
+    let second = ports.of(Group::Two).addresses(alloc)?;
+    Ok(Found {
+        target_name,
+        first,
+        second,
+        log: log.share()?,
+    })
+}
+
+// These units behind this gate, as hosts find them.
+fn served<
+    N: Naming<Opened>,
+    B: Blocks + Drop,
+    F: Blocks + Drop,
+    O: Opener<B> + Drop,
+    G: Gate + Drop,
+    R: Wait,
+>(
+    rt: &R,
+    alloc: Global,
+    found: Found,
+    units: Vec<NewUnit<B, F, O>>,
+    gate: G,
+) -> Result<Served<B, F, O, N, G>, Fault>
+    requires named { IsNamed N.book N.table N.opening B.contents units.items }
+    requires count { length units.items ≤ MAX_UNITS }
+{
+    let units = Units::<B, F, O, N>::new(rt, alloc, units)?;
+    let controllers = Controllers::new(alloc, units)?;
+    let Found {
+        target_name,
+        first,
+        second,
+        log,
+    } = found;
+    let server = Server {
+        device: TargetDevice::new(alloc, controllers, gate),
+        target_name,
+        first,
+        second,
+        log,
+    };
+    match Arc::new(alloc, server) {
+        Ok(server) => Ok(server),
+        Err(_) => Err(Fault::NoMemory),
+    }
+}
+
+// Starts the lanes of both controllers.
+fn start<
+    N: Naming<Opened> + Send + Sync + 'static,
+    B: Blocks + Drop + Send + Sync + 'static,
+    F: Blocks + Drop + Send + Sync + 'static,
+    O: Opener<B> + Drop + Send + Sync + 'static,
+    G: Gate + Drop + Send + Sync + 'static,
+    R: Threads + Wait + Clone + Drop + Send + 'static,
+>(rt: &R, alloc: Global, server: &Served<B, F, O, N, G>) -> Result<(), Fault> {
+    for group in [Group::One, Group::Two] {
+        let mut stacks = SmallStacks;
+        let started = start_lanes::<N, B, F, O, G, R, SmallStacks>(
+            rt,
+            alloc,
+            server,
+            group,
+            &mut stacks,
+        );
+        if started.is_err() {
+            return Err(Fault::NoMemory);
+        }
+    }
+    Ok(())
+}
+
+// Starts the accept loop of each portal.
+fn accept_at<
+    N: Naming<Opened> + Send + Sync + 'static,
+    B: Blocks + Drop + Send + Sync + 'static,
+    F: Blocks + Drop + Send + Sync + 'static,
+    O: Opener<B> + Drop + Send + Sync + 'static,
+    G: Gate + Drop + Send + Sync + 'static,
+    R: Threads + Wait + Clock + Clone + Drop + Send + 'static,
+>(
+    rt: &R,
+    alloc: Global,
+    server: &Served<B, F, O, N, G>,
+    portals: Vec<Portal>,
+) -> Result<(), Fault> {
+    for Portal { listener, group } in portals {
+        let loops = listen::<
+            R,
+            Controllers<B, F, O, N>,
+            G,
+            Pass<B, F, O, N>,
+            LegalHistory<B, F, O, N>,
+            SmallStacks,
+        >(rt, alloc, listener, server, group, SmallStacks);
+        if loops.is_err() {
+            return Err(Fault::NoMemory);
+        }
+    }
+    Ok(())
+}
+
+// Says that all portals listen, and obeys the console until it ends. An output that fails counts as the end of the input.
+fn attend<A: Array, I: BufRead + Drop, C: Write>(
+    alloc: Global,
+    reader: I,
+    writer: &mut C,
+    array: &mut A,
+) {
+    if writer.write_all(b"arrayd: ready\n").is_err() {
+        array.close();
+        array.flush();
+        return;
+    }
+    console(alloc, reader, writer, array);
+}
+
+// Serves these units, behind this gate, at the portals that the words ask for.
 fn serve_units<
     N: Naming<Opened> + Send + Sync + 'static,
     B: Blocks + Drop + Send + Sync + 'static,
@@ -36,8 +169,6 @@ fn serve_units<
         + Drop
         + Send
         + 'static,
-    I: BufRead + Drop,
-    C: Write,
 >(
     rt: &R,
     alloc: Global,
@@ -45,9 +176,7 @@ fn serve_units<
     units: Vec<NewUnit<B, F, O>>,
     gate: G,
     log: &Log,
-    reader: I,
-    writer: &mut C,
-) -> Result<(), Fault>
+) -> Result<Served<B, F, O, N, G>, Fault>
     requires named { IsNamed N.book N.table N.opening B.contents units.items }
     requires count { length units.items ≤ MAX_UNITS }
 {
@@ -57,58 +186,11 @@ fn serve_units<
         count: options.portals,
     };
     let portals = portals::open(rt, alloc, ports, log)?;
-    let units = Units::<B, F, O, N>::new(rt, alloc, units)?;
-    let server = Server {
-        device: TargetDevice::new(alloc, Controllers::new(alloc, units)?, gate),
-        target_name: Vec::from_slice(alloc, options.target.as_bytes())?,
-        first: ports.of(Group::One).addresses(alloc)?,
-        second: ports.of(Group::Two).addresses(alloc)?,
-        log: log.share()?,
-    };
-    let Ok(server) = Arc::new(alloc, server) else {
-        return Err(Fault::NoMemory);
-    };
-    for group in [Group::One, Group::Two] {
-        let mut stacks = SmallStacks;
-        let started = start_lanes::<N, B, F, O, G, R, SmallStacks>(
-            rt,
-            alloc,
-            &server,
-            group,
-            &mut stacks,
-        );
-        if started.is_err() {
-            return Err(Fault::NoMemory);
-        }
-    }
-    for Portal { listener, group } in portals {
-        let loops = listen::<
-            R,
-            Controllers<B, F, O, N>,
-            G,
-            Pass<B, F, O, N>,
-            LegalHistory<B, F, O, N>,
-            SmallStacks,
-        >(rt, alloc, listener, &server, group, SmallStacks);
-        let Ok(loops) = loops else {
-            return Err(Fault::NoMemory);
-        };
-        drop(loops);
-    }
-    let mut watched = Watched {
-        rt,
-        controllers: &server.device.units,
-        log,
-    };
-    log.tell(rt, &Event::Ready);
-    // An output that fails counts as the end of the input.
-    if writer.write_all(b"arrayd: ready\n").is_err() {
-        watched.close();
-        watched.flush();
-        return Ok(());
-    }
-    console(alloc, reader, writer, &mut watched);
-    Ok(())
+    let found = found(alloc, options, ports, log)?;
+    let server = served::<N, B, F, O, G, R>(rt, alloc, found, units, gate)?;
+    start::<N, B, F, O, G, R>(rt, alloc, &server)?;
+    accept_at::<N, B, F, O, G, R>(rt, alloc, &server, portals)?;
+    Ok(server)
 }
 
 /// Tells the log of an array that ends for want of memory, or of a thread.
@@ -150,14 +232,24 @@ pub fn serve<
     requires count { length array.units.items ≤ MAX_UNITS }
 {
     let OpenArray { units, gate, locks } = array;
-    let served = serve_units::<N, B, F, O, G, R, I, C>(
-        rt, alloc, options, units, gate, log, reader, writer,
-    );
-    if let Err(fault) = served {
-        tell_want(rt, log, fault);
-    }
+    let ended = match serve_units::<N, B, F, O, G, R>(rt, alloc, options, units, gate, log) {
+        Ok(server) => {
+            log.tell(rt, &Event::Ready);
+            let mut watched = Watched {
+                rt,
+                controllers: &server.device.units,
+                log,
+            };
+            attend(alloc, reader, writer, &mut watched);
+            Ok(())
+        }
+        Err(fault) => {
+            tell_want(rt, log, fault);
+            Err(fault)
+        }
+    };
     event_log::close(rt, log);
     // They live as long as the array is served.
     drop(locks);
-    served
+    ended
 }

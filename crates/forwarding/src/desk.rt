@@ -6,6 +6,7 @@ ghost use Rattle.unit_entries.specs.Devices.{devices};
 
 use crate::job::{Answer, Job, Ticket, Waiting, prepare};
 use crate::queue::{NotQueued, Queue};
+use array_units::Units;
 use block_file::{Blocks, Opener};
 use crossbeam_utils::CachePadded;
 use numbering::Array;
@@ -15,7 +16,6 @@ use std::marker::Model;
 use std::sync::atomic::{AtomicBool, AtomicU64, Ordering};
 use std::sync::{Condvar, Mutex, Wait};
 use thiserror::Error;
-use array_units::Units;
 use unit_history::{Opened, Pass, Refused};
 
 /// Longer data is not copied for a desk: the worker that it came to serves its command at once, past those that wait.

@@ -4,15 +4,16 @@ ghost use Rattle.forwarding.specs.Served.{HasAnswered, handed, handed_of};
 ghost use Rattle.forwarding.specs.Jobs.{IsFor};
 ghost use Rattle.unit_entries.specs.Devices.{devices};
 
-use crate::names::Names;
+use crate::names::{are_of, named, serve_named};
+use array_units::Units;
 use block_file::{Blocks, Opener};
+use job_names::Names;
 use numbering::Array;
 use scsi_types::{Asked, Group, NoMemory, Reply};
 use std::alloc::Global;
 use std::marker::Model;
 use std::mem;
 use std::sync::{Arc, Condvar, Mutex, Wait};
-use array_units::Units;
 use unit_history::{LegalHistory, Opened, Pass, Refused};
 
 // What a command came to. It keeps what the job's pass had seen, and that the pass has since seen what the reply or the refusal
@@ -154,9 +155,9 @@ impl<B: Blocks, R: Blocks, O: Opener<B>, N: Array<Opened>> Job<B, R, O, N> {
             bytes,
             slot,
         } = waiting;
-        let names = Names::of(&pass, &asked, by_group);
+        let names = named(&pass, &asked, by_group);
         let before = pass.history();
-        let (pass, end) = names.serve(rt, alloc, units, pass, bytes.as_slice());
+        let (pass, end) = serve_named(&names, rt, alloc, units, pass, bytes.as_slice());
         Answer {
             ended: Ended {
                 names,
@@ -243,7 +244,7 @@ impl<'a, B: Blocks, R: Blocks, O: Opener<B>, N: Array<Opened>> Ticket<'a, B, R, 
         ensures { MatchBool result
             (handed_of pass.now self.now.names.asked self.now.data_in self.now.names.by_group ≡ self.now) (Unit {0}) }
     {
-        self.names.is_of(pass) && pass.history().is_same(&self.seen)
+        are_of(&self.names, pass) && pass.history().is_same(&self.seen)
     }
 
     /// Whether its answer is there.
@@ -266,7 +267,7 @@ impl<'a, B: Blocks, R: Blocks, O: Opener<B>, N: Array<Opened>> Ticket<'a, B, R, 
         ensures end { HasAnswered (devices B.Blocks R.Blocks O.Opener) (N.opening self.entry.names.place) self.entry
             result.0.pass result.1 }
     {
-        self.names.serve(rt, alloc, units, pass, self.bytes)
+        serve_named(&self.names, rt, alloc, units, pass, self.bytes)
     }
 
     // Its answer, once it is there. Another's is left where it is.
@@ -316,7 +317,7 @@ pub(crate) fn prepare<'a, B: Blocks, R: Blocks, O: Opener<B>, N: Array<Opened>>(
         return Err(pass);
     };
     let ticket = Ticket {
-        names: Names::of(&pass, asked, by_group),
+        names: named(&pass, asked, by_group),
         bytes,
         seen: pass.history(),
         slot: mine,

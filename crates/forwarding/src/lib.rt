@@ -9,5 +9,5 @@ mod queue;
 
 pub use desk::{Desk, DeskFault, LANES, LONGEST_COPY};
 pub use job::{Answer, Job, Ticket};
-pub use names::Names;
+pub use job_names::Names;
 pub use queue::{MOST_JOBS, NotQueued, Queue};
