@@ -1,5 +1,5 @@
 //! Tests of the session over its public calls: each table has rows of PDUs that come, and of PDUs that go out. Those of a
-//! login and of PDUs by themselves stand beside them, in `negotiation` and `pdus`.
+//! login and of PDUs by themselves stand beside them, in `negotiation` and `pdus`; those of `--once`, whose target is a unit, in `once`.
 #![tactic(auto)]
 
 #[cfg(test)]
@@ -48,6 +48,8 @@ mod negotiated_writes;
 mod negotiation;
 #[cfg(test)]
 mod nop;
+#[cfg(test)]
+mod once;
 #[cfg(test)]
 mod open_iscsi;
 #[cfg(test)]

@@ -1,0 +1,11 @@
+//! Scripts of PERSISTENT RESERVE OUT, as lines of text, and what each step must leave.
+
+mod accesses;
+mod actions;
+mod data_bytes;
+mod every_port;
+mod full;
+mod model;
+mod row;
+mod run;
+mod scripts;
