@@ -8,7 +8,7 @@ use crate::portals::{self, Portal, Ports};
 use array_units::Units;
 use block_file::{Blocks, Opener};
 use command_line::{Fault, MAX_UNITS, Options};
-use console::{Array, Watched, console};
+use console::{Operated, Operations, console};
 use event_log::{Event, Log, Resource};
 use numbering::Array as Naming;
 use portal::{Controllers, Gate, Server, SmallStacks, TargetDevice, listen, start_lanes};
@@ -140,7 +140,7 @@ fn accept_at<
 }
 
 // Says that all portals listen, and obeys the console until it ends. An output that fails counts as the end of the input.
-fn attend<A: Array, I: BufRead + Drop, C: Write>(
+fn attend<A: Operations, I: BufRead + Drop, C: Write>(
     alloc: Global,
     reader: I,
     writer: &mut C,
@@ -235,12 +235,12 @@ pub fn serve<
     let ended = match serve_units::<N, B, F, O, G, R>(rt, alloc, options, units, gate, log) {
         Ok(server) => {
             log.tell(rt, &Event::Ready);
-            let mut watched = Watched {
+            let mut operated = Operated {
                 rt,
                 controllers: &server.device.units,
                 log,
             };
-            attend(alloc, reader, writer, &mut watched);
+            attend(alloc, reader, writer, &mut operated);
             Ok(())
         }
         Err(fault) => {
