@@ -24,7 +24,8 @@ use unit_history::{LegalHistory, NewUnit, Opened, Pass};
 /// What the portals serve.
 type Served<B, F, O, N, G> = Arc<Server<Controllers<B, F, O, N>, G>, Global>;
 
-// By what hosts find the array: the target's name, and where each controller's portals listen.
+// By what hosts find the array: the target's name, and where each controller's portals listen; and the log that is told.
+#[derive(Drop)]
 struct Found {
     target_name: Vec<u8>,
     first: Vec<SocketAddrV4>,
