@@ -34,7 +34,7 @@ struct Found {
 }
 
 // The same, as the words ask for it, with a log of its own.
-fn found(alloc: Global, options: &Options<'_>, ports: Ports, log: &Log) -> Result<Found, Fault> {
+fn found_by(alloc: Global, options: &Options<'_>, ports: Ports, log: &Log) -> Result<Found, Fault> {
     let target_name = Vec::from_slice(alloc, options.target.as_bytes())?;
     let first = ports.of(Group::One).addresses(alloc)?;
     let second = ports.of(Group::Two).addresses(alloc)?;
@@ -47,7 +47,7 @@ fn found(alloc: Global, options: &Options<'_>, ports: Ports, log: &Log) -> Resul
 }
 
 // These units behind this gate, as hosts find them.
-fn served<
+fn server_of<
     N: Naming<Opened>,
     B: Blocks + Drop,
     F: Blocks + Drop,
@@ -187,8 +187,8 @@ fn serve_units<
         count: options.portals,
     };
     let portals = portals::open(rt, alloc, ports, log)?;
-    let found = found(alloc, options, ports, log)?;
-    let server = served::<N, B, F, O, G, R>(rt, alloc, found, units, gate)?;
+    let found = found_by(alloc, options, ports, log)?;
+    let server = server_of::<N, B, F, O, G, R>(rt, alloc, found, units, gate)?;
     start::<N, B, F, O, G, R>(rt, alloc, &server)?;
     accept_at::<N, B, F, O, G, R>(rt, alloc, &server, portals)?;
     Ok(server)
