@@ -1,6 +1,6 @@
 //! Files of a test, and runs of blocks, each told by the byte that fills it.
 use block_file::Blocks;
-use disk_files::{Disk, open_disk};
+use disk_files::{BackingFile, Disk, FileBlocks, open_disk};
 use std::alloc::Global;
 use std::fs::{File, Files};
 use std::test::Fail;
@@ -9,6 +9,14 @@ use std::{fs, io, process};
 /// Fails, unless this holds.
 pub fn want(holds: bool, what: &'static str) -> Result<(), Fail> {
     if holds { Ok(()) } else { Err(what.into()) }
+}
+
+/// Fails at the first of these that does not hold.
+pub fn want_all(steps: &[(&'static str, bool)]) -> Result<(), Fail> {
+    for (what, holds) in steps {
+        want(*holds, what)?;
+    }
+    Ok(())
 }
 
 // The folder of a test, made anew.
@@ -41,6 +49,19 @@ pub fn made(rt: &HostRuntime, name: &str, bytes: u64) -> Result<String, Fail> {
     let path = disk(rt, name)?;
     make(rt, path.as_str(), bytes)?;
     Ok(path)
+}
+
+/// How many bytes a file has.
+pub fn length(rt: HostRuntime, path: &str) -> Result<usize, Fail> {
+    Ok(fs::read(&rt, path)?.len())
+}
+
+/// The device of a file.
+pub fn device_of<F: BackingFile>(file: F) -> Result<FileBlocks<F>, Fail> {
+    match FileBlocks::of(file) {
+        Ok(device) => Ok(device),
+        Err(_) => Err("a device".into()),
+    }
 }
 
 /// Opens a disk.

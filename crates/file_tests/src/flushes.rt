@@ -1,16 +1,16 @@
 //! Flushes after one that failed.
 ghost use Rattle.std.specs.Prelude.{[], false, refl};
 
-use crate::files::{want, writes};
+use crate::files::{device_of, want, writes};
 use block_file::Blocks;
 use disk_files::{BackingFile, FileBlocks, FlushFault, Flushes, LastingFile};
 use std::alloc::Global;
 use std::cell::Cell;
 use std::fs::File;
-use std::sync::{Arc, Mutex};
+use std::sync::{Arc, Mutex, Wait};
 use std::test::Fail;
 use std::thread;
-use std::thread::join;
+use std::thread::{Threads, join};
 use std::time::Duration;
 
 /// The error of its flush that fails, as a system numbers EIO.
@@ -85,128 +85,178 @@ impl LastingFile for Flushed {
     }
 }
 
-// A device of that file.
-fn device(fails_at: Option<u32>) -> Result<FileBlocks<Flushed>, Fail> {
-    match FileBlocks::of(Flushed::new(fails_at)) {
-        Ok(device) => Ok(device),
-        Err(_) => Err("a device".into()),
+/// What is done to a device of that file, and how it ends.
+#[derive(Clone, Copy)]
+enum Call {
+    /// A flush of the device is done, or not.
+    Flush(bool),
+    /// One beside it ends so.
+    Beside(Result<(), FlushFault>),
+    /// A block of this byte is written.
+    Write(u8),
+    /// It is opened anew. The flushes of the new handle would all be done.
+    Open,
+}
+
+/// What a call is to show, and the call.
+type Row = (&'static str, Call);
+
+fn ends_so(
+    rt: &impl Wait,
+    device: &mut FileBlocks<Flushed>,
+    beside: &Flushes<Flushed>,
+    call: &Call,
+) -> bool {
+    match call {
+        Call::Flush(is_done) => device.flush().is_ok() == *is_done,
+        Call::Beside(end) => beside.flush(rt) == *end,
+        Call::Write(byte) => writes(device, 1, &[*byte]),
+        Call::Open => device.renew(Flushed::new(None)).is_ok(),
     }
 }
 
-fn flushes(device: &mut FileBlocks<Flushed>) -> bool {
-    device.flush().is_ok()
-}
-
-#[test]
-fn no_flush_makes_good_one_that_failed(_rt: HostRuntime) -> Result<(), Fail> {
-    let mut device = device(Some(1))?;
+fn run(
+    rt: &impl Wait,
+    device: &mut FileBlocks<Flushed>,
+    beside: &Flushes<Flushed>,
+    rows: &[Row],
+) -> Result<(), Fail> {
     want(device.count() == 4, "four blocks")?;
-    want(flushes(&mut device), "the first flush")?;
-    for _ in 0..3 {
-        want(!flushes(&mut device), "a flush from the second on")?;
+    for (what, call) in rows {
+        want(ends_so(rt, device, beside, call), what)?;
     }
     Ok(())
 }
 
-// The flushes of the new handle would all be done.
-#[test]
-fn nor_does_one_behind_an_open(_rt: HostRuntime) -> Result<(), Fail> {
-    is_renewed(&mut device(None)?, true)?;
-    is_renewed(&mut device(Some(0))?, false)
-}
-
-fn is_renewed(device: &mut FileBlocks<Flushed>, is_done: bool) -> Result<(), Fail> {
-    want(flushes(device) == is_done, "the first flush")?;
-    for _ in 0..2 {
-        want(device.renew(Flushed::new(None)).is_ok(), "an open")?;
-        want(flushes(device) == is_done, "a flush behind it")?;
-    }
-    Ok(())
+// A device of that file; the flushes beside it have no handle.
+fn run_alone(
+    rt: &impl Wait,
+    alloc: Global,
+    fails_at: Option<u32>,
+    rows: &[Row],
+) -> Result<(), Fail> {
+    let mut device = device_of(Flushed::new(fails_at))?;
+    run(rt, &mut device, &Flushes::new(0, Vec::new(alloc)), rows)
 }
 
 // A device of that file, and flushes beside it by two handles, of which each fails at this one of its flushes.
-fn prepared(
+fn run_beside(
+    rt: &impl Wait,
     alloc: Global,
     fails_at: Option<u32>,
     beside: Option<u32>,
-) -> Result<(FileBlocks<Flushed>, Arc<Flushes<Flushed>, Global>), Fail> {
-    let mut device = device(fails_at)?;
+    rows: &[Row],
+) -> Result<(), Fail> {
+    let mut device = device_of(Flushed::new(fails_at))?;
+    let flushes = shared(alloc, &mut device, beside)?;
+    run(rt, &mut device, &flushes, rows)
+}
+
+fn shared(
+    alloc: Global,
+    device: &mut FileBlocks<Flushed>,
+    fails_at: Option<u32>,
+) -> Result<Arc<Flushes<Flushed>, Global>, Fail> {
+    let flushes = Arc::new(alloc, Flushes::new(0, two(alloc, fails_at)?))?;
+    device.share(Arc::try_clone(&flushes)?);
+    Ok(flushes)
+}
+
+fn two(alloc: Global, fails_at: Option<u32>) -> Result<Vec<Mutex<Flushed>>, Fail> {
     let mut handles = Vec::new(alloc);
     for _ in 0..2 {
-        handles.push(Mutex::new(Flushed::new(beside)))?;
+        handles.push(Mutex::new(Flushed::new(fails_at)))?;
     }
-    let flushes = Arc::new(alloc, Flushes::new(0, handles))?;
-    device.share(Arc::try_clone(&flushes)?);
-    Ok((device, flushes))
+    Ok(handles)
+}
+
+#[test]
+fn no_flush_makes_good_one_that_failed(rt: HostRuntime) -> Result<(), Fail> {
+    let rows = [
+        ("the first flush", Call::Flush(true)),
+        ("the second flush", Call::Flush(false)),
+        ("the third flush", Call::Flush(false)),
+        ("the fourth flush", Call::Flush(false)),
+    ];
+    run_alone(&rt, rt.alloc(), Some(1), &rows)
+}
+
+#[test]
+fn nor_does_one_behind_an_open(rt: HostRuntime) -> Result<(), Fail> {
+    run_alone(&rt, rt.alloc(), None, &is_renewed(true))?;
+    run_alone(&rt, rt.alloc(), Some(0), &is_renewed(false))
+}
+
+fn is_renewed(is_done: bool) -> [Row; 5] {
+    [
+        ("the first flush", Call::Flush(is_done)),
+        ("an open", Call::Open),
+        ("a flush behind it", Call::Flush(is_done)),
+        ("a second open", Call::Open),
+        ("a flush behind that", Call::Flush(is_done)),
+    ]
 }
 
 // All other flushes would be done.
 #[test]
 fn a_flush_beside_the_device_that_failed_is_told(rt: HostRuntime) -> Result<(), Fail> {
-    let (mut device, beside) = prepared(rt.alloc(), None, Some(1))?;
-    let failed = Err(FlushFault::Failed(FAILED));
-    let steps = [
-        flushes(&mut device),
-        // One by each handle, and then a second one.
-        beside.flush(&rt) == Ok(()),
-        writes(&mut device, 1, &[0x11]),
-        beside.flush(&rt) == Ok(()),
-        writes(&mut device, 1, &[0x12]),
-        beside.flush(&rt) == failed,
-        beside.flush(&rt) == Err(FlushFault::Lost),
+    let rows = [
+        ("a flush", Call::Flush(true)),
+        ("one by the first handle", Call::Beside(Ok(()))),
+        ("a write", Call::Write(0x11)),
+        ("one by the second", Call::Beside(Ok(()))),
+        ("a second write", Call::Write(0x12)),
+        (
+            "a second one by the first",
+            Call::Beside(Err(FlushFault::Failed(FAILED))),
+        ),
+        (
+            "one behind one that failed",
+            Call::Beside(Err(FlushFault::Lost)),
+        ),
+        ("a flush behind one that failed", Call::Flush(false)),
+        ("a second flush behind it", Call::Flush(false)),
     ];
-    want(steps == [true; 7], "two that are done, and one that fails")?;
-    for _ in 0..2 {
-        want(!flushes(&mut device), "a flush behind one that failed")?;
-    }
-    Ok(())
+    run_beside(&rt, rt.alloc(), None, Some(1), &rows)
 }
 
 // The flushes beside it would all be done.
 #[test]
 fn a_flush_of_the_device_that_failed_is_told_beside_it(rt: HostRuntime) -> Result<(), Fail> {
-    let (mut device, beside) = prepared(rt.alloc(), Some(0), None)?;
-    want(!flushes(&mut device), "a flush of the device that fails")?;
-    for _ in 0..2 {
-        want(
-            beside.flush(&rt) == Err(FlushFault::Lost),
-            "a flush beside it",
-        )?;
-    }
-    Ok(())
+    let rows = [
+        ("a flush of the device that fails", Call::Flush(false)),
+        ("a flush beside it", Call::Beside(Err(FlushFault::Lost))),
+        ("a second one", Call::Beside(Err(FlushFault::Lost))),
+    ];
+    run_beside(&rt, rt.alloc(), Some(0), None, &rows)
 }
 
 #[test]
 fn without_a_handle_no_flush_is_done(rt: HostRuntime) -> Result<(), Fail> {
-    let flushes: Flushes<Flushed> = Flushes::new(0, Vec::new(rt.alloc()));
-    want(
-        flushes.flush(&rt) == Err(FlushFault::Lost),
-        "a flush without a handle",
-    )
+    let lost = Call::Beside(Err(FlushFault::Lost));
+    run_alone(&rt, rt.alloc(), None, &[("a flush without a handle", lost)])
 }
 
 // The flushes of the device itself would all fail.
 #[test]
 fn a_flush_beside_the_device_is_enough_until_a_write_ends(rt: HostRuntime) -> Result<(), Fail> {
-    let (mut device, beside) = prepared(rt.alloc(), Some(0), None)?;
-    want(beside.flush(&rt) == Ok(()), "a flush beside it")?;
-    for _ in 0..2 {
-        want(flushes(&mut device), "a flush behind that")?;
-    }
-    want(writes(&mut device, 1, &[0x11]), "a write")?;
-    want(!flushes(&mut device), "a flush behind a write")
+    let rows = [
+        ("a flush beside it", Call::Beside(Ok(()))),
+        ("a flush behind that", Call::Flush(true)),
+        ("a second flush behind that", Call::Flush(true)),
+        ("a write", Call::Write(0x11)),
+        ("a flush behind a write", Call::Flush(false)),
+    ];
+    run_beside(&rt, rt.alloc(), Some(0), None, &rows)
 }
 
 // The system cannot flush the null device, and says so; so a flush is one call of the system.
 #[test]
 fn a_flush_of_a_file_is_one_of_the_system(rt: HostRuntime) -> Result<(), Fail> {
-    let Ok(null) = File::options()
+    let null = File::options()
         .read(true)
         .write(true)
-        .open(&rt, "/dev/null")
-    else {
-        return Err("the null device".into());
-    };
+        .open(&rt, "/dev/null")?;
     want(
         null.make_last(0) == Err(NOT_FLUSHED),
         "a flush of the null device",
@@ -218,9 +268,19 @@ fn a_flush_of_a_file_is_one_of_the_system(rt: HostRuntime) -> Result<(), Fail> {
 fn who_waits_behind_a_flush_that_fails_is_told(rt: HostRuntime) -> Result<(), Fail> {
     let mut file = Flushed::new(Some(0));
     file.clock = Some(rt);
-    let mut handles = Vec::new(rt.alloc());
+    both_are_told(&rt, &by_one(rt.alloc(), file)?)
+}
+
+fn by_one(alloc: Global, file: Flushed) -> Result<Flushes<Flushed>, Fail> {
+    let mut handles = Vec::new(alloc);
     handles.push(Mutex::new(file))?;
-    let flushes = Flushes::new(0, handles);
-    let (one, other) = join(&rt, || flushes.flush(&rt), || flushes.flush(&rt));
+    Ok(Flushes::new(0, handles))
+}
+
+fn both_are_told(
+    rt: &(impl Threads + Wait + Sync),
+    flushes: &Flushes<Flushed>,
+) -> Result<(), Fail> {
+    let (one, other) = join(rt, || flushes.flush(rt), || flushes.flush(rt));
     want(one.is_err() && other.is_err(), "both are told")
 }

@@ -2,53 +2,46 @@
 use crate::files::{disk, make, want};
 use block_file::Blocks;
 use disk_files::{FileBlocks, FileFault, blocks_in};
-use std::alloc::Global;
 use std::test::Fail;
 
-/// Lengths in bytes, and how many blocks there are or why not.
-const ROWS: &str = "
-0 Err(Empty)
-1 Err(Length)
-511 Err(Length)
-512 Ok(1)
-513 Err(Length)
-1048576 Ok(2048)
-";
+/// A length in bytes, and how many blocks there are or why not.
+type Row = (u64, Result<u32, FileFault>);
+
+const ROWS: [Row; 6] = [
+    (0, Err(FileFault::Empty)),
+    (1, Err(FileFault::Length)),
+    (511, Err(FileFault::Length)),
+    (512, Ok(1)),
+    (513, Err(FileFault::Length)),
+    (1048576, Ok(2048)),
+];
 
 /// Lengths that no file of a test has.
-const LONG_ROWS: &str = "
-2199023255040 Ok(4294967295)
-2199023255551 Err(Length)
-2199023255552 Err(TooLong)
-";
-
-// The length of a row, and what it says.
-fn row(line: &str) -> Result<(u64, &str), Fail> {
-    let (bytes, want) = line.split_once(' ').ok_or("a row of two words")?;
-    Ok((bytes.parse()?, want))
-}
+const LONG_ROWS: [Row; 3] = [
+    (2199023255040, Ok(4294967295)),
+    (2199023255551, Err(FileFault::Length)),
+    (2199023255552, Err(FileFault::TooLong)),
+];
 
 // Compares what is found with what a row says.
-fn compare(alloc: Global, found: Result<u32, FileFault>, want: &str) -> Result<(), Fail> {
-    let found = format!(in alloc; "{found:?}")?;
-    if found.as_str() != want {
-        return Err(Fail::new(format_args!("{found}, not {want}")));
+fn compare(found: Result<u32, FileFault>, row: &Row) -> Result<(), Fail> {
+    if found != row.1 {
+        return Err(Fail::new(format_args!("{found:?}, not {row:?}")));
     }
     Ok(())
 }
 
-fn has_its_blocks(alloc: Global, rows: &str) -> Result<(), Fail> {
-    for line in rows.trim().lines() {
-        let (bytes, want) = row(line)?;
-        compare(alloc, blocks_in(bytes), want)?;
+fn has_its_blocks(rows: &[Row]) -> Result<(), Fail> {
+    for row in rows {
+        compare(blocks_in(row.0), row)?;
     }
     Ok(())
 }
 
 #[test]
-fn each_length_has_its_blocks(rt: HostRuntime) -> Result<(), Fail> {
-    has_its_blocks(rt.alloc(), ROWS)?;
-    has_its_blocks(rt.alloc(), LONG_ROWS)
+fn each_length_has_its_blocks(_rt: HostRuntime) -> Result<(), Fail> {
+    has_its_blocks(&ROWS)?;
+    has_its_blocks(&LONG_ROWS)
 }
 
 // How many blocks the device of a file has.
@@ -66,10 +59,9 @@ fn each_file_has_its_blocks(rt: HostRuntime) -> Result<(), Fail> {
 }
 
 fn each_is_made(rt: HostRuntime, path: &str) -> Result<(), Fail> {
-    for line in ROWS.trim().lines() {
-        let (bytes, want) = row(line)?;
-        make(&rt, path, bytes)?;
-        compare(rt.alloc(), count(rt, path), want)?;
+    for row in &ROWS {
+        make(&rt, path, row.0)?;
+        compare(count(rt, path), row)?;
     }
     Ok(())
 }

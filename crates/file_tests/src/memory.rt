@@ -5,8 +5,8 @@ ghost use Rattle.block_file.specs.Cut.{run_of};
 ghost use Rattle.block_file.specs.Disk.{block_at};
 ghost use Rattle.disk_files.specs.Backing.{put};
 
-use crate::disks::{lie_in_turn, read_them, write_three};
-use crate::files::want;
+use crate::disks::{flush_three, lie_in_turn, read_them, write_three};
+use crate::files::{device_of, want};
 use block_file::Blocks;
 use disk_files::{BackingFile, FileBlocks};
 use std::alloc::{AllocError, Global};
@@ -111,20 +111,16 @@ pub fn device(alloc: Global, blocks: usize) -> Result<FileBlocks<MemFile>, Fail>
     device_of(MemFile::new(alloc, blocks.saturating_mul(512))?)
 }
 
-/// The device of this file.
-pub fn device_of(file: MemFile) -> Result<FileBlocks<MemFile>, Fail> {
-    match FileBlocks::of(file) {
-        Ok(device) => Ok(device),
-        Err(_) => Err("a device".into()),
-    }
-}
-
 #[test]
 fn blocks_lie_at_their_places(rt: HostRuntime) -> Result<(), Fail> {
     let mut blocks = device(rt.alloc(), 4)?;
-    write_three(&mut blocks)?;
-    read_them(&mut blocks)?;
+    write_and_read(&mut blocks)?;
     lie_in_turn(blocks.into_file().bytes())
+}
+
+fn write_and_read<B: Blocks>(blocks: &mut B) -> Result<(), Fail> {
+    write_three(blocks)?;
+    read_them(blocks)
 }
 
 #[test]
@@ -141,7 +137,6 @@ fn a_crash_takes_back_what_was_not_flushed(rt: HostRuntime) -> Result<(), Fail> 
 #[test]
 fn a_crash_leaves_what_was_flushed(rt: HostRuntime) -> Result<(), Fail> {
     let mut blocks = device(rt.alloc(), 4)?;
-    write_three(&mut blocks)?;
-    want(blocks.flush().is_ok(), "a flush")?;
+    flush_three(&mut blocks)?;
     lie_in_turn(blocks.into_file().crash().bytes())
 }

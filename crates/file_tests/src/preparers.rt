@@ -3,6 +3,9 @@ use crate::files::{beside, disk, make, opened, reads, want, writes};
 use block_file::Blocks;
 use disk_files::FilePreparer;
 use preparer::Preparer;
+use std::fs::File;
+use std::rt::{Clock, Files};
+use std::sync::Wait;
 use std::test::Fail;
 
 // What stands behind the path of the disk in the name that the preparer opens, and whether that is the disk's: or that of another
@@ -15,24 +18,50 @@ const RUNS: [(u64, u16); 5] = [(0, 4), (1, 1), (3, 2048), (8, 1), (u64::MAX, 655
 #[test]
 fn a_preparer_costs_time_alone(rt: HostRuntime) -> Result<(), Fail> {
     let path = disk(&rt, "preparers")?;
-    let other = beside(rt.alloc(), path.as_str(), "_other")?;
+    under_each_name(rt, rt, path.as_str())
+}
+
+fn under_each_name<R: Clock + Wait + Files<File = File> + Copy + Drop>(
+    rt: HostRuntime,
+    waits: R,
+    path: &str,
+) -> Result<(), Fail> {
+    let other = beside(rt.alloc(), path, "_other")?;
     make(&rt, other.as_str(), 2048)?;
-    for (name, is_own) in &NAMES {
-        let name = beside(rt.alloc(), path.as_str(), name)?;
-        make(&rt, path.as_str(), 2048)?;
-        let mut blocks = opened(rt, path.as_str())?.blocks;
-        let preparer = FilePreparer::open(rt, rt.alloc(), name.as_str(), &mut blocks, None);
-        want(preparer.flushes() == *is_own, "whether it flushes")?;
-        want(preparer.flush() == *is_own, "a flush of its own")?;
-        is_as_ever(&mut blocks, &preparer)?;
-        make(&rt, path.as_str(), 512)?;
-        prepare(&preparer);
-        want(
-            !reads(&mut blocks, 0, &[1, 2, 3, 4]),
-            "a read behind the end",
-        )?;
+    for (end, is_own) in &NAMES {
+        let name = beside(rt.alloc(), path, end)?;
+        under_a_name(rt, waits, path, name.as_str(), *is_own)?;
     }
     Ok(())
+}
+
+// The preparer of a disk opens this name.
+fn under_a_name<R: Clock + Wait + Files<File = File> + Drop>(
+    rt: HostRuntime,
+    waits: R,
+    path: &str,
+    name: &str,
+    is_own: bool,
+) -> Result<(), Fail> {
+    make(&rt, path, 2048)?;
+    let mut blocks = opened(rt, path)?.blocks;
+    let preparer = FilePreparer::open(waits, rt.alloc(), name, &mut blocks, None);
+    want(preparer.flushes() == is_own, "whether it flushes")?;
+    costs_time_alone(rt, path, is_own, &mut blocks, &preparer)
+}
+
+fn costs_time_alone<B: Blocks>(
+    rt: HostRuntime,
+    path: &str,
+    is_own: bool,
+    blocks: &mut B,
+    preparer: &impl Preparer,
+) -> Result<(), Fail> {
+    want(preparer.flush() == is_own, "a flush of its own")?;
+    is_as_ever(blocks, preparer)?;
+    make(&rt, path, 512)?;
+    prepare(preparer);
+    want(!reads(blocks, 0, &[1, 2, 3, 4]), "a read behind the end")
 }
 
 // The disk's device does what it does without a preparer.

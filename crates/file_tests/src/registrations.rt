@@ -1,11 +1,12 @@
 //! The registration file beside a disk.
 use crate::files::{beside, disk, want};
-use aptpl_file::OpenFault;
-use disk_files::{FileFault, RegistrationsFault, open_registrations};
+use aptpl_file::{OpenFault, RegFile};
+use disk_files::{FileBlocks, FileFault, RegistrationsFault, open_registrations};
 use reservations::{PrOut, Record, Registry};
 use scsi_types::{Group, NoMemory, PortName, PrOutAction};
 use std::alloc::Global;
 use std::fs;
+use std::fs::File;
 use std::test::Fail;
 
 /// The record of one nexus with this key.
@@ -27,29 +28,18 @@ fn record_of(alloc: Global, key: u64) -> Result<Record, NoMemory> {
     registry.record()
 }
 
-/// The keys of a record.
-fn keys_of(alloc: Global, record: &Record) -> Result<Vec<u64>, Fail> {
-    let mut keys = Vec::new(alloc);
-    for registrant in record.registrants() {
-        keys.push(registrant.key)?;
-    }
-    Ok(keys)
-}
-
 #[test]
 fn a_saved_record_is_there_after_a_restart(rt: HostRuntime) -> Result<(), Fail> {
     let path = disk(&rt, "saved")?;
-    is_saved(rt, path.as_str(), None, 0x11)?;
-    is_saved(rt, path.as_str(), Some(0x11), 0x22)?;
-    is_saved(rt, path.as_str(), Some(0x22), 0x33)?;
-    want(
-        length(rt, path.as_str(), ".reg")? == Some(67 * 512),
-        "the file",
-    )?;
-    want(
-        length(rt, path.as_str(), ".reg.new")? == None,
-        "no other file",
-    )
+    are_saved(rt, path.as_str())
+}
+
+fn are_saved(rt: HostRuntime, path: &str) -> Result<(), Fail> {
+    is_saved(rt, path, None, 0x11)?;
+    is_saved(rt, path, Some(0x11), 0x22)?;
+    is_saved(rt, path, Some(0x22), 0x33)?;
+    want(length(rt, path, ".reg")? == Some(67 * 512), "the file")?;
+    want(length(rt, path, ".reg.new")?.is_none(), "no other file")
 }
 
 // The length of a file beside a disk, if it is there.
@@ -66,23 +56,34 @@ fn is_saved(rt: HostRuntime, path: &str, found: Option<u64>, key: u64) -> Result
     let Ok((mut file, record)) = open_registrations(&rt, rt.alloc(), path, None) else {
         return Err("a registration file".into());
     };
-    is_found(rt.alloc(), &record, found)?;
-    let record = record_of(rt.alloc(), key)?;
-    want(file.save(&record.lasting()).is_ok(), "a save")
+    is_found(&record, found)?;
+    saves(rt.alloc(), &mut file, key)
 }
 
-fn is_found(alloc: Global, record: &Record, found: Option<u64>) -> Result<(), Fail> {
+fn is_found(record: &Record, found: Option<u64>) -> Result<(), Fail> {
     want(record.aptpl() == found.is_some(), "APTPL")?;
-    let keys = keys_of(alloc, record)?;
-    want(keys.first().copied() == found, "the key")
+    let key = match record.registrants().first() {
+        Some(registrant) => Some(registrant.key),
+        None => None,
+    };
+    want(key == found, "the key")
+}
+
+fn saves(alloc: Global, file: &mut RegFile<FileBlocks<File>>, key: u64) -> Result<(), Fail> {
+    let record = record_of(alloc, key)?;
+    want(file.save(&record.lasting()).is_ok(), "a save")
 }
 
 #[test]
 fn what_a_stop_left_of_a_file_is_made_anew(rt: HostRuntime) -> Result<(), Fail> {
     let path = disk(&rt, "left")?;
-    put(rt, path.as_str(), ".reg.new", b"half of it")?;
-    want(fault(rt, path.as_str()) == None, "an open")?;
-    want(length(rt, path.as_str(), ".reg.new")? == None, "it is gone")
+    is_made_anew(rt, path.as_str())
+}
+
+fn is_made_anew(rt: HostRuntime, path: &str) -> Result<(), Fail> {
+    put(rt, path, ".reg.new", b"half of it")?;
+    want(fault(rt, path).is_none(), "an open")?;
+    want(length(rt, path, ".reg.new")?.is_none(), "it is gone")
 }
 
 // Writes a file beside a disk.

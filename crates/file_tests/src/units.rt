@@ -4,8 +4,8 @@ ghost use Rattle.aptpl_file.specs.Formatting.{nothing};
 ghost use Rattle.aptpl_file.specs.Lasts.{LastsAmong};
 ghost use Rattle.block_file.specs.Disk.{Only};
 
-use crate::files::want;
-use crate::memory::{MemFile, device, device_of};
+use crate::files::{device_of, want};
+use crate::memory::{MemFile, device};
 use aptpl_file::{FILE_BLOCKS, RegFile};
 use block_file::{Blocks, DeviceFailed, KeepOpener};
 use disk_files::FileBlocks;
@@ -65,8 +65,18 @@ fn registrations(alloc: Global) -> Result<RegFile<FileBlocks<MemFile>>, Fail>
 }
 
 fn opened(alloc: Global) -> Result<MemUnit, Fail> {
-    let file = registrations(alloc)?;
-    let blocks = device(alloc, BLOCKS)?;
+    over(alloc, registrations(alloc)?, device(alloc, BLOCKS)?)
+}
+
+// A unit over this registration file and these blocks.
+fn over(
+    alloc: Global,
+    file: RegFile<FileBlocks<MemFile>>,
+    blocks: FileBlocks<MemFile>,
+) -> Result<MemUnit, Fail>
+    requires { LastsAmong (⟦<FileBlocks<MemFile> as Blocks>⟧.size)
+        (⟦<FileBlocks<MemFile> as Blocks>⟧.may_hold) file (nothing ∷ []) }
+{
     if blocks.count() == 0 {
         return Err("a device of no block".into());
     }
