@@ -294,9 +294,15 @@ fn read_hexadecimal(text: &str) -> Result<u32, RowError> {
 fn command_answer(alloc: Global, text: &str) -> Result<Answer<'_>, RowError> {
     let (word, rest) = text.split_once(' ').unwrap_or((text, ""));
     match word {
-        "good" => good_answer(alloc, rest),
-        "in-turn" => in_turn_answer(alloc, rest),
-        "check" => check_answer(alloc, rest),
+        "good" => {
+            spells(alloc, rest)?;
+            Ok(Answer::Good(rest))
+        }
+        "in-turn" => {
+            each_spells(alloc, rest)?;
+            Ok(Answer::InTurn(rest))
+        }
+        "check" => check_answer(&bytes_of(alloc, TEXTS, rest)?),
         "busy" if rest.is_empty() => Ok(Answer::Busy),
         "gone" if rest.is_empty() => Ok(Answer::Gone),
         _ => Err(RowError::Word),
@@ -309,21 +315,16 @@ fn spells(alloc: Global, text: &str) -> Result<(), RowError> {
     Ok(())
 }
 
-fn good_answer(alloc: Global, text: &str) -> Result<Answer<'_>, RowError> {
-    spells(alloc, text)?;
-    Ok(Answer::Good(text))
-}
-
-fn in_turn_answer(alloc: Global, texts: &str) -> Result<Answer<'_>, RowError> {
+// The same of each of these texts, with `|` between.
+fn each_spells(alloc: Global, texts: &str) -> Result<(), RowError> {
     for text in texts.split('|') {
         spells(alloc, text)?;
     }
-    Ok(Answer::InTurn(texts))
+    Ok(())
 }
 
-fn check_answer(alloc: Global, text: &str) -> Result<Answer<'static>, RowError> {
-    let sense = bytes_of(alloc, TEXTS, text)?;
-    match sense.as_slice() {
+fn check_answer(sense: &[u8]) -> Result<Answer<'static>, RowError> {
+    match sense {
         [key, code, qualifier] => Ok(Answer::Check(*key, *code, *qualifier)),
         _ => Err(RowError::Digits),
     }

@@ -159,10 +159,8 @@ pub fn run_reads(rt: &impl Abort, alloc: Global, row: &Row<'_>, reads: Calls) {
 
 // What a session that was served whole did otherwise than its row says.
 fn differs(ran: &Ran, row: &Row<'_>) -> Option<&'static str> {
-    for (asked, want) in ran.heard.asked.iter().zip(&row.asked) {
-        if asked.as_str() != *want {
-            return Some("it asked something else, and wrote");
-        }
+    if !begin_alike(&ran.heard.asked, &row.asked) {
+        return Some("it asked something else, and wrote");
     }
     if ran.heard.asked.len() != row.asked.len() {
         return Some("it asked more or less, and wrote");
@@ -174,6 +172,16 @@ fn differs(ran: &Ran, row: &Row<'_>) -> Option<&'static str> {
         return Some("it wrote");
     }
     None
+}
+
+// Whether these lines are those that are wanted, as far as both go.
+fn begin_alike(lines: &[String], want: &[&str]) -> bool {
+    for (line, want) in lines.iter().zip(want) {
+        if line.as_str() != *want {
+            return false;
+        }
+    }
+    true
 }
 
 /// A session ended as its row says.
@@ -207,19 +215,19 @@ pub fn run_front(
     let want = row.output.get(..written).expect(rt, "so many bytes go out");
     let what = ran_otherwise(&ran, end, want, logins);
     let how = (came, reads, writes);
-    expect_alike(rt, row.table, how, what, ran.end);
+    expect_alike(rt, row.table, &how, what, ran.end);
 }
 
 // Nothing differs in a session of so many bytes, read and written so, which ended so.
 fn expect_alike(
     rt: &impl Abort,
     table: &str,
-    (came, reads, writes): (usize, Calls, Calls),
+    how: &(usize, Calls, Calls),
     what: Option<&'static str>,
     end: End,
 ) {
     if let Some(what) = what {
-        panic!(rt; "{table}: {came} bytes, {reads:?}, {writes:?}: {what}: {end:?}");
+        panic!(rt; "{table}: {how:?}: {what}: {end:?}");
     }
 }
 

@@ -88,10 +88,13 @@ fn long_run(
     let first = login.request(&mut out, flags_of(rt, "0+"), begin);
     let end = login.request(&mut out, flags_of(rt, flags), long);
     let last = login.request(&mut out, flags_of(rt, "0>3"), rest);
-    let is_as_wanted = first == LoginEnd::Answer
-        && end == LoginEnd::Refused(status)
-        && last == LoginEnd::Accepted;
-    assert!(rt; is_as_wanted, "{flags}: {first:?}, {end:?}, {last:?}");
+    let ends = [first, end, last];
+    let want = [
+        LoginEnd::Answer,
+        LoginEnd::Refused(status),
+        LoginEnd::Accepted,
+    ];
+    assert!(rt; ends == want, "{flags}: {ends:?}");
     let want = bytes(rt, alloc, "TargetPortalGroupTag=1|X-2=NotUnderstood|");
     assert!(rt; out.as_slice() == want.as_slice(), "{status:?}");
 }
