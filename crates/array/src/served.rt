@@ -8,7 +8,7 @@ use crate::portals::{self, Portal, Ports};
 use array_units::Units;
 use block_file::{Blocks, Opener};
 use command_line::{Fault, MAX_UNITS, Options};
-use console::{Array, Watched, console};
+use console::{Operated, Operations, console};
 use event_log::{Event, Log, Resource};
 use numbering::Array as Naming;
 use portal::{Controllers, Gate, Server, SmallStacks, TargetDevice, listen, start_lanes};
@@ -24,7 +24,8 @@ use unit_history::{LegalHistory, NewUnit, Opened, Pass};
 /// What the portals serve.
 type Served<B, F, O, N, G> = Arc<Server<Controllers<B, F, O, N>, G>, Global>;
 
-// By what hosts find the array: the target's name, and where each controller's portals listen.
+// By what hosts find the array: the target's name, and where each controller's portals listen; and the log that is told.
+#[derive(Drop)]
 struct Found {
     target_name: Vec<u8>,
     first: Vec<SocketAddrV4>,
@@ -33,7 +34,7 @@ struct Found {
 }
 
 // The same, as the words ask for it, with a log of its own.
-fn found(alloc: Global, options: &Options<'_>, ports: Ports, log: &Log) -> Result<Found, Fault> {
+fn found_by(alloc: Global, options: &Options<'_>, ports: Ports, log: &Log) -> Result<Found, Fault> {
     let target_name = Vec::from_slice(alloc, options.target.as_bytes())?;
     let first = ports.of(Group::One).addresses(alloc)?;
     let second = ports.of(Group::Two).addresses(alloc)?;
@@ -46,7 +47,7 @@ fn found(alloc: Global, options: &Options<'_>, ports: Ports, log: &Log) -> Resul
 }
 
 // These units behind this gate, as hosts find them.
-fn served<
+fn server_of<
     N: Naming<Opened>,
     B: Blocks + Drop,
     F: Blocks + Drop,
@@ -140,7 +141,7 @@ fn accept_at<
 }
 
 // Says that all portals listen, and obeys the console until it ends. An output that fails counts as the end of the input.
-fn attend<A: Array, I: BufRead + Drop, C: Write>(
+fn attend<A: Operations, I: BufRead + Drop, C: Write>(
     alloc: Global,
     reader: I,
     writer: &mut C,
@@ -186,8 +187,8 @@ fn serve_units<
         count: options.portals,
     };
     let portals = portals::open(rt, alloc, ports, log)?;
-    let found = found(alloc, options, ports, log)?;
-    let server = served::<N, B, F, O, G, R>(rt, alloc, found, units, gate)?;
+    let found = found_by(alloc, options, ports, log)?;
+    let server = server_of::<N, B, F, O, G, R>(rt, alloc, found, units, gate)?;
     start::<N, B, F, O, G, R>(rt, alloc, &server)?;
     accept_at::<N, B, F, O, G, R>(rt, alloc, &server, portals)?;
     Ok(server)
@@ -235,12 +236,12 @@ pub fn serve<
     let ended = match serve_units::<N, B, F, O, G, R>(rt, alloc, options, units, gate, log) {
         Ok(server) => {
             log.tell(rt, &Event::Ready);
-            let mut watched = Watched {
+            let mut operated = Operated {
                 rt,
                 controllers: &server.device.units,
                 log,
             };
-            attend(alloc, reader, writer, &mut watched);
+            attend(alloc, reader, writer, &mut operated);
             Ok(())
         }
         Err(fault) => {

@@ -2,8 +2,9 @@
 ghost use Rattle.std.specs.Prelude.{◌≡◌, ◌≤◌, length};
 ghost use Rattle.unit_history.specs.Naming.{IsNamed};
 
+use array_units::Units;
 use block_file::{Blocks, Opener};
-use console::{Watched, console};
+use console::{Operated, console};
 use event_log::Log;
 use numbering::Array as Naming;
 use portal::Controllers;
@@ -13,7 +14,6 @@ use std::sync::Wait;
 use std::test::*;
 use std::time::Clock;
 use test_units::in_memory;
-use array_units::Units;
 use unit_history::{NewUnit, Opened};
 
 // What these lines are answered.
@@ -39,12 +39,12 @@ fn answered<'a, N: Naming<Opened>, B: Blocks, F: Blocks, O: Opener<B>, R: Wait +
 ) -> Result<String, Fail> {
     let mut written = Vec::new(alloc);
     let log = Log::off();
-    let mut watched = Watched {
+    let mut operated = Operated {
         rt,
         controllers,
         log: &log,
     };
-    console(alloc, lines, &mut written, &mut watched);
+    console(alloc, lines, &mut written, &mut operated);
     Ok(String::from_utf8(written)?)
 }
 

@@ -1,5 +1,5 @@
 //! The lines of the console, over units that count.
-use console::{Array, UnitStatus, console};
+use console::{Operations, UnitStatus, console};
 use scsi_types::Group;
 use std::alloc::Global;
 use std::io::{self, BufReader, Read, Write};
@@ -13,7 +13,7 @@ struct Two {
     flushed: u32,
 }
 
-impl Array for Two {
+impl Operations for Two {
     fn status(&mut self, unit: u8) -> Option<UnitStatus> {
         self.asked = self.asked.saturating_add(1);
         match unit {

@@ -2,7 +2,7 @@
 #![tactic(auto)]
 
 mod lines;
-mod watched;
+mod operated;
 
-pub use lines::{Array, UnitStatus, console};
-pub use watched::Watched;
+pub use lines::{Operations, UnitStatus, console};
+pub use operated::Operated;

@@ -34,8 +34,8 @@ impl Display for UnitStatus {
     }
 }
 
-/// The array as the console sees it.
-pub trait Array {
+/// What the console does with the array.
+pub trait Operations {
     /// What is to be told of this unit, where there is one.
     fn status(&mut self, unit: u8) -> Option<UnitStatus>;
 
@@ -51,7 +51,7 @@ pub trait Array {
 }
 
 // Writes a line for each unit.
-fn say_status<W: Write, A: Array>(writer: &mut W, array: &mut A) -> io::Result<()> {
+fn say_status<W: Write, A: Operations>(writer: &mut W, array: &mut A) -> io::Result<()> {
     for unit in 0..=u8::MAX {
         let Some(status) = array.status(unit) else {
             break;
@@ -80,7 +80,7 @@ fn text_of(line: &[u8]) -> Option<&str> {
 
 /// Obeys lines until `quit`, the end of the input, or a failure of either; then no command is taken in any more, and the units
 /// are flushed. A line that is none of these, or no UTF-8, is answered `?`.
-pub fn console<I: BufRead + Drop, W: Write, A: Array>(
+pub fn console<I: BufRead + Drop, W: Write, A: Operations>(
     alloc: Global,
     reader: I,
     writer: &mut W,

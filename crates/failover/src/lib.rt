@@ -9,12 +9,12 @@ ghost use Rattle.failover.specs.Down.{AreDown, IsStopped, down_list};
 mod mover;
 
 use access_states::Change;
+use array_units::Units;
 use block_file::{Blocks, Opener};
 pub use mover::{GroupsList, Mover, Moves};
 use numbering::Array;
 use scsi_types::Group;
 use std::sync::Wait;
-use array_units::Units;
 use unit_history::{LegalHistory, Opened};
 use unit_state::MoveFault;
 

@@ -4,11 +4,11 @@ ghost use Rattle.failover.specs.Down.{Move};
 
 use crate::set_groups;
 use access_states::Change;
+use array_units::{MOST_UNITS, Units};
 use block_file::{Blocks, Opener};
 use numbering::Array;
 use std::marker::Model;
 use std::sync::Wait;
-use array_units::{MOST_UNITS, Units};
 use unit_history::{LegalHistory, Opened};
 use unit_state::MoveFault;
 

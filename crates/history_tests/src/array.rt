@@ -5,6 +5,7 @@ ghost use Rattle.unit_history.specs.Naming.{IsNamed};
 
 use crate::{many, sessions, threads};
 use aptpl_file::{FILE_BLOCKS, RegFile};
+use array_units::Units;
 use block_file::{Blocks, FusedBlocks, KeepOpener, MemBlocks};
 use numbering::Array as Naming;
 use reservations::Record;
@@ -14,7 +15,6 @@ use std::marker::Brand;
 use std::sync::Wait;
 use std::test::Fail;
 use std::thread::Threads;
-use array_units::Units;
 use unit_history::{NewUnit, Opened};
 use unit_state::{Unit, laws};
 

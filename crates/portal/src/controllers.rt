@@ -2,6 +2,7 @@
 ghost use Rattle.std.specs.Prelude.{◌≡◌, IfOk};
 
 use crate::units::{LogicalUnits, Pass, Unserved};
+use array_units::Units;
 use block_file::{Blocks, Opener};
 use forwarding::Desk;
 use numbering::Array;
@@ -9,7 +10,6 @@ use scsi_types::{Asked, Group, NoMemory, PortName, Reply};
 use std::alloc::Global;
 use std::marker::Model;
 use std::sync::Wait;
-use array_units::Units;
 use unit_history::{LegalHistory, Opened, Pass as UnitPass};
 
 impl<B: Blocks, R: Blocks, O: Opener<B>, N: Array<Opened>> Pass for UnitPass<B, R, O, N> {

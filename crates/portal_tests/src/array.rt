@@ -9,6 +9,7 @@ use crate::latch::Latch;
 use crate::no_room::NoRoom;
 use crate::stage::Stage;
 use crate::units::two;
+use array_units::Units;
 use block_file::{Blocks, Opener};
 use event_log::Log;
 use numbering::Array as Naming;
@@ -23,7 +24,6 @@ use std::sync::{Arc, Wait};
 use std::thread::{JoinHandle, Threads};
 use std::time::Clock;
 use test_hosts::Host;
-use array_units::Units;
 use unit_history::{LegalHistory, NewUnit, Opened, Pass};
 
 /// What the hosts of an array do, and where it listens: at this address, and at these ports of its two controllers. So many

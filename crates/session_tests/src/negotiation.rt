@@ -4,4 +4,4 @@ mod limits;
 mod logins;
 mod refusals;
 mod scripts;
-mod targets;
+mod send_targets;

@@ -2,6 +2,7 @@
 ghost use Rattle.std.specs.Prelude.{◌≡◌, ◌<◌, ◌≤◌, length};
 ghost use Rattle.unit_history.specs.Naming.{IsNamed};
 
+use array_units::Units;
 use block_file::{Blocks, MemBlocks, Opener};
 use failover::{Mover, set_groups, take_down};
 use forwarding::{Desk, Job};
@@ -10,7 +11,6 @@ use scsi_types::Group;
 use std::alloc::Global;
 use std::sync::Wait;
 use std::test::Fail;
-use array_units::Units;
 use unit_history::{NewUnit, Opened};
 use unit_state::MoveFault;
 

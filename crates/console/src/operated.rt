@@ -1,5 +1,5 @@
 //! The array as its console sees it.
-use crate::lines::{Array, UnitStatus};
+use crate::lines::{Operations, UnitStatus};
 use block_file::{Blocks, Opener};
 use event_log::{By, Event, Log, Stayed};
 use failover::{Mover, take_down};
@@ -13,7 +13,7 @@ use unit_state::MoveFault;
 
 /// Both controllers, as the console sees them.
 #[derive(Drop)]
-pub struct Watched<'a, R: Wait + Clock, B: Blocks, F: Blocks, O: Opener<B>, N: Naming<Opened>> {
+pub struct Operated<'a, R: Wait + Clock, B: Blocks, F: Blocks, O: Opener<B>, N: Naming<Opened>> {
     pub rt: &'a R,
     pub controllers: &'a Controllers<B, F, O, N>,
     /// What happens is told to it.
@@ -42,7 +42,7 @@ fn stayed(why: MoveFault) -> Stayed {
     }
 }
 
-impl<R: Wait + Clock, B: Blocks, F: Blocks, O: Opener<B>, N: Naming<Opened>> Watched<
+impl<R: Wait + Clock, B: Blocks, F: Blocks, O: Opener<B>, N: Naming<Opened>> Operated<
     '_,
     R,
     B,
@@ -64,8 +64,8 @@ impl<R: Wait + Clock, B: Blocks, F: Blocks, O: Opener<B>, N: Naming<Opened>> Wat
     }
 }
 
-impl<R: Wait + Clock, B: Blocks, F: Blocks, O: Opener<B>, N: Naming<Opened>> Array
-    for Watched<'_, R, B, F, O, N> {
+impl<R: Wait + Clock, B: Blocks, F: Blocks, O: Opener<B>, N: Naming<Opened>> Operations
+    for Operated<'_, R, B, F, O, N> {
     fn status(&mut self, unit: u8) -> Option<UnitStatus> {
         let place = usize::from(unit);
         let units = self.controllers.units();
