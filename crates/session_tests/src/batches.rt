@@ -1,5 +1,6 @@
 //! How the answers leave: those of commands that came together in one write, many and long ones in parts.
-use crate::run::{expect_end, first_row, serve};
+use crate::row::Row;
+use crate::run::{Ran, expect_end, first_row, serve};
 use std::alloc::Global;
 use std::io::ErrorKind;
 use std::process::Abort;
@@ -133,6 +134,12 @@ end OutputFailed",
 
 fn check(rt: &impl Abort, alloc: Global, batch: &Batch) {
     let row = first_row(rt, alloc, ("batches", batch.row));
+    let ran = served(rt, alloc, &row, batch);
+    expect_end(rt, alloc, ran.end, &row);
+    expect_writes(rt, &ran, batch, row.name);
+}
+
+fn served(rt: &impl Abort, alloc: Global, row: &Row<'_>, batch: &Batch) -> Ran {
     let reads = Calls {
         first: batch.first,
         ..WHOLE
@@ -142,15 +149,22 @@ fn check(rt: &impl Abort, alloc: Global, batch: &Batch) {
         kind: ErrorKind::BrokenPipe,
         ..WHOLE
     };
-    let ran = serve(rt, alloc, &row.input, reads, writes, &row);
-    expect_end(rt, alloc, ran.end, &row);
-    assert_eq!(rt; ran.sizes.as_slice(), batch.writes, "{}", row.name);
-    assert_eq!(rt; ran.commands, batch.calls, "{}", row.name);
+    serve(rt, alloc, &row.input, reads, writes, row)
+}
+
+fn expect_writes(rt: &impl Abort, ran: &Ran, batch: &Batch, name: &str) {
+    let sizes = ran.sizes.as_slice();
+    let commands = ran.heard.commands;
+    assert!(rt;
+        sizes == batch.writes && commands == batch.calls,
+        "{name}: {sizes:?} written, {commands} commands"
+    );
 }
 
 #[test]
 fn batches(rt: HostRuntime) {
+    let alloc = rt.alloc();
     for batch in BATCHES {
-        check(&rt, rt.alloc(), batch);
+        check(&rt, alloc, batch);
     }
 }

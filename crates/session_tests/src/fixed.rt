@@ -28,17 +28,22 @@ pub struct Answers<'a> {
     pub lives: bool,
 }
 
+/// What a target was asked, each as a line, and what bytes it was given.
+#[derive(Drop)]
+pub struct Heard {
+    pub asked: Vec<String>,
+    pub given: Vec<u8>,
+    /// How many of the questions were commands, and how many were those of a login.
+    pub commands: usize,
+    pub logins: usize,
+}
+
 /// A target of one unit that answers alike each time, and keeps what it was asked and given.
 #[derive(Drop)]
 pub struct Fixed<'a> {
     alloc: Global,
     answers: Answers<'a>,
-    /// What it was asked, each as a line.
-    pub asked: Vec<String>,
-    pub given: Vec<u8>,
-    /// How many commands and how many logins it was asked.
-    pub commands: usize,
-    pub logins: usize,
+    heard: Heard,
     // How often it heard that the session is over, and whether it was asked anything behind that.
     ends: usize,
     late: bool,
@@ -50,13 +55,20 @@ impl<'a> Fixed<'a> {
         Fixed {
             alloc,
             answers,
-            asked: Vec::new(alloc),
-            given: Vec::new(alloc),
-            commands: 0,
-            logins: 0,
+            heard: Heard {
+                asked: Vec::new(alloc),
+                given: Vec::new(alloc),
+                commands: 0,
+                logins: 0,
+            },
             ends: 0,
             late: false,
         }
+    }
+
+    /// What it was asked and given.
+    pub fn into_heard(self) -> Heard {
+        self.heard
     }
 
     /// Whether it heard once that the session is over, and was asked nothing behind that.
@@ -68,7 +80,7 @@ impl<'a> Fixed<'a> {
     fn hear(&mut self, line: Result<String, AllocError>) -> bool {
         self.late = self.late || self.ends > 0;
         match line {
-            Ok(line) => self.asked.push(line).is_ok(),
+            Ok(line) => self.heard.asked.push(line).is_ok(),
             Err(_) => false,
         }
     }
@@ -78,7 +90,7 @@ impl<'a> Fixed<'a> {
         match self.answers.command {
             Answer::Good(data) => Some(bytes_of(self.alloc, TEXTS, data)),
             Answer::InTurn(datas) => {
-                let data = datas.split('|').nth(self.commands.checked_sub(1)?)?;
+                let data = datas.split('|').nth(self.heard.commands.checked_sub(1)?)?;
                 Some(bytes_of(self.alloc, TEXTS, data))
             }
             Answer::Check(_, _, _) | Answer::Busy | Answer::Gone => None,
@@ -103,7 +115,7 @@ impl Target for Fixed<'_> {
     fn begin(&mut self, name: &[u8], isid: u64, kind: Kind) -> BeginAnswer {
         let name = shown(name);
         let kept = self.hear(format!(in self.alloc; "begin {name} {isid:012X} {kind:?}"));
-        self.logins = self.logins.saturating_add(1);
+        self.heard.logins = self.heard.logins.saturating_add(1);
         match self.answers.begin {
             // No session has the TSIH 0.
             BeginAnswer::Begun(tsih) if kept && tsih != 0 => BeginAnswer::Begun(tsih),
@@ -114,7 +126,7 @@ impl Target for Fixed<'_> {
     fn lives(&mut self, tsih: u16, name: &[u8], isid: u64) -> bool {
         let name = shown(name);
         let kept = self.hear(format!(in self.alloc; "lives {tsih} {name} {isid:012X}"));
-        self.logins = self.logins.saturating_add(1);
+        self.heard.logins = self.heard.logins.saturating_add(1);
         kept && self.answers.lives
     }
 
@@ -135,10 +147,10 @@ impl Target for Fixed<'_> {
             Some(unit) => format!(in self.alloc; "{unit} {asked:?}"),
             None => format!(in self.alloc; "- {asked:?}"),
         };
-        if !self.hear(line) || self.given.extend_from_slice(bytes).is_err() {
+        if !self.hear(line) || self.heard.given.extend_from_slice(bytes).is_err() {
             return TargetAnswer::Busy;
         }
-        self.commands = self.commands.saturating_add(1);
+        self.heard.commands = self.heard.commands.saturating_add(1);
         match self.answers.command {
             Answer::Check(key, code, qualifier) => {
                 let sense = Sense::new(key, code, qualifier);

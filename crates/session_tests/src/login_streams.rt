@@ -160,18 +160,32 @@ fn any_write_of_a_login_fails(rt: &impl Abort, alloc: Global, row: &Row<'_>) {
 
 #[test]
 fn a_login_and_a_command(rt: HostRuntime) {
-    let row = first_row(&rt, rt.alloc(), ("a login and a command", SESSION));
-    the_login_ends_anywhere(&rt, rt.alloc(), &row);
-    a_read_of_a_login_fails(&rt, rt.alloc(), &row);
-    a_write_of_a_login_fails(&rt, rt.alloc(), &row);
-    let row = first_row(&rt, rt.alloc(), ("an unknown opcode", UNKNOWN));
-    a_fault_is_answered_once_its_header_is_there(&rt, rt.alloc(), &row);
+    let alloc = rt.alloc();
+    let row = first_row(&rt, alloc, ("a login and a command", SESSION));
+    all_of_two_requests(&rt, alloc, &row);
+    an_unknown_opcode(&rt, alloc);
+}
+
+fn all_of_two_requests(rt: &impl Abort, alloc: Global, row: &Row<'_>) {
+    the_login_ends_anywhere(rt, alloc, row);
+    a_read_of_a_login_fails(rt, alloc, row);
+    a_write_of_a_login_fails(rt, alloc, row);
+}
+
+fn an_unknown_opcode(rt: &impl Abort, alloc: Global) {
+    let row = first_row(rt, alloc, ("an unknown opcode", UNKNOWN));
+    a_fault_is_answered_once_its_header_is_there(rt, alloc, &row);
 }
 
 #[test]
 fn a_login_of_one_request(rt: HostRuntime) {
-    let row = first_row(&rt, rt.alloc(), ("a login of one request", ONE_REQUEST));
-    a_login_of_one_request_ends_anywhere(&rt, rt.alloc(), &row);
-    any_read_of_a_login_fails(&rt, rt.alloc(), &row);
-    any_write_of_a_login_fails(&rt, rt.alloc(), &row);
+    let alloc = rt.alloc();
+    let row = first_row(&rt, alloc, ("a login of one request", ONE_REQUEST));
+    all_of_one_request(&rt, alloc, &row);
+}
+
+fn all_of_one_request(rt: &impl Abort, alloc: Global, row: &Row<'_>) {
+    a_login_of_one_request_ends_anywhere(rt, alloc, row);
+    any_read_of_a_login_fails(rt, alloc, row);
+    any_write_of_a_login_fails(rt, alloc, row);
 }

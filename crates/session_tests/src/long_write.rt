@@ -34,8 +34,9 @@ given pattern 1048576
 
 #[test]
 fn a_write_of_a_megabyte(rt: HostRuntime) {
-    let row = first_row(&rt, rt.alloc(), ("a write of a megabyte", MEGABYTE));
-    for reads in &[WHOLE, calls_of(7, 0), ONE_BYTE] {
-        run_reads(&rt, rt.alloc(), &row, *reads);
-    }
+    let alloc = rt.alloc();
+    let row = first_row(&rt, alloc, ("a write of a megabyte", MEGABYTE));
+    run_reads(&rt, alloc, &row, WHOLE);
+    run_reads(&rt, alloc, &row, calls_of(7, 0));
+    run_reads(&rt, alloc, &row, ONE_BYTE);
 }

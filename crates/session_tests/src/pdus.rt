@@ -3,4 +3,4 @@ mod faults;
 mod initiators;
 mod limits;
 mod rows;
-mod targets;
+mod target_pdus;

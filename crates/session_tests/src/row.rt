@@ -168,42 +168,74 @@ impl<'a> Row<'a> {
     fn take(&mut self, alloc: Global, line: &'a str) -> Result<(), RowError> {
         let (word, rest) = line.split_once(' ').unwrap_or((line, ""));
         match word {
-            ">" => {
-                let pdu = pdu_of(alloc, TEXTS, rest)?;
-                self.input.extend_from_slice(&pdu)?;
-            }
-            "<" => {
-                let pdu = pdu_of(alloc, TEXTS, rest)?;
-                self.output.extend_from_slice(&pdu)?;
-            }
-            "asked" => self.asked.extend_from_slice(&[rest])?,
-            _ => {
-                if self.words.contains(&word) {
-                    return Err(RowError::Word);
-                }
-                self.words.extend_from_slice(&[word])?;
-                return self.take_once(alloc, word, rest);
-            }
+            ">" => put_pdu(alloc, &mut self.input, rest),
+            "<" => put_pdu(alloc, &mut self.output, rest),
+            "asked" => put_text(&mut self.asked, rest),
+            _ if self.words.contains(&word) => Err(RowError::Word),
+            _ => self.take_new(alloc, word, rest),
         }
-        Ok(())
+    }
+
+    // Takes a line whose word the row did not have yet.
+    fn take_new(&mut self, alloc: Global, word: &'a str, rest: &'a str) -> Result<(), RowError> {
+        put_text(&mut self.words, word)?;
+        self.take_once(alloc, word, rest)
     }
 
     // Takes a line whose word a row has once.
     fn take_once(&mut self, alloc: Global, word: &str, rest: &'a str) -> Result<(), RowError> {
         match word {
-            "answer" => self.answers.command = command_answer(alloc, rest)?,
-            "reset" => self.answers.reset = reset_answer(rest)?,
-            "begin" => self.answers.begin = begin_answer(rest)?,
-            "lives" if rest.is_empty() => self.answers.lives = true,
+            "answer" | "reset" | "begin" | "lives" => self.answers.take(alloc, word, rest),
+            "given" => put_bytes(alloc, &mut self.given, rest),
+            "end" => {
+                self.end = rest;
+                Ok(())
+            }
+            _ => self.take_opening(word, rest),
+        }
+    }
+
+    // Takes a line that says how its session begins.
+    fn take_opening(&mut self, word: &str, rest: &str) -> Result<(), RowError> {
+        match word {
             "login" => self.login = Some(read(rest)?),
             "discovery" if rest.is_empty() => self.kind = Kind::Discovery,
             "portals" => self.portals = read(rest)?,
-            "given" => self.given = bytes_of(alloc, TEXTS, rest)?,
-            "end" => self.end = rest,
             _ => return self.begin.take(word, rest),
         }
         Ok(())
     }
+}
+
+impl<'a> Answers<'a> {
+    // Takes a line that says what a target answers.
+    fn take(&mut self, alloc: Global, word: &str, rest: &'a str) -> Result<(), RowError> {
+        match word {
+            "answer" => self.command = command_answer(alloc, rest)?,
+            "reset" => self.reset = reset_answer(rest)?,
+            "begin" => self.begin = begin_answer(rest)?,
+            "lives" if rest.is_empty() => self.lives = true,
+            _ => return Err(RowError::Word),
+        }
+        Ok(())
+    }
+}
+
+// Appends a PDU.
+fn put_pdu(alloc: Global, bytes: &mut Vec<u8>, line: &str) -> Result<(), RowError> {
+    let pdu = pdu_of(alloc, TEXTS, line)?;
+    Ok(bytes.extend_from_slice(&pdu)?)
+}
+
+// Appends the bytes of these parts.
+fn put_bytes(alloc: Global, bytes: &mut Vec<u8>, parts: &str) -> Result<(), RowError> {
+    let more = bytes_of(alloc, TEXTS, parts)?;
+    Ok(bytes.extend_from_slice(&more)?)
+}
+
+// Appends a text.
+fn put_text<'a>(texts: &mut Vec<&'a str>, text: &'a str) -> Result<(), RowError> {
+    Ok(texts.extend_from_slice(&[text])?)
 }
 
 impl Begin {
@@ -267,9 +299,7 @@ fn command_answer(alloc: Global, text: &str) -> Result<Answer<'_>, RowError> {
             Ok(Answer::Good(rest))
         }
         "in-turn" => {
-            for data in rest.split('|') {
-                spells(alloc, data)?;
-            }
+            each_spells(alloc, rest)?;
             Ok(Answer::InTurn(rest))
         }
         "check" => check_answer(&bytes_of(alloc, TEXTS, rest)?),
@@ -282,6 +312,14 @@ fn command_answer(alloc: Global, text: &str) -> Result<Answer<'_>, RowError> {
 // A text that spells no bytes is a fault.
 fn spells(alloc: Global, text: &str) -> Result<(), RowError> {
     let _bytes = bytes_of(alloc, TEXTS, text)?;
+    Ok(())
+}
+
+// The same of each of these texts, with `|` between.
+fn each_spells(alloc: Global, texts: &str) -> Result<(), RowError> {
+    for text in texts.split('|') {
+        spells(alloc, text)?;
+    }
     Ok(())
 }
 

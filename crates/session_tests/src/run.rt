@@ -1,8 +1,9 @@
 //! The runner of the tables.
-use crate::fixed::Fixed;
+use crate::fixed::{Fixed, Heard};
 use crate::row::Row;
 use session::{End, Identity, Watched, serve_stream};
 use std::alloc::Global;
+use std::fmt::Debug;
 use std::io::ErrorKind;
 use std::net::{Ipv4Addr, SocketAddrV4};
 use std::process::Abort;
@@ -15,11 +16,7 @@ pub struct Ran {
     pub end: End,
     pub output: Vec<u8>,
     pub sizes: Vec<usize>,
-    pub asked: Vec<String>,
-    pub given: Vec<u8>,
-    /// How many questions were commands, and how many were those of a login.
-    pub commands: usize,
-    pub logins: usize,
+    pub heard: Heard,
 }
 
 /// A portal at this port of the host itself.
@@ -55,6 +52,34 @@ pub fn serve(
     writes: Calls,
     row: &Row<'_>,
 ) -> Ran {
+    let mut target = Fixed::new(alloc, row.answers);
+    let source = FakeReader::new(input, reads);
+    let sink = FakeWriter::new(alloc, writes);
+    let (end, sink) = serve_by(rt, alloc, source, sink, &mut target, row);
+    assert!(rt;
+        target.ended_once(),
+        "{}: {}: the session is over once, and nothing is asked then",
+        row.table,
+        row.name
+    );
+    let (output, sizes) = sink.into_parts();
+    Ran {
+        end,
+        output,
+        sizes,
+        heard: target.into_heard(),
+    }
+}
+
+// Serves the session of this row by this target: how it ended, and the sink.
+fn serve_by(
+    rt: &impl Abort,
+    alloc: Global,
+    source: FakeReader<'_>,
+    sink: FakeWriter,
+    target: &mut Fixed<'_>,
+    row: &Row<'_>,
+) -> (End, FakeWriter) {
     let second = [portal(3264), portal(3265), portal(3266)];
     let second = second.get(..row.portals);
     let me = Identity {
@@ -62,28 +87,11 @@ pub fn serve(
         first: &[portal(3260)],
         second: second.expect(rt, "three portals at most"),
     };
+    let mut source = Watched::new(source);
+    let mut sink = Watched::new(sink);
     let opening = row.opening(rt);
-    let mut source = Watched::new(FakeReader::new(input, reads));
-    let mut sink = Watched::new(FakeWriter::new(alloc, writes));
-    let mut target = Fixed::new(alloc, row.answers);
-    let end = serve_stream(alloc, &mut source, &mut sink, &mut target, opening, &me);
-    let end = end.expect(rt, "memory");
-    assert!(rt;
-        target.ended_once(),
-        "{}: {}: the session is over once, and nothing is asked then",
-        row.table,
-        row.name
-    );
-    let (output, sizes) = sink.into_inner().into_parts();
-    Ran {
-        end,
-        output,
-        sizes,
-        asked: target.asked,
-        given: target.given,
-        commands: target.commands,
-        logins: target.logins,
-    }
+    let end = serve_stream(alloc, &mut source, &mut sink, target, opening, &me);
+    (end.expect(rt, "memory"), sink.into_inner())
 }
 
 /// The first row of a table.
@@ -96,13 +104,11 @@ pub fn first_row(rt: &impl Abort, alloc: Global, (table, rows): Table) -> Row<'s
 
 /// Serves each row, and compares.
 pub fn run(rt: &impl Abort, alloc: Global, (table, rows): Table) {
-    let mut is_empty = true;
+    let mut has_row = false;
     for text in rows.split("\n\n") {
-        if run_text(rt, alloc, table, text) {
-            is_empty = false;
-        }
+        has_row |= run_text(rt, alloc, table, text);
     }
-    assert!(rt; !is_empty, "{table}: a table has a row");
+    assert!(rt; has_row, "{table}: a table has a row");
 }
 
 // Serves the row of these lines; whether they are one, and no comments.
@@ -153,15 +159,13 @@ pub fn run_reads(rt: &impl Abort, alloc: Global, row: &Row<'_>, reads: Calls) {
 
 // What a session that was served whole did otherwise than its row says.
 fn differs(ran: &Ran, row: &Row<'_>) -> Option<&'static str> {
-    for (asked, want) in ran.asked.iter().zip(&row.asked) {
-        if asked.as_str() != *want {
-            return Some("it asked something else, and wrote");
-        }
+    if !begin_alike(&ran.heard.asked, &row.asked) {
+        return Some("it asked something else, and wrote");
     }
-    if ran.asked.len() != row.asked.len() {
+    if ran.heard.asked.len() != row.asked.len() {
         return Some("it asked more or less, and wrote");
     }
-    if ran.given.as_slice() != row.given.as_slice() {
+    if ran.heard.given.as_slice() != row.given.as_slice() {
         return Some("it gave other bytes, and wrote");
     }
     if ran.output.as_slice() != row.output.as_slice() {
@@ -170,10 +174,30 @@ fn differs(ran: &Ran, row: &Row<'_>) -> Option<&'static str> {
     None
 }
 
+// Whether these lines are those that are wanted, as far as both go.
+fn begin_alike(lines: &[String], want: &[&str]) -> bool {
+    for (line, want) in lines.iter().zip(want) {
+        if line.as_str() != *want {
+            return false;
+        }
+    }
+    true
+}
+
 /// A session ended as its row says.
 pub fn expect_end(rt: &impl Abort, alloc: Global, end: End, row: &Row<'_>) {
-    let end = format!(in alloc; "{end:?}").expect(rt, "memory");
-    assert_eq!(rt; end.as_str(), row.end, "{}: {}", row.table, row.name);
+    assert!(rt;
+        spells(rt, alloc, &end, row.end),
+        "{}: {}: {end:?}",
+        row.table,
+        row.name
+    );
+}
+
+/// Whether `Debug` spells it so.
+pub fn spells(rt: &impl Abort, alloc: Global, value: &impl Debug, text: &str) -> bool {
+    let spelled = format!(in alloc; "{value:?}").expect(rt, "memory");
+    spelled.as_str() == text
 }
 
 /// Serves the first bytes of a row's input, read and written so: the session ends so, so many bytes of the row's output are
@@ -187,12 +211,35 @@ pub fn run_front(
     (end, written, logins): (End, usize, usize),
 ) {
     let front = row.input.get(..came).expect(rt, "so many bytes come");
-    let want = row.output.get(..written).expect(rt, "so many bytes go out");
     let ran = serve(rt, alloc, front, reads, writes, row);
-    let is_as_wanted = (ran.end, ran.logins) == (end, logins) && ran.output.as_slice() == want;
-    assert!(rt;
-        is_as_wanted,
-        "{}: {came} bytes, {reads:?}, {writes:?}: {:?}",
-        row.table, ran.end
-    );
+    let want = row.output.get(..written).expect(rt, "so many bytes go out");
+    let what = ran_otherwise(&ran, end, want, logins);
+    let how = (came, reads, writes);
+    expect_alike(rt, row.table, &how, what, ran.end);
+}
+
+// Nothing differs in a session of so many bytes, read and written so, which ended so.
+fn expect_alike(
+    rt: &impl Abort,
+    table: &str,
+    how: &(usize, Calls, Calls),
+    what: Option<&'static str>,
+    end: End,
+) {
+    if let Some(what) = what {
+        panic!(rt; "{table}: {how:?}: {what}: {end:?}");
+    }
+}
+
+// What a session did otherwise than to end so, to write these bytes and to ask so many questions of a login.
+fn ran_otherwise(ran: &Ran, end: End, output: &[u8], logins: usize) -> Option<&'static str> {
+    if ran.end != end {
+        Some("how it ended")
+    } else if ran.output.as_slice() != output {
+        Some("what it wrote")
+    } else if ran.heard.logins != logins {
+        Some("what it asked")
+    } else {
+        None
+    }
 }

@@ -74,11 +74,16 @@ fn an_interrupted_call_is_made_again(rt: &impl Abort, alloc: Global, row: &Row<'
 
 #[test]
 fn two_commands(rt: HostRuntime) {
-    let row = first_row(&rt, rt.alloc(), ("two commands", SESSION));
-    bytes_one_by_one(&rt, rt.alloc(), &row);
-    input_cut_anywhere(&rt, rt.alloc(), &row);
-    a_read_fails(&rt, rt.alloc(), &row);
-    a_write_fails(&rt, rt.alloc(), &row);
-    a_write_takes_nothing(&rt, rt.alloc(), &row);
-    an_interrupted_call_is_made_again(&rt, rt.alloc(), &row);
+    let alloc = rt.alloc();
+    let row = first_row(&rt, alloc, ("two commands", SESSION));
+    all_streams(&rt, alloc, &row);
+}
+
+fn all_streams(rt: &impl Abort, alloc: Global, row: &Row<'_>) {
+    bytes_one_by_one(rt, alloc, row);
+    input_cut_anywhere(rt, alloc, row);
+    a_read_fails(rt, alloc, row);
+    a_write_fails(rt, alloc, row);
+    a_write_takes_nothing(rt, alloc, row);
+    an_interrupted_call_is_made_again(rt, alloc, row);
 }

@@ -1,5 +1,6 @@
 //! Each key: values below, in and above its range, of a wrong form, and absent.
-use crate::negotiation::scripts::{bytes, flags_of, login_of_tag, room, run};
+use crate::negotiation::scripts::{answered, bytes, login_of_tag, run};
+use crate::run::{put, spells};
 use login::{Key, LoginEnd, in_force};
 use std::alloc::Global;
 use std::process::Abort;
@@ -124,30 +125,56 @@ ErrorRecoveryLevel InitiatorAlias=a - Number(0)
 const BEGIN: &str =
     "0>1; InitiatorName=iqn.2000-01.test:a|TargetName=iqn.2000-01.test:array|; Answer; TargetPortalGroupTag=1|";
 
-// Behind what the target says by itself in the first response of stage 1 stands the answer, and the value is in force.
 fn check(rt: &impl Abort, alloc: Global, line: &str) {
-    let mut words = line.split_ascii_whitespace();
-    let key = Key::named(words.next().unwrap_or("").as_bytes()).expect(rt, line);
-    let offer = words.next().unwrap_or("");
-    let answer = words.next().unwrap_or("");
-    let request = format!(in alloc; "{offer}|").expect(rt, "memory");
-    let request = bytes(rt, alloc, &request);
-    let end = if answer == "-" { "" } else { answer };
-    let bar = if answer == "-" { "" } else { "|" };
-    let want = format!(in alloc; "MaxRecvDataSegmentLength=65536|{end}{bar}").expect(rt, "memory");
-    let want = bytes(rt, alloc, &want);
+    let request = pair(rt, alloc, word(line, 1));
+    check_answer(rt, alloc, line, &request);
+    check_value(rt, alloc, line, &request);
+}
+
+// A word of a line, counted from 0.
+fn word(line: &str, at: usize) -> &str {
+    line.split_ascii_whitespace().nth(at).unwrap_or("")
+}
+
+// A pair, and the zero byte behind it.
+fn pair(rt: &impl Abort, alloc: Global, text: &str) -> Vec<u8> {
+    let mut pair = bytes(rt, alloc, text);
+    put(rt, &mut pair, &[0]);
+    pair
+}
+
+// What the target says by itself in the first response of stage 1, and the answer behind it.
+fn response(rt: &impl Abort, alloc: Global, answer: &str) -> Vec<u8> {
+    let mut response = bytes(rt, alloc, "MaxRecvDataSegmentLength=65536|");
+    if answer != "-" {
+        put(rt, &mut response, &pair(rt, alloc, answer));
+    }
+    response
+}
+
+// The answer to the offer.
+fn check_answer(rt: &impl Abort, alloc: Global, line: &str, request: &[u8]) {
     let mut login = login_of_tag(rt, alloc, 1);
     run(rt, alloc, &mut login, BEGIN);
-    let mut out = room(rt, alloc);
-    assert_eq!(rt;
-        login.request(&mut out, flags_of(rt, "1"), &request),
-        LoginEnd::Answer,
-        "{line}"
+    let (end, out) = answered(rt, alloc, &mut login, "1", request);
+    assert!(rt; end == LoginEnd::Answer, "{line}: {end:?}");
+    expect_response(rt, alloc, &out, line);
+}
+
+// The response of a line.
+fn expect_response(rt: &impl Abort, alloc: Global, out: &[u8], line: &str) {
+    let want = response(rt, alloc, word(line, 2));
+    assert!(rt; out == want.as_slice(), "{line}: another answer");
+}
+
+// The value that is in force then.
+fn check_value(rt: &impl Abort, alloc: Global, line: &str, request: &[u8]) {
+    let key = Key::named(word(line, 0).as_bytes()).expect(rt, line);
+    let found = in_force(request, key);
+    assert!(rt;
+        spells(rt, alloc, &found, word(line, 3)),
+        "{line}: {found:?}"
     );
-    assert!(rt; out.as_slice() == want.as_slice(), "{line}: another answer");
-    let found = in_force(&request, key);
-    let found = format!(in alloc; "{found:?}").expect(rt, "memory");
-    assert_eq!(rt; found.as_str(), words.next().unwrap_or(""), "{line}");
 }
 
 fn check_each(rt: &impl Abort, alloc: Global, rows: &str) {

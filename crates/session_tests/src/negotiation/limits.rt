@@ -60,12 +60,17 @@ const LONG: [(&str, LoginStatus); 5] = [
 
 #[test]
 fn long_runs(rt: HostRuntime) {
-    let fits = text_of(&rt, rt.alloc(), 3, 8192);
-    let long = text_of(&rt, rt.alloc(), 3, 8193);
-    let (begin, rest) = fits.split_at_checked(5000).expect(&rt, "long");
-    let (_, long) = long.split_at_checked(5000).expect(&rt, "long");
+    let alloc = rt.alloc();
+    let fits = text_of(&rt, alloc, 3, 8192);
+    let long = text_of(&rt, alloc, 3, 8193);
+    each_long_run(&rt, alloc, &fits, &long);
+}
+
+fn each_long_run(rt: &impl Abort, alloc: Global, fits: &[u8], long: &[u8]) {
+    let (begin, rest) = fits.split_at_checked(5000).expect(rt, "long");
+    let (_, long) = long.split_at_checked(5000).expect(rt, "long");
     for row in &LONG {
-        long_run(&rt, rt.alloc(), begin, rest, long, *row);
+        long_run(rt, alloc, begin, rest, long, *row);
     }
 }
 
@@ -83,12 +88,13 @@ fn long_run(
     let first = login.request(&mut out, flags_of(rt, "0+"), begin);
     let end = login.request(&mut out, flags_of(rt, flags), long);
     let last = login.request(&mut out, flags_of(rt, "0>3"), rest);
-    let ends = [
+    let ends = [first, end, last];
+    let want = [
         LoginEnd::Answer,
         LoginEnd::Refused(status),
         LoginEnd::Accepted,
     ];
-    assert_eq!(rt; [first, end, last], ends, "{flags}");
+    assert!(rt; ends == want, "{flags}: {ends:?}");
     let want = bytes(rt, alloc, "TargetPortalGroupTag=1|X-2=NotUnderstood|");
     assert!(rt; out.as_slice() == want.as_slice(), "{status:?}");
 }

@@ -1,6 +1,6 @@
 //! Logins that are accepted, request by request.
 use crate::negotiation::scripts::{login_of_tag, run};
-use login::{Kind, Parameters};
+use login::{Kind, Negotiation, Parameters};
 use std::alloc::Global;
 use std::process::Abort;
 use std::test::*;
@@ -97,9 +97,21 @@ const REFUSED_IN_A_RUN: &str = "
 fn check(rt: &impl Abort, alloc: Global, lines: &str, kind: Kind, want: Parameters) {
     let mut login = login_of_tag(rt, alloc, 1);
     run(rt, alloc, &mut login, lines);
-    assert_eq!(rt; login.parameters(), want, "{lines}");
-    let is_of_a = login.initiator() == b"iqn.2000-01.test:a".as_slice();
-    assert!(rt; is_of_a && login.session_kind() == kind, "{lines}");
+    if let Some(what) = differs(&login, kind, &want) {
+        panic!(rt; "{lines}: {what}: {:?}", login.parameters());
+    }
+}
+
+fn differs(login: &Negotiation, kind: Kind, want: &Parameters) -> Option<&'static str> {
+    if login.parameters() != *want {
+        Some("other parameters")
+    } else if login.initiator() != b"iqn.2000-01.test:a".as_slice() {
+        Some("another initiator, with the parameters")
+    } else if login.session_kind() != kind {
+        Some("another session type, with the parameters")
+    } else {
+        None
+    }
 }
 
 #[test]

@@ -12,7 +12,8 @@
 ghost use Rattle.std.specs.Prelude.{◌≤◌, vec_capacity};
 ghost use Rattle.login.specs.declared.negotiation.TheConstants.{LONGEST_RESPONSE};
 
-use login::{LONGEST_RESPONSE, LoginFlags, Negotiation};
+use crate::run::spells;
+use login::{LONGEST_RESPONSE, LoginEnd, LoginFlags, Negotiation};
 use std::alloc::Global;
 use std::process::Abort;
 use std::test::*;
@@ -78,22 +79,48 @@ pub fn run(rt: &impl Abort, alloc: Global, login: &mut Negotiation, lines: &str)
 /// Makes the requests of each line in a login of its own, behind those that come first, and before those that come last.
 pub fn run_each(rt: &impl Abort, alloc: Global, first: &str, lines: &str, last: &str) {
     for line in &lines_of(alloc, lines).expect(rt, "memory") {
-        let mut login = login_of_tag(rt, alloc, 1);
-        run(rt, alloc, &mut login, first);
-        next(rt, alloc, &mut login, line);
-        run(rt, alloc, &mut login, last);
+        run_between(rt, alloc, first, line, last);
     }
+}
+
+// Makes the request of a line in a login of its own.
+fn run_between(rt: &impl Abort, alloc: Global, first: &str, line: &str, last: &str) {
+    let mut login = login_of_tag(rt, alloc, 1);
+    run(rt, alloc, &mut login, first);
+    next(rt, alloc, &mut login, line);
+    run(rt, alloc, &mut login, last);
 }
 
 // Makes one request of a login.
 fn next(rt: &impl Abort, alloc: Global, login: &mut Negotiation, line: &str) {
     let request = bytes(rt, alloc, part(line, 1));
-    let want = bytes(rt, alloc, part(line, 3));
+    let (end, out) = answered(rt, alloc, login, part(line, 0), &request);
+    expect_end(rt, alloc, end, line);
+    expect_answer(rt, alloc, &out, line);
+}
+
+/// What a request of these flags and this text comes to, and what stands in the memory then.
+pub fn answered(
+    rt: &impl Abort,
+    alloc: Global,
+    login: &mut Negotiation,
+    flags: &str,
+    text: &[u8],
+) -> (LoginEnd, Vec<u8>) {
     let mut out = room(rt, alloc);
-    let end = login.request(&mut out, flags_of(rt, part(line, 0)), &request);
-    let end = format!(in alloc; "{end:?}").expect(rt, "memory");
-    assert_eq!(rt; end.as_str(), part(line, 2), "{line}");
-    assert!(rt; out.as_slice() == want.as_slice(), "{line}: another answer");
+    let end = login.request(&mut out, flags_of(rt, flags), text);
+    (end, out)
+}
+
+// A request comes to what its line says.
+fn expect_end(rt: &impl Abort, alloc: Global, end: LoginEnd, line: &str) {
+    assert!(rt; spells(rt, alloc, &end, part(line, 2)), "{line}: {end:?}");
+}
+
+// What stands in the memory then.
+fn expect_answer(rt: &impl Abort, alloc: Global, out: &[u8], line: &str) {
+    let want = bytes(rt, alloc, part(line, 3));
+    assert!(rt; out == want.as_slice(), "{line}: another answer");
 }
 
 // A part of a line, counted from 0.

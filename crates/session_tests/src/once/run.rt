@@ -65,25 +65,40 @@ pub struct Served<'a> {
 
 /// Serves this over blocks of zeros that fail as the row says, and compares.
 pub fn serve(rt: &impl Abort, alloc: Global, row: &Row<'_>, served: Served<'_>) {
+    let mut sink = Watched::new(FakeWriter::new(alloc, WHOLE));
+    let (end, mut blocks) = serve_to(rt, alloc, &mut sink, row, &served);
+    let kept = keeps(&mut blocks, served.blocks, served.written);
+    let sent = sink.into_inner().into_bytes();
+    expect_end(rt, row.name, &served, end, &sent, kept);
+}
+
+// Serves this to this sink: how the session ended, and the blocks then.
+fn serve_to(
+    rt: &impl Abort,
+    alloc: Global,
+    sink: &mut Watched<FakeWriter>,
+    row: &Row<'_>,
+    served: &Served<'_>,
+) -> (End, MemBlocks) {
     assert!(rt; served.blocks > 0, "a unit of one block at least");
     let blocks = MemBlocks::new(alloc, served.blocks).expect(rt, "memory");
     let fused = FusedBlocks::inside(blocks, row.fuse.calls, row.fuse.lands);
     let mut source = Watched::new(FakeReader::new(served.input, served.reads));
-    let mut sink = Watched::new(FakeWriter::new(alloc, WHOLE));
     let me = Identity {
         target_name: b"iqn.2000-01.test:array",
         first: &portal(3260),
         second: &portal(3264),
     };
-    let (end, device, _registrations) = once(alloc, &mut source, &mut sink, fused, &me).expect(
-        rt, row.name,
-    );
-    let kept = keeps(&mut device.into_inner(), served.blocks, served.written);
-    let sent = sink.into_inner().into_bytes();
+    let ended = once(alloc, &mut source, sink, fused, &me);
+    let (end, device, _registrations) = ended.expect(rt, row.name);
+    (end, device.into_inner())
+}
+
+// The input ended, and the output was sent; the blocks are kept.
+fn expect_end(rt: &impl Abort, name: &str, served: &Served<'_>, end: End, sent: &[u8], kept: bool) {
     assert!(rt;
-        end == End::EndOfInput && sent.as_slice() == served.output && kept,
-        "{}, {:?}, {} bytes: {end:?}, {sent:?}, {kept}",
-        row.name,
+        end == End::EndOfInput && sent == served.output && kept,
+        "{name}, {:?}, {} bytes: {end:?}, {sent:?}, {kept}",
         served.reads,
         served.input.len()
     );

@@ -1,5 +1,6 @@
 //! The faults, in their order.
-use crate::pdus::rows::bytes_of;
+use crate::pdus::rows::{bytes_of, is_waited_for};
+use crate::run::spells;
 use iscsi_pdu::PduFault::{BadFlags, BadReserved, HasAhs, NonZeroPad, TooLong, UnknownOpcode};
 use iscsi_pdu::{PduFault, decode};
 use std::alloc::Global;
@@ -39,29 +40,38 @@ fn check(rt: &impl Abort, alloc: Global, row: &str) {
     let (name, row) = row.split_once(';').expect(rt, row);
     let (figure, fault) = row.split_once(';').expect(rt, row);
     let bytes = bytes_of(rt, alloc, figure, [7, 1, 0, 0]);
-    expect_fault(rt, alloc, &bytes, fault.trim(), name);
-    let needed = match fault.trim() {
+    check_fronts(rt, alloc, &bytes, fault.trim(), name);
+}
+
+// The whole, and of its fronts the shortest that has the fault and the one below it.
+fn check_fronts(rt: &impl Abort, alloc: Global, bytes: &[u8], fault: &str, name: &str) {
+    expect_fault(rt, alloc, bytes, fault, name);
+    let needed: usize = match fault {
         "UnknownOpcode" => 1,
         "NonZeroPad" => 52,
         _ => 48,
     };
     let front = bytes.get(..needed).expect(rt, "the front is there");
-    expect_fault(rt, alloc, front, fault.trim(), name);
+    expect_fault(rt, alloc, front, fault, name);
     let less = bytes.get(..needed - 1).expect(rt, "less is there");
-    assert!(rt; matches!(decode(less), Ok(None)), "less of {name}");
+    assert!(rt; is_waited_for(less), "less of {name}");
 }
 
 // These bytes have this fault.
 fn expect_fault(rt: &impl Abort, alloc: Global, bytes: &[u8], want: &str, name: &str) {
     let fault = decode(bytes).err().expect(rt, name);
-    let fault = format!(in alloc; "{fault:?}").expect(rt, "memory");
-    assert_eq!(rt; fault.as_str(), want, "{} bytes of {name}", bytes.len());
+    assert!(rt;
+        spells(rt, alloc, &fault, want),
+        "{} bytes of {name}: {fault:?}",
+        bytes.len()
+    );
 }
 
 #[test]
 fn each_fault_is_found_first_and_in_time(rt: HostRuntime) {
+    let alloc = rt.alloc();
     for row in ROWS.trim().split('\n') {
-        check(&rt, rt.alloc(), row);
+        check(&rt, alloc, row);
     }
 }
 

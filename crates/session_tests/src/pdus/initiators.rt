@@ -139,11 +139,11 @@ const ROWS: &[Row] = &[
 
 fn check(rt: &impl Abort, alloc: Global, row: &Row) {
     let header = Header::Initiator(row.header);
-    expect_encoded(rt, alloc, row.name, header, row.plain);
+    expect_encoded(rt, alloc, row.name, &header, row.plain);
     let plain = bytes_of(rt, alloc, row.plain, [7, 8, 0, 0]);
-    expect_decoded(rt, row.name, &plain, header);
+    expect_decoded(rt, row.name, &plain, &header);
     let reserved = bytes_of(rt, alloc, row.reserved, [7, 8, 0xEE, 0xFF]);
-    expect_decoded(rt, row.name, &reserved, header);
+    expect_decoded(rt, row.name, &reserved, &header);
 }
 
 #[test]

@@ -1,8 +1,8 @@
 //! PDUs without data, the longest PDU, and bytes that come one by one.
-use crate::pdus::rows::{Figure, NUMBERS, bytes_of};
+use crate::pdus::rows::{Figure, NUMBERS, bytes_of, decoded_otherwise, is_waited_for, put_pdu};
 use iscsi_pdu::{
-    DataIn, Header, LONGEST_PDU, MAX_DATA_SEGMENT_LENGTH, Pdu, TargetHeader, decode, encode,
-    one_front, one_pdu, one_spelling, spelled,
+    DataIn, Header, LONGEST_PDU, MAX_DATA_SEGMENT_LENGTH, TargetHeader, decode, one_front, one_pdu,
+    one_spelling, spelled,
 };
 use std::test::*;
 
@@ -14,37 +14,34 @@ fn a_pdu_is_waited_for(rt: HostRuntime) {
     let bytes = bytes_of(&rt, rt.alloc(), TEST_UNIT_READY, [0x2A, 0, 0, 0]);
     for n in 0..48 {
         let front = bytes.get(..n).expect(&rt, "the front is there");
-        assert!(rt; matches!(decode(front), Ok(None)), "the first {n} bytes");
+        assert!(rt; is_waited_for(front), "the first {n} bytes");
     }
-    let found = decode(&bytes).ok().expect(&rt, "no fault");
-    let (pdu, size) = found.expect(&rt, "the whole is there");
-    assert!(rt; pdu.data.is_empty());
-    assert_eq!(rt; size, 48);
+    assert!(rt; has_no_data(&bytes), "the whole: another PDU, or none");
 }
+
+// These bytes begin with a PDU of 48 bytes, which has no data.
+fn has_no_data(bytes: &[u8]) -> bool {
+    matches!(decode(bytes), Ok(Some((pdu, 48))) if pdu.data.is_empty())
+}
+
+const LAST_DATA_IN: Header = Header::Target(TargetHeader::DataIn(DataIn {
+    last: true,
+    task_tag: 3,
+    transfer_tag: 0xFFFFFFFF,
+    numbers: NUMBERS,
+    data_sn: 0,
+    offset: 0,
+}));
 
 #[test]
 fn the_longest_pdu(rt: HostRuntime) {
     let data = vec![in rt.alloc(); 0x5A; MAX_DATA_SEGMENT_LENGTH].expect(&rt, "memory");
-    let header = Header::Target(TargetHeader::DataIn(DataIn {
-        last: true,
-        task_tag: 3,
-        transfer_tag: 0xFFFFFFFF,
-        numbers: NUMBERS,
-        data_sn: 0,
-        offset: 0,
-    }));
-    let pdu = Pdu {
-        header,
-        data: &data,
-    };
     let mut out = Vec::new(rt.alloc());
-    encode(&pdu, &mut out).expect(&rt, "memory");
-    assert_eq!(rt; out.len(), LONGEST_PDU);
-    let found = decode(&out).ok().expect(&rt, "no fault");
-    let (pdu, size) = found.expect(&rt, "the whole is there");
-    assert_eq!(rt; pdu.header, header);
-    assert_eq!(rt; pdu.data, data.as_slice());
-    assert_eq!(rt; size, LONGEST_PDU);
+    put_pdu(&rt, &mut out, &LAST_DATA_IN, &data);
+    assert!(rt; out.len() == LONGEST_PDU, "{} bytes", out.len());
+    if let Some(what) = decoded_otherwise(&out, &LAST_DATA_IN, &data, LONGEST_PDU) {
+        panic!(rt; "{what} is decoded");
+    }
 }
 
 #[test]

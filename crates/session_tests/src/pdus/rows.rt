@@ -1,6 +1,8 @@
 //! How the rows of the tables are run.
 use crate::run::put;
-use iscsi_pdu::{BHS_LENGTH, CommandNumbers, Header, Numbers, Pdu, decode, encode};
+use iscsi_pdu::{
+    BHS_LENGTH, CommandNumbers, Header, MAX_DATA_SEGMENT_LENGTH, Numbers, Pdu, decode, encode,
+};
 use std::alloc::Global;
 use std::process::Abort;
 use std::test::*;
@@ -33,30 +35,75 @@ pub fn bytes_of(rt: &impl Abort, alloc: Global, figure: &str, tail: [u8; 4]) -> 
         let line = u32::from_str_radix(line, 16).expect(rt, line);
         put(rt, &mut bytes, &line.to_be_bytes());
     }
-    assert_eq!(rt; bytes.len(), BHS_LENGTH, "{figure}");
+    assert!(rt;
+        bytes.len() == BHS_LENGTH,
+        "{figure}: {} bytes",
+        bytes.len()
+    );
     put(rt, &mut bytes, &tail);
     bytes
 }
 
+/// Appends a PDU.
+pub fn put_pdu(rt: &impl Abort, out: &mut Vec<u8>, header: &Header, data: &[u8]) {
+    assert!(rt; data.len() <= MAX_DATA_SEGMENT_LENGTH, "too much data");
+    let pdu = Pdu {
+        header: *header,
+        data,
+    };
+    encode(&pdu, out).expect(rt, "memory");
+}
+
 /// Behind another byte, the header with the data is encoded as this figure, the data and two zeros.
-pub fn expect_encoded(rt: &impl Abort, alloc: Global, name: &str, header: Header, figure: &str) {
+pub fn expect_encoded(rt: &impl Abort, alloc: Global, name: &str, header: &Header, figure: &str) {
     let mut out = Vec::new(alloc);
     put(rt, &mut out, &[9]);
-    let pdu = Pdu {
-        header,
-        data: &DATA,
-    };
-    encode(&pdu, &mut out).expect(rt, "memory");
+    put_pdu(rt, &mut out, header, &DATA);
     let want = bytes_of(rt, alloc, figure, [7, 8, 0, 0]);
-    let is_encoded = out.split_first() == Some((&9, want.as_slice()));
-    assert!(rt; is_encoded, "{name} is encoded: {:?}", out);
+    assert!(rt; stands_behind_9(&out, &want), "{name} is encoded: {out:?}");
+}
+
+// Whether these bytes are 9, and those that are wanted.
+fn stands_behind_9(bytes: &[u8], want: &[u8]) -> bool {
+    match bytes {
+        [9, rest @ ..] => rest == want,
+        _ => false,
+    }
 }
 
 /// These bytes begin with a PDU of 52 bytes, which has this header and the data.
-pub fn expect_decoded(rt: &impl Abort, name: &str, bytes: &[u8], header: Header) {
-    let found = decode(bytes).ok().expect(rt, "no fault");
-    let (pdu, size) = found.expect(rt, "the whole is there");
-    assert_eq!(rt; pdu.header, header, "{name} is decoded");
-    assert_eq!(rt; pdu.data, DATA.as_slice(), "the data of {name}");
-    assert_eq!(rt; size, 52, "the size of {name}");
+pub fn expect_decoded(rt: &impl Abort, name: &str, bytes: &[u8], header: &Header) {
+    if let Some(what) = decoded_otherwise(bytes, header, &DATA, 52) {
+        panic!(rt; "{name} is decoded: {what}");
+    }
+}
+
+/// What is decoded where these bytes do not begin with a PDU of this header, these data and this size.
+pub fn decoded_otherwise(
+    bytes: &[u8],
+    header: &Header,
+    data: &[u8],
+    size: usize,
+) -> Option<&'static str> {
+    match decode(bytes) {
+        Ok(Some((pdu, found))) if found == size => differs(&pdu, header, data),
+        Ok(Some(_)) => Some("another size"),
+        Ok(None) => Some("no whole PDU"),
+        Err(_) => Some("a fault"),
+    }
+}
+
+fn differs(pdu: &Pdu<'_>, header: &Header, data: &[u8]) -> Option<&'static str> {
+    if pdu.header != *header {
+        Some("another header")
+    } else if pdu.data != data {
+        Some("other data")
+    } else {
+        None
+    }
+}
+
+/// Whether these bytes are the front of a PDU, and more are waited for.
+pub fn is_waited_for(bytes: &[u8]) -> bool {
+    matches!(decode(bytes), Ok(None))
 }

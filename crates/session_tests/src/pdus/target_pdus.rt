@@ -160,9 +160,9 @@ const ROWS: &[Row] = &[
 
 fn check(rt: &impl Abort, alloc: Global, (name, header, figure): &Row) {
     let header = Header::Target(*header);
-    expect_encoded(rt, alloc, name, header, figure);
+    expect_encoded(rt, alloc, name, &header, figure);
     let bytes = bytes_of(rt, alloc, figure, [7, 8, 0, 0]);
-    expect_decoded(rt, name, &bytes, header);
+    expect_decoded(rt, name, &bytes, &header);
 }
 
 #[test]
