@@ -1,5 +1,5 @@
 //! A disk that is a file: what is written, and what becomes of it.
-use crate::files::{beside, length, made, make, opened, reads, want, want_all, writes};
+use crate::files::{beside, made, make, opened, reads, want, writes};
 use block_file::{Blocks, Opener};
 use disk_files::Disk;
 use std::fs;
@@ -9,13 +9,10 @@ use std::test::Fail;
 #[test]
 fn what_is_written_is_there_after_a_restart(rt: HostRuntime) -> Result<(), Fail> {
     let path = made(&rt, "restart", 4 * 512)?;
-    are_there_after_a_restart(rt, path.as_str())
-}
-
-fn are_there_after_a_restart(rt: HostRuntime, path: &str) -> Result<(), Fail> {
-    are_written(rt, path)?;
-    are_there(rt, path)?;
-    lie_in_turn(fs::read(&rt, path)?.as_slice())
+    are_written(rt, path.as_str())?;
+    are_there(rt, path.as_str())?;
+    let bytes = fs::read(&rt, path.as_str())?;
+    lie_in_turn(bytes.as_slice())
 }
 
 fn are_written(rt: HostRuntime, path: &str) -> Result<(), Fail> {
@@ -25,12 +22,10 @@ fn are_written(rt: HostRuntime, path: &str) -> Result<(), Fail> {
 
 /// Writes three blocks of a device of four, by two runs.
 pub fn write_three<B: Blocks>(blocks: &mut B) -> Result<(), Fail> {
-    want_all(&[
-        ("four blocks", blocks.count() == 4),
-        ("zeros at first", reads(blocks, 0, &[0, 0, 0, 0])),
-        ("a write of two blocks", writes(blocks, 1, &[7, 8])),
-        ("a write of the last", writes(blocks, 3, &[9])),
-    ])
+    want(blocks.count() == 4, "four blocks")?;
+    want(reads(blocks, 0, &[0, 0, 0, 0]), "zeros at first")?;
+    want(writes(blocks, 1, &[7, 8]), "a write of two blocks")?;
+    want(writes(blocks, 3, &[9]), "a write of the last")
 }
 
 /// Writes and flushes them.
@@ -46,10 +41,8 @@ fn are_there(rt: HostRuntime, path: &str) -> Result<(), Fail> {
 
 /// Reads them, by two runs.
 pub fn read_them<B: Blocks>(blocks: &mut B) -> Result<(), Fail> {
-    want_all(&[
-        ("all four", reads(blocks, 0, &[0, 7, 8, 9])),
-        ("the last two", reads(blocks, 2, &[8, 9])),
-    ])
+    want(reads(blocks, 0, &[0, 7, 8, 9]), "all four")?;
+    want(reads(blocks, 2, &[8, 9]), "the last two")
 }
 
 /// The bytes of their file.
@@ -69,39 +62,37 @@ fn opens(disk: &mut Disk<HostRuntime>) -> bool {
 #[test]
 fn a_disk_that_is_opened_anew_has_the_same_blocks(rt: HostRuntime) -> Result<(), Fail> {
     let path = made(&rt, "anew", 2 * 512)?;
-    is_opened_twice(&mut opened(rt, path.as_str())?)
+    let mut disk = opened(rt, path.as_str())?;
+    is_opened_twice(&mut disk)
 }
 
 fn is_opened_twice(disk: &mut Disk<HostRuntime>) -> Result<(), Fail> {
-    want_all(&[
-        ("a write", writes(&mut disk.blocks, 0, &[5, 6])),
-        ("an open", opens(disk)),
-        ("what was written", reads(&mut disk.blocks, 0, &[5, 6])),
-        ("a write behind it", writes(&mut disk.blocks, 1, &[7])),
-        ("a second open", opens(disk)),
-        ("what was written then", reads(&mut disk.blocks, 0, &[5, 7])),
-    ])
+    want(writes(&mut disk.blocks, 0, &[5, 6]), "a write")?;
+    want(opens(disk), "an open")?;
+    want(reads(&mut disk.blocks, 0, &[5, 6]), "what was written")?;
+    want(writes(&mut disk.blocks, 1, &[7]), "a write behind it")?;
+    want(opens(disk), "a second open")?;
+    want(reads(&mut disk.blocks, 0, &[5, 7]), "what was written then")
 }
 
 #[test]
 fn a_file_that_took_its_name_is_not_opened(rt: HostRuntime) -> Result<(), Fail> {
     let path = made(&rt, "replaced", 2 * 512)?;
-    loses_its_name(rt, path.as_str(), &mut opened(rt, path.as_str())?)
+    let mut disk = opened(rt, path.as_str())?;
+    loses_its_name(rt, path.as_str(), &mut disk)
 }
 
 fn loses_its_name(rt: HostRuntime, path: &str, disk: &mut Disk<HostRuntime>) -> Result<(), Fail> {
     want(writes(&mut disk.blocks, 0, &[5, 6]), "a write")?;
     replace(rt, path)?;
-    want_all(&[
-        ("another file is not opened", !opens(disk)),
-        ("the blocks stay", reads(&mut disk.blocks, 0, &[5, 6])),
-        ("no file", fs::remove_file(&rt, path).is_ok()),
-        ("no file is not opened", !opens(disk)),
-        (
-            "the blocks stay once more",
-            reads(&mut disk.blocks, 0, &[5, 6]),
-        ),
-    ])
+    want(!opens(disk), "another file is not opened")?;
+    want(reads(&mut disk.blocks, 0, &[5, 6]), "the blocks stay")?;
+    fs::remove_file(&rt, path)?;
+    want(!opens(disk), "no file is not opened")?;
+    want(
+        reads(&mut disk.blocks, 0, &[5, 6]),
+        "the blocks stay once more",
+    )
 }
 
 // Another file takes the name.
@@ -115,28 +106,30 @@ fn replace(rt: HostRuntime, path: &str) -> Result<(), Fail> {
 #[test]
 fn a_file_that_is_cut_short_fails(rt: HostRuntime) -> Result<(), Fail> {
     let path = made(&rt, "cut", 4 * 512)?;
-    is_cut_short(rt, path.as_str(), &mut opened(rt, path.as_str())?)
+    let mut disk = opened(rt, path.as_str())?;
+    is_cut_short(rt, path.as_str(), &mut disk)
 }
 
 fn is_cut_short(rt: HostRuntime, path: &str, disk: &mut Disk<HostRuntime>) -> Result<(), Fail> {
-    want_all(&[
-        ("a write", writes(&mut disk.blocks, 0, &[5, 6, 7, 8])),
-        ("a cut", cuts(rt, path)),
-        ("what is left", reads(&mut disk.blocks, 0, &[5, 6])),
-        (
-            "a read across the end",
-            !reads(&mut disk.blocks, 1, &[6, 7]),
-        ),
-        ("a read behind the end", !reads(&mut disk.blocks, 3, &[8])),
-        ("a write behind the end", !writes(&mut disk.blocks, 3, &[9])),
-        ("an open", !opens(disk)),
-    ])?;
-    want(length(rt, path)? == 1024, "the file stays so long")
+    want(writes(&mut disk.blocks, 0, &[5, 6, 7, 8]), "a write")?;
+    cut(rt, path)?;
+    fails(disk)?;
+    want(fs::read(&rt, path)?.len() == 1024, "the file stays so long")
 }
 
-fn cuts(rt: HostRuntime, path: &str) -> bool {
-    match File::options().write(true).open(&rt, path) {
-        Ok(file) => file.set_len(2 * 512).is_ok(),
-        Err(_) => false,
-    }
+fn cut(rt: HostRuntime, path: &str) -> Result<(), Fail> {
+    let file = File::options().write(true).open(&rt, path)?;
+    file.set_len(2 * 512)?;
+    Ok(())
+}
+
+fn fails(disk: &mut Disk<HostRuntime>) -> Result<(), Fail> {
+    want(reads(&mut disk.blocks, 0, &[5, 6]), "what is left")?;
+    want(
+        !reads(&mut disk.blocks, 1, &[6, 7]),
+        "a read across the end",
+    )?;
+    want(!reads(&mut disk.blocks, 3, &[8]), "a read behind the end")?;
+    want(!writes(&mut disk.blocks, 3, &[9]), "a write behind the end")?;
+    want(!opens(disk), "an open")
 }

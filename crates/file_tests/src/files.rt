@@ -11,14 +11,6 @@ pub fn want(holds: bool, what: &'static str) -> Result<(), Fail> {
     if holds { Ok(()) } else { Err(what.into()) }
 }
 
-/// Fails at the first of these that does not hold.
-pub fn want_all(steps: &[(&'static str, bool)]) -> Result<(), Fail> {
-    for (what, holds) in steps {
-        want(*holds, what)?;
-    }
-    Ok(())
-}
-
 // The folder of a test, made anew.
 fn folder(rt: &HostRuntime, name: &str) -> Result<String, Fail> {
     let folder = format!(in rt.alloc(); "/tmp/arrayd_{}_{name}", process::id(rt.process()))?;
@@ -49,11 +41,6 @@ pub fn made(rt: &HostRuntime, name: &str, bytes: u64) -> Result<String, Fail> {
     let path = disk(rt, name)?;
     make(rt, path.as_str(), bytes)?;
     Ok(path)
-}
-
-/// How many bytes a file has.
-pub fn length(rt: HostRuntime, path: &str) -> Result<usize, Fail> {
-    Ok(fs::read(&rt, path)?.len())
 }
 
 /// The device of a file.

@@ -1,7 +1,7 @@
 //! Preparers that cannot prepare: the device does the same.
 use crate::files::{beside, disk, make, opened, reads, want, writes};
 use block_file::Blocks;
-use disk_files::FilePreparer;
+use disk_files::{FileBlocks, FilePreparer};
 use preparer::Preparer;
 use std::fs::File;
 use std::rt::{Clock, Files};
@@ -44,19 +44,23 @@ fn under_a_name<R: Clock + Wait + Files<File = File> + Drop>(
     is_own: bool,
 ) -> Result<(), Fail> {
     make(&rt, path, 2048)?;
-    let mut blocks = opened(rt, path)?.blocks;
+    let mut blocks = device(rt, path)?;
     let preparer = FilePreparer::open(waits, rt.alloc(), name, &mut blocks, None);
-    want(preparer.flushes() == is_own, "whether it flushes")?;
     costs_time_alone(rt, path, is_own, &mut blocks, &preparer)
 }
 
-fn costs_time_alone<B: Blocks>(
+fn device(rt: HostRuntime, path: &str) -> Result<FileBlocks<File>, Fail> {
+    Ok(opened(rt, path)?.blocks)
+}
+
+fn costs_time_alone<B: Blocks, R: Clock + Wait + Drop>(
     rt: HostRuntime,
     path: &str,
     is_own: bool,
     blocks: &mut B,
-    preparer: &impl Preparer,
+    preparer: &FilePreparer<R, File>,
 ) -> Result<(), Fail> {
+    want(preparer.flushes() == is_own, "whether it flushes")?;
     want(preparer.flush() == is_own, "a flush of its own")?;
     is_as_ever(blocks, preparer)?;
     make(&rt, path, 512)?;

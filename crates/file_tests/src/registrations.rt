@@ -31,15 +31,17 @@ fn record_of(alloc: Global, key: u64) -> Result<Record, NoMemory> {
 #[test]
 fn a_saved_record_is_there_after_a_restart(rt: HostRuntime) -> Result<(), Fail> {
     let path = disk(&rt, "saved")?;
-    are_saved(rt, path.as_str())
-}
-
-fn are_saved(rt: HostRuntime, path: &str) -> Result<(), Fail> {
-    is_saved(rt, path, None, 0x11)?;
-    is_saved(rt, path, Some(0x11), 0x22)?;
-    is_saved(rt, path, Some(0x22), 0x33)?;
-    want(length(rt, path, ".reg")? == Some(67 * 512), "the file")?;
-    want(length(rt, path, ".reg.new")?.is_none(), "no other file")
+    is_saved(rt, path.as_str(), None, 0x11)?;
+    is_saved(rt, path.as_str(), Some(0x11), 0x22)?;
+    is_saved(rt, path.as_str(), Some(0x22), 0x33)?;
+    want(
+        length(rt, path.as_str(), ".reg")? == Some(67 * 512),
+        "the file",
+    )?;
+    want(
+        length(rt, path.as_str(), ".reg.new")? == None,
+        "no other file",
+    )
 }
 
 // The length of a file beside a disk, if it is there.

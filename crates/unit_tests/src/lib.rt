@@ -23,6 +23,8 @@ mod rows;
 #[cfg(test)]
 mod run;
 #[cfg(test)]
+mod served;
+#[cfg(test)]
 mod sessions;
 #[cfg(test)]
 mod states;

@@ -1,8 +1,9 @@
 //! The runner of the scripts.
-use crate::bench::{Bench, Ended, Setup, filled_by};
+use crate::bench::{Bench, Setup, filled_by};
 use crate::rows::{Row, is_row, setup_of, spelled, written_at};
+use crate::served::Ended;
 use access_states::{AsetFault, Change};
-use block_file::Blocks;
+use block_file::{Blocks, MemBlocks};
 use scsi_types::{Group, Reply, Sense, Status};
 use std::alloc::Global;
 use std::process::Abort;
@@ -30,18 +31,29 @@ pub fn play(rt: &impl Abort, alloc: Global, script: &str, parts: &[Part]) {
     let lines = lines_of(alloc, script).expect(rt, "memory");
     let setup = setup_of(rt, &lines);
     let mut bench = Bench::open(rt, alloc, &setup);
-    for (text, first, end) in parts {
-        let rows = lines_of(alloc, text).expect(rt, "memory");
-        for n in *first..*end {
-            bench = behind(rt, alloc, bench, &setup, &rows, n);
-        }
+    for part in parts {
+        bench = played(rt, alloc, bench, &setup, part);
     }
-    let mut device = bench.close();
+    look_at_all(rt, &mut bench.close(), setup.script, &lines);
+}
+
+// Plays a part.
+fn played(rt: &impl Abort, alloc: Global, bench: Bench, setup: &Setup, part: &Part) -> Bench {
+    let (text, first, end) = part;
+    let rows = lines_of(alloc, text).expect(rt, "memory");
+    let mut bench = bench;
+    for n in *first..*end {
+        bench = behind(rt, alloc, bench, setup, &rows, n);
+    }
+    bench
+}
+
+// Each block is as the lines of the script say.
+fn look_at_all(rt: &impl Abort, device: &mut MemBlocks, script: &str, lines: &[&str]) {
     for index in 0..device.count() {
         assert!(rt;
-            filled_by(&mut device, index) == Some(written_at(rt, &lines, index)),
-            "{}, block {index}",
-            setup.script
+            filled_by(device, index) == Some(written_at(rt, lines, index)),
+            "{script}, block {index}"
         );
     }
 }
@@ -82,16 +94,23 @@ fn make(rt: &impl Abort, alloc: Global, bench: &mut Bench, setup: &Setup, row: &
 fn is_met(rt: &impl Abort, alloc: Global, ended: &Ended, row: &Row) -> bool {
     let (word, rest) = row.end();
     match ended {
-        Ended::Step(StepEnd::Reply(reply)) => is_reply(rt, alloc, reply, word, rest),
-        Ended::Step(StepEnd::Moved(owner)) => word == "MOVED" && rest == number(*owner),
-        Ended::Step(StepEnd::Gone) | Ended::Session(Err(_)) => word == "GONE",
-        Ended::Step(StepEnd::NoMemory) => false,
+        Ended::Step(end) => is_step(rt, alloc, end, word, rest),
+        Ended::Session(Err(_)) => word == "GONE",
         Ended::Attach(Ok(id)) => word == "ATTACHED" && row.number(rt, rest) == *id,
         Ended::Attach(Err(AttachFault::TooManySessions)) => word == "TOO-MANY",
         Ended::Session(Ok(())) | Ended::Flush(Ok(())) => word == "DONE",
         Ended::Move(Ok(change)) => is_change(*change, word, rest),
         Ended::Move(Err(fault)) => fault_of(word) == Some(*fault),
         Ended::Flush(Err(_)) => word == "FAILED",
+    }
+}
+
+fn is_step(rt: &impl Abort, alloc: Global, end: &StepEnd, word: &str, rest: &str) -> bool {
+    match end {
+        StepEnd::Reply(reply) => is_reply(rt, alloc, reply, word, rest),
+        StepEnd::Moved(owner) => word == "MOVED" && rest == number(*owner),
+        StepEnd::Gone => word == "GONE",
+        StepEnd::NoMemory => false,
     }
 }
 
@@ -128,16 +147,17 @@ fn is_reply(rt: &impl Abort, alloc: Global, reply: &Reply, word: &str, bytes: &s
     if !matches!(word, "GOOD" | "CONFLICT" | "CHECK") {
         return false;
     }
-    let bytes = spelled(rt, alloc, bytes);
+    is_reply_of(reply, word, &spelled(rt, alloc, bytes))
+}
+
+fn is_reply_of(reply: &Reply, word: &str, bytes: &[u8]) -> bool {
     match reply.status() {
-        Status::Good => {
-            word == "GOOD" && reply.sense() == None && reply.bytes() == bytes.as_slice()
-        }
+        Status::Good => word == "GOOD" && reply.sense().is_none() && reply.bytes() == bytes,
         Status::ReservationConflict => {
-            word == "CONFLICT" && reply.sense() == None && reply.bytes().is_empty()
+            word == "CONFLICT" && reply.sense().is_none() && reply.bytes().is_empty()
         }
         Status::CheckCondition => {
-            word == "CHECK" && is_sense(reply.sense(), &bytes) && reply.bytes().is_empty()
+            word == "CHECK" && is_sense(reply.sense(), bytes) && reply.bytes().is_empty()
         }
         _ => false,
     }

@@ -83,6 +83,16 @@ pub fn found<B: Blocks>(rt: &impl Abort, alloc: Global, device: B) -> (bool, Vec
     told(rt, alloc, record)
 }
 
+/// Whether a record is that of one nexus with this key.
+pub fn is_of(rt: &impl Abort, alloc: Global, record: Record, key: u64) -> bool {
+    told(rt, alloc, record) == told(rt, alloc, record_of(rt, alloc, key))
+}
+
+/// Whether the file of a device holds the record of one nexus with this key.
+pub fn holds<B: Blocks>(rt: &impl Abort, alloc: Global, device: B, key: u64) -> bool {
+    found(rt, alloc, device) == told(rt, alloc, record_of(rt, alloc, key))
+}
+
 /// Whether a save of the record of one nexus with this key fails, and where.
 pub fn fault_of<B: Blocks>(
     rt: &impl Abort,

@@ -1,5 +1,5 @@
 //! A device that stops at each call of a save in turn.
-use crate::reg_file::files::{OPEN_CALLS, SAVE_CALLS, fault_of, formatted, found, record_of, told};
+use crate::reg_file::files::{OPEN_CALLS, SAVE_CALLS, fault_of, formatted, holds, is_of};
 use aptpl_file::{FILE_BLOCKS, RegFile, SaveFault};
 use block_file::{FusedBlocks, MemBlocks};
 use std::alloc::Global;
@@ -27,18 +27,13 @@ pub fn place_of(calls: u64) -> Option<SaveFault> {
 fn save(rt: &impl Abort, alloc: Global, calls: u64, lands: u32) {
     let device = fused(rt, alloc, calls, lands);
     let (mut file, before) = RegFile::open(alloc, device).expect(rt, "a registration file");
-    let old = told(rt, alloc, before);
-    assert!(rt;
-        old == told(rt, alloc, record_of(rt, alloc, 0x11)),
-        "{calls}"
-    );
+    assert!(rt; is_of(rt, alloc, before, 0x11), "{calls}");
     let fault = fault_of(rt, alloc, &mut file, 0x22);
     assert!(rt; fault == place_of(calls), "{calls}: {fault:?}");
     let landed = calls > 2 || lands > 0 && calls == 2;
     let key = if landed { 0x22 } else { 0x11 };
-    let wanted = told(rt, alloc, record_of(rt, alloc, key));
     let left = file.close().into_inner();
-    assert!(rt; found(rt, alloc, left) == wanted, "{calls}, {lands}");
+    assert!(rt; holds(rt, alloc, left, key), "{calls}, {lands}");
 }
 
 #[test]
@@ -48,10 +43,14 @@ fn each_call_of_a_save_and_a_format(rt: HostRuntime) {
             save(&rt, rt.alloc(), calls, *lands);
         }
     }
-    // A format fails that stops at one of its four calls.
     for calls in 0..SAVE_CALLS + 1 {
-        let device = MemBlocks::new(rt.alloc(), FILE_BLOCKS).expect(&rt, "memory");
-        let fault = RegFile::format(FusedBlocks::new(device, calls)).err();
-        assert!(rt; fault == place_of(calls), "a format, {calls}: {fault:?}");
+        format(&rt, rt.alloc(), calls);
     }
+}
+
+/// A format fails that stops at one of its four calls.
+fn format(rt: &impl Abort, alloc: Global, calls: u64) {
+    let device = MemBlocks::new(alloc, FILE_BLOCKS).expect(rt, "memory");
+    let fault = RegFile::format(FusedBlocks::new(device, calls)).err();
+    assert!(rt; fault == place_of(calls), "a format, {calls}: {fault:?}");
 }

@@ -3,7 +3,7 @@ ghost use Rattle.std.specs.Prelude.{◌+◌, [], false, min};
 ghost use Rattle.std.proofs.Common.{arith};
 ghost use Rattle.block_file.specs.Failures.{last_count};
 
-use crate::reg_file::files::{OPEN_CALLS, fault_of, formatted, found, record_of, told};
+use crate::reg_file::files::{OPEN_CALLS, fault_of, formatted, holds};
 use aptpl_file::{RegFile, SaveFault};
 use block_file::{Blocks, DeviceFailed, MemBlocks};
 use std::alloc::Global;
@@ -160,7 +160,6 @@ fn an_undecided_root_is_written_again(rt: HostRuntime) {
         let (fault, calls, left) = saved_twice(&rt, alloc, row.fails_at);
         let is = fault == row.fault && calls == OPEN_CALLS + row.calls;
         assert!(rt; is, "{}: {fault:?}, {calls}", row.fails_at);
-        let wanted = told(&rt, alloc, record_of(&rt, alloc, 0x22));
-        assert!(rt; found(&rt, alloc, left) == wanted, "{}", row.fails_at);
+        assert!(rt; holds(&rt, alloc, left, 0x22), "{}", row.fails_at);
     }
 }

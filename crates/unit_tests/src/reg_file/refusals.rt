@@ -1,17 +1,11 @@
 //! Files that are refused, and why.
 use crate::reg_file::files::{Asked, Sent, formatted, registry_after, set_block, set_byte};
+use crate::rows::part;
 use aptpl_file::{OpenFault, RegFile};
 use block_file::MemBlocks;
 use scsi_types::Group;
 use std::alloc::Global;
 use std::process::Abort;
-
-/// Bytes put into a file, and why it is refused, if it is.
-struct Row {
-    name: &'static str,
-    puts: &'static [(u32, usize, u8)],
-    fault: Option<OpenFault>,
-}
 
 const NOT: Option<OpenFault> = Some(OpenFault::NotARegFile);
 
@@ -24,179 +18,44 @@ const TWO: &[Sent] = &[
     (b'a', Group::One, Asked::Reserve(0x11, 5)),
 ];
 
-/// Of a file with their record (slot 1 from block 34 on, entries in block 35).
-const ROWS_OF_TWO: &[Row] = &[
-    Row {
-        name: "as it was saved",
-        puts: &[],
-        fault: None,
-    },
-    Row {
-        name: "another root",
-        puts: &[(0, 7, 0x32)],
-        fault: NOT,
-    },
-    Row {
-        name: "version 3",
-        puts: &[(0, 9, 3)],
-        fault: VERSION,
-    },
-    Row {
-        name: "version 257",
-        puts: &[(0, 8, 1)],
-        fault: VERSION,
-    },
-    Row {
-        name: "another root comes before the version",
-        puts: &[(0, 0, 0), (0, 9, 3)],
-        fault: NOT,
-    },
-    Row {
-        name: "the version comes before the slot",
-        puts: &[(0, 9, 3), (0, 10, 2)],
-        fault: VERSION,
-    },
-    Row {
-        name: "slot 2",
-        puts: &[(0, 10, 2)],
-        fault: NOT,
-    },
-    Row {
-        name: "a root with a stray byte",
-        puts: &[(0, 511, 1)],
-        fault: NOT,
-    },
-    Row {
-        name: "the slot that is named was never written",
-        puts: &[(0, 10, 0), (1, 0, 0)],
-        fault: NOT,
-    },
-    Row {
-        name: "a slot with another name",
-        puts: &[(34, 3, 0)],
-        fault: NOT,
-    },
-    Row {
-        name: "aptpl 2",
-        puts: &[(34, 8, 2)],
-        fault: NOT,
-    },
-    Row {
-        name: "registrants without aptpl",
-        puts: &[(34, 8, 0)],
-        fault: NOT,
-    },
-    Row {
-        name: "65 registrants",
-        puts: &[(34, 9, 65)],
-        fault: NOT,
-    },
-    Row {
-        name: "one registrant, and another entry",
-        puts: &[(34, 9, 1)],
-        fault: NOT,
-    },
-    Row {
-        name: "three registrants, and two entries",
-        puts: &[(34, 9, 3)],
-        fault: NOT,
-    },
-    Row {
-        name: "type 2",
-        puts: &[(34, 10, 2)],
-        fault: NOT,
-    },
-    Row {
-        name: "type 7 with a holder",
-        puts: &[(34, 10, 7)],
-        fault: NOT,
-    },
-    Row {
-        name: "no type, and a holder",
-        puts: &[(34, 10, 0)],
-        fault: NOT,
-    },
-    Row {
-        name: "a holder that is not there",
-        puts: &[(34, 11, 2)],
-        fault: NOT,
-    },
-    Row {
-        name: "a holder of a group that its entry has not",
-        puts: &[(34, 12, 2)],
-        fault: NOT,
-    },
-    Row {
-        name: "a holder without a group",
-        puts: &[(34, 12, 0)],
-        fault: NOT,
-    },
-    Row {
-        name: "a holder of group 3",
-        puts: &[(34, 12, 3)],
-        fault: NOT,
-    },
-    Row {
-        name: "type 7, and a holder's group",
-        puts: &[(34, 10, 7), (34, 11, 0xFF)],
-        fault: NOT,
-    },
-    Row {
-        name: "type 5 without a holder",
-        puts: &[(34, 11, 0xFF)],
-        fault: NOT,
-    },
-    Row {
-        name: "a slot with a stray byte",
-        puts: &[(34, 13, 1)],
-        fault: NOT,
-    },
-    Row {
-        name: "entries out of order",
-        puts: &[(35, 34, b'c')],
-        fault: NOT,
-    },
-    Row {
-        name: "one nexus twice",
-        puts: &[(35, 34, b'b')],
-        fault: NOT,
-    },
-    Row {
-        name: "key 0",
-        puts: &[(35, 7, 0)],
-        fault: NOT,
-    },
-    Row {
-        name: "group 4",
-        puts: &[(35, 9, 4)],
-        fault: NOT,
-    },
-    Row {
-        name: "group 257",
-        puts: &[(35, 8, 1)],
-        fault: NOT,
-    },
-    Row {
-        name: "a name of no byte",
-        puts: &[(35, 16, 0)],
-        fault: NOT,
-    },
-    Row {
-        name: "a name of 224 bytes",
-        puts: &[(35, 16, 224)],
-        fault: NOT,
-    },
-    Row {
-        name: "a byte behind the name",
-        puts: &[(35, 35, 1)],
-        fault: NOT,
-    },
-    Row {
-        name: "a byte behind the last entry",
-        puts: &[(66, 511, 1)],
-        fault: NOT,
-    },
-];
+/// Rows of a file with their record (slot 1 from block 34 on, entries in block 35): a name; the bytes that are put into the file, each
+/// by its block, its place there and, in hexadecimal, its value; and why the file is refused, or that it opens.
+const ROWS_OF_TWO: &str = "
+as it was saved;; opens
+another root; 0 7 32; not-a-file
+version 3; 0 9 03; version
+version 257; 0 8 01; version
+another root comes before the version; 0 0 00, 0 9 03; not-a-file
+the version comes before the slot; 0 9 03, 0 10 02; version
+slot 2; 0 10 02; not-a-file
+a root with a stray byte; 0 511 01; not-a-file
+the slot that is named was never written; 0 10 00, 1 0 00; not-a-file
+a slot with another name; 34 3 00; not-a-file
+aptpl 2; 34 8 02; not-a-file
+registrants without aptpl; 34 8 00; not-a-file
+65 registrants; 34 9 41; not-a-file
+one registrant, and another entry; 34 9 01; not-a-file
+three registrants, and two entries; 34 9 03; not-a-file
+type 2; 34 10 02; not-a-file
+type 7 with a holder; 34 10 07; not-a-file
+no type, and a holder; 34 10 00; not-a-file
+a holder that is not there; 34 11 02; not-a-file
+a holder of a group that its entry has not; 34 12 02; not-a-file
+a holder without a group; 34 12 00; not-a-file
+a holder of group 3; 34 12 03; not-a-file
+type 7, and a holder's group; 34 10 07, 34 11 FF; not-a-file
+type 5 without a holder; 34 11 FF; not-a-file
+a slot with a stray byte; 34 13 01; not-a-file
+entries out of order; 35 34 63; not-a-file
+one nexus twice; 35 34 62; not-a-file
+key 0; 35 7 00; not-a-file
+group 4; 35 9 04; not-a-file
+group 257; 35 8 01; not-a-file
+a name of no byte; 35 16 00; not-a-file
+a name of 224 bytes; 35 16 E0; not-a-file
+a byte behind the name; 35 35 01; not-a-file
+a byte behind the last entry; 66 511 01; not-a-file
+";
 
 /// One port: through group 1 with 11h, and through group 2 with 22h.
 const ONE_PORT: &[Sent] = &[
@@ -204,65 +63,66 @@ const ONE_PORT: &[Sent] = &[
     (b'a', Group::Two, Asked::Register(0x22)),
 ];
 
-const ROWS_OF_ONE_PORT: &[Row] = &[
-    Row {
-        name: "as it was saved",
-        puts: &[],
-        fault: None,
-    },
-    Row {
-        name: "the same in version 1",
-        puts: &[(0, 9, 1)],
-        fault: None,
-    },
-    Row {
-        name: "two entries of one key",
-        puts: &[(35, 256 + 7, 0x11)],
-        fault: NOT,
-    },
-    Row {
-        name: "an entry of both beside one of group 2",
-        puts: &[(35, 9, 3)],
-        fault: NOT,
-    },
-    Row {
-        name: "an entry of both beside one of group 2 and the same key",
-        puts: &[(35, 9, 3), (35, 256 + 7, 0x11)],
-        fault: NOT,
-    },
-];
+const ROWS_OF_ONE_PORT: &str = "
+as it was saved;; opens
+the same in version 1; 0 9 01; opens
+two entries of one key; 35 263 11; not-a-file
+an entry of both beside one of group 2; 35 9 03; not-a-file
+an entry of both beside one of group 2 and the same key; 35 9 03, 35 263 11; not-a-file
+";
 
 /// One registrant.
 const ONE: &[Sent] = &[(b'a', Group::One, Asked::Register(0x11))];
 
-const ROWS_OF_ONE: &[Row] = &[
-    Row {
-        name: "group 3 in version 1",
-        puts: &[(0, 9, 1), (35, 9, 3)],
-        fault: NOT,
-    },
-    Row {
-        name: "group 3 in version 2",
-        puts: &[(35, 9, 3)],
-        fault: None,
-    },
-];
+const ROWS_OF_ONE: &str = "
+group 3 in version 1; 0 9 01, 35 9 03; not-a-file
+group 3 in version 2; 35 9 03; opens
+";
 
 /// Why a file with the record of these requests is refused, once these bytes are put into it.
-fn fault_of(
-    rt: &impl Abort,
-    alloc: Global,
-    sent: &[Sent],
-    puts: &[(u32, usize, u8)],
-) -> Option<OpenFault> {
+fn fault_of(rt: &impl Abort, alloc: Global, sent: &[Sent], puts: &str) -> Option<OpenFault> {
     let mut file = formatted(rt, alloc);
     let registry = registry_after(rt, alloc, sent);
     let _ = file.save(&registry.lasting());
     let mut device = file.close();
-    for (index, at, value) in puts {
-        set_byte(&mut device, *index, *at, *value);
+    for byte in puts.split(',') {
+        put(rt, &mut device, byte.trim());
     }
     RegFile::open(alloc, device).err()
+}
+
+// Puts a byte into a file, or none where there are no words.
+fn put(rt: &impl Abort, device: &mut MemBlocks, words: &str) {
+    if let Some((index, rest)) = words.split_once(' ') {
+        let (at, value) = rest.split_once(' ').expect(rt, words);
+        set_byte(
+            device,
+            index.parse().expect(rt, words),
+            at.parse().expect(rt, words),
+            u8::from_str_radix(value, 16).expect(rt, words),
+        );
+    }
+}
+
+// Why a file is refused, by its word.
+fn fault_named(rt: &impl Abort, word: &str) -> Option<OpenFault> {
+    match word {
+        "opens" => None,
+        "not-a-file" => NOT,
+        "version" => VERSION,
+        _ => panic!(rt; "{word}"),
+    }
+}
+
+// Each row of a file with the record of these requests ends as it says.
+fn are_refused(rt: &impl Abort, alloc: Global, sent: &[Sent], rows: &str) {
+    for row in rows.trim().lines() {
+        let fault = fault_of(rt, alloc, sent, part(row, 1));
+        assert!(rt;
+            fault == fault_named(rt, part(row, 2).trim()),
+            "{row}: {fault:?}"
+        );
+    }
 }
 
 /// The blocks of a file of nothing that are not zeros. Block 0, the root, names the first slot:
@@ -293,21 +153,18 @@ fn device(rt: &impl Abort, alloc: Global, count: u32, holds: bool) -> MemBlocks 
     device
 }
 
-#[test]
-fn what_is_refused(rt: HostRuntime) {
-    let alloc = rt.alloc();
-    for (sent, rows) in &[
-        (TWO, ROWS_OF_TWO),
-        (ONE_PORT, ROWS_OF_ONE_PORT),
-        (ONE, ROWS_OF_ONE),
-    ] {
-        for row in *rows {
-            let fault = fault_of(&rt, alloc, sent, row.puts);
-            assert!(rt; fault == row.fault, "{}: {fault:?}", row.name);
-        }
-    }
+// Each device of blocks that are too few, too many, or no file's.
+fn devices_are_refused(rt: &impl Abort, alloc: Global) {
     for (count, holds, wanted) in &DEVICES {
-        let fault = RegFile::open(alloc, device(&rt, alloc, *count, *holds)).err();
+        let fault = RegFile::open(alloc, device(rt, alloc, *count, *holds)).err();
         assert!(rt; fault == *wanted, "{count}, {holds}: {fault:?}");
     }
+}
+
+#[test]
+fn what_is_refused(rt: HostRuntime) {
+    are_refused(&rt, rt.alloc(), TWO, ROWS_OF_TWO);
+    are_refused(&rt, rt.alloc(), ONE_PORT, ROWS_OF_ONE_PORT);
+    are_refused(&rt, rt.alloc(), ONE, ROWS_OF_ONE);
+    devices_are_refused(&rt, rt.alloc());
 }

@@ -1,5 +1,6 @@
 //! What is saved is found.
 use crate::reg_file::files::{Asked, block_of, formatted, found, request, told};
+use block_file::MemBlocks;
 use reservations::Registry;
 use scsi_types::{Group, PortName};
 use std::alloc::Global;
@@ -26,6 +27,23 @@ fn registry_of(
     registry
 }
 
+/// The blocks of a file into which the registry was saved twice.
+fn saved_twice(
+    rt: &impl Abort,
+    alloc: Global,
+    registry: &Registry,
+    registrants: usize,
+) -> MemBlocks {
+    let mut file = formatted(rt, alloc);
+    for save in &["the first save", "the second save"] {
+        assert!(rt;
+            file.save(&registry.lasting()).is_ok(),
+            "{registrants}: {save}"
+        );
+    }
+    file.close()
+}
+
 /// Whether the registry is found in a file into which it was saved twice, with so many registrants, and so many entries in
 /// each slot.
 fn is_found(
@@ -35,16 +53,7 @@ fn is_found(
     registrants: usize,
     entries: u32,
 ) -> bool {
-    let mut file = formatted(rt, alloc);
-    assert!(rt;
-        file.save(&registry.lasting()).is_ok(),
-        "{registrants}: the first save"
-    );
-    assert!(rt;
-        file.save(&registry.lasting()).is_ok(),
-        "{registrants}: the second save"
-    );
-    let mut device = file.close();
+    let mut device = saved_twice(rt, alloc, registry, registrants);
     let counted = [block_of(&mut device, 1)[9], block_of(&mut device, 34)[9]];
     let record = registry.record().expect(rt, "memory");
     let is_whole = record.registrants().len() == registrants;

@@ -1,6 +1,6 @@
 //! A file of version 1: it is opened, and the next save replaces it.
 use crate::reg_file::files::{
-    Asked, OPEN_CALLS, SAVE_CALLS, Sent, block_of, found, record_after, record_of, registry_after,
+    Asked, OPEN_CALLS, SAVE_CALLS, Sent, block_of, found, holds, record_after, registry_after,
     set_block, told,
 };
 use crate::reg_file::fuses::place_of;
@@ -54,30 +54,30 @@ fn stop(rt: &impl Abort, alloc: Global, calls: u64, lands: u32) {
     let (fault, left) = stopped(rt, alloc, calls, lands);
     assert!(rt; fault == place_of(calls), "{calls}: {fault:?}");
     let landed = calls > 2 || lands > 0 && calls == 2;
-    let wanted = if landed {
-        told(rt, alloc, record_after(rt, alloc, SENT))
+    let is = if landed {
+        found(rt, alloc, left) == told(rt, alloc, record_after(rt, alloc, SENT))
     } else {
-        told(rt, alloc, record_of(rt, alloc, 0x11))
+        holds(rt, alloc, left, 0x11)
     };
-    assert!(rt; found(rt, alloc, left) == wanted, "{calls}, {lands}");
+    assert!(rt; is, "{calls}, {lands}");
+}
+
+/// The root after a save that is done.
+fn has_the_new_root(rt: &impl Abort, alloc: Global) -> bool {
+    let (fault, mut device) = stopped(rt, alloc, SAVE_CALLS, 0);
+    let mut root = [0; 512];
+    root[..11].copy_from_slice(NEW_ROOT);
+    fault == None && block_of(&mut device, 0) == root
 }
 
 #[test]
 fn it_is_read_and_replaced(rt: HostRuntime) {
     let alloc = rt.alloc();
-    let wanted = told(&rt, alloc, record_of(&rt, alloc, 0x11));
     assert!(rt;
-        found(&rt, alloc, old_file(&rt, alloc)) == wanted,
+        holds(&rt, alloc, old_file(&rt, alloc), 0x11),
         "the old file"
     );
-    // The root after a save that is done.
-    let (fault, mut device) = stopped(&rt, alloc, SAVE_CALLS, 0);
-    let mut root = [0; 512];
-    root[..11].copy_from_slice(NEW_ROOT);
-    assert!(rt;
-        fault == None && block_of(&mut device, 0) == root,
-        "the new root"
-    );
+    assert!(rt; has_the_new_root(&rt, alloc), "the new root");
     for lands in &[0, 1, 2, 32, 33] {
         for calls in 0..SAVE_CALLS + 1 {
             stop(&rt, alloc, calls, *lands);

@@ -1,6 +1,7 @@
 //! Devices that a crash takes back, behind fuses, and the unit over them.
+use crate::served::opened;
 use crate::stops::calls::Reach;
-use crate::stops::units::opened;
+use crate::stops::units::FIRST;
 use aptpl_file::{FILE_BLOCKS, RegFile};
 use block_file::{FusedBlocks, FusedOpener, KeepOpener, MemBlocks};
 use crash_blocks::{CrashBlocks, Pick};
@@ -72,6 +73,7 @@ pub fn tested(rt: &impl Abort, alloc: Global, setup: Setup) -> Tested {
     opened(
         rt,
         alloc,
+        FIRST,
         disk,
         file,
         FusedOpener::new(KeepOpener, setup.opens),

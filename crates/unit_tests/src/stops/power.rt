@@ -5,10 +5,12 @@ use crate::stops::devices::{BLOCKS, Setup, Tested, crashed, tested};
 use crate::stops::restart::{Wanted, fault_of};
 use crate::stops::script::{Command, Device, Script, play};
 use crate::stops::units::{Ended, Session, attached};
+use block_file::{Blocks, Opener};
 use crash_blocks::Pick;
 use std::alloc::Global;
 use std::process::Abort;
 use test_streams::lines_of;
+use unit_state::Unit;
 
 /// What a crash leaves: of each block the value that these pick.
 pub const PICKS: [Pick; 4] = [Pick::Oldest, Pick::Newest, Pick::Turn(0), Pick::Turn(1)];
@@ -59,6 +61,15 @@ pub fn played(
     rt: &impl Abort,
     alloc: Global,
     unit: &mut Tested,
+    commands: &[Command],
+) -> ([Session; 2], (usize, Option<Ended>)) {
+    played_over(rt, alloc, unit, commands)
+}
+
+fn played_over<B: Blocks, R: Blocks, O: Opener<B>>(
+    rt: &impl Abort,
+    alloc: Global,
+    unit: &mut Unit<B, R, O>,
     commands: &[Command],
 ) -> ([Session; 2], (usize, Option<Ended>)) {
     let first = attached(rt, alloc, unit, 1);

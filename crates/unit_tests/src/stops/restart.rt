@@ -1,6 +1,7 @@
 //! A restart, and what it is to find.
 use crate::rows::cdb_of;
-use crate::stops::units::{Session, TEST_UNIT_READY, attached, is_good, opened, send};
+use crate::served::opened;
+use crate::stops::units::{FIRST, Session, TEST_UNIT_READY, attached, is_good, send};
 use access_states::AccessState;
 use block_file::{Blocks, KeepOpener, MemBlocks, Opener};
 use scsi_types::Group;
@@ -26,9 +27,19 @@ pub fn fault_of(
     wanted: &Wanted,
     before: &[Session; 2],
 ) -> Option<&'static str> {
-    let mut unit = opened(rt, alloc, blocks, registrations, KeepOpener);
-    if is_opening(&unit) && are_gone(&mut unit, alloc, before) {
-        found(rt, alloc, &mut unit, wanted)
+    let mut unit = opened(rt, alloc, FIRST, blocks, registrations, KeepOpener);
+    first_fault(rt, alloc, &mut unit, wanted, before)
+}
+
+fn first_fault<B: Blocks, R: Blocks, O: Opener<B>>(
+    rt: &impl Abort,
+    alloc: Global,
+    unit: &mut Unit<B, R, O>,
+    wanted: &Wanted,
+    before: &[Session; 2],
+) -> Option<&'static str> {
+    if is_opening(unit) && are_gone(unit, alloc, before) {
+        found(rt, alloc, unit, wanted)
     } else {
         Some("the opening state")
     }
@@ -90,11 +101,21 @@ fn found<B: Blocks, R: Blocks, O: Opener<B>>(
         ("the blocks", "28 00 00000000 00 0007", &wanted.blocks),
     ];
     for (name, cdb, bytes) in &questions {
-        let cdb = cdb_of(rt, alloc, cdb);
-        let end = send(unit, alloc, &mut session, Group::One, cdb, &[]);
-        if !is_good(&end, bytes) {
+        if !is_answer(unit, alloc, &mut session, cdb_of(rt, alloc, cdb), bytes) {
             return Some(*name);
         }
     }
     None
+}
+
+// Whether a command is answered by these bytes.
+fn is_answer<B: Blocks, R: Blocks, O: Opener<B>>(
+    unit: &mut Unit<B, R, O>,
+    alloc: Global,
+    session: &mut Session,
+    cdb: [u8; 16],
+    bytes: &[u8],
+) -> bool {
+    let end = send(unit, alloc, session, Group::One, cdb, &[]);
+    is_good(&end, bytes)
 }

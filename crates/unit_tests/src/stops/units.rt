@@ -1,5 +1,4 @@
 //! The calls of a unit, each at one place.
-use aptpl_file::RegFile;
 use block_file::{Blocks, Opener};
 use scsi_types::{Group, Place, PortName, Reply, Sense, Status, decode};
 use std::alloc::Global;
@@ -7,7 +6,7 @@ use std::process::Abort;
 use unit_state::{SessionId, StepEnd, Unit};
 
 /// The first of two units of the array 1: its first group owns it.
-const FIRST: Place = Place {
+pub const FIRST: Place = Place {
     unit: 0,
     units: 2,
     array: 1,
@@ -28,19 +27,6 @@ pub enum Ended {
     Conflict,
     /// Without a reply.
     Unanswered,
-}
-
-/// A unit over these blocks, and with what its registration file holds: as after a power loss.
-pub fn opened<B: Blocks, R: Blocks, O: Opener<B>>(
-    rt: &impl Abort,
-    alloc: Global,
-    blocks: B,
-    registrations: R,
-    opener: O,
-) -> Unit<B, R, O> {
-    assert!(rt; blocks.count() > 0, "a unit of one block at least");
-    let (file, lasted) = RegFile::open(alloc, registrations).expect(rt, "a record that lasted");
-    Unit::open(alloc, FIRST, blocks, opener, file, lasted).expect(rt, "memory")
 }
 
 /// A session of the host's port of this ISID, attached through the first group and told of the power on.
