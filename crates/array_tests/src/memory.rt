@@ -6,6 +6,7 @@ ghost use Rattle.unit_history.specs.Naming.{IsNamed};
 use crate::gone::the_older_session_is_gone;
 use crate::handles::begin_again;
 use crate::row::{Row, Stream};
+use array_units::Units;
 use block_file::{KeepOpener, MemBlocks};
 use event_log::{Log, Path};
 use login::Kind;
@@ -25,7 +26,7 @@ use std::sync::{Mutex, Wait};
 use std::test::Fail;
 use std::time::Clock;
 use test_streams::{Calls, FakeReader, FakeWriter, ONE_BYTE, WHOLE};
-use test_units::{TestUnits, new_unit};
+use test_units::new_unit;
 use unit_history::{LegalHistory, NewUnit, Opened, Pass};
 
 /// So many blocks the unit has.
@@ -249,7 +250,9 @@ fn play<R: Wait + Clock + Abort, N: Naming<Opened>>(
     requires named { IsNamed N.book N.table N.opening (λ d. cut d.count d.bytes.items) new.items }
     requires count { length new.items ≤ 8 }
 {
-    let units = TestUnits::<MemBlocks, KeepOpener, N>::new(rt, alloc, new).expect(rt, "memory");
+    let units = Units::<MemBlocks, MemBlocks, KeepOpener, N>::new(rt, alloc, new).expect(
+        rt, "memory",
+    );
     let controllers = Controllers::new(alloc, units).expect(rt, "memory");
     let device = TargetDevice::new(alloc, controllers, Open);
     let scene = Scene {

@@ -1,5 +1,6 @@
-//! Tests of a desk, of units that move between the controllers of an array, by SET TARGET PORT GROUPS, by the array itself, and
-//! as a controller goes down, and of the pure world. What happens stands in scripts, and in rows of events.
+//! Tests of units that threads share (`histories`); of a desk and its lanes; of units that move between the controllers of an array,
+//! by SET TARGET PORT GROUPS, by the array itself, and as a controller goes down; and of the pure world (`events`). What happens
+//! stands in scripts, in rows of events, and in tales of what several threads do.
 #![tactic(auto)]
 
 #[cfg(test)]
@@ -7,14 +8,26 @@ mod array;
 #[cfg(test)]
 mod events;
 #[cfg(test)]
+mod held_lanes;
+#[cfg(test)]
+mod histories;
+#[cfg(test)]
 mod lanes;
 #[cfg(test)]
 mod moves;
 #[cfg(test)]
+mod runs;
+#[cfg(test)]
 mod script;
+#[cfg(test)]
+mod shared;
 #[cfg(test)]
 mod stage;
 #[cfg(test)]
 mod swapped;
+#[cfg(test)]
+mod tales;
+#[cfg(test)]
+mod tally;
 #[cfg(test)]
 mod waiting;

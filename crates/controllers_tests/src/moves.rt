@@ -1,5 +1,6 @@
 //! Units that move between the controllers.
-use crate::array::run;
+use crate::array::End;
+use crate::runs::perform;
 use crate::script::Asks::{Read as ReadIt, Report, Set, Test};
 use crate::script::Deed::{Attach, Move, Read, Send, TakeDown};
 use crate::script::Told::{Check, Done, Ends, Good, Row, Stays, StopsAt};
@@ -7,7 +8,6 @@ use crate::script::{BLANK, GOOD, Line, POWER_ON, STATES_CHANGED};
 use access_states::AsetFault;
 use scsi_types::Group::{One, Two};
 use std::test::*;
-use test_units::End;
 use unit_state::MoveFault::{List, OpenFailed};
 
 // A list by which group 2 is active/optimized (SPC-4, 6.45).
@@ -52,7 +52,7 @@ const SET_BY_A_SESSION: &[Line] = &[
 
 #[test]
 fn a_session_sets_the_owner(rt: HostRuntime) -> Result<(), Fail> {
-    run(&rt, rt.alloc(), [9, 9], SET_BY_A_SESSION)
+    perform(&rt, rt.alloc(), &[9, 9], SET_BY_A_SESSION)
 }
 
 // The same where the blocks cannot be opened for the new owner: nothing has changed.
@@ -71,7 +71,7 @@ const SET_WITHOUT_AN_OPEN: &[Line] = &[
 
 #[test]
 fn an_owner_that_is_not_opened(rt: HostRuntime) -> Result<(), Fail> {
-    run(&rt, rt.alloc(), [0, 9], SET_WITHOUT_AN_OPEN)
+    perform(&rt, rt.alloc(), &[0, 9], SET_WITHOUT_AN_OPEN)
 }
 
 // The array moves a unit by itself, and every session is told.
@@ -88,7 +88,7 @@ const MOVED_BY_THE_ARRAY: &[Line] = &[
 
 #[test]
 fn the_array_moves_a_unit(rt: HostRuntime) -> Result<(), Fail> {
-    run(&rt, rt.alloc(), [9, 9], MOVED_BY_THE_ARRAY)
+    perform(&rt, rt.alloc(), &[9, 9], MOVED_BY_THE_ARRAY)
 }
 
 // Each controller goes down in turn; a session on the one that is down is told so.
@@ -107,7 +107,7 @@ const EACH_GOES_DOWN: &[Line] = &[
 
 #[test]
 fn each_controller_goes_down(rt: HostRuntime) -> Result<(), Fail> {
-    run(&rt, rt.alloc(), [9, 9], EACH_GOES_DOWN)
+    perform(&rt, rt.alloc(), &[9, 9], EACH_GOES_DOWN)
 }
 
 // Unit 1 cannot be opened for another owner: group 2 owns it, so that controller 1 goes down. Controller 2 does not: unit 0 is
@@ -121,7 +121,7 @@ const STOPPED_AT_THE_SECOND: &[Line] = &[
 
 #[test]
 fn what_moved_stays_moved(rt: HostRuntime) -> Result<(), Fail> {
-    run(&rt, rt.alloc(), [9, 0], STOPPED_AT_THE_SECOND)
+    perform(&rt, rt.alloc(), &[9, 0], STOPPED_AT_THE_SECOND)
 }
 
 // Unit 0 cannot: it is told, and unit 1 is not asked.
@@ -133,5 +133,5 @@ const STOPPED_AT_THE_FIRST: &[Line] = &[
 
 #[test]
 fn the_first_that_does_not_move_ends_it(rt: HostRuntime) -> Result<(), Fail> {
-    run(&rt, rt.alloc(), [0, 9], STOPPED_AT_THE_FIRST)
+    perform(&rt, rt.alloc(), &[0, 9], STOPPED_AT_THE_FIRST)
 }

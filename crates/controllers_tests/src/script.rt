@@ -1,6 +1,6 @@
 //! What scripts tell of: what is done at two units and at the desk of group 1, and what it comes to.
+use crate::array::End;
 use scsi_types::{Command, Group};
-use test_units::End;
 use unit_state::MoveFault;
 
 /// A command, with its data.

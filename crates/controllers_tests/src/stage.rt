@@ -1,57 +1,37 @@
 //! Performs scripts.
+use crate::array::{Array, End, Session};
 use crate::script::{Asks, Deed, Line, Told, command_of};
-use block_file::MemBlocks;
-use numbering::Array as Naming;
 use scsi_types::Group;
 use std::alloc::Global;
-use std::sync::Wait;
-use test_units::{End, Hosts, Opens, Shared};
-use unit_history::Opened;
+use std::test::Fail;
 
-/// Units in memory, and the desk of their first controller.
-pub type Array<N> = Shared<MemBlocks, Opens, N>;
-
-/// An array, and the hosts that use it.
-pub struct Stage<'a, N: Naming<Opened>, W: Wait> {
-    rt: &'a W,
-    alloc: Global,
-    array: &'a Array<N>,
-    hosts: Hosts<'static, MemBlocks, Opens, N>,
+/// An array, and the hosts that use it, by their numbers.
+#[derive(Drop)]
+struct Stage<'a, S, A> {
+    array: &'a A,
+    hosts: Vec<S>,
 }
 
-impl<'a, N: Naming<Opened>, W: Wait> Stage<'a, N, W> {
-    /// A stage without hosts.
-    pub fn new(rt: &'a W, alloc: Global, array: &'a Array<N>) -> Stage<'a, N, W> {
-        Stage {
-            rt,
-            alloc,
-            array,
-            hosts: Hosts::new(alloc),
+/// Performs a script. It fails at the first line that comes to something else than it says.
+pub fn is_performed<S: Session + Drop, A: Array<S>>(
+    alloc: Global,
+    array: &A,
+    script: &[Line],
+) -> Result<(), Fail> {
+    let mut stage = Stage {
+        array,
+        hosts: Vec::new(alloc),
+    };
+    for (at, line) in script.iter().enumerate() {
+        let Line(deed, told) = *line;
+        if stage.comes_to(deed, told) != Some(true) {
+            return Err(("a line of the script", at).into());
         }
     }
+    Ok(())
+}
 
-    /// Lets the hosts go.
-    pub fn end(self) {
-        let Stage {
-            rt: _,
-            alloc: _,
-            array: _,
-            hosts,
-        } = self;
-        hosts.end();
-    }
-
-    /// Does what the lines of a script say: the place of the first that comes to something else than it says.
-    pub fn perform(&mut self, script: &[Line]) -> Option<usize> {
-        for (at, line) in script.iter().enumerate() {
-            let Line(deed, told) = *line;
-            if self.comes_to(deed, told) != Some(true) {
-                return Some(at);
-            }
-        }
-        None
-    }
-
+impl<S: Session + Drop, A: Array<S>> Stage<'_, S, A> {
     // None: it cannot be done.
     fn comes_to(&mut self, deed: Deed, told: Told) -> Option<bool> {
         match deed {
@@ -74,7 +54,7 @@ impl<'a, N: Naming<Opened>, W: Wait> Stage<'a, N, W> {
     // Whether a command of a host ends so.
     fn ends(&mut self, host: usize, end: End, told: Told) -> Option<bool> {
         match (told, end) {
-            (Told::Good(data), End::Good) => Some(self.hosts.host(host)?.data() == data),
+            (Told::Good(data), End::Good) => Some(self.host(host)?.data() == data),
             (Told::Check(key, asc, ascq), End::Check(sense)) => {
                 Some(sense.key == key && sense.asc == asc && sense.ascq == ascq)
             }
@@ -83,62 +63,53 @@ impl<'a, N: Naming<Opened>, W: Wait> Stage<'a, N, W> {
         }
     }
 
+    fn host(&mut self, number: usize) -> Option<&mut S> {
+        self.hosts.get_mut(number)
+    }
+
+    // The next host attaches. Its number is its ISID.
     fn attach(&mut self, unit: usize, group: Group) -> Option<bool> {
-        self.hosts
-            .attach(self.rt, self.alloc, &self.array.units, unit, group)?;
+        let isid = u32::try_from(self.hosts.len()).ok()?;
+        let host = self.array.attach(unit, isid, group)?;
+        self.hosts.push(host).ok()?;
         Some(true)
     }
 
     fn send(&mut self, host: usize, group: Group, asks: Asks, told: Told) -> Option<bool> {
         let (command, bytes) = command_of(asks);
-        let (rt, alloc, array) = (self.rt, self.alloc, self.array);
-        let end = self
-            .hosts
-            .host(host)?
-            .ask(rt, alloc, &array.units, group, command, bytes);
+        let end = self.host(host)?.ask(group, command, bytes);
         self.ends(host, end, told)
     }
 
     fn at_desk(&mut self, host: usize, asks: Asks, told: Told) -> Option<bool> {
         let (command, bytes) = command_of(asks);
-        let (rt, alloc, array) = (self.rt, self.alloc, self.array);
-        let host_there = self.hosts.host(host)?;
-        let end = host_there.ask_at(rt, alloc, &array.units, &array.desk, command, bytes);
+        let end = self.host(host)?.ask_at_desk(command, bytes);
         self.ends(host, end, told)
     }
 
     fn hand_in(&mut self, host: usize, asks: Asks, told: Told) -> Option<bool> {
         let (command, bytes) = command_of(asks);
-        let (rt, alloc, array) = (self.rt, self.alloc, self.array);
-        let end = self
-            .hosts
-            .host(host)?
-            .hand_in(rt, alloc, &array.desk, command, bytes);
+        let end = self.host(host)?.hand_in(command, bytes);
         self.ends(host, end, told)
     }
 
     fn hear(&mut self, host: usize, told: Told) -> Option<bool> {
-        let end = self.hosts.host(host)?.hears(self.rt);
+        let end = self.host(host)?.hears();
         self.ends(host, end, told)
     }
 
     fn collect(&mut self, host: usize, told: Told) -> Option<bool> {
-        let (rt, array) = (self.rt, self.array);
-        let end = self.hosts.host(host)?.collect(rt, &array.desk);
+        let end = self.host(host)?.collect();
         self.ends(host, end, told)
     }
 
     fn serve_own(&mut self, host: usize, told: Told) -> Option<bool> {
-        let (rt, alloc, array) = (self.rt, self.alloc, self.array);
-        let end = self
-            .hosts
-            .host(host)?
-            .serve_own(rt, alloc, &array.units, &array.desk);
+        let end = self.host(host)?.serve_own();
         self.ends(host, end, told)
     }
 
     fn serve_first(&self, told: Told) -> bool {
-        match (told, self.array.serve_first(self.rt, self.alloc)) {
+        match (told, self.array.serve_first()) {
             (Told::Job(wanted), Some(unit)) => unit == wanted,
             (Told::NoJob, None) => true,
             _ => false,
@@ -146,20 +117,17 @@ impl<'a, N: Naming<Opened>, W: Wait> Stage<'a, N, W> {
     }
 
     fn cross(&self) -> Option<bool> {
-        self.array.cross(self.rt, self.alloc)?;
+        self.array.cross()?;
         Some(true)
     }
 
     fn close(&self) -> bool {
-        self.array.desk.close(self.rt);
+        self.array.close();
         true
     }
 
     fn read(&self, unit: usize, told: Told) -> Option<bool> {
-        if unit >= self.array.units.count() {
-            return None;
-        }
-        let row = self.array.units.read(self.rt, unit);
+        let row = self.array.row(unit)?;
         match told {
             Told::Row(owner, (one, two), entries) => Some(
                 row.owner == owner
@@ -172,10 +140,7 @@ impl<'a, N: Naming<Opened>, W: Wait> Stage<'a, N, W> {
     }
 
     fn move_by(&self, unit: usize, list: &[u8], told: Told) -> Option<bool> {
-        if unit >= self.array.units.count() {
-            return None;
-        }
-        match (told, self.array.move_by(self.rt, unit, list)) {
+        match (told, self.array.move_by(unit, list)?) {
             (Told::Done, Ok(())) => Some(true),
             (Told::Stays(wanted), Err(why)) => Some(why == wanted),
             _ => Some(false),
@@ -183,7 +148,7 @@ impl<'a, N: Naming<Opened>, W: Wait> Stage<'a, N, W> {
     }
 
     fn take_down(&self, controller: Group, told: Told) -> bool {
-        match (told, self.array.take_down(self.rt, controller)) {
+        match (told, self.array.take_down(controller)) {
             (Told::Done, Ok(())) => true,
             (Told::StopsAt(unit, wanted), Err((stopped, why))) => stopped == unit && why == wanted,
             _ => false,

@@ -1,12 +1,12 @@
 //! Answers that come to the wrong tickets.
-use crate::array::run;
+use crate::array::End;
+use crate::runs::perform;
 use crate::script::Asks::Test;
 use crate::script::Deed::{Attach, Collect, Cross, HandIn, Hear, ServeFirst};
 use crate::script::Told::{Done, Ends, Job};
 use crate::script::{Line, POWER_ON, WAITS};
 use scsi_types::Group::One;
 use std::test::*;
-use test_units::End;
 
 // Two sessions of two units, and then two of one unit, whose answers are exchanged: no ticket takes the other's.
 const SWAPPED: &[Line] = &[
@@ -34,5 +34,5 @@ const SWAPPED: &[Line] = &[
 
 #[test]
 fn an_answer_in_the_slot_of_another_is_not_taken(rt: HostRuntime) -> Result<(), Fail> {
-    run(&rt, rt.alloc(), [9, 9], SWAPPED)
+    perform(&rt, rt.alloc(), &[9, 9], SWAPPED)
 }

@@ -1,5 +1,6 @@
 //! A desk without lanes: 64 jobs, one more, and none once it is closed; the jobs come back in their order.
-use crate::array::run;
+use crate::array::End;
+use crate::runs::perform;
 use crate::script::Asks::Spare;
 use crate::script::Deed::{Attach, Close, Collect, HandIn, ServeFirst};
 use crate::script::Told::{Done, Ends, Job, NoJob};
@@ -7,7 +8,6 @@ use crate::script::{Line, POWER_ON, WAITS};
 use scsi_types::Group::{One, Two};
 use std::alloc::{AllocError, Global};
 use std::test::*;
-use test_units::End;
 
 /// So many jobs wait at a desk.
 const PLACES: usize = 64;
@@ -61,5 +61,5 @@ fn write(alloc: Global) -> Result<Vec<Line>, AllocError> {
 #[test]
 fn a_desk_without_lanes(rt: HostRuntime) -> Result<(), Fail> {
     let script = write(rt.alloc())?;
-    run(&rt, rt.alloc(), [9, 9], script.as_slice())
+    perform(&rt, rt.alloc(), &[9, 9], script.as_slice())
 }

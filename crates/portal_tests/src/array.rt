@@ -2,13 +2,10 @@
 ghost use Rattle.std.specs.Prelude.{◌≡◌, ◌≤◌, length};
 ghost use Rattle.unit_history.specs.Naming.{IsNamed};
 
-use crate::at::At;
 use crate::behind::Behind;
 use crate::doors::Doors;
-use crate::latch::Latch;
 use crate::no_room::NoRoom;
 use crate::stage::Stage;
-use crate::units::two;
 use array_units::Units;
 use block_file::{Blocks, Opener};
 use event_log::Log;
@@ -17,13 +14,13 @@ use portal::{Controllers, Server, SmallStacks, Stop, TargetDevice, listen, start
 use scsi_types::Group;
 use std::alloc::Global;
 use std::io::Eprint;
-use std::marker::Brand;
 use std::net::{Ipv4Addr, Net, SocketAddr, SocketAddrV4, TcpListener, TcpStream};
 use std::process::Abort;
 use std::sync::{Arc, Wait};
 use std::thread::{JoinHandle, Threads};
 use std::time::Clock;
 use test_hosts::Host;
+use test_units::Latch;
 use unit_history::{LegalHistory, NewUnit, Opened, Pass};
 
 /// What the hosts of an array do, and where it listens: at this address, and at these ports of its two controllers. So many
@@ -175,29 +172,4 @@ pub fn perform<
     end(rt, second);
     controllers.close(rt);
     ([first_at.port(), second_at.port()], stage.into_hosts())
-}
-
-/// Hosts perform a script before two units in memory.
-pub fn run<
-    R: Threads
-        + Wait
-        + Clock
-        + Abort
-        + Eprint
-        + Net<Listener = TcpListener, Stream = TcpStream>
-        + Clone
-        + Drop
-        + Send
-        + Sync
-        + 'static,
->(rt: &R, alloc: Global, script: &Script<'_>) {
-    let latch = Latch::open(rt.clone().expect(rt, "memory"));
-    let disk = Arc::new(alloc, latch).expect(rt, "memory");
-    let at = At {
-        rt,
-        script: script.name,
-        line: "",
-    };
-    let units = at.must(two(alloc, &disk));
-    let _ended = perform::<Brand, _, _, _, R>(rt, alloc, units, &disk, script);
 }

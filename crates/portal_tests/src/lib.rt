@@ -19,12 +19,6 @@ mod fencing;
 #[cfg(test)]
 mod hanging;
 #[cfg(test)]
-mod held;
-#[cfg(test)]
-mod lanes;
-#[cfg(test)]
-mod latch;
-#[cfg(test)]
 mod late;
 #[cfg(test)]
 mod logins;
@@ -42,8 +36,6 @@ mod scripts;
 mod stage;
 #[cfg(test)]
 mod streams;
-#[cfg(test)]
-mod tally;
 #[cfg(test)]
 mod units;
 #[cfg(test)]

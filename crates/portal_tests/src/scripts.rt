@@ -1,5 +1,6 @@
-//! The scripts of an array of two units in memory, and their test.
-use crate::array::{Script, run};
+//! The scripts of an array of two units, and their test.
+use crate::array::Script;
+use crate::restart::{Story, run};
 use crate::{discovery, fencing, hanging, late, logins, medium, streams, wanting, worked};
 use std::net::Ipv4Addr;
 use std::test::*;
@@ -36,9 +37,10 @@ const SCRIPTS: &[(&str, &str)] = &[
 ];
 
 #[test]
-fn scripts_before_an_array_in_memory(rt: HostRuntime) {
+fn scripts_before_an_array(rt: HostRuntime) {
     for (name, text) in SCRIPTS {
-        run(&rt, rt.alloc(), &Script::new(name, text));
+        let story = Story::of(Script::new(name, text));
+        run(&rt, rt.alloc(), rt.process(), &story);
     }
 }
 
@@ -48,7 +50,7 @@ fn an_array_at_any_address_and_one_with_few_threads(rt: HostRuntime) {
         host: Ipv4Addr::UNSPECIFIED,
         ..Script::new("the address that was reached is told", discovery::FOUND)
     };
-    run(&rt, rt.alloc(), &anywhere);
+    run(&rt, rt.alloc(), rt.process(), &Story::of(anywhere));
     let without_threads = Script {
         refused: 2,
         ..Script::new(
@@ -56,5 +58,5 @@ fn an_array_at_any_address_and_one_with_few_threads(rt: HostRuntime) {
             wanting::WITHOUT_THREADS,
         )
     };
-    run(&rt, rt.alloc(), &without_threads);
+    run(&rt, rt.alloc(), rt.process(), &Story::of(without_threads));
 }

@@ -23,7 +23,6 @@
 use crate::at::At;
 use crate::behind::Console;
 use crate::doors::{Doors, Flushes};
-use crate::latch::Latch;
 use std::alloc::{AllocError, Global};
 use std::io::Eprint;
 use std::net::{Net, SocketAddrV4, TcpListener, TcpStream};
@@ -31,6 +30,7 @@ use std::process::Abort;
 use std::sync::Wait;
 use test_hosts::{FINDS, HOST_B, Host, WELCOME_2, is_text, put};
 use test_streams::{HOST_A, WELCOME, lines_of, pdu_of};
+use test_units::Latch;
 
 /// The hosts of a script, and the array that they reach.
 #[derive(Drop)]

@@ -1,61 +1,27 @@
-//! Units in memory and over files, before they are shared.
-ghost use Rattle.std.specs.Prelude.{◌≡◌, ◌≤◌, IfOk, length};
-ghost use Rattle.unit_state.specs.Serials.{IsOpening};
+//! Units over files, before they are shared. Their devices may hang, and may fail.
+ghost use Rattle.std.specs.Prelude.{◌≡◌, ◌≤◌, length};
 
-use crate::held::HeldBlocks;
-use crate::latch::Latch;
 use aptpl_file::RegFile;
-use block_file::{FusedBlocks, FusedOpener, KeepOpener, MemBlocks};
-use disk_files::{DiskLock, FileBlocks, open_disk, open_registrations};
+use block_file::{FusedBlocks, FusedOpener, KeepOpener};
+use disk_files::{FileBlocks, open_registrations};
 use scsi_types::Place;
 use std::alloc::Global;
-use std::fs::File;
+use std::fs::{self, File};
 use std::process::Abort;
 use std::rt::Files;
 use std::sync::{Arc, Wait};
-use std::test::Fail;
-use test_units::new_unit;
+use test_units::{HeldBlocks, Latch};
 use unit_history::NewUnit;
 use unit_state::{Unit, laws};
 
-/// So many blocks a unit in memory has.
-const BLOCKS: u32 = 2048;
+/// A file that may hang, and may fail.
+type Device<R> = FusedBlocks<HeldBlocks<FileBlocks<File>, R>>;
 
-/// A unit in memory, whose device may hang.
-pub type HeldUnit<R> = NewUnit<HeldBlocks<MemBlocks, R>, MemBlocks, KeepOpener>;
+/// A registration file that may fail.
+type Registrations = FusedBlocks<FileBlocks<File>>;
 
-/// A file that may fail.
-type FusedFile = FusedBlocks<FileBlocks<File>>;
-
-/// A unit over a file, with its registration file, which may fail.
-pub type FileUnit = NewUnit<FusedFile, FusedFile, FusedOpener<KeepOpener>>;
-
-// A unit of zeros, which holds no registrations, and whose device hangs at this latch.
-fn in_memory<R: Wait + Drop>(
-    alloc: Global,
-    unit: u8,
-    latch: &Arc<Latch<R>, Global>,
-) -> Result<HeldUnit<R>, Fail> {
-    let blocks = HeldBlocks {
-        inner: MemBlocks::new(alloc, BLOCKS)?,
-        unit: usize::from(unit),
-        latch: Arc::try_clone(latch)?,
-    };
-    new_unit(alloc, blocks, KeepOpener, unit, 2)
-}
-
-/// Units 0 and 1, in memory, whose devices hang at this latch.
-pub fn two<R: Wait + Drop>(
-    alloc: Global,
-    latch: &Arc<Latch<R>, Global>,
-) -> Result<Vec<HeldUnit<R>>, Fail>
-    ensures { IfOk result (λ v. length v.items ≤ 8) }
-{
-    let mut units = Vec::new(alloc);
-    units.push(in_memory(alloc, 0, latch)?)?;
-    units.push(in_memory(alloc, 1, latch)?)?;
-    Ok(units)
-}
+/// A unit over both.
+pub type FileUnit<R> = NewUnit<Device<R>, Registrations, FusedOpener<KeepOpener>>;
 
 // The calls of a registration file's device when it is opened: the root, the slot, and a flush.
 const OPEN_CALLS: u64 = 3;
@@ -80,31 +46,39 @@ pub const NO_FAULTS: Faults = Faults {
     opened: u64::MAX,
 };
 
-/// The unit over the file of this name, which fails so, and its lock.
-pub fn over_file<R: Files<File = File> + Abort + Clone + Drop>(
+/// Makes a file of this name that has so many blocks of zeros.
+pub fn make<R: Files<File = File> + Abort>(rt: &R, path: &str, blocks: u64) {
+    let file = File::create(rt, path).expect(rt, path);
+    file.set_len(blocks.saturating_mul(512)).expect(rt, path);
+}
+
+/// Removes it, and the registration file beside it.
+pub fn remove<R: Files<File = File> + Abort>(rt: &R, alloc: Global, path: &str) {
+    fs::remove_file(rt, path).expect(rt, path);
+    let registrations = format!(in alloc; "{path}.reg").expect(rt, "memory");
+    fs::remove_file(rt, registrations.as_str()).expect(rt, path);
+}
+
+/// The unit at a place over the file of this name, which hangs at this latch and fails so.
+pub fn over_file<R: Files<File = File> + Abort + Wait + Drop>(
     rt: &R,
     alloc: Global,
+    place: Place,
     path: &str,
     faults: Faults,
-) -> (Vec<FileUnit>, DiskLock)
-    ensures { length result.0.items ≤ 8 }
-{
-    let place = Place {
-        unit: 0,
-        units: 1,
-        array: 1,
+    latch: &Arc<Latch<R>, Global>,
+) -> FileUnit<R> {
+    let held = HeldBlocks {
+        inner: FileBlocks::open(rt, path).expect(rt, path),
+        unit: usize::from(place.unit),
+        latch: Arc::try_clone(latch).expect(rt, "memory"),
     };
-    let disk = open_disk(rt.clone().expect(rt, "memory"), alloc, path).expect(rt, path);
+    let blocks = FusedBlocks::inside(held, faults.passed, faults.landed);
+    let opener = FusedOpener::new(KeepOpener, faults.opened);
     let (file, _) = open_registrations(rt, alloc, path, None).expect(rt, path);
     let fused = FusedBlocks::new(file.close(), faults.saving.saturating_add(OPEN_CALLS));
     let (file, record) = RegFile::open(alloc, fused).expect(rt, path);
-    let blocks = FusedBlocks::inside(disk.blocks, faults.passed, faults.landed);
-    let opener = FusedOpener::new(KeepOpener, faults.opened);
     laws::nobody_is_attached_at_first();
     let unit = Unit::open(alloc, place, blocks, opener, file, record).expect(rt, "memory");
-    let mut units = Vec::new(alloc);
-    units
-        .push(NewUnit::new(alloc, unit).expect(rt, "memory"))
-        .expect(rt, "memory");
-    (units, disk.lock)
+    NewUnit::new(alloc, unit).expect(rt, "memory")
 }

@@ -1,10 +1,10 @@
-//! What tests of shared units have in common: units in memory, the desk of a controller, and the hosts that use them.
+//! What tests of an array have in common: units in memory, and devices that hang.
 #![tactic(auto)]
 
-mod hosts;
-mod shared;
+mod held;
+mod latch;
 mod units;
 
-pub use hosts::{End, Host, Hosts};
-pub use shared::{Shared, TestDesk, TestUnits};
+pub use held::HeldBlocks;
+pub use latch::Latch;
 pub use units::{MemUnit, Opens, in_memory, new_unit, opened};

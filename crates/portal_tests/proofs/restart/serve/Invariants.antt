@@ -1,6 +1,6 @@
 use Rattle.std.proofs.Common.{[]}
 use Rattle.unit_history.specs.Naming.{book_of, opening_of, table_of}
-use Rattle.portal_tests.proofs.lanes.run.Given as goal
+use Rattle.portal_tests.proofs.restart.serve.Given as goal
 
 abbrev pub ghosts-perform : goal.ghosts-perform
 ghosts-perform g a = record {

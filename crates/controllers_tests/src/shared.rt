@@ -1,0 +1,370 @@
+//! The product's units behind what tests see of an array. Its calls are made here, once for all tests.
+ghost use Rattle.std.specs.Prelude.{◌≡◌, ◌<◌, ◌≤◌, length};
+ghost use Rattle.unit_history.specs.Naming.{IsNamed};
+
+use crate::array::{Array, End, Session};
+use crate::tales::{Tale, happens};
+use crate::tally::Tally;
+use array_units::Units;
+use block_file::{Blocks, MemBlocks, Opener};
+use failover::{Mover, set_groups, take_down};
+use forwarding::{Desk, DeskFault, Job, Ticket};
+use numbering::Array as Naming;
+use scsi_types::{Command, Group, PortName, Reply, Status};
+use status::Row;
+use std::alloc::Global;
+use std::sync::Wait;
+use std::test::Fail;
+use std::thread::Threads;
+use test_units::Latch;
+use unit_history::{NewUnit, Opened, Pass, Refused};
+use unit_state::MoveFault;
+
+fn end_of(reply: &Reply) -> End {
+    match (reply.status(), reply.sense()) {
+        (Status::Good, _) => End::Good,
+        (Status::ReservationConflict, _) => End::Conflict,
+        (_, Some(sense)) => End::Check(sense),
+        (_, None) => End::Nobody,
+    }
+}
+
+fn end_by(why: Refused<Group>) -> End {
+    match why {
+        Refused::Gone => End::Gone,
+        Refused::Moved(owner) => End::Moved(owner),
+        Refused::NoMemory => End::NoMemory,
+    }
+}
+
+fn end_at(fault: DeskFault) -> End {
+    match fault {
+        DeskFault::Full => End::Full,
+        DeskFault::Closed => End::Closed,
+        DeskFault::NoMemory => End::NoMemory,
+    }
+}
+
+/// Units that threads share, whose registration files lie in memory, and the desk of their first controller.
+#[derive(Drop)]
+struct Shared<'a, W: Wait + Drop, B: Blocks, O: Opener<B>, N: Naming<Opened>> {
+    rt: &'a W,
+    alloc: Global,
+    units: Units<B, MemBlocks, O, N>,
+    desk: Desk<B, MemBlocks, O, N>,
+    disk: &'a Latch<W>,
+    taken: Tally,
+}
+
+/// The session of a host at one of them: its pass, the ticket of its command that waits at the desk, and the last reply.
+#[derive(Drop)]
+struct Host<'a, W: Wait + Drop, B: Blocks, O: Opener<B>, N: Naming<Opened>> {
+    at: &'a Shared<'a, W, B, O, N>,
+    pass: Option<Pass<B, MemBlocks, O, N>>,
+    ticket: Option<Ticket<'static, B, MemBlocks, O, N>>,
+    reply: Option<Reply>,
+}
+
+impl<W: Wait + Drop, B: Blocks, O: Opener<B>, N: Naming<Opened>> Host<'_, W, B, O, N> {
+    // Keeps the pass, and the reply, which is told in short.
+    fn keep(&mut self, pass: Pass<B, MemBlocks, O, N>, end: Result<Reply, Refused<Group>>) -> End {
+        self.pass = Some(pass);
+        match end {
+            Ok(reply) => {
+                let end = end_of(&reply);
+                self.reply = Some(reply);
+                end
+            }
+            Err(why) => {
+                self.reply = None;
+                end_by(why)
+            }
+        }
+    }
+}
+
+impl<W: Wait + Drop, B: Blocks, O: Opener<B>, N: Naming<Opened>> Session for Host<'_, W, B, O, N> {
+    fn ask(&mut self, by_group: Group, command: Command, bytes: &[u8]) -> End {
+        let Shared {
+            rt,
+            alloc,
+            units,
+            ..
+        } = self.at;
+        let Some(pass) = self.pass.take() else {
+            return End::Nobody;
+        };
+        if pass.place() >= units.count() {
+            return End::Nobody;
+        }
+        let (pass, end) = units.serve(*rt, pass, *alloc, &by_group, &Ok(command), bytes);
+        self.keep(pass, end)
+    }
+
+    fn ask_at_desk(&mut self, command: Command, bytes: &[u8]) -> End {
+        let Shared {
+            rt,
+            alloc,
+            units,
+            desk,
+            ..
+        } = self.at;
+        let Some(pass) = self.pass.take() else {
+            return End::Nobody;
+        };
+        if pass.place() >= units.count() {
+            return End::Nobody;
+        }
+        let (pass, end) = desk.serve(*rt, *alloc, units, pass, &Ok(command), bytes);
+        match end {
+            Ok(end) => self.keep(pass, end),
+            Err(fault) => {
+                self.pass = Some(pass);
+                end_at(fault)
+            }
+        }
+    }
+
+    fn hand_in(&mut self, command: Command, bytes: &'static [u8]) -> End {
+        let Some(pass) = self.pass.take() else {
+            return End::Nobody;
+        };
+        match self
+            .at
+            .desk
+            .submit(self.at.rt, self.at.alloc, pass, &Ok(command), bytes)
+        {
+            Ok(ticket) => {
+                self.ticket = Some(ticket);
+                End::Waits
+            }
+            Err((fault, pass)) => {
+                self.pass = Some(pass);
+                end_at(fault)
+            }
+        }
+    }
+
+    fn collect(&mut self) -> End {
+        let Some(ticket) = self.ticket.take() else {
+            return End::Nobody;
+        };
+        let (pass, end) = self.at.desk.collect(self.at.rt, ticket);
+        self.keep(pass, end)
+    }
+
+    fn serve_own(&mut self) -> End {
+        let Shared {
+            rt,
+            alloc,
+            units,
+            desk,
+            ..
+        } = self.at;
+        let Some(ticket) = self.ticket.take() else {
+            return End::Nobody;
+        };
+        if ticket.place() >= units.count() {
+            return End::Nobody;
+        }
+        let (pass, end) = desk.serve_own(*rt, *alloc, units, ticket);
+        self.keep(pass, end)
+    }
+
+    fn hears(&self) -> End {
+        match &self.ticket {
+            Some(ticket) if ticket.is_answered(self.at.rt) => End::Answered,
+            Some(_) => End::Waits,
+            None => End::Nobody,
+        }
+    }
+
+    fn data(&self) -> &[u8] {
+        match &self.reply {
+            Some(reply) => reply.bytes(),
+            None => &[],
+        }
+    }
+
+    fn reset(&mut self) -> bool {
+        let units = &self.at.units;
+        let Some(pass) = self.pass.take() else {
+            return false;
+        };
+        if pass.place() >= units.count() {
+            return false;
+        }
+        let (pass, is_done) = units.reset(self.at.rt, pass);
+        self.pass = Some(pass);
+        is_done
+    }
+
+    fn retire(&mut self) -> bool {
+        let units = &self.at.units;
+        let Some(pass) = self.pass.take() else {
+            return false;
+        };
+        if pass.place() >= units.count() {
+            return false;
+        }
+        units.retire(self.at.rt, pass).is_ok()
+    }
+
+    fn seen(&self) -> u64 {
+        match &self.pass {
+            Some(pass) => pass.len(),
+            None => 0,
+        }
+    }
+
+    fn meet(&mut self, other: &mut Self) -> bool {
+        let units = &self.at.units;
+        let (Some(one), Some(two)) = (self.pass.take(), other.pass.take()) else {
+            return false;
+        };
+        if one.place() >= units.count() || two.place() != one.place() {
+            return false;
+        }
+        let (one, two) = units.meet(one, two);
+        let is_met = one.history().is_same(&two.history());
+        self.pass = Some(one);
+        other.pass = Some(two);
+        is_met
+    }
+}
+
+impl<W: Wait + Drop, B: Blocks, O: Opener<B>, N: Naming<Opened>> Shared<'_, W, B, O, N> {
+    fn serve(&self, job: Job<B, MemBlocks, O, N>) {
+        if job.place() < self.units.count() {
+            let answer = job.serve(self.rt, self.alloc, &self.units);
+            self.desk.post(self.rt, answer);
+        }
+    }
+
+    // The first job, which is counted.
+    fn take(&self) -> Option<Job<B, MemBlocks, O, N>> {
+        let job = self.desk.take(self.rt)?;
+        self.taken.add(self.rt);
+        Some(job)
+    }
+}
+
+impl<'a, W: Wait + Drop, B: Blocks, O: Opener<B>, N: Naming<Opened>> Array<Host<'a, W, B, O, N>>
+    for &'a Shared<'a, W, B, O, N> {
+    fn count(&self) -> usize {
+        self.units.count()
+    }
+
+    fn attach(&self, place: usize, isid: u32, group: Group) -> Option<Host<'a, W, B, O, N>> {
+        let at: &'a Shared<'a, W, B, O, N> = *self;
+        if place >= at.units.count() {
+            return None;
+        }
+        let name = b"iqn.2000-01.test:a".to_vec(at.alloc).ok()?;
+        let port = PortName::new(name, u64::from(isid));
+        let pass = at.units.attach(at.rt, place, port, group).ok()?;
+        Some(Host {
+            at,
+            pass: Some(pass),
+            ticket: None,
+            reply: None,
+        })
+    }
+
+    fn row(&self, place: usize) -> Option<Row> {
+        if place >= self.units.count() {
+            return None;
+        }
+        Some(self.units.read(self.rt, place))
+    }
+
+    fn flush(&self, place: usize) -> bool {
+        place < self.units.count() && self.units.flush(self.rt, place).is_ok()
+    }
+
+    fn move_by(&self, place: usize, list: &[u8]) -> Option<Result<(), MoveFault>> {
+        if place >= self.units.count() {
+            return None;
+        }
+        let (_seen, end) = set_groups(self.rt, &self.units, place, list);
+        match end {
+            Ok(_) => Some(Ok(())),
+            Err(why) => Some(Err(why)),
+        }
+    }
+
+    fn take_down(&self, group: Group) -> Result<(), (usize, MoveFault)> {
+        let mut mover = Mover::new(&self.units);
+        match take_down(self.rt, &mut mover, group) {
+            Ok(()) => Ok(()),
+            Err(stopped) => Err((stopped.unit, stopped.why)),
+        }
+    }
+
+    fn serve_first(&self) -> Option<usize> {
+        let job = self.take()?;
+        let unit = job.place();
+        self.serve(job);
+        Some(unit)
+    }
+
+    fn serve_next(&self) -> bool {
+        self.desk.serve_next(self.rt, self.alloc, &self.units)
+    }
+
+    fn cross(&self) -> Option<()> {
+        let one = self.take()?;
+        let two = self.take()?;
+        let (one, two) = Job::with_slots_exchanged(one, two);
+        self.serve(one);
+        self.serve(two);
+        Some(())
+    }
+
+    fn close(&self) {
+        self.desk.close(self.rt);
+    }
+
+    fn hold(&self, unit: Option<usize>) {
+        self.disk.hold(unit);
+    }
+
+    fn await_held(&self, count: u32) {
+        self.disk.await_held(count);
+    }
+
+    fn taken(&self) -> u32 {
+        self.taken.count(self.rt)
+    }
+
+    fn await_taken(&self, count: u32) {
+        self.taken.await_count(self.rt, count);
+    }
+}
+
+/// Shares these units, whose devices may hang at this latch, and tells a tale of them.
+pub fn tell<
+    N: Naming<Opened> + Send + Sync,
+    B: Blocks + Send + Sync,
+    O: Opener<B> + Send + Sync,
+    W: Threads + Wait + Send + Sync + Drop,
+>(
+    rt: &W,
+    alloc: Global,
+    new: Vec<NewUnit<B, MemBlocks, O>>,
+    disk: &Latch<W>,
+    tale: Tale<'_>,
+) -> Result<(), Fail>
+    requires named { IsNamed N.book N.table N.opening B.contents new.items }
+    requires count { length new.items ≤ 8 }
+{
+    let shared = Shared {
+        rt,
+        alloc,
+        units: Units::new(rt, alloc, new)?,
+        desk: Desk::new(alloc, Group::One)?,
+        disk,
+        taken: Tally::new(),
+    };
+    happens::<W, Host<'_, W, B, O, N>, &Shared<'_, W, B, O, N>>(rt, alloc, &&shared, tale)
+}
