@@ -1,5 +1,5 @@
 //! Tests of the array and of the program that serves it. Over real files, through the portals of both controllers (`whole`); of whole
-//! sessions whose bytes come and go in memory, without a socket (`lives`, `clients`, `gone`, `handles`); of what needs no file: words,
+//! sessions whose bytes come and go in memory, without a socket (`lives`, `clients`); of what needs no file: words,
 //! the texts of faults, the console, and the lines of the log (`words`, `lines`, `down`, `log_lines`).
 #![tactic(auto)]
 
@@ -7,10 +7,6 @@
 mod clients;
 #[cfg(test)]
 mod down;
-#[cfg(test)]
-mod gone;
-#[cfg(test)]
-mod handles;
 #[cfg(test)]
 mod hosts;
 #[cfg(test)]

@@ -3,8 +3,6 @@ ghost use Rattle.std.specs.Prelude.{◌≡◌, ◌≤◌, IfOk, length};
 ghost use Rattle.block_file.specs.Cut.{cut};
 ghost use Rattle.unit_history.specs.Naming.{IsNamed};
 
-use crate::gone::the_older_session_is_gone;
-use crate::handles::begin_again;
 use crate::row::{Row, Stream};
 use array_units::Units;
 use block_file::{KeepOpener, MemBlocks};
@@ -60,8 +58,8 @@ type Sessions = Mutex<Table<Endless>>;
 /// What is seen of its unit.
 type Seen<N> = LegalHistory<MemBlocks, MemBlocks, KeepOpener, N>;
 
-/// The target of a session that comes by controller 1.
-pub type Arrived<'a, R, N> = SessionTarget<
+// The target of a session that comes by controller 1.
+type Arrived<'a, R, N> = SessionTarget<
     'a,
     R,
     Both<N>,
@@ -82,15 +80,15 @@ fn is_later<N: Naming<Opened>>(before: &[Seen<N>], after: &[Seen<N>]) -> bool {
 
 /// An array that sessions share.
 #[derive(Drop)]
-pub struct Scene<'a, R: Wait, N: Naming<Opened>> {
-    pub rt: &'a R,
-    pub alloc: Global,
+struct Scene<'a, R: Wait, N: Naming<Opened>> {
+    rt: &'a R,
+    alloc: Global,
     device: &'a TargetDevice<Both<N>, Open, Sessions>,
 }
 
 impl<'a, R: Wait + Clock + Abort, N: Naming<Opened>> Scene<'a, R, N> {
-    /// A session comes, and has not begun.
-    pub fn arrive(&self) -> Arrived<'a, R, N> {
+    // A session comes, and has not begun.
+    fn arrive(&self) -> Arrived<'a, R, N> {
         SessionTarget::new(self.rt, self.alloc, self.device, Group::One, Endless)
     }
 
@@ -229,23 +227,13 @@ fn one(alloc: Global, blocks: u32) -> Result<Vec<NewUnit<MemBlocks, MemBlocks, K
     Ok(units)
 }
 
-/// What is played before an array.
-#[derive(Clone, Copy)]
-pub enum Played<'a> {
-    /// A row, whose bytes come so.
-    Row(&'a Row<'a>, Calls),
-    /// Two sessions of one nexus.
-    OneNexus,
-    /// All TSIHs are used up.
-    Handles,
-}
-
-// Plays it before an array of these units.
+// Serves a row before an array of these units.
 fn play<R: Wait + Clock + Abort, N: Naming<Opened>>(
     rt: &R,
     alloc: Global,
     new: Vec<NewUnit<MemBlocks, MemBlocks, KeepOpener>>,
-    played: &Played<'_>,
+    row: &Row<'_>,
+    reads: Calls,
 )
     requires named { IsNamed N.book N.table N.opening (λ d. cut d.count d.bytes.items) new.items }
     requires count { length new.items ≤ 8 }
@@ -260,24 +248,18 @@ fn play<R: Wait + Clock + Abort, N: Naming<Opened>>(
         alloc,
         device: &device,
     };
-    match played {
-        Played::Row(row, reads) => scene.serve_row(row, *reads),
-        Played::OneNexus => the_older_session_is_gone(&scene),
-        Played::Handles => begin_again(&scene),
-    }
+    scene.serve_row(row, reads);
 }
 
-/// Plays it before an array of one unit.
-pub fn play_alone<R: Wait + Clock + Abort>(
+// Serves it before an array of one unit, where its bytes come so.
+fn play_alone<R: Wait + Clock + Abort>(
     rt: &R,
     alloc: Global,
-    played: &Played<'_>,
+    row: &Row<'_>,
+    reads: Calls,
 ) -> Result<(), Fail> {
-    let blocks = match played {
-        Played::Row(row, _) if !row.each_place => BLOCKS,
-        _ => FEW_BLOCKS,
-    };
-    play::<R, Brand>(rt, alloc, one(alloc, blocks)?, played);
+    let blocks = if row.each_place { FEW_BLOCKS } else { BLOCKS };
+    play::<R, Brand>(rt, alloc, one(alloc, blocks)?, row, reads);
     Ok(())
 }
 
@@ -298,11 +280,11 @@ pub fn run<R: Wait + Clock + Abort>(rt: &R, alloc: Global, table: &str) -> Resul
 
 fn run_row<R: Wait + Clock + Abort>(rt: &R, alloc: Global, row: &Row<'_>) -> Result<(), Fail> {
     for reads in [WHOLE, ONE_BYTE, PIECES] {
-        play_alone(rt, alloc, &Played::Row(&*row, reads))?;
+        play_alone(rt, alloc, row, reads)?;
     }
     if row.each_place {
         for first in 1..row.first.front.len() {
-            play_alone(rt, alloc, &Played::Row(&*row, Calls { first, ..WHOLE }))?;
+            play_alone(rt, alloc, row, Calls { first, ..WHOLE })?;
         }
     }
     Ok(())

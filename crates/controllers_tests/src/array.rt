@@ -68,17 +68,11 @@ pub trait Session {
 /// Units that threads share, a desk of the first controller, and the sessions S of hosts. The writes of the units' devices may
 /// hang at a latch.
 pub trait Array<S> {
-    /// How many units there are.
-    fn count(&self) -> usize;
-
     /// The host of this ISID attaches to a unit by a group. None: there is no such unit, no room for a session, or no memory.
     fn attach(&self, place: usize, isid: u32, group: Group) -> Option<S>;
 
     /// What the board of a unit shows.
     fn row(&self, place: usize) -> Option<Row>;
-
-    /// Whether a unit was flushed.
-    fn flush(&self, place: usize) -> bool;
 
     /// The unit at a place moves by this list of SET TARGET PORT GROUPS, or stays. None: there is no such unit.
     fn move_by(&self, place: usize, list: &[u8]) -> Option<Result<(), MoveFault>>;
@@ -100,9 +94,6 @@ pub trait Array<S> {
 
     /// From now on writes of the device of this unit hang; or those go on that hung.
     fn hold(&self, unit: Option<usize>);
-
-    /// Waits until so many of them hang.
-    fn await_held(&self, count: u32);
 
     /// How many jobs lanes have taken to serve.
     fn taken(&self) -> u32;

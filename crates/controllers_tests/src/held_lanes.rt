@@ -1,5 +1,5 @@
 //! Four lanes at one desk by way of which two units are served. The device of the first hangs.
-use crate::array::{Array, End, Session, TOLD_OF_POWER_ON, entries, want};
+use crate::array::{Array, End, Session, TOLD_OF_POWER_ON, want};
 use crate::runs::{Setting, run};
 use crate::tales::Tale;
 use scsi_types::{Command, Group};
@@ -40,7 +40,7 @@ fn by_worker<S: Session>(host: &mut S, command: Command) -> End {
 }
 
 // A session at a unit that a lane has told that power came on.
-fn ready<S: Session + Drop, A: Array<S>>(array: &A, place: usize, isid: u32) -> Option<S> {
+fn ready<S: Session + Send + Drop, A: Array<S>>(array: &A, place: usize, isid: u32) -> Option<S> {
     let mut host = array.attach(place, isid, Group::One)?;
     let told = by_lane(&mut host, TEST, &[]);
     (told == TOLD_OF_POWER_ON).then_some(host)
@@ -55,29 +55,8 @@ fn lane<W: Wait, S, A: Array<S>>(rt: &W, array: &A) {
     }
 }
 
-// A write hangs in the device of unit 0; meanwhile lanes serve unit 1, and the row of unit 0 is read.
-fn one_write_hangs<S: Session, A: Array<S>>(array: &A, slow: &mut S, quick: &mut S) -> bool {
-    array.hold(Some(0));
-    let stuck = slow.hand_in(WRITE, &NEW);
-    let first = by_lane(quick, WRITE, &NEW);
-    array.await_held(1);
-    let shown = entries(array, 0);
-    let second = by_lane(quick, TEST, &[]);
-    array.hold(None);
-    let last = slow.collect();
-    let are_good = first == End::Good && second == End::Good && last == End::Good;
-    stuck == End::Waits && are_good && shown == 2 && entries(array, 0) == 3
-}
-
-fn hangs<S: Session + Drop, A: Array<S>>(array: &A) -> bool {
-    match (ready(array, 0, 1), ready(array, 1, 2)) {
-        (Some(mut slow), Some(mut quick)) => one_write_hangs(array, &mut slow, &mut quick),
-        _ => false,
-    }
-}
-
 // A session at unit 1 with three commands: two wait in the queue, and one is served as the program does.
-fn is_served<S: Session + Drop, A: Array<S>>(array: &A, isid: u32) -> bool {
+fn is_served<S: Session + Send + Drop, A: Array<S>>(array: &A, isid: u32) -> bool {
     let Some(mut host) = array.attach(1, isid, Group::One) else {
         return false;
     };
@@ -87,7 +66,7 @@ fn is_served<S: Session + Drop, A: Array<S>>(array: &A, isid: u32) -> bool {
     first == TOLD_OF_POWER_ON && second == End::Good && third == End::Good
 }
 
-fn two_are_served<W: Threads, S: Session + Drop, A: Array<S> + Sync>(
+fn two_are_served<W: Threads, S: Session + Send + Drop, A: Array<S> + Sync>(
     rt: &W,
     array: &A,
     isid: u32,
@@ -96,7 +75,7 @@ fn two_are_served<W: Threads, S: Session + Drop, A: Array<S> + Sync>(
     one && other
 }
 
-fn four_are_served<W: Threads + Sync, S: Session + Drop, A: Array<S> + Sync>(
+fn four_are_served<W: Threads + Sync, S: Session + Send + Drop, A: Array<S> + Sync>(
     rt: &W,
     array: &A,
     isid: u32,
@@ -110,7 +89,7 @@ fn four_are_served<W: Threads + Sync, S: Session + Drop, A: Array<S> + Sync>(
 }
 
 // Five sessions at unit 0.
-fn five_ready<S: Session + Drop, A: Array<S>>(array: &A, hosts: &mut Vec<S>) {
+fn five_ready<S: Session + Send + Drop, A: Array<S>>(array: &A, hosts: &mut Vec<S>) {
     for isid in 1..=5 {
         if let Some(host) = ready(array, 0, isid) {
             let _ = hosts.push(host);
@@ -138,7 +117,7 @@ fn count_good<S: Session>(hosts: &mut Vec<S>) -> u32 {
 
 // Each lane has taken a write of unit 0, and a fifth waits: nobody but a lane that another write woke takes them. Meanwhile
 // eight sessions at unit 1 are served, each by its own worker.
-fn five_writes_hang<W: Threads + Sync, S: Session + Drop, A: Array<S> + Sync>(
+fn five_writes_hang<W: Threads + Sync, S: Session + Send + Drop, A: Array<S> + Sync>(
     rt: &W,
     alloc: Global,
     array: &A,
@@ -158,77 +137,41 @@ fn five_writes_hang<W: Threads + Sync, S: Session + Drop, A: Array<S> + Sync>(
     first && second && by_lanes == 9 && count_good(&mut hosts) == 5
 }
 
-fn two_lanes<W: Threads + Wait + Sync, S, A: Array<S> + Sync>(rt: &W, array: &A) {
+fn two_lanes<W: Threads + Wait + Sync, S: Send, A: Array<S> + Sync>(rt: &W, array: &A) {
     let _ = join(rt, || lane(rt, array), || lane(rt, array));
 }
 
-fn four_lanes<W: Threads + Wait + Sync, S, A: Array<S> + Sync>(rt: &W, array: &A) {
+fn four_lanes<W: Threads + Wait + Sync, S: Send, A: Array<S> + Sync>(rt: &W, array: &A) {
     let _ = join(rt, || two_lanes(rt, array), || two_lanes(rt, array));
 }
 
-// What is played before the lanes.
-#[derive(Clone, Copy)]
-enum Played {
-    One,
-    All,
-}
-
 // Plays it. Behind it nothing hangs, and the desk is closed.
-fn play<W: Threads + Sync, S: Session + Drop, A: Array<S> + Sync>(
+fn play<W: Threads + Sync, S: Session + Send + Drop, A: Array<S> + Sync>(
     rt: &W,
     alloc: Global,
     array: &A,
-    played: Played,
 ) -> bool {
     let is_moved = matches!(array.move_by(1, &TO_GROUP_1), Some(Ok(())));
-    let is_right = match played {
-        Played::One => hangs(array),
-        Played::All => five_writes_hang(rt, alloc, array),
-    };
+    let is_right = five_writes_hang(rt, alloc, array);
     array.hold(None);
     array.close();
     is_moved && is_right
 }
 
-// Plays it beside four lanes, which serve so many jobs meanwhile. Unit 1 moves to group 1, which owns unit 0.
-fn beside_lanes<W: Threads + Wait + Sync, S: Session + Drop, A: Array<S> + Sync>(
+/// Plays it beside four lanes. Unit 1 moves to group 1, which owns unit 0. Where all lanes are held, workers serve: of the 34
+/// commands the lanes serve 10, those that only they can. The workers of eight sessions serve theirs, 16 out of the queue, since no
+/// lane is free.
+pub fn all_hang<W: Threads + Wait + Sync, S: Session + Send + Drop, A: Array<S> + Sync>(
     rt: &W,
     alloc: Global,
     array: &A,
-    played: Played,
-    by_lanes: u32,
 ) -> Result<(), Fail> {
-    let (is_right, _) = join(
-        rt,
-        || play(rt, alloc, array, played),
-        || four_lanes(rt, array),
-    );
+    let (is_right, _) = join(rt, || play(rt, alloc, array), || four_lanes(rt, array));
     want(is_right, "what was told")?;
-    want(array.taken() == by_lanes, "jobs that lanes served")
-}
-
-/// A write hangs, while others are served by the lanes that are left: five jobs in all.
-pub fn one_hangs<W: Threads + Wait + Sync, S: Session + Drop, A: Array<S> + Sync>(
-    rt: &W,
-    alloc: Global,
-    array: &A,
-) -> Result<(), Fail> {
-    beside_lanes(rt, alloc, array, Played::One, 5)
-}
-
-/// Where all lanes are held, workers serve: of the 34 commands the lanes serve 10, those that only they can. The workers of eight
-/// sessions serve theirs, 16 out of the queue, since no lane is free.
-pub fn all_hang<W: Threads + Wait + Sync, S: Session + Drop, A: Array<S> + Sync>(
-    rt: &W,
-    alloc: Global,
-    array: &A,
-) -> Result<(), Fail> {
-    beside_lanes(rt, alloc, array, Played::All, 10)
+    want(array.taken() == 10, "jobs that lanes served")
 }
 
 #[test]
 fn lanes_that_a_device_holds(rt: HostRuntime) -> Result<(), Fail> {
-    let setting = Setting::of(&[9, 9]);
-    run(&rt, rt.alloc(), &setting, Tale::OneHangs)?;
-    run(&rt, rt.alloc(), &setting, Tale::AllHang)
+    run(&rt, rt.alloc(), &Setting::of(&[9, 9]), Tale::AllHang)
 }

@@ -1,5 +1,3 @@
 //! Tests of units that threads share: what the board shows of a history, and what two threads find that use one unit.
-pub mod many;
-mod seats;
 pub mod sessions;
 pub mod threads;

@@ -60,7 +60,7 @@ fn lane<W: Wait, S, A: Array<S>>(rt: &W, array: &A) -> u64 {
 }
 
 /// A worker and a lane share a desk.
-pub fn share<W: Threads + Wait + Sync, S: Session + Drop, A: Array<S> + Sync>(
+pub fn share<W: Threads + Wait + Sync, S: Session + Send + Drop, A: Array<S> + Sync>(
     rt: &W,
     alloc: Global,
     array: &A,

@@ -251,10 +251,6 @@ impl<W: Wait + Drop, B: Blocks, O: Opener<B>, N: Naming<Opened>> Shared<'_, W, B
 
 impl<'a, W: Wait + Drop, B: Blocks, O: Opener<B>, N: Naming<Opened>> Array<Host<'a, W, B, O, N>>
     for &'a Shared<'a, W, B, O, N> {
-    fn count(&self) -> usize {
-        self.units.count()
-    }
-
     fn attach(&self, place: usize, isid: u32, group: Group) -> Option<Host<'a, W, B, O, N>> {
         let at: &'a Shared<'a, W, B, O, N> = *self;
         if place >= at.units.count() {
@@ -276,10 +272,6 @@ impl<'a, W: Wait + Drop, B: Blocks, O: Opener<B>, N: Naming<Opened>> Array<Host<
             return None;
         }
         Some(self.units.read(self.rt, place))
-    }
-
-    fn flush(&self, place: usize) -> bool {
-        place < self.units.count() && self.units.flush(self.rt, place).is_ok()
     }
 
     fn move_by(&self, place: usize, list: &[u8]) -> Option<Result<(), MoveFault>> {
@@ -327,10 +319,6 @@ impl<'a, W: Wait + Drop, B: Blocks, O: Opener<B>, N: Naming<Opened>> Array<Host<
 
     fn hold(&self, unit: Option<usize>) {
         self.disk.hold(unit);
-    }
-
-    fn await_held(&self, count: u32) {
-        self.disk.await_held(count);
     }
 
     fn taken(&self) -> u32 {

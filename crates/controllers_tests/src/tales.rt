@@ -2,7 +2,7 @@
 ghost use Rattle.std.specs.Prelude.{◌≡◌, ◌≤◌, length};
 
 use crate::array::{Array, Session};
-use crate::histories::{many, sessions, threads};
+use crate::histories::{sessions, threads};
 use crate::script::Line;
 use crate::{held_lanes, lanes, stage};
 use std::alloc::Global;
@@ -17,18 +17,12 @@ pub enum Tale<'a> {
     Script(&'a [Line]),
     /// A worker and a lane share a desk.
     Shared,
-    /// A write hangs in a device, while four lanes serve.
-    OneHangs,
-    /// So many hang that no lane is left.
+    /// So many writes hang in a device that no lane is left.
     AllHang,
     /// 2000 commands of a session, and what comes behind them.
     Served,
-    /// A move.
-    Moved,
     /// More sessions than may be attached at once, one behind another.
     InTurn,
-    /// Each of so many units is used.
-    Each(usize),
     /// Two threads exchange a block.
     Exchanged,
     /// Two threads write, while so many calls of the device fail.
@@ -47,12 +41,9 @@ pub fn happens<W: Threads + Wait + Sync, S: Session + Send + Drop, A: Array<S> +
     match tale {
         Tale::Script(script) => stage::is_performed(alloc, array, script),
         Tale::Shared => lanes::share(rt, alloc, array),
-        Tale::OneHangs => held_lanes::one_hangs(rt, alloc, array),
         Tale::AllHang => held_lanes::all_hang(rt, alloc, array),
         Tale::Served => sessions::are_served(array),
-        Tale::Moved => sessions::moves_away(array),
         Tale::InTurn => sessions::come_in_turn(array),
-        Tale::Each(count) => many::are_used(array, count),
         Tale::Exchanged => threads::exchange_by_two(rt, array),
         Tale::Failing(calls) => threads::meet_failures(rt, array, calls),
         Tale::Watched => threads::are_watched(rt, array),

@@ -20,6 +20,9 @@ type Session<N> = Pass<Noted, Opened, Counter, N>;
 
 type Reader<N> = Seat<Noted, Opened, Counter, At<Opened, N, 0>>;
 
+/// How many may read the board.
+const SEATS: usize = 64;
+
 /// How often each of two threads counts.
 const TIMES: u64 = 500;
 
@@ -129,7 +132,10 @@ fn run<R: Threads + Wait + Sync, N: Array<Opened> + Send + Sync>(
     requires table { new.board.cell.table.shared.table_id ≡ N.table 0 }
     requires opening { N.opening 0 ≡ begins }
 {
-    let (counter, mut seats) = Shared::<N>::new(rt, alloc, new, Counter::new(), 1)?;
+    let (counter, mut seats) = Shared::<N>::new(rt, alloc, new, Counter::new(), SEATS)?;
+    if seats.len() != SEATS {
+        return Err(Fail::from("seats for all readers"));
+    }
     let mut seat = seats.pop().ok_or("a seat")?;
     let one = counter.attach(rt, Name::Left).ok().ok_or("a session")?;
     let two = counter.attach(rt, Name::Right).ok().ok_or("another")?;

@@ -102,45 +102,27 @@ fn is_met(before: &Seen, after: &Seen, row: &Row) -> bool {
         && is_unit(before.boards[1], after.boards[1], row.entries.1)
 }
 
-/// A world, and what was seen of it last.
-#[derive(Drop)]
-pub struct Play {
-    world: MemWorld,
-    before: Seen,
-}
-
-impl Play {
-    /// Over units whose openers pass so many opens each.
-    pub fn new(alloc: Global, opens: [u64; 2]) -> Result<Play, Fail> {
-        let world = two_units(alloc, opens)?;
-        let before = look(alloc, &world, 0)?;
-        Ok(Play { world, before })
-    }
-
-    /// Runs the events of a row.
-    pub fn row(&mut self, rt: &impl Abort, alloc: Global, row: &Row<'_>) -> Result<(), Fail> {
-        let noted = self.world.notes().len();
-        self.world.run(&events_of(alloc, row.acts)?)?;
-        let after = look(alloc, &self.world, noted)?;
-        assert!(rt;
-            is_met(&self.before, &after, row),
-            "{}: {after:?}",
-            row.what
-        );
-        self.before = after;
-        Ok(())
-    }
-
-    // Runs the events of each row in turn.
-    fn rows(&mut self, rt: &impl Abort, alloc: Global, rows: &[Row]) -> Result<(), Fail> {
-        for row in rows {
-            self.row(rt, alloc, row)?;
-        }
-        Ok(())
-    }
+// Runs the events of a row, behind which so much was seen: what is seen then.
+fn run_row(
+    rt: &impl Abort,
+    alloc: Global,
+    world: &mut MemWorld,
+    before: &Seen,
+    row: &Row<'_>,
+) -> Result<Seen, Fail> {
+    let noted = world.notes().len();
+    world.run(&events_of(alloc, row.acts)?)?;
+    let after = look(alloc, world, noted)?;
+    assert!(rt; is_met(before, &after, row), "{}: {after:?}", row.what);
+    Ok(after)
 }
 
 /// Runs the events of each row in turn, over units whose openers pass so many opens each.
 pub fn run(rt: &impl Abort, alloc: Global, opens: [u64; 2], rows: &[Row]) -> Result<(), Fail> {
-    Play::new(alloc, opens)?.rows(rt, alloc, rows)
+    let mut world = two_units(alloc, opens)?;
+    let mut seen = look(alloc, &world, 0)?;
+    for row in rows {
+        seen = run_row(rt, alloc, &mut world, &seen, row)?;
+    }
+    Ok(())
 }

@@ -2,7 +2,7 @@
 use crate::array::{Array, End, Session, TOLD_OF_POWER_ON, attached, entries, test, want};
 use crate::runs::{Setting, run};
 use crate::tales::Tale;
-use scsi_types::{Group, Sense};
+use scsi_types::Group;
 use std::test::Fail;
 
 /// So many TEST UNIT READY.
@@ -56,53 +56,6 @@ pub fn are_served<S: Session + Drop, A: Array<S>>(array: &A) -> Result<(), Fail>
 #[test]
 fn two_thousand_commands(rt: HostRuntime) -> Result<(), Fail> {
     run(&rt, rt.alloc(), &Setting::of(&[9]), Tale::Served)
-}
-
-/// SET TARGET PORT GROUPS: group 2 active/optimized.
-const TO_TWO: [u8; 8] = [0, 0, 0, 0, 0, 0, 0, 2];
-
-/// Whether unit 0 moves as this list says.
-fn moves<S, A: Array<S>>(array: &A, list: &[u8]) -> bool {
-    matches!(array.move_by(0, list), Some(Ok(())))
-}
-
-/// Whether the board of unit 0 shows that the other group owns it.
-fn is_of_the_other<S, A: Array<S>>(array: &A) -> bool {
-    match array.row(0) {
-        Some(row) => row.entries == 2 && row.owner == 2 && row.states == (1, 0),
-        None => false,
-    }
-}
-
-/// The unit moves, is told so, and belongs to the other group.
-fn is_moved<S: Session, A: Array<S>>(array: &A, host: &mut S) -> Result<(), Fail> {
-    want(!moves(array, &TO_TWO[..7]), "a list of 7 bytes")?;
-    want(moves(array, &TO_TWO), "a move")?;
-    want(is_of_the_other(array), "the other group owns it")?;
-    let moved = test(host, Group::One);
-    want(moved == End::Moved(Group::Two), "by the group before")?;
-    want(
-        test(host, Group::Two) == TOLD_OF_POWER_ON,
-        "it is told of the power on",
-    )?;
-    let told = test(host, Group::Two);
-    want(
-        told == End::Check(Sense::ACCESS_STATE_CHANGED),
-        "it is told of the move",
-    )?;
-    want(array.flush(0), "a flush")?;
-    want(entries(array, 0) == 4, "a flush is no entry")
-}
-
-/// The unit moves to the other group.
-pub fn moves_away<S: Session + Drop, A: Array<S>>(array: &A) -> Result<(), Fail> {
-    let mut host = attached(array, 0, 1)?;
-    is_moved(array, &mut host)
-}
-
-#[test]
-fn a_unit_that_moves(rt: HostRuntime) -> Result<(), Fail> {
-    run(&rt, rt.alloc(), &Setting::of(&[9]), Tale::Moved)
 }
 
 /// More than may be attached at once.
