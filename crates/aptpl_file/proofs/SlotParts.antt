@@ -4,8 +4,8 @@ use Rattle.std.proofs.Common.{Some, replicate, slice_index, refl, sym, ◌∙◌
 use Rattle.std.proofs.Common.{length-append, length-drop}
 use Rattle.std.proofs.lemmas.List.{drop-drop, drop_at, length-replicate, take_at, take-append-drop}
 use Rattle.std.specs.List.{AllByRecursion, flat_map, slice_get}
-use Rattle.reservations.specs.declared.registrant.Registrant.{Registrant}
-use Rattle.reservations.specs.Registry.{RecordValue, IsRecord}
+use Rattle.registrants.specs.declared.registrant.Registrant.{Registrant}
+use Rattle.registrants.specs.Registry.{RecordValue, IsRecord}
 use Rattle.block_file.specs.Disk.{block_at}
 use Rattle.aptpl_file.specs.declared.entry.Entry.{Entry}
 use Rattle.aptpl_file.specs.declared.slot.Slot.{Slot}

@@ -1,6 +1,6 @@
 -- What the making of a registration file leaves: the slot is written first, and the root that names it behind it.
 use Rattle.std.specs.Prelude.{◌≡◌, ◌⊎◌, ℕ, false, List, [], ◌∷◌, None}
-use Rattle.reservations.specs.Registry.{RecordValue}
+use Rattle.registrants.specs.Registry.{RecordValue}
 use Rattle.block_file.specs.Disk.{or_new, MayLeave, NoMore}
 use Rattle.block_file.specs.Failures.{Tells}
 use Rattle.block_file.specs.Moment.{Elapses}

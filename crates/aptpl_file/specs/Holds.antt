@@ -1,6 +1,6 @@
 -- The record that the blocks of a registration file hold.
 use Rattle.std.specs.Prelude.{◌≡◌, ◌⊎◌, ℕ, ◌+◌, ◌<◌, ◌≤◌, List, [], ◌∷◌, length, take, drop}
-use Rattle.reservations.specs.Registry.{RecordValue, IsRecord}
+use Rattle.registrants.specs.Registry.{RecordValue, IsRecord}
 use Rattle.block_file.specs.Disk.{block_at}
 use Rattle.aptpl_file.specs.declared.slot.Slot.{Slot}
 use Rattle.aptpl_file.specs.declared.fault.OpenFault.{OpenFault}

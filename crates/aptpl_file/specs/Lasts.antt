@@ -1,6 +1,6 @@
 -- What a crash may leave of a registration file.
 use Rattle.std.specs.Prelude.{◌≡◌, ◌⊎◌, ℕ, ◌+◌, ◌<◌, ◌≤◌, Bool, true, false, List, [], ◌∷◌, ◌++◌}
-use Rattle.reservations.specs.Registry.{RecordValue, IsRecord}
+use Rattle.registrants.specs.Registry.{RecordValue, IsRecord}
 use Rattle.block_file.specs.Disk.{MayLeave}
 use Rattle.block_file.specs.Moment.{Elapses}
 use Rattle.aptpl_file.specs.declared.slot.Slot.{Slot}

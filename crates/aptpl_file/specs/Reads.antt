@@ -5,9 +5,9 @@ use Rattle.std.specs.List.{AllByRecursion, find, flat_map, slice_get}
 use Rattle.std.specs.Option.{option_map}
 use Rattle.scsi_types.specs.Nexus.{Nexus}
 use Rattle.scsi_types.specs.declared.names.Group.TheVariants.{One}
-use Rattle.reservations.specs.declared.registrant.Registrant.{Registrant}
-use Rattle.reservations.specs.Nexus.{other_nexus}
-use Rattle.reservations.specs.Registry.{RecordValue, IsAscending, IsListed, IsRecord, holder_of}
+use Rattle.registrants.specs.declared.registrant.Registrant.{Registrant}
+use Rattle.registrants.specs.Nexus.{other_nexus}
+use Rattle.registrants.specs.Registry.{RecordValue, IsAscending, IsListed, IsRecord, holder_of}
 use Rattle.aptpl_file.specs.declared.entry.Entry.{Entry}
 use Rattle.aptpl_file.specs.declared.slot.Slot.{Slot}
 use Rattle.aptpl_file.specs.declared.version.FileVersion.{FileVersion}

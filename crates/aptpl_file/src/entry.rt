@@ -3,7 +3,7 @@ ghost use Rattle.std.specs.Prelude.{◌≡◌, ◌≤◌, ◌∷◌, [], length,
 ghost use Rattle.aptpl_file.specs.Format.{covers, entries_of, has_pair, is_pair, place_of};
 
 use crate::FileVersion;
-use reservations::{Nexus, Registrant};
+use registrants::{Nexus, Registrant};
 use scsi_types::Group;
 
 /// How many entries a slot has room for.

@@ -3,7 +3,7 @@ ghost use Rattle.std.specs.Prelude.{◌≡◌, ◌<◌, ◌≤◌, IsErrOf, List
 ghost use Rattle.block_file.specs.Disk.{or_new, Adds};
 ghost use Rattle.block_file.specs.Moment.{StopsAmong};
 ghost use Rattle.block_file.specs.Failures.{CanFail, Counts, Tells};
-ghost use Rattle.reservations.specs.Registry.{RecordValue};
+ghost use Rattle.registrants.specs.Registry.{RecordValue};
 ghost use Rattle.aptpl_file.specs.Format.{file_blocks};
 
 use crate::reading::read_record;
@@ -11,7 +11,7 @@ use crate::spelling::FILE_BLOCKS;
 use crate::writing::{save_root, save_slot};
 use crate::{FileVersion, OpenFault, SaveFault, Slot};
 use block_file::{Blocks, DeviceFailed};
-use reservations::{Lasting, Record};
+use registrants::{Lasting, Record};
 use std::alloc::Global;
 use std::marker::Model;
 

@@ -2,7 +2,7 @@
 ghost use Rattle.std.specs.Prelude.{◌≡◌, ◌≤◌, ◌<◌, IfErr, IfOk, IsTrue, length};
 ghost use Rattle.block_file.specs.Disk.{block_at, NoMore};
 ghost use Rattle.block_file.specs.Failures.{Counts, Tells};
-ghost use Rattle.reservations.specs.Registry.{RecordValue};
+ghost use Rattle.registrants.specs.Registry.{RecordValue};
 ghost use Rattle.aptpl_file.specs.Format.{file_blocks};
 ghost use Rattle.aptpl_file.specs.Reads.{HasSlot, IsRefusalOf, IsUnfailed};
 ghost use Rattle.aptpl_file.specs.Holds.{Holds, IsRefusal};
@@ -13,7 +13,7 @@ use crate::parsing::{named_by, record_of};
 use crate::spelling::SLOT_LENGTH;
 use crate::{FileVersion, OpenFault, Slot};
 use block_file::{Blocks, DeviceFailed};
-use reservations::Record;
+use registrants::Record;
 use std::alloc::Global;
 
 fn read_block<B: Blocks>(device: &mut B, index: u32) -> Result<[u8; 512], DeviceFailed>

@@ -11,7 +11,7 @@ ghost use Rattle.aptpl_file.specs.Writes.{beside_slot};
 use crate::spelling::{root_block, slot_bytes};
 use crate::{FileVersion, Slot};
 use block_file::{Blocks, DeviceFailed};
-use reservations::{Registrant, Reservation};
+use registrants::{Registrant, Reservation};
 
 /// Writes a slot in version 2 and makes it last.
 pub fn save_slot<B: Blocks>(

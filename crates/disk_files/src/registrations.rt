@@ -2,7 +2,7 @@
 use crate::{FileBlocks, FileFault, RegistrationsFault, Voice};
 use aptpl_file::{FILE_BLOCKS, OpenFault, RegFile};
 use block_file::{BLOCK_LENGTH, Blocks};
-use reservations::Record;
+use registrants::Record;
 use std::alloc::{AllocError, Global};
 use std::fs;
 use std::fs::{File, OpenFile};

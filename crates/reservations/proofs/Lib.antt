@@ -2,11 +2,6 @@ pub mod Appended
 pub mod EachPort
 pub mod EveryRow
 pub mod Hearing
-pub mod Held
-pub mod Insert
-pub mod Listed
-pub mod Order
 pub mod OnePort
-pub mod Rekey
 pub mod Rows
 pub mod Sound

@@ -1,9 +1,6 @@
 pub mod Access
-pub mod Kind
-pub mod Nexus
 pub mod Notice
 pub mod Reading
-pub mod Registry
 pub mod Rows
 pub mod Seen
 pub mod Table

@@ -1,6 +1,6 @@
 //! CLEAR, PREEMPT, and PREEMPT AND ABORT (SPC-4, 5.13.11.2 to 5.13.11.5).
 ghost use Rattle.std.specs.Prelude.{◌≡◌, vec_capacity};
-ghost use Rattle.reservations.specs.Kind.{type_of};
+ghost use Rattle.registrants.specs.Kind.{type_of};
 ghost use Rattle.reservations.specs.Rows.{Clears, PreemptsAll, PreemptsHolder, PreemptsRegistrants};
 ghost use Rattle.reservations.specs.Seen.{Does, DoesRow};
 ghost use Rattle.reservations.specs.Table.{row_of_preempt};
@@ -8,9 +8,9 @@ ghost use Rattle.reservations.specs.Table.{row_of_preempt};
 use crate::notice::good;
 use crate::request::type_asked;
 use crate::reserve::reservation_by;
-use crate::slots::{retain_only, retain_without_key, retain_without_others_of_key};
 use crate::table::Table;
 use crate::{Nexus, Notice, PrEnd, PrOut, ReservationType};
+use registrants::{retain_only, retain_without_key, retain_without_others_of_key};
 use scsi_types::UnitAttention;
 
 impl Table {

@@ -1,14 +1,14 @@
 //! REGISTER, and REGISTER AND IGNORE EXISTING KEY (SPC-4, 5.13.7 and 5.13.11.2).
 ghost use Rattle.std.specs.Prelude.{◌≡◌, ◌<◌, ◌≤◌, false, length, vec_capacity};
-ghost use Rattle.reservations.specs.Registry.{IsAscending, is_registered};
+ghost use Rattle.registrants.specs.Registry.{IsAscending, is_registered};
 ghost use Rattle.reservations.specs.Rows.{ChangesKey, HolderUnregisters, Registers};
 ghost use Rattle.reservations.specs.Seen.{Does, DoesRow};
 ghost use Rattle.reservations.specs.Table.{row_of_leaving, row_of_one, row_of_register};
 
 use crate::notice::good;
-use crate::slots::{insert_registrant, rekey, retain_others};
 use crate::table::{MOST_REGISTRANTS, Table};
 use crate::{Nexus, Notice, PrEnd, PrOut};
+use registrants::{insert_registrant, rekey, retain_others};
 
 impl Table {
     /// Registers a nexus, changes its key or unregisters it. The reservation key has been looked at.

@@ -12,7 +12,7 @@ use Rattle.compare_write.specs.Ends.{IsCompareEnd, IsSyncEnd, OnMiscompare, OnUn
 use Rattle.compare_write.specs.Instances.{compare_instance, write_instance}
 use Rattle.compare_write.specs.declared.end.MediumEnd.{MediumEnd}
 use Rattle.compare_write.specs.declared.end.MediumEnd.TheVariants as ends
-use Rattle.reservations.specs.Registry.{RecordValue}
+use Rattle.registrants.specs.Registry.{RecordValue}
 use Rattle.reservations.specs.declared.request.PrOut.{PrOut}
 use Rattle.scsi_types.specs.ReplyValue.{ReplyValue}
 use Rattle.scsi_types.specs.declared.command.Command.{Command}

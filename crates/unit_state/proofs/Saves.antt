@@ -8,7 +8,7 @@ use Rattle.aptpl_file.specs.declared.fault.SaveFault.{SaveFault}
 use Rattle.aptpl_file.specs.declared.fault.SaveFault.TheVariants.{OldRoot, IdleSlot, NewRoot}
 use Rattle.block_file.specs.Failures.{Tells}
 use Rattle.reservations.specs.Notice.{Told}
-use Rattle.reservations.specs.Registry.{RecordValue, RegistryValue, to_last}
+use Rattle.registrants.specs.Registry.{RecordValue, RegistryValue, to_last}
 use Rattle.reservations.specs.Rows.{Effect, Done}
 use Rattle.reservations.specs.declared.request.PrOut.{PrOut}
 use Rattle.scsi_types.specs.ReplyValue.{ReplyValue, check}

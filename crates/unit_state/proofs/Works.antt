@@ -11,7 +11,7 @@ use Rattle.compare_write.specs.Ends.{IsCompareEnd, IsSyncEnd, OnDone, OnMiscompa
 use Rattle.compare_write.specs.Instances.{compare_instance, write_instance}
 use Rattle.reservations.specs.Rows.{Effect, Done as Reserved, Conflicting, Refused, Full}
 use Rattle.scsi_types.specs.declared.reservation.PrOutAction.{PrOutAction}
-use Rattle.reservations.specs.Registry.{RecordValue}
+use Rattle.registrants.specs.Registry.{RecordValue}
 use Rattle.unit_state.specs.Reserve.{MayFailToSave, after_effect, effect_by, effect_reply, pr_out}
 use Rattle.unit_state.specs.Saving.{IsReserved, with_doubt}
 use Rattle.scsi_types.specs.ReplyValue.{ReplyValue, good, check}

@@ -1,5 +1,5 @@
 use Rattle.std.proofs.Common.{◌∙◌, sym, ap, subst, IsTrue}
-use Rattle.reservations.specs.Registry.{RecordValue, is_lasting}
+use Rattle.registrants.specs.Registry.{RecordValue, is_lasting}
 use Rattle.aptpl_file.specs.Format.{slot_bytes}
 use Rattle.aptpl_file.proofs.Holder.{has_reservation}
 use Rattle.aptpl_file.proofs.OneRecord.{record_is}

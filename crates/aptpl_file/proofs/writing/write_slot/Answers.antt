@@ -1,5 +1,5 @@
 use Rattle.std.proofs.Common.{◌∙◌, ℕ, List, ap, arith}
-use Rattle.reservations.specs.Registry.{RecordValue}
+use Rattle.registrants.specs.Registry.{RecordValue}
 use Rattle.block_file.specs.Cut.{run_of}
 use Rattle.block_file.specs.Disk.{written}
 use Rattle.aptpl_file.specs.declared.version.FileVersion.TheVariants.{Version2}

@@ -1,5 +1,5 @@
 use Rattle.std.proofs.Common.{arith}
-use Rattle.reservations.specs.Nexus.{through}
+use Rattle.registrants.specs.Nexus.{through}
 use Rattle.reservations.specs.Seen.{value_of}
 use Rattle.reservations.proofs.Sound.{stays_sound}
 use Rattle.reservations.proofs.registry.Registry.out.Goals as goal

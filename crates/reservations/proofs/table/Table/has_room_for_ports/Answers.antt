@@ -1,7 +1,7 @@
 use Rattle.std.proofs.Common.{◌≡◌, ◌+◌, ◌≤◌, Bool, true, false, arith, ap, ◌∙◌, if◌then◌else◌, length}
-use Rattle.reservations.specs.Nexus.{other_nexus}
+use Rattle.registrants.specs.Nexus.{other_nexus}
 use Rattle.reservations.specs.Rows.{ports_with}
-use Rattle.reservations.proofs.Listed.{missing}
+use Rattle.registrants.proofs.Listed.{missing}
 use Rattle.reservations.proofs.OnePort.{length_ports, room_is}
 use Rattle.reservations.proofs.table.Table.has_room_for_ports.Goals as goal
 

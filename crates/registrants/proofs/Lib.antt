@@ -1,0 +1,5 @@
+pub mod Held
+pub mod Insert
+pub mod Listed
+pub mod Order
+mod Rekeyed
