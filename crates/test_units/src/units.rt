@@ -57,6 +57,18 @@ pub type MemUnit = NewUnit<MemBlocks, MemBlocks, Opens>;
 /// The blocks of such a unit.
 const BLOCKS: u32 = 16;
 
+// One of so many, whose opener passes so many opens.
+fn one(alloc: Global, unit: u8, units: u8, opens: u64) -> Result<MemUnit, Fail> {
+    let blocks = MemBlocks::new(alloc, BLOCKS)?;
+    new_unit(
+        alloc,
+        blocks,
+        FusedOpener::new(KeepOpener, opens),
+        unit,
+        units,
+    )
+}
+
 /// Units whose openers pass so many opens each, eight of them at most.
 pub fn in_memory(alloc: Global, opens: &[u64]) -> Result<Vec<MemUnit>, Fail>
     ensures { IfOk result (λ v. length v.items ≤ 8) }
@@ -65,9 +77,7 @@ pub fn in_memory(alloc: Global, opens: &[u64]) -> Result<Vec<MemUnit>, Fail>
     let units = u8::try_from(opens.len()).unwrap_or(u8::MAX);
     let mut unit = 0u8;
     for opens in opens {
-        let blocks = MemBlocks::new(alloc, BLOCKS)?;
-        let opener = FusedOpener::new(KeepOpener, *opens);
-        new.push(new_unit(alloc, blocks, opener, unit, units)?)?;
+        new.push(one(alloc, unit, units, *opens)?)?;
         unit = unit.saturating_add(1);
     }
     if new.len() > 8 {
