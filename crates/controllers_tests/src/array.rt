@@ -29,47 +29,44 @@ pub enum End {
 /// What the first command of a session comes to.
 pub const TOLD_OF_POWER_ON: End = End::Check(Sense::POWER_ON);
 
-/// The session of a host at a unit, or what is left of it.
-pub trait Session {
-    /// How this command ends, which comes by this group.
-    fn ask(&mut self, by_group: Group, command: Command, bytes: &[u8]) -> End;
-
-    /// How it ends by way of the desk, as the program has it served.
-    fn ask_at_desk(&mut self, command: Command, bytes: &[u8]) -> End;
-
-    /// Hands it in at the desk, in whose queue it waits then.
-    fn hand_in(&mut self, command: Command, bytes: &'static [u8]) -> End;
-
-    /// Waits until a lane has served it.
-    fn collect(&mut self) -> End;
-
-    /// Serves it, unless a lane is first.
-    fn serve_own(&mut self) -> End;
-
-    /// Whether the answer of its command that waits is there.
-    fn hears(&self) -> End;
-
-    /// The data of the last reply.
-    fn data(&self) -> &[u8];
-
-    /// Whether a LOGICAL UNIT RESET was done.
-    fn reset(&mut self) -> bool;
-
-    /// Whether the session ended by this call.
-    fn retire(&mut self) -> bool;
-
-    /// How many entries it has seen, or 0.
-    fn seen(&self) -> u64;
-
-    /// Whether both sessions are of one unit, and have then seen what either had.
-    fn meet(&mut self, other: &mut Self) -> bool;
-}
-
-/// Units that threads share, a desk of the first controller, and the sessions S of hosts. The writes of the units' devices may
+/// Units that threads share, a desk of the first controller, and the sessions S of hosts, or what is left of them. The writes of the units' devices may
 /// hang at a latch.
 pub trait Array<S> {
     /// The host of this ISID attaches to a unit by a group. None: there is no such unit, no room for a session, or no memory.
     fn attach(&self, place: usize, isid: u32, group: Group) -> Option<S>;
+
+    /// How a host's command ends, which comes by this group.
+    fn ask(&self, host: &mut S, by_group: Group, command: Command, bytes: &[u8]) -> End;
+
+    /// How it ends by way of the desk, as the program has it served.
+    fn ask_at_desk(&self, host: &mut S, command: Command, bytes: &[u8]) -> End;
+
+    /// Hands it in at the desk, in whose queue it waits then.
+    fn hand_in(&self, host: &mut S, command: Command, bytes: &'static [u8]) -> End;
+
+    /// Waits until a lane has served it.
+    fn collect(&self, host: &mut S) -> End;
+
+    /// Serves it, unless a lane is first.
+    fn serve_own(&self, host: &mut S) -> End;
+
+    /// Whether the answer of its command that waits is there.
+    fn hears(&self, host: &S) -> End;
+
+    /// The data of the last reply to a host.
+    fn data<'s>(&self, host: &'s S) -> &'s [u8];
+
+    /// Whether a LOGICAL UNIT RESET was done.
+    fn reset(&self, host: &mut S) -> bool;
+
+    /// Whether a session ended by this call.
+    fn retire(&self, host: &mut S) -> bool;
+
+    /// How many entries a session has seen, or 0.
+    fn seen(&self, host: &S) -> u64;
+
+    /// Whether both sessions are of one unit, and have then seen what either had.
+    fn meet(&self, one: &mut S, other: &mut S) -> bool;
 
     /// What the board of a unit shows.
     fn row(&self, place: usize) -> Option<Row>;
@@ -124,22 +121,22 @@ pub fn attached<S, A: Array<S>>(array: &A, place: usize, isid: u32) -> Result<S,
 }
 
 /// How a TEST UNIT READY ends.
-pub fn test<S: Session>(host: &mut S, by_group: Group) -> End {
-    host.ask(by_group, Command::TestUnitReady, &[])
+pub fn test<S, A: Array<S>>(array: &A, host: &mut S, by_group: Group) -> End {
+    array.ask(host, by_group, Command::TestUnitReady, &[])
 }
 
 /// How a WRITE of a block ends, of which each byte is this.
-pub fn write<S: Session>(host: &mut S, lba: u64, byte: u8) -> End {
+pub fn write<S, A: Array<S>>(array: &A, host: &mut S, lba: u64, byte: u8) -> End {
     let command = Command::Write {
         lba,
         blocks: 1,
         fua: false,
     };
-    host.ask(Group::One, command, &[byte; 512])
+    array.ask(host, Group::One, command, &[byte; 512])
 }
 
 /// How a COMPARE AND WRITE of a block ends: each byte is to be the first, and then is the second.
-pub fn exchange<S: Session>(host: &mut S, lba: u64, old: u8, new: u8) -> End {
+pub fn exchange<S, A: Array<S>>(array: &A, host: &mut S, lba: u64, old: u8, new: u8) -> End {
     let command = Command::CompareAndWrite {
         lba,
         blocks: 1,
@@ -147,21 +144,22 @@ pub fn exchange<S: Session>(host: &mut S, lba: u64, old: u8, new: u8) -> End {
     };
     let mut bytes = [old; 1024];
     bytes[512..].fill(new);
-    host.ask(Group::One, command, &bytes)
+    array.ask(host, Group::One, command, &bytes)
 }
 
 /// The byte that a READ of a block finds in all its places.
-pub fn read<S: Session>(host: &mut S, lba: u64) -> Option<u8> {
+pub fn read<S, A: Array<S>>(array: &A, host: &mut S, lba: u64) -> Option<u8> {
     let command = Command::Read {
         lba,
         blocks: 1,
         fua: false,
     };
-    if host.ask(Group::One, command, &[]) != End::Good {
+    if array.ask(host, Group::One, command, &[]) != End::Good {
         return None;
     }
-    let byte = host.data().first().copied()?;
-    if host.data() == [byte; 512].as_slice() {
+    let data = array.data(host);
+    let byte = data.first().copied()?;
+    if data == [byte; 512].as_slice() {
         Some(byte)
     } else {
         None

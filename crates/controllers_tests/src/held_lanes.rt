@@ -1,5 +1,5 @@
 //! Four lanes at one desk by way of which two units are served. The device of the first hangs.
-use crate::array::{Array, End, Session, TOLD_OF_POWER_ON, want};
+use crate::array::{Array, End, TOLD_OF_POWER_ON, want};
 use crate::runs::{Setting, run};
 use crate::tales::Tale;
 use scsi_types::{Command, Group};
@@ -24,25 +24,25 @@ const NEW: [u8; 512] = [0xA5; 512];
 const TO_GROUP_1: [u8; 8] = [0, 0, 0, 0, 0, 0, 0, 1];
 
 // A command that a lane serves.
-fn by_lane<S: Session>(host: &mut S, command: Command, bytes: &'static [u8]) -> End {
-    match host.hand_in(command, bytes) {
-        End::Waits => host.collect(),
+fn by_lane<S, A: Array<S>>(array: &A, host: &mut S, command: Command, bytes: &'static [u8]) -> End {
+    match array.hand_in(host, command, bytes) {
+        End::Waits => array.collect(host),
         end => end,
     }
 }
 
 // A command whose job waits in the queue, and which its worker serves, unless a lane is first.
-fn by_worker<S: Session>(host: &mut S, command: Command) -> End {
-    match host.hand_in(command, &[]) {
-        End::Waits => host.serve_own(),
+fn by_worker<S, A: Array<S>>(array: &A, host: &mut S, command: Command) -> End {
+    match array.hand_in(host, command, &[]) {
+        End::Waits => array.serve_own(host),
         end => end,
     }
 }
 
 // A session at a unit that a lane has told that power came on.
-fn ready<S: Session + Send + Drop, A: Array<S>>(array: &A, place: usize, isid: u32) -> Option<S> {
+fn ready<S: Send + Drop, A: Array<S>>(array: &A, place: usize, isid: u32) -> Option<S> {
     let mut host = array.attach(place, isid, Group::One)?;
-    let told = by_lane(&mut host, TEST, &[]);
+    let told = by_lane(array, &mut host, TEST, &[]);
     (told == TOLD_OF_POWER_ON).then_some(host)
 }
 
@@ -56,17 +56,17 @@ fn lane<W: Wait, S, A: Array<S>>(rt: &W, array: &A) {
 }
 
 // A session at unit 1 with three commands: two wait in the queue, and one is served as the program does.
-fn is_served<S: Session + Send + Drop, A: Array<S>>(array: &A, isid: u32) -> bool {
+fn is_served<S: Send + Drop, A: Array<S>>(array: &A, isid: u32) -> bool {
     let Some(mut host) = array.attach(1, isid, Group::One) else {
         return false;
     };
-    let first = by_worker(&mut host, TEST);
-    let second = host.ask_at_desk(WRITE, &[0x5A; 512]);
-    let third = by_worker(&mut host, TEST);
+    let first = by_worker(array, &mut host, TEST);
+    let second = array.ask_at_desk(&mut host, WRITE, &[0x5A; 512]);
+    let third = by_worker(array, &mut host, TEST);
     first == TOLD_OF_POWER_ON && second == End::Good && third == End::Good
 }
 
-fn two_are_served<W: Threads, S: Session + Send + Drop, A: Array<S> + Sync>(
+fn two_are_served<W: Threads, S: Send + Drop, A: Array<S> + Sync>(
     rt: &W,
     array: &A,
     isid: u32,
@@ -75,7 +75,7 @@ fn two_are_served<W: Threads, S: Session + Send + Drop, A: Array<S> + Sync>(
     one && other
 }
 
-fn four_are_served<W: Threads + Sync, S: Session + Send + Drop, A: Array<S> + Sync>(
+fn four_are_served<W: Threads + Sync, S: Send + Drop, A: Array<S> + Sync>(
     rt: &W,
     array: &A,
     isid: u32,
@@ -89,7 +89,7 @@ fn four_are_served<W: Threads + Sync, S: Session + Send + Drop, A: Array<S> + Sy
 }
 
 // Five sessions at unit 0.
-fn five_ready<S: Session + Send + Drop, A: Array<S>>(array: &A, hosts: &mut Vec<S>) {
+fn five_ready<S: Send + Drop, A: Array<S>>(array: &A, hosts: &mut Vec<S>) {
     for isid in 1..=5 {
         if let Some(host) = ready(array, 0, isid) {
             let _ = hosts.push(host);
@@ -98,17 +98,17 @@ fn five_ready<S: Session + Send + Drop, A: Array<S>>(array: &A, hosts: &mut Vec<
 }
 
 // Hands in a write of each.
-fn write_all<S: Session>(hosts: &mut Vec<S>) {
+fn write_all<S, A: Array<S>>(array: &A, hosts: &mut Vec<S>) {
     for host in hosts {
-        let _ = host.hand_in(WRITE, &NEW);
+        let _ = array.hand_in(host, WRITE, &NEW);
     }
 }
 
 // How many of these writes are GOOD.
-fn count_good<S: Session>(hosts: &mut Vec<S>) -> u32 {
+fn count_good<S, A: Array<S>>(array: &A, hosts: &mut Vec<S>) -> u32 {
     let mut count = 0u32;
     for host in hosts {
-        if host.collect() == End::Good {
+        if array.collect(host) == End::Good {
             count = count.saturating_add(1);
         }
     }
@@ -117,7 +117,7 @@ fn count_good<S: Session>(hosts: &mut Vec<S>) -> u32 {
 
 // Each lane has taken a write of unit 0, and a fifth waits: nobody but a lane that another write woke takes them. Meanwhile
 // eight sessions at unit 1 are served, each by its own worker.
-fn five_writes_hang<W: Threads + Sync, S: Session + Send + Drop, A: Array<S> + Sync>(
+fn five_writes_hang<W: Threads + Sync, S: Send + Drop, A: Array<S> + Sync>(
     rt: &W,
     alloc: Global,
     array: &A,
@@ -125,7 +125,7 @@ fn five_writes_hang<W: Threads + Sync, S: Session + Send + Drop, A: Array<S> + S
     let mut hosts = Vec::new(alloc);
     five_ready(array, &mut hosts);
     array.hold(Some(0));
-    write_all(&mut hosts);
+    write_all(array, &mut hosts);
     array.await_taken(9);
     let (first, second) = join(
         rt,
@@ -134,7 +134,7 @@ fn five_writes_hang<W: Threads + Sync, S: Session + Send + Drop, A: Array<S> + S
     );
     let by_lanes = array.taken();
     array.hold(None);
-    first && second && by_lanes == 9 && count_good(&mut hosts) == 5
+    first && second && by_lanes == 9 && count_good(array, &mut hosts) == 5
 }
 
 fn two_lanes<W: Threads + Wait + Sync, S: Send, A: Array<S> + Sync>(rt: &W, array: &A) {
@@ -146,7 +146,7 @@ fn four_lanes<W: Threads + Wait + Sync, S: Send, A: Array<S> + Sync>(rt: &W, arr
 }
 
 // Plays it. Behind it nothing hangs, and the desk is closed.
-fn play<W: Threads + Sync, S: Session + Send + Drop, A: Array<S> + Sync>(
+fn play<W: Threads + Sync, S: Send + Drop, A: Array<S> + Sync>(
     rt: &W,
     alloc: Global,
     array: &A,
@@ -161,7 +161,7 @@ fn play<W: Threads + Sync, S: Session + Send + Drop, A: Array<S> + Sync>(
 /// Plays it beside four lanes. Unit 1 moves to group 1, which owns unit 0. Where all lanes are held, workers serve: of the 34
 /// commands the lanes serve 10, those that only they can. The workers of eight sessions serve theirs, 16 out of the queue, since no
 /// lane is free.
-pub fn all_hang<W: Threads + Wait + Sync, S: Session + Send + Drop, A: Array<S> + Sync>(
+pub fn all_hang<W: Threads + Wait + Sync, S: Send + Drop, A: Array<S> + Sync>(
     rt: &W,
     alloc: Global,
     array: &A,

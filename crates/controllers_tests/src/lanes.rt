@@ -1,5 +1,5 @@
 //! A worker and a lane at one desk.
-use crate::array::{Array, End, Session, want};
+use crate::array::{Array, End, want};
 use crate::runs::{Setting, run};
 use crate::script::Asks::{Read, Set, Test, Write};
 use crate::script::Deed::{AtDesk, Attach, Close, Collect, HandIn, ServeOwn};
@@ -41,7 +41,7 @@ const WORK: &[Line] = &[
 ];
 
 // Does the worker's work.
-fn work<S: Session + Drop, A: Array<S>>(alloc: Global, array: &A) -> Result<(), Fail> {
+fn work<S: Drop, A: Array<S>>(alloc: Global, array: &A) -> Result<(), Fail> {
     let end = is_performed(alloc, array, WORK);
     array.close();
     end
@@ -60,7 +60,7 @@ fn lane<W: Wait, S, A: Array<S>>(rt: &W, array: &A) -> u64 {
 }
 
 /// A worker and a lane share a desk.
-pub fn share<W: Threads + Wait + Sync, S: Session + Send + Drop, A: Array<S> + Sync>(
+pub fn share<W: Threads + Wait + Sync, S: Send + Drop, A: Array<S> + Sync>(
     rt: &W,
     alloc: Global,
     array: &A,

@@ -2,7 +2,7 @@
 ghost use Rattle.std.specs.Prelude.{◌≡◌, ◌<◌, ◌≤◌, length};
 ghost use Rattle.unit_history.specs.Naming.{IsNamed};
 
-use crate::array::{Array, End, Session};
+use crate::array::{Array, End};
 use crate::tales::{Tale, happens};
 use crate::tally::Tally;
 use array_units::Units;
@@ -58,14 +58,13 @@ struct Shared<'a, W: Wait + Drop, B: Blocks, O: Opener<B>, N: Naming<Opened>> {
 
 /// The session of a host at one of them: its pass, the ticket of its command that waits at the desk, and the last reply.
 #[derive(Drop)]
-struct Host<'a, W: Wait + Drop, B: Blocks, O: Opener<B>, N: Naming<Opened>> {
-    at: &'a Shared<'a, W, B, O, N>,
+struct Host<B: Blocks, O: Opener<B>, N: Naming<Opened>> {
     pass: Option<Pass<B, MemBlocks, O, N>>,
     ticket: Option<Ticket<'static, B, MemBlocks, O, N>>,
     reply: Option<Reply>,
 }
 
-impl<W: Wait + Drop, B: Blocks, O: Opener<B>, N: Naming<Opened>> Host<'_, W, B, O, N> {
+impl<B: Blocks, O: Opener<B>, N: Naming<Opened>> Host<B, O, N> {
     // Keeps the pass, and the reply, which is told in short.
     fn keep(&mut self, pass: Pass<B, MemBlocks, O, N>, end: Result<Reply, Refused<Group>>) -> End {
         self.pass = Some(pass);
@@ -80,156 +79,6 @@ impl<W: Wait + Drop, B: Blocks, O: Opener<B>, N: Naming<Opened>> Host<'_, W, B, 
                 end_by(why)
             }
         }
-    }
-}
-
-impl<W: Wait + Drop, B: Blocks, O: Opener<B>, N: Naming<Opened>> Session for Host<'_, W, B, O, N> {
-    fn ask(&mut self, by_group: Group, command: Command, bytes: &[u8]) -> End {
-        let Shared {
-            rt,
-            alloc,
-            units,
-            ..
-        } = self.at;
-        let Some(pass) = self.pass.take() else {
-            return End::Nobody;
-        };
-        if pass.place() >= units.count() {
-            return End::Nobody;
-        }
-        let (pass, end) = units.serve(*rt, pass, *alloc, &by_group, &Ok(command), bytes);
-        self.keep(pass, end)
-    }
-
-    fn ask_at_desk(&mut self, command: Command, bytes: &[u8]) -> End {
-        let Shared {
-            rt,
-            alloc,
-            units,
-            desk,
-            ..
-        } = self.at;
-        let Some(pass) = self.pass.take() else {
-            return End::Nobody;
-        };
-        if pass.place() >= units.count() {
-            return End::Nobody;
-        }
-        let (pass, end) = desk.serve(*rt, *alloc, units, pass, &Ok(command), bytes);
-        match end {
-            Ok(end) => self.keep(pass, end),
-            Err(fault) => {
-                self.pass = Some(pass);
-                end_at(fault)
-            }
-        }
-    }
-
-    fn hand_in(&mut self, command: Command, bytes: &'static [u8]) -> End {
-        let Some(pass) = self.pass.take() else {
-            return End::Nobody;
-        };
-        match self
-            .at
-            .desk
-            .submit(self.at.rt, self.at.alloc, pass, &Ok(command), bytes)
-        {
-            Ok(ticket) => {
-                self.ticket = Some(ticket);
-                End::Waits
-            }
-            Err((fault, pass)) => {
-                self.pass = Some(pass);
-                end_at(fault)
-            }
-        }
-    }
-
-    fn collect(&mut self) -> End {
-        let Some(ticket) = self.ticket.take() else {
-            return End::Nobody;
-        };
-        let (pass, end) = self.at.desk.collect(self.at.rt, ticket);
-        self.keep(pass, end)
-    }
-
-    fn serve_own(&mut self) -> End {
-        let Shared {
-            rt,
-            alloc,
-            units,
-            desk,
-            ..
-        } = self.at;
-        let Some(ticket) = self.ticket.take() else {
-            return End::Nobody;
-        };
-        if ticket.place() >= units.count() {
-            return End::Nobody;
-        }
-        let (pass, end) = desk.serve_own(*rt, *alloc, units, ticket);
-        self.keep(pass, end)
-    }
-
-    fn hears(&self) -> End {
-        match &self.ticket {
-            Some(ticket) if ticket.is_answered(self.at.rt) => End::Answered,
-            Some(_) => End::Waits,
-            None => End::Nobody,
-        }
-    }
-
-    fn data(&self) -> &[u8] {
-        match &self.reply {
-            Some(reply) => reply.bytes(),
-            None => &[],
-        }
-    }
-
-    fn reset(&mut self) -> bool {
-        let units = &self.at.units;
-        let Some(pass) = self.pass.take() else {
-            return false;
-        };
-        if pass.place() >= units.count() {
-            return false;
-        }
-        let (pass, is_done) = units.reset(self.at.rt, pass);
-        self.pass = Some(pass);
-        is_done
-    }
-
-    fn retire(&mut self) -> bool {
-        let units = &self.at.units;
-        let Some(pass) = self.pass.take() else {
-            return false;
-        };
-        if pass.place() >= units.count() {
-            return false;
-        }
-        units.retire(self.at.rt, pass).is_ok()
-    }
-
-    fn seen(&self) -> u64 {
-        match &self.pass {
-            Some(pass) => pass.len(),
-            None => 0,
-        }
-    }
-
-    fn meet(&mut self, other: &mut Self) -> bool {
-        let units = &self.at.units;
-        let (Some(one), Some(two)) = (self.pass.take(), other.pass.take()) else {
-            return false;
-        };
-        if one.place() >= units.count() || two.place() != one.place() {
-            return false;
-        }
-        let (one, two) = units.meet(one, two);
-        let is_met = one.history().is_same(&two.history());
-        self.pass = Some(one);
-        other.pass = Some(two);
-        is_met
     }
 }
 
@@ -249,22 +98,172 @@ impl<W: Wait + Drop, B: Blocks, O: Opener<B>, N: Naming<Opened>> Shared<'_, W, B
     }
 }
 
-impl<'a, W: Wait + Drop, B: Blocks, O: Opener<B>, N: Naming<Opened>> Array<Host<'a, W, B, O, N>>
-    for &'a Shared<'a, W, B, O, N> {
-    fn attach(&self, place: usize, isid: u32, group: Group) -> Option<Host<'a, W, B, O, N>> {
-        let at: &'a Shared<'a, W, B, O, N> = *self;
-        if place >= at.units.count() {
+impl<W: Wait + Drop, B: Blocks, O: Opener<B>, N: Naming<Opened>> Array<Host<B, O, N>>
+    for Shared<'_, W, B, O, N> {
+    fn attach(&self, place: usize, isid: u32, group: Group) -> Option<Host<B, O, N>> {
+        if place >= self.units.count() {
             return None;
         }
-        let name = b"iqn.2000-01.test:a".to_vec(at.alloc).ok()?;
+        let name = b"iqn.2000-01.test:a".to_vec(self.alloc).ok()?;
         let port = PortName::new(name, u64::from(isid));
-        let pass = at.units.attach(at.rt, place, port, group).ok()?;
+        let pass = self.units.attach(self.rt, place, port, group).ok()?;
         Some(Host {
-            at,
             pass: Some(pass),
             ticket: None,
             reply: None,
         })
+    }
+
+    fn ask(
+        &self,
+        host: &mut Host<B, O, N>,
+        by_group: Group,
+        command: Command,
+        bytes: &[u8],
+    ) -> End {
+        let Shared {
+            rt,
+            alloc,
+            units,
+            ..
+        } = self;
+        let Some(pass) = host.pass.take() else {
+            return End::Nobody;
+        };
+        if pass.place() >= units.count() {
+            return End::Nobody;
+        }
+        let (pass, end) = units.serve(*rt, pass, *alloc, &by_group, &Ok(command), bytes);
+        host.keep(pass, end)
+    }
+
+    fn ask_at_desk(&self, host: &mut Host<B, O, N>, command: Command, bytes: &[u8]) -> End {
+        let Shared {
+            rt,
+            alloc,
+            units,
+            desk,
+            ..
+        } = self;
+        let Some(pass) = host.pass.take() else {
+            return End::Nobody;
+        };
+        if pass.place() >= units.count() {
+            return End::Nobody;
+        }
+        let (pass, end) = desk.serve(*rt, *alloc, units, pass, &Ok(command), bytes);
+        match end {
+            Ok(end) => host.keep(pass, end),
+            Err(fault) => {
+                host.pass = Some(pass);
+                end_at(fault)
+            }
+        }
+    }
+
+    fn hand_in(&self, host: &mut Host<B, O, N>, command: Command, bytes: &'static [u8]) -> End {
+        let Some(pass) = host.pass.take() else {
+            return End::Nobody;
+        };
+        match self
+            .desk
+            .submit(self.rt, self.alloc, pass, &Ok(command), bytes)
+        {
+            Ok(ticket) => {
+                host.ticket = Some(ticket);
+                End::Waits
+            }
+            Err((fault, pass)) => {
+                host.pass = Some(pass);
+                end_at(fault)
+            }
+        }
+    }
+
+    fn collect(&self, host: &mut Host<B, O, N>) -> End {
+        let Some(ticket) = host.ticket.take() else {
+            return End::Nobody;
+        };
+        let (pass, end) = self.desk.collect(self.rt, ticket);
+        host.keep(pass, end)
+    }
+
+    fn serve_own(&self, host: &mut Host<B, O, N>) -> End {
+        let Shared {
+            rt,
+            alloc,
+            units,
+            desk,
+            ..
+        } = self;
+        let Some(ticket) = host.ticket.take() else {
+            return End::Nobody;
+        };
+        if ticket.place() >= units.count() {
+            return End::Nobody;
+        }
+        let (pass, end) = desk.serve_own(*rt, *alloc, units, ticket);
+        host.keep(pass, end)
+    }
+
+    fn hears(&self, host: &Host<B, O, N>) -> End {
+        match &host.ticket {
+            Some(ticket) if ticket.is_answered(self.rt) => End::Answered,
+            Some(_) => End::Waits,
+            None => End::Nobody,
+        }
+    }
+
+    fn data<'s>(&self, host: &'s Host<B, O, N>) -> &'s [u8] {
+        match &host.reply {
+            Some(reply) => reply.bytes(),
+            None => &[],
+        }
+    }
+
+    fn reset(&self, host: &mut Host<B, O, N>) -> bool {
+        let units = &self.units;
+        let Some(pass) = host.pass.take() else {
+            return false;
+        };
+        if pass.place() >= units.count() {
+            return false;
+        }
+        let (pass, is_done) = units.reset(self.rt, pass);
+        host.pass = Some(pass);
+        is_done
+    }
+
+    fn retire(&self, host: &mut Host<B, O, N>) -> bool {
+        let units = &self.units;
+        let Some(pass) = host.pass.take() else {
+            return false;
+        };
+        if pass.place() >= units.count() {
+            return false;
+        }
+        units.retire(self.rt, pass).is_ok()
+    }
+
+    fn seen(&self, host: &Host<B, O, N>) -> u64 {
+        match &host.pass {
+            Some(pass) => pass.len(),
+            None => 0,
+        }
+    }
+
+    fn meet(&self, one: &mut Host<B, O, N>, other: &mut Host<B, O, N>) -> bool {
+        let (Some(first), Some(second)) = (one.pass.take(), other.pass.take()) else {
+            return false;
+        };
+        if first.place() >= self.units.count() || second.place() != first.place() {
+            return false;
+        }
+        let (first, second) = self.units.meet(first, second);
+        let is_met = first.history().is_same(&second.history());
+        one.pass = Some(first);
+        other.pass = Some(second);
+        is_met
     }
 
     fn row(&self, place: usize) -> Option<Row> {
@@ -354,5 +353,5 @@ pub fn tell<
         disk,
         taken: Tally::new(),
     };
-    happens::<W, Host<'_, W, B, O, N>, &Shared<'_, W, B, O, N>>(rt, alloc, &&shared, tale)
+    happens::<W, Host<B, O, N>, Shared<'_, W, B, O, N>>(rt, alloc, &shared, tale)
 }

@@ -1,5 +1,5 @@
 //! Performs scripts.
-use crate::array::{Array, End, Session};
+use crate::array::{Array, End};
 use crate::script::{Asks, Deed, Line, Told, command_of};
 use scsi_types::Group;
 use std::alloc::Global;
@@ -13,7 +13,7 @@ struct Stage<'a, S, A> {
 }
 
 /// Performs a script. It fails at the first line that comes to something else than it says.
-pub fn is_performed<S: Session + Drop, A: Array<S>>(
+pub fn is_performed<S: Drop, A: Array<S>>(
     alloc: Global,
     array: &A,
     script: &[Line],
@@ -31,7 +31,7 @@ pub fn is_performed<S: Session + Drop, A: Array<S>>(
     Ok(())
 }
 
-impl<S: Session + Drop, A: Array<S>> Stage<'_, S, A> {
+impl<S: Drop, A: Array<S>> Stage<'_, S, A> {
     // None: it cannot be done.
     fn comes_to(&mut self, deed: Deed, told: Told) -> Option<bool> {
         match deed {
@@ -54,17 +54,13 @@ impl<S: Session + Drop, A: Array<S>> Stage<'_, S, A> {
     // Whether a command of a host ends so.
     fn ends(&mut self, host: usize, end: End, told: Told) -> Option<bool> {
         match (told, end) {
-            (Told::Good(data), End::Good) => Some(self.host(host)?.data() == data),
+            (Told::Good(data), End::Good) => Some(self.array.data(self.hosts.get(host)?) == data),
             (Told::Check(key, asc, ascq), End::Check(sense)) => {
                 Some(sense.key == key && sense.asc == asc && sense.ascq == ascq)
             }
             (Told::Ends(wanted), end) => Some(end == wanted),
             _ => Some(false),
         }
-    }
-
-    fn host(&mut self, number: usize) -> Option<&mut S> {
-        self.hosts.get_mut(number)
     }
 
     // The next host attaches. Its number is its ISID.
@@ -77,34 +73,40 @@ impl<S: Session + Drop, A: Array<S>> Stage<'_, S, A> {
 
     fn send(&mut self, host: usize, group: Group, asks: Asks, told: Told) -> Option<bool> {
         let (command, bytes) = command_of(asks);
-        let end = self.host(host)?.ask(group, command, bytes);
+        let end = self
+            .array
+            .ask(self.hosts.get_mut(host)?, group, command, bytes);
         self.ends(host, end, told)
     }
 
     fn at_desk(&mut self, host: usize, asks: Asks, told: Told) -> Option<bool> {
         let (command, bytes) = command_of(asks);
-        let end = self.host(host)?.ask_at_desk(command, bytes);
+        let end = self
+            .array
+            .ask_at_desk(self.hosts.get_mut(host)?, command, bytes);
         self.ends(host, end, told)
     }
 
     fn hand_in(&mut self, host: usize, asks: Asks, told: Told) -> Option<bool> {
         let (command, bytes) = command_of(asks);
-        let end = self.host(host)?.hand_in(command, bytes);
+        let end = self
+            .array
+            .hand_in(self.hosts.get_mut(host)?, command, bytes);
         self.ends(host, end, told)
     }
 
     fn hear(&mut self, host: usize, told: Told) -> Option<bool> {
-        let end = self.host(host)?.hears();
+        let end = self.array.hears(self.hosts.get(host)?);
         self.ends(host, end, told)
     }
 
     fn collect(&mut self, host: usize, told: Told) -> Option<bool> {
-        let end = self.host(host)?.collect();
+        let end = self.array.collect(self.hosts.get_mut(host)?);
         self.ends(host, end, told)
     }
 
     fn serve_own(&mut self, host: usize, told: Told) -> Option<bool> {
-        let end = self.host(host)?.serve_own();
+        let end = self.array.serve_own(self.hosts.get_mut(host)?);
         self.ends(host, end, told)
     }
 

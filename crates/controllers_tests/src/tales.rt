@@ -1,7 +1,7 @@
 //! What is told of an array by its tests, and over which units.
 ghost use Rattle.std.specs.Prelude.{◌≡◌, ◌≤◌, length};
 
-use crate::array::{Array, Session};
+use crate::array::Array;
 use crate::histories::{sessions, threads};
 use crate::script::Line;
 use crate::{held_lanes, lanes, stage};
@@ -32,7 +32,7 @@ pub enum Tale<'a> {
 }
 
 /// Lets it happen.
-pub fn happens<W: Threads + Wait + Sync, S: Session + Send + Drop, A: Array<S> + Sync>(
+pub fn happens<W: Threads + Wait + Sync, S: Send + Drop, A: Array<S> + Sync>(
     rt: &W,
     alloc: Global,
     array: &A,

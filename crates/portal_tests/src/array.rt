@@ -2,10 +2,12 @@
 ghost use Rattle.std.specs.Prelude.{◌≡◌, ◌≤◌, length};
 ghost use Rattle.unit_history.specs.Naming.{IsNamed};
 
+use crate::at::At;
 use crate::behind::Behind;
 use crate::doors::Doors;
 use crate::no_room::NoRoom;
 use crate::stage::Stage;
+use crate::units::two;
 use array_units::Units;
 use block_file::{Blocks, Opener};
 use event_log::Log;
@@ -14,6 +16,7 @@ use portal::{Controllers, Server, SmallStacks, Stop, TargetDevice, listen, start
 use scsi_types::Group;
 use std::alloc::Global;
 use std::io::Eprint;
+use std::marker::Brand;
 use std::net::{Ipv4Addr, Net, SocketAddr, SocketAddrV4, TcpListener, TcpStream};
 use std::process::Abort;
 use std::sync::{Arc, Wait};
@@ -172,4 +175,29 @@ pub fn perform<
     end(rt, second);
     controllers.close(rt);
     ([first_at.port(), second_at.port()], stage.into_hosts())
+}
+
+/// Hosts perform a script before two units in memory.
+pub fn run<
+    R: Threads
+        + Wait
+        + Clock
+        + Abort
+        + Eprint
+        + Net<Listener = TcpListener, Stream = TcpStream>
+        + Clone
+        + Drop
+        + Send
+        + Sync
+        + 'static,
+>(rt: &R, alloc: Global, script: &Script<'_>) {
+    let latch = Latch::open(rt.clone().expect(rt, "memory"));
+    let disk = Arc::new(alloc, latch).expect(rt, "memory");
+    let at = At {
+        rt,
+        script: script.name,
+        line: "",
+    };
+    let units = at.must(two(alloc, &disk));
+    let _ended = perform::<Brand, _, _, _, R>(rt, alloc, units, &disk, script);
 }

@@ -1,52 +1,10 @@
 //! Devices and openers that fail, what is then seen through both controllers, and what an array finds that is started again.
-use crate::array::Script;
-use crate::restart::{Story, run};
+use crate::restart::{RESTART, Story, run_twice};
 use crate::units::{Faults, NO_FAULTS};
 use std::test::*;
 
-/// What fails, what is seen of it, and what is found after a restart.
-#[derive(Clone, Copy)]
-struct Failing {
-    name: &'static str,
-    faults: Faults,
-    before: &'static str,
-    after: &'static str,
-}
-
-// Nothing fails, and the registrations are there after the restart.
-const RESTART: Failing = Failing {
-    name: "restart",
-    faults: NO_FAULTS,
-    // REGISTER of 11h with APTPL, and WRITE (10) of block 5
-    before: r#"
-A at 1
-A > LOGIN 7:56 HOST_A
-A < LOGGED_IN 7:36 WELCOME
-A > TEST_UNIT_READY
-A < CHECK_CONDITION 0012 70000600000000 0A00000000 2900 00000000
-A > WRITE 7:18 20:00000018 32:5F000000000000001800 0000000000000000 0000000000000011 00000000 01000000
-A < GOOD
-A > WRITE 5:000200 pattern 512
-A < GOOD
-"#,
-    // READ KEYS, whose generation is 0 again, and READ (10)
-    after: r#"
-B at 2
-B > LOGIN 7:56 HOST_B
-B < LOGGED_IN 7:36 WELCOME_2
-B > TEST_UNIT_READY
-B < CHECK_CONDITION 0012 70000600000000 0A00000000 2900 00000000
-B > TEST_UNIT_READY 1:C1 20:00000010 32:5E000000000000001000
-B < DATA_IN 7:10 00000000 00000008 0000000000000011
-B < GOOD 36:00000001
-B > TEST_UNIT_READY 1:C1 20:00000200 32:28000000000500000100
-B < DATA_IN 5:000200 pattern 512
-B < GOOD 36:00000001
-"#,
-};
-
 // The device fails at the third block of a WRITE (10) of blocks 10 to 13, and from then on.
-const TORN: Failing = Failing {
+const TORN: Story = Story {
     name: "torn",
     faults: Faults {
         passed: 0,
@@ -73,7 +31,7 @@ B < GOOD 36:00000001
 };
 
 // No open succeeds: SET TARGET PORT GROUPS through controller 2 changes nothing, and A is told of nothing.
-const UNOPENED: Failing = Failing {
+const UNOPENED: Story = Story {
     name: "unopened",
     faults: Faults {
         opened: 0,
@@ -100,7 +58,7 @@ A < CHECK_CONDITION 0012 70000600000000 0A00000000 2A06 00000000
 };
 
 // A save is a run, a flush, a run, and the flush that fails: READ KEYS tells of nobody, and after a restart of nobody or of A.
-const UNSAVED: Failing = Failing {
+const UNSAVED: Story = Story {
     name: "unsaved",
     faults: Faults {
         saving: 3,
@@ -130,14 +88,7 @@ B < GOOD 1:82 36:00000001 44:00000008 / GOOD 36:00000001
 
 #[test]
 fn a_restart_and_a_write_an_open_and_a_save_that_fail(rt: HostRuntime) {
-    for failing in &[RESTART, TORN, UNOPENED, UNSAVED] {
-        let story = Story {
-            units: 1,
-            blocks: 16,
-            faults: failing.faults,
-            after: failing.after,
-            ..Story::of(Script::new(failing.name, failing.before))
-        };
-        run(&rt, rt.alloc(), rt.process(), &story);
+    for story in &[RESTART, TORN, UNOPENED, UNSAVED] {
+        run_twice(&rt, rt.alloc(), rt.process(), story);
     }
 }

@@ -1,91 +1,33 @@
-//! An array over files, which may be ended while sessions are open, and started again at the same ports.
-ghost use Rattle.std.specs.Prelude.{◌≡◌, ◌≤◌, length};
-
+//! An array over a file that is ended while a session is open, and started again at the same ports.
 use crate::array::{Script, perform};
-use crate::units::{Faults, FileUnit, NO_FAULTS, make, over_file, remove};
-use scsi_types::Place;
+use crate::at::At;
+use crate::units::{Faults, NO_FAULTS, over_file};
 use std::alloc::Global;
 use std::fs::File;
 use std::io::Eprint;
 use std::marker::Brand;
 use std::net::{Net, TcpListener, TcpStream};
-use std::process::{self, Abort, Process};
+use std::process::{Abort, Process};
 use std::rt::Files;
-use std::sync::{Arc, Wait};
+use std::sync::Wait;
 use std::thread::Threads;
 use std::time::Clock;
+use std::{fs, process};
 use test_hosts::Host;
 use test_units::Latch;
 
-/// An array of one or two units of so many blocks of zeros, which fails so while hosts perform a script, and, started again, does
-/// not while they perform another.
+/// An array that fails so while hosts perform a script, and, started again, does not while they perform another. By its name
+/// its file is found.
 #[derive(Clone, Copy)]
 pub struct Story<'a> {
-    pub units: u8,
-    pub blocks: u64,
+    pub name: &'a str,
     pub faults: Faults,
-    pub before: Script<'a>,
+    pub before: &'a str,
     pub after: &'a str,
 }
 
-impl<'a> Story<'a> {
-    /// Two units, of which nothing fails, and no restart.
-    pub fn of(script: Script<'a>) -> Story<'a> {
-        Story {
-            units: 2,
-            blocks: 2048,
-            faults: NO_FAULTS,
-            before: script,
-            after: "",
-        }
-    }
-}
-
-// The units over these files, which fail so.
-fn over_files<R: Files<File = File> + Abort + Wait + Drop>(
-    rt: &R,
-    alloc: Global,
-    paths: &Vec<String>,
-    faults: Faults,
-    latch: &Arc<Latch<R>, Global>,
-) -> Vec<FileUnit<R>>
-    ensures { length result.items ≤ 8 }
-{
-    let mut units = Vec::new(alloc);
-    let count = u8::try_from(paths.len()).unwrap_or(u8::MAX);
-    let mut unit = 0u8;
-    for path in paths {
-        let place = Place {
-            unit,
-            units: count,
-            array: 1,
-        };
-        let new = over_file(rt, alloc, place, path.as_str(), faults, latch);
-        units.push(new).expect(rt, "memory");
-        unit = unit.saturating_add(1);
-    }
-    assert!(*rt; units.len() <= 8, "units");
-    units
-}
-
-// Makes the files of a story's units: their names.
-fn made<R: Files<File = File> + Abort>(
-    rt: &R,
-    alloc: Global,
-    process: Process,
-    story: &Story<'_>,
-) -> Vec<String> {
-    let id = process::id(process);
-    let mut paths = Vec::new(alloc);
-    for unit in 0..story.units {
-        let path = format!(in alloc; "/tmp/arrayd_{id}_{unit}").expect(rt, "memory");
-        make(rt, path.as_str(), story.blocks);
-        paths.push(path).expect(rt, "memory");
-    }
-    paths
-}
-
-// Serves the units over these files while hosts perform a script: the ports, and the hosts, whose sessions may still be open.
+// Serves the file of this name, which fails so, while hosts perform a script: the ports, and the hosts, whose sessions may still be
+// open.
 fn serve<
     R: Threads
         + Wait
@@ -99,21 +41,19 @@ fn serve<
         + Send
         + Sync
         + 'static,
->(
-    rt: &R,
-    alloc: Global,
-    paths: &Vec<String>,
-    faults: Faults,
-    script: &Script<'_>,
-) -> ([u16; 2], Vec<Host>) {
-    let latch = Latch::open(rt.clone().expect(rt, "memory"));
-    let disk = Arc::new(alloc, latch).expect(rt, "memory");
-    let new = over_files(rt, alloc, paths, faults, &disk);
-    perform::<Brand, _, _, _, R>(rt, alloc, new, &disk, script)
+>(rt: &R, alloc: Global, path: &str, faults: Faults, script: &Script<'_>) -> ([u16; 2], Vec<Host>) {
+    let disk = Latch::open(rt.clone().expect(rt, "memory"));
+    let at = At {
+        rt,
+        script: script.name,
+        line: "",
+    };
+    let units = at.must(over_file(rt, alloc, path, faults));
+    perform::<Brand, _, _, _, R>(rt, alloc, units, &disk, script)
 }
 
-/// Lets it happen.
-pub fn run<
+/// Runs it over a file of 16 blocks of zeros.
+pub fn run_twice<
     R: Threads
         + Wait
         + Clock
@@ -127,18 +67,58 @@ pub fn run<
         + Sync
         + 'static,
 >(rt: &R, alloc: Global, process: Process, story: &Story<'_>) {
-    let paths = made(rt, alloc, process, story);
-    let (ports, hosts) = serve(rt, alloc, &paths, story.faults, &story.before);
-    if !story.after.is_empty() {
-        let again = Script {
-            ports,
-            text: story.after,
-            ..story.before
-        };
-        let _ended = serve(rt, alloc, &paths, NO_FAULTS, &again);
-    }
+    let id = process::id(process);
+    let path = format!(in alloc; "/tmp/arrayd_{id}_{}", story.name).expect(rt, "memory");
+    let path = path.as_str();
+    File::create(rt, path)
+        .expect(rt, path)
+        .set_len(8192)
+        .expect(rt, path);
+    let before = Script::new(story.name, story.before);
+    let (ports, hosts) = serve(rt, alloc, path, story.faults, &before);
+    let again = Script {
+        ports,
+        ..Script::new(story.name, story.after)
+    };
+    let _ended = serve(rt, alloc, path, NO_FAULTS, &again);
     drop(hosts);
-    for path in &paths {
-        remove(rt, alloc, path.as_str());
-    }
+    fs::remove_file(rt, path).expect(rt, path);
+    let registrations = format!(in alloc; "{path}.reg").expect(rt, "memory");
+    fs::remove_file(rt, registrations.as_str()).expect(rt, path);
 }
+
+// REGISTER of 11h with APTPL, and WRITE (10) of block 5
+const BEFORE: &str = r#"
+A at 1
+A > LOGIN 7:56 HOST_A
+A < LOGGED_IN 7:36 WELCOME
+A > TEST_UNIT_READY
+A < CHECK_CONDITION 0012 70000600000000 0A00000000 2900 00000000
+A > WRITE 7:18 20:00000018 32:5F000000000000001800 0000000000000000 0000000000000011 00000000 01000000
+A < GOOD
+A > WRITE 5:000200 pattern 512
+A < GOOD
+"#;
+
+// READ KEYS, whose generation is 0 again, and READ (10)
+const AFTER: &str = r#"
+B at 2
+B > LOGIN 7:56 HOST_B
+B < LOGGED_IN 7:36 WELCOME_2
+B > TEST_UNIT_READY
+B < CHECK_CONDITION 0012 70000600000000 0A00000000 2900 00000000
+B > TEST_UNIT_READY 1:C1 20:00000010 32:5E000000000000001000
+B < DATA_IN 7:10 00000000 00000008 0000000000000011
+B < GOOD 36:00000001
+B > TEST_UNIT_READY 1:C1 20:00000200 32:28000000000500000100
+B < DATA_IN 5:000200 pattern 512
+B < GOOD 36:00000001
+"#;
+
+/// Nothing fails, and the registrations are there after the restart.
+pub const RESTART: Story = Story {
+    name: "restart",
+    faults: NO_FAULTS,
+    before: BEFORE,
+    after: AFTER,
+};

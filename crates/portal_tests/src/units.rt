@@ -1,27 +1,59 @@
-//! Units over files, before they are shared. Their devices may hang, and may fail.
-ghost use Rattle.std.specs.Prelude.{◌≡◌, ◌≤◌, length};
+//! Units in memory and over files, before they are shared.
+ghost use Rattle.std.specs.Prelude.{◌≡◌, ◌≤◌, IfOk, length};
+ghost use Rattle.unit_state.specs.Serials.{IsOpening};
 
 use aptpl_file::RegFile;
-use block_file::{FusedBlocks, FusedOpener, KeepOpener};
+use block_file::{Blocks, FusedBlocks, FusedOpener, KeepOpener, MemBlocks, Opener};
 use disk_files::{FileBlocks, open_registrations};
 use scsi_types::Place;
 use std::alloc::Global;
-use std::fs::{self, File};
+use std::fs::File;
 use std::process::Abort;
 use std::rt::Files;
 use std::sync::{Arc, Wait};
-use test_units::{HeldBlocks, Latch};
+use std::test::Fail;
+use test_units::{HeldBlocks, Latch, new_unit};
 use unit_history::NewUnit;
 use unit_state::{Unit, laws};
 
-/// A file that may hang, and may fail.
-type Device<R> = FusedBlocks<HeldBlocks<FileBlocks<File>, R>>;
+/// So many blocks a unit in memory has.
+const BLOCKS: u32 = 2048;
 
-/// A registration file that may fail.
-type Registrations = FusedBlocks<FileBlocks<File>>;
+/// A unit in memory, whose device may hang.
+pub type HeldUnit<R> = NewUnit<HeldBlocks<MemBlocks, R>, MemBlocks, KeepOpener>;
 
-/// A unit over both.
-pub type FileUnit<R> = NewUnit<Device<R>, Registrations, FusedOpener<KeepOpener>>;
+/// A file that may fail.
+type FusedFile = FusedBlocks<FileBlocks<File>>;
+
+/// A unit over a file, with its registration file, which may fail.
+pub type FileUnit = NewUnit<FusedFile, FusedFile, FusedOpener<KeepOpener>>;
+
+// A unit of zeros, which holds no registrations, and whose device hangs at this latch.
+fn in_memory<R: Wait + Drop>(
+    alloc: Global,
+    unit: u8,
+    latch: &Arc<Latch<R>, Global>,
+) -> Result<HeldUnit<R>, Fail> {
+    let blocks = HeldBlocks {
+        inner: MemBlocks::new(alloc, BLOCKS)?,
+        unit: usize::from(unit),
+        latch: Arc::try_clone(latch)?,
+    };
+    new_unit(alloc, blocks, KeepOpener, unit, 2)
+}
+
+/// Units 0 and 1, in memory, whose devices hang at this latch.
+pub fn two<R: Wait + Drop>(
+    alloc: Global,
+    latch: &Arc<Latch<R>, Global>,
+) -> Result<Vec<HeldUnit<R>>, Fail>
+    ensures { IfOk result (λ v. length v.items ≤ 8) }
+{
+    let mut units = Vec::new(alloc);
+    units.push(in_memory(alloc, 0, latch)?)?;
+    units.push(in_memory(alloc, 1, latch)?)?;
+    Ok(units)
+}
 
 // The calls of a registration file's device when it is opened: the root, the slot, and a flush.
 const OPEN_CALLS: u64 = 3;
@@ -46,39 +78,44 @@ pub const NO_FAULTS: Faults = Faults {
     opened: u64::MAX,
 };
 
-/// Makes a file of this name that has so many blocks of zeros.
-pub fn make<R: Files<File = File> + Abort>(rt: &R, path: &str, blocks: u64) {
-    let file = File::create(rt, path).expect(rt, path);
-    file.set_len(blocks.saturating_mul(512)).expect(rt, path);
+// A unit over these devices, of which the second has a registration file.
+fn opened<B: Blocks + Drop, F: Blocks + Drop, O: Opener<B> + Drop>(
+    alloc: Global,
+    blocks: B,
+    opener: O,
+    file: F,
+) -> Result<NewUnit<B, F, O>, Fail> {
+    if blocks.count() == 0 {
+        return Err("a device of no block".into());
+    }
+    let place = Place {
+        unit: 0,
+        units: 1,
+        array: 1,
+    };
+    let Ok((file, record)) = RegFile::open(alloc, file) else {
+        return Err("a registration file".into());
+    };
+    laws::nobody_is_attached_at_first();
+    let unit = Unit::open(alloc, place, blocks, opener, file, record)?;
+    Ok(NewUnit::new(alloc, unit)?)
 }
 
-/// Removes it, and the registration file beside it.
-pub fn remove<R: Files<File = File> + Abort>(rt: &R, alloc: Global, path: &str) {
-    fs::remove_file(rt, path).expect(rt, path);
-    let registrations = format!(in alloc; "{path}.reg").expect(rt, "memory");
-    fs::remove_file(rt, registrations.as_str()).expect(rt, path);
-}
-
-/// The unit at a place over the file of this name, which hangs at this latch and fails so.
-pub fn over_file<R: Files<File = File> + Abort + Wait + Drop>(
+/// The unit over the file of this name, which fails so.
+pub fn over_file<R: Files<File = File> + Abort>(
     rt: &R,
     alloc: Global,
-    place: Place,
     path: &str,
     faults: Faults,
-    latch: &Arc<Latch<R>, Global>,
-) -> FileUnit<R> {
-    let held = HeldBlocks {
-        inner: FileBlocks::open(rt, path).expect(rt, path),
-        unit: usize::from(place.unit),
-        latch: Arc::try_clone(latch).expect(rt, "memory"),
-    };
-    let blocks = FusedBlocks::inside(held, faults.passed, faults.landed);
+) -> Result<Vec<FileUnit>, Fail>
+    ensures { IfOk result (λ v. length v.items ≤ 8) }
+{
+    let blocks = FileBlocks::open(rt, path).expect(rt, path);
+    let fused = FusedBlocks::inside(blocks, faults.passed, faults.landed);
     let opener = FusedOpener::new(KeepOpener, faults.opened);
     let (file, _) = open_registrations(rt, alloc, path, None).expect(rt, path);
-    let fused = FusedBlocks::new(file.close(), faults.saving.saturating_add(OPEN_CALLS));
-    let (file, record) = RegFile::open(alloc, fused).expect(rt, path);
-    laws::nobody_is_attached_at_first();
-    let unit = Unit::open(alloc, place, blocks, opener, file, record).expect(rt, "memory");
-    NewUnit::new(alloc, unit).expect(rt, "memory")
+    let saved = FusedBlocks::new(file.close(), faults.saving.saturating_add(OPEN_CALLS));
+    let mut units = Vec::new(alloc);
+    units.push(opened(alloc, fused, opener, saved)?)?;
+    Ok(units)
 }

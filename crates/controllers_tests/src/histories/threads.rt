@@ -1,6 +1,6 @@
 //! Two threads that use one unit.
 use crate::array::{
-    Array, End, Session, TOLD_OF_POWER_ON, attached, entries, exchange, read, test, want, write,
+    Array, End, TOLD_OF_POWER_ON, attached, entries, exchange, read, test, want, write,
 };
 use crate::runs::{Setting, run};
 use crate::tales::Tale;
@@ -9,17 +9,17 @@ use std::test::Fail;
 use std::thread::{Threads, join};
 
 /// Two hosts of unit 0, which have taken their power on: four entries.
-fn two<S: Session + Drop, A: Array<S>>(array: &A) -> Result<(S, S), Fail> {
+fn two<S: Drop, A: Array<S>>(array: &A) -> Result<(S, S), Fail> {
     let one = told_of_power_on(array, 1)?;
     let two = told_of_power_on(array, 2)?;
     Ok((one, two))
 }
 
 /// A host of unit 0, which has taken its power on.
-fn told_of_power_on<S: Session + Drop, A: Array<S>>(array: &A, isid: u32) -> Result<S, Fail> {
+fn told_of_power_on<S: Drop, A: Array<S>>(array: &A, isid: u32) -> Result<S, Fail> {
     let mut host = attached(array, 0, isid)?;
     want(
-        test(&mut host, Group::One) == TOLD_OF_POWER_ON,
+        test(array, &mut host, Group::One) == TOLD_OF_POWER_ON,
         "the power on",
     )?;
     Ok(host)
@@ -38,31 +38,40 @@ fn winner(first: (End, u8), second: (End, u8)) -> Option<u8> {
 }
 
 /// Both exchange a block by COMPARE AND WRITE, at once: the byte that is there then, where it is the winner's.
-fn race<W: Threads, S: Session + Send>(rt: &W, hosts: (&mut S, &mut S), old: u8) -> Option<u8> {
+fn race<W: Threads, S: Send, A: Array<S> + Sync>(
+    rt: &W,
+    array: &A,
+    hosts: (&mut S, &mut S),
+    old: u8,
+) -> Option<u8> {
     let (one, two) = hosts;
     let left = old.wrapping_add(1);
     let right = old.wrapping_add(2);
     let (first, second) = join(
         rt,
-        || exchange(one, 7, old, left),
-        || exchange(two, 7, old, right),
+        || exchange(array, one, 7, old, left),
+        || exchange(array, two, 7, old, right),
     );
     let won = winner((first, left), (second, right));
-    if read(one, 7) == won { won } else { None }
+    if read(array, one, 7) == won {
+        won
+    } else {
+        None
+    }
 }
 
 /// So many rounds.
 const ROUNDS: u64 = 60;
 
 /// Two threads exchange a block, so many times.
-pub fn exchange_by_two<W: Threads, S: Session + Send + Drop, A: Array<S>>(
+pub fn exchange_by_two<W: Threads, S: Send + Drop, A: Array<S> + Sync>(
     rt: &W,
     array: &A,
 ) -> Result<(), Fail> {
     let (mut one, mut two) = two(array)?;
     let mut held = 0;
     for _ in 0..ROUNDS {
-        held = race(rt, (&mut one, &mut two), held).ok_or("one winner")?;
+        held = race(rt, array, (&mut one, &mut two), held).ok_or("one winner")?;
     }
     want(entries(array, 0) == 4 + 3 * ROUNDS, "three entries a round")
 }
@@ -76,10 +85,10 @@ fn of_two_that_exchange_a_block_one_wins(rt: HostRuntime) -> Result<(), Fail> {
 const TIMES: u64 = 400;
 
 /// How many of a host's writes were told to have failed. None: one ended in another way.
-fn failures<S: Session>(host: &mut S, lba: u64) -> Option<u64> {
+fn failures<S, A: Array<S>>(array: &A, host: &mut S, lba: u64) -> Option<u64> {
     let mut failed: u64 = 0;
     for _ in 0..TIMES {
-        let end = write(host, lba, 0x5A);
+        let end = write(array, host, lba, 0x5A);
         if end == End::Check(Sense::WRITE_ERROR) {
             failed = failed.saturating_add(1);
         } else if end != End::Good {
@@ -90,28 +99,35 @@ fn failures<S: Session>(host: &mut S, lba: u64) -> Option<u64> {
 }
 
 /// Both write: how many writes of both were told to have failed.
-fn both_write<W: Threads, S: Session + Send>(rt: &W, hosts: (&mut S, &mut S)) -> Option<u64> {
+fn both_write<W: Threads, S: Send, A: Array<S> + Sync>(
+    rt: &W,
+    array: &A,
+    hosts: (&mut S, &mut S),
+) -> Option<u64> {
     let (one, two) = hosts;
-    let (first, second) = join(rt, || failures(one, 1), || failures(two, 2));
+    let (first, second) = join(rt, || failures(array, one, 1), || failures(array, two, 2));
     first?.checked_add(second?)
 }
 
 /// Two threads write, while so many calls of the device fail: what is told to have failed is that, and nothing else.
-pub fn meet_failures<W: Threads, S: Session + Send + Drop, A: Array<S>>(
+pub fn meet_failures<W: Threads, S: Send + Drop, A: Array<S> + Sync>(
     rt: &W,
     array: &A,
     calls: u64,
 ) -> Result<(), Fail> {
     let (mut one, mut two) = two(array)?;
-    let failed = both_write(rt, (&mut one, &mut two));
+    let failed = both_write(rt, array, (&mut one, &mut two));
     want(failed == Some(calls), "as many as the device failed")?;
     want(entries(array, 0) == 4 + 2 * TIMES, "each is an entry")?;
-    want(have_seen_all(&mut one, &mut two), "the sessions meet")
+    want(
+        have_seen_all(array, &mut one, &mut two),
+        "the sessions meet",
+    )
 }
 
 /// Whether both meet, and have then seen all.
-fn have_seen_all<S: Session>(one: &mut S, two: &mut S) -> bool {
-    one.meet(two) && one.seen() == 4 + 2 * TIMES && two.seen() == 4 + 2 * TIMES
+fn have_seen_all<S, A: Array<S>>(array: &A, one: &mut S, two: &mut S) -> bool {
+    array.meet(one, two) && array.seen(one) == 4 + 2 * TIMES && array.seen(two) == 4 + 2 * TIMES
 }
 
 #[test]
@@ -125,7 +141,7 @@ fn what_failed_is_told_and_nothing_else(rt: HostRuntime) -> Result<(), Fail> {
 }
 
 /// Whether the host registers, or gives up its registration.
-fn registers<S: Session>(host: &mut S, key: u8) -> bool {
+fn registers<S, A: Array<S>>(array: &A, host: &mut S, key: u8) -> bool {
     let command = Command::PersistentReserveOut {
         action: PrOutAction::RegisterAndIgnoreExistingKey,
         scope: 0,
@@ -134,14 +150,14 @@ fn registers<S: Session>(host: &mut S, key: u8) -> bool {
     };
     let mut list = [0; 24];
     list[15] = key;
-    host.ask(Group::One, command, &list) == End::Good
+    array.ask(host, Group::One, command, &list) == End::Good
 }
 
 /// A host registers and gives up its registration, again and again, so that each change makes the count of registrants odd or
 /// even as the generation is.
-fn comes_and_goes<S: Session>(host: &mut S) -> bool {
+fn comes_and_goes<S, A: Array<S>>(array: &A, host: &mut S) -> bool {
     for _ in 0..TIMES {
-        if !registers(host, 0x11) || !registers(host, 0) {
+        if !registers(array, host, 0x11) || !registers(array, host, 0) {
             return false;
         }
     }
@@ -168,7 +184,7 @@ fn never_older<S, A: Array<S>>(array: &A) -> bool {
 }
 
 /// Two write, and a third reads: whether each was right.
-fn are_right<W: Threads + Sync, S: Session + Send, A: Array<S> + Sync>(
+fn are_right<W: Threads + Sync, S: Send, A: Array<S> + Sync>(
     rt: &W,
     array: &A,
     hosts: (&mut S, &mut S),
@@ -176,14 +192,14 @@ fn are_right<W: Threads + Sync, S: Session + Send, A: Array<S> + Sync>(
     let (one, two) = hosts;
     let (first, others) = join(
         rt,
-        || comes_and_goes(one),
-        || join(rt, || comes_and_goes(two), || never_older(array)),
+        || comes_and_goes(array, one),
+        || join(rt, || comes_and_goes(array, two), || never_older(array)),
     );
     first && others.0 && others.1
 }
 
 /// Two threads write, and a third reads the board.
-pub fn are_watched<W: Threads + Sync, S: Session + Send + Drop, A: Array<S> + Sync>(
+pub fn are_watched<W: Threads + Sync, S: Send + Drop, A: Array<S> + Sync>(
     rt: &W,
     array: &A,
 ) -> Result<(), Fail> {
