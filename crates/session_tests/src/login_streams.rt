@@ -8,9 +8,10 @@ use std::test::*;
 use test_streams::{Calls, ONE_BYTE, WHOLE};
 
 // 116 bytes, 48 and 48; 72, 80 and 48 are written behind them.
-const SESSION: &str = r#"
+pub const SESSION: &str = r#"
 two requests and a command
 login 1
+each-place
 > LOGIN 1:81 7:43 NAMES
 > LOGIN
 > TEST_UNIT_READY
@@ -20,10 +21,6 @@ login 1
 asked begin iqn.2000-01.test:a 400001370000 Normal
 asked 0 Ok(TestUnitReady)
 "#;
-
-pub fn session() -> &'static str {
-    SESSION
-}
 
 const ALL: usize = 212;
 

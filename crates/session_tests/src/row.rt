@@ -36,6 +36,7 @@
 //!   on none (`-`), as `Debug` of `Asked` spells it.
 //! - `given PARTS`: what bytes it is given with the commands, else none.
 //! - `end Protocol`: how the session ends (`End`), else `EndOfInput`.
+//! - `each-place`: what comes is also cut in two at each place, as that of a row of few bytes always is.
 use crate::fixed::{Answer, Answers};
 use login::Kind;
 use session::{BeginAnswer, Lengths, Opening, ResetAnswer, Start};
@@ -102,6 +103,8 @@ pub struct Row<'a> {
     pub asked: Vec<&'a str>,
     pub given: Vec<u8>,
     pub end: &'a str,
+    /// Whether what comes is cut in two at each place.
+    pub each_place: bool,
     // The words of its lines that a row has once.
     words: Vec<&'a str>,
 }
@@ -152,6 +155,7 @@ impl<'a> Row<'a> {
             asked: Vec::new(alloc),
             given: Vec::new(alloc),
             end: "EndOfInput",
+            each_place: false,
             words: Vec::new(alloc),
         }
     }
@@ -189,6 +193,10 @@ impl<'a> Row<'a> {
             "given" => put_bytes(alloc, &mut self.given, rest),
             "end" => {
                 self.end = rest;
+                Ok(())
+            }
+            "each-place" if rest.is_empty() => {
+                self.each_place = true;
                 Ok(())
             }
             _ => self.take_opening(word, rest),

@@ -124,18 +124,13 @@ fn run_text(rt: &impl Abort, alloc: Global, table: &str, text: &str) -> bool {
 /// The most bytes of an input that is cut at each of its places.
 const FEW_BYTES: usize = 96;
 
-// Serves a row: whole, one byte after the other, and, where they are few, in two at each place.
-fn run_row(rt: &impl Abort, alloc: Global, row: &Row<'_>) {
+/// Serves a row: whole, one byte after the other, and, where they are few or the row says so, in two at each place.
+pub fn run_row(rt: &impl Abort, alloc: Global, row: &Row<'_>) {
     run_reads(rt, alloc, row, WHOLE);
     run_reads(rt, alloc, row, ONE_BYTE);
-    if row.input.len() <= FEW_BYTES {
+    if row.each_place || row.input.len() <= FEW_BYTES {
         cut_anywhere(rt, alloc, row);
     }
-}
-
-/// Serves the first row of a table, cut in two at each place, and compares.
-pub fn run_cut(rt: &impl Abort, alloc: Global, table: Table) {
-    cut_anywhere(rt, alloc, &first_row(rt, alloc, table));
 }
 
 // Serves a row, in two at each place.
