@@ -31,8 +31,6 @@ mod login_refusals;
 #[cfg(test)]
 mod login_requests;
 #[cfg(test)]
-mod login_streams;
-#[cfg(test)]
 mod login_texts;
 #[cfg(test)]
 mod logins;
@@ -80,5 +78,3 @@ mod tasks;
 mod text;
 #[cfg(test)]
 mod window;
-#[cfg(test)]
-mod write_streams;

@@ -36,8 +36,10 @@
 //!   on none (`-`), as `Debug` of `Asked` spells it.
 //! - `given PARTS`: what bytes it is given with the commands, else none.
 //! - `end Protocol`: how the session ends (`End`), else `EndOfInput`.
-//! - `each-place`: what comes is also cut in two at each place, as that of a row of few bytes always is.
+//! - `each-place`: what comes is also cut in two at each place, as that of a row of few bytes always is. `pieces 7`: it also
+//!   comes in pieces of so many bytes.
 use crate::fixed::{Answer, Answers};
+use crate::run::Wanted;
 use login::Kind;
 use session::{BeginAnswer, Lengths, Opening, ResetAnswer, Start};
 use std::alloc::Global;
@@ -83,6 +85,14 @@ const FROM_ONE: Begin = Begin {
     immediate_data: true,
 };
 
+/// How many bytes have come and are written, and how many questions are asked.
+#[derive(Clone, Copy)]
+pub struct Mark {
+    pub came: usize,
+    pub written: usize,
+    pub asked: usize,
+}
+
 /// A session as a row of a table.
 #[derive(Drop)]
 pub struct Row<'a> {
@@ -105,6 +115,10 @@ pub struct Row<'a> {
     pub end: &'a str,
     /// Whether what comes is cut in two at each place.
     pub each_place: bool,
+    /// In pieces of how many bytes it comes too; none where it is 0.
+    pub pieces: usize,
+    /// What has come, is written and is asked behind each line, in the order of the lines.
+    pub marks: Vec<Mark>,
     // The words of its lines that a row has once.
     words: Vec<&'a str>,
 }
@@ -156,7 +170,18 @@ impl<'a> Row<'a> {
             given: Vec::new(alloc),
             end: "EndOfInput",
             each_place: false,
+            pieces: 0,
+            marks: Vec::new(alloc),
             words: Vec::new(alloc),
+        }
+    }
+
+    /// All that it wants.
+    pub fn whole(&self) -> Wanted<'a> {
+        Wanted {
+            end: self.end,
+            written: self.output.len(),
+            asked: self.asked.len(),
         }
     }
 
@@ -172,12 +197,23 @@ impl<'a> Row<'a> {
     fn take(&mut self, alloc: Global, line: &'a str) -> Result<(), RowError> {
         let (word, rest) = line.split_once(' ').unwrap_or((line, ""));
         match word {
-            ">" => put_pdu(alloc, &mut self.input, rest),
-            "<" => put_pdu(alloc, &mut self.output, rest),
-            "asked" => put_text(&mut self.asked, rest),
-            _ if self.words.contains(&word) => Err(RowError::Word),
-            _ => self.take_new(alloc, word, rest),
+            ">" => put_pdu(alloc, &mut self.input, rest)?,
+            "<" => put_pdu(alloc, &mut self.output, rest)?,
+            "asked" => put_text(&mut self.asked, rest)?,
+            _ if self.words.contains(&word) => return Err(RowError::Word),
+            _ => return self.take_new(alloc, word, rest),
         }
+        self.mark()
+    }
+
+    // Takes down how far its lines have come.
+    fn mark(&mut self) -> Result<(), RowError> {
+        let mark = Mark {
+            came: self.input.len(),
+            written: self.output.len(),
+            asked: self.asked.len(),
+        };
+        Ok(self.marks.extend_from_slice(&[mark])?)
     }
 
     // Takes a line whose word the row did not have yet.
@@ -203,12 +239,13 @@ impl<'a> Row<'a> {
         }
     }
 
-    // Takes a line that says how its session begins.
+    // Takes a line that says how its session begins, or in which pieces its input comes.
     fn take_opening(&mut self, word: &str, rest: &str) -> Result<(), RowError> {
         match word {
             "login" => self.login = Some(read(rest)?),
             "discovery" if rest.is_empty() => self.kind = Kind::Discovery,
             "portals" => self.portals = read(rest)?,
+            "pieces" => self.pieces = read(rest)?,
             _ => return self.begin.take(word, rest),
         }
         Ok(())

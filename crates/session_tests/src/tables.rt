@@ -2,9 +2,9 @@
 use crate::run::{Table, run};
 use crate::{
     answers, data_out_faults, data_outs, discovery, first_commands, libiscsi, login_faults,
-    login_later, login_names, login_others, login_refusals, login_requests, login_streams,
-    login_texts, logins, logout, negotiated_reads, negotiated_writes, nop, open_iscsi, r2ts, reads,
-    rejects, residuals, runs, task_management, tasks, text, window,
+    login_later, login_names, login_others, login_refusals, login_requests, login_texts, logins,
+    logout, long_write, negotiated_reads, negotiated_writes, nop, open_iscsi, r2ts, reads, rejects,
+    residuals, runs, task_management, tasks, text, window,
 };
 use std::test::*;
 
@@ -32,7 +32,6 @@ const LOGINS: &[Table] = &[
     ("reads by negotiated lengths", negotiated_reads::ROWS),
     ("writes by negotiated lengths", negotiated_writes::ROWS),
     ("what open iscsi sends", open_iscsi::ROWS),
-    ("two requests and a command", login_streams::SESSION),
 ];
 
 #[test]
@@ -49,6 +48,7 @@ const FULL_FEATURE: &[Table] = &[
     ("logout", logout::ROWS),
     ("nop out", nop::ROWS),
     ("writes that collect", r2ts::ROWS),
+    ("a write of a megabyte", long_write::MEGABYTE),
     ("residuals with r2t", r2ts::RESIDUALS),
     ("reads", reads::ROWS),
     ("rejects", rejects::ROWS),
