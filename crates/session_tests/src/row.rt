@@ -36,6 +36,10 @@
 //!   on none (`-`), as `Debug` of `Asked` spells it.
 //! - `given PARTS`: what bytes it is given with the commands, else none.
 //! - `end Protocol`: how the session ends (`End`), else `EndOfInput`.
+//! - Of a session over the unit of `--once`: `fails 2`: its device fails after so many calls; `lands 2`: from the first call on,
+//!   which, as a write, lands so many blocks of its run; `written 10 5A`, as often as there is something to say: afterwards
+//!   this block is of this byte; all others are of zeros. `all-blocks`: a row that is not the same over a few blocks as over
+//!   all. `ends`: what comes also ends at each place.
 //! - `each-place`: what comes is also cut in two at each place, as that of a row of few bytes always is. `pieces 7`: it also
 //!   comes in pieces of so many bytes.
 use crate::fixed::{Answer, Answers};
@@ -85,12 +89,20 @@ const FROM_ONE: Begin = Begin {
     immediate_data: true,
 };
 
-/// How many bytes have come and are written, and how many questions are asked.
+/// How many bytes have come and are written, how many questions are asked, and how many blocks are written.
 #[derive(Clone, Copy)]
 pub struct Mark {
     pub came: usize,
     pub written: usize,
     pub asked: usize,
+    pub blocks: usize,
+}
+
+/// How a device fails: after so many calls, where the first one that fails, as a write, lands so many blocks of its run.
+#[derive(Clone, Copy)]
+pub struct Fuse {
+    pub calls: u64,
+    pub lands: u32,
 }
 
 /// A session as a row of a table.
@@ -117,6 +129,12 @@ pub struct Row<'a> {
     pub each_place: bool,
     /// In pieces of how many bytes it comes too; none where it is 0.
     pub pieces: usize,
+    /// How the device fails, the blocks that are of a byte afterwards, and whether it needs all blocks.
+    pub fuse: Fuse,
+    pub written: Vec<(u32, u8)>,
+    pub all_blocks: bool,
+    /// Whether what comes ends at each place.
+    pub ends: bool,
     /// What has come, is written and is asked behind each line, in the order of the lines.
     pub marks: Vec<Mark>,
     // The words of its lines that a row has once.
@@ -171,9 +189,32 @@ impl<'a> Row<'a> {
             end: "EndOfInput",
             each_place: false,
             pieces: 0,
+            fuse: Fuse {
+                calls: u64::MAX,
+                lands: 0,
+            },
+            written: Vec::new(alloc),
+            all_blocks: false,
+            ends: false,
             marks: Vec::new(alloc),
             words: Vec::new(alloc),
         }
+    }
+
+    /// What so many bytes come to: the answers of whole PDUs, and what these ask and write.
+    pub fn at(&self, came: usize) -> Mark {
+        let mut at = Mark {
+            came: 0,
+            written: 0,
+            asked: 0,
+            blocks: 0,
+        };
+        for mark in &self.marks {
+            if mark.came <= came {
+                at = *mark;
+            }
+        }
+        at
     }
 
     /// All that it wants.
@@ -200,6 +241,7 @@ impl<'a> Row<'a> {
             ">" => put_pdu(alloc, &mut self.input, rest)?,
             "<" => put_pdu(alloc, &mut self.output, rest)?,
             "asked" => put_text(&mut self.asked, rest)?,
+            "written" => self.written.extend_from_slice(&[written_of(rest)?])?,
             _ if self.words.contains(&word) => return Err(RowError::Word),
             _ => return self.take_new(alloc, word, rest),
         }
@@ -212,6 +254,7 @@ impl<'a> Row<'a> {
             came: self.input.len(),
             written: self.output.len(),
             asked: self.asked.len(),
+            blocks: self.written.len(),
         };
         Ok(self.marks.extend_from_slice(&[mark])?)
     }
@@ -231,11 +274,21 @@ impl<'a> Row<'a> {
                 self.end = rest;
                 Ok(())
             }
-            "each-place" if rest.is_empty() => {
-                self.each_place = true;
+            "each-place" | "all-blocks" | "ends" if rest.is_empty() => {
+                self.take_mark(word);
                 Ok(())
             }
+            "fails" | "lands" => self.fuse.take(word, rest),
             _ => self.take_opening(word, rest),
+        }
+    }
+
+    // Takes a word that stands alone.
+    fn take_mark(&mut self, word: &str) {
+        match word {
+            "each-place" => self.each_place = true,
+            "all-blocks" => self.all_blocks = true,
+            _ => self.ends = true,
         }
     }
 
@@ -263,6 +316,28 @@ impl<'a> Answers<'a> {
             _ => return Err(RowError::Word),
         }
         Ok(())
+    }
+}
+
+impl Fuse {
+    // Takes a line that says how the device fails.
+    fn take(&mut self, word: &str, rest: &str) -> Result<(), RowError> {
+        if word == "fails" {
+            self.calls = read(rest)?;
+        } else {
+            self.calls = 0;
+            self.lands = read(rest)?;
+        }
+        Ok(())
+    }
+}
+
+// A block, and the byte of which it is.
+fn written_of(words: &str) -> Result<(u32, u8), RowError> {
+    let (block, byte) = words.split_once(' ').ok_or(RowError::Word)?;
+    match u8::from_str_radix(byte, 16) {
+        Ok(byte) => Ok((read(block)?, byte)),
+        Err(_) => Err(RowError::Digits),
     }
 }
 

@@ -64,20 +64,14 @@ fn ends_anywhere(rt: &impl Abort, alloc: Global, row: &Row<'_>) {
     }
 }
 
-// What so many bytes of a row come to, where its session ends so: the answers of whole PDUs, and what these ask.
+// What so many bytes of a row come to, where its session ends so.
 fn answered<'a>(row: &Row<'_>, came: usize, end: &'a str) -> Wanted<'a> {
-    let mut wanted = Wanted {
+    let mark = row.at(came);
+    Wanted {
         end,
-        written: 0,
-        asked: 0,
-    };
-    for mark in &row.marks {
-        if mark.came <= came {
-            wanted.written = mark.written;
-            wanted.asked = mark.asked;
-        }
+        written: mark.written,
+        asked: mark.asked,
     }
-    wanted
 }
 
 // The call behind the last bytes, which finds the end, fails too.
