@@ -14,8 +14,8 @@
 //!
 //! A table is one text, with an empty line between two rows. Of its lines, one that begins with `#` is a comment, and one
 //! that begins with a blank goes on with the line before. The first line of a row is its name. Each other line is one of
-//! these, and one that is none, or that cannot be read, fails the test with the row's name. Those of `>`, `<` and `asked`
-//! stand as often as there is something to say, the others once at most.
+//! these, and one that is none, or that cannot be read, fails the test with the row's name. Those of `>`, `<`, `asked`
+//! and `written` stand as often as there is something to say, the others once at most.
 //!
 //! - `> PDU`: what comes, and `< PDU`: what goes out, in their order; a row has one of them at least. `test_streams` says
 //!   how a PDU is spelled (`pdu_of`), and has the header segments by their names.
@@ -26,8 +26,9 @@
 //!   the second controller has, else 1.
 //! - What the target answers. To a command: `answer good PARTS`, GOOD with these bytes, which are spelled as a PDU's data
 //!   segment (`bytes_of`), else GOOD with none; `answer in-turn PARTS | PARTS`, the same of each command in its turn, and
-//!   BUSY behind the last; `answer check 052400`, CHECK CONDITION with this sense key, code and qualifier, for a unit that
-//!   is not there; `answer busy`, `answer gone`. To a reset: `reset failed`, `reset gone`, else done.
+//!   BUSY behind the last. They are read when a command comes, and it is BUSY where they spell no bytes. `answer check 052400`,
+//!   CHECK CONDITION with this sense key, code and qualifier, for a unit that is not there; `answer busy`, `answer gone`. To a
+//!   reset: `reset failed`, `reset gone`, else done.
 //!   Where a session is to begin: `begin 65535`, begun with this TSIH, `begin refused`, else begun with the TSIH 1.
 //!   `lives`: the session that a login names lives, else it does not.
 //! - What the target is asked, in this order, and nothing else: `asked begin NAME ISID Normal`, to begin a session of
@@ -37,11 +38,11 @@
 //! - `given PARTS`: what bytes it is given with the commands, else none.
 //! - `end Protocol`: how the session ends (`End`), else `EndOfInput`.
 //! - Of a session over the unit of `--once`: `fails 2`: its device fails after so many calls; `lands 2`: from the first call on,
-//!   which, as a write, lands so many blocks of its run; `written 10 5A`, as often as there is something to say: afterwards
-//!   this block is of this byte; all others are of zeros. `all-blocks`: a row that is not the same over a few blocks as over
-//!   all. `ends`: what comes also ends at each place.
-//! - `each-place`: what comes is also cut in two at each place, as that of a row of few bytes always is. `pieces 7`: it also
-//!   comes in pieces of so many bytes.
+//!   which, as a write, lands so many blocks of its run; `written 10 5A`: afterwards this block is of this byte; all
+//!   others are of zeros. `all-blocks`: a row that is not the same over a few blocks as over all. `ends`: what comes also
+//!   ends at each place.
+//! - Of any other session: `each-place`: what comes is also cut in two at each place, as that of a row of few bytes
+//!   always is. `pieces 7`: it also comes in pieces of so many bytes.
 use crate::fixed::{Answer, Answers};
 use crate::run::Wanted;
 use login::Kind;
@@ -414,33 +415,13 @@ fn read_hexadecimal(text: &str) -> Result<u32, RowError> {
 fn command_answer(alloc: Global, text: &str) -> Result<Answer<'_>, RowError> {
     let (word, rest) = text.split_once(' ').unwrap_or((text, ""));
     match word {
-        "good" => {
-            spells(alloc, rest)?;
-            Ok(Answer::Good(rest))
-        }
-        "in-turn" => {
-            each_spells(alloc, rest)?;
-            Ok(Answer::InTurn(rest))
-        }
+        "good" => Ok(Answer::Good(rest)),
+        "in-turn" => Ok(Answer::InTurn(rest)),
         "check" => check_answer(&bytes_of(alloc, TEXTS, rest)?),
         "busy" if rest.is_empty() => Ok(Answer::Busy),
         "gone" if rest.is_empty() => Ok(Answer::Gone),
         _ => Err(RowError::Word),
     }
-}
-
-// A text that spells no bytes is a fault.
-fn spells(alloc: Global, text: &str) -> Result<(), RowError> {
-    let _bytes = bytes_of(alloc, TEXTS, text)?;
-    Ok(())
-}
-
-// The same of each of these texts, with `|` between.
-fn each_spells(alloc: Global, texts: &str) -> Result<(), RowError> {
-    for text in texts.split('|') {
-        spells(alloc, text)?;
-    }
-    Ok(())
 }
 
 fn check_answer(sense: &[u8]) -> Result<Answer<'static>, RowError> {

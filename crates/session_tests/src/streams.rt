@@ -54,9 +54,6 @@ login 1
 end Protocol
 "#;
 
-// So many bytes a call of a reader: PDUs end where its calls do.
-const PIECE: usize = 4;
-
 fn ends_anywhere(rt: &impl Abort, alloc: Global, row: &Row<'_>) {
     for came in 0..row.input.len() {
         let wanted = answered(row, came, "EndOfInput");
@@ -74,11 +71,11 @@ fn answered<'a>(row: &Row<'_>, came: usize, end: &'a str) -> Wanted<'a> {
     }
 }
 
-// The call behind the last bytes, which finds the end, fails too.
+// Four bytes come a call, so PDUs end where calls do. The call behind the last bytes, which finds the end, fails too.
 fn any_read_fails(rt: &impl Abort, alloc: Global, row: &Row<'_>) {
-    for done in 0..=row.input.len() / PIECE {
-        let wanted = answered(row, done.saturating_mul(PIECE), "InputFailed");
-        let reads = calls_of(PIECE, (done as u64).saturating_add(1));
+    for done in 0..=row.input.len() / 4 {
+        let wanted = answered(row, done.saturating_mul(4), "InputFailed");
+        let reads = calls_of(4, (done as u64).saturating_add(1));
         run_part(rt, alloc, row, row.input.len(), (reads, WHOLE), wanted);
     }
 }
@@ -96,7 +93,7 @@ fn a_write_fails(rt: &impl Abort, alloc: Global, row: &Row<'_>, written: usize, 
         written,
         ..answered(row, needed(row, written), "OutputFailed")
     };
-    let how = (calls_of(PIECE, 0), writes);
+    let how = (calls_of(4, 0), writes);
     run_part(rt, alloc, row, row.input.len(), how, wanted);
 }
 

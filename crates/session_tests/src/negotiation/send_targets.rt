@@ -60,7 +60,8 @@ fn check(rt: &impl Abort, alloc: Global, (name, kind, text, want): Row) {
     let text = bytes_of(alloc, TEXTS, text).expect(rt, name);
     let want = bytes_of(alloc, TEXTS, want).expect(rt, name);
     let target = b"iqn.2000-01.test:array";
-    let (first, second) = ([portal(3260)], [portal(3264)]);
+    let first = [portal(3260)];
+    let second = [portal(3264)];
     let end = send_targets(alloc, target, kind, &first, &second, &text);
     assert!(rt; answers(&end, &want), "{name}: another answer");
 }

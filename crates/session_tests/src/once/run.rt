@@ -88,13 +88,14 @@ fn serve_to(
 // What is otherwise than a row says where so many of its bytes came, and the input ended.
 fn differs(row: &Row<'_>, came: usize, end: End, sent: &[u8], kept: bool) -> Option<&'static str> {
     if end != End::EndOfInput {
-        Some("how it ended")
-    } else if Some(sent) != row.output.get(..row.at(came).written) {
-        Some("what it wrote")
-    } else if !kept {
-        Some("the blocks")
-    } else {
-        None
+        return Some("how it ended");
+    }
+    if !kept {
+        return Some("the blocks");
+    }
+    match row.output.get(..row.at(came).written) {
+        Some(output) if sent == output => None,
+        _ => Some("what it wrote"),
     }
 }
 
