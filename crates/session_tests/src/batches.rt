@@ -1,6 +1,6 @@
 //! How the answers leave: those of commands that came together in one write, many and long ones in parts.
 use crate::row::Row;
-use crate::run::{Ran, expect_end, first_row, serve};
+use crate::run::{Ran, serve, spells};
 use std::alloc::Global;
 use std::io::ErrorKind;
 use std::process::Abort;
@@ -133,10 +133,15 @@ end OutputFailed",
 ];
 
 fn check(rt: &impl Abort, alloc: Global, batch: &Batch) {
-    let row = first_row(rt, alloc, ("batches", batch.row));
+    let row = Row::read(rt, alloc, "batches", batch.row);
     let ran = served(rt, alloc, &row, batch);
-    expect_end(rt, alloc, ran.end, &row);
     expect_writes(rt, &ran, batch, row.name);
+    assert!(rt;
+        spells(rt, alloc, &ran.end, row.end),
+        "{}: {:?}",
+        row.name,
+        ran.end
+    );
 }
 
 fn served(rt: &impl Abort, alloc: Global, row: &Row<'_>, batch: &Batch) -> Ran {

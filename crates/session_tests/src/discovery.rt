@@ -1,6 +1,6 @@
 //! Discovery sessions from their login on (RFC 7143, 4.3, 11.10 and appendix C).
 // Each login but the last begins a session of discovery.
-const SERVED: &str = r#"
+pub const SERVED: &str = r#"
 SendTargets=All, NOP-Out, and Logout
 login 1
 > LOGIN 7:37 "InitiatorName=iqn.2000-01.test:a\0SessionType=Discovery\0"
@@ -72,11 +72,7 @@ login 1
 asked begin iqn.2000-01.test:a 400001370000 Normal
 "#;
 
-pub fn served() -> &'static str {
-    SERVED
-}
-
-const REJECTED: &str = r#"
+pub const REJECTED: &str = r#"
 576 bytes of an answer, where the initiator takes 512
 login 1
 > LOGIN 1:81 7:37 "InitiatorName=iqn.2000-01.test:a\0SessionType=Discovery\0"
@@ -129,7 +125,3 @@ login 1
 asked begin iqn.2000-01.test:a 400001370000 Discovery
 end Protocol
 "#;
-
-pub fn rejected() -> &'static str {
-    REJECTED
-}

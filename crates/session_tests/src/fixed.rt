@@ -33,9 +33,8 @@ pub struct Answers<'a> {
 pub struct Heard {
     pub asked: Vec<String>,
     pub given: Vec<u8>,
-    /// How many of the questions were commands, and how many were those of a login.
+    /// How many of the questions were commands.
     pub commands: usize,
-    pub logins: usize,
 }
 
 /// A target of one unit that answers alike each time, and keeps what it was asked and given.
@@ -59,7 +58,6 @@ impl<'a> Fixed<'a> {
                 asked: Vec::new(alloc),
                 given: Vec::new(alloc),
                 commands: 0,
-                logins: 0,
             },
             ends: 0,
             late: false,
@@ -115,7 +113,6 @@ impl Target for Fixed<'_> {
     fn begin(&mut self, name: &[u8], isid: u64, kind: Kind) -> BeginAnswer {
         let name = shown(name);
         let kept = self.hear(format!(in self.alloc; "begin {name} {isid:012X} {kind:?}"));
-        self.heard.logins = self.heard.logins.saturating_add(1);
         match self.answers.begin {
             // No session has the TSIH 0.
             BeginAnswer::Begun(tsih) if kept && tsih != 0 => BeginAnswer::Begun(tsih),
@@ -126,7 +123,6 @@ impl Target for Fixed<'_> {
     fn lives(&mut self, tsih: u16, name: &[u8], isid: u64) -> bool {
         let name = shown(name);
         let kept = self.hear(format!(in self.alloc; "lives {tsih} {name} {isid:012X}"));
-        self.heard.logins = self.heard.logins.saturating_add(1);
         kept && self.answers.lives
     }
 

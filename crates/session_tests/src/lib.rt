@@ -1,5 +1,5 @@
-//! Tests of the session over its public calls: each table has rows of PDUs that come, and of PDUs that go out. Those of a
-//! login and of PDUs by themselves stand beside them, in `negotiation` and `pdus`; those of `--once`, whose target is a unit, in `once`.
+//! Tests of the session over its public calls: each table has rows of PDUs that come, and of PDUs that go out. Each key of a
+//! login and PDUs by themselves stand beside them, in `negotiation` and `pdus`; those of `--once`, whose target is a unit, in `once`.
 #![tactic(auto)]
 
 #[cfg(test)]
@@ -30,8 +30,6 @@ mod login_others;
 mod login_refusals;
 #[cfg(test)]
 mod login_requests;
-#[cfg(test)]
-mod login_streams;
 #[cfg(test)]
 mod login_texts;
 #[cfg(test)]
@@ -80,5 +78,3 @@ mod tasks;
 mod text;
 #[cfg(test)]
 mod window;
-#[cfg(test)]
-mod write_streams;

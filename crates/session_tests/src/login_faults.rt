@@ -1,7 +1,7 @@
 //! What is rejected in a login (RFC 7143, 7.3 and 11.17.1): 05 for an opcode that no PDU of an initiator has, 09 for
 //! another fault.
 // In place of the first Login Request: ExpCmdSN is 0.
-const FIRST: &str = r"
+pub const FIRST: &str = r"
 an opcode that no PDU has
 login 1
 > LOGIN 0:07
@@ -73,12 +73,8 @@ login 1
 end Protocol
 ";
 
-pub fn first() -> &'static str {
-    FIRST
-}
-
 // Behind a Login Request: ExpCmdSN is its CmdSN.
-const SECOND: &str = r#"
+pub const SECOND: &str = r#"
 an opcode that no PDU has
 login 1
 > LOGIN 1:81 7:43 NAMES
@@ -178,7 +174,3 @@ login 1
 < REJECT 2:05 24:00000002FFFFFFFE0000001D rejected LOGIN 0:07
 end Protocol
 "#;
-
-pub fn second() -> &'static str {
-    SECOND
-}

@@ -1,5 +1,5 @@
 //! Logins that are refused at a later request (RFC 7143, 6.2, 6.3 and 11.13.5).
-const FLAGS: &str = r#"
+pub const FLAGS: &str = r#"
 stage 1, where stage 0 stays
 login 1
 > LOGIN 1:00 7:43 NAMES
@@ -46,11 +46,7 @@ login 1
 end Protocol
 "#;
 
-pub fn flags() -> &'static str {
-    FLAGS
-}
-
-const TEXTS: &str = r#"
+pub const TEXTS: &str = r#"
 a pair without =
 login 1
 > LOGIN 1:81 7:43 NAMES
@@ -97,11 +93,7 @@ login 1
 end Protocol
 "#;
 
-pub fn texts() -> &'static str {
-    TEXTS
-}
-
-const LIMITS: &str = r#"
+pub const LIMITS: &str = r#"
 64 pairs, and one more
 login 1
 > LOGIN 1:00 6:0179 NAMES "k00=\0k01=\0k02=\0k03=\0k04=\0k05=\0k06=\0k07=\0k08=\0k09=\0k10=\0k11=\0k12=\0k13=\0k14=\0"
@@ -124,6 +116,15 @@ login 1
 < LOGIN_REFUSED 1:00 24:00000002
 end Protocol
 
+64 pairs in a run with C, and one more: they are counted at once
+login 1
+> LOGIN 1:44 7:C0 64*"a=\0"
+> LOGIN 1:44 7:03 "a=\0"
+> LOGIN 7:56 HOST_A
+< LOGGED_IN 1:04 14:0000
+< LOGIN_REFUSED 24:00000002
+end Protocol
+
 in a run with C the limit is met at once
 login 1
 > LOGIN 1:40 6:2000 NAMES "X-a=" 8121*61
@@ -143,11 +144,7 @@ login 1
 end Protocol
 "#;
 
-pub fn limits() -> &'static str {
-    LIMITS
-}
-
-const RUNS: &str = r#"
+pub const RUNS: &str = r#"
 a run with C of another stage
 login 1
 > LOGIN 1:44 7:34 "InitiatorName=iqn.2000-01.test:a\0TargetName=iqn.2000"
@@ -178,7 +175,3 @@ begin refused
 asked begin iqn.2000-01.test:a 400001370000 Normal
 end Protocol
 "#;
-
-pub fn runs() -> &'static str {
-    RUNS
-}

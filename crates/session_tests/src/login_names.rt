@@ -1,5 +1,5 @@
 //! Logins that are refused for their names, session types, TSIH and AuthMethod (RFC 7143, 6.3 and 11.13.5).
-const MISSING: &str = r#"
+pub const MISSING: &str = r#"
 no text
 login 1
 > LOGIN
@@ -21,9 +21,23 @@ login 1
 < LOGIN_REFUSED 37:07
 end Protocol
 
+no InitiatorName, and a session type that there is not
+login 1
+> LOGIN 7:34 "TargetName=iqn.2000-01.test:array\0SessionType=Other\0"
+> LOGIN 7:56 HOST_A
+< LOGIN_REFUSED 37:07
+end Protocol
+
 a session type that there is not
 login 1
 > LOGIN 7:55 NAMES "SessionType=Other\0"
+> LOGIN 7:56 HOST_A
+< LOGIN_REFUSED 37:09
+end Protocol
+
+an empty session type
+login 1
+> LOGIN 7:50 NAMES "SessionType=\0"
 > LOGIN 7:56 HOST_A
 < LOGIN_REFUSED 37:09
 end Protocol
@@ -50,11 +64,7 @@ login 1
 end Protocol
 "#;
 
-pub fn missing() -> &'static str {
-    MISSING
-}
-
-const TARGETS: &str = r#"
+pub const TARGETS: &str = r#"
 an unknown target
 login 1
 > LOGIN 7:52 "InitiatorName=iqn.2000-01.test:a\0TargetName=iqn.2000-01.test:b\0SessionType=Normal\0"
@@ -65,6 +75,13 @@ end Protocol
 an empty TargetName
 login 1
 > LOGIN 7:2D "InitiatorName=iqn.2000-01.test:a\0TargetName=\0"
+> LOGIN 7:56 HOST_A
+< LOGIN_REFUSED 37:03
+end Protocol
+
+a TargetName of 223 bytes
+login 1
+> LOGIN 6:010C "InitiatorName=iqn.2000-01.test:a\0TargetName=" 223*61 1*00
 > LOGIN 7:56 HOST_A
 < LOGIN_REFUSED 37:03
 end Protocol
@@ -92,11 +109,7 @@ lives
 end Protocol
 "#;
 
-pub fn targets() -> &'static str {
-    TARGETS
-}
-
-const SESSIONS: &str = r#"
+pub const SESSIONS: &str = r#"
 one connection more in a session that lives
 login 1
 lives
@@ -132,11 +145,7 @@ asked lives 4660 iqn.2000-01.test:a 400001370000
 end Protocol
 "#;
 
-pub fn sessions() -> &'static str {
-    SESSIONS
-}
-
-const METHODS: &str = r#"
+pub const METHODS: &str = r#"
 AuthMethod without None
 login 1
 > LOGIN 1:81 7:6A HOST_A "AuthMethod=CHAP,SRP\0"
@@ -151,6 +160,13 @@ login 1
 < LOGIN_REFUSED 37:01
 end Protocol
 
+AuthMethod without a method
+login 1
+> LOGIN 7:62 HOST_A "AuthMethod=\0"
+> LOGIN 7:56 HOST_A
+< LOGIN_REFUSED 37:01
+end Protocol
+
 the target begins no session
 login 1
 begin refused
@@ -160,7 +176,3 @@ begin refused
 asked begin iqn.2000-01.test:a 400001370000 Normal
 end Protocol
 "#;
-
-pub fn methods() -> &'static str {
-    METHODS
-}

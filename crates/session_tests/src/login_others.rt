@@ -1,9 +1,10 @@
 //! PDUs of an initiator that are no Login Requests, in a login (RFC 7143, 11.13.5): 020B.
 // In place of the first Login Request: ExpCmdSN is 0. The response has the tag that came, and no other field of it. The
 // task management request is LOGICAL UNIT RESET of LUN 0.
-const FIRST: &str = r#"
+pub const FIRST: &str = r#"
 a NOP-Out
 login 1
+each-place
 > NOP_OUT 16:0A0B0C0D
 > LOGIN 7:56 HOST_A
 < NOT_IN_LOGIN 16:0A0B0C0D
@@ -66,14 +67,11 @@ login 1
 end Protocol
 "#;
 
-pub fn first() -> &'static str {
-    FIRST
-}
-
 // Behind a Login Request: ExpCmdSN is its CmdSN.
-const SECOND: &str = r#"
+pub const SECOND: &str = r#"
 a NOP-Out
 login 1
+each-place
 > LOGIN 1:81 7:43 NAMES
 > NOP_OUT 16:0A0B0C0D
 > LOGIN 7:56 HOST_A
@@ -153,7 +151,3 @@ login 1
 < NOT_IN_LOGIN 16:0A0B0C0D 24:000000020000000100000020
 end Protocol
 "#;
-
-pub fn second() -> &'static str {
-    SECOND
-}

@@ -1,6 +1,6 @@
 //! Logins of several requests that are accepted (RFC 7143, 6.2, 6.3 and 11.12).
 // Login responses have TSIH 0 until the last.
-const ROWS: &str = r#"
+pub const ROWS: &str = r#"
 stage 0, then stage 1, with the names again
 login 1
 > LOGIN 1:81 7:66 HOST_A "AuthMethod=None\0"
@@ -15,6 +15,14 @@ other names in the second request: those of the first stand
 login 1
 > LOGIN 1:81 7:43 NAMES
 > LOGIN 7:55 "InitiatorName=iqn.2000-01.test:b\0TargetName=iqn.2000-01.test:b\0SessionType=Discovery\0"
+< LOGGED_IN 1:81 7:17 14:0000 "TargetPortalGroupTag=1\0"
+< LOGGED_IN 7:1F 24:00000002 "MaxRecvDataSegmentLength=65536\0"
+asked begin iqn.2000-01.test:a 400001370000 Normal
+
+a name twice in the second request: it is passed over
+login 1
+> LOGIN 1:81 7:43 NAMES
+> LOGIN 7:27 "SessionType=Discovery\0SessionType=None\0"
 < LOGGED_IN 1:81 7:17 14:0000 "TargetPortalGroupTag=1\0"
 < LOGGED_IN 7:1F 24:00000002 "MaxRecvDataSegmentLength=65536\0"
 asked begin iqn.2000-01.test:a 400001370000 Normal
@@ -76,7 +84,3 @@ login 1
 asked begin iqn.2000-01.test:a 400001370000 Normal
 asked 0 Ok(TestUnitReady)
 "#;
-
-pub fn rows() -> &'static str {
-    ROWS
-}

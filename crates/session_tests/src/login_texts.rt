@@ -1,6 +1,6 @@
 //! Logins that are refused for the form and the length of their texts (RFC 7143, 6.1 and 6.2).
 // Each is refused with 0200.
-const ROWS: &str = r#"
+pub const ROWS: &str = r#"
 a pair without =
 login 1
 > LOGIN 7:47 NAMES "X-a\0"
@@ -46,6 +46,13 @@ end Protocol
 a key twice that nobody knows
 login 1
 > LOGIN 7:4F NAMES "X-a=1\0X-a=2\0"
+> LOGIN 7:56 HOST_A
+< LOGIN_REFUSED
+end Protocol
+
+the text comes before the names
+login 1
+> LOGIN 7:0C "X-a=1\0X-a=2\0"
 > LOGIN 7:56 HOST_A
 < LOGIN_REFUSED
 end Protocol
@@ -102,7 +109,3 @@ login 1
 < LOGIN_REFUSED
 end Protocol
 "#;
-
-pub fn rows() -> &'static str {
-    ROWS
-}

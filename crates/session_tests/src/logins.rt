@@ -1,9 +1,10 @@
 //! Logins of one request that are accepted (RFC 7143, 6.3, 11.12 and 11.13).
 // 86 bytes are the text of a login of one request, 67 of them the names of both sides; 54 bytes are what the target says
 // by itself. The target is asked once to begin the session.
-const ONE_REQUEST: &str = r#"
+pub const ONE_REQUEST: &str = r#"
 one request of stage 1
 login 1
+each-place
 > LOGIN 7:56 HOST_A
 < LOGGED_IN 7:36 WELCOME
 asked begin iqn.2000-01.test:a 400001370000 Normal
@@ -76,7 +77,3 @@ login 1
 < LOGGED_IN 7:48 WELCOME "X-a=NotUnderstood\0"
 asked begin iqn.2000-01.test:a 400001370000 Normal
 "#;
-
-pub fn one_request() -> &'static str {
-    ONE_REQUEST
-}

@@ -1,5 +1,5 @@
 //! Logout (RFC 7143, 11.14 and 11.15).
-const ROWS: &str = r"
+pub const ROWS: &str = r"
 reason 0 closes the session, and nothing behind it is served
 > LOGOUT
 > TEST_UNIT_READY 24:00000002
@@ -36,7 +36,3 @@ outside the window it is ignored
 < GOOD
 asked 0 Ok(TestUnitReady)
 ";
-
-pub fn rows() -> &'static str {
-    ROWS
-}

@@ -1,11 +1,8 @@
 //! WRITE (10) of 2048 blocks: 8192 bytes come with it, the others by four R2Ts of at most MaxBurstLength, 262144
 //! (RFC 7143, 11.8 and 13.13), in Data-Out of at most 65536.
-use crate::run::{calls_of, first_row, run_reads};
-use std::test::*;
-use test_streams::{ONE_BYTE, WHOLE};
-
-const MEGABYTE: &str = r"
+pub const MEGABYTE: &str = r"
 1 MiB, of which 8192 bytes come with the command
+pieces 7
 > WRITE 6:2000 20:00100000 37:00000800 pattern 8192
 > DATA_OUT 5:010000 23:00 36:0000000000002000 pattern 8192+65536
 > DATA_OUT 5:010000 23:00 36:0000000100012000 pattern 73728+65536
@@ -31,12 +28,3 @@ const MEGABYTE: &str = r"
 asked 0 Ok(Write { lba: 0, blocks: 2048, fua: false })
 given pattern 1048576
 ";
-
-#[test]
-fn a_write_of_a_megabyte(rt: HostRuntime) {
-    let alloc = rt.alloc();
-    let row = first_row(&rt, alloc, ("a write of a megabyte", MEGABYTE));
-    run_reads(&rt, alloc, &row, WHOLE);
-    run_reads(&rt, alloc, &row, calls_of(7, 0));
-    run_reads(&rt, alloc, &row, ONE_BYTE);
-}

@@ -1,5 +1,5 @@
 //! What goes out by the lengths that a login negotiated (RFC 7143, 13.12 and 13.13).
-const ROWS: &str = r#"
+pub const ROWS: &str = r#"
 a read in Data-In of MaxRecvDataSegmentLength, in runs of MaxBurstLength
 login 1
 answer good pattern 1536
@@ -83,7 +83,3 @@ answer good pattern 1536
 asked begin iqn.2000-01.test:a 400001370000 Normal
 asked 0 Ok(Read { lba: 5, blocks: 3, fua: false })
 "#;
-
-pub fn rows() -> &'static str {
-    ROWS
-}

@@ -1,5 +1,5 @@
 //! What comes in by the lengths that a login negotiated (RFC 7143, 13.10, 13.11, 13.13 and 13.14).
-const ROWS: &str = r#"
+pub const ROWS: &str = r#"
 a write in R2Ts of MaxBurstLength
 login 1
 > LOGIN 7:57 NAMES "MaxBurstLength=1024\0"
@@ -58,7 +58,3 @@ login 1
 asked begin iqn.2000-01.test:a 400001370000 Normal
 end Protocol
 "#;
-
-pub fn rows() -> &'static str {
-    ROWS
-}

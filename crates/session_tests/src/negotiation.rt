@@ -1,7 +1,3 @@
-//! Tests of `login` over its public calls.
+//! The keys of a login, and the text of a Text request.
 mod keys;
-mod limits;
-mod logins;
-mod refusals;
-mod scripts;
 mod send_targets;

@@ -4,5 +4,4 @@
 mod examples;
 mod first_questions;
 mod medium;
-mod row;
 mod run;

@@ -1,6 +1,6 @@
 //! Writes whose data comes by R2T (RFC 7143, 11.7 and 11.8): what did not come with the command is asked for in
 //! ranges of MaxBurstLength, one outstanding at a time, and the command is called once, with all of it.
-const ROWS: &str = r"
+pub const ROWS: &str = r"
 a write of 512 without its data
 > WRITE
 > DATA_OUT pattern 512
@@ -89,12 +89,8 @@ asked 0 Ok(Write { lba: 5, blocks: 1, fua: false })
 given pattern 512
 ";
 
-pub fn rows() -> &'static str {
-    ROWS
-}
-
 // What is expected and what the command needs differ (RFC 7143, 11.4.5): as much is collected as both have.
-const RESIDUALS: &str = r"
+pub const RESIDUALS: &str = r"
 a write of 512 that expects 1024: U, and the R2T is for 512
 > WRITE 20:00000400
 > DATA_OUT pattern 512
@@ -128,7 +124,3 @@ a write of 512 that expects 256 and sends none: O, and no R2T
 < GOOD 1:84 44:00000100
 asked 0 Ok(Write { lba: 5, blocks: 1, fua: false })
 ";
-
-pub fn residuals() -> &'static str {
-    RESIDUALS
-}

@@ -14,8 +14,8 @@
 //!
 //! A table is one text, with an empty line between two rows. Of its lines, one that begins with `#` is a comment, and one
 //! that begins with a blank goes on with the line before. The first line of a row is its name. Each other line is one of
-//! these, and one that is none, or that cannot be read, fails the test with the row's name. Those of `>`, `<` and `asked`
-//! stand as often as there is something to say, the others once at most.
+//! these, and one that is none, or that cannot be read, fails the test with the row's name. Those of `>`, `<`, `asked`
+//! and `written` stand as often as there is something to say, the others once at most.
 //!
 //! - `> PDU`: what comes, and `< PDU`: what goes out, in their order; a row has one of them at least. `test_streams` says
 //!   how a PDU is spelled (`pdu_of`), and has the header segments by their names.
@@ -26,8 +26,9 @@
 //!   the second controller has, else 1.
 //! - What the target answers. To a command: `answer good PARTS`, GOOD with these bytes, which are spelled as a PDU's data
 //!   segment (`bytes_of`), else GOOD with none; `answer in-turn PARTS | PARTS`, the same of each command in its turn, and
-//!   BUSY behind the last; `answer check 052400`, CHECK CONDITION with this sense key, code and qualifier, for a unit that
-//!   is not there; `answer busy`, `answer gone`. To a reset: `reset failed`, `reset gone`, else done.
+//!   BUSY behind the last. They are read when a command comes, and it is BUSY where they spell no bytes. `answer check 052400`,
+//!   CHECK CONDITION with this sense key, code and qualifier, for a unit that is not there; `answer busy`, `answer gone`. To a
+//!   reset: `reset failed`, `reset gone`, else done.
 //!   Where a session is to begin: `begin 65535`, begun with this TSIH, `begin refused`, else begun with the TSIH 1.
 //!   `lives`: the session that a login names lives, else it does not.
 //! - What the target is asked, in this order, and nothing else: `asked begin NAME ISID Normal`, to begin a session of
@@ -36,7 +37,14 @@
 //!   on none (`-`), as `Debug` of `Asked` spells it.
 //! - `given PARTS`: what bytes it is given with the commands, else none.
 //! - `end Protocol`: how the session ends (`End`), else `EndOfInput`.
+//! - Of a session over the unit of `--once`: `fails 2`: its device fails after so many calls; `lands 2`: from the first call on,
+//!   which, as a write, lands so many blocks of its run; `written 10 5A`: afterwards this block is of this byte; all
+//!   others are of zeros. `all-blocks`: a row that is not the same over a few blocks as over all. `ends`: what comes also
+//!   ends at each place.
+//! - Of any other session: `each-place`: what comes is also cut in two at each place, as that of a row of few bytes
+//!   always is. `pieces 7`: it also comes in pieces of so many bytes.
 use crate::fixed::{Answer, Answers};
+use crate::run::Wanted;
 use login::Kind;
 use session::{BeginAnswer, Lengths, Opening, ResetAnswer, Start};
 use std::alloc::Global;
@@ -82,6 +90,22 @@ const FROM_ONE: Begin = Begin {
     immediate_data: true,
 };
 
+/// How many bytes have come and are written, how many questions are asked, and how many blocks are written.
+#[derive(Clone, Copy)]
+pub struct Mark {
+    pub came: usize,
+    pub written: usize,
+    pub asked: usize,
+    pub blocks: usize,
+}
+
+/// How a device fails: after so many calls, where the first one that fails, as a write, lands so many blocks of its run.
+#[derive(Clone, Copy)]
+pub struct Fuse {
+    pub calls: u64,
+    pub lands: u32,
+}
+
 /// A session as a row of a table.
 #[derive(Drop)]
 pub struct Row<'a> {
@@ -102,6 +126,18 @@ pub struct Row<'a> {
     pub asked: Vec<&'a str>,
     pub given: Vec<u8>,
     pub end: &'a str,
+    /// Whether what comes is cut in two at each place.
+    pub each_place: bool,
+    /// In pieces of how many bytes it comes too; none where it is 0.
+    pub pieces: usize,
+    /// How the device fails, the blocks that are of a byte afterwards, and whether it needs all blocks.
+    pub fuse: Fuse,
+    pub written: Vec<(u32, u8)>,
+    pub all_blocks: bool,
+    /// Whether what comes ends at each place.
+    pub ends: bool,
+    /// What has come, is written and is asked behind each line, in the order of the lines.
+    pub marks: Vec<Mark>,
     // The words of its lines that a row has once.
     words: Vec<&'a str>,
 }
@@ -152,7 +188,42 @@ impl<'a> Row<'a> {
             asked: Vec::new(alloc),
             given: Vec::new(alloc),
             end: "EndOfInput",
+            each_place: false,
+            pieces: 0,
+            fuse: Fuse {
+                calls: u64::MAX,
+                lands: 0,
+            },
+            written: Vec::new(alloc),
+            all_blocks: false,
+            ends: false,
+            marks: Vec::new(alloc),
             words: Vec::new(alloc),
+        }
+    }
+
+    /// What so many bytes come to: the answers of whole PDUs, and what these ask and write.
+    pub fn at(&self, came: usize) -> Mark {
+        let mut at = Mark {
+            came: 0,
+            written: 0,
+            asked: 0,
+            blocks: 0,
+        };
+        for mark in &self.marks {
+            if mark.came <= came {
+                at = *mark;
+            }
+        }
+        at
+    }
+
+    /// All that it wants.
+    pub fn whole(&self) -> Wanted<'a> {
+        Wanted {
+            end: self.end,
+            written: self.output.len(),
+            asked: self.asked.len(),
         }
     }
 
@@ -168,12 +239,25 @@ impl<'a> Row<'a> {
     fn take(&mut self, alloc: Global, line: &'a str) -> Result<(), RowError> {
         let (word, rest) = line.split_once(' ').unwrap_or((line, ""));
         match word {
-            ">" => put_pdu(alloc, &mut self.input, rest),
-            "<" => put_pdu(alloc, &mut self.output, rest),
-            "asked" => put_text(&mut self.asked, rest),
-            _ if self.words.contains(&word) => Err(RowError::Word),
-            _ => self.take_new(alloc, word, rest),
+            ">" => put_pdu(alloc, &mut self.input, rest)?,
+            "<" => put_pdu(alloc, &mut self.output, rest)?,
+            "asked" => put_text(&mut self.asked, rest)?,
+            "written" => self.written.extend_from_slice(&[written_of(rest)?])?,
+            _ if self.words.contains(&word) => return Err(RowError::Word),
+            _ => return self.take_new(alloc, word, rest),
         }
+        self.mark()
+    }
+
+    // Takes down how far its lines have come.
+    fn mark(&mut self) -> Result<(), RowError> {
+        let mark = Mark {
+            came: self.input.len(),
+            written: self.output.len(),
+            asked: self.asked.len(),
+            blocks: self.written.len(),
+        };
+        Ok(self.marks.extend_from_slice(&[mark])?)
     }
 
     // Takes a line whose word the row did not have yet.
@@ -191,16 +275,31 @@ impl<'a> Row<'a> {
                 self.end = rest;
                 Ok(())
             }
+            "each-place" | "all-blocks" | "ends" if rest.is_empty() => {
+                self.take_mark(word);
+                Ok(())
+            }
+            "fails" | "lands" => self.fuse.take(word, rest),
             _ => self.take_opening(word, rest),
         }
     }
 
-    // Takes a line that says how its session begins.
+    // Takes a word that stands alone.
+    fn take_mark(&mut self, word: &str) {
+        match word {
+            "each-place" => self.each_place = true,
+            "all-blocks" => self.all_blocks = true,
+            _ => self.ends = true,
+        }
+    }
+
+    // Takes a line that says how its session begins, or in which pieces its input comes.
     fn take_opening(&mut self, word: &str, rest: &str) -> Result<(), RowError> {
         match word {
             "login" => self.login = Some(read(rest)?),
             "discovery" if rest.is_empty() => self.kind = Kind::Discovery,
             "portals" => self.portals = read(rest)?,
+            "pieces" => self.pieces = read(rest)?,
             _ => return self.begin.take(word, rest),
         }
         Ok(())
@@ -218,6 +317,28 @@ impl<'a> Answers<'a> {
             _ => return Err(RowError::Word),
         }
         Ok(())
+    }
+}
+
+impl Fuse {
+    // Takes a line that says how the device fails.
+    fn take(&mut self, word: &str, rest: &str) -> Result<(), RowError> {
+        if word == "fails" {
+            self.calls = read(rest)?;
+        } else {
+            self.calls = 0;
+            self.lands = read(rest)?;
+        }
+        Ok(())
+    }
+}
+
+// A block, and the byte of which it is.
+fn written_of(words: &str) -> Result<(u32, u8), RowError> {
+    let (block, byte) = words.split_once(' ').ok_or(RowError::Word)?;
+    match u8::from_str_radix(byte, 16) {
+        Ok(byte) => Ok((read(block)?, byte)),
+        Err(_) => Err(RowError::Digits),
     }
 }
 
@@ -294,33 +415,13 @@ fn read_hexadecimal(text: &str) -> Result<u32, RowError> {
 fn command_answer(alloc: Global, text: &str) -> Result<Answer<'_>, RowError> {
     let (word, rest) = text.split_once(' ').unwrap_or((text, ""));
     match word {
-        "good" => {
-            spells(alloc, rest)?;
-            Ok(Answer::Good(rest))
-        }
-        "in-turn" => {
-            each_spells(alloc, rest)?;
-            Ok(Answer::InTurn(rest))
-        }
+        "good" => Ok(Answer::Good(rest)),
+        "in-turn" => Ok(Answer::InTurn(rest)),
         "check" => check_answer(&bytes_of(alloc, TEXTS, rest)?),
         "busy" if rest.is_empty() => Ok(Answer::Busy),
         "gone" if rest.is_empty() => Ok(Answer::Gone),
         _ => Err(RowError::Word),
     }
-}
-
-// A text that spells no bytes is a fault.
-fn spells(alloc: Global, text: &str) -> Result<(), RowError> {
-    let _bytes = bytes_of(alloc, TEXTS, text)?;
-    Ok(())
-}
-
-// The same of each of these texts, with `|` between.
-fn each_spells(alloc: Global, texts: &str) -> Result<(), RowError> {
-    for text in texts.split('|') {
-        spells(alloc, text)?;
-    }
-    Ok(())
 }
 
 fn check_answer(sense: &[u8]) -> Result<Answer<'static>, RowError> {

@@ -94,14 +94,6 @@ fn serve_by(
     (end.expect(rt, "memory"), sink.into_inner())
 }
 
-/// The first row of a table.
-pub fn first_row(rt: &impl Abort, alloc: Global, (table, rows): Table) -> Row<'static> {
-    let (text, _) = rows.split_once("\n\n").unwrap_or((rows, ""));
-    let row = Row::read(rt, alloc, table, text);
-    assert!(rt; !row.name.is_empty(), "{table}: no row comes first");
-    row
-}
-
 /// Serves each row, and compares.
 pub fn run(rt: &impl Abort, alloc: Global, (table, rows): Table) {
     let mut has_row = false;
@@ -124,18 +116,17 @@ fn run_text(rt: &impl Abort, alloc: Global, table: &str, text: &str) -> bool {
 /// The most bytes of an input that is cut at each of its places.
 const FEW_BYTES: usize = 96;
 
-// Serves a row: whole, one byte after the other, and, where they are few, in two at each place.
-fn run_row(rt: &impl Abort, alloc: Global, row: &Row<'_>) {
+/// Serves a row: whole, one byte after the other, in pieces where it says so, and, where they are few or it says so, in two at
+/// each place.
+pub fn run_row(rt: &impl Abort, alloc: Global, row: &Row<'_>) {
     run_reads(rt, alloc, row, WHOLE);
     run_reads(rt, alloc, row, ONE_BYTE);
-    if row.input.len() <= FEW_BYTES {
+    if row.pieces > 0 {
+        run_reads(rt, alloc, row, calls_of(row.pieces, 0));
+    }
+    if row.each_place || row.input.len() <= FEW_BYTES {
         cut_anywhere(rt, alloc, row);
     }
-}
-
-/// Serves the first row of a table, cut in two at each place, and compares.
-pub fn run_cut(rt: &impl Abort, alloc: Global, table: Table) {
-    cut_anywhere(rt, alloc, &first_row(rt, alloc, table));
 }
 
 // Serves a row, in two at each place.
@@ -147,31 +138,60 @@ fn cut_anywhere(rt: &impl Abort, alloc: Global, row: &Row<'_>) {
 
 /// Serves a row, read so, and compares.
 pub fn run_reads(rt: &impl Abort, alloc: Global, row: &Row<'_>, reads: Calls) {
-    let ran = serve(rt, alloc, &row.input, reads, WHOLE, row);
-    expect_end(rt, alloc, ran.end, row);
-    if let Some(what) = differs(&ran, row) {
-        panic!(rt;
-            "{}: {}, {reads:?}: {what}: {:?}",
-            row.table, row.name, ran.output
-        );
+    let how = (reads, WHOLE);
+    run_part(rt, alloc, row, row.input.len(), how, row.whole());
+}
+
+/// How a session ends, and how much of a row's output it writes and of its questions it asks.
+#[derive(Clone, Copy, Debug)]
+pub struct Wanted<'a> {
+    pub end: &'a str,
+    pub written: usize,
+    pub asked: usize,
+}
+
+/// Serves the first bytes of a row's input, read and written so, and compares.
+pub fn run_part(
+    rt: &impl Abort,
+    alloc: Global,
+    row: &Row<'_>,
+    came: usize,
+    (reads, writes): (Calls, Calls),
+    wanted: Wanted<'_>,
+) {
+    let front = row.input.get(..came).expect(rt, "so many bytes come");
+    let ran = serve(rt, alloc, front, reads, writes, row);
+    if !spells(rt, alloc, &ran.end, wanted.end) {
+        tell(rt, row, (came, reads, writes), "how it ended", &ran);
+    }
+    if let Some(what) = differs(&ran, row, wanted) {
+        tell(rt, row, (came, reads, writes), what, &ran);
     }
 }
 
-// What a session that was served whole did otherwise than its row says.
-fn differs(ran: &Ran, row: &Row<'_>) -> Option<&'static str> {
+// Fails by what differs in a session of so many bytes, read and written so.
+fn tell(rt: &impl Abort, row: &Row<'_>, how: (usize, Calls, Calls), what: &str, ran: &Ran) {
+    panic!(rt;
+        "{}: {}, {how:?}: {what}: {:?}, and it wrote {:?}",
+        row.table, row.name, ran.end, ran.output
+    );
+}
+
+// What a session did otherwise than it is wanted, but for its end.
+fn differs(ran: &Ran, row: &Row<'_>, wanted: Wanted<'_>) -> Option<&'static str> {
     if !begin_alike(&ran.heard.asked, &row.asked) {
-        return Some("it asked something else, and wrote");
+        return Some("it asked something else");
     }
-    if ran.heard.asked.len() != row.asked.len() {
-        return Some("it asked more or less, and wrote");
+    if ran.heard.asked.len() != wanted.asked {
+        return Some("it asked more or less");
     }
-    if ran.heard.given.as_slice() != row.given.as_slice() {
-        return Some("it gave other bytes, and wrote");
+    if wanted.asked == row.asked.len() && ran.heard.given.as_slice() != row.given.as_slice() {
+        return Some("it gave other bytes");
     }
-    if ran.output.as_slice() != row.output.as_slice() {
-        return Some("it wrote");
+    match row.output.get(..wanted.written) {
+        Some(output) if ran.output.as_slice() == output => None,
+        _ => Some("it wrote something else"),
     }
-    None
 }
 
 // Whether these lines are those that are wanted, as far as both go.
@@ -184,62 +204,8 @@ fn begin_alike(lines: &[String], want: &[&str]) -> bool {
     true
 }
 
-/// A session ended as its row says.
-pub fn expect_end(rt: &impl Abort, alloc: Global, end: End, row: &Row<'_>) {
-    assert!(rt;
-        spells(rt, alloc, &end, row.end),
-        "{}: {}: {end:?}",
-        row.table,
-        row.name
-    );
-}
-
 /// Whether `Debug` spells it so.
 pub fn spells(rt: &impl Abort, alloc: Global, value: &impl Debug, text: &str) -> bool {
     let spelled = format!(in alloc; "{value:?}").expect(rt, "memory");
     spelled.as_str() == text
-}
-
-/// Serves the first bytes of a row's input, read and written so: the session ends so, so many bytes of the row's output are
-/// written, and so many questions are those of a login.
-pub fn run_front(
-    rt: &impl Abort,
-    alloc: Global,
-    row: &Row<'_>,
-    came: usize,
-    (reads, writes): (Calls, Calls),
-    (end, written, logins): (End, usize, usize),
-) {
-    let front = row.input.get(..came).expect(rt, "so many bytes come");
-    let ran = serve(rt, alloc, front, reads, writes, row);
-    let want = row.output.get(..written).expect(rt, "so many bytes go out");
-    let what = ran_otherwise(&ran, end, want, logins);
-    let how = (came, reads, writes);
-    expect_alike(rt, row.table, &how, what, ran.end);
-}
-
-// Nothing differs in a session of so many bytes, read and written so, which ended so.
-fn expect_alike(
-    rt: &impl Abort,
-    table: &str,
-    how: &(usize, Calls, Calls),
-    what: Option<&'static str>,
-    end: End,
-) {
-    if let Some(what) = what {
-        panic!(rt; "{table}: {how:?}: {what}: {end:?}");
-    }
-}
-
-// What a session did otherwise than to end so, to write these bytes and to ask so many questions of a login.
-fn ran_otherwise(ran: &Ran, end: End, output: &[u8], logins: usize) -> Option<&'static str> {
-    if ran.end != end {
-        Some("how it ended")
-    } else if ran.output.as_slice() != output {
-        Some("what it wrote")
-    } else if ran.heard.logins != logins {
-        Some("what it asked")
-    } else {
-        None
-    }
 }

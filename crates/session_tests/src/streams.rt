@@ -1,89 +1,149 @@
-//! Sources and sinks that cut the bytes anywhere, and fail at each call in turn.
+//! Sessions over streams that end and are cut anywhere, that fail at each call in turn, that take nothing, and whose calls are
+//! interrupted.
 use crate::row::Row;
-use crate::run::{calls_of, first_row, run_front};
-use session::End;
+use crate::run::{Wanted, calls_of, run_part, run_row};
 use std::alloc::Global;
 use std::io::ErrorKind;
 use std::process::Abort;
 use std::test::*;
 use test_streams::{Calls, ONE_BYTE, WHOLE};
 
-// Two commands, and their answers: 96 bytes each.
-const SESSION: &str = r"
+// In each row, what a PDU comes to stands behind it. The last one ends its session by itself.
+const ROWS: &str = r#"
 two commands
 > TEST_UNIT_READY
-> TEST_UNIT_READY 24:00000002
 < GOOD
+asked 0 Ok(TestUnitReady)
+> TEST_UNIT_READY 24:00000002
 < GOOD 24:000000020000000300000022
-";
+asked 0 Ok(TestUnitReady)
 
-fn bytes_one_by_one(rt: &impl Abort, alloc: Global, row: &Row<'_>) {
-    for how in &[(WHOLE, WHOLE), (ONE_BYTE, WHOLE), (WHOLE, ONE_BYTE)] {
-        run_front(rt, alloc, row, 96, *how, (End::EndOfInput, 96, 0));
+a write and its data
+each-place
+> WRITE
+< R2T
+> DATA_OUT pattern 512
+< GOOD
+asked 0 Ok(Write { lba: 5, blocks: 1, fua: false })
+given pattern 512
+
+a login of two requests, and a command
+login 1
+each-place
+> LOGIN 1:81 7:43 NAMES
+< LOGGED_IN 1:81 7:17 14:0000 "TargetPortalGroupTag=1\0"
+> LOGIN
+< LOGGED_IN 7:1F 24:00000002 "MaxRecvDataSegmentLength=65536\0"
+asked begin iqn.2000-01.test:a 400001370000 Normal
+> TEST_UNIT_READY
+< GOOD 24:00000003
+asked 0 Ok(TestUnitReady)
+
+a login of one request
+login 1
+each-place
+> LOGIN 7:56 HOST_A
+< LOGGED_IN 7:36 WELCOME
+asked begin iqn.2000-01.test:a 400001370000 Normal
+
+# It is rejected once its header is there.
+an opcode that there is not, in place of a Login Request
+login 1
+> LOGIN 0:07
+< REJECT 2:05 24:00000001000000000000001F rejected LOGIN 0:07
+end Protocol
+"#;
+
+fn ends_anywhere(rt: &impl Abort, alloc: Global, row: &Row<'_>) {
+    for came in 0..row.input.len() {
+        let wanted = answered(row, came, "EndOfInput");
+        run_part(rt, alloc, row, came, (WHOLE, WHOLE), wanted);
     }
 }
 
-fn input_cut_anywhere(rt: &impl Abort, alloc: Global, row: &Row<'_>) {
-    for came in 0..=96usize {
-        let wanted = (End::EndOfInput, came / 48 * 48, 0);
-        run_front(rt, alloc, row, came, (WHOLE, WHOLE), wanted);
+// What so many bytes of a row come to, where its session ends so.
+fn answered<'a>(row: &Row<'_>, came: usize, end: &'a str) -> Wanted<'a> {
+    let mark = row.at(came);
+    Wanted {
+        end,
+        written: mark.written,
+        asked: mark.asked,
     }
 }
 
-// Of seven bytes fourteen calls move the 96, two of them at a PDU's end, and the fifteenth finds the end.
-fn a_read_fails(rt: &impl Abort, alloc: Global, row: &Row<'_>) {
-    for k in 1..=16u64 {
-        let end = if k <= 15 {
-            End::InputFailed
-        } else {
-            End::EndOfInput
-        };
-        let came = (7 * (k as usize - 1)).min(96);
-        let how = (calls_of(7, k), WHOLE);
-        run_front(rt, alloc, row, 96, how, (end, came / 48 * 48, 0));
+// Four bytes come a call, so PDUs end where calls do. The call behind the last bytes, which finds the end, fails too.
+fn any_read_fails(rt: &impl Abort, alloc: Global, row: &Row<'_>) {
+    for done in 0..=row.input.len() / 4 {
+        let wanted = answered(row, done.saturating_mul(4), "InputFailed");
+        let reads = calls_of(4, (done as u64).saturating_add(1));
+        run_part(rt, alloc, row, row.input.len(), (reads, WHOLE), wanted);
     }
 }
 
-fn a_write_fails(rt: &impl Abort, alloc: Global, row: &Row<'_>) {
-    // Both answers leave together.
-    for k in 1..=15u64 {
-        let wanted = if k <= 14 {
-            (End::OutputFailed, 7 * (k as usize - 1), 0)
-        } else {
-            (End::EndOfInput, 96, 0)
-        };
-        let how = (WHOLE, calls_of(7, k));
-        run_front(rt, alloc, row, 96, how, wanted);
+fn any_write_fails(rt: &impl Abort, alloc: Global, row: &Row<'_>) {
+    for written in 0..row.output.len() {
+        let call = (written as u64).saturating_add(1);
+        a_write_fails(rt, alloc, row, written, calls_of(1, call));
     }
 }
 
-fn a_write_takes_nothing(rt: &impl Abort, alloc: Global, row: &Row<'_>) {
-    let how = (WHOLE, calls_of(0, 0));
-    run_front(rt, alloc, row, 96, how, (End::OutputFailed, 0, 0));
+// A write fails so behind so many bytes: each answer leaves before more is read, so nothing is asked by a PDU behind it.
+fn a_write_fails(rt: &impl Abort, alloc: Global, row: &Row<'_>, written: usize, writes: Calls) {
+    let wanted = Wanted {
+        written,
+        ..answered(row, needed(row, written), "OutputFailed")
+    };
+    let how = (calls_of(4, 0), writes);
+    run_part(rt, alloc, row, row.input.len(), how, wanted);
 }
 
-fn an_interrupted_call_is_made_again(rt: &impl Abort, alloc: Global, row: &Row<'_>) {
-    for k in 1..=16u64 {
+// How many bytes have come when there is more to write than so many.
+fn needed(row: &Row<'_>, written: usize) -> usize {
+    for mark in &row.marks {
+        if mark.written > written {
+            return mark.came;
+        }
+    }
+    row.input.len()
+}
+
+// An interrupted call is made again.
+fn calls_are_interrupted(rt: &impl Abort, alloc: Global, row: &Row<'_>) {
+    for call in 1..=16u64 {
         let how = Calls {
             kind: ErrorKind::Interrupted,
-            ..calls_of(7, k)
+            ..calls_of(7, call)
         };
-        run_front(rt, alloc, row, 96, (how, how), (End::EndOfInput, 96, 0));
+        run_part(rt, alloc, row, row.input.len(), (how, how), row.whole());
+    }
+}
+
+fn each_stream(rt: &impl Abort, alloc: Global, row: &Row<'_>) {
+    run_row(rt, alloc, row);
+    ends_anywhere(rt, alloc, row);
+    if row.end == "EndOfInput" {
+        run_part(
+            rt,
+            alloc,
+            row,
+            row.input.len(),
+            (WHOLE, ONE_BYTE),
+            row.whole(),
+        );
+        any_read_fails(rt, alloc, row);
+        any_write_fails(rt, alloc, row);
+        a_write_fails(rt, alloc, row, 0, calls_of(0, 0));
+        calls_are_interrupted(rt, alloc, row);
     }
 }
 
 #[test]
-fn two_commands(rt: HostRuntime) {
-    let alloc = rt.alloc();
-    let row = first_row(&rt, alloc, ("two commands", SESSION));
-    all_streams(&rt, alloc, &row);
-}
-
-fn all_streams(rt: &impl Abort, alloc: Global, row: &Row<'_>) {
-    bytes_one_by_one(rt, alloc, row);
-    input_cut_anywhere(rt, alloc, row);
-    a_read_fails(rt, alloc, row);
-    a_write_fails(rt, alloc, row);
-    a_write_takes_nothing(rt, alloc, row);
-    an_interrupted_call_is_made_again(rt, alloc, row);
+fn streams(rt: HostRuntime) {
+    for text in ROWS.split("\n\n") {
+        each_stream(
+            &rt,
+            rt.alloc(),
+            &Row::read(&rt, rt.alloc(), "streams", text),
+        );
+    }
 }

@@ -1,6 +1,6 @@
 //! Several writes that wait for their data at once, and other commands between: answers come in the order in which commands
 //! are completed (RFC 7143, 4.2.2 and 11.8).
-const ROWS: &str = r"
+pub const ROWS: &str = r"
 # Of two writes of two blocks the second is complete first; a read is answered between.
 two writes, their Data-Out interleaved, and a read
 answer good pattern 512
@@ -72,12 +72,8 @@ an immediate command, while a numbered write waits
 asked 0 Ok(TestUnitReady)
 ";
 
-pub fn rows() -> &'static str {
-    ROWS
-}
-
 // 32 numbered writes that wait, of which the window is full, and what comes behind them.
-const BEHIND_32: &str = r"
+pub const BEHIND_32: &str = r"
 behind 32 numbered writes that wait
 # CmdSN and tag count from 1 on.
 > WRITE 19:01 27:01
@@ -170,7 +166,3 @@ asked 0 Ok(Write { lba: 5, blocks: 1, fua: false })
 asked 0 Ok(TestUnitReady)
 given pattern 1024
 ";
-
-pub fn behind_32() -> &'static str {
-    BEHIND_32
-}

@@ -1,5 +1,5 @@
 //! Text Requests and discovery sessions (RFC 7143, 11.10, 11.11 and 4.3).
-const ROWS: &str = r#"
+pub const ROWS: &str = r#"
 SendTargets=All in a discovery session
 discovery
 > TEXT_REQUEST 6:0010 "SendTargets=All\0"
@@ -63,12 +63,8 @@ portals 3
 < TEXT_RESPONSE 6:2018 52*TOLD_OF_FOUR
 "#;
 
-pub fn rows() -> &'static str {
-    ROWS
-}
-
 // Each is rejected with its header segment, and ends the session.
-const REFUSED: &str = r#"
+pub const REFUSED: &str = r#"
 without F
 > TEXT_REQUEST 1:00 6:0000
 > TEXT_REQUEST 24:00000002
@@ -98,6 +94,18 @@ a pair without =
 > TEXT_REQUEST 6:000C "SendTargets\0"
 > TEXT_REQUEST 24:00000002
 < REJECT 2:04 rejected TEXT_REQUEST 6:000C
+end Protocol
+
+an empty key
+> TEXT_REQUEST 6:0005 "=All\0"
+> TEXT_REQUEST 24:00000002
+< REJECT 2:04 rejected TEXT_REQUEST 6:0005
+end Protocol
+
+an empty pair
+> TEXT_REQUEST 6:0001 "\0"
+> TEXT_REQUEST 24:00000002
+< REJECT 2:04 rejected TEXT_REQUEST 6:0001
 end Protocol
 
 a command in a discovery session
@@ -131,7 +139,3 @@ portals 3
 < REJECT 2:04 rejected TEXT_REQUEST 6:02A4
 end Protocol
 "#;
-
-pub fn refused() -> &'static str {
-    REFUSED
-}

@@ -1,5 +1,5 @@
 //! The command window (RFC 7143, 4.2.2.1).
-const ROWS: &str = r"
+pub const ROWS: &str = r"
 TEST UNIT READY
 > TEST_UNIT_READY
 < GOOD
@@ -51,7 +51,3 @@ an immediate command takes no number
 asked 0 Ok(TestUnitReady)
 asked 0 Ok(TestUnitReady)
 ";
-
-pub fn rows() -> &'static str {
-    ROWS
-}

@@ -1,15 +1,7 @@
 //! Bytes as digits.
 use crate::rows::RowError;
-use std::alloc::Global;
 
-/// The bytes of these digits in hexadecimal, two a byte, with blanks and new lines between.
-pub fn bytes_of_digits(alloc: Global, digits: &str) -> Result<Vec<u8>, RowError> {
-    let mut bytes = Vec::new(alloc);
-    put_digits(&mut bytes, digits)?;
-    Ok(bytes)
-}
-
-// Appends the bytes of these digits.
+// Appends the bytes of these digits in hexadecimal, two a byte, with blanks and new lines between.
 pub(crate) fn put_digits(bytes: &mut Vec<u8>, digits: &str) -> Result<(), RowError> {
     for word in digits.split_ascii_whitespace() {
         for pair in word.as_bytes().chunks(2) {

@@ -1,7 +1,7 @@
 //! Each key: values below, in and above its range, of a wrong form, and absent.
-use crate::negotiation::scripts::{answered, bytes, login_of_tag, run};
-use crate::run::{put, spells};
-use login::{Key, LoginEnd, in_force};
+use crate::row::Row;
+use crate::run::{run_row, spells};
+use login::{Key, in_force};
 use std::alloc::Global;
 use std::process::Abort;
 use std::test::*;
@@ -121,73 +121,67 @@ ErrorRecoveryLevel ErrorRecoveryLevel=No ErrorRecoveryLevel=Reject Number(0)
 ErrorRecoveryLevel InitiatorAlias=a - Number(0)
 ";
 
-// In stage 0, before the offer.
-const BEGIN: &str =
-    "0>1; InitiatorName=iqn.2000-01.test:a|TargetName=iqn.2000-01.test:array|; Answer; TargetPortalGroupTag=1|";
-
-fn check(rt: &impl Abort, alloc: Global, line: &str) {
-    let request = pair(rt, alloc, word(line, 1));
-    check_answer(rt, alloc, line, &request);
-    check_value(rt, alloc, line, &request);
-}
+const TABLES: &[&str] = &[
+    LISTS_OF_WORDS,
+    BOOLEANS,
+    TEXTS_AND_UNKNOWN_KEYS,
+    LENGTHS,
+    NUMBERS,
+];
 
 // A word of a line, counted from 0.
 fn word(line: &str, at: usize) -> &str {
     line.split_ascii_whitespace().nth(at).unwrap_or("")
 }
 
-// A pair, and the zero byte behind it.
-fn pair(rt: &impl Abort, alloc: Global, text: &str) -> Vec<u8> {
-    let mut pair = bytes(rt, alloc, text);
-    put(rt, &mut pair, &[0]);
-    pair
-}
-
-// What the target says by itself in the first response of stage 1, and the answer behind it.
-fn response(rt: &impl Abort, alloc: Global, answer: &str) -> Vec<u8> {
-    let mut response = bytes(rt, alloc, "MaxRecvDataSegmentLength=65536|");
-    if answer != "-" {
-        put(rt, &mut response, &pair(rt, alloc, answer));
-    }
-    response
+// The row of a login that comes to stage 1 and makes the offer there. What the target says by itself takes 31 bytes.
+fn row_of(rt: &impl Abort, alloc: Global, line: &str) -> String {
+    let offer = word(line, 1);
+    let offered = offer.len().saturating_add(1);
+    let answer = match word(line, 2) {
+        "-" => "",
+        answer => answer,
+    };
+    let zero = if answer.is_empty() { "" } else { r"\0" };
+    let told = answer
+        .len()
+        .saturating_add(if answer.is_empty() { 31 } else { 32 });
+    format!(in alloc;
+        r#"{line}
+login 1
+> LOGIN 1:81 7:43 NAMES
+> LOGIN 7:{offered:02X} "{offer}\0"
+< LOGGED_IN 1:81 7:17 14:0000 "TargetPortalGroupTag=1\0"
+< LOGGED_IN 7:{told:02X} 24:00000002 "MaxRecvDataSegmentLength=65536\0{answer}{zero}"
+asked begin iqn.2000-01.test:a 400001370000 Normal
+"#
+    )
+    .expect(rt, "memory")
 }
 
 // The answer to the offer.
-fn check_answer(rt: &impl Abort, alloc: Global, line: &str, request: &[u8]) {
-    let mut login = login_of_tag(rt, alloc, 1);
-    run(rt, alloc, &mut login, BEGIN);
-    let (end, out) = answered(rt, alloc, &mut login, "1", request);
-    assert!(rt; end == LoginEnd::Answer, "{line}: {end:?}");
-    expect_response(rt, alloc, &out, line);
-}
-
-// The response of a line.
-fn expect_response(rt: &impl Abort, alloc: Global, out: &[u8], line: &str) {
-    let want = response(rt, alloc, word(line, 2));
-    assert!(rt; out == want.as_slice(), "{line}: another answer");
+fn check_answer(rt: &impl Abort, alloc: Global, line: &str) {
+    let text = row_of(rt, alloc, line);
+    run_row(rt, alloc, &Row::read(rt, alloc, "keys", &text));
 }
 
 // The value that is in force then.
-fn check_value(rt: &impl Abort, alloc: Global, line: &str, request: &[u8]) {
+fn check_value(rt: &impl Abort, alloc: Global, line: &str) {
     let key = Key::named(word(line, 0).as_bytes()).expect(rt, line);
-    let found = in_force(request, key);
+    let offer = format!(in alloc; "{}\0", word(line, 1)).expect(rt, "memory");
+    let found = in_force(offer.as_bytes(), key);
     assert!(rt;
         spells(rt, alloc, &found, word(line, 3)),
         "{line}: {found:?}"
     );
 }
 
-fn check_each(rt: &impl Abort, alloc: Global, rows: &str) {
-    for line in rows.trim().split('\n') {
-        check(rt, alloc, line);
-    }
-}
-
 #[test]
 fn each_key(rt: HostRuntime) {
-    check_each(&rt, rt.alloc(), LISTS_OF_WORDS);
-    check_each(&rt, rt.alloc(), BOOLEANS);
-    check_each(&rt, rt.alloc(), TEXTS_AND_UNKNOWN_KEYS);
-    check_each(&rt, rt.alloc(), LENGTHS);
-    check_each(&rt, rt.alloc(), NUMBERS);
+    for rows in TABLES {
+        for line in rows.trim().split('\n') {
+            check_answer(&rt, rt.alloc(), line);
+            check_value(&rt, rt.alloc(), line);
+        }
+    }
 }

@@ -1,7 +1,5 @@
 //! What an initiator asks first, from bytes to bytes.
-use crate::once::run::run;
-
-const ROWS: &str = r#"
+pub const ROWS: &str = r#"
 # The answer's 36 bytes are fewer than the 255 that were expected.
 INQUIRY
 > TEST_UNIT_READY 1:C1 20:000000FF 32:12000000FF
@@ -42,8 +40,3 @@ MODE SENSE (6) of all pages
 < DATA_IN 5:000024 2300100008120400000000000000000000000000000000000A0A00100000000000000000
 < GOOD 36:00000001
 "#;
-
-#[test]
-fn what_an_initiator_asks_first(rt: HostRuntime) {
-    run(&rt, rt.alloc(), ROWS);
-}

@@ -1,7 +1,5 @@
 //! The medium commands, from bytes to bytes and blocks.
-use crate::once::run::run;
-
-const ROWS: &str = r#"
+pub const ROWS: &str = r#"
 # WRITE (10) of four blocks at LBA 10 with 2048 bytes: one run, behind two blocks of which the device fails.
 WRITE (10) that fails behind two blocks
 lands 2
@@ -93,8 +91,3 @@ all-blocks
 < DATA_IN 5:00000A 00000000000007FF0000
 < GOOD 36:00000001
 "#;
-
-#[test]
-fn medium_commands(rt: HostRuntime) {
-    run(&rt, rt.alloc(), ROWS);
-}

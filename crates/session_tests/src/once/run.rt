@@ -1,23 +1,20 @@
-//! The runner of the tables of one session over one unit.
-use crate::once::row::{Fuse, Row};
+//! The runner of the tables of one session over one unit, and their test.
+use crate::once::{examples, first_questions, medium};
+use crate::row::Row;
+use crate::run::{Table, portal};
 use block_file::{Blocks, DeviceFailed, FusedBlocks, MemBlocks};
 use session::{End, Identity, Watched};
 use std::alloc::Global;
-use std::net::{Ipv4Addr, SocketAddrV4};
 use std::process::Abort;
+use std::test::*;
 use targets::once::once;
 use test_streams::{Calls, FakeReader, FakeWriter, ONE_BYTE, WHOLE};
 
 /// How many blocks the unit has.
 const BLOCKS: u32 = 2048;
 
-/// How many it has where an input is cut at each place: more than these rows write, in less time.
-pub const FEW_BLOCKS: u32 = 16;
-
-// The one portal of a controller, at this port of the host itself.
-fn portal(port: u16) -> [SocketAddrV4; 1] {
-    [SocketAddrV4::new(Ipv4Addr::new(127, 0, 0, 1), port)]
-}
+/// How many it has where an input is cut or ends at each place: more than these rows write, in less time.
+const FEW_BLOCKS: u32 = 16;
 
 // What a device holds at a place, where it can be read.
 fn block_at<B: Blocks>(device: &mut B, index: u32) -> Option<[u8; 512]> {
@@ -52,83 +49,86 @@ fn keeps<B: Blocks>(device: &mut B, count: u32, written: &[(u32, u8)]) -> bool {
     device.count() == count
 }
 
-/// How a row is served: its input, which comes in these pieces, and the output that is to come, over so many blocks.
-#[derive(Clone, Copy)]
-pub struct Served<'a> {
-    pub input: &'a [u8],
-    pub reads: Calls,
-    pub output: &'a [u8],
-    pub blocks: u32,
-    /// The blocks that are written then, and how all bytes of each are.
-    pub written: &'a [(u32, u8)],
-}
-
-/// Serves this over blocks of zeros that fail as the row says, and compares.
-pub fn serve(rt: &impl Abort, alloc: Global, row: &Row<'_>, served: Served<'_>) {
+// Serves the first bytes of a row's input, read so, over so many blocks of zeros that fail as it says, and compares.
+fn serve(rt: &impl Abort, alloc: Global, row: &Row<'_>, came: usize, reads: Calls, blocks: u32) {
     let mut sink = Watched::new(FakeWriter::new(alloc, WHOLE));
-    let (end, mut blocks) = serve_to(rt, alloc, &mut sink, row, &served);
-    let kept = keeps(&mut blocks, served.blocks, served.written);
+    let front = row.input.get(..came).expect(rt, row.name);
+    let source = FakeReader::new(front, reads);
+    let (end, mut device) = serve_to(rt, alloc, source, &mut sink, row, blocks);
+    let written = row.written.get(..row.at(came).blocks);
+    let kept = keeps(&mut device, blocks, written.expect(rt, row.name));
     let sent = sink.into_inner().into_bytes();
-    expect_end(rt, row.name, &served, end, &sent, kept);
+    let what = differs(row, came, end, &sent, kept);
+    assert!(rt; what.is_none(), "{}: {came}, {reads:?}: {what:?}", row.name);
 }
 
-// Serves this to this sink: how the session ended, and the blocks then.
+// Serves a row to this sink: how the session ended, and the blocks then.
 fn serve_to(
     rt: &impl Abort,
     alloc: Global,
+    source: FakeReader<'_>,
     sink: &mut Watched<FakeWriter>,
     row: &Row<'_>,
-    served: &Served<'_>,
+    count: u32,
 ) -> (End, MemBlocks) {
-    assert!(rt; served.blocks > 0, "a unit of one block at least");
-    let blocks = MemBlocks::new(alloc, served.blocks).expect(rt, "memory");
+    assert!(rt; count > 0, "a unit of one block at least");
+    let blocks = MemBlocks::new(alloc, count).expect(rt, "memory");
     let fused = FusedBlocks::inside(blocks, row.fuse.calls, row.fuse.lands);
-    let mut source = Watched::new(FakeReader::new(served.input, served.reads));
+    let mut source = Watched::new(source);
     let me = Identity {
         target_name: b"iqn.2000-01.test:array",
-        first: &portal(3260),
-        second: &portal(3264),
+        first: &[portal(3260)],
+        second: &[portal(3264)],
     };
     let ended = once(alloc, &mut source, sink, fused, &me);
     let (end, device, _registrations) = ended.expect(rt, row.name);
     (end, device.into_inner())
 }
 
-// The input ended, and the output was sent; the blocks are kept.
-fn expect_end(rt: &impl Abort, name: &str, served: &Served<'_>, end: End, sent: &[u8], kept: bool) {
-    assert!(rt;
-        end == End::EndOfInput && sent == served.output && kept,
-        "{name}, {:?}, {} bytes: {end:?}, {sent:?}, {kept}",
-        served.reads,
-        served.input.len()
-    );
-}
-
-// Serves all of a row in these pieces, and compares.
-fn compare(rt: &impl Abort, alloc: Global, row: &Row<'_>, reads: Calls, blocks: u32) {
-    let served = Served {
-        input: &row.input,
-        reads,
-        output: &row.output,
-        blocks,
-        written: &row.written,
-    };
-    serve(rt, alloc, row, served);
-}
-
-/// Serves each row with its input whole, in single bytes, and cut after each byte, and compares.
-pub fn run(rt: &impl Abort, alloc: Global, table: &str) {
-    for text in table.split("\n\n") {
-        run_row(rt, alloc, &Row::new(rt, alloc, text));
+// What is otherwise than a row says where so many of its bytes came, and the input ended.
+fn differs(row: &Row<'_>, came: usize, end: End, sent: &[u8], kept: bool) -> Option<&'static str> {
+    if end != End::EndOfInput {
+        return Some("how it ended");
+    }
+    if !kept {
+        return Some("the blocks");
+    }
+    match row.output.get(..row.at(came).written) {
+        Some(output) if sent == output => None,
+        _ => Some("what it wrote"),
     }
 }
 
+// Serves a row with its input whole, in single bytes, and, as it says, cut in two after each byte, and ended there.
 fn run_row(rt: &impl Abort, alloc: Global, row: &Row<'_>) {
-    compare(rt, alloc, row, WHOLE, BLOCKS);
-    compare(rt, alloc, row, ONE_BYTE, BLOCKS);
-    if !row.all_blocks {
-        for first in 1..row.input.len() {
-            compare(rt, alloc, row, Calls { first, ..WHOLE }, FEW_BLOCKS);
+    let all = row.input.len();
+    serve(rt, alloc, row, all, WHOLE, BLOCKS);
+    serve(rt, alloc, row, all, ONE_BYTE, BLOCKS);
+    for place in 0..all {
+        if !row.all_blocks && place > 0 {
+            let reads = Calls {
+                first: place,
+                ..WHOLE
+            };
+            serve(rt, alloc, row, all, reads, FEW_BLOCKS);
+        }
+        if row.ends {
+            serve(rt, alloc, row, place, WHOLE, FEW_BLOCKS);
+        }
+    }
+}
+
+const TABLES: &[Table] = &[
+    ("worked examples of a session", examples::ROWS),
+    ("what an initiator asks first", first_questions::ROWS),
+    ("medium commands", medium::ROWS),
+];
+
+#[test]
+fn sessions_of_one_unit(rt: HostRuntime) {
+    for (table, rows) in TABLES {
+        for text in rows.split("\n\n") {
+            run_row(&rt, rt.alloc(), &Row::read(&rt, rt.alloc(), table, text));
         }
     }
 }

@@ -1,8 +1,7 @@
 //! The faults, in their order.
 use crate::pdus::rows::{bytes_of, is_waited_for};
 use crate::run::spells;
-use iscsi_pdu::PduFault::{BadFlags, BadReserved, HasAhs, NonZeroPad, TooLong, UnknownOpcode};
-use iscsi_pdu::{PduFault, decode};
+use iscsi_pdu::decode;
 use std::alloc::Global;
 use std::process::Abort;
 use std::test::*;
@@ -72,22 +71,5 @@ fn each_fault_is_found_first_and_in_time(rt: HostRuntime) {
     let alloc = rt.alloc();
     for row in ROWS.trim().split('\n') {
         check(&rt, alloc, row);
-    }
-}
-
-const TEXTS: [(PduFault, &str); 6] = [
-    (UnknownOpcode, "unknown opcode"),
-    (HasAhs, "additional header segment"),
-    (TooLong, "data segment above 65536 bytes"),
-    (BadFlags, "bad flags"),
-    (BadReserved, "reserved field that is not zero"),
-    (NonZeroPad, "padding that is not zero"),
-];
-
-#[test]
-fn texts_of_faults(rt: HostRuntime) {
-    for (fault, text) in &TEXTS {
-        let shown = format!(in rt.alloc(); "{fault}").expect(&rt, "memory");
-        assert_eq!(rt; shown.as_str(), *text);
     }
 }

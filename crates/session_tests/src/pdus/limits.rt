@@ -1,9 +1,6 @@
 //! PDUs without data, the longest PDU, and bytes that come one by one.
 use crate::pdus::rows::{Figure, NUMBERS, bytes_of, decoded_otherwise, is_waited_for, put_pdu};
-use iscsi_pdu::{
-    DataIn, Header, LONGEST_PDU, MAX_DATA_SEGMENT_LENGTH, TargetHeader, decode, one_front, one_pdu,
-    one_spelling, spelled,
-};
+use iscsi_pdu::{DataIn, Header, LONGEST_PDU, MAX_DATA_SEGMENT_LENGTH, TargetHeader, decode};
 use std::test::*;
 
 // TEST UNIT READY to LUN 0 with the tag 1, CmdSN 1 and ExpStatSN 1.
@@ -42,12 +39,4 @@ fn the_longest_pdu(rt: HostRuntime) {
     if let Some(what) = decoded_otherwise(&out, &LAST_DATA_IN, &data, LONGEST_PDU) {
         panic!(rt; "{what} is decoded");
     }
-}
-
-#[test]
-fn the_laws_can_be_called() {
-    one_front();
-    one_pdu();
-    spelled();
-    one_spelling();
 }
