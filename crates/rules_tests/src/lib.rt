@@ -1,9 +1,7 @@
-//! Tests of what stands below a unit, over public calls: commands and sense, access states, what a unit says of itself, blocks, and
+//! Tests of what stands below a unit, over public calls: commands and sense, access states, what a unit says of itself, and
 //! registrations.
 #![tactic(auto)]
 
-#[cfg(test)]
-mod blocks;
 #[cfg(test)]
 mod identification;
 #[cfg(test)]
