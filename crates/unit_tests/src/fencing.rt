@@ -63,6 +63,18 @@ nobody holds it; send 1 5E 01 0000000000 00FF;; GOOD 00 00 00 04 00 00 00 00
 the third writes; send 2 2A 00 00000001 00 0001; 512*5A; GOOD
 written 1 5A
 
+cleared
+the first registers; send 0 5F 00 00 0000 00000018; 15*00 11 8*00; GOOD
+the second registers; send 1 5F 00 00 0000 00000018; 15*00 22 8*00; GOOD
+the first reserves; send 0 5F 01 05 0000 00000018; 7*00 11 16*00; GOOD
+the second clears; send 1 5F 03 00 0000 00000018; 7*00 22 16*00; GOOD
+the second hears nothing; send 1 00;; GOOD
+the first hears of it; send 0 00;; CHECK 06 2A 03
+no key; send 0 5E 00 0000000000 00FF;; GOOD 00 00 00 03 00 00 00 00
+no reservation; send 0 5E 01 0000000000 00FF;; GOOD 00 00 00 03 00 00 00 00
+the third writes; send 2 2A 00 00000001 00 0001; 512*5A; GOOD
+written 1 5A
+
 fields and nexuses
 what a fresh unit can; send 0 5E 02 0000000000 00FF;; GOOD 00 08 05 80 EA 01 00 00
 no key; send 0 5E 00 0000000000 00FF;; GOOD 8*00

@@ -67,7 +67,7 @@ pub(crate) use asked;
 pub(crate) use table;
 
 /// A CDB of these digits; the bytes behind its end are EEh.
-fn cdb(rt: &impl Abort, digits: &str) -> [u8; 16] {
+pub fn cdb(rt: &impl Abort, digits: &str) -> [u8; 16] {
     let mut cdb = [0xEE; 16];
     let mut at = 0;
     let mut high = None;
