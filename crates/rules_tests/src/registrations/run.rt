@@ -105,7 +105,7 @@ fn is_met(rt: &impl Abort, alloc: Global, registry: &mut Registry, line: &str) -
     }
 }
 
-// Does the request of a line: whether it ends so.
+// Does the request of a line, which ends so. Where it does not, it tells what came of it.
 fn ends_so(rt: &impl Abort, alloc: Global, registry: &mut Registry, line: &str) -> bool {
     let (asked, want) = line.split_once("; ").expect(rt, line);
     let found = registry.copy().expect(rt, "memory");
@@ -115,7 +115,8 @@ fn ends_so(rt: &impl Abort, alloc: Global, registry: &mut Registry, line: &str) 
     put_told(rt, alloc, &mut text, &found, &end);
     put_keys(rt, &mut text, registry);
     put_held(rt, &mut text, registry);
-    text.as_str() == want
+    assert!(rt; text.as_str() == want, "{line}: {text}");
+    true
 }
 
 fn out(rt: &impl Abort, alloc: Global, registry: &mut Registry, asked: &str) -> PrEnd {
