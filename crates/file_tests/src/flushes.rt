@@ -160,7 +160,8 @@ fn run(
     beside: &Flushes<Flushed>,
     script: &str,
 ) -> Result<(), Fail> {
-    for row in script.split('\n').skip(1) {
+    let (_, rows) = script.split_once('\n').unwrap_or((script, ""));
+    for row in rows.split('\n') {
         if !ends_so(rt, device, beside, row) {
             return Err(Fail::new(format_args!("{script}: {row}")));
         }
@@ -170,10 +171,10 @@ fn run(
 
 // Runs a script over a device of that file, and the flushes beside it.
 fn run_script(rt: &impl Wait, alloc: Global, script: &str) -> Result<(), Fail> {
-    let mut parts = script.split('\n').next().unwrap_or("").split("; ").skip(1);
-    let fails_at = parts.next().unwrap_or("").parse().ok();
+    let (head, _) = script.split_once('\n').unwrap_or((script, ""));
+    let fails_at = head.split("; ").nth(1).unwrap_or("").parse().ok();
     let mut device = device_of(Flushed::new(fails_at))?;
-    let flushes = beside(alloc, &mut device, parts.next().unwrap_or(""))?;
+    let flushes = beside(alloc, &mut device, head.split("; ").nth(2).unwrap_or(""))?;
     run(rt, &mut device, &flushes, script)
 }
 
