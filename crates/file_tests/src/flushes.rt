@@ -85,33 +85,72 @@ impl LastingFile for Flushed {
     }
 }
 
-/// What is done to a device of that file, and how it ends.
-#[derive(Clone, Copy)]
-enum Call {
-    /// A flush of the device is done, or not.
-    Flush(bool),
-    /// One beside it ends so.
-    Beside(Result<(), FlushFault>),
-    /// A block of this byte is written.
-    Write(u8),
-    /// It is opened anew. The flushes of the new handle would all be done.
-    Open,
-}
+/// Scripts. Each begins with its name, which flush of the device fails, counted from 0, and of each of two handles beside it, if
+/// there are handles. Then come flushes of the device and beside it, and how they end. The flushes of a handle that is opened anew
+/// would all be done.
+const SCRIPTS: &str = "no flush makes good one that failed; 1; no handle
+flush done
+flush failed
+flush failed
+flush failed
 
-/// What a call is to show, and the call.
-type Row = (&'static str, Call);
+opens, and no flush fails; never; no handle
+flush done
+open
+flush done
+open
+flush done
+
+nor does one behind an open; 0; no handle
+flush failed
+open
+flush failed
+open
+flush failed
+
+a flush beside the device that failed is told, by the first handle and by the second; never; 1
+flush done
+beside done
+write
+beside done
+write
+beside failed
+beside lost
+flush failed
+flush failed
+
+a flush of the device that failed is told beside it; 0; never
+flush failed
+beside lost
+beside lost
+
+without a handle no flush is done; never; no handle
+beside lost
+
+a flush beside the device is enough until a write ends; 0; never
+beside done
+flush done
+flush done
+write
+flush failed";
 
 fn ends_so(
     rt: &impl Wait,
     device: &mut FileBlocks<Flushed>,
     beside: &Flushes<Flushed>,
-    call: &Call,
+    row: &str,
 ) -> bool {
+    let (call, end) = row.split_once(' ').unwrap_or((row, ""));
     match call {
-        Call::Flush(is_done) => device.flush().is_ok() == *is_done,
-        Call::Beside(end) => beside.flush(rt) == *end,
-        Call::Write(byte) => writes(device, 1, &[*byte]),
-        Call::Open => device.renew(Flushed::new(None)).is_ok(),
+        "flush" => device.flush().is_ok() == (end == "done"),
+        "beside" => match beside.flush(rt) {
+            Ok(()) => end == "done",
+            Err(FlushFault::Failed(error)) => end == "failed" && error == FAILED,
+            Err(FlushFault::Lost) => end == "lost",
+        },
+        "write" => writes(device, 1, &[0x11]),
+        "open" => device.renew(Flushed::new(None)).is_ok(),
+        _ => false,
     }
 }
 
@@ -119,45 +158,36 @@ fn run(
     rt: &impl Wait,
     device: &mut FileBlocks<Flushed>,
     beside: &Flushes<Flushed>,
-    rows: &[Row],
+    script: &str,
 ) -> Result<(), Fail> {
-    want(device.count() == 4, "four blocks")?;
-    for (what, call) in rows {
-        want(ends_so(rt, device, beside, call), what)?;
+    let (_, rows) = script.split_once('\n').unwrap_or((script, ""));
+    for row in rows.split('\n') {
+        if !ends_so(rt, device, beside, row) {
+            return Err(Fail::new(format_args!("{script}: {row}")));
+        }
     }
     Ok(())
 }
 
-// A device of that file; the flushes beside it have no handle.
-fn run_alone(
-    rt: &impl Wait,
-    alloc: Global,
-    fails_at: Option<u32>,
-    rows: &[Row],
-) -> Result<(), Fail> {
+// Runs a script over a device of that file, and the flushes beside it.
+fn run_script(rt: &impl Wait, alloc: Global, script: &str) -> Result<(), Fail> {
+    let (head, _) = script.split_once('\n').unwrap_or((script, ""));
+    let fails_at = head.split("; ").nth(1).unwrap_or("").parse().ok();
     let mut device = device_of(Flushed::new(fails_at))?;
-    run(rt, &mut device, &Flushes::new(0, Vec::new(alloc)), rows)
+    let flushes = beside(alloc, &mut device, head.split("; ").nth(2).unwrap_or(""))?;
+    run(rt, &mut device, &flushes, script)
 }
 
-// A device of that file, and flushes beside it by two handles, of which each fails at this one of its flushes.
-fn run_beside(
-    rt: &impl Wait,
-    alloc: Global,
-    fails_at: Option<u32>,
-    beside: Option<u32>,
-    rows: &[Row],
-) -> Result<(), Fail> {
-    let mut device = device_of(Flushed::new(fails_at))?;
-    let flushes = shared(alloc, &mut device, beside)?;
-    run(rt, &mut device, &flushes, rows)
-}
-
-fn shared(
+fn beside(
     alloc: Global,
     device: &mut FileBlocks<Flushed>,
-    fails_at: Option<u32>,
+    handles: &str,
 ) -> Result<Arc<Flushes<Flushed>, Global>, Fail> {
-    let flushes = Arc::new(alloc, Flushes::new(0, two(alloc, fails_at)?))?;
+    if handles == "no handle" {
+        return Ok(Arc::new(alloc, Flushes::new(0, Vec::new(alloc)))?);
+    }
+    let handles = two(alloc, handles.parse().ok())?;
+    let flushes = Arc::new(alloc, Flushes::new(0, handles))?;
     device.share(Arc::try_clone(&flushes)?);
     Ok(flushes)
 }
@@ -171,83 +201,11 @@ fn two(alloc: Global, fails_at: Option<u32>) -> Result<Vec<Mutex<Flushed>>, Fail
 }
 
 #[test]
-fn no_flush_makes_good_one_that_failed(rt: HostRuntime) -> Result<(), Fail> {
-    let rows = [
-        ("the first flush", Call::Flush(true)),
-        ("the second flush", Call::Flush(false)),
-        ("the third flush", Call::Flush(false)),
-        ("the fourth flush", Call::Flush(false)),
-    ];
-    run_alone(&rt, rt.alloc(), Some(1), &rows)
-}
-
-#[test]
-fn nor_does_one_behind_an_open(rt: HostRuntime) -> Result<(), Fail> {
-    run_alone(&rt, rt.alloc(), None, &is_renewed(true))?;
-    run_alone(&rt, rt.alloc(), Some(0), &is_renewed(false))
-}
-
-fn is_renewed(is_done: bool) -> [Row; 5] {
-    [
-        ("the first flush", Call::Flush(is_done)),
-        ("an open", Call::Open),
-        ("a flush behind it", Call::Flush(is_done)),
-        ("a second open", Call::Open),
-        ("a flush behind that", Call::Flush(is_done)),
-    ]
-}
-
-// All other flushes would be done.
-#[test]
-fn a_flush_beside_the_device_that_failed_is_told(rt: HostRuntime) -> Result<(), Fail> {
-    let rows = [
-        ("a flush", Call::Flush(true)),
-        ("one by the first handle", Call::Beside(Ok(()))),
-        ("a write", Call::Write(0x11)),
-        ("one by the second", Call::Beside(Ok(()))),
-        ("a second write", Call::Write(0x12)),
-        (
-            "a second one by the first",
-            Call::Beside(Err(FlushFault::Failed(FAILED))),
-        ),
-        (
-            "one behind one that failed",
-            Call::Beside(Err(FlushFault::Lost)),
-        ),
-        ("a flush behind one that failed", Call::Flush(false)),
-        ("a second flush behind it", Call::Flush(false)),
-    ];
-    run_beside(&rt, rt.alloc(), None, Some(1), &rows)
-}
-
-// The flushes beside it would all be done.
-#[test]
-fn a_flush_of_the_device_that_failed_is_told_beside_it(rt: HostRuntime) -> Result<(), Fail> {
-    let rows = [
-        ("a flush of the device that fails", Call::Flush(false)),
-        ("a flush beside it", Call::Beside(Err(FlushFault::Lost))),
-        ("a second one", Call::Beside(Err(FlushFault::Lost))),
-    ];
-    run_beside(&rt, rt.alloc(), Some(0), None, &rows)
-}
-
-#[test]
-fn without_a_handle_no_flush_is_done(rt: HostRuntime) -> Result<(), Fail> {
-    let lost = Call::Beside(Err(FlushFault::Lost));
-    run_alone(&rt, rt.alloc(), None, &[("a flush without a handle", lost)])
-}
-
-// The flushes of the device itself would all fail.
-#[test]
-fn a_flush_beside_the_device_is_enough_until_a_write_ends(rt: HostRuntime) -> Result<(), Fail> {
-    let rows = [
-        ("a flush beside it", Call::Beside(Ok(()))),
-        ("a flush behind that", Call::Flush(true)),
-        ("a second flush behind that", Call::Flush(true)),
-        ("a write", Call::Write(0x11)),
-        ("a flush behind a write", Call::Flush(false)),
-    ];
-    run_beside(&rt, rt.alloc(), Some(0), None, &rows)
+fn each_flush_ends_so(rt: HostRuntime) -> Result<(), Fail> {
+    for script in SCRIPTS.split("\n\n") {
+        run_script(&rt, rt.alloc(), script)?;
+    }
+    Ok(())
 }
 
 // The system cannot flush the null device, and says so; so a flush is one call of the system.

@@ -17,5 +17,3 @@ mod memory;
 mod preparers;
 #[cfg(test)]
 mod registrations;
-#[cfg(test)]
-mod units;

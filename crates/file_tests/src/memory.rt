@@ -1,5 +1,5 @@
 //! A file in memory, which claims what it holds.
-ghost use Rattle.std.specs.Prelude.{◌≡◌, ◌⊎◌, ◌+◌, ◌≤◌, length, true, refl, replicate, IfOk, IfSome, IfNone};
+ghost use Rattle.std.specs.Prelude.{◌≡◌, ◌⊎◌, ◌+◌, ◌≤◌, length, true, refl, replicate, IsTrue, IfOk, IfSome, IfNone};
 ghost use Rattle.std.proofs.Common.{inl};
 ghost use Rattle.block_file.specs.Cut.{run_of};
 ghost use Rattle.block_file.specs.Disk.{block_at};
@@ -106,13 +106,19 @@ fn lay(bytes: &mut Vec<u8>, from: usize, part: &[u8])
     bytes[from..from + part.len()].copy_from_slice(part);
 }
 
-/// The device of a file of so many zero blocks.
-pub fn device(alloc: Global, blocks: usize) -> Result<FileBlocks<MemFile>, Fail> {
+// The device of a file of so many zero blocks.
+fn device(alloc: Global, blocks: usize) -> Result<FileBlocks<MemFile>, Fail> {
     device_of(MemFile::new(alloc, blocks.saturating_mul(512))?)
 }
 
+/// What its contracts say of the blocks and of a crash is said of this one.
+fn it_claims()
+    ensures { IsTrue (⟦<FileBlocks<MemFile> as Blocks>⟧.claims) }
+{}
+
 #[test]
 fn blocks_lie_at_their_places(rt: HostRuntime) -> Result<(), Fail> {
+    it_claims();
     let mut blocks = device(rt.alloc(), 4)?;
     write_and_read(&mut blocks)?;
     lie_in_turn(blocks.into_file().bytes())

@@ -1,14 +1,9 @@
-//! Tests of what stands below a unit, over public calls: commands and sense, access states, what a unit says of itself, blocks, and
-//! registrations.
+//! Tests of what stands below a unit, over public calls: what CDBs ask for, registrations, and calls that may want memory.
 #![tactic(auto)]
 
 #[cfg(test)]
-mod blocks;
-#[cfg(test)]
-mod identification;
+mod ample;
 #[cfg(test)]
 mod registrations;
 #[cfg(test)]
 mod scsi;
-#[cfg(test)]
-mod states;

@@ -4,8 +4,6 @@ mod accesses;
 mod actions;
 mod data_bytes;
 mod every_port;
-mod full;
-mod model;
 mod row;
 mod run;
 mod scripts;

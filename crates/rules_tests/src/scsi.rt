@@ -1,6 +1,5 @@
-//! Tests of SCSI commands, status, sense and names, over public calls.
+//! What CDBs ask for.
 
-mod cdbs;
+pub mod cdbs;
 mod commands;
 mod faults;
-mod values;

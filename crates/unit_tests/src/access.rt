@@ -75,6 +75,24 @@ two owners; send 0 A4 0A 00000000 0000000C; 00 00 00 00 00 00 00 01 00 00 00 02;
 an unknown group; send 0 A4 0A 00000000 00000008; 00 00 00 00 00 00 00 03; CHECK 05 26 00
 a group twice; send 0 A4 0A 00000000 0000000C; 00 00 00 00 02 00 00 02 02 00 00 02; CHECK 05 26 00
 another state; send 0 A4 0A 00000000 00000008; 00 00 00 00 0E 00 00 02; CHECK 05 26 00
+state 4; send 0 A4 0A 00000000 00000008; 00 00 00 00 04 00 00 02; CHECK 05 26 00
+state 4 behind a good one; send 0 A4 0A 00000000 0000000C; 00 00 00 00 00 00 00 01 04 00 00 02; CHECK 05 26 00
+neither group an owner; send 0 A4 0A 00000000 0000000C; 00 00 00 00 02 00 00 01 03 00 00 02; CHECK 05 26 00
+a group twice, with two states; send 0 A4 0A 00000000 0000000C; 00 00 00 00 02 00 00 02 03 00 00 02; CHECK 05 26 00
+group 0; send 0 A4 0A 00000000 00000008; 00 00 00 00 02 00 00 00; CHECK 05 26 00
+group 3 behind group 2; send 0 A4 0A 00000000 0000000C; 00 00 00 00 02 00 00 02 02 00 00 03; CHECK 05 26 00
+group 0102h; send 0 A4 0A 00000000 00000008; 00 00 00 00 02 00 01 02; CHECK 05 26 00
+three descriptors; send 0 A4 0A 00000000 00000010; 00 00 00 00 00 00 00 01 01 00 00 02 01 00 00 02; CHECK 05 26 00
+260 bytes; send 0 A4 0A 00000000 00000104; 260*00; CHECK 05 26 00
+1 byte; send 0 A4 0A 00000000 00000001; 00; CHECK 05 1A 00
+3 bytes; send 0 A4 0A 00000000 00000003; 3*00; CHECK 05 1A 00
+5 bytes; send 0 A4 0A 00000000 00000005; 5*00; CHECK 05 1A 00
+9 bytes; send 0 A4 0A 00000000 00000009; 9*00; CHECK 05 1A 00
+262 bytes; send 0 A4 0A 00000000 00000106; 262*00; CHECK 05 1A 00
+state 4 by a move; move; 00 00 00 00 04 00 00 02; BAD-LIST
+two owners by a move; move; 00 00 00 00 00 00 00 01 00 00 00 02; BAD-LIST
+260 bytes by a move; move; 260*00; BAD-LIST
+264 bytes by a move; move; 264*00; BAD-LENGTH
 the states are as they were; send 0 A3 0A 00000000 000000FF;; GOOD 00 00 00 18 80 0F 00 01 00 00 00 01 00 00 00 01 01 0F 00 02 00 00 00
   01 00 00 00 02
 the second hears nothing; forward 1 00;; GOOD
@@ -82,6 +100,30 @@ the first 4 bytes; send 0 A3 0A 00000000 00000004;; GOOD 00 00 00 18
 another format; send 0 A3 2A 00000000 000000FF;; CHECK 05 24 00
 the first writes; send 0 2A 00 00000001 00 0001; 512*5A; GOOD
 written 1 5A
+
+# What stays keeps its status code.
+lists that are taken
+reserved bytes; send 0 A4 0A 00000000 00000004; 4*FF; GOOD
+group 1 as it is; send 0 A4 0A 00000000 00000008; 00 00 00 00 00 00 00 01; GOOD
+both as they are; send 0 A4 0A 00000000 0000000C; 00 00 00 00 00 00 00 01 01 00 00 02; GOOD
+the second hears nothing; forward 1 00;; GOOD
+group 2 in standby, with reserved bits; send 0 A4 0A 00000000 00000008; FF FF FF FF F2 FF 00 02; GOOD
+the states; send 0 A3 0A 00000000 000000FF;; GOOD 00 00 00 18 80 0F 00 01 00 00 00 01 00 00 00 01 02 0F 00 02 00 01 00 01 00 00 00 02
+the same by a move; move; 00 00 00 00 02 00 00 02; NEITHER-CHANGES
+the owner beside it; send 0 A4 0A 00000000 00000008; 00 00 00 00 00 00 00 01; GOOD
+the states; send 0 A3 0A 00000000 000000FF;; GOOD 00 00 00 18 80 0F 00 01 00 00 00 01 00 00 00 01 02 0F 00 02 00 01 00 01 00 00 00 02
+group 2 takes over by a move; move; 00 00 00 00 00 00 00 02; BOTH-CHANGE 2
+the first hears of it; forward 0 00;; CHECK 06 2A 06
+the states; forward 0 A3 0A 00000000 000000FF;; GOOD 00 00 00 18 81 0F 00 01 00 02 00 01 00 00 00 01 00 0F 00 02 00 02 00 01 00 00 00 02
+
+a group beside the owner
+group 2 unavailable; send 0 A4 0A 00000000 0000000C; 00 00 00 00 00 00 00 01 03 00 00 02; GOOD
+the states; send 0 A3 0A 00000000 000000FF;; GOOD 00 00 00 18 80 0F 00 01 00 00 00 01 00 00 00 01 03 0F 00 02 00 01 00 01 00 00 00 02
+group 1 unavailable, named first; send 0 A4 0A 00000000 0000000C; 00 00 00 00 03 00 00 01 00 00 00 02; GOOD
+the states; forward 0 A3 0A 00000000 000000FF;; GOOD 00 00 00 18 83 0F 00 01 00 01 00 01 00 00 00 01 00 0F 00 02 00 01 00 01 00 00 00 02
+the owner again; forward 0 A4 0A 00000000 00000008; 00 00 00 00 00 00 00 01; GOOD
+group 1 unavailable, named last; send 0 A4 0A 00000000 0000000C; 00 00 00 00 00 00 00 02 03 00 00 01; GOOD
+the states; forward 0 A3 0A 00000000 000000FF;; GOOD 00 00 00 18 83 0F 00 01 00 01 00 01 00 00 00 01 00 0F 00 02 00 01 00 01 00 00 00 02
 
 # To a reservation a SET TARGET PORT GROUPS is a write.
 a reservation
@@ -132,7 +174,11 @@ the fourth came behind it; forward 3 00;; CHECK 06 29 00
 the states; forward 0 A3 0A 00000000 000000FF;; GOOD 00 00 00 18 83 0F 00 01 00 02 00 01 00 00 00 01 00 0F 00 02 00 02 00 01 00 00 00 02
 the first is served no more; forward 0 00;; CHECK 70 00 02 00 00 00 00 0A 00 00 00 00 04 0C 00 00 00 00
 nor the fourth; forward 3 2A 00 00000001 00 0001; 512*11; CHECK 02 04 0C
-the first brings its group back; forward 0 A4 0A 00000000 00000008; 00 00 00 00 00 00 00 01; GOOD
+the same again; move; 00 00 00 00 00 00 00 02 03 00 00 01; NEITHER-CHANGES
+the states; forward 0 A3 0A 00000000 000000FF;; GOOD 00 00 00 18 83 0F 00 01 00 02 00 01 00 00 00 01 00 0F 00 02 00 02 00 01 00 00 00 02
+the first brings its group back beside the owner; forward 0 A4 0A 00000000 00000008; 00 00 00 00 01 00 00 01; GOOD
+the states; forward 0 A3 0A 00000000 000000FF;; GOOD 00 00 00 18 81 0F 00 01 00 01 00 01 00 00 00 01 00 0F 00 02 00 02 00 01 00 00 00 02
+the first makes it the owner; forward 0 A4 0A 00000000 00000008; 00 00 00 00 00 00 00 01; GOOD
 the states; send 0 A3 0A 00000000 000000FF;; GOOD 00 00 00 18 80 0F 00 01 00 01 00 01 00 00 00 01 01 0F 00 02 00 01 00 01 00 00 00 02
 the first writes; send 0 2A 00 00000001 00 0001; 512*5A; GOOD
 written 1 5A

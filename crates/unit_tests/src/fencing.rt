@@ -63,6 +63,18 @@ nobody holds it; send 1 5E 01 0000000000 00FF;; GOOD 00 00 00 04 00 00 00 00
 the third writes; send 2 2A 00 00000001 00 0001; 512*5A; GOOD
 written 1 5A
 
+cleared
+the first registers; send 0 5F 00 00 0000 00000018; 15*00 11 8*00; GOOD
+the second registers; send 1 5F 00 00 0000 00000018; 15*00 22 8*00; GOOD
+the first reserves; send 0 5F 01 05 0000 00000018; 7*00 11 16*00; GOOD
+the second clears; send 1 5F 03 00 0000 00000018; 7*00 22 16*00; GOOD
+the second hears nothing; send 1 00;; GOOD
+the first hears of it; send 0 00;; CHECK 06 2A 03
+no key; send 0 5E 00 0000000000 00FF;; GOOD 00 00 00 03 00 00 00 00
+no reservation; send 0 5E 01 0000000000 00FF;; GOOD 00 00 00 03 00 00 00 00
+the third writes; send 2 2A 00 00000001 00 0001; 512*5A; GOOD
+written 1 5A
+
 fields and nexuses
 what a fresh unit can; send 0 5E 02 0000000000 00FF;; GOOD 00 08 05 80 EA 01 00 00
 no key; send 0 5E 00 0000000000 00FF;; GOOD 8*00
@@ -129,6 +141,23 @@ the first preempts; send 0 5F 04 05 0000 00000018; 7*00 11 7*00 22 8*00; GOOD
 its key alone; send 0 5E 00 0000000000 00FF;; GOOD 00 00 00 41 00 00 00 08 7*00 11
 "#;
 
+/// Behind 62 sessions that are registered: both nexuses of a port have room, and both of one more have none. The first is registered
+/// by one of its own, so it has room.
+const ROOM: &str = r#"
+a port attaches; attach 62 1;; ATTACHED 186
+its power on; send 62 00;; CHECK 06 29 00
+it registers by every port; send 62 5F 00 00 0000 00000018; 15*00 33 4*00 04 3*00; GOOD
+63 changes, and 64 keys; send 0 5E 00 0000000000 0008;; GOOD 00 00 00 3F 00 00 02 00
+it leaves by every port; send 62 5F 00 00 0000 00000018; 7*00 33 12*00 04 3*00; GOOD
+it registers alone; send 62 5F 00 00 0000 00000018; 15*00 22 8*00; GOOD
+another port attaches; attach 63 1;; ATTACHED 192
+its power on; send 63 00;; CHECK 06 29 00
+it registers by every port; send 63 5F 00 00 0000 00000018; 15*00 33 4*00 04 3*00; CHECK 05 55 04
+63 keys; send 0 5E 00 0000000000 0008;; GOOD 00 00 00 41 00 00 01 F8
+the first by every port; send 0 5F 06 00 0000 00000018; 15*00 11 4*00 04 3*00; GOOD
+64 keys; send 0 5E 00 0000000000 0008;; GOOD 00 00 00 42 00 00 02 00
+"#;
+
 const HEARS: &str = r#"
 another hears of it; send N 00;; CHECK 06 2A 05
 "#;
@@ -144,4 +173,6 @@ fn who_is_fenced(rt: HostRuntime) {
         (HEARS, 1, 63),
     ];
     play(&rt, rt.alloc(), "64 registrants", &parts);
+    let parts = [(ONE_OF_11, 0, 1), (ONE_OF_22, 1, 62), (ROOM, 0, 1)];
+    play(&rt, rt.alloc(), "62 registrants", &parts);
 }

@@ -15,8 +15,8 @@
 //!
 //! - A request, in six parts: who asks, the action, its type, key and service action key (the keys in hexadecimal, here
 //!   and below), with `SPEC_I_PT`, `ALL_TG_PT` or `APTPL` behind them where it has that flag; how it ends, `Good`,
-//!   `Conflict` or `Illegal` with its additional sense code and qualifier; who is told what, and no other nexus is; the
-//!   generation behind it; the keys, in the order of the nexuses; the holder's key and the type, both 0 without a
+//!   `Conflict` or `Illegal` with its additional sense code and qualifier; who is told what, of all nexuses in their order;
+//!   the generation behind it; the keys, in the order of the nexuses; the holder's key and the type, both 0 without a
 //!   reservation, and the key 0 where all registrants hold.
 //! - `allows A r-o`: what this nexus may do: read, write, and what no reservation keeps out.
 //! - `reservation 24 BYTES`, `full-status 24 BYTES` or `capabilities 8 BYTES`: the data, where there is room for so many
@@ -25,11 +25,9 @@
 ghost use Rattle.std.specs.Prelude.{IfOk};
 ghost use Rattle.registrants.specs.Nexus.{IsPortName};
 
-use crate::registrations::row::{
-    A, A_ISID, A_LONG, A_TWO, B, B_TWO, C, D, Step, Want, Who, number_of, who_named,
-};
+use crate::registrations::row::{NAMES, Who, request_of, who_named, word};
 use reservations::{Access, PrEnd, Registry};
-use scsi_types::{NoMemory, PortName, UnitAttention};
+use scsi_types::{NoMemory, PortName};
 use std::alloc::Global;
 use std::process::Abort;
 use std::test::*;
@@ -43,15 +41,15 @@ fn named(alloc: Global, who: Who) -> Result<PortName, NoMemory>
     Ok(PortName::new(name, u64::from(who.1) * 0x1_0000))
 }
 
-/// The port of a nexus.
-pub fn port_of(rt: &impl Abort, alloc: Global, who: Who) -> PortName
+// The port of a nexus.
+fn port_of(rt: &impl Abort, alloc: Global, who: Who) -> PortName
     ensures { IsPortName result }
 {
     named(alloc, who).expect(rt, "memory")
 }
 
-/// A registry as it is at first.
-pub fn registry(rt: &impl Abort, alloc: Global) -> Registry {
+// A registry as it is at first.
+fn registry(rt: &impl Abort, alloc: Global) -> Registry {
     Registry::new(alloc).expect(rt, "memory")
 }
 
@@ -83,151 +81,103 @@ pub fn run_each(rt: &impl Abort, alloc: Global, set_up: &str, table: &str) {
 // Runs lines from where the registry stands.
 fn run_lines(rt: &impl Abort, alloc: Global, registry: &mut Registry, name: &str, lines: &[&str]) {
     for line in lines {
-        if let Some(what) = run_line(rt, alloc, registry, line) {
-            panic!(rt; "{name}: {line}: {what} differs");
-        }
+        assert!(rt; is_met(rt, alloc, registry, line), "{name}: {line}");
     }
 }
 
-// Runs a line: what differs then.
-fn run_line(
-    rt: &impl Abort,
-    alloc: Global,
-    registry: &mut Registry,
-    line: &str,
-) -> Option<&'static str> {
-    let (word, rest) = line.split_once(' ').unwrap_or((line, ""));
-    match word {
-        "allows" => unless(allows(rt, alloc, registry, rest), "what it may do"),
+// Runs a line: whether it is as it says.
+fn is_met(rt: &impl Abort, alloc: Global, registry: &mut Registry, line: &str) -> bool {
+    let (first, rest) = line.split_once(' ').unwrap_or((line, ""));
+    match first {
+        "allows" => allows(rt, alloc, registry, rest),
         "reservation" | "full-status" | "capabilities" => {
-            unless(shows(rt, alloc, registry, word, rest), "the data")
+            shows(rt, alloc, registry, first, rest)
         }
         "copied" => {
             *registry = registry.copy().expect(rt, "memory");
-            None
+            true
         }
         "lasted" => {
             *registry = lasted(rt, alloc, registry);
-            None
+            true
         }
-        _ => check(rt, alloc, registry, &Step::read(rt, alloc, line)),
+        _ => ends_so(rt, alloc, registry, line),
     }
 }
 
-fn unless(holds: bool, what: &'static str) -> Option<&'static str> {
-    if holds { None } else { Some(what) }
-}
-
-/// Does a request: what comes of it otherwise than the step says.
-pub fn check(
-    rt: &impl Abort,
-    alloc: Global,
-    registry: &mut Registry,
-    step: &Step,
-) -> Option<&'static str> {
-    let port = port_of(rt, alloc, step.by);
+// Does the request of a line, which ends so. Where it does not, it tells what came of it.
+fn ends_so(rt: &impl Abort, alloc: Global, registry: &mut Registry, line: &str) -> bool {
+    let (asked, want) = line.split_once("; ").expect(rt, line);
     let found = registry.copy().expect(rt, "memory");
-    let end = registry.out(&port, step.by.2, step.asked);
-    if !ends_so(&end, step.want) {
-        Some("how it ends")
-    } else if !tells(rt, alloc, &found, &end, &step.told) {
-        Some("who is told")
-    } else if !has_keys(rt, alloc, registry, step.generation, &step.keys) {
-        Some("READ KEYS")
-    } else if !has_held(rt, alloc, registry, step) {
-        Some("READ RESERVATION")
-    } else {
-        None
-    }
-}
-
-/// Whether a request ended so.
-pub fn ends_so(end: &PrEnd, want: Want) -> bool {
-    match end {
-        PrEnd::Good(_) => want == Want::Good,
-        PrEnd::Conflict => want == Want::Conflict,
-        PrEnd::Illegal(asc, ascq) => want == Want::Illegal(*asc, *ascq),
-        PrEnd::TableFull => want == Want::Full,
-    }
-}
-
-// Whether a request that found this registry tells these, and no other nexus of a script.
-fn tells(
-    rt: &impl Abort,
-    alloc: Global,
-    found: &Registry,
-    end: &PrEnd,
-    want: &[(Who, UnitAttention)],
-) -> bool {
-    for who in &[A, A_TWO, A_ISID, A_LONG, B, B_TWO, C, D] {
-        if told_to(rt, alloc, found, end, *who) != wanted(want, *who) {
-            return false;
-        }
-    }
+    let end = out(rt, alloc, registry, asked);
+    let mut text = String::new(alloc);
+    put_end(rt, &mut text, &end);
+    put_told(rt, alloc, &mut text, &found, &end);
+    put_keys(rt, &mut text, registry);
+    put_held(rt, &mut text, registry);
+    assert!(rt; text.as_str() == want, "{line}: {text}");
     true
 }
 
-/// What a request that found this registry tells a nexus.
-pub fn told_to(
-    rt: &impl Abort,
-    alloc: Global,
-    found: &Registry,
-    end: &PrEnd,
-    who: Who,
-) -> Option<UnitAttention> {
-    match end {
-        PrEnd::Good(telling) => found.told(telling, &port_of(rt, alloc, who), who.2),
-        PrEnd::Conflict | PrEnd::Illegal(..) | PrEnd::TableFull => None,
-    }
+fn out(rt: &impl Abort, alloc: Global, registry: &mut Registry, asked: &str) -> PrEnd {
+    let who = who_named(rt, word(asked, 0));
+    registry.out(&port_of(rt, alloc, who), who.2, request_of(rt, asked))
 }
 
-fn wanted(want: &[(Who, UnitAttention)], who: Who) -> Option<UnitAttention> {
-    for (one, code) in want {
-        if *one == who {
-            return Some(*code);
+fn put_end(rt: &impl Abort, text: &mut String, end: &PrEnd) {
+    let put = match end {
+        PrEnd::Good(_) => write!(text, "Good;"),
+        PrEnd::Conflict => write!(text, "Conflict;"),
+        PrEnd::Illegal(asc, ascq) => write!(text, "Illegal {asc:02X} {ascq:02X};"),
+        PrEnd::TableFull => write!(text, "Full;"),
+    };
+    put.expect(rt, "memory");
+}
+
+// Whom a request that found this registry tells what.
+fn put_told(rt: &impl Abort, alloc: Global, text: &mut String, found: &Registry, end: &PrEnd) {
+    let PrEnd::Good(telling) = end else {
+        return;
+    };
+    for name in NAMES.split_ascii_whitespace() {
+        let who = who_named(rt, name);
+        if let Some(code) = found.told(telling, &port_of(rt, alloc, who), who.2) {
+            write!(text, " {name}:{code:?}").expect(rt, "memory");
         }
     }
-    None
 }
 
-// Whether the data of READ KEYS (SPC-4, 6.15.2) is that which a step leaves.
-fn has_keys(
-    rt: &impl Abort,
-    alloc: Global,
-    registry: &Registry,
-    generation: u32,
-    keys: &[u64],
-) -> bool {
-    let mut want = Vec::from_slice(alloc, &generation.to_be_bytes()).expect(rt, "memory");
-    let length = (8 * keys.len() as u64 % 65536).to_be_bytes();
-    want.extend_from_slice(&length[4..]).expect(rt, "memory");
-    for key in keys {
-        want.extend_from_slice(&key.to_be_bytes())
-            .expect(rt, "memory");
+// The generation and the keys, as READ KEYS has them (SPC-4, 6.15.2).
+fn put_keys(rt: &impl Abort, text: &mut String, registry: &Registry) {
+    let data = registry.keys(4096).expect(rt, "memory");
+    let keys = data.get(8..).unwrap_or(&[]);
+    assert!(rt; number(&data, 4, 8) == keys.len() as u64, "the length");
+    write!(text, "; {};", number(&data, 0, 4)).expect(rt, "memory");
+    for key in keys.chunks(8) {
+        write!(text, " {:x}", number(key, 0, 8)).expect(rt, "memory");
     }
-    registry.keys(4096).expect(rt, "memory") == want
 }
 
-// Whether the data of READ RESERVATION (SPC-4, 6.15.3) is that which a step leaves.
-fn has_held(rt: &impl Abort, alloc: Global, registry: &Registry, step: &Step) -> bool {
-    let (key, kind) = step.held;
-    let mut want = Vec::from_slice(alloc, &step.generation.to_be_bytes()).expect(rt, "memory");
-    let length = if kind == 0 { 0 } else { 16 };
-    want.extend_from_slice(&[0, 0, 0, length])
-        .expect(rt, "memory");
-    if kind != 0 {
-        want.extend_from_slice(&key.to_be_bytes())
-            .expect(rt, "memory");
-        want.extend_from_slice(&[0, 0, 0, 0, 0, kind, 0, 0])
-            .expect(rt, "memory");
+// The holder's key and the type, as READ RESERVATION has them (SPC-4, 6.15.3); 0 where it has none.
+fn put_held(rt: &impl Abort, text: &mut String, registry: &Registry) {
+    let data = registry.reservation(4096).expect(rt, "memory");
+    let (key, kind) = (number(&data, 8, 16), number(&data, 21, 22));
+    write!(text, "; {key:x} {kind}").expect(rt, "memory");
+}
+
+// The number of the bytes from a place to another, 0 where there are none.
+fn number(data: &[u8], from: usize, to: usize) -> u64 {
+    let mut number = 0u64;
+    for byte in data.get(from..to).unwrap_or(&[]) {
+        number = number.wrapping_mul(256).wrapping_add(u64::from(*byte));
     }
-    registry.reservation(4096).expect(rt, "memory") == want
+    number
 }
 
 // Compares the letters of the accesses that a nexus has.
 fn allows(rt: &impl Abort, alloc: Global, registry: &Registry, words: &str) -> bool {
     let (who, want) = words.split_once(' ').expect(rt, words);
-    let who = who_named(who).expect(rt, words);
+    let who = who_named(rt, who);
     let port = port_of(rt, alloc, who);
     let letters = [
         letter(b'r', registry.allows(&port, who.2, Access::Read)),
@@ -245,7 +195,7 @@ fn letter(letter: u8, is_allowed: bool) -> u8 {
 fn shows(rt: &impl Abort, alloc: Global, registry: &Registry, of: &str, words: &str) -> bool {
     let (room, bytes) = words.split_once(' ').unwrap_or((words, ""));
     let want = bytes_of(alloc, &[], bytes).expect(rt, words);
-    let room = number_of(room).expect(rt, words);
+    let room = room.parse().expect(rt, words);
     let data = match of {
         "reservation" => registry.reservation(room),
         "full-status" => registry.full_status(room),

@@ -1,73 +1,13 @@
-//! CDBs as text, and what they ask for.
-use scsi_types::{Asked, decode};
+//! CDBs, and what they ask for, as lines of text: a name, a CDB in hexadecimal digits, and what it asks for in the form of `Debug`
+//! without its commas, and with its numbers in hexadecimal digits too.
+use crate::scsi::{commands, faults};
+use scsi_types::decode;
+use std::alloc::Global;
 use std::process::Abort;
-
-/// What a test is called, a CDB in hexadecimal digits, and what it asks for.
-pub type Row = (&'static str, &'static str, Asked);
-
-/// What a CDB asks for, in the words of the tables: a command with its fields in the order of its declaration, or a
-/// fault.
-macro_rules! asked {
-    (TestUnitReady ()) => { Ok(scsi_types::Command::TestUnitReady) };
-    (RequestSense ($allocation:literal)) => { Ok(scsi_types::Command::RequestSense { allocation: $allocation }) };
-    (Inquiry ($page:ident, $allocation:literal)) => {
-        Ok(scsi_types::Command::Inquiry { page: scsi_types::InquiryPage::$page, allocation: $allocation })
-    };
-    (ModeSense ($header:ident, $control:ident, $page:ident, $allocation:literal)) => {
-        Ok(scsi_types::Command::ModeSense {
-            header: scsi_types::ModeHeader::$header,
-            control: scsi_types::PageControl::$control,
-            page: scsi_types::ModePage::$page,
-            allocation: $allocation,
-        })
-    };
-    (ReadCapacity10 ()) => { Ok(scsi_types::Command::ReadCapacity10) };
-    (ReadCapacity16 ($allocation:literal)) => { Ok(scsi_types::Command::ReadCapacity16 { allocation: $allocation }) };
-    (SynchronizeCache ($lba:literal, $blocks:literal)) => {
-        Ok(scsi_types::Command::SynchronizeCache { lba: $lba, blocks: $blocks })
-    };
-    (PersistentReserveIn ($action:ident, $allocation:literal)) => {
-        Ok(scsi_types::Command::PersistentReserveIn {
-            action: scsi_types::PrInAction::$action,
-            allocation: $allocation,
-        })
-    };
-    (PersistentReserveOut ($action:ident, $scope:literal, $kind:literal, $list_length:literal)) => {
-        Ok(scsi_types::Command::PersistentReserveOut {
-            action: scsi_types::PrOutAction::$action,
-            scope: $scope,
-            kind: $kind,
-            list_length: $list_length,
-        })
-    };
-    (ReportLuns ($select:ident, $allocation:literal)) => {
-        Ok(scsi_types::Command::ReportLuns { select: scsi_types::LunSelect::$select, allocation: $allocation })
-    };
-    (ReportTargetPortGroups ($allocation:literal)) => {
-        Ok(scsi_types::Command::ReportTargetPortGroups { allocation: $allocation })
-    };
-    (SetTargetPortGroups ($list_length:literal)) => {
-        Ok(scsi_types::Command::SetTargetPortGroups { list_length: $list_length })
-    };
-    (BadField ($op:ident)) => { Err(scsi_types::CdbFault::BadField(scsi_types::Op::$op)) };
-    (UnknownOpcode ()) => { Err(scsi_types::CdbFault::UnknownOpcode) };
-    ($transfer:ident ($lba:literal, $blocks:literal, $fua:literal)) => {
-        Ok(scsi_types::Command::$transfer { lba: $lba, blocks: $blocks, fua: $fua })
-    };
-}
-
-/// A table of rows, each "name": "CDB" => what it asks for.
-macro_rules! table {
-    ($($name:literal: $cdb:literal => $kind:ident $fields:tt;)*) => {
-        &[$(($name, $cdb, $crate::scsi::cdbs::asked!($kind $fields))),*]
-    };
-}
-
-pub(crate) use asked;
-pub(crate) use table;
+use test_streams::lines_of;
 
 /// A CDB of these digits; the bytes behind its end are EEh.
-fn cdb(rt: &impl Abort, digits: &str) -> [u8; 16] {
+pub fn cdb(rt: &impl Abort, digits: &str) -> [u8; 16] {
     let mut cdb = [0xEE; 16];
     let mut at = 0;
     let mut high = None;
@@ -90,9 +30,32 @@ fn cdb(rt: &impl Abort, digits: &str) -> [u8; 16] {
     cdb
 }
 
-/// Each CDB asks for what stands beside it.
-pub fn expect(rt: &impl Abort, rows: &[Row]) {
-    for (name, digits, asked) in rows {
-        assert_eq!(rt; decode(&cdb(rt, digits)), *asked, "{name}");
+// Each CDB asks for what stands beside it.
+fn ask(rt: &impl Abort, alloc: Global, rows: &str) {
+    for row in &lines_of(alloc, rows).expect(rt, "memory") {
+        let asked = decode(&cdb(rt, row.split(';').nth(1).unwrap_or("")));
+        let text = format!(in alloc; "{asked:?}").expect(rt, "memory");
+        let text = in_hexadecimal(rt, alloc, text.as_str());
+        let want = row.split(';').nth(2).unwrap_or("").trim();
+        assert!(rt; text.as_str().trim() == want, "{row}: {text}");
     }
+}
+
+fn in_hexadecimal(rt: &impl Abort, alloc: Global, debug: &str) -> String {
+    let mut text = String::new(alloc);
+    for word in debug.split_ascii_whitespace() {
+        let word = word.trim_end_matches(',');
+        let put = match word.parse::<u64>() {
+            Ok(number) => write!(text, " {number:X}"),
+            Err(_) => write!(text, " {word}"),
+        };
+        put.expect(rt, "memory");
+    }
+    text
+}
+
+#[test]
+fn each_asks_for_this(rt: HostRuntime) {
+    ask(&rt, rt.alloc(), commands::ROWS);
+    ask(&rt, rt.alloc(), faults::ROWS);
 }
