@@ -1,8 +1,9 @@
 //! The faults, in their order.
 use crate::pdus::rows::{bytes_of, is_waited_for};
 use crate::run::spells;
+use iscsi_pdu::PduFault;
 use iscsi_pdu::PduFault::{BadFlags, BadReserved, HasAhs, NonZeroPad, TooLong, UnknownOpcode};
-use iscsi_pdu::{PduFault, decode};
+use pdu_coding::decode;
 use std::alloc::Global;
 use std::process::Abort;
 use std::test::*;
