@@ -1,6 +1,5 @@
 pub mod Back
 pub mod Cells
-pub mod Fronts
 pub mod InitiatorSays
 pub mod Grammar
 pub mod OneHeader

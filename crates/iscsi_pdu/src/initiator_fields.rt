@@ -121,7 +121,7 @@ fn logout_request(bhs: &[u8]) -> LogoutRequest
 }
 
 /// What an initiator's basic header segment says.
-pub fn initiator_fields(bhs: &[u8]) -> InitiatorHeader
+pub fn read_initiator(bhs: &[u8]) -> InitiatorHeader
     requires long { length bhs.now ≡ BHS_LENGTH }
     requires opcode { IsInitiatorOpcode (opcode_of bhs.now) }
     ensures { HasInitiatorFields bhs.now result }

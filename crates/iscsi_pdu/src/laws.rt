@@ -19,7 +19,7 @@ pub fn one_pdu()
     ensures { (b : List ℕ) (h k : Header) (d e : List ℕ) → IsPdu b h d → IsPdu b k e → (h ≡ k) × (d ≡ e) }
 {}
 
-/// What `encode` appends of a PDU spells it, where its fields are in their ranges and its flags are right.
+/// What `spelling` gives of a PDU spells it, where its fields are in their ranges and its flags are right.
 pub fn spelled()
     ensures { (h : Header) (d : List ℕ) → IsInRange h → length d ≤ MAX_DATA_SEGMENT_LENGTH → IsPdu (spelling h d) h d }
 {}

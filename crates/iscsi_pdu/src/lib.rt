@@ -1,4 +1,7 @@
-//! iSCSI PDUs as bytes (RFC 7143, section 11).
+//! iSCSI PDUs as values, and what bytes spell them (RFC 7143, section 11).
+//!
+//! A header is read from its basic header segment, and written as one. The grammar of whole PDUs stands in specs/ `Pdu`,
+//! `Fault` and `Spelling`, and its laws are here. `pdu_coding` makes whole PDUs of bytes, and bytes of them, by this grammar.
 #![tactic(auto)]
 
 mod fault;
@@ -6,12 +9,10 @@ mod header;
 mod initiator_fields;
 mod initiator_spelling;
 mod laws;
-mod numbers;
+pub mod numbers;
 mod pieces;
-mod reading;
 mod target_fields;
 mod target_spelling;
-mod writing;
 
 pub use fault::PduFault;
 pub use header::{
@@ -20,9 +21,11 @@ pub use header::{
     ScsiResponse, TargetHeader, TaskManagementRequest, TaskManagementResponse, TextRequest,
     TextResponse,
 };
+pub use initiator_fields::read_initiator;
+pub use initiator_spelling::spell_initiator;
 pub use laws::{one_front, one_pdu, one_spelling, spelled};
-pub use reading::decode;
-pub use writing::encode;
+pub use target_fields::read_target;
+pub use target_spelling::spell_target;
 
 /// The bytes of a basic header segment (RFC 7143, 11.2.1).
 pub const BHS_LENGTH: usize = 48;

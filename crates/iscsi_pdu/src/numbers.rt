@@ -3,10 +3,9 @@
 ghost use Rattle.std.specs.Prelude.{◌≡◌, ◌+◌, ◌≤◌, ◌<◌, length, slice_range};
 ghost use Rattle.iscsi_pdu.specs.Number.{bit, half_at, three_at, word_at};
 ghost use Rattle.iscsi_pdu.specs.Fields.{command_numbers_at, numbers_at};
-ghost use Rattle.iscsi_pdu.specs.Spelling.{padded};
 
+use crate::BHS_LENGTH;
 use crate::header::{CommandNumbers, Numbers};
-use crate::{BHS_LENGTH, MAX_DATA_SEGMENT_LENGTH};
 use byteorder::{BigEndian, ByteOrder};
 
 /// Whether the bit of this value is set in the byte at a place.
@@ -96,12 +95,4 @@ pub fn numbers(bhs: &[u8]) -> Numbers
         exp_cmd_sn: word(bhs, 28),
         max_cmd_sn: word(bhs, 32),
     }
-}
-
-/// The length of a data segment with its padding (RFC 7143, 11.1).
-pub fn padded_length(n: usize) -> usize
-    requires { n ≤ MAX_DATA_SEGMENT_LENGTH }
-    ensures { result ≡ padded n }
-{
-    (n + 3) / 4 * 4
 }

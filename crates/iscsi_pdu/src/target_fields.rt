@@ -134,7 +134,7 @@ fn reject(bhs: &[u8]) -> Reject
 }
 
 /// What a target's basic header segment says.
-pub fn target_fields(bhs: &[u8]) -> TargetHeader
+pub fn read_target(bhs: &[u8]) -> TargetHeader
     requires long { length bhs.now ≡ BHS_LENGTH }
     requires opcode { IsTargetOpcode (opcode_of bhs.now) }
     ensures { HasTargetFields bhs.now result }

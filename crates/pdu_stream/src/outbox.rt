@@ -8,9 +8,8 @@ ghost use Rattle.iscsi_pdu.specs.Spelling.{pdu_length, spelling};
 use crate::data_in::segment_at;
 use crate::pdus::{DataIns, Pdus};
 use crate::source::Sink;
-use iscsi_pdu::{
-    BHS_LENGTH, Header, MAX_DATA_SEGMENT_LENGTH, Pdu, ScsiResponse, TargetHeader, encode,
-};
+use iscsi_pdu::{BHS_LENGTH, Header, MAX_DATA_SEGMENT_LENGTH, Pdu, ScsiResponse, TargetHeader};
+use pdu_coding::encode;
 use scsi_types::Sense;
 use std::alloc::{AllocError, Global};
 use std::marker::Model;

@@ -1,7 +1,8 @@
 ghost use Rattle.std.specs.Prelude.{length};
 ghost use Rattle.pdu_stream.specs.Front.{IsFront};
 
-use iscsi_pdu::{BHS_LENGTH, Pdu, PduFault, decode};
+use iscsi_pdu::{BHS_LENGTH, Pdu, PduFault};
+use pdu_coding::decode;
 
 /// What stands at the front of the bytes that wait.
 #[derive(Clone, Copy, Debug)]

@@ -1,4 +1,4 @@
-//! Tests of the calls of `iscsi_pdu`: PDUs whose bytes are worked out by hand from the figures of RFC 7143, section 11.
+//! Tests of the calls of `pdu_coding`: PDUs whose bytes are worked out by hand from the figures of RFC 7143, section 11.
 mod faults;
 mod initiators;
 mod limits;

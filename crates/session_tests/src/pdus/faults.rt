@@ -1,7 +1,7 @@
 //! The faults, in their order.
 use crate::pdus::rows::{bytes_of, is_waited_for};
 use crate::run::spells;
-use iscsi_pdu::decode;
+use pdu_coding::decode;
 use std::alloc::Global;
 use std::process::Abort;
 use std::test::*;

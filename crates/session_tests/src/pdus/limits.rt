@@ -1,6 +1,7 @@
 //! PDUs without data, the longest PDU, and bytes that come one by one.
 use crate::pdus::rows::{Figure, NUMBERS, bytes_of, decoded_otherwise, is_waited_for, put_pdu};
-use iscsi_pdu::{DataIn, Header, LONGEST_PDU, MAX_DATA_SEGMENT_LENGTH, TargetHeader, decode};
+use iscsi_pdu::{DataIn, Header, LONGEST_PDU, MAX_DATA_SEGMENT_LENGTH, TargetHeader};
+use pdu_coding::decode;
 use std::test::*;
 
 // TEST UNIT READY to LUN 0 with the tag 1, CmdSN 1 and ExpStatSN 1.

@@ -1,8 +1,7 @@
 //! How the rows of the tables are run.
 use crate::run::put;
-use iscsi_pdu::{
-    BHS_LENGTH, CommandNumbers, Header, MAX_DATA_SEGMENT_LENGTH, Numbers, Pdu, decode, encode,
-};
+use iscsi_pdu::{BHS_LENGTH, CommandNumbers, Header, MAX_DATA_SEGMENT_LENGTH, Numbers, Pdu};
+use pdu_coding::{decode, encode};
 use std::alloc::Global;
 use std::process::Abort;
 use std::test::*;

@@ -3,9 +3,9 @@ use Rattle.iscsi_pdu.specs.Number.{three_at}
 use Rattle.iscsi_pdu.specs.Spelling.{padded}
 use Rattle.iscsi_pdu.specs.Pdu.{IsPdu}
 use Rattle.iscsi_pdu.specs.Fault.{HasBhs}
-use Rattle.iscsi_pdu.proofs.Fronts.{none-whole, none-behind, good-reserved, opcode-target, whole, pad-from, pad-to}
-use Rattle.iscsi_pdu.proofs.Fronts.{bad-padding}
-use Rattle.iscsi_pdu.proofs.reading.decode.Goals as goal
+use Rattle.pdu_coding.proofs.Fronts.{none-whole, none-behind, good-reserved, opcode-target, whole, pad-from, pad-to}
+use Rattle.pdu_coding.proofs.Fronts.{bad-padding}
+use Rattle.pdu_coding.proofs.reading.decode.Goals as goal
 
 pub returns-then-bytes-end-clause-found : goal.returns-then-bytes-end-clause-found
 returns-then-bytes-end-clause-found c =

@@ -2,6 +2,7 @@
 
 ghost use Rattle.std.specs.Prelude.{◌≡◌, ◌≢◌, ◌++◌, ℕ, ◌+◌, ◌<◌, ◌≤◌, ◌↔◌, List, length, take};
 ghost use Rattle.std.specs.Prelude.{IfOk, IfErr, MatchOption, IfNone, IsTrue, true, false};
+ghost use Rattle.iscsi_pdu.specs.declared.TheConstants.{BHS_LENGTH, LONGEST_PDU, MAX_DATA_SEGMENT_LENGTH};
 ghost use Rattle.iscsi_pdu.specs.declared.header.Header.{Header};
 ghost use Rattle.iscsi_pdu.specs.declared.header.Header.TheVariants.{Target};
 ghost use Rattle.iscsi_pdu.specs.declared.fault.PduFault.{PduFault};
@@ -12,13 +13,12 @@ ghost use Rattle.iscsi_pdu.specs.Fields.{opcode_of, HasBadFlags};
 ghost use Rattle.iscsi_pdu.specs.Pdu.{IsPdu, IsTarget, HasFields};
 ghost use Rattle.iscsi_pdu.specs.Fault.{IsInitiatorOpcode, IsTargetOpcode, HasBhs, HasBadReserved, Stands};
 
-use crate::fault::PduFault;
-use crate::header::{Header, Pdu, TargetHeader};
-use crate::initiator_fields::initiator_fields;
-use crate::numbers::{has_bit, padded_length, three};
-use crate::target_fields::target_fields;
-use crate::target_spelling::spell_target;
-use crate::{BHS_LENGTH, LONGEST_PDU, MAX_DATA_SEGMENT_LENGTH};
+use crate::padding::padded_length;
+use iscsi_pdu::numbers::{has_bit, three};
+use iscsi_pdu::{
+    BHS_LENGTH, Header, LONGEST_PDU, MAX_DATA_SEGMENT_LENGTH, Pdu, PduFault, TargetHeader,
+    read_initiator, read_target, spell_target,
+};
 
 fn is_initiators(opcode: u8) -> bool
     ensures { IsTrue result ↔ IsInitiatorOpcode opcode }
@@ -76,7 +76,7 @@ fn target_header(b: &[u8], len: u32) -> Result<TargetHeader, PduFault>
     ensures found { IfOk result (λ h. HasFields b.now (Target h)) }
     ensures fault { IfErr result (λ f. (f ≡ BadReserved) × HasBadReserved b.now) }
 {
-    let header = target_fields(b);
+    let header = read_target(b);
     if is_same(b, &spell_target(&header, len)) {
         Ok(header)
     } else {
@@ -96,7 +96,7 @@ fn header_of(bytes: &[u8], len: u32) -> Result<Header, PduFault>
         if has_bad_flags(bhs) {
             return Err(PduFault::BadFlags);
         }
-        return Ok(Header::Initiator(initiator_fields(bhs)));
+        return Ok(Header::Initiator(read_initiator(bhs)));
     }
     match target_header(bhs, len) {
         Ok(header) => Ok(Header::Target(header)),

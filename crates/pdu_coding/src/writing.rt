@@ -1,13 +1,11 @@
 //! PDUs as bytes (RFC 7143, section 11).
 
 ghost use Rattle.std.specs.Prelude.{◌≡◌, ◌++◌, ◌+◌, ◌<◌, ◌≤◌, ◌^◌, length, vec_capacity, OnOk, OnErr};
+ghost use Rattle.iscsi_pdu.specs.declared.TheConstants.{MAX_DATA_SEGMENT_LENGTH};
 ghost use Rattle.iscsi_pdu.specs.Spelling.{bhs, pdu_length, spelling};
 
-use crate::header::{Header, Pdu};
-use crate::initiator_spelling::spell_initiator;
-use crate::numbers::padded_length;
-use crate::target_spelling::spell_target;
-use crate::{BHS_LENGTH, MAX_DATA_SEGMENT_LENGTH};
+use crate::padding::padded_length;
+use iscsi_pdu::{BHS_LENGTH, Header, MAX_DATA_SEGMENT_LENGTH, Pdu, spell_initiator, spell_target};
 use std::alloc::AllocError;
 
 /// The most padding that a data segment has.

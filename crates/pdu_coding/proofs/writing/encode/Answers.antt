@@ -3,7 +3,7 @@ use Rattle.std.proofs.Common.{OnErr, OnOk, append_assoc, cond, refl, zero, suc, 
 use Rattle.std.specs.Result.{is_ok}
 use Rattle.iscsi_pdu.specs.Spelling.{padded, zeros, spelling, bhs}
 use Rattle.iscsi_pdu.proofs.Grammar.{length-spelling}
-use Rattle.iscsi_pdu.proofs.writing.encode.Goals as goal
+use Rattle.pdu_coding.proofs.writing.encode.Goals as goal
 
 on-err : {T E P : Type 0} (r : Result T E) → P → OnErr r P
 on-err (Ok x) p = tt

@@ -1,7 +1,7 @@
 use Rattle.std.proofs.Common.{sym, ◌∙◌, arith}
 use Rattle.iscsi_pdu.proofs.Grammar.{three-take}
-use Rattle.iscsi_pdu.proofs.Fronts.{bad-reserved-stands}
-use Rattle.iscsi_pdu.proofs.reading.header_of.Goals as goal
+use Rattle.pdu_coding.proofs.Fronts.{bad-reserved-stands}
+use Rattle.pdu_coding.proofs.reading.header_of.Goals as goal
 
 pub target_header-requires-clause-same_length : goal.target_header-requires-clause-same_length
 target_header-requires-clause-same_length c = c.requires.same_length
