@@ -1,6 +1,6 @@
 -- A stop inside the making of a registration file.
-use Rattle.std.proofs.Common.{◌≡◌, ◌⊎◌, inl, inr, ⊎_elim, ℕ, ◌+◌, ◌<◌, ◌≤◌, List, [], ◌∷◌, ◌∙◌, subst, arith}
-use Rattle.reservations.specs.Registry.{RecordValue, IsRecord}
+use Rattle.std.proofs.Common.{◌≡◌, inl, inr, ⊎_elim, ℕ, ◌≤◌, List, [], ◌∷◌, ◌∙◌, subst, arith}
+use Rattle.reservations.specs.Registry.{IsRecord}
 use Rattle.block_file.specs.Disk.{block_at, or_new, IsNewAt, MayLeave, NoMore}
 use Rattle.block_file.specs.Moment.{StopsAmong}
 use Rattle.block_file.specs.MomentLaws.{no_time, then_elapses}

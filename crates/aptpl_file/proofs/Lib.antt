@@ -1,5 +1,6 @@
 pub mod Formats
 pub mod OneHeld
+pub mod Saves
 pub mod SlotHas
 pub mod SlotWrites
 pub mod Stops

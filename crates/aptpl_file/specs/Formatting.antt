@@ -2,7 +2,6 @@
 use Rattle.std.specs.Prelude.{◌≡◌, ◌⊎◌, ℕ, false, List, [], ◌∷◌, None}
 use Rattle.reservations.specs.Registry.{RecordValue}
 use Rattle.block_file.specs.Disk.{or_new, MayLeave, NoMore}
-use Rattle.block_file.specs.Failures.{Tells}
 use Rattle.block_file.specs.Moment.{Elapses}
 use Rattle.aptpl_format.specs.declared.slot.Slot.TheVariants.{First}
 use Rattle.aptpl_format.specs.declared.version.FileVersion.TheVariants.{Version2}

@@ -1,5 +1,5 @@
 -- What is read of a slot's first block.
-use Rattle.std.proofs.Common.{◌≡◌, ℕ, Bool, true, false, nat_eq, List, length, slice_index, refl}
+use Rattle.std.proofs.Common.{◌≡◌, Bool, true, false, nat_eq, length, slice_index, refl}
 use Rattle.reservations.specs.Registry.{RecordValue, holder_of}
 use Rattle.aptpl_format.specs.declared.version.FileVersion.{FileVersion}
 use Rattle.aptpl_format.specs.Format.{aptpl_byte, entries_of, group_of, header_block, place_of, slot_bytes, type_byte}

@@ -1,5 +1,5 @@
 -- Two records that the same bytes spell are one.
-use Rattle.std.proofs.Common.{◌≡◌, ℕ, zero, suc, ◌<◌, nat_eq, List, [], ◌∷◌, length, slice_index, Option, Some, refl, sym}
+use Rattle.std.proofs.Common.{◌≡◌, ℕ, suc, nat_eq, List, [], ◌∷◌, length, slice_index, Option, Some, refl, sym}
 use Rattle.std.proofs.Common.{◌∙◌, ap, arith}
 use Rattle.std.specs.List.{AllByRecursion, flat_map, slice_get}
 use Rattle.reservations.specs.declared.registrant.Registrant.{Registrant}
@@ -9,8 +9,8 @@ use Rattle.aptpl_format.specs.declared.entry.Entry.{Entry}
 use Rattle.aptpl_format.specs.declared.version.FileVersion.{FileVersion}
 use Rattle.aptpl_format.specs.Format.{entries_of, entry_bytes, place_of, slot_bytes}
 use Rattle.aptpl_format.specs.Reads.{IsEntry, Spells, SpellsEntries, covered}
-use Rattle.aptpl_format.proofs.Entries.{entries_are, stand_for}
-use Rattle.aptpl_format.proofs.Header.{aptpl_read, aptpl_back, count_read, group_read, place_read, type_read}
+use Rattle.aptpl_format.proofs.Entries.{stand_for}
+use Rattle.aptpl_format.proofs.Header.{aptpl_read, aptpl_back, group_read, place_read, type_read}
 use Rattle.aptpl_format.proofs.Holder.{same_reservation}
 use Rattle.aptpl_format.proofs.SlotParts.{spells_entries}
 use Rattle.aptpl_format.proofs.Taken.{one_entry}

@@ -4,12 +4,11 @@ use Rattle.std.proofs.Common.{Some, replicate, slice_index, refl, sym, ◌∙◌
 use Rattle.std.proofs.Common.{length-append, length-drop}
 use Rattle.std.proofs.lemmas.List.{drop-drop, drop_at, length-replicate, take_at, take-append-drop}
 use Rattle.std.specs.List.{AllByRecursion, flat_map, slice_get}
-use Rattle.reservations.specs.declared.registrant.Registrant.{Registrant}
 use Rattle.reservations.specs.Registry.{RecordValue, IsRecord}
 use Rattle.aptpl_format.specs.declared.entry.Entry.{Entry}
 use Rattle.aptpl_format.specs.declared.version.FileVersion.{FileVersion}
 use Rattle.aptpl_format.specs.Format.{entries_of, entry_bytes, header_block, part_at, slot_bytes}
-use Rattle.aptpl_format.specs.Reads.{AreEntries, IsEntry, Spells, SpellsEntries, covered, entry_part}
+use Rattle.aptpl_format.specs.Reads.{AreEntries, IsEntry, Spells, SpellsEntries, entry_part}
 use Rattle.aptpl_format.proofs.Entries.{as_few, entries_are, stand_for}
 use Rattle.aptpl_format.proofs.Header.{count_read}
 use Rattle.aptpl_format.proofs.Spelled.{length_entry}

@@ -1,6 +1,6 @@
 -- The bytes of a registration file, versions 1 and 2. Numbers are big-endian, and what is written is filled up with zeros.
 -- Block 0 is the root, which names a slot; a slot is 33 blocks, from block 1 or from block 34 on.
-use Rattle.std.specs.Prelude.{◌≡◌, ℕ, ◌+◌, ◌-◌, ◌*◌, Bool, true, false, not, ◌&&◌, nat_eq, if◌then◌else◌, IsTrue, List}
+use Rattle.std.specs.Prelude.{ℕ, ◌-◌, ◌*◌, Bool, true, false, ◌&&◌, nat_eq, if◌then◌else◌, List}
 use Rattle.std.specs.Prelude.{[], ◌∷◌, ◌++◌, length, take, drop, replicate, Option, Some, None}
 use Rattle.std.specs.List.{flat_map, position}
 use Rattle.std.specs.Option.{unwrap_or}
@@ -11,7 +11,7 @@ use Rattle.scsi_types.specs.declared.names.Group.TheVariants.{One, Two}
 use Rattle.reservations.specs.declared.registrant.Registrant.{Registrant}
 use Rattle.reservations.specs.declared.registrant.Reservation.{Reservation}
 use Rattle.reservations.specs.Kind.{type_code}
-use Rattle.reservations.specs.Nexus.{other_nexus, same_group, same_nexus, same_port}
+use Rattle.reservations.specs.Nexus.{same_group, same_nexus, same_port}
 use Rattle.reservations.specs.Registry.{RecordValue, holder_of}
 use Rattle.block_file.specs.declared.blocks.TheConstants.{BLOCK_LENGTH}
 use Rattle.aptpl_format.specs.declared.entry.Entry.{Entry}

@@ -1,4 +1,4 @@
-use Rattle.std.proofs.Common.{◌≡◌, ◌≤◌, ◌+◌, ◌-◌, length}
+use Rattle.std.proofs.Common.{◌≡◌, ◌+◌, length}
 use Rattle.std.specs.List.{position_or_len}
 use Rattle.aptpl_format.specs.Format.{covers, entries_of}
 use Rattle.aptpl_format.proofs.entry.place_of.Given as goal

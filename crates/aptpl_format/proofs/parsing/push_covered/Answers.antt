@@ -1,6 +1,5 @@
 use Rattle.std.proofs.Common.{ap, subst, rules}
 use Rattle.scsi_types.specs.Nexus.{Nexus}
-use Rattle.reservations.specs.declared.registrant.Registrant.{Registrant}
 use Rattle.aptpl_format.specs.Reads.{AreEntries}
 use Rattle.aptpl_format.proofs.EntriesTaken.{two_more}
 use Rattle.aptpl_format.proofs.Told.{if_err_too, refused_too}

@@ -2,7 +2,6 @@ use Rattle.std.proofs.Common.{◌≡◌, ◌≤◌, ◌<◌, ◌∙◌, ◌+◌,
 use Rattle.std.proofs.Common.{length-append, length-drop}
 use Rattle.std.proofs.lemmas.List.{append-nil, take_all}
 use Rattle.std.specs.List.{flat_map}
-use Rattle.reservations.specs.declared.registrant.Registrant.{Registrant}
 use Rattle.reservations.specs.Registry.{RecordValue}
 use Rattle.aptpl_format.specs.declared.entry.Entry.{Entry}
 use Rattle.aptpl_format.specs.Format.{entries_of, entry_bytes, header_block, padded, slot_bytes}
