@@ -1,13 +1,6 @@
-pub mod Entries
-pub mod EntriesTaken
 pub mod Formats
-pub mod Header
-pub mod Holder
-pub mod OneRecord
-pub mod Padding
-pub mod SlotParts
+pub mod OneHeld
+pub mod Saves
+pub mod SlotHas
 pub mod SlotWrites
-pub mod Spelled
 pub mod Stops
-pub mod Taken
-pub mod Told

@@ -2,13 +2,12 @@
 use Rattle.std.specs.Prelude.{◌≡◌, ◌⊎◌, ℕ, false, List, [], ◌∷◌, None}
 use Rattle.registrants.specs.Registry.{RecordValue}
 use Rattle.block_file.specs.Disk.{or_new, MayLeave, NoMore}
-use Rattle.block_file.specs.Failures.{Tells}
 use Rattle.block_file.specs.Moment.{Elapses}
-use Rattle.aptpl_file.specs.declared.slot.Slot.TheVariants.{First}
-use Rattle.aptpl_file.specs.declared.version.FileVersion.TheVariants.{Version2}
+use Rattle.aptpl_format.specs.declared.slot.Slot.TheVariants.{First}
+use Rattle.aptpl_format.specs.declared.version.FileVersion.TheVariants.{Version2}
 use Rattle.aptpl_file.specs.declared.fault.SaveFault.{SaveFault}
 use Rattle.aptpl_file.specs.declared.fault.SaveFault.TheVariants.{OldRoot, IdleSlot, NewRoot}
-use Rattle.aptpl_file.specs.Format.{root_block}
+use Rattle.aptpl_format.specs.Format.{root_block}
 use Rattle.aptpl_file.specs.Holds.{Holds}
 use Rattle.aptpl_file.specs.Lasts.{FileValue, SlotLasts}
 use Rattle.aptpl_file.specs.Writes.{beside_slot}

@@ -2,16 +2,21 @@
 use Rattle.std.specs.Prelude.{◌≡◌, ◌⊎◌, ℕ, ◌+◌, ◌<◌, ◌≤◌, List, [], ◌∷◌, length, take, drop}
 use Rattle.registrants.specs.Registry.{RecordValue, IsRecord}
 use Rattle.block_file.specs.Disk.{block_at}
-use Rattle.aptpl_file.specs.declared.slot.Slot.{Slot}
-use Rattle.aptpl_file.specs.declared.fault.OpenFault.{OpenFault}
-use Rattle.aptpl_file.specs.declared.fault.OpenFault.TheVariants.{NotARegFile, Version, DeviceFailed, NoMemory}
-use Rattle.aptpl_file.specs.declared.version.FileVersion.{FileVersion}
-use Rattle.aptpl_file.specs.Format.{file_blocks, first_block, root_block, root_name, slot_block, slot_blocks, version_bytes}
+use Rattle.aptpl_format.specs.declared.slot.Slot.{Slot}
+use Rattle.aptpl_format.specs.declared.fault.OpenFault.{OpenFault}
+use Rattle.aptpl_format.specs.declared.fault.OpenFault.TheVariants.{NotARegFile, Version, DeviceFailed, NoMemory}
+use Rattle.aptpl_format.specs.declared.version.FileVersion.{FileVersion}
+use Rattle.aptpl_format.specs.Format.{file_blocks, first_block, root_block, root_name, slot_block, slot_blocks, version_bytes}
 
 -- the slot's blocks are the spelling of the record in a version
 abbrev pub HoldsSlot : List (List ℕ) → FileVersion → Slot → RecordValue → Type 0
 HoldsSlot disk version slot r =
     (k : ℕ) → k < slot_blocks → block_at disk (first_block slot + k) ≡ slot_block version r k
+
+-- a slot spells a record
+pub record HasSlot (disk : List (List ℕ)) (version : FileVersion) (slot : Slot) (r : RecordValue) : Type 0 where
+  pub lasting : IsRecord r.aptpl r.registrants r.reservation
+  pub spelled : HoldsSlot disk version slot r
 
 -- the root names a version and a slot, and that slot's blocks are the spelling of the record in that version
 pub record Holds (disk : List (List ℕ)) (r : RecordValue) : Type 0 where

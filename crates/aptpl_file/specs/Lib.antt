@@ -1,8 +1,6 @@
-pub mod Format
 pub mod Formatting
 pub mod Holds
 pub mod Lasts
 pub mod LastsLaws
-pub mod Reads
 pub mod Runs
 pub mod Writes

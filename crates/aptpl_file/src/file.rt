@@ -4,12 +4,11 @@ ghost use Rattle.block_file.specs.Disk.{or_new, Adds};
 ghost use Rattle.block_file.specs.Moment.{StopsAmong};
 ghost use Rattle.block_file.specs.Failures.{CanFail, Counts, Tells};
 ghost use Rattle.registrants.specs.Registry.{RecordValue};
-ghost use Rattle.aptpl_file.specs.Format.{file_blocks};
+ghost use Rattle.aptpl_format.specs.Format.{file_blocks};
 
 use crate::reading::read_record;
-use crate::spelling::FILE_BLOCKS;
 use crate::writing::{save_root, save_slot};
-use crate::{FileVersion, OpenFault, SaveFault, Slot};
+use crate::{FILE_BLOCKS, FileVersion, OpenFault, SaveFault, Slot};
 use block_file::{Blocks, DeviceFailed};
 use registrants::{Lasting, Record};
 use std::alloc::Global;
@@ -27,7 +26,7 @@ pub struct RegFile<B: Blocks> {
 
 impl<B: Blocks> Model for RegFile<B> {
     ghost use Rattle.std.specs.Prelude.{◌≤◌};
-    ghost use Rattle.aptpl_file.specs.Format.{file_blocks};
+    ghost use Rattle.aptpl_format.specs.Format.{file_blocks};
     ghost use Rattle.aptpl_file.specs.Lasts.{FileValue};
 
     ghost Value = { FileValue B };
@@ -44,7 +43,7 @@ impl<B: Blocks> Model for RegFile<B> {
 
 impl<B: Blocks> RegFile<B> {
     ghost use Rattle.aptpl_file.specs.Holds.{Holds, IsRefusal};
-    ghost use Rattle.aptpl_file.specs.Format.{root_block};
+    ghost use Rattle.aptpl_format.specs.Format.{root_block};
     ghost use Rattle.aptpl_file.specs.Formatting.{nothing, FailsAt, IsFormatted, StopsInFormat};
     ghost use Rattle.aptpl_file.specs.Lasts.{LastsAmong, RootLasts, StopsAt, left_by};
 

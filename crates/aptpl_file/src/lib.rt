@@ -2,19 +2,12 @@
 //! of its own. A save that is done has made its record last; one that is not leaves the record before, or the new one.
 #![tactic(auto)]
 
-mod entry;
 mod fault;
 mod file;
 pub mod laws;
-mod parsing;
 mod reading;
-mod slot;
-mod spelling;
-mod version;
 mod writing;
 
-pub use fault::{OpenFault, SaveFault};
+pub use aptpl_format::{FILE_BLOCKS, FileVersion, OpenFault, Slot};
+pub use fault::SaveFault;
 pub use file::RegFile;
-pub use slot::Slot;
-pub use spelling::FILE_BLOCKS;
-pub use version::FileVersion;

@@ -3,15 +3,13 @@ ghost use Rattle.std.specs.Prelude.{◌≡◌, ◌≤◌, ◌<◌, IfErr, IfOk, 
 ghost use Rattle.block_file.specs.Disk.{block_at, NoMore};
 ghost use Rattle.block_file.specs.Failures.{Counts, Tells};
 ghost use Rattle.registrants.specs.Registry.{RecordValue};
-ghost use Rattle.aptpl_file.specs.Format.{file_blocks};
-ghost use Rattle.aptpl_file.specs.Reads.{HasSlot, IsRefusalOf, IsUnfailed};
-ghost use Rattle.aptpl_file.specs.Holds.{Holds, IsRefusal};
+ghost use Rattle.aptpl_format.specs.Format.{file_blocks};
+ghost use Rattle.aptpl_format.specs.Reads.{IsRefusalOf, IsUnfailed};
+ghost use Rattle.aptpl_file.specs.Holds.{HasSlot, Holds, IsRefusal};
 ghost use Rattle.aptpl_file.specs.Lasts.{IsDecided};
 ghost use Rattle.aptpl_file.specs.Runs.{AreSlot};
 
-use crate::parsing::{named_by, record_of};
-use crate::spelling::SLOT_LENGTH;
-use crate::{FileVersion, OpenFault, Slot};
+use aptpl_format::{FileVersion, OpenFault, SLOT_LENGTH, Slot, named_by, record_of};
 use block_file::{Blocks, DeviceFailed};
 use registrants::Record;
 use std::alloc::Global;

@@ -3,13 +3,12 @@ ghost use Rattle.std.specs.Prelude.{◌≡◌, ◌≤◌, [], ◌∷◌, IsTrue,
 ghost use Rattle.block_file.specs.Disk.{block_at, or_new, Adds, NoMore};
 ghost use Rattle.block_file.specs.Moment.{StopsAmong, TimePasses};
 ghost use Rattle.block_file.specs.Failures.{Counts};
-ghost use Rattle.aptpl_file.specs.Format.{file_blocks, root_block};
+ghost use Rattle.aptpl_format.specs.Format.{file_blocks, root_block};
 ghost use Rattle.aptpl_file.specs.Holds.{HoldsSlot};
 ghost use Rattle.aptpl_file.specs.Lasts.{RootLasts, SlotLasts};
 ghost use Rattle.aptpl_file.specs.Writes.{beside_slot};
 
-use crate::spelling::{root_block, slot_bytes};
-use crate::{FileVersion, Slot};
+use aptpl_format::{FileVersion, Slot, root_block, slot_bytes};
 use block_file::{Blocks, DeviceFailed};
 use registrants::{Registrant, Reservation};
 

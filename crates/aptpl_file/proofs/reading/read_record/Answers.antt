@@ -1,7 +1,7 @@
 use Rattle.std.proofs.Common.{◌∙◌, sym, ap, subst, List, ℕ}
 use Rattle.block_file.specs.Disk.{block_at}
 use Rattle.aptpl_file.specs.Holds.{IsRefusal}
-use Rattle.aptpl_file.proofs.SlotParts.{slot_refused}
+use Rattle.aptpl_file.proofs.SlotHas.{slot_refused}
 use Rattle.aptpl_file.proofs.reading.read_record.Goals as goal
 
 pub returns-in-Err-read_slot-clause-refused : goal.returns-in-Err-read_slot-clause-refused

@@ -1,6 +1,6 @@
 use Rattle.std.proofs.Common.{arith}
-use Rattle.aptpl_file.proofs.SlotParts.{slot_spells}
-use Rattle.aptpl_file.proofs.Told.{if_err_too, refused_too}
+use Rattle.aptpl_file.proofs.SlotHas.{slot_spells}
+use Rattle.aptpl_format.proofs.Told.{if_err_too, refused_too}
 use Rattle.aptpl_file.proofs.reading.read_slot.Goals as goal
 
 pub returns-clause-refused : goal.returns-clause-refused

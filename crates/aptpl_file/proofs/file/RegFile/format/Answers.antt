@@ -1,9 +1,10 @@
-use Rattle.std.proofs.Common.{rules, ⊎_elim, inl, inr, ◌+◌}
-use Rattle.aptpl_file.specs.declared.slot.Slot.TheVariants.{First}
-use Rattle.aptpl_file.specs.declared.version.FileVersion.TheVariants.{Version2}
-use Rattle.aptpl_file.specs.Format.{root_block}
+use Rattle.std.proofs.Common.{arith, refl, false, rules, ⊎_elim, inl, inr, ◌+◌}
+use Rattle.aptpl_format.specs.declared.slot.Slot.TheVariants.{First}
+use Rattle.aptpl_format.specs.declared.version.FileVersion.TheVariants.{Version2}
+use Rattle.aptpl_format.specs.Format.{root_block}
 use Rattle.aptpl_file.specs.Formatting.{nothing}
 use Rattle.aptpl_file.proofs.Formats.{stops_in_format}
+use Rattle.aptpl_file.proofs.Saves.{saved_lasts}
 use Rattle.aptpl_file.proofs.Stops.{slot_beside}
 use Rattle.aptpl_file.proofs.file.RegFile.format.Goals as goal
 
@@ -28,3 +29,10 @@ returns-clause-stop g c = λ h m.
     stops_in_format g.B.Blocks.moment g.B.Blocks.left_since g.B.Blocks.size g.B.Blocks.may_hold c.args.device
     c.save_slot.new.device c.save_root.new.device c.save_slot.ensures.size c.requires (c.in-Ok.ensures.crash h)
     (c.in-Ok.ensures.lasts h) (search rules) (c.in-Ok.ensures.stop h m) (c.in-Ok-save_root.ensures.stop h m)
+
+pub returns-clause-lasts : goal.returns-clause-lasts
+returns-clause-lasts g c = λ h.
+    let next = c.save_slot.ensures.size in let new = c.save_root.ensures.size in let room = c.requires in
+    saved_lasts g.B.Blocks.size g.B.Blocks.may_hold c.save_slot.new.device c.save_root.new.device First false nothing nothing
+    (omega (arith, next, new, room)) refl (c.save_root.ensures.crash h) (c.in-Ok-save_root.ensures.lasts h)
+    (c.in-Ok.ensures.lasts h) refl (search rules)

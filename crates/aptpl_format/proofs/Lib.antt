@@ -1,0 +1,10 @@
+pub mod Entries
+pub mod EntriesTaken
+pub mod Header
+pub mod Holder
+pub mod OneRecord
+pub mod Padding
+pub mod SlotParts
+pub mod Spelled
+pub mod Taken
+pub mod Told
