@@ -1,5 +1,5 @@
 use Rattle.block_file.specs.Cut.{cut}
-use Rattle.unit_state.specs.State.{state_of}
+use Rattle.unit_control.specs.State.{state_of}
 use Rattle.history_tests.proofs.seats.sixty_four_readers.Given as goal
 
 abbrev pub ghosts-watch : goal.ghosts-watch
