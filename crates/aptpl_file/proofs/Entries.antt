@@ -11,14 +11,14 @@ use lib.Pointwise.{pointwise}
 use Rattle.scsi_types.specs.Nexus.{Nexus, Port}
 use Rattle.scsi_types.specs.declared.names.Group.{Group}
 use Rattle.scsi_types.specs.declared.names.Group.TheVariants.{One, Two}
-use Rattle.reservations.specs.declared.registrant.Registrant.{Registrant}
-use Rattle.reservations.specs.Nexus.{other_nexus, same_group, same_port, same_nexus}
-use Rattle.reservations.specs.Registry.{IsListed, is_registered}
+use Rattle.registrants.specs.declared.registrant.Registrant.{Registrant}
+use Rattle.registrants.specs.Nexus.{other_nexus, same_group, same_port, same_nexus}
+use Rattle.registrants.specs.Registry.{IsListed, is_registered}
 use Rattle.aptpl_file.specs.declared.entry.Entry.{Entry}
 use Rattle.aptpl_file.specs.declared.version.FileVersion.{FileVersion}
 use Rattle.aptpl_file.specs.declared.version.FileVersion.TheVariants.{Version1, Version2}
-use Rattle.aptpl_file.specs.Format.{covers, entries_of, group_number, group_of, has_pair, is_pair, place_of}
-use Rattle.aptpl_file.specs.Reads.{IsEntry, covered, second_of}
+use Rattle.aptpl_format.specs.Format.{covers, entries_of, group_number, group_of, has_pair, is_pair, place_of}
+use Rattle.aptpl_format.specs.Reads.{IsEntry, covered, second_of}
 use Rattle.aptpl_file.proofs.Taken.{equal_to_itself}
 
 -- ---- one nexus

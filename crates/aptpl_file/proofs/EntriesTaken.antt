@@ -4,10 +4,10 @@ use Rattle.std.proofs.Common.{refl, sym, ◌∙◌, ap, subst, arith, append_ass
 use Rattle.std.proofs.lemmas.Grind.{flat_map-append}
 use Rattle.std.proofs.lemmas.List.{append-nil, take_all}
 use Rattle.std.specs.List.{flat_map, slice_get}
-use Rattle.reservations.specs.declared.registrant.Registrant.{Registrant}
+use Rattle.registrants.specs.declared.registrant.Registrant.{Registrant}
 use Rattle.aptpl_file.specs.declared.entry.Entry.{Entry}
-use Rattle.aptpl_file.specs.Format.{entry_bytes}
-use Rattle.aptpl_file.specs.Reads.{AreEntries, IsEntry, SpellsEntries, covered, covered_by, entry_part, second_of}
+use Rattle.aptpl_format.specs.Format.{entry_bytes}
+use Rattle.aptpl_format.specs.Reads.{AreEntries, IsEntry, SpellsEntries, covered, covered_by, entry_part, second_of}
 use Rattle.aptpl_file.proofs.Entries.{all_got}
 
 -- the registrants of an entry of both groups, one behind the other

@@ -1,12 +1,12 @@
 -- A stop inside the making of a registration file.
 use Rattle.std.proofs.Common.{◌≡◌, ◌⊎◌, inl, inr, ⊎_elim, ℕ, ◌+◌, ◌<◌, ◌≤◌, List, [], ◌∷◌, ◌∙◌, subst, arith}
-use Rattle.reservations.specs.Registry.{RecordValue, IsRecord}
+use Rattle.registrants.specs.Registry.{RecordValue, IsRecord}
 use Rattle.block_file.specs.Disk.{block_at, or_new, IsNewAt, MayLeave, NoMore}
 use Rattle.block_file.specs.Moment.{StopsAmong}
 use Rattle.block_file.specs.MomentLaws.{no_time, then_elapses}
 use Rattle.aptpl_file.specs.declared.slot.Slot.TheVariants.{First}
 use Rattle.aptpl_file.specs.declared.version.FileVersion.TheVariants.{Version2}
-use Rattle.aptpl_file.specs.Format.{root_block}
+use Rattle.aptpl_format.specs.Format.{root_block}
 use Rattle.aptpl_file.specs.Formatting.{nothing, LeftInFormat, StopsInFormat}
 use Rattle.aptpl_file.specs.Lasts.{SlotLasts}
 use Rattle.aptpl_file.specs.LastsLaws.{slot_left}

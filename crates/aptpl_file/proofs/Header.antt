@@ -1,8 +1,8 @@
 -- What is read of a slot's first block.
 use Rattle.std.proofs.Common.{◌≡◌, ℕ, Bool, true, false, nat_eq, List, length, slice_index, refl}
-use Rattle.reservations.specs.Registry.{RecordValue, holder_of}
+use Rattle.registrants.specs.Registry.{RecordValue, holder_of}
 use Rattle.aptpl_file.specs.declared.version.FileVersion.{FileVersion}
-use Rattle.aptpl_file.specs.Format.{aptpl_byte, entries_of, group_of, header_block, place_of, slot_bytes, type_byte}
+use Rattle.aptpl_format.specs.Format.{aptpl_byte, entries_of, group_of, header_block, place_of, slot_bytes, type_byte}
 
 pub aptpl_read : (v : FileVersion) (r : RecordValue) → slice_index (slot_bytes v r) 8 ≡ aptpl_byte r.aptpl
 unfolding slot_bytes header_block

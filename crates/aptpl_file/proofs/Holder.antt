@@ -5,20 +5,20 @@ use Rattle.std.proofs.lemmas.Bool.{cases_Bool, eq-eqb}
 use Rattle.std.specs.List.{find}
 use Rattle.std.specs.Option.{option_map}
 use Rattle.scsi_types.specs.Nexus.{Nexus}
-use Rattle.reservations.specs.declared.kind.ReservationType.{ReservationType}
-use Rattle.reservations.specs.declared.kind.ReservationType.TheVariants.{WriteExclusive, ExclusiveAccess}
-use Rattle.reservations.specs.declared.kind.ReservationType.TheVariants.{WriteExclusiveRegistrantsOnly}
-use Rattle.reservations.specs.declared.kind.ReservationType.TheVariants.{ExclusiveAccessRegistrantsOnly}
-use Rattle.reservations.specs.declared.kind.ReservationType.TheVariants.{WriteExclusiveAllRegistrants}
-use Rattle.reservations.specs.declared.kind.ReservationType.TheVariants.{ExclusiveAccessAllRegistrants}
-use Rattle.reservations.specs.declared.registrant.Registrant.{Registrant}
-use Rattle.reservations.specs.declared.registrant.Reservation.{Reservation}
-use Rattle.reservations.specs.Kind.{is_of_all_registrants, type_code, type_of}
-use Rattle.reservations.specs.Nexus.{same_nexus}
-use Rattle.reservations.specs.Registry.{RecordValue, holder_of, is_any, is_registered, is_rightly_held, is_sound_hold}
+use Rattle.registrants.specs.declared.kind.ReservationType.{ReservationType}
+use Rattle.registrants.specs.declared.kind.ReservationType.TheVariants.{WriteExclusive, ExclusiveAccess}
+use Rattle.registrants.specs.declared.kind.ReservationType.TheVariants.{WriteExclusiveRegistrantsOnly}
+use Rattle.registrants.specs.declared.kind.ReservationType.TheVariants.{ExclusiveAccessRegistrantsOnly}
+use Rattle.registrants.specs.declared.kind.ReservationType.TheVariants.{WriteExclusiveAllRegistrants}
+use Rattle.registrants.specs.declared.kind.ReservationType.TheVariants.{ExclusiveAccessAllRegistrants}
+use Rattle.registrants.specs.declared.registrant.Registrant.{Registrant}
+use Rattle.registrants.specs.declared.registrant.Reservation.{Reservation}
+use Rattle.registrants.specs.Kind.{is_of_all_registrants, type_code, type_of}
+use Rattle.registrants.specs.Nexus.{same_nexus}
+use Rattle.registrants.specs.Registry.{RecordValue, holder_of, is_any, is_registered, is_rightly_held, is_sound_hold}
 use Rattle.aptpl_file.specs.declared.version.FileVersion.{FileVersion}
-use Rattle.aptpl_file.specs.Format.{group_of, place_of, type_byte}
-use Rattle.aptpl_file.specs.Reads.{HasReservation, Spells, holder_in}
+use Rattle.aptpl_format.specs.Format.{group_of, place_of, type_byte}
+use Rattle.aptpl_format.specs.Reads.{HasReservation, Spells, holder_in}
 use Rattle.aptpl_file.proofs.Entries.{both, found_passes, nexus_itself, one_nexus, one_place}
 use Rattle.aptpl_file.proofs.Header.{type_read, place_read, group_read}
 

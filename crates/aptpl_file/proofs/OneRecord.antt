@@ -2,15 +2,15 @@
 use Rattle.std.proofs.Common.{◌≡◌, ℕ, zero, suc, ◌<◌, nat_eq, List, [], ◌∷◌, length, slice_index, Option, Some, refl, sym}
 use Rattle.std.proofs.Common.{◌∙◌, ap, arith}
 use Rattle.std.specs.List.{AllByRecursion, flat_map, slice_get}
-use Rattle.reservations.specs.declared.registrant.Registrant.{Registrant}
-use Rattle.reservations.specs.declared.registrant.Reservation.{Reservation}
-use Rattle.reservations.specs.Registry.{RecordValue, holder_of, is_sound_hold}
+use Rattle.registrants.specs.declared.registrant.Registrant.{Registrant}
+use Rattle.registrants.specs.declared.registrant.Reservation.{Reservation}
+use Rattle.registrants.specs.Registry.{RecordValue, holder_of, is_sound_hold}
 use Rattle.aptpl_file.specs.declared.entry.Entry.{Entry}
 use Rattle.aptpl_file.specs.declared.slot.Slot.{Slot}
 use Rattle.aptpl_file.specs.declared.version.FileVersion.{FileVersion}
-use Rattle.aptpl_file.specs.Format.{entries_of, entry_bytes, place_of, slot_bytes}
+use Rattle.aptpl_format.specs.Format.{entries_of, entry_bytes, place_of, slot_bytes}
 use Rattle.aptpl_file.specs.Holds.{Holds}
-use Rattle.aptpl_file.specs.Reads.{HasSlot, IsEntry, Spells, SpellsEntries, covered}
+use Rattle.aptpl_format.specs.Reads.{HasSlot, IsEntry, Spells, SpellsEntries, covered}
 use Rattle.aptpl_file.proofs.Entries.{entries_are, stand_for}
 use Rattle.aptpl_file.proofs.Header.{aptpl_read, aptpl_back, count_read, group_read, place_read, type_read}
 use Rattle.aptpl_file.proofs.Holder.{same_reservation}

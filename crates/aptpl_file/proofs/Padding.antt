@@ -4,7 +4,7 @@ use Rattle.std.proofs.Common.{ap, arith, append_assoc, length-append}
 use Rattle.std.proofs.lemmas.List.{append-nil, drop-drop, drop_at, take_at, drop-replicate}
 use Rattle.std.specs.List.{flat_map}
 use Rattle.aptpl_file.specs.declared.entry.Entry.{Entry}
-use Rattle.aptpl_file.specs.Format.{entry_bytes, padded}
+use Rattle.aptpl_format.specs.Format.{entry_bytes, padded}
 
 -- the first run
 pub put_first : (n : ℕ) (bytes : List ℕ)

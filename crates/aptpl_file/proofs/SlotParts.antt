@@ -4,17 +4,17 @@ use Rattle.std.proofs.Common.{Some, replicate, slice_index, refl, sym, ◌∙◌
 use Rattle.std.proofs.Common.{length-append, length-drop}
 use Rattle.std.proofs.lemmas.List.{drop-drop, drop_at, length-replicate, take_at, take-append-drop}
 use Rattle.std.specs.List.{AllByRecursion, flat_map, slice_get}
-use Rattle.reservations.specs.declared.registrant.Registrant.{Registrant}
-use Rattle.reservations.specs.Registry.{RecordValue, IsRecord}
+use Rattle.registrants.specs.declared.registrant.Registrant.{Registrant}
+use Rattle.registrants.specs.Registry.{RecordValue, IsRecord}
 use Rattle.block_file.specs.Disk.{block_at}
 use Rattle.aptpl_file.specs.declared.entry.Entry.{Entry}
 use Rattle.aptpl_file.specs.declared.slot.Slot.{Slot}
 use Rattle.aptpl_file.specs.declared.version.FileVersion.{FileVersion}
 use Rattle.aptpl_file.specs.declared.fault.OpenFault.{OpenFault}
 use Rattle.aptpl_file.specs.declared.fault.OpenFault.TheVariants.{NotARegFile, Version, DeviceFailed, NoMemory}
-use Rattle.aptpl_file.specs.Format.{entries_of, entry_bytes, first_block, header_block, part_at, root_block, slot_bytes}
+use Rattle.aptpl_format.specs.Format.{entries_of, entry_bytes, first_block, header_block, part_at, root_block, slot_bytes}
 use Rattle.aptpl_file.specs.Holds.{Holds, HoldsSlot, IsRefusal}
-use Rattle.aptpl_file.specs.Reads.{AreEntries, HasSlot, IsEntry, IsRefusalOf, Spells, SpellsEntries, covered, entry_part}
+use Rattle.aptpl_format.specs.Reads.{AreEntries, HasSlot, IsEntry, IsRefusalOf, Spells, SpellsEntries, covered, entry_part}
 use Rattle.aptpl_file.specs.Runs.{AreSlot}
 use Rattle.aptpl_file.proofs.Entries.{as_few, entries_are, stand_for}
 use Rattle.aptpl_file.proofs.Header.{count_read}

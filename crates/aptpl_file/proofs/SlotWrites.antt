@@ -2,13 +2,13 @@
 use Rattle.std.proofs.Common.{◌≡◌, inl, inr, ⊎_elim, ℕ, ◌+◌, ◌-◌, ◌*◌, ◌/◌, ◌<◌, ◌≤◌, List, [], ◌∷◌, ◌++◌, length}
 use Rattle.std.proofs.Common.{take, drop, sym, ◌∙◌, ap, arith}
 use Rattle.std.proofs.lemmas.Bool.{cases_lt}
-use Rattle.reservations.specs.Registry.{RecordValue}
+use Rattle.registrants.specs.Registry.{RecordValue}
 use Rattle.block_file.specs.Cut.{cut, run_of}
 use Rattle.block_file.specs.CutLaws.{cut_at, length-cut, run_of_one, write_run_is}
 use Rattle.block_file.specs.Disk.{block_at, written, IsNewAt, Adds, NoMore}
 use Rattle.block_file.specs.DiskLaws.{written_before, written_inside}
 use Rattle.aptpl_file.specs.declared.slot.Slot.{Slot}
-use Rattle.aptpl_file.specs.Format.{first_block, part_at, slot_block}
+use Rattle.aptpl_format.specs.Format.{first_block, part_at, slot_block}
 use Rattle.aptpl_file.specs.Holds.{HoldsSlot}
 use Rattle.aptpl_file.specs.LastsLaws.{slot_within}
 use Rattle.aptpl_file.specs.declared.version.FileVersion.{FileVersion}

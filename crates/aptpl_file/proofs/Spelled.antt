@@ -7,14 +7,14 @@ use Rattle.byteorder.specs.Endian.{big_bytes, big_number}
 use Rattle.byteorder.specs.Numbers.{big_number-reads_back, big_from-lt}
 use Rattle.scsi_types.specs.declared.names.Group.{Group}
 use Rattle.scsi_types.specs.declared.names.Group.TheVariants.{One, Two}
-use Rattle.reservations.specs.declared.registrant.Registrant.{Registrant}
-use Rattle.reservations.specs.Registry.{IsListed}
+use Rattle.registrants.specs.declared.registrant.Registrant.{Registrant}
+use Rattle.registrants.specs.Registry.{IsListed}
 use Rattle.aptpl_file.specs.declared.slot.Slot.{Slot}
 use Rattle.aptpl_file.specs.declared.slot.Slot.TheVariants.{First, Second}
 use Rattle.aptpl_file.specs.declared.entry.Entry.{Entry}
 use Rattle.aptpl_file.specs.declared.version.FileVersion.{FileVersion}
 use Rattle.aptpl_file.specs.declared.version.FileVersion.TheVariants.{Version1, Version2}
-use Rattle.aptpl_file.specs.Format.{entry_bytes, group_code, root_block, root_name, slot_number, version_bytes}
+use Rattle.aptpl_format.specs.Format.{entry_bytes, group_code, root_block, root_name, slot_number, version_bytes}
 use Rattle.std.specs.Prelude.{Bool, true, false}
 
 -- a root's name, version and slot

@@ -1,6 +1,6 @@
 -- A stop inside a save.
 use Rattle.std.proofs.Common.{◌≡◌, inl, inr, ⊎_elim, ℕ, ◌+◌, ◌<◌, ◌≤◌, Bool, true, false, List, [], ◌∷◌, refl, subst, arith}
-use Rattle.reservations.specs.Registry.{RecordValue, IsRecord}
+use Rattle.registrants.specs.Registry.{RecordValue, IsRecord}
 use Rattle.block_file.specs.Disk.{or_new, IsNewAt, MayLeave, NoMore}
 use Rattle.block_file.specs.Moment.{StopsAmong}
 use Rattle.block_file.specs.MomentLaws.{then_elapses}
@@ -8,7 +8,7 @@ use Rattle.aptpl_file.specs.declared.slot.Slot.{Slot}
 use Rattle.aptpl_file.specs.declared.slot.Slot.TheVariants.{First, Second}
 use Rattle.aptpl_file.specs.declared.version.FileVersion.{FileVersion}
 use Rattle.aptpl_file.specs.declared.version.FileVersion.TheVariants.{Version2}
-use Rattle.aptpl_file.specs.Format.{first_block, other_slot, root_block}
+use Rattle.aptpl_format.specs.Format.{first_block, other_slot, root_block}
 use Rattle.aptpl_file.specs.Holds.{HoldsOneOf}
 use Rattle.aptpl_file.specs.Lasts.{RootLasts, SlotLasts, IsAmong, StopsAt, first_of}
 use Rattle.aptpl_file.specs.LastsLaws.{behind_root, among_holds}

@@ -9,13 +9,13 @@ use Rattle.std.specs.List.{AllByRecursion}
 use Rattle.std.specs.declared.cmp.Ordering.TheVariants.{Less}
 use Rattle.scsi_types.specs.declared.names.Group.{Group}
 use Rattle.scsi_types.specs.declared.names.Group.TheVariants.{One, Two}
-use Rattle.reservations.specs.declared.registrant.Registrant.{Registrant}
-use Rattle.reservations.specs.Nexus.{nexus_cmp}
-use Rattle.reservations.specs.Registry.{IsAscending, IsListed}
+use Rattle.registrants.specs.declared.registrant.Registrant.{Registrant}
+use Rattle.registrants.specs.Nexus.{nexus_cmp}
+use Rattle.registrants.specs.Registry.{IsAscending, IsListed}
 use Rattle.byteorder.specs.Endian.{big_number}
 use Rattle.aptpl_file.specs.declared.entry.Entry.{Entry}
-use Rattle.aptpl_file.specs.Format.{entry_bytes, group_code}
-use Rattle.aptpl_file.specs.Reads.{AreEntries, IsEntry}
+use Rattle.aptpl_format.specs.Format.{entry_bytes, group_code}
+use Rattle.aptpl_format.specs.Reads.{AreEntries, IsEntry}
 use Rattle.aptpl_file.proofs.Spelled.{key_read, code_read, isid_read, length_read, name_read}
 
 -- ---- one entry is spelled so

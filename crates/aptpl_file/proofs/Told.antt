@@ -3,7 +3,7 @@ use Rattle.std.specs.Prelude.{Result, Ok, Err}
 use Rattle.std.specs.Result.{IfOk, IfErr, OnOk}
 use Rattle.aptpl_file.specs.declared.fault.OpenFault.{OpenFault}
 use Rattle.aptpl_file.specs.declared.fault.OpenFault.TheVariants.{NotARegFile, Version, DeviceFailed, NoMemory}
-use Rattle.aptpl_file.specs.Reads.{IsRefusalOf}
+use Rattle.aptpl_format.specs.Reads.{IsRefusalOf}
 
 -- what is refused for want of one thing is refused for want of another that asks for it
 pub refused_too : (fault : OpenFault) (A B : Type 0) → (A → B) → IsRefusalOf fault A → IsRefusalOf fault B

@@ -8,11 +8,11 @@ use Rattle.byteorder.specs.Endian.{big_bytes}
 use Rattle.scsi_types.specs.Nexus.{Nexus}
 use Rattle.scsi_types.specs.declared.names.Group.{Group}
 use Rattle.scsi_types.specs.declared.names.Group.TheVariants.{One, Two}
-use Rattle.reservations.specs.declared.registrant.Registrant.{Registrant}
-use Rattle.reservations.specs.declared.registrant.Reservation.{Reservation}
-use Rattle.reservations.specs.Kind.{type_code}
-use Rattle.reservations.specs.Nexus.{other_nexus, same_group, same_nexus, same_port}
-use Rattle.reservations.specs.Registry.{RecordValue, holder_of}
+use Rattle.registrants.specs.declared.registrant.Registrant.{Registrant}
+use Rattle.registrants.specs.declared.registrant.Reservation.{Reservation}
+use Rattle.registrants.specs.Kind.{type_code}
+use Rattle.registrants.specs.Nexus.{other_nexus, same_group, same_nexus, same_port}
+use Rattle.registrants.specs.Registry.{RecordValue, holder_of}
 use Rattle.block_file.specs.declared.blocks.TheConstants.{BLOCK_LENGTH}
 use Rattle.aptpl_file.specs.declared.entry.Entry.{Entry}
 use Rattle.aptpl_file.specs.declared.slot.Slot.{Slot}

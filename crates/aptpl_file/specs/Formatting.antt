@@ -1,6 +1,6 @@
 -- What the making of a registration file leaves: the slot is written first, and the root that names it behind it.
 use Rattle.std.specs.Prelude.{◌≡◌, ◌⊎◌, ℕ, false, List, [], ◌∷◌, None}
-use Rattle.reservations.specs.Registry.{RecordValue}
+use Rattle.registrants.specs.Registry.{RecordValue}
 use Rattle.block_file.specs.Disk.{or_new, MayLeave, NoMore}
 use Rattle.block_file.specs.Failures.{Tells}
 use Rattle.block_file.specs.Moment.{Elapses}
@@ -8,7 +8,7 @@ use Rattle.aptpl_file.specs.declared.slot.Slot.TheVariants.{First}
 use Rattle.aptpl_file.specs.declared.version.FileVersion.TheVariants.{Version2}
 use Rattle.aptpl_file.specs.declared.fault.SaveFault.{SaveFault}
 use Rattle.aptpl_file.specs.declared.fault.SaveFault.TheVariants.{OldRoot, IdleSlot, NewRoot}
-use Rattle.aptpl_file.specs.Format.{root_block}
+use Rattle.aptpl_format.specs.Format.{root_block}
 use Rattle.aptpl_file.specs.Holds.{Holds}
 use Rattle.aptpl_file.specs.Lasts.{FileValue, SlotLasts}
 use Rattle.aptpl_file.specs.Writes.{beside_slot}

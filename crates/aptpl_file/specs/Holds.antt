@@ -1,12 +1,12 @@
 -- The record that the blocks of a registration file hold.
 use Rattle.std.specs.Prelude.{◌≡◌, ◌⊎◌, ℕ, ◌+◌, ◌<◌, ◌≤◌, List, [], ◌∷◌, length, take, drop}
-use Rattle.reservations.specs.Registry.{RecordValue, IsRecord}
+use Rattle.registrants.specs.Registry.{RecordValue, IsRecord}
 use Rattle.block_file.specs.Disk.{block_at}
 use Rattle.aptpl_file.specs.declared.slot.Slot.{Slot}
 use Rattle.aptpl_file.specs.declared.fault.OpenFault.{OpenFault}
 use Rattle.aptpl_file.specs.declared.fault.OpenFault.TheVariants.{NotARegFile, Version, DeviceFailed, NoMemory}
 use Rattle.aptpl_file.specs.declared.version.FileVersion.{FileVersion}
-use Rattle.aptpl_file.specs.Format.{file_blocks, first_block, root_block, root_name, slot_block, slot_blocks, version_bytes}
+use Rattle.aptpl_format.specs.Format.{file_blocks, first_block, root_block, root_name, slot_block, slot_blocks, version_bytes}
 
 -- the slot's blocks are the spelling of the record in a version
 abbrev pub HoldsSlot : List (List ℕ) → FileVersion → Slot → RecordValue → Type 0

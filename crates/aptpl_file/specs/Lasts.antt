@@ -1,6 +1,6 @@
 -- What a crash may leave of a registration file.
 use Rattle.std.specs.Prelude.{◌≡◌, ◌⊎◌, ℕ, ◌+◌, ◌<◌, ◌≤◌, Bool, true, false, List, [], ◌∷◌, ◌++◌}
-use Rattle.reservations.specs.Registry.{RecordValue, IsRecord}
+use Rattle.registrants.specs.Registry.{RecordValue, IsRecord}
 use Rattle.block_file.specs.Disk.{MayLeave}
 use Rattle.block_file.specs.Moment.{Elapses}
 use Rattle.aptpl_file.specs.declared.slot.Slot.{Slot}
@@ -8,7 +8,7 @@ use Rattle.aptpl_file.specs.declared.version.FileVersion.{FileVersion}
 use Rattle.aptpl_file.specs.declared.version.FileVersion.TheVariants.{Version2}
 use Rattle.aptpl_file.specs.declared.fault.SaveFault.{SaveFault}
 use Rattle.aptpl_file.specs.declared.fault.SaveFault.TheVariants.{OldRoot, IdleSlot, NewRoot}
-use Rattle.aptpl_file.specs.Format.{file_blocks, first_block, other_slot, root_block, slot_block, slot_blocks}
+use Rattle.aptpl_format.specs.Format.{file_blocks, first_block, other_slot, root_block, slot_block, slot_blocks}
 use Rattle.aptpl_file.specs.Holds.{HoldsOneOf}
 
 -- What contracts see of a file: its device as it is, the version and the slot that its root names, and whether a root of

@@ -1,12 +1,12 @@
 -- What the records among which a crash leaves one say of its outcomes.
 use Rattle.std.proofs.Common.{◌≡◌, ◌⊎◌, inl, inr, ⊎_elim, ℕ, ◌+◌, ◌<◌, ◌≤◌, Bool, List, [], ◌∷◌, arith}
-use Rattle.reservations.specs.Registry.{RecordValue}
+use Rattle.registrants.specs.Registry.{RecordValue}
 use Rattle.block_file.specs.Disk.{block_at, MayLeave}
 use Rattle.aptpl_file.specs.declared.slot.Slot.{Slot}
 use Rattle.aptpl_file.specs.declared.slot.Slot.TheVariants.{First, Second}
 use Rattle.aptpl_file.specs.declared.version.FileVersion.{FileVersion}
 use Rattle.aptpl_file.specs.declared.version.FileVersion.TheVariants.{Version2}
-use Rattle.aptpl_file.specs.Format.{first_block, other_slot, root_block, slot_block}
+use Rattle.aptpl_format.specs.Format.{first_block, other_slot, root_block, slot_block}
 use Rattle.aptpl_file.specs.Holds.{Holds, HoldsOneOf}
 use Rattle.aptpl_file.specs.Lasts.{FileValue, SlotLasts, IsDecided, IsUndecided, IsAmong, LastsAmong, EachOutcomeHolds}
 

@@ -5,16 +5,16 @@ use Rattle.std.specs.List.{AllByRecursion, find, flat_map, slice_get}
 use Rattle.std.specs.Option.{option_map}
 use Rattle.scsi_types.specs.Nexus.{Nexus}
 use Rattle.scsi_types.specs.declared.names.Group.TheVariants.{One}
-use Rattle.reservations.specs.declared.registrant.Registrant.{Registrant}
-use Rattle.reservations.specs.Nexus.{other_nexus}
-use Rattle.reservations.specs.Registry.{RecordValue, IsAscending, IsListed, IsRecord, holder_of}
+use Rattle.registrants.specs.declared.registrant.Registrant.{Registrant}
+use Rattle.registrants.specs.Nexus.{other_nexus}
+use Rattle.registrants.specs.Registry.{RecordValue, IsAscending, IsListed, IsRecord, holder_of}
 use Rattle.aptpl_file.specs.declared.entry.Entry.{Entry}
 use Rattle.aptpl_file.specs.declared.slot.Slot.{Slot}
 use Rattle.aptpl_file.specs.declared.version.FileVersion.{FileVersion}
 use Rattle.aptpl_file.specs.declared.fault.OpenFault.{OpenFault}
 use Rattle.aptpl_file.specs.declared.fault.OpenFault.TheVariants.{NotARegFile, Version, DeviceFailed, NoMemory}
-use Rattle.aptpl_file.specs.Format.{entry_bytes, entry_length, group_of, place_of, root_block, root_name, slot_bytes}
-use Rattle.aptpl_file.specs.Format.{type_byte, version_bytes}
+use Rattle.aptpl_format.specs.Format.{entry_bytes, entry_length, group_of, place_of, root_block, root_name, slot_bytes}
+use Rattle.aptpl_format.specs.Format.{type_byte, version_bytes}
 use Rattle.aptpl_file.specs.Holds.{HoldsSlot}
 
 -- two bytes are a version

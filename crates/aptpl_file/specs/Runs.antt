@@ -2,7 +2,7 @@
 use Rattle.std.specs.Prelude.{◌≡◌, ℕ, ◌+◌, ◌<◌, List}
 use Rattle.block_file.specs.Disk.{block_at}
 use Rattle.aptpl_file.specs.declared.slot.Slot.{Slot}
-use Rattle.aptpl_file.specs.Format.{first_block, part_at, slot_blocks}
+use Rattle.aptpl_format.specs.Format.{first_block, part_at, slot_blocks}
 
 -- the bytes are the blocks of the slot
 abbrev pub AreSlot : List (List ℕ) → Slot → List ℕ → Type 0

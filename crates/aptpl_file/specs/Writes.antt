@@ -1,7 +1,7 @@
 -- What writes to a slot leave alone.
 use Rattle.std.specs.Prelude.{◌⊎◌, ℕ, ◌+◌, ◌<◌, ◌≤◌, List}
 use Rattle.aptpl_file.specs.declared.slot.Slot.{Slot}
-use Rattle.aptpl_file.specs.Format.{first_block, slot_blocks}
+use Rattle.aptpl_format.specs.Format.{first_block, slot_blocks}
 
 -- the block is one of the slot's
 pub record IsInSlot (slot : Slot) (k : ℕ) : Type 0 where

@@ -1,6 +1,6 @@
 //! The entries of a slot.
 ghost use Rattle.std.specs.Prelude.{◌≡◌, ◌≤◌, ◌∷◌, [], length, IfNone, IfSome, Some};
-ghost use Rattle.aptpl_file.specs.Format.{covers, entries_of, has_pair, is_pair, place_of};
+ghost use Rattle.aptpl_format.specs.Format.{covers, entries_of, has_pair, is_pair, place_of};
 
 use crate::FileVersion;
 use reservations::{Nexus, Registrant};

@@ -3,8 +3,8 @@ ghost use Rattle.std.specs.Prelude.{◌≡◌, ◌<◌, ◌≤◌, IsErrOf, List
 ghost use Rattle.block_file.specs.Disk.{or_new, Adds};
 ghost use Rattle.block_file.specs.Moment.{StopsAmong};
 ghost use Rattle.block_file.specs.Failures.{CanFail, Counts, Tells};
-ghost use Rattle.reservations.specs.Registry.{RecordValue};
-ghost use Rattle.aptpl_file.specs.Format.{file_blocks};
+ghost use Rattle.registrants.specs.Registry.{RecordValue};
+ghost use Rattle.aptpl_format.specs.Format.{file_blocks};
 
 use crate::reading::read_record;
 use crate::spelling::FILE_BLOCKS;
@@ -27,7 +27,7 @@ pub struct RegFile<B: Blocks> {
 
 impl<B: Blocks> Model for RegFile<B> {
     ghost use Rattle.std.specs.Prelude.{◌≤◌};
-    ghost use Rattle.aptpl_file.specs.Format.{file_blocks};
+    ghost use Rattle.aptpl_format.specs.Format.{file_blocks};
     ghost use Rattle.aptpl_file.specs.Lasts.{FileValue};
 
     ghost Value = { FileValue B };
@@ -44,7 +44,7 @@ impl<B: Blocks> Model for RegFile<B> {
 
 impl<B: Blocks> RegFile<B> {
     ghost use Rattle.aptpl_file.specs.Holds.{Holds, IsRefusal};
-    ghost use Rattle.aptpl_file.specs.Format.{root_block};
+    ghost use Rattle.aptpl_format.specs.Format.{root_block};
     ghost use Rattle.aptpl_file.specs.Formatting.{nothing, FailsAt, IsFormatted, StopsInFormat};
     ghost use Rattle.aptpl_file.specs.Lasts.{LastsAmong, RootLasts, StopsAt, left_by};
 

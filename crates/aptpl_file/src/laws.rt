@@ -1,6 +1,6 @@
 //! What the definitions of a registration file say, in other words.
 ghost use Rattle.std.specs.Prelude.{◌≡◌, List, ℕ};
-ghost use Rattle.reservations.specs.Registry.{RecordValue};
+ghost use Rattle.registrants.specs.Registry.{RecordValue};
 ghost use Rattle.aptpl_file.specs.Holds.{Holds};
 ghost use Rattle.aptpl_file.specs.Lasts.{EachOutcomeHolds, FileValue, LastsAmong};
 

@@ -2,9 +2,9 @@
 ghost use Rattle.std.specs.Prelude.{◌≡◌, ◌≤◌, ◌<◌, IfErr, IfOk, IsTrue, length};
 ghost use Rattle.block_file.specs.Disk.{block_at, NoMore};
 ghost use Rattle.block_file.specs.Failures.{Counts, Tells};
-ghost use Rattle.reservations.specs.Registry.{RecordValue};
-ghost use Rattle.aptpl_file.specs.Format.{file_blocks};
-ghost use Rattle.aptpl_file.specs.Reads.{HasSlot, IsRefusalOf, IsUnfailed};
+ghost use Rattle.registrants.specs.Registry.{RecordValue};
+ghost use Rattle.aptpl_format.specs.Format.{file_blocks};
+ghost use Rattle.aptpl_format.specs.Reads.{HasSlot, IsRefusalOf, IsUnfailed};
 ghost use Rattle.aptpl_file.specs.Holds.{Holds, IsRefusal};
 ghost use Rattle.aptpl_file.specs.Lasts.{IsDecided};
 ghost use Rattle.aptpl_file.specs.Runs.{AreSlot};

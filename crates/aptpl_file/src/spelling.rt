@@ -2,9 +2,9 @@
 ghost use Rattle.std.specs.Prelude.{◌≡◌, ◌+◌, ◌^◌, ◌≤◌, ◌<◌, [], ◌∷◌, ◌++◌, false, length, take, drop, Some};
 ghost use Rattle.byteorder.specs.Endian.{big_bytes};
 ghost use Rattle.block_file.specs.declared.blocks.TheConstants.{BLOCK_LENGTH};
-ghost use Rattle.reservations.specs.Registry.{holder_of};
-ghost use Rattle.aptpl_file.specs.Format.{entry_bytes, group_code, group_of, header_block, padded, place_of, root_block};
-ghost use Rattle.aptpl_file.specs.Format.{slot_bytes, type_byte};
+ghost use Rattle.registrants.specs.Registry.{holder_of};
+ghost use Rattle.aptpl_format.specs.Format.{entry_bytes, group_code, group_of, header_block, padded, place_of, root_block};
+ghost use Rattle.aptpl_format.specs.Format.{slot_bytes, type_byte};
 
 use crate::entry::{MOST_ENTRIES, NO_HOLDER, entry_count, first_entry, place_of};
 use crate::{FileVersion, Slot};

@@ -1,6 +1,6 @@
 //! The versions of a registration file.
 ghost use Rattle.std.specs.Prelude.{◌≡◌};
-ghost use Rattle.aptpl_file.specs.Format.{version_bytes};
+ghost use Rattle.aptpl_format.specs.Format.{version_bytes};
 
 /// A version of the registration file. Both are read; a save writes the second.
 #[derive(Clone, Copy, Debug, PartialEq, Eq)]

@@ -3,7 +3,7 @@ ghost use Rattle.std.specs.Prelude.{◌≡◌, ◌≤◌, [], ◌∷◌, IsTrue,
 ghost use Rattle.block_file.specs.Disk.{block_at, or_new, Adds, NoMore};
 ghost use Rattle.block_file.specs.Moment.{StopsAmong, TimePasses};
 ghost use Rattle.block_file.specs.Failures.{Counts};
-ghost use Rattle.aptpl_file.specs.Format.{file_blocks, root_block};
+ghost use Rattle.aptpl_format.specs.Format.{file_blocks, root_block};
 ghost use Rattle.aptpl_file.specs.Holds.{HoldsSlot};
 ghost use Rattle.aptpl_file.specs.Lasts.{RootLasts, SlotLasts};
 ghost use Rattle.aptpl_file.specs.Writes.{beside_slot};

@@ -1,6 +1,6 @@
 //! The units of an array.
 ghost use Rattle.std.specs.Prelude.{◌≡◌, ◌<◌, ◌≤◌, ◌&&◌, length, IfOk, IfErr, IsTrue, MatchBool, List};
-ghost use Rattle.reservations.specs.Nexus.{IsPortName, through};
+ghost use Rattle.registrants.specs.Nexus.{IsPortName, through};
 ghost use Rattle.unit_history.specs.Calls.{HasAttached, HasNoRoom, HasServed, HasRefused, HasReset, WasGone, HasRetired};
 ghost use Rattle.unit_history.specs.Calls.{HasFlushed, HasMoved, HasStayed, HasWorked, HaveMet, IsShown};
 ghost use Rattle.unit_entries.specs.Devices.{devices};

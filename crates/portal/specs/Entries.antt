@@ -3,7 +3,7 @@ use Rattle.std.specs.Prelude.{◌≡◌, ◌⊎◌, ℕ, ◌<◌, ◌≤◌, fal
 use Rattle.std.specs.Prelude.{Some, None, Result, slice_get}
 use Rattle.std.specs.List.{flat_map}
 use Rattle.login.specs.declared.status.Kind.TheVariants.{Normal}
-use Rattle.reservations.specs.Nexus.{through}
+use Rattle.registrants.specs.Nexus.{through}
 use Rattle.scsi_types.specs.ReplyValue.{ReplyValue}
 use Rattle.scsi_types.specs.Nexus.{Port, Nexus}
 use Rattle.scsi_types.specs.declared.names.Group.{Group}

@@ -2,7 +2,7 @@
 use Rattle.std.specs.Prelude.{◌≡◌, ℕ, ◌+◌, ◌≤◌, Bool, not, ◌&&◌, nat_eq, List, [], ◌∷◌, ◌++◌, filter}
 use Rattle.std.specs.List.{list_any}
 use Rattle.login.specs.declared.status.Kind.{Kind}
-use Rattle.reservations.specs.Nexus.{same_group, same_port}
+use Rattle.registrants.specs.Nexus.{same_group, same_port}
 use Rattle.scsi_types.specs.Nexus.{Port, Nexus}
 use Rattle.portal.specs.declared.live.LiveSession.{LiveSession}
 use Rattle.portal.specs.Handles.{AreAllTaken, IsNextTsih, same_kind}

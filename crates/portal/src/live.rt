@@ -1,7 +1,7 @@
 //! The sessions that live at an array, and their handles.
 ghost use Rattle.std.specs.Prelude.{◌≡◌, ◌<◌, ◌++◌, ◌∷◌, [], length, nat_eq, vec_capacity, IfOk, IfErr, OnErr};
 ghost use Rattle.std.specs.List.{list_any};
-ghost use Rattle.reservations.specs.Nexus.{through, same_port};
+ghost use Rattle.registrants.specs.Nexus.{through, same_port};
 ghost use Rattle.portal.specs.Live.{HasEntered, IsCauseOf, is_live, others, without};
 
 use crate::connection::Connection;

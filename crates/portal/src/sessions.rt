@@ -1,6 +1,6 @@
 //! The sessions that live at an array, as its threads share them.
 ghost use Rattle.std.specs.Prelude.{◌<◌, IfOk, IfErr};
-ghost use Rattle.reservations.specs.Nexus.{through};
+ghost use Rattle.registrants.specs.Nexus.{through};
 ghost use Rattle.portal.specs.Sessions.{Sayings};
 
 use crate::connection::Connection;

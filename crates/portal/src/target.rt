@@ -1,7 +1,7 @@
 //! The target of one session: its passes of all units.
 ghost use Rattle.std.specs.Prelude.{◌≡◌, ◌+◌, ◌<◌, ◌≤◌, ◌↔◌, ◌∷◌, ◌++◌, [], false, true, All, IfErr, IfOk, IfSome, IsTrue, MatchOption};
 ghost use Rattle.std.specs.Prelude.{length, map, vec_capacity};
-ghost use Rattle.reservations.specs.Nexus.{IsPortName, through};
+ghost use Rattle.registrants.specs.Nexus.{IsPortName, through};
 ghost use Rattle.portal.specs.Target.{IsAbsent, IsAttachedTo, IsFullAt, IsJoined, IsOfUnits, IsOverAt, IsTurnedBack, Leaves};
 ghost use Rattle.portal.specs.Late.{late_of};
 ghost use Rattle.portal.specs.Target.{HasTried, IsServedAt, IsResetIn, unbegun};

@@ -1,7 +1,7 @@
 //! The units of an array, as a session reaches them.
 ghost use Rattle.std.specs.Prelude.{◌≡◌, ◌<◌, ◌⊎◌, ℕ, List, IfOk, IfErr};
 ghost use mathlib.Core.List.{IsPrefix};
-ghost use Rattle.reservations.specs.Nexus.{IsPortName, through};
+ghost use Rattle.registrants.specs.Nexus.{IsPortName, through};
 ghost use Rattle.unit_control.specs.State.{UnitState};
 ghost use Rattle.locked_unit.specs.Calls.{PlacedPass};
 ghost use Rattle.unit_control.specs.Entry.{Entry};

@@ -13,16 +13,16 @@ use Rattle.scsi_types.specs.declared.reservation.PrOutAction.{PrOutAction}
 use Rattle.scsi_types.specs.declared.reservation.PrOutAction.TheVariants.{Register, Reserve, Release, Clear}
 use Rattle.scsi_types.specs.declared.reservation.PrOutAction.TheVariants.{Preempt, PreemptAndAbort}
 use Rattle.scsi_types.specs.declared.reservation.PrOutAction.TheVariants.{RegisterAndIgnoreExistingKey}
-use Rattle.reservations.specs.declared.kind.ReservationType.{ReservationType}
-use Rattle.reservations.specs.declared.registrant.Registrant.{Registrant}
-use Rattle.reservations.specs.declared.registrant.Reservation.{Reservation}
+use Rattle.registrants.specs.declared.kind.ReservationType.{ReservationType}
+use Rattle.registrants.specs.declared.registrant.Registrant.{Registrant}
+use Rattle.registrants.specs.declared.registrant.Reservation.{Reservation}
 use Rattle.reservations.specs.declared.request.PrOut.{PrOut}
-use Rattle.reservations.specs.Kind.{is_of_all_registrants}
-use Rattle.reservations.specs.Nexus.{other_group, other_nexus, same_group, same_nexus}
+use Rattle.registrants.specs.Kind.{is_of_all_registrants}
+use Rattle.registrants.specs.Nexus.{other_group, other_nexus, same_group, same_nexus}
 use Rattle.reservations.specs.Notice.{Told, told_of}
-use Rattle.reservations.specs.Registry.{IsAscending, IsSound, RegistryValue, counted, is_registered}
-use Rattle.reservations.specs.Registry.{is_rightly_held, is_sole_holder, is_sound_hold, is_the, key_of, left_to, others}
-use Rattle.reservations.specs.Registry.{registered_by}
+use Rattle.registrants.specs.Registry.{IsAscending, IsSound, RegistryValue, counted, is_registered}
+use Rattle.registrants.specs.Registry.{is_rightly_held, is_sole_holder, is_sound_hold, is_the, key_of, left_to, others}
+use Rattle.registrants.specs.Registry.{registered_by}
 use Rattle.reservations.specs.Rows.{Done, Effect, Leaves, PrRow, effect, has_room_for, ignoring_key, is_bad_reserve}
 use Rattle.reservations.specs.Rows.{Conflicting, ReserveField, has_room, is_port_holder, is_port_in, is_registering}
 use Rattle.reservations.specs.Rows.{left_with, of_end_elsewhere, of_one_nexus, ports_with, shows_key}

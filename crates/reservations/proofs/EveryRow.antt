@@ -14,11 +14,11 @@ use Rattle.scsi_types.specs.declared.attention.UnitAttention.{UnitAttention}
 use Rattle.scsi_types.specs.declared.attention.UnitAttention.TheVariants.{ReservationsPreempted, RegistrationsPreempted}
 use Rattle.reservations.specs.declared.notice.Notice.{Notice}
 use Rattle.reservations.specs.declared.notice.Notice.TheVariants.{ToAll, OfPreempted}
-use Rattle.reservations.specs.declared.registrant.Registrant.{Registrant}
+use Rattle.registrants.specs.declared.registrant.Registrant.{Registrant}
 use Rattle.reservations.specs.declared.request.PrOut.{PrOut}
-use Rattle.reservations.specs.Nexus.{same_nexus}
+use Rattle.registrants.specs.Nexus.{same_nexus}
 use Rattle.reservations.specs.Notice.{Told, code_for, code_told, telling_of, told_as, told_of}
-use Rattle.reservations.specs.Registry.{RegistryValue, is_of_code, key_of}
+use Rattle.registrants.specs.Registry.{RegistryValue, is_of_code, key_of}
 use Rattle.reservations.specs.Rows.{PrRow, ReserveField, ParameterField, KeyConflict, RegistersNothing}
 use Rattle.reservations.specs.Rows.{RegistersNobodyMore, Registers, ChangesKey, HolderUnregisters}
 use Rattle.reservations.specs.Rows.{OtherUnregisters, PortsRegisterNothing, PortsRegisterNobodyMore, PortsRegister}

@@ -10,8 +10,8 @@ use Rattle.scsi_types.specs.declared.attention.UnitAttention.{UnitAttention}
 use Rattle.reservations.specs.declared.notice.Notice.{Notice}
 use Rattle.reservations.specs.declared.notice.Notice.TheVariants.{Nothing, ToAll, ToOtherPorts, OfPreempted}
 use Rattle.reservations.specs.declared.notice.Telling.{Telling}
-use Rattle.reservations.specs.declared.registrant.Registrant.{Registrant}
-use Rattle.reservations.specs.Nexus.{same_nexus}
+use Rattle.registrants.specs.declared.registrant.Registrant.{Registrant}
+use Rattle.registrants.specs.Nexus.{same_nexus}
 use Rattle.reservations.specs.Notice.{Told, code_of, code_told, told_as, told_of, telling_of, tellings}
 
 -- ---- who is told what, as one list

@@ -6,19 +6,19 @@ use Rattle.std.proofs.lemmas.List.{take-append-drop}
 use Rattle.std.specs.List.{find, insert, list_any}
 use Rattle.std.specs.Option.{option_map}
 use Rattle.scsi_types.specs.Nexus.{Nexus}
-use Rattle.reservations.specs.declared.kind.ReservationType.{ReservationType}
-use Rattle.reservations.specs.declared.kind.ReservationType.TheVariants.{WriteExclusive, ExclusiveAccess}
-use Rattle.reservations.specs.declared.kind.ReservationType.TheVariants.{WriteExclusiveRegistrantsOnly}
-use Rattle.reservations.specs.declared.kind.ReservationType.TheVariants.{ExclusiveAccessRegistrantsOnly}
-use Rattle.reservations.specs.declared.kind.ReservationType.TheVariants.{WriteExclusiveAllRegistrants}
-use Rattle.reservations.specs.declared.kind.ReservationType.TheVariants.{ExclusiveAccessAllRegistrants}
-use Rattle.reservations.specs.declared.registrant.Registrant.{Registrant}
-use Rattle.reservations.specs.declared.registrant.Reservation.{Reservation}
-use Rattle.reservations.specs.Kind.{is_of_all_registrants}
-use Rattle.reservations.specs.Nexus.{same_nexus}
-use Rattle.reservations.specs.Registry.{IsAscending, key_of, is_registered, is_own, is_any, is_rightly_held}
-use Rattle.reservations.specs.Registry.{is_sound_hold, joined_by, left_to, made_by, only, others, registered_by, with_key_of}
-use Rattle.reservations.specs.Registry.{without_key, without_others_of_key}
+use Rattle.registrants.specs.declared.kind.ReservationType.{ReservationType}
+use Rattle.registrants.specs.declared.kind.ReservationType.TheVariants.{WriteExclusive, ExclusiveAccess}
+use Rattle.registrants.specs.declared.kind.ReservationType.TheVariants.{WriteExclusiveRegistrantsOnly}
+use Rattle.registrants.specs.declared.kind.ReservationType.TheVariants.{ExclusiveAccessRegistrantsOnly}
+use Rattle.registrants.specs.declared.kind.ReservationType.TheVariants.{WriteExclusiveAllRegistrants}
+use Rattle.registrants.specs.declared.kind.ReservationType.TheVariants.{ExclusiveAccessAllRegistrants}
+use Rattle.registrants.specs.declared.registrant.Registrant.{Registrant}
+use Rattle.registrants.specs.declared.registrant.Reservation.{Reservation}
+use Rattle.registrants.specs.Kind.{is_of_all_registrants}
+use Rattle.registrants.specs.Nexus.{same_nexus}
+use Rattle.registrants.specs.Registry.{IsAscending, key_of, is_registered, is_own, is_any, is_rightly_held}
+use Rattle.registrants.specs.Registry.{is_sound_hold, joined_by, left_to, made_by, only, others, registered_by, with_key_of}
+use Rattle.registrants.specs.Registry.{without_key, without_others_of_key}
 use Rattle.reservations.proofs.Insert.{before, insert_is}
 use Rattle.reservations.proofs.Listed.{rekeyed_nexus}
 use Rattle.reservations.proofs.Order.{same_nexus_alike}

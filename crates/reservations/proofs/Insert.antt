@@ -6,9 +6,9 @@ use Rattle.std.specs.Ordering.{is_eq, is_lt, is_gt, ordering_reverse}
 use Rattle.std.specs.declared.cmp.Ordering.{Ordering}
 use Rattle.std.specs.declared.cmp.Ordering.TheVariants.{Less, Equal, Greater}
 use Rattle.scsi_types.specs.Nexus.{Nexus}
-use Rattle.reservations.specs.declared.registrant.Registrant.{Registrant}
-use Rattle.reservations.specs.Nexus.{same_nexus, nexus_cmp}
-use Rattle.reservations.specs.Registry.{IsAscending, is_registered, joined_by}
+use Rattle.registrants.specs.declared.registrant.Registrant.{Registrant}
+use Rattle.registrants.specs.Nexus.{same_nexus, nexus_cmp}
+use Rattle.registrants.specs.Registry.{IsAscending, is_registered, joined_by}
 use Rattle.reservations.proofs.Order.{nexus_total, same_nexus_is}
 
 abbrev pub before : Nexus → List Registrant → List Registrant

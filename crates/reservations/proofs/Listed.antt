@@ -8,11 +8,11 @@ use Rattle.std.specs.Ordering.{is_lt, is_gt, ordering_reverse}
 use Rattle.std.specs.declared.cmp.Ordering.{Ordering}
 use Rattle.std.specs.declared.cmp.Ordering.TheVariants.{Less, Equal, Greater}
 use Rattle.scsi_types.specs.Nexus.{Nexus}
-use Rattle.reservations.specs.declared.registrant.Registrant.{Registrant}
-use Rattle.reservations.specs.declared.registrant.Reservation.{Reservation}
-use Rattle.reservations.specs.Nexus.{same_nexus, nexus_cmp}
-use Rattle.reservations.specs.Registry.{IsAscending, IsSound, is_registered, is_sound_hold, joined_by, most_registrants}
-use Rattle.reservations.specs.Registry.{registered_by, rekeyed, with_key_of}
+use Rattle.registrants.specs.declared.registrant.Registrant.{Registrant}
+use Rattle.registrants.specs.declared.registrant.Reservation.{Reservation}
+use Rattle.registrants.specs.Nexus.{same_nexus, nexus_cmp}
+use Rattle.registrants.specs.Registry.{IsAscending, IsSound, is_registered, is_sound_hold, joined_by, most_registrants}
+use Rattle.registrants.specs.Registry.{registered_by, rekeyed, with_key_of}
 use Rattle.reservations.proofs.Insert.{before, behind, insert_is, length_before, found_first, out_of_rest, none_before}
 use Rattle.reservations.proofs.Order.{nexus_total}
 

@@ -6,9 +6,9 @@ use Rattle.std.proofs.lemmas.Bool.Decides.{leb_tells}
 use Rattle.scsi_types.specs.Nexus.{Nexus}
 use Rattle.scsi_types.specs.declared.names.Group.{Group}
 use Rattle.scsi_types.specs.declared.names.Group.TheVariants.{One, Two}
-use Rattle.reservations.specs.declared.registrant.Registrant.{Registrant}
-use Rattle.reservations.specs.Nexus.{other_group, other_nexus, same_group, same_nexus}
-use Rattle.reservations.specs.Registry.{IsAscending, is_registered, registered_by}
+use Rattle.registrants.specs.declared.registrant.Registrant.{Registrant}
+use Rattle.registrants.specs.Nexus.{other_group, other_nexus, same_group, same_nexus}
+use Rattle.registrants.specs.Registry.{IsAscending, is_registered, registered_by}
 use Rattle.reservations.specs.Rows.{has_room_for, ports_with}
 use Rattle.reservations.proofs.Held.{registered_beside}
 use Rattle.reservations.proofs.Listed.{ascending_registered, length_registered, missing}

@@ -10,7 +10,7 @@ use lib.Pointwise.{pointwise}
 use Rattle.scsi_types.specs.Nexus.{Port, Nexus, port_cmp}
 use Rattle.scsi_types.specs.declared.names.Group.{Group}
 use Rattle.scsi_types.specs.declared.names.Group.TheVariants.{One, Two}
-use Rattle.reservations.specs.Nexus.{same_port, same_group, same_nexus, group_cmp, nexus_cmp}
+use Rattle.registrants.specs.Nexus.{same_port, same_group, same_nexus, group_cmp, nexus_cmp}
 
 group_back : (a b : Group) → group_cmp a b ≡ ordering_reverse (group_cmp b a)
 group_back One One = refl

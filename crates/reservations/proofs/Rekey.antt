@@ -2,9 +2,9 @@
 use Rattle.std.proofs.Common.{◌≡◌, ℕ, ◌+◌, ◌<◌, true, false, List, ◌++◌, length, take, drop, get_or, set, sym, ◌∙◌, ap}
 use Rattle.std.proofs.lemmas.List.Edits.{map_over_more}
 use Rattle.scsi_types.specs.Nexus.{Nexus}
-use Rattle.reservations.specs.declared.registrant.Registrant.{Registrant}
-use Rattle.reservations.specs.Nexus.{same_nexus}
-use Rattle.reservations.specs.Registry.{rekeyed, with_key_of}
+use Rattle.registrants.specs.declared.registrant.Registrant.{Registrant}
+use Rattle.registrants.specs.Nexus.{same_nexus}
+use Rattle.registrants.specs.Registry.{rekeyed, with_key_of}
 
 pub rekey_one : (n : Nexus) (key : ℕ) (xs ys : List Registrant) (i : ℕ) (x : Registrant) → i < length xs
     → ys ≡ with_key_of n key (take i xs) ++ drop i xs → x ≡ get_or ys i x → same_nexus (get_or ys i x).nexus n ≡ true

@@ -7,7 +7,7 @@ use Rattle.scsi_types.specs.declared.reservation.PrOutAction.TheVariants.{Regist
 use Rattle.scsi_types.specs.declared.reservation.PrOutAction.TheVariants.{Preempt, PreemptAndAbort}
 use Rattle.scsi_types.specs.declared.reservation.PrOutAction.TheVariants.{RegisterAndIgnoreExistingKey}
 use Rattle.reservations.specs.declared.request.PrOut.{PrOut}
-use Rattle.reservations.specs.Registry.{RegistryValue, key_of, is_registered, is_key, is_held_by, is_sole_holder, is_of_code, most_registrants}
+use Rattle.registrants.specs.Registry.{RegistryValue, key_of, is_registered, is_key, is_held_by, is_sole_holder, is_of_code, most_registrants}
 use Rattle.reservations.specs.Rows.{PrRow, ReserveField, ParameterField, KeyConflict, RegistersNothing}
 use Rattle.reservations.specs.Rows.{RegistersNobodyMore, Registers, ChangesKey, HolderUnregisters}
 use Rattle.reservations.specs.Rows.{OtherUnregisters, PortsRegisterNothing, PortsRegisterNobodyMore, PortsRegister}

@@ -7,17 +7,17 @@ use Rattle.scsi_types.specs.declared.reservation.PrOutAction.{PrOutAction}
 use Rattle.scsi_types.specs.declared.reservation.PrOutAction.TheVariants.{Register, Reserve, Release, Clear}
 use Rattle.scsi_types.specs.declared.reservation.PrOutAction.TheVariants.{Preempt, PreemptAndAbort}
 use Rattle.scsi_types.specs.declared.reservation.PrOutAction.TheVariants.{RegisterAndIgnoreExistingKey}
-use Rattle.reservations.specs.declared.registrant.Registrant.{Registrant}
-use Rattle.reservations.specs.declared.registrant.Reservation.{Reservation}
+use Rattle.registrants.specs.declared.registrant.Registrant.{Registrant}
+use Rattle.registrants.specs.declared.registrant.Reservation.{Reservation}
 use Rattle.reservations.specs.declared.request.PrEnd.{PrEnd}
 use Rattle.reservations.specs.declared.request.PrEnd.TheVariants.{Good, Conflict, Illegal, TableFull}
 use Rattle.reservations.specs.declared.request.PrOut.{PrOut}
-use Rattle.reservations.specs.Kind.{type_of}
-use Rattle.reservations.specs.Nexus.{other_nexus, same_nexus}
+use Rattle.registrants.specs.Kind.{type_of}
+use Rattle.registrants.specs.Nexus.{other_nexus, same_nexus}
 use Rattle.reservations.specs.Notice.{Told, tellings}
-use Rattle.reservations.specs.Registry.{RegistryValue, IsSound, key_of, key_in, is_own, is_holders_key}
-use Rattle.reservations.specs.Registry.{is_the, is_registered, is_sole_holder, is_any, joined_by, left_to, most_registrants, others, registered_by}
-use Rattle.reservations.specs.Registry.{with_key_of, without_key, without_others_of_key, only}
+use Rattle.registrants.specs.Registry.{RegistryValue, IsSound, key_of, key_in, is_own, is_holders_key}
+use Rattle.registrants.specs.Registry.{is_the, is_registered, is_sole_holder, is_any, joined_by, left_to, most_registrants, others, registered_by}
+use Rattle.registrants.specs.Registry.{with_key_of, without_key, without_others_of_key, only}
 use Rattle.reservations.specs.Rows.{PrRow, ReserveField, ParameterField, KeyConflict, RegistersNothing}
 use Rattle.reservations.specs.Rows.{RegistersNobodyMore, Registers, ChangesKey, HolderUnregisters}
 use Rattle.reservations.specs.Rows.{OtherUnregisters, PortsRegisterNothing, PortsRegisterNobodyMore, PortsRegister}

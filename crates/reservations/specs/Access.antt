@@ -1,16 +1,16 @@
 -- Who may use the medium beside a reservation (SPC-4, 5.13.1, the commands that each type of reservation lets through).
 use Rattle.std.specs.Prelude.{Bool, true, false, IsTrue, if◌then◌else◌, Option, Some, None}
 use Rattle.scsi_types.specs.Nexus.{Nexus}
-use Rattle.reservations.specs.declared.kind.ReservationType.{ReservationType}
-use Rattle.reservations.specs.declared.kind.ReservationType.TheVariants.{WriteExclusive, ExclusiveAccess}
-use Rattle.reservations.specs.declared.kind.ReservationType.TheVariants.{WriteExclusiveRegistrantsOnly}
-use Rattle.reservations.specs.declared.kind.ReservationType.TheVariants.{ExclusiveAccessRegistrantsOnly}
-use Rattle.reservations.specs.declared.kind.ReservationType.TheVariants.{WriteExclusiveAllRegistrants}
-use Rattle.reservations.specs.declared.kind.ReservationType.TheVariants.{ExclusiveAccessAllRegistrants}
-use Rattle.reservations.specs.declared.registrant.Reservation.{Reservation}
+use Rattle.registrants.specs.declared.kind.ReservationType.{ReservationType}
+use Rattle.registrants.specs.declared.kind.ReservationType.TheVariants.{WriteExclusive, ExclusiveAccess}
+use Rattle.registrants.specs.declared.kind.ReservationType.TheVariants.{WriteExclusiveRegistrantsOnly}
+use Rattle.registrants.specs.declared.kind.ReservationType.TheVariants.{ExclusiveAccessRegistrantsOnly}
+use Rattle.registrants.specs.declared.kind.ReservationType.TheVariants.{WriteExclusiveAllRegistrants}
+use Rattle.registrants.specs.declared.kind.ReservationType.TheVariants.{ExclusiveAccessAllRegistrants}
+use Rattle.registrants.specs.declared.registrant.Reservation.{Reservation}
 use Rattle.reservations.specs.declared.request.Access.{Access}
 use Rattle.reservations.specs.declared.request.Access.TheVariants.{Read, Write, Other}
-use Rattle.reservations.specs.Registry.{RegistryValue, is_held_by, is_registered}
+use Rattle.registrants.specs.Registry.{RegistryValue, is_held_by, is_registered}
 
 -- what a nexus is to a reservation
 pub data Party : Type 0 where

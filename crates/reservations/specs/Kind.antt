@@ -1,11 +1,11 @@
 -- The types of persistent reservation (SPC-4, 6.15.3.4 and 5.13.8).
 use Rattle.std.specs.Prelude.{ℕ, Bool, true, false, nat_eq, if◌then◌else◌, Option, Some, None}
-use Rattle.reservations.specs.declared.kind.ReservationType.{ReservationType}
-use Rattle.reservations.specs.declared.kind.ReservationType.TheVariants.{WriteExclusive, ExclusiveAccess}
-use Rattle.reservations.specs.declared.kind.ReservationType.TheVariants.{WriteExclusiveRegistrantsOnly}
-use Rattle.reservations.specs.declared.kind.ReservationType.TheVariants.{ExclusiveAccessRegistrantsOnly}
-use Rattle.reservations.specs.declared.kind.ReservationType.TheVariants.{WriteExclusiveAllRegistrants}
-use Rattle.reservations.specs.declared.kind.ReservationType.TheVariants.{ExclusiveAccessAllRegistrants}
+use Rattle.registrants.specs.declared.kind.ReservationType.{ReservationType}
+use Rattle.registrants.specs.declared.kind.ReservationType.TheVariants.{WriteExclusive, ExclusiveAccess}
+use Rattle.registrants.specs.declared.kind.ReservationType.TheVariants.{WriteExclusiveRegistrantsOnly}
+use Rattle.registrants.specs.declared.kind.ReservationType.TheVariants.{ExclusiveAccessRegistrantsOnly}
+use Rattle.registrants.specs.declared.kind.ReservationType.TheVariants.{WriteExclusiveAllRegistrants}
+use Rattle.registrants.specs.declared.kind.ReservationType.TheVariants.{ExclusiveAccessAllRegistrants}
 
 abbrev pub type_code : ReservationType → ℕ
 type_code WriteExclusive = 1

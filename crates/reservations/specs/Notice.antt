@@ -7,9 +7,9 @@ use Rattle.scsi_types.specs.declared.attention.UnitAttention.{UnitAttention}
 use Rattle.scsi_types.specs.declared.attention.UnitAttention.TheVariants.{ReservationsReleased, RegistrationsPreempted}
 use Rattle.reservations.specs.declared.notice.Notice.{Notice}
 use Rattle.reservations.specs.declared.notice.Notice.TheVariants.{Nothing, ToAll, ToOtherPorts, OfPreempted}
-use Rattle.reservations.specs.declared.registrant.Registrant.{Registrant}
+use Rattle.registrants.specs.declared.registrant.Registrant.{Registrant}
 use Rattle.reservations.specs.declared.notice.Telling.{Telling}
-use Rattle.reservations.specs.Nexus.{same_nexus, same_port}
+use Rattle.registrants.specs.Nexus.{same_nexus, same_port}
 
 -- what a registrant is told that is not the sender: of a preempted key, who lost its registration hears of that, and the
 -- others of a changed type

@@ -7,10 +7,10 @@ use Rattle.byteorder.specs.Endian.{big_bytes}
 use Rattle.scsi_types.specs.Nexus.{Port}
 use Rattle.scsi_types.specs.declared.names.Group.{Group}
 use Rattle.scsi_types.specs.declared.names.Group.TheVariants.{One, Two}
-use Rattle.reservations.specs.declared.registrant.Registrant.{Registrant}
-use Rattle.reservations.specs.declared.registrant.Reservation.{Reservation}
-use Rattle.reservations.specs.Kind.{type_code}
-use Rattle.reservations.specs.Registry.{RegistryValue, key_in, is_held_by}
+use Rattle.registrants.specs.declared.registrant.Registrant.{Registrant}
+use Rattle.registrants.specs.declared.registrant.Reservation.{Reservation}
+use Rattle.registrants.specs.Kind.{type_code}
+use Rattle.registrants.specs.Registry.{RegistryValue, key_in, is_held_by}
 
 -- PRGENERATION, ADDITIONAL LENGTH, and the bytes that it counts
 abbrev pub counted_bytes : ℕ → List ℕ → List ℕ

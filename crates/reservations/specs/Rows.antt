@@ -13,16 +13,16 @@ use Rattle.scsi_types.specs.declared.attention.UnitAttention.TheVariants.{Reserv
 use Rattle.scsi_types.specs.declared.attention.UnitAttention.TheVariants.{RegistrationsPreempted}
 use Rattle.reservations.specs.declared.notice.Notice.{Notice}
 use Rattle.reservations.specs.declared.notice.Notice.TheVariants.{Nothing, ToAll, ToOtherPorts, OfPreempted}
-use Rattle.reservations.specs.declared.registrant.Registrant.{Registrant}
-use Rattle.reservations.specs.declared.registrant.Reservation.{Reservation}
+use Rattle.registrants.specs.declared.registrant.Registrant.{Registrant}
+use Rattle.registrants.specs.declared.registrant.Reservation.{Reservation}
 use Rattle.reservations.specs.declared.request.PrOut.{PrOut}
-use Rattle.reservations.specs.Kind.{is_of_registrants, type_of}
-use Rattle.reservations.specs.Nexus.{other_nexus}
+use Rattle.registrants.specs.Kind.{is_of_registrants, type_of}
+use Rattle.registrants.specs.Nexus.{other_nexus}
 use Rattle.reservations.specs.Notice.{Told, told_of}
-use Rattle.reservations.specs.Registry.{RegistryValue, key_of, is_registered, is_key, is_held_by}
-use Rattle.reservations.specs.Registry.{is_sole_holder, is_holders_key, is_held_by_all, is_of_code, made_by}
-use Rattle.reservations.specs.Registry.{joined_by, with_key_of, others, only, without_key}
-use Rattle.reservations.specs.Registry.{most_registrants, registered_by, without_others_of_key, left_to, counted}
+use Rattle.registrants.specs.Registry.{RegistryValue, key_of, is_registered, is_key, is_held_by}
+use Rattle.registrants.specs.Registry.{is_sole_holder, is_holders_key, is_held_by_all, is_of_code, made_by}
+use Rattle.registrants.specs.Registry.{joined_by, with_key_of, others, only, without_key}
+use Rattle.registrants.specs.Registry.{most_registrants, registered_by, without_others_of_key, left_to, counted}
 
 -- ---- words of the conditions
 

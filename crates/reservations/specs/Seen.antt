@@ -3,7 +3,7 @@ use Rattle.scsi_types.specs.Nexus.{Nexus}
 use Rattle.reservations.specs.declared.request.PrEnd.{PrEnd}
 use Rattle.reservations.specs.declared.request.PrOut.{PrOut}
 use Rattle.reservations.specs.declared.table.Table.{Table}
-use Rattle.reservations.specs.Registry.{RegistryValue}
+use Rattle.registrants.specs.Registry.{RegistryValue}
 use Rattle.reservations.specs.Rows.{PrRow, effect}
 use Rattle.reservations.specs.Table.{IsAnswer}
 

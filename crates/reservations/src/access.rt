@@ -1,8 +1,8 @@
 //! Who may use the medium beside a reservation.
 ghost use Rattle.std.specs.Prelude.{◌≡◌, if◌then◌else◌};
 ghost use Rattle.reservations.specs.Access.{is_let_through, party_of, permits, Neither, Registered};
-ghost use Rattle.reservations.specs.Nexus.{through};
-ghost use Rattle.reservations.specs.Registry.{key_of};
+ghost use Rattle.registrants.specs.Nexus.{through};
+ghost use Rattle.registrants.specs.Registry.{key_of};
 ghost use Rattle.reservations.specs.Seen.{value_of};
 
 use crate::table::Table;

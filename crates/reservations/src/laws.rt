@@ -2,9 +2,9 @@
 ghost use Rattle.std.specs.Prelude.{◌≡◌, ◌+◌, ◌%◌, ◌^◌, nat_eq, if◌then◌else◌, IsTrue, IsFalse, List, Some, None};
 ghost use Rattle.scsi_types.specs.Nexus.{Nexus};
 ghost use Rattle.reservations.specs.declared.request.PrOut.{PrOut};
-ghost use Rattle.reservations.specs.Nexus.{other_nexus, same_nexus};
+ghost use Rattle.registrants.specs.Nexus.{other_nexus, same_nexus};
 ghost use Rattle.reservations.specs.Notice.{Told, code_told};
-ghost use Rattle.reservations.specs.Registry.{IsSound, RegistryValue, key_of};
+ghost use Rattle.registrants.specs.Registry.{IsSound, RegistryValue, key_of};
 ghost use Rattle.reservations.specs.Rows.{Conflicting, Done, Fits, IsPreempting, Leaves, PrRow, ignoring_key, is_counted};
 ghost use Rattle.reservations.specs.Rows.{is_registering, of_one_nexus};
 ghost use Rattle.reservations.specs.Table.{effect_of, row_of};

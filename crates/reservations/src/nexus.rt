@@ -1,6 +1,6 @@
 //! I_T nexuses.
 ghost use Rattle.std.specs.Prelude.{◌≡◌, ◌↔◌, ◌<◌, ◌≤◌, ◌^◌, IsTrue, length};
-ghost use Rattle.reservations.specs.Nexus.{IsPortName, nexus_cmp, other_nexus, same_nexus, same_port};
+ghost use Rattle.registrants.specs.Nexus.{IsPortName, nexus_cmp, other_nexus, same_nexus, same_port};
 
 use scsi_types::{Group, PortName};
 use std::cmp::Ordering;
@@ -22,7 +22,7 @@ pub struct Nexus {
 impl Model for Nexus {
     ghost use Rattle.std.specs.Prelude.{◌≤◌, take};
     ghost use Rattle.scsi_types.specs.Nexus.{Nexus as NexusValue};
-    ghost use Rattle.reservations.specs.Nexus.{IsPortName};
+    ghost use Rattle.registrants.specs.Nexus.{IsPortName};
 
     ghost Value = { NexusValue };
 

@@ -1,6 +1,6 @@
 //! PERSISTENT RESERVE OUT.
 ghost use Rattle.std.specs.Prelude.{◌≡◌, ◌≤◌, IsFalse, vec_capacity};
-ghost use Rattle.reservations.specs.Registry.{IsAscending};
+ghost use Rattle.registrants.specs.Registry.{IsAscending};
 ghost use Rattle.reservations.specs.Rows.{is_bad_reserve};
 ghost use Rattle.reservations.specs.Seen.{DoesRow};
 ghost use Rattle.reservations.specs.Table.{row_of, row_of_action};

@@ -1,8 +1,8 @@
 //! REGISTER, and REGISTER AND IGNORE EXISTING KEY, with ALL_TG_PT (SPC-4, 6.16.3): the nexus of each target port group with
 //! the sender's port.
 ghost use Rattle.std.specs.Prelude.{◌≡◌, ◌≤◌, if◌then◌else◌, vec_capacity};
-ghost use Rattle.reservations.specs.Nexus.{other_nexus};
-ghost use Rattle.reservations.specs.Registry.{IsAscending, is_registered};
+ghost use Rattle.registrants.specs.Nexus.{other_nexus};
+ghost use Rattle.registrants.specs.Registry.{IsAscending, is_registered};
 ghost use Rattle.reservations.specs.Rows.{PortsOfHolderUnregister, PortsUnregister, has_room_for, ports_with};
 ghost use Rattle.reservations.specs.Rows.{is_port_holder, is_port_in};
 ghost use Rattle.reservations.specs.Seen.{Does, DoesRow, value_of};

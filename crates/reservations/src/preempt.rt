@@ -1,6 +1,6 @@
 //! CLEAR, PREEMPT, and PREEMPT AND ABORT (SPC-4, 5.13.11.2 to 5.13.11.5).
 ghost use Rattle.std.specs.Prelude.{◌≡◌, vec_capacity};
-ghost use Rattle.reservations.specs.Kind.{type_of};
+ghost use Rattle.registrants.specs.Kind.{type_of};
 ghost use Rattle.reservations.specs.Rows.{Clears, PreemptsAll, PreemptsHolder, PreemptsRegistrants};
 ghost use Rattle.reservations.specs.Seen.{Does, DoesRow};
 ghost use Rattle.reservations.specs.Table.{row_of_preempt};

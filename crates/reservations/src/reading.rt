@@ -4,7 +4,7 @@ ghost use Rattle.std.specs.Option.{unwrap_or};
 ghost use Rattle.reservations.specs.Reading.{capabilities_bytes, counted_bytes, descriptor_bytes};
 ghost use Rattle.reservations.specs.Reading.{descriptor_of, full_status_bytes, held_type};
 ghost use Rattle.reservations.specs.Reading.{holding_or, keys_bytes, relative_port, reservation_bytes};
-ghost use Rattle.reservations.specs.Registry.{key_in};
+ghost use Rattle.registrants.specs.Registry.{key_in};
 ghost use Rattle.reservations.specs.Seen.{value_of};
 
 use crate::table::Table;

@@ -1,6 +1,6 @@
 //! What outlasts a loss of power.
 ghost use Rattle.std.specs.Prelude.{◌≡◌, [], false, None};
-ghost use Rattle.reservations.specs.Registry.{IsRecord, IsSound};
+ghost use Rattle.registrants.specs.Registry.{IsRecord, IsSound};
 
 use crate::{Registrant, Reservation};
 use std::alloc::Global;
@@ -15,7 +15,7 @@ pub struct Record {
 }
 
 impl Model for Record {
-    ghost use Rattle.reservations.specs.Registry.{IsRecord, RecordValue};
+    ghost use Rattle.registrants.specs.Registry.{IsRecord, RecordValue};
 
     ghost Value = { RecordValue };
 
@@ -33,7 +33,7 @@ pub struct Lasting<'a> {
 }
 
 impl<'a> Model for Lasting<'a> {
-    ghost use Rattle.reservations.specs.Registry.{IsRecord, RecordValue};
+    ghost use Rattle.registrants.specs.Registry.{IsRecord, RecordValue};
 
     ghost Value = { RecordValue };
 

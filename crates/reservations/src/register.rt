@@ -1,6 +1,6 @@
 //! REGISTER, and REGISTER AND IGNORE EXISTING KEY (SPC-4, 5.13.7 and 5.13.11.2).
 ghost use Rattle.std.specs.Prelude.{◌≡◌, ◌<◌, ◌≤◌, false, length, vec_capacity};
-ghost use Rattle.reservations.specs.Registry.{IsAscending, is_registered};
+ghost use Rattle.registrants.specs.Registry.{IsAscending, is_registered};
 ghost use Rattle.reservations.specs.Rows.{ChangesKey, HolderUnregisters, Registers};
 ghost use Rattle.reservations.specs.Seen.{Does, DoesRow};
 ghost use Rattle.reservations.specs.Table.{row_of_leaving, row_of_one, row_of_register};

@@ -1,7 +1,7 @@
 //! Registrants, and reservations.
 ghost use Rattle.std.specs.Prelude.{◌≡◌, ◌≤◌, ◌++◌, ◌∷◌, ◌<◌, [], IfOk, length, vec_capacity};
 ghost use Rattle.std.specs.List.{AllByRecursion};
-ghost use Rattle.reservations.specs.Registry.{IsListed};
+ghost use Rattle.registrants.specs.Registry.{IsListed};
 
 use crate::{Nexus, ReservationType};
 use std::alloc::{AllocError, Global};

@@ -1,10 +1,10 @@
 //! The registry of a unit.
 ghost use Rattle.std.specs.Prelude.{◌≡◌, ◌↔◌, IfOk, IsTrue, length, take};
 ghost use Rattle.reservations.specs.Access.{MayAccess};
-ghost use Rattle.reservations.specs.Nexus.{IsPortName, through};
+ghost use Rattle.registrants.specs.Nexus.{IsPortName, through};
 ghost use Rattle.reservations.specs.Notice.{code_told, tellings};
 ghost use Rattle.reservations.specs.Reading.{capabilities_bytes, full_status_bytes, keys_bytes, reservation_bytes};
-ghost use Rattle.reservations.specs.Registry.{IsSound, empty, powered_on, reserved_type, to_last};
+ghost use Rattle.registrants.specs.Registry.{IsSound, empty, powered_on, reserved_type, to_last};
 ghost use Rattle.reservations.specs.Table.{IsAnswer, effect_of};
 
 use crate::registrant::{are_listed, copy_registrants, copy_reservation, set_registrants};
@@ -24,7 +24,7 @@ pub struct Registry {
 
 impl Model for Registry {
     ghost use Rattle.std.specs.Prelude.{◌≡◌, ◌≤◌, [], false, None, vec_capacity};
-    ghost use Rattle.reservations.specs.Registry.{IsSound, RegistryValue};
+    ghost use Rattle.registrants.specs.Registry.{IsSound, RegistryValue};
     ghost use Rattle.reservations.specs.Seen.{value_of};
 
     ghost Value = { RegistryValue };

@@ -1,7 +1,7 @@
 //! RESERVE (SPC-4, 5.13.9) and RELEASE (SPC-4, 5.13.11.2).
 ghost use Rattle.std.specs.Prelude.{◌≡◌, vec_capacity};
-ghost use Rattle.reservations.specs.Kind.{type_of};
-ghost use Rattle.reservations.specs.Registry.{made_by};
+ghost use Rattle.registrants.specs.Kind.{type_of};
+ghost use Rattle.registrants.specs.Registry.{made_by};
 ghost use Rattle.reservations.specs.Seen.{DoesRow};
 ghost use Rattle.reservations.specs.Table.{row_of_release, row_of_reserve};
 

@@ -1,9 +1,9 @@
 //! The registrants in their order.
 ghost use Rattle.std.specs.Prelude.{◌≡◌, ◌<◌, false, length, filter, vec_capacity};
 ghost use Rattle.std.specs.Ordering.{is_lt};
-ghost use Rattle.reservations.specs.Nexus.{nexus_cmp};
-ghost use Rattle.reservations.specs.Registry.{IsAscending, is_registered, joined_by, key_of, only, others, registered_by};
-ghost use Rattle.reservations.specs.Registry.{with_key_of, without_key, without_others_of_key};
+ghost use Rattle.registrants.specs.Nexus.{nexus_cmp};
+ghost use Rattle.registrants.specs.Registry.{IsAscending, is_registered, joined_by, key_of, only, others, registered_by};
+ghost use Rattle.registrants.specs.Registry.{with_key_of, without_key, without_others_of_key};
 
 use crate::{Nexus, Registrant};
 

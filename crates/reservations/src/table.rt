@@ -1,10 +1,10 @@
 //! The table of registrants and its look-ups.
 ghost use Rattle.std.specs.Prelude.{◌≡◌, ◌+◌, ◌%◌, ◌^◌, vec_capacity};
 ghost use Rattle.std.specs.Option.{unwrap_or};
-ghost use Rattle.reservations.specs.Nexus.{through};
+ghost use Rattle.registrants.specs.Nexus.{through};
 ghost use Rattle.reservations.specs.Notice.{code_told, tellings};
-ghost use Rattle.reservations.specs.Registry.{is_held_by, is_held_by_all, is_holders_key, is_key, is_of_code, is_registered};
-ghost use Rattle.reservations.specs.Registry.{is_own, is_sole_holder, key_of, left_to};
+ghost use Rattle.registrants.specs.Registry.{is_held_by, is_held_by_all, is_holders_key, is_key, is_of_code, is_registered};
+ghost use Rattle.registrants.specs.Registry.{is_own, is_sole_holder, key_of, left_to};
 ghost use Rattle.reservations.specs.Rows.{of_end, of_end_elsewhere};
 
 use crate::slots::key_of;

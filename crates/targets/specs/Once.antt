@@ -8,7 +8,7 @@ use Rattle.block_file.specs.Disk.{Only}
 use Rattle.block_file.specs.Failures.{last_count}
 use Rattle.block_file.specs.declared.mem.MemBlocks.{MemBlocks}
 use Rattle.identity.specs.Absent.{absent_reply}
-use Rattle.reservations.specs.Registry.{RecordValue}
+use Rattle.registrants.specs.Registry.{RecordValue}
 use Rattle.scsi_types.specs.ReplyValue.{ReplyValue}
 use Rattle.scsi_types.specs.Nexus.{Nexus}
 use Rattle.scsi_types.specs.declared.names.Group.TheVariants.{One}

@@ -13,7 +13,7 @@ use Rattle.std.proofs.lemmas.List.Filters.{length-filter_both}
 use Rattle.scsi_types.specs.Nexus.{Nexus}
 use Rattle.unit_control.specs.declared.sessions.Attached.{Attached}
 use Rattle.reservations.specs.Notice.{Told}
-use Rattle.reservations.specs.Nexus.{IsPortName}
+use Rattle.registrants.specs.Nexus.{IsPortName}
 use Rattle.unit_control.specs.Sessions.{IsFit, is_of, nexus_in, nexus_of, sender_of, session_of, changed, ended}
 use Rattle.unit_control.specs.Sessions.{heard_reset, all_reset, without}
 use Rattle.unit_control.specs.GroupsLaws.{change_keeps}

@@ -1,7 +1,7 @@
 -- Registrants, one by one.
 use Rattle.std.proofs.Common.{◌≡◌, ℕ, ◌+◌, ◌<◌, ◌≤◌, List, [], ◌∷◌, ◌++◌, length, take, get_or, ap, arith, sym, ◌∙◌}
 use Rattle.std.proofs.lemmas.List.{take_all, take_more}
-use Rattle.reservations.specs.declared.registrant.Registrant.{Registrant}
+use Rattle.registrants.specs.declared.registrant.Registrant.{Registrant}
 
 pub more_same : (one other : List Registrant) (k : ℕ) (a b : Registrant) → a ≡ get_or one k a → b ≡ get_or other k b
     → k < length one → length one ≡ length other → a ≡ b → take k one ≡ take k other

@@ -7,7 +7,7 @@ use Rattle.aptpl_file.specs.Lasts.{left_by}
 use Rattle.aptpl_file.specs.declared.fault.SaveFault.{SaveFault}
 use Rattle.aptpl_file.specs.declared.fault.SaveFault.TheVariants.{OldRoot, IdleSlot, NewRoot}
 use Rattle.reservations.specs.Notice.{Told}
-use Rattle.reservations.specs.Registry.{RecordValue, RegistryValue, to_last}
+use Rattle.registrants.specs.Registry.{RecordValue, RegistryValue, to_last}
 use Rattle.reservations.specs.Rows.{Effect, Done}
 use Rattle.scsi_types.specs.ReplyValue.{ReplyValue, check}
 use Rattle.scsi_types.specs.Sense.{internal_target_failure}

@@ -8,7 +8,7 @@ use Rattle.compare_write.specs.declared.end.MediumEnd.{MediumEnd}
 use Rattle.compare_write.specs.declared.end.MediumEnd.TheVariants as ends
 use Rattle.compare_write.specs.Ends.{IsCompareEnd, IsSyncEnd, OnDone, OnMiscompare, OnUnwritten, OnWriting}
 use Rattle.compare_write.specs.Instances.{compare_instance, write_instance}
-use Rattle.reservations.specs.Registry.{RecordValue}
+use Rattle.registrants.specs.Registry.{RecordValue}
 use Rattle.unit_control.specs.Choice.{ReadFailed, WriteFailed, choice_of}
 use Rattle.unit_control.specs.Medium.{Range, Compares, Flushes}
 use Rattle.unit_control.specs.Medium.{Done, WriteError, compared_by, found_by, reply_by}

@@ -1,7 +1,7 @@
 -- What the devices did in a command.
 use Rattle.std.specs.Prelude.{◌==◌, ◌&&◌, Bool, true, false, IsTrue, if◌then◌else◌, List, [], ◌∷◌, ℕ, Option, Some, None}
 use Rattle.scsi_types.specs.ReplyValue.{ReplyValue}
-use Rattle.reservations.specs.Registry.{RecordValue}
+use Rattle.registrants.specs.Registry.{RecordValue}
 use Rattle.scsi_types.specs.Sense.{internal_target_failure, set_target_port_groups_command_failed, unrecovered_read_error, write_error}
 use Rattle.scsi_types.specs.declared.sense.Sense.{Sense}
 

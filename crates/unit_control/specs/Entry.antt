@@ -9,7 +9,7 @@ use Rattle.identity.specs.Luns.{lun_list}
 use Rattle.identity.specs.Mode.{mode_data}
 use Rattle.identity.specs.SenseData.{told_sense}
 use Rattle.identity.specs.Table.{cut, spell}
-use Rattle.reservations.specs.Registry.{RecordValue}
+use Rattle.registrants.specs.Registry.{RecordValue}
 use Rattle.scsi_types.specs.ReplyValue.{ReplyValue, good}
 use Rattle.scsi_types.specs.Sense.{sense_bytes}
 use Rattle.scsi_types.specs.Nexus.{Nexus}

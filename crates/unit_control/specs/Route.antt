@@ -1,7 +1,7 @@
 -- Where a command goes, and what lets it through.
 use Rattle.std.specs.Prelude.{◌≡◌, ◌≢◌, ℕ, ◌≤◌, List, Some, None, Ok}
 use Rattle.access_states.specs.AccessMap.{owner_of}
-use Rattle.reservations.specs.Registry.{RecordValue}
+use Rattle.registrants.specs.Registry.{RecordValue}
 use Rattle.scsi_types.specs.declared.names.Group.{Group}
 use Rattle.scsi_types.specs.declared.command.Command.{Command}
 use Rattle.unit_control.specs.declared.control.Route.{Route}

@@ -1,9 +1,9 @@
 -- What the status board shows of a unit.
 use Rattle.std.specs.Prelude.{ℕ, [], ◌∷◌, length, Option, Some, None}
 use Rattle.access_states.specs.AccessMap.{owner_of}
-use Rattle.reservations.specs.Kind.{type_code}
-use Rattle.reservations.specs.Registry.{reserved_type}
-use Rattle.reservations.specs.declared.kind.ReservationType.{ReservationType}
+use Rattle.registrants.specs.Kind.{type_code}
+use Rattle.registrants.specs.Registry.{reserved_type}
+use Rattle.registrants.specs.declared.kind.ReservationType.{ReservationType}
 use Rattle.unit_control.specs.declared.row.Row.{Row}
 use Rattle.unit_control.specs.State.{ControlValue}
 

@@ -6,7 +6,7 @@ use Rattle.scsi_types.specs.declared.names.Group.{Group}
 use Rattle.scsi_types.specs.declared.names.Group.TheVariants.{One, Two}
 use Rattle.scsi_types.specs.declared.names.Place.{Place}
 use Rattle.aptpl_file.specs.Lasts.{FileValue}
-use Rattle.reservations.specs.Registry.{RecordValue, RegistryValue, powered_on}
+use Rattle.registrants.specs.Registry.{RecordValue, RegistryValue, powered_on}
 use Rattle.unit_control.specs.declared.sessions.Attached.{Attached}
 
 -- all of a unit but its blocks

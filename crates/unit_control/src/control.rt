@@ -93,9 +93,9 @@ impl Control {
     ghost use Rattle.unit_control.specs.Places.{Stays, StaysAll};
     ghost use Rattle.unit_control.specs.Refusal.{is_let, tell};
     ghost use Rattle.aptpl_file.specs.Lasts.{left_by};
-    ghost use Rattle.reservations.specs.Nexus.{IsPortName};
+    ghost use Rattle.registrants.specs.Nexus.{IsPortName};
     ghost use Rattle.reservations.specs.Notice.{tellings};
-    ghost use Rattle.reservations.specs.Registry.{to_last};
+    ghost use Rattle.registrants.specs.Registry.{to_last};
     ghost use Rattle.reservations.specs.Rows.{Done};
     ghost use Rattle.reservations.specs.Table.{IsAnswer};
     ghost use Rattle.unit_control.specs.Reserve.{after_effect, effect_by};

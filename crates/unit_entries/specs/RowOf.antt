@@ -3,7 +3,7 @@ use Rattle.std.specs.Prelude.{List, length}
 use Rattle.access_states.specs.AccessMap.{owner_of}
 use Rattle.access_states.specs.List.{group_number}
 use Rattle.access_states.specs.State.{state_code}
-use Rattle.reservations.specs.Registry.{reserved_type}
+use Rattle.registrants.specs.Registry.{reserved_type}
 use Rattle.status.specs.declared.row.Row.{Row}
 use Rattle.unit_control.specs.State.{ControlValue, UnitState}
 use Rattle.unit_control.specs.Row.{kind_shown}

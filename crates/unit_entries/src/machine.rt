@@ -66,7 +66,7 @@ fn row_of<B: Blocks, R: Blocks, O: Opener<B>>(unit: &Unit<B, R, O>) -> Row
 
 impl<B: Blocks, R: Blocks, O: Opener<B>> Machine<Noted, Opened> for Unit<B, R, O> {
     ghost use Rattle.std.specs.Prelude.{◌&&◌};
-    ghost use Rattle.reservations.specs.Nexus.{IsPortName};
+    ghost use Rattle.registrants.specs.Nexus.{IsPortName};
     ghost use Rattle.unit_control.specs.State.{state_of};
     ghost use Rattle.unit_control.specs.Choice.{Fine};
     ghost use Rattle.unit_control.specs.Entry.{Attach, Detach, Reset, Move};

@@ -6,7 +6,7 @@ use Rattle.aptpl_file.specs.Lasts.{LastsAmong, StopsAt}
 use Rattle.block_file.specs.Disk.{NoMore}
 use Rattle.block_file.specs.MomentLaws.{no_time}
 use Rattle.compare_write.specs.declared.end.MediumEnd.{MediumEnd}
-use Rattle.reservations.specs.Registry.{RecordValue}
+use Rattle.registrants.specs.Registry.{RecordValue}
 use Rattle.reservations.specs.declared.request.PrOut.{PrOut}
 use Rattle.scsi_types.specs.ReplyValue.{ReplyValue}
 use Rattle.scsi_types.specs.declared.command.Command.{Command}

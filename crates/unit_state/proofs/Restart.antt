@@ -3,7 +3,7 @@ use Rattle.std.proofs.Common.{◌≡◌, ℕ, List, ◌∷◌, [], ⊎_elim, ◌
 use Rattle.std.specs.Prelude.{Contains}
 use Rattle.std.proofs.lemmas.List.Elements.{All-contains_itself, Contains-append_left, Contains-append_right}
 use Rattle.aptpl_file.specs.Holds.{Holds, HoldsOneOf}
-use Rattle.reservations.specs.Registry.{RecordValue}
+use Rattle.registrants.specs.Registry.{RecordValue}
 
 pub found_among : (disk : List (List ℕ)) (found : RecordValue)
     → ((r : RecordValue) → Holds disk r → r ≡ found) → (named : List RecordValue) → HoldsOneOf named disk

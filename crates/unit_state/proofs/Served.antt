@@ -5,7 +5,7 @@ use Rattle.block_file.specs.Failures.{Tells}
 use Rattle.compare_write.specs.declared.end.MediumEnd.{MediumEnd}
 use Rattle.reservations.specs.Rows.{Effect, Done as Reserved, Conflicting, Refused, Full}
 use Rattle.scsi_types.specs.declared.reservation.PrOutAction.{PrOutAction}
-use Rattle.reservations.specs.Registry.{RecordValue}
+use Rattle.registrants.specs.Registry.{RecordValue}
 use Rattle.unit_control.specs.Reserve.{MayFailToSave, after_effect, effect_by, effect_reply, pr_out}
 use Rattle.unit_control.specs.Saving.{IsReserved, with_doubt}
 use Rattle.scsi_types.specs.ReplyValue.{ReplyValue, good, check}

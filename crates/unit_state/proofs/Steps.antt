@@ -4,7 +4,7 @@ use Rattle.std.proofs.Common.{◌≡◌, ℕ, Bool, false, List, [], None, Ok, E
 use Rattle.access_states.specs.AccessMap.{owner_of}
 use Rattle.aptpl_file.specs.Lasts.{EachOutcomeHolds, FileValue, LastsAmong}
 use Rattle.aptpl_file.specs.LastsLaws.{each_outcome_holds}
-use Rattle.reservations.specs.Registry.{RecordValue}
+use Rattle.registrants.specs.Registry.{RecordValue}
 use Rattle.scsi_types.specs.ReplyValue.{ReplyValue, check}
 use Rattle.scsi_types.specs.Sense.{unrecovered_read_error}
 use Rattle.scsi_types.specs.declared.status.Status.TheVariants.{Good}

@@ -7,7 +7,7 @@ use Rattle.std.proofs.lemmas.Bool.Decides.{eqb_tells}
 use Rattle.attentions.specs.Queue.{established, is_pending, without_repeats}
 use Rattle.reservations.specs.declared.request.PrOut.{PrOut}
 use Rattle.reservations.specs.Notice.{Told, code_told}
-use Rattle.reservations.specs.Registry.{RegistryValue}
+use Rattle.registrants.specs.Registry.{RegistryValue}
 use Rattle.reservations.specs.Table.{effect_of}
 use Rattle.scsi_types.specs.Nexus.{Nexus}
 use Rattle.reservations.specs.Rows.{Effect, Done, Conflicting, Refused, Full}

@@ -17,7 +17,7 @@ ghost use Rattle.access_states.specs.AccessMap.{opening_access};
 ghost use Rattle.aptpl_file.specs.Holds.{Holds};
 ghost use Rattle.aptpl_file.specs.Lasts.{EachOutcomeHolds};
 ghost use Rattle.block_file.specs.Disk.{MayLeave};
-ghost use Rattle.reservations.specs.Registry.{RecordValue};
+ghost use Rattle.registrants.specs.Registry.{RecordValue};
 ghost use Rattle.unit_control.specs.Saving.{LastsAlone, with_doubt};
 ghost use Rattle.access_states.specs.AccessMap.{AccessMapValue};
 ghost use Rattle.attentions.specs.Queue.{established, is_pending, without_repeats};

@@ -2,7 +2,7 @@ ghost use Rattle.std.specs.Prelude.{IfSome, ◌≡◌, ◌≢◌, ◌<◌, ◌�
 ghost use Rattle.block_file.specs.Disk.{Only};
 ghost use Rattle.block_file.specs.Failures.{Counts, Tells};
 ghost use Rattle.aptpl_file.specs.Lasts.{EachOutcomeHolds, LastsAmong, StopsAt};
-ghost use Rattle.reservations.specs.Nexus.{IsPortName};
+ghost use Rattle.registrants.specs.Nexus.{IsPortName};
 ghost use Rattle.unit_control.specs.Limits.{last_length};
 
 use crate::commands::answer;

@@ -7,7 +7,7 @@ use Rattle.std.proofs.lemmas.Option.{get_or_from_slice_get, slice_get_within}
 use Rattle.unit_state.specs.Serials.{IsOpening}
 use Rattle.unit_control.specs.State.{UnitState, UnitValue, state_of}
 use Rattle.unit_control.specs.Entry.{Entry, Attach, Command}
-use Rattle.reservations.specs.Nexus.{through}
+use Rattle.registrants.specs.Nexus.{through}
 use Rattle.scsi_types.specs.Nexus.{Port}
 use Rattle.scsi_types.specs.declared.names.Group.{Group}
 use Rattle.std.proofs.lemmas.List.{length-set, take_more}

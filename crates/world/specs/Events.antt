@@ -2,7 +2,7 @@
 use Rattle.std.specs.Prelude.{◌≡◌, ◌⊎◌, ℕ, ◌+◌, ◌<◌, ◌≤◌, Bool, nat_eq, if◌then◌else◌, List, [], ◌∷◌, ◌++◌, length}
 use Rattle.std.specs.Prelude.{MatchOption, slice_get}
 use Rattle.locked_unit.specs.Calls.{IsCause}
-use Rattle.reservations.specs.Nexus.{IsPortName, through}
+use Rattle.registrants.specs.Nexus.{IsPortName, through}
 use Rattle.unit_control.specs.State.{UnitState}
 use Rattle.unit_control.specs.Choice.{Choice, Fine}
 use Rattle.unit_control.specs.Entry.{Entry, Attach, Detach, Reset, Move, Command}

@@ -1,6 +1,6 @@
 //! The world.
 ghost use Rattle.std.specs.Prelude.{◌≡◌, ◌<◌, ◌↔◌, ◌&&◌, [], ℕ, All, IfOk, IfErr, IfSome, IsTrue, MatchOption, OnOk, OnErr, length, slice_get, take};
-ghost use Rattle.reservations.specs.Nexus.{IsPortName};
+ghost use Rattle.registrants.specs.Nexus.{IsPortName};
 ghost use Rattle.unit_state.specs.Serials.{IsOpening};
 ghost use Rattle.world.specs.Traffic.{IsTakenBack, begun, begun_again, closed, collected, given, new_job, no_traffic, posted};
 ghost use Rattle.world.specs.Traffic.{submitted, submitted_again, taken};

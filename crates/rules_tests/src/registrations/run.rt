@@ -23,7 +23,7 @@
 //!   bytes.
 //! - `copied`, `lasted`: it goes on with a copy of the registry, or with what is left behind a loss of power.
 ghost use Rattle.std.specs.Prelude.{IfOk};
-ghost use Rattle.reservations.specs.Nexus.{IsPortName};
+ghost use Rattle.registrants.specs.Nexus.{IsPortName};
 
 use crate::registrations::row::{
     A, A_ISID, A_LONG, A_TWO, B, B_TWO, C, D, Step, Want, Who, number_of, who_named,

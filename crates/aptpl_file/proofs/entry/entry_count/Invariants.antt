@@ -1,5 +1,5 @@
 use Rattle.std.proofs.Common.{◌≡◌, ◌≤◌, ◌+◌, ◌-◌, length}
-use Rattle.aptpl_file.specs.Format.{entries_of}
+use Rattle.aptpl_format.specs.Format.{entries_of}
 use Rattle.aptpl_file.proofs.entry.entry_count.Given as goal
 
 abbrev pub invariant-loop-k : goal.invariant-loop-k

@@ -1,6 +1,6 @@
 use Rattle.std.proofs.Common.{◌≡◌, ◌∙◌, ◌+◌, sym, arith, length}
 use Rattle.std.specs.List.{position_or_len}
-use Rattle.aptpl_file.specs.Format.{covers, entries_of}
+use Rattle.aptpl_format.specs.Format.{covers, entries_of}
 use Rattle.aptpl_file.proofs.Entries.{as_few, no_place, none_left}
 use Rattle.aptpl_file.proofs.entry.place_of.Goals as goal
 

@@ -1,6 +1,6 @@
 use Rattle.std.proofs.Common.{◌≡◌, ◌≤◌, ◌+◌, ◌-◌, length}
 use Rattle.std.specs.List.{position_or_len}
-use Rattle.aptpl_file.specs.Format.{covers, entries_of}
+use Rattle.aptpl_format.specs.Format.{covers, entries_of}
 use Rattle.aptpl_file.proofs.entry.place_of.Given as goal
 
 abbrev pub invariant-loop-k : goal.invariant-loop-k

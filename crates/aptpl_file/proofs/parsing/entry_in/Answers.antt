@@ -2,7 +2,7 @@ use Rattle.std.proofs.Common.{◌≡◌, ◌<◌, ◌+◌, ◌-◌, ◌∙◌, s
 use Rattle.scsi_types.specs.Nexus.{Nexus}
 use Rattle.byteorder.specs.Endian.{big_number}
 use Rattle.aptpl_file.specs.declared.entry.Entry.{Entry}
-use Rattle.aptpl_file.specs.Format.{group_code}
+use Rattle.aptpl_format.specs.Format.{group_code}
 use Rattle.aptpl_file.proofs.Spelled.{key_read, code_read, length_read, isid_fits, isid_read_whole, name_long, name_read_whole}
 use Rattle.aptpl_file.proofs.Taken.{read_is}
 use Rattle.aptpl_file.proofs.parsing.entry_in.Goals as goal

@@ -1,6 +1,6 @@
 use Rattle.std.proofs.Common.{take, drop, sym, ap, ◌∙◌, List, ℕ}
 use Rattle.aptpl_file.specs.declared.version.FileVersion.{FileVersion}
-use Rattle.aptpl_file.specs.Format.{root_block, root_name}
+use Rattle.aptpl_format.specs.Format.{root_block, root_name}
 use Rattle.aptpl_file.proofs.Spelled.{root_magic, root_version, same_version}
 use Rattle.aptpl_file.proofs.Taken.{differ}
 use Rattle.aptpl_file.proofs.parsing.named_by.Goals as goal

@@ -1,8 +1,8 @@
 use Rattle.std.proofs.Common.{◌≡◌, sym, subst, rules}
 use Rattle.std.specs.List.{AllByRecursion}
 use Rattle.std.specs.declared.cmp.Ordering.TheVariants.{Less}
-use Rattle.reservations.specs.declared.registrant.Registrant.{Registrant}
-use Rattle.reservations.specs.Nexus.{nexus_cmp}
+use Rattle.registrants.specs.declared.registrant.Registrant.{Registrant}
+use Rattle.registrants.specs.Nexus.{nexus_cmp}
 use Rattle.aptpl_file.proofs.Taken.{below_mid, pushed}
 use Rattle.aptpl_file.proofs.parsing.push_behind.Goals as goal
 

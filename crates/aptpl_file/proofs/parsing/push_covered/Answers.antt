@@ -1,7 +1,7 @@
 use Rattle.std.proofs.Common.{ap, subst, rules}
 use Rattle.scsi_types.specs.Nexus.{Nexus}
-use Rattle.reservations.specs.declared.registrant.Registrant.{Registrant}
-use Rattle.aptpl_file.specs.Reads.{AreEntries}
+use Rattle.registrants.specs.declared.registrant.Registrant.{Registrant}
+use Rattle.aptpl_format.specs.Reads.{AreEntries}
 use Rattle.aptpl_file.proofs.EntriesTaken.{two_more}
 use Rattle.aptpl_file.proofs.Told.{if_err_too, refused_too}
 use Rattle.aptpl_file.proofs.parsing.push_covered.Goals as goal

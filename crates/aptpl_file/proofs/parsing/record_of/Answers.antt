@@ -1,5 +1,5 @@
 use Rattle.std.proofs.Common.{◌∙◌, sym, arith}
-use Rattle.aptpl_file.specs.Format.{entries_of}
+use Rattle.aptpl_format.specs.Format.{entries_of}
 use Rattle.aptpl_file.proofs.Entries.{stand_for}
 use Rattle.aptpl_file.proofs.SlotParts.{count_few, spells_entries}
 use Rattle.aptpl_file.proofs.Told.{if_err_too, refused_too}

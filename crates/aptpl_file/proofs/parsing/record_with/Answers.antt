@@ -1,6 +1,6 @@
 use Rattle.std.proofs.Common.{◌∙◌, sym, ap, subst, IsTrue}
-use Rattle.reservations.specs.Registry.{RecordValue, is_lasting}
-use Rattle.aptpl_file.specs.Format.{slot_bytes}
+use Rattle.registrants.specs.Registry.{RecordValue, is_lasting}
+use Rattle.aptpl_format.specs.Format.{slot_bytes}
 use Rattle.aptpl_file.proofs.Holder.{has_reservation}
 use Rattle.aptpl_file.proofs.OneRecord.{record_is}
 use Rattle.aptpl_file.proofs.Told.{refused_too}

@@ -1,6 +1,6 @@
 use Rattle.std.proofs.Common.{suc, arith, ◌∙◌, drop}
 use Rattle.std.specs.List.{flat_map}
-use Rattle.aptpl_file.specs.Reads.{covered}
+use Rattle.aptpl_format.specs.Reads.{covered}
 use Rattle.aptpl_file.proofs.EntriesTaken.{entry_here, is_entry, spelled_here, all_of, taken_with, all_taken}
 use Rattle.aptpl_file.proofs.Told.{refused_too}
 use Rattle.aptpl_file.proofs.parsing.registrants_in.Goals as goal

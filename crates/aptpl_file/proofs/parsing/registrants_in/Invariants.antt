@@ -1,7 +1,7 @@
 use Rattle.std.proofs.Common.{◌≡◌, List, take}
 use Rattle.std.specs.List.{flat_map}
 use Rattle.aptpl_file.specs.declared.entry.Entry.{Entry}
-use Rattle.aptpl_file.specs.Reads.{AreEntries, SpellsEntries, covered}
+use Rattle.aptpl_format.specs.Reads.{AreEntries, SpellsEntries, covered}
 use Rattle.aptpl_file.proofs.parsing.registrants_in.Given as goal
 
 abbrev pub invariant-loop-i : goal.invariant-loop-i

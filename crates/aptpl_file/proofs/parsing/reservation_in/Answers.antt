@@ -1,6 +1,6 @@
 use Rattle.std.proofs.Common.{◌≡◌, ◌∙◌, sym, ap, refl, slice_index, Some, None}
 use Rattle.scsi_types.specs.Nexus.{Nexus}
-use Rattle.aptpl_file.specs.Reads.{holder_in}
+use Rattle.aptpl_format.specs.Reads.{holder_in}
 use Rattle.aptpl_file.proofs.Holder.{reservation_at, holder_registered}
 use Rattle.aptpl_file.proofs.parsing.reservation_in.Goals as goal
 

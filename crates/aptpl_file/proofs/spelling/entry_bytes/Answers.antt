@@ -1,7 +1,7 @@
 use Rattle.std.proofs.Common.{◌≡◌, ◌∙◌, ◌++◌, ◌∷◌, List, ℕ, length, ap, arith}
 use Rattle.byteorder.specs.Endian.{big_bytes}
 use Rattle.scsi_types.specs.declared.names.Group.{Group}
-use Rattle.aptpl_file.specs.Format.{entry_bytes, group_code, padded}
+use Rattle.aptpl_format.specs.Format.{entry_bytes, group_code, padded}
 use Rattle.aptpl_file.proofs.Padding.{put_name}
 use Rattle.aptpl_file.proofs.spelling.entry_bytes.Goals as goal
 

@@ -2,10 +2,10 @@ use Rattle.std.proofs.Common.{◌≡◌, ◌≤◌, ◌<◌, ◌∙◌, ◌+◌,
 use Rattle.std.proofs.Common.{length-append, length-drop}
 use Rattle.std.proofs.lemmas.List.{append-nil, take_all}
 use Rattle.std.specs.List.{flat_map}
-use Rattle.reservations.specs.declared.registrant.Registrant.{Registrant}
-use Rattle.reservations.specs.Registry.{RecordValue}
+use Rattle.registrants.specs.declared.registrant.Registrant.{Registrant}
+use Rattle.registrants.specs.Registry.{RecordValue}
 use Rattle.aptpl_file.specs.declared.entry.Entry.{Entry}
-use Rattle.aptpl_file.specs.Format.{entries_of, entry_bytes, header_block, padded, slot_bytes}
+use Rattle.aptpl_format.specs.Format.{entries_of, entry_bytes, header_block, padded, slot_bytes}
 use Rattle.aptpl_file.proofs.Entries.{as_few}
 use Rattle.aptpl_file.proofs.Padding.{drop_next, drop_within, put_entry, put_first, put_length}
 use Rattle.aptpl_file.proofs.SlotParts.{length_header}

@@ -1,7 +1,7 @@
 use Rattle.std.proofs.Common.{◌≡◌, ◌≤◌, ◌+◌, ◌*◌, ◌++◌, length, take, drop}
 use Rattle.std.specs.List.{flat_map}
-use Rattle.reservations.specs.Registry.{RecordValue}
-use Rattle.aptpl_file.specs.Format.{entries_of, entry_bytes, header_block, padded}
+use Rattle.registrants.specs.Registry.{RecordValue}
+use Rattle.aptpl_format.specs.Format.{entries_of, entry_bytes, header_block, padded}
 use Rattle.aptpl_file.proofs.spelling.slot_bytes.Given as goal
 
 abbrev pub invariant-loop-k : goal.invariant-loop-k

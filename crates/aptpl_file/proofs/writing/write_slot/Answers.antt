@@ -1,9 +1,9 @@
 use Rattle.std.proofs.Common.{◌∙◌, ℕ, List, ap, arith}
-use Rattle.reservations.specs.Registry.{RecordValue}
+use Rattle.registrants.specs.Registry.{RecordValue}
 use Rattle.block_file.specs.Cut.{run_of}
 use Rattle.block_file.specs.Disk.{written}
 use Rattle.aptpl_file.specs.declared.version.FileVersion.TheVariants.{Version2}
-use Rattle.aptpl_file.specs.Format.{part_at}
+use Rattle.aptpl_format.specs.Format.{part_at}
 use Rattle.aptpl_file.proofs.SlotWrites.{slot_written}
 use Rattle.aptpl_file.proofs.writing.write_slot.Goals as goal
 

@@ -1,6 +1,6 @@
 use Rattle.std.proofs.Common.{rules, ◌≡◌, ◌∷◌, ◌++◌, [], List, ap, ◌∙◌}
 use Rattle.std.proofs.lemmas.Fn.{filter_same}
-use Rattle.reservations.specs.Nexus.{through}
+use Rattle.registrants.specs.Nexus.{through}
 use Rattle.portal.specs.declared.live.LiveSession.{LiveSession}
 use Rattle.portal.specs.Live.{others}
 use Rattle.portal.proofs.live.replace.Goals as goal

@@ -1,5 +1,5 @@
 use Rattle.std.proofs.Common.{rules, map, subst, sym, List, ◌≤◌}
-use Rattle.reservations.specs.Nexus.{through}
+use Rattle.registrants.specs.Nexus.{through}
 use Rattle.std.specs.Vec.{vec_capacity}
 use Rattle.portal.specs.Submitted.{At}
 use Rattle.portal.proofs.Attaching.{Onward, onward}

@@ -1,5 +1,5 @@
 use Rattle.std.proofs.Common.{◌≡◌, ◌<◌, ◌≤◌, All, length, vec_capacity}
-use Rattle.reservations.specs.Nexus.{through}
+use Rattle.registrants.specs.Nexus.{through}
 use Rattle.portal.specs.Target.{AreAttached}
 use Rattle.portal.proofs.target.attach_all.Given as goal
 

@@ -1,5 +1,5 @@
 use Rattle.std.proofs.Common.{◌≡◌, ◌++◌, take, drop}
-use Rattle.reservations.specs.Registry.{with_key_of}
+use Rattle.registrants.specs.Registry.{with_key_of}
 use Rattle.reservations.proofs.slots.rekey.Given as goal
 
 abbrev pub invariant-loop-x : goal.invariant-loop-x

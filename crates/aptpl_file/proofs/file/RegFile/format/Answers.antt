@@ -1,7 +1,7 @@
 use Rattle.std.proofs.Common.{rules, ⊎_elim, inl, inr, ◌+◌}
 use Rattle.aptpl_file.specs.declared.slot.Slot.TheVariants.{First}
 use Rattle.aptpl_file.specs.declared.version.FileVersion.TheVariants.{Version2}
-use Rattle.aptpl_file.specs.Format.{root_block}
+use Rattle.aptpl_format.specs.Format.{root_block}
 use Rattle.aptpl_file.specs.Formatting.{nothing}
 use Rattle.aptpl_file.proofs.Formats.{stops_in_format}
 use Rattle.aptpl_file.proofs.Stops.{slot_beside}

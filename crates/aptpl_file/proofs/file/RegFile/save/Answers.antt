@@ -1,5 +1,5 @@
 use Rattle.std.proofs.Common.{rules}
-use Rattle.reservations.specs.Registry.{RecordValue}
+use Rattle.registrants.specs.Registry.{RecordValue}
 use Rattle.aptpl_file.proofs.Stops.{stop_old_root, until_slot, until_root}
 use Rattle.aptpl_file.proofs.file.RegFile.save.Goals as goal
 

@@ -1,6 +1,6 @@
 use Rattle.std.proofs.Common.{◌≡◌, ◌&&◌, ℕ, subst}
 use Rattle.std.specs.Prelude.{IfErr, IfOk}
-use Rattle.reservations.specs.Nexus.{through}
+use Rattle.registrants.specs.Nexus.{through}
 use Rattle.unit_history.specs.Calls.{HasAttached, HasNoRoom}
 use Rattle.array_units.proofs.units.Units.attach.Goals as goal
 

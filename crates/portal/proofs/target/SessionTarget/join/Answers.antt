@@ -1,6 +1,6 @@
 use Rattle.std.proofs.Common.{rules, ◌≡◌, ◌<◌, ℕ, All, false, refl, sym, ap, ◌∙◌, subst, map, List}
 use Rattle.login.specs.declared.status.Kind.TheVariants.{Normal}
-use Rattle.reservations.specs.Nexus.{through}
+use Rattle.registrants.specs.Nexus.{through}
 use Rattle.scsi_types.specs.Nexus.{Port}
 use Rattle.scsi_types.specs.declared.names.Group.{Group}
 use Rattle.portal.specs.Target.{TargetValue, Sight, AreAttached, IsGrounded, IsTurnedBack}

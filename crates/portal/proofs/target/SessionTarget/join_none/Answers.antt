@@ -1,6 +1,6 @@
 use Rattle.std.proofs.Common.{rules, false, refl, sym, subst}
 use Rattle.login.specs.declared.status.Kind.TheVariants.{Discovery}
-use Rattle.reservations.specs.Nexus.{through}
+use Rattle.registrants.specs.Nexus.{through}
 use Rattle.scsi_types.specs.Nexus.{Port}
 use Rattle.portal.specs.Target.{TargetValue, IsGrounded, IsTurnedBack}
 use Rattle.portal.specs.declared.target.BeginFault.{BeginFault}

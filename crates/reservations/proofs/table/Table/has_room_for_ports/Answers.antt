@@ -1,5 +1,5 @@
 use Rattle.std.proofs.Common.{◌≡◌, ◌+◌, ◌≤◌, Bool, true, false, arith, ap, ◌∙◌, if◌then◌else◌, length}
-use Rattle.reservations.specs.Nexus.{other_nexus}
+use Rattle.registrants.specs.Nexus.{other_nexus}
 use Rattle.reservations.specs.Rows.{ports_with}
 use Rattle.reservations.proofs.Listed.{missing}
 use Rattle.reservations.proofs.OnePort.{length_ports, room_is}

@@ -1,8 +1,8 @@
 use Rattle.std.proofs.Common.{◌≡◌, false, List, length, ap, arith, subst, sym, ◌∙◌}
 use Rattle.scsi_types.specs.Nexus.{Nexus}
-use Rattle.reservations.specs.declared.registrant.Registrant.{Registrant}
-use Rattle.reservations.specs.Nexus.{other_nexus}
-use Rattle.reservations.specs.Registry.{IsAscending, is_registered}
+use Rattle.registrants.specs.declared.registrant.Registrant.{Registrant}
+use Rattle.registrants.specs.Nexus.{other_nexus}
+use Rattle.registrants.specs.Registry.{IsAscending, is_registered}
 use Rattle.reservations.proofs.Listed.{ascending_registered}
 use Rattle.reservations.proofs.OnePort.{room_first, room_second}
 use Rattle.reservations.proofs.table.Table.register_ports.Goals as goal

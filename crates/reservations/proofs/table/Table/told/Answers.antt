@@ -1,7 +1,7 @@
 use Rattle.std.proofs.Common.{◌<◌, ◌≡◌, List, length, sym, ◌∙◌, ap, arith, Some}
 use Rattle.std.proofs.lemmas.List.{at_drop_all}
-use Rattle.reservations.specs.declared.registrant.Registrant.{Registrant}
-use Rattle.reservations.specs.Nexus.{through}
+use Rattle.registrants.specs.declared.registrant.Registrant.{Registrant}
+use Rattle.registrants.specs.Nexus.{through}
 use Rattle.reservations.specs.Notice.{code_told, tellings}
 use Rattle.reservations.proofs.Hearing.{first_heard, heard_here, heard_of, told_first}
 use Rattle.reservations.proofs.table.Table.told.Goals as goal

@@ -1,5 +1,5 @@
 use Rattle.std.proofs.Common.{◌≡◌, drop}
-use Rattle.reservations.specs.Nexus.{through}
+use Rattle.registrants.specs.Nexus.{through}
 use Rattle.reservations.proofs.Hearing.{first_heard}
 use Rattle.reservations.proofs.table.Table.told.Given as goal
 
