@@ -5,7 +5,7 @@ use Rattle.atomic_table.specs.Seated.{TableId}
 use Rattle.crossbeam_utils.specs.declared.cache_padded.CachePadded.{CachePadded}
 use Rattle.crossbeam_utils.specs.Padded.{padded_value}
 use Rattle.logbook.specs.Pages.{Book}
-use Rattle.unit_state.specs.State.{UnitState}
+use Rattle.unit_control.specs.State.{UnitState}
 use Rattle.array_units.specs.declared.any_unit.AnyUnit.{AnyUnit}
 use Rattle.unit_history.specs.declared.new_unit.NewUnit.{NewUnit}
 use Rattle.unit_history.specs.Naming.{IsNamed, IsNamedAt, book_in, table_in, opening_in}

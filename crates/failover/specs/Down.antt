@@ -5,8 +5,8 @@ use Rattle.scsi_types.specs.declared.names.Group.{Group}
 use Rattle.scsi_types.specs.declared.names.Group.TheVariants.{One, Two}
 use Rattle.unit_history.specs.Calls.{HasMoved, HasStayed}
 use Rattle.unit_entries.specs.Devices.{Devices}
-use Rattle.unit_state.specs.Entry.{Entry}
-use Rattle.unit_state.specs.State.{UnitState}
+use Rattle.unit_control.specs.Entry.{Entry}
+use Rattle.unit_control.specs.State.{UnitState}
 use Rattle.unit_state.specs.declared.unit.MoveFault.{MoveFault}
 
 -- A move that was asked of a unit: its place, the parameter list of SET TARGET PORT GROUPS, the history that was seen of the

@@ -4,7 +4,7 @@ use Rattle.locked_unit.specs.Calls.{Known}
 use Rattle.locked_unit.specs.declared.machine.Refused.{Refused}
 use Rattle.scsi_types.specs.ReplyValue.{ReplyValue}
 use Rattle.scsi_types.specs.declared.names.Group.{Group}
-use Rattle.unit_state.specs.Entry.{Entry}
+use Rattle.unit_control.specs.Entry.{Entry}
 use Rattle.forwarding.specs.Served.{Handed}
 
 -- a job that came to an end: what its pass has seen since, and the reply or the refusal

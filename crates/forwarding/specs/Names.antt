@@ -4,7 +4,7 @@ use Rattle.locked_unit.specs.Calls.{PlacedPass}
 use Rattle.scsi_types.specs.declared.names.Group.{Group}
 use Rattle.scsi_types.specs.declared.command.Command.{Command as ScsiCommand}
 use Rattle.scsi_types.specs.declared.command.CdbFault.{CdbFault}
-use Rattle.unit_state.specs.Entry.{Entry}
+use Rattle.unit_control.specs.Entry.{Entry}
 use Rattle.job_names.specs.declared.names.Names.{Names}
 
 -- the next command of the session with this pass, at the desk of a group

@@ -6,8 +6,8 @@ use Rattle.scsi_types.specs.ReplyValue.{ReplyValue}
 use Rattle.scsi_types.specs.declared.names.Group.{Group}
 use Rattle.scsi_types.specs.declared.command.Command.{Command as ScsiCommand}
 use Rattle.scsi_types.specs.declared.command.CdbFault.{CdbFault}
-use Rattle.unit_state.specs.State.{UnitState}
-use Rattle.unit_state.specs.Entry.{Entry}
+use Rattle.unit_control.specs.State.{UnitState}
+use Rattle.unit_control.specs.Entry.{Entry}
 use Rattle.unit_history.specs.Calls.{HasServed, HasRefused, HasWorked}
 use Rattle.unit_entries.specs.Devices.{Devices, claims_of}
 use Rattle.forwarding.specs.Names.{names_of}

@@ -4,8 +4,8 @@ use Rattle.locked_unit.specs.Calls.{PlacedPass}
 use Rattle.locked_unit.specs.declared.machine.Refused.{Refused}
 use Rattle.scsi_types.specs.ReplyValue.{ReplyValue}
 use Rattle.scsi_types.specs.declared.names.Group.{Group}
-use Rattle.unit_state.specs.State.{UnitState}
-use Rattle.unit_state.specs.Entry.{Entry}
+use Rattle.unit_control.specs.State.{UnitState}
+use Rattle.unit_control.specs.Entry.{Entry}
 use Rattle.unit_entries.specs.Devices.{Devices}
 use Rattle.forwarding.specs.Served.{Handed, HasAnswered}
 use Rattle.forwarding.specs.declared.desk.DeskFault.{DeskFault}

@@ -24,8 +24,8 @@ use Rattle.session_rules.specs.declared.target.TargetAnswer.{TargetAnswer}
 use Rattle.session_rules.specs.declared.target.TargetAnswer.TheVariants.{Replied, Outside, Busy, Gone}
 use Rattle.session_rules.specs.declared.target.ResetAnswer.{ResetAnswer}
 use Rattle.session_rules.specs.declared.target.ResetAnswer.TheVariants as resets
-use Rattle.unit_state.specs.State.{UnitState}
-use Rattle.unit_state.specs.Entry.{Entry, Attach}
+use Rattle.unit_control.specs.State.{UnitState}
+use Rattle.unit_control.specs.Entry.{Entry, Attach}
 use Rattle.unit_entries.specs.Histories.{IsHistory}
 use Rattle.portal.specs.Late.{Late, late_at}
 use Rattle.portal.specs.Sessions.{Sayings}

@@ -5,11 +5,11 @@ use Rattle.std.proofs.lemmas.Bool.{false≢true}
 use Rattle.std.specs.Prelude.{◌⊎◌, IsTrue, MatchBool}
 use Rattle.scsi_types.specs.Nexus.{Nexus}
 use Rattle.scsi_types.specs.ReplyValue.{ReplyValue}
-use Rattle.unit_state.specs.declared.refusal.Refusal.{Refusal}
-use Rattle.unit_state.specs.State.{UnitState}
-use Rattle.unit_state.specs.Entry.{Entry, Attach, Detach, Reset, Move, Command, IsPossible, IsReplyTo, IsReplyWith, after}
+use Rattle.unit_control.specs.declared.refusal.Refusal.{Refusal}
+use Rattle.unit_control.specs.State.{UnitState}
+use Rattle.unit_control.specs.Entry.{Entry, Attach, Detach, Reset, Move, Command, IsPossible, IsReplyTo, IsReplyWith, after}
 use Rattle.unit_state.specs.History.{state_after, IsLegal}
-use Rattle.unit_state.specs.Refusal.{refusal, request}
+use Rattle.unit_control.specs.Refusal.{refusal, request}
 use Rattle.unit_entries.specs.Histories.{IsHistory, IsToldBehind, is_own}
 use Rattle.portal.specs.Units.{Claims, any_device}
 use Rattle.portal.specs.Late.{Late, never}

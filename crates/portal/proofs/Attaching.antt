@@ -2,7 +2,7 @@
 use Rattle.std.proofs.Common.{◌≡◌, ℕ, ◌+◌, ◌<◌, All, List, [], ◌∷◌, ◌++◌, length, length-append, subst, sym, arith}
 use Rattle.std.proofs.lemmas.List.Elements.{All-push}
 use Rattle.scsi_types.specs.Nexus.{Nexus}
-use Rattle.unit_state.specs.State.{UnitState}
+use Rattle.unit_control.specs.State.{UnitState}
 use Rattle.portal.specs.Units.{Claims}
 use Rattle.portal.specs.Submitted.{At}
 use Rattle.portal.specs.Target.{AreAttached, IsAttachedTo}

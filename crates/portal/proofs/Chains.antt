@@ -13,12 +13,12 @@ use Rattle.scsi_types.specs.declared.command.CdbFault.{CdbFault}
 use Rattle.session_rules.specs.declared.target.TargetAnswer.{TargetAnswer}
 use Rattle.session_rules.specs.declared.target.ResetAnswer.{ResetAnswer}
 use Rattle.session_rules.specs.declared.target.ResetAnswer.TheVariants as resets
-use Rattle.unit_state.specs.State.{UnitState}
+use Rattle.unit_control.specs.State.{UnitState}
 use Rattle.status.specs.Views.{counted}
 use Rattle.locked_unit.specs.Calls.{Known, PlacedPass, IsRefused}
 use Rattle.forwarding.specs.declared.desk.DeskFault.TheVariants as desks
 use Rattle.locked_unit.specs.declared.machine.Refused.TheVariants as refusals
-use Rattle.unit_state.specs.Entry.{Entry, Command}
+use Rattle.unit_control.specs.Entry.{Entry, Command}
 use Rattle.unit_entries.specs.Histories.{IsHistory, IsCommand, IsToldBehind, is_own, own}
 use Rattle.unit_history.specs.Calls.{HasServed}
 use Rattle.portal.specs.Late.{Late, late_at, Flushing, asked_by, served_by, IsTold, IsToldEnd}

@@ -7,7 +7,7 @@ use Rattle.login.specs.declared.status.Kind.{Kind}
 use Rattle.login.specs.declared.status.Kind.TheVariants.{Normal, Discovery}
 use Rattle.registrants.specs.Nexus.{through}
 use Rattle.scsi_types.specs.Nexus.{Port, Nexus}
-use Rattle.unit_state.specs.State.{UnitState}
+use Rattle.unit_control.specs.State.{UnitState}
 use Rattle.portal.specs.Sessions.{Sayings}
 use Rattle.portal.specs.Units.{Claims}
 use Rattle.portal.specs.Submitted.{At}

@@ -8,8 +8,8 @@ use Rattle.locked_unit.specs.Calls.{Known}
 use Rattle.status.specs.Views.{counted}
 use Rattle.unit_history.specs.Calls.{HasRetired, WasGone}
 use Rattle.unit_entries.specs.Histories.{IsHistory, own}
-use Rattle.unit_state.specs.Entry.{Entry, Detach}
-use Rattle.unit_state.specs.State.{UnitState}
+use Rattle.unit_control.specs.Entry.{Entry, Detach}
+use Rattle.unit_control.specs.State.{UnitState}
 use Rattle.portal.specs.Units.{Claims, IsRetired}
 use Rattle.portal.specs.Entries.{IsLast}
 use Rattle.portal.specs.Submitted.{At}

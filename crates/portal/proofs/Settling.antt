@@ -14,16 +14,16 @@ use Rattle.scsi_types.specs.declared.names.Group.{Group}
 use Rattle.scsi_types.specs.declared.command.Op.TheVariants as ops
 use Rattle.scsi_types.specs.declared.command.Command.TheVariants as commands
 use Rattle.scsi_types.specs.declared.status.Status.TheVariants.{Good}
-use Rattle.unit_state.specs.declared.refusal.Refusal.{Refusal}
-use Rattle.unit_state.specs.declared.refusal.Refusal.TheVariants.{Attention, Conflict, Check}
-use Rattle.unit_state.specs.State.{ControlValue, UnitState}
-use Rattle.unit_state.specs.Choice.{Choice, Fine, ReadFailed, WriteFailed, OpenFailed, SaveFailed}
-use Rattle.unit_state.specs.Entry.{Entry, Attach, Detach, Reset, Move, Command, CanChoose, IsPossible, IsReplyTo, IsReplyWith, MayCome, after, blocks_with}
-use Rattle.unit_state.specs.Entry.{control_with, left_control, pass, returned}
+use Rattle.unit_control.specs.declared.refusal.Refusal.{Refusal}
+use Rattle.unit_control.specs.declared.refusal.Refusal.TheVariants.{Attention, Conflict, Check}
+use Rattle.unit_control.specs.State.{ControlValue, UnitState}
+use Rattle.unit_control.specs.Choice.{Choice, Fine, ReadFailed, WriteFailed, OpenFailed, SaveFailed}
+use Rattle.unit_control.specs.Entry.{Entry, Attach, Detach, Reset, Move, Command, CanChoose, IsPossible, IsReplyTo, IsReplyWith, MayCome, after, blocks_with}
+use Rattle.unit_control.specs.Entry.{control_with, left_control, pass, returned}
 use Rattle.unit_state.specs.History.{state_after, IsLegal}
-use Rattle.unit_state.specs.Medium.{Finding, MayFind, WriteError, left, work_of}
-use Rattle.unit_state.specs.Refusal.{Request, request, refusal, refusal_reply, access_by, attention_rule, conflict_rule, field_rule, list_rule, opcode_rule}
-use Rattle.unit_state.specs.Refusal.{outside, saved_rule, state_for}
+use Rattle.unit_control.specs.Medium.{Finding, MayFind, WriteError, left, work_of}
+use Rattle.unit_control.specs.Refusal.{Request, request, refusal, refusal_reply, access_by, attention_rule, conflict_rule, field_rule, list_rule, opcode_rule}
+use Rattle.unit_control.specs.Refusal.{outside, saved_rule, state_for}
 use Rattle.unit_entries.specs.Histories.{IsHistory, IsToldBehind}
 use Rattle.portal.specs.Units.{Claims}
 use Rattle.portal.specs.Late.{Late, Flushing, writes, compares, synchronizes, asked_by, served_by, IsTold, IsUnflushed}

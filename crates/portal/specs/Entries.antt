@@ -15,9 +15,9 @@ use Rattle.session_rules.specs.declared.target.TargetAnswer.{TargetAnswer}
 use Rattle.session_rules.specs.declared.target.TargetAnswer.TheVariants.{Replied, Outside, Busy, Gone}
 use Rattle.session_rules.specs.declared.target.ResetAnswer.{ResetAnswer}
 use Rattle.session_rules.specs.declared.target.ResetAnswer.TheVariants as resets
-use Rattle.unit_state.specs.State.{UnitState}
-use Rattle.unit_state.specs.Choice.{Choice}
-use Rattle.unit_state.specs.Entry.{Entry, Attach, Detach, Reset, Move, Command, IsPossible, after}
+use Rattle.unit_control.specs.State.{UnitState}
+use Rattle.unit_control.specs.Choice.{Choice}
+use Rattle.unit_control.specs.Entry.{Entry, Attach, Detach, Reset, Move, Command, IsPossible, after}
 use Rattle.unit_state.specs.History.{state_after}
 use Rattle.locked_unit.specs.Calls.{PlacedPass}
 use Rattle.status.specs.Views.{counted}

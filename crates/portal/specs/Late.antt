@@ -8,7 +8,7 @@ use Rattle.scsi_types.specs.declared.command.Command.{Command}
 use Rattle.scsi_types.specs.declared.command.Command.TheVariants as commands
 use Rattle.scsi_types.specs.declared.command.CdbFault.{CdbFault}
 use Rattle.scsi_types.specs.declared.status.Status.TheVariants.{Good}
-use Rattle.unit_state.specs.Entry.{Entry}
+use Rattle.unit_control.specs.Entry.{Entry}
 use Rattle.portal.specs.declared.units.Unserved.{Unserved}
 
 -- What is known of those who flush: whether it is ever left to them, and that a flush is done that began when a session's pass was

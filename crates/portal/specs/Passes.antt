@@ -2,7 +2,7 @@
 use Rattle.std.specs.Prelude.{[], Option, Some, None}
 use Rattle.scsi_types.specs.declared.names.Group.{Group}
 use Rattle.locked_unit.specs.Calls.{PlacedPass}
-use Rattle.unit_state.specs.Entry.{Entry}
+use Rattle.unit_control.specs.Entry.{Entry}
 use Rattle.portal.specs.Submitted.{At}
 
 -- the pass that is there; while a call has it, there is none

@@ -16,9 +16,9 @@ use Rattle.session_rules.specs.declared.target.TargetAnswer.{TargetAnswer}
 use Rattle.session_rules.specs.declared.target.TargetAnswer.TheVariants.{Replied, Outside, Busy, Gone}
 use Rattle.session_rules.specs.declared.target.ResetAnswer.{ResetAnswer}
 use Rattle.session_rules.specs.declared.target.ResetAnswer.TheVariants as resets
-use Rattle.unit_state.specs.State.{UnitState}
+use Rattle.unit_control.specs.State.{UnitState}
 use Rattle.unit_history.specs.Calls.{HasAttached, HasNoRoom}
-use Rattle.unit_state.specs.Entry.{Entry}
+use Rattle.unit_control.specs.Entry.{Entry}
 use Rattle.portal.specs.Late.{Late}
 use Rattle.portal.specs.Sessions.{Sayings}
 use Rattle.portal.specs.Units.{Claims, IsRetired}

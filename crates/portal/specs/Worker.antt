@@ -8,8 +8,8 @@ use Rattle.session_rules.specs.declared.opening.Opening.TheVariants.{Login}
 use Rattle.session_rules.specs.Asking.{over}
 use Rattle.session_rules.specs.Phases.{asked, exchanges}
 use Rattle.session.specs.Transcript.{IsTranscribed}
-use Rattle.unit_state.specs.Entry.{Entry}
-use Rattle.unit_state.specs.State.{UnitState}
+use Rattle.unit_control.specs.Entry.{Entry}
+use Rattle.unit_control.specs.State.{UnitState}
 use Rattle.portal.specs.Late.{Late}
 use Rattle.portal.specs.Sessions.{Sayings}
 use Rattle.portal.specs.Units.{Claims}

@@ -1,7 +1,7 @@
 //! What is said of sessions, in a storage engineer's words.
 ghost use Rattle.std.specs.Prelude.{◌≡◌, ◌++◌, ◌∷◌, [], List, Bool, ℕ, false, length};
-ghost use Rattle.unit_state.specs.State.{UnitState};
-ghost use Rattle.unit_state.specs.Entry.{Entry, IsPossible, after};
+ghost use Rattle.unit_control.specs.State.{UnitState};
+ghost use Rattle.unit_control.specs.Entry.{Entry, IsPossible, after};
 ghost use Rattle.unit_state.specs.History.{state_after};
 ghost use Rattle.unit_entries.specs.Histories.{IsHistory};
 ghost use Rattle.scsi_types.specs.Nexus.{Nexus};

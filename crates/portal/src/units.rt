@@ -2,9 +2,9 @@
 ghost use Rattle.std.specs.Prelude.{◌≡◌, ◌<◌, ◌⊎◌, ℕ, List, IfOk, IfErr};
 ghost use mathlib.Core.List.{IsPrefix};
 ghost use Rattle.registrants.specs.Nexus.{IsPortName, through};
-ghost use Rattle.unit_state.specs.State.{UnitState};
+ghost use Rattle.unit_control.specs.State.{UnitState};
 ghost use Rattle.locked_unit.specs.Calls.{PlacedPass};
-ghost use Rattle.unit_state.specs.Entry.{Entry};
+ghost use Rattle.unit_control.specs.Entry.{Entry};
 ghost use Rattle.unit_history.specs.Calls.{HasAttached, HasNoRoom};
 ghost use Rattle.portal.specs.Units.{Claims, IsSubmitted, IsResetBy, IsRetired};
 

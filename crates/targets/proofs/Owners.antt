@@ -7,9 +7,9 @@ use Rattle.scsi_types.specs.ReplyValue.{ReplyValue}
 use Rattle.scsi_types.specs.declared.names.Group.{Group}
 use Rattle.scsi_types.specs.declared.command.Command.{Command as ScsiCommand}
 use Rattle.scsi_types.specs.declared.command.CdbFault.{CdbFault}
-use Rattle.unit_state.specs.Entry.{IsNext}
-use Rattle.unit_state.specs.State.{UnitValue}
-use Rattle.unit_state.specs.Refusal.{request}
+use Rattle.unit_control.specs.Entry.{IsNext}
+use Rattle.unit_control.specs.State.{UnitValue}
+use Rattle.unit_control.specs.Refusal.{request}
 use Rattle.unit_state.specs.Step.{TakesMemory}
 use Rattle.unit_state.specs.declared.unit.StepEnd.{StepEnd}
 use Rattle.unit_state.specs.declared.unit.StepEnd.TheVariants.{Reply, Gone, Moved, NoMemory}

@@ -11,16 +11,16 @@ use Rattle.scsi_types.specs.ReplyValue.{ReplyValue}
 use Rattle.scsi_types.specs.declared.names.Group.{Group}
 use Rattle.scsi_types.specs.declared.command.Command.{Command as ScsiCommand}
 use Rattle.scsi_types.specs.declared.command.CdbFault.{CdbFault}
-use Rattle.unit_state.specs.Limits.{last_length}
+use Rattle.unit_control.specs.Limits.{last_length}
 use Rattle.session_rules.specs.declared.target.ResetAnswer.{ResetAnswer}
 use Rattle.session_rules.specs.declared.target.ResetAnswer.TheVariants as resets
 use Rattle.session_rules.specs.declared.target.TargetAnswer.{TargetAnswer}
 use Rattle.session_rules.specs.declared.target.TargetAnswer.TheVariants.{Replied, Outside, Busy, Gone}
-use Rattle.unit_state.specs.State.{ControlValue, UnitValue}
-use Rattle.unit_state.specs.Choice.{Choice, choice_of}
-use Rattle.unit_state.specs.declared.sessions.Attached.{Attached}
-use Rattle.unit_state.specs.Sessions.{session_of, next_of, all_reset}
-use Rattle.unit_state.specs.Entry.{Reset, Command, IsNext, IsAttached, control_after}
+use Rattle.unit_control.specs.State.{ControlValue, UnitValue}
+use Rattle.unit_control.specs.Choice.{Choice, choice_of}
+use Rattle.unit_control.specs.declared.sessions.Attached.{Attached}
+use Rattle.unit_control.specs.Sessions.{session_of, next_of, all_reset}
+use Rattle.unit_control.specs.Entry.{Reset, Command, IsNext, IsAttached, control_after}
 use Rattle.unit_state.specs.CommandLaws.{next_after, count_after}
 use Rattle.targets.specs.OneUnit.{Call, Device, TargetValue, IsSame, IsCommand, IsAnsweredBy, IsResetBy}
 

@@ -29,15 +29,15 @@ use Rattle.session_rules.specs.Phases.{Exchange, exchanges, of_login, of_turn, i
 use Rattle.session_rules.specs.Setting.{setting_of}
 use Rattle.session.specs.Transcript.{Written, IsTranscribed}
 use Rattle.session_rules.specs.Turn.{Spells, Leads}
-use Rattle.unit_state.specs.Limits.{last_length}
-use Rattle.unit_state.specs.State.{ControlValue, UnitState, UnitValue, state_of}
-use Rattle.unit_state.specs.Choice.{Choice, Fine, ReadFailed, WriteFailed, OpenFailed, SaveFailed, IsFine, choice_of}
-use Rattle.unit_state.specs.Entry.{Entry, Reset, Command, IsAttached, IsPossible, IsReplyTo, control_after, blocks_after, after}
+use Rattle.unit_control.specs.Limits.{last_length}
+use Rattle.unit_control.specs.State.{ControlValue, UnitState, UnitValue, state_of}
+use Rattle.unit_control.specs.Choice.{Choice, Fine, ReadFailed, WriteFailed, OpenFailed, SaveFailed, IsFine, choice_of}
+use Rattle.unit_control.specs.Entry.{Entry, Reset, Command, IsAttached, IsPossible, IsReplyTo, control_after, blocks_after, after}
 use Rattle.unit_state.specs.EntryLaws.{possible_over, reply_over}
 use Rattle.unit_state.specs.History.{state_after, IsLegal, IsReplyAt, has_failed, failed_entries}
 use Rattle.unit_state.specs.Step.{IsStep, entry_of}
-use Rattle.unit_state.specs.declared.refusal.Refusal.{Refusal}
-use Rattle.unit_state.specs.Refusal.{refusal, request}
+use Rattle.unit_control.specs.declared.refusal.Refusal.{Refusal}
+use Rattle.unit_control.specs.Refusal.{refusal, request}
 use Rattle.unit_state.specs.Step.{OnRefusal}
 use Rattle.targets.specs.OneUnit.{Call, Device, TargetValue, IsSame, IsCommand, IsBusy, IsAnsweredBy, IsResetBy, LeadsOn}
 use Rattle.targets.specs.Once.{RepliedCall, EnteredCall, replied, was_reset, entered_by, entered, IsEntryOf, AreCommands}

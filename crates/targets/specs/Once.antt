@@ -30,13 +30,13 @@ use Rattle.session_rules.specs.Legal.{Lawful}
 use Rattle.session_rules.specs.Phases.{of_turn, incoming, asked}
 use Rattle.session_rules.specs.Ends.{EndsBy}
 use Rattle.session.specs.Transcript.{Written}
-use Rattle.unit_state.specs.Limits.{last_length}
-use Rattle.unit_state.specs.State.{UnitState, opening}
-use Rattle.unit_state.specs.Choice.{Fine}
-use Rattle.unit_state.specs.Entry.{Entry, Attach, Detach, Reset, Move, Command, after}
+use Rattle.unit_control.specs.Limits.{last_length}
+use Rattle.unit_control.specs.State.{UnitState, opening}
+use Rattle.unit_control.specs.Choice.{Fine}
+use Rattle.unit_control.specs.Entry.{Entry, Attach, Detach, Reset, Move, Command, after}
 use Rattle.unit_state.specs.History.{state_after, IsLegal, IsReplyAt, failed_entries}
-use Rattle.unit_state.specs.Medium.{is_flushed, work_asked}
-use Rattle.unit_state.specs.Refusal.{refusal, request}
+use Rattle.unit_control.specs.Medium.{is_flushed, work_asked}
+use Rattle.unit_control.specs.Refusal.{refusal, request}
 use Rattle.targets.specs.OneUnit.{Device, TargetValue, IsBusy, LeadsOn}
 
 -- the nexus of the one session

@@ -17,15 +17,15 @@ use Rattle.session_rules.specs.declared.target.TargetAnswer.{TargetAnswer}
 use Rattle.session_rules.specs.declared.target.TargetAnswer.TheVariants.{Replied, Outside, Busy, Gone}
 use Rattle.session_rules.specs.declared.target.ResetAnswer.{ResetAnswer}
 use Rattle.session_rules.specs.declared.target.ResetAnswer.TheVariants as resets
-use Rattle.unit_state.specs.Limits.{last_length}
-use Rattle.unit_state.specs.State.{ControlValue, UnitValue, state_of, failures_of}
-use Rattle.unit_state.specs.Answer.{Lasts}
-use Rattle.unit_state.specs.Choice.{IsFine, choice_of}
-use Rattle.unit_state.specs.Counts.{AreCounted, counters_of}
-use Rattle.unit_state.specs.Crash.{HoldsAsBefore, LeavesAmong, holds_with}
-use Rattle.unit_state.specs.Entry.{Reset, IsAttached, IsNext, control_after}
-use Rattle.unit_state.specs.Medium.{work_asked}
-use Rattle.unit_state.specs.Refusal.{Request, refusal, request}
+use Rattle.unit_control.specs.Limits.{last_length}
+use Rattle.unit_control.specs.State.{ControlValue, UnitValue, state_of, failures_of}
+use Rattle.unit_control.specs.Answer.{Lasts}
+use Rattle.unit_control.specs.Choice.{IsFine, choice_of}
+use Rattle.unit_control.specs.Counts.{AreCounted, counters_of}
+use Rattle.unit_control.specs.Crash.{HoldsAsBefore, LeavesAmong, holds_with}
+use Rattle.unit_control.specs.Entry.{Reset, IsAttached, IsNext, control_after}
+use Rattle.unit_control.specs.Medium.{work_asked}
+use Rattle.unit_control.specs.Refusal.{Request, refusal, request}
 use Rattle.unit_state.specs.Step.{IsStep, OnRefusal, TakesMemory, asks_file, asks_medium, entry_of}
 use Rattle.unit_state.specs.declared.unit.StepEnd.{StepEnd}
 use Rattle.unit_state.specs.declared.unit.StepEnd.TheVariants as ends

@@ -2,8 +2,8 @@
 ghost use Rattle.std.specs.Prelude.{◌≡◌, ◌<◌, ◌≤◌, IfOk, Some};
 ghost use Rattle.targets.specs.Once.{nothing, place};
 ghost use Rattle.targets.specs.OneUnit.{IsStepped, IsOwnStep, IsAnsweredBy, IsResetBy, IsAbsent};
-ghost use Rattle.unit_state.specs.Entry.{IsAttached, IsNext};
-ghost use Rattle.unit_state.specs.State.{opening_control};
+ghost use Rattle.unit_control.specs.Entry.{IsAttached, IsNext};
+ghost use Rattle.unit_control.specs.State.{opening_control};
 
 use aptpl_file::{FILE_BLOCKS, RegFile};
 use block_file::{Blocks, KeepOpener, MemBlocks};

@@ -6,8 +6,8 @@ ghost use Rattle.scsi_types.specs.declared.command.CdbFault.{CdbFault};
 ghost use Rattle.session_rules.specs.Asking.{Asking, served, reset};
 ghost use Rattle.session_rules.specs.declared.target.TargetAnswer.TheVariants.{Replied};
 ghost use Rattle.session_rules.specs.declared.target.ResetAnswer.TheVariants.{Done};
-ghost use Rattle.unit_state.specs.State.{UnitState};
-ghost use Rattle.unit_state.specs.Entry.{Entry};
+ghost use Rattle.unit_control.specs.State.{UnitState};
+ghost use Rattle.unit_control.specs.Entry.{Entry};
 ghost use Rattle.targets.specs.Once.{AreAnswerable};
 
 /// The unit replies to its own commands alone, and is reset for a reset of itself alone.

@@ -25,7 +25,7 @@ pub struct OneUnit<B: Blocks> {
 
 impl<B: Blocks> Model for OneUnit<B> {
     ghost use Rattle.std.specs.Prelude.{◌≡◌, ◌≤◌, Some};
-    ghost use Rattle.unit_state.specs.Sessions.{next_of};
+    ghost use Rattle.unit_control.specs.Sessions.{next_of};
     ghost use Rattle.targets.specs.OneUnit.{TargetValue};
 
     ghost Value = { TargetValue B };

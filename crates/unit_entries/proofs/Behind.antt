@@ -14,20 +14,20 @@ use Rattle.scsi_types.specs.declared.names.Group.{Group}
 use Rattle.scsi_types.specs.declared.command.Command.{Command as ScsiCommand}
 use Rattle.scsi_types.specs.declared.command.CdbFault.{CdbFault}
 use Rattle.status.specs.Views.{counted, IsOwn}
-use Rattle.unit_state.specs.Limits.{last_length}
-use Rattle.unit_state.specs.declared.sessions.Attached.{Attached}
+use Rattle.unit_control.specs.Limits.{last_length}
+use Rattle.unit_control.specs.declared.sessions.Attached.{Attached}
 use Rattle.unit_state.specs.declared.unit.MoveFault.{MoveFault}
 use Rattle.unit_state.specs.declared.unit.MoveFault.TheVariants as faults
-use Rattle.unit_state.specs.State.{ControlValue, UnitState, UnitValue, unit_of, state_of, failures_of}
-use Rattle.unit_state.specs.Choice.{Choice, Fine, is_fine, choice_of}
-use Rattle.unit_state.specs.Sessions.{ended, last_nexus, next_of, session_of}
-use Rattle.unit_state.specs.Entry.{Entry, Attach, Detach, Reset, Move, Command, HasRoom, IsAttached, IsNext, IsPossible, IsReplyTo}
-use Rattle.unit_state.specs.Entry.{after, blocks_after, control_after}
+use Rattle.unit_control.specs.State.{ControlValue, UnitState, UnitValue, unit_of, state_of, failures_of}
+use Rattle.unit_control.specs.Choice.{Choice, Fine, is_fine, choice_of}
+use Rattle.unit_control.specs.Sessions.{ended, last_nexus, next_of, session_of}
+use Rattle.unit_control.specs.Entry.{Entry, Attach, Detach, Reset, Move, Command, HasRoom, IsAttached, IsNext, IsPossible, IsReplyTo}
+use Rattle.unit_control.specs.Entry.{after, blocks_after, control_after}
 use Rattle.unit_state.specs.EntryLaws.{possible_over, reply_over}
 use Rattle.unit_state.specs.History.{state_after, IsReplyAt, has_failed, failed_entries}
 use Rattle.unit_state.specs.HistoryLaws.{state_after-snoc, IsLegal-snoc, failed-snoc, failed-le-length, last_attached}
 use Rattle.unit_state.specs.Moves.{IsMove}
-use Rattle.unit_state.specs.Refusal.{request}
+use Rattle.unit_control.specs.Refusal.{request}
 use Rattle.unit_state.specs.Serials.{IsNumbered, IsOpening, commands_of}
 use Rattle.unit_state.specs.SerialLaws.{numbered}
 use Rattle.unit_state.specs.Step.{IsStep, TakesMemory, entry_of}

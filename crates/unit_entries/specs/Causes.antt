@@ -7,16 +7,16 @@ use Rattle.scsi_types.specs.Nexus.{Nexus}
 use Rattle.scsi_types.specs.declared.names.Group.{Group}
 use Rattle.scsi_types.specs.declared.command.Command.{Command as ScsiCommand}
 use Rattle.scsi_types.specs.declared.command.CdbFault.{CdbFault}
-use Rattle.unit_state.specs.Limits.{last_length}
+use Rattle.unit_control.specs.Limits.{last_length}
 use Rattle.unit_state.specs.declared.unit.MoveFault.{MoveFault}
 use Rattle.unit_state.specs.declared.unit.MoveFault.TheVariants as faults
-use Rattle.unit_state.specs.State.{ControlValue, UnitState}
-use Rattle.unit_state.specs.Choice.{Fine}
-use Rattle.unit_state.specs.Sessions.{session_of}
-use Rattle.unit_state.specs.Groups.{is_moved_by, move_by}
-use Rattle.unit_state.specs.Refusal.{request}
+use Rattle.unit_control.specs.State.{ControlValue, UnitState}
+use Rattle.unit_control.specs.Choice.{Fine}
+use Rattle.unit_control.specs.Sessions.{session_of}
+use Rattle.unit_control.specs.Groups.{is_moved_by, move_by}
+use Rattle.unit_control.specs.Refusal.{request}
 use Rattle.unit_state.specs.Step.{TakesMemory}
-use Rattle.unit_state.specs.Entry.{Entry, HasRoom, Move}
+use Rattle.unit_control.specs.Entry.{Entry, HasRoom, Move}
 use Rattle.unit_state.specs.History.{state_after}
 
 -- behind the history no session of this nexus has room

@@ -12,14 +12,14 @@ use Rattle.block_file.specs.declared.opener.Opener as opening
 use Rattle.scsi_types.specs.ReplyValue.{ReplyValue}
 use Rattle.scsi_types.specs.declared.command.Command.{Command as ScsiCommand}
 use Rattle.scsi_types.specs.declared.command.CdbFault.{CdbFault}
-use Rattle.unit_state.specs.Answer.{Lasts}
-use Rattle.unit_state.specs.Choice.{choice_of}
-use Rattle.unit_state.specs.Counts.{AreCounted, Counters, counters_of}
-use Rattle.unit_state.specs.Crash.{HoldsAsBefore, LeavesAmong, holds_with, saved_with}
-use Rattle.unit_state.specs.Medium.{work_asked}
+use Rattle.unit_control.specs.Answer.{Lasts}
+use Rattle.unit_control.specs.Choice.{choice_of}
+use Rattle.unit_control.specs.Counts.{AreCounted, Counters, counters_of}
+use Rattle.unit_control.specs.Crash.{HoldsAsBefore, LeavesAmong, holds_with, saved_with}
+use Rattle.unit_control.specs.Medium.{work_asked}
 use Rattle.unit_state.specs.Moves.{choice_of_move}
-use Rattle.unit_state.specs.Refusal.{Request, refusal, request}
-use Rattle.unit_state.specs.State.{UnitValue, failures_of}
+use Rattle.unit_control.specs.Refusal.{Request, refusal, request}
+use Rattle.unit_control.specs.State.{UnitValue, failures_of}
 use Rattle.unit_state.specs.Step.{OnRefusal, asks_file, asks_medium, asks_opener}
 use Rattle.unit_state.specs.declared.unit.MoveFault.{MoveFault}
 

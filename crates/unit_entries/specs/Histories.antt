@@ -5,9 +5,9 @@ use Rattle.scsi_types.specs.ReplyValue.{ReplyValue}
 use Rattle.scsi_types.specs.declared.names.Group.{Group}
 use Rattle.scsi_types.specs.declared.command.Command.{Command as ScsiCommand}
 use Rattle.scsi_types.specs.declared.command.CdbFault.{CdbFault}
-use Rattle.unit_state.specs.State.{UnitState, UnitValue, failures_of, opening}
-use Rattle.unit_state.specs.Choice.{Choice}
-use Rattle.unit_state.specs.Entry.{Entry, Attach, Detach, Reset, Move, Command}
+use Rattle.unit_control.specs.State.{UnitState, UnitValue, failures_of, opening}
+use Rattle.unit_control.specs.Choice.{Choice}
+use Rattle.unit_control.specs.Entry.{Entry, Attach, Detach, Reset, Move, Command}
 use Rattle.unit_state.specs.History.{state_after, IsLegal, IsReplyAt, failed_entries}
 use Rattle.unit_state.specs.Serials.{IsOpening, is_command_of}
 

@@ -5,9 +5,9 @@ use Rattle.access_states.specs.List.{group_number}
 use Rattle.access_states.specs.State.{state_code}
 use Rattle.registrants.specs.Registry.{reserved_type}
 use Rattle.status.specs.declared.row.Row.{Row}
-use Rattle.unit_state.specs.State.{ControlValue, UnitState}
-use Rattle.unit_state.specs.Row.{kind_shown}
-use Rattle.unit_state.specs.Entry.{Entry}
+use Rattle.unit_control.specs.State.{ControlValue, UnitState}
+use Rattle.unit_control.specs.Row.{kind_shown}
+use Rattle.unit_control.specs.Entry.{Entry}
 use Rattle.unit_state.specs.History.{state_after}
 
 -- The row of a state: the number of entries, the owner, the access state of each group, the generation, the number of

@@ -8,7 +8,7 @@ pub struct Noted {
 }
 
 impl Model for Noted {
-    ghost use Rattle.unit_state.specs.Entry.{Entry, Detach};
+    ghost use Rattle.unit_control.specs.Entry.{Entry, Detach};
 
     ghost Value = { Entry };
 
@@ -21,7 +21,7 @@ pub struct Opened {
 }
 
 impl Model for Opened {
-    ghost use Rattle.unit_state.specs.State.{UnitState};
+    ghost use Rattle.unit_control.specs.State.{UnitState};
     ghost use Rattle.unit_entries.specs.Histories.{no_state};
 
     ghost Value = { UnitState };

@@ -1,6 +1,6 @@
 //! What follows of a unit's entries.
 ghost use Rattle.std.specs.Prelude.{◌≡◌, ◌&&◌, []};
-ghost use Rattle.unit_state.specs.State.{state_of};
+ghost use Rattle.unit_control.specs.State.{state_of};
 ghost use Rattle.unit_state.specs.Serials.{IsOpening};
 ghost use Rattle.unit_entries.specs.Histories.{IsBehind, IsHistory};
 

@@ -67,10 +67,10 @@ fn row_of<B: Blocks, R: Blocks, O: Opener<B>>(unit: &Unit<B, R, O>) -> Row
 impl<B: Blocks, R: Blocks, O: Opener<B>> Machine<Noted, Opened> for Unit<B, R, O> {
     ghost use Rattle.std.specs.Prelude.{◌&&◌};
     ghost use Rattle.registrants.specs.Nexus.{IsPortName};
-    ghost use Rattle.unit_state.specs.State.{state_of};
-    ghost use Rattle.unit_state.specs.Choice.{Fine};
-    ghost use Rattle.unit_state.specs.Entry.{Attach, Detach, Reset, Move};
-    ghost use Rattle.unit_state.specs.Sessions.{last_nexus};
+    ghost use Rattle.unit_control.specs.State.{state_of};
+    ghost use Rattle.unit_control.specs.Choice.{Fine};
+    ghost use Rattle.unit_control.specs.Entry.{Attach, Detach, Reset, Move};
+    ghost use Rattle.unit_control.specs.Sessions.{last_nexus};
     ghost use Rattle.unit_state.specs.Step.{entry_of};
     ghost use Rattle.unit_entries.specs.Devices.{devices, HaveFlushed, HaveMoved, HaveWorked};
     ghost use Rattle.unit_entries.specs.Histories.{IsBehind, IsCommand, IsToldBehind};

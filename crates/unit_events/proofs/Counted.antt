@@ -1,8 +1,8 @@
 -- A unit has counted the entries of its history.
 use Rattle.std.proofs.Common.{◌≡◌, ℕ, Bool, List, length, ap, ◌∙◌}
 use Rattle.unit_state.specs.SerialLaws.{numbered}
-use Rattle.unit_state.specs.State.{ControlValue, UnitState, UnitValue}
-use Rattle.unit_state.specs.Entry.{Entry}
+use Rattle.unit_control.specs.State.{ControlValue, UnitState, UnitValue}
+use Rattle.unit_control.specs.Entry.{Entry}
 use Rattle.unit_entries.specs.Histories.{IsBehind, IsHistory}
 
 module _ {B R O : Type 0} (claims : Bool) (contents : B → List (List ℕ)) (failures : B → ℕ) (opens_failed : O → ℕ)

@@ -1,8 +1,8 @@
 -- What an event makes of one unit: whatever history leads to the unit, what one it has then.
 use Rattle.std.specs.Prelude.{◌≡◌, ◌⊎◌, ℕ, ◌+◌, Bool, List, [], ◌∷◌, ◌++◌, length, Option, Some, None}
-use Rattle.unit_state.specs.State.{UnitState, UnitValue}
-use Rattle.unit_state.specs.Choice.{Choice}
-use Rattle.unit_state.specs.Entry.{Entry, Attach, Command}
+use Rattle.unit_control.specs.State.{UnitState, UnitValue}
+use Rattle.unit_control.specs.Choice.{Choice}
+use Rattle.unit_control.specs.Entry.{Entry, Attach, Command}
 use Rattle.unit_entries.specs.Causes.{IsFull, IsGone, IsOwner, WantsMemory}
 use Rattle.unit_entries.specs.Histories.{IsBehind, IsHistory, IsToldBehind, command}
 use Rattle.locked_unit.specs.Calls.{IsCause}

@@ -2,8 +2,8 @@
 ghost use Rattle.std.specs.Prelude.{◌≡◌, ◌&&◌};
 ghost use Rattle.registrants.specs.Nexus.{IsPortName, through};
 ghost use Rattle.unit_entries.specs.Causes.{IsGone, IsStay};
-ghost use Rattle.unit_state.specs.Choice.{Fine};
-ghost use Rattle.unit_state.specs.Entry.{Detach, Move, Reset};
+ghost use Rattle.unit_control.specs.Choice.{Fine};
+ghost use Rattle.unit_control.specs.Entry.{Detach, Move, Reset};
 ghost use Rattle.unit_state.specs.declared.unit.MoveFault.{MoveFault};
 ghost use Rattle.unit_events.specs.Entries.{IsUnitAttach, IsUnitEntry, IsUnitServing};
 

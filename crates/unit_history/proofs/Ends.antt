@@ -4,9 +4,9 @@ use Rattle.std.specs.Prelude.{IfOk, IfErr}
 use Rattle.access_states.specs.declared.change.Change.{Change}
 use Rattle.locked_unit.specs.Calls.{IsBeside, IsBetween}
 use Rattle.unit_state.specs.declared.unit.MoveFault.{MoveFault}
-use Rattle.unit_state.specs.Choice.{Fine}
-use Rattle.unit_state.specs.Entry.{Entry, Move}
-use Rattle.unit_state.specs.State.{UnitState}
+use Rattle.unit_control.specs.Choice.{Fine}
+use Rattle.unit_control.specs.Entry.{Entry, Move}
+use Rattle.unit_control.specs.State.{UnitState}
 use Rattle.unit_history.specs.Calls.{HasMoved, HasStayed, IsLeft}
 use Rattle.unit_entries.specs.Causes.{IsMoveTold, IsStay}
 use Rattle.unit_entries.specs.Devices.{Devices, HaveMoved, claims_of}

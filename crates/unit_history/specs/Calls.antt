@@ -12,9 +12,9 @@ use Rattle.scsi_types.specs.declared.command.Command.{Command as ScsiCommand}
 use Rattle.scsi_types.specs.declared.command.CdbFault.{CdbFault}
 use Rattle.unit_state.specs.declared.unit.MoveFault.{MoveFault}
 use Rattle.status.specs.declared.row.Row.{Row}
-use Rattle.unit_state.specs.State.{UnitState, UnitValue}
-use Rattle.unit_state.specs.Choice.{Fine}
-use Rattle.unit_state.specs.Entry.{Entry, Attach, Detach, Reset, Move}
+use Rattle.unit_control.specs.State.{UnitState, UnitValue}
+use Rattle.unit_control.specs.Choice.{Fine}
+use Rattle.unit_control.specs.Entry.{Entry, Attach, Detach, Reset, Move}
 use Rattle.unit_entries.specs.Devices.{Devices, claims_of, HaveFlushed, HaveMoved, HaveWorked}
 use Rattle.unit_entries.specs.Histories.{IsBehind, IsHistory, IsCommand, IsToldBehind, own}
 use Rattle.unit_entries.specs.RowOf.{row_behind}

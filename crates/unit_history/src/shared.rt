@@ -2,7 +2,7 @@
 ghost use Rattle.std.specs.Prelude.{◌≡◌, ◌≤◌, ◌&&◌, [], length, IfOk, IfErr, IsTrue, MatchBool, All, List};
 ghost use mathlib.Core.List.{IsPrefix};
 ghost use Rattle.registrants.specs.Nexus.{IsPortName, through};
-ghost use Rattle.unit_state.specs.State.{state_of};
+ghost use Rattle.unit_control.specs.State.{state_of};
 ghost use Rattle.unit_state.specs.Serials.{IsOpening};
 ghost use Rattle.unit_entries.specs.Histories.{IsBehind, IsHistory};
 ghost use Rattle.unit_history.specs.Calls.{HasAttached, HasNoRoom, HasServed, HasRefused, HasReset, WasGone, HasRetired};

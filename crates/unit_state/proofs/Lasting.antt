@@ -5,15 +5,15 @@ use Rattle.scsi_types.specs.ReplyValue.{ReplyValue, good}
 use Rattle.scsi_types.specs.declared.status.Status.TheVariants.{Good}
 use Rattle.scsi_types.specs.declared.command.Command.TheVariants.{PersistentReserveOut}
 use Rattle.scsi_types.specs.declared.reservation.PrOutAction.{PrOutAction}
-use Rattle.unit_state.specs.declared.refusal.Refusal.{Refusal}
-use Rattle.unit_state.specs.declared.refusal.Refusal.TheVariants.{Attention, Conflict, Check}
-use Rattle.unit_state.specs.Choice.{Choice, Fine, ReadFailed, WriteFailed, OpenFailed, SaveFailed}
-use Rattle.unit_state.specs.Entry.{control_with, pass, reply_with}
-use Rattle.unit_state.specs.Medium.{Nothing, found}
-use Rattle.unit_state.specs.Refusal.{refusal_reply, request}
-use Rattle.unit_state.specs.Reserve.{after_saved, effect_by, effect_reply, pr_out, saved_reply}
-use Rattle.unit_state.specs.Saving.{LastsAlone}
-use Rattle.unit_state.specs.State.{ControlValue}
+use Rattle.unit_control.specs.declared.refusal.Refusal.{Refusal}
+use Rattle.unit_control.specs.declared.refusal.Refusal.TheVariants.{Attention, Conflict, Check}
+use Rattle.unit_control.specs.Choice.{Choice, Fine, ReadFailed, WriteFailed, OpenFailed, SaveFailed}
+use Rattle.unit_control.specs.Entry.{control_with, pass, reply_with}
+use Rattle.unit_control.specs.Medium.{Nothing, found}
+use Rattle.unit_control.specs.Refusal.{refusal_reply, request}
+use Rattle.unit_control.specs.Reserve.{after_saved, effect_by, effect_reply, pr_out, saved_reply}
+use Rattle.unit_control.specs.Saving.{LastsAlone}
+use Rattle.unit_control.specs.State.{ControlValue}
 
 -- the status of a reply that is GOOD
 status_of : (reply : ReplyValue) → Some reply ≡ Some (good []) → reply.status ≡ Good

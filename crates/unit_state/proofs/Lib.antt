@@ -1,12 +1,8 @@
-pub mod Changes
-pub mod Places
-pub mod ReadBack
-pub mod Order
 pub mod Lasting
-pub mod Same
-pub mod Saves
+pub mod Order
+pub mod PowerLoss
+pub mod ReadBack
+pub mod Restart
+pub mod Served
 pub mod Steps
 pub mod Told
-pub mod Works
-pub mod PowerLoss
-pub mod Restart

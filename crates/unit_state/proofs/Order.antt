@@ -23,19 +23,19 @@ use Rattle.scsi_types.specs.declared.command.Command.{Command as ScsiCommand}
 use Rattle.scsi_types.specs.declared.command.Command.TheVariants as commands
 use Rattle.scsi_types.specs.declared.command.CdbFault.{CdbFault}
 use Rattle.scsi_types.specs.declared.command.CdbFault.TheVariants.{UnknownOpcode, BadField}
-use Rattle.unit_state.specs.declared.refusal.Refusal.{Refusal}
-use Rattle.unit_state.specs.declared.refusal.Refusal.TheVariants.{Attention, Conflict, Check}
-use Rattle.unit_state.specs.State.{ControlValue}
-use Rattle.unit_state.specs.Choice.{Fine, choice_of}
-use Rattle.unit_state.specs.Medium.{Range, Fits, is_too_long, range_of, work_of, work_asked}
-use Rattle.unit_state.specs.Groups.{IsTaken, set_by}
-use Rattle.unit_state.specs.Ops.{kind_asked}
-use Rattle.unit_state.specs.Reserve.{HasList}
-use Rattle.unit_state.specs.Refusal.{Request, request, refusal, refusal_reply, attention_by, attention_rule}
-use Rattle.unit_state.specs.Refusal.{conflict_by, conflict_rule, opcode_by, opcode_rule, access_by}
-use Rattle.unit_state.specs.Refusal.{access_rule, state_for, field_by, field_rule, saved_rule, range_rule}
-use Rattle.unit_state.specs.Refusal.{range_by, outside, asks_saved, groups_list_by, list_by, list_rule}
-use Rattle.unit_state.specs.Route.{IsAdmitted, IsRefused}
+use Rattle.unit_control.specs.declared.refusal.Refusal.{Refusal}
+use Rattle.unit_control.specs.declared.refusal.Refusal.TheVariants.{Attention, Conflict, Check}
+use Rattle.unit_control.specs.State.{ControlValue}
+use Rattle.unit_control.specs.Choice.{Fine, choice_of}
+use Rattle.unit_control.specs.Medium.{Range, Fits, is_too_long, range_of, work_of, work_asked}
+use Rattle.unit_control.specs.Groups.{IsTaken, set_by}
+use Rattle.unit_control.specs.Ops.{kind_asked}
+use Rattle.unit_control.specs.Reserve.{HasList}
+use Rattle.unit_control.specs.Refusal.{Request, request, refusal, refusal_reply, attention_by, attention_rule}
+use Rattle.unit_control.specs.Refusal.{conflict_by, conflict_rule, opcode_by, opcode_rule, access_by}
+use Rattle.unit_control.specs.Refusal.{access_rule, state_for, field_by, field_rule, saved_rule, range_rule}
+use Rattle.unit_control.specs.Refusal.{range_by, outside, asks_saved, groups_list_by, list_by, list_rule}
+use Rattle.unit_control.specs.Route.{IsAdmitted, IsRefused}
 
 -- ---- no refusal tells of a failure
 

@@ -1,17 +1,11 @@
 -- What a power loss may leave of a unit's devices.
-use Rattle.std.proofs.Common.{◌≡◌, inl, inr, ℕ, Bool, false, List, [], ◌∷◌, ◌++◌, Option, Some, None, Ok, Err, Result, IfOk, refl, sym, subst, ap, ◌∙◌, arith}
+use Rattle.std.proofs.Common.{◌≡◌, inl, ℕ, Bool, false, List, ◌++◌, Option, Some, None, Ok, Err, Result, IfOk, refl, sym, subst, ap, arith}
 use Rattle.std.specs.Prelude.{IsTrue}
 use Rattle.aptpl_file.specs.Holds.{HoldsOneOf}
 use Rattle.aptpl_file.specs.Lasts.{LastsAmong, StopsAt}
-use Rattle.block_file.specs.Disk.{NoMore, or_new, range_bytes}
-use Rattle.block_file.specs.Moment.{StopsAmong}
-use Rattle.block_file.specs.MomentLaws.{no_time, stops_then}
-use Rattle.compare_write.specs.Difference.{first_difference}
-use Rattle.compare_write.specs.DifferenceLaws.{differs_nowhere}
-use Rattle.compare_write.specs.Ends.{IsCompareEnd, IsSyncEnd, OnMiscompare, OnUnwritten, OnWriting}
-use Rattle.compare_write.specs.Instances.{compare_instance, write_instance}
+use Rattle.block_file.specs.Disk.{NoMore}
+use Rattle.block_file.specs.MomentLaws.{no_time}
 use Rattle.compare_write.specs.declared.end.MediumEnd.{MediumEnd}
-use Rattle.compare_write.specs.declared.end.MediumEnd.TheVariants as ends
 use Rattle.registrants.specs.Registry.{RecordValue}
 use Rattle.reservations.specs.declared.request.PrOut.{PrOut}
 use Rattle.scsi_types.specs.ReplyValue.{ReplyValue}
@@ -19,17 +13,18 @@ use Rattle.scsi_types.specs.declared.command.Command.{Command}
 use Rattle.scsi_types.specs.declared.command.Command.TheVariants.{PersistentReserveOut}
 use Rattle.scsi_types.specs.declared.command.CdbFault.{CdbFault}
 use Rattle.scsi_types.specs.declared.reservation.PrOutAction.{PrOutAction}
-use Rattle.unit_state.specs.declared.refusal.Refusal.{Refusal}
-use Rattle.unit_state.specs.Choice.{Choice, Fine, ReadFailed, WriteFailed, OpenFailed, SaveFailed, choice_of}
-use Rattle.unit_state.specs.Crash.{HoldsAsBefore, LeavesAmong, holds_after, holds_compared, holds_with, saved_by, saved_of, saved_with}
-use Rattle.unit_state.specs.Medium.{Work, Range, Nothing, Reads, Writes, Compares, Flushes, difference_in, is_medium, reply_by, work_asked, work_of}
-use Rattle.unit_state.specs.Refusal.{Request, request, refusal}
-use Rattle.unit_state.specs.Reserve.{effect_by, pr_out}
-use Rattle.unit_state.specs.Route.{IsAdmitted}
-use Rattle.unit_state.specs.State.{ControlValue, UnitValue}
+use Rattle.unit_control.specs.declared.refusal.Refusal.{Refusal}
+use Rattle.unit_control.specs.Choice.{Choice, Fine, ReadFailed, WriteFailed, OpenFailed, SaveFailed, choice_of}
+use Rattle.unit_control.specs.Crash.{HoldsAsBefore, LeavesAmong, holds_after, holds_compared, holds_with, saved_by, saved_of, saved_with}
+use Rattle.unit_control.specs.Medium.{Work, Range, Nothing, Reads, Writes, Compares, Flushes, difference_in, is_medium, reply_by, work_asked, work_of}
+use Rattle.unit_control.specs.Refusal.{Request, request, refusal}
+use Rattle.unit_control.specs.Reserve.{effect_by, pr_out}
+use Rattle.unit_control.specs.Route.{IsAdmitted}
+use Rattle.unit_control.specs.State.{ControlValue, UnitValue}
 use Rattle.unit_state.specs.Step.{asks_medium}
-use Rattle.unit_state.specs.Worked.{choice_at, finding_at}
-use Rattle.unit_state.proofs.Works.{told_choice}
+use Rattle.unit_control.specs.Worked.{choice_at, finding_at}
+use Rattle.unit_control.proofs.WorkLoss.{left_then}
+use Rattle.unit_control.proofs.Works.{told_choice}
 
 -- ---- one device
 
@@ -41,15 +36,6 @@ module _ {D : Type 0} (claims_moments : Bool) (moment : D → ℕ) (left_since :
   -- no call
   pub none_left : (values : ℕ → List ℕ → Type 0) (d : D) → NoMore values (may_hold d) → Left values d d
   none_left values d within = record { crash = within; stop = λ h. no_time (moment d) (left_since d) _ }
-
-  -- calls, and then more that add nothing
-  pub left_then : (values : ℕ → List ℕ → Type 0) (old mid new : D) → size mid ≡ size old → Left values old mid
-      → Left (may_hold mid) mid new → Left values old new
-  left_then values old mid new same first second = record {
-    crash = λ k v h. first.crash k v (second.crash k v h);
-    stop = λ h. stops_then moment left_since size old mid new values (may_hold mid) (first.stop h) (second.stop h) same
-        first.crash;
-  }
 
   -- a device that holds the same
   pub kept_left : (old new : D) → HoldsAsBefore moment left_since may_hold old new → Left (may_hold old) old new
@@ -86,7 +72,7 @@ module _ {D : Type 0} (claims_moments : Bool) (moment : D → ℕ) (left_since :
       → HoldsAsBefore moment left_since may_hold old new
       → Left (holds_after blocks work choice (may_hold old)) old new
   opened_left blocks work choice old new kept =
-      left_then _ old old new refl (idle_left blocks work choice old) (kept_left old new kept)
+      left_then claims_moments moment left_since size may_hold _ old old new refl (idle_left blocks work choice old) (kept_left old new kept)
 
   pub as_before : (old new : D) → new ≡ old → HoldsAsBefore moment left_since may_hold old new
   as_before old new same = rw same (record {
@@ -94,51 +80,6 @@ module _ {D : Type 0} (claims_moments : Bool) (moment : D → ℕ) (left_since :
     crash = λ k v. (λ h. h, λ h. h);
     time = λ t disk. (λ h. h, λ h. h);
   })
-
-  -- ---- a compare, and a write where nothing differs
-
-  pub unwritten_left : (old new : D) (end : MediumEnd) → OnUnwritten end (NoMore (may_hold old) (may_hold new))
-      → (IsTrue claims_moments → OnUnwritten end (StopsAmong moment left_since size (may_hold old) old new))
-      → OnUnwritten end (Left (may_hold old) old new)
-  unwritten_left old new ends.Done crash stop = tt
-  unwritten_left old new (ends.Miscompare at) crash stop = record { crash = crash; stop = stop }
-  unwritten_left old new ends.ReadFailed crash stop = record { crash = crash; stop = stop }
-  unwritten_left old new ends.WriteFailed crash stop = tt
-  unwritten_left old new ends.FlushFailed crash stop = tt
-
-  module _ (blocks : List (List ℕ)) (r : Range) (bytes : List ℕ) (fua : Bool) (old new : D) (after : List (List ℕ)) where
-    abbrev equal : Type 0
-    equal = range_bytes blocks r.lba r.blocks ≡ compare_instance r.blocks bytes
-
-    abbrev wrote : ℕ → List ℕ → Type 0
-    wrote = or_new r.lba (write_instance r.blocks bytes) (may_hold old)
-
-    written_left : equal → Left wrote old new
-        → Left (holds_compared (difference_in blocks r bytes) r bytes (may_hold old)) old new
-    written_left same left =
-        let none : difference_in blocks r bytes ≡ None =
-        ap (λ (h : List ℕ). first_difference h (compare_instance r.blocks bytes)) same
-        ∙ differs_nowhere (compare_instance r.blocks bytes) in
-        subst (λ (o : Option ℕ). Left (holds_compared o r bytes (may_hold old)) old new) (sym none) left
-
-    pub compare_left : (end : MediumEnd) → IsCompareEnd end → OnWriting end equal
-        → OnMiscompare end (λ at. difference_in blocks r bytes ≡ Some at)
-        → OnUnwritten end (Left (may_hold old) old new) → Left wrote old new
-        → Left (holds_after blocks (Compares r bytes fua) (choice_at end after) (may_hold old)) old new
-    compare_left ends.Done is same differs unwritten left = written_left same left
-    compare_left (ends.Miscompare at) is same differs unwritten left =
-        subst (λ (o : Option ℕ). Left (holds_compared o r bytes (may_hold old)) old new) (sym differs) unwritten
-    compare_left ends.ReadFailed is same differs unwritten left = unwritten
-    compare_left ends.WriteFailed is same differs unwritten left = left
-    compare_left ends.FlushFailed is same differs unwritten left = absurd is
-
-    pub flushed_left : (end : MediumEnd) → IsSyncEnd end → equal → Left wrote old new
-        → Left (holds_after blocks (Compares r bytes fua) (choice_at end after) (may_hold old)) old new
-    flushed_left ends.Done is same left = written_left same left
-    flushed_left ends.FlushFailed is same left = left
-    flushed_left (ends.Miscompare at) is same left = absurd is
-    flushed_left ends.ReadFailed is same left = absurd is
-    flushed_left ends.WriteFailed is same left = absurd is
 
   -- ---- as it is answered
 

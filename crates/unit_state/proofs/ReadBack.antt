@@ -6,11 +6,11 @@ use Rattle.block_file.specs.ReadBack.{written_is_read}
 use Rattle.scsi_types.specs.ReplyValue.{ReplyValue, good}
 use Rattle.scsi_types.specs.declared.names.Group.{Group}
 use Rattle.scsi_types.specs.declared.command.Command.TheVariants.{Read, Write}
-use Rattle.unit_state.specs.State.{UnitState}
-use Rattle.unit_state.specs.Choice.{Fine}
-use Rattle.unit_state.specs.Medium.{Range}
-use Rattle.unit_state.specs.Entry.{Command, after, reply_to}
-use Rattle.unit_state.specs.Refusal.{refusal, request}
+use Rattle.unit_control.specs.State.{UnitState}
+use Rattle.unit_control.specs.Choice.{Fine}
+use Rattle.unit_control.specs.Medium.{Range}
+use Rattle.unit_control.specs.Entry.{Command, after, reply_to}
+use Rattle.unit_control.specs.Refusal.{refusal, request}
 use Rattle.unit_state.proofs.Order.{ranged, within}
 
 -- a READ after the WRITE

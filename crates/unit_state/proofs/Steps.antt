@@ -11,16 +11,16 @@ use Rattle.scsi_types.specs.declared.status.Status.TheVariants.{Good}
 use Rattle.scsi_types.specs.declared.names.Group.{Group}
 use Rattle.scsi_types.specs.declared.command.Command.{Command as ScsiCommand}
 use Rattle.scsi_types.specs.declared.command.CdbFault.{CdbFault}
-use Rattle.unit_state.specs.declared.refusal.Refusal.{Refusal}
-use Rattle.unit_state.specs.declared.refusal.Refusal.TheVariants.{Attention, Conflict, Check}
-use Rattle.unit_state.specs.State.{ControlValue, UnitState, UnitValue, state_of, unit_of}
-use Rattle.unit_state.specs.Choice.{Choice, Fine, choice_of}
-use Rattle.unit_state.specs.Medium.{Work}
-use Rattle.unit_state.specs.Refusal.{Request, request, refusal, refusal_reply, refusal_control}
-use Rattle.unit_state.specs.Route.{IsAdmitted, IsRefused}
-use Rattle.unit_state.specs.Entry.{Entry, Command, IsNext, pass}
-use Rattle.unit_state.specs.Answer.{IsAnswerWith, IsAnswer, IsServed, Lasts}
-use Rattle.unit_state.specs.Groups.{is_opening}
+use Rattle.unit_control.specs.declared.refusal.Refusal.{Refusal}
+use Rattle.unit_control.specs.declared.refusal.Refusal.TheVariants.{Attention, Conflict, Check}
+use Rattle.unit_control.specs.State.{ControlValue, UnitState, UnitValue, state_of, unit_of}
+use Rattle.unit_control.specs.Choice.{Choice, Fine, choice_of}
+use Rattle.unit_control.specs.Medium.{Work}
+use Rattle.unit_control.specs.Refusal.{Request, request, refusal, refusal_reply, refusal_control}
+use Rattle.unit_control.specs.Route.{IsAdmitted, IsRefused}
+use Rattle.unit_control.specs.Entry.{Entry, Command, IsNext, pass}
+use Rattle.unit_control.specs.Answer.{IsAnswerWith, IsAnswer, IsServed, Lasts}
+use Rattle.unit_control.specs.Groups.{is_opening}
 use Rattle.unit_state.specs.Step.{IsStep, OnRefusal, asks_opener, MayTake, TakesMemory, entry_of}
 
 -- a command that a rule refuses

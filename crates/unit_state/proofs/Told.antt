@@ -11,19 +11,20 @@ use Rattle.registrants.specs.Registry.{RegistryValue}
 use Rattle.reservations.specs.Table.{effect_of}
 use Rattle.scsi_types.specs.Nexus.{Nexus}
 use Rattle.reservations.specs.Rows.{Effect, Done, Conflicting, Refused, Full}
-use Rattle.unit_state.specs.Reserve.{hear, after_effect, effect_by}
+use Rattle.unit_control.specs.Reserve.{hear, after_effect, effect_by}
 use Rattle.scsi_types.specs.declared.attention.UnitAttention.{UnitAttention}
 use Rattle.scsi_types.specs.declared.attention.UnitAttention.TheVariants.{AccessStateChanged, PowerOn}
-use Rattle.unit_state.specs.declared.sessions.Attached.{Attached}
-use Rattle.unit_state.specs.State.{ControlValue}
-use Rattle.unit_state.specs.Choice.{Choice}
-use Rattle.unit_state.specs.Sessions.{session_of, sender_of, nexus_in, next_of, pending_in, pending_of}
-use Rattle.unit_state.specs.Sessions.{pass_one, passed, tell_one, told, ended, heard_reset, all_reset}
-use Rattle.unit_state.specs.Refusal.{Request, refusal}
-use Rattle.unit_state.specs.Entry.{IsNext, control_with}
-use Rattle.unit_state.specs.CommandLaws.{change_keeps, next_passed, next_kept}
-use Rattle.unit_state.specs.Groups.{change_heard, hear_change}
-use Rattle.unit_state.proofs.Places.{session_changed, session_mapped, has_id}
+use Rattle.unit_control.specs.declared.sessions.Attached.{Attached}
+use Rattle.unit_control.specs.State.{ControlValue}
+use Rattle.unit_control.specs.Choice.{Choice}
+use Rattle.unit_control.specs.Sessions.{session_of, sender_of, nexus_in, next_of, pending_in, pending_of}
+use Rattle.unit_control.specs.Sessions.{pass_one, passed, tell_one, told, ended, heard_reset, all_reset}
+use Rattle.unit_control.specs.Refusal.{Request, refusal}
+use Rattle.unit_control.specs.Entry.{IsNext, control_with}
+use Rattle.unit_state.specs.CommandLaws.{next_passed, next_kept}
+use Rattle.unit_control.specs.GroupsLaws.{change_keeps}
+use Rattle.unit_control.specs.Groups.{change_heard, hear_change}
+use Rattle.unit_control.proofs.Places.{session_changed, session_mapped, has_id}
 
 -- ---- serials
 

@@ -10,16 +10,17 @@ use Rattle.scsi_types.specs.declared.names.Group.{Group}
 use Rattle.scsi_types.specs.declared.command.Command.{Command as ScsiCommand}
 use Rattle.scsi_types.specs.declared.command.Command.TheVariants as commands
 use Rattle.scsi_types.specs.declared.command.CdbFault.{CdbFault}
-use Rattle.unit_state.specs.declared.refusal.Refusal.{Refusal}
-use Rattle.unit_state.specs.declared.refusal.Refusal.TheVariants.{Attention, Conflict, Check}
-use Rattle.unit_state.specs.declared.sessions.Attached.{Attached}
-use Rattle.unit_state.specs.State.{ControlValue}
-use Rattle.unit_state.specs.Choice.{Choice, Fine, ReadFailed, WriteFailed, OpenFailed, SaveFailed}
-use Rattle.unit_state.specs.Groups.{after_change, change_heard, hear_change, is_any_changed, set_by}
-use Rattle.unit_state.specs.Refusal.{Request, request, refusal}
-use Rattle.unit_state.specs.Reserve.{all_heard, after_effect, after_saved, effect_by, hear, pr_out}
-use Rattle.unit_state.specs.Sessions.{next_of, passed, told}
-use Rattle.unit_state.specs.Entry.{Command, IsNext, control_with, control_after, left_asked, left_groups}
+use Rattle.unit_control.specs.declared.refusal.Refusal.{Refusal}
+use Rattle.unit_control.specs.declared.refusal.Refusal.TheVariants.{Attention, Conflict, Check}
+use Rattle.unit_control.specs.declared.sessions.Attached.{Attached}
+use Rattle.unit_control.specs.State.{ControlValue}
+use Rattle.unit_control.specs.Choice.{Choice, Fine, ReadFailed, WriteFailed, OpenFailed, SaveFailed}
+use Rattle.unit_control.specs.Groups.{after_change, change_heard, hear_change, is_any_changed, set_by}
+use Rattle.unit_control.specs.GroupsLaws.{change_keeps}
+use Rattle.unit_control.specs.Refusal.{Request, request, refusal}
+use Rattle.unit_control.specs.Reserve.{all_heard, after_effect, after_saved, effect_by, hear, pr_out}
+use Rattle.unit_control.specs.Sessions.{next_of, passed, told}
+use Rattle.unit_control.specs.Entry.{Command, IsNext, control_with, control_after, left_asked, left_groups}
 
 -- the serial of a session that had one command more
 pub next_passed : (sessions : List Attached) (id serial : ℕ) → next_of sessions id ≡ Some serial
@@ -75,16 +76,7 @@ serials_mapped f keeps (a ∷ rest) =
 serials_heard : (codes : List Told) (sessions : List Attached) → serials (all_heard codes sessions) ≡ serials sessions
 serials_heard codes sessions = serials_mapped (hear codes) (λ a. (refl, refl)) sessions
 
--- and one that hears of a change of access states
-pub change_keeps : (by_session : Option ℕ) (a : Attached)
-    → ((hear_change by_session a).id ≡ a.id) × ((hear_change by_session a).next ≡ a.next)
-change_keeps None a = (refl, refl)
-change_keeps (Some id) a =
-    ⊎_elim
-    (λ (t : (nat_eq a.id id ≡ true) × (a.id ≡ id)). rw t.0 (refl, refl))
-    (λ (f : (nat_eq a.id id ≡ false) × (a.id ≢ id)). rw f.0 (refl, refl))
-    (eqb_tells a.id id)
-
+-- and, where access states change, those who hear of it
 serials_changed : (is : Bool) (by_session : Option ℕ) (sessions : List Attached)
     → serials (change_heard is by_session sessions) ≡ serials sessions
 serials_changed true by_session sessions = serials_mapped (hear_change by_session) (change_keeps by_session) sessions

@@ -2,12 +2,12 @@
 use Rattle.std.proofs.Common.{◌≡◌, Bool, List, ℕ, Option, Some, None, sym, subst, ap, ◌∙◌}
 use Rattle.std.specs.Prelude.{IsTrue}
 use Rattle.scsi_types.specs.ReplyValue.{ReplyValue}
-use Rattle.unit_state.specs.declared.refusal.Refusal.{Refusal}
-use Rattle.unit_state.specs.State.{ControlValue, UnitState}
-use Rattle.unit_state.specs.Choice.{Choice}
-use Rattle.unit_state.specs.Medium.{found, work_asked}
-use Rattle.unit_state.specs.Refusal.{Request, request, refusal}
-use Rattle.unit_state.specs.Entry.{Entry, Attach, Detach, Reset, Move, Command, CanTear, IsPossible, IsReplyTo, IsReplyWith}
+use Rattle.unit_control.specs.declared.refusal.Refusal.{Refusal}
+use Rattle.unit_control.specs.State.{ControlValue, UnitState}
+use Rattle.unit_control.specs.Choice.{Choice}
+use Rattle.unit_control.specs.Medium.{found, work_asked}
+use Rattle.unit_control.specs.Refusal.{Request, request, refusal}
+use Rattle.unit_control.specs.Entry.{Entry, Attach, Detach, Reset, Move, Command, CanTear, IsPossible, IsReplyTo, IsReplyWith}
 
 module _ (claims : Bool) (c : ControlValue) (old new : List (List ℕ)) (same : IsTrue claims → new ≡ old) where
   abbrev at : List (List ℕ) → UnitState

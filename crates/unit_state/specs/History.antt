@@ -2,9 +2,9 @@
 use Rattle.std.specs.Prelude.{ℕ, zero, suc, Bool, false, not, List, [], ◌∷◌, Option, None}
 use Rattle.std.specs.List.{count_by}
 use Rattle.scsi_types.specs.ReplyValue.{ReplyValue}
-use Rattle.unit_state.specs.State.{UnitState}
-use Rattle.unit_state.specs.Choice.{is_fine}
-use Rattle.unit_state.specs.Entry.{Entry, Attach, Detach, Reset, Move, Command, IsPossible, IsReplyTo, after, reply_to}
+use Rattle.unit_control.specs.State.{UnitState}
+use Rattle.unit_control.specs.Choice.{is_fine}
+use Rattle.unit_control.specs.Entry.{Entry, Attach, Detach, Reset, Move, Command, IsPossible, IsReplyTo, after, reply_to}
 
 -- the state after a history that began in this state
 abbrev pub state_after : UnitState → List Entry → UnitState

@@ -4,15 +4,15 @@ use Rattle.std.proofs.Common.{Some, None, refl, sym, ap, ◌∙◌, ◌+◌, ◌
 use Rattle.std.proofs.lemmas.List.Sums.{count_by-le-length, sum_by_push}
 use Rattle.scsi_types.specs.Nexus.{Nexus}
 use Rattle.scsi_types.specs.ReplyValue.{ReplyValue}
-use Rattle.unit_state.specs.declared.refusal.Refusal.{Refusal}
-use Rattle.unit_state.specs.declared.sessions.Attached.{Attached}
-use Rattle.unit_state.specs.Sessions.{attached, last_nexus, nexus_of, without}
-use Rattle.unit_state.specs.State.{ControlValue, UnitState}
-use Rattle.unit_state.specs.Choice.{Choice}
-use Rattle.unit_state.specs.Medium.{found, work_asked}
-use Rattle.unit_state.specs.Refusal.{Request, request, refusal}
-use Rattle.unit_state.specs.Entry.{Entry, Attach, Detach, Reset, Move, Command, IsPossible, IsReplyTo}
-use Rattle.unit_state.specs.Entry.{IsReplyWith, after, control_after, reply_to, reply_with, returned}
+use Rattle.unit_control.specs.declared.refusal.Refusal.{Refusal}
+use Rattle.unit_control.specs.declared.sessions.Attached.{Attached}
+use Rattle.unit_control.specs.Sessions.{attached, last_nexus, nexus_of, without}
+use Rattle.unit_control.specs.State.{ControlValue, UnitState}
+use Rattle.unit_control.specs.Choice.{Choice}
+use Rattle.unit_control.specs.Medium.{found, work_asked}
+use Rattle.unit_control.specs.Refusal.{Request, request, refusal}
+use Rattle.unit_control.specs.Entry.{Entry, Attach, Detach, Reset, Move, Command, IsPossible, IsReplyTo}
+use Rattle.unit_control.specs.Entry.{IsReplyWith, after, control_after, reply_to, reply_with, returned}
 use Rattle.unit_state.specs.History.{state_after, IsLegal, reply_at, IsReplyAt, has_failed, failed_entries}
 
 -- its state is that after the last entry

@@ -2,13 +2,13 @@
 use Rattle.std.specs.Prelude.{◌≡◌, ℕ, ◌<◌, ◌≤◌, Bool, true, IsTrue, List, Result, Ok, Err}
 use Rattle.access_states.specs.Change.{change_between}
 use Rattle.access_states.specs.declared.change.Change.{Change}
-use Rattle.unit_state.specs.Limits.{last_length}
+use Rattle.unit_control.specs.Limits.{last_length}
 use Rattle.unit_state.specs.declared.unit.MoveFault.{MoveFault}
 use Rattle.unit_state.specs.declared.unit.MoveFault.TheVariants as faults
-use Rattle.unit_state.specs.State.{UnitState}
-use Rattle.unit_state.specs.Choice.{Choice, Fine, OpenFailed}
-use Rattle.unit_state.specs.Groups.{is_moved_by, move_by}
-use Rattle.unit_state.specs.Entry.{Move, IsPossible, control_after, blocks_after}
+use Rattle.unit_control.specs.State.{UnitState}
+use Rattle.unit_control.specs.Choice.{Choice, Fine, OpenFailed}
+use Rattle.unit_control.specs.Groups.{is_moved_by, move_by}
+use Rattle.unit_control.specs.Entry.{Move, IsPossible, control_after, blocks_after}
 
 -- The unit moved: the entry was possible, what is left is what the model gives, and the answer says what has changed.
 pub record IsMoved (claims : Bool) (old new : UnitState) (list : List ℕ) (told : Change) : Type 0 where

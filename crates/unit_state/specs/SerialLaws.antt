@@ -8,13 +8,13 @@ use Rattle.scsi_types.specs.Nexus.{Nexus}
 use Rattle.scsi_types.specs.declared.names.Group.{Group}
 use Rattle.scsi_types.specs.declared.command.Command.{Command as ScsiCommand}
 use Rattle.scsi_types.specs.declared.command.CdbFault.{CdbFault}
-use Rattle.unit_state.specs.declared.sessions.Attached.{Attached}
-use Rattle.unit_state.specs.State.{ControlValue, UnitState}
-use Rattle.unit_state.specs.Sessions.{attached, ended, heard_reset, is_of, next_of, passed, without}
-use Rattle.unit_state.specs.Choice.{Choice}
-use Rattle.unit_state.specs.Groups.{move_by}
-use Rattle.unit_state.specs.Refusal.{Request, request, refusal}
-use Rattle.unit_state.specs.Entry.{Entry, Attach, Detach, Reset, Move, Command, IsPossible, after, control_after, control_with}
+use Rattle.unit_control.specs.declared.sessions.Attached.{Attached}
+use Rattle.unit_control.specs.State.{ControlValue, UnitState}
+use Rattle.unit_control.specs.Sessions.{attached, ended, heard_reset, is_of, next_of, passed, without}
+use Rattle.unit_control.specs.Choice.{Choice}
+use Rattle.unit_control.specs.Groups.{move_by}
+use Rattle.unit_control.specs.Refusal.{Request, request, refusal}
+use Rattle.unit_control.specs.Entry.{Entry, Attach, Detach, Reset, Move, Command, IsPossible, after, control_after, control_with}
 use Rattle.unit_state.specs.History.{state_after, IsLegal}
 use Rattle.unit_state.specs.CommandLaws.{serials, serial_in, next_in, serials_mapped, serials_after_change}
 use Rattle.unit_state.specs.CommandLaws.{serials_kept, kept_count, count_after_change}

@@ -1,9 +1,9 @@
 -- The serials of a history: what its length and its commands say of the sessions that are attached behind it.
 use Rattle.std.specs.Prelude.{◌≡◌, ℕ, ◌+◌, ◌<◌, ◌≤◌, Bool, false, nat_eq, List, [], ◌∷◌, length, Some}
 use Rattle.std.specs.List.{count_by}
-use Rattle.unit_state.specs.State.{ControlValue}
-use Rattle.unit_state.specs.Sessions.{next_of}
-use Rattle.unit_state.specs.Entry.{Entry, Attach, Detach, Reset, Move, Command}
+use Rattle.unit_control.specs.State.{ControlValue}
+use Rattle.unit_control.specs.Sessions.{next_of}
+use Rattle.unit_control.specs.Entry.{Entry, Attach, Detach, Reset, Move, Command}
 
 -- the entry is a command of this session
 abbrev pub is_command_of : ℕ → Entry → Bool

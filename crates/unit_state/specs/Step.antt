@@ -6,14 +6,14 @@ use Rattle.scsi_types.specs.declared.names.Group.{Group}
 use Rattle.scsi_types.specs.declared.command.Command.{Command as ScsiCommand}
 use Rattle.scsi_types.specs.declared.command.Command.TheVariants as commands
 use Rattle.scsi_types.specs.declared.command.CdbFault.{CdbFault}
-use Rattle.unit_state.specs.declared.refusal.Refusal.{Refusal}
-use Rattle.unit_state.specs.State.{ControlValue, UnitState}
-use Rattle.unit_state.specs.Choice.{choice_of}
-use Rattle.unit_state.specs.Groups.{is_opening}
-use Rattle.unit_state.specs.Medium.{is_medium, work_asked}
-use Rattle.unit_state.specs.Ops.{ParameterList, NoList, ReserveList, GroupsList, list_asked}
-use Rattle.unit_state.specs.Refusal.{Request, refusal}
-use Rattle.unit_state.specs.Entry.{Entry, Command, IsNext, IsPossible, IsReplyTo, control_after, blocks_after}
+use Rattle.unit_control.specs.declared.refusal.Refusal.{Refusal}
+use Rattle.unit_control.specs.State.{ControlValue, UnitState}
+use Rattle.unit_control.specs.Choice.{choice_of}
+use Rattle.unit_control.specs.Groups.{is_opening}
+use Rattle.unit_control.specs.Medium.{is_medium, work_asked}
+use Rattle.unit_control.specs.Ops.{ParameterList, NoList, ReserveList, GroupsList, list_asked}
+use Rattle.unit_control.specs.Refusal.{Request, refusal}
+use Rattle.unit_control.specs.Entry.{Entry, Command, IsNext, IsPossible, IsReplyTo, control_after, blocks_after}
 use Rattle.unit_state.specs.declared.unit.StepEnd.{StepEnd}
 use Rattle.unit_state.specs.declared.unit.StepEnd.TheVariants.{Reply, Gone, Moved, NoMemory}
 

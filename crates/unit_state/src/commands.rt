@@ -1,46 +1,42 @@
 //! What a command is answered.
 ghost use Rattle.std.specs.Prelude.{◌≡◌, ◌≢◌, ◌+◌, ◌++◌, ◌&&◌, ℕ, List, [], false, true, Bool, IsTrue, IfOk, OnErr, Ok, length};
 ghost use Rattle.block_file.specs.Failures.{Tells};
-ghost use Rattle.unit_state.specs.Answer.{IsAnswer, IsServed, Lasts};
+ghost use Rattle.unit_control.specs.Answer.{IsAnswer, IsServed, Lasts};
 ghost use Rattle.access_states.specs.AccessMap.{owner_of};
-ghost use Rattle.unit_state.specs.Choice.{IsFine, choice_of};
-ghost use Rattle.unit_state.specs.Counts.{AreCounted, counters};
-ghost use Rattle.unit_state.specs.Crash.{HoldsAsBefore, LeavesAmong, holds_after, holds_with, saved_of, saved_with};
-ghost use Rattle.unit_state.specs.Medium.{Done, Fits, is_medium, reply_by, work_of, work_asked};
+ghost use Rattle.unit_control.specs.Choice.{IsFine, choice_of};
+ghost use Rattle.unit_control.specs.Counts.{AreCounted, counters};
+ghost use Rattle.unit_control.specs.Crash.{HoldsAsBefore, LeavesAmong, holds_after, holds_with, saved_of, saved_with};
+ghost use Rattle.unit_control.specs.Medium.{Done, Fits, is_medium, work_of, work_asked};
 ghost use Rattle.identity.specs.SenseData.{told_sense};
 ghost use Rattle.identity.specs.Table.{cut};
 ghost use Rattle.scsi_types.specs.Sense.{sense_bytes};
-ghost use Rattle.unit_state.specs.Entry.{described};
-ghost use Rattle.unit_state.specs.Groups.{is_opening};
+ghost use Rattle.unit_control.specs.Entry.{described};
+ghost use Rattle.unit_control.specs.Groups.{is_opening};
 ghost use Rattle.aptpl_file.specs.Lasts.{LastsAmong, StopsAt};
 ghost use Rattle.scsi_types.specs.declared.command.Command.TheVariants.{PersistentReserveOut, SetTargetPortGroups};
 ghost use Rattle.scsi_types.specs.declared.reservation.PrOutAction.{PrOutAction};
-ghost use Rattle.unit_state.specs.Reserve.{HasList};
-ghost use Rattle.unit_state.specs.Sessions.{first_pending};
-ghost use Rattle.unit_state.specs.Places.{IsPlaceOf, Stays};
-ghost use Rattle.unit_state.specs.Refusal.{refusal, refusal_control, request, tell};
-ghost use Rattle.unit_state.specs.State.{unit_of};
+ghost use Rattle.unit_control.specs.Reserve.{HasList};
+ghost use Rattle.unit_control.specs.Sessions.{first_pending};
+ghost use Rattle.unit_control.specs.Places.{IsPlaceOf, Stays};
+ghost use Rattle.unit_control.specs.Refusal.{refusal, refusal_control, request, tell};
+ghost use Rattle.unit_control.specs.State.{unit_of};
 ghost use Rattle.unit_state.specs.Step.{MayTake, OnRefusal, asks_file, asks_medium, asks_opener, is_describing};
 ghost use Rattle.unit_state.specs.Step.{is_reserving, TakesMemory};
-ghost use Rattle.unit_state.specs.Worked.{finding_at};
 
-use crate::control::Control;
-use crate::groups::set_groups;
-use crate::medium::{compare, flush, read, write};
-use crate::refusal::Refusal;
 use crate::reserve::{pr_out, reservation_data};
 use crate::rules::admit;
-use crate::saving::reserve;
-use crate::sessions::Sender;
 use aptpl_file::RegFile;
 use block_file::{BLOCK_LENGTH, Blocks, Opener};
-use compare_write::MediumEnd;
 use identity::{
     inquiry, mode_sense, read_capacity_10, read_capacity_16, report_luns, request_sense,
 };
 use reservations::Registry;
-use scsi_types::{Asked, Command, NoMemory, Reply, Sense};
+use scsi_types::{Asked, Command, NoMemory, Reply};
 use std::alloc::Global;
+use unit_control::groups::set_groups;
+use unit_control::medium::{compare, flush, medium_reply, read, write};
+use unit_control::saving::reserve;
+use unit_control::{Control, Refusal, Sender};
 
 /// Answers a command: the refusal of the first rule that applies, else what the command returns. Memory is taken for
 /// the data of a reply alone, before anything changes.
@@ -361,17 +357,5 @@ fn describe(
         | Command::SynchronizeCache { .. }
         | Command::PersistentReserveOut { .. }
         | Command::SetTargetPortGroups { .. } => Ok(Vec::new(alloc)),
-    }
-}
-
-/// How a medium command answers its end: with the bytes that were read where it is done.
-fn medium_reply(alloc: Global, end: MediumEnd, read: Vec<u8>) -> Reply
-    ensures { result ≡ reply_by (finding_at end read.items) }
-{
-    match end {
-        MediumEnd::Done => Reply::good(read),
-        MediumEnd::Miscompare(offset) => Reply::check(alloc, Sense::miscompare(offset)),
-        MediumEnd::ReadFailed => Reply::check(alloc, Sense::UNRECOVERED_READ_ERROR),
-        MediumEnd::WriteFailed | MediumEnd::FlushFailed => Reply::check(alloc, Sense::WRITE_ERROR),
     }
 }

@@ -2,21 +2,11 @@
 #![tactic(auto)]
 
 mod commands;
-mod control;
-mod groups;
 pub mod laws;
-mod medium;
 mod ops;
-mod records;
-mod refusal;
 mod reserve;
-mod row;
 mod rules;
-mod saving;
-mod sessions;
 mod unit;
 
-pub use control::{AttachFault, Gone};
-pub use row::Row;
-pub use sessions::SessionId;
 pub use unit::{MoveFault, StepEnd, Unit};
+pub use unit_control::{AttachFault, Gone, Row, SessionId};

@@ -1,6 +1,6 @@
 //! The kind of a command, and what the kind alone decides.
 ghost use Rattle.std.specs.Prelude.{◌≡◌};
-ghost use Rattle.unit_state.specs.Ops.{access_of, kind_of, kind_asked, passes_attention};
+ghost use Rattle.unit_control.specs.Ops.{access_of, kind_of, kind_asked, passes_attention};
 
 use reservations::Access;
 use scsi_types::{Asked, CdbFault, Command, Op};

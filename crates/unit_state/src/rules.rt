@@ -1,28 +1,26 @@
 //! The rules that refuse a command, in their order.
 ghost use Rattle.std.specs.Prelude.{◌≡◌, ◌+◌, ◌&&◌, ℕ, List, Ok, Some, None, nat_lt, nat_le, if◌then◌else◌};
 ghost use Rattle.std.specs.Prelude.{MatchResult};
-ghost use Rattle.unit_state.specs.Medium.{is_too_long, range_of, work_asked, work_of};
-ghost use Rattle.unit_state.specs.Ops.{access_of, passes_attention};
-ghost use Rattle.unit_state.specs.Places.{IsPlaceOf};
-ghost use Rattle.unit_state.specs.Groups.{set_by};
-ghost use Rattle.unit_state.specs.Refusal.{access_by, attention_by, conflict_by, field_by, groups_list_by};
-ghost use Rattle.unit_state.specs.Refusal.{is_let, list_by};
-ghost use Rattle.unit_state.specs.Refusal.{asks_saved, is_saved, opcode_by, outside, range_by, refusal, request};
-ghost use Rattle.unit_state.specs.Refusal.{reserve_list_by};
-ghost use Rattle.unit_state.specs.Refusal.{state_for};
+ghost use Rattle.unit_control.specs.Medium.{is_too_long, range_of, work_asked, work_of};
+ghost use Rattle.unit_control.specs.Ops.{access_of, passes_attention};
+ghost use Rattle.unit_control.specs.Places.{IsPlaceOf};
+ghost use Rattle.unit_control.specs.Groups.{set_by};
+ghost use Rattle.unit_control.specs.Refusal.{access_by, attention_by, conflict_by, field_by, groups_list_by};
+ghost use Rattle.unit_control.specs.Refusal.{is_let, list_by};
+ghost use Rattle.unit_control.specs.Refusal.{asks_saved, is_saved, opcode_by, outside, range_by, refusal, request};
+ghost use Rattle.unit_control.specs.Refusal.{reserve_list_by};
+ghost use Rattle.unit_control.specs.Refusal.{state_for};
 ghost use Rattle.scsi_types.specs.Sense.{saving_parameters_not_supported};
-ghost use Rattle.unit_state.specs.Route.{IsAdmitted, IsRefused};
-ghost use Rattle.unit_state.specs.Sessions.{first_pending, sender_of};
+ghost use Rattle.unit_control.specs.Route.{IsAdmitted, IsRefused};
+ghost use Rattle.unit_control.specs.Sessions.{first_pending, sender_of};
 
-use crate::control::Control;
-use crate::groups::states_asked;
 use crate::ops::{access_of, kind_asked, passes_attention};
-use crate::refusal::Refusal;
 use crate::reserve::LIST_LENGTH;
-use crate::sessions::Sender;
 use access_states::permits;
 use compare_write::MOST_COMPARED;
 use scsi_types::{Asked, CdbFault, Command, Op, PageControl, Sense, need};
+use unit_control::groups::states_asked;
+use unit_control::{Control, Refusal, Sender};
 
 /// The most blocks of a READ or a WRITE (SBC-3, Block Limits page: MAXIMUM TRANSFER LENGTH).
 const MOST_TRANSFERRED: u16 = 2048;

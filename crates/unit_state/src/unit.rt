@@ -3,13 +3,9 @@ ghost use Rattle.block_file.specs.Disk.{Only};
 ghost use Rattle.block_file.specs.Failures.{Counts, Tells};
 ghost use Rattle.aptpl_file.specs.Lasts.{EachOutcomeHolds, LastsAmong, StopsAt};
 ghost use Rattle.registrants.specs.Nexus.{IsPortName};
-ghost use Rattle.unit_state.specs.Limits.{last_length};
+ghost use Rattle.unit_control.specs.Limits.{last_length};
 
 use crate::commands::answer;
-use crate::control::{AttachFault, Control, Gone, Route};
-use crate::groups::change;
-use crate::row::Row;
-use crate::sessions::{Sender, SessionId};
 use access_states::{AsetFault, Cause, Change};
 use aptpl_file::RegFile;
 use block_file::{Blocks, DeviceFailed, Opener};
@@ -18,6 +14,8 @@ use scsi_types::{Asked, Group, NoMemory, Place, PortName, Reply};
 use std::alloc::Global;
 use std::marker::Model;
 use thiserror::Error;
+use unit_control::groups::change;
+use unit_control::{AttachFault, Control, Gone, Route, Row, Sender, SessionId};
 
 /// What a step ended with. Only `Reply` is an entry of the unit's history; the others change nothing.
 #[derive(Debug, Drop)]
@@ -62,7 +60,7 @@ pub struct Unit<B: Blocks, R: Blocks, O: Opener<B>> {
 impl<B: Blocks, R: Blocks, O: Opener<B>> Model for Unit<B, R, O> {
     ghost use Rattle.std.specs.Prelude.{◌≡◌, ◌<◌, IsTrue};
     ghost use Rattle.aptpl_file.specs.Lasts.{LastsAmong};
-    ghost use Rattle.unit_state.specs.State.{UnitValue};
+    ghost use Rattle.unit_control.specs.State.{UnitValue};
 
     ghost Value = { UnitValue B R O };
 
@@ -74,18 +72,18 @@ impl<B: Blocks, R: Blocks, O: Opener<B>> Model for Unit<B, R, O> {
 
 impl<B: Blocks, R: Blocks, O: Opener<B>> Unit<B, R, O> {
     ghost use Rattle.scsi_types.specs.Nexus.{Port, Nexus};
-    ghost use Rattle.unit_state.specs.State.{UnitState, UnitValue, opening_control, state_of, failures_of};
+    ghost use Rattle.unit_control.specs.State.{UnitState, UnitValue, opening_control, state_of, failures_of};
     ghost use Rattle.access_states.specs.AccessMap.{owner_of};
-    ghost use Rattle.unit_state.specs.Choice.{IsFine, choice_of};
-    ghost use Rattle.unit_state.specs.Counts.{AreCounted, counters_of};
-    ghost use Rattle.unit_state.specs.Crash.{HoldsAsBefore, LeavesAmong, holds_with, saved_with};
-    ghost use Rattle.unit_state.specs.Refusal.{refusal, request};
-    ghost use Rattle.unit_state.specs.Entry.{Attach, Detach, Reset, HasRoom, IsAttached, control_after};
+    ghost use Rattle.unit_control.specs.Choice.{IsFine, choice_of};
+    ghost use Rattle.unit_control.specs.Counts.{AreCounted, counters_of};
+    ghost use Rattle.unit_control.specs.Crash.{HoldsAsBefore, LeavesAmong, holds_with, saved_with};
+    ghost use Rattle.unit_control.specs.Refusal.{refusal, request};
+    ghost use Rattle.unit_control.specs.Entry.{Attach, Detach, Reset, HasRoom, IsAttached, control_after};
     ghost use Rattle.std.specs.Prelude.{IsTrue};
-    ghost use Rattle.unit_state.specs.Answer.{Lasts};
-    ghost use Rattle.unit_state.specs.Row.{row_of};
-    ghost use Rattle.unit_state.specs.Medium.{work_asked};
-    ghost use Rattle.unit_state.specs.Groups.{is_moved_by, move_by};
+    ghost use Rattle.unit_control.specs.Answer.{Lasts};
+    ghost use Rattle.unit_control.specs.Row.{row_of};
+    ghost use Rattle.unit_control.specs.Medium.{work_asked};
+    ghost use Rattle.unit_control.specs.Groups.{is_moved_by, move_by};
     ghost use Rattle.unit_state.specs.Moves.{IsMove, choice_of_move};
     ghost use Rattle.unit_state.specs.Step.{OnReply, OnNoReply, OnRefusal, IsRouted, IsStep, TakesMemory};
     ghost use Rattle.unit_state.specs.Step.{asks_file, asks_medium, asks_opener, entry_of};

@@ -10,8 +10,8 @@ use Rattle.scsi_types.specs.ReplyValue.{ReplyValue}
 use Rattle.scsi_types.specs.declared.names.Group.{Group}
 use Rattle.scsi_types.specs.declared.command.Command.{Command as ScsiCommand}
 use Rattle.scsi_types.specs.declared.command.CdbFault.{CdbFault}
-use Rattle.unit_state.specs.State.{UnitState}
-use Rattle.unit_state.specs.Entry.{Entry, Attach, Detach, Reset, Move, Command, after}
+use Rattle.unit_control.specs.State.{UnitState}
+use Rattle.unit_control.specs.Entry.{Entry, Attach, Detach, Reset, Move, Command, after}
 use Rattle.unit_state.specs.History.{IsReplyAt}
 use Rattle.unit_entries.specs.Histories.{IsCommand, command}
 use Rattle.world.specs.Orders.{IsEntryOf, IsNone, IsNoted, IsSubmittedBehind}

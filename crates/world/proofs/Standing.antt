@@ -5,8 +5,8 @@ use Rattle.std.specs.Prelude.{All, IfSome, OnErr, OnOk, Result, Ok, Err, slice_i
 use Rattle.std.proofs.lemmas.Bool.Decides.{eqb_tells}
 use Rattle.std.proofs.lemmas.Option.{get_or_from_slice_get, slice_get_within}
 use Rattle.unit_state.specs.Serials.{IsOpening}
-use Rattle.unit_state.specs.State.{UnitState, UnitValue, state_of}
-use Rattle.unit_state.specs.Entry.{Entry, Attach, Command}
+use Rattle.unit_control.specs.State.{UnitState, UnitValue, state_of}
+use Rattle.unit_control.specs.Entry.{Entry, Attach, Command}
 use Rattle.registrants.specs.Nexus.{through}
 use Rattle.scsi_types.specs.Nexus.{Port}
 use Rattle.scsi_types.specs.declared.names.Group.{Group}

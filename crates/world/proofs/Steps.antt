@@ -9,9 +9,9 @@ use Rattle.scsi_types.specs.ReplyValue.{ReplyValue}
 use Rattle.scsi_types.specs.Nexus.{Nexus}
 use Rattle.scsi_types.specs.declared.names.Group.{Group}
 use Rattle.scsi_types.specs.declared.names.Group.TheVariants.{One, Two}
-use Rattle.unit_state.specs.State.{UnitState}
-use Rattle.unit_state.specs.Choice.{Choice}
-use Rattle.unit_state.specs.Entry.{Entry, Attach, Command}
+use Rattle.unit_control.specs.State.{UnitState}
+use Rattle.unit_control.specs.Choice.{Choice}
+use Rattle.unit_control.specs.Entry.{Entry, Attach, Command}
 use Rattle.unit_entries.specs.Histories.{IsToldBehind, command}
 use Rattle.world.specs.Orders.{IsEntryOf, IsNone, IsNoted}
 use Rattle.world.specs.Traffic.{Traffic, IsTakenBack, answered_in, at_stage, attached, begun, begun_again, closed, collected, ended_in}

@@ -3,9 +3,9 @@ use Rattle.std.specs.Prelude.{◌≡◌, ◌⊎◌, ℕ, ◌+◌, ◌<◌, ◌�
 use Rattle.std.specs.Prelude.{MatchOption, slice_get}
 use Rattle.locked_unit.specs.Calls.{IsCause}
 use Rattle.registrants.specs.Nexus.{IsPortName, through}
-use Rattle.unit_state.specs.State.{UnitState}
-use Rattle.unit_state.specs.Choice.{Choice, Fine}
-use Rattle.unit_state.specs.Entry.{Entry, Attach, Detach, Reset, Move, Command}
+use Rattle.unit_control.specs.State.{UnitState}
+use Rattle.unit_control.specs.Choice.{Choice, Fine}
+use Rattle.unit_control.specs.Entry.{Entry, Attach, Detach, Reset, Move, Command}
 use Rattle.unit_state.specs.Serials.{IsOpening}
 use Rattle.unit_state.specs.declared.unit.MoveFault.{MoveFault}
 use Rattle.unit_entries.specs.Histories.{IsHistory, IsToldBehind}

@@ -2,8 +2,8 @@
 use Rattle.std.specs.Prelude.{◌≡◌, ℕ, ◌<◌, ◌≤◌, Bool, List, Some, slice_get}
 use Rattle.scsi_types.specs.ReplyValue.{ReplyValue}
 use Rattle.scsi_types.specs.declared.names.Group.{Group}
-use Rattle.unit_state.specs.State.{UnitState}
-use Rattle.unit_state.specs.Entry.{Entry}
+use Rattle.unit_control.specs.State.{UnitState}
+use Rattle.unit_control.specs.Entry.{Entry}
 use Rattle.unit_state.specs.History.{IsReplyAt}
 use Rattle.unit_entries.specs.Histories.{IsCommand, IsHistory}
 use Rattle.world.specs.Events.{Scene}

@@ -1,7 +1,7 @@
 -- What a world is behind a list of events.
 use Rattle.std.specs.Prelude.{◌≡◌, ℕ, Bool, List, length, Option, Some, None, IfSome, MatchOption, slice_get}
-use Rattle.unit_state.specs.State.{UnitState, UnitValue, state_of}
-use Rattle.unit_state.specs.Entry.{Entry}
+use Rattle.unit_control.specs.State.{UnitState, UnitValue, state_of}
+use Rattle.unit_control.specs.Entry.{Entry}
 use Rattle.unit_entries.specs.Histories.{IsBehind, no_state}
 use Rattle.world.specs.Events.{Scene, scene, AreSteps, IsReached, IsStep}
 use Rattle.world.specs.Orders.{IsOrderly}

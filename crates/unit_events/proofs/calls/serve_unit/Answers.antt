@@ -1,5 +1,5 @@
 use Rattle.std.proofs.Common.{◌&&◌, ◌∙◌, refl, ap}
-use Rattle.unit_state.specs.Choice.{choice_of}
+use Rattle.unit_control.specs.Choice.{choice_of}
 use Rattle.unit_events.proofs.Counted.{counts_all}
 use Rattle.unit_events.proofs.calls.serve_unit.Goals as goal
 

@@ -1,8 +1,8 @@
 use Rattle.unit_state.proofs.Steps.{refused_answer, refused_lasts, served_ok, takes_memory, may_reach}
 use Rattle.std.proofs.Common.{refl, sym, ◌∙◌}
-use Rattle.unit_state.specs.Choice.{choice_of}
-use Rattle.unit_state.specs.Medium.{work_asked}
-use Rattle.unit_state.specs.Refusal.{refusal, request}
+use Rattle.unit_control.specs.Choice.{choice_of}
+use Rattle.unit_control.specs.Medium.{work_asked}
+use Rattle.unit_control.specs.Refusal.{refusal, request}
 use Rattle.unit_state.proofs.PowerLoss.{as_before, no_stop, refused_left, served_left, served_stop, works_as}
 use Rattle.unit_state.proofs.commands.answer.Goals as goal
 

@@ -3,9 +3,9 @@ use Rattle.std.specs.Prelude.{IsTrue}
 use Rattle.unit_state.specs.Step.{is_describing}
 use Rattle.std.proofs.lemmas.List.{take_at}
 use Rattle.scsi_types.specs.ReplyValue.{good}
-use Rattle.unit_state.proofs.Works.{medium_served, good_served, described_served}
+use Rattle.unit_state.proofs.Served.{medium_served, good_served, described_served}
 use Rattle.unit_state.proofs.PowerLoss.{compared_left, idle_left}
-use Rattle.unit_state.specs.Medium.{work_of}
+use Rattle.unit_control.specs.Medium.{work_of}
 use Rattle.unit_state.proofs.commands.perform.Goals as goal
 
 pub returns-in-TestUnitReady-clause-served : goal.returns-in-TestUnitReady-clause-served

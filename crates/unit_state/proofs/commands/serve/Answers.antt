@@ -1,7 +1,7 @@
-use Rattle.unit_state.proofs.Saves.{counts_beside, reserved_ok}
+use Rattle.unit_state.proofs.Served.{counts_beside, reserved_ok}
 use Rattle.std.proofs.Common.{refl}
-use Rattle.unit_state.specs.Medium.{work_of}
-use Rattle.unit_state.proofs.Changes.{first_claims, second_claims}
+use Rattle.unit_control.specs.Medium.{work_of}
+use Rattle.unit_control.proofs.Changes.{first_claims, second_claims}
 use Rattle.unit_state.proofs.PowerLoss.{as_before, idle_left, no_stop, opened_left, reserved_stop}
 use Rattle.unit_state.proofs.commands.serve.Goals as goal
 

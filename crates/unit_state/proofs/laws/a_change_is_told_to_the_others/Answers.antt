@@ -1,4 +1,4 @@
-use Rattle.unit_state.specs.Groups.{is_any_changed}
+use Rattle.unit_control.specs.Groups.{is_any_changed}
 use Rattle.unit_state.proofs.Told.{change_own, change_other, change_moved}
 use Rattle.unit_state.proofs.laws.a_change_is_told_to_the_others.Goals as goal
 

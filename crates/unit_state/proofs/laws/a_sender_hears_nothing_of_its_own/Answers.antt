@@ -1,5 +1,5 @@
 use Rattle.std.proofs.Common.{refl}
-use Rattle.unit_state.specs.Reserve.{effect_by}
+use Rattle.unit_control.specs.Reserve.{effect_by}
 use Rattle.unit_state.proofs.Told.{own_after}
 use Rattle.unit_state.proofs.laws.a_sender_hears_nothing_of_its_own.Goals as goal
 

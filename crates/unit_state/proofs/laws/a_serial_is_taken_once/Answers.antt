@@ -1,4 +1,4 @@
-use Rattle.unit_state.specs.Refusal.{request}
+use Rattle.unit_control.specs.Refusal.{request}
 use Rattle.unit_state.proofs.Told.{taken_once}
 use Rattle.unit_state.proofs.laws.a_serial_is_taken_once.Goals as goal
 

@@ -1,5 +1,5 @@
 use Rattle.std.proofs.Common.{refl}
-use Rattle.unit_state.specs.Sessions.{pending_of}
+use Rattle.unit_control.specs.Sessions.{pending_of}
 use Rattle.unit_state.proofs.Told.{pending_told, told_no_more}
 use Rattle.unit_state.proofs.laws.an_attention_is_told_once.Goals as goal
 

@@ -1,6 +1,6 @@
 use Rattle.scsi_types.specs.declared.command.Command.TheVariants.{PersistentReserveOut}
 use Rattle.std.proofs.Common.{Ok}
-use Rattle.unit_state.specs.Refusal.{refusal, request}
+use Rattle.unit_control.specs.Refusal.{refusal, request}
 use Rattle.unit_state.proofs.Lasting.{good_lasts}
 use Rattle.unit_state.proofs.laws.good_tells_that_it_lasts.Goals as goal
 

@@ -1,5 +1,5 @@
-use Rattle.unit_state.specs.Refusal.{Request, request, attention_rule, opcode_rule, access_rule}
-use Rattle.unit_state.specs.Refusal.{conflict_rule, field_rule, saved_rule, range_rule, list_rule}
+use Rattle.unit_control.specs.Refusal.{Request, request, attention_rule, opcode_rule, access_rule}
+use Rattle.unit_control.specs.Refusal.{conflict_rule, field_rule, saved_rule, range_rule, list_rule}
 use Rattle.unit_state.proofs.Order.{in_order}
 use Rattle.unit_state.proofs.rules.first_refusal.Goals as goal
 

@@ -1,8 +1,8 @@
 use Rattle.std.proofs.Common.{refl}
 use Rattle.aptpl_file.specs.LastsLaws.{each_outcome_holds}
 use Rattle.unit_state.proofs.Steps.{answered_step, step_seen, memory_seen, restart_seen, restarts, unreached_seen}
-use Rattle.unit_state.specs.Medium.{work_asked}
-use Rattle.unit_state.specs.Refusal.{request}
+use Rattle.unit_control.specs.Medium.{work_asked}
+use Rattle.unit_control.specs.Refusal.{request}
 use Rattle.unit_state.proofs.PowerLoss.{as_before, no_stop, same_seen, step_left, stop_seen}
 use Rattle.unit_state.proofs.unit.Unit.step.Goals as goal
 

@@ -1,7 +1,7 @@
 use Rattle.std.proofs.Common.{◌&&◌}
 use Rattle.unit_entries.specs.Causes.{IsStay}
-use Rattle.unit_state.specs.Choice.{Fine}
-use Rattle.unit_state.specs.Entry.{Move}
+use Rattle.unit_control.specs.Choice.{Fine}
+use Rattle.unit_control.specs.Entry.{Move}
 use Rattle.unit_state.specs.declared.unit.MoveFault.{MoveFault}
 use Rattle.world.specs.Records.{traffic_of}
 use Rattle.world.specs.Worlds.{WorldValue}

@@ -1,6 +1,6 @@
 use Rattle.std.proofs.Common.{◌&&◌}
 use Rattle.unit_entries.specs.Causes.{IsGone}
-use Rattle.unit_state.specs.Entry.{Reset}
+use Rattle.unit_control.specs.Entry.{Reset}
 use Rattle.world.specs.Records.{traffic_of}
 use Rattle.world.specs.Worlds.{WorldValue}
 use Rattle.world.specs.declared.event.Event.TheVariants as events

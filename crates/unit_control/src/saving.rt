@@ -1,0 +1,63 @@
+//! PERSISTENT RESERVE OUT with the save that it needs (SPC-4, 5.13.5): what is to outlast a loss of power is saved before
+//! the registrations change.
+ghost use Rattle.std.specs.Prelude.{◌≡◌, ◌++◌, ℕ, List, IsTrue};
+ghost use Rattle.aptpl_file.specs.Lasts.{LastsAmong, StopsAt};
+ghost use Rattle.block_file.specs.Failures.{Tells};
+ghost use Rattle.unit_control.specs.Choice.{IsFine, choice_of};
+ghost use Rattle.unit_control.specs.Counts.{AreCounted, counters};
+ghost use Rattle.unit_control.specs.Crash.{saved_by};
+ghost use Rattle.unit_control.specs.Places.{IsPlaceOf, Stays};
+ghost use Rattle.unit_control.specs.Reserve.{effect_by};
+ghost use Rattle.unit_control.specs.Saving.{IsReserved};
+
+use crate::control::Control;
+use crate::sessions::Sender;
+use aptpl_file::RegFile;
+use block_file::Blocks;
+use reservations::{PrEnd, PrOut, Registry};
+use scsi_types::{Reply, Sense};
+use std::alloc::Global;
+
+/// Does a PERSISTENT RESERVE OUT of a session. Where the file may not hold just the record to last of what is there then,
+/// that is saved first; if that fails, nothing else has changed. A refusal changes nothing. Takes no memory: what the
+/// registry becomes is made in one that is there for that.
+pub fn reserve<R: Blocks>(
+    file: &mut RegFile<R>,
+    control: &mut Control,
+    made: &mut Registry,
+    alloc: Global,
+    sender: Sender,
+    asked: PrOut,
+) -> Reply
+    requires { IsPlaceOf control.old.sessions sender.session sender.at }
+    ensures stays { Stays control.old control.new sender.session sender.at }
+    ensures reserved { IsReserved control.old (effect_by control.old sender.session asked) control.new result }
+    ensures kept { IsTrue R.claims → LastsAmong R.size R.may_hold file.old control.old.lasting
+        → LastsAmong R.size R.may_hold file.new control.new.lasting }
+    ensures stop { IsTrue R.claims → IsTrue R.claims_moments
+        → LastsAmong R.size R.may_hold file.old control.old.lasting
+        → StopsAt R.moment R.left_since (saved_by (effect_by control.old sender.session asked) ++ control.old.lasting)
+        file.old.device file.new.device }
+    ensures access { control.new.access ≡ control.old.access }
+    ensures counted { (blocks : List (List ℕ)) (reads writes opens : ℕ) → AreCounted
+        (counters reads writes opens (R.failures file.old.device))
+        (counters reads writes opens (R.failures file.new.device)) (choice_of result blocks control.new.lasting) }
+    ensures fine { (blocks : List (List ℕ)) → Tells (R.failures file.old.device) (R.failures file.new.device)
+        (IsFine (choice_of result blocks control.new.lasting)) }
+{
+    match control.attempt(made, sender, asked) {
+        PrEnd::Good(telling) => {
+            if control.is_to_save(made) {
+                if let Err(fault) = file.save(&made.lasting()) {
+                    control.fail(fault, made);
+                    return Reply::check(alloc, Sense::INTERNAL_TARGET_FAILURE);
+                }
+            }
+            control.settle(made, &telling);
+            Reply::good(Vec::new(alloc))
+        }
+        PrEnd::Conflict => Reply::conflict(alloc),
+        PrEnd::Illegal(asc, ascq) => Reply::check(alloc, Sense::new(0x05, asc, ascq)),
+        PrEnd::TableFull => Reply::check(alloc, Sense::INSUFFICIENT_REGISTRATION_RESOURCES),
+    }
+}

@@ -1,6 +1,0 @@
-use Rattle.std.proofs.Common.{◌≡◌, take, None}
-use Rattle.unit_state.specs.Sessions.{session_of}
-use Rattle.unit_state.proofs.sessions.place_of.Given as goal
-
-abbrev pub invariant-loop-at : goal.invariant-loop-at
-invariant-loop-at l = session_of (take l.at l.sessions) l.id ≡ None

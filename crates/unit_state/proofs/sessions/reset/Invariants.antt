@@ -1,8 +1,0 @@
-use Rattle.std.proofs.Common.{◌≡◌, ◌++◌, take, drop, map}
-use Rattle.unit_state.specs.Sessions.{heard_reset}
-use Rattle.unit_state.proofs.sessions.reset.Given as goal
-
-abbrev pub invariant-loop-attached : goal.invariant-loop-attached
-invariant-loop-attached l =
-    l.attached-items ≡ map (heard_reset l.by)
-    (take l.attached-index l.initial.attached-items) ++ drop l.attached-index l.initial.attached-items
