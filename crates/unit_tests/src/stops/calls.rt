@@ -10,7 +10,7 @@ pub enum Does {
     /// Writes so many blocks from the first on, after which each has this value.
     Writes { first: u32, blocks: u32, value: u8 },
     Flushes,
-    /// A flush that fails.
+    /// Nothing, since it fails.
     Fails,
 }
 
@@ -28,14 +28,14 @@ pub struct Reach {
     pub landed: u32,
 }
 
-/// Appends the calls of a command that these words say: `read`, `flush`, `no-flush` for one that fails, and `1+2=11` for a write of
+/// Appends the calls of a command that these words say: `read`, `flush`, `fails` for a call that fails and changes nothing, and `1+2=11` for a write of
 /// two blocks from block 1 on, which then have the value 11h.
 pub fn put_calls(rt: &impl Abort, calls: &mut Vec<Call>, command: usize, words: &str) {
     for word in words.split_ascii_whitespace() {
         let does = match word {
             "read" => Does::Reads,
             "flush" => Does::Flushes,
-            "no-flush" => Does::Fails,
+            "fails" => Does::Fails,
             _ => write_of(rt, word),
         };
         calls.push(Call { command, does }).expect(rt, "memory");

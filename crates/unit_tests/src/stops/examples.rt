@@ -1,4 +1,4 @@
-//! A save behind one that failed at its last flush, and a change of owner whose open fails.
+//! A save behind one that failed, and a change of owner whose open fails.
 use crate::rows::cdb_of;
 use crate::stops::devices::{SOUND, Setup, tested};
 use crate::stops::power::{Play, played};
@@ -9,20 +9,49 @@ use scsi_types::Group;
 use std::alloc::Global;
 use std::process::Abort;
 
-/// The last flush of the first save fails alone, so the next save writes the old root once more.
-const REGISTERS_TWICE: &str = "
-A 1; 5F 00 00 0000 00000018; 15*00 11 4*00 01 3*00; 04 44 00;; 34+33=01 flush 0+1=01 no-flush
+/// Two saves, of which the first fails at its first, second, third or last call alone: where it fails at the root or behind it, the
+/// next one writes the old root once more. The power is lost in the second save where the last flush failed, and else at its
+/// last call and behind it.
+const REGISTERS_TWICE: &[(u64, usize, u64, &str)] = &[
+    (0, 4, 1, SLOT_FAILS),
+    (1, 5, 1, FLUSH_FAILS),
+    (2, 8, 1, ROOT_FAILS),
+    (3, 4, 41, LAST_FLUSH_FAILS),
+];
+
+const SLOT_FAILS: &str = "
+A 1; 5F 00 00 0000 00000018; 15*00 11 4*00 01 3*00; 04 44 00;; fails
+A 1; 5F 00 00 0000 00000018; 15*00 22 4*00 01 3*00; GOOD;; 34+33=05 flush 0+1=05 flush
+";
+
+const FLUSH_FAILS: &str = "
+A 1; 5F 00 00 0000 00000018; 15*00 11 4*00 01 3*00; 04 44 00;; 34+33=01 fails
+A 1; 5F 00 00 0000 00000018; 15*00 22 4*00 01 3*00; GOOD;; 34+33=05 flush 0+1=05 flush
+";
+
+const ROOT_FAILS: &str = "
+A 1; 5F 00 00 0000 00000018; 15*00 11 4*00 01 3*00; 04 44 00;; 34+33=01 flush fails
+A 1; 5F 00 00 0000 00000018; 15*00 22 4*00 01 3*00; GOOD;; 0+1=00 flush 34+33=05 flush 0+1=05 flush
+";
+
+const LAST_FLUSH_FAILS: &str = "
+A 1; 5F 00 00 0000 00000018; 15*00 11 4*00 01 3*00; 04 44 00;; 34+33=01 flush 0+1=01 fails
 A 1; 5F 00 00 0000 00000018; 15*00 22 4*00 01 3*00; GOOD;; 0+1=00 flush 34+33=05 flush 0+1=05 flush
 ";
 
 #[test]
-fn a_second_register_after_a_failed_flush(rt: HostRuntime) {
-    let play = Play {
-        script: Script::read(&rt, rt.alloc(), REGISTERS_TWICE),
-        setup: Setup { alone: 3, ..SOUND },
-    };
-    let stops = lose_at_each(&rt, rt.alloc(), &play, Device::Registrations, 4);
-    assert!(rt; stops == 41, "{stops}");
+fn a_second_register_after_a_failed_save(rt: HostRuntime) {
+    for (alone, from, count, text) in REGISTERS_TWICE {
+        let play = Play {
+            script: Script::read(&rt, rt.alloc(), text),
+            setup: Setup {
+                alone: *alone,
+                ..SOUND
+            },
+        };
+        let stops = lose_at_each(&rt, rt.alloc(), &play, Device::Registrations, *from);
+        assert!(rt; stops == *count, "{alone}: {stops}");
+    }
 }
 
 /// No open is done: the first group serves on.
