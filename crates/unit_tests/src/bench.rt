@@ -42,9 +42,8 @@ impl<'a> Setup<'a> {
     }
 }
 
-/// The calls of the registration file's device in which it is formatted: the run of a slot, a flush, the root, and a flush.
-/// A save makes as many.
-pub const SAVE: u64 = 4;
+// The calls of the registration file's device in which it is formatted: the run of a slot, a flush, the root, and a flush.
+const FORMAT: u64 = 4;
 
 /// The device of the blocks: a loss of power takes back what was not flushed.
 type Disk = FusedBlocks<CrashBlocks>;
@@ -112,8 +111,8 @@ fn disk_over(rt: &impl Abort, alloc: Global, blocks: MemBlocks, setup: &Setup) -
 // The registration file's device over this memory.
 fn file_over(rt: &impl Abort, alloc: Global, registrations: MemBlocks, setup: &Setup) -> File {
     let registrations = CrashBlocks::new(alloc, registrations).expect(rt, "memory");
-    let window = FusedBlocks::window(registrations, setup.alone.saturating_add(SAVE), 1);
-    FusedBlocks::inside(window, setup.saves.saturating_add(SAVE), setup.save_lands)
+    let window = FusedBlocks::window(registrations, setup.alone.saturating_add(FORMAT), 1);
+    FusedBlocks::inside(window, setup.saves.saturating_add(FORMAT), setup.save_lands)
 }
 
 /// The byte that fills a block, where one does.

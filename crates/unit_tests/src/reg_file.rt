@@ -2,6 +2,5 @@
 
 mod bytes;
 mod files;
-mod laws;
 mod refusals;
 mod saves;

@@ -53,20 +53,6 @@ fn write_of(rt: &impl Abort, word: &str) -> Does {
     }
 }
 
-/// How far the calls came of a device of which none failed, before the row at a place of the script.
-pub fn reach_before(calls: &[Call], command: usize) -> Reach {
-    let mut before = 0usize;
-    for call in calls {
-        if call.command < command {
-            before = before.wrapping_add(1);
-        }
-    }
-    Reach {
-        calls: before,
-        landed: 0,
-    }
-}
-
 // How many blocks of a run of so many landed, by the place of its call.
 fn landed(reach: Reach, place: usize, blocks: u32) -> u32 {
     if place < reach.calls {

@@ -1,7 +1,7 @@
 //! The scripts, and what is known of them.
 use crate::bench::Setup;
 use crate::rows::{is_row, part, setup_of};
-use crate::stops::calls::{Call, Does, Reach, picked, put_calls, reach_before, values_of};
+use crate::stops::calls::{Call, Does, Reach, picked, put_calls, values_of};
 use crash_blocks::Pick;
 use std::alloc::Global;
 use std::process::Abort;
@@ -68,8 +68,8 @@ impl<'a> Script<'a> {
         }
     }
 
-    /// The call that fails at a stop; none where all are done.
-    pub fn stopped(&self, stop: Stop) -> Option<Call> {
+    // The call that fails at a stop; none where all are done.
+    fn stopped(&self, stop: Stop) -> Option<Call> {
         self.calls(stop.of).get(stop.reach.calls).copied()
     }
 
@@ -110,7 +110,13 @@ impl<'a> Script<'a> {
             return stop.reach;
         }
         let (last, _end) = self.last(stop);
-        reach_before(self.calls(of), last)
+        let mut calls = 0usize;
+        for call in self.calls(of) {
+            if call.command < last {
+                calls = calls.wrapping_add(1);
+            }
+        }
+        Reach { calls, landed: 0 }
     }
 
     /// The value that is left of a block of a device.

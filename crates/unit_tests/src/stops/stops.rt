@@ -39,14 +39,21 @@ pub fn lose_at_each(
     from: usize,
 ) -> u64 {
     let mut stops = 0u64;
-    let all = script.calls(of).len();
-    for calls in from..all {
-        for landed in 0..=run_at(script, at(of, calls, 0)) {
-            lose(rt, alloc, script, at(of, calls, landed));
-            stops = stops.wrapping_add(1);
+    let mut calls = 0usize;
+    for call in script.calls(of) {
+        let blocks = match call.does {
+            Does::Writes { blocks, .. } => blocks,
+            Does::Reads | Does::Flushes | Does::Fails => 0,
+        };
+        if calls >= from {
+            for landed in 0..=blocks {
+                lose(rt, alloc, script, at(of, calls, landed));
+                stops = stops.wrapping_add(1);
+            }
         }
+        calls = calls.wrapping_add(1);
     }
-    lose(rt, alloc, script, at(of, all, 0));
+    lose(rt, alloc, script, at(of, calls, 0));
     stops
 }
 
@@ -55,17 +62,6 @@ fn at(of: Device, calls: usize, landed: u32) -> Stop {
     Stop {
         of,
         reach: Reach { calls, landed },
-    }
-}
-
-// How many blocks the call at a stop writes.
-fn run_at(script: &Script, stop: Stop) -> u32 {
-    match script.stopped(stop) {
-        Some(call) => match call.does {
-            Does::Writes { blocks, .. } => blocks,
-            Does::Reads | Does::Flushes | Does::Fails => 0,
-        },
-        None => 0,
     }
 }
 
