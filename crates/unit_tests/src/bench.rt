@@ -3,13 +3,14 @@ use crate::rows::Row;
 use crate::served::{Ended, Served};
 use aptpl_file::FILE_BLOCKS;
 use block_file::{Blocks, DeviceFailed, FusedBlocks, FusedOpener, KeepOpener, MemBlocks};
+use crash_blocks::{CrashBlocks, Pick};
 use scsi_types::Place;
 use std::alloc::Global;
 use std::process::Abort;
 
 /// The unit that a script has: its number among two of the array 1, how many blocks of zeros it has, how its device fails, how
-/// often the blocks are opened for another controller before an open fails, and how many calls the registration file's
-/// device makes before one fails.
+/// often the blocks are opened for another controller before an open fails, how the registration file's device fails, and what
+/// a loss of power leaves of both devices.
 #[derive(Clone, Copy)]
 pub struct Setup<'a> {
     pub script: &'a str,
@@ -20,30 +21,52 @@ pub struct Setup<'a> {
     /// Where the first call that fails is a write, so many blocks of its run have been written.
     pub lands: u32,
     pub opens: u64,
+    /// The same of the registration file's device, counted from the opening of the unit.
     pub saves: u64,
+    pub save_lands: u32,
+    /// The call of that device that fails alone.
+    pub alone: u64,
+    pub pick: Pick,
 }
 
-/// The calls of the registration file's device in which it is formatted: the run of a slot, a flush, the root, and a flush.
-/// A save makes as many.
-pub const SAVE: u64 = 4;
+impl<'a> Setup<'a> {
+    /// The same, where no call fails.
+    pub fn sound(&self) -> Setup<'a> {
+        Setup {
+            calls: u64::MAX,
+            opens: u64::MAX,
+            saves: u64::MAX,
+            alone: u64::MAX,
+            ..*self
+        }
+    }
+}
 
-/// A unit over memory behind a fuse, with an opener and a registration file behind a fuse each, and the sessions that were
-/// attached to it.
+// The calls of the registration file's device in which it is formatted: the run of a slot, a flush, the root, and a flush.
+const FORMAT: u64 = 4;
+
+/// The device of the blocks: a loss of power takes back what was not flushed.
+type Disk = FusedBlocks<CrashBlocks>;
+
+/// That of the registration file.
+type File = FusedBlocks<FusedBlocks<CrashBlocks>>;
+
+/// A unit over such devices, and the sessions that were attached to it.
 #[derive(Drop)]
 pub struct Bench {
-    served: Served<FusedBlocks<MemBlocks>, FusedBlocks<MemBlocks>, FusedOpener<KeepOpener>>,
+    served: Served<Disk, File, FusedOpener<KeepOpener>>,
 }
 
 impl Bench {
     /// The unit of a script, with a registration file of nothing.
     pub fn open(rt: &impl Abort, alloc: Global, setup: &Setup) -> Bench {
+        let blocks = MemBlocks::new(alloc, setup.blocks).expect(rt, "memory");
+        let disk = disk_over(rt, alloc, blocks, setup);
         let registrations = MemBlocks::new(alloc, FILE_BLOCKS).expect(rt, "memory");
-        let registrations = FusedBlocks::new(registrations, setup.saves.saturating_add(SAVE));
-        let memory = MemBlocks::new(alloc, setup.blocks).expect(rt, "memory");
-        let blocks = FusedBlocks::inside(memory, setup.calls, setup.lands);
+        let file = file_over(rt, alloc, registrations, setup);
         let opener = FusedOpener::new(KeepOpener, setup.opens);
         Bench {
-            served: Served::format(rt, alloc, setup.place, blocks, registrations, opener),
+            served: Served::format(rt, alloc, setup.place, disk, file, opener),
         }
     }
 
@@ -54,27 +77,42 @@ impl Bench {
 
     /// The unit as it opens after a power loss: with the blocks and the registration file that were left. No call fails.
     pub fn restart(self, rt: &impl Abort, alloc: Global, setup: &Setup) -> Bench {
-        let (blocks, registrations) = self.devices();
-        let blocks = FusedBlocks::new(blocks, u64::MAX);
-        let registrations = FusedBlocks::new(registrations, u64::MAX);
-        let opener = FusedOpener::new(KeepOpener, u64::MAX);
+        let (blocks, registrations) = self.lose_power(setup.pick);
+        let sound = setup.sound();
+        let disk = disk_over(rt, alloc, blocks, &sound);
+        let file = file_over(rt, alloc, registrations, &sound);
+        let opener = FusedOpener::new(KeepOpener, sound.opens);
         Bench {
-            served: Served::open(rt, alloc, setup.place, blocks, registrations, opener),
+            served: Served::open(rt, alloc, setup.place, disk, file, opener),
         }
     }
 
-    /// Hands the memory back.
+    /// Hands the memory of the blocks back, as reads give it.
     pub fn close(self) -> MemBlocks {
-        let (blocks, _registrations) = self.devices();
+        let (blocks, _registrations) = self.lose_power(Pick::Newest);
         blocks
     }
 
-    // The memory of the blocks, and of the registration file.
-    fn devices(self) -> (MemBlocks, MemBlocks) {
+    // The memory of the blocks, and of the registration file, as a loss of power leaves them.
+    fn lose_power(self, pick: Pick) -> (MemBlocks, MemBlocks) {
         let Bench { served } = self;
-        let (blocks, registrations) = served.close();
-        (blocks.into_inner(), registrations.into_inner())
+        let (disk, file) = served.close();
+        let registrations = file.into_inner().into_inner();
+        (disk.into_inner().crash(pick), registrations.crash(pick))
     }
+}
+
+// The device of the blocks over this memory.
+fn disk_over(rt: &impl Abort, alloc: Global, blocks: MemBlocks, setup: &Setup) -> Disk {
+    let blocks = CrashBlocks::new(alloc, blocks).expect(rt, "memory");
+    FusedBlocks::inside(blocks, setup.calls, setup.lands)
+}
+
+// The registration file's device over this memory.
+fn file_over(rt: &impl Abort, alloc: Global, registrations: MemBlocks, setup: &Setup) -> File {
+    let registrations = CrashBlocks::new(alloc, registrations).expect(rt, "memory");
+    let window = FusedBlocks::window(registrations, setup.alone.saturating_add(FORMAT), 1);
+    FusedBlocks::inside(window, setup.saves.saturating_add(FORMAT), setup.save_lands)
 }
 
 /// The byte that fills a block, where one does.

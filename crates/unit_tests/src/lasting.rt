@@ -111,9 +111,45 @@ the power on; send 0 00;; CHECK 06 29 00
 its key; send 0 5E 00 0000000000 00FF;; GOOD 7*00 08 7*00 11
 "#;
 
+/// 64 ports register the key 5A5A5A5A5A5A5A5Ah, to last, each through one group.
+const ONE_OF_64: &str = r#"
+a session; attach N 1;; ATTACHED 3N
+its power on; send N 00;; CHECK 06 29 00
+it registers, to last; send N 5F 00 00 0000 00000018; 8*00 8*5A 4*00 01 3*00; GOOD
+"#;
+
+/// 32 ports, each through both groups.
+const ONE_OF_32: &str = r#"
+a session; attach N 1;; ATTACHED 3N
+its power on; send N 00;; CHECK 06 29 00
+it registers by every port, to last; send N 5F 00 00 0000 00000018; 8*00 8*5A 4*00 05 3*00; GOOD
+"#;
+
+/// All of them are found, and hold a reservation.
+const FINDS_ALL: &str = r#"
+the first reserves; send 0 5F 01 08 0000 00000018; 8*5A 16*00; GOOD
+the power is lost; restart;; DONE
+it attaches; attach 0 1;; ATTACHED 0
+the power on; send 0 00;; CHECK 06 29 00
+64 keys; send 0 5E 00 0000000000 0208;; GOOD 6*00 02 00 512*5A
+their reservation; send 0 5E 01 0000000000 00FF;; GOOD 7*00 10 13*00 08 00 00
+"#;
+
+/// How 64 registrants come to be.
+const REGISTRANTS: &[(&str, u64)] = &[(ONE_OF_64, 64), (ONE_OF_32, 32)];
+
 #[test]
 fn registrations_last(rt: HostRuntime) {
     run(&rt, rt.alloc(), ONE_SESSION, ROWS);
+    for (registers, ports) in REGISTRANTS {
+        let parts = [(*registers, 0, *ports), (FINDS_ALL, 0, 1)];
+        play(
+            &rt,
+            rt.alloc(),
+            "64 registrants\nopens 0\nsaves always",
+            &parts,
+        );
+    }
 }
 
 /// A save that fails at each of its calls, and one that is done: the root is written in the last call but one.

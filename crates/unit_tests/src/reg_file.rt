@@ -2,9 +2,5 @@
 
 mod bytes;
 mod files;
-mod fuses;
-mod glitches;
-mod laws;
 mod refusals;
-mod round_trip;
-mod version_1;
+mod saves;

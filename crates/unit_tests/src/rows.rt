@@ -24,10 +24,12 @@
 //!   reset done, or the unit flushed, or `FAILED`. A move ends with what became of the states and, where another group owns
 //!   the unit, which: `NEITHER-CHANGES`, `BOTH-CHANGE 2`; or with why there is none: `BAD-LENGTH`, `BAD-LIST`, `NOT-OPENED`.
 //!
-//! The other lines say what the unit has (`Setup`): `unit 1`, `blocks 2048`, `calls 1`, `lands 2`, `opens 0`, `saves 8`. Where they say
-//! nothing it is unit 0, of 16 blocks, of which no call and no open fails, and whose registration file makes no call.
+//! The other lines say what the unit has (`Setup`): `unit 1`, `blocks 2048`, `calls 1`, `lands 2`, `opens 0`, `saves 8`, `alone 3`.
+//! Where they say nothing it is unit 0, of 16 blocks, of which no call and no open fails, and whose registration file makes no
+//! call. What was written last is there behind a restart.
 //! `written 1 5A`: afterwards this block is of this byte; all others are of zeros.
 use crate::bench::Setup;
+use crash_blocks::Pick;
 use scsi_types::Place;
 use std::alloc::Global;
 use std::process::Abort;
@@ -123,6 +125,9 @@ pub fn setup_of<'a>(rt: &impl Abort, lines: &[&'a str]) -> Setup<'a> {
         lands: 0,
         opens: u64::MAX,
         saves: 0,
+        save_lands: 0,
+        alone: u64::MAX,
+        pick: Pick::Newest,
     };
     for line in lines.get(1..).unwrap_or(&[]) {
         if !is_row(line) {
@@ -147,6 +152,7 @@ fn take(rt: &impl Abort, setup: &mut Setup, line: &str) {
         "lands" => setup.lands = rest.parse().expect(rt, line),
         "opens" => setup.opens = number_of(rt, rest),
         "saves" => setup.saves = number_of(rt, rest),
+        "alone" => setup.alone = number_of(rt, rest),
         "written" => {}
         _ => panic!(rt; "{line}"),
     }

@@ -37,8 +37,8 @@ pub fn play(rt: &impl Abort, alloc: Global, script: &str, parts: &[Part]) {
     look_at_all(rt, &mut bench.close(), setup.script, &lines);
 }
 
-// Plays a part.
-fn played(rt: &impl Abort, alloc: Global, bench: Bench, setup: &Setup, part: &Part) -> Bench {
+/// Plays a part.
+pub fn played(rt: &impl Abort, alloc: Global, bench: Bench, setup: &Setup, part: &Part) -> Bench {
     let (text, first, end) = part;
     let rows = lines_of(alloc, text).expect(rt, "memory");
     let mut bench = bench;
@@ -79,15 +79,20 @@ fn behind(
     bench
 }
 
-// Makes the call of a row.
-fn make(rt: &impl Abort, alloc: Global, bench: &mut Bench, setup: &Setup, row: &Row) {
+/// Makes the call of a row, which ends as it says.
+pub fn make(rt: &impl Abort, alloc: Global, bench: &mut Bench, setup: &Setup, row: &Row) {
     let ended = bench.call(rt, alloc, row);
     assert!(rt;
         is_met(rt, alloc, &ended, row),
-        "{}, {} ({}): {ended:?}",
+        "{}, {} ({}): {ended:?}, {}+{}, {}+{}, {:?}",
         setup.script,
         row.text,
-        row.n
+        row.n,
+        setup.calls,
+        setup.lands,
+        setup.saves,
+        setup.save_lands,
+        setup.pick
     );
 }
 

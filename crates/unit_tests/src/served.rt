@@ -67,8 +67,11 @@ impl<B: Blocks, R: Blocks, O: Opener<B>> Served<B, R, O> {
         registrations: R,
         opener: O,
     ) -> Served<B, R, O> {
+        assert!(rt; blocks.count() > 0, "a unit of one block at least");
+        let (file, lasted) = RegFile::open(alloc, registrations).expect(rt, "a record that lasted");
+        let unit = Unit::open(alloc, place, blocks, opener, file, lasted).expect(rt, "memory");
         Served {
-            unit: opened(rt, alloc, place, blocks, registrations, opener),
+            unit,
             sessions: Vec::new(alloc),
         }
     }
@@ -177,18 +180,4 @@ impl<B: Blocks, R: Blocks, O: Opener<B>> Served<B, R, O> {
         let bytes = row.data(rt, alloc);
         self.unit.step(alloc, id, serial, Group::One, asked, &bytes)
     }
-}
-
-/// A unit over these blocks, and with what its registration file holds: as after a power loss.
-pub fn opened<B: Blocks, R: Blocks, O: Opener<B>>(
-    rt: &impl Abort,
-    alloc: Global,
-    place: Place,
-    blocks: B,
-    registrations: R,
-    opener: O,
-) -> Unit<B, R, O> {
-    assert!(rt; blocks.count() > 0, "a unit of one block at least");
-    let (file, lasted) = RegFile::open(alloc, registrations).expect(rt, "a record that lasted");
-    Unit::open(alloc, place, blocks, opener, file, lasted).expect(rt, "memory")
 }

@@ -1,7 +1,5 @@
 //! Sessions, their serials, and the group that owns a unit.
 use crate::run::{play, run};
-use std::test::Fail;
-use unit_state::{AttachFault, Gone, laws};
 
 const ROWS: &str = r#"
 # A session's id is the number of the unit's entries before it.
@@ -82,34 +80,4 @@ fn sessions_and_their_commands(rt: HostRuntime) {
     run(&rt, rt.alloc(), "", ROWS);
     let parts = [(ONE_OF_64, 0, 64), (FULL, 0, 1)];
     play(&rt, rt.alloc(), "64 sessions", &parts);
-}
-
-#[test]
-fn faults_are_named(rt: HostRuntime) -> Result<(), Fail> {
-    let fault = AttachFault::TooManySessions;
-    let text = format!(in rt.alloc(); "{fault}, {}", Gone)?;
-    assert_eq!(rt; text.as_str(), "too many sessions, the session is gone");
-    Ok(())
-}
-
-#[test]
-fn the_laws_can_be_called() {
-    laws::one_entry_more();
-    laws::failures_are_counted();
-    laws::serials_count_commands();
-    laws::nobody_is_attached_at_first();
-    laws::who_attached_is_last();
-    laws::a_disk_decides_the_reply();
-    laws::a_read_gives_what_was_written();
-    laws::a_serial_is_taken_once();
-    laws::an_attention_is_told_once();
-    laws::a_group_serves_what_its_state_lets();
-    laws::a_change_is_told_to_the_others();
-    laws::a_failed_open_changes_nothing();
-    laws::good_tells_that_it_lasts();
-    laws::a_failed_save_changes_nothing_else();
-    laws::a_reservation_keeps_others_out();
-    laws::a_sender_hears_nothing_of_its_own();
-    laws::a_reset_is_told_to_the_others();
-    laws::an_ended_session_is_gone();
 }

@@ -24,7 +24,7 @@ pub enum Asked {
 }
 
 /// The request.
-pub fn request(asked: Asked) -> PrOut {
+fn request(asked: Asked) -> PrOut {
     let (action, key, sakey, kind) = match asked {
         Asked::Register(sakey) | Asked::RegisterEveryPort(sakey) => {
             (PrOutAction::Register, 0, sakey, 0)
@@ -65,43 +65,17 @@ pub fn record_after(rt: &impl Abort, alloc: Global, requests: &[Sent]) -> Record
         .expect(rt, "memory")
 }
 
-/// The record of one nexus with this key.
-pub fn record_of(rt: &impl Abort, alloc: Global, key: u64) -> Record {
-    record_after(rt, alloc, &[(b'a', Group::One, Asked::Register(key))])
-}
-
 /// What a record says, as READ FULL STATUS of the registry that begins with it, and whether APTPL is set.
-pub fn told(rt: &impl Abort, alloc: Global, record: Record) -> (bool, Vec<u8>) {
+fn told(rt: &impl Abort, alloc: Global, record: Record) -> (bool, Vec<u8>) {
     let aptpl = record.aptpl();
     let registry = Registry::from_record(alloc, record).expect(rt, "memory");
     (aptpl, registry.full_status(65535).expect(rt, "memory"))
 }
 
-/// What the file of a device says, opened.
-pub fn found<B: Blocks>(rt: &impl Abort, alloc: Global, device: B) -> (bool, Vec<u8>) {
+/// Whether the file of a device, opened, holds the record after these requests.
+pub fn holds<B: Blocks>(rt: &impl Abort, alloc: Global, device: B, requests: &[Sent]) -> bool {
     let (_file, record) = RegFile::open(alloc, device).expect(rt, "a registration file");
-    told(rt, alloc, record)
-}
-
-/// Whether a record is that of one nexus with this key.
-pub fn is_of(rt: &impl Abort, alloc: Global, record: Record, key: u64) -> bool {
-    told(rt, alloc, record) == told(rt, alloc, record_of(rt, alloc, key))
-}
-
-/// Whether the file of a device holds the record of one nexus with this key.
-pub fn holds<B: Blocks>(rt: &impl Abort, alloc: Global, device: B, key: u64) -> bool {
-    found(rt, alloc, device) == told(rt, alloc, record_of(rt, alloc, key))
-}
-
-/// Whether a save of the record of one nexus with this key fails, and where.
-pub fn fault_of<B: Blocks>(
-    rt: &impl Abort,
-    alloc: Global,
-    file: &mut RegFile<B>,
-    key: u64,
-) -> Option<SaveFault> {
-    let record = record_of(rt, alloc, key);
-    file.save(&record.lasting()).err()
+    told(rt, alloc, record) == told(rt, alloc, record_after(rt, alloc, requests))
 }
 
 /// Writes the beginning of a block, and zeros behind it.

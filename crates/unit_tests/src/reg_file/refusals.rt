@@ -143,20 +143,15 @@ const DEVICES: [(u32, bool, Option<OpenFault>); 7] = [
     (68, true, None),
 ];
 
-/// A device of so many blocks of zeros, or with those of a file of nothing.
-fn device(rt: &impl Abort, alloc: Global, count: u32, holds: bool) -> MemBlocks {
-    let mut device = MemBlocks::new(alloc, count).expect(rt, "memory");
-    if holds {
-        set_block(&mut device, 0, ROOT);
-        set_block(&mut device, 1, SLOT);
-    }
-    device
-}
-
 // Each device of blocks that are too few, too many, or no file's.
 fn devices_are_refused(rt: &impl Abort, alloc: Global) {
     for (count, holds, wanted) in &DEVICES {
-        let fault = RegFile::open(alloc, device(rt, alloc, *count, *holds)).err();
+        let mut device = MemBlocks::new(alloc, *count).expect(rt, "memory");
+        if *holds {
+            set_block(&mut device, 0, ROOT);
+            set_block(&mut device, 1, SLOT);
+        }
+        let fault = RegFile::open(alloc, device).err();
         assert!(rt; fault == *wanted, "{count}, {holds}: {fault:?}");
     }
 }

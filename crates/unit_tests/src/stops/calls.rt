@@ -7,14 +7,14 @@ use std::process::Abort;
 #[derive(Clone, Copy)]
 pub enum Does {
     Reads,
-    /// Writes so many blocks from the first on, after which each has this value.
+    /// Writes so many blocks from the first on, after which each has the value of this number.
     Writes { first: u32, blocks: u32, value: u8 },
     Flushes,
-    /// A flush that fails.
+    /// Nothing, since it fails.
     Fails,
 }
 
-/// A call of a device, and by how many commands of the script others came before.
+/// A call of a device, and how many rows of the script come before its own.
 #[derive(Clone, Copy)]
 pub struct Call {
     pub command: usize,
@@ -28,14 +28,14 @@ pub struct Reach {
     pub landed: u32,
 }
 
-/// Appends the calls of a command that these words say: `read`, `flush`, `no-flush` for one that fails, and `1+2=11` for a write of
-/// two blocks from block 1 on, which then have the value 11h.
+/// Appends the calls of a row that these words say: `read`, `flush`, `fails` for a call that fails and changes nothing, and `1+2=3` for
+/// a write of two blocks from block 1 on, which then have the value of number 3.
 pub fn put_calls(rt: &impl Abort, calls: &mut Vec<Call>, command: usize, words: &str) {
     for word in words.split_ascii_whitespace() {
         let does = match word {
             "read" => Does::Reads,
             "flush" => Does::Flushes,
-            "no-flush" => Does::Fails,
+            "fails" => Does::Fails,
             _ => write_of(rt, word),
         };
         calls.push(Call { command, does }).expect(rt, "memory");
@@ -53,20 +53,6 @@ fn write_of(rt: &impl Abort, word: &str) -> Does {
     }
 }
 
-/// How far the calls came of a device of which none failed, before the command at a place of the script.
-pub fn reach_before(calls: &[Call], command: usize) -> Reach {
-    let mut before = 0usize;
-    for call in calls {
-        if call.command < command {
-            before = before.wrapping_add(1);
-        }
-    }
-    Reach {
-        calls: before,
-        landed: 0,
-    }
-}
-
 // How many blocks of a run of so many landed, by the place of its call.
 fn landed(reach: Reach, place: usize, blocks: u32) -> u32 {
     if place < reach.calls {
@@ -78,7 +64,7 @@ fn landed(reach: Reach, place: usize, blocks: u32) -> u32 {
     }
 }
 
-/// The values that a block had since the last flush that was done, the oldest first. At first it has the value 0.
+/// The values that a block had since the last flush that was done, the oldest first. At first it has the value of number 0.
 pub fn values_of(
     rt: &impl Abort,
     alloc: Global,

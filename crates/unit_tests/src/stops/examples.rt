@@ -1,53 +1,86 @@
-//! A save behind one that failed at its last flush, and a change of owner whose open fails.
-use crate::rows::cdb_of;
-use crate::stops::devices::{SOUND, Setup, tested};
-use crate::stops::power::{Play, played};
+//! A save behind one that failed, and a change of owner whose open fails.
 use crate::stops::script::{Device, Script};
 use crate::stops::stops::lose_at_each;
-use crate::stops::units::{is_good, send};
-use scsi_types::Group;
-use std::alloc::Global;
-use std::process::Abort;
 
-/// The last flush of the first save fails alone, so the next save writes the old root once more.
-const REGISTERS_TWICE: &str = "
-A 1; 5F 00 00 0000 00000018; 15*00 11 4*00 01 3*00; 04 44 00;; 34+33=01 flush 0+1=01 no-flush
-A 1; 5F 00 00 0000 00000018; 15*00 22 4*00 01 3*00; GOOD;; 0+1=00 flush 34+33=05 flush 0+1=05 flush
+/// Two saves, of which the first fails at its first, second, third or last call alone: where it fails at the root or behind it, the
+/// next one writes the old root once more. The power is lost in the second save where the last flush failed, and else at its
+/// last call and behind it.
+const REGISTERS_TWICE: &[(&str, usize, u64)] = &[
+    (SLOT_FAILS, 4, 1),
+    (FLUSH_FAILS, 5, 1),
+    (ROOT_FAILS, 8, 1),
+    (LAST_FLUSH_FAILS, 4, 41),
+];
+
+const SLOT_FAILS: &str = "
+the write of a slot fails
+blocks 7
+saves always
+alone 0
+A attaches; attach 1 1;; ATTACHED 0
+its power on; send 0 00;; CHECK 06 29 00
+A registers, and the save fails; send 0 5F 00 00 0000 00000018; 15*00 11 4*00 01 3*00; CHECK 04 44 00;; fails
+A registers; send 0 5F 00 00 0000 00000018; 15*00 22 4*00 01 3*00; GOOD | CHECK 04 44 00;; 34+33=5 flush 0+1=5 flush
+";
+
+const FLUSH_FAILS: &str = "
+the flush of a slot fails
+blocks 7
+saves always
+alone 1
+A attaches; attach 1 1;; ATTACHED 0
+its power on; send 0 00;; CHECK 06 29 00
+A registers, and the save fails; send 0 5F 00 00 0000 00000018; 15*00 11 4*00 01 3*00; CHECK 04 44 00;; 34+33=1 fails
+A registers; send 0 5F 00 00 0000 00000018; 15*00 22 4*00 01 3*00; GOOD | CHECK 04 44 00;; 34+33=5 flush 0+1=5 flush
+";
+
+const ROOT_FAILS: &str = "
+the write of the root fails
+blocks 7
+saves always
+alone 2
+A attaches; attach 1 1;; ATTACHED 0
+its power on; send 0 00;; CHECK 06 29 00
+A registers, and the save fails; send 0 5F 00 00 0000 00000018; 15*00 11 4*00 01 3*00; CHECK 04 44 00;; 34+33=1 flush fails
+A registers; send 0 5F 00 00 0000 00000018; 15*00 22 4*00 01 3*00; GOOD | CHECK 04 44 00;; 0+1=0 flush 34+33=5 flush 0+1=5 flush
+";
+
+const LAST_FLUSH_FAILS: &str = "
+the flush of the root fails
+blocks 7
+saves always
+alone 3
+A attaches; attach 1 1;; ATTACHED 0
+its power on; send 0 00;; CHECK 06 29 00
+A registers, and the save fails; send 0 5F 00 00 0000 00000018; 15*00 11 4*00 01 3*00; CHECK 04 44 00;; 34+33=1 flush 0+1=1 fails
+A registers; send 0 5F 00 00 0000 00000018; 15*00 22 4*00 01 3*00; GOOD | CHECK 04 44 00;; 0+1=0 flush 34+33=5 flush 0+1=5 flush
 ";
 
 #[test]
-fn a_second_register_after_a_failed_flush(rt: HostRuntime) {
-    let play = Play {
-        script: Script::read(&rt, rt.alloc(), REGISTERS_TWICE),
-        setup: Setup { alone: 3, ..SOUND },
-    };
-    let stops = lose_at_each(&rt, rt.alloc(), &play, Device::Registrations, 4);
-    assert!(rt; stops == 41, "{stops}");
+fn a_second_register_after_a_failed_save(rt: HostRuntime) {
+    for (text, from, count) in REGISTERS_TWICE {
+        let script = Script::read(&rt, rt.alloc(), text);
+        let stops = lose_at_each(&rt, rt.alloc(), &script, Device::Registrations, *from);
+        assert!(rt; stops == *count, "{text}: {stops}");
+    }
 }
 
 /// No open is done: the first group serves on.
 const SETS: &str = "
-A 1; 2A 00 00000001 00 0002; 1024*11; GOOD; 1+2=11;
-A 1; A4 0A 00000000 00000008; 7*00 02; 04 67 0A;;
-A 1; 2A 00 00000002 00 0001; 512*22; GOOD; 2+1=22;
+a change of owner
+blocks 7
+opens 0
+A attaches; attach 1 1;; ATTACHED 0
+its power on; send 0 00;; CHECK 06 29 00
+A writes; send 0 2A 00 00000001 00 0002; 1024*11; GOOD | CHECK 03 0C 00; 1+2=1
+A changes the owner, and the open fails; send 0 A4 0A 00000000 00000008; 7*00 02; CHECK 04 67 0A
+A writes; send 0 2A 00 00000002 00 0001; 512*22; GOOD | CHECK 03 0C 00; 2+1=2
+A reads; send 0 28 00 00000001 00 0002;; GOOD 512*11 512*22 | | CHECK 03 11 00; read
 ";
-
-/// Whether the first group then reads what was written.
-fn is_read(rt: &impl Abort, alloc: Global, play: &Play) -> bool {
-    let mut unit = tested(rt, alloc, play.setup);
-    let ([mut session, _], _) = played(rt, alloc, &mut unit, &play.script.commands);
-    let cdb = cdb_of(rt, alloc, "28 00 00000001 00 0001");
-    let read = send(&mut unit, alloc, &mut session, Group::One, cdb, &[]);
-    is_good(&read, &[0x11; 512])
-}
 
 #[test]
 fn a_set_whose_open_fails(rt: HostRuntime) {
-    let play = Play {
-        script: Script::read(&rt, rt.alloc(), SETS),
-        setup: Setup { opens: 0, ..SOUND },
-    };
-    assert!(rt; is_read(&rt, rt.alloc(), &play), "the first group reads");
-    let stops = lose_at_each(&rt, rt.alloc(), &play, Device::Blocks, 0);
-    assert!(rt; stops == 5, "{stops}");
+    let script = Script::read(&rt, rt.alloc(), SETS);
+    let stops = lose_at_each(&rt, rt.alloc(), &script, Device::Blocks, 0);
+    assert!(rt; stops == 6, "{stops}");
 }
