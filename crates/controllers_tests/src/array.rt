@@ -1,5 +1,6 @@
 //! An array as its tests see it: units that threads share, a desk, and the sessions of hosts. No type of a unit stands here, so
 //! that tests see plain values alone, and cost little to prove.
+use crate::script::Asks;
 use scsi_types::{Command, Group, Sense};
 use status::Row;
 use std::test::Fail;
@@ -41,8 +42,8 @@ pub trait Array<S> {
     /// How it ends by way of the desk, as the program has it served.
     fn ask_at_desk(&self, host: &mut S, command: Command, bytes: &[u8]) -> End;
 
-    /// Hands it in at the desk, in whose queue it waits then.
-    fn hand_in(&self, host: &mut S, command: Command, bytes: &'static [u8]) -> End;
+    /// Hands in what a script asks for at the desk, in whose queue it waits then.
+    fn hand_in(&self, host: &mut S, asks: Asks) -> End;
 
     /// Waits until a lane has served it.
     fn collect(&self, host: &mut S) -> End;

@@ -1,14 +1,13 @@
 //! Four lanes at one desk by way of which two units are served. The device of the first hangs.
 use crate::array::{Array, End, TOLD_OF_POWER_ON, want};
 use crate::runs::{Setting, run};
+use crate::script::Asks;
 use crate::tales::Tale;
 use scsi_types::{Command, Group};
 use std::alloc::Global;
 use std::sync::Wait;
 use std::test::*;
 use std::thread::{Threads, join};
-
-const TEST: Command = Command::TestUnitReady;
 
 /// A WRITE of block 5.
 const WRITE: Command = Command::Write {
@@ -17,23 +16,20 @@ const WRITE: Command = Command::Write {
     fua: false,
 };
 
-/// What a WRITE puts there.
-const NEW: [u8; 512] = [0xA5; 512];
-
 /// A list that makes group 1 active/optimized.
 const TO_GROUP_1: [u8; 8] = [0, 0, 0, 0, 0, 0, 0, 1];
 
 // A command that a lane serves.
-fn by_lane<S, A: Array<S>>(array: &A, host: &mut S, command: Command, bytes: &'static [u8]) -> End {
-    match array.hand_in(host, command, bytes) {
+fn by_lane<S, A: Array<S>>(array: &A, host: &mut S, asks: Asks) -> End {
+    match array.hand_in(host, asks) {
         End::Waits => array.collect(host),
         end => end,
     }
 }
 
 // A command whose job waits in the queue, and which its worker serves, unless a lane is first.
-fn by_worker<S, A: Array<S>>(array: &A, host: &mut S, command: Command) -> End {
-    match array.hand_in(host, command, &[]) {
+fn by_worker<S, A: Array<S>>(array: &A, host: &mut S, asks: Asks) -> End {
+    match array.hand_in(host, asks) {
         End::Waits => array.serve_own(host),
         end => end,
     }
@@ -42,7 +38,7 @@ fn by_worker<S, A: Array<S>>(array: &A, host: &mut S, command: Command) -> End {
 // A session at a unit that a lane has told that power came on.
 fn ready<S: Send + Drop, A: Array<S>>(array: &A, place: usize, isid: u32) -> Option<S> {
     let mut host = array.attach(place, isid, Group::One)?;
-    let told = by_lane(array, &mut host, TEST, &[]);
+    let told = by_lane(array, &mut host, Asks::Test);
     (told == TOLD_OF_POWER_ON).then_some(host)
 }
 
@@ -60,9 +56,9 @@ fn is_served<S: Send + Drop, A: Array<S>>(array: &A, isid: u32) -> bool {
     let Some(mut host) = array.attach(1, isid, Group::One) else {
         return false;
     };
-    let first = by_worker(array, &mut host, TEST);
+    let first = by_worker(array, &mut host, Asks::Test);
     let second = array.ask_at_desk(&mut host, WRITE, &[0x5A; 512]);
-    let third = by_worker(array, &mut host, TEST);
+    let third = by_worker(array, &mut host, Asks::Test);
     first == TOLD_OF_POWER_ON && second == End::Good && third == End::Good
 }
 
@@ -100,7 +96,7 @@ fn five_ready<S: Send + Drop, A: Array<S>>(array: &A, hosts: &mut Vec<S>) {
 // Hands in a write of each.
 fn write_all<S, A: Array<S>>(array: &A, hosts: &mut Vec<S>) {
     for host in hosts {
-        let _ = array.hand_in(host, WRITE, &NEW);
+        let _ = array.hand_in(host, Asks::Write);
     }
 }
 

@@ -3,6 +3,7 @@ ghost use Rattle.std.specs.Prelude.{◌≡◌, ◌<◌, ◌≤◌, length};
 ghost use Rattle.unit_history.specs.Naming.{IsNamed};
 
 use crate::array::{Array, End};
+use crate::script::{Asks, command_of};
 use crate::tales::{Tale, happens};
 use crate::tally::Tally;
 use array_units::Units;
@@ -161,7 +162,8 @@ impl<W: Wait + Drop, B: Blocks, O: Opener<B>, N: Naming<Opened>> Array<Host<B, O
         }
     }
 
-    fn hand_in(&self, host: &mut Host<B, O, N>, command: Command, bytes: &'static [u8]) -> End {
+    fn hand_in(&self, host: &mut Host<B, O, N>, asks: Asks) -> End {
+        let (command, bytes) = command_of(asks);
         let Some(pass) = host.pass.take() else {
             return End::Nobody;
         };

@@ -88,10 +88,7 @@ impl<S: Drop, A: Array<S>> Stage<'_, S, A> {
     }
 
     fn hand_in(&mut self, host: usize, asks: Asks, told: Told) -> Option<bool> {
-        let (command, bytes) = command_of(asks);
-        let end = self
-            .array
-            .hand_in(self.hosts.get_mut(host)?, command, bytes);
+        let end = self.array.hand_in(self.hosts.get_mut(host)?, asks);
         self.ends(host, end, told)
     }
 
