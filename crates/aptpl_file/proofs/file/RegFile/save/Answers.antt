@@ -14,7 +14,7 @@ pub returns-in_default-save_slot-clause-stop : goal.returns-in_default-save_slot
 returns-in_default-save_slot-clause-stop g c = λ h m records lasts.
     until_slot g.B.Blocks.moment g.B.Blocks.left_since g.B.Blocks.size g.B.Blocks.may_hold c.args.self.now.version c.args.self.now.slot records
     c.args.saved.now c.args.self.now.device c.decide.new.self.device c.self.inside.device c.args.self.now.undecided
-    c.other-idle.result lasts.blocks c.self.invariant (search rules) (search rules) lasts.among
+    _ lasts.blocks c.self.invariant (search rules) (search rules) lasts.among
     (c.in-Ok.ensures.crash h) (λ u. c.in-Ok.ensures.root h u) (c.in-Ok.ensures.stop h m) c.save_slot.new.device
     (c.save_slot.ensures.stop h m)
 
@@ -25,7 +25,7 @@ returns-in_default-save_root-clause-stop g c = λ h m records lasts.
     in
     until_root g.B.Blocks.moment g.B.Blocks.left_since g.B.Blocks.size g.B.Blocks.may_hold c.args.self.now.version c.args.self.now.slot records
     c.args.saved.now c.args.self.now.device c.decide.new.self.device c.self.inside.device c.args.self.now.undecided
-    c.other-idle.result lasts.blocks c.self.invariant (search rules) (search rules) lasts.among
+    _ lasts.blocks c.self.invariant (search rules) (search rules) lasts.among
     (c.in-Ok.ensures.crash h) (λ u. c.in-Ok.ensures.root h u) (c.in-Ok.ensures.stop h m) c.save_slot.new.device
     c.save_root.new.device r c.save_slot.ensures.size (search rules) c.aptpl-aptpl.ensures.sound
     (c.save_slot.ensures.crash h) (c.in-Ok-save_slot.ensures.lasts h) (c.save_slot.ensures.stop h m)
@@ -38,7 +38,7 @@ returns-clause-stop g c = λ h m records lasts.
     in
     until_root g.B.Blocks.moment g.B.Blocks.left_since g.B.Blocks.size g.B.Blocks.may_hold c.args.self.now.version c.args.self.now.slot records
     c.args.saved.now c.args.self.now.device c.decide.new.self.device c.self.inside.device c.args.self.now.undecided
-    c.other-idle.result lasts.blocks c.self.invariant (search rules) (search rules) lasts.among
+    _ lasts.blocks c.self.invariant (search rules) (search rules) lasts.among
     (c.in-Ok.ensures.crash h) (λ u. c.in-Ok.ensures.root h u) (c.in-Ok.ensures.stop h m) c.save_slot.new.device
     c.save_root.new.device r c.save_slot.ensures.size (search rules) c.aptpl-aptpl.ensures.sound
     (c.save_slot.ensures.crash h) (c.in-Ok-save_slot.ensures.lasts h) (c.save_slot.ensures.stop h m)
@@ -53,7 +53,7 @@ pub returns-in_default-save_slot-clause-failed : goal.returns-in_default-save_sl
 returns-in_default-save_slot-clause-failed g c = λ h records lasts.
     failed_at_slot g.B.Blocks.size g.B.Blocks.may_hold c.args.self.now c.decide.new.self records lasts c.decide.ensures.size
     c.decide.ensures.version c.decide.ensures.slot (c.decide.ensures.crash h) (λ u. c.in-Ok.ensures.root h u) c.in-Ok.ensures.decided
-    _ c.self.view_is c.other-idle.result c.other-idle.ensures c.save_slot.new.device c.save_slot.ensures.size (c.save_slot.ensures.crash h)
+    _ c.self.view_is _ (search rules) c.save_slot.new.device c.save_slot.ensures.size (c.save_slot.ensures.crash h)
 
 pub returns-in_default-save_root-clause-failed : goal.returns-in_default-save_root-clause-failed
 returns-in_default-save_root-clause-failed g c = λ h records lasts.
@@ -62,7 +62,7 @@ returns-in_default-save_root-clause-failed g c = λ h records lasts.
     in
     failed_at_new_root g.B.Blocks.size g.B.Blocks.may_hold c.args.self.now c.decide.new.self records lasts c.decide.ensures.size
     c.decide.ensures.version c.decide.ensures.slot (c.decide.ensures.crash h) (λ u. c.in-Ok.ensures.root h u) c.in-Ok.ensures.decided
-    _ c.self.view_is c.other-idle.result c.other-idle.ensures c.save_slot.new.device c.save_slot.ensures.size (c.save_slot.ensures.crash h)
+    _ c.self.view_is _ (search rules) c.save_slot.new.device c.save_slot.ensures.size (c.save_slot.ensures.crash h)
     c.save_root.new.device r c.args.saved.now c.save_root.ensures.size (c.save_root.ensures.crash h) (c.in-Ok-save_slot.ensures.lasts h)
     (search rules) c.aptpl-aptpl.ensures.sound
 
@@ -72,6 +72,6 @@ returns-clause-saved g c = λ h.
     record { aptpl = c.aptpl-aptpl.result; registrants = c.registrants.result.now; reservation = c.reservation.result.now }
     in
     let next = c.save_slot.ensures.size in let new = c.save_root.ensures.size in let room = c.self.invariant in
-    saved_lasts g.B.Blocks.size g.B.Blocks.may_hold c.save_slot.new.device c.save_root.new.device c.other-idle.result c.self.inside.undecided r
+    saved_lasts g.B.Blocks.size g.B.Blocks.may_hold c.save_slot.new.device c.save_root.new.device _ c.self.inside.undecided r
     c.args.saved.now (omega (arith, next, new, room)) (search rules) (c.save_root.ensures.crash h)
     (c.in-Ok-save_root.ensures.lasts h) (c.in-Ok-save_slot.ensures.lasts h) (search rules) c.aptpl-aptpl.ensures.sound
