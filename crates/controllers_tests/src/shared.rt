@@ -333,15 +333,16 @@ impl<W: Wait + Drop, B: Blocks, O: Opener<B>, N: Naming<Opened>> Array<Host<B, O
 
 /// Shares these units, whose devices may hang at this latch, and tells a tale of them.
 pub fn tell<
+    'a,
     N: Naming<Opened> + Send + Sync,
     B: Blocks + Send + Sync,
     O: Opener<B> + Send + Sync,
     W: Threads + Wait + Send + Sync + Drop,
 >(
-    rt: &W,
+    rt: &'a W,
     alloc: Global,
     new: Vec<NewUnit<B, MemBlocks, O>>,
-    disk: &Latch<W>,
+    disk: &'a Latch<W>,
     tale: Tale<'_>,
 ) -> Result<(), Fail>
     requires named { IsNamed N.book N.table N.opening B.contents new.items }
@@ -355,5 +356,5 @@ pub fn tell<
         disk,
         taken: Tally::new(),
     };
-    happens::<W, Host<B, O, N>, Shared<'_, W, B, O, N>>(rt, alloc, &shared, tale)
+    happens::<W, Host<B, O, N>, Shared<'a, W, B, O, N>>(rt, alloc, &shared, tale)
 }
