@@ -1,7 +1,7 @@
 //! Four lanes at one desk by way of which two units are served. The device of the first hangs.
 use crate::array::{Array, End, TOLD_OF_POWER_ON, want};
 use crate::runs::{Setting, run};
-use crate::script::Asks;
+use crate::script::{Asks, List, list_of};
 use crate::tales::Tale;
 use scsi_types::{Command, Group};
 use std::alloc::Global;
@@ -15,9 +15,6 @@ const WRITE: Command = Command::Write {
     blocks: 1,
     fua: false,
 };
-
-/// A list that makes group 1 active/optimized.
-const TO_GROUP_1: [u8; 8] = [0, 0, 0, 0, 0, 0, 0, 1];
 
 // A command that a lane serves.
 fn by_lane<S, A: Array<S>>(array: &A, host: &mut S, asks: Asks) -> End {
@@ -147,7 +144,10 @@ fn play<W: Threads + Sync, S: Send + Drop, A: Array<S> + Sync>(
     alloc: Global,
     array: &A,
 ) -> bool {
-    let is_moved = matches!(array.move_by(1, &TO_GROUP_1), Some(Ok(())));
+    let is_moved = matches!(
+        array.move_by(1, list_of(List::To(Group::One))),
+        Some(Ok(()))
+    );
     let is_right = five_writes_hang(rt, alloc, array);
     array.hold(None);
     array.close();

@@ -2,35 +2,15 @@
 use crate::array::End;
 use crate::runs::perform;
 use crate::script::Asks::{Read as ReadIt, Report, Set, Test};
+use crate::script::Data::{Altered, AtFirst};
 use crate::script::Deed::{Attach, Move, Read, Send, TakeDown};
+use crate::script::List::{Short, To, ToNone};
 use crate::script::Told::{Check, Done, Ends, Good, Row, Stays, StopsAt};
 use crate::script::{BLANK, GOOD, Line, POWER_ON, STATES_CHANGED};
 use access_states::AsetFault;
 use scsi_types::Group::{One, Two};
 use std::test::*;
 use unit_state::MoveFault::{List, OpenFailed};
-
-// A list by which group 2 is active/optimized (SPC-4, 6.45).
-const TO_2: &[u8] = &[0, 0, 0, 0, 0, 0, 0, 2];
-
-// A list by which no group would be.
-const TO_NONE: &[u8] = &[0, 0, 0, 0, 1, 0, 0, 1];
-
-// The list with a byte too few.
-const SHORT: &[u8] = &[0, 0, 0, 0, 0, 0, 2];
-
-// What REPORT TARGET PORT GROUPS tells (SPC-4, 6.37): that both groups were altered by SET TARGET PORT GROUPS, and that group 2 is
-// active/optimized.
-const ALTERED: &[u8] = &[
-    0x00, 0x00, 0x00, 0x18, 0x81, 0x0F, 0x00, 0x01, 0x00, 0x01, 0x00, 0x01, 0x00, 0x00, 0x00, 0x01,
-    0x00, 0x0F, 0x00, 0x02, 0x00, 0x01, 0x00, 0x01, 0x00, 0x00, 0x00, 0x02,
-];
-
-// That group 1 is, and that nothing was altered.
-const AT_FIRST: &[u8] = &[
-    0x00, 0x00, 0x00, 0x18, 0x80, 0x0F, 0x00, 0x01, 0x00, 0x00, 0x00, 0x01, 0x00, 0x00, 0x00, 0x01,
-    0x01, 0x0F, 0x00, 0x02, 0x00, 0x00, 0x00, 0x01, 0x00, 0x00, 0x00, 0x02,
-];
 
 // A session on controller 2 sets group 2; the report tells that it was altered so. The session on controller 1 is told, and then
 // served by the new owner.
@@ -40,7 +20,7 @@ const SET_BY_A_SESSION: &[Line] = &[
     Line(Send(0, One, Test), POWER_ON),
     Line(Send(1, One, Test), POWER_ON),
     Line(Send(1, One, Set(Two)), GOOD),
-    Line(Send(1, Two, Report), Good(ALTERED)),
+    Line(Send(1, Two, Report), Good(Altered)),
     Line(Read(0), Row(2, (1, 0), 6)),
     Line(Send(0, One, Test), Ends(End::Moved(Two))),
     Line(Send(0, Two, Test), STATES_CHANGED),
@@ -62,10 +42,10 @@ const SET_WITHOUT_AN_OPEN: &[Line] = &[
     Line(Send(0, One, Test), POWER_ON),
     Line(Send(1, One, Test), POWER_ON),
     Line(Send(1, One, Set(Two)), Check(0x04, 0x67, 0x0A)),
-    Line(Send(1, One, Report), Good(AT_FIRST)),
+    Line(Send(1, One, Report), Good(AtFirst)),
     Line(Send(0, One, Test), GOOD),
     Line(Send(0, One, ReadIt), BLANK),
-    Line(Move(0, TO_2), Stays(OpenFailed)),
+    Line(Move(0, To(Two)), Stays(OpenFailed)),
     Line(Read(0), Row(1, (0, 1), 8)),
 ];
 
@@ -78,9 +58,9 @@ fn an_owner_that_is_not_opened(rt: HostRuntime) -> Result<(), Fail> {
 const MOVED_BY_THE_ARRAY: &[Line] = &[
     Line(Attach(0, One), Done),
     Line(Send(0, One, Test), POWER_ON),
-    Line(Move(0, TO_NONE), Stays(List(AsetFault::BadList))),
-    Line(Move(0, SHORT), Stays(List(AsetFault::Length))),
-    Line(Move(0, TO_2), Done),
+    Line(Move(0, ToNone), Stays(List(AsetFault::BadList))),
+    Line(Move(0, Short), Stays(List(AsetFault::Length))),
+    Line(Move(0, To(Two)), Done),
     Line(Read(0), Row(2, (1, 0), 3)),
     Line(Send(0, Two, Test), STATES_CHANGED),
     Line(Send(0, Two, ReadIt), BLANK),

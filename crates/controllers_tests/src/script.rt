@@ -16,6 +16,31 @@ pub enum Asks {
     Set(Group),
 }
 
+/// A parameter list of SET TARGET PORT GROUPS (SPC-4, 6.45).
+#[derive(Clone, Copy)]
+pub enum List {
+    /// By it this group is active/optimized.
+    To(Group),
+    /// By it no group would be.
+    ToNone,
+    /// It has a byte too few.
+    Short,
+}
+
+/// The data of a reply.
+#[derive(Clone, Copy)]
+pub enum Data {
+    Nothing,
+    /// A block of zeros.
+    Blank,
+    /// What a WRITE puts there.
+    Written,
+    /// What REPORT TARGET PORT GROUPS tells (SPC-4, 6.37) where group 1 is active/optimized, and nothing was altered.
+    AtFirst,
+    /// What it tells where both groups were altered by SET TARGET PORT GROUPS, and group 2 is active/optimized.
+    Altered,
+}
+
 /// What is done. Hosts go by the order in which they attached, units by their places.
 #[derive(Clone, Copy)]
 pub enum Deed {
@@ -42,7 +67,7 @@ pub enum Deed {
     /// The row of a unit is read.
     Read(usize),
     /// The array moves a unit by a parameter list.
-    Move(usize, &'static [u8]),
+    Move(usize, List),
     /// The controller of a group goes down.
     TakeDown(Group),
 }
@@ -53,7 +78,7 @@ pub enum Told {
     /// It was done.
     Done,
     /// GOOD with these data.
-    Good(&'static [u8]),
+    Good(Data),
     /// CHECK CONDITION with this sense key, additional sense code and qualifier.
     Check(u8, u8, u8),
     /// Another end of a command.
@@ -81,7 +106,7 @@ pub const POWER_ON: Told = Told::Check(0x06, 0x29, 0x00);
 pub const STATES_CHANGED: Told = Told::Check(0x06, 0x2A, 0x06);
 
 /// GOOD without data.
-pub const GOOD: Told = Told::Good(&[]);
+pub const GOOD: Told = Told::Good(Data::Nothing);
 
 pub const WAITS: Told = Told::Ends(End::Waits);
 
@@ -92,15 +117,41 @@ const LBA: u64 = 5;
 const NEW: [u8; 512] = [0xA5; 512];
 
 /// What a READ finds after it.
-pub const WRITTEN: Told = Told::Good(&NEW);
+pub const WRITTEN: Told = Told::Good(Data::Written);
 
 /// What it finds before.
-pub const BLANK: Told = Told::Good(&[0; 512]);
+pub const BLANK: Told = Told::Good(Data::Blank);
 
-// The lists of SET TARGET PORT GROUPS by which a group is active/optimized (SPC-4, 6.45).
-const TO_1: [u8; 8] = [0, 0, 0, 0, 0, 0, 0, 1];
+/// The bytes of a list.
+pub fn list_of(list: List) -> &'static [u8] {
+    match list {
+        List::To(Group::One) => &[0, 0, 0, 0, 0, 0, 0, 1],
+        List::To(Group::Two) => &[0, 0, 0, 0, 0, 0, 0, 2],
+        List::ToNone => &[0, 0, 0, 0, 1, 0, 0, 1],
+        List::Short => &[0, 0, 0, 0, 0, 0, 2],
+    }
+}
 
-const TO_2: [u8; 8] = [0, 0, 0, 0, 0, 0, 0, 2];
+const AT_FIRST: &[u8] = &[
+    0x00, 0x00, 0x00, 0x18, 0x80, 0x0F, 0x00, 0x01, 0x00, 0x00, 0x00, 0x01, 0x00, 0x00, 0x00, 0x01,
+    0x01, 0x0F, 0x00, 0x02, 0x00, 0x00, 0x00, 0x01, 0x00, 0x00, 0x00, 0x02,
+];
+
+const ALTERED: &[u8] = &[
+    0x00, 0x00, 0x00, 0x18, 0x81, 0x0F, 0x00, 0x01, 0x00, 0x01, 0x00, 0x01, 0x00, 0x00, 0x00, 0x01,
+    0x00, 0x0F, 0x00, 0x02, 0x00, 0x01, 0x00, 0x01, 0x00, 0x00, 0x00, 0x02,
+];
+
+/// The bytes of these data.
+pub fn bytes_of(data: Data) -> &'static [u8] {
+    match data {
+        Data::Nothing => &[],
+        Data::Blank => &[0; 512],
+        Data::Written => &NEW,
+        Data::AtFirst => AT_FIRST,
+        Data::Altered => ALTERED,
+    }
+}
 
 /// The command, and its data.
 pub fn command_of(asks: Asks) -> (Command, &'static [u8]) {
@@ -111,7 +162,9 @@ pub fn command_of(asks: Asks) -> (Command, &'static [u8]) {
         Asks::Read => (Command::Read { lba, blocks, fua }, &[]),
         Asks::Write => (Command::Write { lba, blocks, fua }, &NEW),
         Asks::Report => (Command::ReportTargetPortGroups { allocation: 256 }, &[]),
-        Asks::Set(Group::One) => (Command::SetTargetPortGroups { list_length: 8 }, &TO_1),
-        Asks::Set(Group::Two) => (Command::SetTargetPortGroups { list_length: 8 }, &TO_2),
+        Asks::Set(group) => (
+            Command::SetTargetPortGroups { list_length: 8 },
+            list_of(List::To(group)),
+        ),
     }
 }

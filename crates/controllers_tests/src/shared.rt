@@ -14,7 +14,7 @@ use numbering::Array as Naming;
 use scsi_types::{Command, Group, PortName, Reply, Status};
 use status::Row;
 use std::alloc::Global;
-use std::sync::Wait;
+use std::sync::{Arc, Wait};
 use std::test::Fail;
 use std::thread::Threads;
 use test_units::Latch;
@@ -48,12 +48,12 @@ fn end_at(fault: DeskFault) -> End {
 
 /// Units that threads share, whose registration files lie in memory, and the desk of their first controller.
 #[derive(Drop)]
-struct Shared<'a, W: Wait + Drop, B: Blocks, O: Opener<B>, N: Naming<Opened>> {
-    rt: &'a W,
+struct Shared<W: Wait + Drop, B: Blocks, O: Opener<B>, N: Naming<Opened>> {
+    rt: W,
     alloc: Global,
     units: Units<B, MemBlocks, O, N>,
     desk: Desk<B, MemBlocks, O, N>,
-    disk: &'a Latch<W>,
+    disk: Arc<Latch<W>, Global>,
     taken: Tally,
 }
 
@@ -83,31 +83,31 @@ impl<B: Blocks, O: Opener<B>, N: Naming<Opened>> Host<B, O, N> {
     }
 }
 
-impl<W: Wait + Drop, B: Blocks, O: Opener<B>, N: Naming<Opened>> Shared<'_, W, B, O, N> {
+impl<W: Wait + Drop, B: Blocks, O: Opener<B>, N: Naming<Opened>> Shared<W, B, O, N> {
     fn serve(&self, job: Job<B, MemBlocks, O, N>) {
         if job.place() < self.units.count() {
-            let answer = job.serve(self.rt, self.alloc, &self.units);
-            self.desk.post(self.rt, answer);
+            let answer = job.serve(&self.rt, self.alloc, &self.units);
+            self.desk.post(&self.rt, answer);
         }
     }
 
     // The first job, which is counted.
     fn take(&self) -> Option<Job<B, MemBlocks, O, N>> {
-        let job = self.desk.take(self.rt)?;
-        self.taken.add(self.rt);
+        let job = self.desk.take(&self.rt)?;
+        self.taken.add(&self.rt);
         Some(job)
     }
 }
 
 impl<W: Wait + Drop, B: Blocks, O: Opener<B>, N: Naming<Opened>> Array<Host<B, O, N>>
-    for Shared<'_, W, B, O, N> {
+    for Shared<W, B, O, N> {
     fn attach(&self, place: usize, isid: u32, group: Group) -> Option<Host<B, O, N>> {
         if place >= self.units.count() {
             return None;
         }
         let name = b"iqn.2000-01.test:a".to_vec(self.alloc).ok()?;
         let port = PortName::new(name, u64::from(isid));
-        let pass = self.units.attach(self.rt, place, port, group).ok()?;
+        let pass = self.units.attach(&self.rt, place, port, group).ok()?;
         Some(Host {
             pass: Some(pass),
             ticket: None,
@@ -134,7 +134,7 @@ impl<W: Wait + Drop, B: Blocks, O: Opener<B>, N: Naming<Opened>> Array<Host<B, O
         if pass.place() >= units.count() {
             return End::Nobody;
         }
-        let (pass, end) = units.serve(*rt, pass, *alloc, &by_group, &Ok(command), bytes);
+        let (pass, end) = units.serve(rt, pass, *alloc, &by_group, &Ok(command), bytes);
         host.keep(pass, end)
     }
 
@@ -152,7 +152,7 @@ impl<W: Wait + Drop, B: Blocks, O: Opener<B>, N: Naming<Opened>> Array<Host<B, O
         if pass.place() >= units.count() {
             return End::Nobody;
         }
-        let (pass, end) = desk.serve(*rt, *alloc, units, pass, &Ok(command), bytes);
+        let (pass, end) = desk.serve(rt, *alloc, units, pass, &Ok(command), bytes);
         match end {
             Ok(end) => host.keep(pass, end),
             Err(fault) => {
@@ -169,7 +169,7 @@ impl<W: Wait + Drop, B: Blocks, O: Opener<B>, N: Naming<Opened>> Array<Host<B, O
         };
         match self
             .desk
-            .submit(self.rt, self.alloc, pass, &Ok(command), bytes)
+            .submit(&self.rt, self.alloc, pass, &Ok(command), bytes)
         {
             Ok(ticket) => {
                 host.ticket = Some(ticket);
@@ -186,7 +186,7 @@ impl<W: Wait + Drop, B: Blocks, O: Opener<B>, N: Naming<Opened>> Array<Host<B, O
         let Some(ticket) = host.ticket.take() else {
             return End::Nobody;
         };
-        let (pass, end) = self.desk.collect(self.rt, ticket);
+        let (pass, end) = self.desk.collect(&self.rt, ticket);
         host.keep(pass, end)
     }
 
@@ -204,13 +204,13 @@ impl<W: Wait + Drop, B: Blocks, O: Opener<B>, N: Naming<Opened>> Array<Host<B, O
         if ticket.place() >= units.count() {
             return End::Nobody;
         }
-        let (pass, end) = desk.serve_own(*rt, *alloc, units, ticket);
+        let (pass, end) = desk.serve_own(rt, *alloc, units, ticket);
         host.keep(pass, end)
     }
 
     fn hears(&self, host: &Host<B, O, N>) -> End {
         match &host.ticket {
-            Some(ticket) if ticket.is_answered(self.rt) => End::Answered,
+            Some(ticket) if ticket.is_answered(&self.rt) => End::Answered,
             Some(_) => End::Waits,
             None => End::Nobody,
         }
@@ -231,7 +231,7 @@ impl<W: Wait + Drop, B: Blocks, O: Opener<B>, N: Naming<Opened>> Array<Host<B, O
         if pass.place() >= units.count() {
             return false;
         }
-        let (pass, is_done) = units.reset(self.rt, pass);
+        let (pass, is_done) = units.reset(&self.rt, pass);
         host.pass = Some(pass);
         is_done
     }
@@ -244,7 +244,7 @@ impl<W: Wait + Drop, B: Blocks, O: Opener<B>, N: Naming<Opened>> Array<Host<B, O
         if pass.place() >= units.count() {
             return false;
         }
-        units.retire(self.rt, pass).is_ok()
+        units.retire(&self.rt, pass).is_ok()
     }
 
     fn seen(&self, host: &Host<B, O, N>) -> u64 {
@@ -272,14 +272,14 @@ impl<W: Wait + Drop, B: Blocks, O: Opener<B>, N: Naming<Opened>> Array<Host<B, O
         if place >= self.units.count() {
             return None;
         }
-        Some(self.units.read(self.rt, place))
+        Some(self.units.read(&self.rt, place))
     }
 
     fn move_by(&self, place: usize, list: &[u8]) -> Option<Result<(), MoveFault>> {
         if place >= self.units.count() {
             return None;
         }
-        let (_seen, end) = set_groups(self.rt, &self.units, place, list);
+        let (_seen, end) = set_groups(&self.rt, &self.units, place, list);
         match end {
             Ok(_) => Some(Ok(())),
             Err(why) => Some(Err(why)),
@@ -288,7 +288,7 @@ impl<W: Wait + Drop, B: Blocks, O: Opener<B>, N: Naming<Opened>> Array<Host<B, O
 
     fn take_down(&self, group: Group) -> Result<(), (usize, MoveFault)> {
         let mut mover = Mover::new(&self.units);
-        match take_down(self.rt, &mut mover, group) {
+        match take_down(&self.rt, &mut mover, group) {
             Ok(()) => Ok(()),
             Err(stopped) => Err((stopped.unit, stopped.why)),
         }
@@ -302,7 +302,7 @@ impl<W: Wait + Drop, B: Blocks, O: Opener<B>, N: Naming<Opened>> Array<Host<B, O
     }
 
     fn serve_next(&self) -> bool {
-        self.desk.serve_next(self.rt, self.alloc, &self.units)
+        self.desk.serve_next(&self.rt, self.alloc, &self.units)
     }
 
     fn cross(&self) -> Option<()> {
@@ -315,7 +315,7 @@ impl<W: Wait + Drop, B: Blocks, O: Opener<B>, N: Naming<Opened>> Array<Host<B, O
     }
 
     fn close(&self) {
-        self.desk.close(self.rt);
+        self.desk.close(&self.rt);
     }
 
     fn hold(&self, unit: Option<usize>) {
@@ -323,38 +323,37 @@ impl<W: Wait + Drop, B: Blocks, O: Opener<B>, N: Naming<Opened>> Array<Host<B, O
     }
 
     fn taken(&self) -> u32 {
-        self.taken.count(self.rt)
+        self.taken.count(&self.rt)
     }
 
     fn await_taken(&self, count: u32) {
-        self.taken.await_count(self.rt, count);
+        self.taken.await_count(&self.rt, count);
     }
 }
 
 /// Shares these units, whose devices may hang at this latch, and tells a tale of them.
 pub fn tell<
-    'a,
     N: Naming<Opened> + Send + Sync,
     B: Blocks + Send + Sync,
     O: Opener<B> + Send + Sync,
-    W: Threads + Wait + Send + Sync + Drop,
+    W: Threads + Wait + Clone + Send + Sync + Drop,
 >(
-    rt: &'a W,
+    rt: &W,
     alloc: Global,
     new: Vec<NewUnit<B, MemBlocks, O>>,
-    disk: &'a Latch<W>,
+    disk: &Arc<Latch<W>, Global>,
     tale: Tale<'_>,
 ) -> Result<(), Fail>
     requires named { IsNamed N.book N.table N.opening B.contents new.items }
     requires count { length new.items ≤ 8 }
 {
     let shared = Shared {
-        rt,
+        rt: rt.clone()?,
         alloc,
         units: Units::new(rt, alloc, new)?,
         desk: Desk::new(alloc, Group::One)?,
-        disk,
+        disk: Arc::try_clone(disk)?,
         taken: Tally::new(),
     };
-    happens::<W, Host<B, O, N>, Shared<'a, W, B, O, N>>(rt, alloc, &shared, tale)
+    happens::<W, Host<B, O, N>, Shared<W, B, O, N>>(rt, alloc, &shared, tale)
 }

@@ -1,6 +1,6 @@
 //! Performs scripts.
 use crate::array::{Array, End};
-use crate::script::{Asks, Deed, Line, Told, command_of};
+use crate::script::{Asks, Deed, Line, List, Told, bytes_of, command_of, list_of};
 use scsi_types::Group;
 use std::alloc::Global;
 use std::test::Fail;
@@ -54,7 +54,9 @@ impl<S: Drop, A: Array<S>> Stage<'_, S, A> {
     // Whether a command of a host ends so.
     fn ends(&mut self, host: usize, end: End, told: Told) -> Option<bool> {
         match (told, end) {
-            (Told::Good(data), End::Good) => Some(self.array.data(self.hosts.get(host)?) == data),
+            (Told::Good(data), End::Good) => {
+                Some(self.array.data(self.hosts.get(host)?) == bytes_of(data))
+            }
             (Told::Check(key, asc, ascq), End::Check(sense)) => {
                 Some(sense.key == key && sense.asc == asc && sense.ascq == ascq)
             }
@@ -138,8 +140,8 @@ impl<S: Drop, A: Array<S>> Stage<'_, S, A> {
         }
     }
 
-    fn move_by(&self, unit: usize, list: &[u8], told: Told) -> Option<bool> {
-        match (told, self.array.move_by(unit, list)?) {
+    fn move_by(&self, unit: usize, list: List, told: Told) -> Option<bool> {
+        match (told, self.array.move_by(unit, list_of(list))?) {
             (Told::Done, Ok(())) => Some(true),
             (Told::Stays(wanted), Err(why)) => Some(why == wanted),
             _ => Some(false),
