@@ -1,7 +1,8 @@
 //! An array over a file that is ended while a session is open, and started again at the same ports.
 use crate::array::{Script, perform};
 use crate::at::At;
-use crate::units::{Faults, NO_FAULTS, over_file};
+use crate::units::{Faults, NO_FAULTS, fused_file, fused_registrations, opened};
+use block_file::{Blocks, FusedOpener, KeepOpener, Opener};
 use std::alloc::Global;
 use std::fs::File;
 use std::io::Eprint;
@@ -26,8 +27,41 @@ pub struct Story<'a> {
     pub after: &'a str,
 }
 
-// Serves the file of this name, which fails so, while hosts perform a script: the ports, and the hosts, whose sessions may still be
-// open.
+// Serves a unit over these devices while hosts perform a script: the ports, and the hosts, whose sessions may still be open.
+fn serve_over<
+    B: Blocks + Drop + Send + Sync + 'static,
+    F: Blocks + Drop + Send + Sync + 'static,
+    O: Opener<B> + Drop + Send + Sync + 'static,
+    R: Threads
+        + Wait
+        + Clock
+        + Abort
+        + Eprint
+        + Net<Listener = TcpListener, Stream = TcpStream>
+        + Clone
+        + Drop
+        + Send
+        + Sync
+        + 'static,
+>(
+    rt: &R,
+    alloc: Global,
+    blocks: B,
+    opener: O,
+    file: F,
+    script: &Script<'_>,
+) -> ([u16; 2], Vec<Host>) {
+    let disk = Latch::open(rt.clone().expect(rt, "memory"));
+    let at = At {
+        rt,
+        script: script.name,
+        line: "",
+    };
+    let units = at.must(opened(alloc, blocks, opener, file));
+    perform::<Brand, B, F, O, R>(rt, alloc, units, &disk, script)
+}
+
+// The same over the file of this name, which fails so.
 fn serve<
     R: Threads
         + Wait
@@ -42,14 +76,10 @@ fn serve<
         + Sync
         + 'static,
 >(rt: &R, alloc: Global, path: &str, faults: Faults, script: &Script<'_>) -> ([u16; 2], Vec<Host>) {
-    let disk = Latch::open(rt.clone().expect(rt, "memory"));
-    let at = At {
-        rt,
-        script: script.name,
-        line: "",
-    };
-    let units = at.must(over_file(rt, alloc, path, faults));
-    perform::<Brand, _, _, _, R>(rt, alloc, units, &disk, script)
+    let blocks = fused_file(rt, path, faults);
+    let file = fused_registrations(rt, alloc, path, faults);
+    let opener = FusedOpener::new(KeepOpener, faults.opened);
+    serve_over(rt, alloc, blocks, opener, file, script)
 }
 
 /// Runs it over a file of 16 blocks of zeros.

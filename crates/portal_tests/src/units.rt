@@ -3,7 +3,7 @@ ghost use Rattle.std.specs.Prelude.{◌≡◌, ◌≤◌, IfOk, length};
 ghost use Rattle.unit_state.specs.Serials.{IsOpening};
 
 use aptpl_file::RegFile;
-use block_file::{Blocks, FusedBlocks, FusedOpener, KeepOpener, MemBlocks, Opener};
+use block_file::{Blocks, FusedBlocks, KeepOpener, MemBlocks, Opener};
 use disk_files::{FileBlocks, open_registrations};
 use scsi_types::Place;
 use std::alloc::Global;
@@ -23,10 +23,7 @@ const BLOCKS: u32 = 2048;
 pub type HeldUnit<R> = NewUnit<HeldBlocks<MemBlocks, R>, MemBlocks, KeepOpener>;
 
 /// A file that may fail.
-type FusedFile = FusedBlocks<FileBlocks<File>>;
-
-/// A unit over a file, with its registration file, which may fail.
-pub type FileUnit = NewUnit<FusedFile, FusedFile, FusedOpener<KeepOpener>>;
+pub type FusedFile = FusedBlocks<FileBlocks<File>>;
 
 // A unit of zeros, which holds no registrations, and whose device hangs at this latch.
 fn in_memory<R: Wait + Drop>(
@@ -78,13 +75,15 @@ pub const NO_FAULTS: Faults = Faults {
     opened: u64::MAX,
 };
 
-// A unit over these devices, of which the second has a registration file.
-fn opened<B: Blocks + Drop, F: Blocks + Drop, O: Opener<B> + Drop>(
+/// The one unit of an array over these devices, of which the second has a registration file.
+pub fn opened<B: Blocks + Drop, F: Blocks + Drop, O: Opener<B> + Drop>(
     alloc: Global,
     blocks: B,
     opener: O,
     file: F,
-) -> Result<NewUnit<B, F, O>, Fail> {
+) -> Result<Vec<NewUnit<B, F, O>>, Fail>
+    ensures { IfOk result (λ v. length v.items ≤ 8) }
+{
     if blocks.count() == 0 {
         return Err("a device of no block".into());
     }
@@ -98,24 +97,24 @@ fn opened<B: Blocks + Drop, F: Blocks + Drop, O: Opener<B> + Drop>(
     };
     laws::nobody_is_attached_at_first();
     let unit = Unit::open(alloc, place, blocks, opener, file, record)?;
-    Ok(NewUnit::new(alloc, unit)?)
+    let mut units = Vec::new(alloc);
+    units.push(NewUnit::new(alloc, unit)?)?;
+    Ok(units)
 }
 
-/// The unit over the file of this name, which fails so.
-pub fn over_file<R: Files<File = File> + Abort>(
+/// The file of this name as a device that fails so.
+pub fn fused_file<R: Files<File = File> + Abort>(rt: &R, path: &str, faults: Faults) -> FusedFile {
+    let blocks = FileBlocks::open(rt, path).expect(rt, path);
+    FusedBlocks::inside(blocks, faults.passed, faults.landed)
+}
+
+/// The device of the registration file beside it, which fails so.
+pub fn fused_registrations<R: Files<File = File> + Abort>(
     rt: &R,
     alloc: Global,
     path: &str,
     faults: Faults,
-) -> Result<Vec<FileUnit>, Fail>
-    ensures { IfOk result (λ v. length v.items ≤ 8) }
-{
-    let blocks = FileBlocks::open(rt, path).expect(rt, path);
-    let fused = FusedBlocks::inside(blocks, faults.passed, faults.landed);
-    let opener = FusedOpener::new(KeepOpener, faults.opened);
+) -> FusedFile {
     let (file, _) = open_registrations(rt, alloc, path, None).expect(rt, path);
-    let saved = FusedBlocks::new(file.close(), faults.saving.saturating_add(OPEN_CALLS));
-    let mut units = Vec::new(alloc);
-    units.push(opened(alloc, fused, opener, saved)?)?;
-    Ok(units)
+    FusedBlocks::new(file.close(), faults.saving.saturating_add(OPEN_CALLS))
 }
