@@ -115,40 +115,6 @@ fn found_at(portal: SocketAddrV4) -> SocketAddrV4 {
     SocketAddrV4::new(Ipv4Addr::new(127, 0, 0, 1), portal.port())
 }
 
-// These units behind a gate, as hosts find them at these two portals.
-fn server_of<
-    N: Naming<Opened>,
-    B: Blocks + Drop,
-    F: Blocks + Drop,
-    O: Opener<B> + Drop,
-    R: Wait + Abort + Clone + Drop,
->(
-    rt: &R,
-    alloc: Global,
-    new: Vec<NewUnit<B, F, O>>,
-    first: SocketAddrV4,
-    second: SocketAddrV4,
-) -> Arc<Server<Controllers<B, F, O, N>, Doors<R>>, Global>
-    requires named { IsNamed N.book N.table N.opening B.contents new.items }
-    requires count { length new.items ≤ 8 }
-{
-    let units = Units::<B, F, O, N>::new(rt, alloc, new).expect(rt, "memory");
-    let controllers = Controllers::new(alloc, units).expect(rt, "memory");
-    let gate = Doors::new(
-        rt.clone().expect(rt, "memory"),
-        Latch::open(rt.clone().expect(rt, "memory")),
-        Latch::open(rt.clone().expect(rt, "memory")),
-    );
-    let server = Server {
-        device: TargetDevice::new(alloc, controllers, gate),
-        target_name: Vec::from_slice(alloc, b"iqn.2000-01.test:array").expect(rt, "memory"),
-        first: Vec::from_slice(alloc, &[first]).expect(rt, "memory"),
-        second: Vec::from_slice(alloc, &[second]).expect(rt, "memory"),
-        log: Log::off(),
-    };
-    Arc::new(alloc, server).expect(rt, "memory")
-}
-
 /// Serves these units, whose devices may hang at this latch, while hosts perform a script: the ports, and the hosts, whose
 /// sessions may still be open.
 pub fn perform<
@@ -179,7 +145,21 @@ pub fn perform<
 {
     let (first, first_at) = bind(rt, script.host, script.ports[0]);
     let (second, second_at) = bind(rt, script.host, script.ports[1]);
-    let server = server_of::<N, B, F, O, R>(rt, alloc, new, first_at, second_at);
+    let units = Units::<B, F, O, N>::new(rt, alloc, new).expect(rt, "memory");
+    let controllers = Controllers::new(alloc, units).expect(rt, "memory");
+    let gate = Doors::new(
+        rt.clone().expect(rt, "memory"),
+        Latch::open(rt.clone().expect(rt, "memory")),
+        Latch::open(rt.clone().expect(rt, "memory")),
+    );
+    let server = Server {
+        device: TargetDevice::new(alloc, controllers, gate),
+        target_name: Vec::from_slice(alloc, b"iqn.2000-01.test:array").expect(rt, "memory"),
+        first: Vec::from_slice(alloc, &[first_at]).expect(rt, "memory"),
+        second: Vec::from_slice(alloc, &[second_at]).expect(rt, "memory"),
+        log: Log::off(),
+    };
+    let server = Arc::new(alloc, server).expect(rt, "memory");
     let stacks = NoRoom {
         refused: script.refused,
     };

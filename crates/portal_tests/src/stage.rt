@@ -144,53 +144,21 @@ impl<
         self.at.line = line;
         let (who, rest) = line.split_once(' ').unwrap_or((line, ""));
         let (verb, rest) = rest.split_once(' ').unwrap_or((rest, ""));
-        if who == "all" || verb == "enter" {
-            self.obey_crowd(who, verb, rest);
-        } else if matches!(verb, "at" | ">" | "<" | ">>" | "<<") {
-            self.obey_host(who, verb, rest);
-        } else if matches!(verb, "pieces" | "cut" | "told" | "over" | "race") {
-            self.obey_oddly(who, verb, rest);
-        } else {
-            self.obey_array(who, verb, rest);
-        }
-    }
-
-    // What a host does, or is answered.
-    fn obey_host(&mut self, who: &'a str, verb: &str, rest: &str) {
         match verb {
             "at" => self.connect(who, rest),
+            ">" if who == "all" => self.send_all(rest),
+            "<" if who == "all" => self.compare_all(rest),
             ">" => self.send(who, rest),
             "<" => self.compare(who, rest),
             ">>" => self.send_as_is(who, rest),
-            _ => self.compare_exactly(who, rest),
-        }
-    }
-
-    // The same, of what hosts seldom do.
-    fn obey_oddly(&mut self, who: &str, verb: &str, rest: &str) {
-        match verb {
+            "<<" => self.compare_exactly(who, rest),
             "pieces" => self.cut_up(who, rest),
             "cut" => self.cut(who, rest),
             "told" => self.compare_text(who),
             "over" => self.end(who),
-            _ => self.race(rest),
-        }
-    }
-
-    // The same, of many hosts.
-    fn obey_crowd(&mut self, who: &str, verb: &str, rest: &str) {
-        match verb {
-            ">" => self.send_all(rest),
-            "<" => self.compare_all(rest),
+            "race" => self.race(rest),
             "enter" => self.enter(who, rest),
             "leave" => self.leave(rest),
-            _ => self.at.stop("a verb"),
-        }
-    }
-
-    // What becomes of the array itself, or is seen of it.
-    fn obey_array(&mut self, who: &str, verb: &str, rest: &str) {
-        match verb {
             "hold" => self.latch(who).hold(Some(self.number(rest) as usize)),
             "held" => self.latch(who).await_held(self.number(rest)),
             "open" => self.latch(who).hold(None),
