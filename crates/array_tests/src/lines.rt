@@ -3,6 +3,7 @@ use console::{Operations, UnitStatus, console};
 use scsi_types::Group;
 use std::alloc::Global;
 use std::io::{self, BufReader, Read, Write};
+use std::process::Abort;
 use std::test::*;
 
 // Two units, which count how often they were asked, and flushed behind the close. Of controller 2 unit 1 does not move.
@@ -60,8 +61,8 @@ const STATUS: &str =
 unit 1 owner 2 states 3 0 generation 0 keys 0 type 0 entries 0
 ";
 
-// What the lines are answered, and how often the units were flushed.
-fn said(alloc: Global, lines: &[u8]) -> Result<(String, u32), Fail> {
+// Compares what the lines are answered. Behind them the units were flushed once.
+fn compare(rt: &impl Abort, alloc: Global, lines: &[u8], answers: &str) -> Result<(), Fail> {
     let mut array = Two {
         asked: 0,
         closed: 0,
@@ -69,12 +70,17 @@ fn said(alloc: Global, lines: &[u8]) -> Result<(String, u32), Fail> {
     };
     let mut written = Vec::new(alloc);
     console(alloc, lines, &mut written, &mut array);
-    Ok((String::from_utf8(written)?, array.flushed))
+    let text = String::from_utf8(written)?;
+    assert!(rt;
+        text.as_str() == answers && array.flushed == 1,
+        "{lines:?}: {text}"
+    );
+    Ok(())
 }
 
 #[test]
 fn lines_and_what_they_are_answered(rt: HostRuntime) -> Result<(), Fail> {
-    let rows = [
+    for (lines, answers) in &[
         ("", ""),
         ("quit", ""),
         ("quit\n", ""),
@@ -86,18 +92,15 @@ fn lines_and_what_they_are_answered(rt: HostRuntime) -> Result<(), Fail> {
         ("down\ndown 0\ndown 3\ndown 1 \nDOWN 1\n", "?\n?\n?\n?\n?\n"),
         ("Status\nstatus \n status\nquit \n", "?\n?\n?\n?\n"),
         ("quit\r\n", ""),
-    ];
-    for (lines, answers) in &rows {
-        let (text, flushed) = said(rt.alloc(), lines.as_bytes())?;
-        assert_eq!(rt; text.as_str(), *answers, "{lines:?}");
-        assert_eq!(rt; flushed, 1, "{lines:?}");
+        ("status\nquit\n", STATUS),
+    ] {
+        compare(&rt, rt.alloc(), lines.as_bytes(), answers)?;
     }
-    let (text, flushed) = said(rt.alloc(), b"status\nquit\n")?;
-    assert_eq!(rt; text.as_str(), STATUS);
-    assert_eq!(rt; flushed, 1);
     // no UTF-8
-    let (text, flushed) = said(rt.alloc(), b"\xFF\nstatus\xC3\ndown 1\n")?;
-    assert_eq!(rt; text.as_str(), "?\n?\ndown\n");
-    assert_eq!(rt; flushed, 1);
-    Ok(())
+    compare(
+        &rt,
+        rt.alloc(),
+        b"\xFF\nstatus\xC3\ndown 1\n",
+        "?\n?\ndown\n",
+    )
 }
