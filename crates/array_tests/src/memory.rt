@@ -5,19 +5,20 @@ ghost use Rattle.unit_history.specs.Naming.{IsNamed};
 
 use crate::row::{Row, Stream};
 use array_units::Units;
-use block_file::{KeepOpener, MemBlocks};
+use block_file::{Blocks, KeepOpener, MemBlocks, Opener};
 use event_log::{Log, Path};
 use login::Kind;
 use numbering::Array as Naming;
 use portal::{
-    BeginFault, Connection, Controllers, Open, SessionTarget, Table, TargetDevice, serve_session,
+    BeginFault, Connection, Controllers, LogicalUnits, Open, Pass as PassOf, SessionTarget, Table,
+    TargetDevice, serve_session,
 };
 use scsi_types::Group;
 use session::{Identity, Watched};
 use std::alloc::Global;
 use std::io;
 use std::io::Read;
-use std::marker::Brand;
+use std::marker::{Brand, PhantomData};
 use std::net::{Ipv4Addr, SocketAddrV4};
 use std::process::Abort;
 use std::sync::{Mutex, Wait};
@@ -55,46 +56,51 @@ type Both<N> = Controllers<MemBlocks, MemBlocks, KeepOpener, N>;
 /// The table of its live sessions.
 type Sessions = Mutex<Table<Endless>>;
 
-/// What is seen of its unit.
-type Seen<N> = LegalHistory<MemBlocks, MemBlocks, KeepOpener, N>;
+/// What a session has seen of its unit.
+trait Seen {
+    /// How many entries.
+    fn entries(&self) -> u64;
+}
 
-// The target of a session that comes by controller 1.
-type Arrived<'a, R, N> = SessionTarget<
-    'a,
-    R,
-    Both<N>,
-    Open,
-    Sessions,
-    Endless,
-    Pass<MemBlocks, MemBlocks, KeepOpener, N>,
-    Seen<N>,
->;
+impl<B: Blocks, F: Blocks, O: Opener<B>, N: Naming<Opened>> Seen for LegalHistory<B, F, O, N> {
+    fn entries(&self) -> u64 {
+        self.len()
+    }
+}
 
 // Whether what a session saw as it left the unit is longer than what one before it had seen.
-fn is_later<N: Naming<Opened>>(before: &[Seen<N>], after: &[Seen<N>]) -> bool {
+fn is_later<H: Seen>(before: &[H], after: &[H]) -> bool {
     match (before.first(), after.first()) {
-        (Some(before), Some(after)) => before.len() < after.len(),
+        (Some(before), Some(after)) => before.entries() < after.entries(),
         _ => true,
     }
 }
 
 /// An array that sessions share.
 #[derive(Drop)]
-struct Scene<'a, R: Wait, N: Naming<Opened>> {
+struct Scene<'a, R: Wait, U: LogicalUnits<P, H> + Drop, P: PassOf, H: Drop> {
     rt: &'a R,
     alloc: Global,
-    device: &'a TargetDevice<Both<N>, Open, Sessions>,
+    device: &'a TargetDevice<U, Open, Sessions>,
+    of: PhantomData<(P, H)>,
 }
 
-impl<'a, R: Wait + Clock + Abort, N: Naming<Opened>> Scene<'a, R, N> {
-    // A session comes, and has not begun.
-    fn arrive(&self) -> Arrived<'a, R, N> {
-        SessionTarget::new(self.rt, self.alloc, self.device, Group::One, Endless)
-    }
-
-    // Begins a session of the other initiator, which then lives.
+impl<
+    'a,
+    R: Wait + Clock + Abort,
+    U: LogicalUnits<P, H> + Drop,
+    P: PassOf + Drop,
+    H: Seen + Drop,
+> Scene<'a, R, U, P, H> {
+    // Begins a session of the other initiator, which comes by controller 1 and then lives.
     fn begin_other(&self, isid: u64) -> Result<u16, BeginFault> {
-        let mut other = self.arrive();
+        let mut other = SessionTarget::<R, U, Open, Sessions, Endless, P, H>::new(
+            self.rt,
+            self.alloc,
+            self.device,
+            Group::One,
+            Endless,
+        );
         other.try_begin(OTHER, isid, Kind::Normal)
     }
 
@@ -114,7 +120,7 @@ impl<'a, R: Wait + Clock + Abort, N: Naming<Opened>> Scene<'a, R, N> {
     }
 
     // Serves what comes by a connection, and compares: what was seen of the unit at the end.
-    fn serve<S: Read + Drop>(&self, name: &str, stream: &Stream, reader: S) -> Vec<Seen<N>> {
+    fn serve<S: Read + Drop>(&self, name: &str, stream: &Stream, reader: S) -> Vec<H> {
         let mut source = Watched::new(reader);
         let mut sink = Watched::new(FakeWriter::new(self.alloc, WHOLE));
         let me = Identity {
@@ -129,12 +135,12 @@ impl<'a, R: Wait + Clock + Abort, N: Naming<Opened>> Scene<'a, R, N> {
         };
         let (end, _visitor, seen) = serve_session::<
             R,
-            Both<N>,
+            U,
             Open,
             Sessions,
             Endless,
-            Pass<MemBlocks, MemBlocks, KeepOpener, N>,
-            Seen<N>,
+            P,
+            H,
             Watched<S>,
             Watched<FakeWriter>,
         >(
@@ -192,8 +198,8 @@ fn portal(port: u16) -> SocketAddrV4 {
 
 /// What comes by the first connection of a row; where it breaks off, another connection is served.
 #[derive(Drop)]
-struct Broken<'s, 'd, 'r, 't, R: Wait, N: Naming<Opened>> {
-    scene: &'s Scene<'d, R, N>,
+struct Broken<'s, 'd, 'r, 't, R: Wait, U: LogicalUnits<P, H> + Drop, P: PassOf, H: Drop> {
+    scene: &'s Scene<'d, R, U, P, H>,
     row: &'r Row<'t>,
     reads: Calls,
     front: FakeReader<'r>,
@@ -201,7 +207,8 @@ struct Broken<'s, 'd, 'r, 't, R: Wait, N: Naming<Opened>> {
     is_back: bool,
 }
 
-impl<R: Wait + Clock + Abort, N: Naming<Opened>> Read for Broken<'_, '_, '_, '_, R, N> {
+impl<R: Wait + Clock + Abort, U: LogicalUnits<P, H> + Drop, P: PassOf + Drop, H: Seen + Drop> Read
+    for Broken<'_, '_, '_, '_, R, U, P, H> {
     fn read(&mut self, buf: &mut [u8]) -> io::Result<usize> {
         let came = self.front.read(buf)?;
         if came > 0 {
@@ -243,10 +250,17 @@ fn play<R: Wait + Clock + Abort, N: Naming<Opened>>(
     );
     let controllers = Controllers::new(alloc, units).expect(rt, "memory");
     let device = TargetDevice::new(alloc, controllers, Open);
-    let scene = Scene {
+    let scene = Scene::<
+        '_,
+        R,
+        Both<N>,
+        Pass<MemBlocks, MemBlocks, KeepOpener, N>,
+        LegalHistory<MemBlocks, MemBlocks, KeepOpener, N>,
+    > {
         rt,
         alloc,
         device: &device,
+        of: PhantomData,
     };
     scene.serve_row(row, reads);
 }
