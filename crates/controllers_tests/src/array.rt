@@ -93,6 +93,9 @@ pub trait Array<S> {
     /// From now on writes of the device of this unit hang; or those go on that hung.
     fn hold(&self, unit: Option<usize>);
 
+    /// Waits until so many of them hang.
+    fn await_held(&self, count: u32);
+
     /// How many jobs lanes have taken to serve.
     fn taken(&self) -> u32;
 

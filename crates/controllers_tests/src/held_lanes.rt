@@ -1,5 +1,5 @@
 //! Four lanes at one desk by way of which two units are served. The device of the first hangs.
-use crate::array::{Array, End, TOLD_OF_POWER_ON, want};
+use crate::array::{Array, End, TOLD_OF_POWER_ON, entries, want};
 use crate::runs::{Setting, run};
 use crate::script::{Asks, List, list_of};
 use crate::tales::Tale;
@@ -45,6 +45,27 @@ fn lane<W: Wait, S, A: Array<S>>(rt: &W, array: &A) {
         if array.serve_first().is_none() {
             break;
         }
+    }
+}
+
+// A write hangs in the device of unit 0; meanwhile lanes serve unit 1, and the row of unit 0 is read.
+fn one_write_hangs<S, A: Array<S>>(array: &A, slow: &mut S, quick: &mut S) -> bool {
+    array.hold(Some(0));
+    let stuck = array.hand_in(slow, Asks::Write);
+    let first = by_lane(array, quick, Asks::Write);
+    array.await_held(1);
+    let shown = entries(array, 0);
+    let second = by_lane(array, quick, Asks::Test);
+    array.hold(None);
+    let last = array.collect(slow);
+    let are_good = first == End::Good && second == End::Good && last == End::Good;
+    stuck == End::Waits && are_good && shown == 2 && entries(array, 0) == 3
+}
+
+fn hangs<S: Send + Drop, A: Array<S>>(array: &A) -> bool {
+    match (ready(array, 0, 1), ready(array, 1, 2)) {
+        (Some(mut slow), Some(mut quick)) => one_write_hangs(array, &mut slow, &mut quick),
+        _ => false,
     }
 }
 
@@ -138,36 +159,72 @@ fn four_lanes<W: Threads + Wait + Sync, S: Send, A: Array<S> + Sync>(rt: &W, arr
     let _ = join(rt, || two_lanes(rt, array), || two_lanes(rt, array));
 }
 
+// What is played before the lanes.
+#[derive(Clone, Copy)]
+enum Played {
+    One,
+    All,
+}
+
 // Plays it. Behind it nothing hangs, and the desk is closed.
 fn play<W: Threads + Sync, S: Send + Drop, A: Array<S> + Sync>(
     rt: &W,
     alloc: Global,
     array: &A,
+    played: Played,
 ) -> bool {
     let is_moved = matches!(
         array.move_by(1, list_of(List::To(Group::One))),
         Some(Ok(()))
     );
-    let is_right = five_writes_hang(rt, alloc, array);
+    let is_right = match played {
+        Played::One => hangs(array),
+        Played::All => five_writes_hang(rt, alloc, array),
+    };
     array.hold(None);
     array.close();
     is_moved && is_right
 }
 
-/// Plays it beside four lanes. Unit 1 moves to group 1, which owns unit 0. Where all lanes are held, workers serve: of the 34
-/// commands the lanes serve 10, those that only they can. The workers of eight sessions serve theirs, 16 out of the queue, since no
-/// lane is free.
+// Plays it beside four lanes, which serve so many jobs meanwhile. Unit 1 moves to group 1, which owns unit 0.
+fn beside_lanes<W: Threads + Wait + Sync, S: Send + Drop, A: Array<S> + Sync>(
+    rt: &W,
+    alloc: Global,
+    array: &A,
+    played: Played,
+    by_lanes: u32,
+) -> Result<(), Fail> {
+    let (is_right, _) = join(
+        rt,
+        || play(rt, alloc, array, played),
+        || four_lanes(rt, array),
+    );
+    want(is_right, "what was told")?;
+    want(array.taken() == by_lanes, "jobs that lanes served")
+}
+
+/// A write hangs in a device, while the lanes that are left serve another unit: five jobs in all.
+pub fn one_hangs<W: Threads + Wait + Sync, S: Send + Drop, A: Array<S> + Sync>(
+    rt: &W,
+    alloc: Global,
+    array: &A,
+) -> Result<(), Fail> {
+    beside_lanes(rt, alloc, array, Played::One, 5)
+}
+
+/// Where all lanes are held, workers serve: of the 34 commands the lanes serve 10, those that only they can. The workers of eight
+/// sessions serve theirs, 16 out of the queue, since no lane is free.
 pub fn all_hang<W: Threads + Wait + Sync, S: Send + Drop, A: Array<S> + Sync>(
     rt: &W,
     alloc: Global,
     array: &A,
 ) -> Result<(), Fail> {
-    let (is_right, _) = join(rt, || play(rt, alloc, array), || four_lanes(rt, array));
-    want(is_right, "what was told")?;
-    want(array.taken() == 10, "jobs that lanes served")
+    beside_lanes(rt, alloc, array, Played::All, 10)
 }
 
 #[test]
 fn lanes_that_a_device_holds(rt: HostRuntime) -> Result<(), Fail> {
-    run(&rt, rt.alloc(), &Setting::of(&[9, 9]), Tale::AllHang)
+    let setting = Setting::of(&[9, 9]);
+    run(&rt, rt.alloc(), &setting, Tale::OneHangs)?;
+    run(&rt, rt.alloc(), &setting, Tale::AllHang)
 }

@@ -322,6 +322,10 @@ impl<W: Wait + Drop, B: Blocks, O: Opener<B>, N: Naming<Opened>> Array<Host<B, O
         self.disk.hold(unit);
     }
 
+    fn await_held(&self, count: u32) {
+        self.disk.await_held(count);
+    }
+
     fn taken(&self) -> u32 {
         self.taken.count(&self.rt)
     }

@@ -17,6 +17,8 @@ pub enum Tale<'a> {
     Script(&'a [Line]),
     /// A worker and a lane share a desk.
     Shared,
+    /// A write hangs in a device, while lanes serve another unit.
+    OneHangs,
     /// So many writes hang in a device that no lane is left.
     AllHang,
     /// 2000 commands of a session, and what comes behind them.
@@ -41,6 +43,7 @@ pub fn happens<W: Threads + Wait + Sync, S: Send + Drop, A: Array<S> + Sync>(
     match tale {
         Tale::Script(script) => stage::is_performed(alloc, array, script),
         Tale::Shared => lanes::share(rt, alloc, array),
+        Tale::OneHangs => held_lanes::one_hangs(rt, alloc, array),
         Tale::AllHang => held_lanes::all_hang(rt, alloc, array),
         Tale::Served => sessions::are_served(array),
         Tale::InTurn => sessions::come_in_turn(array),

@@ -1,7 +1,7 @@
 //! The worked examples, run over a whole array through both controllers. Here stand capacity, ranges, mode pages, COMPARE AND
 //! WRITE, residuals, target port groups and reservations.
 //!
-//! Of the others `logins.rt` and `gone.rt` have the first and the second TEST UNIT READY behind a login, and the session whose
+//! Of the others `logins.rt` has the first and the second TEST UNIT READY behind a login, and the session whose
 //! nexus logs in again; `medium.rt` what is written through one controller and read through the other, and two that compare and
 //! write one block; `fencing.rt` the write that collects while its key is preempted; `streams.rt` the long write in pieces,
 //! READ (6) of 256 blocks, the numbers of a session, also those of its one TEST UNIT READY, a PDU that is cut, and logins that
