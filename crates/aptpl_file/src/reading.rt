@@ -1,5 +1,5 @@
 //! The reads of a file that is opened.
-ghost use Rattle.std.specs.Prelude.{◌≡◌, ◌≤◌, ◌<◌, IfErr, IfOk, IsTrue, length};
+ghost use Rattle.std.specs.Prelude.{◌≡◌, ◌≤◌, ◌<◌, IfErr, IfOk, IsTrue};
 ghost use Rattle.block_file.specs.Disk.{block_at, NoMore};
 ghost use Rattle.block_file.specs.Failures.{Counts, Tells};
 ghost use Rattle.registrants.specs.Registry.{RecordValue};

@@ -14,7 +14,7 @@ pub const NO_HOLDER: u8 = 0xFF;
 
 /// An entry of a slot: a registrant; or, where it is of both groups, that one, which is through group 1, and the nexus of
 /// its port through group 2, which is registered with the same key.
-#[derive(Debug, Drop)]
+#[derive(Drop)]
 pub struct Entry {
     pub registrant: Registrant,
     pub both: bool,

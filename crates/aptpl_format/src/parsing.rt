@@ -1,5 +1,5 @@
 //! What the bytes of a file spell. A slot is read, spelled again and compared, so that only its one spelling is taken.
-ghost use Rattle.std.specs.Prelude.{◌≡◌, ◌↔◌, ◌≤◌, ◌+◌, ◌*◌, ◌<◌, ◌++◌, ◌∷◌, [], ℕ, Bool, List, not, nat_eq, true};
+ghost use Rattle.std.specs.Prelude.{◌≡◌, ◌↔◌, ◌≤◌, ◌+◌, ◌*◌, ◌<◌, ◌++◌, ◌∷◌, [], Bool, List, not, nat_eq, true};
 ghost use Rattle.std.specs.Prelude.{length, IfErr, IfNone, IfOk, IfSome, IsTrue, OnOk};
 ghost use Rattle.std.specs.List.{AllByRecursion, flat_map};
 ghost use Rattle.std.specs.declared.cmp.Ordering.TheVariants.{Less};
@@ -7,7 +7,7 @@ ghost use Rattle.scsi_types.specs.declared.names.Group.{Group};
 ghost use Rattle.scsi_types.specs.declared.names.Group.TheVariants.{One};
 ghost use Rattle.registrants.specs.declared.registrant.Registrant.{Registrant};
 ghost use Rattle.registrants.specs.Nexus.{nexus_cmp};
-ghost use Rattle.registrants.specs.Registry.{IsListed, IsRecord, RecordValue, is_lasting, is_sound_hold};
+ghost use Rattle.registrants.specs.Registry.{IsListed, RecordValue, is_lasting, is_sound_hold};
 ghost use Rattle.aptpl_format.specs.declared.entry.Entry.{Entry};
 ghost use Rattle.aptpl_format.specs.Format.{entry_bytes, entry_length, group_code, root_block, slot_bytes, version_bytes};
 ghost use Rattle.aptpl_format.specs.Reads.{AreEntries, HasReservation, IsEntry, IsRefusalOf, IsRootRefusal, IsUnfailed};

@@ -3,7 +3,7 @@ ghost use Rattle.std.specs.Prelude.{◌≡◌};
 ghost use Rattle.aptpl_format.specs.Format.{first_block, other_slot, slot_number};
 
 /// A slot of a registration file: its place for one record. The root names one of the two, and a save writes the other.
-#[derive(Clone, Copy, Debug, PartialEq, Eq)]
+#[derive(Clone, Copy, PartialEq, Eq)]
 pub enum Slot {
     First,
     Second,

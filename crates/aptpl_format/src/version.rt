@@ -3,7 +3,7 @@ ghost use Rattle.std.specs.Prelude.{◌≡◌};
 ghost use Rattle.aptpl_format.specs.Format.{version_bytes};
 
 /// A version of the registration file. Both are read; a save writes the second.
-#[derive(Clone, Copy, Debug, PartialEq, Eq)]
+#[derive(Clone, Copy, PartialEq, Eq)]
 pub enum FileVersion {
     /// Each registrant has an entry.
     Version1,

@@ -1,5 +1,5 @@
 //! The units of the array, over files.
-ghost use Rattle.std.specs.Prelude.{◌≡◌, ◌≤◌, IfOk, length};
+ghost use Rattle.std.specs.Prelude.{◌≤◌, IfOk, length};
 ghost use Rattle.unit_state.specs.Serials.{IsOpening};
 
 use aptpl_file::{OpenFault, RegFile};

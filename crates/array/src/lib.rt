@@ -2,8 +2,12 @@
 #![tactic(auto)]
 
 mod disks;
+mod lines;
+mod operated;
 mod portals;
 mod served;
 
 pub use disks::{FileArray, OpenArray, open};
+pub use lines::{Operations, UnitStatus, console};
+pub use operated::Operated;
 pub use served::{serve, tell_want};

@@ -11,7 +11,7 @@ use std::time::Clock;
 const APART: u16 = 4;
 
 /// Where a controller listens: at so many ports from this one on.
-#[derive(Clone, Copy, Debug, PartialEq, Eq)]
+#[derive(Clone, Copy, PartialEq, Eq)]
 pub struct Ports {
     pub host: Ipv4Addr,
     pub first: u16,

@@ -1,14 +1,15 @@
 //! The array as it is served.
 
-ghost use Rattle.std.specs.Prelude.{◌≡◌, ◌≤◌, length};
+ghost use Rattle.std.specs.Prelude.{◌≤◌, length};
 ghost use Rattle.unit_history.specs.Naming.{IsNamed};
 
 use crate::disks::OpenArray;
+use crate::lines::{Operations, console};
+use crate::operated::Operated;
 use crate::portals::{self, Portal, Ports};
 use array_units::Units;
 use block_file::{Blocks, Opener};
 use command_line::{Fault, MAX_UNITS, Options};
-use console::{Operated, Operations, console};
 use event_log::{Event, Log, Resource};
 use numbering::Array as Naming;
 use portal::{Controllers, Gate, Server, SmallStacks, TargetDevice, listen, start_lanes};

@@ -1,10 +1,10 @@
 //! Controllers that go down by the console.
-ghost use Rattle.std.specs.Prelude.{◌≡◌, ◌≤◌, length};
+ghost use Rattle.std.specs.Prelude.{◌≤◌, length};
 ghost use Rattle.unit_history.specs.Naming.{IsNamed};
 
+use array::{Operated, console};
 use array_units::Units;
 use block_file::{Blocks, Opener};
-use console::{Operated, console};
 use event_log::Log;
 use numbering::Array as Naming;
 use portal::Controllers;

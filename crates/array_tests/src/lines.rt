@@ -1,5 +1,5 @@
 //! The lines of the console, over units that count.
-use console::{Operations, UnitStatus, console};
+use array::{Operations, UnitStatus, console};
 use scsi_types::Group;
 use std::alloc::Global;
 use std::io::{self, BufReader, Read, Write};

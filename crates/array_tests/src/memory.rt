@@ -1,5 +1,5 @@
 //! Sessions whose bytes come and go in memory, over an array of one unit, which lies in memory too.
-ghost use Rattle.std.specs.Prelude.{◌≡◌, ◌≤◌, IfOk, length};
+ghost use Rattle.std.specs.Prelude.{◌≤◌, IfOk, length};
 ghost use Rattle.block_file.specs.Cut.{cut};
 ghost use Rattle.unit_history.specs.Naming.{IsNamed};
 

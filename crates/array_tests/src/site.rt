@@ -9,7 +9,7 @@ use std::rt::Files;
 use std::test::Fail;
 
 /// Where an array is served.
-#[derive(Clone, Copy, Debug)]
+#[derive(Clone, Copy)]
 pub struct Site<'a> {
     /// The file of unit 0.
     pub one: &'a str,

@@ -16,12 +16,12 @@ use test_streams::bytes_of;
 const REGISTRANT: &[u8] = b"iqn.2000-01.test:a";
 
 /// A host comes by this portal of this controller, and performs this script.
-#[derive(Clone, Copy, Debug)]
+#[derive(Clone, Copy)]
 pub struct Visit<'a>(pub u16, pub u16, pub &'a str);
 
 /// An array that is visited by these hosts, one behind the other, and what its console is told. Where power is to be lost then,
 /// its files are copied there as they are.
-#[derive(Clone, Copy, Debug)]
+#[derive(Clone, Copy)]
 pub struct Visited<'a> {
     pub site: Site<'a>,
     pub visits: &'a [Visit<'a>],

@@ -1,5 +1,5 @@
 //! The units of an array.
-ghost use Rattle.std.specs.Prelude.{◌≡◌, ◌<◌, ◌≤◌, ◌&&◌, length, IfOk, IfErr, IsTrue, MatchBool, List};
+ghost use Rattle.std.specs.Prelude.{◌≡◌, ◌<◌, ◌≤◌, ◌&&◌, length, IfOk, IfErr, MatchBool};
 ghost use Rattle.registrants.specs.Nexus.{IsPortName, through};
 ghost use Rattle.unit_history.specs.Calls.{HasAttached, HasNoRoom, HasServed, HasRefused, HasReset, WasGone, HasRetired};
 ghost use Rattle.unit_history.specs.Calls.{HasFlushed, HasMoved, HasStayed, HasWorked, HaveMet, IsShown};
@@ -26,9 +26,15 @@ pub const MOST_UNITS: usize = 8;
 
 /// Units 0 to n-1 of an array, which all threads share, none on a cache line of another. Contracts see how many there
 /// are.
-#[derive(Drop)]
 pub struct Units<B: Blocks, R: Blocks, O: Opener<B>, N: Array<Opened>> {
     units: Vec<CachePadded<AnyUnit<B, R, O, N>>>,
+}
+
+impl<B: Blocks + Drop, R: Blocks + Drop, O: Opener<B> + Drop, N: Array<Opened>> Drop
+    for Units<B, R, O, N> {
+    fn drop(self) {
+        let Self { units: _ } = self;
+    }
 }
 
 impl<B: Blocks, R: Blocks, O: Opener<B>, N: Array<Opened>> Model for Units<B, R, O, N> {

@@ -1,5 +1,5 @@
 //! The conditions that wait to be told.
-ghost use Rattle.std.specs.Prelude.{◌≡◌, ◌↔◌, ◌≤◌, [], ◌∷◌, ◌++◌, List, length, take, drop, slice_get, IsTrue};
+ghost use Rattle.std.specs.Prelude.{◌≡◌, ◌↔◌, ◌≤◌, [], ◌∷◌, List, length, take, drop, slice_get, IsTrue};
 ghost use Rattle.attentions.specs.Queue.{same_attention, is_pending, without_repeats, established};
 
 use scsi_types::UnitAttention;
@@ -11,7 +11,7 @@ const KINDS: usize = 5;
 /// The unit attention conditions that wait to be told to one session, oldest first, none of them twice.
 ///
 /// It holds at most five and takes no memory.
-#[derive(Debug, Drop)]
+#[derive(Drop)]
 pub struct Pending {
     codes: [UnitAttention; KINDS],
     count: usize,

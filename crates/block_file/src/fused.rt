@@ -1,4 +1,4 @@
-ghost use Rattle.std.specs.Prelude.{◌≡◌, ◌+◌, ◌/◌, ◌<◌, ◌≤◌, List, ℕ, min, length, take, IsTrue, IsErr, OnOk, true, false};
+ghost use Rattle.std.specs.Prelude.{◌≡◌, ◌+◌, ◌/◌, ◌<◌, ◌≤◌, min, length, IsTrue, IsErr, OnOk, true, false};
 ghost use Rattle.std.proofs.Common.{arith};
 ghost use Rattle.block_file.specs.declared.blocks.TheConstants.{BLOCK_LENGTH};
 ghost use Rattle.block_file.specs.Cut.{run_of, IsRun};

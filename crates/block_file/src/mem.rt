@@ -1,10 +1,10 @@
-ghost use Rattle.std.specs.Prelude.{◌≡◌, ◌<◌, ◌≤◌, ◌+◌, ◌*◌, ◌/◌, ◌^◌, ◌++◌, [], ◌∷◌, List, ℕ, length, take, drop, replicate};
-ghost use Rattle.std.specs.Prelude.{true, false, refl, IfOk, IsOk, IsTrue, OnOk};
+ghost use Rattle.std.specs.Prelude.{◌≡◌, ◌<◌, ◌≤◌, ◌+◌, ◌*◌, ◌/◌, ◌^◌, ◌++◌, length, take, drop, replicate};
+ghost use Rattle.std.specs.Prelude.{true, false, refl, IfOk, IsOk};
 ghost use Rattle.std.proofs.Common.{arith};
 ghost use Rattle.block_file.specs.declared.blocks.TheConstants.{BLOCK_LENGTH};
 ghost use Rattle.block_file.specs.Cut.{cut, run_of, IsRun};
 ghost use Rattle.block_file.specs.CutLaws.{length-cut_at, length-cut};
-ghost use Rattle.block_file.specs.Disk.{block_at, written, range_bytes, Between, NoMore, Adds, Only};
+ghost use Rattle.block_file.specs.Disk.{block_at, written, range_bytes, Between, Adds};
 
 use crate::{BLOCK_LENGTH, Blocks, DeviceFailed};
 use std::alloc::{AllocError, Global};

@@ -1,4 +1,4 @@
-ghost use Rattle.std.specs.Prelude.{◌≡◌, ◌+◌, ◌<◌, ◌≤◌, ℕ, Bool, true, min, IsTrue, IsOk, IsErr, OnOk, OnErr};
+ghost use Rattle.std.specs.Prelude.{◌≡◌, ◌<◌, ◌≤◌, ℕ, Bool, true, IsTrue, IsOk, OnOk, OnErr};
 ghost use Rattle.std.proofs.Common.{arith};
 ghost use Rattle.block_file.specs.Disk.{HoldsTheSame};
 ghost use Rattle.block_file.specs.Moment.{LeavesTheSame};

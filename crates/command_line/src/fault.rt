@@ -9,7 +9,7 @@ use std::thread::SpawnError;
 
 /// Why the program ends without having served. They are looked for in the order in which they stand here; want of memory
 /// or of a thread is found where it is asked for.
-#[derive(Clone, Copy, Debug, PartialEq, Eq)]
+#[derive(Clone, Copy, PartialEq, Eq)]
 pub enum Fault {
     /// The command line is none that the program takes.
     WrongWords,

@@ -1,5 +1,5 @@
 /// How a command on the medium ended.
-#[derive(Clone, Copy, Debug, PartialEq, Eq)]
+#[derive(Clone, Copy, PartialEq, Eq)]
 pub enum MediumEnd {
     /// The device served each call.
     Done,

@@ -1,5 +1,5 @@
 //! What the definitions of a compare say, in other words.
-ghost use Rattle.std.specs.Prelude.{◌≡◌, ◌≢◌, ◌<◌, ◌↔◌, ℕ, List, length, slice_index, Option, Some, None};
+ghost use Rattle.std.specs.Prelude.{◌≡◌, ◌≢◌, ◌<◌, ◌↔◌, ℕ, List, length, slice_index, Some, None};
 ghost use Rattle.compare_write.specs.declared.compare.TheConstants.{MOST_COMPARED};
 ghost use Rattle.compare_write.specs.Difference.{first_difference};
 

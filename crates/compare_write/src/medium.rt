@@ -1,7 +1,7 @@
 //! READ, WRITE and SYNCHRONIZE CACHE.
 ghost use Rattle.std.specs.Prelude.{◌≡◌, ◌+◌, ◌*◌, ◌<◌, ◌≤◌, length, IsTrue, OnOk};
 ghost use Rattle.block_file.specs.Cut.{cut};
-ghost use Rattle.block_file.specs.Disk.{block_at, written, range_bytes, or_new, Between, NoMore, Adds, Only};
+ghost use Rattle.block_file.specs.Disk.{written, range_bytes, or_new, Between, NoMore, Adds, Only};
 ghost use Rattle.block_file.specs.Moment.{StopsAmong, TimePasses};
 ghost use Rattle.block_file.specs.Failures.{Counts, Tells};
 ghost use Rattle.compare_write.specs.Ends.{IsUnfailed, IsReadEnd, IsWriteEnd, IsSyncEnd, OnDone};

@@ -1,5 +1,5 @@
 //! Units in memory whose devices may fail or hang, and whose openers may fail, and the tales that are told of them.
-ghost use Rattle.std.specs.Prelude.{◌≡◌, ◌≤◌, IfOk, length};
+ghost use Rattle.std.specs.Prelude.{◌≤◌, IfOk, length};
 
 use crate::script::Line;
 use crate::shared::tell;

@@ -1,5 +1,5 @@
 //! The product's units behind what tests see of an array. Its calls are made here, once for all tests.
-ghost use Rattle.std.specs.Prelude.{◌≡◌, ◌<◌, ◌≤◌, length};
+ghost use Rattle.std.specs.Prelude.{◌<◌, ◌≤◌, length};
 ghost use Rattle.unit_history.specs.Naming.{IsNamed};
 
 use crate::array::{Array, End};

@@ -1,5 +1,4 @@
 //! What is told of an array by its tests, and over which units.
-ghost use Rattle.std.specs.Prelude.{◌≡◌, ◌≤◌, length};
 
 use crate::array::Array;
 use crate::histories::{sessions, threads};

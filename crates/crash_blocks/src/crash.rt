@@ -1,4 +1,4 @@
-ghost use Rattle.std.specs.Prelude.{◌≡◌, ◌<◌, ◌≤◌, ◌+◌, ◌*◌, length, true, refl, ℕ, reverse, min, IfOk, IsTrue};
+ghost use Rattle.std.specs.Prelude.{◌≡◌, ◌<◌, ◌*◌, length, true, ℕ, reverse, min, IfOk, IsTrue};
 ghost use Rattle.std.proofs.Common.{arith};
 ghost use Rattle.block_file.specs.declared.blocks.TheConstants.{BLOCK_LENGTH};
 ghost use Rattle.block_file.specs.Cut.{cut};

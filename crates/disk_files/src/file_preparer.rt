@@ -56,7 +56,6 @@ const LOOKED_AT: u64 = 61;
 /// A file as its preparer has it: through handles of its own, so that it waits beside the device.
 ///
 /// While the disk counts as fast, as where the system has the file in memory, it only looks now and then whether a read takes time.
-#[derive(Drop)]
 pub struct FilePreparer<R: Clock + Wait + Drop, F: LastingFile> {
     rt: R,
     // None where there was no handle for it: then nothing is prepared.
@@ -67,6 +66,18 @@ pub struct FilePreparer<R: Clock + Wait + Drop, F: LastingFile> {
     flushes: Option<Arc<Flushes<F>, Global>>,
     // For how many reads more the disk counts as slow; below IN_A_ROW how many slow ones in a row were looked at.
     slow: AtomicU64,
+}
+
+impl<R: Clock + Wait + Drop, F: LastingFile + Drop> Drop for FilePreparer<R, F> {
+    fn drop(self) {
+        let Self {
+            rt: _,
+            file: _,
+            voice: _,
+            flushes: _,
+            slow: _,
+        } = self;
+    }
 }
 
 impl<R: Clock + Wait + Files<File = File> + Drop> FilePreparer<R, File> {

@@ -75,7 +75,6 @@ impl<F: BackingFile> Settled<F> {
 ///
 /// Each of its handles makes one flush at a time. The system tells an error of what it could not write once by each handle: so where
 /// several flushes run by one handle, one of them would end well in place of the one that was told.
-#[derive(Drop)]
 pub struct Flushes<F: BackingFile> {
     written: AtomicU64,
     settled: Mutex<Settled<F>>,
@@ -84,8 +83,20 @@ pub struct Flushes<F: BackingFile> {
     handles: Vec<Mutex<F>>,
 }
 
+impl<F: BackingFile + Drop> Drop for Flushes<F> {
+    fn drop(self) {
+        let Self {
+            written: _,
+            settled: _,
+            is_lost: _,
+            turns: _,
+            handles: _,
+        } = self;
+    }
+}
+
 /// Why a flush is not done.
-#[derive(Clone, Copy, Debug, PartialEq, Eq)]
+#[derive(Clone, Copy, PartialEq, Eq)]
 pub enum FlushFault {
     /// It failed by this error of the system, 0 where that told none.
     Failed(u32),

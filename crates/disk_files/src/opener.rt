@@ -1,7 +1,7 @@
 //! The same file, opened again.
 ghost use Rattle.std.specs.Prelude.{◌≡◌, ◌+◌, min, false, OnOk, OnErr};
 ghost use Rattle.std.proofs.Common.{arith};
-ghost use Rattle.block_file.specs.Failures.{Counts, last_count};
+ghost use Rattle.block_file.specs.Failures.{last_count};
 ghost use Rattle.disk_files.specs.Tally.{once_more_opened};
 
 use crate::FileBlocks;

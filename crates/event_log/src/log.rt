@@ -114,9 +114,14 @@ impl Shared {
 }
 
 /// A hand that holds a log: one that is off keeps nothing.
-#[derive(Drop)]
 pub struct Log {
     pub(crate) shared: Option<Arc<Shared, Global>>,
+}
+
+impl Drop for Log {
+    fn drop(self) {
+        let Self { shared: _ } = self;
+    }
 }
 
 impl Log {

@@ -19,7 +19,7 @@ use unit_history::{LegalHistory, Opened};
 use unit_state::MoveFault;
 
 /// A unit did not move.
-#[derive(Clone, Copy, Debug, PartialEq, Eq)]
+#[derive(Clone, Copy, PartialEq, Eq)]
 pub struct NotMoved {
     /// The place of the first that did not. Those before it moved, and those behind it were not asked.
     pub unit: usize,

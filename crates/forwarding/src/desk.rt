@@ -41,7 +41,6 @@ pub enum DeskFault {
 /// The desk of a controller, by way of which the workers of both controllers' sessions have commands served of the units that
 /// the controller owns: past its queue, or as jobs in it, which the lanes of the controller serve, or the workers that put them
 /// there. What waits stands on a cache line of its own. Contracts see the controller's group.
-#[derive(Drop)]
 pub struct Desk<B: Blocks, R: Blocks, O: Opener<B>, N: Array<Opened>> {
     group: Group,
     // Whether the queue is closed, for those who do not ask it.
@@ -50,6 +49,19 @@ pub struct Desk<B: Blocks, R: Blocks, O: Opener<B>, N: Array<Opened>> {
     at_once: CachePadded<AtomicU64>,
     queue: CachePadded<Mutex<Queue<Waiting<B, R, O, N>>>>,
     filled: Condvar,
+}
+
+impl<B: Blocks + Drop, R: Blocks + Drop, O: Opener<B> + Drop, N: Array<Opened>> Drop
+    for Desk<B, R, O, N> {
+    fn drop(self) {
+        let Self {
+            group: _,
+            is_closed: _,
+            at_once: _,
+            queue: _,
+            filled: _,
+        } = self;
+    }
 }
 
 impl<B: Blocks, R: Blocks, O: Opener<B>, N: Array<Opened>> Model for Desk<B, R, O, N> {

@@ -96,10 +96,19 @@ pub(crate) struct Waiting<B: Blocks, R: Blocks, O: Opener<B>, N: Array<Opened>> 
 }
 
 /// A job that was taken from the desk of a group. Contracts see what it is known by, its data, and what its pass has seen.
-#[derive(Drop)]
 pub struct Job<B: Blocks, R: Blocks, O: Opener<B>, N: Array<Opened>> {
     waiting: Waiting<B, R, O, N>,
     by_group: Group,
+}
+
+impl<B: Blocks + Drop, R: Blocks + Drop, O: Opener<B> + Drop, N: Array<Opened>> Drop
+    for Job<B, R, O, N> {
+    fn drop(self) {
+        let Self {
+            waiting: _,
+            by_group: _,
+        } = self;
+    }
 }
 
 impl<B: Blocks, R: Blocks, O: Opener<B>, N: Array<Opened>> Model for Job<B, R, O, N> {
@@ -172,10 +181,16 @@ impl<B: Blocks, R: Blocks, O: Opener<B>, N: Array<Opened>> Job<B, R, O, N> {
 }
 
 /// What a job came to, with the slot that it goes to. Contracts see the job, what its pass has seen since, and the end.
-#[derive(Drop)]
 pub struct Answer<B: Blocks, R: Blocks, O: Opener<B>, N: Array<Opened>> {
     ended: Ended<B, R, O, N>,
     slot: Arc<Slot<B, R, O, N>, Global>,
+}
+
+impl<B: Blocks + Drop, R: Blocks + Drop, O: Opener<B> + Drop, N: Array<Opened>> Drop
+    for Answer<B, R, O, N> {
+    fn drop(self) {
+        let Self { ended: _, slot: _ } = self;
+    }
 }
 
 impl<B: Blocks, R: Blocks, O: Opener<B>, N: Array<Opened>> Model for Answer<B, R, O, N> {

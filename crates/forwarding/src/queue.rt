@@ -1,5 +1,5 @@
 //! What waits at a desk.
-ghost use Rattle.std.specs.Prelude.{◌≡◌, ◌<◌, ◌≤◌, ◌++◌, ◌∷◌, [], false, true, length, IfOk, IfErr, IfSome, IfNone, List, Some, slice_get};
+ghost use Rattle.std.specs.Prelude.{◌≡◌, ◌<◌, ◌≤◌, ◌∷◌, [], false, true, length, IfOk, IfErr, IfSome, IfNone, Some, slice_get};
 ghost use Rattle.forwarding.specs.Queue.{IsNotQueued, IsTakenOut, after_close, no_items, with_item};
 
 use std::alloc::{AllocError, Global};
@@ -10,7 +10,7 @@ use std::marker::Model;
 pub const MOST_JOBS: usize = 64;
 
 /// Why something is not queued.
-#[derive(Clone, Copy, Debug, PartialEq, Eq)]
+#[derive(Clone, Copy, PartialEq, Eq)]
 pub enum NotQueued {
     /// As much waits as there is room for.
     Full,

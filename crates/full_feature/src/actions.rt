@@ -7,7 +7,7 @@ use scsi_types::Asked;
 use session_rules::End;
 
 /// What a PDU calls for.
-#[derive(Debug, Drop)]
+#[derive(Drop)]
 pub enum Actions<'a> {
     /// That these PDUs are written.
     Send(Sending<'a>),
@@ -16,7 +16,7 @@ pub enum Actions<'a> {
 }
 
 /// What a PDU or an answer of the target has written: PDUs, then perhaps the end.
-#[derive(Clone, Copy, Debug)]
+#[derive(Clone, Copy)]
 pub struct Sending<'a> {
     /// PDUs to write first.
     pub pdus: Pdus<'a>,
@@ -25,7 +25,7 @@ pub struct Sending<'a> {
 }
 
 /// A call of the target.
-#[derive(Debug, Drop)]
+#[derive(Drop)]
 pub enum Call<'a> {
     /// To serve a command; the answer goes to [`Session::on_answer`](crate::Session::on_answer).
     Serve(ServeCall<'a>),
@@ -34,14 +34,14 @@ pub enum Call<'a> {
 }
 
 /// A unit that is there and that the target is to reset, and the request for it.
-#[derive(Clone, Copy, Debug)]
+#[derive(Clone, Copy)]
 pub struct ResetCall {
     pub request: TaskManagementRequest,
     pub unit: u8,
 }
 
 /// A command that the target is to serve, as [`Target::serve`](crate::Target::serve) takes it.
-#[derive(Debug, Drop)]
+#[derive(Drop)]
 pub struct ServeCall<'a> {
     /// What the answer is given back with.
     pub task: OpenTask,
@@ -54,7 +54,7 @@ pub struct ServeCall<'a> {
 }
 
 /// The data of a write.
-#[derive(Debug, Drop)]
+#[derive(Drop)]
 pub enum CommandData<'a> {
     /// It came with the command.
     Came(&'a [u8]),
@@ -75,7 +75,7 @@ impl CommandData<'_> {
 }
 
 /// An accepted command, until it is answered.
-#[derive(Clone, Copy, Debug)]
+#[derive(Clone, Copy)]
 pub struct OpenTask {
     /// Its header.
     pub command: ScsiCommand,

@@ -1,7 +1,7 @@
 //! What a session makes of requests that are no SCSI Command: NOP-Out, Text, task management and Logout.
-ghost use Rattle.std.specs.Prelude.{◌≡◌, ℕ, List};
+ghost use Rattle.std.specs.Prelude.{ℕ, List};
 ghost use Rattle.pdu_stream.specs.Pdus.{AreInReach};
-ghost use Rattle.full_feature.specs.Counters.{Counters, next_numbers};
+ghost use Rattle.full_feature.specs.Counters.{next_numbers};
 ghost use Rattle.full_feature.specs.Machine.{OnPdu, OnNopOut, OnText, OnLogout, OnManagement, OnResetAnswer, Answers};
 ghost use Rattle.full_feature.specs.Step.{said, step_of, pdus_of};
 ghost use Rattle.session_rules.specs.TaskManagement.{management_answer};

@@ -12,7 +12,7 @@ use waiting_commands::{expected_data_length, residual};
 pub const COMPLETED: u8 = 0x00;
 
 /// What a SCSI Response tells of an answer.
-#[derive(Clone, Copy, Debug)]
+#[derive(Clone, Copy)]
 pub struct Completion {
     pub status: Status,
     pub sense: Option<Sense>,

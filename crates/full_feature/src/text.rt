@@ -8,7 +8,7 @@ use login::Kind;
 use pdu_stream::{NO_TRANSFER_TAG, ResponsePdu};
 
 /// What was made of the text of a Text Request: its answer, if it has one that the initiator takes.
-#[derive(Clone, Copy, Debug)]
+#[derive(Clone, Copy)]
 pub struct MadeText<'a> {
     pub is_made: bool,
     pub bytes: &'a [u8],

@@ -1,5 +1,5 @@
 //! A turn of full feature phase: what came, what the target answers, and what goes out for it.
-ghost use Rattle.std.specs.Prelude.{◌≡◌, ◌<◌, ◌≤◌, length, vec_capacity, Some};
+ghost use Rattle.std.specs.Prelude.{◌<◌, ◌≤◌, length, vec_capacity, Some};
 ghost use Rattle.session_rules.specs.declared.end.End.TheVariants.{Protocol};
 ghost use Rattle.session_rules.specs.Turn.{pdu as came, faulty};
 ghost use Rattle.full_feature.specs.MakesTurn.{MakesTurn};

@@ -1,5 +1,5 @@
 //! What the tables say, in other words: each function's contract is a law over them, and its body is empty.
-ghost use Rattle.std.specs.Prelude.{◌≡◌, ◌<◌, ◌+◌, ◌*◌, ◌^◌, ℕ, List, length, take, drop, slice_index, IsTrue};
+ghost use Rattle.std.specs.Prelude.{◌≡◌, ◌<◌, ◌+◌, ◌*◌, ◌^◌, ℕ, length, take, drop, slice_index, IsTrue};
 ghost use Rattle.byteorder.specs.Endian.{big_number};
 ghost use Rattle.scsi_types.specs.Lun.{IsLunOf};
 ghost use Rattle.scsi_types.specs.declared.names.Group.{Group};
@@ -9,9 +9,9 @@ ghost use Rattle.scsi_types.specs.declared.pages.InquiryPage.{InquiryPage as Pag
 ghost use Rattle.scsi_types.specs.declared.pages.LunSelect.{LunSelect as Select};
 ghost use Rattle.scsi_types.specs.declared.pages.ModePage.{ModePage as Mode};
 ghost use Rattle.scsi_types.specs.declared.pages.PageControl.{PageControl as Control};
-ghost use Rattle.identity.specs.Table.{Row, spell, are_bytes};
+ghost use Rattle.identity.specs.Table.{spell, are_bytes};
 ghost use Rattle.identity.specs.Capacity.{capacity_16};
-ghost use Rattle.identity.specs.Inquiry.{Peripheral, disk, nothing, standard_inquiry};
+ghost use Rattle.identity.specs.Inquiry.{Peripheral, nothing, standard_inquiry};
 ghost use Rattle.identity.specs.InquiryData.{inquiry_data};
 ghost use Rattle.identity.specs.Luns.{selected, lun_list};
 ghost use Rattle.identity.specs.Mode.{mode_data};

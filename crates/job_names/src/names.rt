@@ -5,7 +5,7 @@ use scsi_types::{Asked, CdbFault, Command, Group};
 
 /// What a job is known by, beside its data: the place of its unit, the session there, the serial of the command, the group whose
 /// desk has the job, and the command.
-#[derive(Clone, Copy, Debug)]
+#[derive(Clone, Copy)]
 pub struct Names {
     pub place: usize,
     pub session: u64,

@@ -1,5 +1,5 @@
 //! A counter, and the entries of its history.
-ghost use Rattle.std.specs.Prelude.{◌≡◌, ◌<◌, ◌≤◌, ◌+◌, ◌↔◌, IsTrue, IfSome, IfNone, IfOk, IfErr, MatchBool};
+ghost use Rattle.std.specs.Prelude.{◌≡◌, ◌<◌, ◌≤◌, ◌+◌, ◌↔◌, IsTrue, IfSome, IfNone, MatchBool};
 ghost use Rattle.locked_tests.specs.Histories.{Joins, Leaves, Resets, Counts, LAST, after, begins, CanJoin, IsAttached};
 ghost use Rattle.locked_tests.specs.Histories.{holds, without, row_of};
 
@@ -7,7 +7,7 @@ use status::Row;
 use std::marker::Model;
 
 /// Who attaches: two may at once.
-#[derive(Clone, Copy, Debug, PartialEq, Eq)]
+#[derive(Clone, Copy, PartialEq, Eq)]
 pub enum Name {
     Left,
     Right,
@@ -15,7 +15,7 @@ pub enum Name {
 
 /// What a counter is: the sessions of both names, who attached last, how often it counted since it was reset, and how many
 /// entries it has.
-#[derive(Clone, Copy, Debug)]
+#[derive(Clone, Copy)]
 pub struct State {
     pub left: Option<u64>,
     pub right: Option<u64>,

@@ -1,5 +1,5 @@
-ghost use Rattle.std.specs.Prelude.{◌≡◌, ◌+◌, ◌++◌, ◌∷◌, [], List, length, IfOk, IfErr, IfSome};
-ghost use Rattle.locked_unit.specs.Calls.{IsAdded, IsRefused};
+ghost use Rattle.std.specs.Prelude.{◌≡◌, ◌+◌, ◌++◌, ◌∷◌, [], IfSome};
+ghost use Rattle.locked_unit.specs.Calls.{IsAdded};
 ghost use Rattle.locked_tests.specs.Histories.{Counts, IsHistory, begins, own, state_after};
 
 use super::{Counter, Name, Noted, Opened};

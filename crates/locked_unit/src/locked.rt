@@ -1,5 +1,5 @@
 //! The unit under its lock.
-ghost use Rattle.std.specs.Prelude.{◌≡◌, ◌+◌, ◌++◌, ◌∷◌, [], length, IfOk, IfErr, MatchBool, List};
+ghost use Rattle.std.specs.Prelude.{◌≡◌, ◌+◌, ◌++◌, ◌∷◌, [], length, IfOk, IfErr, MatchBool, List, Some};
 ghost use Rattle.locked_unit.specs.Calls.{IsAdded, IsBeside, IsBetween, IsEnded, IsRefused, IsCause};
 
 use crate::machine::{Machine, Refused};
@@ -106,6 +106,13 @@ impl<E, S, X: Machine<E, S>, N: Array<S>, const U: usize> Model for Locked<E, S,
         × X.after (N.opening U) (held l.records) l.object.value };
 }
 
+// Puts back what was taken out.
+fn put_back<T: Drop>(place: &mut Option<T>, value: T)
+    ensures { place.new ≡ Some value }
+{
+    *place = Some(value);
+}
+
 impl<E, S, X: Machine<E, S>, N: Array<S>, const U: usize> Locked<E, S, X, N, U> {
     /// A unit of which nothing was asked yet.
     pub(crate) fn new(
@@ -144,6 +151,7 @@ impl<E, S, X: Machine<E, S>, N: Array<S>, const U: usize> Locked<E, S, X, N, U> 
             (X.wants (N.opening U) result.0.seen pass.session ask.now bytes.now) by_group.now why) }
         ensures seen { self.new ≡ result.0.seen }
     {
+        // Put back in place, and not by `put_back`, over which what the unit worked is not found.
         let Some(records) = self.records.take() else {
             unreachable!()
         };
@@ -195,18 +203,16 @@ impl<E, S, X: Machine<E, S>, N: Array<S>, const U: usize> Locked<E, S, X, N, U> 
         ensures seen { IfOk result (λ p. self.new ≡ p.seen) }
         ensures same { IfErr result (λ f. (self.new ≡ self.old) × (f ≡ self.old)) }
     {
-        let Some(records) = self.records.take() else {
-            unreachable!()
-        };
+        let records = self.records.take().unwrap();
         let Some(session) = self.object.attach(name) else {
             let seen = records.history();
-            self.records = Some(records);
+            put_back(&mut self.records, records);
             return Err(seen);
         };
         let row = self.object.row();
         let (records, right) = records.join::<X, Attaches<S, X>, R>(rt, posted, row, &*self.object);
         let seen = records.history();
-        self.records = Some(records);
+        put_back(&mut self.records, records);
         Ok(PassAt {
             session,
             serial: 1,
@@ -229,9 +235,7 @@ impl<E, S, X: Machine<E, S>, N: Array<S>, const U: usize> Locked<E, S, X, N, U> 
             (IsRefused X.own (X.legal (N.opening U)) pass result.0 × X.gone (N.opening U) result.0.seen pass.session) }
         ensures seen { self.new ≡ result.0.seen }
     {
-        let Some(records) = self.records.take() else {
-            unreachable!()
-        };
+        let records = self.records.take().unwrap();
         let session = pass.session;
         let serial = pass.serial;
         let visit = Visit::begin::<u64, Resets<S, X>, R>(rt, posted, records, pass, &session);
@@ -240,11 +244,11 @@ impl<E, S, X: Machine<E, S>, N: Array<S>, const U: usize> Locked<E, S, X, N, U> 
             let (records, pass) = visit.finish::<u64, Resets<S, X>, R>(
                 rt, posted, row, &session, serial,
             );
-            self.records = Some(records);
+            put_back(&mut self.records, records);
             (pass, true)
         } else {
             let (records, pass) = visit.leave(posted);
-            self.records = Some(records);
+            put_back(&mut self.records, records);
             (pass, false)
         }
     }
@@ -262,9 +266,7 @@ impl<E, S, X: Machine<E, S>, N: Array<S>, const U: usize> Locked<E, S, X, N, U> 
         ensures ends { IfOk result (λ f. (self.new ≡ f) × (f ≡ self.old ++ X.detaching pass.session ∷ [])) }
         ensures same { IfErr result (λ p. (self.new ≡ p.seen) × (self.new ≡ self.old)) }
     {
-        let Some(records) = self.records.take() else {
-            unreachable!()
-        };
+        let records = self.records.take().unwrap();
         let session = pass.session;
         let serial = pass.serial;
         let visit = Visit::begin::<u64, Resets<S, X>, R>(rt, posted, records, pass, &session);
@@ -273,11 +275,11 @@ impl<E, S, X: Machine<E, S>, N: Array<S>, const U: usize> Locked<E, S, X, N, U> 
             let (records, pass) = visit.finish::<u64, Detaches<S, X>, R>(
                 rt, posted, row, &session, serial,
             );
-            self.records = Some(records);
+            put_back(&mut self.records, records);
             Ok(pass.into_history())
         } else {
             let (records, pass) = visit.leave(posted);
-            self.records = Some(records);
+            put_back(&mut self.records, records);
             Err(pass)
         }
     }
@@ -299,21 +301,19 @@ impl<E, S, X: Machine<E, S>, N: Array<S>, const U: usize> Locked<E, S, X, N, U> 
         ensures stays { IfErr result.1 (λ why. X.stays (N.opening U) result.0 list.now why × (result.0 ≡ self.old)) }
         ensures seen { self.new ≡ result.0 }
     {
-        let Some(records) = self.records.take() else {
-            unreachable!()
-        };
+        let records = self.records.take().unwrap();
         match self.object.move_to(list) {
             Ok(change) => {
                 let row = self.object.row();
                 let about = Listed { list };
                 let records = records.add::<Listed, Moves<S, X>, R>(rt, posted, row, &about);
                 let seen = records.history();
-                self.records = Some(records);
+                put_back(&mut self.records, records);
                 (seen, Ok(change))
             }
             Err(why) => {
                 let seen = records.history();
-                self.records = Some(records);
+                put_back(&mut self.records, records);
                 (seen, Err(why))
             }
         }

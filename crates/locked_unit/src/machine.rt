@@ -3,7 +3,7 @@ use status::{Published, Row};
 use std::alloc::Global;
 
 /// Why a command of a session is no entry.
-#[derive(Clone, Copy, Debug, Drop)]
+#[derive(Clone, Copy, Drop)]
 pub enum Refused<G> {
     /// The session is not attached, or the history has its last length.
     Gone,

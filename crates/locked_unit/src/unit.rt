@@ -32,10 +32,19 @@ impl<E, S, P: Published<E, S>> NewUnit<E, S, P> {
 
 /// One unit of an array, at the place that its type names: under its lock the unit, outside of it the word that counts its
 /// history, and its board.
-#[derive(Drop)]
 pub struct SharedUnit<E, S, X: Machine<E, S>, N: Array<S>, const U: usize> {
     posted: Posted<E, S, X, At<S, N, U>>,
     locked: CachePadded<Mutex<Locked<E, S, X, N, U>>>,
+}
+
+impl<E, S, X: Machine<E, S> + Drop, N: Array<S>, const U: usize> Drop
+    for SharedUnit<E, S, X, N, U> {
+    fn drop(self) {
+        let Self {
+            posted: _,
+            locked: _,
+        } = self;
+    }
 }
 
 /// How often a thread looks for the lock before it sleeps: after a longer pause each time, then each time that others could

@@ -5,7 +5,7 @@ ghost use Rattle.login.specs.Table.{has_name, key_named, limits, row_of};
 use crate::value::{Limits, Rule, Value, Word};
 
 /// A key that this target knows (RFC 7143, section 13).
-#[derive(Clone, Copy, Debug, PartialEq, Eq)]
+#[derive(Clone, Copy, PartialEq, Eq)]
 pub enum Key {
     AuthMethod,
     HeaderDigest,

@@ -12,7 +12,7 @@ use std::alloc::{AllocError, Global};
 use std::net::SocketAddrV4;
 
 /// What the text of a Text request comes to.
-#[derive(Debug, Drop)]
+#[derive(Drop)]
 pub enum TextEnd {
     /// The text of the response.
     Answer(Vec<u8>),

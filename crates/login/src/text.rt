@@ -7,7 +7,7 @@ ghost use Rattle.login.specs.Text.{is_byte, is_pair, is_text, pairs, found};
 const LONGEST_KEY: usize = 63;
 
 /// The first pair of a text, and the text behind it.
-#[derive(Clone, Copy, Debug)]
+#[derive(Clone, Copy)]
 pub struct First<'a> {
     pub key: &'a [u8],
     pub value: &'a [u8],

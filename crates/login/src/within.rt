@@ -1,5 +1,5 @@
 //! The answer to a Text request in memory that was taken before (RFC 7143, 11.10).
-ghost use Rattle.std.specs.Prelude.{◌≡◌, ◌++◌, ◌+◌, ◌<◌, ◌≤◌, List, [], true, false, length, vec_capacity};
+ghost use Rattle.std.specs.Prelude.{◌<◌, ◌≤◌, [], true, false, length, vec_capacity};
 ghost use Rattle.login.specs.Text.{pairs, spelled};
 ghost use Rattle.login.specs.TextEnd.{IsPutWithin, IsTextAnswer};
 ghost use Rattle.login.specs.Targets.{answer_of, answers_of, targets_text};
@@ -10,7 +10,7 @@ use crate::status::Kind;
 use crate::text::{first_pair, is_text};
 
 /// What the text of a Text request comes to, where an answer has so much room.
-#[derive(Clone, Copy, Debug, PartialEq, Eq)]
+#[derive(Clone, Copy, PartialEq, Eq)]
 pub enum TextAnswer {
     /// The answer stands in the memory.
     Answered,

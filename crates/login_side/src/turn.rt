@@ -1,5 +1,5 @@
 //! A turn of a login: what came, what the target answers, and what goes out for it.
-ghost use Rattle.std.specs.Prelude.{◌≡◌, ◌<◌, ◌≤◌, length, vec_capacity};
+ghost use Rattle.std.specs.Prelude.{◌<◌, ◌≤◌, length, vec_capacity};
 ghost use Rattle.session_rules.specs.Turn.{pdu as came, faulty};
 ghost use Rattle.session_rules.specs.Verdict.{reason_of};
 ghost use Rattle.login_side.specs.LoginMachine.{MakesLoginTurn};

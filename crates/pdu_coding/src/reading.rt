@@ -1,6 +1,6 @@
 //! Bytes as PDUs (RFC 7143, section 11).
 
-ghost use Rattle.std.specs.Prelude.{◌≡◌, ◌≢◌, ◌++◌, ℕ, ◌+◌, ◌<◌, ◌≤◌, ◌↔◌, List, length, take};
+ghost use Rattle.std.specs.Prelude.{◌≡◌, ◌≢◌, ℕ, ◌+◌, ◌<◌, ◌≤◌, ◌↔◌, List, length, take};
 ghost use Rattle.std.specs.Prelude.{IfOk, IfErr, MatchOption, IfNone, IsTrue, true, false};
 ghost use Rattle.iscsi_pdu.specs.declared.TheConstants.{BHS_LENGTH, LONGEST_PDU, MAX_DATA_SEGMENT_LENGTH};
 ghost use Rattle.iscsi_pdu.specs.declared.header.Header.{Header};

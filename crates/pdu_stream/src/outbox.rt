@@ -3,7 +3,7 @@ ghost use Rattle.pdu_stream.specs.Pdus.{AreInReach, data_ins_of, sent_by};
 ghost use Rattle.pdu_stream.specs.Outbox.{OutboxValue, IsQueued, IsWritten};
 ghost use Rattle.session_rules.specs.Response.{sense_part};
 ghost use Rattle.session_rules.specs.Turn.{bytes_of};
-ghost use Rattle.iscsi_pdu.specs.Spelling.{pdu_length, spelling};
+ghost use Rattle.iscsi_pdu.specs.Spelling.{spelling};
 
 use crate::data_in::segment_at;
 use crate::pdus::{DataIns, Pdus};

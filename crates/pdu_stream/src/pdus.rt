@@ -5,7 +5,7 @@ use scsi_types::Sense;
 use session_rules::Lengths;
 
 /// PDUs to write, in order.
-#[derive(Clone, Copy, Debug)]
+#[derive(Clone, Copy)]
 pub enum Pdus<'a> {
     /// None.
     Nothing,
@@ -24,7 +24,7 @@ pub enum Pdus<'a> {
 }
 
 /// The one PDU that answers a request, with its data, of at most 65536 bytes.
-#[derive(Clone, Copy, Debug)]
+#[derive(Clone, Copy)]
 pub struct ResponsePdu<'a> {
     pub header: TargetHeader,
     pub bytes: &'a [u8],
@@ -32,7 +32,7 @@ pub struct ResponsePdu<'a> {
 
 /// The Data-In of a read: its data, which goes out in runs of MaxBurstLength, each cut into Data-In as long as the
 /// initiator takes (RFC 7143, 11.7). There are none where there is no data.
-#[derive(Clone, Copy, Debug)]
+#[derive(Clone, Copy)]
 pub struct DataIns<'a> {
     pub task_tag: u32,
     /// The numbers of each.
@@ -43,7 +43,7 @@ pub struct DataIns<'a> {
 }
 
 /// A Data-In with its data, of 1 to 65536 bytes (RFC 7143, 11.7).
-#[derive(Clone, Copy, Debug)]
+#[derive(Clone, Copy)]
 pub struct DataInPdu<'a> {
     pub header: DataIn,
     pub bytes: &'a [u8],

@@ -1,11 +1,10 @@
-ghost use Rattle.std.specs.Prelude.{length};
 ghost use Rattle.pdu_stream.specs.Front.{IsFront};
 
 use iscsi_pdu::{BHS_LENGTH, Pdu, PduFault};
 use pdu_coding::decode;
 
 /// What stands at the front of the bytes that wait.
-#[derive(Clone, Copy, Debug)]
+#[derive(Clone, Copy)]
 pub enum Front<'a> {
     /// A PDU, the bytes of its basic header segment, and how many bytes it takes.
     Whole {

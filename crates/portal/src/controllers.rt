@@ -26,11 +26,21 @@ impl<B: Blocks, R: Blocks, O: Opener<B>, N: Array<Opened>> Pass for UnitPass<B, 
 
 /// The units of an array, and a desk for each controller, to which sessions of both hand the commands of the units that it owns.
 /// Contracts see how many units there are.
-#[derive(Drop)]
 pub struct Controllers<B: Blocks, R: Blocks, O: Opener<B>, N: Array<Opened>> {
     units: Units<B, R, O, N>,
     first: Desk<B, R, O, N>,
     second: Desk<B, R, O, N>,
+}
+
+impl<B: Blocks + Drop, R: Blocks + Drop, O: Opener<B> + Drop, N: Array<Opened>> Drop
+    for Controllers<B, R, O, N> {
+    fn drop(self) {
+        let Self {
+            units: _,
+            first: _,
+            second: _,
+        } = self;
+    }
 }
 
 impl<B: Blocks, R: Blocks, O: Opener<B>, N: Array<Opened>> Model for Controllers<B, R, O, N> {

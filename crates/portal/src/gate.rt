@@ -38,7 +38,7 @@ pub trait Gate {
 }
 
 /// The gate that is open.
-#[derive(Clone, Copy, Debug, Drop)]
+#[derive(Clone, Copy, Drop)]
 pub struct Open;
 
 impl Gate for Open {

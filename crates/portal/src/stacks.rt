@@ -10,7 +10,7 @@ pub trait Stacks {
 }
 
 /// Small ones, all alike.
-#[derive(Clone, Copy, Debug, Drop)]
+#[derive(Clone, Copy, Drop)]
 pub struct SmallStacks;
 
 impl Stacks for SmallStacks {

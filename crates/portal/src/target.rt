@@ -24,7 +24,7 @@ use std::mem;
 use std::sync::Wait;
 
 /// Why a session does not begin. It is attached to no unit.
-#[derive(Clone, Copy, Debug, PartialEq, Eq)]
+#[derive(Clone, Copy, PartialEq, Eq)]
 pub enum BeginFault {
     /// It was asked before.
     Begun,

@@ -15,7 +15,7 @@ use std::sync::Wait;
 use unit_history::Refused;
 
 /// Why a command that was submitted has no reply.
-#[derive(Clone, Copy, Debug)]
+#[derive(Clone, Copy)]
 pub enum Unserved {
     /// Its unit did not serve it.
     ByUnit(Refused<Group>),

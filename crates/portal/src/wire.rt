@@ -1,5 +1,5 @@
 //! What a session's bytes tell who runs the array: the Login Request that came first, and the PDU that went out last.
-ghost use Rattle.std.specs.Prelude.{◌≡◌, ◌≤◌, ◌<◌, IfOk, OnOk, OnErr, length, take};
+ghost use Rattle.std.specs.Prelude.{◌≡◌, ◌<◌, length};
 
 use session::{Failed, Sink, Source};
 use std::alloc::Global;
@@ -93,7 +93,7 @@ pub struct Said<K> {
 }
 
 /// What the last PDU of a session tells of its end.
-#[derive(Clone, Copy, Debug, PartialEq, Eq)]
+#[derive(Clone, Copy, PartialEq, Eq)]
 pub enum LastSaid {
     /// A Login Response with this Status-Class and Status-Detail, which are not 0 (RFC 7143, 11.13.5).
     Refusal(u16),

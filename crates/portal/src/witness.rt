@@ -1,6 +1,5 @@
 //! The target of one session, of which the log is told what happens.
 ghost use Rattle.std.specs.Prelude.{◌≡◌, [], map};
-ghost use Rattle.portal.specs.Target.{unbegun};
 
 use crate::connection::Connection;
 use crate::gate::Gate;

@@ -1,5 +1,5 @@
 //! An array with a portal a controller, and a script that its hosts perform.
-ghost use Rattle.std.specs.Prelude.{◌≡◌, ◌≤◌, length};
+ghost use Rattle.std.specs.Prelude.{◌≤◌, length};
 ghost use Rattle.unit_history.specs.Naming.{IsNamed};
 
 use crate::at::At;

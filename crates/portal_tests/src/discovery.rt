@@ -1,6 +1,7 @@
 //! What initiators are told of the portals (RFC 7143, appendix C).
 
-pub const FOUND: &str = r#"
+pub fn found() -> &'static str {
+    r#"
 A at 1
 A > LOGIN 7:37 FINDS
 A < LOGGED_IN 7:1F "MaxRecvDataSegmentLength=65536\0"
@@ -14,4 +15,5 @@ B > LOGIN 7:37 FINDS
 B < LOGGED_IN 7:1F 15:02 "MaxRecvDataSegmentLength=65536\0"
 B > TEXT_REQUEST 7:10 "SendTargets=All\0"
 B told
-"#;
+"#
+}

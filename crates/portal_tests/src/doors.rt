@@ -11,7 +11,7 @@ use test_units::Latch;
 const NONE: usize = usize::MAX;
 
 /// What becomes of the flushes that are left to a gate.
-#[derive(Clone, Copy, Debug, PartialEq, Eq)]
+#[derive(Clone, Copy, PartialEq, Eq)]
 pub enum Flushes {
     /// None is left to it.
     InPlace,

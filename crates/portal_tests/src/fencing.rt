@@ -1,7 +1,8 @@
 //! A session that is preempted by one of the other controller.
 
 // A holds type 5 by the key 11h. Its write of block 5 collects its data while B, registered by 22h, preempts 11h.
-pub const PREEMPTED: &str = r#"
+pub fn preempted() -> &'static str {
+    r#"
 A and B
 A > WRITE 7:18 20:00000018 32:5F000000000000001800 0000000000000000 0000000000000011 0000000000000000
 A < GOOD
@@ -20,4 +21,5 @@ A < GOOD 3:18
 B > TEST_UNIT_READY 1:C1 20:00000200 32:28000000000500000100
 B < DATA_IN 5:000200 512*00
 B < GOOD 36:00000001
-"#;
+"#
+}

@@ -1,7 +1,8 @@
 //! A unit that does not answer, or whose device does not.
 
 // A's command waits before unit 1; meanwhile B is served by unit 0, and C logs in.
-pub const HELD: &str = r#"
+pub fn held() -> &'static str {
+    r#"
 A at 1
 A > LOGIN 7:56 HOST_A
 A < LOGGED_IN 7:36 WELCOME
@@ -27,10 +28,12 @@ C > TEST_UNIT_READY
 C < CHECK_CONDITION 0012 70000600000000 0A00000000 2900 00000000
 gate open
 A < GOOD
-"#;
+"#
+}
 
 // A's write hangs in the device of unit 0; meanwhile B is served by unit 1.
-pub const STUCK: &str = r#"
+pub fn stuck() -> &'static str {
+    r#"
 A at 1
 A > LOGIN 7:56 HOST_A
 A < LOGGED_IN 7:36 WELCOME
@@ -51,11 +54,13 @@ B < DATA_IN 5:000200 pattern 512
 B < GOOD 36:00000001
 disk open
 A < GOOD
-"#;
+"#
+}
 
 // Unit 1 moves to controller 1, so that both units are served by way of one desk. Eight writes of unit 0 stand before it, and the
 // first that reaches its device hangs there; meanwhile B is served by unit 1, and unit 0's row is read.
-pub const CROWDED: &str = r#"
+pub fn crowded() -> &'static str {
+    r#"
 8 enter 1 LOGIN 7:56 HOST_A
 all > TEST_UNIT_READY
 all < CHECK_CONDITION 0012 70000600000000 0A00000000 2900 00000000
@@ -81,11 +86,13 @@ B < GOOD 36:00000001
 disk open
 all < GOOD
 0 shows 25
-"#;
+"#
+}
 
 // A's write hangs in the device of unit 0, and a short command of each of eight sessions waits behind it: more than are served past
 // the desk's queue at a time. Meanwhile B's go by way of the queue of the same desk, and are served by unit 1.
-pub const QUEUED: &str = r#"
+pub fn queued() -> &'static str {
+    r#"
 8 enter 1 LOGIN 7:56 HOST_A
 all > TEST_UNIT_READY
 all < CHECK_CONDITION 0012 70000600000000 0A00000000 2900 00000000
@@ -117,10 +124,12 @@ disk open
 A < GOOD
 all < GOOD
 0 shows 28
-"#;
+"#
+}
 
 // Both desks are closed while A is logged in: each command is BUSY, and what is no command goes on.
-pub const CLOSED: &str = r#"
+pub fn closed() -> &'static str {
+    r#"
 A at 1
 A > LOGIN 7:56 HOST_A
 A < LOGGED_IN 7:36 WELCOME
@@ -139,4 +148,5 @@ A > LOGOUT
 A < LOGGED_OUT
 A over
 0 shows 4
-"#;
+"#
+}

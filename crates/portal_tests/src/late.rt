@@ -2,7 +2,8 @@
 
 // While A's flush runs its block is written already, and the unit serves B. The flush is asked for once a command, where its unit has
 // answered GOOD.
-pub const BEHIND: &str = r#"
+pub fn behind() -> &'static str {
+    r#"
 A and B
 gate flushes done
 flush hold 0
@@ -58,10 +59,12 @@ A < GOOD 36:00000001
 gate unflushed
 # two attach, and each is told of power; then these commands of A, and two of B
 0 shows 17
-"#;
+"#
+}
 
 // A flush that has failed is told, and the blocks are new. The flush of the device itself would be done.
-pub const LOST: &str = r#"
+pub fn lost() -> &'static str {
+    r#"
 A and B
 gate flushes fail
 A > WRITE 5:000200 20:00000200 32:2A080000000500000100 512*5A
@@ -81,4 +84,5 @@ A < GOOD 36:00000001
 gate flushes in place
 A > TEST_UNIT_READY 32:35000000000000000000
 A < GOOD
-"#;
+"#
+}

@@ -1,7 +1,8 @@
 //! Sessions that begin beside others.
 
 // The same name, ISID and controller take the place of the first session; another controller does not.
-pub const REINSTATED: &str = r#"
+pub fn reinstated() -> &'static str {
+    r#"
 A at 1
 A > LOGIN 7:56 HOST_A
 A < LOGGED_IN 7:36 WELCOME
@@ -27,10 +28,12 @@ C > TEST_UNIT_READY
 C < CHECK_CONDITION 0012 70000600000000 0A00000000 2900 00000000
 C > TEST_UNIT_READY
 C < GOOD
-"#;
+"#
+}
 
 // 64 sessions leave no room for another until they are over.
-pub const FULL: &str = r#"
+pub fn full() -> &'static str {
+    r#"
 A at 1
 A > LOGIN 7:56 HOST_A
 A < LOGGED_IN 7:36 WELCOME
@@ -49,10 +52,12 @@ C > TEST_UNIT_READY
 C < CHECK_CONDITION 0012 70000600000000 0A00000000 2900 00000000
 A > TEST_UNIT_READY
 A < GOOD
-"#;
+"#
+}
 
 // Sessions of discovery take no room.
-pub const CROWDED: &str = r#"
+pub fn crowded() -> &'static str {
+    r#"
 200 enter 1 LOGIN 7:37 FINDS
 A at 2
 A > LOGIN 7:56 HOST_A
@@ -61,4 +66,5 @@ A > TEST_UNIT_READY
 A < CHECK_CONDITION 0012 70000600000000 0A00000000 2900 00000000
 A > TEST_UNIT_READY
 A < GOOD
-"#;
+"#
+}

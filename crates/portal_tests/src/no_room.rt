@@ -5,7 +5,7 @@ use portal::{SmallStacks, Stacks};
 const TOO_LARGE: usize = 1 << 60;
 
 /// Stacks of workers of which the first so many are too large.
-#[derive(Clone, Copy, Debug, Drop)]
+#[derive(Clone, Copy, Drop)]
 pub struct NoRoom {
     pub refused: u32,
 }

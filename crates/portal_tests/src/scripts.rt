@@ -30,94 +30,109 @@ where
     }
 }
 
-const DESKS: &[(&str, &str)] = &[
-    ("a preempted write that collects", fencing::PREEMPTED),
-    ("a unit that does not answer", hanging::HELD),
-    ("a device that hangs", hanging::STUCK),
-    (
-        "a desk with writes of a unit whose device hangs",
-        hanging::CROWDED,
-    ),
-    ("short commands behind a write that hangs", hanging::QUEUED),
-    ("closed desks are busy", hanging::CLOSED),
-];
-
-const FLUSHES: &[(&str, &str)] = &[
-    ("a unit is free while a flush runs", late::BEHIND),
-    ("a flush behind a command fails", late::LOST),
-];
-
-const LOGINS: &[(&str, &str)] = &[
-    ("both portals are told", discovery::FOUND),
-    ("sessions that come again", logins::REINSTATED),
-    ("sessions that find no room", logins::FULL),
-    ("sessions of discovery take no room", logins::CROWDED),
-];
-
-const BLOCKS: &[(&str, &str)] = &[
-    (
-        "what one controller writes the other reads",
-        medium::WRITTEN_AND_READ,
-    ),
-    ("two that compare and write", medium::COMPARED),
-    ("long data", medium::LONG),
-];
-
-const STREAMS: &[(&str, &str)] = &[
-    ("pieces", streams::IN_PIECES),
-    ("numbers", streams::NUMBERED),
-    ("refused logins", streams::REFUSED),
-];
-
-const EXAMPLES: &[(&str, &str)] = &[
-    ("worked examples: what is asked", worked::ASKED),
-    ("worked examples: what is written", worked::WRITTEN),
-    ("worked examples: groups that move", worked::MOVED),
-    ("worked examples: reservations", worked::RESERVED),
-];
-
 #[test]
 fn sessions_before_desks(rt: HostRuntime) {
-    run_all(&rt, rt.alloc(), DESKS);
+    run_all(
+        &rt,
+        rt.alloc(),
+        &[
+            ("a preempted write that collects", fencing::preempted()),
+            ("a unit that does not answer", hanging::held()),
+            ("a device that hangs", hanging::stuck()),
+            (
+                "a desk with writes of a unit whose device hangs",
+                hanging::crowded(),
+            ),
+            (
+                "short commands behind a write that hangs",
+                hanging::queued(),
+            ),
+            ("closed desks are busy", hanging::closed()),
+        ],
+    );
 }
 
 #[test]
 fn flushes_behind_commands(rt: HostRuntime) {
-    run_all(&rt, rt.alloc(), FLUSHES);
+    run_all(
+        &rt,
+        rt.alloc(),
+        &[
+            ("a unit is free while a flush runs", late::behind()),
+            ("a flush behind a command fails", late::lost()),
+        ],
+    );
 }
 
 #[test]
 fn sessions_that_log_in(rt: HostRuntime) {
-    run_all(&rt, rt.alloc(), LOGINS);
+    run_all(
+        &rt,
+        rt.alloc(),
+        &[
+            ("both portals are told", discovery::found()),
+            ("sessions that come again", logins::reinstated()),
+            ("sessions that find no room", logins::full()),
+            ("sessions of discovery take no room", logins::crowded()),
+        ],
+    );
 }
 
 #[test]
 fn blocks_through_both_controllers(rt: HostRuntime) {
-    run_all(&rt, rt.alloc(), BLOCKS);
+    run_all(
+        &rt,
+        rt.alloc(),
+        &[
+            (
+                "what one controller writes the other reads",
+                medium::written_and_read(),
+            ),
+            ("two that compare and write", medium::compared()),
+            ("long data", medium::long()),
+        ],
+    );
 }
 
 #[test]
 fn bytes_of_sessions(rt: HostRuntime) {
-    run_all(&rt, rt.alloc(), STREAMS);
+    run_all(
+        &rt,
+        rt.alloc(),
+        &[
+            ("pieces", streams::in_pieces()),
+            ("numbers", streams::numbered()),
+            ("refused logins", streams::refused()),
+        ],
+    );
 }
 
 #[test]
 fn worked_examples(rt: HostRuntime) {
-    run_all(&rt, rt.alloc(), EXAMPLES);
+    run_all(
+        &rt,
+        rt.alloc(),
+        &[
+            ("worked examples: what is asked", worked::asked()),
+            ("worked examples: what is written", worked::written()),
+            ("worked examples: groups that move", worked::moved()),
+            ("worked examples: reservations", worked::reserved()),
+        ],
+    );
 }
 
 #[test]
 fn an_array_at_any_address_and_one_with_few_threads(rt: HostRuntime) {
     let anywhere = Script {
         host: Ipv4Addr::UNSPECIFIED,
-        ..Script::new("the address that was reached is told", discovery::FOUND)
+        ..Script::new("the address that was reached is told", discovery::found())
     };
     run(&rt, rt.alloc(), &anywhere);
     let without_threads = Script {
         refused: 2,
         ..Script::new(
             "a connection without a thread is closed",
-            wanting::WITHOUT_THREADS,
+            wanting::without_threads(),
         )
     };
     run(&rt, rt.alloc(), &without_threads);

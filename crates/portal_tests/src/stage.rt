@@ -49,7 +49,8 @@ pub struct Stage<'a, R: Wait + Drop, C: Console> {
 }
 
 // How A and B come.
-const A_AND_B: &str = r#"
+fn a_and_b() -> &'static str {
+    r#"
 A at 1
 A > LOGIN 7:56 HOST_A
 A < LOGGED_IN 7:36 WELCOME
@@ -60,7 +61,8 @@ B > LOGIN 7:56 HOST_B
 B < LOGGED_IN 7:36 15:02 WELCOME_2
 B > TEST_UNIT_READY
 B < CHECK_CONDITION 0012 70000600000000 0A00000000 2900 00000000
-"#;
+"#
+}
 
 // What initiators are told of the target: both portals, each with the tag of its group (RFC 7143, appendix C).
 fn told(alloc: Global, portals: [SocketAddrV4; 2]) -> Result<String, AllocError> {
@@ -111,7 +113,7 @@ impl<
         let lines = lines_of(self.alloc, text).expect(self.at.rt, "memory");
         for line in &lines {
             if *line == "A and B" {
-                self.obey_all(A_AND_B);
+                self.obey_all(a_and_b());
             } else {
                 self.obey(line);
             }

@@ -1,6 +1,5 @@
 //! Units in memory and over files, before they are shared.
-ghost use Rattle.std.specs.Prelude.{◌≡◌, ◌≤◌, IfOk, length};
-ghost use Rattle.unit_state.specs.Serials.{IsOpening};
+ghost use Rattle.std.specs.Prelude.{◌≤◌, IfOk, length};
 
 use aptpl_file::RegFile;
 use block_file::{Blocks, FusedBlocks, KeepOpener, MemBlocks, Opener};

@@ -1,7 +1,8 @@
 //! Connections for which there is no thread.
 
 // Two connections to each portal find no thread: they are closed. The next one is served.
-pub const WITHOUT_THREADS: &str = r#"
+pub fn without_threads() -> &'static str {
+    r#"
 A at 1
 A over
 B at 2
@@ -20,4 +21,5 @@ F > LOGIN 7:56 HOST_B
 F < LOGGED_IN 7:36 15:02 WELCOME_2
 E > TEST_UNIT_READY
 E < GOOD
-"#;
+"#
+}

@@ -46,7 +46,7 @@ pub trait Preparer: Drop {
 }
 
 /// The preparer of a disk that takes no time, as one in memory: it does nothing.
-#[derive(Clone, Copy, Debug, Drop)]
+#[derive(Clone, Copy, Drop)]
 pub struct NoPreparer;
 
 impl Preparer for NoPreparer {

@@ -3,7 +3,7 @@ ghost use Rattle.std.specs.Prelude.{◌≡◌};
 ghost use Rattle.registrants.specs.Kind.{is_of_all_registrants, is_of_registrants, type_code, type_of};
 
 /// The type of a persistent reservation (SPC-4, 6.15.3.4).
-#[derive(Clone, Copy, Debug, PartialEq, Eq)]
+#[derive(Clone, Copy, PartialEq, Eq)]
 pub enum ReservationType {
     WriteExclusive,
     ExclusiveAccess,

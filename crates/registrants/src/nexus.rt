@@ -1,5 +1,5 @@
 //! I_T nexuses.
-ghost use Rattle.std.specs.Prelude.{◌≡◌, ◌↔◌, ◌<◌, ◌≤◌, ◌^◌, IsTrue, length};
+ghost use Rattle.std.specs.Prelude.{◌≡◌, ◌↔◌, ◌≤◌, IsTrue};
 ghost use Rattle.registrants.specs.Nexus.{IsPortName, nexus_cmp, other_nexus, same_nexus, same_port};
 
 use scsi_types::{Group, PortName};
@@ -11,7 +11,7 @@ const LONGEST_NAME: usize = 223;
 
 /// An I_T nexus (SAM-5, 4.6): an initiator port, and the target port group through which it comes. The name stands in the
 /// nexus itself, so a copy takes no memory.
-#[derive(Debug, Drop)]
+#[derive(Drop)]
 pub struct Nexus {
     name: [u8; LONGEST_NAME],
     length_of_name: u8,

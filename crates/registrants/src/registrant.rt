@@ -1,5 +1,5 @@
 //! Registrants, and reservations.
-ghost use Rattle.std.specs.Prelude.{◌≡◌, ◌≤◌, ◌++◌, ◌∷◌, ◌<◌, [], IfOk, length, vec_capacity};
+ghost use Rattle.std.specs.Prelude.{◌≡◌, ◌≤◌, ◌<◌, IfOk, length, vec_capacity};
 ghost use Rattle.std.specs.List.{AllByRecursion};
 ghost use Rattle.registrants.specs.Registry.{IsListed};
 
@@ -7,7 +7,7 @@ use crate::{Nexus, ReservationType};
 use std::alloc::{AllocError, Global};
 
 /// A registered nexus and its reservation key, which is never 0 (SPC-4, 5.13.7).
-#[derive(Debug, Drop)]
+#[derive(Drop)]
 pub struct Registrant {
     pub nexus: Nexus,
     pub key: u64,
@@ -15,7 +15,7 @@ pub struct Registrant {
 
 /// A persistent reservation (SPC-4, 5.13.9): its type, and the nexus that holds it. Of types 7 and 8 every
 /// registrant is a holder, and none is named.
-#[derive(Debug, Drop)]
+#[derive(Drop)]
 pub struct Reservation {
     pub kind: ReservationType,
     pub holder: Option<Nexus>,

@@ -7,7 +7,7 @@ use crate::{Nexus, PrEnd, Registrant};
 use scsi_types::UnitAttention;
 
 /// What the registrants but the sender are told of a change (SPC-4, 5.13.11).
-#[derive(Clone, Copy, Debug, PartialEq, Eq)]
+#[derive(Clone, Copy, PartialEq, Eq)]
 pub enum Notice {
     /// Nothing.
     Nothing,
@@ -22,7 +22,7 @@ pub enum Notice {
 
 /// Who is told what by a PERSISTENT RESERVE OUT that was GOOD: the registrants that there were when it came, but the one
 /// that sent it. `Registry::told` reads it. It names nobody else, so it takes no memory.
-#[derive(Debug, Drop)]
+#[derive(Drop)]
 pub struct Telling {
     pub sender: Nexus,
     pub notice: Notice,

@@ -4,8 +4,7 @@ ghost use Rattle.std.specs.Prelude.{◌≡◌, ◌≤◌, if◌then◌else◌, v
 ghost use Rattle.registrants.specs.Nexus.{other_nexus};
 ghost use Rattle.registrants.specs.Registry.{IsAscending, is_registered};
 ghost use Rattle.reservations.specs.Rows.{PortsOfHolderUnregister, PortsUnregister, has_room_for, ports_with};
-ghost use Rattle.reservations.specs.Rows.{is_port_holder, is_port_in};
-ghost use Rattle.reservations.specs.Seen.{Does, DoesRow, value_of};
+ghost use Rattle.reservations.specs.Seen.{Does, DoesRow};
 ghost use Rattle.reservations.specs.Table.{row_of_ports};
 
 use crate::notice::good;

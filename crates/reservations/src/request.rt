@@ -7,7 +7,7 @@ use crate::{ReservationType, Telling};
 use scsi_types::PrOutAction;
 
 /// A PERSISTENT RESERVE OUT: the fields of its CDB and of its parameter list (SPC-4, 6.16).
-#[derive(Clone, Copy, Debug, PartialEq, Eq)]
+#[derive(Clone, Copy, PartialEq, Eq)]
 pub struct PrOut {
     /// The service action.
     pub action: PrOutAction,
@@ -28,7 +28,7 @@ pub struct PrOut {
 }
 
 /// How a PERSISTENT RESERVE OUT ends.
-#[derive(Debug, Drop)]
+#[derive(Drop)]
 pub enum PrEnd {
     /// GOOD; who is told what.
     Good(Telling),
@@ -41,7 +41,7 @@ pub enum PrEnd {
 }
 
 /// How a command uses the medium, as reservations see it (SPC-4, 5.13.1).
-#[derive(Clone, Copy, Debug, PartialEq, Eq)]
+#[derive(Clone, Copy, PartialEq, Eq)]
 pub enum Access {
     /// It reads blocks.
     Read,

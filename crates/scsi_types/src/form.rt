@@ -5,7 +5,7 @@ use crate::Op;
 
 /// The forms of CDBs that the array knows, each with its fields at places of its own: the commands of the
 /// standards by their full names (SPC-4, 6.1; SBC-3, 5.1).
-#[derive(Clone, Copy, Debug, PartialEq, Eq)]
+#[derive(Clone, Copy, PartialEq, Eq)]
 pub enum CdbForm {
     TestUnitReady,
     RequestSense,

@@ -2,7 +2,7 @@
 ghost use Rattle.scsi_types.specs.Lun.{NamesUnit};
 
 /// A logical unit number (SAM-5, 4.7).
-#[derive(Clone, Copy, Debug, PartialEq, Eq)]
+#[derive(Clone, Copy, PartialEq, Eq)]
 pub struct Lun;
 
 impl Lun {

@@ -1,6 +1,5 @@
 //! The fields of the commands on the medium (SBC-3, section 5).
-ghost use Rattle.std.specs.Prelude.{◌≡◌, ◌+◌, ◌≤◌, ◌↔◌, ◌-◌, IsTrue, MatchOption, List, drop};
-ghost use Rattle.byteorder.specs.Endian.{big_number};
+ghost use Rattle.std.specs.Prelude.{◌≡◌, ◌↔◌, ◌-◌, IsTrue, MatchOption};
 ghost use Rattle.scsi_types.specs.declared.form.CdbForm.TheVariants as forms;
 ghost use Rattle.scsi_types.specs.Cdb.{Asks, Decodes, IsGoodTransfer, blocks_6, field, fua_of, lba_6, most_blocks};
 

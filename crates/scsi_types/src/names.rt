@@ -13,7 +13,7 @@ pub enum Group {
 }
 
 /// Where a unit stands: its number, how many units there are, and the array's number.
-#[derive(Clone, Copy, Debug, PartialEq, Eq)]
+#[derive(Clone, Copy, PartialEq, Eq)]
 pub struct Place {
     /// The unit's number.
     pub unit: u8,
@@ -24,7 +24,7 @@ pub struct Place {
 }
 
 /// The name of an initiator port: the InitiatorName's bytes and the ISID (RFC 7143, 4.4.3).
-#[derive(Debug, Drop)]
+#[derive(Drop)]
 pub struct PortName {
     name: Vec<u8>,
     isid: u64,

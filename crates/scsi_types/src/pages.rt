@@ -1,5 +1,5 @@
 //! What INQUIRY, MODE SENSE and REPORT LUNS are asked to tell.
-ghost use Rattle.std.specs.Prelude.{◌≡◌, ◌/◌, ◌%◌, MatchOption, slice_index};
+ghost use Rattle.std.specs.Prelude.{◌≡◌, ◌/◌, MatchOption};
 
 /// A page of INQUIRY data.
 #[derive(Clone, Copy, Debug, PartialEq, Eq)]

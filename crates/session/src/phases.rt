@@ -1,5 +1,5 @@
 //! A whole session without bytes: its login, and full feature phase behind it.
-ghost use Rattle.std.specs.Prelude.{◌≡◌, ◌<◌, ◌≤◌, length, vec_capacity, IfOk, Some};
+ghost use Rattle.std.specs.Prelude.{◌<◌, ◌≤◌, length, vec_capacity, IfOk, Some};
 ghost use Rattle.session_rules.specs.declared.end.End.TheVariants.{Protocol};
 ghost use Rattle.session_rules.specs.Turn.{pdu as came, faulty};
 ghost use Rattle.session.specs.Stream.{OpensWith, IsFresh, MakesExchange};

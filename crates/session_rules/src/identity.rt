@@ -1,7 +1,7 @@
 use std::net::SocketAddrV4;
 
 /// Who the target of a session is.
-#[derive(Clone, Copy, Debug)]
+#[derive(Clone, Copy)]
 pub struct Identity<'a> {
     /// The target's name (RFC 7143, 4.2.7).
     pub target_name: &'a [u8],

@@ -1,8 +1,8 @@
 //! The lengths in force in a session (RFC 7143, section 13).
-ghost use Rattle.std.specs.Prelude.{ℕ, ◌≤◌};
+ghost use Rattle.std.specs.Prelude.{◌≤◌};
 
 /// The lengths in force: how its data is cut.
-#[derive(Clone, Copy, Debug, PartialEq, Eq)]
+#[derive(Clone, Copy, PartialEq, Eq)]
 pub struct Lengths {
     /// The initiator's MaxRecvDataSegmentLength, 512 to 16777215 bytes (13.12).
     pub data_segment: u32,

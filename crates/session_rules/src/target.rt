@@ -6,7 +6,7 @@ use login::Kind;
 use scsi_types::{Asked, Reply};
 
 /// What a target answers where a session is to begin.
-#[derive(Clone, Copy, Debug, PartialEq, Eq)]
+#[derive(Clone, Copy, PartialEq, Eq)]
 pub enum BeginAnswer {
     /// It has begun, with this Target Session Identifying Handle (TSIH): 1 to 65535, that of no other session that lives.
     Begun(u16),
@@ -15,7 +15,7 @@ pub enum BeginAnswer {
 }
 
 /// What a target answers to a command.
-#[derive(Debug, Drop)]
+#[derive(Drop)]
 pub enum TargetAnswer {
     /// The unit's reply.
     Replied(Reply),
@@ -28,7 +28,7 @@ pub enum TargetAnswer {
 }
 
 /// What a target answers to a LOGICAL UNIT RESET (SAM-5, 7.7).
-#[derive(Clone, Copy, Debug, PartialEq, Eq)]
+#[derive(Clone, Copy, PartialEq, Eq)]
 pub enum ResetAnswer {
     /// The unit is reset.
     Done,

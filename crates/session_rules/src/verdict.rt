@@ -5,7 +5,7 @@ ghost use Rattle.session_rules.specs.Verdict.{reason_of};
 use iscsi_pdu::PduFault;
 
 /// What becomes of a PDU that comes.
-#[derive(Clone, Copy, Debug, PartialEq, Eq)]
+#[derive(Clone, Copy, PartialEq, Eq)]
 pub enum Verdict {
     Accepted,
     /// An immediate SCSI Command, while another one waits for its data: the task set is full (SAM-5, 5.3.1).

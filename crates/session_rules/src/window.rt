@@ -1,5 +1,5 @@
 //! The command window, and the numbers that go out with it (RFC 7143, 4.2.2).
-ghost use Rattle.std.specs.Prelude.{◌≡◌, ◌<◌, ◌+◌, ◌%◌};
+ghost use Rattle.std.specs.Prelude.{◌≡◌, ◌+◌, ◌%◌};
 ghost use Rattle.session_rules.specs.Window.{exp_cmd_sn_behind};
 ghost use Rattle.session_rules.specs.Standing.{numbers_for};
 
@@ -9,7 +9,7 @@ use iscsi_pdu::Numbers;
 pub const WINDOW: u32 = 32;
 
 /// The command window: the CmdSN that is expected, and how many commands it takes.
-#[derive(Clone, Copy, Debug, PartialEq, Eq)]
+#[derive(Clone, Copy, PartialEq, Eq)]
 pub struct Window {
     pub exp_cmd_sn: u32,
     pub size: u32,

@@ -2,7 +2,8 @@
 //! each is a Reject for a protocol error and the end, and nothing is called (RFC 7143, 7.3 and 11.7).
 // A write of 17 blocks brings 8192 bytes, and its R2T is for the 512 bytes at 8192. The command behind would be served,
 // had the session not ended.
-pub const FAULTS: &str = r#"
+pub fn faults() -> &'static str {
+    r#"
 the offset 8196, where the R2T is at 8192
 > WRITE 6:2000 20:00002200 40:11 pattern 8192
 > DATA_OUT 6:0004 40:00002004 pattern 8196+4
@@ -124,4 +125,5 @@ the tag of a write that waits, in a Logout
 < R2T 42:20
 < REJECT 2:04 31:02 rejected LOGOUT 27:02
 end Protocol
-"#;
+"#
+}

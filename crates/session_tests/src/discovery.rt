@@ -1,6 +1,7 @@
 //! Discovery sessions from their login on (RFC 7143, 4.3, 11.10 and appendix C).
 // Each login but the last begins a session of discovery.
-pub const SERVED: &str = r#"
+pub fn served() -> &'static str {
+    r#"
 SendTargets=All, NOP-Out, and Logout
 login 1
 > LOGIN 7:37 "InitiatorName=iqn.2000-01.test:a\0SessionType=Discovery\0"
@@ -70,9 +71,11 @@ login 1
 < LOGGED_IN 7:36 WELCOME
 < TEXT_RESPONSE 7:13 24:00000002 "SendTargets=Reject\0"
 asked begin iqn.2000-01.test:a 400001370000 Normal
-"#;
+"#
+}
 
-pub const REJECTED: &str = r#"
+pub fn rejected() -> &'static str {
+    r#"
 576 bytes of an answer, where the initiator takes 512
 login 1
 > LOGIN 1:81 7:37 "InitiatorName=iqn.2000-01.test:a\0SessionType=Discovery\0"
@@ -124,4 +127,5 @@ login 1
 < REJECT 2:04 24:00000002 rejected LOGIN 7:37
 asked begin iqn.2000-01.test:a 400001370000 Discovery
 end Protocol
-"#;
+"#
+}

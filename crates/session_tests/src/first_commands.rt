@@ -1,5 +1,6 @@
 //! The first commands behind a login: their numbers (RFC 7143, 4.2.2 and 11.12.8), and what is none.
-pub const ROWS: &str = r#"
+pub fn rows() -> &'static str {
+    r#"
 the first has the CmdSN of the login, and StatSN goes on
 login 1
 > LOGIN 7:56 HOST_A
@@ -86,4 +87,5 @@ login 1
 asked begin iqn.2000-01.test:a 400001370000 Normal
 asked 0 Ok(TestUnitReady)
 end Protocol
-"#;
+"#
+}

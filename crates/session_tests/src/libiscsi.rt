@@ -2,7 +2,8 @@
 //! those of its `lib/login.c`, which sends the names in both stages; the discovery is that of its `lib/discovery.c`. It
 //! chooses its ISID, its tags and its first CmdSN at random, and begins with TEST UNIT READY.
 // INQUIRY is answered by standard data of a disk (SPC-4, 6.6.2), READ CAPACITY (16) by 2048 blocks of 512 bytes (SBC-3).
-pub const ROWS: &str = r#"
+pub fn rows() -> &'static str {
+    r#"
 libiscsi: a session, its first commands, and its logout
 login 1
 answer in-turn | 000006121F301002 "TWINCTL ALUA DISK       0001" |
@@ -55,4 +56,5 @@ login 1
 < LOGGED_OUT 16:327B23C8 24:000000036B8B45676B8B4586
 asked begin iqn.2007-10.com.github:sahlberg:libiscsi:test 803B1F620000 Discovery
 end LoggedOut
-"#;
+"#
+}

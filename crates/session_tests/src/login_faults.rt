@@ -74,7 +74,8 @@ end Protocol
 ";
 
 // Behind a Login Request: ExpCmdSN is its CmdSN.
-pub const SECOND: &str = r#"
+pub fn second() -> &'static str {
+    r#"
 an opcode that no PDU has
 login 1
 > LOGIN 1:81 7:43 NAMES
@@ -173,4 +174,5 @@ login 1
 < LOGGED_IN 1:81 7:17 14:0000 24:00000001FFFFFFFE0000001D "TargetPortalGroupTag=1\0"
 < REJECT 2:05 24:00000002FFFFFFFE0000001D rejected LOGIN 0:07
 end Protocol
-"#;
+"#
+}

@@ -1,5 +1,6 @@
 //! Logins that are refused at a later request (RFC 7143, 6.2, 6.3 and 11.13.5).
-pub const FLAGS: &str = r#"
+pub fn flags() -> &'static str {
+    r#"
 stage 1, where stage 0 stays
 login 1
 > LOGIN 1:00 7:43 NAMES
@@ -44,9 +45,11 @@ login 1
 < LOGGED_IN 1:81 7:17 14:0000 "TargetPortalGroupTag=1\0"
 < LOGIN_REFUSED 24:00000002
 end Protocol
-"#;
+"#
+}
 
-pub const TEXTS: &str = r#"
+pub fn texts() -> &'static str {
+    r#"
 a pair without =
 login 1
 > LOGIN 1:81 7:43 NAMES
@@ -91,9 +94,11 @@ login 1
 < LOGGED_IN 1:00 7:17 14:0000 "TargetPortalGroupTag=1\0"
 < LOGIN_REFUSED 1:00 24:00000002 37:01
 end Protocol
-"#;
+"#
+}
 
-pub const LIMITS: &str = r#"
+pub fn limits() -> &'static str {
+    r#"
 64 pairs, and one more
 login 1
 > LOGIN 1:00 6:0179 NAMES "k00=\0k01=\0k02=\0k03=\0k04=\0k05=\0k06=\0k07=\0k08=\0k09=\0k10=\0k11=\0k12=\0k13=\0k14=\0"
@@ -142,9 +147,11 @@ login 1
 < LOGGED_IN 1:04 14:0000
 < LOGIN_REFUSED 24:00000002 37:03
 end Protocol
-"#;
+"#
+}
 
-pub const RUNS: &str = r#"
+pub fn runs() -> &'static str {
+    r#"
 a run with C of another stage
 login 1
 > LOGIN 1:44 7:34 "InitiatorName=iqn.2000-01.test:a\0TargetName=iqn.2000"
@@ -174,4 +181,5 @@ begin refused
 < LOGIN_REFUSED 24:00000002 36:0302
 asked begin iqn.2000-01.test:a 400001370000 Normal
 end Protocol
-"#;
+"#
+}

@@ -1,5 +1,6 @@
 //! Logins that are refused for their names, session types, TSIH and AuthMethod (RFC 7143, 6.3 and 11.13.5).
-pub const MISSING: &str = r#"
+pub fn missing() -> &'static str {
+    r#"
 no text
 login 1
 > LOGIN
@@ -62,9 +63,11 @@ login 1
 > LOGIN 7:56 HOST_A
 < LOGIN_REFUSED 37:07
 end Protocol
-"#;
+"#
+}
 
-pub const TARGETS: &str = r#"
+pub fn targets() -> &'static str {
+    r#"
 an unknown target
 login 1
 > LOGIN 7:52 "InitiatorName=iqn.2000-01.test:a\0TargetName=iqn.2000-01.test:b\0SessionType=Normal\0"
@@ -107,9 +110,11 @@ lives
 > LOGIN 7:56 HOST_A
 < LOGIN_REFUSED 14:0007 37:03
 end Protocol
-"#;
+"#
+}
 
-pub const SESSIONS: &str = r#"
+pub fn sessions() -> &'static str {
+    r#"
 one connection more in a session that lives
 login 1
 lives
@@ -143,9 +148,11 @@ lives
 < LOGIN_REFUSED 14:1234 37:06
 asked lives 4660 iqn.2000-01.test:a 400001370000
 end Protocol
-"#;
+"#
+}
 
-pub const METHODS: &str = r#"
+pub fn methods() -> &'static str {
+    r#"
 AuthMethod without None
 login 1
 > LOGIN 1:81 7:6A HOST_A "AuthMethod=CHAP,SRP\0"
@@ -175,4 +182,5 @@ begin refused
 < LOGIN_REFUSED 36:0302
 asked begin iqn.2000-01.test:a 400001370000 Normal
 end Protocol
-"#;
+"#
+}

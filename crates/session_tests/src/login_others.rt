@@ -1,7 +1,8 @@
 //! PDUs of an initiator that are no Login Requests, in a login (RFC 7143, 11.13.5): 020B.
 // In place of the first Login Request: ExpCmdSN is 0. The response has the tag that came, and no other field of it. The
 // task management request is LOGICAL UNIT RESET of LUN 0.
-pub const FIRST: &str = r#"
+pub fn first() -> &'static str {
+    r#"
 a NOP-Out
 login 1
 each-place
@@ -65,10 +66,12 @@ login 1
 > LOGIN 7:56 HOST_A
 < NOT_IN_LOGIN 16:0A0B0C0D
 end Protocol
-"#;
+"#
+}
 
 // Behind a Login Request: ExpCmdSN is its CmdSN.
-pub const SECOND: &str = r#"
+pub fn second() -> &'static str {
+    r#"
 a NOP-Out
 login 1
 each-place
@@ -150,4 +153,5 @@ login 1
 < LOGGED_IN 1:04 14:0000
 < NOT_IN_LOGIN 16:0A0B0C0D 24:000000020000000100000020
 end Protocol
-"#;
+"#
+}

@@ -1,6 +1,7 @@
 //! Logins that are refused for their flags and versions (RFC 7143, 6.3.1, 11.12 and 11.13.5): 0200 and 0205.
 // A refusal has neither T, C, NSG nor text. The target is asked nothing, and nothing behind it is looked at.
-pub const ROWS: &str = r#"
+pub fn rows() -> &'static str {
+    r#"
 T with C
 login 1
 > LOGIN 1:C7 7:56 HOST_A
@@ -105,4 +106,5 @@ login 1
 > LOGIN 7:56 HOST_A
 < LOGIN_REFUSED 1:00 8:80123456789A1234 16:0A0B0C0D 24:000000010102030401020323 37:07
 end Protocol
-"#;
+"#
+}

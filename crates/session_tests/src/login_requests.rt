@@ -1,6 +1,7 @@
 //! Logins of several requests that are accepted (RFC 7143, 6.2, 6.3 and 11.12).
 // Login responses have TSIH 0 until the last.
-pub const ROWS: &str = r#"
+pub fn rows() -> &'static str {
+    r#"
 stage 0, then stage 1, with the names again
 login 1
 > LOGIN 1:81 7:66 HOST_A "AuthMethod=None\0"
@@ -83,4 +84,5 @@ login 1
 < GOOD 24:000000030000000800000027
 asked begin iqn.2000-01.test:a 400001370000 Normal
 asked 0 Ok(TestUnitReady)
-"#;
+"#
+}

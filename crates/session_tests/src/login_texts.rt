@@ -1,6 +1,7 @@
 //! Logins that are refused for the form and the length of their texts (RFC 7143, 6.1 and 6.2).
 // Each is refused with 0200.
-pub const ROWS: &str = r#"
+pub fn rows() -> &'static str {
+    r#"
 a pair without =
 login 1
 > LOGIN 7:47 NAMES "X-a\0"
@@ -108,4 +109,5 @@ login 1
 > LOGIN 7:56 HOST_A
 < LOGIN_REFUSED
 end Protocol
-"#;
+"#
+}

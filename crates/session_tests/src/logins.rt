@@ -1,7 +1,8 @@
 //! Logins of one request that are accepted (RFC 7143, 6.3, 11.12 and 11.13).
 // 86 bytes are the text of a login of one request, 67 of them the names of both sides; 54 bytes are what the target says
 // by itself. The target is asked once to begin the session.
-pub const ONE_REQUEST: &str = r#"
+pub fn one_request() -> &'static str {
+    r#"
 one request of stage 1
 login 1
 each-place
@@ -76,4 +77,5 @@ login 1
 > LOGIN 6:2000 NAMES "X-a=" 8120*61 1*00
 < LOGGED_IN 7:48 WELCOME "X-a=NotUnderstood\0"
 asked begin iqn.2000-01.test:a 400001370000 Normal
-"#;
+"#
+}

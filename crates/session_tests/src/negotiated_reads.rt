@@ -1,5 +1,6 @@
 //! What goes out by the lengths that a login negotiated (RFC 7143, 13.12 and 13.13).
-pub const ROWS: &str = r#"
+pub fn rows() -> &'static str {
+    r#"
 a read in Data-In of MaxRecvDataSegmentLength, in runs of MaxBurstLength
 login 1
 answer good pattern 1536
@@ -82,4 +83,5 @@ answer good pattern 1536
 < GOOD 24:00000003 36:00000003
 asked begin iqn.2000-01.test:a 400001370000 Normal
 asked 0 Ok(Read { lba: 5, blocks: 3, fua: false })
-"#;
+"#
+}

@@ -143,7 +143,7 @@ pub fn run_reads(rt: &impl Abort, alloc: Global, row: &Row<'_>, reads: Calls) {
 }
 
 /// How a session ends, and how much of a row's output it writes and of its questions it asks.
-#[derive(Clone, Copy, Debug)]
+#[derive(Clone, Copy)]
 pub struct Wanted<'a> {
     pub end: &'a str,
     pub written: usize,

@@ -9,7 +9,8 @@ use std::test::*;
 use test_streams::{Calls, ONE_BYTE, WHOLE};
 
 // In each row, what a PDU comes to stands behind it. The last one ends its session by itself.
-const ROWS: &str = r#"
+fn rows() -> &'static str {
+    r#"
 two commands
 > TEST_UNIT_READY
 < GOOD
@@ -52,7 +53,8 @@ login 1
 > LOGIN 0:07
 < REJECT 2:05 24:00000001000000000000001F rejected LOGIN 0:07
 end Protocol
-"#;
+"#
+}
 
 fn ends_anywhere(rt: &impl Abort, alloc: Global, row: &Row<'_>) {
     for came in 0..row.input.len() {
@@ -139,7 +141,7 @@ fn each_stream(rt: &impl Abort, alloc: Global, row: &Row<'_>) {
 
 #[test]
 fn streams(rt: HostRuntime) {
-    for text in ROWS.split("\n\n") {
+    for text in rows().split("\n\n") {
         each_stream(
             &rt,
             rt.alloc(),

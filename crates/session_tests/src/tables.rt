@@ -1,5 +1,5 @@
-//! The tables whose rows are served alike. A test has a few of them, since each is written out in its test where that
-//! is proved.
+//! The tables whose rows are served alike, a few in a test. The text of a table is what a function of its module returns: a
+//! constant is written out at each step of a function that names it, where that is proved.
 use crate::run::{Table, run};
 use crate::{
     answers, data_out_faults, data_outs, discovery, first_commands, libiscsi, login_faults,
@@ -18,124 +18,144 @@ fn run_all<R: Abort>(rt: &R, alloc: Global, tables: &[Table]) {
     }
 }
 
-const FIRST_QUESTIONS: &[Table] = &[
-    ("discovery", discovery::SERVED),
-    ("rejected in discovery", discovery::REJECTED),
-    ("the first commands", first_commands::ROWS),
-    ("what libiscsi sends", libiscsi::ROWS),
-];
-
 #[test]
 fn what_initiators_ask_first(rt: HostRuntime) {
-    run_all(&rt, rt.alloc(), FIRST_QUESTIONS);
+    run_all(
+        &rt,
+        rt.alloc(),
+        &[
+            ("discovery", discovery::served()),
+            ("rejected in discovery", discovery::rejected()),
+            ("the first commands", first_commands::rows()),
+            ("what libiscsi sends", libiscsi::rows()),
+        ],
+    );
 }
-
-const LOGINS: &[Table] = &[
-    ("one request", logins::ONE_REQUEST),
-    ("several requests", login_requests::ROWS),
-    ("what open iscsi sends", open_iscsi::ROWS),
-];
 
 #[test]
 fn logins_of_one_request_and_of_several(rt: HostRuntime) {
-    run_all(&rt, rt.alloc(), LOGINS);
+    run_all(
+        &rt,
+        rt.alloc(),
+        &[
+            ("one request", logins::one_request()),
+            ("several requests", login_requests::rows()),
+            ("what open iscsi sends", open_iscsi::rows()),
+        ],
+    );
 }
-
-const LATER: &[Table] = &[
-    ("flags of later requests", login_later::FLAGS),
-    ("texts of later requests", login_later::TEXTS),
-    ("limits of a negotiation", login_later::LIMITS),
-    ("runs that are refused", login_later::RUNS),
-];
 
 #[test]
 fn later_requests_of_a_login(rt: HostRuntime) {
-    run_all(&rt, rt.alloc(), LATER);
+    run_all(
+        &rt,
+        rt.alloc(),
+        &[
+            ("flags of later requests", login_later::flags()),
+            ("texts of later requests", login_later::texts()),
+            ("limits of a negotiation", login_later::limits()),
+            ("runs that are refused", login_later::runs()),
+        ],
+    );
 }
-
-const NAMES: &[Table] = &[
-    ("names that are missing", login_names::MISSING),
-    ("targets that are not there", login_names::TARGETS),
-    ("sessions that are named", login_names::SESSIONS),
-    ("what comes last", login_names::METHODS),
-    ("texts", login_texts::ROWS),
-];
 
 #[test]
 fn names_in_a_login(rt: HostRuntime) {
-    run_all(&rt, rt.alloc(), NAMES);
+    run_all(
+        &rt,
+        rt.alloc(),
+        &[
+            ("names that are missing", login_names::missing()),
+            ("targets that are not there", login_names::targets()),
+            ("sessions that are named", login_names::sessions()),
+            ("what comes last", login_names::methods()),
+            ("texts", login_texts::rows()),
+        ],
+    );
 }
-
-const FAULTS: &[Table] = &[
-    ("a fault first", login_faults::FIRST),
-    ("a fault behind a request", login_faults::SECOND),
-    ("another pdu first", login_others::FIRST),
-    ("another pdu behind a request", login_others::SECOND),
-    ("flags and versions", login_refusals::ROWS),
-];
 
 #[test]
 fn logins_that_are_refused_or_end(rt: HostRuntime) {
-    run_all(&rt, rt.alloc(), FAULTS);
+    run_all(
+        &rt,
+        rt.alloc(),
+        &[
+            ("a fault first", login_faults::FIRST),
+            ("a fault behind a request", login_faults::second()),
+            ("another pdu first", login_others::first()),
+            ("another pdu behind a request", login_others::second()),
+            ("flags and versions", login_refusals::rows()),
+        ],
+    );
 }
-
-const LENGTHS: &[Table] = &[
-    ("reads by negotiated lengths", negotiated_reads::ROWS),
-    ("writes by negotiated lengths", negotiated_writes::ROWS),
-];
 
 #[test]
 fn lengths_that_were_negotiated(rt: HostRuntime) {
-    run_all(&rt, rt.alloc(), LENGTHS);
+    run_all(
+        &rt,
+        rt.alloc(),
+        &[
+            ("reads by negotiated lengths", negotiated_reads::rows()),
+            ("writes by negotiated lengths", negotiated_writes::rows()),
+        ],
+    );
 }
-
-const DATA: &[Table] = &[
-    ("faults of data out", data_out_faults::FAULTS),
-    ("data out and its task", data_outs::ROWS),
-    ("writes that collect", r2ts::ROWS),
-    ("a write of a megabyte", long_write::MEGABYTE),
-    ("residuals with r2t", r2ts::RESIDUALS),
-    ("reads", reads::ROWS),
-    ("runs", runs::ROWS),
-];
 
 #[test]
 fn data_in_and_out(rt: HostRuntime) {
-    run_all(&rt, rt.alloc(), DATA);
+    run_all(
+        &rt,
+        rt.alloc(),
+        &[
+            ("faults of data out", data_out_faults::faults()),
+            ("data out and its task", data_outs::ROWS),
+            ("writes that collect", r2ts::ROWS),
+            ("a write of a megabyte", long_write::MEGABYTE),
+            ("residuals with r2t", r2ts::RESIDUALS),
+            ("reads", reads::ROWS),
+            ("runs", runs::ROWS),
+        ],
+    );
 }
-
-const ANSWERS: &[Table] = &[
-    ("answers of a target", answers::ROWS),
-    ("logout", logout::ROWS),
-    ("nop out", nop::ROWS),
-    ("rejects", rejects::ROWS),
-    ("residuals", residuals::ROWS),
-];
 
 #[test]
 fn answers_and_rejects(rt: HostRuntime) {
-    run_all(&rt, rt.alloc(), ANSWERS);
+    run_all(
+        &rt,
+        rt.alloc(),
+        &[
+            ("answers of a target", answers::ROWS),
+            ("logout", logout::ROWS),
+            ("nop out", nop::ROWS),
+            ("rejects", rejects::ROWS),
+            ("residuals", residuals::ROWS),
+        ],
+    );
 }
-
-const TASKS: &[Table] = &[
-    ("a write that waits", task_management::WAITING),
-    ("task management", task_management::ROWS),
-    ("tasks at once", tasks::ROWS),
-    ("a full window of writes", tasks::BEHIND_32),
-];
 
 #[test]
 fn sessions_with_tasks(rt: HostRuntime) {
-    run_all(&rt, rt.alloc(), TASKS);
+    run_all(
+        &rt,
+        rt.alloc(),
+        &[
+            ("a write that waits", task_management::WAITING),
+            ("task management", task_management::ROWS),
+            ("tasks at once", tasks::ROWS),
+            ("a full window of writes", tasks::BEHIND_32),
+        ],
+    );
 }
-
-const TEXTS: &[Table] = &[
-    ("text", text::ROWS),
-    ("refused in text and discovery", text::REFUSED),
-    ("the window", window::ROWS),
-];
 
 #[test]
 fn text_and_the_window(rt: HostRuntime) {
-    run_all(&rt, rt.alloc(), TEXTS);
+    run_all(
+        &rt,
+        rt.alloc(),
+        &[
+            ("text", text::rows()),
+            ("refused in text and discovery", text::refused()),
+            ("the window", window::ROWS),
+        ],
+    );
 }

@@ -1,5 +1,6 @@
 //! Text Requests and discovery sessions (RFC 7143, 11.10, 11.11 and 4.3).
-pub const ROWS: &str = r#"
+pub fn rows() -> &'static str {
+    r#"
 SendTargets=All in a discovery session
 discovery
 > TEXT_REQUEST 6:0010 "SendTargets=All\0"
@@ -61,10 +62,12 @@ MaxRecvDataSegmentLength 8216
 portals 3
 > TEXT_REQUEST 6:02A4 52*"SendTargets=\0"
 < TEXT_RESPONSE 6:2018 52*TOLD_OF_FOUR
-"#;
+"#
+}
 
 // Each is rejected with its header segment, and ends the session.
-pub const REFUSED: &str = r#"
+pub fn refused() -> &'static str {
+    r#"
 without F
 > TEXT_REQUEST 1:00 6:0000
 > TEXT_REQUEST 24:00000002
@@ -138,4 +141,5 @@ portals 3
 > TEXT_REQUEST 6:02A4 52*"SendTargets=\0"
 < REJECT 2:04 rejected TEXT_REQUEST 6:02A4
 end Protocol
-"#;
+"#
+}

@@ -1,5 +1,5 @@
 //! Units that hold no registrations, whose registration files lie in memory.
-ghost use Rattle.std.specs.Prelude.{◌≡◌, ◌≤◌, IfOk, length};
+ghost use Rattle.std.specs.Prelude.{◌≤◌, IfOk, length};
 ghost use Rattle.unit_state.specs.Serials.{IsOpening};
 
 use aptpl_file::{FILE_BLOCKS, RegFile};

@@ -1,5 +1,5 @@
 //! All of a unit but its devices.
-ghost use Rattle.std.specs.Prelude.{◌≡◌, ◌+◌, ℕ, ◌<◌, ◌≤◌, ◌↔◌, length, [], ◌∷◌, true, false, IfNone, IfOk};
+ghost use Rattle.std.specs.Prelude.{◌≡◌, ◌+◌, ◌<◌, ◌≤◌, ◌↔◌, length, [], ◌∷◌, true, false, IfOk};
 ghost use Rattle.std.specs.Prelude.{OnErr, IsErr, IsFalse, IsTrue};
 ghost use Rattle.unit_control.specs.Places.{IsPlaceOf};
 ghost use Rattle.unit_control.specs.State.{preferred};
@@ -37,7 +37,7 @@ pub enum AttachFault {
 pub struct Gone;
 
 /// Where a command goes.
-#[derive(Clone, Copy, Debug, PartialEq, Eq)]
+#[derive(Clone, Copy, PartialEq, Eq)]
 pub enum Route {
     /// To nobody: it is not the next of a session that is attached.
     Gone,
@@ -49,7 +49,6 @@ pub enum Route {
 
 /// All of a unit but its devices: who is attached and what each is to be told, who is registered, and what state each
 /// target port group is in.
-#[derive(Drop)]
 pub struct Control {
     place: Place,
     total: u32,
@@ -62,8 +61,23 @@ pub struct Control {
     count: u64,
 }
 
+impl Drop for Control {
+    fn drop(self) {
+        let Self {
+            place: _,
+            total: _,
+            access: _,
+            registry: _,
+            save: _,
+            landed: _,
+            sessions: _,
+            count: _,
+        } = self;
+    }
+}
+
 impl Model for Control {
-    ghost use Rattle.std.specs.Prelude.{All, ◌≤◌, vec_len, vec_capacity};
+    ghost use Rattle.std.specs.Prelude.{All, ◌≤◌, vec_capacity};
     ghost use Rattle.unit_control.specs.Saving.{is_doubtful, records_left};
     ghost use Rattle.unit_control.specs.Sessions.{IsFit};
     ghost use Rattle.unit_control.specs.State.{ControlValue};
@@ -85,7 +99,7 @@ impl Model for Control {
 }
 
 impl Control {
-    ghost use Rattle.scsi_types.specs.Nexus.{Port, Nexus};
+    ghost use Rattle.scsi_types.specs.Nexus.{Nexus};
     ghost use Rattle.unit_control.specs.State.{opening_control};
     ghost use Rattle.unit_control.specs.Entry.{Attach, Detach, Reset, HasRoom, IsAttached, control_after};
     ghost use Rattle.unit_control.specs.Entry.{count_one, pass};

@@ -1,5 +1,5 @@
 //! SET TARGET PORT GROUPS (SPC-4, 6.45), and what it shares with a move.
-ghost use Rattle.std.specs.Prelude.{◌≡◌, ◌≢◌, ◌+◌, ◌&&◌, ℕ, false, true, length, Ok, OnOk, OnErr, IsTrue};
+ghost use Rattle.std.specs.Prelude.{◌≡◌, ◌≢◌, ◌&&◌, ℕ, false, true, Ok, OnOk, OnErr, IsTrue};
 ghost use Rattle.block_file.specs.Failures.{Counts, Tells};
 ghost use Rattle.unit_control.specs.Answer.{IsServed};
 ghost use Rattle.access_states.specs.AccessMap.{owner_of};

@@ -20,7 +20,7 @@ pub type SessionId = u64;
 pub const MOST_SESSIONS: usize = 64;
 
 /// A session that is attached: its nexus, the serial of its next command, and what it is to be told.
-#[derive(Debug, Drop)]
+#[derive(Drop)]
 pub struct Attached {
     pub id: SessionId,
     pub port: PortName,
@@ -30,7 +30,7 @@ pub struct Attached {
 }
 
 /// The session that sends a command: its id, and its place among those that are attached.
-#[derive(Clone, Copy, Debug, PartialEq, Eq)]
+#[derive(Clone, Copy, PartialEq, Eq)]
 pub struct Sender {
     pub session: SessionId,
     pub at: usize,

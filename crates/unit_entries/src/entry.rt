@@ -30,7 +30,7 @@ impl Model for Opened {
 }
 
 /// Who attaches: an initiator port, and the group by which it comes.
-#[derive(Debug, Drop)]
+#[derive(Drop)]
 pub struct Arrival {
     pub port: PortName,
     pub group: Group,

@@ -1,5 +1,5 @@
 //! What an event makes of one unit, whatever history the unit has.
-ghost use Rattle.std.specs.Prelude.{◌≡◌, ◌&&◌};
+ghost use Rattle.std.specs.Prelude.{◌&&◌};
 ghost use Rattle.registrants.specs.Nexus.{IsPortName, through};
 ghost use Rattle.unit_entries.specs.Causes.{IsGone, IsStay};
 ghost use Rattle.unit_control.specs.Choice.{Fine};

@@ -1,5 +1,5 @@
 //! Units before they have names.
-ghost use Rattle.std.specs.Prelude.{◌≡◌, ◌<◌, ◌+◌, IfOk};
+ghost use Rattle.std.specs.Prelude.{◌≡◌, ◌<◌, IfOk};
 ghost use Rattle.unit_state.specs.Serials.{IsOpening};
 
 use block_file::{Blocks, Opener};

@@ -1,10 +1,6 @@
 //! One unit that threads share.
-ghost use Rattle.std.specs.Prelude.{◌≡◌, ◌≤◌, ◌&&◌, [], length, IfOk, IfErr, IsTrue, MatchBool, All, List};
-ghost use mathlib.Core.List.{IsPrefix};
+ghost use Rattle.std.specs.Prelude.{◌≡◌, ◌≤◌, ◌&&◌, [], length, IfOk, IfErr, MatchBool, All, List};
 ghost use Rattle.registrants.specs.Nexus.{IsPortName, through};
-ghost use Rattle.unit_control.specs.State.{state_of};
-ghost use Rattle.unit_state.specs.Serials.{IsOpening};
-ghost use Rattle.unit_entries.specs.Histories.{IsBehind, IsHistory};
 ghost use Rattle.unit_history.specs.Calls.{HasAttached, HasNoRoom, HasServed, HasRefused, HasReset, WasGone, HasRetired};
 ghost use Rattle.unit_history.specs.Calls.{HasFlushed, HasMoved, HasStayed, HasWorked, HaveMet};
 ghost use Rattle.unit_entries.specs.Devices.{devices};
@@ -48,9 +44,15 @@ pub type Seat<B, R, O, N, const U: usize> = BoardSeat<
 
 /// The unit at a place of an array, which all threads share: each call of any session is one step of it, at one point of one
 /// history.
-#[derive(Drop)]
 pub struct SharedUnit<B: Blocks, R: Blocks, O: Opener<B>, N: Array<Opened>, const U: usize> {
     unit: locked_unit::SharedUnit<Noted, Opened, Unit<B, R, O>, N, U>,
+}
+
+impl<B: Blocks + Drop, R: Blocks + Drop, O: Opener<B> + Drop, N: Array<Opened>, const U: usize> Drop
+    for SharedUnit<B, R, O, N, U> {
+    fn drop(self) {
+        let Self { unit: _ } = self;
+    }
 }
 
 impl<B: Blocks, R: Blocks, O: Opener<B>, N: Array<Opened>, const U: usize> SharedUnit<

@@ -1,12 +1,12 @@
 //! What a command is answered.
-ghost use Rattle.std.specs.Prelude.{◌≡◌, ◌≢◌, ◌+◌, ◌++◌, ◌&&◌, ℕ, List, [], false, true, Bool, IsTrue, IfOk, OnErr, Ok, length};
+ghost use Rattle.std.specs.Prelude.{◌≡◌, ◌≢◌, ◌+◌, ◌++◌, ◌&&◌, ℕ, false, IsTrue, IfOk, OnErr, Ok};
 ghost use Rattle.block_file.specs.Failures.{Tells};
 ghost use Rattle.unit_control.specs.Answer.{IsAnswer, IsServed, Lasts};
 ghost use Rattle.access_states.specs.AccessMap.{owner_of};
 ghost use Rattle.unit_control.specs.Choice.{IsFine, choice_of};
 ghost use Rattle.unit_control.specs.Counts.{AreCounted, counters};
 ghost use Rattle.unit_control.specs.Crash.{HoldsAsBefore, LeavesAmong, holds_after, holds_with, saved_of, saved_with};
-ghost use Rattle.unit_control.specs.Medium.{Done, Fits, is_medium, work_of, work_asked};
+ghost use Rattle.unit_control.specs.Medium.{Fits, is_medium, work_of, work_asked};
 ghost use Rattle.identity.specs.SenseData.{told_sense};
 ghost use Rattle.identity.specs.Table.{cut};
 ghost use Rattle.scsi_types.specs.Sense.{sense_bytes};

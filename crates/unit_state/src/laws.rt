@@ -1,6 +1,6 @@
 //! What the model of a unit says, in a storage engineer's words.
 ghost use Rattle.std.specs.Prelude.{◌≡◌, ◌≢◌, IsSome, IsTrue, false, ◌+◌, ◌*◌, ◌<◌, ◌≤◌, if◌then◌else◌, ◌↔◌, ℕ, Bool, true, List, [], ◌∷◌};
-ghost use Rattle.std.specs.Prelude.{◌++◌, length, take, Option, Some, None, Ok, Result};
+ghost use Rattle.std.specs.Prelude.{◌++◌, length, take, Some, None, Ok, Result};
 ghost use Rattle.scsi_types.specs.ReplyValue.{ReplyValue, check, conflict, good};
 ghost use Rattle.scsi_types.specs.declared.names.Group.{Group};
 ghost use Rattle.scsi_types.specs.declared.command.Command.{Command as ScsiCommand};

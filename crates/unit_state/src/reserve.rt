@@ -1,5 +1,5 @@
 //! PERSISTENT RESERVE IN and OUT (SPC-4, 6.15 and 6.16).
-ghost use Rattle.std.specs.Prelude.{◌≡◌, ◌<◌, ◌≤◌, length, IfOk, OnErr};
+ghost use Rattle.std.specs.Prelude.{◌≡◌, ◌<◌, ◌≤◌, length, IfOk};
 ghost use Rattle.identity.specs.Table.{cut};
 ghost use Rattle.unit_control.specs.Reserve.{flag_of, in_data, pr_out};
 

@@ -1,5 +1,5 @@
 //! The rules that refuse a command, in their order.
-ghost use Rattle.std.specs.Prelude.{◌≡◌, ◌+◌, ◌&&◌, ℕ, List, Ok, Some, None, nat_lt, nat_le, if◌then◌else◌};
+ghost use Rattle.std.specs.Prelude.{◌≡◌, ◌+◌, ◌&&◌, ℕ, List, Ok, Some, None, if◌then◌else◌};
 ghost use Rattle.std.specs.Prelude.{MatchResult};
 ghost use Rattle.unit_control.specs.Medium.{is_too_long, range_of, work_asked, work_of};
 ghost use Rattle.unit_control.specs.Ops.{access_of, passes_attention};

@@ -1,4 +1,4 @@
-ghost use Rattle.std.specs.Prelude.{IfSome, ◌≡◌, ◌≢◌, ◌<◌, ◌≤◌, ◌++◌, ◌&&◌, ◌↔◌, false, Err, [], ◌∷◌, IfOk, OnOk, OnErr, IsErr};
+ghost use Rattle.std.specs.Prelude.{◌≡◌, ◌≢◌, ◌<◌, ◌≤◌, ◌++◌, ◌&&◌, ◌↔◌, false, Err, [], ◌∷◌, IfOk, OnOk, OnErr, IsErr};
 ghost use Rattle.block_file.specs.Disk.{Only};
 ghost use Rattle.block_file.specs.Failures.{Counts, Tells};
 ghost use Rattle.aptpl_file.specs.Lasts.{EachOutcomeHolds, LastsAmong, StopsAt};
@@ -71,8 +71,8 @@ impl<B: Blocks, R: Blocks, O: Opener<B>> Model for Unit<B, R, O> {
 }
 
 impl<B: Blocks, R: Blocks, O: Opener<B>> Unit<B, R, O> {
-    ghost use Rattle.scsi_types.specs.Nexus.{Port, Nexus};
-    ghost use Rattle.unit_control.specs.State.{UnitState, UnitValue, opening_control, state_of, failures_of};
+    ghost use Rattle.scsi_types.specs.Nexus.{Nexus};
+    ghost use Rattle.unit_control.specs.State.{UnitValue, opening_control, state_of, failures_of};
     ghost use Rattle.access_states.specs.AccessMap.{owner_of};
     ghost use Rattle.unit_control.specs.Choice.{IsFine, choice_of};
     ghost use Rattle.unit_control.specs.Counts.{AreCounted, counters_of};

@@ -1,5 +1,6 @@
 //! Tests of a logical unit over its public calls: each table is a text with rows of what sessions ask, and of what is answered. Beside
-//! them stand a loss of power at each call of its devices, and the registration file by itself.
+//! them stand a loss of power at each call of its devices, the registration file by itself, the rules that stand below a unit
+//! (`rules`), and disks that are files (`files`).
 #![tactic(auto)]
 
 #[cfg(test)]
@@ -11,6 +12,8 @@ mod failing;
 #[cfg(test)]
 mod fencing;
 #[cfg(test)]
+mod files;
+#[cfg(test)]
 mod identities;
 #[cfg(test)]
 mod lasting;
@@ -20,6 +23,8 @@ mod medium;
 mod reg_file;
 #[cfg(test)]
 mod rows;
+#[cfg(test)]
+mod rules;
 #[cfg(test)]
 mod run;
 #[cfg(test)]

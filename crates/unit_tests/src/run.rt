@@ -82,8 +82,14 @@ fn behind(
 /// Makes the call of a row, which ends as it says.
 pub fn make(rt: &impl Abort, alloc: Global, bench: &mut Bench, setup: &Setup, row: &Row) {
     let ended = bench.call(rt, alloc, row);
-    assert!(rt;
-        is_met(rt, alloc, &ended, row),
+    if !is_met(rt, alloc, &ended, row) {
+        differs(rt, setup, row, &ended);
+    }
+}
+
+// The call of a row ended otherwise.
+fn differs(rt: &impl Abort, setup: &Setup, row: &Row, ended: &Ended) {
+    panic!(rt;
         "{}, {} ({}): {ended:?}, {}+{}, {}+{}, {:?}",
         setup.script,
         row.text,

@@ -1,6 +1,6 @@
 //! The commands that wait for their data (RFC 7143, 11.7 and 11.8).
-ghost use Rattle.std.specs.Prelude.{◌≡◌, ◌<◌, ◌≤◌, ◌+◌, ◌++◌, ℕ, ◌∷◌, ◌↔◌, List, [], length, take, drop, nat_le, nat_lt, not, false, vec_capacity, IsTrue, IfOk, IfSome, MatchOption, Result, Some, None};
-ghost use Rattle.scsi_types.specs.Cdb.{Means, need_of};
+ghost use Rattle.std.specs.Prelude.{◌≡◌, ◌<◌, ◌≤◌, ◌+◌, ◌++◌, ℕ, ◌∷◌, ◌↔◌, List, [], length, take, nat_le, nat_lt, not, vec_capacity, IsTrue, IfOk, IfSome, MatchOption, Result, Some, None};
+ghost use Rattle.scsi_types.specs.Cdb.{need_of};
 ghost use Rattle.scsi_types.specs.declared.command.Command.{Command};
 ghost use Rattle.scsi_types.specs.declared.command.CdbFault.{CdbFault};
 ghost use Rattle.std.specs.List.{list_any, count_by, filter, find};
@@ -24,7 +24,7 @@ pub const MOST_WAITING: usize = 33;
 const MOST_SPARES: usize = 4;
 
 /// What an R2T is sent with: its numbers, its Target Transfer Tag, and the length that a burst has at most.
-#[derive(Clone, Copy, Debug)]
+#[derive(Clone, Copy)]
 pub struct R2tWith {
     pub numbers: Numbers,
     pub transfer_tag: u32,
@@ -48,7 +48,7 @@ fn r2t(command: &ScsiCommand, need: u32, came: usize, count: u32, with: R2tWith)
 }
 
 /// A command that waits for data: an R2T is outstanding.
-#[derive(Debug, Drop)]
+#[derive(Drop)]
 pub struct WaitingCommand {
     command: ScsiCommand,
     asked: Asked,
@@ -207,7 +207,7 @@ impl WaitingCommand {
 }
 
 /// A command with its data.
-#[derive(Debug, Drop)]
+#[derive(Drop)]
 pub struct Collected {
     pub command: ScsiCommand,
     pub asked: Asked,
@@ -217,7 +217,7 @@ pub struct Collected {
 
 /// The commands that wait for their data, in the order in which they came, in memory that was taken once. Some buffers of
 /// those that wait no more are kept for others, so that most take none.
-#[derive(Debug, Drop)]
+#[derive(Drop)]
 pub struct WaitingCommands {
     slots: Vec<WaitingCommand>,
     spares: Vec<Vec<u8>>,

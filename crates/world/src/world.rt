@@ -1,5 +1,5 @@
 //! The world.
-ghost use Rattle.std.specs.Prelude.{◌≡◌, ◌<◌, ◌↔◌, ◌&&◌, [], ℕ, All, IfOk, IfErr, IfSome, IsTrue, MatchOption, OnOk, OnErr, length, slice_get, take};
+ghost use Rattle.std.specs.Prelude.{◌≡◌, ◌<◌, ◌↔◌, ◌&&◌, [], ℕ, All, IfOk, IsTrue, MatchOption, OnOk, OnErr, length, slice_get, take};
 ghost use Rattle.registrants.specs.Nexus.{IsPortName};
 ghost use Rattle.unit_state.specs.Serials.{IsOpening};
 ghost use Rattle.world.specs.Traffic.{IsTakenBack, begun, begun_again, closed, collected, given, new_job, no_traffic, posted};

@@ -1,5 +1,5 @@
 //! Units 0 and 1 of an array in memory as a world, and the events of a row.
-ghost use Rattle.std.specs.Prelude.{◌≡◌, IfOk};
+ghost use Rattle.std.specs.Prelude.{IfOk};
 ghost use Rattle.unit_state.specs.Serials.{IsOpening};
 
 use crate::events::rows::{Act, Asks};

@@ -7,7 +7,8 @@ use std::process::Abort;
 use std::test::*;
 
 // A line has a key, an offer in stage 1, the answer to it or `-` for none, and the key's value in force then (`Value`).
-const LISTS_OF_WORDS: &str = "
+fn lists_of_words() -> &'static str {
+    "
 AuthMethod AuthMethod=None AuthMethod=None Word(Unused)
 AuthMethod AuthMethod=CHAP,None AuthMethod=None Word(Unused)
 AuthMethod InitiatorAlias=a - Unset
@@ -24,9 +25,11 @@ TaskReporting TaskReporting=RFC3720 TaskReporting=RFC3720 Word(Rfc3720)
 TaskReporting TaskReporting=FastAbort,ResponseFence,RFC3720 TaskReporting=RFC3720 Word(Rfc3720)
 TaskReporting TaskReporting=FastAbort TaskReporting=Reject Word(Rfc3720)
 TaskReporting InitiatorAlias=a - Word(Rfc3720)
-";
+"
+}
 
-const BOOLEANS: &str = "
+fn booleans() -> &'static str {
+    "
 InitialR2T InitialR2T=Yes InitialR2T=Yes Flag(true)
 InitialR2T InitialR2T=No InitialR2T=Yes Flag(true)
 InitialR2T InitialR2T=yes InitialR2T=Reject Flag(true)
@@ -48,9 +51,11 @@ IFMarker InitiatorAlias=a - Flag(false)
 OFMarker OFMarker=Yes OFMarker=No Flag(false)
 OFMarker OFMarker= OFMarker=Reject Flag(false)
 OFMarker InitiatorAlias=a - Flag(false)
-";
+"
+}
 
-const TEXTS_AND_UNKNOWN_KEYS: &str = "
+fn texts_and_unknown_keys() -> &'static str {
+    "
 IFMarkInt IFMarkInt=2048~65535 IFMarkInt=Reject Unset
 OFMarkInt OFMarkInt=1 OFMarkInt=Reject Unset
 InitiatorName InitiatorName=iqn.2000-01.test:b - Unset
@@ -64,9 +69,11 @@ InitialR2T InitiatorRecvDataSegmentLength=8192 InitiatorRecvDataSegmentLength=No
 InitialR2T iSCSIProtocolLevel=1 iSCSIProtocolLevel=NotUnderstood Flag(true)
 InitialR2T SendTargets=All SendTargets=NotUnderstood Flag(true)
 InitialR2T initialr2t=No initialr2t=NotUnderstood Flag(true)
-";
+"
+}
 
-const LENGTHS: &str = "
+fn lengths() -> &'static str {
+    "
 MaxBurstLength MaxBurstLength=511 MaxBurstLength=Reject Number(262144)
 MaxBurstLength MaxBurstLength=512 MaxBurstLength=512 Number(512)
 MaxBurstLength MaxBurstLength=262145 MaxBurstLength=262144 Number(262144)
@@ -91,9 +98,11 @@ MaxRecvDataSegmentLength MaxRecvDataSegmentLength=16777215 - Number(16777215)
 MaxRecvDataSegmentLength MaxRecvDataSegmentLength=16777216 MaxRecvDataSegmentLength=Reject Number(8192)
 MaxRecvDataSegmentLength MaxRecvDataSegmentLength=Yes MaxRecvDataSegmentLength=Reject Number(8192)
 MaxRecvDataSegmentLength InitiatorAlias=a - Number(8192)
-";
+"
+}
 
-const NUMBERS: &str = "
+fn numbers() -> &'static str {
+    "
 MaxConnections MaxConnections=0 MaxConnections=Reject Number(1)
 MaxConnections MaxConnections=8 MaxConnections=1 Number(1)
 MaxConnections MaxConnections=65536 MaxConnections=Reject Number(1)
@@ -119,15 +128,8 @@ ErrorRecoveryLevel ErrorRecoveryLevel=2 ErrorRecoveryLevel=0 Number(0)
 ErrorRecoveryLevel ErrorRecoveryLevel=3 ErrorRecoveryLevel=Reject Number(0)
 ErrorRecoveryLevel ErrorRecoveryLevel=No ErrorRecoveryLevel=Reject Number(0)
 ErrorRecoveryLevel InitiatorAlias=a - Number(0)
-";
-
-const TABLES: &[&str] = &[
-    LISTS_OF_WORDS,
-    BOOLEANS,
-    TEXTS_AND_UNKNOWN_KEYS,
-    LENGTHS,
-    NUMBERS,
-];
+"
+}
 
 // A word of a line, counted from 0.
 fn word(line: &str, at: usize) -> &str {
@@ -178,7 +180,13 @@ fn check_value(rt: &impl Abort, alloc: Global, line: &str) {
 
 #[test]
 fn each_key(rt: HostRuntime) {
-    for rows in TABLES {
+    for rows in &[
+        lists_of_words(),
+        booleans(),
+        texts_and_unknown_keys(),
+        lengths(),
+        numbers(),
+    ] {
         for line in rows.trim().split('\n') {
             check_answer(&rt, rt.alloc(), line);
             check_value(&rt, rt.alloc(), line);

@@ -1,5 +1,6 @@
 //! What an initiator asks first, from bytes to bytes.
-pub const ROWS: &str = r#"
+pub fn rows() -> &'static str {
+    r#"
 # The answer's 36 bytes are fewer than the 255 that were expected.
 INQUIRY
 > TEST_UNIT_READY 1:C1 20:000000FF 32:12000000FF
@@ -39,4 +40,5 @@ MODE SENSE (6) of all pages
 > TEST_UNIT_READY 1:C1 20:00000024 32:1A003F0024
 < DATA_IN 5:000024 2300100008120400000000000000000000000000000000000A0A00100000000000000000
 < GOOD 36:00000001
-"#;
+"#
+}

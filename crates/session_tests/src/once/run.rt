@@ -118,15 +118,14 @@ fn run_row(rt: &impl Abort, alloc: Global, row: &Row<'_>) {
     }
 }
 
-const TABLES: &[Table] = &[
-    ("worked examples of a session", examples::ROWS),
-    ("what an initiator asks first", first_questions::ROWS),
-    ("medium commands", medium::ROWS),
-];
-
 #[test]
 fn sessions_of_one_unit(rt: HostRuntime) {
-    for (table, rows) in TABLES {
+    let tables: [Table; 3] = [
+        ("worked examples of a session", examples::rows()),
+        ("what an initiator asks first", first_questions::rows()),
+        ("medium commands", medium::rows()),
+    ];
+    for (table, rows) in &tables {
         for text in rows.split("\n\n") {
             run_row(&rt, rt.alloc(), &Row::read(&rt, rt.alloc(), table, text));
         }

@@ -8,7 +8,8 @@ use std::test::*;
 
 // A name, a figure and its fault. Each row has the faults behind its own too. Behind each figure stand one byte of data and
 // 1, 0, 0.
-const ROWS: &str = "
+fn rows() -> &'static str {
+    "
 opcode 07h; 07E10000 01010001 0 0 1 0 1 1 0 0 0 0; UnknownOpcode
 SNACK; 10800000 01010001 0 0 1 0 1 1 0 0 0 0; UnknownOpcode
 opcode 1Fh; 1F800000 0 0 0 1 0 1 1 0 0 0 0; UnknownOpcode
@@ -33,7 +34,8 @@ a number behind the times of a Logout Response; 26800000 1 0 0 1 0 1 1 1 0 0 1; 
 an R2T with other flags; 31810000 1 0 0 1 0 1 1 1 0 0 1; BadReserved
 a Reject's tag; 3F800900 1 0 0 FFFFFFFE 0 1 1 1 0 0 0; BadReserved
 padding of a Reject; 3F800900 1 0 0 FFFFFFFF 0 1 1 1 0 0 0; NonZeroPad
-";
+"
+}
 
 fn check(rt: &impl Abort, alloc: Global, row: &str) {
     let (name, row) = row.split_once(';').expect(rt, row);
@@ -69,7 +71,7 @@ fn expect_fault(rt: &impl Abort, alloc: Global, bytes: &[u8], want: &str, name: 
 #[test]
 fn each_fault_is_found_first_and_in_time(rt: HostRuntime) {
     let alloc = rt.alloc();
-    for row in ROWS.trim().split('\n') {
+    for row in rows().trim().split('\n') {
         check(&rt, alloc, row);
     }
 }

@@ -22,7 +22,7 @@ pub struct Call {
 }
 
 /// How far the calls of a device came: so many were done, and of the next one, where it writes, so many blocks landed.
-#[derive(Clone, Copy, Debug)]
+#[derive(Clone, Copy)]
 pub struct Reach {
     pub calls: usize,
     pub landed: u32,

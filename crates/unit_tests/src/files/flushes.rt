@@ -1,7 +1,7 @@
 //! Flushes after one that failed.
 ghost use Rattle.std.specs.Prelude.{[], false, refl};
 
-use crate::files::{device_of, want, writes};
+use crate::files::runs::{device_of, want, writes};
 use block_file::Blocks;
 use disk_files::{BackingFile, FileBlocks, FlushFault, Flushes, LastingFile};
 use std::alloc::Global;

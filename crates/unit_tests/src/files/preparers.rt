@@ -1,5 +1,5 @@
 //! Preparers that cannot prepare: the device does the same.
-use crate::files::{beside, disk, make, opened, reads, want, writes};
+use crate::files::runs::{beside, disk, make, opened, reads, want, writes};
 use block_file::Blocks;
 use disk_files::{FileBlocks, FilePreparer};
 use preparer::Preparer;

@@ -5,8 +5,8 @@ ghost use Rattle.block_file.specs.Cut.{run_of};
 ghost use Rattle.block_file.specs.Disk.{block_at};
 ghost use Rattle.disk_files.specs.Backing.{put};
 
-use crate::disks::{flush_three, lie_in_turn, read_them, write_three};
-use crate::files::{device_of, want};
+use crate::files::disks::{flush_three, lie_in_turn, read_them, write_three};
+use crate::files::runs::{device_of, want};
 use block_file::Blocks;
 use disk_files::{BackingFile, FileBlocks};
 use std::alloc::{AllocError, Global};

@@ -1,5 +1,5 @@
 //! A disk that is a file: what is written, and what becomes of it.
-use crate::files::{beside, made, make, opened, reads, want, writes};
+use crate::files::runs::{beside, made, make, opened, reads, want, writes};
 use block_file::{Blocks, Opener};
 use disk_files::Disk;
 use std::fs;

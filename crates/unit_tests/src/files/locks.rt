@@ -1,5 +1,5 @@
 //! One server a disk.
-use crate::files::{beside, disk, made, make, opened, want};
+use crate::files::runs::{beside, disk, made, make, opened, want};
 use disk_files::{DiskFault, FileFault, open_disk};
 use std::fs;
 use std::test::Fail;

@@ -1,5 +1,5 @@
 //! ALL_TG_PT: one registration for every port. The bit counts in the two actions that register; the others ignore it.
-use crate::registrations::run::{run, run_each};
+use crate::rules::registrations::run::{run, run_each};
 use std::test::*;
 
 const ROWS: &str = "

@@ -1,5 +1,5 @@
 //! Who may read and write beside a reservation of each type (SPC-4, 5.13.1).
-use crate::registrations::run::run;
+use crate::rules::registrations::run::run;
 use std::test::*;
 
 const ROWS: &str = "

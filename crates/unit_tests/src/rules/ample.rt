@@ -1,6 +1,6 @@
 //! Calls that may want memory, each with enough of it. `unit_tests` has more of what a unit says of itself, in `identities.rt` and
 //! `access.rt`.
-use crate::scsi::cdbs::cdb;
+use crate::rules::scsi::cdbs::cdb;
 use access_states::AccessMap;
 use identity::{
     absent, inquiry, mode_sense, read_capacity_10, read_capacity_16, report_luns, request_sense,

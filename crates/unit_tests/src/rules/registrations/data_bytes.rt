@@ -1,5 +1,5 @@
 //! The data of PERSISTENT RESERVE IN, byte for byte; flags; and what lasts.
-use crate::registrations::run::run;
+use crate::rules::registrations::run::run;
 use std::test::*;
 
 const ROWS: &str = r#"

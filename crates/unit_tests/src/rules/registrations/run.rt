@@ -25,7 +25,7 @@
 ghost use Rattle.std.specs.Prelude.{IfOk};
 ghost use Rattle.registrants.specs.Nexus.{IsPortName};
 
-use crate::registrations::row::{NAMES, Who, request_of, who_named, word};
+use crate::rules::registrations::row::{NAMES, Who, request_of, who_named, word};
 use reservations::{Access, PrEnd, Registry};
 use scsi_types::{NoMemory, PortName};
 use std::alloc::Global;

@@ -1,6 +1,6 @@
 //! Each action by each kind of nexus: the holder, the same port through the other group, the same name with another
 //! ISID, another registrant, and one that isn't registered.
-use crate::registrations::run::run_each;
+use crate::rules::registrations::run::run_each;
 use std::test::*;
 
 // A holds type 5 with the key 11h; its port is registered with that key through the other group too, and B with 22h.

@@ -1,7 +1,7 @@
 use Rattle.std.proofs.Common.{◌∙◌, ap, ℕ}
 use Rattle.disk_files.specs.Backing.{put}
-use Rattle.file_tests.proofs.WholeWrites.{is_done, done_adds}
-use Rattle.file_tests.proofs.memory.MemFileBackingFile.write_at.Goals as goal
+use Rattle.unit_tests.proofs.WholeWrites.{is_done, done_adds}
+use Rattle.unit_tests.proofs.files.memory.MemFileBackingFile.write_at.Goals as goal
 
 pub returns-clause-torn : goal.returns-clause-torn
 returns-clause-torn c claims lies =

@@ -1,5 +1,5 @@
 //! Which files are devices of blocks.
-use crate::files::{disk, make, want};
+use crate::files::runs::{disk, make, want};
 use block_file::Blocks;
 use disk_files::{FileBlocks, FileFault, blocks_in};
 use std::test::Fail;

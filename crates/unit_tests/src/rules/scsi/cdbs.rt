@@ -1,6 +1,6 @@
 //! CDBs, and what they ask for, as lines of text: a name, a CDB in hexadecimal digits, and what it asks for in the form of `Debug`
 //! without its commas, and with its numbers in hexadecimal digits too.
-use crate::scsi::{commands, faults};
+use crate::rules::scsi::{commands, faults};
 use scsi_types::decode;
 use std::alloc::Global;
 use std::process::Abort;

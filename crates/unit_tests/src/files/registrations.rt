@@ -1,5 +1,5 @@
 //! The registration file beside a disk.
-use crate::files::{beside, disk, want};
+use crate::files::runs::{beside, disk, want};
 use aptpl_file::{OpenFault, RegFile};
 use disk_files::{FileBlocks, FileFault, RegistrationsFault, open_registrations};
 use reservations::{PrOut, Record, Registry};

@@ -1,5 +1,5 @@
 //! Scripts over several steps.
-use crate::registrations::run::run;
+use crate::rules::registrations::run::run;
 use std::test::*;
 
 const ROWS: &str = "

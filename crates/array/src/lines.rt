@@ -7,7 +7,7 @@ use std::io::{self, BufRead, Write};
 use std::str;
 
 /// What `status` tells of a unit.
-#[derive(Clone, Copy, Debug, PartialEq, Eq)]
+#[derive(Clone, Copy, PartialEq, Eq)]
 pub struct UnitStatus {
     /// The unit's number.
     pub unit: u8,
