@@ -1,7 +1,6 @@
+pub mod Actions
 pub mod Appended
-pub mod EachPort
-pub mod EveryRow
+pub mod EveryRequest
 pub mod Hearing
-pub mod OnePort
-pub mod Rows
+pub mod Room
 pub mod Sound

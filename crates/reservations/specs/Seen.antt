@@ -4,8 +4,7 @@ use Rattle.reservations.specs.declared.request.PrEnd.{PrEnd}
 use Rattle.reservations.specs.declared.request.PrOut.{PrOut}
 use Rattle.reservations.specs.declared.table.Table.{Table}
 use Rattle.registrants.specs.Registry.{RegistryValue}
-use Rattle.reservations.specs.Rows.{PrRow, effect}
-use Rattle.reservations.specs.Table.{IsAnswer}
+use Rattle.reservations.specs.Table.{Effect, IsAnswer}
 
 abbrev pub value_of : Table → RegistryValue
 value_of t = record {
@@ -15,11 +14,6 @@ value_of t = record {
   generation = t.generation;
 }
 
--- the call did what this row says
-abbrev pub Does : PrRow → Table → Table → Nexus → PrOut → PrEnd → Type 0
-Does row old new n q end = IsAnswer end (effect row (value_of old) n q) (value_of old) (value_of new)
-
--- the same of the row that a function gives
-abbrev pub DoesRow : (RegistryValue → Nexus → PrOut → PrRow) → Table → Table → Nexus → PrOut → PrEnd → Type 0
-DoesRow row old new n q end =
-    IsAnswer end (effect (row (value_of old) n q) (value_of old) n q) (value_of old) (value_of new)
+-- the call ended in what the table has for the request
+abbrev pub Does : (RegistryValue → Nexus → PrOut → Effect) → Table → Table → Nexus → PrOut → PrEnd → Type 0
+Does what old new n q end = IsAnswer end (what (value_of old) n q) (value_of old) (value_of new)

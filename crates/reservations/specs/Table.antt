@@ -1,92 +1,251 @@
--- The row that fits a request, and what it does: the table of `Rows` read as a function. A law says that this row fits
--- and that no other does.
-use Rattle.std.specs.Prelude.{◌≡◌, nat_eq, if◌then◌else◌, is_some}
+-- What a PERSISTENT RESERVE OUT does (SPC-4, 5.13 and 6.16): the table of what is asked of the registry, the nexus that asks and
+-- the request, in this order, and of what each row does then.
+use Rattle.std.specs.Prelude.{◌≡◌, ℕ, Bool, true, false, not, ◌&&◌, ◌||◌, nat_eq, nat_lt, IsTrue, IsFalse}
+use Rattle.std.specs.Prelude.{List, [], length, Option, Some, None, is_some, if◌then◌else◌}
+use Rattle.std.specs.Option.{option_map}
 use Rattle.scsi_types.specs.Nexus.{Nexus}
 use Rattle.scsi_types.specs.declared.reservation.PrOutAction.{PrOutAction}
 use Rattle.scsi_types.specs.declared.reservation.PrOutAction.TheVariants.{Register, Reserve, Release, Clear}
 use Rattle.scsi_types.specs.declared.reservation.PrOutAction.TheVariants.{Preempt, PreemptAndAbort}
 use Rattle.scsi_types.specs.declared.reservation.PrOutAction.TheVariants.{RegisterAndIgnoreExistingKey}
+use Rattle.scsi_types.specs.declared.attention.UnitAttention.TheVariants.{ReservationsPreempted}
+use Rattle.scsi_types.specs.declared.attention.UnitAttention.TheVariants.{ReservationsReleased}
+use Rattle.scsi_types.specs.declared.attention.UnitAttention.TheVariants.{RegistrationsPreempted}
+use Rattle.reservations.specs.declared.notice.Notice.{Notice}
+use Rattle.reservations.specs.declared.notice.Notice.TheVariants.{Nothing, ToAll, ToOtherPorts, OfPreempted}
+use Rattle.registrants.specs.declared.registrant.Registrant.{Registrant}
+use Rattle.registrants.specs.declared.registrant.Reservation.{Reservation}
 use Rattle.reservations.specs.declared.request.PrEnd.{PrEnd}
 use Rattle.reservations.specs.declared.request.PrEnd.TheVariants.{Good, Conflict, Illegal, TableFull}
 use Rattle.reservations.specs.declared.request.PrOut.{PrOut}
-use Rattle.reservations.specs.Notice.{tellings}
-use Rattle.registrants.specs.Registry.{RegistryValue, key_of, is_key, is_sole_holder}
-use Rattle.reservations.specs.Rows.{PrRow, ReserveField, ParameterField, KeyConflict, RegistersNothing}
-use Rattle.reservations.specs.Rows.{RegistersNobodyMore, Registers, ChangesKey, HolderUnregisters}
-use Rattle.reservations.specs.Rows.{OtherUnregisters, PortsRegisterNothing, PortsRegisterNobodyMore, PortsRegister}
-use Rattle.reservations.specs.Rows.{PortsOfHolderUnregister, PortsUnregister, Reserves, ReservesAgain, ReservesBesideAnother}
-use Rattle.reservations.specs.Rows.{ReleasesNothing, ReleasesAnotherType, Releases, Clears, PreemptField}
-use Rattle.reservations.specs.Rows.{PreemptsHolder, PreemptsAll, PreemptsKeyZero, PreemptsNobody}
-use Rattle.reservations.specs.Rows.{PreemptsRegistrants, Effect, Done, Conflicting, Refused, Full, effect}
-use Rattle.reservations.specs.Rows.{names_type, is_bad_reserve, shows_key, has_room_for, ports_with, is_port_in, is_port_holder}
-use Rattle.reservations.specs.Rows.{is_preempting_holder, is_preempting_reservation, has_room, holds}
-use Rattle.reservations.specs.Rows.{holds_its_type, is_in, names_it}
+use Rattle.registrants.specs.Kind.{is_of_registrants, type_of}
+use Rattle.registrants.specs.Nexus.{other_nexus}
+use Rattle.reservations.specs.Notice.{Told, told_of, tellings}
+use Rattle.registrants.specs.Registry.{RegistryValue, key_of, is_registered, is_key, is_held_by}
+use Rattle.registrants.specs.Registry.{is_sole_holder, is_holders_key, is_held_by_all, is_of_code, made_by}
+use Rattle.registrants.specs.Registry.{others, only, without_key}
+use Rattle.registrants.specs.Registry.{most_registrants, registered_by, without_others_of_key, left_to, counted}
 
-abbrev pub row_of_leaving : RegistryValue → Nexus → PrOut → PrRow
-row_of_leaving r n q = if is_sole_holder r.reservation n then HolderUnregisters else OtherUnregisters
+-- ---- words of the conditions
 
-abbrev pub row_of_one : RegistryValue → Nexus → PrOut → PrRow
-row_of_one r n q =
-    if is_in r n then
-    (if nat_eq q.sakey 0 then row_of_leaving r n q else ChangesKey)
-    else if nat_eq q.sakey 0 then RegistersNothing
-    else if has_room r then Registers
-    else RegistersNobodyMore
+-- SCOPE is the logical unit, and TYPE a type
+abbrev pub names_type : PrOut → Bool
+names_type q = nat_eq q.scope 0 && is_some (type_of q.kind)
 
-abbrev pub row_of_ports_leaving : RegistryValue → Nexus → PrOut → PrRow
-row_of_ports_leaving r n q =
-    if is_port_in r n then
-    (if is_port_holder r n then PortsOfHolderUnregister else PortsUnregister)
-    else PortsRegisterNothing
+-- the two service actions that register
+abbrev pub is_registering : PrOutAction → Bool
+is_registering Register = true
+is_registering Reserve = false
+is_registering Release = false
+is_registering Clear = false
+is_registering Preempt = false
+is_registering PreemptAndAbort = false
+is_registering RegisterAndIgnoreExistingKey = true
 
-abbrev pub row_of_ports : RegistryValue → Nexus → PrOut → PrRow
-row_of_ports r n q =
-    if nat_eq q.sakey 0 then row_of_ports_leaving r n q
-    else if has_room_for (ports_with n q.sakey r.registrants) then PortsRegister
-    else PortsRegisterNobodyMore
+-- the service actions that PRGENERATION counts (SPC-4, 5.13.3): all but RESERVE and RELEASE
+abbrev pub is_counted : PrOutAction → Bool
+is_counted Register = true
+is_counted Reserve = false
+is_counted Release = false
+is_counted Clear = true
+is_counted Preempt = true
+is_counted PreemptAndAbort = true
+is_counted RegisterAndIgnoreExistingKey = true
 
-abbrev pub row_of_register : RegistryValue → Nexus → PrOut → PrRow
-row_of_register r n q = if q.all_tg_pt then row_of_ports r n q else row_of_one r n q
+-- a RESERVE with a field that it may not have
+abbrev pub is_bad_reserve : PrOutAction → PrOut → Bool
+is_bad_reserve Register q = false
+is_bad_reserve Reserve q = not (names_type q)
+is_bad_reserve Release q = false
+is_bad_reserve Clear q = false
+is_bad_reserve Preempt q = false
+is_bad_reserve PreemptAndAbort q = false
+is_bad_reserve RegisterAndIgnoreExistingKey q = false
 
-abbrev pub row_of_reserve : RegistryValue → Nexus → PrOut → PrRow
-row_of_reserve r n q =
+-- The RESERVATION KEY that an action must show, by the key with which its nexus is registered: REGISTER of an
+-- unregistered nexus shows 0, REGISTER AND IGNORE EXISTING KEY anything, and every other action the nexus's own key.
+abbrev pub shows_key : PrOutAction → Option ℕ → ℕ → Bool
+shows_key Register None key = nat_eq key 0
+shows_key RegisterAndIgnoreExistingKey None key = true
+shows_key RegisterAndIgnoreExistingKey (Some own) key = true
+shows_key Reserve None key = false
+shows_key Release None key = false
+shows_key Clear None key = false
+shows_key Preempt None key = false
+shows_key PreemptAndAbort None key = false
+shows_key Register (Some own) key = nat_eq key own
+shows_key Reserve (Some own) key = nat_eq key own
+shows_key Release (Some own) key = nat_eq key own
+shows_key Clear (Some own) key = nat_eq key own
+shows_key Preempt (Some own) key = nat_eq key own
+shows_key PreemptAndAbort (Some own) key = nat_eq key own
+
+abbrev pub IsPreempting : PrOutAction → Type 0
+IsPreempting Register = ⊥
+IsPreempting Reserve = ⊥
+IsPreempting Release = ⊥
+IsPreempting Clear = ⊥
+IsPreempting Preempt = Unit {0}
+IsPreempting PreemptAndAbort = Unit {0}
+IsPreempting RegisterAndIgnoreExistingKey = ⊥
+
+-- PREEMPT of the reservation: its only holder's key, or 0 where every registrant holds
+abbrev pub is_preempting_holder : RegistryValue → PrOut → Bool
+is_preempting_holder r q = is_holders_key r.reservation r.registrants q.sakey
+
+abbrev pub is_preempting_all : RegistryValue → PrOut → Bool
+is_preempting_all r q = is_held_by_all r.reservation && nat_eq q.sakey 0
+
+abbrev pub is_preempting_reservation : RegistryValue → PrOut → Bool
+is_preempting_reservation r q = is_preempting_holder r q || is_preempting_all r q
+
+-- the nexus holds the reservation, or one of the request's type
+abbrev pub holds : RegistryValue → Nexus → Bool
+holds r n = is_held_by r.reservation r.registrants n
+
+abbrev pub holds_its_type : RegistryValue → Nexus → PrOut → Bool
+holds_its_type r n q = is_held_by r.reservation r.registrants n && is_of_code r.reservation q.kind
+
+-- SCOPE and TYPE are those of the reservation that there is
+abbrev pub names_it : RegistryValue → PrOut → Bool
+names_it r q = nat_eq q.scope 0 && is_of_code r.reservation q.kind
+
+-- ---- what a request ends in
+
+-- GOOD, with the registry afterwards and who is told what; or a refusal, after which the registry is as it was
+pub data Effect : Type 0 where
+  Done : RegistryValue → List Told → Effect
+  Conflicting : Effect
+  Refused : ℕ → ℕ → Effect
+  Full : Effect
+
+-- the reservation of the request's type, made by the nexus
+abbrev pub asked_for : Nexus → PrOut → Option Reservation
+asked_for n q = option_map (made_by n) (type_of q.kind)
+
+-- the other registered nexuses hear of the end of a reservation of types 5 to 8
+abbrev pub of_end : Option Reservation → Notice
+of_end None = Nothing
+of_end (Some held) = if is_of_registrants held.kind then ToAll ReservationsReleased else Nothing
+
+-- the same where the sender's port goes whole: each registrant of another port, which is who is registered afterwards
+abbrev pub of_end_elsewhere : Option Reservation → Notice
+of_end_elsewhere None = Nothing
+of_end_elsewhere (Some held) = if is_of_registrants held.kind then ToOtherPorts ReservationsReleased else Nothing
+
+-- they hear of it where it ended
+abbrev pub if_ended : RegistryValue → Notice → Notice
+if_ended new notice = if is_some new.reservation then Nothing else notice
+
+-- the registry in which just these registrants are left
+abbrev pub left_with : List Registrant → RegistryValue → RegistryValue
+left_with xs r = record r { registrants = xs; reservation = left_to xs r.reservation }
+
+-- ---- REGISTER, and REGISTER AND IGNORE EXISTING KEY (5.13.7, 5.13.11.2)
+
+-- the nexus is registered no more, and if it alone holds the reservation, that ends
+abbrev pub unregistered : RegistryValue → Nexus → RegistryValue
+unregistered r n =
+    if is_sole_holder r.reservation n then record r { registrants = others n r.registrants; reservation = None }
+    else left_with (others n r.registrants) r
+
+-- the key 0 takes a registration away, where there is one; another key is that of the nexus from now on
+abbrev pub registration : RegistryValue → Nexus → PrOut → RegistryValue
+registration r n q =
+    if nat_eq q.sakey 0 then (if is_registered r.registrants n then record (unregistered r n) { aptpl = q.aptpl } else r)
+    else record r { registrants = registered_by n q.sakey r.registrants; aptpl = q.aptpl }
+
+-- a key finds no room where too many were registered then
+abbrev pub is_too_much : PrOut → RegistryValue → Bool
+is_too_much q new = not (nat_eq q.sakey 0) && nat_lt most_registrants (length new.registrants)
+
+-- PRGENERATION counts the request once
+abbrev pub registered : RegistryValue → Nexus → PrOut → RegistryValue → Notice → Effect
+registered r n q new notice =
+    if is_too_much q new then Full else Done (counted new) (told_of n (if_ended new notice) r.registrants)
+
+-- ALL_TG_PT (6.16.3): the registration is made for the sender's nexus, and then for the other nexus of its port
+abbrev pub of_port : RegistryValue → Nexus → PrOut → RegistryValue
+of_port r n q = registration (registration r n q) (other_nexus n) q
+
+abbrev pub registering_one : RegistryValue → Nexus → PrOut → Effect
+registering_one r n q = registered r n q (registration r n q) (of_end r.reservation)
+
+abbrev pub registering_port : RegistryValue → Nexus → PrOut → Effect
+registering_port r n q = registered r n q (of_port r n q) (of_end_elsewhere r.reservation)
+
+abbrev pub registering : RegistryValue → Nexus → PrOut → Effect
+registering r n q = if q.all_tg_pt then registering_port r n q else registering_one r n q
+
+-- ---- RESERVE (5.13.9) and RELEASE (5.13.11.2)
+
+-- a holder may ask for what it has; else nobody may hold
+abbrev pub reserving : RegistryValue → Nexus → PrOut → Effect
+reserving r n q =
     if is_some r.reservation then
-    (if holds_its_type r n q then ReservesAgain else ReservesBesideAnother)
-    else Reserves
+    (if holds_its_type r n q then Done r [] else Conflicting)
+    else Done (record r { reservation = asked_for n q }) []
 
-abbrev pub row_of_release : RegistryValue → Nexus → PrOut → PrRow
-row_of_release r n q =
+-- who does not hold has nothing to release; who does has to name the reservation's scope and type
+abbrev pub releasing : RegistryValue → Nexus → PrOut → Effect
+releasing r n q =
     if holds r n then
-    (if names_it r q then Releases else ReleasesAnotherType)
-    else ReleasesNothing
+    (if names_it r q then Done (record r { reservation = None }) (told_of n (of_end r.reservation) r.registrants)
+     else Refused 0x26 0x04)
+    else Done r []
 
-abbrev pub row_of_preempt : RegistryValue → Nexus → PrOut → PrRow
-row_of_preempt r n q =
+-- ---- CLEAR, PREEMPT, and PREEMPT AND ABORT (5.13.11.3 to 5.13.11.5)
+
+abbrev pub clearing : RegistryValue → Nexus → PrOut → Effect
+clearing r n q =
+    Done (counted (record r { registrants = []; reservation = None })) (told_of n (ToAll ReservationsPreempted) r.registrants)
+
+-- the only holder and all with its key go, and the sender holds
+abbrev pub preempting_holder : RegistryValue → Nexus → PrOut → Effect
+preempting_holder r n q =
+    Done (counted (record r { registrants = without_others_of_key n q.sakey r.registrants; reservation = asked_for n q }))
+    (told_of n (OfPreempted q.sakey (not (is_of_code r.reservation q.kind))) r.registrants)
+
+-- all others go, and the sender holds
+abbrev pub preempting_all : RegistryValue → Nexus → PrOut → Effect
+preempting_all r n q =
+    Done (counted (record r { registrants = only n r.registrants; reservation = asked_for n q }))
+    (told_of n (ToAll RegistrationsPreempted) r.registrants)
+
+-- all with the key go, and the reservation stays while it has a holder
+abbrev pub preempting_registrants : RegistryValue → Nexus → PrOut → Effect
+preempting_registrants r n q =
+    Done (counted (left_with (without_key q.sakey r.registrants) r))
+    (told_of n (OfPreempted q.sakey false) r.registrants)
+
+-- the key may be that of the only holder, or 0 where all registrants hold; else somebody is registered with it
+abbrev pub preempting : RegistryValue → Nexus → PrOut → Effect
+preempting r n q =
     if is_preempting_reservation r q then
-    (if names_type q then (if is_preempting_holder r q then PreemptsHolder else PreemptsAll) else PreemptField)
-    else if nat_eq q.sakey 0 then PreemptsKeyZero
-    else if is_key r.registrants q.sakey then PreemptsRegistrants
-    else PreemptsNobody
+    (if names_type q then (if is_preempting_holder r q then preempting_holder r n q else preempting_all r n q)
+     else Refused 0x24 0x00)
+    else if nat_eq q.sakey 0 then Refused 0x26 0x00
+    else if is_key r.registrants q.sakey then preempting_registrants r n q
+    else Conflicting
 
-abbrev pub row_of_action : PrOutAction → RegistryValue → Nexus → PrOut → PrRow
-row_of_action Register r n q = row_of_register r n q
-row_of_action Reserve r n q = row_of_reserve r n q
-row_of_action Release r n q = row_of_release r n q
-row_of_action Clear r n q = Clears
-row_of_action Preempt r n q = row_of_preempt r n q
-row_of_action PreemptAndAbort r n q = row_of_preempt r n q
-row_of_action RegisterAndIgnoreExistingKey r n q = row_of_register r n q
+-- ---- the whole table
 
-abbrev pub row_of : RegistryValue → Nexus → PrOut → PrRow
-row_of r n q =
-    if is_bad_reserve q.action q then ReserveField
-    else if q.spec_i_pt then ParameterField
-    else if shows_key q.action (key_of r.registrants n) q.key then row_of_action q.action r n q
-    else KeyConflict
+abbrev pub effect_of_action : PrOutAction → RegistryValue → Nexus → PrOut → Effect
+effect_of_action Register r n q = registering r n q
+effect_of_action Reserve r n q = reserving r n q
+effect_of_action Release r n q = releasing r n q
+effect_of_action Clear r n q = clearing r n q
+effect_of_action Preempt r n q = preempting r n q
+effect_of_action PreemptAndAbort r n q = preempting r n q
+effect_of_action RegisterAndIgnoreExistingKey r n q = registering r n q
 
--- what the request does
+-- a RESERVE with a field that it may not have, SPEC_I_PT, or a key that is not the one to show; else what the action does
 abbrev pub effect_of : RegistryValue → Nexus → PrOut → Effect
-effect_of r n q = effect (row_of r n q) r n q
+effect_of r n q =
+    if is_bad_reserve q.action q then Refused 0x24 0x00
+    else if q.spec_i_pt then Refused 0x26 0x00
+    else if shows_key q.action (key_of r.registrants n) q.key then effect_of_action q.action r n q
+    else Conflicting
 
 -- a call that ends so has this effect: a refusal leaves the registry as it was
 abbrev pub IsAnswer : PrEnd → Effect → RegistryValue → RegistryValue → Type 0

@@ -6,7 +6,6 @@ mod access;
 mod laws;
 mod notice;
 mod out;
-mod ports;
 mod preempt;
 mod reading;
 mod register;
@@ -17,8 +16,7 @@ mod table;
 mod transport_id;
 
 pub use laws::{
-    a_preempted_key_is_gone, one_row_fits, soundness_stays, the_generation_counts,
-    the_sender_is_not_told,
+    a_preempted_key_is_gone, soundness_stays, the_generation_counts, the_sender_is_not_told,
 };
 pub use notice::{Notice, Telling};
 pub use registrants::{Lasting, Nexus, Record, Registrant, Reservation, ReservationType};

@@ -1,9 +1,8 @@
 //! PERSISTENT RESERVE OUT.
-ghost use Rattle.std.specs.Prelude.{◌≡◌, ◌≤◌, IsFalse, vec_capacity};
-ghost use Rattle.registrants.specs.Registry.{IsAscending};
-ghost use Rattle.reservations.specs.Rows.{is_bad_reserve};
-ghost use Rattle.reservations.specs.Seen.{DoesRow};
-ghost use Rattle.reservations.specs.Table.{row_of, row_of_action};
+ghost use Rattle.std.specs.Prelude.{◌≡◌, ◌≤◌, IsFalse, length, vec_capacity};
+ghost use Rattle.registrants.specs.Registry.{IsAscending, most_registrants};
+ghost use Rattle.reservations.specs.Seen.{Does};
+ghost use Rattle.reservations.specs.Table.{effect_of, effect_of_action, is_bad_reserve};
 
 use crate::request::{is_bad_reserve, shows_key, type_asked};
 use crate::table::Table;
@@ -14,8 +13,9 @@ impl Table {
     /// Does what the nexus asks.
     pub fn out(&mut self, nexus: &Nexus, request: PrOut) -> PrEnd
         requires ascending { IsAscending self.old.registrants.items }
+        requires few { length self.old.registrants.items ≤ most_registrants }
         requires room { 64 ≤ vec_capacity self.old.registrants }
-        ensures does { DoesRow row_of self.old self.new nexus.now request result }
+        ensures does { Does effect_of self.old self.new nexus.now request result }
         ensures room { vec_capacity self.new.registrants ≡ vec_capacity self.old.registrants }
     {
         if is_bad_reserve(request) {
@@ -33,9 +33,10 @@ impl Table {
     // Does what the action says, once the fields and the key have been looked at.
     fn act(&mut self, nexus: &Nexus, request: PrOut) -> PrEnd
         requires ascending { IsAscending self.old.registrants.items }
+        requires few { length self.old.registrants.items ≤ most_registrants }
         requires room { 64 ≤ vec_capacity self.old.registrants }
         requires reserve { IsFalse (is_bad_reserve request.action request) }
-        ensures does { DoesRow (row_of_action request.action) self.old self.new nexus.now request result }
+        ensures does { Does (effect_of_action request.action) self.old self.new nexus.now request result }
         ensures room { vec_capacity self.new.registrants ≡ vec_capacity self.old.registrants }
     {
         match request.action {

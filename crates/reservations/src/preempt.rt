@@ -1,9 +1,8 @@
 //! CLEAR, PREEMPT, and PREEMPT AND ABORT (SPC-4, 5.13.11.2 to 5.13.11.5).
 ghost use Rattle.std.specs.Prelude.{◌≡◌, vec_capacity};
 ghost use Rattle.registrants.specs.Kind.{type_of};
-ghost use Rattle.reservations.specs.Rows.{Clears, PreemptsAll, PreemptsHolder, PreemptsRegistrants};
-ghost use Rattle.reservations.specs.Seen.{Does, DoesRow};
-ghost use Rattle.reservations.specs.Table.{row_of_preempt};
+ghost use Rattle.reservations.specs.Seen.{Does};
+ghost use Rattle.reservations.specs.Table.{clearing, preempting, preempting_all, preempting_holder, preempting_registrants};
 
 use crate::notice::good;
 use crate::request::type_asked;
@@ -16,7 +15,7 @@ use scsi_types::UnitAttention;
 impl Table {
     /// Ends the reservation and all registrations.
     pub fn clear(&mut self, nexus: &Nexus, request: PrOut) -> PrEnd
-        ensures does { Does Clears self.old self.new nexus.now request result }
+        ensures does { Does clearing self.old self.new nexus.now request result }
         ensures room { vec_capacity self.new.registrants ≡ vec_capacity self.old.registrants }
     {
         let notice = Notice::ToAll(UnitAttention::ReservationsPreempted);
@@ -28,7 +27,7 @@ impl Table {
 
     /// Takes registrations away, and with the holder's the reservation over. The key has been looked at.
     pub fn preempt(&mut self, nexus: &Nexus, request: PrOut) -> PrEnd
-        ensures does { DoesRow row_of_preempt self.old self.new nexus.now request result }
+        ensures does { Does preempting self.old self.new nexus.now request result }
         ensures room { vec_capacity self.new.registrants ≡ vec_capacity self.old.registrants }
     {
         let is_of_holder = self.is_holders_key(request.sakey);
@@ -53,7 +52,7 @@ impl Table {
     // The only holder and all with its key go, and the sender holds.
     fn preempt_holder(&mut self, nexus: &Nexus, request: PrOut, kind: ReservationType) -> PrEnd
         requires kind { type_of request.kind ≡ Some kind }
-        ensures does { Does PreemptsHolder self.old self.new nexus.now request result }
+        ensures does { Does preempting_holder self.old self.new nexus.now request result }
         ensures room { vec_capacity self.new.registrants ≡ vec_capacity self.old.registrants }
     {
         let notice = Notice::OfPreempted {
@@ -69,7 +68,7 @@ impl Table {
     // All others go, and the sender holds.
     fn preempt_all(&mut self, nexus: &Nexus, request: PrOut, kind: ReservationType) -> PrEnd
         requires kind { type_of request.kind ≡ Some kind }
-        ensures does { Does PreemptsAll self.old self.new nexus.now request result }
+        ensures does { Does preempting_all self.old self.new nexus.now request result }
         ensures room { vec_capacity self.new.registrants ≡ vec_capacity self.old.registrants }
     {
         let notice = Notice::ToAll(UnitAttention::RegistrationsPreempted);
@@ -81,7 +80,7 @@ impl Table {
 
     // All with a key go, and the reservation stays while it has a holder.
     fn preempt_registrants(&mut self, nexus: &Nexus, request: PrOut) -> PrEnd
-        ensures does { Does PreemptsRegistrants self.old self.new nexus.now request result }
+        ensures does { Does preempting_registrants self.old self.new nexus.now request result }
         ensures room { vec_capacity self.new.registrants ≡ vec_capacity self.old.registrants }
     {
         let notice = Notice::OfPreempted {

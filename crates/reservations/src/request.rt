@@ -1,7 +1,7 @@
 //! What PERSISTENT RESERVE OUT asks, and what it is answered.
 ghost use Rattle.std.specs.Prelude.{◌≡◌, if◌then◌else◌, nat_eq};
 ghost use Rattle.registrants.specs.Kind.{type_of};
-ghost use Rattle.reservations.specs.Rows.{is_bad_reserve, shows_key};
+ghost use Rattle.reservations.specs.Table.{is_bad_reserve, shows_key};
 
 use crate::{ReservationType, Telling};
 use scsi_types::PrOutAction;

@@ -2,8 +2,8 @@
 ghost use Rattle.std.specs.Prelude.{◌≡◌, vec_capacity};
 ghost use Rattle.registrants.specs.Kind.{type_of};
 ghost use Rattle.registrants.specs.Registry.{made_by};
-ghost use Rattle.reservations.specs.Seen.{DoesRow};
-ghost use Rattle.reservations.specs.Table.{row_of_release, row_of_reserve};
+ghost use Rattle.reservations.specs.Seen.{Does};
+ghost use Rattle.reservations.specs.Table.{releasing, reserving};
 
 use crate::notice::good;
 use crate::table::Table;
@@ -26,7 +26,7 @@ impl Table {
     /// Makes a reservation. The scope, the type and the key have been looked at.
     pub fn reserve(&mut self, nexus: &Nexus, request: PrOut, kind: ReservationType) -> PrEnd
         requires kind { type_of request.kind ≡ Some kind }
-        ensures does { DoesRow row_of_reserve self.old self.new nexus.now request result }
+        ensures does { Does reserving self.old self.new nexus.now request result }
         ensures room { vec_capacity self.new.registrants ≡ vec_capacity self.old.registrants }
     {
         if self.reservation.is_some() {
@@ -41,7 +41,7 @@ impl Table {
 
     /// Ends the reservation, if the nexus holds it.
     pub fn release(&mut self, nexus: &Nexus, request: PrOut) -> PrEnd
-        ensures does { DoesRow row_of_release self.old self.new nexus.now request result }
+        ensures does { Does releasing self.old self.new nexus.now request result }
         ensures room { vec_capacity self.new.registrants ≡ vec_capacity self.old.registrants }
     {
         if !self.is_held_by(nexus) {

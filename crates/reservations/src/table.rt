@@ -5,7 +5,7 @@ ghost use Rattle.registrants.specs.Nexus.{through};
 ghost use Rattle.reservations.specs.Notice.{code_told, tellings};
 ghost use Rattle.registrants.specs.Registry.{is_held_by, is_held_by_all, is_holders_key, is_key, is_of_code, is_registered};
 ghost use Rattle.registrants.specs.Registry.{is_own, is_sole_holder, key_of, left_to};
-ghost use Rattle.reservations.specs.Rows.{of_end, of_end_elsewhere};
+ghost use Rattle.reservations.specs.Table.{of_end, of_end_elsewhere};
 
 use crate::{Nexus, Notice, Registrant, Reservation, Telling};
 use registrants::key_of;

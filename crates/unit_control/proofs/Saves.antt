@@ -8,7 +8,7 @@ use Rattle.aptpl_file.specs.declared.fault.SaveFault.{SaveFault}
 use Rattle.aptpl_file.specs.declared.fault.SaveFault.TheVariants.{OldRoot, IdleSlot, NewRoot}
 use Rattle.reservations.specs.Notice.{Told}
 use Rattle.registrants.specs.Registry.{RecordValue, RegistryValue, to_last}
-use Rattle.reservations.specs.Rows.{Effect, Done}
+use Rattle.reservations.specs.Table.{Effect, Done}
 use Rattle.scsi_types.specs.ReplyValue.{ReplyValue, check}
 use Rattle.scsi_types.specs.Sense.{internal_target_failure}
 use Rattle.unit_control.specs.Reserve.{MayFailToSave}

@@ -5,7 +5,7 @@ use Rattle.block_file.specs.Disk.{HoldsTheSame, NoMore, or_new}
 use Rattle.block_file.specs.Moment.{LeavesTheSame, StopsAmong}
 use Rattle.compare_write.specs.Instances.{write_instance}
 use Rattle.registrants.specs.Registry.{RecordValue, to_last}
-use Rattle.reservations.specs.Rows.{Effect, Done, Conflicting, Refused, Full}
+use Rattle.reservations.specs.Table.{Effect, Done, Conflicting, Refused, Full}
 use Rattle.scsi_types.specs.declared.command.Command.{Command}
 use Rattle.scsi_types.specs.declared.command.Command.TheVariants as commands
 use Rattle.scsi_types.specs.declared.command.CdbFault.{CdbFault}

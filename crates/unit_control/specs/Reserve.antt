@@ -8,7 +8,7 @@ use Rattle.reservations.specs.declared.request.PrOut.{PrOut}
 use Rattle.reservations.specs.Notice.{Told, code_told}
 use Rattle.reservations.specs.Reading.{keys_bytes, reservation_bytes, capabilities_bytes, full_status_bytes}
 use Rattle.registrants.specs.Registry.{RecordValue, RegistryValue, to_last}
-use Rattle.reservations.specs.Rows.{Effect, Done, Conflicting, Refused, Full}
+use Rattle.reservations.specs.Table.{Effect, Done, Conflicting, Refused, Full}
 use Rattle.reservations.specs.Table.{effect_of}
 use Rattle.scsi_types.specs.ReplyValue.{ReplyValue, good, check, conflict}
 use Rattle.scsi_types.specs.Sense.{sense, insufficient_registration_resources}

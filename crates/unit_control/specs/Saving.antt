@@ -1,7 +1,7 @@
 -- What a unit keeps of its saves, and how a PERSISTENT RESERVE OUT ends with one.
 use Rattle.std.specs.Prelude.{◌≡◌, ◌⊎◌, Bool, true, false, List, [], ◌∷◌}
 use Rattle.registrants.specs.Registry.{RecordValue, RegistryValue, to_last}
-use Rattle.reservations.specs.Rows.{Effect}
+use Rattle.reservations.specs.Table.{Effect}
 use Rattle.scsi_types.specs.ReplyValue.{ReplyValue, check}
 use Rattle.scsi_types.specs.Sense.{internal_target_failure}
 use Rattle.unit_control.specs.declared.records.LastSave.{LastSave}

@@ -110,7 +110,7 @@ impl Control {
     ghost use Rattle.registrants.specs.Nexus.{IsPortName};
     ghost use Rattle.reservations.specs.Notice.{tellings};
     ghost use Rattle.registrants.specs.Registry.{to_last};
-    ghost use Rattle.reservations.specs.Rows.{Done};
+    ghost use Rattle.reservations.specs.Table.{Done};
     ghost use Rattle.reservations.specs.Table.{IsAnswer};
     ghost use Rattle.unit_control.specs.Reserve.{after_effect, effect_by};
     ghost use Rattle.unit_control.specs.Saving.{with_doubt};

@@ -1,6 +1,6 @@
 -- What GOOD of a PERSISTENT RESERVE OUT tells.
 use Rattle.std.proofs.Common.{◌≡◌, ℕ, List, [], Option, Some, None, Ok, refl, ap}
-use Rattle.reservations.specs.Rows.{Effect, Done, Conflicting, Refused as Illegal, Full}
+use Rattle.reservations.specs.Table.{Effect, Done, Conflicting, Refused as Illegal, Full}
 use Rattle.scsi_types.specs.ReplyValue.{ReplyValue, good}
 use Rattle.scsi_types.specs.declared.status.Status.TheVariants.{Good}
 use Rattle.scsi_types.specs.declared.command.Command.TheVariants.{PersistentReserveOut}

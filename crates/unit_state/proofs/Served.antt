@@ -3,7 +3,7 @@ use Rattle.std.proofs.Common.{◌+◌, ◌≡◌, ℕ, ◌<◌, Bool, List, [], 
 use Rattle.std.specs.Prelude.{IsTrue}
 use Rattle.block_file.specs.Failures.{Tells}
 use Rattle.compare_write.specs.declared.end.MediumEnd.{MediumEnd}
-use Rattle.reservations.specs.Rows.{Effect, Done as Reserved, Conflicting, Refused, Full}
+use Rattle.reservations.specs.Table.{Effect, Done as Reserved, Conflicting, Refused, Full}
 use Rattle.scsi_types.specs.declared.reservation.PrOutAction.{PrOutAction}
 use Rattle.registrants.specs.Registry.{RecordValue}
 use Rattle.unit_control.specs.Reserve.{MayFailToSave, after_effect, effect_by, effect_reply, pr_out}

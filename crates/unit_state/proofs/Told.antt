@@ -10,7 +10,7 @@ use Rattle.reservations.specs.Notice.{Told, code_told}
 use Rattle.registrants.specs.Registry.{RegistryValue}
 use Rattle.reservations.specs.Table.{effect_of}
 use Rattle.scsi_types.specs.Nexus.{Nexus}
-use Rattle.reservations.specs.Rows.{Effect, Done, Conflicting, Refused, Full}
+use Rattle.reservations.specs.Table.{Effect, Done, Conflicting, Refused, Full}
 use Rattle.unit_control.specs.Reserve.{hear, after_effect, effect_by}
 use Rattle.scsi_types.specs.declared.attention.UnitAttention.{UnitAttention}
 use Rattle.scsi_types.specs.declared.attention.UnitAttention.TheVariants.{AccessStateChanged, PowerOn}

@@ -1,4 +1,4 @@
-use Rattle.reservations.proofs.EachPort.{by_the_sender}
+use Rattle.reservations.proofs.EveryRequest.{by_the_sender}
 use Rattle.reservations.proofs.laws.the_sender_decides_a_conflict.Goals as goal
 
 pub returns : goal.returns
