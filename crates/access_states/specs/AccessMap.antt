@@ -16,10 +16,6 @@ abbrev pub group_access : AccessMapValue → Group → GroupAccess
 group_access map One = map.one
 group_access map Two = map.two
 
-abbrev pub other_group : Group → Group
-other_group One = Two
-other_group Two = One
-
 -- just one of two states is active/optimized
 abbrev pub just_one_optimized : AccessState → AccessState → Bool
 just_one_optimized one two = if is_optimized one then not (is_optimized two) else is_optimized two

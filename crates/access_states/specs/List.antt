@@ -4,6 +4,7 @@ use Rattle.std.specs.Prelude.{List, [], ◌∷◌, length, map, drop, slice_inde
 use Rattle.std.specs.List.{list_any, range_with_len}
 use Rattle.byteorder.specs.Endian.{big_number}
 use Rattle.scsi_types.specs.Cdb.{is_group_list}
+use Rattle.scsi_types.specs.Nexus.{group_number}
 use Rattle.scsi_types.specs.declared.names.Group.{Group}
 use Rattle.scsi_types.specs.declared.names.Group.TheVariants.{One, Two}
 use Rattle.access_states.specs.declared.state.AccessState.{AccessState}
@@ -12,11 +13,6 @@ use Rattle.access_states.specs.declared.list.AsetFault.{AsetFault}
 use Rattle.access_states.specs.declared.list.Descriptor.{Descriptor}
 use Rattle.access_states.specs.declared.list.AsetFault.TheVariants.{Length, BadList}
 use Rattle.access_states.specs.State.{state_of_code}
-
--- TARGET PORT GROUP of each group
-abbrev pub group_number : Group → ℕ
-group_number One = 1
-group_number Two = 2
 
 -- the descriptor at a byte: the low half of its first byte, and its third and fourth
 abbrev pub descriptor_at : List ℕ → ℕ → Descriptor

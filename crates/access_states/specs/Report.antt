@@ -1,11 +1,11 @@
 -- REPORT TARGET PORT GROUPS data (SPC-4, 6.37), in the format without an extended header.
 use Rattle.std.specs.Prelude.{ℕ, ◌+◌, List, [], ◌∷◌, ◌++◌, length}
 use Rattle.byteorder.specs.Endian.{big_bytes}
+use Rattle.scsi_types.specs.Nexus.{group_number}
 use Rattle.scsi_types.specs.declared.names.Group.{Group}
 use Rattle.scsi_types.specs.declared.names.Group.TheVariants.{One, Two}
 use Rattle.access_states.specs.declared.state.GroupAccess.{GroupAccess}
 use Rattle.access_states.specs.AccessMap.{AccessMapValue}
-use Rattle.access_states.specs.List.{group_number}
 use Rattle.access_states.specs.State.{state_code, status_code}
 
 -- PREF, the highest bit of the byte whose low half is ASYMMETRIC ACCESS STATE

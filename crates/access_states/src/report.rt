@@ -1,6 +1,5 @@
 //! REPORT TARGET PORT GROUPS data.
 ghost use Rattle.std.specs.Prelude.{◌≡◌};
-ghost use Rattle.access_states.specs.List.{group_number};
 ghost use Rattle.access_states.specs.Report.{group_descriptor, pref_bit, report_bytes};
 
 use crate::GroupAccess;
@@ -25,7 +24,7 @@ pub fn report_bytes(preferred: Group, one: GroupAccess, two: GroupAccess) -> [u8
 fn group_descriptor(preferred: Group, group: Group, access: GroupAccess) -> [u8; 12]
     ensures { result ≡ group_descriptor preferred group access }
 {
-    let number = group_number(group);
+    let number = group.number();
     let state = pref_bit(preferred, group) + access.state.code();
     let status = access.status_code();
     [
@@ -49,14 +48,4 @@ fn pref_bit(preferred: Group, group: Group) -> u8
     ensures { result ≡ pref_bit preferred group }
 {
     if preferred == group { 0x80 } else { 0 }
-}
-
-// The number of a group, which is that of its port too.
-fn group_number(group: Group) -> u8
-    ensures { result ≡ group_number group }
-{
-    match group {
-        Group::One => 1,
-        Group::Two => 2,
-    }
 }

@@ -3,13 +3,13 @@ use Rattle.std.proofs.Common.{◌≡◌, inl, inr, ⊎_elim, ℕ, ◌≤◌, Lis
 use Rattle.registrants.specs.Registry.{IsRecord}
 use Rattle.block_file.specs.Disk.{block_at, or_new, IsNewAt, MayLeave, NoMore}
 use Rattle.block_file.specs.Moment.{StopsAmong}
-use Rattle.block_file.specs.MomentLaws.{no_time, then_elapses}
+use Rattle.block_file.proofs.MomentLaws.{no_time, then_elapses}
 use Rattle.aptpl_format.specs.declared.slot.Slot.TheVariants.{First}
 use Rattle.aptpl_format.specs.declared.version.FileVersion.TheVariants.{Version2}
 use Rattle.aptpl_format.specs.Format.{root_block}
 use Rattle.aptpl_file.specs.Formatting.{nothing, LeftInFormat, StopsInFormat}
 use Rattle.aptpl_file.specs.Lasts.{SlotLasts}
-use Rattle.aptpl_file.specs.LastsLaws.{slot_left}
+use Rattle.aptpl_file.proofs.LastsLaws.{slot_left}
 use Rattle.aptpl_file.specs.Writes.{beside_slot}
 use Rattle.aptpl_file.proofs.Stops.{slot_beside}
 

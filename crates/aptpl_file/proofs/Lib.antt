@@ -1,4 +1,5 @@
 pub mod Formats
+pub mod LastsLaws
 pub mod OneHeld
 pub mod Saves
 pub mod SlotHas

@@ -9,7 +9,7 @@ use Rattle.block_file.specs.DiskLaws.{written_inside}
 use Rattle.aptpl_format.specs.declared.slot.Slot.{Slot}
 use Rattle.aptpl_format.specs.Format.{first_block, part_at, slot_block}
 use Rattle.aptpl_file.specs.Holds.{HoldsSlot}
-use Rattle.aptpl_file.specs.LastsLaws.{slot_within}
+use Rattle.aptpl_file.proofs.LastsLaws.{slot_within}
 use Rattle.aptpl_format.specs.declared.version.FileVersion.{FileVersion}
 use Rattle.aptpl_file.specs.Writes.{beside_slot}
 

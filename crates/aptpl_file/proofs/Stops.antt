@@ -3,7 +3,7 @@ use Rattle.std.proofs.Common.{◌≡◌, inl, inr, ⊎_elim, ℕ, ◌+◌, ◌<�
 use Rattle.registrants.specs.Registry.{RecordValue, IsRecord}
 use Rattle.block_file.specs.Disk.{or_new, IsNewAt, MayLeave, NoMore}
 use Rattle.block_file.specs.Moment.{StopsAmong}
-use Rattle.block_file.specs.MomentLaws.{then_elapses}
+use Rattle.block_file.proofs.MomentLaws.{then_elapses}
 use Rattle.aptpl_format.specs.declared.slot.Slot.{Slot}
 use Rattle.aptpl_format.specs.declared.slot.Slot.TheVariants.{First, Second}
 use Rattle.aptpl_format.specs.declared.version.FileVersion.{FileVersion}
@@ -11,7 +11,7 @@ use Rattle.aptpl_format.specs.declared.version.FileVersion.TheVariants.{Version2
 use Rattle.aptpl_format.specs.Format.{first_block, other_slot, root_block}
 use Rattle.aptpl_file.specs.Holds.{HoldsOneOf}
 use Rattle.aptpl_file.specs.Lasts.{RootLasts, SlotLasts, IsAmong, StopsAt, first_of}
-use Rattle.aptpl_file.specs.LastsLaws.{behind_root, among_holds}
+use Rattle.aptpl_file.proofs.LastsLaws.{behind_root, among_holds}
 use Rattle.aptpl_file.specs.Writes.{IsInSlot, beside_slot}
 
 -- a root is written: of a slot nothing else may be held

@@ -8,7 +8,7 @@ use Rattle.std.specs.Cmp.Lexicographic.{same_text}
 use Rattle.std.specs.List.{AllByRecursion, find, flat_map, position, position_or_len, slice_get}
 use Rattle.std.specs.Option.{unwrap_or}
 use lib.Pointwise.{pointwise}
-use Rattle.scsi_types.specs.Nexus.{Nexus, Port}
+use Rattle.scsi_types.specs.Nexus.{Nexus, Port, group_number}
 use Rattle.scsi_types.specs.declared.names.Group.{Group}
 use Rattle.scsi_types.specs.declared.names.Group.TheVariants.{One, Two}
 use Rattle.registrants.specs.declared.registrant.Registrant.{Registrant}
@@ -17,7 +17,7 @@ use Rattle.registrants.specs.Registry.{IsListed, is_registered}
 use Rattle.aptpl_format.specs.declared.entry.Entry.{Entry}
 use Rattle.aptpl_format.specs.declared.version.FileVersion.{FileVersion}
 use Rattle.aptpl_format.specs.declared.version.FileVersion.TheVariants.{Version1, Version2}
-use Rattle.aptpl_format.specs.Format.{covers, entries_of, group_number, group_of, has_pair, is_pair, place_of}
+use Rattle.aptpl_format.specs.Format.{covers, entries_of, group_of, has_pair, is_pair, place_of}
 use Rattle.aptpl_format.specs.Reads.{IsEntry, covered, second_of}
 use Rattle.aptpl_format.proofs.Taken.{equal_to_itself}
 

@@ -5,7 +5,7 @@ use Rattle.std.specs.Prelude.{[], ◌∷◌, ◌++◌, length, take, drop, repli
 use Rattle.std.specs.List.{flat_map, position}
 use Rattle.std.specs.Option.{unwrap_or}
 use Rattle.byteorder.specs.Endian.{big_bytes}
-use Rattle.scsi_types.specs.Nexus.{Nexus}
+use Rattle.scsi_types.specs.Nexus.{Nexus, group_number}
 use Rattle.scsi_types.specs.declared.names.Group.{Group}
 use Rattle.scsi_types.specs.declared.names.Group.TheVariants.{One, Two}
 use Rattle.registrants.specs.declared.registrant.Registrant.{Registrant}
@@ -118,10 +118,6 @@ abbrev pub place_of : FileVersion → Option Nexus → List Registrant → ℕ
 place_of version None registrants = no_holder
 place_of version (Some holder) registrants =
     unwrap_or (position (covers holder) (entries_of version registrants)) no_holder
-
-abbrev pub group_number : Group → ℕ
-group_number One = 1
-group_number Two = 2
 
 abbrev pub group_of : FileVersion → Option Nexus → ℕ
 group_of version None = 0

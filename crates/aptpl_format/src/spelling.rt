@@ -71,22 +71,13 @@ fn type_byte(reservation: &Option<Reservation>) -> u8
     }
 }
 
-fn group_number(group: Group) -> u8
-    ensures { result ≡ group_code group false }
-{
-    match group {
-        Group::One => 1,
-        Group::Two => 2,
-    }
-}
-
 /// The byte of the holder's group.
 pub fn group_of(version: FileVersion, holder: &Nexus) -> u8
     ensures { result ≡ group_of version (Some holder.now) }
 {
     match version {
         FileVersion::Version1 => 0,
-        FileVersion::Version2 => group_number(holder.group()),
+        FileVersion::Version2 => holder.group().number(),
     }
 }
 
@@ -138,11 +129,7 @@ pub fn header_block(
 fn group_code(group: Group, both: bool) -> u16
     ensures { result ≡ group_code group both }
 {
-    match (group, both) {
-        (_, true) => 3,
-        (Group::One, false) => 1,
-        (Group::Two, false) => 2,
-    }
+    if both { 3 } else { u16::from(group.number()) }
 }
 
 // An entry up to the name.

@@ -20,14 +20,6 @@ pub struct Operated<'a, R: Wait + Clock, B: Blocks, F: Blocks, O: Opener<B>, N: 
     pub log: &'a Log,
 }
 
-// The other one of two groups.
-fn other(group: Group) -> u16 {
-    match group {
-        Group::One => 2,
-        Group::Two => 1,
-    }
-}
-
 // The number of the unit at a place.
 fn number(place: usize) -> u8 {
     u8::try_from(place).unwrap_or(u8::MAX)
@@ -52,7 +44,7 @@ impl<R: Wait + Clock, B: Blocks, F: Blocks, O: Opener<B>, N: Naming<Opened>> Ope
 > {
     // Tells that a controller is down at so many units, and why the next one stays, where it does.
     fn tell_down(&self, controller: Group, units: usize, end: Option<MoveFault>) {
-        let owner = other(controller);
+        let owner = u16::from(controller.other().number());
         for unit in 0..units {
             let set = Event::GroupsSet(number(unit), owner, By::Console);
             self.log.tell(self.rt, &set);

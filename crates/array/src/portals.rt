@@ -48,14 +48,6 @@ pub struct Portal {
     pub group: Group,
 }
 
-// The number of a group's controller.
-fn controller(group: Group) -> u8 {
-    match group {
-        Group::One => 1,
-        Group::Two => 2,
-    }
-}
-
 /// Opens the portals of controller 1 in order, then those of controller 2.
 pub fn open<R: Net<Listener = TcpListener, Stream = TcpStream> + Clock>(
     rt: &R,
@@ -68,7 +60,7 @@ pub fn open<R: Net<Listener = TcpListener, Stream = TcpStream> + Clock>(
         let ports = ports.of(group);
         for portal in 0..ports.count {
             let port = ports.first.saturating_add(portal);
-            let controller = controller(group);
+            let controller = group.number();
             let at = SocketAddrV4::new(ports.host, port);
             let listener = match TcpListener::bind(rt, (ports.host, port)) {
                 Ok(listener) => listener,

@@ -1,6 +1,6 @@
 //! A unit at a place that is known when it runs.
 ghost use Rattle.std.specs.Prelude.{◌≡◌, ◌&&◌, IfOk, IfErr, MatchBool, List};
-ghost use Rattle.registrants.specs.Nexus.{IsPortName, through};
+ghost use Rattle.registrants.specs.Nexus.{through};
 ghost use Rattle.unit_history.specs.Calls.{HasAttached, HasNoRoom, HasServed, HasRefused, HasReset, WasGone, HasRetired};
 ghost use Rattle.unit_history.specs.Calls.{HasFlushed, HasMoved, HasStayed, HasWorked, HaveMet, IsShown};
 ghost use Rattle.unit_entries.specs.Devices.{devices};
@@ -71,7 +71,6 @@ impl<B: Blocks, R: Blocks, O: Opener<B>, N: Array<Opened>> AnyUnit<B, R, O, N> {
         port: PortName,
         group: Group,
     ) -> Result<Pass<B, R, O, N>, LegalHistory<B, R, O, N>>
-        requires { IsPortName port }
         ensures attached { IfOk result (λ p. (p.place ≡ place_of self.now)
             × HasAttached (O.claims && B.claims) (N.opening (place_of self.now)) (through port group) p.pass) }
         ensures full { IfErr result (λ f. (f.0 ≡ place_of self.now)

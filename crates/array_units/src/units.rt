@@ -1,6 +1,6 @@
 //! The units of an array.
 ghost use Rattle.std.specs.Prelude.{◌≡◌, ◌<◌, ◌≤◌, ◌&&◌, length, IfOk, IfErr, MatchBool};
-ghost use Rattle.registrants.specs.Nexus.{IsPortName, through};
+ghost use Rattle.registrants.specs.Nexus.{through};
 ghost use Rattle.unit_history.specs.Calls.{HasAttached, HasNoRoom, HasServed, HasRefused, HasReset, WasGone, HasRetired};
 ghost use Rattle.unit_history.specs.Calls.{HasFlushed, HasMoved, HasStayed, HasWorked, HaveMet, IsShown};
 ghost use Rattle.unit_entries.specs.Devices.{devices};
@@ -134,7 +134,6 @@ impl<B: Blocks, R: Blocks, O: Opener<B>, N: Array<Opened>> Units<B, R, O, N> {
         port: PortName,
         group: Group,
     ) -> Result<Pass<B, R, O, N>, LegalHistory<B, R, O, N>>
-        requires name { IsPortName port }
         requires place { place < self.now }
         ensures attached { IfOk result (λ p. (p.place ≡ place)
             × HasAttached (O.claims && B.claims) (N.opening place) (through port group) p.pass) }

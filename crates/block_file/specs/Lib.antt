@@ -2,10 +2,7 @@ pub mod Cut
 pub mod CutLaws
 pub mod Disk
 pub mod DiskLaws
-pub mod FailureLaws
 pub mod Failures
 pub mod Fuse
 pub mod Moment
-pub mod MomentLaws
 pub mod OpenFuse
-pub mod ReadBack

@@ -1,4 +1,3 @@
 pub mod Difference
-pub mod DifferenceLaws
 pub mod Ends
 pub mod Instances

@@ -106,7 +106,7 @@ impl<W: Wait + Drop, B: Blocks, O: Opener<B>, N: Naming<Opened>> Array<Host<B, O
             return None;
         }
         let name = b"iqn.2000-01.test:a".to_vec(self.alloc).ok()?;
-        let port = PortName::new(name, u64::from(isid));
+        let port = PortName::new(name, u64::from(isid))?;
         let pass = self.units.attach(&self.rt, place, port, group).ok()?;
         Some(Host {
             pass: Some(pass),

@@ -1,4 +1,3 @@
 pub mod Events
 pub mod Moments
 pub mod Values
-pub mod ValuesLaws

@@ -1,8 +1,8 @@
 -- Vital product data (SPC-4, 7.8; SBC-3, Block Limits VPD page).
 use Rattle.std.specs.Prelude.{ℕ, suc, zero, ◌+◌, ◌/◌, ◌%◌, ◌^◌, List, [], ◌∷◌, ◌++◌, length, nat_lt, if◌then◌else◌}
 use Rattle.scsi_types.specs.Cdb.{most_blocks, most_compared}
+use Rattle.scsi_types.specs.Nexus.{group_number}
 use Rattle.scsi_types.specs.declared.names.Group.{Group}
-use Rattle.scsi_types.specs.declared.names.Group.TheVariants.{One, Two}
 use Rattle.scsi_types.specs.declared.names.Place.{Place}
 use Rattle.identity.specs.Inquiry.{disk, peripheral_row}
 use Rattle.identity.specs.Table.{Row, Byte, Shared, Number, Characters, Reserved, bits, flag, spell}
@@ -41,11 +41,6 @@ serial_number place =
     (Characters "PRODUCT SERIAL NUMBER (array)" (digits 16 8 place.array)
     ∷ Characters "PRODUCT SERIAL NUMBER (unit)" (digits 10 2 place.unit)
     ∷ [])
-
--- a target port group has one port, and both have the number of their controller
-abbrev pub number_of : Group → ℕ
-number_of One = 1
-number_of Two = 2
 
 -- what a designator names (ASSOCIATION): the logical unit, or the target port by which the command came
 pub data Association : Type 0 where
@@ -89,11 +84,11 @@ unit_designation place =
 -- the port by its relative target port identifier
 abbrev pub port_designation : Group → List Row
 port_designation group =
-    designation TargetPort 0x4 (Reserved 2 ∷ Number "RELATIVE TARGET PORT IDENTIFIER" 2 (number_of group) ∷ [])
+    designation TargetPort 0x4 (Reserved 2 ∷ Number "RELATIVE TARGET PORT IDENTIFIER" 2 (group_number group) ∷ [])
 
 -- the port by its target port group
 abbrev pub group_designation : Group → List Row
-group_designation group = designation TargetPort 0x5 (Reserved 2 ∷ Number "TARGET PORT GROUP" 2 (number_of group) ∷ [])
+group_designation group = designation TargetPort 0x5 (Reserved 2 ∷ Number "TARGET PORT GROUP" 2 (group_number group) ∷ [])
 
 -- the Device Identification page
 abbrev pub device_identification : Place → Group → List Row

@@ -4,7 +4,7 @@ ghost use Rattle.identity.specs.Table.{spell};
 ghost use Rattle.identity.specs.VitalProductData as vpd;
 
 use byteorder::{BigEndian, ByteOrder};
-use scsi_types::{Group, Place};
+use scsi_types::{Group, MOST_BLOCKS, Place};
 
 /// The page of the pages that there are (SPC-4, 7.8).
 pub fn supported_pages() -> [u8; 8]
@@ -52,10 +52,7 @@ fn hexadecimal(number: u32) -> u8
 pub fn device_identification(place: Place, group: Group) -> [u8; 32]
     ensures { result ≡ spell (vpd.device_identification place group) }
 {
-    let number = match group {
-        Group::One => 1,
-        Group::Two => 2,
-    };
+    let number = group.number();
     let mut page = [
         0x00, 0x83, 0x00, 28, // the page
         0x01, 0x03, 0x00, 8, 0x30, 0x00, 0, 0, 0, 0, 0x00, place.unit, // NAA, locally assigned
@@ -75,7 +72,7 @@ pub fn block_limits() -> [u8; 64]
     page[3] = 60;
     page[5] = 32;
     page[7] = 1;
-    BigEndian::write_u32(&mut page[8..12], 2048);
-    BigEndian::write_u32(&mut page[12..16], 2048);
+    BigEndian::write_u32(&mut page[8..12], u32::from(MOST_BLOCKS));
+    BigEndian::write_u32(&mut page[12..16], u32::from(MOST_BLOCKS));
     page
 }

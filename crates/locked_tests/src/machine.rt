@@ -51,8 +51,6 @@ impl Machine<Noted, Opened> for Counter {
 
     ghost after = { IsAfter };
 
-    ghost is_name = { λ name. Unit {0} };
-
     ghost attaching = { λ name. Joins name };
 
     ghost detaching = { λ session. Leaves session };

@@ -196,7 +196,6 @@ impl<E, S, X: Machine<E, S>, N: Array<S>, const U: usize> Locked<E, S, X, N, U> 
         posted: &Posted<E, S, X, At<S, N, U>>,
         name: X::Name,
     ) -> Result<PassAt<E, S, X, N, U>, History<E, At<S, N, U>>>
-        requires { X.is_name name }
         ensures attached { IfOk result (λ p. (p.seen ≡ self.old ++ X.attaching name ∷ []) × (p.session ≡ length self.old)
             × (p.serial ≡ 1) × X.legal (N.opening U) p.seen) }
         ensures full { IfErr result (λ f. X.full (N.opening U) f name × X.legal (N.opening U) f) }

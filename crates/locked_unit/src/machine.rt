@@ -45,9 +45,6 @@ pub trait Machine<E, S>: Published<E, S> + Drop {
     // This is what the history leaves, and what the devices counted bears it out.
     ghost after: { S → List E → Self → Type 0 };
 
-    // A name that may be asked for.
-    ghost is_name: { Self.Name → Type 0 };
-
     ghost attaching: { Self.Name → E };
 
     ghost detaching: { ℕ → E };
@@ -105,7 +102,6 @@ pub trait Machine<E, S>: Published<E, S> + Drop {
 
     /// Attaches a session.
     fn attach(&mut self, name: Self::Name) -> Option<u64>
-        requires { is_name name }
         ensures done { IfSome result (λ id. (s : S) (h : List E) → Self.legal s h → after s h self.old
             → (id ≡ length h) × Self.legal s (h ++ attaching name ∷ []) × after s (h ++ attaching name ∷ []) self.new
             × (length h + 1 < 2 ^ 64)) }

@@ -107,7 +107,6 @@ impl<E, S, X: Machine<E, S>, N: Array<S>, const U: usize> SharedUnit<E, S, X, N,
         rt: &R,
         name: X::Name,
     ) -> Result<Pass<E, S, X, N>, LegalHistory<E, S, X, N>>
-        requires { X.is_name name }
         ensures attached { IfOk result (λ p. (h : List E) × (p.place ≡ U) × (p.pass.seen ≡ h ++ X.attaching name ∷ [])
             × (p.pass.session ≡ length h) × (p.pass.serial ≡ 1) × X.legal (N.opening U) p.pass.seen) }
         ensures full { IfErr result (λ f. (f.0 ≡ U) × X.full (N.opening U) f.1 name × X.legal (N.opening U) f.1) }

@@ -1,10 +1,10 @@
 -- I_T nexuses (SAM-5, 4.6): when two are one, and the order in which registrants are listed.
-use Rattle.std.specs.Prelude.{◌^◌, ◌<◌, ◌≤◌, Bool, true, false, ◌&&◌, nat_eq, length}
+use Rattle.std.specs.Prelude.{Bool, true, false, ◌&&◌, nat_eq}
 use Rattle.std.specs.Ordering.{ordering_then}
 use Rattle.std.specs.declared.cmp.Ordering.{Ordering}
 use Rattle.std.specs.declared.cmp.Ordering.TheVariants.{Less, Equal, Greater}
 use lib.Pointwise.{pointwise}
-use Rattle.scsi_types.specs.Nexus.{Port, Nexus, port_cmp}
+use Rattle.scsi_types.specs.Nexus.{Port, Nexus, other_group, port_cmp}
 use Rattle.scsi_types.specs.declared.names.Group.{Group}
 use Rattle.scsi_types.specs.declared.names.Group.TheVariants.{One, Two}
 
@@ -33,19 +33,9 @@ abbrev pub nexus_cmp : Nexus → Nexus → Ordering
 nexus_cmp m n = ordering_then (port_cmp m.port n.port) (group_cmp m.group n.group)
 
 -- the nexus of the same port through the other group
-abbrev pub other_group : Group → Group
-other_group One = Two
-other_group Two = One
-
 abbrev pub other_nexus : Nexus → Nexus
 other_nexus n = record { port = n.port; group = other_group n.group }
 
 -- the nexus of a port through a group
 abbrev pub through : Port → Group → Nexus
 through port group = record { port = port; group = group }
-
--- an initiator port as iSCSI names one (RFC 7143, 4.2.7.1 and 10.12.5): a name of 1 to 223 bytes, and an ISID of six
-pub record IsPortName (port : Port) : Type 0 where
-  pub some : 0 < length port.name
-  pub short : length port.name ≤ 223
-  pub isid : port.isid < 2 ^ 48

@@ -6,12 +6,12 @@ use Rattle.std.specs.List.{AllByRecursion, find, list_any}
 use Rattle.std.specs.Option.{option_map}
 use Rattle.std.specs.Ordering.{is_lt, is_gt}
 use Rattle.std.specs.declared.cmp.Ordering.TheVariants.{Less}
-use Rattle.scsi_types.specs.Nexus.{Nexus}
+use Rattle.scsi_types.specs.Nexus.{IsPortName, Nexus}
 use Rattle.registrants.specs.declared.kind.ReservationType.{ReservationType}
 use Rattle.registrants.specs.declared.registrant.Registrant.{Registrant}
 use Rattle.registrants.specs.declared.registrant.Reservation.{Reservation}
 use Rattle.registrants.specs.Kind.{is_of_all_registrants, type_code}
-use Rattle.registrants.specs.Nexus.{IsPortName, same_nexus, nexus_cmp}
+use Rattle.registrants.specs.Nexus.{same_nexus, nexus_cmp}
 
 -- the most registrants of a unit
 abbrev pub most_registrants : ℕ

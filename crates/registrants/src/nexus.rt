@@ -1,6 +1,7 @@
 //! I_T nexuses.
 ghost use Rattle.std.specs.Prelude.{◌≡◌, ◌↔◌, ◌≤◌, IsTrue};
-ghost use Rattle.registrants.specs.Nexus.{IsPortName, nexus_cmp, other_nexus, same_nexus, same_port};
+ghost use Rattle.scsi_types.specs.Nexus.{IsPortName};
+ghost use Rattle.registrants.specs.Nexus.{nexus_cmp, other_nexus, same_nexus, same_port};
 
 use scsi_types::{Group, PortName};
 use std::cmp::Ordering;
@@ -21,8 +22,7 @@ pub struct Nexus {
 
 impl Model for Nexus {
     ghost use Rattle.std.specs.Prelude.{◌≤◌, take};
-    ghost use Rattle.scsi_types.specs.Nexus.{Nexus as NexusValue};
-    ghost use Rattle.registrants.specs.Nexus.{IsPortName};
+    ghost use Rattle.scsi_types.specs.Nexus.{IsPortName, Nexus as NexusValue};
 
     ghost Value = { NexusValue };
 
@@ -38,7 +38,6 @@ impl Model for Nexus {
 impl Nexus {
     /// The nexus of this initiator port through this group. Takes no memory.
     pub fn new(port: &PortName, group: Group) -> Self
-        requires { IsPortName port.now }
         ensures { result ≡ record { port = port.now; group = group } }
     {
         Nexus::named(port.name(), port.isid(), group)
@@ -87,10 +86,7 @@ impl Nexus {
         ensures { result ≡ other_nexus self.now }
     {
         let mut other = self.copy();
-        other.group = match self.group {
-            Group::One => Group::Two,
-            Group::Two => Group::One,
-        };
+        other.group = self.group.other();
         other
     }
 

@@ -4,11 +4,11 @@ use Rattle.std.proofs.Common.{if◌then◌else◌, refl, sym, subst, ap, ◌∙�
 use Rattle.std.proofs.Math.Dec.{leb}
 use Rattle.std.proofs.lemmas.Bool.{ltb-false, ne_eqb}
 use Rattle.std.proofs.lemmas.Bool.Decides.{leb_tells}
-use Rattle.scsi_types.specs.Nexus.{Nexus}
+use Rattle.scsi_types.specs.Nexus.{Nexus, other_group}
 use Rattle.scsi_types.specs.declared.names.Group.{Group}
 use Rattle.scsi_types.specs.declared.names.Group.TheVariants.{One, Two}
 use Rattle.registrants.specs.declared.registrant.Registrant.{Registrant}
-use Rattle.registrants.specs.Nexus.{other_group, other_nexus, same_group, same_nexus}
+use Rattle.registrants.specs.Nexus.{other_nexus, same_group, same_nexus}
 use Rattle.registrants.specs.Registry.{IsAscending, RegistryValue, counted, is_registered, registered_by}
 use Rattle.reservations.specs.declared.request.PrOut.{PrOut}
 use Rattle.reservations.specs.Notice.{told_of}

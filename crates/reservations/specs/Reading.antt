@@ -4,9 +4,7 @@ use Rattle.std.specs.Prelude.{replicate, Option, Some, None}
 use Rattle.std.specs.List.{flat_map}
 use Rattle.std.specs.Option.{unwrap_or}
 use Rattle.byteorder.specs.Endian.{big_bytes}
-use Rattle.scsi_types.specs.Nexus.{Port}
-use Rattle.scsi_types.specs.declared.names.Group.{Group}
-use Rattle.scsi_types.specs.declared.names.Group.TheVariants.{One, Two}
+use Rattle.scsi_types.specs.Nexus.{Port, group_number}
 use Rattle.registrants.specs.declared.registrant.Registrant.{Registrant}
 use Rattle.registrants.specs.declared.registrant.Reservation.{Reservation}
 use Rattle.registrants.specs.Kind.{type_code}
@@ -66,11 +64,6 @@ descriptor_bytes key r_holder scope_and_type relative_port id =
     big_bytes 8 key ++ 0 ∷ 0 ∷ 0 ∷ 0 ∷ r_holder ∷ scope_and_type ∷ 0 ∷ 0 ∷ 0 ∷ 0 ∷ big_bytes 2 relative_port
     ++ big_bytes 4 (length id) ++ id
 
--- a controller's relative target port is the number of its group
-abbrev pub relative_port : Group → ℕ
-relative_port One = 1
-relative_port Two = 2
-
 abbrev pub held_type : Option Reservation → ℕ
 held_type None = 0
 held_type (Some held) = type_code held.kind
@@ -80,7 +73,7 @@ holding_or value r x = if is_held_by r.reservation r.registrants x.nexus then va
 
 abbrev pub descriptor_of : RegistryValue → Registrant → List ℕ
 descriptor_of r x =
-    descriptor_bytes x.key (holding_or 1 r x) (holding_or (held_type r.reservation) r x) (relative_port x.nexus.group)
+    descriptor_bytes x.key (holding_or 1 r x) (holding_or (held_type r.reservation) r x) (group_number x.nexus.group)
     (transport_id x.nexus.port)
 
 abbrev pub full_status_bytes : RegistryValue → List ℕ

@@ -3,14 +3,13 @@ ghost use Rattle.std.specs.Prelude.{◌≡◌, ◌++◌, IfOk, OnOk, take};
 ghost use Rattle.std.specs.Option.{unwrap_or};
 ghost use Rattle.reservations.specs.Reading.{capabilities_bytes, counted_bytes, descriptor_bytes};
 ghost use Rattle.reservations.specs.Reading.{descriptor_of, full_status_bytes, held_type};
-ghost use Rattle.reservations.specs.Reading.{holding_or, keys_bytes, relative_port, reservation_bytes};
+ghost use Rattle.reservations.specs.Reading.{holding_or, keys_bytes, reservation_bytes};
 ghost use Rattle.registrants.specs.Registry.{key_in};
 ghost use Rattle.reservations.specs.Seen.{value_of};
 
 use crate::table::Table;
 use crate::transport_id::transport_id;
 use crate::{Nexus, Registrant};
-use scsi_types::Group;
 use std::alloc::{AllocError, Global};
 
 // PRGENERATION, the length of the bytes, and the bytes: as many as the ALLOCATION LENGTH lets through (SPC-4, 4.2.5.6).
@@ -95,7 +94,7 @@ impl Table {
         let id = transport_id(self.alloc, &x.nexus)?;
         let r_holder = self.holding_or_zero(1, x);
         let held_type = self.holding_or_zero(self.held_type(), x);
-        let port = relative_port(x.nexus.group());
+        let port = u16::from(x.nexus.group().number());
         push_descriptor_of(bytes, x.key, r_holder, held_type, port, &id)
     }
 
@@ -114,16 +113,6 @@ impl Table {
             Some(held) => held.kind.code(),
             None => 0,
         }
-    }
-}
-
-// The relative target port of a controller.
-fn relative_port(group: Group) -> u16
-    ensures { result ≡ relative_port group }
-{
-    match group {
-        Group::One => 1,
-        Group::Two => 2,
     }
 }
 

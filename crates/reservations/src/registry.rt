@@ -1,7 +1,7 @@
 //! The registry of a unit.
 ghost use Rattle.std.specs.Prelude.{◌≡◌, ◌↔◌, IfOk, IsTrue, length, take};
 ghost use Rattle.reservations.specs.Access.{MayAccess};
-ghost use Rattle.registrants.specs.Nexus.{IsPortName, through};
+ghost use Rattle.registrants.specs.Nexus.{through};
 ghost use Rattle.reservations.specs.Notice.{code_told, tellings};
 ghost use Rattle.reservations.specs.Reading.{capabilities_bytes, full_status_bytes, keys_bytes, reservation_bytes};
 ghost use Rattle.registrants.specs.Registry.{IsSound, empty, powered_on, reserved_type, to_last};
@@ -121,11 +121,9 @@ impl Registry {
         Lasting::new(true, &self.table.registrants, &self.table.reservation)
     }
 
-    /// Does a PERSISTENT RESERVE OUT (SPC-4, 6.16) of the nexus of a port through a group. A refusal changes nothing. The
-    /// port has a name of 1 to 223 bytes, and its ISID fits six. Takes no memory, so that nothing that fences can fail for
-    /// want of it.
+    /// Does a PERSISTENT RESERVE OUT (SPC-4, 6.16) of the nexus of a port through a group. A refusal changes nothing. Takes no
+    /// memory, so that nothing that fences can fail for want of it.
     pub fn out(&mut self, port: &PortName, group: Group, request: PrOut) -> PrEnd
-        requires { IsPortName port.now }
         ensures { IsAnswer result (effect_of self.old (through port.now group) request) self.old self.new }
     {
         let sender = Nexus::new(port, group);

@@ -24,6 +24,7 @@ pub use cdb::decode;
 pub use command::{Asked, CdbFault, Command, Op, is_group_list, need};
 pub use form::CdbForm;
 pub use lun::Lun;
+pub use medium::MOST_BLOCKS;
 pub use memory::NoMemory;
 pub use names::{Group, Place, PortName};
 pub use pages::{InquiryPage, LunSelect, ModeHeader, ModePage, PageControl};

@@ -6,8 +6,8 @@ ghost use Rattle.scsi_types.specs.Cdb.{Asks, Decodes, IsGoodTransfer, blocks_6, 
 use crate::Command;
 use byteorder::{BigEndian, ByteOrder};
 
-/// The most blocks that one READ or WRITE moves.
-const MOST_BLOCKS: u32 = 2048;
+/// The most blocks that one READ or WRITE moves (SBC-3, Block Limits VPD page).
+pub const MOST_BLOCKS: u16 = 2048;
 
 /// The most blocks that one COMPARE AND WRITE compares.
 const MOST_COMPARED: u32 = 32;
@@ -44,7 +44,7 @@ fn transfer_10(cdb: &[u8; 16]) -> Option<(u64, u16)>
         × (t.0 ≡ field 2 5 cdb.now) × (t.1 ≡ field 7 8 cdb.now)) }
 {
     let blocks = BigEndian::read_u16(&cdb[7..]);
-    if !is_good_transfer(cdb, u32::from(blocks), MOST_BLOCKS) {
+    if !is_good_transfer(cdb, u32::from(blocks), u32::from(MOST_BLOCKS)) {
         return None;
     }
     Some((u64::from(BigEndian::read_u32(&cdb[2..])), blocks))
@@ -58,7 +58,7 @@ fn transfer_16(cdb: &[u8; 16]) -> Option<(u64, u16)>
         × (t.0 ≡ field 2 9 cdb.now) × (t.1 ≡ field 10 13 cdb.now)) }
 {
     let blocks = BigEndian::read_u32(&cdb[10..]);
-    if !is_good_transfer(cdb, blocks, MOST_BLOCKS) {
+    if !is_good_transfer(cdb, blocks, u32::from(MOST_BLOCKS)) {
         return None;
     }
     Some((BigEndian::read_u64(&cdb[2..]), blocks as u16))

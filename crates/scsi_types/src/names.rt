@@ -1,7 +1,9 @@
 //! Names of controllers, units and initiator ports.
-ghost use Rattle.std.specs.Prelude.{◌≡◌, ◌↔◌, IsTrue};
-ghost use Rattle.scsi_types.specs.Nexus.{port_cmp};
+ghost use Rattle.std.specs.Prelude.{◌≡◌, ◌↔◌, IfOk, IsTrue, MatchOption};
+ghost use Rattle.scsi_types.specs.Nexus.{IsPortName, group_number, other_group, port_cmp};
 
+use crate::NoMemory;
+use std::alloc::Global;
 use std::cmp::Ordering;
 use std::marker::Model;
 
@@ -10,6 +12,28 @@ use std::marker::Model;
 pub enum Group {
     One,
     Two,
+}
+
+impl Group {
+    /// Its number, which is the relative target port of its one port, and the tag of its portal group (RFC 7143, 13.9).
+    pub fn number(self) -> u8
+        ensures { result ≡ group_number self }
+    {
+        match self {
+            Group::One => 1,
+            Group::Two => 2,
+        }
+    }
+
+    /// The other one.
+    pub fn other(self) -> Group
+        ensures { result ≡ other_group self }
+    {
+        match self {
+            Group::One => Group::Two,
+            Group::Two => Group::One,
+        }
+    }
 }
 
 /// Where a unit stands: its number, how many units there are, and the array's number.
@@ -23,7 +47,10 @@ pub struct Place {
     pub array: u32,
 }
 
-/// The name of an initiator port: the InitiatorName's bytes and the ISID (RFC 7143, 4.4.3).
+// The most bytes of an InitiatorName (RFC 7143, 4.2.7.1).
+const LONGEST_NAME: usize = 223;
+
+/// The name of an initiator port (RFC 7143, 4.4.3): the InitiatorName's bytes, 1 to 223, and the ISID, of six bytes.
 #[derive(Drop)]
 pub struct PortName {
     name: Vec<u8>,
@@ -31,31 +58,50 @@ pub struct PortName {
 }
 
 impl Model for PortName {
-    ghost use Rattle.scsi_types.specs.Nexus.{Port};
+    ghost use Rattle.scsi_types.specs.Nexus.{IsPortName, Port};
 
     ghost Value = { Port };
 
     ghost view = { λ p. record { name = p.name.items; isid = p.isid } };
+
+    ghost invariant = { λ p. IsPortName (record { name = p.name.items; isid = p.isid }) };
 }
 
 impl PortName {
-    /// The port of this InitiatorName and ISID.
-    pub fn new(name: Vec<u8>, isid: u64) -> Self
-        ensures { result ≡ record { name = name.items; isid = isid } }
+    /// The port of this InitiatorName and ISID. None: the name is empty or has more than 223 bytes, or the ISID does not fit six.
+    pub fn new(name: Vec<u8>, isid: u64) -> Option<Self>
+        ensures { MatchOption result (IsPortName (record { name = name.items; isid = isid }) → ⊥)
+            (λ port. port ≡ record { name = name.items; isid = isid }) }
     {
-        PortName { name, isid }
+        if name.is_empty() || name.len() > LONGEST_NAME || isid >= 1 << 48 {
+            return None;
+        }
+        Some(PortName { name, isid })
     }
 
-    /// The bytes of the InitiatorName.
+    /// Another value of the same port.
+    pub fn copy(&self, alloc: Global) -> Result<Self, NoMemory>
+        ensures { IfOk result (λ port. port ≡ self.now) }
+    {
+        let name = self.name.to_vec(alloc)?;
+        Ok(PortName {
+            name,
+            isid: self.isid,
+        })
+    }
+
+    /// The bytes of the InitiatorName, 1 to 223.
     pub fn name(&self) -> &[u8]
-        ensures { result.now ≡ self.now.name }
+        ensures name { result.now ≡ self.now.name }
+        ensures named { IsPortName self.now }
     {
         &self.name
     }
 
     /// The ISID, six bytes read as a number.
     pub fn isid(&self) -> u64
-        ensures { result ≡ self.now.isid }
+        ensures isid { result ≡ self.now.isid }
+        ensures named { IsPortName self.now }
     {
         self.isid
     }

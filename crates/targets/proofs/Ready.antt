@@ -21,7 +21,7 @@ use Rattle.unit_control.specs.Choice.{Choice, choice_of}
 use Rattle.unit_control.specs.declared.sessions.Attached.{Attached}
 use Rattle.unit_control.specs.Sessions.{session_of, next_of, all_reset}
 use Rattle.unit_control.specs.Entry.{Reset, Command, IsNext, IsAttached, control_after}
-use Rattle.unit_state.specs.CommandLaws.{next_after, count_after}
+use Rattle.unit_state.proofs.CommandLaws.{next_after, count_after}
 use Rattle.targets.specs.OneUnit.{Call, Device, TargetValue, IsSame, IsCommand, IsAnsweredBy, IsResetBy}
 
 -- one that has its serial and is gone has no room

@@ -33,7 +33,7 @@ use Rattle.unit_control.specs.Limits.{last_length}
 use Rattle.unit_control.specs.State.{ControlValue, UnitState, UnitValue, state_of}
 use Rattle.unit_control.specs.Choice.{Choice, Fine, ReadFailed, WriteFailed, OpenFailed, SaveFailed, IsFine, choice_of}
 use Rattle.unit_control.specs.Entry.{Entry, Reset, Command, IsAttached, IsPossible, IsReplyTo, control_after, blocks_after, after}
-use Rattle.unit_state.specs.EntryLaws.{possible_over, reply_over}
+use Rattle.unit_state.proofs.EntryLaws.{possible_over, reply_over}
 use Rattle.unit_state.specs.History.{state_after, IsLegal, IsReplyAt, has_failed, failed_entries}
 use Rattle.unit_state.specs.Step.{IsStep, entry_of}
 use Rattle.unit_control.specs.declared.refusal.Refusal.{Refusal}

@@ -45,8 +45,11 @@ impl<B: Blocks> OneUnit<B> {
         ensures { IfOk result (IsBegun B.Blocks ⟦<MemBlocks as Blocks>⟧ blocks) }
     {
         let name = INITIATOR.to_vec(alloc)?;
+        let Some(port) = PortName::new(name, 0) else {
+            unreachable!()
+        };
         let mut unit = open(alloc, blocks)?;
-        let Ok(session) = unit.attach(PortName::new(name, 0), Group::One) else {
+        let Ok(session) = unit.attach(port, Group::One) else {
             unreachable!()
         };
         let by = Group::One;

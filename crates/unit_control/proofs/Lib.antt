@@ -1,4 +1,5 @@
 pub mod Changes
+pub mod GroupsLaws
 pub mod Places
 pub mod Same
 pub mod Saves

@@ -3,9 +3,9 @@ use Rattle.std.proofs.Common.{◌≡◌, ℕ, Bool, List, Option, Some, None, sy
 use Rattle.std.specs.Prelude.{IsTrue}
 use Rattle.block_file.specs.Disk.{NoMore, or_new, range_bytes}
 use Rattle.block_file.specs.Moment.{StopsAmong}
-use Rattle.block_file.specs.MomentLaws.{stops_then}
+use Rattle.block_file.proofs.MomentLaws.{stops_then}
 use Rattle.compare_write.specs.Difference.{first_difference}
-use Rattle.compare_write.specs.DifferenceLaws.{differs_nowhere}
+use Rattle.compare_write.proofs.DifferenceLaws.{differs_nowhere}
 use Rattle.compare_write.specs.Ends.{IsCompareEnd, IsSyncEnd, OnMiscompare, OnUnwritten, OnWriting}
 use Rattle.compare_write.specs.Instances.{compare_instance, write_instance}
 use Rattle.compare_write.specs.declared.end.MediumEnd.{MediumEnd}

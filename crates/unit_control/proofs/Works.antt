@@ -3,7 +3,7 @@ use Rattle.std.proofs.Common.{◌≡◌, ℕ, ◌*◌, ◌<◌, Bool, List, [], 
 use Rattle.std.specs.Prelude.{IsTrue}
 use Rattle.block_file.specs.Disk.{written, range_bytes, Between}
 use Rattle.compare_write.specs.Difference.{first_difference}
-use Rattle.compare_write.specs.DifferenceLaws.{differs_nowhere}
+use Rattle.compare_write.proofs.DifferenceLaws.{differs_nowhere}
 use Rattle.compare_write.specs.declared.end.MediumEnd.{MediumEnd}
 use Rattle.compare_write.specs.declared.end.MediumEnd.TheVariants as ends
 use Rattle.compare_write.specs.Ends.{IsCompareEnd, IsSyncEnd, OnDone, OnMiscompare, OnUnwritten, OnWriting}

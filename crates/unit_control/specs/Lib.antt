@@ -4,7 +4,6 @@ pub mod Counts
 pub mod Crash
 pub mod Entry
 pub mod Groups
-pub mod GroupsLaws
 pub mod Limits
 pub mod Medium
 pub mod Ops

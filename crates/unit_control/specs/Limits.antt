@@ -22,11 +22,3 @@ all_tg_pt_flag = 4
 
 abbrev pub aptpl_flag : ℕ
 aptpl_flag = 1
-
--- the most blocks of a READ or a WRITE, and of a COMPARE AND WRITE (SBC-3, Block Limits page: MAXIMUM TRANSFER LENGTH and
--- MAXIMUM COMPARE AND WRITE LENGTH)
-abbrev pub most_transferred : ℕ
-most_transferred = 2048
-
-abbrev pub most_compared : ℕ
-most_compared = 32

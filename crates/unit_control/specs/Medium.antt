@@ -13,7 +13,7 @@ use Rattle.scsi_types.specs.Sense.{unrecovered_read_error, write_error, miscompa
 use Rattle.scsi_types.specs.declared.command.Command.{Command}
 use Rattle.scsi_types.specs.declared.command.Command.TheVariants as commands
 use Rattle.scsi_types.specs.declared.command.CdbFault.{CdbFault}
-use Rattle.unit_control.specs.Limits.{most_compared, most_transferred}
+use Rattle.scsi_types.specs.Cdb.{most_blocks, most_compared}
 use Rattle.unit_control.specs.Choice.{Choice, Fine, ReadFailed, WriteFailed, OpenFailed, SaveFailed}
 
 -- the blocks of a command: the first, and how many
@@ -86,8 +86,8 @@ is_medium (Flushes r) = true
 -- a work of more blocks than a command may have
 abbrev pub is_too_long : Work → Bool
 is_too_long Nothing = false
-is_too_long (Reads r flushed) = nat_lt most_transferred r.blocks
-is_too_long (Writes r bytes flushed) = nat_lt most_transferred r.blocks
+is_too_long (Reads r flushed) = nat_lt most_blocks r.blocks
+is_too_long (Writes r bytes flushed) = nat_lt most_blocks r.blocks
 is_too_long (Compares r bytes flushed) = nat_lt most_compared r.blocks
 is_too_long (Flushes r) = false
 

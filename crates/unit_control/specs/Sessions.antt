@@ -3,7 +3,7 @@
 use Rattle.std.specs.Prelude.{ℕ, ◌+◌, ◌≤◌, Bool, not, nat_eq, if◌then◌else◌, List, [], ◌∷◌, drop, filter, map}
 use Rattle.std.specs.Prelude.{slice_get, Option, Some, None}
 use Rattle.std.specs.Option.{option_map}
-use Rattle.registrants.specs.Nexus.{IsPortName, same_nexus}
+use Rattle.registrants.specs.Nexus.{same_nexus}
 use Rattle.scsi_types.specs.Nexus.{Nexus}
 use Rattle.scsi_types.specs.declared.attention.UnitAttention.{UnitAttention}
 use Rattle.scsi_types.specs.declared.attention.UnitAttention.TheVariants.{PowerOn}
@@ -54,10 +54,9 @@ last_nexus [] = nexus_in None
 last_nexus (a ∷ []) = nexus_of a
 last_nexus (a ∷ b ∷ rest) = last_nexus (b ∷ rest)
 
--- no serial passes the count of entries, and the port is one as iSCSI names it
-pub record IsFit (count : ℕ) (a : Attached) : Type 0 where
-  pub next : a.next ≤ count
-  pub port : IsPortName a.port
+-- no serial passes the count of entries
+abbrev pub IsFit : ℕ → Attached → Type 0
+IsFit count a = a.next ≤ count
 
 -- ---- one session changes
 

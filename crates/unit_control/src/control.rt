@@ -107,7 +107,6 @@ impl Control {
     ghost use Rattle.unit_control.specs.Places.{Stays, StaysAll};
     ghost use Rattle.unit_control.specs.Refusal.{is_let, tell};
     ghost use Rattle.aptpl_file.specs.Lasts.{left_by};
-    ghost use Rattle.registrants.specs.Nexus.{IsPortName};
     ghost use Rattle.reservations.specs.Notice.{tellings};
     ghost use Rattle.registrants.specs.Registry.{to_last};
     ghost use Rattle.reservations.specs.Table.{Done};
@@ -138,10 +137,8 @@ impl Control {
         })
     }
 
-    /// Attaches a session of this nexus, and ends one that it had. Takes no memory. The port has a name of 1 to 223
-    /// bytes, and its ISID fits six.
+    /// Attaches a session of this nexus, and ends one that it had. Takes no memory.
     pub fn attach(&mut self, port: PortName, group: Group) -> Result<SessionId, AttachFault>
-        requires { IsPortName port }
         ensures room { IsErr result ↔ (HasRoom self.old (record { port = port; group = group }) → ⊥) }
         ensures had { IfOk result (λ id. HasRoom self.old (record { port = port; group = group })) }
         ensures id { IfOk result (λ id. id ≡ self.old.count) }

@@ -23,13 +23,13 @@ use Rattle.unit_control.specs.Choice.{Choice, Fine, is_fine, choice_of}
 use Rattle.unit_control.specs.Sessions.{ended, last_nexus, next_of, session_of}
 use Rattle.unit_control.specs.Entry.{Entry, Attach, Detach, Reset, Move, Command, HasRoom, IsAttached, IsNext, IsPossible, IsReplyTo}
 use Rattle.unit_control.specs.Entry.{after, blocks_after, control_after}
-use Rattle.unit_state.specs.EntryLaws.{possible_over, reply_over}
+use Rattle.unit_state.proofs.EntryLaws.{possible_over, reply_over}
 use Rattle.unit_state.specs.History.{state_after, IsReplyAt, has_failed, failed_entries}
-use Rattle.unit_state.specs.HistoryLaws.{state_after-snoc, IsLegal-snoc, failed-snoc, failed-le-length, last_attached}
+use Rattle.unit_state.proofs.HistoryLaws.{state_after-snoc, IsLegal-snoc, failed-snoc, failed-le-length, last_attached}
 use Rattle.unit_state.specs.Moves.{IsMove}
 use Rattle.unit_control.specs.Refusal.{request}
 use Rattle.unit_state.specs.Serials.{IsNumbered, IsOpening, commands_of}
-use Rattle.unit_state.specs.SerialLaws.{numbered}
+use Rattle.unit_state.proofs.SerialLaws.{numbered}
 use Rattle.unit_state.specs.Step.{IsStep, TakesMemory, entry_of}
 use Rattle.unit_entries.specs.Histories.{IsHistory, IsBehind, IsToldBehind, own, command}
 use Rattle.unit_entries.specs.Causes.{IsFull, IsGone, IsAbsent, IsOwner, WantsMemory, IsMoveTold}

@@ -1,9 +1,9 @@
 -- What the board shows of a history.
 use Rattle.std.specs.Prelude.{List, length}
 use Rattle.access_states.specs.AccessMap.{owner_of}
-use Rattle.access_states.specs.List.{group_number}
 use Rattle.access_states.specs.State.{state_code}
 use Rattle.registrants.specs.Registry.{reserved_type}
+use Rattle.scsi_types.specs.Nexus.{group_number}
 use Rattle.status.specs.declared.row.Row.{Row}
 use Rattle.unit_control.specs.State.{ControlValue, UnitState}
 use Rattle.unit_control.specs.Row.{kind_shown}

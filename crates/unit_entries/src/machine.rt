@@ -1,6 +1,5 @@
 //! The unit as what is locked: each of its calls is one entry.
 ghost use Rattle.std.specs.Prelude.{◌≡◌};
-ghost use Rattle.access_states.specs.List.{group_number};
 ghost use Rattle.unit_entries.specs.RowOf.{row_of};
 
 use crate::entry::{Arrival, Noted, Opened};
@@ -39,16 +38,6 @@ impl Array<Opened> for Brand {
     ghost opening = { λ place. no_state };
 }
 
-/// The number of a target port group.
-fn group_number(group: Group) -> u64
-    ensures { result ≡ group_number group }
-{
-    match group {
-        Group::One => 1,
-        Group::Two => 2,
-    }
-}
-
 /// The row of a unit.
 fn row_of<B: Blocks, R: Blocks, O: Opener<B>>(unit: &Unit<B, R, O>) -> Row
     ensures { result ≡ row_of unit.now.control }
@@ -56,7 +45,7 @@ fn row_of<B: Blocks, R: Blocks, O: Opener<B>>(unit: &Unit<B, R, O>) -> Row
     let row = unit.row();
     Row {
         entries: row.entries,
-        owner: group_number(row.owner),
+        owner: u64::from(row.owner.number()),
         states: (row.states[0].code() as u64, row.states[1].code() as u64),
         generation: row.generation as u64,
         registrants: row.registrants as u64,
@@ -66,7 +55,6 @@ fn row_of<B: Blocks, R: Blocks, O: Opener<B>>(unit: &Unit<B, R, O>) -> Row
 
 impl<B: Blocks, R: Blocks, O: Opener<B>> Machine<Noted, Opened> for Unit<B, R, O> {
     ghost use Rattle.std.specs.Prelude.{◌&&◌};
-    ghost use Rattle.registrants.specs.Nexus.{IsPortName};
     ghost use Rattle.unit_control.specs.State.{state_of};
     ghost use Rattle.unit_control.specs.Choice.{Fine};
     ghost use Rattle.unit_control.specs.Entry.{Attach, Detach, Reset, Move};
@@ -91,8 +79,6 @@ impl<B: Blocks, R: Blocks, O: Opener<B>> Machine<Noted, Opened> for Unit<B, R, O
     type Fault = DeviceFailed;
 
     ghost after = { IsBehind (O.claims && B.claims) B.contents B.failures O.opens_failed R.failures };
-
-    ghost is_name = { λ name. IsPortName name.port };
 
     ghost attaching = { λ name. Attach (record { port = name.port; group = name.group }) };
 

@@ -1,6 +1,6 @@
 -- A unit has counted the entries of its history.
 use Rattle.std.proofs.Common.{◌≡◌, ℕ, Bool, List, length, ap, ◌∙◌}
-use Rattle.unit_state.specs.SerialLaws.{numbered}
+use Rattle.unit_state.proofs.SerialLaws.{numbered}
 use Rattle.unit_control.specs.State.{ControlValue, UnitState, UnitValue}
 use Rattle.unit_control.specs.Entry.{Entry}
 use Rattle.unit_entries.specs.Histories.{IsBehind, IsHistory}

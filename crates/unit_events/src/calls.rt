@@ -1,6 +1,6 @@
 //! What an event makes of one unit, whatever history the unit has.
 ghost use Rattle.std.specs.Prelude.{◌&&◌};
-ghost use Rattle.registrants.specs.Nexus.{IsPortName, through};
+ghost use Rattle.registrants.specs.Nexus.{through};
 ghost use Rattle.unit_entries.specs.Causes.{IsGone, IsStay};
 ghost use Rattle.unit_control.specs.Choice.{Fine};
 ghost use Rattle.unit_control.specs.Entry.{Detach, Move, Reset};
@@ -45,7 +45,6 @@ pub fn attach_unit<B: Blocks, R: Blocks, O: Opener<B>>(
     port: PortName,
     group: Group,
 ) -> Option<u64>
-    requires { IsPortName port }
     ensures { IsUnitAttach (O.claims && B.claims) B.contents B.failures O.opens_failed R.failures
         (through port group) result unit.old unit.new }
 {

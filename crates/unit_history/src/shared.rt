@@ -1,6 +1,6 @@
 //! One unit that threads share.
 ghost use Rattle.std.specs.Prelude.{◌≡◌, ◌≤◌, ◌&&◌, [], length, IfOk, IfErr, MatchBool, All, List};
-ghost use Rattle.registrants.specs.Nexus.{IsPortName, through};
+ghost use Rattle.registrants.specs.Nexus.{through};
 ghost use Rattle.unit_history.specs.Calls.{HasAttached, HasNoRoom, HasServed, HasRefused, HasReset, WasGone, HasRetired};
 ghost use Rattle.unit_history.specs.Calls.{HasFlushed, HasMoved, HasStayed, HasWorked, HaveMet};
 ghost use Rattle.unit_entries.specs.Devices.{devices};
@@ -86,15 +86,14 @@ impl<B: Blocks, R: Blocks, O: Opener<B>, N: Array<Opened>, const U: usize> Share
         self.unit.board()
     }
 
-    /// Attaches a session of this port by this group, and ends one that the nexus had. The port has a name of 1 to 223 bytes,
-    /// and its ISID fits six. Refused, 64 sessions of other nexuses are attached, or the history has its last length.
+    /// Attaches a session of this port by this group, and ends one that the nexus had. Refused, 64 sessions of other nexuses are
+    /// attached, or the history has its last length.
     pub fn attach<W: Wait>(
         &self,
         rt: &W,
         port: PortName,
         group: Group,
     ) -> Result<Pass<B, R, O, N>, LegalHistory<B, R, O, N>>
-        requires { IsPortName port }
         ensures attached { IfOk result (λ p. (p.place ≡ U)
             × HasAttached (O.claims && B.claims) (N.opening U) (through port group) p.pass) }
         ensures full { IfErr result (λ f. (f.0 ≡ U)

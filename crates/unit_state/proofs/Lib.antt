@@ -1,8 +1,12 @@
+pub mod CommandLaws
+pub mod EntryLaws
+pub mod HistoryLaws
 pub mod Lasting
 pub mod Order
 pub mod PowerLoss
 pub mod ReadBack
 pub mod Restart
+pub mod SerialLaws
 pub mod Served
 pub mod Steps
 pub mod Told

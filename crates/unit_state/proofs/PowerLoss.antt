@@ -4,7 +4,7 @@ use Rattle.std.specs.Prelude.{IsTrue}
 use Rattle.aptpl_file.specs.Holds.{HoldsOneOf}
 use Rattle.aptpl_file.specs.Lasts.{LastsAmong, StopsAt}
 use Rattle.block_file.specs.Disk.{NoMore}
-use Rattle.block_file.specs.MomentLaws.{no_time}
+use Rattle.block_file.proofs.MomentLaws.{no_time}
 use Rattle.compare_write.specs.declared.end.MediumEnd.{MediumEnd}
 use Rattle.registrants.specs.Registry.{RecordValue}
 use Rattle.reservations.specs.declared.request.PrOut.{PrOut}

@@ -2,7 +2,7 @@
 use Rattle.std.proofs.Common.{◌≡◌, ℕ, ◌+◌, ◌*◌, ◌≤◌, Bool, List, length, take, Option, Some, None, Ok, ap, arith}
 use Rattle.block_file.specs.Cut.{cut}
 use Rattle.block_file.specs.Disk.{written, range_bytes}
-use Rattle.block_file.specs.ReadBack.{written_is_read}
+use Rattle.block_file.proofs.ReadBack.{written_is_read}
 use Rattle.scsi_types.specs.ReplyValue.{ReplyValue, good}
 use Rattle.scsi_types.specs.declared.names.Group.{Group}
 use Rattle.scsi_types.specs.declared.command.Command.TheVariants.{Read, Write}

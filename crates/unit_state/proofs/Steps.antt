@@ -3,7 +3,7 @@ use Rattle.std.specs.Prelude.{IsTrue}
 use Rattle.std.proofs.Common.{◌≡◌, ℕ, Bool, false, List, [], None, Ok, Err, Result, IfOk, OnErr, refl, sym, subst, ap, ◌∙◌}
 use Rattle.access_states.specs.AccessMap.{owner_of}
 use Rattle.aptpl_file.specs.Lasts.{EachOutcomeHolds, FileValue, LastsAmong}
-use Rattle.aptpl_file.specs.LastsLaws.{each_outcome_holds}
+use Rattle.aptpl_file.proofs.LastsLaws.{each_outcome_holds}
 use Rattle.registrants.specs.Registry.{RecordValue}
 use Rattle.scsi_types.specs.ReplyValue.{ReplyValue, check}
 use Rattle.scsi_types.specs.Sense.{unrecovered_read_error}

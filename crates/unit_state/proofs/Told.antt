@@ -21,8 +21,8 @@ use Rattle.unit_control.specs.Sessions.{session_of, sender_of, nexus_in, next_of
 use Rattle.unit_control.specs.Sessions.{pass_one, passed, tell_one, told, ended, heard_reset, all_reset}
 use Rattle.unit_control.specs.Refusal.{Request, refusal}
 use Rattle.unit_control.specs.Entry.{IsNext, control_with}
-use Rattle.unit_state.specs.CommandLaws.{next_passed, next_kept}
-use Rattle.unit_control.specs.GroupsLaws.{change_keeps}
+use Rattle.unit_state.proofs.CommandLaws.{next_passed, next_kept}
+use Rattle.unit_control.proofs.GroupsLaws.{change_keeps}
 use Rattle.unit_control.specs.Groups.{change_heard, hear_change}
 use Rattle.unit_control.proofs.Places.{session_changed, session_mapped, has_id}
 

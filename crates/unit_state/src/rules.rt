@@ -18,12 +18,9 @@ use crate::ops::{access_of, kind_asked, passes_attention};
 use crate::reserve::LIST_LENGTH;
 use access_states::permits;
 use compare_write::MOST_COMPARED;
-use scsi_types::{Asked, CdbFault, Command, Op, PageControl, Sense, need};
+use scsi_types::{Asked, CdbFault, Command, MOST_BLOCKS, Op, PageControl, Sense, need};
 use unit_control::groups::states_asked;
 use unit_control::{Control, Refusal, Sender};
-
-/// The most blocks of a READ or a WRITE (SBC-3, Block Limits page: MAXIMUM TRANSFER LENGTH).
-const MOST_TRANSFERRED: u16 = 2048;
 
 /// The command, where no rule refuses it.
 pub fn admit(
@@ -125,7 +122,7 @@ fn is_too_long(command: &Command) -> bool
     ensures { (bytes : List ℕ) → result ≡ is_too_long (work_of command.now bytes) }
 {
     match command {
-        Command::Read { blocks, .. } | Command::Write { blocks, .. } => *blocks > MOST_TRANSFERRED,
+        Command::Read { blocks, .. } | Command::Write { blocks, .. } => *blocks > MOST_BLOCKS,
         Command::CompareAndWrite { blocks, .. } => *blocks > MOST_COMPARED,
         Command::TestUnitReady
         | Command::RequestSense { .. }

@@ -2,7 +2,6 @@ ghost use Rattle.std.specs.Prelude.{◌≡◌, ◌≢◌, ◌<◌, ◌≤◌, �
 ghost use Rattle.block_file.specs.Disk.{Only};
 ghost use Rattle.block_file.specs.Failures.{Counts, Tells};
 ghost use Rattle.aptpl_file.specs.Lasts.{EachOutcomeHolds, LastsAmong, StopsAt};
-ghost use Rattle.registrants.specs.Nexus.{IsPortName};
 ghost use Rattle.unit_control.specs.Limits.{last_length};
 
 use crate::commands::answer;
@@ -118,10 +117,8 @@ impl<B: Blocks, R: Blocks, O: Opener<B>> Unit<B, R, O> {
         })
     }
 
-    /// Attaches a session of this nexus, and ends one that it had. Takes no memory. The port has a name of 1 to 223
-    /// bytes, and its ISID fits six.
+    /// Attaches a session of this nexus, and ends one that it had. Takes no memory.
     pub fn attach(&mut self, port: PortName, group: Group) -> Result<SessionId, AttachFault>
-        requires { IsPortName port }
         ensures room { IsErr result ↔ (HasRoom self.old.control (record { port = port; group = group }) → ⊥) }
         ensures had { IfOk result (λ id. HasRoom self.old.control (record { port = port; group = group })) }
         ensures id { IfOk result (λ id. id ≡ self.old.control.count) }

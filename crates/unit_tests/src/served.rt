@@ -125,12 +125,12 @@ impl<B: Blocks, R: Blocks, O: Opener<B>> Served<B, R, O> {
     ) -> Result<SessionId, AttachFault> {
         let (isid, group) = words.split_once(' ').expect(rt, row.text);
         let isid = row.number(rt, isid);
-        assert!(rt; isid < 0x1_0000_0000_0000, "an ISID of six bytes");
         let group = if group == "1" { Group::One } else { Group::Two };
         let name = b"iqn.2026-01.example:host"
             .to_vec(alloc)
             .expect(rt, "memory");
-        let end = self.unit.attach(PortName::new(name, isid), group);
+        let port = PortName::new(name, isid).expect(rt, "an ISID of six bytes");
+        let end = self.unit.attach(port, group);
         if let Ok(id) = end {
             let session = Attached { id, group, next: 1 };
             self.sessions.push(session).expect(rt, "memory");

@@ -2,7 +2,7 @@
 use Rattle.std.specs.Prelude.{◌≡◌, ◌⊎◌, ℕ, ◌+◌, ◌<◌, ◌≤◌, Bool, nat_eq, if◌then◌else◌, List, [], ◌∷◌, ◌++◌, length}
 use Rattle.std.specs.Prelude.{MatchOption, slice_get}
 use Rattle.locked_unit.specs.Calls.{IsCause}
-use Rattle.registrants.specs.Nexus.{IsPortName, through}
+use Rattle.registrants.specs.Nexus.{through}
 use Rattle.unit_control.specs.State.{UnitState}
 use Rattle.unit_control.specs.Choice.{Choice, Fine}
 use Rattle.unit_control.specs.Entry.{Entry, Attach, Detach, Reset, Move, Command}
@@ -77,7 +77,7 @@ module _ (claims : Bool) (units : ℕ) (opening : ℕ → UnitState) where
   abbrev pub IsStep : Scene → Event → Scene → Type 0
   IsStep w (events.Attach place port group) new =
       IsEntry w place (Attach (through port group)) (attached w.traffic place (length (w.past place)))
-      ((IsPortName port → ⊥) ⊎ IsFull (opening place) (w.past place) (through port group)) new
+      (IsFull (opening place) (w.past place) (through port group)) new
   IsStep w (events.Detach n) new =
       MatchOption (slice_get w.traffic.sessions n) (new ≡ w)
       (λ x. IsEntry w x.place (Detach x.id) w.traffic (IsGone (opening x.place) (w.past x.place) x.id) new)

@@ -1,6 +1,5 @@
 //! The world.
-ghost use Rattle.std.specs.Prelude.{◌≡◌, ◌<◌, ◌↔◌, ◌&&◌, [], ℕ, All, IfOk, IsTrue, MatchOption, OnOk, OnErr, length, slice_get, take};
-ghost use Rattle.registrants.specs.Nexus.{IsPortName};
+ghost use Rattle.std.specs.Prelude.{◌≡◌, ◌<◌, ◌&&◌, [], ℕ, All, IfOk, MatchOption, OnOk, OnErr, length, slice_get, take};
 ghost use Rattle.unit_state.specs.Serials.{IsOpening};
 ghost use Rattle.world.specs.Traffic.{IsTakenBack, begun, begun_again, closed, collected, given, new_job, no_traffic, posted};
 ghost use Rattle.world.specs.Traffic.{submitted, submitted_again, taken};
@@ -40,23 +39,6 @@ fn item_at<T>(items: &[T], place: usize) -> Option<&T>
     ensures { MatchOption result (slice_get items.now place ≡ None) (λ x. slice_get items.now place ≡ Some x.now) }
 {
     items.get(place)
-}
-
-// Whether it names an initiator port: a name of 1 to 223 bytes, and an ISID of six.
-fn is_port_name(port: &PortName) -> bool
-    ensures { IsTrue result ↔ IsPortName port.now }
-{
-    let name = port.name();
-    !name.is_empty() && name.len() <= 223 && port.isid() < 1 << 48
-}
-
-fn copy_port(alloc: Global, port: &PortName) -> Result<PortName, NoMemory>
-    ensures { IfOk result (λ copy. copy ≡ port.now) }
-{
-    let Ok(name) = port.name().to_vec(alloc) else {
-        return Err(NoMemory);
-    };
-    Ok(PortName::new(name, port.isid()))
 }
 
 impl<B: Blocks, R: Blocks, O: Opener<B>> World<B, R, O> {
@@ -123,10 +105,7 @@ impl<B: Blocks, R: Blocks, O: Opener<B>> World<B, R, O> {
             (events.Attach place port.now group) self.old self.new) }
         ensures err { OnErr result (self.new ≡ self.old) }
     {
-        if !is_port_name(port) {
-            return Ok(());
-        }
-        let port = copy_port(self.alloc, port)?;
+        let port = port.copy(self.alloc)?;
         self.records.make_room()?;
         let Some(unit) = self.units.get_mut(place) else {
             return Ok(());

@@ -13,7 +13,9 @@ use std::test::Fail;
 fn record_of(alloc: Global, key: u64) -> Result<Record, NoMemory> {
     let mut registry = Registry::new(alloc)?;
     let name = Vec::from_slice(alloc, b"iqn.2000-01.test:host")?;
-    let port = PortName::new(name, 0x4000_0137_0000);
+    let Some(port) = PortName::new(name, 0x4000_0137_0000) else {
+        unreachable!()
+    };
     let asked = PrOut {
         action: PrOutAction::Register,
         scope: 0,

@@ -52,7 +52,7 @@ pub fn registry_after(rt: &impl Abort, alloc: Global, requests: &[Sent]) -> Regi
     for (letter, group, asked) in requests {
         let mut name = Vec::from_slice(alloc, b"iqn.2000-01.test:").expect(rt, "memory");
         name.push(*letter).expect(rt, "memory");
-        let port = PortName::new(name, 0x4000_0137_0000);
+        let port = PortName::new(name, 0x4000_0137_0000).expect(rt, "a name of a port");
         let _ = registry.out(&port, *group, request(*asked));
     }
     registry

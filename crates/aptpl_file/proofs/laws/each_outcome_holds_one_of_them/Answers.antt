@@ -1,4 +1,4 @@
-use Rattle.aptpl_file.specs.LastsLaws.{each_outcome_holds}
+use Rattle.aptpl_file.proofs.LastsLaws.{each_outcome_holds}
 use Rattle.aptpl_file.proofs.laws.each_outcome_holds_one_of_them.Goals as goal
 
 pub returns : goal.returns

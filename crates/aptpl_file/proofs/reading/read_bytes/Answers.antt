@@ -1,7 +1,7 @@
 use Rattle.std.proofs.Common.{◌∙◌, ◌+◌, ◌*◌, ℕ, List, ap, arith, take, drop}
 use Rattle.block_file.specs.Disk.{block_at}
-use Rattle.block_file.specs.ReadBack.{range_part}
-use Rattle.aptpl_file.specs.LastsLaws.{slot_within}
+use Rattle.block_file.proofs.ReadBack.{range_part}
+use Rattle.aptpl_file.proofs.LastsLaws.{slot_within}
 use Rattle.aptpl_file.proofs.reading.read_bytes.Goals as goal
 
 pub returns-clause-read : goal.returns-clause-read

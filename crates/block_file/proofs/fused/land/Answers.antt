@@ -1,7 +1,7 @@
 use Rattle.std.proofs.Common.{⊎_elim, inl, inr, ◌∙◌, ap, arith, List, ℕ}
 use Rattle.block_file.specs.CutLaws.{front_between, front_new, front_lands}
 use Rattle.block_file.specs.Disk.{written}
-use Rattle.block_file.specs.FailureLaws.{was_done}
+use Rattle.block_file.proofs.FailureLaws.{was_done}
 use Rattle.block_file.proofs.fused.land.Goals as goal
 
 pub returns-then-blocks-gt0-clause-landed : goal.returns-then-blocks-gt0-clause-landed

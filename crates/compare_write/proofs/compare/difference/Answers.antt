@@ -1,5 +1,5 @@
 use Rattle.std.proofs.Common.{sym}
-use Rattle.compare_write.specs.DifferenceLaws.{none_differs}
+use Rattle.compare_write.proofs.DifferenceLaws.{none_differs}
 use Rattle.compare_write.proofs.compare.difference.Goals as goal
 
 pub returns-in-Some-clause-compared : goal.returns-in-Some-clause-compared

@@ -1,4 +1,4 @@
-use Rattle.compare_write.specs.DifferenceLaws.{within_both, differs_at, agrees_before, none_differs, differs_nowhere}
+use Rattle.compare_write.proofs.DifferenceLaws.{within_both, differs_at, agrees_before, none_differs, differs_nowhere}
 use Rattle.compare_write.proofs.laws.the_first_difference_is_the_least.Goals as goal
 
 pub returns-clause-differs : goal.returns-clause-differs

@@ -1,5 +1,5 @@
 use Rattle.std.proofs.Common.{refl, sym}
-use Rattle.crash_blocks.specs.ValuesLaws.{write_more}
+use Rattle.crash_blocks.proofs.ValuesLaws.{write_more}
 use Rattle.crash_blocks.proofs.outcome.go_on.Goals as goal
 
 pub returns-in-Write-clause-gone : goal.returns-in-Write-clause-gone

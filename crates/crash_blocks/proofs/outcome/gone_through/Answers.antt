@@ -3,7 +3,7 @@ use Rattle.std.proofs.lemmas.List.{take_all}
 use Rattle.block_file.specs.Cut.{cut}
 use Rattle.crash_blocks.specs.declared.event.Event.{Event}
 use Rattle.crash_blocks.specs.Values.{HasGone}
-use Rattle.crash_blocks.specs.ValuesLaws.{gone_first, gone_next}
+use Rattle.crash_blocks.proofs.ValuesLaws.{gone_first, gone_next}
 use Rattle.crash_blocks.proofs.outcome.gone_through.Goals as goal
 
 pub loop-place-init : goal.loop-place-init

@@ -1,4 +1,4 @@
-use Rattle.crash_blocks.specs.ValuesLaws.{found_at}
+use Rattle.crash_blocks.proofs.ValuesLaws.{found_at}
 use Rattle.crash_blocks.proofs.outcome.left_of.Goals as goal
 
 pub returns : goal.returns

@@ -1,5 +1,5 @@
 use Rattle.std.proofs.Common.{◌⊎◌, ◌+◌, ◌/◌, ◌<◌, ◌≤◌, length, inl, inr, refl, arith}
-use Rattle.crash_blocks.specs.ValuesLaws.{gone_more, gone_past}
+use Rattle.crash_blocks.proofs.ValuesLaws.{gone_more, gone_past}
 use Rattle.crash_blocks.proofs.outcome.write_on.Goals.{then-k-first-via-then-k-first, then-k-first-via-else-k-first+then-k-first-2}
 use Rattle.crash_blocks.proofs.outcome.write_on.Goals as goal
 

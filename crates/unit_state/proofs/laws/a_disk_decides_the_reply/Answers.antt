@@ -1,4 +1,4 @@
-use Rattle.unit_state.specs.HistoryLaws.{decided}
+use Rattle.unit_state.proofs.HistoryLaws.{decided}
 use Rattle.unit_state.proofs.laws.a_disk_decides_the_reply.Goals as goal
 
 pub returns : goal.returns

@@ -1,4 +1,4 @@
-use Rattle.unit_state.specs.HistoryLaws.{failed-le-length, failed-snoc}
+use Rattle.unit_state.proofs.HistoryLaws.{failed-le-length, failed-snoc}
 use Rattle.unit_state.proofs.laws.failures_are_counted.Goals as goal
 
 pub returns-clause-most : goal.returns-clause-most

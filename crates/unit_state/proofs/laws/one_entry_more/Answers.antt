@@ -1,4 +1,4 @@
-use Rattle.unit_state.specs.HistoryLaws.{state_after-snoc, IsLegal-snoc, reply_at-snoc, reply_at-before}
+use Rattle.unit_state.proofs.HistoryLaws.{state_after-snoc, IsLegal-snoc, reply_at-snoc, reply_at-before}
 use Rattle.unit_state.proofs.laws.one_entry_more.Goals as goal
 
 pub returns : goal.returns

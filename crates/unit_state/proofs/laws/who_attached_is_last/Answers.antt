@@ -1,4 +1,4 @@
-use Rattle.unit_state.specs.HistoryLaws.{last_attached}
+use Rattle.unit_state.proofs.HistoryLaws.{last_attached}
 use Rattle.unit_state.proofs.laws.who_attached_is_last.Goals as goal
 
 pub returns : goal.returns

@@ -22,30 +22,20 @@
 //! - `reservation 24 BYTES`, `full-status 24 BYTES` or `capabilities 8 BYTES`: the data, where there is room for so many
 //!   bytes.
 //! - `copied`, `lasted`: it goes on with a copy of the registry, or with what is left behind a loss of power.
-ghost use Rattle.std.specs.Prelude.{IfOk};
-ghost use Rattle.registrants.specs.Nexus.{IsPortName};
 
 use crate::rules::registrations::row::{NAMES, Who, request_of, who_named, word};
 use reservations::{Access, PrEnd, Registry};
-use scsi_types::{NoMemory, PortName};
+use scsi_types::PortName;
 use std::alloc::Global;
 use std::process::Abort;
 use std::test::*;
 use test_streams::{bytes_of, lines_of};
 
-fn named(alloc: Global, who: Who) -> Result<PortName, NoMemory>
-    ensures { IfOk result (λ port. IsPortName port) }
-{
-    let mut name = Vec::from_slice(alloc, b"iqn.2000-01.test:")?;
-    name.push(who.0)?;
-    Ok(PortName::new(name, u64::from(who.1) * 0x1_0000))
-}
-
 // The port of a nexus.
-fn port_of(rt: &impl Abort, alloc: Global, who: Who) -> PortName
-    ensures { IsPortName result }
-{
-    named(alloc, who).expect(rt, "memory")
+fn port_of(rt: &impl Abort, alloc: Global, who: Who) -> PortName {
+    let mut name = Vec::from_slice(alloc, b"iqn.2000-01.test:").expect(rt, "memory");
+    name.push(who.0).expect(rt, "memory");
+    PortName::new(name, u64::from(who.1) * 0x1_0000).expect(rt, "a name of a port")
 }
 
 // A registry as it is at first.

@@ -4,7 +4,7 @@ use Rattle.block_file.specs.CutLaws.{length-cut}
 use Rattle.crash_blocks.specs.declared.event.Event.{Event}
 use Rattle.crash_blocks.specs.Events.{runs_fit}
 use Rattle.crash_blocks.specs.Values.{picked_of, values_of, IsPicked}
-use Rattle.crash_blocks.specs.ValuesLaws.{newest_left, one_more, picked_left}
+use Rattle.crash_blocks.proofs.ValuesLaws.{newest_left, one_more, picked_left}
 use Rattle.crash_blocks.proofs.crash.CrashBlocks.crash.Goals as goal
 
 pub left_of-left-requires : goal.left_of-left-requires

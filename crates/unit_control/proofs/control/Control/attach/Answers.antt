@@ -10,6 +10,6 @@ invariant_of-self c = (
       (serials_fit (record {
         port = c.args.port;
         group = c.args.group;
-      }) c.self.inside.sessions.items c.self.inside.count _ refl c.requires c.self.invariant.0),
+      }) c.self.inside.sessions.items c.self.inside.count _ refl c.self.invariant.0),
   omega (arith, c.replace.ensures.capacity, c.self.invariant.1),
 )

@@ -1,5 +1,5 @@
 use Rattle.std.proofs.Common.{All, List, arith, refl, subst, sym}
-use Rattle.unit_control.specs.GroupsLaws.{change_keeps}
+use Rattle.unit_control.proofs.GroupsLaws.{change_keeps}
 use Rattle.unit_control.specs.Groups.{hear_change}
 use Rattle.unit_control.specs.Places.{IsPlaceOf}
 use Rattle.unit_control.specs.Sessions.{IsFit}

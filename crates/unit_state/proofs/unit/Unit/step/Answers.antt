@@ -1,5 +1,5 @@
 use Rattle.std.proofs.Common.{refl}
-use Rattle.aptpl_file.specs.LastsLaws.{each_outcome_holds}
+use Rattle.aptpl_file.proofs.LastsLaws.{each_outcome_holds}
 use Rattle.unit_state.proofs.Steps.{answered_step, step_seen, memory_seen, restart_seen, restarts, unreached_seen}
 use Rattle.unit_control.specs.Medium.{work_asked}
 use Rattle.unit_control.specs.Refusal.{request}

@@ -16,7 +16,7 @@ use Rattle.unit_control.specs.declared.sessions.Attached.{Attached}
 use Rattle.unit_control.specs.State.{ControlValue}
 use Rattle.unit_control.specs.Choice.{Choice, Fine, ReadFailed, WriteFailed, OpenFailed, SaveFailed}
 use Rattle.unit_control.specs.Groups.{after_change, change_heard, hear_change, is_any_changed, set_by}
-use Rattle.unit_control.specs.GroupsLaws.{change_keeps}
+use Rattle.unit_control.proofs.GroupsLaws.{change_keeps}
 use Rattle.unit_control.specs.Refusal.{Request, request, refusal}
 use Rattle.unit_control.specs.Reserve.{all_heard, after_effect, after_saved, effect_by, hear, pr_out}
 use Rattle.unit_control.specs.Sessions.{next_of, passed, told}

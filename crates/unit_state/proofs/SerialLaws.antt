@@ -16,8 +16,8 @@ use Rattle.unit_control.specs.Groups.{move_by}
 use Rattle.unit_control.specs.Refusal.{Request, request, refusal}
 use Rattle.unit_control.specs.Entry.{Entry, Attach, Detach, Reset, Move, Command, IsPossible, after, control_after, control_with}
 use Rattle.unit_state.specs.History.{state_after, IsLegal}
-use Rattle.unit_state.specs.CommandLaws.{serials, serial_in, next_in, serials_mapped, serials_after_change}
-use Rattle.unit_state.specs.CommandLaws.{serials_kept, kept_count, count_after_change}
+use Rattle.unit_state.proofs.CommandLaws.{serials, serial_in, next_in, serials_mapped, serials_after_change}
+use Rattle.unit_state.proofs.CommandLaws.{serials_kept, kept_count, count_after_change}
 use Rattle.unit_state.specs.Serials.{is_command_of, commands_of, IsOpening, IsNumbered}
 
 -- ---- a history with one entry more

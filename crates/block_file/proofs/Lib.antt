@@ -1,0 +1,3 @@
+pub mod FailureLaws
+pub mod MomentLaws
+pub mod ReadBack
