@@ -27,9 +27,6 @@ opcode-take b = ap (λ (x : ℕ). x % 64) (index-take b 48 0 (omega arith))
 pub flags-front : (b : List ℕ) → HasBadFlags b → HasBadFlags (take 48 b)
 flags-front b bad = rw (index-take b 48 0 (omega arith), index-take b 48 1 (omega arith)) bad
 
-pub bad-flags-stands : (b : List ℕ) → HasBhs b → HasBadFlags (take 48 b) → Stands b BadFlags
-bad-flags-stands b front bad = (front, rw (index-take b 48 0 (omega arith), index-take b 48 1 (omega arith)) at bad)
-
 pub bad-reserved-stands : (b : List ℕ) (f : PduFault) → HasBhs b → (f ≡ BadReserved) × HasBadReserved (take 48 b)
     → Stands b f
 bad-reserved-stands b f front (is, (target, none)) =

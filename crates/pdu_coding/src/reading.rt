@@ -130,6 +130,20 @@ pub fn decode(bytes: &[u8]) -> Result<Option<(Pdu<'_>, usize)>, PduFault>
     if len > MAX_DATA_SEGMENT_LENGTH as u32 {
         return Err(PduFault::TooLong);
     }
+    decode_known(bytes, len)
+}
+
+// The same, where the opcode at the front is known, no other header segment follows, and the data segment has this length.
+fn decode_known(bytes: &[u8], len: u32) -> Result<Option<(Pdu<'_>, usize)>, PduFault>
+    requires bhs { HasBhs bytes.now }
+    requires same_length { len ≡ three_at bytes.now 5 }
+    ensures found { IfOk result (λ o. MatchOption o
+        ((n : ℕ) (h : Header) (d : List ℕ) → IsPdu (take n bytes.now) h d → n ≤ length bytes.now → ⊥)
+        (λ p. (p.1 ≤ length bytes.now) × IsPdu (take p.1 bytes.now) p.0.header p.0.data.now)) }
+    ensures sound { IfOk result (λ o. (f : PduFault) → Stands bytes.now f → ⊥) }
+    ensures fault { IfErr result (Stands bytes.now) }
+    ensures short { IfOk result (λ o. IfNone o (length bytes.now < LONGEST_PDU)) }
+{
     let header = header_of(bytes, len)?;
     let len = len as usize;
     let end = BHS_LENGTH + padded_length(len);
