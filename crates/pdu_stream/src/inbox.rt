@@ -65,9 +65,10 @@ impl Inbox {
         ensures bound { length self.new ≤ INBOX_CAPACITY }
     {
         let waiting = self.filled - self.start;
-        self.start = make_room(self.bytes.as_mut_slice(), self.start, self.filled);
+        let bytes = self.bytes.as_mut_slice();
+        self.start = make_room(bytes, self.start, self.filled);
         self.filled = self.start + waiting;
-        let n = read_behind(source, self.bytes.as_mut_slice(), self.start, self.filled)?;
+        let n = read_behind(source, bytes, self.start, self.filled)?;
         self.filled += n;
         Ok(n)
     }
