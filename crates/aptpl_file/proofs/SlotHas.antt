@@ -13,14 +13,6 @@ use Rattle.aptpl_format.proofs.Spelled.{one_slot, one_version, root_version}
 use Rattle.aptpl_file.specs.Holds.{HasSlot, Holds, HoldsSlot, IsRefusal}
 use Rattle.aptpl_file.specs.Runs.{AreSlot}
 
--- a slot's bytes spell what the slot has, and the other way round
-pub slot_has : (disk : List (List ℕ)) (slot : Slot) (v : FileVersion) (bytes : List ℕ) (r : RecordValue)
-    → AreSlot disk slot bytes → Spells v bytes r → HasSlot disk v slot r
-slot_has disk slot v bytes r are s = record {
-  lasting = s.lasting;
-  spelled = λ k lt. sym (are k lt) ∙ ap (λ (b : List ℕ). part_at b k) s.spelled;
-}
-
 pub slot_spells : (disk : List (List ℕ)) (slot : Slot) (v : FileVersion) (bytes : List ℕ) (r : RecordValue)
     → length bytes ≡ 16896 → AreSlot disk slot bytes → HasSlot disk v slot r → Spells v bytes r
 slot_spells disk slot v bytes r long are has =

@@ -270,18 +270,6 @@ one_place v xs m n rm rn places groups =
 
 -- ---- a place that is counted
 
-pub place_here : (p : Entry → Bool) (es rest : List Entry) (e : Entry) → es ≡ e ∷ rest → p e ≡ true
-    → position_or_len p es ≡ 0
-place_here p es rest e is passes = ap (position_or_len p) is ∙ rw passes refl
-
-pub place_behind : (p : Entry → Bool) (es rest : List Entry) (e : Entry) → es ≡ e ∷ rest → p e ≡ false
-    → position_or_len p es ≡ 1 + position_or_len p rest
-place_behind p es rest e is fails = ap (position_or_len p) is ∙ rw fails refl
-
-pub place_is : (v : FileVersion) (m : Nexus) (xs : List Registrant) (k : ℕ)
-    → position_or_len (covers m) (entries_of v xs) ≡ k → k < length (entries_of v xs) → place_of v (Some m) xs ≡ k
-place_is v m xs k is within = placed (covers m) (entries_of v xs) k is within
-
 pub no_place : (v : FileVersion) (m : Nexus) (xs : List Registrant)
     → position_or_len (covers m) (entries_of v xs) ≡ length (entries_of v xs) → place_of v (Some m) xs ≡ 255
 no_place v m xs is = unplaced (covers m) (entries_of v xs) is

@@ -12,14 +12,6 @@ refused_too Version A B f a = a
 refused_too DeviceFailed A B f a = a
 refused_too NoMemory A B f a = a
 
-pub if_ok_too : {T F : Type 0} (r : Result T F) (P Q : T → Type 0) → ((t : T) → P t → Q t) → IfOk r P → IfOk r Q
-if_ok_too (Ok t) P Q f p = f t p
-if_ok_too (Err e) P Q f p = p
-
 pub if_err_too : {T F : Type 0} (r : Result T F) (P Q : F → Type 0) → ((e : F) → P e → Q e) → IfErr r P → IfErr r Q
 if_err_too (Ok t) P Q f p = p
 if_err_too (Err e) P Q f p = f e p
-
-pub on_ok_too : {T F : Type 0} (r : Result T F) (P Q : Type 0) → (P → Q) → OnOk r P → OnOk r Q
-on_ok_too (Ok t) P Q f p = f p
-on_ok_too (Err e) P Q f p = p

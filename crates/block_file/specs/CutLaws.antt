@@ -187,12 +187,6 @@ front_between first m bytes old new le between = record {
   each = λ k. ⊎_elim (λ o. inl o) (λ n. inr (front_new first m bytes k _ le n)) (between.each k);
 }
 
-pub front_run : (size first m : ℕ) (bytes : List ℕ) → m ≤ length bytes / 512 → IsRun size first (length bytes)
-    → IsRun size first (length (take (512 * m) bytes))
-front_run size first m bytes le run =
-    let long : length (take (512 * m) bytes) ≡ 512 * m = length-take-le (512 * m) bytes (omega (arith, le)) in
-    record { whole = omega (arith, long); within = omega (arith, long, le, run.within) }
-
 -- so many blocks of a run, or all of it
 pub front_lands : (lands m : ℕ) (bytes : List ℕ) → m ≡ min lands (length bytes / 512)
     → run_of (take (512 * m) bytes) ≡ take lands (run_of bytes)

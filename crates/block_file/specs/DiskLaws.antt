@@ -71,10 +71,6 @@ module _ (disk blocks : List (List ℕ)) (first : ℕ) (fits : first + length bl
         each = λ k. each_block k (cases_lt k first) (cases_lt k (first + length blocks));
       }
 
--- so is no write at all
-pub between_none : (disk : List (List ℕ)) (first : ℕ) (blocks : List (List ℕ)) → Between disk first blocks disk
-between_none disk first blocks = record { as_long = refl; each = λ k. inl refl }
-
 -- no block is written
 pub written_none : (disk : List (List ℕ)) (first : ℕ) → written disk first [] ≡ disk
 written_none disk first =

@@ -5,11 +5,6 @@ use Rattle.std.proofs.lemmas.Bool.Decides.{eqb_tells, nat_tests}
 use Rattle.std.proofs.lemmas.Grind.{common_steps}
 use Rattle.compare_write.specs.Difference.{first_difference}
 
--- one more byte in front of both
-behind_equal : (x y : ℕ) (xs ys : List ℕ) (at : ℕ) → x ≡ y → first_difference xs ys ≡ Some at
-    → first_difference (x ∷ xs) (y ∷ ys) ≡ Some (suc at)
-behind_equal x y xs ys at e h = grind (arith, common_steps, nat_tests)
-
 at_once : (x y : ℕ) (xs ys : List ℕ) → x ≢ y → first_difference (x ∷ xs) (y ∷ ys) ≡ Some 0
 at_once x y xs ys ne = grind (arith, common_steps, nat_tests)
 
@@ -23,10 +18,6 @@ some_behind x y xs ys at e h = (grind (arith, common_steps, nat_tests), grind (a
 
 some_at_once : (x y : ℕ) (xs ys : List ℕ) (at : ℕ) → x ≢ y → first_difference (x ∷ xs) (y ∷ ys) ≡ Some at → at ≡ 0
 some_at_once x y xs ys at ne h = grind (arith, common_steps, nat_tests)
-
-none_of_empty : (xs : List ℕ) (at : ℕ) → first_difference xs [] ≡ Some at → ⊥
-none_of_empty [] at h = absurd (cc)
-none_of_empty (x ∷ xs) at h = absurd (cc)
 
 -- runs of one length that differ nowhere are equal
 pub none_differs : (xs ys : List ℕ) → length xs ≡ length ys → first_difference xs ys ≡ None → xs ≡ ys
@@ -43,12 +34,6 @@ none_differs (x ∷ xs) (y ∷ ys) long h =
 pub differs_nowhere : (xs : List ℕ) → first_difference xs xs ≡ None
 differs_nowhere [] = refl
 differs_nowhere (x ∷ xs) = let rest = differs_nowhere xs in grind (arith, common_steps, nat_tests)
-
--- what a search for the first difference tells of runs of one length
-pub as_found : (xs ys : List ℕ) (found : Option ℕ) → length xs ≡ length ys → found ≡ first_difference xs ys
-    → MatchOption found (xs ≡ ys) (λ at. first_difference xs ys ≡ Some at)
-as_found xs ys None long is = none_differs xs ys long (sym is)
-as_found xs ys (Some at) long is = sym is
 
 -- at the first difference the runs differ, and before it they agree
 pub within_both : (xs ys : List ℕ) (at : ℕ) → first_difference xs ys ≡ Some at → (at < length xs) × (at < length ys)
