@@ -117,9 +117,9 @@ impl<E, S, P: Published<E, S>, J: Origin<S>> Board<E, S, P, J> {
         ensures seats { IfOk result (λ seats. All (λ seat. seat ≡ publisher.old) seats.items) }
         ensures publisher { publisher.new ≡ publisher.old }
     {
-        let mut seats = Vec::new(alloc);
+        let mut seats = Vec::with_capacity(alloc, count)?;
         for done in 0..count {
-            seats.push(self.seat(publisher))?;
+            seats.push_reserved(self.seat(publisher));
         }
         Ok(seats)
     }

@@ -5,7 +5,7 @@ ghost use Rattle.status.specs.Views.{words_of};
 use crate::law::Words;
 
 /// What a board shows of a unit.
-#[derive(Clone, Copy, Debug, PartialEq, Eq)]
+#[derive(Clone, Copy)]
 pub struct Row {
     /// How many entries the unit's history has.
     pub entries: u64,
