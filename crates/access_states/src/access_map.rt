@@ -88,15 +88,14 @@ impl AccessMap {
         ensures { result ≡ access_after cause self.now list.now }
     {
         let named = named_by(list)?;
-        let one = next_state(self.one, named.one, self.two, named.two);
-        let two = next_state(self.two, named.two, self.one, named.one);
-        if one.is_optimized() == two.is_optimized() {
+        let next_one = next_state(self.one, named.one, self.two, named.two);
+        let next_two = next_state(self.two, named.two, self.one, named.one);
+        let one = altered_to(cause, self.one, next_one);
+        let two = altered_to(cause, self.two, next_two);
+        if one.state.is_optimized() == two.state.is_optimized() {
             return Err(AsetFault::BadList);
         }
-        Ok(AccessMap {
-            one: altered_to(cause, self.one, one),
-            two: altered_to(cause, self.two, two),
-        })
+        Ok(AccessMap { one, two })
     }
 
     /// What changes where these states are followed by others.

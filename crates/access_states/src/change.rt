@@ -5,7 +5,7 @@ ghost use Rattle.access_states.specs.Change.{is_any_change};
 use scsi_types::Group;
 
 /// What a change of access states comes to.
-#[derive(Clone, Copy, Debug, PartialEq, Eq)]
+#[derive(Clone, Copy, Debug)]
 pub struct Change {
     /// Whether the state of group 1, and of group 2, is another.
     pub changed: [bool; 2],

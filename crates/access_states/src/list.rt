@@ -34,7 +34,7 @@ impl AsetFault {
 }
 
 /// The states with which a list names the groups; none for one that it does not name.
-#[derive(Clone, Copy, PartialEq, Eq)]
+#[derive(Clone, Copy)]
 pub struct Named {
     pub one: Option<AccessState>,
     pub two: Option<AccessState>,
@@ -47,7 +47,7 @@ const NOTHING: Named = Named {
 };
 
 /// A set target port group descriptor: ASYMMETRIC ACCESS STATE and TARGET PORT GROUP (SPC-4, 6.45).
-#[derive(Clone, Copy, PartialEq, Eq)]
+#[derive(Clone, Copy)]
 pub struct Descriptor {
     pub state: u8,
     pub group: u16,

@@ -18,7 +18,7 @@ pub enum AccessState {
 }
 
 /// What altered an access state (SPC-4, 5.15.2.2).
-#[derive(Clone, Copy, PartialEq, Eq)]
+#[derive(Clone, Copy)]
 pub enum Cause {
     /// A SET TARGET PORT GROUPS command.
     Explicit,
@@ -27,7 +27,7 @@ pub enum Cause {
 }
 
 /// The access state of one group, and what altered it last; none as long as nothing has.
-#[derive(Clone, Copy, PartialEq, Eq)]
+#[derive(Clone, Copy)]
 pub struct GroupAccess {
     pub state: AccessState,
     pub altered: Option<Cause>,

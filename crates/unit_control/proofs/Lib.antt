@@ -1,7 +1,6 @@
 pub mod Changes
 pub mod GroupsLaws
 pub mod Places
-pub mod Same
 pub mod Saves
 pub mod WorkLoss
 pub mod Works

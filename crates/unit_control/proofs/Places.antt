@@ -88,13 +88,6 @@ session_changed f keeps (x ∷ xs) id =
     (λ (n : (nat_eq x.id id ≡ false) × (x.id ≢ id)). rw n.0 (rw n.0 (session_changed f keeps xs id)))
     (eqb_tells x.id id)
 
--- the nexus of a session at its place
-pub sender_at : (sessions : List Attached) (id k : ℕ) (a : Attached) → IsPlaceOf sessions id k → a ≡ get_or sessions k a
-    → sender_of sessions id ≡ nexus_of a
-sender_at sessions id k a place is =
-    let got : slice_get sessions k ≡ Some (get_or sessions k a) = slice_get-get_or sessions k a place.below in
-    ap nexus_in (place.found ∙ got ∙ ap (λ (x : Attached). let o : Option Attached = Some x in o) (sym is))
-
 -- two changes of one session
 changed_twice : (f g : Attached → Attached) → ((a : Attached) → (f a).id ≡ a.id) → (sessions : List Attached) (id : ℕ)
     → changed g (changed f sessions id) id ≡ changed (λ a. g (f a)) sessions id
@@ -229,13 +222,6 @@ pub serials_fit_changed : (by_session : Option ℕ) (sessions : List Attached) (
 serials_fit_changed by_session sessions count fit =
     All-map (IsFit count) (hear_change by_session) sessions
     (λ k d lt. change_keeps_fit by_session count (get_or sessions k d) (fit k d lt))
-
--- a session stays at its place where a change of access states is told
-pub place_told : (is : Bool) (by_session : Option ℕ) (sessions : List Attached) (id k : ℕ) → IsPlaceOf sessions id k
-    → IsPlaceOf (change_heard is by_session sessions) id k
-place_told true by_session sessions id k place =
-    place_mapped (hear_change by_session) (λ a. (change_keeps by_session a).0) sessions id k place
-place_told false by_session sessions id k place = place
 
 pub serials_fit_reset : (id : ℕ) (sessions : List Attached) (count : ℕ) → All (IsFit count) sessions
     → All (IsFit (count + 1)) (all_reset sessions id)

@@ -24,7 +24,7 @@ use thiserror::Error;
 pub const LAST_COUNT: u64 = 18_446_744_073_709_551_615;
 
 /// Why a session is not attached.
-#[derive(Clone, Copy, Debug, PartialEq, Eq, Error)]
+#[derive(Clone, Copy, Debug, Error)]
 pub enum AttachFault {
     /// 64 sessions of other nexuses are attached, or the history has its last length.
     #[error("too many sessions")]
@@ -32,12 +32,12 @@ pub enum AttachFault {
 }
 
 /// The session is not attached, or the history has its last length.
-#[derive(Clone, Copy, Debug, PartialEq, Eq, Error)]
+#[derive(Clone, Copy, Debug, Error)]
 #[error("the session is gone")]
 pub struct Gone;
 
 /// Where a command goes.
-#[derive(Clone, Copy, PartialEq, Eq)]
+#[derive(Clone, Copy)]
 pub enum Route {
     /// To nobody: it is not the next of a session that is attached.
     Gone,
@@ -355,7 +355,7 @@ impl Control {
     {
         match fault {
             SaveFault::OldRoot => {
-                if self.save == LastSave::Done {
+                if matches!(self.save, LastSave::Done) {
                     self.save = LastSave::Failed;
                 }
             }

@@ -4,7 +4,7 @@ ghost use Rattle.std.specs.Prelude.{◌≡◌, ◌↔◌, IsTrue};
 use reservations::{Lasting, Nexus, Registrant, Reservation};
 
 /// What the last save left besides the record to last.
-#[derive(Clone, Copy, PartialEq, Eq)]
+#[derive(Clone, Copy)]
 pub enum LastSave {
     /// It was done: a crash leaves the record to last.
     Done,

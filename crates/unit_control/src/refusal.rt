@@ -5,7 +5,7 @@ use scsi_types::{Reply, Sense, UnitAttention};
 use std::alloc::Global;
 
 /// Why a rule refuses a command, with its answer.
-#[derive(Clone, Copy, PartialEq, Eq)]
+#[derive(Clone, Copy)]
 pub enum Refusal {
     /// CHECK CONDITION with the sense of an attention that was pending, which is told so.
     Attention(UnitAttention),

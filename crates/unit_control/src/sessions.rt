@@ -30,7 +30,7 @@ pub struct Attached {
 }
 
 /// The session that sends a command: its id, and its place among those that are attached.
-#[derive(Clone, Copy, PartialEq, Eq)]
+#[derive(Clone, Copy)]
 pub struct Sender {
     pub session: SessionId,
     pub at: usize,
