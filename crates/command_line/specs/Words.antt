@@ -57,10 +57,13 @@ portals = number_lem (codes "portals") (codes "1") 1 4
 abbrev pub paths : Rule
 paths = rest_lem (codes "paths")
 
+-- the part of the command line that says which array is served
+abbrev pub of_array : App
+of_array = with_rule (with_rule (with_rule (new_app (codes "arrayd")) once) target) array
+
 -- the command line of the program
 abbrev pub arrayd : App
-arrayd = with_rule (with_rule (with_rule (with_rule (with_rule (with_rule (with_rule (new_app (codes "arrayd"))
-    once) target) array) host) port) portals) paths
+arrayd = with_rule (with_rule (with_rule (with_rule of_array host) port) portals) paths
 
 -- what clap finds in the words, the program's name first, and in the defaults
 abbrev pub rows : List Text → List Row
@@ -99,18 +102,22 @@ pub record Meaning : Type 0 where
   pub portals : ℕ
   pub files : List Text
 
+-- what was found of the options gives just this
+pub record Gives (found : List Row) (m : Meaning) : Type 0 where
+  pub once : IsTrue m.is_once ↔ (first_of once.id found ≡ Some (codes "true"))
+  pub target : first_of target.id found ≡ Some m.target
+  pub name : IsName m.target
+  pub array : IsNumberIn 32 array.id found m.array
+  pub host : (text : Text) × (first_of host.id found ≡ Some text) × IsIpv4Text text m.host
+  pub port : IsNumberIn 16 port.id found m.port
+  pub portals : IsNumberIn 16 portals.id found m.portals
+  pub rest : AreRestIn paths.id found m.files
+  pub files : IsCount m.is_once (length m.files)
+
 -- the words are obeyed, and ask for just this
 pub record Asks (words : List Text) (m : Meaning) : Type 0 where
   pub parsed : fault_of arrayd words ≡ []
-  pub once : IsTrue m.is_once ↔ (first_of once.id (rows words) ≡ Some (codes "true"))
-  pub target : first_of target.id (rows words) ≡ Some m.target
-  pub name : IsName m.target
-  pub array : IsNumberIn 32 array.id (rows words) m.array
-  pub host : (text : Text) × (first_of host.id (rows words) ≡ Some text) × IsIpv4Text text m.host
-  pub port : IsNumberIn 16 port.id (rows words) m.port
-  pub portals : IsNumberIn 16 portals.id (rows words) m.portals
-  pub rest : AreRestIn paths.id (rows words) m.files
-  pub files : IsCount m.is_once (length m.files)
+  pub given : Gives (rows words) m
 
 abbrev pub meaning_of : Options → Meaning
 meaning_of o = record {

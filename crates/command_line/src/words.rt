@@ -3,8 +3,8 @@
 ghost use Rattle.std.specs.Prelude.{◌≡◌, ◌≤◌, ◌↔◌, ℕ, IfOk, IsTrue, MatchOption, Some, [], codes, false, length, map, option_map, pos, true};
 ghost use Rattle.std.specs.String.{string_bytes};
 ghost use Rattle.command_line.specs.declared.words.WordsFault.TheVariants.{NoMemory};
-ghost use Rattle.command_line.specs.Words.{AreRestIn, Asks, IsCount, IsName, IsNumberIn, Meaning, arrayd, flag_lem};
-ghost use Rattle.command_line.specs.Words.{meaning_of, option_lem, rest_lem, rows};
+ghost use Rattle.command_line.specs.Words.{AreRestIn, Asks, Gives, IsCount, IsName, IsNumberIn, Meaning, arrayd, flag_lem};
+ghost use Rattle.command_line.specs.Words.{meaning_of, of_array, option_lem, rest_lem, rows};
 ghost use Rattle.clap.specs.Words.{app_of, fault_of, first_of, found_of, rows_of, rule_of};
 ghost use Rattle.clap.specs.declared.builder.value_parser.ValueParser.TheVariants as vp;
 
@@ -112,14 +112,21 @@ fn arrays<'a>() -> ValueParser<'a>
     clap::value_parser!(u32)
 }
 
-// The command line as `clap` takes it.
-fn command<'a>(alloc: Global) -> Result<Command<'a>, AllocError>
-    ensures { IfOk result (λ command. app_of command ≡ arrayd) }
+// The part of the command line that says which array is served.
+fn array_command<'a>(alloc: Global) -> Result<Command<'a>, AllocError>
+    ensures { IfOk result (λ command. app_of command ≡ of_array) }
 {
     Command::new(alloc, "arrayd")
         .arg(flag(alloc, "once"))?
         .arg(option(alloc, "target", "iqn.2000-01.test:array"))?
-        .arg(number(alloc, "array", "1", arrays()))?
+        .arg(number(alloc, "array", "1", arrays()))
+}
+
+// The command line as `clap` takes it: which array, and where it listens.
+fn command<'a>(alloc: Global) -> Result<Command<'a>, AllocError>
+    ensures { IfOk result (λ command. app_of command ≡ arrayd) }
+{
+    array_command(alloc)?
         .arg(option(alloc, "host", "127.0.0.1"))?
         .arg(number(alloc, "port", "3260", ports()))?
         .arg(number(alloc, "portals", "1", counts()))?
@@ -214,37 +221,36 @@ fn are_files(is_once: bool, paths: &[&str]) -> bool
     }
 }
 
-/// Reads the words, the program's name first. They are refused as wrong only where they ask for nothing.
-pub fn read<'a>(alloc: Global, words: &'a [String]) -> Result<Options<'a>, WordsFault>
-    ensures asked { IfOk result (λ options. Asks (map string_bytes words.entry.now) (meaning_of options)) }
+// What the words ask for, of what `clap` found in them.
+fn options_in<'a>(alloc: Global, matches: &ArgMatches<'a>) -> Result<Options<'a>, WordsFault>
+    ensures asked { IfOk result (λ options. Gives (rows_of (found_of matches.now)) (meaning_of options)) }
     ensures wrong { result ≡ Err WordsFault.Wrong
-        → (m : Meaning) → Asks (map string_bytes words.entry.now) m → ⊥ }
+        → (m : Meaning) → Gives (rows_of (found_of matches.now)) m → ⊥ }
     ensures few { IfOk result (λ options. length options.paths.items ≤ MAX_UNITS) }
 {
-    let matches = matched(alloc, words)?;
-    let Some(target) = text_given(&matches, "target") else {
+    let Some(target) = text_given(matches, "target") else {
         return Err(WordsFault::Wrong);
     };
     if !is_name(target) {
         return Err(WordsFault::Wrong);
     }
-    let Some(array) = number_given(&matches, "array") else {
+    let Some(array) = number_given(matches, "array") else {
         return Err(WordsFault::Wrong);
     };
-    let Some(host) = text_given(&matches, "host") else {
+    let Some(host) = text_given(matches, "host") else {
         return Err(WordsFault::Wrong);
     };
     let Ok(host) = host.parse::<Ipv4Addr>() else {
         return Err(WordsFault::Wrong);
     };
-    let Some(port) = short_given(&matches, "port") else {
+    let Some(port) = short_given(matches, "port") else {
         return Err(WordsFault::Wrong);
     };
-    let Some(portals) = short_given(&matches, "portals") else {
+    let Some(portals) = short_given(matches, "portals") else {
         return Err(WordsFault::Wrong);
     };
-    let is_once = is_given(&matches, "once");
-    let paths = rest_given(alloc, &matches, "paths")?;
+    let is_once = is_given(matches, "once");
+    let paths = rest_given(alloc, matches, "paths")?;
     if !are_files(is_once, paths.as_slice()) {
         return Err(WordsFault::Wrong);
     }
@@ -257,4 +263,15 @@ pub fn read<'a>(alloc: Global, words: &'a [String]) -> Result<Options<'a>, Words
         portals,
         paths,
     })
+}
+
+/// Reads the words, the program's name first. They are refused as wrong only where they ask for nothing.
+pub fn read<'a>(alloc: Global, words: &'a [String]) -> Result<Options<'a>, WordsFault>
+    ensures asked { IfOk result (λ options. Asks (map string_bytes words.entry.now) (meaning_of options)) }
+    ensures wrong { result ≡ Err WordsFault.Wrong
+        → (m : Meaning) → Asks (map string_bytes words.entry.now) m → ⊥ }
+    ensures few { IfOk result (λ options. length options.paths.items ≤ MAX_UNITS) }
+{
+    let matches = matched(alloc, words)?;
+    options_in(alloc, &matches)
 }

@@ -4,18 +4,14 @@ use Rattle.std.proofs.lemmas.Result.{IfOk-weaker}
 use Rattle.clap.specs.declared.builder.command.Command.{Command}
 use Rattle.clap.specs.Words.{AddsArg, rule_of, with_rule}
 use Rattle.clap.specs.declared.builder.value_parser.ValueParser.{ValueParser}
-use Rattle.command_line.specs.Words.{array, port, portals}
+use Rattle.command_line.specs.Words.{port, portals}
 use Rattle.command_line.proofs.words.command.Goals as goal
 
 pub returns : goal.returns
 returns c =
-    let array_is : rule_of c.number.result ≡ array = c.number.ensures.rule ∙ ap (λ (p : ValueParser). record array { parser = Some p }) c.arrays.ensures in
-    let port_is : rule_of c.number-2.result ≡ port = c.number-2.ensures.rule ∙ ap (λ (p : ValueParser). record port { parser = Some p }) c.ports.ensures in
-    let portals_is : rule_of c.number-3.result ≡ portals = c.number-3.ensures.rule ∙ ap (λ (p : ValueParser). record portals { parser = Some p }) c.counts.ensures in
-    let s1 = c.in_ok-arg.ensures.shape c.flag.ensures.local ∙ ap₂ with_rule c.new.ensures.app c.flag.ensures.rule in
-    let s2 = c.in_ok-arg-2.ensures.shape c.option.ensures.local ∙ ap₂ with_rule s1 c.option.ensures.rule in
-    let s3 = c.in_ok-arg-3.ensures.shape c.number.ensures.local ∙ ap₂ with_rule s2 array_is in
-    let s4 = c.in_ok-arg-4.ensures.shape c.option-2.ensures.local ∙ ap₂ with_rule s3 c.option-2.ensures.rule in
-    let s5 = c.in_ok-arg-5.ensures.shape c.number-2.ensures.local ∙ ap₂ with_rule s4 port_is in
-    let s6 = c.in_ok-arg-6.ensures.shape c.number-3.ensures.local ∙ ap₂ with_rule s5 portals_is in
-    IfOk-weaker _ _ _ (λ (command : Command) (h : AddsArg c.in_ok-arg-6.field-0 c.rest.result command). h.shape c.rest.ensures.local ∙ ap₂ with_rule s6 c.rest.ensures.rule) c.arg-7.ensures
+    let port_is : rule_of c.number.result ≡ port = c.number.ensures.rule ∙ ap (λ (p : ValueParser). record port { parser = Some p }) c.ports.ensures in
+    let portals_is : rule_of c.number-2.result ≡ portals = c.number-2.ensures.rule ∙ ap (λ (p : ValueParser). record portals { parser = Some p }) c.counts.ensures in
+    let s1 = c.in_ok-arg.ensures.shape c.option.ensures.local ∙ ap₂ with_rule c.in_ok-array_command.ensures c.option.ensures.rule in
+    let s2 = c.in_ok-arg-2.ensures.shape c.number.ensures.local ∙ ap₂ with_rule s1 port_is in
+    let s3 = c.in_ok-arg-3.ensures.shape c.number-2.ensures.local ∙ ap₂ with_rule s2 portals_is in
+    IfOk-weaker _ _ _ (λ (command : Command) (h : AddsArg c.in_ok-arg-3.field-0 c.rest.result command). h.shape c.rest.ensures.local ∙ ap₂ with_rule s3 c.rest.ensures.rule) c.arg-4.ensures
