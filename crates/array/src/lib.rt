@@ -8,6 +8,6 @@ mod portals;
 mod served;
 
 pub use disks::{FileArray, OpenArray, open};
-pub use lines::{Operations, UnitStatus, console};
+pub use lines::{Operations, console};
 pub use operated::Operated;
 pub use served::{serve, tell_want};

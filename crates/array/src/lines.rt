@@ -1,43 +1,33 @@
 //! The lines by which a person, or the program that started the array, asks it something.
 
 use scsi_types::Group;
+use status::Row;
 use std::alloc::Global;
 use std::fmt::{self, Display, Formatter};
 use std::io::{self, BufRead, Write};
 use std::str;
 
-/// What `status` tells of a unit.
-#[derive(Clone, Copy, PartialEq, Eq)]
-pub struct UnitStatus {
-    /// The unit's number.
-    pub unit: u8,
-    /// The active/optimized target port group.
-    pub owner: u64,
-    /// The asymmetric access states of groups 1 and 2 (SPC-4, 6.27).
-    pub states: (u64, u64),
-    /// PRGENERATION.
-    pub generation: u64,
-    /// How many registrants there are.
-    pub keys: u64,
-    /// The type of the persistent reservation, 0 where there is none.
-    pub kind: u64,
-    /// How many entries the unit's history has.
-    pub entries: u64,
+// What `status` tells of a unit: its number, and the row of its board.
+#[derive(Clone, Copy)]
+struct Line {
+    unit: u8,
+    row: Row,
 }
 
-impl Display for UnitStatus {
+impl Display for Line {
     fn fmt<W: fmt::Write>(&self, f: &mut Formatter<W>) -> fmt::Result {
-        write!(f, "unit {} owner {} ", self.unit, self.owner)?;
-        write!(f, "states {} {} ", self.states.0, self.states.1)?;
-        write!(f, "generation {} keys {} ", self.generation, self.keys)?;
-        write!(f, "type {} entries {}", self.kind, self.entries)
+        let row = self.row;
+        write!(f, "unit {} owner {} ", self.unit, row.owner)?;
+        write!(f, "states {} {} ", row.states.0, row.states.1)?;
+        write!(f, "generation {} keys {} ", row.generation, row.registrants)?;
+        write!(f, "type {} entries {}", row.kind, row.entries)
     }
 }
 
 /// What the console does with the array.
 pub trait Operations {
-    /// What is to be told of this unit, where there is one.
-    fn status(&mut self, unit: u8) -> Option<UnitStatus>;
+    /// The row of this unit, where there is one.
+    fn status(&mut self, unit: u8) -> Option<Row>;
 
     /// Takes a controller down, unit by unit: the other one owns them then. The first unit that does not move is told; those
     /// behind it stay.
@@ -53,10 +43,11 @@ pub trait Operations {
 // Writes a line for each unit.
 fn say_status<W: Write, A: Operations>(writer: &mut W, array: &mut A) -> io::Result<()> {
     for unit in 0..=u8::MAX {
-        let Some(status) = array.status(unit) else {
+        let Some(row) = array.status(unit) else {
             break;
         };
-        writeln!(writer, "{status}")?;
+        let line = Line { unit, row };
+        writeln!(writer, "{line}")?;
     }
     Ok(())
 }

@@ -1,11 +1,12 @@
 //! The array as its console sees it.
-use crate::lines::{Operations, UnitStatus};
+use crate::lines::Operations;
 use block_file::{Blocks, Opener};
 use event_log::{By, Event, Log, Stayed};
 use failover::{Mover, take_down};
 use numbering::Array as Naming;
 use portal::Controllers;
 use scsi_types::Group;
+use status::Row;
 use std::sync::Wait;
 use std::time::Clock;
 use unit_history::Opened;
@@ -58,22 +59,13 @@ impl<R: Wait + Clock, B: Blocks, F: Blocks, O: Opener<B>, N: Naming<Opened>> Ope
 
 impl<R: Wait + Clock, B: Blocks, F: Blocks, O: Opener<B>, N: Naming<Opened>> Operations
     for Operated<'_, R, B, F, O, N> {
-    fn status(&mut self, unit: u8) -> Option<UnitStatus> {
+    fn status(&mut self, unit: u8) -> Option<Row> {
         let place = usize::from(unit);
         let units = self.controllers.units();
         if place >= units.count() {
             return None;
         }
-        let row = units.read(self.rt, place);
-        Some(UnitStatus {
-            unit,
-            owner: row.owner,
-            states: row.states,
-            generation: row.generation,
-            keys: row.registrants,
-            kind: row.kind,
-            entries: row.entries,
-        })
+        Some(units.read(self.rt, place))
     }
 
     fn down(&mut self, controller: Group) -> Result<(), usize> {

@@ -1,6 +1,7 @@
 //! The lines of the console, over units that count.
-use array::{Operations, UnitStatus, console};
+use array::{Operations, console};
 use scsi_types::Group;
+use status::Row;
 use std::alloc::Global;
 use std::io::{self, BufReader, Read, Write};
 use std::process::Abort;
@@ -15,24 +16,22 @@ struct Two {
 }
 
 impl Operations for Two {
-    fn status(&mut self, unit: u8) -> Option<UnitStatus> {
+    fn status(&mut self, unit: u8) -> Option<Row> {
         self.asked = self.asked.saturating_add(1);
         match unit {
-            0 => Some(UnitStatus {
-                unit: 0,
+            0 => Some(Row {
                 owner: 1,
                 states: (0, 1),
                 generation: 4294967295,
-                keys: 64,
+                registrants: 64,
                 kind: 5,
                 entries: 18446744073709551615,
             }),
-            1 => Some(UnitStatus {
-                unit: 1,
+            1 => Some(Row {
                 owner: 2,
                 states: (3, 0),
                 generation: 0,
-                keys: 0,
+                registrants: 0,
                 kind: 0,
                 entries: 0,
             }),
