@@ -1,7 +1,7 @@
 -- Registrants that are listed in order, few and with keys: what keeps them so.
-use Rattle.std.proofs.Common.{◌≡◌, ⊎_elim, ℕ, suc, ◌≤◌, Bool, true, false, not, nat_eq, nat_lt, List, [], ◌∷◌}
+use Rattle.std.proofs.Common.{◌≡◌, ⊎_elim, ℕ, suc, ◌≤◌, Bool, true, false, not, nat_eq, List, [], ◌∷◌}
 use Rattle.std.proofs.Common.{◌+◌, ◌++◌, if◌then◌else◌, length, filter, refl, ◌∙◌, ap, arith, Option, IsTrue}
-use Rattle.std.proofs.lemmas.Bool.{cases_Bool, ltb-true}
+use Rattle.std.proofs.lemmas.Bool.{cases_Bool}
 use Rattle.std.proofs.lemmas.List.Edits.{length-insert}
 use Rattle.std.specs.List.{AllByRecursion}
 use Rattle.std.specs.Ordering.{is_lt, is_gt, ordering_reverse}
@@ -94,23 +94,6 @@ ascending_joined n key [] a out = (tt, tt)
 ascending_joined n key (x ∷ xs) a out =
     ascending_by n key x xs (nexus_cmp x.nexus n) refl a out (ascending_joined n key xs a.1 (out_of_rest n xs x out))
 
-pub listed_joined : (n : Nexus) (key : ℕ) (xs : List Registrant) → AreRegistrants xs → is_registered xs n ≡ false
-    → nat_eq key 0 ≡ false → nat_lt (length xs) most_registrants ≡ true → AreRegistrants (joined_by n key xs)
-listed_joined n key xs l out nonzero room =
-    let P : Registrant → Type 0 = λ (x : Registrant). IsTrue (not (nat_eq x.key 0)) in
-    let it : Registrant = record { nexus = n; key = key } in
-    let place = length_before n xs in
-    let long = length-insert xs (length (before n xs)) it place in
-    let same = ap (length {A = Registrant}) (insert_is n key xs l.ascending out) in
-    let less = ltb-true (length xs) most_registrants room in
-    record {
-      ascending = ascending_joined n key xs l.ascending out;
-      few = omega (arith, long, same, less);
-      keys = all_append P (before n xs) (it ∷ behind n xs)
-          (all_filter P (λ (y : Registrant). is_lt (nexus_cmp y.nexus n)) xs l.keys)
-          (rw nonzero refl, all_filter P (λ (y : Registrant). is_gt (nexus_cmp y.nexus n)) xs l.keys);
-    }
-
 -- ---- another key
 
 pub rekeyed_nexus : (n : Nexus) (key : ℕ) (x : Registrant) → (rekeyed n key x).nexus ≡ x.nexus
@@ -142,15 +125,6 @@ keys_rekeyed n key (x ∷ xs) nonzero all = (
 length_rekeyed : (n : Nexus) (key : ℕ) (xs : List Registrant) → length (with_key_of n key xs) ≡ length xs
 length_rekeyed n key [] = refl
 length_rekeyed n key (x ∷ xs) = ap suc (length_rekeyed n key xs)
-
-pub listed_rekeyed : (n : Nexus) (key : ℕ) (xs : List Registrant) → AreRegistrants xs → nat_eq key 0 ≡ false
-    → AreRegistrants (with_key_of n key xs)
-listed_rekeyed n key xs l nonzero =
-    record {
-      ascending = ascending_rekeyed n key xs l.ascending;
-      few = rw (length_rekeyed n key xs) l.few;
-      keys = keys_rekeyed n key xs nonzero l.keys;
-    }
 
 -- ---- registered, whatever key it had
 

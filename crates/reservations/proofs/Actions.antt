@@ -1,5 +1,5 @@
 -- What holds of a refusal, and of what each action does, holds of each request.
-use Rattle.std.proofs.Common.{◌≡◌, ⊎_elim, Bool, true, false, not, ◌||◌, nat_eq, if◌then◌else◌, List, [], refl, Option, Some, None, is_some, ℕ}
+use Rattle.std.proofs.Common.{◌≡◌, ⊎_elim, Bool, true, false, nat_eq, if◌then◌else◌, List, [], refl, Option, Some, None, is_some, ℕ}
 use Rattle.std.proofs.lemmas.Bool.{cases_Bool}
 use Rattle.scsi_types.specs.Nexus.{Nexus}
 use Rattle.reservations.specs.declared.notice.Notice.{Notice}
@@ -11,7 +11,7 @@ use Rattle.scsi_types.specs.declared.reservation.PrOutAction.TheVariants.{Regist
 use Rattle.reservations.specs.declared.request.PrOut.{PrOut}
 use Rattle.registrants.specs.Registry.{RegistryValue, counted, is_key, is_registered, key_of}
 use Rattle.reservations.specs.Table.{Effect, Done, Conflicting, Refused, Full, IsPreempting, is_too_much, of_port, registration, asked_for, clearing, effect_of, effect_of_action, holds, holds_its_type, of_end}
-use Rattle.reservations.specs.Table.{is_bad_reserve, is_preempting_all, is_preempting_holder, is_preempting_reservation, is_registering}
+use Rattle.reservations.specs.Table.{is_bad_reserve, is_preempting_all, is_preempting_holder, is_registering}
 use Rattle.reservations.specs.Table.{names_it, names_type, preempting, preempting_all, preempting_holder, preempting_registrants}
 use Rattle.reservations.specs.Table.{registering, releasing, reserving, shows_key}
 

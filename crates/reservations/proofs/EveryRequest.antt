@@ -21,7 +21,7 @@ use Rattle.reservations.specs.Notice.{Told, code_for, code_told, telling_of, tol
 use Rattle.registrants.specs.Registry.{RegistryValue, counted, is_of_code, is_registered, is_sole_holder, key_of}
 use Rattle.reservations.specs.Table.{Conflicting, Done, Effect, IsPreempting, effect_of, is_counted, is_registering, is_too_much}
 use Rattle.reservations.specs.Table.{of_end, of_port, registering, registration, shows_key}
-use Rattle.reservations.proofs.Actions.{Ends, OfActions, each_action, preempts_so, registers_so, releases_so, reserves_so, split}
+use Rattle.reservations.proofs.Actions.{Ends, each_action, preempts_so, registers_so, releases_so, reserves_so, split}
 use Rattle.reservations.proofs.Hearing.{told_are}
 use Rattle.registrants.proofs.Held.{found_passes, is_it}
 use Rattle.registrants.proofs.Order.{same_nexus_alike}

@@ -33,13 +33,6 @@ length_port n key xs a =
     ap (λ (b : Bool). if b then 0 else 1) (registered_beside (other_nexus n) n key xs a (two_nexuses n)) in
     omega (arith, one, two, same)
 
-pub one_at_most : (xs : List Registrant) (n : Nexus) → missing xs n ≤ 1
-one_at_most xs n = at_most (is_registered xs n)
-  where
-    at_most : (b : Bool) → (if b then 0 else 1) ≤ 1
-    at_most true = omega arith
-    at_most false = omega arith
-
 pub room_is : (len more n : ℕ) → n ≡ len + more → more ≤ 64 → leb len (64 - more) ≡ not (nat_lt 64 n)
 room_is len more n is few =
     ⊎_elim

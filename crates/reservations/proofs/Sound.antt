@@ -1,7 +1,7 @@
 -- Each request leaves a sound registry.
-use Rattle.std.proofs.Common.{◌≡◌, ⊎_elim, ℕ, ◌≤◌, Bool, true, false, not, ◌||◌, nat_eq, List, [], ◌∷◌, ◌++◌, length, refl, sym}
+use Rattle.std.proofs.Common.{◌≡◌, ⊎_elim, ℕ, ◌≤◌, true, false, not, ◌||◌, nat_eq, List, [], ◌∷◌, ◌++◌, length, refl, sym}
 use Rattle.std.proofs.lemmas.Bool.{cases_Bool, ltb-false}
-use Rattle.std.proofs.Common.{◌∙◌, ap, subst, arith, Option, Some, None, is_some}
+use Rattle.std.proofs.Common.{◌∙◌, ap, subst, arith, Option, Some, None}
 use Rattle.scsi_types.specs.Nexus.{Nexus}
 use Rattle.registrants.specs.declared.registrant.Registrant.{Registrant}
 use Rattle.registrants.specs.declared.registrant.Reservation.{Reservation}
@@ -14,7 +14,7 @@ use Rattle.reservations.specs.Notice.{Told, tellings}
 use Rattle.registrants.specs.Registry.{RegistryValue, IsSound, key_of, key_in, is_own, is_holders_key}
 use Rattle.registrants.specs.Registry.{is_the, is_registered, is_sole_holder, is_any, joined_by, left_to, most_registrants, others, registered_by}
 use Rattle.registrants.specs.Registry.{with_key_of, without_key, without_others_of_key, only}
-use Rattle.reservations.specs.Table.{Done, Effect, IsAnswer, effect_of, is_too_much, of_port, registration}
+use Rattle.reservations.specs.Table.{Done, IsAnswer, effect_of, is_too_much, of_port, registration}
 use Rattle.registrants.proofs.Held.{hold_kept, left_held, made_held, registered_only}
 use Rattle.registrants.proofs.Held.{registered_others, registered_preempting, registered_registered}
 use Rattle.registrants.proofs.Held.{registered_without_key}

@@ -1,4 +1,4 @@
-use Rattle.std.proofs.Common.{◌≡◌, ◌+◌, ◌≤◌, arith, length}
+use Rattle.std.proofs.Common.{◌+◌, arith, length}
 use Rattle.reservations.proofs.Room.{room_is}
 use Rattle.reservations.proofs.table.Table.has_room_for.Goals as goal
 
