@@ -71,7 +71,7 @@ impl PortName {
     /// The port of this InitiatorName and ISID. None: the name is empty or has more than 223 bytes, or the ISID does not fit six.
     pub fn new(name: Vec<u8>, isid: u64) -> Option<Self>
         ensures { MatchOption result (IsPortName (record { name = name.items; isid = isid }) → ⊥)
-            (λ port. port ≡ record { name = name.items; isid = isid }) }
+            (λ port. IsPortName port × (port ≡ record { name = name.items; isid = isid })) }
     {
         if name.is_empty() || name.len() > LONGEST_NAME || isid >= 1 << 48 {
             return None;
