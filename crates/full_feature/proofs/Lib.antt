@@ -1,13 +1,3 @@
-pub mod Dropping
-pub mod Facts
-pub mod Gathering
-pub mod Lawful
-pub mod ReadSegments
 pub mod Receiving
-pub mod RequestFacts
-pub mod Right
-pub mod ShortTranscripts
-pub mod Steps
-pub mod Table
 pub mod Turns
 pub mod Unserved

@@ -6,11 +6,10 @@
 //!
 //! Of specs/, `Counters` says what a session keeps between two turns, `Step` what a PDU calls for, as data, `Machine` which
 //! step a session makes of what comes, and `MakesTurn` what a turn makes of target and outbox. That a transcript stays legal
-//! turn by turn is proved in `Lawful` of proofs/.
+//! turn by turn is proved in `session`.
 #![tactic(auto)]
 
 mod actions;
-mod examples;
 mod logout;
 mod management_response;
 mod nop;
@@ -22,10 +21,6 @@ mod turn;
 mod verdict;
 
 pub use actions::{Actions, Call, CommandData, OpenTask, ResetCall, Sending, ServeCall};
-pub use examples::{
-    a_nop_out_has_one_legal_answer, a_pdu_of_a_target_has_one_legal_answer,
-    a_read_has_one_legal_answer, a_write_has_one_legal_r2t, nothing_comes_behind_a_logout,
-};
 pub use response::Completion;
 pub use session::Session;
 pub use text::MadeText;

@@ -15,7 +15,7 @@ use Rattle.session_rules.proofs.AtEach.{all_append, at_each_more, at_each_none, 
 use Rattle.pdu_stream.specs.Outbox.{OutboxValue}
 use Rattle.login_side.specs.LoginMachine.{MakesLoginTurn}
 use Rattle.full_feature.specs.{Counters.Counters, Counters.begun, MakesTurn.MakesTurn}
-use Rattle.full_feature.proofs.Lawful.{Stands, stands_more, stands_none}
+use Rattle.session.proofs.Lawful.{Stands, stands_more, stands_none}
 use Rattle.session.specs.Stream.{PhasesValue, NextPhase, ExchangeOf, OpensWith, IsFresh, MakesExchange}
 
 pub all_more : {A : Type 0} (P : A → Type 0) (xs : List A) (x : A) → AllByRecursion P xs → P x

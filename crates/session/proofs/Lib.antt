@@ -1,2 +1,13 @@
+pub mod Dropping
 pub mod Exchanges
+pub mod Facts
+pub mod Gathering
+pub mod Lawful
+pub mod Memory
+pub mod ReadSegments
+pub mod RequestFacts
+pub mod Right
 pub mod Running
+pub mod ShortTranscripts
+pub mod Steps
+pub mod Table

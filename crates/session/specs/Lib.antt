@@ -1,2 +1,5 @@
+pub mod Front
+pub mod Inbox
 pub mod Stream
 pub mod Transcript
+pub mod Watched

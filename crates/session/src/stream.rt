@@ -2,17 +2,19 @@ ghost use Rattle.std.specs.Prelude.{◌≡◌, ℕ, ◌<◌, ◌≤◌, [], fals
 ghost use Rattle.std.specs.Io.KnownBytes.{Keeps};
 ghost use Rattle.session_rules.specs.declared.end.End.TheVariants.{InputFailed, OutputFailed};
 ghost use Rattle.pdu_stream.specs.Source.{Counted};
-ghost use Rattle.pdu_stream.specs.Inbox.{Filled};
 ghost use Rattle.pdu_stream.specs.Outbox.{IsClosedAs};
+ghost use Rattle.session.specs.Inbox.{Filled};
 ghost use Rattle.session_rules.specs.declared.identity.Identity.{Identity};
 ghost use Rattle.session_rules.specs.declared.opening.Opening.{Opening};
 ghost use Rattle.session.specs.Stream.{OpensWith, IsFresh};
 ghost use Rattle.session.specs.Transcript.{HasPassed, IsTranscribed, IsFailureOf};
 
 use crate::ahead::look_ahead;
+use crate::front::{Front, front_of};
+use crate::inbox::{INBOX_CAPACITY, Inbox};
 use crate::phases::Phases;
 use iscsi_pdu::LONGEST_PDU;
-use pdu_stream::{Failed, Front, INBOX_CAPACITY, Inbox, Outbox, Sink, Source, front_of};
+use pdu_stream::{Failed, Outbox, Sink, Source};
 use scsi_types::NoMemory;
 use session_rules::{End, Identity, LONGEST_TEXT, Opening, Target};
 use std::alloc::Global;

@@ -1,5 +1,0 @@
-use Rattle.full_feature.proofs.ShortTranscripts.{ping_lawful, ping_is}
-use Rattle.full_feature.proofs.examples.a_nop_out_has_one_legal_answer.Goals as goal
-
-pub returns : goal.returns
-returns c = record { legal = ping_lawful; no_other = ping_is }
