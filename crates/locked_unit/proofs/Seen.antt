@@ -5,16 +5,8 @@ use mathlib.Core.List.{IsPrefix}
 use Rattle.status.specs.Views.{counted}
 use Rattle.locked_unit.specs.Calls.{Known, IsAdded}
 
-pub prefix_snoc : {A : Type 0} (xs ys zs : List A) (e : A) → IsPrefix xs ys → zs ≡ ys ++ e ∷ [] → IsPrefix xs zs
-prefix_snoc xs ys zs e p is =
-    (p.0 ++ e ∷ [], sym (append_assoc xs p.0 (e ∷ [])) ∙ (ap (λ w. w ++ e ∷ []) p.1 ∙ sym is))
-
 pub counted_prefix : {E : Type 0} (m : ℕ → E → ℕ) (s : ℕ) (xs ys : List E) → IsPrefix xs ys → counted m s xs ≤ counted m s ys
 counted_prefix m s xs ys p = subst (λ l. counted m s xs ≤ counted m s l) p.1 (let q = sum_by-append (m s) xs p.0 in omega arith)
-
-pub counted_snoc : {E : Type 0} (m : ℕ → E → ℕ) (s : ℕ) (xs : List E) (e : E)
-    → counted m s (xs ++ e ∷ []) ≡ counted m s xs + m s e
-counted_snoc m s xs e = let q = sum_by-append (m s) xs (e ∷ []) in omega arith
 
 -- where as many were counted before, none came between
 no_more : {E : Type 0} (m : ℕ → E → ℕ) (s n : ℕ) (xs ys : List E) → (p : IsPrefix xs ys) → n ≤ counted m s xs
@@ -23,10 +15,6 @@ no_more m s n xs ys p le e =
     let q = sum_by-append (m s) xs p.0 in
     let r = ap (counted m s) p.1 in
     omega arith
-
-pub no_new : {E : Type 0} (m : ℕ → E → ℕ) (s n : ℕ) (xs ys : List E) → IsPrefix xs ys → n ≤ counted m s xs
-    → counted m s ys ≡ n → counted m s ys ≡ counted m s xs
-no_new m s n xs ys p le e = let q = counted_prefix m s xs ys p in omega arith
 
 -- a call that added an entry
 pub added : {E : Type 0} (m : ℕ → E → ℕ) (legal : List E → Type 0) (P : List E → E → Type 0) (before after : Known E)

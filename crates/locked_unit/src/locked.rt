@@ -106,13 +106,6 @@ impl<E, S, X: Machine<E, S>, N: Array<S>, const U: usize> Model for Locked<E, S,
         × X.after (N.opening U) (held l.records) l.object.value };
 }
 
-// Puts back what was taken out.
-fn put_back<T: Drop>(place: &mut Option<T>, value: T)
-    ensures { place.new ≡ Some value }
-{
-    *place = Some(value);
-}
-
 impl<E, S, X: Machine<E, S>, N: Array<S>, const U: usize> Locked<E, S, X, N, U> {
     /// A unit of which nothing was asked yet.
     pub(crate) fn new(
@@ -151,13 +144,15 @@ impl<E, S, X: Machine<E, S>, N: Array<S>, const U: usize> Locked<E, S, X, N, U> 
             (X.wants (N.opening U) result.0.seen pass.session ask.now bytes.now) by_group.now why) }
         ensures seen { self.new ≡ result.0.seen }
     {
-        // Put back in place, and not by `put_back`, over which what the unit worked is not found.
-        let Some(records) = self.records.take() else {
-            unreachable!()
-        };
         let session = pass.session;
         let serial = pass.serial;
-        let visit = Visit::begin::<u64, Resets<S, X>, R>(rt, posted, records, pass, &session);
+        let visit = Visit::begin::<u64, Resets<S, X>, R>(
+            rt,
+            posted,
+            &mut self.records,
+            pass,
+            &session,
+        );
         match self
             .object
             .step(alloc, session, serial, by_group, ask, bytes)
@@ -173,17 +168,18 @@ impl<E, S, X: Machine<E, S>, N: Array<S>, const U: usize> Locked<E, S, X, N, U> 
                     reply: &reply,
                     object: &*self.object,
                 };
-                let (records, pass) = visit.finish::<
-                    Served<X, X::Group, X::Ask, X::Reply>,
-                    Serves<S, X>,
-                    R,
-                >(rt, posted, row, &done, serial + 1);
-                self.records = Some(records);
+                let pass = visit.finish::<Served<X, X::Group, X::Ask, X::Reply>, Serves<S, X>, R>(
+                    rt,
+                    posted,
+                    &mut self.records,
+                    row,
+                    &done,
+                    serial + 1,
+                );
                 (pass, Ok(reply))
             }
             Err(why) => {
-                let (records, pass) = visit.leave(posted);
-                self.records = Some(records);
+                let pass = visit.leave(posted, &mut self.records);
                 (pass, Err(why))
             }
         }
@@ -202,16 +198,17 @@ impl<E, S, X: Machine<E, S>, N: Array<S>, const U: usize> Locked<E, S, X, N, U> 
         ensures seen { IfOk result (λ p. self.new ≡ p.seen) }
         ensures same { IfErr result (λ f. (self.new ≡ self.old) × (f ≡ self.old)) }
     {
-        let records = self.records.take().unwrap();
         let Some(session) = self.object.attach(name) else {
-            let seen = records.history();
-            put_back(&mut self.records, records);
-            return Err(seen);
+            return Err(Records::history_in(&self.records));
         };
         let row = self.object.row();
-        let (records, right) = records.join::<X, Attaches<S, X>, R>(rt, posted, row, &*self.object);
-        let seen = records.history();
-        put_back(&mut self.records, records);
+        let (seen, right) = Records::join_in::<X, Attaches<S, X>, R>(
+            &mut self.records,
+            rt,
+            posted,
+            row,
+            &*self.object,
+        );
         Ok(PassAt {
             session,
             serial: 1,
@@ -234,20 +231,28 @@ impl<E, S, X: Machine<E, S>, N: Array<S>, const U: usize> Locked<E, S, X, N, U> 
             (IsRefused X.own (X.legal (N.opening U)) pass result.0 × X.gone (N.opening U) result.0.seen pass.session) }
         ensures seen { self.new ≡ result.0.seen }
     {
-        let records = self.records.take().unwrap();
         let session = pass.session;
         let serial = pass.serial;
-        let visit = Visit::begin::<u64, Resets<S, X>, R>(rt, posted, records, pass, &session);
+        let visit = Visit::begin::<u64, Resets<S, X>, R>(
+            rt,
+            posted,
+            &mut self.records,
+            pass,
+            &session,
+        );
         if self.object.reset(session) {
             let row = self.object.row();
-            let (records, pass) = visit.finish::<u64, Resets<S, X>, R>(
-                rt, posted, row, &session, serial,
+            let pass = visit.finish::<u64, Resets<S, X>, R>(
+                rt,
+                posted,
+                &mut self.records,
+                row,
+                &session,
+                serial,
             );
-            put_back(&mut self.records, records);
             (pass, true)
         } else {
-            let (records, pass) = visit.leave(posted);
-            put_back(&mut self.records, records);
+            let pass = visit.leave(posted, &mut self.records);
             (pass, false)
         }
     }
@@ -265,20 +270,28 @@ impl<E, S, X: Machine<E, S>, N: Array<S>, const U: usize> Locked<E, S, X, N, U> 
         ensures ends { IfOk result (λ f. (self.new ≡ f) × (f ≡ self.old ++ X.detaching pass.session ∷ [])) }
         ensures same { IfErr result (λ p. (self.new ≡ p.seen) × (self.new ≡ self.old)) }
     {
-        let records = self.records.take().unwrap();
         let session = pass.session;
         let serial = pass.serial;
-        let visit = Visit::begin::<u64, Resets<S, X>, R>(rt, posted, records, pass, &session);
+        let visit = Visit::begin::<u64, Resets<S, X>, R>(
+            rt,
+            posted,
+            &mut self.records,
+            pass,
+            &session,
+        );
         if self.object.detach(session) {
             let row = self.object.row();
-            let (records, pass) = visit.finish::<u64, Detaches<S, X>, R>(
-                rt, posted, row, &session, serial,
+            let pass = visit.finish::<u64, Detaches<S, X>, R>(
+                rt,
+                posted,
+                &mut self.records,
+                row,
+                &session,
+                serial,
             );
-            put_back(&mut self.records, records);
             Ok(pass.into_history())
         } else {
-            let (records, pass) = visit.leave(posted);
-            put_back(&mut self.records, records);
+            let pass = visit.leave(posted, &mut self.records);
             Err(pass)
         }
     }
@@ -300,21 +313,20 @@ impl<E, S, X: Machine<E, S>, N: Array<S>, const U: usize> Locked<E, S, X, N, U> 
         ensures stays { IfErr result.1 (λ why. X.stays (N.opening U) result.0 list.now why × (result.0 ≡ self.old)) }
         ensures seen { self.new ≡ result.0 }
     {
-        let records = self.records.take().unwrap();
         match self.object.move_to(list) {
             Ok(change) => {
                 let row = self.object.row();
                 let about = Listed { list };
-                let records = records.add::<Listed, Moves<S, X>, R>(rt, posted, row, &about);
-                let seen = records.history();
-                put_back(&mut self.records, records);
+                let seen = Records::add_in::<Listed, Moves<S, X>, R>(
+                    &mut self.records,
+                    rt,
+                    posted,
+                    row,
+                    &about,
+                );
                 (seen, Ok(change))
             }
-            Err(why) => {
-                let seen = records.history();
-                put_back(&mut self.records, records);
-                (seen, Err(why))
-            }
+            Err(why) => (Records::history_in(&self.records), Err(why)),
         }
     }
 

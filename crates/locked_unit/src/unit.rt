@@ -67,21 +67,13 @@ impl<E, S, X: Machine<E, S>, N: Array<S>, const U: usize> SharedUnit<E, S, X, N,
         requires seats { seats ≤ MOST_SEATS }
         ensures { IfOk result (λ r. (length r.1.items ≡ seats) × All (λ seat. seat ≡ []) r.1.items) }
     {
-        let NewUnit { history, board } = new;
-        let (word, recorder) = history.named::<At<S, N, U>>();
         let object = Box::new(alloc, object)?;
         let row = object.row();
-        let (board, mut publisher) = Board::open::<R>(rt, board, row);
-        let seats = board.seats(alloc, &mut publisher, seats)?;
-        let records = Records::new(recorder, publisher);
+        let NewUnit { history, board } = new;
+        let (posted, mut records) = Records::open::<R>(rt, history, board, row);
+        let seats = records.seats(alloc, &posted, seats)?;
         let locked = CachePadded::new(Mutex::new(Locked::new(object, records)));
-        Ok((
-            SharedUnit {
-                posted: Posted { word, board },
-                locked,
-            },
-            seats,
-        ))
+        Ok((SharedUnit { posted, locked }, seats))
     }
 
     /// The unit under its lock, once no other thread has it.

@@ -1,10 +1,10 @@
 //! A session's pass under the lock.
-ghost use Rattle.std.specs.Prelude.{◌≡◌, ◌+◌, ◌<◌, ◌^◌, ◌++◌, ◌∷◌, [], length};
+ghost use Rattle.std.specs.Prelude.{◌≡◌, ◌+◌, ◌<◌, ◌^◌, ◌++◌, ◌∷◌, [], length, IsSome, Some};
 ghost use Rattle.status.specs.Views.{IsOwn, counted};
-ghost use Rattle.locked_unit.specs.Calls.{IsAdded, IsRefused};
+ghost use Rattle.locked_unit.specs.Calls.{IsAdded, IsRefused, held};
 
 use crate::pass::PassAt;
-use crate::records::{Posted, Records, Turn};
+use crate::records::{Posted, Records, Turn, put_back};
 use logbook::Plain;
 use numbering::{Answer, Array, At, History};
 use status::{Published, Row};
@@ -37,17 +37,18 @@ impl<E, S, P: Published<E, S>, N: Array<S>, const U: usize> Model for Visit<E, S
 }
 
 impl<E, S, P: Published<E, S>, N: Array<S>, const U: usize> Visit<E, S, P, N, U> {
-    /// Takes the right of a pass in hand. The pass's serial is that behind the session's commands.
+    /// Takes the records out of their place, and the right of a pass in hand. The pass's serial is that behind the session's commands.
     pub(crate) fn begin<A, M: Plain<A, E, Answer>, R: Wait>(
         rt: &R,
         posted: &Posted<E, S, P, At<S, N, U>>,
-        records: Records<E, S, P, At<S, N, U>>,
+        records: &mut Option<Records<E, S, P, At<S, N, U>>>,
         pass: PassAt<E, S, P, N, U>,
         any: &A,
     ) -> Visit<E, S, P, N, U>
+        requires { IsSome records.old }
         ensures pass { result.pass ≡ pass }
-        ensures all { result.all ≡ records }
-        ensures serial { counted P.command pass.session records + 1 ≡ pass.serial }
+        ensures all { result.all ≡ held records.old }
+        ensures serial { counted P.command pass.session (held records.old) + 1 ≡ pass.serial }
     {
         let PassAt {
             session,
@@ -56,6 +57,7 @@ impl<E, S, P: Published<E, S>, N: Array<S>, const U: usize> Visit<E, S, P, N, U>
             right,
             of: _,
         } = pass;
+        let records = records.take().unwrap();
         let turn = records.begin::<A, M, R>(rt, posted, &seen, right, any);
         Visit {
             session,
@@ -65,25 +67,27 @@ impl<E, S, P: Published<E, S>, N: Array<S>, const U: usize> Visit<E, S, P, N, U>
         }
     }
 
-    /// Adds an entry of the session's own, after which it has this serial, and gives the pass back, which has seen it.
+    /// Adds an entry of the session's own, after which it has this serial, puts the records back in their place, and gives the
+    /// pass back, which has seen the entry.
     pub(crate) fn finish<A, M: Plain<A, E, Answer>, R: Wait>(
         self,
         rt: &R,
         posted: &Posted<E, S, P, At<S, N, U>>,
+        place: &mut Option<Records<E, S, P, At<S, N, U>>>,
         row: Row,
         about: &A,
         serial: u64,
-    ) -> (Records<E, S, P, At<S, N, U>>, PassAt<E, S, P, N, U>)
+    ) -> PassAt<E, S, P, N, U>
         requires room { length self.all + 1 < 2 ^ 64 }
         requires own { IsOwn P.own P.command self.pass.session (M.ask about.now) }
         requires legal { P.legal (N.opening U) (self.all ++ M.ask about.now ∷ []) }
         requires row { row ≡ P.rows (N.opening U) (self.all ++ M.ask about.now ∷ []) }
         requires serial { serial ≡ self.pass.serial + P.command self.pass.session (M.ask about.now) }
-        ensures records { result.0 ≡ self.all ++ M.ask about.entry.now ∷ [] }
-        ensures seen { result.1.seen ≡ self.all ++ M.ask about.entry.now ∷ [] }
-        ensures added { IsAdded P.own (P.legal (N.opening U)) self.pass result.1
+        ensures records { place.new ≡ Some result.seen }
+        ensures seen { result.seen ≡ self.all ++ M.ask about.entry.now ∷ [] }
+        ensures added { IsAdded P.own (P.legal (N.opening U)) self.pass result
             (λ h e. (h ≡ self.all) × (e ≡ M.ask about.entry.now)) }
-        ensures next { (result.1.session ≡ self.pass.session) × (result.1.serial ≡ serial) }
+        ensures next { (result.session ≡ self.pass.session) × (result.serial ≡ serial) }
     {
         let Visit {
             session,
@@ -93,27 +97,26 @@ impl<E, S, P: Published<E, S>, N: Array<S>, const U: usize> Visit<E, S, P, N, U>
         } = self;
         let (records, right) = turn.finish::<A, M, R>(rt, posted, row, about);
         let seen = records.history();
-        (
-            records,
-            PassAt {
-                session,
-                serial,
-                seen,
-                right,
-                of: PhantomData,
-            },
-        )
+        put_back(place, records);
+        PassAt {
+            session,
+            serial,
+            seen,
+            right,
+            of: PhantomData,
+        }
     }
 
-    /// Gives the pass back, which has seen all of the history.
+    /// Puts the records back in their place, and gives the pass back, which has seen all of the history.
     pub(crate) fn leave(
         self,
         posted: &Posted<E, S, P, At<S, N, U>>,
-    ) -> (Records<E, S, P, At<S, N, U>>, PassAt<E, S, P, N, U>)
+        place: &mut Option<Records<E, S, P, At<S, N, U>>>,
+    ) -> PassAt<E, S, P, N, U>
         requires legal { P.legal (N.opening U) self.all }
-        ensures records { result.0 ≡ self.all }
-        ensures seen { result.1.seen ≡ self.all }
-        ensures refused { IsRefused P.own (P.legal (N.opening U)) self.pass result.1 }
+        ensures records { place.new ≡ Some result.seen }
+        ensures seen { result.seen ≡ self.all }
+        ensures refused { IsRefused P.own (P.legal (N.opening U)) self.pass result }
     {
         let Visit {
             session,
@@ -123,15 +126,13 @@ impl<E, S, P: Published<E, S>, N: Array<S>, const U: usize> Visit<E, S, P, N, U>
         } = self;
         let (records, right) = turn.give_back(posted);
         let seen = records.history();
-        (
-            records,
-            PassAt {
-                session,
-                serial,
-                seen,
-                right,
-                of: PhantomData,
-            },
-        )
+        put_back(place, records);
+        PassAt {
+            session,
+            serial,
+            seen,
+            right,
+            of: PhantomData,
+        }
     }
 }

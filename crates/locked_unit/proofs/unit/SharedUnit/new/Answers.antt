@@ -5,5 +5,5 @@ pub returns : goal.returns
 returns g c = (
   c.in_ok-seats.ensures.count,
   subst (λ (h : List g.row.E.Denot). All (λ (seat : List g.row.E.Denot). seat ≡ h) c.in_ok-seats.seats.items)
-      c.open-board.ensures c.in_ok-seats.ensures.seats,
+      c.open-posted.ensures c.in_ok-seats.ensures.seats,
 )
