@@ -186,20 +186,3 @@ described_served claims c blocks session (commands.Read lba n fua) bytes told re
 described_served claims c blocks session (commands.Write lba n fua) bytes told reply d is said = absurd (cc)
 described_served claims c blocks session (commands.CompareAndWrite lba n fua) bytes told reply d is said = absurd (cc)
 described_served claims c blocks session (commands.SynchronizeCache lba n) bytes told reply d is said = absurd (cc)
-
-pub describing_takes : (command : Command) → IsTrue (is_describing command) → MayTake (Ok command)
-describing_takes commands.TestUnitReady d = absurd (cc)
-describing_takes (commands.RequestSense n) d = refl
-describing_takes (commands.PersistentReserveOut action scope kind n) d = absurd (cc)
-describing_takes (commands.Inquiry page n) d = refl
-describing_takes (commands.ModeSense header control page n) d = refl
-describing_takes commands.ReadCapacity10 d = refl
-describing_takes (commands.ReadCapacity16 n) d = refl
-describing_takes (commands.Read lba n fua) d = refl
-describing_takes (commands.Write lba n fua) d = absurd (cc)
-describing_takes (commands.CompareAndWrite lba n fua) d = absurd (cc)
-describing_takes (commands.SynchronizeCache lba n) d = absurd (cc)
-describing_takes (commands.PersistentReserveIn action n) d = refl
-describing_takes (commands.ReportLuns select n) d = refl
-describing_takes (commands.ReportTargetPortGroups n) d = refl
-describing_takes (commands.SetTargetPortGroups n) d = absurd (cc)

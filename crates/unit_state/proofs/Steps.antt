@@ -94,16 +94,6 @@ pub takes_memory : {T E : Type 0} (c : ControlValue) (session : ℕ) (asked : Re
 takes_memory c session asked bytes command (Ok x) is takes = tt
 takes_memory c session asked bytes command (Err e) is takes = record { unrefused = is.unrefused; takes = rw is.asks takes }
 
--- the opener is asked only by a command that changes the owner
-pub unasked_refused : (c : ControlValue) (r : Request) (refused : Refusal) → IsRefused c r refused → asks_opener c r ≡ false
-unasked_refused c r refused is = rw is.refuses refl
-
-pub asks_as : (c : ControlValue) (session : ℕ) (asked : Result ScsiCommand CdbFault) (bytes : List ℕ)
-    (command : ScsiCommand) → IsAdmitted c (request session asked bytes) command
-    → asks_opener c (request session asked bytes) ≡ is_opening c (Ok command) bytes
-asks_as c session asked bytes command is =
-    rw is.unrefused (ap (λ (a : Result ScsiCommand CdbFault). is_opening c a bytes) is.asks)
-
 pub may_reach : (c : ControlValue) (r : Request) (command : ScsiCommand) (P : Type 0) → IsAdmitted c r command
     → OnRefusal (refusal c r) P
 may_reach c r command P is = rw is.unrefused tt
