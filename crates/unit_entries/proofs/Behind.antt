@@ -42,12 +42,6 @@ same i = ⊎_elim (λ (t : (nat_eq i i ≡ true) × (i ≡ i)). t.0) (λ (f : (n
 other : (i r : ℕ) → (r ≡ i → ⊥) → nat_eq i r ≡ false
 other i r n = ⊎_elim (λ (t : (nat_eq i r ≡ true) × (i ≡ r)). absurd (n (sym t.1))) (λ (f : (nat_eq i r ≡ false) × (i ≢ r)). f.0) (eqb_tells i r)
 
-pub own_detach : (i : ℕ) → IsOwn own command i (Detach i)
-own_detach i = record { one = rw (same i) refl; others = λ r n. (rw (other i r n) refl, refl) }
-
-pub own_reset : (i : ℕ) → IsOwn own command i (Reset i)
-own_reset i = record { one = rw (same i) refl; others = λ r n. (rw (other i r n) refl, refl) }
-
 pub own_command : (i n : ℕ) (g : Group) (asked : Result ScsiCommand CdbFault) (bytes : List ℕ) (choice : Choice)
     → IsOwn own command i (Command i n g asked bytes choice)
 own_command i n g asked bytes choice =
@@ -108,14 +102,6 @@ gone_next claims s h c i n l is serial f =
     let m : o.0 ≡ n = k ∙ serial in
     subst (λ (x : ControlValue). IsNext x i n → ⊥) is f
     (record { room = a.room; next = o.1 ∙ ap (λ (x : ℕ). let p : Option ℕ = Some x in p) m }))
-
-pub owner_at : (s : UnitState) (h : List Entry) (c : ControlValue) (g : Group) → c ≡ (state_after s h).control
-    → g ≡ owner_of c.access → IsOwner s h g
-owner_at s h c g is o = o ∙ ap (λ (x : ControlValue). owner_of x.access) is
-
-pub wants_at : (s : UnitState) (h : List Entry) (c : ControlValue) (i : ℕ) (asked : Result ScsiCommand CdbFault) (bytes : List ℕ)
-    → c ≡ (state_after s h).control → TakesMemory c (request i asked bytes) → WantsMemory s h i asked bytes
-wants_at s h c i asked bytes is t = subst (λ (x : ControlValue). TakesMemory x (request i asked bytes)) is t
 
 filtered : (keeps : Bool) (a : Attached) (xs : List Attached) (i : ℕ) → keeps ≡ not (nat_eq a.id i) → session_of xs i ≡ None
     → session_of (if keeps then a ∷ xs else xs) i ≡ None
