@@ -1,7 +1,7 @@
 use thiserror::Error;
 
 /// Why bytes spell no PDU: the first fault in this order, each found as soon as its bytes are there.
-#[derive(Clone, Copy, Debug, PartialEq, Eq, Error)]
+#[derive(Clone, Copy, Debug, Error)]
 pub enum PduFault {
     #[error("unknown opcode")]
     UnknownOpcode,

@@ -4,14 +4,14 @@
 //! Tag and `transfer_tag` the Target Transfer Tag.
 
 /// The two numbers of an initiator's PDU (RFC 7143, 11.3.2 and 11.3.3).
-#[derive(Clone, Copy, PartialEq, Eq)]
+#[derive(Clone, Copy)]
 pub struct CommandNumbers {
     pub cmd_sn: u32,
     pub exp_stat_sn: u32,
 }
 
 /// The three numbers of a target's PDU (RFC 7143, 11.4.9 to 11.4.11).
-#[derive(Clone, Copy, PartialEq, Eq)]
+#[derive(Clone, Copy)]
 pub struct Numbers {
     pub stat_sn: u32,
     pub exp_cmd_sn: u32,
@@ -19,7 +19,7 @@ pub struct Numbers {
 }
 
 /// The header of a NOP-Out (RFC 7143, 11.18).
-#[derive(Clone, Copy, PartialEq, Eq)]
+#[derive(Clone, Copy)]
 pub struct NopOut {
     pub immediate: bool,
     pub lun: [u8; 8],
@@ -29,7 +29,7 @@ pub struct NopOut {
 }
 
 /// The header of a SCSI Command (RFC 7143, 11.3), which has F, and not both R and W.
-#[derive(Clone, Copy, PartialEq, Eq)]
+#[derive(Clone, Copy)]
 pub struct ScsiCommand {
     pub immediate: bool,
     pub read: bool,
@@ -45,7 +45,7 @@ pub struct ScsiCommand {
 }
 
 /// The header of a Task Management Function Request (RFC 7143, 11.5).
-#[derive(Clone, Copy, PartialEq, Eq)]
+#[derive(Clone, Copy)]
 pub struct TaskManagementRequest {
     pub immediate: bool,
     /// The function, of 7 bits.
@@ -59,7 +59,7 @@ pub struct TaskManagementRequest {
 }
 
 /// The header of a Login Request (RFC 7143, 11.12), which is always immediate.
-#[derive(Clone, Copy, PartialEq, Eq)]
+#[derive(Clone, Copy)]
 pub struct LoginRequest {
     /// The T bit.
     pub transit: bool,
@@ -79,7 +79,7 @@ pub struct LoginRequest {
 }
 
 /// The header of a Text Request (RFC 7143, 11.10).
-#[derive(Clone, Copy, PartialEq, Eq)]
+#[derive(Clone, Copy)]
 pub struct TextRequest {
     pub immediate: bool,
     pub last: bool,
@@ -91,7 +91,7 @@ pub struct TextRequest {
 }
 
 /// The header of a SCSI Data-Out (RFC 7143, 11.7).
-#[derive(Clone, Copy, PartialEq, Eq)]
+#[derive(Clone, Copy)]
 pub struct DataOut {
     pub last: bool,
     pub lun: [u8; 8],
@@ -104,7 +104,7 @@ pub struct DataOut {
 }
 
 /// The header of a Logout Request (RFC 7143, 11.14).
-#[derive(Clone, Copy, PartialEq, Eq)]
+#[derive(Clone, Copy)]
 pub struct LogoutRequest {
     pub immediate: bool,
     /// The reason, of 7 bits.
@@ -116,7 +116,7 @@ pub struct LogoutRequest {
 }
 
 /// The header of an initiator's PDU.
-#[derive(Clone, Copy, PartialEq, Eq)]
+#[derive(Clone, Copy)]
 pub enum InitiatorHeader {
     NopOut(NopOut),
     ScsiCommand(ScsiCommand),
@@ -128,7 +128,7 @@ pub enum InitiatorHeader {
 }
 
 /// The header of a NOP-In (RFC 7143, 11.19).
-#[derive(Clone, Copy, PartialEq, Eq)]
+#[derive(Clone, Copy)]
 pub struct NopIn {
     pub lun: [u8; 8],
     pub task_tag: u32,
@@ -137,7 +137,7 @@ pub struct NopIn {
 }
 
 /// The header of a SCSI Response (RFC 7143, 11.4).
-#[derive(Clone, Copy, PartialEq, Eq)]
+#[derive(Clone, Copy)]
 pub struct ScsiResponse {
     /// The residual is what did not fit.
     pub overflow: bool,
@@ -153,7 +153,7 @@ pub struct ScsiResponse {
 }
 
 /// The header of a Task Management Function Response (RFC 7143, 11.6).
-#[derive(Clone, Copy, PartialEq, Eq)]
+#[derive(Clone, Copy)]
 pub struct TaskManagementResponse {
     pub response: u8,
     pub task_tag: u32,
@@ -161,7 +161,7 @@ pub struct TaskManagementResponse {
 }
 
 /// The header of a Login Response (RFC 7143, 11.13), whose versions are 0.
-#[derive(Clone, Copy, PartialEq, Eq)]
+#[derive(Clone, Copy)]
 pub struct LoginResponse {
     /// The T bit.
     pub transit: bool,
@@ -179,7 +179,7 @@ pub struct LoginResponse {
 }
 
 /// The header of a Text Response (RFC 7143, 11.11), which has F and not C.
-#[derive(Clone, Copy, PartialEq, Eq)]
+#[derive(Clone, Copy)]
 pub struct TextResponse {
     pub task_tag: u32,
     pub transfer_tag: u32,
@@ -187,7 +187,7 @@ pub struct TextResponse {
 }
 
 /// The header of a SCSI Data-In (RFC 7143, 11.7).
-#[derive(Clone, Copy, PartialEq, Eq)]
+#[derive(Clone, Copy)]
 pub struct DataIn {
     pub last: bool,
     pub task_tag: u32,
@@ -199,7 +199,7 @@ pub struct DataIn {
 }
 
 /// The header of a Logout Response (RFC 7143, 11.15).
-#[derive(Clone, Copy, PartialEq, Eq)]
+#[derive(Clone, Copy)]
 pub struct LogoutResponse {
     pub response: u8,
     pub task_tag: u32,
@@ -211,7 +211,7 @@ pub struct LogoutResponse {
 }
 
 /// The header of an R2T (RFC 7143, 11.8).
-#[derive(Clone, Copy, PartialEq, Eq)]
+#[derive(Clone, Copy)]
 pub struct R2t {
     pub lun: [u8; 8],
     pub task_tag: u32,
@@ -225,14 +225,14 @@ pub struct R2t {
 }
 
 /// The header of a Reject (RFC 7143, 11.17), whose Initiator Task Tag is FFFFFFFFh.
-#[derive(Clone, Copy, PartialEq, Eq)]
+#[derive(Clone, Copy)]
 pub struct Reject {
     pub reason: u8,
     pub numbers: Numbers,
 }
 
 /// The header of a target's PDU.
-#[derive(Clone, Copy, PartialEq, Eq)]
+#[derive(Clone, Copy)]
 pub enum TargetHeader {
     NopIn(NopIn),
     ScsiResponse(ScsiResponse),
@@ -246,7 +246,7 @@ pub enum TargetHeader {
 }
 
 /// The header of a PDU.
-#[derive(Clone, Copy, PartialEq, Eq)]
+#[derive(Clone, Copy)]
 pub enum Header {
     Initiator(InitiatorHeader),
     Target(TargetHeader),

@@ -76,7 +76,7 @@ const KEYS: [Key; 25] = [
 ];
 
 /// A row of the table of keys.
-#[derive(Clone, Copy, Debug)]
+#[derive(Clone, Copy)]
 pub struct Row {
     /// The key's name.
     pub name: &'static [u8],

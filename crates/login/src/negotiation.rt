@@ -25,7 +25,7 @@ use std::marker::Model;
 pub const LONGEST_RESPONSE: u32 = 9216;
 
 /// What a login request comes to.
-#[derive(Clone, Copy, PartialEq, Eq)]
+#[derive(Clone, Copy)]
 pub enum LoginEnd {
     /// The text of the response stands in the memory that was given; T and NSG are as they were asked for. The login
     /// goes on.

@@ -9,7 +9,7 @@ use crate::text::found;
 use crate::value::Value;
 
 /// The values in force in a session (RFC 7143, section 13).
-#[derive(Clone, Copy, PartialEq, Eq)]
+#[derive(Clone, Copy)]
 pub struct Parameters {
     /// The most bytes of a run of Data-In, or of an R2T.
     pub max_burst_length: u32,

@@ -9,7 +9,7 @@ pub enum Kind {
 }
 
 /// What a negotiation looks at in the header of a Login request (RFC 7143, 11.12).
-#[derive(Clone, Copy, PartialEq, Eq)]
+#[derive(Clone, Copy)]
 pub struct LoginFlags {
     /// T: ready to go to the next stage.
     pub transit: bool,
@@ -25,7 +25,7 @@ pub struct LoginFlags {
 }
 
 /// Why a login is refused (RFC 7143, 11.13.5).
-#[derive(Clone, Copy, PartialEq, Eq)]
+#[derive(Clone, Copy)]
 pub enum LoginStatus {
     InitiatorError,
     AuthenticationFailure,
@@ -80,7 +80,7 @@ impl LoginStatus {
 }
 
 /// How a check ends a login.
-#[derive(Clone, Copy, PartialEq, Eq)]
+#[derive(Clone, Copy)]
 pub enum Stop {
     Refused(LoginStatus),
     /// It names a session, of which the session layer asks whether it lives.

@@ -5,7 +5,7 @@ ghost use Rattle.login.specs.Number.{digits_in, number_in, is_hexadecimal, numbe
 use crate::text::parted;
 
 /// A value of a list that this target takes.
-#[derive(Clone, Copy, Debug, PartialEq, Eq)]
+#[derive(Clone, Copy, Debug)]
 pub enum Word {
     /// `None`: no authentication, no digest.
     Unused,
@@ -28,7 +28,7 @@ impl Word {
 }
 
 /// The range of a number and the target's own offer.
-#[derive(Clone, Copy, Debug, PartialEq, Eq)]
+#[derive(Clone, Copy)]
 pub struct Limits {
     pub low: u32,
     pub high: u32,
@@ -36,7 +36,7 @@ pub struct Limits {
 }
 
 /// How the value of a key is found (RFC 7143, 6.2.1 and 6.2.2).
-#[derive(Clone, Copy, Debug, PartialEq, Eq)]
+#[derive(Clone, Copy)]
 pub enum Rule {
     /// The lesser of both numbers.
     Least(Limits),
@@ -57,7 +57,7 @@ pub enum Rule {
 }
 
 /// The value of a key.
-#[derive(Clone, Copy, Debug, PartialEq, Eq)]
+#[derive(Clone, Copy, Debug)]
 pub enum Value {
     Number(u32),
     Flag(bool),

@@ -10,7 +10,7 @@ use crate::status::Kind;
 use crate::text::{first_pair, is_text};
 
 /// What the text of a Text request comes to, where an answer has so much room.
-#[derive(Clone, Copy, PartialEq, Eq)]
+#[derive(Clone, Copy)]
 pub enum TextAnswer {
     /// The answer stands in the memory.
     Answered,

@@ -2,7 +2,7 @@
 ghost use Rattle.std.specs.Prelude.{◌≤◌};
 
 /// The lengths in force: how its data is cut.
-#[derive(Clone, Copy, PartialEq, Eq)]
+#[derive(Clone, Copy)]
 pub struct Lengths {
     /// The initiator's MaxRecvDataSegmentLength, 512 to 16777215 bytes (13.12).
     pub data_segment: u32,

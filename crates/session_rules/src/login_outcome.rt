@@ -5,7 +5,7 @@ use crate::end::End;
 use login::LoginStatus;
 
 /// What comes to a PDU during the login, with what the target answers.
-#[derive(Clone, Copy, PartialEq, Eq)]
+#[derive(Clone, Copy)]
 pub enum LoginOutcome {
     /// The login goes on.
     GoesOn,

@@ -2,7 +2,7 @@ use crate::start::Start;
 use login::Kind;
 
 /// How a session begins.
-#[derive(Clone, Copy, PartialEq, Eq)]
+#[derive(Clone, Copy)]
 pub enum Opening {
     /// With a login, by a portal of the portal group with this tag (RFC 7143, 6.3).
     Login(u16),

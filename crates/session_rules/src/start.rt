@@ -1,7 +1,7 @@
 use crate::lengths::Lengths;
 
 /// The numbers and the lengths with which a session begins.
-#[derive(Clone, Copy, PartialEq, Eq)]
+#[derive(Clone, Copy)]
 pub struct Start {
     /// The CmdSN that is expected first.
     pub exp_cmd_sn: u32,

@@ -6,7 +6,7 @@ use login::Kind;
 use scsi_types::{Asked, Reply};
 
 /// What a target answers where a session is to begin.
-#[derive(Clone, Copy, PartialEq, Eq)]
+#[derive(Clone, Copy)]
 pub enum BeginAnswer {
     /// It has begun, with this Target Session Identifying Handle (TSIH): 1 to 65535, that of no other session that lives.
     Begun(u16),

@@ -3,7 +3,7 @@ ghost use Rattle.std.specs.Prelude.{◌≡◌};
 ghost use Rattle.session_rules.specs.Drops.{function_of};
 
 /// The functions that are told apart (RFC 7143, 11.5.1).
-#[derive(Clone, Copy, PartialEq, Eq)]
+#[derive(Clone, Copy)]
 pub enum TaskFunction {
     AbortTask,
     AbortTaskSet,
@@ -29,7 +29,7 @@ impl TaskFunction {
 }
 
 /// What a request comes to.
-#[derive(Clone, Copy, PartialEq, Eq)]
+#[derive(Clone, Copy)]
 pub enum Management {
     /// This response.
     Respond(u8),

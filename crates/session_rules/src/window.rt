@@ -9,7 +9,7 @@ use iscsi_pdu::Numbers;
 pub const WINDOW: u32 = 32;
 
 /// The command window: the CmdSN that is expected, and how many commands it takes.
-#[derive(Clone, Copy, PartialEq, Eq)]
+#[derive(Clone, Copy)]
 pub struct Window {
     pub exp_cmd_sn: u32,
     pub size: u32,

@@ -1,5 +1,6 @@
 //! Data-Out and the task that they are for (RFC 7143, 11.7): what is dropped, and what a task takes.
-pub const ROWS: &str = r"
+pub fn rows() -> &'static str {
+    r"
 a Data-Out for a tag that no task has is dropped
 > DATA_OUT pattern 512
 > TEST_UNIT_READY
@@ -82,4 +83,5 @@ the input ends before all data came
 > WRITE
 > DATA_OUT 6:0100 pattern 256
 < R2T
-";
+"
+}

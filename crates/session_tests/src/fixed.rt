@@ -1,5 +1,5 @@
 //! The target that the tables' sessions are served by.
-use crate::row::TEXTS;
+use crate::row::named_texts;
 use login::Kind;
 use scsi_types::{Asked, Reply, Sense};
 use session::{BeginAnswer, ResetAnswer, Target, TargetAnswer};
@@ -86,10 +86,10 @@ impl<'a> Fixed<'a> {
     // The data of the last command that it was asked.
     fn data(&self) -> Option<Result<Vec<u8>, RowError>> {
         match self.answers.command {
-            Answer::Good(data) => Some(bytes_of(self.alloc, TEXTS, data)),
+            Answer::Good(data) => Some(bytes_of(self.alloc, named_texts(), data)),
             Answer::InTurn(datas) => {
                 let data = datas.split('|').nth(self.heard.commands.checked_sub(1)?)?;
-                Some(bytes_of(self.alloc, TEXTS, data))
+                Some(bytes_of(self.alloc, named_texts(), data))
             }
             Answer::Check(_, _, _) | Answer::Busy | Answer::Gone => None,
         }

@@ -1,7 +1,8 @@
 //! What is rejected in a login (RFC 7143, 7.3 and 11.17.1): 05 for an opcode that no PDU of an initiator has, 09 for
 //! another fault.
 // In place of the first Login Request: ExpCmdSN is 0.
-pub const FIRST: &str = r"
+pub fn first() -> &'static str {
+    r"
 an opcode that no PDU has
 login 1
 > LOGIN 0:07
@@ -71,7 +72,8 @@ login 1
 > LOGIN 7:56 HOST_A
 < REJECT 2:09 24:00000001000000000000001F rejected TEST_UNIT_READY 1:E1
 end Protocol
-";
+"
+}
 
 // Behind a Login Request: ExpCmdSN is its CmdSN.
 pub fn second() -> &'static str {

@@ -1,5 +1,6 @@
 //! Logout (RFC 7143, 11.14 and 11.15).
-pub const ROWS: &str = r"
+pub fn rows() -> &'static str {
+    r"
 reason 0 closes the session, and nothing behind it is served
 > LOGOUT
 > TEST_UNIT_READY 24:00000002
@@ -35,4 +36,5 @@ outside the window it is ignored
 > TEST_UNIT_READY
 < GOOD
 asked 0 Ok(TestUnitReady)
-";
+"
+}

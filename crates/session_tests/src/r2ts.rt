@@ -1,6 +1,7 @@
 //! Writes whose data comes by R2T (RFC 7143, 11.7 and 11.8): what did not come with the command is asked for in
 //! ranges of MaxBurstLength, one outstanding at a time, and the command is called once, with all of it.
-pub const ROWS: &str = r"
+pub fn rows() -> &'static str {
+    r"
 a write of 512 without its data
 > WRITE
 > DATA_OUT pattern 512
@@ -87,10 +88,12 @@ answer check 030C00
 < CHECK_CONDITION 0012700003000000000A000000000C0000000000
 asked 0 Ok(Write { lba: 5, blocks: 1, fua: false })
 given pattern 512
-";
+"
+}
 
 // What is expected and what the command needs differ (RFC 7143, 11.4.5): as much is collected as both have.
-pub const RESIDUALS: &str = r"
+pub fn residuals() -> &'static str {
+    r"
 a write of 512 that expects 1024: U, and the R2T is for 512
 > WRITE 20:00000400
 > DATA_OUT pattern 512
@@ -123,4 +126,5 @@ a write of 512 that expects 256 and sends none: O, and no R2T
 > WRITE 20:00000100
 < GOOD 1:84 44:00000100
 asked 0 Ok(Write { lba: 5, blocks: 1, fua: false })
-";
+"
+}

@@ -1,6 +1,7 @@
 //! What is rejected (RFC 7143, 11.17.1): 04 is a protocol error, 05 a command not supported, 09 an invalid PDU field.
 // Each is rejected with its header segment, and ends the session: the target is asked nothing, also of what is behind.
-pub const ROWS: &str = r"
+pub fn rows() -> &'static str {
+    r"
 an opcode that no PDU has
 > TEST_UNIT_READY 0:07
 > TEST_UNIT_READY
@@ -85,4 +86,5 @@ ImmediateData No
 > TEST_UNIT_READY
 < REJECT 2:04 rejected TEST_UNIT_READY 1:A1 6:0400 20:00000400 32:2A0000000005000002
 end Protocol
-";
+"
+}

@@ -1,6 +1,7 @@
 //! How much moves, and the Residual Count with U and O (RFC 7143, 11.4.1 and 11.4.5): WRITE (10) and READ (10) of
 //! block 5 (SBC-3), where the target returns 512 bytes of a read.
-pub const ROWS: &str = r"
+pub fn rows() -> &'static str {
+    r"
 a write of 512 that expects 512 and sends 512
 > TEST_UNIT_READY 1:A1 6:0200 20:00000200 32:2A0000000005000001 pattern 512
 < GOOD
@@ -53,4 +54,5 @@ answer good pattern 512
 > TEST_UNIT_READY 1:81 20:00000200 32:280000000005000001
 < GOOD 1:84 44:00000200
 asked 0 Ok(Read { lba: 5, blocks: 1, fua: false })
-";
+"
+}

@@ -54,20 +54,22 @@ use std::test::*;
 use test_streams::{HOST_A, RowError, THE_TARGET, Texts, WELCOME, bytes_of, lines_of, pdu_of};
 
 /// The texts that rows name: those of both sides of a login, what the target says by itself, and what it tells of itself.
-pub const TEXTS: Texts = &[
-    (
-        "NAMES",
-        r"InitiatorName=iqn.2000-01.test:a\0TargetName=iqn.2000-01.test:array\0",
-    ),
-    ("HOST_A", HOST_A),
-    ("WELCOME", WELCOME),
-    ("THE_TARGET", THE_TARGET),
-    (
-        "TOLD_OF_FOUR",
-        "TargetName=iqn.2000-01.test:array\\0TargetAddress=127.0.0.1:3260,1\\0\
-         TargetAddress=127.0.0.1:3264,2\\0TargetAddress=127.0.0.1:3265,2\\0TargetAddress=127.0.0.1:3266,2\\0",
-    ),
-];
+pub fn named_texts() -> Texts<'static> {
+    &[
+        (
+            "NAMES",
+            r"InitiatorName=iqn.2000-01.test:a\0TargetName=iqn.2000-01.test:array\0",
+        ),
+        ("HOST_A", HOST_A),
+        ("WELCOME", WELCOME),
+        ("THE_TARGET", THE_TARGET),
+        (
+            "TOLD_OF_FOUR",
+            "TargetName=iqn.2000-01.test:array\\0TargetAddress=127.0.0.1:3260,1\\0\
+             TargetAddress=127.0.0.1:3264,2\\0TargetAddress=127.0.0.1:3265,2\\0TargetAddress=127.0.0.1:3266,2\\0",
+        ),
+    ]
+}
 
 /// With what a session begins, as plain numbers.
 #[derive(Clone, Copy)]
@@ -344,13 +346,13 @@ fn written_of(words: &str) -> Result<(u32, u8), RowError> {
 
 // Appends a PDU.
 fn put_pdu(alloc: Global, bytes: &mut Vec<u8>, line: &str) -> Result<(), RowError> {
-    let pdu = pdu_of(alloc, TEXTS, line)?;
+    let pdu = pdu_of(alloc, named_texts(), line)?;
     Ok(bytes.extend_from_slice(&pdu)?)
 }
 
 // Appends the bytes of these parts.
 fn put_bytes(alloc: Global, bytes: &mut Vec<u8>, parts: &str) -> Result<(), RowError> {
-    let more = bytes_of(alloc, TEXTS, parts)?;
+    let more = bytes_of(alloc, named_texts(), parts)?;
     Ok(bytes.extend_from_slice(&more)?)
 }
 
@@ -417,7 +419,7 @@ fn command_answer(alloc: Global, text: &str) -> Result<Answer<'_>, RowError> {
     match word {
         "good" => Ok(Answer::Good(rest)),
         "in-turn" => Ok(Answer::InTurn(rest)),
-        "check" => check_answer(&bytes_of(alloc, TEXTS, rest)?),
+        "check" => check_answer(&bytes_of(alloc, named_texts(), rest)?),
         "busy" if rest.is_empty() => Ok(Answer::Busy),
         "gone" if rest.is_empty() => Ok(Answer::Gone),
         _ => Err(RowError::Word),

@@ -80,7 +80,7 @@ fn logins_that_are_refused_or_end(rt: HostRuntime) {
         &rt,
         rt.alloc(),
         &[
-            ("a fault first", login_faults::FIRST),
+            ("a fault first", login_faults::first()),
             ("a fault behind a request", login_faults::second()),
             ("another pdu first", login_others::first()),
             ("another pdu behind a request", login_others::second()),
@@ -108,12 +108,12 @@ fn data_in_and_out(rt: HostRuntime) {
         rt.alloc(),
         &[
             ("faults of data out", data_out_faults::faults()),
-            ("data out and its task", data_outs::ROWS),
-            ("writes that collect", r2ts::ROWS),
-            ("a write of a megabyte", long_write::MEGABYTE),
-            ("residuals with r2t", r2ts::RESIDUALS),
-            ("reads", reads::ROWS),
-            ("runs", runs::ROWS),
+            ("data out and its task", data_outs::rows()),
+            ("writes that collect", r2ts::rows()),
+            ("a write of a megabyte", long_write::megabyte()),
+            ("residuals with r2t", r2ts::residuals()),
+            ("reads", reads::rows()),
+            ("runs", runs::rows()),
         ],
     );
 }
@@ -124,11 +124,11 @@ fn answers_and_rejects(rt: HostRuntime) {
         &rt,
         rt.alloc(),
         &[
-            ("answers of a target", answers::ROWS),
-            ("logout", logout::ROWS),
-            ("nop out", nop::ROWS),
-            ("rejects", rejects::ROWS),
-            ("residuals", residuals::ROWS),
+            ("answers of a target", answers::rows()),
+            ("logout", logout::rows()),
+            ("nop out", nop::rows()),
+            ("rejects", rejects::rows()),
+            ("residuals", residuals::rows()),
         ],
     );
 }
@@ -139,10 +139,10 @@ fn sessions_with_tasks(rt: HostRuntime) {
         &rt,
         rt.alloc(),
         &[
-            ("a write that waits", task_management::WAITING),
-            ("task management", task_management::ROWS),
-            ("tasks at once", tasks::ROWS),
-            ("a full window of writes", tasks::BEHIND_32),
+            ("a write that waits", task_management::waiting()),
+            ("task management", task_management::rows()),
+            ("tasks at once", tasks::rows()),
+            ("a full window of writes", tasks::behind_32()),
         ],
     );
 }
@@ -155,7 +155,7 @@ fn text_and_the_window(rt: HostRuntime) {
         &[
             ("text", text::rows()),
             ("refused in text and discovery", text::refused()),
-            ("the window", window::ROWS),
+            ("the window", window::rows()),
         ],
     );
 }

@@ -1,5 +1,6 @@
 //! Task management (RFC 7143, 11.5 and 11.6), on a target of one unit.
-pub const ROWS: &str = r"
+pub fn rows() -> &'static str {
+    r"
 ABORT TASK of a tag that no task has had: there is none
 > TASK_REQUEST 1:81 20:00000009
 < TASK_RESPONSE 2:01
@@ -95,11 +96,13 @@ asked 0 Ok(TestUnitReady)
 inside the window, but not the next, it leaves a gap
 > TASK_REQUEST 1:85 24:00000002
 end Protocol
-";
+"
+}
 
 // A write that waits for its 512 bytes, by its R2T, and what becomes of it. The request has CmdSN 2 and the tag 2. The
 // third command has the tag 9, and its answer StatSN 2, ExpCmdSN 4 and MaxCmdSN 35, as no write waits any more.
-pub const WAITING: &str = r"
+pub fn waiting() -> &'static str {
+    r"
 ABORT TASK drops it: it is not answered, and its Data-Out behind is passed over
 > WRITE
 > TASK_REQUEST 1:81 19:02 23:01 27:02
@@ -177,4 +180,5 @@ TASK REASSIGN leaves it
 < GOOD 24:000000020000000300000022
 asked 0 Ok(Write { lba: 5, blocks: 1, fua: false })
 given pattern 512
-";
+"
+}

@@ -1,5 +1,6 @@
 //! The command window (RFC 7143, 4.2.2.1).
-pub const ROWS: &str = r"
+pub fn rows() -> &'static str {
+    r"
 TEST UNIT READY
 > TEST_UNIT_READY
 < GOOD
@@ -50,4 +51,5 @@ an immediate command takes no number
 < GOOD 24:000000020000000200000021
 asked 0 Ok(TestUnitReady)
 asked 0 Ok(TestUnitReady)
-";
+"
+}

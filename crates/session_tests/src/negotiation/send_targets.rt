@@ -1,5 +1,5 @@
 //! The answers to the text of a Text request.
-use crate::row::TEXTS;
+use crate::row::named_texts;
 use crate::run::portal;
 use login::{Kind, TextEnd, send_targets};
 use std::alloc::Global;
@@ -10,55 +10,57 @@ use test_streams::bytes_of;
 /// A name, the session's kind, a text, and the answer to it, both spelled as a PDU's data segment.
 type Row = (&'static str, Kind, &'static str, &'static str);
 
-const ROWS: &[Row] = &[
-    (
-        "all, in a discovery session",
-        Kind::Discovery,
-        r#""SendTargets=All\0""#,
-        "THE_TARGET",
-    ),
-    (
-        "all, in a normal session",
-        Kind::Normal,
-        r#""SendTargets=All\0""#,
-        r#""SendTargets=Reject\0""#,
-    ),
-    (
-        "the target's name",
-        Kind::Normal,
-        r#""SendTargets=iqn.2000-01.test:array\0""#,
-        "THE_TARGET",
-    ),
-    (
-        "the target's name, in a discovery session",
-        Kind::Discovery,
-        r#""SendTargets=iqn.2000-01.test:array\0""#,
-        "THE_TARGET",
-    ),
-    (
-        "the session's target",
-        Kind::Normal,
-        r#""SendTargets=\0""#,
-        "THE_TARGET",
-    ),
-    (
-        "another target",
-        Kind::Discovery,
-        r#""SendTargets=iqn.2000-01.test:other\0""#,
-        "",
-    ),
-    (
-        "other keys",
-        Kind::Normal,
-        r#""MaxBurstLength=512\0X-a=1\0SendTargets=all\0""#,
-        r#""MaxBurstLength=Reject\0X-a=NotUnderstood\0""#,
-    ),
-    ("nothing", Kind::Normal, "", ""),
-];
+fn rows() -> &'static [Row] {
+    &[
+        (
+            "all, in a discovery session",
+            Kind::Discovery,
+            r#""SendTargets=All\0""#,
+            "THE_TARGET",
+        ),
+        (
+            "all, in a normal session",
+            Kind::Normal,
+            r#""SendTargets=All\0""#,
+            r#""SendTargets=Reject\0""#,
+        ),
+        (
+            "the target's name",
+            Kind::Normal,
+            r#""SendTargets=iqn.2000-01.test:array\0""#,
+            "THE_TARGET",
+        ),
+        (
+            "the target's name, in a discovery session",
+            Kind::Discovery,
+            r#""SendTargets=iqn.2000-01.test:array\0""#,
+            "THE_TARGET",
+        ),
+        (
+            "the session's target",
+            Kind::Normal,
+            r#""SendTargets=\0""#,
+            "THE_TARGET",
+        ),
+        (
+            "another target",
+            Kind::Discovery,
+            r#""SendTargets=iqn.2000-01.test:other\0""#,
+            "",
+        ),
+        (
+            "other keys",
+            Kind::Normal,
+            r#""MaxBurstLength=512\0X-a=1\0SendTargets=all\0""#,
+            r#""MaxBurstLength=Reject\0X-a=NotUnderstood\0""#,
+        ),
+        ("nothing", Kind::Normal, "", ""),
+    ]
+}
 
 fn check(rt: &impl Abort, alloc: Global, (name, kind, text, want): Row) {
-    let text = bytes_of(alloc, TEXTS, text).expect(rt, name);
-    let want = bytes_of(alloc, TEXTS, want).expect(rt, name);
+    let text = bytes_of(alloc, named_texts(), text).expect(rt, name);
+    let want = bytes_of(alloc, named_texts(), want).expect(rt, name);
     let target = b"iqn.2000-01.test:array";
     let first = [portal(3260)];
     let second = [portal(3264)];
@@ -72,7 +74,7 @@ fn answers(end: &TextEnd, want: &[u8]) -> bool {
 
 #[test]
 fn texts(rt: HostRuntime) {
-    for row in ROWS {
+    for row in rows() {
         check(&rt, rt.alloc(), *row);
     }
 }

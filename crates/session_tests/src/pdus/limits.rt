@@ -37,7 +37,7 @@ fn the_longest_pdu(rt: HostRuntime) {
     let mut out = Vec::new(rt.alloc());
     put_pdu(&rt, &mut out, &LAST_DATA_IN, &data);
     assert!(rt; out.len() == LONGEST_PDU, "{} bytes", out.len());
-    if let Some(what) = decoded_otherwise(&out, &LAST_DATA_IN, &data, LONGEST_PDU) {
+    if let Some(what) = decoded_otherwise(&rt, rt.alloc(), &out, &out) {
         panic!(rt; "{what} is decoded");
     }
 }

@@ -70,35 +70,30 @@ fn stands_behind_9(bytes: &[u8], want: &[u8]) -> bool {
     }
 }
 
-/// These bytes begin with a PDU of 52 bytes, which has this header and the data.
-pub fn expect_decoded(rt: &impl Abort, name: &str, bytes: &[u8], header: &Header) {
-    if let Some(what) = decoded_otherwise(bytes, header, &DATA, 52) {
+/// These bytes begin with a PDU of 52 bytes, which is encoded as this figure, the data and two zeros. No other PDU is.
+pub fn expect_decoded(rt: &impl Abort, alloc: Global, name: &str, bytes: &[u8], figure: &str) {
+    let want = bytes_of(rt, alloc, figure, [7, 8, 0, 0]);
+    if let Some(what) = decoded_otherwise(rt, alloc, bytes, &want) {
         panic!(rt; "{name} is decoded: {what}");
     }
 }
 
-/// What is decoded where these bytes do not begin with a PDU of this header, these data and this size.
+/// What is decoded where these bytes do not begin with a PDU that takes as many bytes as are wanted, and is encoded as those.
 pub fn decoded_otherwise(
+    rt: &impl Abort,
+    alloc: Global,
     bytes: &[u8],
-    header: &Header,
-    data: &[u8],
-    size: usize,
+    want: &[u8],
 ) -> Option<&'static str> {
     match decode(bytes) {
-        Ok(Some((pdu, found))) if found == size => differs(&pdu, header, data),
+        Ok(Some((pdu, size))) if size == want.len() => {
+            let mut out = Vec::new(alloc);
+            put_pdu(rt, &mut out, &pdu.header, pdu.data);
+            (out.as_slice() != want).then_some("another PDU")
+        }
         Ok(Some(_)) => Some("another size"),
         Ok(None) => Some("no whole PDU"),
         Err(_) => Some("a fault"),
-    }
-}
-
-fn differs(pdu: &Pdu<'_>, header: &Header, data: &[u8]) -> Option<&'static str> {
-    if pdu.header != *header {
-        Some("another header")
-    } else if pdu.data != data {
-        Some("other data")
-    } else {
-        None
     }
 }
 
