@@ -1,6 +1,6 @@
 -- A session that does not begin.
-use Rattle.std.proofs.Common.{◌≡◌, ℕ, Bool, false, true, List, [], ◌∷◌, ◌++◌, length, map, Option, Some, None}
-use Rattle.std.proofs.Common.{refl, sym, ap, ◌∙◌, subst, append-nil}
+use Rattle.std.proofs.Common.{◌≡◌, ℕ, Bool, false, true, List, [], ◌∷◌, ◌++◌, ◌+◌, length, map, Option, Some, None}
+use Rattle.std.proofs.Common.{arith, refl, sym, ap, ◌∙◌, subst, append-nil}
 use Rattle.std.proofs.lemmas.List.{map-append}
 use Rattle.std.specs.Prelude.{IfSome, MatchOption}
 use Rattle.login.specs.declared.status.Kind.{Kind}
@@ -12,7 +12,7 @@ use Rattle.portal.specs.Sessions.{Sayings}
 use Rattle.portal.specs.Units.{Claims}
 use Rattle.portal.specs.Submitted.{At}
 use Rattle.portal.specs.Target.{TargetValue, Sight, AreAttached, IsCauseOf, IsFullAt, IsJoined, IsGrounded, IsRefused, IsTurnedBack, Leaves, fault_of}
-use Rattle.portal.specs.Target.{IsOfUnits, is_taken}
+use Rattle.portal.specs.Target.{IsOfUnits, IsUnnamed, is_taken}
 use Rattle.portal.specs.declared.live.EnterFault.{EnterFault}
 use Rattle.portal.specs.declared.live.EnterFault.TheVariants as enters
 use Rattle.portal.specs.declared.target.BeginFault.{BeginFault}
@@ -32,6 +32,25 @@ module _ (claims : Claims) (opening : ℕ → UnitState) where
         cause = refl;
         ends = sym (append-nil seen) ∙ sym (append-nil (seen ++ []));
       }
+
+  -- for what its port's name lacks, or for want of memory, before it was attached to a unit
+  pub unnamed : (nexus : Nexus) (kind : Kind) (units : ℕ) (seen : List Sight) (fault : BeginFault) → IsUnnamed nexus.port fault
+      → IsTurnedBack claims opening nexus kind units fault seen seen
+  unnamed nexus kind units seen faults.Begun is = absurd is
+  unnamed nexus kind units seen faults.NoPortName is =
+      record {
+        at = [];
+        attached = tt;
+        left = [];
+        over = tt;
+        full = [];
+        cause = (refl, refl, is);
+        ends = sym (append-nil seen) ∙ sym (append-nil (seen ++ []));
+      }
+  unnamed nexus kind units seen (faults.NoRoom unit) is = absurd is
+  unnamed nexus kind units seen faults.NoTsih is = absurd is
+  unnamed nexus kind units seen faults.NoNumber is = absurd is
+  unnamed nexus kind units seen faults.NoMemory is = at_once nexus kind units seen
 
   -- one that is attached to no unit
   alone : (nexus : Nexus) (units : ℕ) (fault : EnterFault) → IsCauseOf claims opening nexus Discovery units [] (fault_of fault) []
@@ -116,6 +135,16 @@ grounds_of_units table asked faults.NoTsih is = absurd is
 grounds_of_units table asked faults.NoNumber is = absurd is
 grounds_of_units table asked faults.NoMemory is = tt
 
+-- so does one that lies in the port's name
+pub grounds_of_unnamed : (table : Sayings) (asked : Bool) (port : Port) (fault : BeginFault) → IsUnnamed port fault
+    → IsGrounded table asked fault
+grounds_of_unnamed table asked port faults.Begun is = absurd is
+grounds_of_unnamed table asked port faults.NoPortName is = tt
+grounds_of_unnamed table asked port (faults.NoRoom unit) is = tt
+grounds_of_unnamed table asked port faults.NoTsih is = absurd is
+grounds_of_unnamed table asked port faults.NoNumber is = absurd is
+grounds_of_unnamed table asked port faults.NoMemory is = tt
+
 -- what stands behind the table's cause
 pub grounds_of : (table : Sayings) (asked : Bool) (fault : EnterFault) → table.refused fault → IsGrounded table asked (fault_of fault)
 grounds_of table asked enters.NoTsih said = said
@@ -137,3 +166,15 @@ module _ (claims : Claims) (table : Sayings) (opening : ℕ → UnitState) where
         again = λ (begun : old.begun ≡ true). let e : true ≡ false = sym begun ∙ fresh in absurd (cc);
         rest = rest;
       }
+
+nothing : {X : Type 0} (xs : List X) → length xs ≡ 0 → xs ≡ []
+nothing [] e = refl
+nothing (x ∷ xs) e = absurd (omega (arith, e))
+
+-- where it was not asked, it was at no unit, and had seen none: so at its end it sees none
+pub still_fresh : {C X H : Type 0} (slot : Option C) (begun : Bool) (at after : List X) (old new : List H)
+    → IfSome slot (λ _. (begun ≡ false) × (at ≡ []) × (old ≡ [])) → after ≡ [] → length new ≡ length old + length at
+    → IfSome slot (λ _. (begun ≡ false) × (after ≡ []) × (new ≡ []))
+still_fresh (Some c) begun at after old new is none count =
+    (is.0, none, nothing new (omega (arith, count, ap length is.1, ap length is.2)))
+still_fresh None begun at after old new is none count = tt

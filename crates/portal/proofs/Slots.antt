@@ -1,6 +1,6 @@
 -- A list in which one place was written.
-use Rattle.std.proofs.Common.{◌≡◌, ◌≢◌, ℕ, zero, suc, ◌<◌, List, [], ◌∷◌, length, Some, refl, ap, arith}
-use Rattle.std.specs.Prelude.{slice_get, slice_set}
+use Rattle.std.proofs.Common.{◌≡◌, ◌≢◌, ℕ, zero, suc, ◌<◌, List, [], ◌∷◌, length, Option, Some, refl, ap, arith, subst, sym}
+use Rattle.std.specs.Prelude.{MatchOption, slice_get, slice_set}
 
 module _ {X : Type 0} where
   pub get_written : (xs : List X) (n : ℕ) (x a : X) → slice_get xs n ≡ Some a → slice_get (slice_set xs n x) n ≡ Some x
@@ -30,3 +30,8 @@ module _ {X : Type 0} where
   pub nowhere : (xs : List X) (n : ℕ) (a : X) → xs ≡ [] → slice_get xs n ≡ Some a → ⊥
   nowhere [] n a none is = absurd (cc)
   nowhere (x ∷ xs) n a none is = absurd (cc)
+
+  -- what is said of what stands at a place is said of the list
+  pub at_place : (xs : List X) (n : ℕ) (a : X) (P : Type 0) (Q : X → Type 0) → slice_get xs n ≡ Some a → Q a
+      → MatchOption (slice_get xs n) P Q
+  at_place xs n a P Q is q = subst (λ (o : Option X). MatchOption o P Q) (sym is) q

@@ -149,6 +149,15 @@ IsOfUnits faults.NoTsih = ⊥
 IsOfUnits faults.NoNumber = ⊥
 IsOfUnits faults.NoMemory = Unit {0}
 
+-- a cause that lies in the port's name, or in memory
+abbrev pub IsUnnamed : Port → BeginFault → Type 0
+IsUnnamed port faults.Begun = ⊥
+IsUnnamed port faults.NoPortName = IsPortName port → ⊥
+IsUnnamed port (faults.NoRoom unit) = ⊥
+IsUnnamed port faults.NoTsih = ⊥
+IsUnnamed port faults.NoNumber = ⊥
+IsUnnamed port faults.NoMemory = Unit {0}
+
 -- What stands behind a cause beside the units: it was asked before; or the table of the sessions that live says that it has no TSIH or
 -- no number.
 abbrev pub IsGrounded : Sayings → Bool → BeginFault → Type 0

@@ -32,8 +32,7 @@ pub struct Controllers<B: Blocks, R: Blocks, O: Opener<B>, N: Array<Opened>> {
     second: Desk<B, R, O, N>,
 }
 
-impl<B: Blocks + Drop, R: Blocks + Drop, O: Opener<B> + Drop, N: Array<Opened>> Drop
-    for Controllers<B, R, O, N> {
+impl<B: Blocks, R: Blocks, O: Opener<B>, N: Array<Opened>> Drop for Controllers<B, R, O, N> {
     fn drop(self) {
         let Self {
             units: _,

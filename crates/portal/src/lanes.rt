@@ -32,9 +32,9 @@ fn lane<B: Blocks, F: Blocks, O: Opener<B>, N: Array<Opened>, R: Wait>(
 // Starts one lane of a group's controller.
 fn start_lane<
     N: Array<Opened> + Send + Sync + 'static,
-    B: Blocks + Drop + Send + Sync + 'static,
-    F: Blocks + Drop + Send + Sync + 'static,
-    O: Opener<B> + Drop + Send + Sync + 'static,
+    B: Blocks + Send + Sync + 'static,
+    F: Blocks + Send + Sync + 'static,
+    O: Opener<B> + Send + Sync + 'static,
     G: Gate + Drop + Send + Sync + 'static,
     R: Threads + Wait + Clone + Drop + Send + 'static,
     S: Stacks,
@@ -56,9 +56,9 @@ fn start_lane<
 /// Starts the lanes of a group's controller, which end behind the close of its desk.
 pub fn start_lanes<
     N: Array<Opened> + Send + Sync + 'static,
-    B: Blocks + Drop + Send + Sync + 'static,
-    F: Blocks + Drop + Send + Sync + 'static,
-    O: Opener<B> + Drop + Send + Sync + 'static,
+    B: Blocks + Send + Sync + 'static,
+    F: Blocks + Send + Sync + 'static,
+    O: Opener<B> + Send + Sync + 'static,
     G: Gate + Drop + Send + Sync + 'static,
     R: Threads + Wait + Clone + Drop + Send + 'static,
     S: Stacks,

@@ -73,7 +73,7 @@ fn named(
 {
     let mut told = Vec::with_capacity(alloc, portals.len())?;
     for portal in portals {
-        told.push(named_by(reached, portal))?;
+        told.push_reserved(named_by(reached, portal));
     }
     Ok(told)
 }
@@ -135,31 +135,24 @@ fn tell_end<R: Clock>(
     }
 }
 
-// Serves the session of a connection, which then ends.
-fn serve_socket<R: Wait + Clock, U: LogicalUnits<P, H> + Drop, G: Gate + Drop, P: Pass, H: Drop>(
+// Serves the session of a connection of a host that is told this of the target, and tells how it ended.
+fn serve_as<R: Wait + Clock, U: LogicalUnits<P, H> + Drop, G: Gate + Drop, P: Pass, H: Drop>(
     rt: &R,
     alloc: Global,
     server: &Server<U, G>,
     group: Group,
     socket: &Socket,
     path: Path,
+    me: &Identity<'_>,
 ) -> Result<(), NoMemory> {
-    let stream: &TcpStream = socket;
-    let reached = *path.portal.ip();
-    let first = named(alloc, reached, &server.first)?;
-    let second = named(alloc, reached, &server.second)?;
-    let me = Identity {
-        target_name: &server.target_name,
-        first: &first,
-        second: &second,
-    };
     let Ok(connection) = Arc::try_clone(socket) else {
         return Err(NoMemory);
     };
+    let stream: &TcpStream = socket;
     let is_told = server.log.is_on();
     let mut source = Heard::new(alloc, Watched::new(stream), is_told);
     let mut sink = Said::new(Watched::new(stream), is_told);
-    let (end, visitor, _seen) = serve_session::<
+    match serve_session::<
         R,
         U,
         G,
@@ -177,17 +170,46 @@ fn serve_socket<R: Wait + Clock, U: LogicalUnits<P, H> + Drop, G: Gate + Drop, P
         connection,
         &mut source,
         &mut sink,
-        &me,
+        me,
         &server.log,
         path,
-    )?;
-    let (isid, name) = source.initiator();
-    let named = Initiator { name, isid };
-    tell_end(rt, &server.log, path, end, &visitor, sink.last(), named);
-    Ok(())
+    ) {
+        Ok((end, visitor, _seen)) => {
+            let (isid, name) = source.initiator();
+            let named = Initiator { name, isid };
+            tell_end(rt, &server.log, path, end, &visitor, sink.last(), named);
+            Ok(())
+        }
+        Err(NoMemory) => Err(NoMemory),
+    }
 }
 
-// Serves the session of a connection, and tells where there was no memory for it.
+// Serves the session of a connection.
+fn serve_socket<R: Wait + Clock, U: LogicalUnits<P, H> + Drop, G: Gate + Drop, P: Pass, H: Drop>(
+    rt: &R,
+    alloc: Global,
+    server: &Server<U, G>,
+    group: Group,
+    socket: &Socket,
+    path: Path,
+) -> Result<(), NoMemory> {
+    let reached = *path.portal.ip();
+    let first = named(alloc, reached, &server.first)?;
+    let second = named(alloc, reached, &server.second)?;
+    let me = Identity {
+        target_name: &server.target_name,
+        first: &first,
+        second: &second,
+    };
+    serve_as::<R, U, G, P, H>(rt, alloc, server, group, socket, path, &me)
+}
+
+// Tells of a connection for which there was no memory.
+fn tell_no_memory<R: Clock>(rt: &R, log: &Log, path: Path) {
+    log.tell(rt, &Event::ConnectionEnded(path, Why::NoMemory));
+}
+
+// Serves the session of a connection, and tells where there was no memory for it. Then the connection ends.
 fn work<R: Wait + Clock, U: LogicalUnits<P, H> + Drop, G: Gate + Drop, P: Pass, H: Drop>(
     rt: &R,
     alloc: Global,
@@ -200,10 +222,9 @@ fn work<R: Wait + Clock, U: LogicalUnits<P, H> + Drop, G: Gate + Drop, P: Pass, 
     let _ = stream.set_read_timeout(Some(Duration::from_secs(LOGIN_SILENCE)));
     let path = path_of(stream, group);
     if serve_socket::<R, U, G, P, H>(rt, alloc, server, group, socket, path).is_err() {
-        server
-            .log
-            .tell(rt, &Event::ConnectionEnded(path, Why::NoMemory));
+        tell_no_memory(rt, &server.log, path);
     }
+    socket.shut();
 }
 
 // Starts the worker of a connection. Where there is no memory or no thread for it, the connection ends.
@@ -225,22 +246,19 @@ fn start<
     let socket = Arc::new(alloc, stream)?;
     let server = Arc::try_clone(server)?;
     let mine = rt.clone()?;
-    let work = move || {
-        work::<R, U, G, P, H>(&mine, alloc, &server, group, &socket);
-        socket.shut();
-    };
+    let work = move || work::<R, U, G, P, H>(&mine, alloc, &server, group, &socket);
     let _worker: JoinHandle<()> = Builder::new()
         .stack_size(stacks.next_stack())
         .spawn(rt, work)?;
     Ok(())
 }
 
-// What was wanting where no thread was started.
-fn wanted(e: &io::Error) -> Resource {
-    if e.kind() == ErrorKind::OutOfMemory {
-        Resource::Memory
-    } else {
-        Resource::Thread
+// What was wanting where a worker was not started.
+fn wanting_of(started: io::Result<()>) -> Option<Resource> {
+    match started {
+        Ok(()) => None,
+        Err(e) if e.kind() == ErrorKind::OutOfMemory => Some(Resource::Memory),
+        Err(_) => Some(Resource::Thread),
     }
 }
 
@@ -251,6 +269,42 @@ fn unaccepted(e: &io::Error) -> Resource {
         Resource::Descriptor
     } else {
         Resource::Connection
+    }
+}
+
+// What an accept that failed leads to.
+#[derive(Clone, Copy)]
+enum NotAccepted {
+    // The portal is stopped.
+    Stopped,
+    // The peer went away.
+    GoneAway,
+    // This was wanting.
+    Wanting(Resource),
+}
+
+// Why no connection was accepted. Where something was wanting, it rests.
+fn failed_accept<R: Clock>(rt: &R, e: io::Error) -> NotAccepted {
+    match e.kind() {
+        ErrorKind::InvalidInput => NotAccepted::Stopped,
+        ErrorKind::ConnectionAborted => NotAccepted::GoneAway,
+        _ => {
+            thread::sleep(rt, Duration::from_millis(REST));
+            NotAccepted::Wanting(unaccepted(&e))
+        }
+    }
+}
+
+// Tells what was wanting, unless something was told since a connection was served: whether it was told now, or before.
+fn tell_wanting<R: Clock>(rt: &R, log: &Log, wanting: Option<Resource>, is_told: bool) -> bool {
+    match wanting {
+        Some(what) => {
+            if !is_told {
+                log.tell(rt, &Event::Wanting(what));
+            }
+            true
+        }
+        None => false,
     }
 }
 
@@ -275,26 +329,16 @@ pub fn accept<
     let mut is_told = false;
     for stream in listener.incoming() {
         let wanting = match stream {
-            Ok(stream) => match start::<R, U, G, P, H, S>(
+            Ok(stream) => wanting_of(start::<R, U, G, P, H, S>(
                 rt, alloc, server, group, stream, stacks,
-            ) {
-                Ok(()) => None,
-                Err(e) => Some(wanted(&e)),
-            },
-            Err(e) => match e.kind() {
-                ErrorKind::InvalidInput => return,
-                ErrorKind::ConnectionAborted => continue,
-                _ => {
-                    thread::sleep(rt, Duration::from_millis(REST));
-                    Some(unaccepted(&e))
-                }
+            )),
+            Err(e) => match failed_accept(rt, e) {
+                NotAccepted::Stopped => return,
+                NotAccepted::GoneAway => continue,
+                NotAccepted::Wanting(what) => Some(what),
             },
         };
-        match wanting {
-            Some(what) if !is_told => server.log.tell(rt, &Event::Wanting(what)),
-            _ => {}
-        }
-        is_told = wanting.is_some();
+        is_told = tell_wanting(rt, &server.log, wanting, is_told);
     }
 }
 

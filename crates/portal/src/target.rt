@@ -2,7 +2,7 @@
 ghost use Rattle.std.specs.Prelude.{◌≡◌, ◌+◌, ◌<◌, ◌≤◌, ◌↔◌, ◌∷◌, ◌++◌, [], false, true, All, IfErr, IfOk, IfSome, IsTrue, MatchOption};
 ghost use Rattle.std.specs.Prelude.{length, map, vec_capacity};
 ghost use Rattle.registrants.specs.Nexus.{IsPortName, through};
-ghost use Rattle.portal.specs.Target.{IsAbsent, IsAttachedTo, IsFullAt, IsJoined, IsOfUnits, IsOverAt, IsTurnedBack, Leaves};
+ghost use Rattle.portal.specs.Target.{IsAbsent, IsAttachedTo, IsFullAt, IsGrounded, IsJoined, IsOfUnits, IsOverAt, IsTurnedBack, IsUnnamed, Leaves};
 ghost use Rattle.portal.specs.Late.{late_of};
 ghost use Rattle.portal.specs.Target.{HasTried, IsServedAt, IsResetIn, unbegun};
 ghost use Rattle.portal.specs.declared.target.BeginFault.TheVariants as faults;
@@ -131,27 +131,39 @@ fn is_port_name(name: &[u8], isid: u64) -> bool
     !name.is_empty() && name.len() <= 223 && isid < 1 << 48
 }
 
+// The initiator port with this name and ISID.
+fn port_of(alloc: Global, name: &[u8], isid: u64) -> Result<PortName, BeginFault>
+    ensures port { IfOk result (λ port. port ≡ record { name = name.now; isid = isid }) }
+    ensures name { IfOk result (λ port. IsPortName (record { name = name.now; isid = isid })) }
+    ensures unnamed { IfErr result (IsUnnamed (record { name = name.now; isid = isid })) }
+{
+    if !is_port_name(name, isid) {
+        return Err(BeginFault::NoPortName);
+    }
+    match name.to_vec(alloc) {
+        Ok(name) => Ok(PortName::new(name, isid)),
+        Err(_) => Err(BeginFault::NoMemory),
+    }
+}
+
 // Attaches a session to a unit. Refused, this was seen of a unit that is full, or there was no memory.
 fn attach_to<R: Wait, U: LogicalUnits<P, H>, P: Pass, H: Drop>(
     rt: &R,
     alloc: Global,
     units: &U,
     unit: u8,
-    name: &[u8],
-    isid: u64,
+    port: &PortName,
     group: Group,
 ) -> Result<Attached<P>, Option<H>>
     requires unit { unit < U.unit_count units.now }
-    requires name { IsPortName (record { name = name.now; isid = isid }) }
-    ensures attached { IfOk result (IsAttachedTo U.claims U.opening
-        (through (record { name = name.now; isid = isid }) group) unit) }
-    ensures full { IfErr result (λ full. IfSome full (λ s. IsFullAt U.claims U.opening
-        (through (record { name = name.now; isid = isid }) group) unit (U.seen s))) }
+    requires name { IsPortName port.now }
+    ensures attached { IfOk result (IsAttachedTo U.claims U.opening (through port.now group) unit) }
+    ensures full { IfErr result (λ full. IfSome full (λ s. IsFullAt U.claims U.opening (through port.now group) unit (U.seen s))) }
 {
-    let Ok(name) = name.to_vec(alloc) else {
+    let Ok(name) = port.name().to_vec(alloc) else {
         return Err(None);
     };
-    match units.attach(rt, unit, PortName::new(name, isid), group) {
+    match units.attach(rt, unit, PortName::new(name, port.isid()), group) {
         Ok(pass) => Ok(Attached::new(pass, group)),
         Err(seen) => Err(Some(seen)),
     }
@@ -211,20 +223,17 @@ fn attach_all<R: Wait, U: LogicalUnits<P, H>, P: Pass, H: Drop>(
     rt: &R,
     alloc: Global,
     units: &U,
-    name: &[u8],
-    isid: u64,
+    port: &PortName,
     group: Group,
     seen: &mut Vec<H>,
 ) -> Result<Vec<Attached<P>>, BeginFault>
-    requires name { IsPortName (record { name = name.now; isid = isid }) }
+    requires name { IsPortName port.now }
     requires room { length seen.old.items + U.unit_count units.now ≤ vec_capacity seen.old }
-    ensures joined { IfOk result (λ v. IsJoined U.claims U.opening Kind.Normal
-        (through (record { name = name.now; isid = isid }) group) (U.unit_count units.now) v.items) }
+    ensures joined { IfOk result (λ v. IsJoined U.claims U.opening Kind.Normal (through port.now group) (U.unit_count units.now) v.items) }
     ensures placed { IfOk result (λ v. All (λ a. a.place < U.unit_count units.now) v.items) }
     ensures unseen { IfOk result (λ v. seen.new ≡ seen.old) }
-    ensures turned_back { IfErr result (λ fault. IsTurnedBack U.claims U.opening
-        (through (record { name = name.now; isid = isid }) group) Kind.Normal (U.unit_count units.now) fault
-        (map U.seen seen.old.items) (map U.seen seen.new.items)) }
+    ensures turned_back { IfErr result (λ fault. IsTurnedBack U.claims U.opening (through port.now group) Kind.Normal
+        (U.unit_count units.now) fault (map U.seen seen.old.items) (map U.seen seen.new.items)) }
     ensures of_units { IfErr result IsOfUnits }
 {
     let count = units.units();
@@ -232,7 +241,7 @@ fn attach_all<R: Wait, U: LogicalUnits<P, H>, P: Pass, H: Drop>(
         return Err(BeginFault::NoMemory);
     };
     for unit in 0..count {
-        match attach_to(rt, alloc, units, unit, name, isid, group) {
+        match attach_to(rt, alloc, units, unit, port, group) {
             Ok(one) => attached.push_reserved(one),
             Err(full) => {
                 retire_all(rt, units, attached, seen);
@@ -241,6 +250,66 @@ fn attach_all<R: Wait, U: LogicalUnits<P, H>, P: Pass, H: Drop>(
         }
     }
     Ok(attached)
+}
+
+// A session begins to live: its number and its TSIH.
+fn enter<R: Wait, S: Sessions<C>, C: Connection>(
+    rt: &R,
+    sessions: &S,
+    port: PortName,
+    group: Group,
+    kind: Kind,
+    connection: C,
+) -> Result<(u64, u16), EnterFault>
+    ensures entered { IfOk result (λ r. S.says.entered (through port group) kind r.0 r.1) }
+    ensures tsih { IfOk result (λ r. 0 < r.1) }
+    ensures refused { IfErr result S.says.refused }
+{
+    connection.settle();
+    sessions.enter(rt, port, group, kind, connection)
+}
+
+// Attaches a normal session to all units; then it begins to live: the session at each unit, its number and its TSIH. Where a unit or
+// the table refuses it, it is over at all units. What was seen then is kept.
+fn attach_and_enter<
+    R: Wait,
+    U: LogicalUnits<P, H>,
+    S: Sessions<C>,
+    C: Connection + Drop,
+    P: Pass,
+    H: Drop,
+>(
+    rt: &R,
+    alloc: Global,
+    units: &U,
+    sessions: &S,
+    port: PortName,
+    group: Group,
+    connection: C,
+    seen: &mut Vec<H>,
+) -> Result<(Vec<Attached<P>>, u64, u16), BeginFault>
+    requires name { IsPortName port }
+    requires room { length seen.old.items + U.unit_count units.now ≤ vec_capacity seen.old }
+    ensures joined { IfOk result (λ r. IsJoined U.claims U.opening Kind.Normal (through port group) (U.unit_count units.now) r.0.items) }
+    ensures placed { IfOk result (λ r. All (λ a. a.place < U.unit_count units.now) r.0.items) }
+    ensures entered { IfOk result (λ r. S.says.entered (through port group) Kind.Normal r.1 r.2) }
+    ensures tsih { IfOk result (λ r. 0 < r.2) }
+    ensures unseen { IfOk result (λ r. seen.new ≡ seen.old) }
+    ensures turned_back { IfErr result (λ fault. IsTurnedBack U.claims U.opening (through port group) Kind.Normal
+        (U.unit_count units.now) fault (map U.seen seen.old.items) (map U.seen seen.new.items)) }
+    ensures grounds { IfErr result (IsGrounded S.says false) }
+{
+    let at = match attach_all(rt, alloc, units, &port, group, seen) {
+        Ok(at) => at,
+        Err(fault) => return Err(fault),
+    };
+    match enter(rt, sessions, port, group, Kind::Normal, connection) {
+        Ok((number, tsih)) => Ok((at, number, tsih)),
+        Err(fault) => {
+            retire_all(rt, units, at, seen);
+            Err(BeginFault::from(fault))
+        }
+    }
 }
 
 // What a session is answered to a command of a unit that is not there.
@@ -286,73 +355,54 @@ impl<
         }
     }
 
-    // The session begins to live: its number and its TSIH.
-    fn enter(&self, port: PortName, kind: Kind, connection: C) -> Result<(u64, u16), EnterFault>
-        ensures entered { IfOk result (λ r. S.says.entered (through port self.now.group) kind r.0 r.1) }
-        ensures tsih { IfOk result (λ r. 0 < r.1) }
-        ensures refused { IfErr result S.says.refused }
-    {
-        connection.settle();
-        self.device
-            .sessions
-            .enter(self.rt, port, self.group, kind, connection)
-    }
-
     // Attaches a normal session to all units; then it begins to live.
-    fn join(&mut self, name: &[u8], isid: u64, connection: C) -> Result<u16, BeginFault>
+    fn join(&mut self, port: PortName, connection: C) -> Result<u16, BeginFault>
         requires fresh { (self.old.begun ≡ false) × (self.old.at ≡ []) × (self.old.seen ≡ []) }
         requires asked { self.old.asked ≡ true }
-        requires name { IsPortName (record { name = name.now; isid = isid }) }
-        ensures { HasTried U.claims S.says U.opening (record self.old { asked = false })
-            (record { name = name.now; isid = isid }) Kind.Normal result self.new }
+        requires name { IsPortName port }
+        ensures { HasTried U.claims S.says U.opening (record self.old { asked = false }) port Kind.Normal result self.new }
     {
-        let Ok(own_name) = name.to_vec(self.alloc) else {
-            return Err(BeginFault::NoMemory);
-        };
-        let units = &self.device.units;
-        let Ok(seen) = Vec::with_capacity(self.alloc, usize::from(units.units())) else {
+        let device = self.device;
+        let Ok(seen) = Vec::with_capacity(self.alloc, usize::from(device.units.units())) else {
             return Err(BeginFault::NoMemory);
         };
         self.seen = seen;
-        let _turn = self.device.beginning.lock(self.rt);
-        let at = match attach_all(
+        let _turn = device.beginning.lock(self.rt);
+        match attach_and_enter(
             self.rt,
             self.alloc,
-            units,
-            name,
-            isid,
+            &device.units,
+            &device.sessions,
+            port,
             self.group,
+            connection,
             &mut self.seen,
         ) {
-            Ok(at) => at,
-            Err(fault) => return Err(fault),
-        };
-        match self.enter(PortName::new(own_name, isid), Kind::Normal, connection) {
-            Ok((number, tsih)) => {
+            Ok((at, number, tsih)) => {
                 self.number = Some(number);
                 self.begun = true;
                 mem::replace(&mut self.at, at).destroy_empty();
                 Ok(tsih)
             }
-            Err(fault) => {
-                retire_all(self.rt, units, at, &mut self.seen);
-                Err(BeginFault::from(fault))
-            }
+            Err(fault) => Err(fault),
         }
     }
 
     // A discovery session, which is attached to no unit, begins to live.
-    fn join_none(&mut self, name: &[u8], isid: u64, connection: C) -> Result<u16, BeginFault>
+    fn join_none(&mut self, port: PortName, connection: C) -> Result<u16, BeginFault>
         requires fresh { (self.old.begun ≡ false) × (self.old.at ≡ []) × (self.old.seen ≡ []) }
         requires asked { self.old.asked ≡ true }
-        requires name { IsPortName (record { name = name.now; isid = isid }) }
-        ensures { HasTried U.claims S.says U.opening (record self.old { asked = false })
-            (record { name = name.now; isid = isid }) Kind.Discovery result self.new }
+        requires name { IsPortName port }
+        ensures { HasTried U.claims S.says U.opening (record self.old { asked = false }) port Kind.Discovery result self.new }
     {
-        let Ok(own_name) = name.to_vec(self.alloc) else {
-            return Err(BeginFault::NoMemory);
-        };
-        match self.enter(PortName::new(own_name, isid), Kind::Discovery, connection) {
+        match enter(
+            self.rt,
+            &self.device.sessions,
+            port,
+            self.group,
+            Kind::Discovery,
+            connection,
+        ) {
             Ok((number, tsih)) => {
                 self.number = Some(number);
                 self.begun = true;
@@ -370,12 +420,13 @@ impl<
         let Some(connection) = self.connection.take() else {
             return Err(BeginFault::Begun);
         };
-        if !is_port_name(name, isid) {
-            return Err(BeginFault::NoPortName);
-        }
+        let port = match port_of(self.alloc, name, isid) {
+            Ok(port) => port,
+            Err(fault) => return Err(fault),
+        };
         match kind {
-            Kind::Normal => self.join(name, isid, connection),
-            Kind::Discovery => self.join_none(name, isid, connection),
+            Kind::Normal => self.join(port, connection),
+            Kind::Discovery => self.join_none(port, connection),
         }
     }
 
@@ -418,10 +469,11 @@ impl<
     fn reset_at(&mut self, unit: u8) -> ResetAnswer
         ensures { IsResetIn U.claims U.opening self.old unit result self.new }
     {
-        match self.at.get_mut(usize::from(unit)) {
-            Some(at) => at.reset(self.rt, &self.device.units),
-            None => ResetAnswer::Gone,
-        }
+        let place = usize::from(unit);
+        let Some(at) = self.at.get_mut(place) else {
+            return ResetAnswer::Gone;
+        };
+        at.reset(self.rt, &self.device.units)
     }
 }
 

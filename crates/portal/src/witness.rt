@@ -43,6 +43,27 @@ impl Visitor {
         }
     }
 
+    // Keeps for a log that is on whose session is to begin.
+    fn meet(&mut self, alloc: Global, log: &Log, name: &[u8], isid: u64) {
+        if log.is_on() {
+            self.name = name.to_vec(alloc).unwrap_or(Vec::new(alloc));
+            self.isid = isid;
+        }
+    }
+
+    // Keeps its TSIH, or what it lacked to begin.
+    fn tried(&mut self, tried: Result<u16, BeginFault>) {
+        match tried {
+            Ok(tsih) => self.tsih = tsih,
+            Err(fault) => self.lacks = cause_of(fault),
+        }
+    }
+
+    // Keeps whether another one took its place, where it has begun.
+    fn end(&mut self, lives: bool) {
+        self.is_replaced = self.tsih != 0 && !lives;
+    }
+
     /// The initiator port.
     pub fn initiator(&self) -> Initiator<'_> {
         Initiator {
@@ -59,6 +80,88 @@ struct Deed {
     reservation: Option<Reservation>,
     // The group that is to own the unit, 0 where none is named.
     owner: Option<u16>,
+}
+
+// What of a command a log that is on is told, if it is.
+fn deed_of(log: &Log, asked: &Asked, bytes: &[u8]) -> Option<Deed> {
+    if !log.is_on() {
+        return None;
+    }
+    Some(Deed {
+        operation: operation_of(asked),
+        reservation: reservation_in(asked, bytes),
+        owner: groups_in(asked, bytes),
+    })
+}
+
+// Who is a session's initiator, how it came, and the log that is told of it.
+#[derive(Drop)]
+struct Told<'a, R: Clock> {
+    rt: &'a R,
+    log: &'a Log,
+    path: Path,
+    who: Initiator<'a>,
+}
+
+impl<R: Clock> Told<'_, R> {
+    // Tells that the session has begun, where it has.
+    fn tried(&self, tried: Result<u16, BeginFault>, kind: Kind) {
+        if let Ok(tsih) = tried {
+            let begun = Event::LoggedIn(self.who, self.path, tsih, kind_of(kind));
+            self.log.tell(self.rt, &begun);
+        }
+    }
+
+    // Tells that it has reset a unit.
+    fn reset(&self, unit: u8) {
+        self.log
+            .tell(self.rt, &Event::Reset(unit, self.who, self.path.tag));
+    }
+
+    // Tells what a command did to a unit.
+    fn done(&self, unit: u8, deed: &Deed) {
+        if let Some(reservation) = deed.reservation {
+            let reserved = Event::Reserved(unit, reservation, self.who, self.path.tag);
+            self.log.tell(self.rt, &reserved);
+        }
+        if let Some(owner) = deed.owner {
+            let set = Event::GroupsSet(unit, owner, By::Session(self.who));
+            self.log.tell(self.rt, &set);
+        }
+    }
+
+    // Tells of the answer to a command of a unit what of it is to be told.
+    fn served(&self, unit: Option<u8>, deed: Option<Deed>, answer: &TargetAnswer) {
+        if let (Some(unit), Some(deed)) = (unit, deed) {
+            self.answered(unit, &deed, answer);
+        }
+    }
+
+    // Tells of an answer what of it is to be told.
+    fn answered(&self, unit: u8, deed: &Deed, answer: &TargetAnswer) {
+        let tag = self.path.tag;
+        match answer {
+            TargetAnswer::Replied(reply) => {
+                if reply.status() == Status::Good {
+                    self.done(unit, deed);
+                } else if is_trouble(reply) {
+                    let failed = Event::CommandFailed(
+                        unit,
+                        deed.operation,
+                        sense_of(reply),
+                        self.who,
+                        tag,
+                    );
+                    self.log.tell(self.rt, &failed);
+                }
+            }
+            TargetAnswer::Busy => {
+                self.log
+                    .tell(self.rt, &Event::Busy(unit, deed.operation, self.who, tag));
+            }
+            TargetAnswer::Outside(_) | TargetAnswer::Gone => {}
+        }
+    }
 }
 
 /// The target of a session. What changes a unit for others and what fails is told to the log.
@@ -136,64 +239,13 @@ impl<
         (self.visitor, self.target.into_seen())
     }
 
-    // Keeps whose session is to begin.
-    fn meet(&mut self, name: &[u8], isid: u64)
-        ensures { self.new ≡ self.old }
-    {
-        if self.log.is_on() {
-            self.visitor.name = name.to_vec(self.alloc).unwrap_or(Vec::new(self.alloc));
-            self.visitor.isid = isid;
-        }
-    }
-
-    // What of a command is told, if it is.
-    fn deed_of(&self, asked: &Asked, bytes: &[u8]) -> Deed {
-        Deed {
-            operation: operation_of(asked),
-            reservation: reservation_in(asked, bytes),
-            owner: groups_in(asked, bytes),
-        }
-    }
-
-    // Tells what a command did to a unit.
-    fn tell_done(&self, unit: u8, deed: &Deed) {
-        let who = self.visitor.initiator();
-        if let Some(reservation) = deed.reservation {
-            self.log.tell(
-                self.rt,
-                &Event::Reserved(unit, reservation, who, self.path.tag),
-            );
-        }
-        if let Some(owner) = deed.owner {
-            self.log
-                .tell(self.rt, &Event::GroupsSet(unit, owner, By::Session(who)));
-        }
-    }
-
-    // Tells of an answer what of it is to be told.
-    fn tell_answer(&self, unit: u8, deed: &Deed, answer: &TargetAnswer) {
-        let who = self.visitor.initiator();
-        let tag = self.path.tag;
-        match answer {
-            TargetAnswer::Replied(reply) => {
-                if reply.status() == Status::Good {
-                    self.tell_done(unit, deed);
-                } else if is_trouble(reply) {
-                    let failed = Event::CommandFailed(
-                        unit,
-                        deed.operation,
-                        sense_of(reply),
-                        who,
-                        tag,
-                    );
-                    self.log.tell(self.rt, &failed);
-                }
-            }
-            TargetAnswer::Busy => {
-                self.log
-                    .tell(self.rt, &Event::Busy(unit, deed.operation, who, tag));
-            }
-            TargetAnswer::Outside(_) | TargetAnswer::Gone => {}
+    // What of the session the log is told.
+    fn told(&self) -> Told<'_, R> {
+        Told {
+            rt: self.rt,
+            log: self.log,
+            path: self.path,
+            who: self.visitor.initiator(),
         }
     }
 }
@@ -239,23 +291,13 @@ impl<
     }
 
     fn begin(&mut self, name: &[u8], isid: u64, kind: Kind) -> BeginAnswer {
-        self.meet(name, isid);
-        match self.target.try_begin(name, isid, kind) {
-            Ok(tsih) => {
-                self.visitor.tsih = tsih;
-                let begun = Event::LoggedIn(
-                    self.visitor.initiator(),
-                    self.path,
-                    tsih,
-                    kind_of(kind),
-                );
-                self.log.tell(self.rt, &begun);
-                BeginAnswer::Begun(tsih)
-            }
-            Err(fault) => {
-                self.visitor.lacks = cause_of(fault);
-                BeginAnswer::Refused
-            }
+        self.visitor.meet(self.alloc, self.log, name, isid);
+        let tried = self.target.try_begin(name, isid, kind);
+        self.visitor.tried(tried);
+        self.told().tried(tried, kind);
+        match tried {
+            Ok(tsih) => BeginAnswer::Begun(tsih),
+            Err(_) => BeginAnswer::Refused,
         }
     }
 
@@ -264,7 +306,8 @@ impl<
     }
 
     fn end(&mut self) {
-        self.visitor.is_replaced = self.visitor.tsih != 0 && !self.target.is_live();
+        let lives = self.target.is_live();
+        self.visitor.end(lives);
         self.target.end();
     }
 
@@ -277,23 +320,16 @@ impl<
     }
 
     fn serve(&mut self, unit: Option<u8>, asked: Asked, bytes: &[u8]) -> TargetAnswer {
-        let deed = if self.log.is_on() {
-            Some(self.deed_of(&asked, bytes))
-        } else {
-            None
-        };
+        let deed = deed_of(self.log, &asked, bytes);
         let answer = self.target.serve(unit, asked, bytes);
-        if let (Some(unit), Some(deed)) = (unit, &deed) {
-            self.tell_answer(unit, deed, &answer);
-        }
+        self.told().served(unit, deed, &answer);
         answer
     }
 
     fn reset(&mut self, unit: u8) -> ResetAnswer {
         let answer = self.target.reset(unit);
         if answer == ResetAnswer::Done {
-            let done = Event::Reset(unit, self.visitor.initiator(), self.path.tag);
-            self.log.tell(self.rt, &done);
+            self.told().reset(unit);
         }
         answer
     }

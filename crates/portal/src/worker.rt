@@ -73,5 +73,8 @@ pub fn serve_session<
         me,
     );
     let (visitor, seen) = target.into_parts();
-    Ok((end?, visitor, seen))
+    match end {
+        Ok(end) => Ok((end, visitor, seen)),
+        Err(NoMemory) => Err(NoMemory),
+    }
 }

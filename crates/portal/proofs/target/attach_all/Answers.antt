@@ -1,16 +1,17 @@
 use Rattle.std.proofs.Common.{rules, map, subst, sym, List, ◌≤◌}
+use Rattle.login.specs.declared.status.Kind.TheVariants.{Normal}
 use Rattle.registrants.specs.Nexus.{through}
 use Rattle.std.specs.Vec.{vec_capacity}
 use Rattle.portal.specs.Submitted.{At}
 use Rattle.portal.proofs.Attaching.{Onward, onward}
-use Rattle.portal.proofs.Refusing.{at_a_unit}
+use Rattle.portal.proofs.Refusing.{at_a_unit, at_once}
 use Rattle.portal.specs.Target.{Leaves}
 use Rattle.portal.proofs.target.attach_all.Goals as goal
 
 pub loop-unit-preserved : goal.loop-unit-preserved
 loop-unit-preserved g c =
     let before = c.loop-unit.invariant in
-    let nexus = through (record { name = c.args.name.now; isid = c.args.isid }) c.args.group in
+    let nexus = through c.args.port.now c.args.group in
     let done : Onward g.U.LogicalUnits.claims g.U.LogicalUnits.opening nexus (g.U.LogicalUnits.unit_count c.args.units.now)
     c.loop-unit.unit c.push_reserved.new.self.items =
     subst (λ (at : List At). Onward g.U.LogicalUnits.claims g.U.LogicalUnits.opening nexus
@@ -32,3 +33,8 @@ returns-in-Err-clause-turned_back g c =
 
 pub returns-clause-unseen : goal.returns-clause-unseen
 returns-clause-unseen g c = c.loop-unit.invariant.4
+
+pub returns-in_default-clause-turned_back : goal.returns-in_default-clause-turned_back
+returns-in_default-clause-turned_back g c = at_once g.U.LogicalUnits.claims g.U.LogicalUnits.opening
+    (through c.args.port.now c.args.group) Normal (g.U.LogicalUnits.unit_count c.args.units.now)
+    (map g.U.LogicalUnits.seen c.args.seen.now.items)

@@ -6,7 +6,6 @@ use Rattle.portal.proofs.target.attach_all.Given as goal
 abbrev pub invariant-loop-unit : goal.invariant-loop-unit
 invariant-loop-unit g l =
     (length l.attached.items ≡ l.unit) × (l.count ≤ vec_capacity l.attached)
-    × AreAttached g.U.LogicalUnits.claims g.U.LogicalUnits.opening
-    (through (record { name = l.name; isid = l.isid }) l.group) 0 l.attached.items
+    × AreAttached g.U.LogicalUnits.claims g.U.LogicalUnits.opening (through l.port l.group) 0 l.attached.items
     × All (λ a. a.place < g.U.LogicalUnits.unit_count l.units) l.attached.items
     × (l.seen ≡ l.fn.seen)
