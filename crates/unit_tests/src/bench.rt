@@ -1,12 +1,15 @@
 //! The unit of a script, and its devices.
+use crate::device::{Failing, FailingBlocks};
 use crate::rows::Row;
 use crate::served::{Ended, Served};
+use crate::unit::{formatted, reopened};
 use aptpl_file::FILE_BLOCKS;
-use block_file::{Blocks, DeviceFailed, FusedBlocks, FusedOpener, KeepOpener, MemBlocks};
-use crash_blocks::{CrashBlocks, Pick};
+use block_file::{Blocks, DeviceFailed, FusedOpener, KeepOpener, MemBlocks};
+use crash_blocks::Pick;
 use scsi_types::Place;
 use std::alloc::Global;
 use std::process::Abort;
+use unit_state::Unit;
 
 /// The unit that a script has: its number among two of the array 1, how many blocks of zeros it has, how its device fails, how
 /// often the blocks are opened for another controller before an open fails, how the registration file's device fails, and what
@@ -45,28 +48,43 @@ impl<'a> Setup<'a> {
 // The calls of the registration file's device in which it is formatted: the run of a slot, a flush, the root, and a flush.
 const FORMAT: u64 = 4;
 
-/// The device of the blocks: a loss of power takes back what was not flushed.
-type Disk = FusedBlocks<CrashBlocks>;
+// The device of the blocks over this memory.
+fn disk_over(rt: &impl Abort, alloc: Global, blocks: MemBlocks, setup: &Setup) -> FailingBlocks {
+    let failing = Failing {
+        behind: setup.calls,
+        lands: setup.lands,
+        alone: u64::MAX,
+    };
+    FailingBlocks::new(alloc, blocks, failing).expect(rt, "memory")
+}
 
-/// That of the registration file.
-type File = FusedBlocks<FusedBlocks<CrashBlocks>>;
+// The registration file's device over this memory.
+fn file_over(rt: &impl Abort, alloc: Global, blocks: MemBlocks, setup: &Setup) -> FailingBlocks {
+    let failing = Failing {
+        behind: setup.saves.saturating_add(FORMAT),
+        lands: setup.save_lands,
+        alone: setup.alone.saturating_add(FORMAT),
+    };
+    FailingBlocks::new(alloc, blocks, failing).expect(rt, "memory")
+}
 
 /// A unit over such devices, and the sessions that were attached to it.
 #[derive(Drop)]
 pub struct Bench {
-    served: Served<Disk, File, FusedOpener<KeepOpener>>,
+    served: Served<Unit<FailingBlocks, FailingBlocks, FusedOpener<KeepOpener>>>,
 }
 
 impl Bench {
     /// The unit of a script, with a registration file of nothing.
     pub fn open(rt: &impl Abort, alloc: Global, setup: &Setup) -> Bench {
         let blocks = MemBlocks::new(alloc, setup.blocks).expect(rt, "memory");
-        let disk = disk_over(rt, alloc, blocks, setup);
         let registrations = MemBlocks::new(alloc, FILE_BLOCKS).expect(rt, "memory");
-        let file = file_over(rt, alloc, registrations, setup);
+        let blocks = disk_over(rt, alloc, blocks, setup);
+        let registrations = file_over(rt, alloc, registrations, setup);
         let opener = FusedOpener::new(KeepOpener, setup.opens);
+        let unit = formatted(rt, alloc, setup.place, blocks, registrations, opener);
         Bench {
-            served: Served::format(rt, alloc, setup.place, disk, file, opener),
+            served: Served::new(alloc, unit),
         }
     }
 
@@ -79,11 +97,12 @@ impl Bench {
     pub fn restart(self, rt: &impl Abort, alloc: Global, setup: &Setup) -> Bench {
         let (blocks, registrations) = self.lose_power(setup.pick);
         let sound = setup.sound();
-        let disk = disk_over(rt, alloc, blocks, &sound);
-        let file = file_over(rt, alloc, registrations, &sound);
+        let blocks = disk_over(rt, alloc, blocks, &sound);
+        let registrations = file_over(rt, alloc, registrations, &sound);
         let opener = FusedOpener::new(KeepOpener, sound.opens);
+        let unit = reopened(rt, alloc, setup.place, blocks, registrations, opener);
         Bench {
-            served: Served::open(rt, alloc, setup.place, disk, file, opener),
+            served: Served::new(alloc, unit),
         }
     }
 
@@ -96,23 +115,9 @@ impl Bench {
     // The memory of the blocks, and of the registration file, as a loss of power leaves them.
     fn lose_power(self, pick: Pick) -> (MemBlocks, MemBlocks) {
         let Bench { served } = self;
-        let (disk, file) = served.close();
-        let registrations = file.into_inner().into_inner();
-        (disk.into_inner().crash(pick), registrations.crash(pick))
+        let (blocks, registrations, _opener) = served.into_unit().close();
+        (blocks.crash(pick), registrations.crash(pick))
     }
-}
-
-// The device of the blocks over this memory.
-fn disk_over(rt: &impl Abort, alloc: Global, blocks: MemBlocks, setup: &Setup) -> Disk {
-    let blocks = CrashBlocks::new(alloc, blocks).expect(rt, "memory");
-    FusedBlocks::inside(blocks, setup.calls, setup.lands)
-}
-
-// The registration file's device over this memory.
-fn file_over(rt: &impl Abort, alloc: Global, registrations: MemBlocks, setup: &Setup) -> File {
-    let registrations = CrashBlocks::new(alloc, registrations).expect(rt, "memory");
-    let window = FusedBlocks::window(registrations, setup.alone.saturating_add(FORMAT), 1);
-    FusedBlocks::inside(window, setup.saves.saturating_add(FORMAT), setup.save_lands)
 }
 
 /// The byte that fills a block, where one does.

@@ -8,6 +8,8 @@ mod access;
 #[cfg(test)]
 mod bench;
 #[cfg(test)]
+mod device;
+#[cfg(test)]
 mod failing;
 #[cfg(test)]
 mod fencing;
@@ -35,5 +37,7 @@ mod sessions;
 mod states;
 #[cfg(test)]
 mod stops;
+#[cfg(test)]
+mod unit;
 #[cfg(test)]
 mod unit_attentions;

@@ -1,13 +1,12 @@
-//! A unit with the sessions of a script, over any devices.
+//! A unit with the sessions of a script.
 use crate::rows::{Row, cdb_of};
+use crate::unit::AnyUnit;
 use access_states::Change;
-use aptpl_file::{FILE_BLOCKS, RegFile};
-use block_file::{Blocks, DeviceFailed, Opener};
-use reservations::Record;
-use scsi_types::{Group, Place, PortName, decode};
+use block_file::DeviceFailed;
+use scsi_types::{Group, decode};
 use std::alloc::Global;
 use std::process::Abort;
-use unit_state::{AttachFault, Gone, MoveFault, SessionId, StepEnd, Unit};
+use unit_state::{AttachFault, Gone, MoveFault, SessionId, StepEnd};
 
 /// What a call ended with.
 #[derive(Debug, Drop)]
@@ -29,58 +28,24 @@ struct Attached {
 
 /// A unit, and the sessions that were attached to it.
 #[derive(Drop)]
-pub struct Served<B: Blocks, R: Blocks, O: Opener<B>> {
-    unit: Unit<B, R, O>,
+pub struct Served<U: AnyUnit> {
+    unit: U,
     sessions: Vec<Attached>,
 }
 
-impl<B: Blocks, R: Blocks, O: Opener<B>> Served<B, R, O> {
-    /// A unit with a registration file of nothing.
-    pub fn format(
-        rt: &impl Abort,
-        alloc: Global,
-        place: Place,
-        blocks: B,
-        registrations: R,
-        opener: O,
-    ) -> Served<B, R, O> {
-        assert!(rt; blocks.count() > 0, "a unit of one block at least");
-        assert!(rt;
-            registrations.count() >= FILE_BLOCKS,
-            "a registration file's blocks"
-        );
-        let file = RegFile::format(registrations).expect(rt, "a registration file");
-        let none = Record::empty(alloc);
-        let unit = Unit::open(alloc, place, blocks, opener, file, none).expect(rt, "memory");
+impl<U: AnyUnit> Served<U> {
+    /// A unit to which no session is attached.
+    pub fn new(alloc: Global, unit: U) -> Served<U> {
         Served {
             unit,
             sessions: Vec::new(alloc),
         }
     }
 
-    /// A unit as it opens after a power loss: with what its registration file holds.
-    pub fn open(
-        rt: &impl Abort,
-        alloc: Global,
-        place: Place,
-        blocks: B,
-        registrations: R,
-        opener: O,
-    ) -> Served<B, R, O> {
-        assert!(rt; blocks.count() > 0, "a unit of one block at least");
-        let (file, lasted) = RegFile::open(alloc, registrations).expect(rt, "a record that lasted");
-        let unit = Unit::open(alloc, place, blocks, opener, file, lasted).expect(rt, "memory");
-        Served {
-            unit,
-            sessions: Vec::new(alloc),
-        }
-    }
-
-    /// Hands the devices back, the blocks first.
-    pub fn close(self) -> (B, R) {
+    /// The unit, without its sessions.
+    pub fn into_unit(self) -> U {
         let Served { unit, .. } = self;
-        let (blocks, registrations, _opener) = unit.close();
-        (blocks, registrations)
+        unit
     }
 
     /// Makes the call of a row.
@@ -126,11 +91,7 @@ impl<B: Blocks, R: Blocks, O: Opener<B>> Served<B, R, O> {
         let (isid, group) = words.split_once(' ').expect(rt, row.text);
         let isid = row.number(rt, isid);
         let group = if group == "1" { Group::One } else { Group::Two };
-        let name = b"iqn.2026-01.example:host"
-            .to_vec(alloc)
-            .expect(rt, "memory");
-        let port = PortName::new(name, isid).expect(rt, "an ISID of six bytes");
-        let end = self.unit.attach(port, group);
+        let end = self.unit.attach(rt, alloc, isid, group);
         if let Ok(id) = end {
             let session = Attached { id, group, next: 1 };
             self.sessions.push(session).expect(rt, "memory");

@@ -1,7 +1,6 @@
 //! A disk that is a file: what is written, and what becomes of it.
 use crate::files::runs::{beside, made, make, opened, reads, want, writes};
 use block_file::{Blocks, Opener};
-use disk_files::Disk;
 use std::fs;
 use std::fs::File;
 use std::test::Fail;
@@ -55,44 +54,46 @@ pub fn lie_in_turn(bytes: &[u8]) -> Result<(), Fail> {
 }
 
 // Whether the other controller opens the disk. The lock on it is held all the while.
-fn opens(disk: &mut Disk<HostRuntime>) -> bool {
-    disk.opener.open(&mut disk.blocks).is_ok()
+fn opens<B: Blocks, O: Opener<B>>(blocks: &mut B, opener: &mut O) -> bool {
+    opener.open(blocks).is_ok()
 }
 
 #[test]
 fn a_disk_that_is_opened_anew_has_the_same_blocks(rt: HostRuntime) -> Result<(), Fail> {
     let path = made(&rt, "anew", 2 * 512)?;
     let mut disk = opened(rt, path.as_str())?;
-    is_opened_twice(&mut disk)
+    is_opened_twice(&mut disk.blocks, &mut disk.opener)
 }
 
-fn is_opened_twice(disk: &mut Disk<HostRuntime>) -> Result<(), Fail> {
-    want(writes(&mut disk.blocks, 0, &[5, 6]), "a write")?;
-    want(opens(disk), "an open")?;
-    want(reads(&mut disk.blocks, 0, &[5, 6]), "what was written")?;
-    want(writes(&mut disk.blocks, 1, &[7]), "a write behind it")?;
-    want(opens(disk), "a second open")?;
-    want(reads(&mut disk.blocks, 0, &[5, 7]), "what was written then")
+fn is_opened_twice<B: Blocks, O: Opener<B>>(blocks: &mut B, opener: &mut O) -> Result<(), Fail> {
+    want(writes(blocks, 0, &[5, 6]), "a write")?;
+    want(opens(blocks, opener), "an open")?;
+    want(reads(blocks, 0, &[5, 6]), "what was written")?;
+    want(writes(blocks, 1, &[7]), "a write behind it")?;
+    want(opens(blocks, opener), "a second open")?;
+    want(reads(blocks, 0, &[5, 7]), "what was written then")
 }
 
 #[test]
 fn a_file_that_took_its_name_is_not_opened(rt: HostRuntime) -> Result<(), Fail> {
     let path = made(&rt, "replaced", 2 * 512)?;
     let mut disk = opened(rt, path.as_str())?;
-    loses_its_name(rt, path.as_str(), &mut disk)
+    loses_its_name(rt, path.as_str(), &mut disk.blocks, &mut disk.opener)
 }
 
-fn loses_its_name(rt: HostRuntime, path: &str, disk: &mut Disk<HostRuntime>) -> Result<(), Fail> {
-    want(writes(&mut disk.blocks, 0, &[5, 6]), "a write")?;
+fn loses_its_name<B: Blocks, O: Opener<B>>(
+    rt: HostRuntime,
+    path: &str,
+    blocks: &mut B,
+    opener: &mut O,
+) -> Result<(), Fail> {
+    want(writes(blocks, 0, &[5, 6]), "a write")?;
     replace(rt, path)?;
-    want(!opens(disk), "another file is not opened")?;
-    want(reads(&mut disk.blocks, 0, &[5, 6]), "the blocks stay")?;
+    want(!opens(blocks, opener), "another file is not opened")?;
+    want(reads(blocks, 0, &[5, 6]), "the blocks stay")?;
     fs::remove_file(&rt, path)?;
-    want(!opens(disk), "no file is not opened")?;
-    want(
-        reads(&mut disk.blocks, 0, &[5, 6]),
-        "the blocks stay once more",
-    )
+    want(!opens(blocks, opener), "no file is not opened")?;
+    want(reads(blocks, 0, &[5, 6]), "the blocks stay once more")
 }
 
 // Another file takes the name.
@@ -107,13 +108,18 @@ fn replace(rt: HostRuntime, path: &str) -> Result<(), Fail> {
 fn a_file_that_is_cut_short_fails(rt: HostRuntime) -> Result<(), Fail> {
     let path = made(&rt, "cut", 4 * 512)?;
     let mut disk = opened(rt, path.as_str())?;
-    is_cut_short(rt, path.as_str(), &mut disk)
+    is_cut_short(rt, path.as_str(), &mut disk.blocks, &mut disk.opener)
 }
 
-fn is_cut_short(rt: HostRuntime, path: &str, disk: &mut Disk<HostRuntime>) -> Result<(), Fail> {
-    want(writes(&mut disk.blocks, 0, &[5, 6, 7, 8]), "a write")?;
+fn is_cut_short<B: Blocks, O: Opener<B>>(
+    rt: HostRuntime,
+    path: &str,
+    blocks: &mut B,
+    opener: &mut O,
+) -> Result<(), Fail> {
+    want(writes(blocks, 0, &[5, 6, 7, 8]), "a write")?;
     cut(rt, path)?;
-    fails(disk)?;
+    fails(blocks, opener)?;
     want(fs::read(&rt, path)?.len() == 1024, "the file stays so long")
 }
 
@@ -123,13 +129,10 @@ fn cut(rt: HostRuntime, path: &str) -> Result<(), Fail> {
     Ok(())
 }
 
-fn fails(disk: &mut Disk<HostRuntime>) -> Result<(), Fail> {
-    want(reads(&mut disk.blocks, 0, &[5, 6]), "what is left")?;
-    want(
-        !reads(&mut disk.blocks, 1, &[6, 7]),
-        "a read across the end",
-    )?;
-    want(!reads(&mut disk.blocks, 3, &[8]), "a read behind the end")?;
-    want(!writes(&mut disk.blocks, 3, &[9]), "a write behind the end")?;
-    want(!opens(disk), "an open")
+fn fails<B: Blocks, O: Opener<B>>(blocks: &mut B, opener: &mut O) -> Result<(), Fail> {
+    want(reads(blocks, 0, &[5, 6]), "what is left")?;
+    want(!reads(blocks, 1, &[6, 7]), "a read across the end")?;
+    want(!reads(blocks, 3, &[8]), "a read behind the end")?;
+    want(!writes(blocks, 3, &[9]), "a write behind the end")?;
+    want(!opens(blocks, opener), "an open")
 }
