@@ -36,7 +36,8 @@ use Rattle.portal.specs.Entries.{AreAnswered}
 use Rattle.portal.specs.Target.{TargetValue, Sight, IsAbsent, IsAttachedTo, AreAttached, AreOver, HasBegun, IsOver, IsOverAt, IsRefused}
 use Rattle.portal.specs.Target.{IsServedAt, IsResetIn, LeadsOn, unbegun}
 use Rattle.portal.specs.declared.target.BeginFault.{BeginFault}
-use Rattle.portal.specs.Worker.{IsSession, tag_of}
+use Rattle.portal.specs.Worker.{IsSession}
+use Rattle.scsi_types.specs.Nexus.{group_number}
 use Rattle.portal.proofs.Chains.{both_of, GrowsAt, grows_served, grows_reset_at}
 use Rattle.portal.proofs.Retiring.{Ended, ended, over_at, over_none}
 use Rattle.portal.proofs.Slots.{get_written, get_other, length_written, nowhere, there}
@@ -525,7 +526,7 @@ module _ (claims : Claims) (table : Sayings) (late : Late) (opening : ℕ → Un
       is)
 
   pub session_of : (me : Identity) (left left' held held' : Option (List ℕ)) (after : TargetValue) (end : End) (seen : List Sight)
-      → IsTranscribed (LeadsOn claims table late opening) units me (Login (tag_of group)) left left' held held' (unbegun units group) after end
+      → IsTranscribed (LeadsOn claims table late opening) units me (Login (group_number group)) left left' held held' (unbegun units group) after end
       → seen ≡ after.seen
       → IsSession claims table late opening units group me left left' held held' end seen
   session_of me left left' held held' after end seen is same =

@@ -1,7 +1,7 @@
 -- A whole session, from the first byte of its login to its end.
 use Rattle.std.specs.Prelude.{◌≡◌, ℕ, List, [], ◌∷◌, ◌++◌, Option}
+use Rattle.scsi_types.specs.Nexus.{group_number}
 use Rattle.scsi_types.specs.declared.names.Group.{Group}
-use Rattle.scsi_types.specs.declared.names.Group.TheVariants.{One, Two}
 use Rattle.session_rules.specs.declared.end.End.{End}
 use Rattle.session_rules.specs.declared.identity.Identity.{Identity}
 use Rattle.session_rules.specs.declared.opening.Opening.TheVariants.{Login}
@@ -16,18 +16,13 @@ use Rattle.portal.specs.Units.{Claims}
 use Rattle.portal.specs.Entries.{AreAnswered}
 use Rattle.portal.specs.Target.{TargetValue, LeadsOn, unbegun}
 
--- the tag of a target port group
-abbrev pub tag_of : Group → ℕ
-tag_of One = 1
-tag_of Two = 2
-
 -- What was written spells a legal transcript of what was read, of a login by a portal of this group, and what the session
 -- asked led its target from where it is at no unit to its end. What it asked of units, to the last, that it is over, is answered by
 -- their histories, as they were seen when it left them: these are handed out.
 pub record IsSession (claims : Claims) (table : Sayings) (late : Late) (opening : ℕ → UnitState) (units : ℕ) (group : Group) (me : Identity)
     (left left' held held' : Option (List ℕ)) (end : End) (seen : List (ℕ × List Entry)) : Type 0 where
   pub after : TargetValue
-  pub transcribed : IsTranscribed (LeadsOn claims table late opening) units me (Login (tag_of group)) left left' held held'
+  pub transcribed : IsTranscribed (LeadsOn claims table late opening) units me (Login (group_number group)) left left' held held'
       (unbegun units group) after end
   pub seen_is : seen ≡ after.seen
   pub answered : AreAnswered claims late opening units group (asked (exchanges transcribed.passed.transcript) ++ over ∷ []) seen

@@ -107,7 +107,7 @@ impl<B: Blocks, R: Blocks, O: Opener<B>, N: Array<Opened>> LogicalUnits<
 
     ghost seen = { λ s. s };
 
-    fn units(&self) -> u8 {
+    fn count(&self) -> u8 {
         self.units.count() as u8
     }
 

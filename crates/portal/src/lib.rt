@@ -37,4 +37,4 @@ pub use target::{BeginFault, SessionTarget};
 pub use units::{LogicalUnits, Pass, Unserved};
 pub use wire::{Heard, LastSaid, Said};
 pub use witness::{Visitor, Witness};
-pub use worker::{serve_session, tag_of};
+pub use worker::serve_session;

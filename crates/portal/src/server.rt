@@ -10,7 +10,7 @@ use crate::stacks::{STACK, Stacks};
 use crate::units::{LogicalUnits, Pass};
 use crate::wire::{Heard, LastSaid, Said};
 use crate::witness::Visitor;
-use crate::worker::{serve_session, tag_of};
+use crate::worker::serve_session;
 use event_log::{Event, Initiator, Log, Path, Resource, Why};
 use scsi_types::{Group, NoMemory};
 use session::{End, Identity, Watched};
@@ -83,7 +83,7 @@ fn path_of(socket: &TcpStream, group: Group) -> Path {
     Path {
         from: v4(socket.peer_addr()),
         portal: v4(socket.local_addr()),
-        tag: tag_of(group),
+        tag: u16::from(group.number()),
     }
 }
 

@@ -1,7 +1,8 @@
 //! The target of one session: its passes of all units.
 ghost use Rattle.std.specs.Prelude.{◌≡◌, ◌+◌, ◌<◌, ◌≤◌, ◌↔◌, ◌∷◌, ◌++◌, [], false, true, All, IfErr, IfOk, IfSome, IsTrue, MatchOption};
 ghost use Rattle.std.specs.Prelude.{length, map, vec_capacity};
-ghost use Rattle.registrants.specs.Nexus.{IsPortName, through};
+ghost use Rattle.registrants.specs.Nexus.{through};
+ghost use Rattle.scsi_types.specs.Nexus.{IsPortName};
 ghost use Rattle.portal.specs.Target.{IsAbsent, IsAttachedTo, IsFullAt, IsGrounded, IsJoined, IsOfUnits, IsOverAt, IsTurnedBack, IsUnnamed, Leaves};
 ghost use Rattle.portal.specs.Late.{late_of};
 ghost use Rattle.portal.specs.Target.{HasTried, IsServedAt, IsResetIn, unbegun};
@@ -124,25 +125,18 @@ impl<
         × IfSome t.connection (λ c. (t.begun ≡ false) × (t.at.items ≡ []) × (t.seen.items ≡ [])) };
 }
 
-// Whether these name an initiator port: a name of 1 to 223 bytes, and an ISID of six.
-fn is_port_name(name: &[u8], isid: u64) -> bool
-    ensures { IsTrue result ↔ IsPortName (record { name = name.now; isid = isid }) }
-{
-    !name.is_empty() && name.len() <= 223 && isid < 1 << 48
-}
-
 // The initiator port with this name and ISID.
 fn port_of(alloc: Global, name: &[u8], isid: u64) -> Result<PortName, BeginFault>
     ensures port { IfOk result (λ port. port ≡ record { name = name.now; isid = isid }) }
     ensures name { IfOk result (λ port. IsPortName (record { name = name.now; isid = isid })) }
     ensures unnamed { IfErr result (IsUnnamed (record { name = name.now; isid = isid })) }
 {
-    if !is_port_name(name, isid) {
-        return Err(BeginFault::NoPortName);
-    }
-    match name.to_vec(alloc) {
-        Ok(name) => Ok(PortName::new(name, isid)),
-        Err(_) => Err(BeginFault::NoMemory),
+    let Ok(name) = name.to_vec(alloc) else {
+        return Err(BeginFault::NoMemory);
+    };
+    match PortName::new(name, isid) {
+        Some(port) => Ok(port),
+        None => Err(BeginFault::NoPortName),
     }
 }
 
@@ -155,15 +149,14 @@ fn attach_to<R: Wait, U: LogicalUnits<P, H>, P: Pass, H: Drop>(
     port: &PortName,
     group: Group,
 ) -> Result<Attached<P>, Option<H>>
-    requires unit { unit < U.unit_count units.now }
-    requires name { IsPortName port.now }
+    requires { unit < U.unit_count units.now }
     ensures attached { IfOk result (IsAttachedTo U.claims U.opening (through port.now group) unit) }
     ensures full { IfErr result (λ full. IfSome full (λ s. IsFullAt U.claims U.opening (through port.now group) unit (U.seen s))) }
 {
-    let Ok(name) = port.name().to_vec(alloc) else {
+    let Ok(port) = port.copy(alloc) else {
         return Err(None);
     };
-    match units.attach(rt, unit, PortName::new(name, port.isid()), group) {
+    match units.attach(rt, unit, port, group) {
         Ok(pass) => Ok(Attached::new(pass, group)),
         Err(seen) => Err(Some(seen)),
     }
@@ -227,7 +220,6 @@ fn attach_all<R: Wait, U: LogicalUnits<P, H>, P: Pass, H: Drop>(
     group: Group,
     seen: &mut Vec<H>,
 ) -> Result<Vec<Attached<P>>, BeginFault>
-    requires name { IsPortName port.now }
     requires room { length seen.old.items + U.unit_count units.now ≤ vec_capacity seen.old }
     ensures joined { IfOk result (λ v. IsJoined U.claims U.opening Kind.Normal (through port.now group) (U.unit_count units.now) v.items) }
     ensures placed { IfOk result (λ v. All (λ a. a.place < U.unit_count units.now) v.items) }
@@ -236,7 +228,7 @@ fn attach_all<R: Wait, U: LogicalUnits<P, H>, P: Pass, H: Drop>(
         (U.unit_count units.now) fault (map U.seen seen.old.items) (map U.seen seen.new.items)) }
     ensures of_units { IfErr result IsOfUnits }
 {
-    let count = units.units();
+    let count = units.count();
     let Ok(mut attached) = Vec::with_capacity(alloc, usize::from(count)) else {
         return Err(BeginFault::NoMemory);
     };
@@ -288,7 +280,6 @@ fn attach_and_enter<
     connection: C,
     seen: &mut Vec<H>,
 ) -> Result<(Vec<Attached<P>>, u64, u16), BeginFault>
-    requires name { IsPortName port }
     requires room { length seen.old.items + U.unit_count units.now ≤ vec_capacity seen.old }
     ensures joined { IfOk result (λ r. IsJoined U.claims U.opening Kind.Normal (through port group) (U.unit_count units.now) r.0.items) }
     ensures placed { IfOk result (λ r. All (λ a. a.place < U.unit_count units.now) r.0.items) }
@@ -363,7 +354,7 @@ impl<
         ensures { HasTried U.claims S.says U.opening (record self.old { asked = false }) port Kind.Normal result self.new }
     {
         let device = self.device;
-        let Ok(seen) = Vec::with_capacity(self.alloc, usize::from(device.units.units())) else {
+        let Ok(seen) = Vec::with_capacity(self.alloc, usize::from(device.units.count())) else {
             return Err(BeginFault::NoMemory);
         };
         self.seen = seen;
@@ -494,7 +485,7 @@ impl<
     ghost unit_count = { λ t. t.units };
 
     fn units(&self) -> u16 {
-        u16::from(self.device.units.units())
+        u16::from(self.device.units.count())
     }
 
     fn begin(&mut self, name: &[u8], isid: u64, kind: Kind) -> BeginAnswer {
@@ -532,13 +523,13 @@ impl<
 
     fn serve(&mut self, unit: Option<u8>, asked: Asked, bytes: &[u8]) -> TargetAnswer {
         match unit {
-            Some(unit) if unit < self.device.units.units() => { self.serve_at(unit, &asked, bytes) }
+            Some(unit) if unit < self.device.units.count() => { self.serve_at(unit, &asked, bytes) }
             _ => turn_away(self.alloc, &asked),
         }
     }
 
     fn reset(&mut self, unit: u8) -> ResetAnswer {
-        if unit < self.device.units.units() {
+        if unit < self.device.units.count() {
             self.reset_at(unit)
         } else {
             ResetAnswer::Failed

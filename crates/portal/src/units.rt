@@ -1,7 +1,7 @@
 //! The units of an array, as a session reaches them.
 ghost use Rattle.std.specs.Prelude.{◌≡◌, ◌<◌, ◌⊎◌, ℕ, List, IfOk, IfErr};
 ghost use mathlib.Core.List.{IsPrefix};
-ghost use Rattle.registrants.specs.Nexus.{IsPortName, through};
+ghost use Rattle.registrants.specs.Nexus.{through};
 ghost use Rattle.unit_control.specs.State.{UnitState};
 ghost use Rattle.locked_unit.specs.Calls.{PlacedPass};
 ghost use Rattle.unit_control.specs.Entry.{Entry};
@@ -53,7 +53,7 @@ pub trait LogicalUnits<P: Pass, H: Drop> {
     /// The place of the unit, and the entries that were seen.
     ghost seen: { H → ℕ × List Entry };
 
-    fn units(&self) -> u8
+    fn count(&self) -> u8
         ensures { result ≡ unit_count self.now };
 
     /// All that is seen of one unit stands in one history: of two such, one begins the other. It does nothing.
@@ -64,7 +64,6 @@ pub trait LogicalUnits<P: Pass, H: Drop> {
     /// Attaches a session of this port through this group to a unit; one that its nexus had there ends. Refused, there is no room
     /// for it: what was seen of the unit shows that.
     fn attach<R: Wait>(&self, rt: &R, unit: u8, port: PortName, group: Group) -> Result<P, H>
-        requires name { IsPortName port }
         requires unit { unit < unit_count self.now }
         ensures place { IfOk result (λ p. (P.held p).place ≡ unit) }
         ensures attached { IfOk result (λ p. HasAttached claims.contents (opening unit) (through port group) (P.held p).pass) }

@@ -3,7 +3,7 @@ ghost use Rattle.std.specs.Prelude.{◌≡◌, map, IfOk, OnErr};
 ghost use Rattle.session_rules.specs.declared.end.End.TheVariants.{InputFailed, OutputFailed};
 ghost use Rattle.session.specs.Transcript.{IsFailureOf};
 ghost use Rattle.portal.specs.Late.{late_of};
-ghost use Rattle.portal.specs.Worker.{IsSession, tag_of};
+ghost use Rattle.portal.specs.Worker.{IsSession};
 
 use crate::connection::Connection;
 use crate::device::TargetDevice;
@@ -18,16 +18,6 @@ use session::{End, Identity, Opening, Sink, Source, serve_stream};
 use std::alloc::Global;
 use std::sync::Wait;
 use std::time::Clock;
-
-/// The tag of a target port group, which is that of the portals of its controller (RFC 7143, 13.9).
-pub fn tag_of(group: Group) -> u16
-    ensures { result ≡ tag_of group }
-{
-    match group {
-        Group::One => 1,
-        Group::Two => 2,
-    }
-}
 
 /// Serves a session that comes by the portals of a group over a connection, from the first byte of its login to its end.
 /// Refused for want of memory, it has read and written nothing. It says how the session ended, and whose it was, and hands
@@ -69,7 +59,7 @@ pub fn serve_session<
         source,
         sink,
         &mut target,
-        Opening::Login(tag_of(group)),
+        Opening::Login(u16::from(group.number())),
         me,
     );
     let (visitor, seen) = target.into_parts();
