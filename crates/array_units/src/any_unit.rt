@@ -19,12 +19,12 @@ use unit_state::MoveFault;
 
 /// A shared unit, and a reader's seat at its board.
 #[derive(Drop)]
-pub struct Seated<B: Blocks, R: Blocks, O: Opener<B>, N: Array<Opened>, const U: usize> {
-    pub(crate) unit: SharedUnit<B, R, O, N, U>,
-    pub(crate) seat: Mutex<Seat<B, R, O, N, U>>,
+pub struct Seated<B: Blocks, F: Blocks, O: Opener<B>, N: Array<Opened>, const U: usize> {
+    pub(crate) unit: SharedUnit<B, F, O, N, U>,
+    pub(crate) seat: Mutex<Seat<B, F, O, N, U>>,
 }
 
-impl<B: Blocks, R: Blocks, O: Opener<B>, N: Array<Opened>, const U: usize> Seated<B, R, O, N, U> {
+impl<B: Blocks, F: Blocks, O: Opener<B>, N: Array<Opened>, const U: usize> Seated<B, F, O, N, U> {
     /// What the board shows. The lock is the reader's own.
     fn read<W: Wait>(&self, rt: &W) -> Row
         ensures { IsShown (O.claims && B.claims) (N.opening U) result }
@@ -36,15 +36,15 @@ impl<B: Blocks, R: Blocks, O: Opener<B>, N: Array<Opened>, const U: usize> Seate
 
 /// A shared unit, by its place.
 #[derive(Drop)]
-pub enum AnyUnit<B: Blocks, R: Blocks, O: Opener<B>, N: Array<Opened>> {
-    Zero(Seated<B, R, O, N, 0>),
-    One(Seated<B, R, O, N, 1>),
-    Two(Seated<B, R, O, N, 2>),
-    Three(Seated<B, R, O, N, 3>),
-    Four(Seated<B, R, O, N, 4>),
-    Five(Seated<B, R, O, N, 5>),
-    Six(Seated<B, R, O, N, 6>),
-    Seven(Seated<B, R, O, N, 7>),
+pub enum AnyUnit<B: Blocks, F: Blocks, O: Opener<B>, N: Array<Opened>> {
+    Zero(Seated<B, F, O, N, 0>),
+    One(Seated<B, F, O, N, 1>),
+    Two(Seated<B, F, O, N, 2>),
+    Three(Seated<B, F, O, N, 3>),
+    Four(Seated<B, F, O, N, 4>),
+    Five(Seated<B, F, O, N, 5>),
+    Six(Seated<B, F, O, N, 6>),
+    Seven(Seated<B, F, O, N, 7>),
 }
 
 /// The call of the unit, whichever it is.
@@ -63,14 +63,14 @@ macro_rules! each {
     };
 }
 
-impl<B: Blocks, R: Blocks, O: Opener<B>, N: Array<Opened>> AnyUnit<B, R, O, N> {
+impl<B: Blocks, F: Blocks, O: Opener<B>, N: Array<Opened>> AnyUnit<B, F, O, N> {
     /// Attaches a session of this port by this group, as [`SharedUnit::attach`].
     pub(crate) fn attach<W: Wait>(
         &self,
         rt: &W,
         port: PortName,
         group: Group,
-    ) -> Result<Pass<B, R, O, N>, LegalHistory<B, R, O, N>>
+    ) -> Result<Pass<B, F, O, N>, LegalHistory<B, F, O, N>>
         ensures attached { IfOk result (λ p. (p.place ≡ place_of self.now)
             × HasAttached (O.claims && B.claims) (N.opening (place_of self.now)) (through port group) p.pass) }
         ensures full { IfErr result (λ f. (f.0 ≡ place_of self.now)
@@ -83,17 +83,17 @@ impl<B: Blocks, R: Blocks, O: Opener<B>, N: Array<Opened>> AnyUnit<B, R, O, N> {
     pub(crate) fn serve<W: Wait>(
         &self,
         rt: &W,
-        pass: Pass<B, R, O, N>,
+        pass: Pass<B, F, O, N>,
         alloc: Global,
         by_group: &Group,
         asked: &Asked,
         bytes: &[u8],
-    ) -> (Pass<B, R, O, N>, Result<Reply, Refused<Group>>)
+    ) -> (Pass<B, F, O, N>, Result<Reply, Refused<Group>>)
         requires { pass.place ≡ place_of self.now }
         ensures place { result.0.place ≡ place_of self.now }
         ensures served { IfOk result.1 (λ reply. HasServed (O.claims && B.claims) (N.opening (place_of self.now)) pass.pass
             result.0.pass by_group.now asked.now bytes.now reply) }
-        ensures worked { IfOk result.1 (λ reply. HasWorked (devices B.Blocks R.Blocks O.Opener) (N.opening (place_of self.now))
+        ensures worked { IfOk result.1 (λ reply. HasWorked (devices B.Blocks F.Blocks O.Opener) (N.opening (place_of self.now))
             pass.pass.session asked.now bytes.now reply result.0.pass.seen) }
         ensures refused { IfErr result.1 (λ why. HasRefused (O.claims && B.claims) (N.opening (place_of self.now)) pass.pass
             result.0.pass by_group.now asked.now bytes.now why) }
@@ -106,7 +106,7 @@ impl<B: Blocks, R: Blocks, O: Opener<B>, N: Array<Opened>> AnyUnit<B, R, O, N> {
     }
 
     /// Resets the unit for the session, as [`SharedUnit::reset`].
-    pub(crate) fn reset<W: Wait>(&self, rt: &W, pass: Pass<B, R, O, N>) -> (Pass<B, R, O, N>, bool)
+    pub(crate) fn reset<W: Wait>(&self, rt: &W, pass: Pass<B, F, O, N>) -> (Pass<B, F, O, N>, bool)
         requires { pass.place ≡ place_of self.now }
         ensures place { result.0.place ≡ place_of self.now }
         ensures done { MatchBool result.1
@@ -120,8 +120,8 @@ impl<B: Blocks, R: Blocks, O: Opener<B>, N: Array<Opened>> AnyUnit<B, R, O, N> {
     pub(crate) fn retire<W: Wait>(
         &self,
         rt: &W,
-        pass: Pass<B, R, O, N>,
-    ) -> Result<LegalHistory<B, R, O, N>, Pass<B, R, O, N>>
+        pass: Pass<B, F, O, N>,
+    ) -> Result<LegalHistory<B, F, O, N>, Pass<B, F, O, N>>
         requires { pass.place ≡ place_of self.now }
         ensures done { IfOk result (λ f. (f.0 ≡ place_of self.now)
             × HasRetired (O.claims && B.claims) (N.opening (place_of self.now)) pass.pass f.1) }
@@ -136,12 +136,12 @@ impl<B: Blocks, R: Blocks, O: Opener<B>, N: Array<Opened>> AnyUnit<B, R, O, N> {
         &self,
         rt: &W,
         list: &[u8],
-    ) -> (LegalHistory<B, R, O, N>, Result<Change, MoveFault>)
+    ) -> (LegalHistory<B, F, O, N>, Result<Change, MoveFault>)
         ensures place { result.0.0 ≡ place_of self.now }
         ensures moved { IfOk result.1 (λ told.
-            HasMoved (devices B.Blocks R.Blocks O.Opener) (N.opening (place_of self.now)) list.now result.0.1 told) }
+            HasMoved (devices B.Blocks F.Blocks O.Opener) (N.opening (place_of self.now)) list.now result.0.1 told) }
         ensures stays { IfErr result.1 (λ why.
-            HasStayed (devices B.Blocks R.Blocks O.Opener) (N.opening (place_of self.now)) list.now result.0.1 why) }
+            HasStayed (devices B.Blocks F.Blocks O.Opener) (N.opening (place_of self.now)) list.now result.0.1 why) }
     {
         each!(self, seated, seated.unit.move_to(rt, list))
     }
@@ -149,9 +149,9 @@ impl<B: Blocks, R: Blocks, O: Opener<B>, N: Array<Opened>> AnyUnit<B, R, O, N> {
     /// Both sessions have then seen what either had, as [`SharedUnit::meet`].
     pub(crate) fn meet(
         &self,
-        one: Pass<B, R, O, N>,
-        two: Pass<B, R, O, N>,
-    ) -> (Pass<B, R, O, N>, Pass<B, R, O, N>)
+        one: Pass<B, F, O, N>,
+        two: Pass<B, F, O, N>,
+    ) -> (Pass<B, F, O, N>, Pass<B, F, O, N>)
         requires { (one.place ≡ place_of self.now) × (two.place ≡ place_of self.now) }
         ensures places { (result.0.place ≡ place_of self.now) × (result.1.place ≡ place_of self.now) }
         ensures met { HaveMet (O.claims && B.claims) (N.opening (place_of self.now)) one.pass two.pass result.0.pass result.1.pass }
@@ -161,7 +161,7 @@ impl<B: Blocks, R: Blocks, O: Opener<B>, N: Array<Opened>> AnyUnit<B, R, O, N> {
 
     /// Makes what was written last, as [`SharedUnit::flush`].
     pub(crate) fn flush<W: Wait>(&self, rt: &W) -> Result<(), DeviceFailed>
-        ensures { HasFlushed (devices B.Blocks R.Blocks O.Opener) (N.opening (place_of self.now)) result }
+        ensures { HasFlushed (devices B.Blocks F.Blocks O.Opener) (N.opening (place_of self.now)) result }
     {
         each!(self, seated, seated.unit.flush(rt))
     }

@@ -26,18 +26,18 @@ pub const MOST_UNITS: usize = 8;
 
 /// Units 0 to n-1 of an array, which all threads share, none on a cache line of another. Contracts see how many there
 /// are.
-pub struct Units<B: Blocks, R: Blocks, O: Opener<B>, N: Array<Opened>> {
-    units: Vec<CachePadded<AnyUnit<B, R, O, N>>>,
+pub struct Units<B: Blocks, F: Blocks, O: Opener<B>, N: Array<Opened>> {
+    units: Vec<CachePadded<AnyUnit<B, F, O, N>>>,
 }
 
-impl<B: Blocks + Drop, R: Blocks + Drop, O: Opener<B> + Drop, N: Array<Opened>> Drop
-    for Units<B, R, O, N> {
+impl<B: Blocks + Drop, F: Blocks + Drop, O: Opener<B> + Drop, N: Array<Opened>> Drop
+    for Units<B, F, O, N> {
     fn drop(self) {
         let Self { units: _ } = self;
     }
 }
 
-impl<B: Blocks, R: Blocks, O: Opener<B>, N: Array<Opened>> Model for Units<B, R, O, N> {
+impl<B: Blocks, F: Blocks, O: Opener<B>, N: Array<Opened>> Model for Units<B, F, O, N> {
     ghost use Rattle.std.specs.Prelude.{ℕ, ◌≤◌, length};
     ghost use Rattle.array_units.specs.Places.{AreInOrder};
 
@@ -49,11 +49,11 @@ impl<B: Blocks, R: Blocks, O: Opener<B>, N: Array<Opened>> Model for Units<B, R,
 }
 
 /// The unit at a place under its name, with a reader's seat at its board.
-fn seated<B: Blocks, R: Blocks, O: Opener<B>, N: Array<Opened>, const U: usize, W: Wait>(
+fn seated<B: Blocks, F: Blocks, O: Opener<B>, N: Array<Opened>, const U: usize, W: Wait>(
     rt: &W,
     alloc: Global,
-    new: NewUnit<B, R, O>,
-) -> Result<Seated<B, R, O, N, U>, NoMemory>
+    new: NewUnit<B, F, O>,
+) -> Result<Seated<B, F, O, N, U>, NoMemory>
     requires { IsNamedAt N.book N.table N.opening B.contents U new }
 {
     let (unit, mut seats) = SharedUnit::new(rt, alloc, new, 1)?;
@@ -67,12 +67,12 @@ fn seated<B: Blocks, R: Blocks, O: Opener<B>, N: Array<Opened>, const U: usize, 
 }
 
 /// The unit at a place that is known when it runs.
-fn any_seated<B: Blocks, R: Blocks, O: Opener<B>, N: Array<Opened>, W: Wait>(
+fn any_seated<B: Blocks, F: Blocks, O: Opener<B>, N: Array<Opened>, W: Wait>(
     rt: &W,
     alloc: Global,
     place: usize,
-    new: NewUnit<B, R, O>,
-) -> Result<AnyUnit<B, R, O, N>, NoMemory>
+    new: NewUnit<B, F, O>,
+) -> Result<AnyUnit<B, F, O, N>, NoMemory>
     requires named { IsNamedAt N.book N.table N.opening B.contents place new }
     requires place { place < 8 }
     ensures { IfOk result (λ unit. place_of unit ≡ place) }
@@ -90,13 +90,13 @@ fn any_seated<B: Blocks, R: Blocks, O: Opener<B>, N: Array<Opened>, W: Wait>(
     }
 }
 
-impl<B: Blocks, R: Blocks, O: Opener<B>, N: Array<Opened>> Units<B, R, O, N> {
+impl<B: Blocks, F: Blocks, O: Opener<B>, N: Array<Opened>> Units<B, F, O, N> {
     /// These units under their names, in their order. Refused, they are dropped.
     pub fn new<W: Wait>(
         rt: &W,
         alloc: Global,
-        new: Vec<NewUnit<B, R, O>>,
-    ) -> Result<Units<B, R, O, N>, NoMemory>
+        new: Vec<NewUnit<B, F, O>>,
+    ) -> Result<Units<B, F, O, N>, NoMemory>
         requires named { IsNamed N.book N.table N.opening B.contents new.items }
         requires count { length new.items ≤ 8 }
         ensures { IfOk result (λ units. units ≡ length new.items) }
@@ -119,7 +119,7 @@ impl<B: Blocks, R: Blocks, O: Opener<B>, N: Array<Opened>> Units<B, R, O, N> {
     }
 
     /// The unit at a place.
-    fn at(&self, place: usize) -> &AnyUnit<B, R, O, N>
+    fn at(&self, place: usize) -> &AnyUnit<B, F, O, N>
         requires { place < self.now }
         ensures { place_of result.now ≡ place }
     {
@@ -133,7 +133,7 @@ impl<B: Blocks, R: Blocks, O: Opener<B>, N: Array<Opened>> Units<B, R, O, N> {
         place: usize,
         port: PortName,
         group: Group,
-    ) -> Result<Pass<B, R, O, N>, LegalHistory<B, R, O, N>>
+    ) -> Result<Pass<B, F, O, N>, LegalHistory<B, F, O, N>>
         requires place { place < self.now }
         ensures attached { IfOk result (λ p. (p.place ≡ place)
             × HasAttached (O.claims && B.claims) (N.opening place) (through port group) p.pass) }
@@ -147,17 +147,17 @@ impl<B: Blocks, R: Blocks, O: Opener<B>, N: Array<Opened>> Units<B, R, O, N> {
     pub fn serve<W: Wait>(
         &self,
         rt: &W,
-        pass: Pass<B, R, O, N>,
+        pass: Pass<B, F, O, N>,
         alloc: Global,
         by_group: &Group,
         asked: &Asked,
         bytes: &[u8],
-    ) -> (Pass<B, R, O, N>, Result<Reply, Refused<Group>>)
+    ) -> (Pass<B, F, O, N>, Result<Reply, Refused<Group>>)
         requires { pass.place < self.now }
         ensures place { result.0.place ≡ pass.place }
         ensures served { IfOk result.1 (λ reply. HasServed (O.claims && B.claims) (N.opening pass.place) pass.pass
             result.0.pass by_group.now asked.now bytes.now reply) }
-        ensures worked { IfOk result.1 (λ reply. HasWorked (devices B.Blocks R.Blocks O.Opener) (N.opening pass.place)
+        ensures worked { IfOk result.1 (λ reply. HasWorked (devices B.Blocks F.Blocks O.Opener) (N.opening pass.place)
             pass.pass.session asked.now bytes.now reply result.0.pass.seen) }
         ensures refused { IfErr result.1 (λ why. HasRefused (O.claims && B.claims) (N.opening pass.place) pass.pass
             result.0.pass by_group.now asked.now bytes.now why) }
@@ -168,7 +168,7 @@ impl<B: Blocks, R: Blocks, O: Opener<B>, N: Array<Opened>> Units<B, R, O, N> {
     }
 
     /// Resets the unit of the session, as [`unit_history::SharedUnit::reset`].
-    pub fn reset<W: Wait>(&self, rt: &W, pass: Pass<B, R, O, N>) -> (Pass<B, R, O, N>, bool)
+    pub fn reset<W: Wait>(&self, rt: &W, pass: Pass<B, F, O, N>) -> (Pass<B, F, O, N>, bool)
         requires { pass.place < self.now }
         ensures place { result.0.place ≡ pass.place }
         ensures done { MatchBool result.1
@@ -183,8 +183,8 @@ impl<B: Blocks, R: Blocks, O: Opener<B>, N: Array<Opened>> Units<B, R, O, N> {
     pub fn retire<W: Wait>(
         &self,
         rt: &W,
-        pass: Pass<B, R, O, N>,
-    ) -> Result<LegalHistory<B, R, O, N>, Pass<B, R, O, N>>
+        pass: Pass<B, F, O, N>,
+    ) -> Result<LegalHistory<B, F, O, N>, Pass<B, F, O, N>>
         requires { pass.place < self.now }
         ensures done { IfOk result (λ f. (f.0 ≡ pass.place)
             × HasRetired (O.claims && B.claims) (N.opening pass.place) pass.pass f.1) }
@@ -201,13 +201,13 @@ impl<B: Blocks, R: Blocks, O: Opener<B>, N: Array<Opened>> Units<B, R, O, N> {
         rt: &W,
         place: usize,
         list: &[u8],
-    ) -> (LegalHistory<B, R, O, N>, Result<Change, MoveFault>)
+    ) -> (LegalHistory<B, F, O, N>, Result<Change, MoveFault>)
         requires { place < self.now }
         ensures place { result.0.0 ≡ place }
         ensures moved { IfOk result.1 (λ told.
-            HasMoved (devices B.Blocks R.Blocks O.Opener) (N.opening place) list.now result.0.1 told) }
+            HasMoved (devices B.Blocks F.Blocks O.Opener) (N.opening place) list.now result.0.1 told) }
         ensures stays { IfErr result.1 (λ why.
-            HasStayed (devices B.Blocks R.Blocks O.Opener) (N.opening place) list.now result.0.1 why) }
+            HasStayed (devices B.Blocks F.Blocks O.Opener) (N.opening place) list.now result.0.1 why) }
     {
         self.at(place).move_to(rt, list)
     }
@@ -216,9 +216,9 @@ impl<B: Blocks, R: Blocks, O: Opener<B>, N: Array<Opened>> Units<B, R, O, N> {
     /// [`unit_history::SharedUnit::meet`].
     pub fn meet(
         &self,
-        one: Pass<B, R, O, N>,
-        two: Pass<B, R, O, N>,
-    ) -> (Pass<B, R, O, N>, Pass<B, R, O, N>)
+        one: Pass<B, F, O, N>,
+        two: Pass<B, F, O, N>,
+    ) -> (Pass<B, F, O, N>, Pass<B, F, O, N>)
         requires place { one.place < self.now }
         requires unit { two.place ≡ one.place }
         ensures places { (result.0.place ≡ one.place) × (result.1.place ≡ one.place) }
@@ -231,7 +231,7 @@ impl<B: Blocks, R: Blocks, O: Opener<B>, N: Array<Opened>> Units<B, R, O, N> {
     /// Makes what was written to the unit at a place last, as [`unit_history::SharedUnit::flush`].
     pub fn flush<W: Wait>(&self, rt: &W, place: usize) -> Result<(), DeviceFailed>
         requires { place < self.now }
-        ensures { HasFlushed (devices B.Blocks R.Blocks O.Opener) (N.opening place) result }
+        ensures { HasFlushed (devices B.Blocks F.Blocks O.Opener) (N.opening place) result }
     {
         self.at(place).flush(rt)
     }

@@ -47,13 +47,13 @@ pub trait Moves {
 
 /// A move, as it is kept.
 #[derive(Drop)]
-struct Moved<B: Blocks, R: Blocks, O: Opener<B>, N: Array<Opened>> {
+struct Moved<B: Blocks, F: Blocks, O: Opener<B>, N: Array<Opened>> {
     list: GroupsList,
-    seen: LegalHistory<B, R, O, N>,
+    seen: LegalHistory<B, F, O, N>,
     end: Result<Change, MoveFault>,
 }
 
-impl<B: Blocks, R: Blocks, O: Opener<B>, N: Array<Opened>> Model for Moved<B, R, O, N> {
+impl<B: Blocks, F: Blocks, O: Opener<B>, N: Array<Opened>> Model for Moved<B, F, O, N> {
     ghost use Rattle.failover.specs.Down.{Move};
 
     ghost Value = { Move };
@@ -63,12 +63,12 @@ impl<B: Blocks, R: Blocks, O: Opener<B>, N: Array<Opened>> Model for Moved<B, R,
 
 /// Moves that were asked, the first first. It has room for eight.
 #[derive(Drop)]
-struct Kept<B: Blocks, R: Blocks, O: Opener<B>, N: Array<Opened>> {
-    moves: [Option<Moved<B, R, O, N>>; MOST_UNITS],
+struct Kept<B: Blocks, F: Blocks, O: Opener<B>, N: Array<Opened>> {
+    moves: [Option<Moved<B, F, O, N>>; MOST_UNITS],
     count: usize,
 }
 
-impl<B: Blocks, R: Blocks, O: Opener<B>, N: Array<Opened>> Model for Kept<B, R, O, N> {
+impl<B: Blocks, F: Blocks, O: Opener<B>, N: Array<Opened>> Model for Kept<B, F, O, N> {
     ghost use Rattle.std.specs.Prelude.{◌≡◌, List, length};
     ghost use Rattle.failover.specs.Down.{AreFirst, Move, kept_in};
 
@@ -79,9 +79,9 @@ impl<B: Blocks, R: Blocks, O: Opener<B>, N: Array<Opened>> Model for Kept<B, R, 
     ghost invariant = { λ k. (length k.moves ≡ 8) × AreFirst k.moves × (k.count ≡ length (kept_in k.moves)) };
 }
 
-impl<B: Blocks, R: Blocks, O: Opener<B>, N: Array<Opened>> Kept<B, R, O, N> {
+impl<B: Blocks, F: Blocks, O: Opener<B>, N: Array<Opened>> Kept<B, F, O, N> {
     // None yet.
-    fn new() -> Kept<B, R, O, N>
+    fn new() -> Kept<B, F, O, N>
         ensures { result ≡ [] }
     {
         Kept {
@@ -91,7 +91,7 @@ impl<B: Blocks, R: Blocks, O: Opener<B>, N: Array<Opened>> Kept<B, R, O, N> {
     }
 
     // One more.
-    fn push(&mut self, moved: Moved<B, R, O, N>)
+    fn push(&mut self, moved: Moved<B, F, O, N>)
         requires { length self.old < 8 }
         ensures { self.new ≡ self.old ++ moved ∷ [] }
     {
@@ -102,12 +102,12 @@ impl<B: Blocks, R: Blocks, O: Opener<B>, N: Array<Opened>> Kept<B, R, O, N> {
 
 /// Moves the units of an array, and keeps each move that is asked. It takes no memory.
 #[derive(Drop)]
-pub struct Mover<'a, B: Blocks, R: Blocks, O: Opener<B>, N: Array<Opened>> {
-    units: &'a Units<B, R, O, N>,
-    kept: Kept<B, R, O, N>,
+pub struct Mover<'a, B: Blocks, F: Blocks, O: Opener<B>, N: Array<Opened>> {
+    units: &'a Units<B, F, O, N>,
+    kept: Kept<B, F, O, N>,
 }
 
-impl<'a, B: Blocks, R: Blocks, O: Opener<B>, N: Array<Opened>> Model for Mover<'a, B, R, O, N> {
+impl<'a, B: Blocks, F: Blocks, O: Opener<B>, N: Array<Opened>> Model for Mover<'a, B, F, O, N> {
     ghost use Rattle.failover.specs.Down.{MoverValue};
 
     ghost Value = { MoverValue };
@@ -115,9 +115,9 @@ impl<'a, B: Blocks, R: Blocks, O: Opener<B>, N: Array<Opened>> Model for Mover<'
     ghost view = { λ m. record { units = m.units.now; moved = m.kept } };
 }
 
-impl<'a, B: Blocks, R: Blocks, O: Opener<B>, N: Array<Opened>> Mover<'a, B, R, O, N> {
+impl<'a, B: Blocks, F: Blocks, O: Opener<B>, N: Array<Opened>> Mover<'a, B, F, O, N> {
     /// By it no move was asked yet.
-    pub fn new(units: &'a Units<B, R, O, N>) -> Mover<'a, B, R, O, N>
+    pub fn new(units: &'a Units<B, F, O, N>) -> Mover<'a, B, F, O, N>
         ensures units { result.units ≡ units.now }
         ensures moved { result.moved ≡ [] }
     {
@@ -128,7 +128,7 @@ impl<'a, B: Blocks, R: Blocks, O: Opener<B>, N: Array<Opened>> Mover<'a, B, R, O
     }
 }
 
-impl<'a, B: Blocks, R: Blocks, O: Opener<B>, N: Array<Opened>> Moves for Mover<'a, B, R, O, N> {
+impl<'a, B: Blocks, F: Blocks, O: Opener<B>, N: Array<Opened>> Moves for Mover<'a, B, F, O, N> {
     ghost use Rattle.unit_entries.specs.Devices.{devices};
     ghost use Rattle.failover.specs.Down.{IsMade};
 
@@ -136,7 +136,7 @@ impl<'a, B: Blocks, R: Blocks, O: Opener<B>, N: Array<Opened>> Moves for Mover<'
 
     ghost moved = { λ m. m.moved };
 
-    ghost made = { IsMade (devices B.Blocks R.Blocks O.Opener) N.opening };
+    ghost made = { IsMade (devices B.Blocks F.Blocks O.Opener) N.opening };
 
     fn count(&self) -> usize {
         self.units.count()

@@ -41,18 +41,18 @@ pub enum DeskFault {
 /// The desk of a controller, by way of which the workers of both controllers' sessions have commands served of the units that
 /// the controller owns: past its queue, or as jobs in it, which the lanes of the controller serve, or the workers that put them
 /// there. What waits stands on a cache line of its own. Contracts see the controller's group.
-pub struct Desk<B: Blocks, R: Blocks, O: Opener<B>, N: Array<Opened>> {
+pub struct Desk<B: Blocks, F: Blocks, O: Opener<B>, N: Array<Opened>> {
     group: Group,
     // Whether the queue is closed, for those who do not ask it.
     is_closed: AtomicBool,
     // How many workers serve a command with short data past the queue now, or look whether they may.
     at_once: CachePadded<AtomicU64>,
-    queue: CachePadded<Mutex<Queue<Waiting<B, R, O, N>>>>,
+    queue: CachePadded<Mutex<Queue<Waiting<B, F, O, N>>>>,
     filled: Condvar,
 }
 
-impl<B: Blocks + Drop, R: Blocks + Drop, O: Opener<B> + Drop, N: Array<Opened>> Drop
-    for Desk<B, R, O, N> {
+impl<B: Blocks + Drop, F: Blocks + Drop, O: Opener<B> + Drop, N: Array<Opened>> Drop
+    for Desk<B, F, O, N> {
     fn drop(self) {
         let Self {
             group: _,
@@ -64,7 +64,7 @@ impl<B: Blocks + Drop, R: Blocks + Drop, O: Opener<B> + Drop, N: Array<Opened>> 
     }
 }
 
-impl<B: Blocks, R: Blocks, O: Opener<B>, N: Array<Opened>> Model for Desk<B, R, O, N> {
+impl<B: Blocks, F: Blocks, O: Opener<B>, N: Array<Opened>> Model for Desk<B, F, O, N> {
     ghost use Rattle.scsi_types.specs.declared.names.Group.{Group};
 
     ghost Value = { Group };
@@ -73,9 +73,9 @@ impl<B: Blocks, R: Blocks, O: Opener<B>, N: Array<Opened>> Model for Desk<B, R, 
 }
 
 // Where the ticket's job waits.
-fn index_of<B: Blocks, R: Blocks, O: Opener<B>, N: Array<Opened>>(
-    queue: &Queue<Waiting<B, R, O, N>>,
-    ticket: &Ticket<'_, B, R, O, N>,
+fn index_of<B: Blocks, F: Blocks, O: Opener<B>, N: Array<Opened>>(
+    queue: &Queue<Waiting<B, F, O, N>>,
+    ticket: &Ticket<'_, B, F, O, N>,
 ) -> Option<usize>
     ensures { IfSome result (λ at. IfSome (slice_get queue.now.items at) (λ waiting.
         handed_of waiting.pass ticket.now.names.asked ticket.now.data_in ticket.now.names.by_group ≡ ticket.now)) }
@@ -89,9 +89,9 @@ fn index_of<B: Blocks, R: Blocks, O: Opener<B>, N: Array<Opened>>(
     None
 }
 
-impl<B: Blocks, R: Blocks, O: Opener<B>, N: Array<Opened>> Desk<B, R, O, N> {
+impl<B: Blocks, F: Blocks, O: Opener<B>, N: Array<Opened>> Desk<B, F, O, N> {
     /// The desk of a group, with 64 places, which are taken now.
-    pub fn new(alloc: Global, group: Group) -> Result<Desk<B, R, O, N>, NoMemory>
+    pub fn new(alloc: Global, group: Group) -> Result<Desk<B, F, O, N>, NoMemory>
         ensures { IfOk result (λ desk. desk ≡ group) }
     {
         let Ok(queue) = Queue::new(alloc) else {
@@ -110,8 +110,8 @@ impl<B: Blocks, R: Blocks, O: Opener<B>, N: Array<Opened>> Desk<B, R, O, N> {
     fn put<W: Wait>(
         &self,
         rt: &W,
-        waiting: Waiting<B, R, O, N>,
-    ) -> Result<(), (DeskFault, Pass<B, R, O, N>)>
+        waiting: Waiting<B, F, O, N>,
+    ) -> Result<(), (DeskFault, Pass<B, F, O, N>)>
         ensures { IfErr result (λ e. e.1 ≡ waiting.pass) }
     {
         let mut queue = self.queue.lock(rt);
@@ -136,10 +136,10 @@ impl<B: Blocks, R: Blocks, O: Opener<B>, N: Array<Opened>> Desk<B, R, O, N> {
         &self,
         rt: &W,
         alloc: Global,
-        pass: Pass<B, R, O, N>,
+        pass: Pass<B, F, O, N>,
         asked: &Asked,
         bytes: &'a [u8],
-    ) -> Result<Ticket<'a, B, R, O, N>, (DeskFault, Pass<B, R, O, N>)>
+    ) -> Result<Ticket<'a, B, F, O, N>, (DeskFault, Pass<B, F, O, N>)>
         ensures ticket { IfOk result (λ t. t ≡ handed_of pass asked.now bytes.now self.now) }
         ensures back { IfErr result (λ e. e.1 ≡ pass) }
     {
@@ -154,7 +154,7 @@ impl<B: Blocks, R: Blocks, O: Opener<B>, N: Array<Opened>> Desk<B, R, O, N> {
     }
 
     /// The first job, once there is one. None: the desk is closed, and no job is left.
-    pub fn take<W: Wait>(&self, rt: &W) -> Option<Job<B, R, O, N>>
+    pub fn take<W: Wait>(&self, rt: &W) -> Option<Job<B, F, O, N>>
         ensures { IfSome result (λ job. job.names.by_group ≡ self.now) }
     {
         let mut queue = self.filled.wait_while(rt, self.queue.lock(rt), |queue| {
@@ -165,12 +165,12 @@ impl<B: Blocks, R: Blocks, O: Opener<B>, N: Array<Opened>> Desk<B, R, O, N> {
     }
 
     /// Gives an answer to the ticket that waits for it. It takes no memory.
-    pub fn post<W: Wait>(&self, rt: &W, answer: Answer<B, R, O, N>) {
+    pub fn post<W: Wait>(&self, rt: &W, answer: Answer<B, F, O, N>) {
         answer.post(rt);
     }
 
     /// Serves the first job, once there is one, and posts its answer. False: the desk is closed, and no job is left.
-    pub fn serve_next<W: Wait>(&self, rt: &W, alloc: Global, units: &Units<B, R, O, N>) -> bool {
+    pub fn serve_next<W: Wait>(&self, rt: &W, alloc: Global, units: &Units<B, F, O, N>) -> bool {
         let Some(job) = self.take(rt) else {
             return false;
         };
@@ -192,10 +192,10 @@ impl<B: Blocks, R: Blocks, O: Opener<B>, N: Array<Opened>> Desk<B, R, O, N> {
     pub fn collect<W: Wait>(
         &self,
         rt: &W,
-        ticket: Ticket<'_, B, R, O, N>,
-    ) -> (Pass<B, R, O, N>, Result<Reply, Refused<Group>>)
+        ticket: Ticket<'_, B, F, O, N>,
+    ) -> (Pass<B, F, O, N>, Result<Reply, Refused<Group>>)
         ensures place { result.0.place ≡ ticket.entry.names.place }
-        ensures end { HasAnswered (devices B.Blocks R.Blocks O.Opener) (N.opening ticket.entry.names.place) ticket.entry
+        ensures end { HasAnswered (devices B.Blocks F.Blocks O.Opener) (N.opening ticket.entry.names.place) ticket.entry
             result.0.pass result.1 }
     {
         self.filled.notify_one();
@@ -206,8 +206,8 @@ impl<B: Blocks, R: Blocks, O: Opener<B>, N: Array<Opened>> Desk<B, R, O, N> {
     fn take_back<W: Wait>(
         &self,
         rt: &W,
-        ticket: &Ticket<'_, B, R, O, N>,
-    ) -> Option<Pass<B, R, O, N>>
+        ticket: &Ticket<'_, B, F, O, N>,
+    ) -> Option<Pass<B, F, O, N>>
         ensures { IfSome result (λ pass.
             handed_of pass ticket.now.names.asked ticket.now.data_in ticket.now.names.by_group ≡ ticket.now) }
     {
@@ -222,12 +222,12 @@ impl<B: Blocks, R: Blocks, O: Opener<B>, N: Array<Opened>> Desk<B, R, O, N> {
         &self,
         rt: &W,
         alloc: Global,
-        units: &Units<B, R, O, N>,
-        ticket: Ticket<'_, B, R, O, N>,
-    ) -> (Pass<B, R, O, N>, Result<Reply, Refused<Group>>)
+        units: &Units<B, F, O, N>,
+        ticket: Ticket<'_, B, F, O, N>,
+    ) -> (Pass<B, F, O, N>, Result<Reply, Refused<Group>>)
         requires { ticket.names.place < units.now }
         ensures place { result.0.place ≡ ticket.entry.names.place }
-        ensures end { HasAnswered (devices B.Blocks R.Blocks O.Opener) (N.opening ticket.entry.names.place) ticket.entry
+        ensures end { HasAnswered (devices B.Blocks F.Blocks O.Opener) (N.opening ticket.entry.names.place) ticket.entry
             result.0.pass result.1 }
     {
         match self.take_back(rt, &ticket) {
@@ -242,16 +242,16 @@ impl<B: Blocks, R: Blocks, O: Opener<B>, N: Array<Opened>> Desk<B, R, O, N> {
         &self,
         rt: &W,
         alloc: Global,
-        units: &Units<B, R, O, N>,
-        pass: Pass<B, R, O, N>,
+        units: &Units<B, F, O, N>,
+        pass: Pass<B, F, O, N>,
         asked: &Asked,
         bytes: &[u8],
     ) -> (
-        Pass<B, R, O, N>,
+        Pass<B, F, O, N>,
         Result<Result<Reply, Refused<Group>>, DeskFault>,
     )
         requires { pass.place < units.now }
-        ensures { IsSettled (devices B.Blocks R.Blocks O.Opener) (N.opening pass.place) pass
+        ensures { IsSettled (devices B.Blocks F.Blocks O.Opener) (N.opening pass.place) pass
             (handed_of pass asked.now bytes.now self.now) result.0 result.1 }
     {
         if self.is_closed.load(Ordering::SeqCst) {
@@ -267,16 +267,16 @@ impl<B: Blocks, R: Blocks, O: Opener<B>, N: Array<Opened>> Desk<B, R, O, N> {
         &self,
         rt: &W,
         alloc: Global,
-        units: &Units<B, R, O, N>,
-        pass: Pass<B, R, O, N>,
+        units: &Units<B, F, O, N>,
+        pass: Pass<B, F, O, N>,
         asked: &Asked,
         bytes: &[u8],
     ) -> (
-        Pass<B, R, O, N>,
+        Pass<B, F, O, N>,
         Result<Result<Reply, Refused<Group>>, DeskFault>,
     )
         requires { pass.place < units.now }
-        ensures { IsSettled (devices B.Blocks R.Blocks O.Opener) (N.opening pass.place) pass
+        ensures { IsSettled (devices B.Blocks F.Blocks O.Opener) (N.opening pass.place) pass
             (handed_of pass asked.now bytes.now self.now) result.0 result.1 }
     {
         match self.submit(rt, alloc, pass, asked, bytes) {
@@ -299,16 +299,16 @@ impl<B: Blocks, R: Blocks, O: Opener<B>, N: Array<Opened>> Desk<B, R, O, N> {
         &self,
         rt: &W,
         alloc: Global,
-        units: &Units<B, R, O, N>,
-        pass: Pass<B, R, O, N>,
+        units: &Units<B, F, O, N>,
+        pass: Pass<B, F, O, N>,
         asked: &Asked,
         bytes: &[u8],
     ) -> (
-        Pass<B, R, O, N>,
+        Pass<B, F, O, N>,
         Result<Result<Reply, Refused<Group>>, DeskFault>,
     )
         requires { pass.place < units.now }
-        ensures { IsSettled (devices B.Blocks R.Blocks O.Opener) (N.opening pass.place) pass
+        ensures { IsSettled (devices B.Blocks F.Blocks O.Opener) (N.opening pass.place) pass
             (handed_of pass asked.now bytes.now self.now) result.0 result.1 }
     {
         if bytes.len() > LONGEST_COPY {

@@ -19,15 +19,15 @@ use unit_history::{LegalHistory, Opened, Pass, Refused};
 // What a command came to. It keeps what the job's pass had seen, and that the pass has since seen what the reply or the refusal
 // says.
 #[derive(Drop)]
-struct Ended<B: Blocks, R: Blocks, O: Opener<B>, N: Array<Opened>> {
+struct Ended<B: Blocks, F: Blocks, O: Opener<B>, N: Array<Opened>> {
     names: Names,
     bytes: Vec<u8>,
-    before: LegalHistory<B, R, O, N>,
-    pass: Pass<B, R, O, N>,
+    before: LegalHistory<B, F, O, N>,
+    pass: Pass<B, F, O, N>,
     end: Result<Reply, Refused<Group>>,
 }
 
-impl<B: Blocks, R: Blocks, O: Opener<B>, N: Array<Opened>> Model for Ended<B, R, O, N> {
+impl<B: Blocks, F: Blocks, O: Opener<B>, N: Array<Opened>> Model for Ended<B, F, O, N> {
     ghost use Rattle.std.specs.Prelude.{◌≡◌};
     ghost use Rattle.unit_entries.specs.Devices.{devices};
     ghost use Rattle.forwarding.specs.Served.{HasAnswered, handed};
@@ -38,22 +38,22 @@ impl<B: Blocks, R: Blocks, O: Opener<B>, N: Array<Opened>> Model for Ended<B, R,
     ghost view = { λ e. record { job = handed e.names e.bytes.items e.before.1; after = e.pass.pass; end = e.end } };
 
     ghost invariant = { λ e. (e.before.0 ≡ e.names.place) × (e.pass.place ≡ e.names.place)
-        × HasAnswered (devices B.Blocks R.Blocks O.Opener) (N.opening e.names.place) (handed e.names e.bytes.items e.before.1)
+        × HasAnswered (devices B.Blocks F.Blocks O.Opener) (N.opening e.names.place) (handed e.names e.bytes.items e.before.1)
         e.pass.pass e.end };
 }
 
-impl<B: Blocks, R: Blocks, O: Opener<B>, N: Array<Opened>> Ended<B, R, O, N> {
+impl<B: Blocks, F: Blocks, O: Opener<B>, N: Array<Opened>> Ended<B, F, O, N> {
     // Whether the ticket with these names, whose pass had seen this, waits for it.
-    fn is_for(&self, names: &Names, bytes: &[u8], seen: &LegalHistory<B, R, O, N>) -> bool
+    fn is_for(&self, names: &Names, bytes: &[u8], seen: &LegalHistory<B, F, O, N>) -> bool
         ensures { MatchBool result (self.now.job ≡ handed names.now bytes.now seen.now.1) (Unit {0}) }
     {
         self.names.is_same(names) && self.bytes.as_slice() == bytes && self.before.is_same(seen)
     }
 
     // The pass and the end.
-    fn open(self) -> (Pass<B, R, O, N>, Result<Reply, Refused<Group>>)
+    fn open(self) -> (Pass<B, F, O, N>, Result<Reply, Refused<Group>>)
         ensures place { result.0.place ≡ self.job.names.place }
-        ensures end { HasAnswered (devices B.Blocks R.Blocks O.Opener) (N.opening self.job.names.place) self.job result.0.pass result.1 }
+        ensures end { HasAnswered (devices B.Blocks F.Blocks O.Opener) (N.opening self.job.names.place) self.job result.0.pass result.1 }
     {
         (self.pass, self.end)
     }
@@ -61,16 +61,16 @@ impl<B: Blocks, R: Blocks, O: Opener<B>, N: Array<Opened>> Ended<B, R, O, N> {
 
 // Where an answer comes. It is made when its job is handed in.
 #[derive(Drop)]
-struct Slot<B: Blocks, R: Blocks, O: Opener<B>, N: Array<Opened>> {
-    answer: Mutex<Option<Ended<B, R, O, N>>>,
+struct Slot<B: Blocks, F: Blocks, O: Opener<B>, N: Array<Opened>> {
+    answer: Mutex<Option<Ended<B, F, O, N>>>,
     filled: Condvar,
 }
 
-impl<B: Blocks, R: Blocks, O: Opener<B>, N: Array<Opened>> Slot<B, R, O, N> {
+impl<B: Blocks, F: Blocks, O: Opener<B>, N: Array<Opened>> Slot<B, F, O, N> {
     // A slot without an answer, shared by two.
     fn shared(
         alloc: Global,
-    ) -> Result<(Arc<Slot<B, R, O, N>, Global>, Arc<Slot<B, R, O, N>, Global>), NoMemory> {
+    ) -> Result<(Arc<Slot<B, F, O, N>, Global>, Arc<Slot<B, F, O, N>, Global>), NoMemory> {
         let slot = Slot {
             answer: Mutex::new(None),
             filled: Condvar::new(),
@@ -88,21 +88,21 @@ impl<B: Blocks, R: Blocks, O: Opener<B>, N: Array<Opened>> Slot<B, R, O, N> {
 // A command of a session in a desk's queue: the session's pass, which goes with it, a copy of the data that came, and the slot of
 // its answer.
 #[derive(Drop)]
-pub(crate) struct Waiting<B: Blocks, R: Blocks, O: Opener<B>, N: Array<Opened>> {
-    pub(crate) pass: Pass<B, R, O, N>,
+pub(crate) struct Waiting<B: Blocks, F: Blocks, O: Opener<B>, N: Array<Opened>> {
+    pub(crate) pass: Pass<B, F, O, N>,
     asked: Asked,
     bytes: Vec<u8>,
-    slot: Arc<Slot<B, R, O, N>, Global>,
+    slot: Arc<Slot<B, F, O, N>, Global>,
 }
 
 /// A job that was taken from the desk of a group. Contracts see what it is known by, its data, and what its pass has seen.
-pub struct Job<B: Blocks, R: Blocks, O: Opener<B>, N: Array<Opened>> {
-    waiting: Waiting<B, R, O, N>,
+pub struct Job<B: Blocks, F: Blocks, O: Opener<B>, N: Array<Opened>> {
+    waiting: Waiting<B, F, O, N>,
     by_group: Group,
 }
 
-impl<B: Blocks + Drop, R: Blocks + Drop, O: Opener<B> + Drop, N: Array<Opened>> Drop
-    for Job<B, R, O, N> {
+impl<B: Blocks + Drop, F: Blocks + Drop, O: Opener<B> + Drop, N: Array<Opened>> Drop
+    for Job<B, F, O, N> {
     fn drop(self) {
         let Self {
             waiting: _,
@@ -111,7 +111,7 @@ impl<B: Blocks + Drop, R: Blocks + Drop, O: Opener<B> + Drop, N: Array<Opened>> 
     }
 }
 
-impl<B: Blocks, R: Blocks, O: Opener<B>, N: Array<Opened>> Model for Job<B, R, O, N> {
+impl<B: Blocks, F: Blocks, O: Opener<B>, N: Array<Opened>> Model for Job<B, F, O, N> {
     ghost use Rattle.forwarding.specs.Served.{Handed, handed_of};
 
     ghost Value = { Handed };
@@ -119,9 +119,9 @@ impl<B: Blocks, R: Blocks, O: Opener<B>, N: Array<Opened>> Model for Job<B, R, O
     ghost view = { λ j. handed_of j.waiting.pass j.waiting.asked j.waiting.bytes.items j.by_group };
 }
 
-impl<B: Blocks, R: Blocks, O: Opener<B>, N: Array<Opened>> Job<B, R, O, N> {
+impl<B: Blocks, F: Blocks, O: Opener<B>, N: Array<Opened>> Job<B, F, O, N> {
     // What waited at the desk of this group.
-    pub(crate) fn from_desk(waiting: Waiting<B, R, O, N>, by_group: Group) -> Job<B, R, O, N>
+    pub(crate) fn from_desk(waiting: Waiting<B, F, O, N>, by_group: Group) -> Job<B, F, O, N>
         ensures { result.names.by_group ≡ by_group }
     {
         Job { waiting, by_group }
@@ -137,9 +137,9 @@ impl<B: Blocks, R: Blocks, O: Opener<B>, N: Array<Opened>> Job<B, R, O, N> {
     /// Two jobs, each with the other's slot, so that a test can send each answer to the wrong ticket. What a ticket is promised does not
     /// rest on the slots.
     pub fn with_slots_exchanged(
-        one: Job<B, R, O, N>,
-        two: Job<B, R, O, N>,
-    ) -> (Job<B, R, O, N>, Job<B, R, O, N>)
+        one: Job<B, F, O, N>,
+        two: Job<B, F, O, N>,
+    ) -> (Job<B, F, O, N>, Job<B, F, O, N>)
         ensures { (result.0 ≡ one) × (result.1 ≡ two) }
     {
         let (mut one, mut two) = (one, two);
@@ -152,8 +152,8 @@ impl<B: Blocks, R: Blocks, O: Opener<B>, N: Array<Opened>> Job<B, R, O, N> {
         self,
         rt: &W,
         alloc: Global,
-        units: &Units<B, R, O, N>,
-    ) -> Answer<B, R, O, N>
+        units: &Units<B, F, O, N>,
+    ) -> Answer<B, F, O, N>
         requires { self.names.place < units.now }
         ensures { result.job ≡ self }
     {
@@ -181,19 +181,19 @@ impl<B: Blocks, R: Blocks, O: Opener<B>, N: Array<Opened>> Job<B, R, O, N> {
 }
 
 /// What a job came to, with the slot that it goes to. Contracts see the job, what its pass has seen since, and the end.
-pub struct Answer<B: Blocks, R: Blocks, O: Opener<B>, N: Array<Opened>> {
-    ended: Ended<B, R, O, N>,
-    slot: Arc<Slot<B, R, O, N>, Global>,
+pub struct Answer<B: Blocks, F: Blocks, O: Opener<B>, N: Array<Opened>> {
+    ended: Ended<B, F, O, N>,
+    slot: Arc<Slot<B, F, O, N>, Global>,
 }
 
-impl<B: Blocks + Drop, R: Blocks + Drop, O: Opener<B> + Drop, N: Array<Opened>> Drop
-    for Answer<B, R, O, N> {
+impl<B: Blocks + Drop, F: Blocks + Drop, O: Opener<B> + Drop, N: Array<Opened>> Drop
+    for Answer<B, F, O, N> {
     fn drop(self) {
         let Self { ended: _, slot: _ } = self;
     }
 }
 
-impl<B: Blocks, R: Blocks, O: Opener<B>, N: Array<Opened>> Model for Answer<B, R, O, N> {
+impl<B: Blocks, F: Blocks, O: Opener<B>, N: Array<Opened>> Model for Answer<B, F, O, N> {
     ghost use Rattle.forwarding.specs.Jobs.{Done};
 
     ghost Value = { Done };
@@ -201,7 +201,7 @@ impl<B: Blocks, R: Blocks, O: Opener<B>, N: Array<Opened>> Model for Answer<B, R
     ghost view = { λ a. a.ended };
 }
 
-impl<B: Blocks, R: Blocks, O: Opener<B>, N: Array<Opened>> Answer<B, R, O, N> {
+impl<B: Blocks, F: Blocks, O: Opener<B>, N: Array<Opened>> Answer<B, F, O, N> {
     // Puts it where its ticket waits. It takes no memory.
     pub(crate) fn post<W: Wait>(self, rt: &W) {
         let Answer { ended, slot } = self;
@@ -213,14 +213,14 @@ impl<B: Blocks, R: Blocks, O: Opener<B>, N: Array<Opened>> Answer<B, R, O, N> {
 /// What is left to the worker that handed a job in, with the data that it came with. Contracts see what the job is known by, its
 /// data, and what its pass had seen.
 #[derive(Drop)]
-pub struct Ticket<'a, B: Blocks, R: Blocks, O: Opener<B>, N: Array<Opened>> {
+pub struct Ticket<'a, B: Blocks, F: Blocks, O: Opener<B>, N: Array<Opened>> {
     names: Names,
     bytes: &'a [u8],
-    seen: LegalHistory<B, R, O, N>,
-    slot: Arc<Slot<B, R, O, N>, Global>,
+    seen: LegalHistory<B, F, O, N>,
+    slot: Arc<Slot<B, F, O, N>, Global>,
 }
 
-impl<'a, B: Blocks, R: Blocks, O: Opener<B>, N: Array<Opened>> Model for Ticket<'a, B, R, O, N> {
+impl<'a, B: Blocks, F: Blocks, O: Opener<B>, N: Array<Opened>> Model for Ticket<'a, B, F, O, N> {
     ghost use Rattle.std.specs.Prelude.{◌≡◌};
     ghost use Rattle.forwarding.specs.Served.{Handed, handed};
 
@@ -232,11 +232,11 @@ impl<'a, B: Blocks, R: Blocks, O: Opener<B>, N: Array<Opened>> Model for Ticket<
 }
 
 // Whether the answer that a ticket waits for is there.
-fn is_for<B: Blocks, R: Blocks, O: Opener<B>, N: Array<Opened>>(
-    held: &Option<Ended<B, R, O, N>>,
+fn is_for<B: Blocks, F: Blocks, O: Opener<B>, N: Array<Opened>>(
+    held: &Option<Ended<B, F, O, N>>,
     names: &Names,
     bytes: &[u8],
-    seen: &LegalHistory<B, R, O, N>,
+    seen: &LegalHistory<B, F, O, N>,
 ) -> bool
     ensures { MatchBool result (IsFor held.now (handed names.now bytes.now seen.now.1)) (Unit {0}) }
 {
@@ -246,7 +246,7 @@ fn is_for<B: Blocks, R: Blocks, O: Opener<B>, N: Array<Opened>>(
     }
 }
 
-impl<'a, B: Blocks, R: Blocks, O: Opener<B>, N: Array<Opened>> Ticket<'a, B, R, O, N> {
+impl<'a, B: Blocks, F: Blocks, O: Opener<B>, N: Array<Opened>> Ticket<'a, B, F, O, N> {
     /// The place of its job's unit.
     pub fn place(&self) -> usize
         ensures { result ≡ self.now.names.place }
@@ -255,7 +255,7 @@ impl<'a, B: Blocks, R: Blocks, O: Opener<B>, N: Array<Opened>> Ticket<'a, B, R, 
     }
 
     // Whether this pass is that of its job.
-    pub(crate) fn is_of(&self, pass: &Pass<B, R, O, N>) -> bool
+    pub(crate) fn is_of(&self, pass: &Pass<B, F, O, N>) -> bool
         ensures { MatchBool result
             (handed_of pass.now self.now.names.asked self.now.data_in self.now.names.by_group ≡ self.now) (Unit {0}) }
     {
@@ -273,20 +273,20 @@ impl<'a, B: Blocks, R: Blocks, O: Opener<B>, N: Array<Opened>> Ticket<'a, B, R, 
         self,
         rt: &W,
         alloc: Global,
-        units: &Units<B, R, O, N>,
-        pass: Pass<B, R, O, N>,
-    ) -> (Pass<B, R, O, N>, Result<Reply, Refused<Group>>)
+        units: &Units<B, F, O, N>,
+        pass: Pass<B, F, O, N>,
+    ) -> (Pass<B, F, O, N>, Result<Reply, Refused<Group>>)
         requires own { handed_of pass self.names.asked self.data_in self.names.by_group ≡ self }
         requires place { self.names.place < units.now }
         ensures place { result.0.place ≡ self.entry.names.place }
-        ensures end { HasAnswered (devices B.Blocks R.Blocks O.Opener) (N.opening self.entry.names.place) self.entry
+        ensures end { HasAnswered (devices B.Blocks F.Blocks O.Opener) (N.opening self.entry.names.place) self.entry
             result.0.pass result.1 }
     {
         serve_named(&self.names, rt, alloc, units, pass, self.bytes)
     }
 
     // Its answer, once it is there. Another's is left where it is.
-    fn ended<W: Wait>(&self, rt: &W) -> Ended<B, R, O, N>
+    fn ended<W: Wait>(&self, rt: &W) -> Ended<B, F, O, N>
         ensures { result.job ≡ self.now }
     {
         let held = self.slot.answer.lock(rt);
@@ -303,9 +303,9 @@ impl<'a, B: Blocks, R: Blocks, O: Opener<B>, N: Array<Opened>> Ticket<'a, B, R, 
     pub(crate) fn collect<W: Wait>(
         self,
         rt: &W,
-    ) -> (Pass<B, R, O, N>, Result<Reply, Refused<Group>>)
+    ) -> (Pass<B, F, O, N>, Result<Reply, Refused<Group>>)
         ensures place { result.0.place ≡ self.entry.names.place }
-        ensures end { HasAnswered (devices B.Blocks R.Blocks O.Opener) (N.opening self.entry.names.place) self.entry
+        ensures end { HasAnswered (devices B.Blocks F.Blocks O.Opener) (N.opening self.entry.names.place) self.entry
             result.0.pass result.1 }
     {
         self.ended(rt).open()
@@ -314,13 +314,13 @@ impl<'a, B: Blocks, R: Blocks, O: Opener<B>, N: Array<Opened>> Ticket<'a, B, R, 
 
 // A command of a session that is to wait at the desk of a group, and its ticket. Refused, there was no memory, and the pass is
 // handed back.
-pub(crate) fn prepare<'a, B: Blocks, R: Blocks, O: Opener<B>, N: Array<Opened>>(
+pub(crate) fn prepare<'a, B: Blocks, F: Blocks, O: Opener<B>, N: Array<Opened>>(
     alloc: Global,
-    pass: Pass<B, R, O, N>,
+    pass: Pass<B, F, O, N>,
     asked: &Asked,
     bytes: &'a [u8],
     by_group: Group,
-) -> Result<(Ticket<'a, B, R, O, N>, Waiting<B, R, O, N>), Pass<B, R, O, N>>
+) -> Result<(Ticket<'a, B, F, O, N>, Waiting<B, F, O, N>), Pass<B, F, O, N>>
     ensures ticket { IfOk result (λ r. r.0 ≡ handed_of pass asked.now bytes.now by_group) }
     ensures pass { IfOk result (λ r. r.1.pass ≡ pass) }
     ensures back { IfErr result (λ back. back ≡ pass) }

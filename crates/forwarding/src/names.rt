@@ -14,8 +14,8 @@ use std::sync::Wait;
 use unit_history::{Opened, Pass, Refused};
 
 /// What a command of the session with this pass is known by at the desk of a group.
-pub(crate) fn named<B: Blocks, R: Blocks, O: Opener<B>, N: Array<Opened>>(
-    pass: &Pass<B, R, O, N>,
+pub(crate) fn named<B: Blocks, F: Blocks, O: Opener<B>, N: Array<Opened>>(
+    pass: &Pass<B, F, O, N>,
     asked: &Asked,
     by_group: Group,
 ) -> Names
@@ -31,9 +31,9 @@ pub(crate) fn named<B: Blocks, R: Blocks, O: Opener<B>, N: Array<Opened>>(
 }
 
 /// Whether they are of the next command of the session with this pass.
-pub(crate) fn are_of<B: Blocks, R: Blocks, O: Opener<B>, N: Array<Opened>>(
+pub(crate) fn are_of<B: Blocks, F: Blocks, O: Opener<B>, N: Array<Opened>>(
     names: &Names,
-    pass: &Pass<B, R, O, N>,
+    pass: &Pass<B, F, O, N>,
 ) -> bool
     ensures { MatchBool result (names_of pass.now names.now.asked names.now.by_group ≡ names.now) (Unit {0}) }
 {
@@ -41,18 +41,18 @@ pub(crate) fn are_of<B: Blocks, R: Blocks, O: Opener<B>, N: Array<Opened>>(
 }
 
 /// Serves the command, with its session's pass and the data that came for it, as [`Units::serve`].
-pub(crate) fn serve_named<B: Blocks, R: Blocks, O: Opener<B>, N: Array<Opened>, W: Wait>(
+pub(crate) fn serve_named<B: Blocks, F: Blocks, O: Opener<B>, N: Array<Opened>, W: Wait>(
     names: &Names,
     rt: &W,
     alloc: Global,
-    units: &Units<B, R, O, N>,
-    pass: Pass<B, R, O, N>,
+    units: &Units<B, F, O, N>,
+    pass: Pass<B, F, O, N>,
     bytes: &[u8],
-) -> (Pass<B, R, O, N>, Result<Reply, Refused<Group>>)
+) -> (Pass<B, F, O, N>, Result<Reply, Refused<Group>>)
     requires own { names_of pass names.now.asked names.now.by_group ≡ names.now }
     requires place { names.now.place < units.now }
     ensures place { result.0.place ≡ names.now.place }
-    ensures end { HasAnswered (devices B.Blocks R.Blocks O.Opener) (N.opening names.now.place)
+    ensures end { HasAnswered (devices B.Blocks F.Blocks O.Opener) (N.opening names.now.place)
         (handed names.now bytes.now pass.pass.seen) result.0.pass result.1 }
 {
     units.serve(rt, pass, alloc, &names.by_group, &names.asked, bytes)

@@ -12,7 +12,7 @@ use std::marker::Model;
 use std::sync::Wait;
 use unit_history::{LegalHistory, Opened, Pass as UnitPass};
 
-impl<B: Blocks, R: Blocks, O: Opener<B>, N: Array<Opened>> Pass for UnitPass<B, R, O, N> {
+impl<B: Blocks, F: Blocks, O: Opener<B>, N: Array<Opened>> Pass for UnitPass<B, F, O, N> {
     ghost held = { λ p. p };
 
     fn place(&self) -> usize {
@@ -26,13 +26,13 @@ impl<B: Blocks, R: Blocks, O: Opener<B>, N: Array<Opened>> Pass for UnitPass<B, 
 
 /// The units of an array, and a desk for each controller, to which sessions of both hand the commands of the units that it owns.
 /// Contracts see how many units there are.
-pub struct Controllers<B: Blocks, R: Blocks, O: Opener<B>, N: Array<Opened>> {
-    units: Units<B, R, O, N>,
-    first: Desk<B, R, O, N>,
-    second: Desk<B, R, O, N>,
+pub struct Controllers<B: Blocks, F: Blocks, O: Opener<B>, N: Array<Opened>> {
+    units: Units<B, F, O, N>,
+    first: Desk<B, F, O, N>,
+    second: Desk<B, F, O, N>,
 }
 
-impl<B: Blocks, R: Blocks, O: Opener<B>, N: Array<Opened>> Drop for Controllers<B, R, O, N> {
+impl<B: Blocks, F: Blocks, O: Opener<B>, N: Array<Opened>> Drop for Controllers<B, F, O, N> {
     fn drop(self) {
         let Self {
             units: _,
@@ -42,7 +42,7 @@ impl<B: Blocks, R: Blocks, O: Opener<B>, N: Array<Opened>> Drop for Controllers<
     }
 }
 
-impl<B: Blocks, R: Blocks, O: Opener<B>, N: Array<Opened>> Model for Controllers<B, R, O, N> {
+impl<B: Blocks, F: Blocks, O: Opener<B>, N: Array<Opened>> Model for Controllers<B, F, O, N> {
     ghost use Rattle.std.specs.Prelude.{◌≡◌, ℕ};
     ghost use Rattle.scsi_types.specs.declared.names.Group.TheVariants.{One, Two};
 
@@ -53,9 +53,9 @@ impl<B: Blocks, R: Blocks, O: Opener<B>, N: Array<Opened>> Model for Controllers
     ghost invariant = { λ c. (c.first ≡ One) × (c.second ≡ Two) };
 }
 
-impl<B: Blocks, R: Blocks, O: Opener<B>, N: Array<Opened>> Controllers<B, R, O, N> {
+impl<B: Blocks, F: Blocks, O: Opener<B>, N: Array<Opened>> Controllers<B, F, O, N> {
     /// Two controllers with these units. No lane is at their desks yet.
-    pub fn new(alloc: Global, units: Units<B, R, O, N>) -> Result<Controllers<B, R, O, N>, NoMemory>
+    pub fn new(alloc: Global, units: Units<B, F, O, N>) -> Result<Controllers<B, F, O, N>, NoMemory>
         ensures { IfOk result (λ controllers. controllers ≡ units) }
     {
         Ok(Controllers {
@@ -66,14 +66,14 @@ impl<B: Blocks, R: Blocks, O: Opener<B>, N: Array<Opened>> Controllers<B, R, O, 
     }
 
     /// The units.
-    pub fn units(&self) -> &Units<B, R, O, N>
+    pub fn units(&self) -> &Units<B, F, O, N>
         ensures { result.now ≡ self.now }
     {
         &self.units
     }
 
     /// The desk of a group's controller.
-    pub fn desk(&self, group: Group) -> &Desk<B, R, O, N>
+    pub fn desk(&self, group: Group) -> &Desk<B, F, O, N>
         ensures { result.now ≡ group }
     {
         match group {
@@ -89,18 +89,18 @@ impl<B: Blocks, R: Blocks, O: Opener<B>, N: Array<Opened>> Controllers<B, R, O, 
     }
 }
 
-impl<B: Blocks, R: Blocks, O: Opener<B>, N: Array<Opened>> LogicalUnits<
-    UnitPass<B, R, O, N>,
-    LegalHistory<B, R, O, N>,
-> for Controllers<B, R, O, N> {
+impl<B: Blocks, F: Blocks, O: Opener<B>, N: Array<Opened>> LogicalUnits<
+    UnitPass<B, F, O, N>,
+    LegalHistory<B, F, O, N>,
+> for Controllers<B, F, O, N> {
     ghost use Rattle.unit_history.specs.Calls.{HasWorked};
     ghost use Rattle.unit_entries.specs.Devices.{claims_of, devices};
 
     ghost unit_count = { λ c. c };
 
     ghost claims = { record {
-      contents = claims_of (devices B.Blocks R.Blocks O.Opener);
-      worked = HasWorked (devices B.Blocks R.Blocks O.Opener);
+      contents = claims_of (devices B.Blocks F.Blocks O.Opener);
+      worked = HasWorked (devices B.Blocks F.Blocks O.Opener);
     } };
 
     ghost opening = { N.opening };
@@ -111,7 +111,7 @@ impl<B: Blocks, R: Blocks, O: Opener<B>, N: Array<Opened>> LogicalUnits<
         self.units.count() as u8
     }
 
-    fn in_one_history(one: &LegalHistory<B, R, O, N>, other: &LegalHistory<B, R, O, N>) {
+    fn in_one_history(one: &LegalHistory<B, F, O, N>, other: &LegalHistory<B, F, O, N>) {
         one.in_one_history(other);
     }
 
@@ -121,7 +121,7 @@ impl<B: Blocks, R: Blocks, O: Opener<B>, N: Array<Opened>> LogicalUnits<
         unit: u8,
         port: PortName,
         group: Group,
-    ) -> Result<UnitPass<B, R, O, N>, LegalHistory<B, R, O, N>> {
+    ) -> Result<UnitPass<B, F, O, N>, LegalHistory<B, F, O, N>> {
         self.units.attach(rt, usize::from(unit), port, group)
     }
 
@@ -130,11 +130,11 @@ impl<B: Blocks, R: Blocks, O: Opener<B>, N: Array<Opened>> LogicalUnits<
         &self,
         rt: &W,
         alloc: Global,
-        pass: UnitPass<B, R, O, N>,
+        pass: UnitPass<B, F, O, N>,
         by_group: Group,
         asked: &Asked,
         bytes: &[u8],
-    ) -> (UnitPass<B, R, O, N>, Result<Reply, Unserved>) {
+    ) -> (UnitPass<B, F, O, N>, Result<Reply, Unserved>) {
         let desk = self.desk(by_group);
         match desk.serve(rt, alloc, &self.units, pass, asked, bytes) {
             (pass, Ok(Ok(reply))) => (pass, Ok(reply)),
@@ -147,11 +147,11 @@ impl<B: Blocks, R: Blocks, O: Opener<B>, N: Array<Opened>> LogicalUnits<
         }
     }
 
-    fn reset<W: Wait>(&self, rt: &W, pass: UnitPass<B, R, O, N>) -> (UnitPass<B, R, O, N>, bool) {
+    fn reset<W: Wait>(&self, rt: &W, pass: UnitPass<B, F, O, N>) -> (UnitPass<B, F, O, N>, bool) {
         self.units.reset(rt, pass)
     }
 
-    fn retire<W: Wait>(&self, rt: &W, pass: UnitPass<B, R, O, N>) -> LegalHistory<B, R, O, N> {
+    fn retire<W: Wait>(&self, rt: &W, pass: UnitPass<B, F, O, N>) -> LegalHistory<B, F, O, N> {
         match self.units.retire(rt, pass) {
             Ok(seen) => seen,
             Err(gone) => gone.history(),

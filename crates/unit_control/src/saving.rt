@@ -21,8 +21,8 @@ use std::alloc::Global;
 /// Does a PERSISTENT RESERVE OUT of a session. Where the file may not hold just the record to last of what is there then,
 /// that is saved first; if that fails, nothing else has changed. A refusal changes nothing. Takes no memory: what the
 /// registry becomes is made in one that is there for that.
-pub fn reserve<R: Blocks>(
-    file: &mut RegFile<R>,
+pub fn reserve<F: Blocks>(
+    file: &mut RegFile<F>,
     control: &mut Control,
     made: &mut Registry,
     alloc: Global,
@@ -32,17 +32,17 @@ pub fn reserve<R: Blocks>(
     requires { IsPlaceOf control.old.sessions sender.session sender.at }
     ensures stays { Stays control.old control.new sender.session sender.at }
     ensures reserved { IsReserved control.old (effect_by control.old sender.session asked) control.new result }
-    ensures kept { IsTrue R.claims → LastsAmong R.size R.may_hold file.old control.old.lasting
-        → LastsAmong R.size R.may_hold file.new control.new.lasting }
-    ensures stop { IsTrue R.claims → IsTrue R.claims_moments
-        → LastsAmong R.size R.may_hold file.old control.old.lasting
-        → StopsAt R.moment R.left_since (saved_by (effect_by control.old sender.session asked) ++ control.old.lasting)
+    ensures kept { IsTrue F.claims → LastsAmong F.size F.may_hold file.old control.old.lasting
+        → LastsAmong F.size F.may_hold file.new control.new.lasting }
+    ensures stop { IsTrue F.claims → IsTrue F.claims_moments
+        → LastsAmong F.size F.may_hold file.old control.old.lasting
+        → StopsAt F.moment F.left_since (saved_by (effect_by control.old sender.session asked) ++ control.old.lasting)
         file.old.device file.new.device }
     ensures access { control.new.access ≡ control.old.access }
     ensures counted { (blocks : List (List ℕ)) (reads writes opens : ℕ) → AreCounted
-        (counters reads writes opens (R.failures file.old.device))
-        (counters reads writes opens (R.failures file.new.device)) (choice_of result blocks control.new.lasting) }
-    ensures fine { (blocks : List (List ℕ)) → Tells (R.failures file.old.device) (R.failures file.new.device)
+        (counters reads writes opens (F.failures file.old.device))
+        (counters reads writes opens (F.failures file.new.device)) (choice_of result blocks control.new.lasting) }
+    ensures fine { (blocks : List (List ℕ)) → Tells (F.failures file.old.device) (F.failures file.new.device)
         (IsFine (choice_of result blocks control.new.lasting)) }
 {
     match control.attempt(made, sender, asked) {

@@ -12,15 +12,15 @@ use unit_state::Unit;
 /// A unit of which nothing was asked yet is what the history without an entry leaves.
 pub fn a_unit_that_opened_has_the_history_without_an_entry<
     B: Blocks,
-    R: Blocks,
+    F: Blocks,
     O: Opener<B>,
     N: Array<Opened>,
     const U: usize,
->(unit: &Unit<B, R, O>)
+>(unit: &Unit<B, F, O>)
     requires state { N.opening U ≡ state_of B.contents unit.now }
     requires opens { IsOpening unit.now.control }
     ensures legal { IsHistory (O.claims && B.claims) (N.opening U) [] }
-    ensures behind { IsBehind (O.claims && B.claims) B.contents B.failures O.opens_failed R.failures (N.opening U) [] unit.now }
+    ensures behind { IsBehind (O.claims && B.claims) B.contents B.failures O.opens_failed F.failures (N.opening U) [] unit.now }
 {
     let _ = unit;
 }

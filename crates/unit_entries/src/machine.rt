@@ -13,7 +13,7 @@ use std::alloc::Global;
 use std::marker::Brand;
 use unit_state::{MoveFault, StepEnd, Unit};
 
-impl<B: Blocks, R: Blocks, O: Opener<B>> Published<Noted, Opened> for Unit<B, R, O> {
+impl<B: Blocks, F: Blocks, O: Opener<B>> Published<Noted, Opened> for Unit<B, F, O> {
     ghost use Rattle.std.specs.Prelude.{◌&&◌};
     ghost use Rattle.unit_entries.specs.Histories.{IsHistory, own, command};
     ghost use Rattle.unit_entries.specs.RowOf.{row_behind};
@@ -39,7 +39,7 @@ impl Array<Opened> for Brand {
 }
 
 /// The row of a unit.
-fn row_of<B: Blocks, R: Blocks, O: Opener<B>>(unit: &Unit<B, R, O>) -> Row
+fn row_of<B: Blocks, F: Blocks, O: Opener<B>>(unit: &Unit<B, F, O>) -> Row
     ensures { result ≡ row_of unit.now.control }
 {
     let row = unit.row();
@@ -53,7 +53,7 @@ fn row_of<B: Blocks, R: Blocks, O: Opener<B>>(unit: &Unit<B, R, O>) -> Row
     }
 }
 
-impl<B: Blocks, R: Blocks, O: Opener<B>> Machine<Noted, Opened> for Unit<B, R, O> {
+impl<B: Blocks, F: Blocks, O: Opener<B>> Machine<Noted, Opened> for Unit<B, F, O> {
     ghost use Rattle.std.specs.Prelude.{◌&&◌};
     ghost use Rattle.unit_control.specs.State.{state_of};
     ghost use Rattle.unit_control.specs.Choice.{Fine};
@@ -78,7 +78,7 @@ impl<B: Blocks, R: Blocks, O: Opener<B>> Machine<Noted, Opened> for Unit<B, R, O
 
     type Fault = DeviceFailed;
 
-    ghost after = { IsBehind (O.claims && B.claims) B.contents B.failures O.opens_failed R.failures };
+    ghost after = { IsBehind (O.claims && B.claims) B.contents B.failures O.opens_failed F.failures };
 
     ghost attaching = { λ name. Attach (record { port = name.port; group = name.group }) };
 
@@ -111,11 +111,11 @@ impl<B: Blocks, R: Blocks, O: Opener<B>> Machine<Noted, Opened> for Unit<B, R, O
 
     ghost moved = { IsMoveTold };
 
-    ghost worked = { HaveWorked (devices B.Blocks R.Blocks O.Opener) };
+    ghost worked = { HaveWorked (devices B.Blocks F.Blocks O.Opener) };
 
-    ghost handed_over = { HaveMoved (devices B.Blocks R.Blocks O.Opener) };
+    ghost handed_over = { HaveMoved (devices B.Blocks F.Blocks O.Opener) };
 
-    ghost flushed = { HaveFlushed (devices B.Blocks R.Blocks O.Opener) };
+    ghost flushed = { HaveFlushed (devices B.Blocks F.Blocks O.Opener) };
 
     fn row(&self) -> Row {
         row_of(self)

@@ -11,15 +11,15 @@ use unit_state::Unit;
 
 /// A unit of which nothing was asked yet, before it has a name.
 #[derive(Drop)]
-pub struct NewUnit<B: Blocks, R: Blocks, O: Opener<B>> {
-    pub posted: Posted<Noted, Opened, Unit<B, R, O>>,
-    pub unit: Unit<B, R, O>,
+pub struct NewUnit<B: Blocks, F: Blocks, O: Opener<B>> {
+    pub posted: Posted<Noted, Opened, Unit<B, F, O>>,
+    pub unit: Unit<B, F, O>,
     pub ghost opens: { IsOpening unit.control },
 }
 
-impl<B: Blocks, R: Blocks, O: Opener<B>> NewUnit<B, R, O> {
+impl<B: Blocks, F: Blocks, O: Opener<B>> NewUnit<B, F, O> {
     /// A unit as it opened. Refused, it is dropped.
-    pub fn new(alloc: Global, unit: Unit<B, R, O>) -> Result<NewUnit<B, R, O>, NoMemory>
+    pub fn new(alloc: Global, unit: Unit<B, F, O>) -> Result<NewUnit<B, F, O>, NoMemory>
         requires { IsOpening unit.control }
         ensures { IfOk result (λ new. new.unit ≡ unit) }
     {

@@ -21,43 +21,43 @@ use unit_state::{MoveFault, Unit};
 
 /// A session of a unit: what it has seen of the unit's history, and the one right to add the session's entries. Contracts see
 /// the unit's place, the session's number, the serial of its next command, and the entries that it has seen.
-pub type Pass<B, R, O, N> = SessionPass<Noted, Opened, Unit<B, R, O>, N>;
+pub type Pass<B, F, O, N> = SessionPass<Noted, Opened, Unit<B, F, O>, N>;
 
 /// A legal history that was seen of a unit. Contracts see the unit's place and the entries.
-pub type LegalHistory<B, R, O, N> = Seen<Noted, Opened, Unit<B, R, O>, N>;
+pub type LegalHistory<B, F, O, N> = Seen<Noted, Opened, Unit<B, F, O>, N>;
 
 /// The board that shows a unit.
-pub type Board<B, R, O, N, const U: usize> = StatusBoard<
+pub type Board<B, F, O, N, const U: usize> = StatusBoard<
     Noted,
     Opened,
-    Unit<B, R, O>,
+    Unit<B, F, O>,
     At<Opened, N, U>,
 >;
 
 /// A reader's seat at the board of a unit. Contracts see the history whose row it read last.
-pub type Seat<B, R, O, N, const U: usize> = BoardSeat<
+pub type Seat<B, F, O, N, const U: usize> = BoardSeat<
     Noted,
     Opened,
-    Unit<B, R, O>,
+    Unit<B, F, O>,
     At<Opened, N, U>,
 >;
 
 /// The unit at a place of an array, which all threads share: each call of any session is one step of it, at one point of one
 /// history.
-pub struct SharedUnit<B: Blocks, R: Blocks, O: Opener<B>, N: Array<Opened>, const U: usize> {
-    unit: locked_unit::SharedUnit<Noted, Opened, Unit<B, R, O>, N, U>,
+pub struct SharedUnit<B: Blocks, F: Blocks, O: Opener<B>, N: Array<Opened>, const U: usize> {
+    unit: locked_unit::SharedUnit<Noted, Opened, Unit<B, F, O>, N, U>,
 }
 
-impl<B: Blocks + Drop, R: Blocks + Drop, O: Opener<B> + Drop, N: Array<Opened>, const U: usize> Drop
-    for SharedUnit<B, R, O, N, U> {
+impl<B: Blocks + Drop, F: Blocks + Drop, O: Opener<B> + Drop, N: Array<Opened>, const U: usize> Drop
+    for SharedUnit<B, F, O, N, U> {
     fn drop(self) {
         let Self { unit: _ } = self;
     }
 }
 
-impl<B: Blocks, R: Blocks, O: Opener<B>, N: Array<Opened>, const U: usize> SharedUnit<
+impl<B: Blocks, F: Blocks, O: Opener<B>, N: Array<Opened>, const U: usize> SharedUnit<
     B,
-    R,
+    F,
     O,
     N,
     U,
@@ -66,15 +66,15 @@ impl<B: Blocks, R: Blocks, O: Opener<B>, N: Array<Opened>, const U: usize> Share
     pub fn new<W: Wait>(
         rt: &W,
         alloc: Global,
-        new: NewUnit<B, R, O>,
+        new: NewUnit<B, F, O>,
         seats: usize,
-    ) -> Result<(SharedUnit<B, R, O, N, U>, Vec<Seat<B, R, O, N, U>>), NoMemory>
+    ) -> Result<(SharedUnit<B, F, O, N, U>, Vec<Seat<B, F, O, N, U>>), NoMemory>
         requires named { IsNamedAt N.book N.table N.opening B.contents U new }
         requires seats { seats ≤ MOST_SEATS }
         ensures { IfOk result (λ r. (length r.1.items ≡ seats) × All (λ seat. seat ≡ []) r.1.items) }
     {
         let NewUnit { posted, unit } = new;
-        a_unit_that_opened_has_the_history_without_an_entry::<B, R, O, N, U>(&unit);
+        a_unit_that_opened_has_the_history_without_an_entry::<B, F, O, N, U>(&unit);
         match locked_unit::SharedUnit::new(rt, alloc, posted, unit, seats) {
             Ok((unit, seats)) => Ok((SharedUnit { unit }, seats)),
             Err(_) => Err(NoMemory),
@@ -82,7 +82,7 @@ impl<B: Blocks, R: Blocks, O: Opener<B>, N: Array<Opened>, const U: usize> Share
     }
 
     /// The board that shows the unit.
-    pub fn board(&self) -> &Board<B, R, O, N, U> {
+    pub fn board(&self) -> &Board<B, F, O, N, U> {
         self.unit.board()
     }
 
@@ -93,7 +93,7 @@ impl<B: Blocks, R: Blocks, O: Opener<B>, N: Array<Opened>, const U: usize> Share
         rt: &W,
         port: PortName,
         group: Group,
-    ) -> Result<Pass<B, R, O, N>, LegalHistory<B, R, O, N>>
+    ) -> Result<Pass<B, F, O, N>, LegalHistory<B, F, O, N>>
         ensures attached { IfOk result (λ p. (p.place ≡ U)
             × HasAttached (O.claims && B.claims) (N.opening U) (through port group) p.pass) }
         ensures full { IfErr result (λ f. (f.0 ≡ U)
@@ -106,17 +106,17 @@ impl<B: Blocks, R: Blocks, O: Opener<B>, N: Array<Opened>, const U: usize> Share
     pub fn serve<W: Wait>(
         &self,
         rt: &W,
-        pass: Pass<B, R, O, N>,
+        pass: Pass<B, F, O, N>,
         alloc: Global,
         by_group: &Group,
         asked: &Asked,
         bytes: &[u8],
-    ) -> (Pass<B, R, O, N>, Result<Reply, Refused<Group>>)
+    ) -> (Pass<B, F, O, N>, Result<Reply, Refused<Group>>)
         requires { pass.place ≡ U }
         ensures place { result.0.place ≡ U }
         ensures served { IfOk result.1 (λ reply. HasServed (O.claims && B.claims) (N.opening U) pass.pass result.0.pass
             by_group.now asked.now bytes.now reply) }
-        ensures worked { IfOk result.1 (λ reply. HasWorked (devices B.Blocks R.Blocks O.Opener) (N.opening U)
+        ensures worked { IfOk result.1 (λ reply. HasWorked (devices B.Blocks F.Blocks O.Opener) (N.opening U)
             pass.pass.session asked.now bytes.now reply result.0.pass.seen) }
         ensures refused { IfErr result.1 (λ why. HasRefused (O.claims && B.claims) (N.opening U) pass.pass result.0.pass
             by_group.now asked.now bytes.now why) }
@@ -125,7 +125,7 @@ impl<B: Blocks, R: Blocks, O: Opener<B>, N: Array<Opened>, const U: usize> Share
     }
 
     /// Resets the unit for the session (SAM-5, logical unit reset). False: the session is gone.
-    pub fn reset<W: Wait>(&self, rt: &W, pass: Pass<B, R, O, N>) -> (Pass<B, R, O, N>, bool)
+    pub fn reset<W: Wait>(&self, rt: &W, pass: Pass<B, F, O, N>) -> (Pass<B, F, O, N>, bool)
         requires { pass.place ≡ U }
         ensures place { result.0.place ≡ U }
         ensures done { MatchBool result.1 (HasReset (O.claims && B.claims) (N.opening U) pass.pass result.0.pass)
@@ -138,8 +138,8 @@ impl<B: Blocks, R: Blocks, O: Opener<B>, N: Array<Opened>, const U: usize> Share
     pub fn retire<W: Wait>(
         &self,
         rt: &W,
-        pass: Pass<B, R, O, N>,
-    ) -> Result<LegalHistory<B, R, O, N>, Pass<B, R, O, N>>
+        pass: Pass<B, F, O, N>,
+    ) -> Result<LegalHistory<B, F, O, N>, Pass<B, F, O, N>>
         requires { pass.place ≡ U }
         ensures done { IfOk result (λ f. (f.0 ≡ U) × HasRetired (O.claims && B.claims) (N.opening U) pass.pass f.1) }
         ensures gone { IfErr result (λ p. (p.place ≡ U) × WasGone (O.claims && B.claims) (N.opening U) pass.pass p.pass) }
@@ -152,10 +152,10 @@ impl<B: Blocks, R: Blocks, O: Opener<B>, N: Array<Opened>, const U: usize> Share
         &self,
         rt: &W,
         list: &[u8],
-    ) -> (LegalHistory<B, R, O, N>, Result<Change, MoveFault>)
+    ) -> (LegalHistory<B, F, O, N>, Result<Change, MoveFault>)
         ensures place { result.0.0 ≡ U }
-        ensures moved { IfOk result.1 (λ told. HasMoved (devices B.Blocks R.Blocks O.Opener) (N.opening U) list.now result.0.1 told) }
-        ensures stays { IfErr result.1 (λ why. HasStayed (devices B.Blocks R.Blocks O.Opener) (N.opening U) list.now result.0.1 why) }
+        ensures moved { IfOk result.1 (λ told. HasMoved (devices B.Blocks F.Blocks O.Opener) (N.opening U) list.now result.0.1 told) }
+        ensures stays { IfErr result.1 (λ why. HasStayed (devices B.Blocks F.Blocks O.Opener) (N.opening U) list.now result.0.1 why) }
     {
         self.unit.move_to(rt, list)
     }
@@ -163,9 +163,9 @@ impl<B: Blocks, R: Blocks, O: Opener<B>, N: Array<Opened>, const U: usize> Share
     /// Both sessions have then seen what either had: one legal history. It waits for nobody.
     pub fn meet(
         &self,
-        one: Pass<B, R, O, N>,
-        two: Pass<B, R, O, N>,
-    ) -> (Pass<B, R, O, N>, Pass<B, R, O, N>)
+        one: Pass<B, F, O, N>,
+        two: Pass<B, F, O, N>,
+    ) -> (Pass<B, F, O, N>, Pass<B, F, O, N>)
         requires { (one.place ≡ U) × (two.place ≡ U) }
         ensures places { (result.0.place ≡ U) × (result.1.place ≡ U) }
         ensures met { HaveMet (O.claims && B.claims) (N.opening U) one.pass two.pass result.0.pass result.1.pass }
@@ -176,7 +176,7 @@ impl<B: Blocks, R: Blocks, O: Opener<B>, N: Array<Opened>, const U: usize> Share
     /// Makes what was written last: after a success there was a legal history behind which a crash left the blocks that the
     /// unit held. It is no entry.
     pub fn flush<W: Wait>(&self, rt: &W) -> Result<(), DeviceFailed>
-        ensures { HasFlushed (devices B.Blocks R.Blocks O.Opener) (N.opening U) result }
+        ensures { HasFlushed (devices B.Blocks F.Blocks O.Opener) (N.opening U) result }
     {
         self.unit.flush(rt)
     }

@@ -40,10 +40,10 @@ use unit_control::{Control, Refusal, Sender};
 
 /// Answers a command: the refusal of the first rule that applies, else what the command returns. Memory is taken for
 /// the data of a reply alone, before anything changes.
-pub fn answer<B: Blocks, O: Opener<B>, R: Blocks>(
+pub fn answer<B: Blocks, O: Opener<B>, F: Blocks>(
     device: &mut B,
     opener: &mut O,
-    file: &mut RegFile<R>,
+    file: &mut RegFile<F>,
     made: &mut Registry,
     control: &mut Control,
     alloc: Global,
@@ -57,8 +57,8 @@ pub fn answer<B: Blocks, O: Opener<B>, R: Blocks>(
     ensures stays { Stays control.old control.new sender.session sender.at }
     ensures err { OnErr result ((device.new ≡ device.old) × (opener.new ≡ opener.old) × (file.new ≡ file.old)
         × (control.new ≡ control.old)) }
-    ensures kept { IsTrue R.claims → LastsAmong R.size R.may_hold file.old control.old.lasting
-        → LastsAmong R.size R.may_hold file.new control.new.lasting }
+    ensures kept { IsTrue F.claims → LastsAmong F.size F.may_hold file.old control.old.lasting
+        → LastsAmong F.size F.may_hold file.new control.new.lasting }
     ensures memory { OnErr result (TakesMemory control.old (request sender.session asked bytes.now)) }
     ensures answered { IfOk result (IsAnswer (O.claims && B.claims) (unit_of control.old (B.contents device.old))
         (unit_of control.new (B.contents device.new))
@@ -72,14 +72,14 @@ pub fn answer<B: Blocks, O: Opener<B>, R: Blocks>(
     ensures unsaved { asks_file control.old (request sender.session asked bytes.now) ≡ false → file.new ≡ file.old }
     ensures counted { IfOk result (λ reply. AreCounted
         (counters (B.reads_failed device.old) (B.writes_failed device.old) (O.opens_failed opener.old)
-        (R.failures file.old.device))
+        (F.failures file.old.device))
         (counters (B.reads_failed device.new) (B.writes_failed device.new) (O.opens_failed opener.new)
-        (R.failures file.new.device))
+        (F.failures file.new.device))
         (choice_of reply (B.contents device.new) control.new.lasting)) }
     ensures opened { owner_of control.new.access ≢ owner_of control.old.access → O.opened device.old device.new }
     ensures fine { IfOk result (λ reply. Tells
-        (B.failures device.old + O.opens_failed opener.old + R.failures file.old.device)
-        (B.failures device.new + O.opens_failed opener.new + R.failures file.new.device)
+        (B.failures device.old + O.opens_failed opener.old + F.failures file.old.device)
+        (B.failures device.new + O.opens_failed opener.new + F.failures file.new.device)
         (IsFine (choice_of reply (B.contents device.new) control.new.lasting))) }
     ensures lasts { IsTrue B.claims → IfOk result (Lasts (B.contents device.new) (B.may_hold device.new)
         (work_asked asked bytes.now)) }
@@ -90,8 +90,8 @@ pub fn answer<B: Blocks, O: Opener<B>, R: Blocks>(
         (B.may_hold device.old)) device.old device.new) }
     ensures same { asks_medium control.old (request sender.session asked bytes.now) ≡ false → IsTrue O.claims
         → HoldsAsBefore B.moment B.left_since B.may_hold device.old device.new }
-    ensures stop { IsTrue R.claims → IsTrue R.claims_moments
-        → LastsAmong R.size R.may_hold file.old control.old.lasting → StopsAt R.moment R.left_since
+    ensures stop { IsTrue F.claims → IsTrue F.claims_moments
+        → LastsAmong F.size F.may_hold file.old control.old.lasting → StopsAt F.moment F.left_since
         (saved_with (refusal control.old (request sender.session asked bytes.now)) control.old
         (request sender.session asked bytes.now) ++ control.old.lasting) file.old.device file.new.device }
 {
@@ -122,10 +122,10 @@ fn refuse(control: &mut Control, sender: Sender, refusal: Refusal)
 }
 
 /// Serves a command that no rule refuses.
-fn serve<B: Blocks, O: Opener<B>, R: Blocks>(
+fn serve<B: Blocks, O: Opener<B>, F: Blocks>(
     device: &mut B,
     opener: &mut O,
-    file: &mut RegFile<R>,
+    file: &mut RegFile<F>,
     made: &mut Registry,
     control: &mut Control,
     alloc: Global,
@@ -140,8 +140,8 @@ fn serve<B: Blocks, O: Opener<B>, R: Blocks>(
     ensures stays { Stays control.old control.new sender.session sender.at }
     ensures err { OnErr result ((device.new ≡ device.old) × (opener.new ≡ opener.old) × (file.new ≡ file.old)
         × (control.new ≡ control.old)) }
-    ensures kept { IsTrue R.claims → LastsAmong R.size R.may_hold file.old control.old.lasting
-        → LastsAmong R.size R.may_hold file.new control.new.lasting }
+    ensures kept { IsTrue F.claims → LastsAmong F.size F.may_hold file.old control.old.lasting
+        → LastsAmong F.size F.may_hold file.new control.new.lasting }
     ensures memory { OnErr result (MayTake (Ok command)) }
     ensures served { IfOk result (IsServed (O.claims && B.claims) (unit_of control.old (B.contents device.old))
         (unit_of control.new (B.contents device.new)) sender.session command bytes.now) }
@@ -151,14 +151,14 @@ fn serve<B: Blocks, O: Opener<B>, R: Blocks>(
     ensures unsaved { is_reserving (Ok command) ≡ false → file.new ≡ file.old }
     ensures counted { IfOk result (λ reply. AreCounted
         (counters (B.reads_failed device.old) (B.writes_failed device.old) (O.opens_failed opener.old)
-        (R.failures file.old.device))
+        (F.failures file.old.device))
         (counters (B.reads_failed device.new) (B.writes_failed device.new) (O.opens_failed opener.new)
-        (R.failures file.new.device))
+        (F.failures file.new.device))
         (choice_of reply (B.contents device.new) control.new.lasting)) }
     ensures opened { owner_of control.new.access ≢ owner_of control.old.access → O.opened device.old device.new }
     ensures fine { IfOk result (λ reply. Tells
-        (B.failures device.old + O.opens_failed opener.old + R.failures file.old.device)
-        (B.failures device.new + O.opens_failed opener.new + R.failures file.new.device)
+        (B.failures device.old + O.opens_failed opener.old + F.failures file.old.device)
+        (B.failures device.new + O.opens_failed opener.new + F.failures file.new.device)
         (IsFine (choice_of reply (B.contents device.new) control.new.lasting))) }
     ensures lasts { IsTrue B.claims → IfOk result (Lasts (B.contents device.new) (B.may_hold device.new)
         (work_of command bytes.now)) }
@@ -168,8 +168,8 @@ fn serve<B: Blocks, O: Opener<B>, R: Blocks>(
         (choice_of reply (B.contents device.new) control.new.lasting) (B.may_hold device.old)) device.old device.new) }
     ensures same { is_medium (work_of command bytes.now) ≡ false → IsTrue O.claims
         → HoldsAsBefore B.moment B.left_since B.may_hold device.old device.new }
-    ensures stop { IsTrue R.claims → IsTrue R.claims_moments
-        → LastsAmong R.size R.may_hold file.old control.old.lasting → StopsAt R.moment R.left_since
+    ensures stop { IsTrue F.claims → IsTrue F.claims_moments
+        → LastsAmong F.size F.may_hold file.old control.old.lasting → StopsAt F.moment F.left_since
         (saved_of control.old sender.session command bytes.now ++ control.old.lasting)
         file.old.device file.new.device }
 {

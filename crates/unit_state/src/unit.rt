@@ -47,29 +47,29 @@ pub enum MoveFault {
 /// registration file on a device of its own. Of every unit it is known that it has one block at least, and that a crash of
 /// that device leaves one of the records that `lasting` names, where its type claims what is said of a crash.
 #[derive(Drop)]
-pub struct Unit<B: Blocks, R: Blocks, O: Opener<B>> {
+pub struct Unit<B: Blocks, F: Blocks, O: Opener<B>> {
     device: B,
     opener: O,
-    file: RegFile<R>,
+    file: RegFile<F>,
     control: Control,
     // Where a PERSISTENT RESERVE OUT makes its registry.
     made: Registry,
 }
 
-impl<B: Blocks, R: Blocks, O: Opener<B>> Model for Unit<B, R, O> {
+impl<B: Blocks, F: Blocks, O: Opener<B>> Model for Unit<B, F, O> {
     ghost use Rattle.std.specs.Prelude.{◌≡◌, ◌<◌, IsTrue};
     ghost use Rattle.aptpl_file.specs.Lasts.{LastsAmong};
     ghost use Rattle.unit_control.specs.State.{UnitValue};
 
-    ghost Value = { UnitValue B R O };
+    ghost Value = { UnitValue B F O };
 
     ghost view = { λ u. record { device = u.device; opener = u.opener; file = u.file; control = u.control } };
 
     ghost invariant = { λ u. (u.control.total ≡ B.size u.device)
-        × (IsTrue R.claims → LastsAmong R.size R.may_hold u.file u.control.lasting) × (0 < B.size u.device) };
+        × (IsTrue F.claims → LastsAmong F.size F.may_hold u.file u.control.lasting) × (0 < B.size u.device) };
 }
 
-impl<B: Blocks, R: Blocks, O: Opener<B>> Unit<B, R, O> {
+impl<B: Blocks, F: Blocks, O: Opener<B>> Unit<B, F, O> {
     ghost use Rattle.scsi_types.specs.Nexus.{Nexus};
     ghost use Rattle.unit_control.specs.State.{UnitValue, opening_control, state_of, failures_of};
     ghost use Rattle.access_states.specs.AccessMap.{owner_of};
@@ -94,11 +94,11 @@ impl<B: Blocks, R: Blocks, O: Opener<B>> Unit<B, R, O> {
         place: Place,
         blocks: B,
         opener: O,
-        file: RegFile<R>,
+        file: RegFile<F>,
         lasted: Record,
-    ) -> Result<Unit<B, R, O>, NoMemory>
+    ) -> Result<Unit<B, F, O>, NoMemory>
         requires blocks { 0 < B.size blocks }
-        requires lasts { IsTrue R.claims → LastsAmong R.size R.may_hold file (lasted ∷ []) }
+        requires lasts { IsTrue F.claims → LastsAmong F.size F.may_hold file (lasted ∷ []) }
         ensures { IfOk result (λ u. u ≡ record {
           device = blocks;
           opener = opener;
@@ -202,7 +202,7 @@ impl<B: Blocks, R: Blocks, O: Opener<B>> Unit<B, R, O> {
         ensures same { asks_medium self.old.control (request session asked bytes.now) ≡ false → IsTrue O.claims
             → HoldsAsBefore B.moment B.left_since B.may_hold self.old.device self.new.device }
         // A stop anywhere inside it leaves a record of those that the unit said before, or the one that it saves.
-        ensures stop { IsTrue R.claims → IsTrue R.claims_moments → StopsAt R.moment R.left_since
+        ensures stop { IsTrue F.claims → IsTrue F.claims_moments → StopsAt F.moment F.left_since
             (saved_with (refusal self.old.control (request session asked bytes.now)) self.old.control
             (request session asked bytes.now) ++ self.old.control.lasting) self.old.file.device self.new.file.device }
         // A command that a rule refuses does not reach the device.
@@ -219,20 +219,20 @@ impl<B: Blocks, R: Blocks, O: Opener<B>> Unit<B, R, O> {
         ensures unsaved { asks_file self.old.control (request session asked bytes.now) ≡ false
             → self.new.file ≡ self.old.file }
         // A crash leaves one of the records that the unit then says.
-        ensures restart { IsTrue R.claims → EachOutcomeHolds (R.size self.new.file.device)
-            (R.may_hold self.new.file.device) self.new.control.lasting }
+        ensures restart { IsTrue F.claims → EachOutcomeHolds (F.size self.new.file.device)
+            (F.may_hold self.new.file.device) self.new.control.lasting }
         // Where another group owns the unit then, the device was opened for it.
         ensures opened { owner_of self.new.control.access ≢ owner_of self.old.control.access
             → O.opened self.old.device self.new.device }
         // Each count of failures rose exactly where the choice tells of that failure: of a read, of a write or a flush, of an
         // open, or of a save.
         ensures counted { OnReply result (λ reply. AreCounted
-            (counters_of B.reads_failed B.writes_failed O.opens_failed R.failures self.old)
-            (counters_of B.reads_failed B.writes_failed O.opens_failed R.failures self.new)
+            (counters_of B.reads_failed B.writes_failed O.opens_failed F.failures self.old)
+            (counters_of B.reads_failed B.writes_failed O.opens_failed F.failures self.new)
             (choice_of reply (B.contents self.new.device) self.new.control.lasting)) }
         // The choice is Fine exactly where no count of failures rose.
-        ensures fine { OnReply result (λ reply. Tells (failures_of B.failures O.opens_failed R.failures self.old)
-            (failures_of B.failures O.opens_failed R.failures self.new)
+        ensures fine { OnReply result (λ reply. Tells (failures_of B.failures O.opens_failed F.failures self.old)
+            (failures_of B.failures O.opens_failed F.failures self.new)
             (IsFine (choice_of reply (B.contents self.new.device) self.new.control.lasting))) }
     {
         let sender = match self.control.route(session, serial, by) {
@@ -273,10 +273,10 @@ impl<B: Blocks, R: Blocks, O: Opener<B>> Unit<B, R, O> {
         ensures unasked { self.old.control.count ≡ last_length → self.new ≡ self.old }
         ensures opened { owner_of self.new.control.access ≢ owner_of self.old.control.access
             → O.opened self.old.device self.new.device }
-        ensures counted { AreCounted (counters_of B.reads_failed B.writes_failed O.opens_failed R.failures self.old)
-            (counters_of B.reads_failed B.writes_failed O.opens_failed R.failures self.new) (choice_of_move result) }
-        ensures failures { Tells (failures_of B.failures O.opens_failed R.failures self.old)
-            (failures_of B.failures O.opens_failed R.failures self.new) (result ≢ Err MoveFault.OpenFailed) }
+        ensures counted { AreCounted (counters_of B.reads_failed B.writes_failed O.opens_failed F.failures self.old)
+            (counters_of B.reads_failed B.writes_failed O.opens_failed F.failures self.new) (choice_of_move result) }
+        ensures failures { Tells (failures_of B.failures O.opens_failed F.failures self.old)
+            (failures_of B.failures O.opens_failed F.failures self.new) (result ≢ Err MoveFault.OpenFailed) }
     {
         if self.control.is_full() {
             return Err(MoveFault::Gone);
@@ -310,19 +310,19 @@ impl<B: Blocks, R: Blocks, O: Opener<B>> Unit<B, R, O> {
             (Only (B.contents self.new.device) (B.may_hold self.new.device)) }
         ensures left { IsTrue B.claims → LeavesAmong B.claims_moments B.moment B.left_since B.size B.may_hold
             (B.may_hold self.old.device) self.old.device self.new.device }
-        ensures failures { Counts (failures_of B.failures O.opens_failed R.failures self.old)
-            (failures_of B.failures O.opens_failed R.failures self.new) result }
+        ensures failures { Counts (failures_of B.failures O.opens_failed F.failures self.old)
+            (failures_of B.failures O.opens_failed F.failures self.new) result }
     {
         self.device.flush()
     }
 
     /// Hands the device, the device of the registration file and the opener back. A crash of the second leaves one of the
     /// records that the unit says.
-    pub fn close(self) -> (B, R, O)
+    pub fn close(self) -> (B, F, O)
         ensures closed { result ≡ (self.device, self.file.device, self.opener) }
         ensures blocks { 0 < B.size result.0 }
-        ensures restart { IsTrue R.claims
-            → EachOutcomeHolds (R.size result.1) (R.may_hold result.1) self.control.lasting }
+        ensures restart { IsTrue F.claims
+            → EachOutcomeHolds (F.size result.1) (F.may_hold result.1) self.control.lasting }
     {
         (self.device, self.file.close(), self.opener)
     }

@@ -38,7 +38,7 @@ pub trait AnyUnit: Drop {
     fn flush(&mut self) -> Result<(), DeviceFailed>;
 }
 
-impl<B: Blocks, R: Blocks, O: Opener<B>> AnyUnit for Unit<B, R, O> {
+impl<B: Blocks, F: Blocks, O: Opener<B>> AnyUnit for Unit<B, F, O> {
     fn attach(
         &mut self,
         rt: &impl Abort,
@@ -83,14 +83,14 @@ impl<B: Blocks, R: Blocks, O: Opener<B>> AnyUnit for Unit<B, R, O> {
 }
 
 /// A unit with a registration file of nothing.
-pub fn formatted<B: Blocks, R: Blocks, O: Opener<B>>(
+pub fn formatted<B: Blocks, F: Blocks, O: Opener<B>>(
     rt: &impl Abort,
     alloc: Global,
     place: Place,
     blocks: B,
-    registrations: R,
+    registrations: F,
     opener: O,
-) -> Unit<B, R, O> {
+) -> Unit<B, F, O> {
     assert!(rt; blocks.count() > 0, "a unit of one block at least");
     assert!(rt;
         registrations.count() >= FILE_BLOCKS,
@@ -102,14 +102,14 @@ pub fn formatted<B: Blocks, R: Blocks, O: Opener<B>>(
 }
 
 /// A unit as it opens after a power loss: with what its registration file holds.
-pub fn reopened<B: Blocks, R: Blocks, O: Opener<B>>(
+pub fn reopened<B: Blocks, F: Blocks, O: Opener<B>>(
     rt: &impl Abort,
     alloc: Global,
     place: Place,
     blocks: B,
-    registrations: R,
+    registrations: F,
     opener: O,
-) -> Unit<B, R, O> {
+) -> Unit<B, F, O> {
     assert!(rt; blocks.count() > 0, "a unit of one block at least");
     let (file, lasted) = RegFile::open(alloc, registrations).expect(rt, "a record that lasted");
     Unit::open(alloc, place, blocks, opener, file, lasted).expect(rt, "memory")

@@ -19,17 +19,17 @@ use unit_state::Unit;
 
 /// Units by their places, the sessions that attached to them, the desks of both groups, and what was submitted and collected.
 #[derive(Drop)]
-pub struct World<B: Blocks, R: Blocks, O: Opener<B>> {
+pub struct World<B: Blocks, F: Blocks, O: Opener<B>> {
     alloc: Global,
-    units: Vec<Unit<B, R, O>>,
+    units: Vec<Unit<B, F, O>>,
     records: Records,
 }
 
-impl<B: Blocks, R: Blocks, O: Opener<B>> Model for World<B, R, O> {
+impl<B: Blocks, F: Blocks, O: Opener<B>> Model for World<B, F, O> {
     ghost use Rattle.world.specs.Records.{traffic_of};
     ghost use Rattle.world.specs.Worlds.{WorldValue};
 
-    ghost Value = { WorldValue B R O };
+    ghost Value = { WorldValue B F O };
 
     ghost view = { λ w. record { units = w.units.items; traffic = traffic_of w.records } };
 }
@@ -41,12 +41,12 @@ fn item_at<T>(items: &[T], place: usize) -> Option<&T>
     items.get(place)
 }
 
-impl<B: Blocks, R: Blocks, O: Opener<B>> World<B, R, O> {
+impl<B: Blocks, F: Blocks, O: Opener<B>> World<B, F, O> {
     /// A world of these units, of which nothing was asked yet. Refused, they are dropped.
-    pub fn new(alloc: Global, units: Vec<Unit<B, R, O>>) -> Result<World<B, R, O>, NoMemory>
+    pub fn new(alloc: Global, units: Vec<Unit<B, F, O>>) -> Result<World<B, F, O>, NoMemory>
         requires { All (λ u. IsOpening u.control) units.items }
         ensures value { IfOk result (λ w. w ≡ record { units = units.items; traffic = no_traffic }) }
-        ensures stands { IfOk result (λ w. Stands (O.claims && B.claims) B.contents B.failures O.opens_failed R.failures
+        ensures stands { IfOk result (λ w. Stands (O.claims && B.claims) B.contents B.failures O.opens_failed F.failures
             (opening_of B.contents units.items) (λ place. []) w) }
     {
         let records = Records::new(alloc)?;
@@ -58,7 +58,7 @@ impl<B: Blocks, R: Blocks, O: Opener<B>> World<B, R, O> {
     }
 
     /// The unit at a place.
-    pub fn unit(&self, place: usize) -> Option<&Unit<B, R, O>>
+    pub fn unit(&self, place: usize) -> Option<&Unit<B, F, O>>
         ensures { MatchOption result (slice_get self.now.units place ≡ None)
             (λ u. slice_get self.now.units place ≡ Some u.now) }
     {
@@ -101,7 +101,7 @@ impl<B: Blocks, R: Blocks, O: Opener<B>> World<B, R, O> {
 
     // A session attaches to the unit at a place.
     fn attach(&mut self, place: usize, port: &PortName, group: Group) -> Result<(), NoMemory>
-        ensures done { OnOk result (Happens (O.claims && B.claims) B.contents B.failures O.opens_failed R.failures
+        ensures done { OnOk result (Happens (O.claims && B.claims) B.contents B.failures O.opens_failed F.failures
             (events.Attach place port.now group) self.old self.new) }
         ensures err { OnErr result (self.new ≡ self.old) }
     {
@@ -118,7 +118,7 @@ impl<B: Blocks, R: Blocks, O: Opener<B>> World<B, R, O> {
 
     // A session ends.
     fn detach(&mut self, session: usize)
-        ensures { Happens (O.claims && B.claims) B.contents B.failures O.opens_failed R.failures
+        ensures { Happens (O.claims && B.claims) B.contents B.failures O.opens_failed F.failures
             (events.Detach session) self.old self.new }
     {
         let Some(one) = self.records.session(session) else {
@@ -133,7 +133,7 @@ impl<B: Blocks, R: Blocks, O: Opener<B>> World<B, R, O> {
 
     // A session resets its unit.
     fn reset(&mut self, session: usize)
-        ensures { Happens (O.claims && B.claims) B.contents B.failures O.opens_failed R.failures
+        ensures { Happens (O.claims && B.claims) B.contents B.failures O.opens_failed F.failures
             (events.Reset session) self.old self.new }
     {
         let Some(one) = self.records.session(session) else {
@@ -148,7 +148,7 @@ impl<B: Blocks, R: Blocks, O: Opener<B>> World<B, R, O> {
 
     // The unit at a place moves.
     fn move_to(&mut self, place: usize, list: &Bytes)
-        ensures { Happens (O.claims && B.claims) B.contents B.failures O.opens_failed R.failures
+        ensures { Happens (O.claims && B.claims) B.contents B.failures O.opens_failed F.failures
             (events.Move place list.now) self.old self.new }
     {
         let Some(unit) = self.units.get_mut(place) else {
@@ -159,7 +159,7 @@ impl<B: Blocks, R: Blocks, O: Opener<B>> World<B, R, O> {
 
     // A lane has the unit of a session serve its command.
     fn serve(&mut self, session: usize)
-        ensures { Happens (O.claims && B.claims) B.contents B.failures O.opens_failed R.failures
+        ensures { Happens (O.claims && B.claims) B.contents B.failures O.opens_failed F.failures
             (events.Serve session) self.old self.new }
     {
         let Some(one) = self.records.session(session) else {
@@ -307,7 +307,7 @@ impl<B: Blocks, R: Blocks, O: Opener<B>> World<B, R, O> {
 
     // One event.
     fn step(&mut self, event: &Event) -> Result<(), NoMemory>
-        ensures done { OnOk result (Happens (O.claims && B.claims) B.contents B.failures O.opens_failed R.failures
+        ensures done { OnOk result (Happens (O.claims && B.claims) B.contents B.failures O.opens_failed F.failures
             (event.now) self.old self.new) }
         ensures err { OnErr result (self.new ≡ self.old) }
     {
@@ -345,10 +345,10 @@ impl<B: Blocks, R: Blocks, O: Opener<B>> World<B, R, O> {
     /// opened each history is legal, each collected reply is that of its own command's entry, no serial of a session has two
     /// entries, a command that ended without a reply has none, and what a session submits behind a reply comes later.
     pub fn run(&mut self, events: &[Event]) -> Result<(), NoMemory>
-        ensures done { OnOk result (AllHappen (O.claims && B.claims) B.contents B.failures O.opens_failed R.failures
+        ensures done { OnOk result (AllHappen (O.claims && B.claims) B.contents B.failures O.opens_failed F.failures
             events.now self.old self.new) }
         ensures err { OnErr result ((done : ℕ) × (done < length events.now)
-            × AllHappen (O.claims && B.claims) B.contents B.failures O.opens_failed R.failures
+            × AllHappen (O.claims && B.claims) B.contents B.failures O.opens_failed F.failures
             (take done events.now) self.old self.new) }
     {
         for event in events {

@@ -10,7 +10,7 @@ returns-in-Ok g c = rw (← c.as_slice.ensures)
       choice_of c.in-Ok.reply (g.B.Blocks.contents c.step.new.self.device) c.step.new.self.control.lasting,
       ap (λ r. r.entries) c.row-at.ensures
           ∙ counts_all (g.O.Opener.claims && g.B.Blocks.claims) g.B.Blocks.contents g.B.Blocks.failures g.O.Opener.opens_failed
-          g.R.Blocks.failures s h c.args.unit.now legal behind,
+          g.F.Blocks.failures s h c.args.unit.now legal behind,
       refl,
       did.0,
       did.1,

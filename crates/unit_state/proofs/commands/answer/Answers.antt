@@ -34,7 +34,7 @@ returns-in-Err-clause-same g c = λ none h.
     as_before g.B.Blocks.claims_moments g.B.Blocks.moment g.B.Blocks.left_since g.B.Blocks.size g.B.Blocks.may_hold _ _ refl
 
 pub returns-in-Err-clause-stop : goal.returns-in-Err-clause-stop
-returns-in-Err-clause-stop g c = λ h m lasts. no_stop g.R.Blocks.moment g.R.Blocks.left_since _ _ _ refl
+returns-in-Err-clause-stop g c = λ h m lasts. no_stop g.F.Blocks.moment g.F.Blocks.left_since _ _ _ refl
 
 pub returns-clause-left : goal.returns-clause-left
 returns-clause-left g c = λ h.
@@ -47,5 +47,5 @@ returns-clause-same g c = λ none h. c.serve.ensures.same (sym (works_as _ _ _ _
 
 pub returns-clause-stop : goal.returns-clause-stop
 returns-clause-stop g c = λ h m lasts.
-    served_stop g.R.Blocks.moment g.R.Blocks.left_since _ _ _ _ _ c.args.file.now.device c.serve.new.file.device
+    served_stop g.F.Blocks.moment g.F.Blocks.left_since _ _ _ _ _ c.args.file.now.device c.serve.new.file.device
     c.in-Ok.ensures (c.serve.ensures.stop h m lasts)

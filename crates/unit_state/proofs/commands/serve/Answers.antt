@@ -30,7 +30,7 @@ pub returns-in-SetTargetPortGroups-clause-same : goal.returns-in-SetTargetPortGr
 returns-in-SetTargetPortGroups-clause-same g c = λ none h. c.set_groups.ensures.kept h
 
 pub returns-in-SetTargetPortGroups-clause-stop : goal.returns-in-SetTargetPortGroups-clause-stop
-returns-in-SetTargetPortGroups-clause-stop g c = λ h m lasts. no_stop g.R.Blocks.moment g.R.Blocks.left_since _ _ _ refl
+returns-in-SetTargetPortGroups-clause-stop g c = λ h m lasts. no_stop g.F.Blocks.moment g.F.Blocks.left_since _ _ _ refl
 
 pub returns-in-PersistentReserveOut-clause-left : goal.returns-in-PersistentReserveOut-clause-left
 returns-in-PersistentReserveOut-clause-left g c = λ h.
@@ -42,7 +42,7 @@ returns-in-PersistentReserveOut-clause-same g c = λ none h.
 
 pub returns-in-PersistentReserveOut-clause-stop : goal.returns-in-PersistentReserveOut-clause-stop
 returns-in-PersistentReserveOut-clause-stop g c = λ h m lasts.
-    reserved_stop g.R.Blocks.moment g.R.Blocks.left_since c.args.control.now c.args.sender.session c.args.command _ _ _ _
+    reserved_stop g.F.Blocks.moment g.F.Blocks.left_since c.args.control.now c.args.sender.session c.args.command _ _ _ _
     c.args.bytes.now _ c.args.file.now.device c.reserve.new.file.device c.in-PersistentReserveOut.is c.pr_out.ensures
     (c.reserve.ensures.stop h m lasts)
 
@@ -55,4 +55,4 @@ returns-in-TestUnitReady-clause-same g c = λ none h.
     (c.perform.ensures.idle none)
 
 pub returns-in-TestUnitReady-clause-stop : goal.returns-in-TestUnitReady-clause-stop
-returns-in-TestUnitReady-clause-stop g c = λ h m lasts. no_stop g.R.Blocks.moment g.R.Blocks.left_since _ _ _ refl
+returns-in-TestUnitReady-clause-stop g c = λ h m lasts. no_stop g.F.Blocks.moment g.F.Blocks.left_since _ _ _ refl

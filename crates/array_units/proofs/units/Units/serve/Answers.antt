@@ -15,7 +15,7 @@ returns-clause-served g c =
 pub returns-clause-worked : goal.returns-clause-worked
 returns-clause-worked g c =
     let r = c.serve.result in
-    subst (λ (u : ℕ). IfOk r.1 (λ reply. HasWorked (devices g.B.Blocks g.R.Blocks g.O.Opener) (g.N.Array.opening u)
+    subst (λ (u : ℕ). IfOk r.1 (λ reply. HasWorked (devices g.B.Blocks g.F.Blocks g.O.Opener) (g.N.Array.opening u)
     c.args.pass.pass.session c.args.asked.now c.args.bytes.now reply r.0.pass.seen))
     (c.at.ensures ∙ c.place-place.ensures.place) c.serve.ensures.worked
 

@@ -5,5 +5,5 @@ use Rattle.unit_entries.proofs.machine.UnitMachineNotedOpened.detach.Goals as go
 pub returns-in-Ok-clause-done : goal.returns-in-Ok-clause-done
 returns-in-Ok-clause-done g c =
     detach_done (g.O.Opener.claims && g.B.Blocks.claims) g.B.Blocks.contents g.B.Blocks.failures g.O.Opener.opens_failed
-    g.R.Blocks.failures c.args.self.now c.detach.new.self c.args.session c.in-Ok.ensures.was c.in-Ok.ensures.control
+    g.F.Blocks.failures c.args.self.now c.detach.new.self c.args.session c.in-Ok.ensures.was c.in-Ok.ensures.control
     c.detach.ensures.device c.detach.ensures.opener c.detach.ensures.file

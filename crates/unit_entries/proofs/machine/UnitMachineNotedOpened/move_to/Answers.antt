@@ -5,5 +5,5 @@ use Rattle.unit_entries.proofs.machine.UnitMachineNotedOpened.move_to.Goals as g
 pub returns-in-Ok-clause-done : goal.returns-in-Ok-clause-done
 returns-in-Ok-clause-done g c =
     move_done (g.O.Opener.claims && g.B.Blocks.claims) g.B.Blocks.contents g.B.Blocks.failures g.O.Opener.opens_failed
-    g.R.Blocks.failures c.args.self.now c.move_to.new.self c.args.list.now c.in-Ok.change c.move_to.result c.in-Ok.is
+    g.F.Blocks.failures c.args.self.now c.move_to.new.self c.args.list.now c.in-Ok.change c.move_to.result c.in-Ok.is
     c.move_to.ensures.moved c.move_to.ensures.failures

@@ -5,7 +5,7 @@ use Rattle.unit_entries.proofs.machine.UnitMachineNotedOpened.step.Goals as goal
 pub returns-in-Reply-clause-done : goal.returns-in-Reply-clause-done
 returns-in-Reply-clause-done g c =
     step_done (g.O.Opener.claims && g.B.Blocks.claims) g.B.Blocks.contents g.B.Blocks.failures g.O.Opener.opens_failed
-    g.R.Blocks.failures c.args.self.now c.step.new.self c.args.session c.args.serial c.args.by_group.now c.args.ask.now
+    g.F.Blocks.failures c.args.self.now c.step.new.self c.args.session c.args.serial c.args.by_group.now c.args.ask.now
     c.args.bytes.now c.in-Reply.reply c.in-Reply.ensures.entry c.in-Reply.ensures.fine
 
 pub returns-in-Reply-clause-worked : goal.returns-in-Reply-clause-worked
@@ -25,4 +25,4 @@ returns-in-Reply-clause-worked g c = record {
 pub returns-in-Gone-clause-cause : goal.returns-in-Gone-clause-cause
 returns-in-Gone-clause-cause g c =
     gone_cause (g.O.Opener.claims && g.B.Blocks.claims) g.B.Blocks.contents g.B.Blocks.failures g.O.Opener.opens_failed
-    g.R.Blocks.failures c.args.self.now c.args.session c.args.serial c.in-Gone.ensures.routed
+    g.F.Blocks.failures c.args.self.now c.args.session c.args.serial c.in-Gone.ensures.routed

@@ -19,19 +19,19 @@ pub returns-clause-unreached : goal.returns-clause-unreached
 returns-clause-unreached g c = unreached_seen _ _ _ _ c.self.view_is c.in-Ok.ensures.unreached
 
 pub returns-in-Gone-clause-restart : goal.returns-in-Gone-clause-restart
-returns-in-Gone-clause-restart g c = restart_seen _ g.R.Blocks.size g.R.Blocks.may_hold _ _ c.self.view_is c.self.invariant.1
+returns-in-Gone-clause-restart g c = restart_seen _ g.F.Blocks.size g.F.Blocks.may_hold _ _ c.self.view_is c.self.invariant.1
 
 pub returns-in-Moved-clause-restart : goal.returns-in-Moved-clause-restart
 returns-in-Moved-clause-restart g c =
-    restart_seen _ g.R.Blocks.size g.R.Blocks.may_hold _ _ c.self.view_is c.self.invariant.1
+    restart_seen _ g.F.Blocks.size g.F.Blocks.may_hold _ _ c.self.view_is c.self.invariant.1
 
 pub returns-in-Err-clause-restart : goal.returns-in-Err-clause-restart
 returns-in-Err-clause-restart g c =
-    λ h. each_outcome_holds g.R.Blocks.size g.R.Blocks.may_hold _ _ (c.in-Err.ensures.kept h (c.self.invariant.1 h))
+    λ h. each_outcome_holds g.F.Blocks.size g.F.Blocks.may_hold _ _ (c.in-Err.ensures.kept h (c.self.invariant.1 h))
 
 pub returns-clause-restart : goal.returns-clause-restart
 returns-clause-restart g c =
-    λ h. restarts g.R.Blocks.size g.R.Blocks.may_hold _ _ _
+    λ h. restarts g.F.Blocks.size g.F.Blocks.may_hold _ _ _
     (c.in-Ok.ensures.kept h (c.self.invariant.1 h)) c.pass.ensures.lasting
 
 pub returns-clause-left : goal.returns-clause-left
@@ -53,13 +53,13 @@ pub returns-clause-same : goal.returns-clause-same
 returns-clause-same g c = same_seen g.B.Blocks.claims_moments g.B.Blocks.moment g.B.Blocks.left_since g.B.Blocks.size g.B.Blocks.may_hold _ _ _ _ _ c.self.view_is c.in-Ok.ensures.same
 
 pub returns-in-Gone-clause-stop : goal.returns-in-Gone-clause-stop
-returns-in-Gone-clause-stop g c = λ h m. no_stop g.R.Blocks.moment g.R.Blocks.left_since _ _ _ refl
+returns-in-Gone-clause-stop g c = λ h m. no_stop g.F.Blocks.moment g.F.Blocks.left_since _ _ _ refl
 
 pub returns-in-Moved-clause-stop : goal.returns-in-Moved-clause-stop
-returns-in-Moved-clause-stop g c = λ h m. no_stop g.R.Blocks.moment g.R.Blocks.left_since _ _ _ refl
+returns-in-Moved-clause-stop g c = λ h m. no_stop g.F.Blocks.moment g.F.Blocks.left_since _ _ _ refl
 
 pub returns-in-Err-clause-stop : goal.returns-in-Err-clause-stop
-returns-in-Err-clause-stop g c = stop_seen _ _ g.R.Blocks.moment g.R.Blocks.left_since g.R.Blocks.size g.R.Blocks.may_hold _ _ _ _ c.self.view_is c.in-Err.ensures.stop c.self.invariant.1
+returns-in-Err-clause-stop g c = stop_seen _ _ g.F.Blocks.moment g.F.Blocks.left_since g.F.Blocks.size g.F.Blocks.may_hold _ _ _ _ c.self.view_is c.in-Err.ensures.stop c.self.invariant.1
 
 pub returns-clause-stop : goal.returns-clause-stop
-returns-clause-stop g c = stop_seen _ _ g.R.Blocks.moment g.R.Blocks.left_since g.R.Blocks.size g.R.Blocks.may_hold _ _ _ _ c.self.view_is c.in-Ok.ensures.stop c.self.invariant.1
+returns-clause-stop g c = stop_seen _ _ g.F.Blocks.moment g.F.Blocks.left_since g.F.Blocks.size g.F.Blocks.may_hold _ _ _ _ c.self.view_is c.in-Ok.ensures.stop c.self.invariant.1

@@ -13,7 +13,7 @@ returns-in-Some-attach_unit-clause-done g c =
     let u = c.in-Some in
     rw (← c.self.view_is)
     (attach_goes (g.O.Opener.claims && g.B.Blocks.claims) g.B.Blocks.contents g.B.Blocks.failures g.O.Opener.opens_failed
-    g.R.Blocks.failures v c.args.place c.in-Some-attach_unit.id c.args.port.now c.args.group u.unit.now c.attach_unit.new.unit
+    g.F.Blocks.failures v c.args.place c.in-Some-attach_unit.id c.args.port.now c.args.group u.unit.now c.attach_unit.new.unit
     (there_is v.units c.args.place u.unit.now u.ensures.item.3.0 u.ensures.item.1)
     (rw (← c.in_ok-port.ensures) c.in-Some-attach_unit.ensures) _
     (c.attach.ensures ∙ ap (λ (t : Traffic). attached t c.args.place c.in-Some-attach_unit.id) c.in_ok-make_room.ensures.same))
@@ -25,6 +25,6 @@ returns-in_default-attach_unit-clause-done g c =
     let u = c.in-Some in
     rw (← c.self.view_is, c.in_ok-make_room.ensures.same)
     (attach_refused (g.O.Opener.claims && g.B.Blocks.claims) g.B.Blocks.contents g.B.Blocks.failures g.O.Opener.opens_failed
-    g.R.Blocks.failures v c.args.place c.args.port.now c.args.group u.unit.now c.attach_unit.new.unit
+    g.F.Blocks.failures v c.args.place c.args.port.now c.args.group u.unit.now c.attach_unit.new.unit
     (there_is v.units c.args.place u.unit.now u.ensures.item.3.0 u.ensures.item.1)
     (rw (← c.in_ok-port.ensures) c.in_default-attach_unit.ensures))

@@ -15,7 +15,7 @@ returns g c =
     let u = c.in-Some-get_mut in
     rw (← c.self.view_is)
     (unit_goes (g.O.Opener.claims && g.B.Blocks.claims) g.B.Blocks.contents g.B.Blocks.failures g.O.Opener.opens_failed
-    g.R.Blocks.failures
+    g.F.Blocks.failures
     (events.Detach c.args.session) v x.place u.unit.now c.detach_unit.new.unit (Detach x.id) (λ s h. IsGone s h x.id)
     (there_is v.units x.place u.unit.now u.ensures.item.3.0 u.ensures.item.1) c.detach_unit.ensures
     (λ opening past new is. rw c.in-Some.ensures is))

@@ -17,7 +17,7 @@ returns g c =
     let u = c.in-Some in
     rw (← c.self.view_is)
     (unit_goes (g.O.Opener.claims && g.B.Blocks.claims) g.B.Blocks.contents g.B.Blocks.failures g.O.Opener.opens_failed
-    g.R.Blocks.failures
+    g.F.Blocks.failures
     (events.Move c.args.place list) v c.args.place u.unit.now c.move_unit.new.unit (Move list Fine)
     (λ s h. (why : MoveFault) × IsStay s h list why)
     (there_is v.units c.args.place u.unit.now u.ensures.item.3.0 u.ensures.item.1)

@@ -9,8 +9,8 @@ returns-clause-stands g c =
     subst
     (λ (t : Traffic).
     Stands (g.O.Opener.claims && g.B.Blocks.claims) g.B.Blocks.contents g.B.Blocks.failures g.O.Opener.opens_failed
-    g.R.Blocks.failures (opening_of g.B.Blocks.contents c.args.units.items) (λ place. [])
+    g.F.Blocks.failures (opening_of g.B.Blocks.contents c.args.units.items) (λ place. [])
     (record { units = c.args.units.items; traffic = t }))
     (sym c.in_ok-records.ensures)
     (stands_new (g.O.Opener.claims && g.B.Blocks.claims) g.B.Blocks.contents g.B.Blocks.failures g.O.Opener.opens_failed
-    g.R.Blocks.failures c.args.units.items c.requires)
+    g.F.Blocks.failures c.args.units.items c.requires)

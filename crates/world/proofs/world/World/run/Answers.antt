@@ -8,12 +8,12 @@ use Rattle.world.proofs.world.World.run.Goals as goal
 pub loop-event-init : goal.loop-event-init
 loop-event-init g c =
     none_happen (g.O.Opener.claims && g.B.Blocks.claims) g.B.Blocks.contents g.B.Blocks.failures g.O.Opener.opens_failed
-    g.R.Blocks.failures c.args.self.now
+    g.F.Blocks.failures c.args.self.now
 
 pub loop-event-preserved : goal.loop-event-preserved
 loop-event-preserved g c =
     so_far (g.O.Opener.claims && g.B.Blocks.claims) g.B.Blocks.contents g.B.Blocks.failures g.O.Opener.opens_failed
-    g.R.Blocks.failures c.args.self.now c.loop-event.self c.step.new.self c.args.events.now c.loop-event.event-index _
+    g.F.Blocks.failures c.args.self.now c.loop-event.self c.step.new.self c.args.events.now c.loop-event.event-index _
     c.loop-event-test.true c.event-item.is c.loop-event.invariant c.in_ok-step.ensures.done
 
 pub returns-in_err-step-clause-err : goal.returns-in_err-step-clause-err
@@ -29,5 +29,5 @@ returns-clause-done g c =
     subst
     (λ (es : List Event).
     AllHappen (g.O.Opener.claims && g.B.Blocks.claims) g.B.Blocks.contents g.B.Blocks.failures g.O.Opener.opens_failed
-    g.R.Blocks.failures es c.args.self.now c.loop-event.self)
+    g.F.Blocks.failures es c.args.self.now c.loop-event.self)
     (take_all c.loop-event.event-index c.args.events.now c.loop-event-test.false) c.loop-event.invariant

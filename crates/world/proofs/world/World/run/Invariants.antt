@@ -6,4 +6,4 @@ use Rattle.world.proofs.world.World.run.Given as goal
 abbrev pub invariant-loop-event : goal.invariant-loop-event
 invariant-loop-event g l =
     AllHappen (g.O.Opener.claims && g.B.Blocks.claims) g.B.Blocks.contents g.B.Blocks.failures g.O.Opener.opens_failed
-    g.R.Blocks.failures (take l.event-index l.events) l.fn.self l.self
+    g.F.Blocks.failures (take l.event-index l.events) l.fn.self l.self

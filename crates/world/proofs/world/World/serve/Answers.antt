@@ -12,6 +12,6 @@ returns g c =
     let u = c.in-Some-get_mut in
     rw (← c.self.view_is)
     (serve_goes (g.O.Opener.claims && g.B.Blocks.claims) g.B.Blocks.contents g.B.Blocks.failures g.O.Opener.opens_failed
-    g.R.Blocks.failures
+    g.F.Blocks.failures
     v c.args.session x c.in-InLane.job u.unit.now c.serve_unit-end.new.unit c.in-Some.ensures c.in-InLane.is
     (there_is v.units x.place u.unit.now u.ensures.item.3.0 u.ensures.item.1) _ _ c.serve_unit-end.ensures c.end.ensures)

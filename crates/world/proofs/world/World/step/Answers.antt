@@ -24,7 +24,7 @@ pub returns-in-Take-clause-done : goal.returns-in-Take-clause-done
 returns-in-Take-clause-done g c =
     rw c.in-Take.is
     (quiet_goes (g.O.Opener.claims && g.B.Blocks.claims) g.B.Blocks.contents g.B.Blocks.failures g.O.Opener.opens_failed
-    g.R.Blocks.failures
+    g.F.Blocks.failures
     (events.Take c.in-Take.group) c.args.self.now _ _ c.take.ensures.units c.take.ensures.traffic
     (λ opening past stands. refl))
 
@@ -32,7 +32,7 @@ pub returns-in-Post-clause-done : goal.returns-in-Post-clause-done
 returns-in-Post-clause-done g c =
     rw c.in-Post.is
     (quiet_goes (g.O.Opener.claims && g.B.Blocks.claims) g.B.Blocks.contents g.B.Blocks.failures g.O.Opener.opens_failed
-    g.R.Blocks.failures
+    g.F.Blocks.failures
     (events.Post c.in-Post.session) c.args.self.now _ _ c.post.ensures.units c.post.ensures.traffic
     (λ opening past stands. refl))
 
@@ -42,7 +42,7 @@ returns-in-Submit-clause-done g c =
     rw c.in-Submit.is
     (on_done c.submit.result c.submit.ensures.traffic
     (λ did. counted_goes (g.O.Opener.claims && g.B.Blocks.claims) g.B.Blocks.contents g.B.Blocks.failures g.O.Opener.opens_failed
-    g.R.Blocks.failures
+    g.F.Blocks.failures
     (events.Submit c.in-Submit.session c.in-Submit.by_group c.in-Submit.asked c.in-Submit.bytes) c.args.self.now
     c.submit.new.self c.in-Submit.session did.0 (λ count x. submitted count t c.in-Submit.session x (new_job c.in-Submit.by_group c.in-Submit.asked c.in-Submit.bytes))
     did.1 c.submit.ensures.units did.2 (λ opening past. refl)))
@@ -53,7 +53,7 @@ returns-in-SubmitAgain-clause-done g c =
     rw c.in-SubmitAgain.is
     (on_done c.submit_again.result c.submit_again.ensures.traffic
     (λ did. counted_goes (g.O.Opener.claims && g.B.Blocks.claims) g.B.Blocks.contents g.B.Blocks.failures g.O.Opener.opens_failed
-    g.R.Blocks.failures
+    g.F.Blocks.failures
     (events.SubmitAgain c.in-SubmitAgain.session) c.args.self.now
     c.submit_again.new.self c.in-SubmitAgain.session did.0 (λ count x. submitted_again count t c.in-SubmitAgain.session x)
     did.1 c.submit_again.ensures.units did.2 (λ opening past. refl)))
@@ -64,7 +64,7 @@ returns-in-Collect-clause-done g c =
     rw c.in-Collect.is
     (on_done c.collect.result c.collect.ensures.traffic
     (λ did. counted_goes (g.O.Opener.claims && g.B.Blocks.claims) g.B.Blocks.contents g.B.Blocks.failures g.O.Opener.opens_failed
-    g.R.Blocks.failures
+    g.F.Blocks.failures
     (events.Collect c.in-Collect.session) c.args.self.now
     c.collect.new.self c.in-Collect.session did.0 (λ count x. collected count t c.in-Collect.session x)
     did.1 c.collect.ensures.units did.2 (λ opening past. refl)))
@@ -75,7 +75,7 @@ returns-in-Begin-clause-done g c =
     rw c.in-Begin.is
     (on_done c.begin.result c.begin.ensures.traffic
     (λ did. counted_goes (g.O.Opener.claims && g.B.Blocks.claims) g.B.Blocks.contents g.B.Blocks.failures g.O.Opener.opens_failed
-    g.R.Blocks.failures
+    g.F.Blocks.failures
     (events.Begin c.in-Begin.session c.in-Begin.by_group c.in-Begin.asked c.in-Begin.bytes) c.args.self.now
     c.begin.new.self c.in-Begin.session did.0 (λ count x. begun count t c.in-Begin.session x (new_job c.in-Begin.by_group c.in-Begin.asked c.in-Begin.bytes))
     did.1 c.begin.ensures.units did.2 (λ opening past. refl)))
@@ -86,7 +86,7 @@ returns-in-BeginAgain-clause-done g c =
     rw c.in-BeginAgain.is
     (on_done c.begin_again.result c.begin_again.ensures.traffic
     (λ did. counted_goes (g.O.Opener.claims && g.B.Blocks.claims) g.B.Blocks.contents g.B.Blocks.failures g.O.Opener.opens_failed
-    g.R.Blocks.failures
+    g.F.Blocks.failures
     (events.BeginAgain c.in-BeginAgain.session) c.args.self.now
     c.begin_again.new.self c.in-BeginAgain.session did.0 (λ count x. begun_again count t c.in-BeginAgain.session x)
     did.1 c.begin_again.ensures.units did.2 (λ opening past. refl)))
@@ -95,7 +95,7 @@ pub returns-in-Close-clause-done : goal.returns-in-Close-clause-done
 returns-in-Close-clause-done g c =
     rw c.in-Close.is
     (quiet_goes (g.O.Opener.claims && g.B.Blocks.claims) g.B.Blocks.contents g.B.Blocks.failures g.O.Opener.opens_failed
-    g.R.Blocks.failures
+    g.F.Blocks.failures
     (events.Close c.in-Close.group) c.args.self.now _ _ c.close.ensures.units c.close.ensures.traffic
     (λ opening past stands. refl))
 
@@ -105,7 +105,7 @@ returns-in-TakeBack-clause-done g c =
     let old = c.args.self.now in
     rw c.in-TakeBack.is
     (quiet_goes claims g.B.Blocks.contents g.B.Blocks.failures g.O.Opener.opens_failed
-    g.R.Blocks.failures
+    g.F.Blocks.failures
     (events.TakeBack c.in-TakeBack.session) old _ c.take_back.new.self.traffic c.take_back.ensures.units refl
     (λ opening past stands. back_step claims (length old.units) opening past old.traffic c.in-TakeBack.session
     c.take_back.new.self.traffic (slice_get old.traffic.sessions c.in-TakeBack.session) c.take_back.ensures.traffic))
