@@ -1,11 +1,12 @@
 //! What hosts do at an array, and are answered. A script has a line for each PDU: `> PDU` is sent, and `< PDU` comes.
 //! `test_streams` says how a PDU is spelled.
+use crate::host::{Host, is_text};
 use crate::site::Site;
+use crate::texts::{FINDS, HOST_B, WELCOME_2};
 use std::alloc::{AllocError, Global};
 use std::net::{Net, SocketAddrV4, TcpListener, TcpStream};
 use std::process::Abort;
 use std::test::Fail;
-use test_hosts::{FINDS, HOST_B, Host, WELCOME_2, is_text};
 use test_streams::{HOST_A, RowError, WELCOME, lines_of, pdu_of};
 
 // What this line spells.

@@ -1,4 +1,5 @@
 //! The console of an array whose hosts come between two of its lines.
+use crate::host::Host;
 use crate::hosts::{come, finds};
 use crate::site::{SIZE, Site, copy};
 use disk_files::{DiskFault, open_disk};
@@ -9,7 +10,6 @@ use std::net::{Net, TcpListener, TcpStream};
 use std::process::{Abort, Termination};
 use std::rt::Files;
 use std::test::Fail;
-use test_hosts::Host;
 use test_streams::bytes_of;
 
 // The name of the host that registers.

@@ -1,4 +1,5 @@
 //! An array over two files that loses power and is started again.
+use crate::host::Host;
 use crate::hosts::perform;
 use crate::site::{Site, free_site, make};
 use crate::visits::{Console, Visit, Visited, console};
@@ -12,7 +13,6 @@ use std::marker::Brand;
 use std::net::{Net, TcpListener, TcpStream};
 use std::process::{self, Abort};
 use std::test::*;
-use test_hosts::Host;
 
 // Each login is told the group of its portal.
 const AT_1: &str = r#"

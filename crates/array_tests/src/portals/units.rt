@@ -75,7 +75,7 @@ pub const NO_FAULTS: Faults = Faults {
 };
 
 /// The one unit of an array over these devices, of which the second has a registration file.
-pub fn opened<B: Blocks + Drop, F: Blocks + Drop, O: Opener<B> + Drop>(
+pub fn opened<B: Blocks, F: Blocks, O: Opener<B>>(
     alloc: Global,
     blocks: B,
     opener: O,

@@ -1,6 +1,6 @@
 //! Devices and openers that fail, what is then seen through both controllers, and what an array finds that is started again.
-use crate::restart::{RESTART, Story, run_twice};
-use crate::units::{Faults, NO_FAULTS};
+use crate::portals::restart::{RESTART, Story, run_twice};
+use crate::portals::units::{Faults, NO_FAULTS};
 use std::test::*;
 
 // The device fails at the third block of a WRITE (10) of blocks 10 to 13, and from then on.

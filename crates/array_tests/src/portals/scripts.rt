@@ -1,6 +1,6 @@
 //! The scripts of an array of two units in memory, and their tests.
-use crate::array::{Script, run};
-use crate::{discovery, fencing, hanging, late, logins, medium, streams, wanting, worked};
+use crate::portals::serving::{Script, run};
+use crate::portals::{discovery, fencing, hanging, late, logins, medium, streams, wanting, worked};
 use std::alloc::Global;
 use std::io::Eprint;
 use std::net::{Ipv4Addr, Net, TcpListener, TcpStream};

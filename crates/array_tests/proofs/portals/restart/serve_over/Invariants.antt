@@ -1,5 +1,5 @@
 use Rattle.unit_history.specs.Naming.{book_of, opening_of, table_of}
-use Rattle.portal_tests.proofs.restart.serve_over.Given as goal
+use Rattle.array_tests.proofs.portals.restart.serve_over.Given as goal
 
 abbrev pub ghosts-perform : goal.ghosts-perform
 ghosts-perform g a = record {

@@ -2,12 +2,13 @@
 ghost use Rattle.std.specs.Prelude.{◌≤◌, length};
 ghost use Rattle.unit_history.specs.Naming.{IsNamed};
 
-use crate::at::At;
-use crate::behind::Behind;
-use crate::doors::Doors;
-use crate::no_room::NoRoom;
-use crate::stage::Stage;
-use crate::units::two;
+use crate::host::Host;
+use crate::portals::at::At;
+use crate::portals::behind::Behind;
+use crate::portals::doors::Doors;
+use crate::portals::no_room::NoRoom;
+use crate::portals::stage::Stage;
+use crate::portals::units::two;
 use array_units::Units;
 use block_file::{Blocks, Opener};
 use event_log::Log;
@@ -22,7 +23,6 @@ use std::process::Abort;
 use std::sync::{Arc, Wait};
 use std::thread::{JoinHandle, Threads};
 use std::time::Clock;
-use test_hosts::Host;
 use test_units::Latch;
 use unit_history::{LegalHistory, NewUnit, Opened, Pass};
 
@@ -73,9 +73,9 @@ fn bind<R: Abort + Net<Listener = TcpListener, Stream = TcpStream>>(
 // Serves a portal of a group, whose controller has its lanes.
 fn serve<
     N: Naming<Opened> + Send + Sync + 'static,
-    B: Blocks + Drop + Send + Sync + 'static,
-    F: Blocks + Drop + Send + Sync + 'static,
-    O: Opener<B> + Drop + Send + Sync + 'static,
+    B: Blocks + Send + Sync + 'static,
+    F: Blocks + Send + Sync + 'static,
+    O: Opener<B> + Send + Sync + 'static,
     R: Threads + Wait + Clock + Abort + Clone + Drop + Send + Sync + 'static,
 >(
     rt: &R,
@@ -119,9 +119,9 @@ fn found_at(portal: SocketAddrV4) -> SocketAddrV4 {
 /// sessions may still be open.
 pub fn perform<
     N: Naming<Opened> + Send + Sync + 'static,
-    B: Blocks + Drop + Send + Sync + 'static,
-    F: Blocks + Drop + Send + Sync + 'static,
-    O: Opener<B> + Drop + Send + Sync + 'static,
+    B: Blocks + Send + Sync + 'static,
+    F: Blocks + Send + Sync + 'static,
+    O: Opener<B> + Send + Sync + 'static,
     R: Threads
         + Wait
         + Clock

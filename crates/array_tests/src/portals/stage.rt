@@ -20,15 +20,16 @@
 //! - `gate flushed 1`: since the last such line a flush was asked of the gate, the last one of unit 1; `gate unflushed`: none was;
 //! - `0 shows 3`: the row of unit 0 tells of three entries, whoever has its lock;
 //! - `desks close`: the desks of both controllers are closed.
-use crate::at::At;
-use crate::behind::Console;
-use crate::doors::{Doors, Flushes};
+use crate::host::{Host, is_text, put};
+use crate::portals::at::At;
+use crate::portals::behind::Console;
+use crate::portals::doors::{Doors, Flushes};
+use crate::texts::{FINDS, HOST_B, WELCOME_2};
 use std::alloc::{AllocError, Global};
 use std::io::Eprint;
 use std::net::{Net, SocketAddrV4, TcpListener, TcpStream};
 use std::process::Abort;
 use std::sync::Wait;
-use test_hosts::{FINDS, HOST_B, Host, WELCOME_2, is_text, put};
 use test_streams::{HOST_A, WELCOME, lines_of, pdu_of};
 use test_units::Latch;
 

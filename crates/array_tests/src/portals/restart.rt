@@ -1,7 +1,8 @@
 //! An array over a file that is ended while a session is open, and started again at the same ports.
-use crate::array::{Script, perform};
-use crate::at::At;
-use crate::units::{Faults, NO_FAULTS, fused_file, fused_registrations, opened};
+use crate::host::Host;
+use crate::portals::at::At;
+use crate::portals::serving::{Script, perform};
+use crate::portals::units::{Faults, NO_FAULTS, fused_file, fused_registrations, opened};
 use block_file::{Blocks, FusedOpener, KeepOpener, Opener};
 use std::alloc::Global;
 use std::fs::File;
@@ -14,7 +15,6 @@ use std::sync::Wait;
 use std::thread::Threads;
 use std::time::Clock;
 use std::{fs, process};
-use test_hosts::Host;
 use test_units::Latch;
 
 /// An array that fails so while hosts perform a script, and, started again, does not while they perform another. By its name
@@ -29,9 +29,9 @@ pub struct Story<'a> {
 
 // Serves a unit over these devices while hosts perform a script: the ports, and the hosts, whose sessions may still be open.
 fn serve_over<
-    B: Blocks + Drop + Send + Sync + 'static,
-    F: Blocks + Drop + Send + Sync + 'static,
-    O: Opener<B> + Drop + Send + Sync + 'static,
+    B: Blocks + Send + Sync + 'static,
+    F: Blocks + Send + Sync + 'static,
+    O: Opener<B> + Send + Sync + 'static,
     R: Threads
         + Wait
         + Clock
