@@ -12,7 +12,7 @@ use unit_history::NewUnit;
 use unit_state::{Unit, laws};
 
 /// The unit at a place of so many, over this device.
-pub fn opened<B: Blocks + Drop, O: Opener<B> + Drop>(
+pub fn opened<B: Blocks, O: Opener<B>>(
     alloc: Global,
     blocks: B,
     opener: O,
@@ -37,7 +37,7 @@ pub fn opened<B: Blocks + Drop, O: Opener<B> + Drop>(
 }
 
 /// The same, before threads share it.
-pub fn new_unit<B: Blocks + Drop, O: Opener<B> + Drop>(
+pub fn new_unit<B: Blocks, O: Opener<B>>(
     alloc: Global,
     blocks: B,
     opener: O,
