@@ -191,7 +191,7 @@ abbrev pub releasing : RegistryValue → Nexus → PrOut → Effect
 releasing r n q =
     if holds r n then
     (if names_it r q then Done (record r { reservation = None }) (told_of n (of_end r.reservation) r.registrants)
-     else Refused 0x26 0x04)
+    else Refused 0x26 0x04)
     else Done r []
 
 -- ---- CLEAR, PREEMPT, and PREEMPT AND ABORT (5.13.11.3 to 5.13.11.5)
@@ -223,7 +223,7 @@ abbrev pub preempting : RegistryValue → Nexus → PrOut → Effect
 preempting r n q =
     if is_preempting_reservation r q then
     (if names_type q then (if is_preempting_holder r q then preempting_holder r n q else preempting_all r n q)
-     else Refused 0x24 0x00)
+    else Refused 0x24 0x00)
     else if nat_eq q.sakey 0 then Refused 0x26 0x00
     else if is_key r.registrants q.sakey then preempting_registrants r n q
     else Conflicting

@@ -20,9 +20,9 @@ returns-clause-does c =
     let q = c.args.request in
     let fits : is_too_much q (registration v n q) ≡ false =
     elim c.else-request-ne0.branch [
-      else-request-ne0-via-then-request-ne0+else-not-has_room_for w ↦
-        too_much_one v n q false c.requires.ascending w.if-request-ne0.true
-        (told_one v.registrants n _ _ true w.missing.ensures w.has_room_for.ensures w.if-not-has_room_for.false)
+      | else-request-ne0-via-then-request-ne0+else-not-has_room_for w ↦
+          too_much_one v n q false c.requires.ascending w.if-request-ne0.true
+          (told_one v.registrants n _ _ true w.missing.ensures w.has_room_for.ensures w.if-not-has_room_for.false)
       | else-request-ne0-via-else-request-ne0 w ↦ not_too_much q (registration v n q) w.if-request-ne0.false
     ] in
     rw (c.registered.ensures.end, c.registered.ensures.counted, c.notice_of_end-notice.ensures)

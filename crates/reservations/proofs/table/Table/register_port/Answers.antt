@@ -14,7 +14,7 @@ returns-then-not-has_room_for-clause-does c =
     let n = c.args.nexus.now in
     let q = c.args.request in
     let none = told_port v.registrants n _ _ _ _ false c.missing.ensures c.missing-then-request-ne0.ensures
-        c.through_other-other.ensures c.has_room_for.ensures c.if-not-has_room_for.true in
+    c.through_other-other.ensures c.has_room_for.ensures c.if-not-has_room_for.true in
     (full_port v n q (too_much_port v n q true c.requires.ascending c.if-request-ne0.true none), refl)
 
 pub set_registration-requires-2-clause-ascending : goal.set_registration-requires-2-clause-ascending
@@ -29,12 +29,12 @@ set_registration-requires-2-clause-space c = λ some out.
     let n = c.args.nexus.now in
     let q = c.args.request in
     elim c.else-request-ne0.branch [
-      else-request-ne0-via-then-request-ne0+else-not-has_room_for w ↦
-        room_second n _ q.sakey v.registrants _ _ c.through_other-other.ensures c.requires.ascending
-        (told_port v.registrants n _ _ _ _ true w.missing.ensures w.missing-then-request-ne0.ensures
-        c.through_other-other.ensures w.has_room_for.ensures w.if-not-has_room_for.false)
-        (omega (arith, c.requires.room, c.set_registration.ensures.room))
-        (with_key v _ n q c.set_registration.ensures.set some) out
+      | else-request-ne0-via-then-request-ne0+else-not-has_room_for w ↦
+          room_second n _ q.sakey v.registrants _ _ c.through_other-other.ensures c.requires.ascending
+          (told_port v.registrants n _ _ _ _ true w.missing.ensures w.missing-then-request-ne0.ensures
+          c.through_other-other.ensures w.has_room_for.ensures w.if-not-has_room_for.false)
+          (omega (arith, c.requires.room, c.set_registration.ensures.room))
+          (with_key v _ n q c.set_registration.ensures.set some) out
       | else-request-ne0-via-else-request-ne0 w ↦ absurd (let zero = rw w.if-request-ne0.false at some in cc)
     ]
 
@@ -45,10 +45,10 @@ returns-clause-does c =
     let q = c.args.request in
     let fits : is_too_much q (of_port v n q) ≡ false =
     elim c.else-request-ne0.branch [
-      else-request-ne0-via-then-request-ne0+else-not-has_room_for w ↦
-        too_much_port v n q false c.requires.ascending w.if-request-ne0.true
-        (told_port v.registrants n _ _ _ _ true w.missing.ensures w.missing-then-request-ne0.ensures
-        c.through_other-other.ensures w.has_room_for.ensures w.if-not-has_room_for.false)
+      | else-request-ne0-via-then-request-ne0+else-not-has_room_for w ↦
+          too_much_port v n q false c.requires.ascending w.if-request-ne0.true
+          (told_port v.registrants n _ _ _ _ true w.missing.ensures w.missing-then-request-ne0.ensures
+          c.through_other-other.ensures w.has_room_for.ensures w.if-not-has_room_for.false)
       | else-request-ne0-via-else-request-ne0 w ↦ not_too_much q (of_port v n q) w.if-request-ne0.false
     ] in
     let second = c.set_registration-2.ensures.set
