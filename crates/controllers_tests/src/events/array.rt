@@ -86,7 +86,7 @@ fn event_of(alloc: Global, act: Act) -> Result<Event, Fail> {
     match act {
         Act::Attach(place, isid, group) => {
             let name = Vec::from_slice(alloc, b"iqn.2000-01.test:a")?;
-            let port = PortName::new(name, isid).ok_or(Fail)?;
+            let port = PortName::new(name, isid).ok_or("an ISID of six bytes")?;
             Ok(Event::Attach { place, port, group })
         }
         Act::Detach(session) => Ok(Event::Detach { session }),
