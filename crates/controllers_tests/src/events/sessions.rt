@@ -15,9 +15,6 @@ const POWER_ON: (u8, u8, u8) = (0x06, 0x29, 0x00);
 
 const CHANGED: (u8, u8, u8) = (0x06, 0x2A, 0x06);
 
-/// An ISID of more than six bytes.
-const NO_ISID: u64 = 1 << 48;
-
 const ONE_COMMAND: &[Row] = rows! {
     "it attaches": [Attach(0, 1, One)] => [], (1, 0), [Stands(0, 0, 1, Idle)];
     "it submits": [Submit(0, One, Test)] => [Noted(0, 0, 1, 1, Submitted)], (1, 0), [Stands(0, 0, 1, Waits)];
@@ -55,7 +52,7 @@ const WORKERS: &[Row] = rows! {
 
 const IMPOSSIBLE: &[Row] = rows! {
     "one session": [Attach(0, 1, One)] => [], (1, 0), [Stands(0, 0, 1, Idle)];
-    "no such unit, port or session": [Attach(2, 5, One), Attach(0, NO_ISID, One), Move(2, Two), Detach(1), Reset(1),
+    "no such unit or session": [Attach(2, 5, One), Move(2, Two), Detach(1), Reset(1),
         Submit(1, One, Test), Again(1), Serve(1), Post(1), Collect(1)] => [], (1, 0), [Stands(0, 0, 1, Idle)];
     "idle": [Again(0), Take(One), Take(Two), Serve(0), Post(0), Collect(0)] => [], (1, 0), [Stands(0, 0, 1, Idle)];
     "submit": [Submit(0, One, Test)] => [Noted(0, 0, 1, 1, Submitted)], (1, 0), [Stands(0, 0, 1, Waits)];
