@@ -60,10 +60,18 @@ impl<B: Blocks, F: Blocks, O: Opener<B>, N: Array<Opened>> Ended<B, F, O, N> {
 }
 
 // Where an answer comes. It is made when its job is handed in.
-#[derive(Drop)]
 struct Slot<B: Blocks, F: Blocks, O: Opener<B>, N: Array<Opened>> {
     answer: Mutex<Option<Ended<B, F, O, N>>>,
     filled: Condvar,
+}
+
+impl<B: Blocks, F: Blocks, O: Opener<B>, N: Array<Opened>> Drop for Slot<B, F, O, N> {
+    fn drop(self) {
+        let Self {
+            answer: _,
+            filled: _,
+        } = self;
+    }
 }
 
 impl<B: Blocks, F: Blocks, O: Opener<B>, N: Array<Opened>> Slot<B, F, O, N> {
@@ -101,8 +109,7 @@ pub struct Job<B: Blocks, F: Blocks, O: Opener<B>, N: Array<Opened>> {
     by_group: Group,
 }
 
-impl<B: Blocks + Drop, F: Blocks + Drop, O: Opener<B> + Drop, N: Array<Opened>> Drop
-    for Job<B, F, O, N> {
+impl<B: Blocks, F: Blocks, O: Opener<B>, N: Array<Opened>> Drop for Job<B, F, O, N> {
     fn drop(self) {
         let Self {
             waiting: _,
@@ -186,8 +193,7 @@ pub struct Answer<B: Blocks, F: Blocks, O: Opener<B>, N: Array<Opened>> {
     slot: Arc<Slot<B, F, O, N>, Global>,
 }
 
-impl<B: Blocks + Drop, F: Blocks + Drop, O: Opener<B> + Drop, N: Array<Opened>> Drop
-    for Answer<B, F, O, N> {
+impl<B: Blocks, F: Blocks, O: Opener<B>, N: Array<Opened>> Drop for Answer<B, F, O, N> {
     fn drop(self) {
         let Self { ended: _, slot: _ } = self;
     }
@@ -212,12 +218,22 @@ impl<B: Blocks, F: Blocks, O: Opener<B>, N: Array<Opened>> Answer<B, F, O, N> {
 
 /// What is left to the worker that handed a job in, with the data that it came with. Contracts see what the job is known by, its
 /// data, and what its pass had seen.
-#[derive(Drop)]
 pub struct Ticket<'a, B: Blocks, F: Blocks, O: Opener<B>, N: Array<Opened>> {
     names: Names,
     bytes: &'a [u8],
     seen: LegalHistory<B, F, O, N>,
     slot: Arc<Slot<B, F, O, N>, Global>,
+}
+
+impl<B: Blocks, F: Blocks, O: Opener<B>, N: Array<Opened>> Drop for Ticket<'_, B, F, O, N> {
+    fn drop(self) {
+        let Self {
+            names: _,
+            bytes: _,
+            seen: _,
+            slot: _,
+        } = self;
+    }
 }
 
 impl<'a, B: Blocks, F: Blocks, O: Opener<B>, N: Array<Opened>> Model for Ticket<'a, B, F, O, N> {
@@ -325,10 +341,10 @@ pub(crate) fn prepare<'a, B: Blocks, F: Blocks, O: Opener<B>, N: Array<Opened>>(
     ensures pass { IfOk result (λ r. r.1.pass ≡ pass) }
     ensures back { IfErr result (λ back. back ≡ pass) }
 {
-    let Ok((mine, slot)) = Slot::shared(alloc) else {
+    let Ok(copy) = bytes.to_vec(alloc) else {
         return Err(pass);
     };
-    let Ok(copy) = bytes.to_vec(alloc) else {
+    let Ok((mine, slot)) = Slot::shared(alloc) else {
         return Err(pass);
     };
     let ticket = Ticket {
