@@ -88,42 +88,6 @@ fn index_of<B: Blocks, F: Blocks, O: Opener<B>, N: Array<Opened>>(
     None
 }
 
-// The pass of the ticket's job, which leaves the queue, where it waits there.
-fn take_out<B: Blocks, F: Blocks, O: Opener<B>, N: Array<Opened>>(
-    queue: &mut Queue<Waiting<B, F, O, N>>,
-    ticket: &Ticket<'_, B, F, O, N>,
-) -> Option<Pass<B, F, O, N>>
-    ensures { IfSome result (λ pass.
-        handed_of pass ticket.now.names.asked ticket.now.data_in ticket.now.names.by_group ≡ ticket.now) }
-{
-    let at = index_of(queue, ticket)?;
-    match queue.take_at(at) {
-        Some(waiting) => Some(waiting.pass),
-        None => None,
-    }
-}
-
-// Why a queue does not take a job.
-fn fault_of(why: NotQueued) -> DeskFault {
-    match why {
-        NotQueued::Full => DeskFault::Full,
-        NotQueued::Closed => DeskFault::Closed,
-    }
-}
-
-// Lets a command wait behind those that came before: whether there are any. Refused, its pass is handed back.
-fn push_to<B: Blocks, F: Blocks, O: Opener<B>, N: Array<Opened>>(
-    queue: &mut Queue<Waiting<B, F, O, N>>,
-    waiting: Waiting<B, F, O, N>,
-) -> Result<bool, (DeskFault, Pass<B, F, O, N>)>
-    ensures { IfErr result (λ e. e.1 ≡ waiting.pass) }
-{
-    match queue.push(waiting) {
-        Ok(()) => Ok(queue.len() > 1),
-        Err((why, waiting)) => Err((fault_of(why), waiting.pass)),
-    }
-}
-
 impl<B: Blocks, F: Blocks, O: Opener<B>, N: Array<Opened>> Desk<B, F, O, N> {
     /// The desk of a group, with 64 places, which are taken now.
     pub fn new(alloc: Global, group: Group) -> Result<Desk<B, F, O, N>, NoMemory>
@@ -150,17 +114,19 @@ impl<B: Blocks, F: Blocks, O: Opener<B>, N: Array<Opened>> Desk<B, F, O, N> {
         ensures { IfErr result (λ e. e.1 ≡ waiting.pass) }
     {
         let mut queue = self.queue.lock(rt);
-        let pushed = push_to(&mut queue, waiting);
-        drop(queue);
-        match pushed {
-            Ok(others_wait) => {
-                if others_wait {
-                    self.filled.notify_one();
-                }
-                Ok(())
-            }
-            Err(refused) => Err(refused),
+        if let Err((why, waiting)) = queue.push(waiting) {
+            let fault = match why {
+                NotQueued::Full => DeskFault::Full,
+                NotQueued::Closed => DeskFault::Closed,
+            };
+            return Err((fault, waiting.pass));
         }
+        let others_wait = queue.len() > 1;
+        drop(queue);
+        if others_wait {
+            self.filled.notify_one();
+        }
+        Ok(())
     }
 
     /// Hands a command of a session in, with a copy of its data: its job waits behind those that came before. Refused, the pass is
@@ -193,10 +159,8 @@ impl<B: Blocks, F: Blocks, O: Opener<B>, N: Array<Opened>> Desk<B, F, O, N> {
         let mut queue = self.filled.wait_while(rt, self.queue.lock(rt), |queue| {
             queue.len() == 0 && !queue.is_closed()
         });
-        match queue.take() {
-            Some(waiting) => Some(Job::from_desk(waiting, self.group)),
-            None => None,
-        }
+        let waiting = queue.take()?;
+        Some(Job::from_desk(waiting, self.group))
     }
 
     /// Gives an answer to the ticket that waits for it. It takes no memory.
@@ -247,7 +211,9 @@ impl<B: Blocks, F: Blocks, O: Opener<B>, N: Array<Opened>> Desk<B, F, O, N> {
             handed_of pass ticket.now.names.asked ticket.now.data_in ticket.now.names.by_group ≡ ticket.now) }
     {
         let mut queue = self.queue.lock(rt);
-        take_out(&mut queue, ticket)
+        let at = index_of(&queue, ticket)?;
+        let waiting = queue.take_at(at)?;
+        Some(waiting.pass)
     }
 
     /// What becomes of the ticket's job: its worker serves it where no lane has taken it, and else waits for the answer.
