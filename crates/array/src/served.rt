@@ -48,14 +48,7 @@ fn found_by(alloc: Global, options: &Options<'_>, ports: Ports, log: &Log) -> Re
 }
 
 // These units behind this gate, as hosts find them.
-fn server_of<
-    N: Naming<Opened>,
-    B: Blocks + Drop,
-    F: Blocks + Drop,
-    O: Opener<B> + Drop,
-    G: Gate + Drop,
-    R: Wait,
->(
+fn server_of<N: Naming<Opened>, B: Blocks, F: Blocks, O: Opener<B>, G: Gate + Drop, R: Wait>(
     rt: &R,
     alloc: Global,
     found: Found,
@@ -89,9 +82,9 @@ fn server_of<
 // Starts the lanes of both controllers.
 fn start<
     N: Naming<Opened> + Send + Sync + 'static,
-    B: Blocks + Drop + Send + Sync + 'static,
-    F: Blocks + Drop + Send + Sync + 'static,
-    O: Opener<B> + Drop + Send + Sync + 'static,
+    B: Blocks + Send + Sync + 'static,
+    F: Blocks + Send + Sync + 'static,
+    O: Opener<B> + Send + Sync + 'static,
     G: Gate + Drop + Send + Sync + 'static,
     R: Threads + Wait + Clone + Drop + Send + 'static,
 >(rt: &R, alloc: Global, server: &Served<B, F, O, N, G>) -> Result<(), Fault> {
@@ -114,9 +107,9 @@ fn start<
 // Starts the accept loop of each portal.
 fn accept_at<
     N: Naming<Opened> + Send + Sync + 'static,
-    B: Blocks + Drop + Send + Sync + 'static,
-    F: Blocks + Drop + Send + Sync + 'static,
-    O: Opener<B> + Drop + Send + Sync + 'static,
+    B: Blocks + Send + Sync + 'static,
+    F: Blocks + Send + Sync + 'static,
+    O: Opener<B> + Send + Sync + 'static,
     G: Gate + Drop + Send + Sync + 'static,
     R: Threads + Wait + Clock + Clone + Drop + Send + 'static,
 >(
@@ -159,9 +152,9 @@ fn attend<A: Operations, I: BufRead + Drop, C: Write>(
 // Serves these units, behind this gate, at the portals that the words ask for.
 fn serve_units<
     N: Naming<Opened> + Send + Sync + 'static,
-    B: Blocks + Drop + Send + Sync + 'static,
-    F: Blocks + Drop + Send + Sync + 'static,
-    O: Opener<B> + Drop + Send + Sync + 'static,
+    B: Blocks + Send + Sync + 'static,
+    F: Blocks + Send + Sync + 'static,
+    O: Opener<B> + Send + Sync + 'static,
     G: Gate + Drop + Send + Sync + 'static,
     R: Threads
         + Wait
@@ -207,9 +200,9 @@ pub fn tell_want<R: Clock>(rt: &R, log: &Log, fault: Fault) {
 /// units are picked where it is called.
 pub fn serve<
     N: Naming<Opened> + Send + Sync + 'static,
-    B: Blocks + Drop + Send + Sync + 'static,
-    F: Blocks + Drop + Send + Sync + 'static,
-    O: Opener<B> + Drop + Send + Sync + 'static,
+    B: Blocks + Send + Sync + 'static,
+    F: Blocks + Send + Sync + 'static,
+    O: Opener<B> + Send + Sync + 'static,
     G: Gate + Drop + Send + Sync + 'static,
     R: Threads
         + Wait

@@ -30,8 +30,7 @@ pub struct Units<B: Blocks, F: Blocks, O: Opener<B>, N: Array<Opened>> {
     units: Vec<CachePadded<AnyUnit<B, F, O, N>>>,
 }
 
-impl<B: Blocks + Drop, F: Blocks + Drop, O: Opener<B> + Drop, N: Array<Opened>> Drop
-    for Units<B, F, O, N> {
+impl<B: Blocks, F: Blocks, O: Opener<B>, N: Array<Opened>> Drop for Units<B, F, O, N> {
     fn drop(self) {
         let Self { units: _ } = self;
     }
