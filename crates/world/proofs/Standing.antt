@@ -294,7 +294,7 @@ module _ {B R O : Type 0} (claims : Bool) (contents : B → List (List ℕ)) (fa
       let h = holds opening past old stands in
       let did = is (opening k) (past k) (h.legal k) (stands.behind k u there) in
       let step : Step old opening past (events.Attach k port group) (scene past old.traffic) =
-      inr (inr (inr did.1), refl) in (
+      inr (inr did.1, refl) in (
         past,
         step,
         stands_left old k new old.traffic opening past past (events.Attach k port group) stands step

@@ -8,7 +8,7 @@ use Rattle.world.proofs.world.World.attach.Goals as goal
 
 pub returns-in-Some-attach_unit-clause-done : goal.returns-in-Some-attach_unit-clause-done
 returns-in-Some-attach_unit-clause-done g c =
-    let v : WorldValue g.row.B.Denot g.row.R.Denot g.row.O.Denot =
+    let v : WorldValue g.row.B.Denot g.row.F.Denot g.row.O.Denot =
     record { units = c.self.inside.units.items; traffic = traffic_of c.self.inside.records } in
     let u = c.in-Some in
     rw (← c.self.view_is)
@@ -20,7 +20,7 @@ returns-in-Some-attach_unit-clause-done g c =
 
 pub returns-in_default-attach_unit-clause-done : goal.returns-in_default-attach_unit-clause-done
 returns-in_default-attach_unit-clause-done g c =
-    let v : WorldValue g.row.B.Denot g.row.R.Denot g.row.O.Denot =
+    let v : WorldValue g.row.B.Denot g.row.F.Denot g.row.O.Denot =
     record { units = c.self.inside.units.items; traffic = traffic_of c.self.inside.records } in
     let u = c.in-Some in
     rw (← c.self.view_is, c.in_ok-make_room.ensures.same)

@@ -12,7 +12,7 @@ use Rattle.world.proofs.world.World.move_to.Goals as goal
 
 pub returns : goal.returns
 returns g c =
-    let v : WorldValue g.row.B.Denot g.row.R.Denot g.row.O.Denot = record { units = c.self.inside.units.items; traffic = traffic_of c.self.inside.records } in
+    let v : WorldValue g.row.B.Denot g.row.F.Denot g.row.O.Denot = record { units = c.self.inside.units.items; traffic = traffic_of c.self.inside.records } in
     let list = c.args.list.now in
     let u = c.in-Some in
     rw (← c.self.view_is)

@@ -7,7 +7,7 @@ use Rattle.world.proofs.world.World.serve.Goals as goal
 
 pub returns : goal.returns
 returns g c =
-    let v : WorldValue g.row.B.Denot g.row.R.Denot g.row.O.Denot = record { units = c.self.inside.units.items; traffic = traffic_of c.self.inside.records } in
+    let v : WorldValue g.row.B.Denot g.row.F.Denot g.row.O.Denot = record { units = c.self.inside.units.items; traffic = traffic_of c.self.inside.records } in
     let x = c.in-Some.one.now in
     let u = c.in-Some-get_mut in
     rw (← c.self.view_is)
