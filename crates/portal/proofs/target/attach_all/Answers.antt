@@ -18,7 +18,7 @@ loop-unit-preserved g c =
     (g.U.LogicalUnits.unit_count c.args.units.now) c.loop-unit.unit at) (sym c.push_reserved.ensures.items)
     (onward g.U.LogicalUnits.claims g.U.LogicalUnits.opening nexus (g.U.LogicalUnits.unit_count c.args.units.now)
     c.loop-unit.unit _ _ (search rules) before.0 before.2 before.3 c.in-Ok-attach_to.ensures.attached) in
-    let room : c.units-count.result ≤ vec_capacity c.push_reserved.new.self = search rules in
+    let room : c.count-count.result ≤ vec_capacity c.push_reserved.new.self = search rules in
     (done.count, room, done.attached, done.placed, before.4)
 
 pub returns-in-Err-clause-turned_back : goal.returns-in-Err-clause-turned_back
