@@ -2,29 +2,17 @@
 //! `test_streams` says how a PDU is spelled.
 use crate::host::{Host, is_text};
 use crate::site::Site;
-use crate::texts::{FINDS, HOST_B, WELCOME_2};
+use crate::texts::texts;
 use std::alloc::{AllocError, Global};
 use std::net::{Net, SocketAddrV4, TcpListener, TcpStream};
 use std::process::Abort;
 use std::test::Fail;
-use test_streams::{HOST_A, RowError, WELCOME, lines_of, pdu_of};
-
-// What this line spells.
-fn spelled(alloc: Global, line: &str) -> Result<Vec<u8>, RowError> {
-    let texts = [
-        ("HOST_A", HOST_A),
-        ("HOST_B", HOST_B),
-        ("FINDS", FINDS),
-        ("WELCOME", WELCOME),
-        ("WELCOME_2", WELCOME_2),
-    ];
-    pdu_of(alloc, &texts, line)
-}
+use test_streams::{lines_of, pdu_of};
 
 // Sends what a line spells, or compares it with what comes.
 fn obey<R: Abort>(rt: &R, alloc: Global, host: &mut Host, line: &str) -> Result<(), Fail> {
     let (verb, spelling) = line.split_once(' ').ok_or("a line")?;
-    let mut pdu = spelled(alloc, spelling)?;
+    let mut pdu = pdu_of(alloc, texts(), spelling)?;
     if verb == ">" {
         return host.send(pdu.as_mut_slice());
     }

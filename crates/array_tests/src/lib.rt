@@ -1,11 +1,8 @@
-//! Tests of the array and of the program that serves it. Over real files, through the portals of both controllers (`whole`); of whole
-//! sessions whose bytes come and go in memory, without a socket (`lives`, `clients`); of what needs no file: words,
-//! the texts of faults, the console, and the lines of the log (`words`, `lines`, `down`, `log_lines`). Over the loopback, through
-//! portals that a test opens over units in memory or in its files (`portals`).
+//! Tests of the array and of the program that serves it. Over real files, through the portals of both controllers (`whole`); of what
+//! needs no file: words, the texts of faults, the console, and the lines of the log (`words`, `lines`, `down`, `log_lines`). Over the
+//! loopback, through portals that a test opens over units in memory or in its files (`portals`).
 #![tactic(auto)]
 
-#[cfg(test)]
-mod clients;
 #[cfg(test)]
 mod down;
 #[cfg(test)]
@@ -15,15 +12,9 @@ mod hosts;
 #[cfg(test)]
 mod lines;
 #[cfg(test)]
-mod lives;
-#[cfg(test)]
 mod log_lines;
 #[cfg(test)]
-mod memory;
-#[cfg(test)]
 mod portals;
-#[cfg(test)]
-mod row;
 #[cfg(test)]
 mod site;
 #[cfg(test)]

@@ -2,12 +2,14 @@
 //! script of what the initiators do and are answered.
 mod at;
 mod behind;
+mod clients;
 mod discovery;
 mod doors;
 mod failing;
 mod fencing;
 mod hanging;
 mod late;
+mod lives;
 mod logins;
 mod medium;
 mod no_room;

@@ -1,7 +1,8 @@
 //! What initiators are told of the portals (RFC 7143, appendix C).
 
-pub fn found() -> &'static str {
+pub fn scripts() -> &'static str {
     r#"
+both portals are told
 A at 1
 A > LOGIN 7:37 FINDS
 A < LOGGED_IN 7:1F "MaxRecvDataSegmentLength=65536\0"

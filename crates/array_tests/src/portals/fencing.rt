@@ -1,8 +1,9 @@
 //! A session that is preempted by one of the other controller.
 
-// A holds type 5 by the key 11h. Its write of block 5 collects its data while B, registered by 22h, preempts 11h.
-pub fn preempted() -> &'static str {
+pub fn scripts() -> &'static str {
     r#"
+a preempted write that collects
+# A holds type 5 by the key 11h. Its write of block 5 collects its data while B, registered by 22h, preempts 11h.
 A and B
 A > WRITE 7:18 20:00000018 32:5F000000000000001800 0000000000000000 0000000000000011 0000000000000000
 A < GOOD

@@ -1,8 +1,9 @@
 //! A unit that does not answer, or whose device does not.
 
-// A's command waits before unit 1; meanwhile B is served by unit 0, and C logs in.
-pub fn held() -> &'static str {
+pub fn scripts() -> &'static str {
     r#"
+a unit that does not answer
+# A's command waits before unit 1; meanwhile B is served by unit 0, and C logs in.
 A at 1
 A > LOGIN 7:56 HOST_A
 A < LOGGED_IN 7:36 WELCOME
@@ -28,12 +29,9 @@ C > TEST_UNIT_READY
 C < CHECK_CONDITION 0012 70000600000000 0A00000000 2900 00000000
 gate open
 A < GOOD
-"#
-}
 
-// A's write hangs in the device of unit 0; meanwhile B is served by unit 1.
-pub fn stuck() -> &'static str {
-    r#"
+a device that hangs
+# A's write hangs in the device of unit 0; meanwhile B is served by unit 1.
 A at 1
 A > LOGIN 7:56 HOST_A
 A < LOGGED_IN 7:36 WELCOME
@@ -54,13 +52,10 @@ B < DATA_IN 5:000200 pattern 512
 B < GOOD 36:00000001
 disk open
 A < GOOD
-"#
-}
 
-// Unit 1 moves to controller 1, so that both units are served by way of one desk. Eight writes of unit 0 stand before it, and the
-// first that reaches its device hangs there; meanwhile B is served by unit 1, and unit 0's row is read.
-pub fn crowded() -> &'static str {
-    r#"
+a desk with writes of a unit whose device hangs
+# Unit 1 moves to controller 1, so that both units are served by way of one desk. Eight writes of unit 0 stand before it, and the
+# first that reaches its device hangs there; meanwhile B is served by unit 1, and unit 0's row is read.
 8 enter 1 LOGIN 7:56 HOST_A
 all > TEST_UNIT_READY
 all < CHECK_CONDITION 0012 70000600000000 0A00000000 2900 00000000
@@ -86,13 +81,10 @@ B < GOOD 36:00000001
 disk open
 all < GOOD
 0 shows 25
-"#
-}
 
-// A's write hangs in the device of unit 0, and a short command of each of eight sessions waits behind it: more than are served past
-// the desk's queue at a time. Meanwhile B's go by way of the queue of the same desk, and are served by unit 1.
-pub fn queued() -> &'static str {
-    r#"
+short commands behind a write that hangs
+# A's write hangs in the device of unit 0, and a short command of each of eight sessions waits behind it: more than are served past
+# the desk's queue at a time. Meanwhile B's go by way of the queue of the same desk, and are served by unit 1.
 8 enter 1 LOGIN 7:56 HOST_A
 all > TEST_UNIT_READY
 all < CHECK_CONDITION 0012 70000600000000 0A00000000 2900 00000000
@@ -124,12 +116,9 @@ disk open
 A < GOOD
 all < GOOD
 0 shows 28
-"#
-}
 
-// Both desks are closed while A is logged in: each command is BUSY, and what is no command goes on.
-pub fn closed() -> &'static str {
-    r#"
+closed desks are busy
+# Both desks are closed while A is logged in: each command is BUSY, and what is no command goes on.
 A at 1
 A > LOGIN 7:56 HOST_A
 A < LOGGED_IN 7:36 WELCOME

@@ -1,9 +1,10 @@
 //! Commands whose flush comes behind them.
 
-// While A's flush runs its block is written already, and the unit serves B. The flush is asked for once a command, where its unit has
-// answered GOOD.
-pub fn behind() -> &'static str {
+pub fn scripts() -> &'static str {
     r#"
+a unit is free while a flush runs
+# While A's flush runs its block is written already, and the unit serves B. The flush is asked for once a command, where its unit has
+# answered GOOD.
 A and B
 gate flushes done
 flush hold 0
@@ -59,12 +60,9 @@ A < GOOD 36:00000001
 gate unflushed
 # two attach, and each is told of power; then these commands of A, and two of B
 0 shows 17
-"#
-}
 
-// A flush that has failed is told, and the blocks are new. The flush of the device itself would be done.
-pub fn lost() -> &'static str {
-    r#"
+a flush behind a command fails
+# A flush that has failed is told, and the blocks are new. The flush of the device itself would be done.
 A and B
 gate flushes fail
 A > WRITE 5:000200 20:00000200 32:2A080000000500000100 512*5A

@@ -1,8 +1,9 @@
 //! Sessions that begin beside others.
 
-// The same name, ISID and controller take the place of the first session; another controller does not.
-pub fn reinstated() -> &'static str {
+pub fn scripts() -> &'static str {
     r#"
+sessions that come again
+# The same name, ISID and controller take the place of the first session; another controller does not.
 A at 1
 A > LOGIN 7:56 HOST_A
 A < LOGGED_IN 7:36 WELCOME
@@ -28,12 +29,9 @@ C > TEST_UNIT_READY
 C < CHECK_CONDITION 0012 70000600000000 0A00000000 2900 00000000
 C > TEST_UNIT_READY
 C < GOOD
-"#
-}
 
-// 64 sessions leave no room for another until they are over.
-pub fn full() -> &'static str {
-    r#"
+sessions that find no room
+# 64 sessions leave no room for another until they are over.
 A at 1
 A > LOGIN 7:56 HOST_A
 A < LOGGED_IN 7:36 WELCOME
@@ -44,20 +42,20 @@ B < LOGIN_REFUSED 36:0302
 B over
 A > TEST_UNIT_READY
 A < CHECK_CONDITION 0012 70000600000000 0A00000000 2900 00000000
+# A session of discovery needs none.
+D at 1
+D > LOGIN 7:37 FINDS
+D < LOGGED_IN 7:1F 15:41 "MaxRecvDataSegmentLength=65536\0"
 all leave LOGOUT
 C at 1
 C > LOGIN 7:56 HOST_B
-C < LOGGED_IN 7:36 15:41 WELCOME
+C < LOGGED_IN 7:36 15:42 WELCOME
 C > TEST_UNIT_READY
 C < CHECK_CONDITION 0012 70000600000000 0A00000000 2900 00000000
 A > TEST_UNIT_READY
 A < GOOD
-"#
-}
 
-// Sessions of discovery take no room.
-pub fn crowded() -> &'static str {
-    r#"
+sessions of discovery take no room
 200 enter 1 LOGIN 7:37 FINDS
 A at 2
 A > LOGIN 7:56 HOST_A

@@ -1,7 +1,8 @@
 //! Blocks, through both controllers.
 
-pub fn written_and_read() -> &'static str {
+pub fn scripts() -> &'static str {
     r#"
+what one controller writes the other reads
 A and B
 # WRITE (10) of block 2047, and READ (10)
 A > WRITE 5:000200 34:000007FF pattern 512
@@ -15,12 +16,9 @@ B < CHECK_CONDITION 0012 70000600000000 0A00000000 2900 00000000
 B > TEST_UNIT_READY 1:C1 9:01 20:00000200 32:2800000007FF00000100
 B < DATA_IN 5:000200 512*00
 B < GOOD 36:00000001
-"#
-}
 
-// Both expect zeros in block 10.
-pub fn compared() -> &'static str {
-    r#"
+two that compare and write
+# Both expect zeros in block 10.
 A and B
 gate hold 0
 A > WRITE 5:000400 20:00000400 32:8900000000000000000A000000010000 512*00 512*"a"
@@ -31,12 +29,9 @@ AB race GOOD / CHECK_CONDITION 0012 F0000E00000000 0A00000000 1D00 00000000
 B > TEST_UNIT_READY 1:C1 20:00000200 32:28000000000A00000100
 B < DATA_IN 5:000200 512*WON
 B < GOOD 36:00000001
-"#
-}
 
-// Data so long that no desk copies it: 64 blocks, of which the last is read.
-pub fn long() -> &'static str {
-    r#"
+long data
+# Data so long that no desk copies it: 64 blocks, of which the last is read.
 A and B
 B > WRITE 5:008000 20:00008000 32:2A000000000500004000 pattern 32768
 B < GOOD

@@ -1,6 +1,9 @@
-//! The scripts of an array of two units in memory, and their tests.
+//! The scripts of an array of units in memory, and their tests. A table is one text, with an empty line between two scripts, of each of
+//! which the first line is the name.
 use crate::portals::serving::{Script, run};
-use crate::portals::{discovery, fencing, hanging, late, logins, medium, streams, wanting, worked};
+use crate::portals::{
+    clients, discovery, fencing, hanging, late, lives, logins, medium, streams, wanting, worked,
+};
 use std::alloc::Global;
 use std::io::Eprint;
 use std::net::{Ipv4Addr, Net, TcpListener, TcpStream};
@@ -10,8 +13,8 @@ use std::test::*;
 use std::thread::Threads;
 use std::time::Clock;
 
-// Hosts perform each script of a table.
-fn run_all<R>(rt: &R, alloc: Global, table: &[(&str, &str)])
+// Hosts perform each script of a table, before two units or before one, and what they send goes out in pieces of so many bytes.
+fn run_all<R>(rt: &R, alloc: Global, table: &str, is_alone: bool, piece: usize)
 where
     R: Threads
         + Wait
@@ -25,115 +28,62 @@ where
         + Sync
         + 'static,
 {
-    for (name, text) in table {
-        run(rt, alloc, &Script::new(name, text));
+    for part in table.split("\n\n") {
+        let script = Script {
+            is_alone,
+            piece,
+            ..Script::of(part)
+        };
+        run(rt, alloc, &script);
+    }
+}
+
+/// Bytes that go out whole.
+const WHOLE: usize = usize::MAX;
+
+#[test]
+fn sessions_before_desks(rt: HostRuntime) {
+    for table in [fencing::scripts(), hanging::scripts(), late::scripts()] {
+        run_all(&rt, rt.alloc(), table, false, WHOLE);
     }
 }
 
 #[test]
-fn sessions_before_desks(rt: HostRuntime) {
-    run_all(
-        &rt,
-        rt.alloc(),
-        &[
-            ("a preempted write that collects", fencing::preempted()),
-            ("a unit that does not answer", hanging::held()),
-            ("a device that hangs", hanging::stuck()),
-            (
-                "a desk with writes of a unit whose device hangs",
-                hanging::crowded(),
-            ),
-            (
-                "short commands behind a write that hangs",
-                hanging::queued(),
-            ),
-            ("closed desks are busy", hanging::closed()),
-        ],
-    );
-}
-
-#[test]
-fn flushes_behind_commands(rt: HostRuntime) {
-    run_all(
-        &rt,
-        rt.alloc(),
-        &[
-            ("a unit is free while a flush runs", late::behind()),
-            ("a flush behind a command fails", late::lost()),
-        ],
-    );
-}
-
-#[test]
-fn sessions_that_log_in(rt: HostRuntime) {
-    run_all(
-        &rt,
-        rt.alloc(),
-        &[
-            ("both portals are told", discovery::found()),
-            ("sessions that come again", logins::reinstated()),
-            ("sessions that find no room", logins::full()),
-            ("sessions of discovery take no room", logins::crowded()),
-        ],
-    );
-}
-
-#[test]
-fn blocks_through_both_controllers(rt: HostRuntime) {
-    run_all(
-        &rt,
-        rt.alloc(),
-        &[
-            (
-                "what one controller writes the other reads",
-                medium::written_and_read(),
-            ),
-            ("two that compare and write", medium::compared()),
-            ("long data", medium::long()),
-        ],
-    );
-}
-
-#[test]
-fn bytes_of_sessions(rt: HostRuntime) {
-    run_all(
-        &rt,
-        rt.alloc(),
-        &[
-            ("pieces", streams::in_pieces()),
-            ("numbers", streams::numbered()),
-            ("refused logins", streams::refused()),
-        ],
-    );
+fn logins_blocks_and_bytes(rt: HostRuntime) {
+    for table in [
+        discovery::scripts(),
+        logins::scripts(),
+        medium::scripts(),
+        streams::scripts(),
+    ] {
+        run_all(&rt, rt.alloc(), table, false, WHOLE);
+    }
 }
 
 #[test]
 fn worked_examples(rt: HostRuntime) {
-    run_all(
-        &rt,
-        rt.alloc(),
-        &[
-            ("worked examples: what is asked", worked::asked()),
-            ("worked examples: what is written", worked::written()),
-            ("worked examples: groups that move", worked::moved()),
-            ("worked examples: reservations", worked::reserved()),
-        ],
-    );
+    run_all(&rt, rt.alloc(), worked::scripts(), false, WHOLE);
+}
+
+// In pieces, too, that are one byte shorter than a header segment, and in single bytes.
+#[test]
+fn whole_lives_and_what_hosts_in_use_send(rt: HostRuntime) {
+    for piece in [WHOLE, 47, 1] {
+        run_all(&rt, rt.alloc(), lives::scripts(), true, piece);
+        run_all(&rt, rt.alloc(), clients::scripts(), true, piece);
+    }
 }
 
 #[test]
 fn an_array_at_any_address_and_one_with_few_threads(rt: HostRuntime) {
     let anywhere = Script {
         host: Ipv4Addr::UNSPECIFIED,
-        ..Script::new("the address that was reached is told", discovery::found())
+        ..Script::of(discovery::scripts())
     };
     run(&rt, rt.alloc(), &anywhere);
     let without_threads = Script {
         refused: 2,
-        ..Script::new(
-            "a connection without a thread is closed",
-            wanting::without_threads(),
-        )
+        ..Script::of(wanting::scripts())
     };
     run(&rt, rt.alloc(), &without_threads);
 }

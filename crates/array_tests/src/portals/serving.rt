@@ -8,7 +8,7 @@ use crate::portals::behind::Behind;
 use crate::portals::doors::Doors;
 use crate::portals::no_room::NoRoom;
 use crate::portals::stage::Stage;
-use crate::portals::units::two;
+use crate::portals::units::in_memory;
 use array_units::Units;
 use block_file::{Blocks, Opener};
 use event_log::Log;
@@ -26,25 +26,35 @@ use std::time::Clock;
 use test_units::Latch;
 use unit_history::{LegalHistory, NewUnit, Opened, Pass};
 
-/// What the hosts of an array do, and where it listens: at this address, and at these ports of its two controllers. So many
-/// connections to each find no thread.
+/// What the hosts of an array do, of one unit or of two, and where it listens: at this address, and at these ports of its two
+/// controllers. So many connections to each find no thread. What a host sends goes out in pieces of so many bytes.
 #[derive(Clone, Copy)]
 pub struct Script<'a> {
     pub name: &'a str,
     pub host: Ipv4Addr,
     pub ports: [u16; 2],
     pub refused: u32,
+    pub is_alone: bool,
+    pub piece: usize,
     pub text: &'a str,
 }
 
 impl<'a> Script<'a> {
-    /// At two ports of the loopback that are free.
+    /// That of a part of a table: its name, and behind it the lines.
+    pub fn of(part: &'a str) -> Script<'a> {
+        let (name, text) = part.trim_start().split_once('\n').unwrap_or((part, ""));
+        Script::new(name, text)
+    }
+
+    /// At two ports of the loopback that are free, and of two units.
     pub fn new(name: &'a str, text: &'a str) -> Script<'a> {
         Script {
             name,
             host: Ipv4Addr::new(127, 0, 0, 1),
             ports: [0, 0],
             refused: 0,
+            is_alone: false,
+            piece: usize::MAX,
             text,
         }
     }
@@ -169,7 +179,7 @@ pub fn perform<
     let controllers = &server.device.units;
     let behind = Behind { rt, controllers };
     let gate = &server.device.gate;
-    let mut stage = Stage::new(rt, alloc, gate, disk, &behind, portals, script.name);
+    let mut stage = Stage::new(rt, alloc, gate, disk, &behind, portals, script);
     stage.perform(script.text);
     end(rt, first);
     end(rt, second);
@@ -177,7 +187,7 @@ pub fn perform<
     ([first_at.port(), second_at.port()], stage.into_hosts())
 }
 
-/// Hosts perform a script before two units in memory.
+/// Hosts perform a script before units in memory.
 pub fn run<
     R: Threads
         + Wait
@@ -198,6 +208,6 @@ pub fn run<
         script: script.name,
         line: "",
     };
-    let units = at.must(two(alloc, &disk));
+    let units = at.must(in_memory(alloc, &disk, script.is_alone));
     let _ended = perform::<Brand, _, _, _, R>(rt, alloc, units, &disk, script);
 }

@@ -6,7 +6,7 @@
 //!   login requests are numbered as they go, and of answers the numbers of the session are not compared;
 //! - `A < PDU / PDU`: one of these comes;
 //! - `A >> PDU`: it sends this PDU, and `A << PDU`: this PDU comes, each with the numbers that are spelled;
-//! - `A pieces 7`: from now on what it sends goes out in pieces of so many bytes;
+//! - `A pieces 7`: from now on what it sends goes out in pieces of so many bytes, and not in those of the script;
 //! - `A cut 47 PDU`: of this PDU, with the numbers that are spelled, it sends so many bytes, and then no more;
 //! - `A told`: a Text Response comes that tells of the target and of both portals;
 //! - `A over`: the target has closed the connection;
@@ -24,13 +24,14 @@ use crate::host::{Host, is_text, put};
 use crate::portals::at::At;
 use crate::portals::behind::Console;
 use crate::portals::doors::{Doors, Flushes};
-use crate::texts::{FINDS, HOST_B, WELCOME_2};
+use crate::portals::serving::Script;
+use crate::texts::texts;
 use std::alloc::{AllocError, Global};
 use std::io::Eprint;
 use std::net::{Net, SocketAddrV4, TcpListener, TcpStream};
 use std::process::Abort;
 use std::sync::Wait;
-use test_streams::{HOST_A, WELCOME, lines_of, pdu_of};
+use test_streams::{lines_of, pdu_of};
 use test_units::Latch;
 
 /// The hosts of a script, and the array that they reach.
@@ -42,11 +43,14 @@ pub struct Stage<'a, R: Wait + Drop, C: Console> {
     disk: &'a Latch<R>,
     behind: &'a C,
     portals: [SocketAddrV4; 2],
+    // What a host sends goes out in such pieces.
+    piece: usize,
+    // What the lines name.
+    texts: Vec<(&'static str, &'static str)>,
     names: Vec<&'a str>,
     // In the order of their names.
     hosts: Vec<Host>,
     crowd: Vec<Host>,
-    won: &'static str,
 }
 
 // How A and B come.
@@ -81,7 +85,7 @@ impl<
     C: Console,
 > Stage<'a, R, C> {
     /// A stage before the portals of an array with this gate, whose devices hang at this latch, and whose console this is. It
-    /// is for the script of this name.
+    /// is for this script.
     pub fn new(
         rt: &'a R,
         alloc: Global,
@@ -89,12 +93,12 @@ impl<
         disk: &'a Latch<R>,
         behind: &'a C,
         portals: [SocketAddrV4; 2],
-        script: &'a str,
+        script: &Script<'a>,
     ) -> Stage<'a, R, C> {
         Stage {
             at: At {
                 rt,
-                script,
+                script: script.name,
                 line: "",
             },
             alloc,
@@ -102,10 +106,11 @@ impl<
             disk,
             behind,
             portals,
+            piece: script.piece,
+            texts: texts().to_vec(alloc).expect(rt, "memory"),
             names: Vec::new(alloc),
             hosts: Vec::new(alloc),
             crowd: Vec::new(alloc),
-            won: "",
         }
     }
 
@@ -211,15 +216,7 @@ impl<
 
     // What this line spells.
     fn spelled(&self, line: &str) -> Vec<u8> {
-        let texts = [
-            ("HOST_A", HOST_A),
-            ("HOST_B", HOST_B),
-            ("FINDS", FINDS),
-            ("WELCOME", WELCOME),
-            ("WELCOME_2", WELCOME_2),
-            ("WON", self.won),
-        ];
-        pdu_of(self.alloc, &texts, line).expect(self.at.rt, self.at.line)
+        pdu_of(self.alloc, self.texts.as_slice(), line).expect(self.at.rt, self.at.line)
     }
 
     // The portal of a controller.
@@ -233,7 +230,8 @@ impl<
 
     fn connect(&mut self, name: &'a str, controller: &str) {
         let portal = self.portal(controller);
-        let host = self.at.must(Host::connect(self.at.rt, portal));
+        let mut host = self.at.must(Host::connect(self.at.rt, portal));
+        self.at.must(host.send_in_pieces(self.piece));
         self.names.push(name).expect(self.at.rt, "memory");
         self.hosts.push(host).expect(self.at.rt, "memory");
     }
@@ -318,15 +316,20 @@ impl<
     fn race(&mut self, lines: &str) {
         let (first, second) = lines.split_once(" / ").unwrap_or((lines, ""));
         let came = self.receive("A");
-        self.won = "a";
         if self.is_answer("A", came.as_slice(), first) {
+            self.win("a");
             self.compare("B", second);
         } else {
-            self.won = "b";
+            self.win("b");
             let is_answer = self.is_answer("A", came.as_slice(), second);
             self.at.check(is_answer, &came);
             self.compare("B", first);
         }
+    }
+
+    // Who has won.
+    fn win(&mut self, name: &'static str) {
+        self.texts.push(("WON", name)).expect(self.at.rt, "memory");
     }
 
     fn enter(&mut self, count: &str, line: &str) {

@@ -1,9 +1,10 @@
 //! How the bytes of sessions come, at both controllers: in pieces, numbered, cut short; and logins that are refused.
 
-// All that A sends comes in pieces of 7 bytes: WRITE (10) of 2048 blocks, 8192 bytes of it with the command. Through the other
-// controller B reads the first 256 of them by READ (6), 8192 bytes a Data-In, and the last one. One answer came to the write.
-pub fn in_pieces() -> &'static str {
+pub fn scripts() -> &'static str {
     r#"
+pieces
+# All that A sends comes in pieces of 7 bytes: WRITE (10) of 2048 blocks, 8192 bytes of it with the command. Through the other
+# controller B reads the first 256 of them by READ (6), 8192 bytes a Data-In, and the last one. One answer came to the write.
 A at 1
 A pieces 7
 A > LOGIN 7:6C HOST_A "MaxBurstLength=262144\0"
@@ -61,14 +62,11 @@ B < GOOD 36:00000001
 A > LOGOUT
 A < LOGGED_OUT
 A over
-"#
-}
 
-// A and B begin with CmdSN FFFFFFFFh. Their WRITE with that number comes when it is below the window: it is not answered, and
-// nothing is written. At the end each sends 47 bytes of a command. C and D begin with CmdSN 1, which their first command has
-// and, as it is immediate, leaves to the next.
-pub fn numbered() -> &'static str {
-    r#"
+numbers
+# A and B begin with CmdSN FFFFFFFFh. Their WRITE with that number comes when it is below the window: it is not answered, and
+# nothing is written. At the end each sends 47 bytes of a command. C and D begin with CmdSN 1, which their first command has
+# and, as it is immediate, leaves to the next.
 A at 1
 A > LOGIN 7:56 24:FFFFFFFF HOST_A
 A < LOGGED_IN 7:36 28:FFFFFFFF0000001E WELCOME
@@ -111,12 +109,9 @@ D >> TEST_UNIT_READY 0:41 28:00000002
 D << CHECK_CONDITION 24:000000020000000100000020 0012 70000600000000 0A00000000 2900 00000000
 D >> TEST_UNIT_READY 16:00000002 28:00000003
 D << GOOD 16:00000002 24:000000030000000200000021
-"#
-}
 
-// Another target's name, and no InitiatorName.
-pub fn refused() -> &'static str {
-    r#"
+refused logins
+# Another target's name, and no InitiatorName.
 A at 1
 A > LOGIN 7:56 "InitiatorName=iqn.2000-01.test:a\0TargetName=iqn.2000-01.test:other\0SessionType=Normal\0"
 A < LOGIN_REFUSED 36:0203

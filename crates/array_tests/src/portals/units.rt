@@ -24,30 +24,36 @@ pub type HeldUnit<R> = NewUnit<HeldBlocks<MemBlocks, R>, MemBlocks, KeepOpener>;
 /// A file that may fail.
 pub type FusedFile = FusedBlocks<FileBlocks<File>>;
 
-// A unit of zeros, which holds no registrations, and whose device hangs at this latch.
-fn in_memory<R: Wait + Drop>(
+// A unit of zeros, of so many, which holds no registrations, and whose device hangs at this latch.
+fn held<R: Wait + Drop>(
     alloc: Global,
-    unit: u8,
     latch: &Arc<Latch<R>, Global>,
+    unit: u8,
+    units: u8,
 ) -> Result<HeldUnit<R>, Fail> {
     let blocks = HeldBlocks {
         inner: MemBlocks::new(alloc, BLOCKS)?,
         unit: usize::from(unit),
         latch: Arc::try_clone(latch)?,
     };
-    new_unit(alloc, blocks, KeepOpener, unit, 2)
+    new_unit(alloc, blocks, KeepOpener, unit, units)
 }
 
-/// Units 0 and 1, in memory, whose devices hang at this latch.
-pub fn two<R: Wait + Drop>(
+/// Unit 0, alone or with unit 1, in memory. Their devices hang at this latch.
+pub fn in_memory<R: Wait + Drop>(
     alloc: Global,
     latch: &Arc<Latch<R>, Global>,
+    is_alone: bool,
 ) -> Result<Vec<HeldUnit<R>>, Fail>
     ensures { IfOk result (λ v. length v.items ≤ 8) }
 {
     let mut units = Vec::new(alloc);
-    units.push(in_memory(alloc, 0, latch)?)?;
-    units.push(in_memory(alloc, 1, latch)?)?;
+    if is_alone {
+        units.push(held(alloc, latch, 0, 1)?)?;
+    } else {
+        units.push(held(alloc, latch, 0, 2)?)?;
+        units.push(held(alloc, latch, 1, 2)?)?;
+    }
     Ok(units)
 }
 

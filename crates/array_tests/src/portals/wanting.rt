@@ -1,8 +1,9 @@
 //! Connections for which there is no thread.
 
-// Two connections to each portal find no thread: they are closed. The next one is served.
-pub fn without_threads() -> &'static str {
+pub fn scripts() -> &'static str {
     r#"
+a connection without a thread is closed
+# Two connections to each portal find no thread: they are closed. The next one is served.
 A at 1
 A over
 B at 2

@@ -7,9 +7,10 @@
 //! READ (6) of 256 blocks, the numbers of a session, also those of its one TEST UNIT READY, a PDU that is cut, and logins that
 //! are refused; `failing.rt` a write, an open and a save that fail.
 
-// All of them is a session at each controller, which ask the same.
-pub fn asked() -> &'static str {
+pub fn scripts() -> &'static str {
     r#"
+worked examples: what is asked
+# All of them is a session at each controller, which ask the same.
 1 enter 1 LOGIN 7:56 HOST_A
 1 enter 2 LOGIN 7:56 HOST_A
 all > TEST_UNIT_READY
@@ -34,12 +35,9 @@ all > TEST_UNIT_READY 32:8900000000000000000A000000000000
 all < GOOD
 all > WRITE 5:008400 20:00008400 32:8900000000000000000A000000210000 33792*00
 all < CHECK_CONDITION 1:82 44:00008400 0012 70000500000000 0A00000000 2400 00000000
-"#
-}
 
-// What is refused through one controller, or is written for less than it announced, is read through the other.
-pub fn written() -> &'static str {
-    r#"
+worked examples: what is written
+# What is refused through one controller, or is written for less than it announced, is read through the other.
 A and B
 # COMPARE AND WRITE of block 10, whose zeros differ first at byte 5
 A > WRITE 5:000400 20:00000400 32:8900000000000000000A000000010000 5*00 01 506*00 512*5A
@@ -76,12 +74,9 @@ B < GOOD 36:00000001
 A > TEST_UNIT_READY 1:C1 20:00000200 32:28000000000700000100
 A < DATA_IN 5:000200 512*5A
 A < GOOD 36:00000001
-"#
-}
 
-// REPORT TARGET PORT GROUPS through both controllers, before and behind SET TARGET PORT GROUPS.
-pub fn moved() -> &'static str {
-    r#"
+worked examples: groups that move
+# REPORT TARGET PORT GROUPS through both controllers, before and behind SET TARGET PORT GROUPS.
 A and B
 A > WRITE 5:000200 pattern 512
 A < GOOD
@@ -116,13 +111,10 @@ A < GOOD 36:00000001
 A > TEST_UNIT_READY 1:C1 20:0000001C 32:A30A000000000000001C
 A < DATA_IN 7:1C 00000018 810F000100010001 00000001 000F000200010001 00000002
 A < GOOD 36:00000001
-"#
-}
 
-// A registers 11h with APTPL through controller 1, and then reserves; all of them ask, each through its controller:
-// REPORT CAPABILITIES, READ FULL STATUS, READ RESERVATION.
-pub fn reserved() -> &'static str {
-    r#"
+worked examples: reservations
+# A registers 11h with APTPL through controller 1, and then reserves; all of them ask, each through its controller:
+# REPORT CAPABILITIES, READ FULL STATUS, READ RESERVATION.
 1 enter 1 LOGIN 7:56 HOST_B
 1 enter 2 LOGIN 7:56 HOST_B
 all > TEST_UNIT_READY
