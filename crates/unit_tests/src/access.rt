@@ -1,18 +1,21 @@
 //! Access states: what each serves, who changes them, and who hears of it (SPC-4, 5.15.2, 6.37 and 6.45).
 use crate::run::run;
 
-/// Each session was told of its power on.
-const TWO_SESSIONS: &str = r#"
+// Each session was told of its power on.
+fn two_sessions() -> &'static str {
+    r#"
 a session through the first group; attach 1 1;; ATTACHED 0
 its power on; send 0 00;; CHECK 06 29 00
 a session through the second; attach 2 2;; ATTACHED 2
 its power on; forward 1 00;; CHECK 06 29 00
 the states; send 0 A3 0A 00000000 000000FF;; GOOD 00 00 00 18 80 0F 00 01 00 00 00 01 00 00 00 01 01 0F 00 02 00 00 00 01 00 00 00 02
-"#;
+"#
+}
 
-/// SET TARGET PORT GROUPS is A4h; its list has four bytes, and four for each group, of which the first is the state and the last the
-/// group. REPORT TARGET PORT GROUPS is A3h.
-const ROWS: &str = r#"
+// SET TARGET PORT GROUPS is A4h; its list has four bytes, and four for each group, of which the first is the state and the last the
+// group. REPORT TARGET PORT GROUPS is A3h.
+fn rows() -> &'static str {
+    r#"
 # One open is asked for.
 group 2 takes over
 opens 1
@@ -187,10 +190,12 @@ a flush that fails
 calls 0
 a flush; flush;; FAILED
 another session; attach 3 1;; ATTACHED 5
-"#;
+"#
+}
 
-/// Unit 1 prefers group 2.
-const PREFERRED: &str = r#"
+// Unit 1 prefers group 2.
+fn preferred() -> &'static str {
+    r#"
 unit 1
 unit 1
 opens 0
@@ -199,10 +204,11 @@ its power on; send 0 00;; CHECK 06 29 00
 the states; send 0 A3 0A 00000000 000000FF;; GOOD 00 00 00 18 01 0F 00 01 00 00 00 01 00 00 00 01 80 0F 00 02 00 00 00 01 00 00 00 02
 it writes; send 0 2A 00 00000001 00 0001; 512*5A; GOOD
 written 1 5A
-"#;
+"#
+}
 
 #[test]
 fn access_states_change(rt: HostRuntime) {
-    run(&rt, rt.alloc(), TWO_SESSIONS, ROWS);
-    run(&rt, rt.alloc(), "", PREFERRED);
+    run(&rt, rt.alloc(), two_sessions(), rows());
+    run(&rt, rt.alloc(), "", preferred());
 }

@@ -1,8 +1,9 @@
 //! Persistent reservations: who registers, who is fenced, who hears of it (SPC-4, 5.13, 6.15 and 6.16).
 use crate::run::{play, run};
 
-/// Four sessions that were told of their power on.
-const FOUR: &str = r#"
+// Four sessions that were told of their power on.
+fn four() -> &'static str {
+    r#"
 the first session; attach 1 1;; ATTACHED 0
 its power on; send 0 00;; CHECK 06 29 00
 the second session; attach 2 1;; ATTACHED 2
@@ -11,11 +12,13 @@ the third session; attach 3 1;; ATTACHED 4
 its power on; send 2 00;; CHECK 06 29 00
 the fourth session; attach 4 1;; ATTACHED 6
 its power on; send 3 00;; CHECK 06 29 00
-"#;
+"#
+}
 
-/// PERSISTENT RESERVE OUT is 5Fh, with its service action, and the type of the reservation; its list begins with a reservation key and
-/// a service action reservation key of eight bytes each. PERSISTENT RESERVE IN is 5Eh.
-const ROWS: &str = r#"
+// PERSISTENT RESERVE OUT is 5Fh, with its service action, and the type of the reservation; its list begins with a reservation key and
+// a service action reservation key of eight bytes each. PERSISTENT RESERVE IN is 5Eh.
+fn rows() -> &'static str {
+    r#"
 # Keys 11h, 22h, 11h and 33h; the first reserves with type 5, and the second preempts 11h with type 6.
 a holder is preempted
 the first registers; send 0 5F 00 00 0000 00000018; 15*00 11 8*00; GOOD
@@ -114,23 +117,29 @@ its write is fenced; send 0 2A 00 00000000 00 0001; 512*5A; CONFLICT
 its write through the other controller too; forward 4 2A 00 00000000 00 0001; 512*5A; CONFLICT
 the keys; send 1 5E 00 0000000000 00FF;; GOOD 00 00 00 03 00 00 00 08 7*00 22
 written 1 5A
-"#;
+"#
+}
 
-/// A session registers 11h, and another one 22h.
-const ONE_OF_11: &str = r#"
+// A session registers 11h, and another one 22h.
+fn one_of_11() -> &'static str {
+    r#"
 a session; attach N 1;; ATTACHED 3N
 its power on; send N 00;; CHECK 06 29 00
 it registers; send N 5F 00 00 0000 00000018; 15*00 11 8*00; GOOD
-"#;
+"#
+}
 
-const ONE_OF_22: &str = r#"
+fn one_of_22() -> &'static str {
+    r#"
 a session; attach N 1;; ATTACHED 3N
 its power on; send N 00;; CHECK 06 29 00
 it registers; send N 5F 00 00 0000 00000018; 15*00 22 8*00; GOOD
-"#;
+"#
+}
 
-/// Behind 64 sessions that are registered, each by three entries: there is no room for a 65th registrant.
-const FULL: &str = r#"
+// Behind 64 sessions that are registered, each by three entries: there is no room for a 65th registrant.
+fn full() -> &'static str {
+    r#"
 the last session ends, and stays registered; detach 63;; DONE
 a new nexus attaches; attach 64 1;; ATTACHED 193
 its power on; send 64 00;; CHECK 06 29 00
@@ -139,11 +148,13 @@ the first by every port; send 0 5F 06 00 0000 00000018; 15*00 11 4*00 04 3*00; C
 64 changes, and as many keys; send 0 5E 00 0000000000 0008;; GOOD 00 00 00 40 00 00 02 00
 the first preempts; send 0 5F 04 05 0000 00000018; 7*00 11 7*00 22 8*00; GOOD
 its key alone; send 0 5E 00 0000000000 00FF;; GOOD 00 00 00 41 00 00 00 08 7*00 11
-"#;
+"#
+}
 
-/// Behind 62 sessions that are registered: both nexuses of a port have room, and both of one more have none. The first is registered
-/// by one of its own, so it has room.
-const ROOM: &str = r#"
+// Behind 62 sessions that are registered: both nexuses of a port have room, and both of one more have none. The first is registered
+// by one of its own, so it has room.
+fn room() -> &'static str {
+    r#"
 a port attaches; attach 62 1;; ATTACHED 186
 its power on; send 62 00;; CHECK 06 29 00
 it registers by every port; send 62 5F 00 00 0000 00000018; 15*00 33 4*00 04 3*00; GOOD
@@ -156,23 +167,26 @@ it registers by every port; send 63 5F 00 00 0000 00000018; 15*00 33 4*00 04 3*0
 63 keys; send 0 5E 00 0000000000 0008;; GOOD 00 00 00 41 00 00 01 F8
 the first by every port; send 0 5F 06 00 0000 00000018; 15*00 11 4*00 04 3*00; GOOD
 64 keys; send 0 5E 00 0000000000 0008;; GOOD 00 00 00 42 00 00 02 00
-"#;
+"#
+}
 
-const HEARS: &str = r#"
+fn hears() -> &'static str {
+    r#"
 another hears of it; send N 00;; CHECK 06 2A 05
-"#;
+"#
+}
 
 #[test]
 fn who_is_fenced(rt: HostRuntime) {
-    run(&rt, rt.alloc(), FOUR, ROWS);
+    run(&rt, rt.alloc(), four(), rows());
     // The first has key 11h, 63 others have 22h, and no other can register. The first preempts these.
     let parts = [
-        (ONE_OF_11, 0, 1),
-        (ONE_OF_22, 1, 64),
-        (FULL, 0, 1),
-        (HEARS, 1, 63),
+        (one_of_11(), 0, 1),
+        (one_of_22(), 1, 64),
+        (full(), 0, 1),
+        (hears(), 1, 63),
     ];
     play(&rt, rt.alloc(), "64 registrants", &parts);
-    let parts = [(ONE_OF_11, 0, 1), (ONE_OF_22, 1, 62), (ROOM, 0, 1)];
+    let parts = [(one_of_11(), 0, 1), (one_of_22(), 1, 62), (room(), 0, 1)];
     play(&rt, rt.alloc(), "62 registrants", &parts);
 }

@@ -1,8 +1,11 @@
 //! What of the registrations outlasts a loss of power (SPC-4, 5.13.5).
 use crate::run::{ONE_SESSION, play, run};
+use std::alloc::Global;
+use std::process::Abort;
 
-/// In a list of PERSISTENT RESERVE OUT, the byte 01h behind both keys and four bytes is APTPL.
-const ROWS: &str = r#"
+// In a list of PERSISTENT RESERVE OUT, the byte 01h behind both keys and four bytes is APTPL.
+fn rows() -> &'static str {
+    r#"
 # A restart begins with PRGENERATION 0, and with the sessions that attach then.
 what lasts
 opens 0
@@ -82,97 +85,107 @@ it attaches; attach 1 1;; ATTACHED 0
 the power on; send 0 00;; CHECK 06 29 00
 nobody is registered; send 0 5E 00 0000000000 00FF;; GOOD 8*00
 written 1 5A
-"#;
+"#
+}
 
-/// The registration could not be saved, and nobody is registered.
-const FAILS: &str = r#"
+// The registration could not be saved, and nobody is registered.
+fn fails() -> &'static str {
+    r#"
 it registers, to last; send 0 5F 00 00 0000 00000018; 15*00 11 4*00 01 3*00; CHECK 70 00 04 00 00 00 00 0A 00 00 00 00 44 00 00 00 00 00
 nobody is registered; send 0 5E 00 0000000000 00FF;; GOOD 8*00
 what the unit says; send 0 5E 02 0000000000 00FF;; GOOD 00 08 05 80 EA 01 00 00
-"#;
+"#
+}
 
-const SUCCEEDS: &str = r#"
+fn succeeds() -> &'static str {
+    r#"
 it registers, to last; send 0 5F 00 00 0000 00000018; 15*00 11 4*00 01 3*00; GOOD
 it is registered; send 0 5E 00 0000000000 00FF;; GOOD 00 00 00 01 00 00 00 08 7*00 11
-"#;
+"#
+}
 
-/// A restart finds no registrant, or that one.
-const FINDS_NOTHING: &str = r#"
+// A restart finds no registrant, or that one.
+fn finds_nothing() -> &'static str {
+    r#"
 the power is lost; restart;; DONE
 it attaches; attach 1 1;; ATTACHED 0
 the power on; send 0 00;; CHECK 06 29 00
 nobody is registered; send 0 5E 00 0000000000 00FF;; GOOD 8*00
-"#;
+"#
+}
 
-const FINDS_IT: &str = r#"
+fn finds_it() -> &'static str {
+    r#"
 the power is lost; restart;; DONE
 it attaches; attach 1 1;; ATTACHED 0
 the power on; send 0 00;; CHECK 06 29 00
 its key; send 0 5E 00 0000000000 00FF;; GOOD 7*00 08 7*00 11
-"#;
+"#
+}
 
-/// 64 ports register the key 5A5A5A5A5A5A5A5Ah, to last, each through one group.
-const ONE_OF_64: &str = r#"
+// 64 ports register the key 5A5A5A5A5A5A5A5Ah, to last, each through one group.
+fn one_of_64() -> &'static str {
+    r#"
 a session; attach N 1;; ATTACHED 3N
 its power on; send N 00;; CHECK 06 29 00
 it registers, to last; send N 5F 00 00 0000 00000018; 8*00 8*5A 4*00 01 3*00; GOOD
-"#;
+"#
+}
 
-/// 32 ports, each through both groups.
-const ONE_OF_32: &str = r#"
+// 32 ports, each through both groups.
+fn one_of_32() -> &'static str {
+    r#"
 a session; attach N 1;; ATTACHED 3N
 its power on; send N 00;; CHECK 06 29 00
 it registers by every port, to last; send N 5F 00 00 0000 00000018; 8*00 8*5A 4*00 05 3*00; GOOD
-"#;
+"#
+}
 
-/// All of them are found, and hold a reservation.
-const FINDS_ALL: &str = r#"
+// All of them are found, and hold a reservation.
+fn finds_all() -> &'static str {
+    r#"
 the first reserves; send 0 5F 01 08 0000 00000018; 8*5A 16*00; GOOD
 the power is lost; restart;; DONE
 it attaches; attach 0 1;; ATTACHED 0
 the power on; send 0 00;; CHECK 06 29 00
 64 keys; send 0 5E 00 0000000000 0208;; GOOD 6*00 02 00 512*5A
 their reservation; send 0 5E 01 0000000000 00FF;; GOOD 7*00 10 13*00 08 00 00
-"#;
+"#
+}
 
 /// How 64 registrants come to be.
-const REGISTRANTS: &[(&str, u64)] = &[(ONE_OF_64, 64), (ONE_OF_32, 32)];
+// All that registered is there behind a restart.
+fn all_last(rt: &impl Abort, alloc: Global, registers: &str, ports: u64) {
+    let parts = [(registers, 0, ports), (finds_all(), 0, 1)];
+    let script = "64 registrants\nopens 0\nsaves always";
+    play(rt, alloc, script, &parts);
+}
 
 #[test]
 fn registrations_last(rt: HostRuntime) {
-    run(&rt, rt.alloc(), ONE_SESSION, ROWS);
-    for (registers, ports) in REGISTRANTS {
-        let parts = [(*registers, 0, *ports), (FINDS_ALL, 0, 1)];
-        play(
-            &rt,
-            rt.alloc(),
-            "64 registrants\nopens 0\nsaves always",
-            &parts,
-        );
-    }
+    run(&rt, rt.alloc(), ONE_SESSION, rows());
+    all_last(&rt, rt.alloc(), one_of_64(), 64);
+    all_last(&rt, rt.alloc(), one_of_32(), 32);
 }
 
-/// A save that fails at each of its calls, and one that is done: the root is written in the last call but one.
-const SAVES: &[(&str, &str, &str)] = &[
-    ("fails at once\nopens 0\nsaves 0", FAILS, FINDS_NOTHING),
-    (
-        "fails behind 1 call\nopens 0\nsaves 1",
-        FAILS,
-        FINDS_NOTHING,
-    ),
-    (
-        "fails behind 2 calls\nopens 0\nsaves 2",
-        FAILS,
-        FINDS_NOTHING,
-    ),
-    ("fails behind 3 calls\nopens 0\nsaves 3", FAILS, FINDS_IT),
-    ("is done\nopens 0\nsaves 4", SUCCEEDS, FINDS_IT),
-];
+// A save ends so, and that is what a restart finds.
+fn saves(rt: &impl Abort, alloc: Global, script: &str, ends: &str, finds: &str) {
+    let parts = [(ONE_SESSION, 0, 1), (ends, 0, 1), (finds, 0, 1)];
+    play(rt, alloc, script, &parts);
+}
 
+// A save that fails at each of its calls, and one that is done: the root is written in the last call but one.
 #[test]
 fn a_save_fails_at_each_call(rt: HostRuntime) {
-    for (script, ends, finds) in SAVES {
-        let parts = [(ONE_SESSION, 0, 1), (*ends, 0, 1), (*finds, 0, 1)];
-        play(&rt, rt.alloc(), script, &parts);
+    for script in [
+        "fails at once\nopens 0\nsaves 0",
+        "fails behind 1 call\nopens 0\nsaves 1",
+        "fails behind 2 calls\nopens 0\nsaves 2",
+    ] {
+        saves(&rt, rt.alloc(), script, fails(), finds_nothing());
     }
+    let script = "fails behind 3 calls\nopens 0\nsaves 3";
+    saves(&rt, rt.alloc(), script, fails(), finds_it());
+    let script = "is done\nopens 0\nsaves 4";
+    saves(&rt, rt.alloc(), script, succeeds(), finds_it());
 }

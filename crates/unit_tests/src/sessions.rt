@@ -1,7 +1,8 @@
 //! Sessions, their serials, and the group that owns a unit.
 use crate::run::{play, run};
 
-const ROWS: &str = r#"
+fn rows() -> &'static str {
+    r#"
 # A session's id is the number of the unit's entries before it.
 serials
 the session attaches; attach 1 1;; ATTACHED 0
@@ -55,14 +56,18 @@ its read; send 3 28 00 00000005 00 0001;; GOOD 512*11
 the second group's session; forward 1 00;; CHECK 06 29 00
 the other port's session; send 2 00;; CHECK 06 29 00
 written 5 11
-"#;
+"#
+}
 
-const ONE_OF_64: &str = r#"
+fn one_of_64() -> &'static str {
+    r#"
 one of 64; attach N 1;; ATTACHED N
-"#;
+"#
+}
 
-/// Behind 64 sessions of as many nexuses.
-const FULL: &str = r#"
+// Behind 64 sessions of as many nexuses.
+fn full() -> &'static str {
+    r#"
 a new nexus; attach 64 1;; TOO-MANY
 a port that is there, through the other group; attach 5 2;; TOO-MANY
 a nexus that is there; attach 5 1;; ATTACHED 64
@@ -73,11 +78,12 @@ a new nexus again; attach 64 1;; TOO-MANY
 one that ends; detach 6;; DONE
 a new nexus in its place; attach 64 1;; ATTACHED 68
 its command; send 65 00;; CHECK 06 29 00
-"#;
+"#
+}
 
 #[test]
 fn sessions_and_their_commands(rt: HostRuntime) {
-    run(&rt, rt.alloc(), "", ROWS);
-    let parts = [(ONE_OF_64, 0, 64), (FULL, 0, 1)];
+    run(&rt, rt.alloc(), "", rows());
+    let parts = [(one_of_64(), 0, 64), (full(), 0, 1)];
     play(&rt, rt.alloc(), "64 sessions", &parts);
 }

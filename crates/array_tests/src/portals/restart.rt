@@ -17,14 +17,13 @@ use std::time::Clock;
 use std::{fs, process};
 use test_units::Latch;
 
-/// An array that fails so while hosts perform a script, and, started again, does not while they perform another. By its name
-/// its file is found.
+/// An array that fails so while hosts perform a script, and, started again, does not while they perform another, which stands
+/// behind the first and an empty line. By its name its file is found.
 #[derive(Clone, Copy)]
 pub struct Story<'a> {
     pub name: &'a str,
     pub faults: Faults,
-    pub before: &'a str,
-    pub after: &'a str,
+    pub text: &'a str,
 }
 
 // Serves a unit over these devices while hosts perform a script: the ports, and the hosts, whose sessions may still be open.
@@ -104,11 +103,12 @@ pub fn run_twice<
         .expect(rt, path)
         .set_len(8192)
         .expect(rt, path);
-    let before = Script::new(story.name, story.before);
+    let (before, after) = story.text.split_once("\n\n").expect(rt, story.name);
+    let before = Script::new(story.name, before);
     let (ports, hosts) = serve(rt, alloc, path, story.faults, &before);
     let again = Script {
         ports,
-        ..Script::new(story.name, story.after)
+        ..Script::new(story.name, after)
     };
     let _ended = serve(rt, alloc, path, NO_FAULTS, &again);
     drop(hosts);
@@ -117,8 +117,10 @@ pub fn run_twice<
     fs::remove_file(rt, registrations.as_str()).expect(rt, path);
 }
 
-// REGISTER of 11h with APTPL, and WRITE (10) of block 5
-const BEFORE: &str = r#"
+// Nothing fails, and the registrations are there after the restart.
+fn restarted() -> &'static str {
+    r#"
+# REGISTER of 11h with APTPL, and WRITE (10) of block 5
 A at 1
 A > LOGIN 7:56 HOST_A
 A < LOGGED_IN 7:36 WELCOME
@@ -128,10 +130,8 @@ A > WRITE 7:18 20:00000018 32:5F000000000000001800 0000000000000000 000000000000
 A < GOOD
 A > WRITE 5:000200 pattern 512
 A < GOOD
-"#;
 
-// READ KEYS, whose generation is 0 again, and READ (10)
-const AFTER: &str = r#"
+# READ KEYS, whose generation is 0 again, and READ (10)
 B at 2
 B > LOGIN 7:56 HOST_B
 B < LOGGED_IN 7:36 WELCOME_2
@@ -143,12 +143,14 @@ B < GOOD 36:00000001
 B > TEST_UNIT_READY 1:C1 20:00000200 32:28000000000500000100
 B < DATA_IN 5:000200 pattern 512
 B < GOOD 36:00000001
-"#;
+"#
+}
 
-/// Nothing fails, and the registrations are there after the restart.
-pub const RESTART: Story = Story {
-    name: "restart",
-    faults: NO_FAULTS,
-    before: BEFORE,
-    after: AFTER,
-};
+/// It is ended and started again.
+pub fn restart() -> Story<'static> {
+    Story {
+        name: "restart",
+        faults: NO_FAULTS,
+        text: restarted(),
+    }
+}

@@ -18,9 +18,10 @@ const TWO: &[Sent] = &[
     (b'a', Group::One, Asked::Reserve(0x11, 5)),
 ];
 
-/// Rows of a file with their record (slot 1 from block 34 on, entries in block 35): a name; the bytes that are put into the file, each
-/// by its block, its place there and, in hexadecimal, its value; and why the file is refused, or that it opens.
-const ROWS_OF_TWO: &str = "
+// Rows of a file with their record (slot 1 from block 34 on, entries in block 35): a name; the bytes that are put into the file, each
+// by its block, its place there and, in hexadecimal, its value; and why the file is refused, or that it opens.
+fn rows_of_two() -> &'static str {
+    "
 as it was saved;; opens
 another root; 0 7 32; not-a-file
 version 3; 0 9 03; version
@@ -55,7 +56,8 @@ a name of no byte; 35 16 00; not-a-file
 a name of 224 bytes; 35 16 E0; not-a-file
 a byte behind the name; 35 35 01; not-a-file
 a byte behind the last entry; 66 511 01; not-a-file
-";
+"
+}
 
 /// One port: through group 1 with 11h, and through group 2 with 22h.
 const ONE_PORT: &[Sent] = &[
@@ -158,7 +160,7 @@ fn devices_are_refused(rt: &impl Abort, alloc: Global) {
 
 #[test]
 fn what_is_refused(rt: HostRuntime) {
-    are_refused(&rt, rt.alloc(), TWO, ROWS_OF_TWO);
+    are_refused(&rt, rt.alloc(), TWO, rows_of_two());
     are_refused(&rt, rt.alloc(), ONE_PORT, ROWS_OF_ONE_PORT);
     are_refused(&rt, rt.alloc(), ONE, ROWS_OF_ONE);
     devices_are_refused(&rt, rt.alloc());

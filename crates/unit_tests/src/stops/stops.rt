@@ -5,9 +5,10 @@ use crate::stops::script::{Device, Script, Stop};
 use std::alloc::Global;
 use std::process::Abort;
 
-/// WRITE, WRITE with FUA, COMPARE AND WRITE, REGISTER with APTPL by two sessions, RESERVE by the first, PREEMPT by the second, SET
-/// TARGET PORT GROUPS with a change of owner, and writes through the new owner.
-const SCRIPT: &str = "
+// WRITE, WRITE with FUA, COMPARE AND WRITE, REGISTER with APTPL by two sessions, RESERVE by the first, PREEMPT by the second, SET
+// TARGET PORT GROUPS with a change of owner, and writes through the new owner.
+fn script() -> &'static str {
+    "
 each call of both devices
 blocks 7
 saves always
@@ -27,7 +28,8 @@ B writes; send 1 2A 00 00000004 00 0002; 1024*55; GOOD | CHECK 03 0C 00; 4+2=5
 B changes the owner; send 1 A4 0A 00000000 00000008; 7*00 02; GOOD
 B writes; forward 1 2A 00 00000005 00 0001; 512*66; GOOD | CHECK 03 0C 00; 5+1=6
 B compares; forward 1 89 08 0000000000000004 000000 02; 512*55 512*66 1024*77; GOOD | CHECK 03 0C 00 | CHECK 03 11 00; read 4+2=7 flush
-";
+"
+}
 
 /// Loses the power at each call of a device from this one on, inside a run behind each number of its blocks, and once
 /// where no call fails. Gives the number of stops.
@@ -68,7 +70,7 @@ fn at(of: Device, calls: usize, landed: u32) -> Stop {
 // Each of the four saves: 34 in the run of a slot, 2 in the root, and 2 at a flush.
 #[test]
 fn at_each_call_of_both_devices(rt: HostRuntime) {
-    let script = Script::read(&rt, rt.alloc(), SCRIPT);
+    let script = Script::read(&rt, rt.alloc(), script());
     for (of, count) in &[(Device::Blocks, 25), (Device::Registrations, 152)] {
         let stops = lose_at_each(&rt, rt.alloc(), &script, *of, 0);
         assert!(rt; stops == *count, "{of:?}: {stops}");
