@@ -4,6 +4,7 @@ pub fn served() -> &'static str {
     r#"
 SendTargets=All, NOP-Out, and Logout
 login 1
+each-place
 > LOGIN 7:37 "InitiatorName=iqn.2000-01.test:a\0SessionType=Discovery\0"
 > TEXT_REQUEST 7:10 "SendTargets=All\0"
 > NOP_OUT 7:05 24:00000002 pattern 5

@@ -4,6 +4,7 @@ pub fn rows() -> &'static str {
     r#"
 stage 0, then stage 1, with the names again
 login 1
+each-place
 > LOGIN 1:81 7:66 HOST_A "AuthMethod=None\0"
 > LOGIN 7:CD HOST_A "HeaderDigest=CRC32C,None\0InitialR2T=No\0MaxBurstLength=16776192\0"
   "FirstBurstLength=262144\0MaxRecvDataSegmentLength=262144\0"
