@@ -15,8 +15,7 @@ const POWER_ON: (u8, u8, u8) = (0x06, 0x29, 0x00);
 
 const CHANGED: (u8, u8, u8) = (0x06, 0x2A, 0x06);
 
-fn one_command() -> &'static [Row<'static>] {
-    rows! {
+const ONE_COMMAND: &[Row] = rows! {
     "it attaches": [Attach(0, 1, One)] => [], (1, 0), [Stands(0, 0, 1, Idle)];
     "it submits": [Submit(0, One, Test)] => [Noted(0, 0, 1, 1, Submitted)], (1, 0), [Stands(0, 0, 1, Waits)];
     "it is taken": [Take(One)] => [], (1, 0), [Stands(0, 0, 1, InLane)];
@@ -25,11 +24,9 @@ fn one_command() -> &'static [Row<'static>] {
     "it collects": [Collect(0)] => [Noted(0, 0, 1, 2, Check(One, 1, POWER_ON))], (2, 0), [Stands(0, 0, 2, Idle)];
     "its second": [Submit(0, One, Test), Take(One), Serve(0), Post(0), Collect(0)]
         => [Noted(0, 0, 2, 2, Submitted), Noted(0, 0, 2, 3, Good(One, 2))], (3, 0), [Stands(0, 0, 3, Idle)];
-}
-}
+};
 
-fn workers() -> &'static [Row<'static>] {
-    rows! {
+const WORKERS: &[Row] = rows! {
     "two sessions": [Attach(0, 1, One), Attach(0, 2, One)]
         => [], (2, 0), [Stands(0, 0, 1, Idle), Stands(0, 1, 1, Idle)];
     "one waits, and the other's worker serves past it": [Submit(0, One, Test), Begin(1, One, Test)]
@@ -51,11 +48,9 @@ fn workers() -> &'static [Row<'static>] {
         [Stands(0, 0, 3, Idle), Stands(0, 1, 2, Waits)];
     "what waits there is served": [Take(Two), Serve(1), Post(1), Collect(1)]
         => [Noted(0, 1, 2, 7, Check(Two, 6, CHANGED))], (7, 0), [Stands(0, 0, 3, Idle), Stands(0, 1, 3, Idle)];
-}
-}
+};
 
-fn impossible() -> &'static [Row<'static>] {
-    rows! {
+const IMPOSSIBLE: &[Row] = rows! {
     "one session": [Attach(0, 1, One)] => [], (1, 0), [Stands(0, 0, 1, Idle)];
     "no such unit or session": [Attach(2, 5, One), Move(2, Two), Detach(1), Reset(1),
         Submit(1, One, Test), Again(1), Serve(1), Post(1), Collect(1)] => [], (1, 0), [Stands(0, 0, 1, Idle)];
@@ -71,11 +66,9 @@ fn impossible() -> &'static [Row<'static>] {
     "answered": [Submit(0, One, Test), Again(0), Take(One), Serve(0), Post(0)] => [], (2, 0), [Stands(0, 0, 1, Answered)];
     "collect": [Collect(0)] => [Noted(0, 0, 1, 2, Check(One, 1, POWER_ON))], (2, 0), [Stands(0, 0, 2, Idle)];
     "idle again": [Again(0), Take(One), Serve(0), Post(0), Collect(0)] => [], (2, 0), [Stands(0, 0, 2, Idle)];
-}
-}
+};
 
-fn ends() -> &'static [Row<'static>] {
-    rows! {
+const ENDS: &[Row] = rows! {
     "three sessions": [Attach(0, 1, One), Attach(0, 2, One), Attach(0, 3, One)]
         => [], (3, 0), [Stands(0, 0, 1, Idle), Stands(0, 1, 1, Idle), Stands(0, 2, 1, Idle)];
     "their commands": [Submit(0, One, Test), Submit(1, One, Test), Submit(2, One, Test)]
@@ -101,13 +94,12 @@ fn ends() -> &'static [Row<'static>] {
     "a reset is told to it": [Reset(2), Submit(3, One, Test), Take(One), Serve(3), Post(3), Collect(3)]
         => [Noted(0, 4, 2, 9, Submitted), Noted(0, 4, 2, 10, Check(One, 9, POWER_ON))], (10, 0),
         [Stands(0, 0, 1, Idle), Stands(0, 1, 1, Idle), Stands(0, 2, 2, Idle), Stands(0, 4, 3, Idle)];
-}
-}
+};
 
 #[test]
 fn commands_of_sessions(rt: HostRuntime) -> Result<(), Fail> {
-    run(&rt, rt.alloc(), [9, 9], one_command())?;
-    run(&rt, rt.alloc(), [9, 9], workers())?;
-    run(&rt, rt.alloc(), [9, 9], impossible())?;
-    run(&rt, rt.alloc(), [9, 9], ends())
+    run(&rt, rt.alloc(), [9, 9], ONE_COMMAND)?;
+    run(&rt, rt.alloc(), [9, 9], WORKERS)?;
+    run(&rt, rt.alloc(), [9, 9], IMPOSSIBLE)?;
+    run(&rt, rt.alloc(), [9, 9], ENDS)
 }
