@@ -9,6 +9,8 @@ use crate::events::rows::Said::{Busy, Check, Gone, Good, Submitted};
 use crate::events::rows::{Noted, Row, Stands, rows};
 use crate::events::run::run;
 use scsi_types::Group::{One, Two};
+use std::alloc::Global;
+use std::process::Abort;
 use std::test::Fail;
 
 const POWER_ON: (u8, u8, u8) = (0x06, 0x29, 0x00);
@@ -96,10 +98,27 @@ const ENDS: &[Row] = rows! {
         [Stands(0, 0, 1, Idle), Stands(0, 1, 1, Idle), Stands(0, 2, 2, Idle), Stands(0, 4, 3, Idle)];
 };
 
+// A constant is written out at each step of a function that names it, so each table has a function of its own.
+fn one_command(rt: &impl Abort, alloc: Global) -> Result<(), Fail> {
+    run(rt, alloc, [9, 9], ONE_COMMAND)
+}
+
+fn workers(rt: &impl Abort, alloc: Global) -> Result<(), Fail> {
+    run(rt, alloc, [9, 9], WORKERS)
+}
+
+fn impossible(rt: &impl Abort, alloc: Global) -> Result<(), Fail> {
+    run(rt, alloc, [9, 9], IMPOSSIBLE)
+}
+
+fn ends(rt: &impl Abort, alloc: Global) -> Result<(), Fail> {
+    run(rt, alloc, [9, 9], ENDS)
+}
+
 #[test]
 fn commands_of_sessions(rt: HostRuntime) -> Result<(), Fail> {
-    run(&rt, rt.alloc(), [9, 9], ONE_COMMAND)?;
-    run(&rt, rt.alloc(), [9, 9], WORKERS)?;
-    run(&rt, rt.alloc(), [9, 9], IMPOSSIBLE)?;
-    run(&rt, rt.alloc(), [9, 9], ENDS)
+    one_command(&rt, rt.alloc())?;
+    workers(&rt, rt.alloc())?;
+    impossible(&rt, rt.alloc())?;
+    ends(&rt, rt.alloc())
 }
