@@ -169,7 +169,7 @@ fn registrations_last(rt: HostRuntime) {
 }
 
 // A save ends so, and that is what a restart finds.
-fn saves(rt: &impl Abort, alloc: Global, script: &str, ends: &str, finds: &str) {
+fn saves<'x>(rt: &impl Abort, alloc: Global, script: &str, ends: &'x str, finds: &'x str) {
     let parts = [(ONE_SESSION, 0, 1), (ends, 0, 1), (finds, 0, 1)];
     play(rt, alloc, script, &parts);
 }

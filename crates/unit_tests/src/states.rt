@@ -66,7 +66,7 @@ the second hears of it; forward 1 00;; CHECK 06 2A 06
 }
 
 // A command of the second session ends so where group 2 is in the state of this code, which is set so.
-fn ends_so(rt: &impl Abort, alloc: Global, command: &str, state: u64, sets: &str) {
+fn ends_so<'x>(rt: &impl Abort, alloc: Global, command: &'x str, state: u64, sets: &'x str) {
     let parts = [
         (two_sessions(), 0, 1),
         (sets, 0, 1),
