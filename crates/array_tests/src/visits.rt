@@ -15,16 +15,13 @@ use test_streams::bytes_of;
 // The name of the host that registers.
 const REGISTRANT: &[u8] = b"iqn.2000-01.test:a";
 
-/// A host comes by this portal of this controller, and performs this script.
-#[derive(Clone, Copy)]
-pub struct Visit<'a>(pub u16, pub u16, pub &'a str);
-
-/// An array that is visited by these hosts, one behind the other, and what its console is told. Where power is to be lost then,
-/// its files are copied there as they are.
+/// An array that is visited by hosts, one behind the other, and what its console is told. Where power is to be lost then,
+/// its files are copied there as they are. Of the visits, which are one text with an empty line between two, each begins with a
+/// controller and its portal by which a host comes, and behind that line stands the script that it performs.
 #[derive(Clone, Copy)]
 pub struct Visited<'a> {
     pub site: Site<'a>,
-    pub visits: &'a [Visit<'a>],
+    pub visits: &'a str,
     pub said: &'a str,
     pub left: Option<Site<'a>>,
 }
@@ -109,9 +106,12 @@ fn come_all<R: Abort + Net<Listener = TcpListener, Stream = TcpStream>>(
     visited: &Visited<'_>,
     hosts: &mut Vec<Host>,
 ) -> Result<(), Fail> {
-    for Visit(controller, portal, script) in visited.visits {
-        let portal = visited.site.portal(*controller, *portal);
-        let host = come(rt, alloc, portal, script)?;
+    for visit in visited.visits.split("\n\n") {
+        let (place, script) = visit.trim_start().split_once('\n').ok_or("a visit")?;
+        let (controller, portal) = place.split_once(' ').ok_or("a portal")?;
+        let controller = controller.parse().ok().ok_or("a controller")?;
+        let portal = portal.parse().ok().ok_or("a portal")?;
+        let host = come(rt, alloc, visited.site.portal(controller, portal), script)?;
         hosts.push(host)?;
     }
     Ok(())

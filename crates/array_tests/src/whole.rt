@@ -2,7 +2,7 @@
 use crate::host::Host;
 use crate::hosts::perform;
 use crate::site::{Site, free_site, make};
-use crate::visits::{Console, Visit, Visited, console};
+use crate::visits::{Console, Visited, console};
 use array::{open, serve};
 use disk_files::{FileBlocks, FileOpener, FilePreparer};
 use event_log::Log;
@@ -14,20 +14,20 @@ use std::net::{Net, TcpListener, TcpStream};
 use std::process::{self, Abort};
 use std::test::*;
 
-// Each login is told the group of its portal.
-const AT_1: &str = r#"
+// What hosts do before power is lost. Each login is told the group of its portal.
+fn before() -> &'static str {
+    r#"
+1 0
 > LOGIN 7:56 HOST_B
 < LOGGED_IN 7:36 15:02 WELCOME
-"#;
 
-const AT_2: &str = r#"
+2 1
 > LOGIN 7:56 HOST_A
 < LOGGED_IN 7:36 15:03 WELCOME_2
-"#;
 
-// By controller 1: power came on at both units; WRITE (10) of block 5 of unit 0 and of block 6 of unit 1; REGISTER of 11h with
-// APTPL at unit 1; SYNCHRONIZE CACHE (10) of both.
-const WRITES: &str = r#"
+1 1
+# Power came on at both units; WRITE (10) of block 5 of unit 0 and of block 6 of unit 1; REGISTER of 11h with APTPL at unit 1;
+# SYNCHRONIZE CACHE (10) of both.
 > LOGIN 7:56 HOST_A
 < LOGGED_IN 7:36 15:04 WELCOME
 > TEST_UNIT_READY
@@ -44,10 +44,9 @@ const WRITES: &str = r#"
 < GOOD
 > TEST_UNIT_READY 9:01 32:35
 < GOOD
-"#;
 
-// By controller 2: power came on; READ (10) of both blocks, each at its unit, and of block 6 of unit 0, where nothing was written.
-const READS: &str = r#"
+2 0
+# Power came on; READ (10) of both blocks, each at its unit, and of block 6 of unit 0, where nothing was written.
 > LOGIN 7:56 HOST_B
 < LOGGED_IN 7:36 15:05 WELCOME_2
 > TEST_UNIT_READY
@@ -63,10 +62,14 @@ const READS: &str = r#"
 > TEST_UNIT_READY 1:C1 20:00000200 32:28000000000600000100
 < DATA_IN 5:000200 512*00
 < GOOD 36:00000001
-"#;
+"#
+}
 
-// Behind the restart: power came on, and both blocks are there; READ KEYS, whose generation is 0, tells of the key at unit 1 alone.
-const FINDS_ALL: &str = r#"
+// Behind the restart.
+fn after() -> &'static str {
+    r#"
+2 1
+# Power came on, and both blocks are there; READ KEYS, whose generation is 0, tells of the key at unit 1 alone.
 > LOGIN 7:56 HOST_B
 < LOGGED_IN 7:36 15:02 WELCOME_2
 > TEST_UNIT_READY
@@ -85,35 +88,33 @@ const FINDS_ALL: &str = r#"
 > TEST_UNIT_READY 1:C1 9:01 20:00000010 32:5E000000000000001000
 < DATA_IN 7:10 00000000 00000008 0000000000000011
 < GOOD 36:00000001
-"#;
+"#
+}
 
-// Behind `quit`: the desks are closed, so that a command is BUSY.
-const BUSY: &str = r#"
+// Behind `quit` the desks are closed, so that a command is BUSY.
+fn busy() -> &'static str {
+    r#"
 > TEST_UNIT_READY
 < GOOD 3:08
-"#;
+"#
+}
 
 // What the console of the first array tells before the hosts come, and that of the second.
-const NEW: &str = "arrayd: ready
+fn new() -> &'static str {
+    "arrayd: ready
 unit 0 owner 1 states 0 1 generation 0 keys 0 type 0 entries 0
 unit 1 owner 2 states 1 0 generation 0 keys 0 type 0 entries 0
 ?
-";
+"
+}
 
-const RESTARTED: &str = "arrayd: ready
+fn restarted() -> &'static str {
+    "arrayd: ready
 unit 0 owner 1 states 0 1 generation 0 keys 0 type 0 entries 0
 unit 1 owner 2 states 1 0 generation 0 keys 1 type 0 entries 0
 ?
-";
-
-const BEFORE: &[Visit<'static>] = &[
-    Visit(1, 0, AT_1),
-    Visit(2, 1, AT_2),
-    Visit(1, 1, WRITES),
-    Visit(2, 0, READS),
-];
-
-const AFTER: &[Visit<'static>] = &[Visit(2, 1, FINDS_ALL)];
+"
+}
 
 // The files of the first array in a folder, and of the second, which are what lay in the first when power was lost.
 fn paths(alloc: Global, folder: &str) -> Result<[String; 4], Fail> {
@@ -145,14 +146,14 @@ fn story<'a>(site: Site<'a>, left: Site<'a>) -> [Visited<'a>; 2] {
     [
         Visited {
             site,
-            visits: BEFORE,
-            said: NEW,
+            visits: before(),
+            said: new(),
             left: Some(left),
         },
         Visited {
             site: left,
-            visits: AFTER,
-            said: RESTARTED,
+            visits: after(),
+            said: restarted(),
             left: None,
         },
     ]
@@ -168,7 +169,7 @@ fn compare<R: Abort>(
 ) -> Result<(), Fail> {
     assert_eq!(rt; said, visited.said.as_bytes());
     for host in hosts {
-        perform(rt, alloc, host, BUSY)?;
+        perform(rt, alloc, host, busy())?;
     }
     Ok(())
 }
