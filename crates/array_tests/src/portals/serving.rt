@@ -179,7 +179,16 @@ pub fn perform<
     let controllers = &server.device.units;
     let behind = Behind { rt, controllers };
     let gate = &server.device.gate;
-    let mut stage = Stage::new(rt, alloc, gate, disk, &behind, portals, script);
+    let mut stage = Stage::new(
+        rt,
+        alloc,
+        gate,
+        disk,
+        &behind,
+        portals,
+        script.name,
+        script.piece,
+    );
     stage.perform(script.text);
     end(rt, first);
     end(rt, second);

@@ -24,7 +24,6 @@ use crate::host::{Host, is_text, put};
 use crate::portals::at::At;
 use crate::portals::behind::Console;
 use crate::portals::doors::{Doors, Flushes};
-use crate::portals::serving::Script;
 use crate::texts::texts;
 use std::alloc::{AllocError, Global};
 use std::io::Eprint;
@@ -85,7 +84,7 @@ impl<
     C: Console,
 > Stage<'a, R, C> {
     /// A stage before the portals of an array with this gate, whose devices hang at this latch, and whose console this is. It
-    /// is for this script.
+    /// is for the script of this name, and what its hosts send goes out in pieces of so many bytes.
     pub fn new(
         rt: &'a R,
         alloc: Global,
@@ -93,12 +92,13 @@ impl<
         disk: &'a Latch<R>,
         behind: &'a C,
         portals: [SocketAddrV4; 2],
-        script: &Script<'a>,
+        script: &'a str,
+        piece: usize,
     ) -> Stage<'a, R, C> {
         Stage {
             at: At {
                 rt,
-                script: script.name,
+                script,
                 line: "",
             },
             alloc,
@@ -106,7 +106,7 @@ impl<
             disk,
             behind,
             portals,
-            piece: script.piece,
+            piece,
             texts: texts().to_vec(alloc).expect(rt, "memory"),
             names: Vec::new(alloc),
             hosts: Vec::new(alloc),
