@@ -2,7 +2,7 @@
 ghost use Rattle.std.specs.Prelude.{◌≡◌, ◌&&◌, IfOk, IfErr, MatchBool, List};
 ghost use Rattle.registrants.specs.Nexus.{through};
 ghost use Rattle.unit_history.specs.Calls.{HasAttached, HasNoRoom, HasServed, HasRefused, HasReset, WasGone, HasRetired};
-ghost use Rattle.unit_history.specs.Calls.{HasFlushed, HasMoved, HasStayed, HasWorked, HaveMet, IsShown};
+ghost use Rattle.unit_history.specs.Calls.{HasFlushed, HasMoved, HasStayed, HasWorked, IsShown};
 ghost use Rattle.unit_entries.specs.Devices.{devices};
 ghost use Rattle.array_units.specs.Places.{place_of};
 
@@ -144,19 +144,6 @@ impl<B: Blocks, F: Blocks, O: Opener<B>, N: Array<Opened>> AnyUnit<B, F, O, N> {
             HasStayed (devices B.Blocks F.Blocks O.Opener) (N.opening (place_of self.now)) list.now result.0.1 why) }
     {
         each!(self, seated, seated.unit.move_to(rt, list))
-    }
-
-    /// Both sessions have then seen what either had, as [`SharedUnit::meet`].
-    pub(crate) fn meet(
-        &self,
-        one: Pass<B, F, O, N>,
-        two: Pass<B, F, O, N>,
-    ) -> (Pass<B, F, O, N>, Pass<B, F, O, N>)
-        requires { (one.place ≡ place_of self.now) × (two.place ≡ place_of self.now) }
-        ensures places { (result.0.place ≡ place_of self.now) × (result.1.place ≡ place_of self.now) }
-        ensures met { HaveMet (O.claims && B.claims) (N.opening (place_of self.now)) one.pass two.pass result.0.pass result.1.pass }
-    {
-        each!(self, seated, seated.unit.meet(one, two))
     }
 
     /// Makes what was written last, as [`SharedUnit::flush`].

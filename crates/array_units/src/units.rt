@@ -1,11 +1,11 @@
 //! The units of an array.
-ghost use Rattle.std.specs.Prelude.{◌≡◌, ◌<◌, ◌≤◌, ◌&&◌, length, IfOk, IfErr, MatchBool};
+ghost use Rattle.std.specs.Prelude.{◌≡◌, ◌+◌, ◌<◌, ◌≤◌, ◌&&◌, length, IfOk, IfErr, OnOk, MatchBool};
 ghost use Rattle.registrants.specs.Nexus.{through};
 ghost use Rattle.unit_history.specs.Calls.{HasAttached, HasNoRoom, HasServed, HasRefused, HasReset, WasGone, HasRetired};
-ghost use Rattle.unit_history.specs.Calls.{HasFlushed, HasMoved, HasStayed, HasWorked, HaveMet, IsShown};
+ghost use Rattle.unit_history.specs.Calls.{HasFlushed, HasMoved, HasStayed, HasWorked, IsShown};
 ghost use Rattle.unit_entries.specs.Devices.{devices};
 ghost use Rattle.unit_history.specs.Naming.{IsNamed, IsNamedAt};
-ghost use Rattle.array_units.specs.Places.{place_of};
+ghost use Rattle.array_units.specs.Places.{AreInOrder, place_of};
 
 use crate::any_unit::{AnyUnit, Seated};
 use access_states::Change;
@@ -89,6 +89,24 @@ fn any_seated<B: Blocks, F: Blocks, O: Opener<B>, N: Array<Opened>, W: Wait>(
     }
 }
 
+/// Puts the next unit under its name behind those that are there. Refused, it is dropped.
+fn seat_next<B: Blocks, F: Blocks, O: Opener<B>, N: Array<Opened>, W: Wait>(
+    rt: &W,
+    alloc: Global,
+    units: &mut Vec<CachePadded<AnyUnit<B, F, O, N>>>,
+    new: NewUnit<B, F, O>,
+) -> Result<(), NoMemory>
+    requires named { IsNamedAt N.book N.table N.opening B.contents (length units.old.items) new }
+    requires place { length units.old.items < 8 }
+    requires order { AreInOrder units.old.items }
+    ensures order { OnOk result (AreInOrder units.new.items) }
+    ensures count { OnOk result (length units.new.items ≡ length units.old.items + 1) }
+{
+    let unit = any_seated(rt, alloc, units.len(), new)?;
+    units.push(CachePadded::new(unit))?;
+    Ok(())
+}
+
 impl<B: Blocks, F: Blocks, O: Opener<B>, N: Array<Opened>> Units<B, F, O, N> {
     /// These units under their names, in their order. Refused, they are dropped.
     pub fn new<W: Wait>(
@@ -102,9 +120,8 @@ impl<B: Blocks, F: Blocks, O: Opener<B>, N: Array<Opened>> Units<B, F, O, N> {
     {
         let mut new = new;
         let mut units = Vec::new(alloc);
-        for place in 0..new.len() {
-            let unit = any_seated(rt, alloc, place, new.remove(0))?;
-            units.push(CachePadded::new(unit))?;
+        for _place in 0..new.len() {
+            seat_next(rt, alloc, &mut units, new.remove(0))?;
         }
         Ok(Units { units })
     }
@@ -209,22 +226,6 @@ impl<B: Blocks, F: Blocks, O: Opener<B>, N: Array<Opened>> Units<B, F, O, N> {
             HasStayed (devices B.Blocks F.Blocks O.Opener) (N.opening place) list.now result.0.1 why) }
     {
         self.at(place).move_to(rt, list)
-    }
-
-    /// Two sessions of one unit have then seen what either had: one legal history. It waits for nobody, as
-    /// [`unit_history::SharedUnit::meet`].
-    pub fn meet(
-        &self,
-        one: Pass<B, F, O, N>,
-        two: Pass<B, F, O, N>,
-    ) -> (Pass<B, F, O, N>, Pass<B, F, O, N>)
-        requires place { one.place < self.now }
-        requires unit { two.place ≡ one.place }
-        ensures places { (result.0.place ≡ one.place) × (result.1.place ≡ one.place) }
-        ensures met { HaveMet (O.claims && B.claims) (N.opening one.place) one.pass two.pass result.0.pass result.1.pass }
-    {
-        let place = one.place();
-        self.at(place).meet(one, two)
     }
 
     /// Makes what was written to the unit at a place last, as [`unit_history::SharedUnit::flush`].

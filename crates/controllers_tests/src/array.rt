@@ -66,9 +66,6 @@ pub trait Array<S> {
     /// How many entries a session has seen, or 0.
     fn seen(&self, host: &S) -> u64;
 
-    /// Whether both sessions are of one unit, and have then seen what either had.
-    fn meet(&self, one: &mut S, other: &mut S) -> bool;
-
     /// What the board of a unit shows.
     fn row(&self, place: usize) -> Option<Row>;
 

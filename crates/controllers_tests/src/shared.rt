@@ -254,20 +254,6 @@ impl<W: Wait + Drop, B: Blocks, O: Opener<B>, N: Naming<Opened>> Array<Host<B, O
         }
     }
 
-    fn meet(&self, one: &mut Host<B, O, N>, other: &mut Host<B, O, N>) -> bool {
-        let (Some(first), Some(second)) = (one.pass.take(), other.pass.take()) else {
-            return false;
-        };
-        if first.place() >= self.units.count() || second.place() != first.place() {
-            return false;
-        }
-        let (first, second) = self.units.meet(first, second);
-        let is_met = first.history().is_same(&second.history());
-        one.pass = Some(first);
-        other.pass = Some(second);
-        is_met
-    }
-
     fn row(&self, place: usize) -> Option<Row> {
         if place >= self.units.count() {
             return None;

@@ -121,13 +121,17 @@ pub fn meet_failures<W: Threads, S: Send + Drop, A: Array<S> + Sync>(
     want(entries(array, 0) == 4 + 2 * TIMES, "each is an entry")?;
     want(
         have_seen_all(array, &mut one, &mut two),
-        "the sessions meet",
+        "each sees what both did",
     )
 }
 
-/// Whether both meet, and have then seen all.
+/// Whether each sees all that both did, once it asks again.
 fn have_seen_all<S, A: Array<S>>(array: &A, one: &mut S, two: &mut S) -> bool {
-    array.meet(one, two) && array.seen(one) == 4 + 2 * TIMES && array.seen(two) == 4 + 2 * TIMES
+    let all = 4 + 2 * TIMES;
+    test(array, one, Group::One) == End::Good
+        && array.seen(one) == all + 1
+        && test(array, two, Group::One) == End::Good
+        && array.seen(two) == all + 2
 }
 
 #[test]
