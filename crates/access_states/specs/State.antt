@@ -2,7 +2,9 @@
 use Rattle.std.specs.Prelude.{ℕ, Bool, true, false, nat_eq, if◌then◌else◌, Option, Some, None}
 use Rattle.scsi_types.specs.Sense.{target_port_in_standby_state, target_port_in_unavailable_state}
 use Rattle.scsi_types.specs.declared.command.Op.{Op}
-use Rattle.scsi_types.specs.declared.command.Op.TheVariants as ops
+use Rattle.scsi_types.specs.declared.traits.ServedIn.{ServedIn}
+use Rattle.scsi_types.specs.declared.traits.ServedIn.TheVariants as served
+use Rattle.scsi_types.specs.Traits.{traits_of}
 use Rattle.scsi_types.specs.declared.sense.Sense.{Sense}
 use Rattle.access_states.specs.declared.state.AccessState.{AccessState}
 use Rattle.access_states.specs.declared.state.AccessState.TheVariants.{ActiveOptimized, ActiveNonOptimized, Standby, Unavailable}
@@ -37,38 +39,23 @@ status_code None = 0
 status_code (Some Explicit) = 1
 status_code (Some Implicit) = 2
 
+-- a command that is served in these states is served in standby, or in unavailable
+abbrev pub in_standby : ServedIn → Bool
+in_standby served.Active = false
+in_standby served.Standby = true
+in_standby served.Unavailable = true
+
+abbrev pub in_unavailable : ServedIn → Bool
+in_unavailable served.Active = false
+in_unavailable served.Standby = false
+in_unavailable served.Unavailable = true
+
 -- the commands that are served by a port of a group in this state
 abbrev pub is_served : AccessState → Op → Bool
 is_served ActiveOptimized op = true
 is_served ActiveNonOptimized op = true
-is_served Standby ops.TestUnitReady = false
-is_served Standby ops.RequestSense = true
-is_served Standby ops.Inquiry = true
-is_served Standby ops.ModeSense = true
-is_served Standby ops.ReadCapacity = false
-is_served Standby ops.Read = false
-is_served Standby ops.Write = false
-is_served Standby ops.CompareAndWrite = false
-is_served Standby ops.SynchronizeCache = false
-is_served Standby ops.PersistentReserveIn = true
-is_served Standby ops.PersistentReserveOut = true
-is_served Standby ops.ReportLuns = true
-is_served Standby ops.ReportTargetPortGroups = true
-is_served Standby ops.SetTargetPortGroups = true
-is_served Unavailable ops.TestUnitReady = false
-is_served Unavailable ops.RequestSense = true
-is_served Unavailable ops.Inquiry = true
-is_served Unavailable ops.ModeSense = false
-is_served Unavailable ops.ReadCapacity = false
-is_served Unavailable ops.Read = false
-is_served Unavailable ops.Write = false
-is_served Unavailable ops.CompareAndWrite = false
-is_served Unavailable ops.SynchronizeCache = false
-is_served Unavailable ops.PersistentReserveIn = false
-is_served Unavailable ops.PersistentReserveOut = false
-is_served Unavailable ops.ReportLuns = true
-is_served Unavailable ops.ReportTargetPortGroups = true
-is_served Unavailable ops.SetTargetPortGroups = true
+is_served Standby op = in_standby (traits_of op).served_in
+is_served Unavailable op = in_unavailable (traits_of op).served_in
 
 -- how a command that is not served is refused
 abbrev pub not_accessible : AccessState → Option Sense

@@ -1,8 +1,8 @@
 //! Access states.
 ghost use Rattle.std.specs.Prelude.{◌≡◌};
-ghost use Rattle.access_states.specs.State.{is_optimized, is_served, refusal_in, same_state, state_code, state_of_code, status_code};
+ghost use Rattle.access_states.specs.State.{is_optimized, refusal_in, same_state, state_code, state_of_code, status_code};
 
-use scsi_types::{Op, Sense};
+use scsi_types::{Op, Sense, ServedIn};
 
 /// The asymmetric access state of a target port group (SPC-4, 5.15.2.4).
 #[derive(Clone, Copy, Debug, PartialEq, Eq)]
@@ -92,55 +92,16 @@ impl GroupAccess {
 pub fn permits(state: AccessState, op: Op) -> Option<Sense>
     ensures { result ≡ refusal_in state op }
 {
+    let served_in = op.traits().served_in;
     match state {
         AccessState::ActiveOptimized | AccessState::ActiveNonOptimized => None,
-        AccessState::Standby if is_served_in_standby(op) => None,
-        AccessState::Standby => Some(Sense::TARGET_PORT_IN_STANDBY_STATE),
-        AccessState::Unavailable if is_served_anywhere(op) => None,
-        AccessState::Unavailable => Some(Sense::TARGET_PORT_IN_UNAVAILABLE_STATE),
-    }
-}
-
-// Whether a group in standby serves the command.
-fn is_served_in_standby(op: Op) -> bool
-    ensures { result ≡ is_served AccessState.Standby op }
-{
-    match op {
-        Op::RequestSense
-        | Op::Inquiry
-        | Op::ModeSense
-        | Op::PersistentReserveIn
-        | Op::PersistentReserveOut
-        | Op::ReportLuns
-        | Op::ReportTargetPortGroups
-        | Op::SetTargetPortGroups => true,
-        Op::TestUnitReady
-        | Op::ReadCapacity
-        | Op::Read
-        | Op::Write
-        | Op::CompareAndWrite
-        | Op::SynchronizeCache => false,
-    }
-}
-
-// Whether every group serves the command, also one that is unavailable.
-fn is_served_anywhere(op: Op) -> bool
-    ensures { result ≡ is_served AccessState.Unavailable op }
-{
-    match op {
-        Op::RequestSense
-        | Op::Inquiry
-        | Op::ReportLuns
-        | Op::ReportTargetPortGroups
-        | Op::SetTargetPortGroups => true,
-        Op::TestUnitReady
-        | Op::ModeSense
-        | Op::ReadCapacity
-        | Op::Read
-        | Op::Write
-        | Op::CompareAndWrite
-        | Op::SynchronizeCache
-        | Op::PersistentReserveIn
-        | Op::PersistentReserveOut => false,
+        AccessState::Standby => match served_in {
+            ServedIn::Active => Some(Sense::TARGET_PORT_IN_STANDBY_STATE),
+            ServedIn::Standby | ServedIn::Unavailable => None,
+        },
+        AccessState::Unavailable => match served_in {
+            ServedIn::Active | ServedIn::Standby => Some(Sense::TARGET_PORT_IN_UNAVAILABLE_STATE),
+            ServedIn::Unavailable => None,
+        },
     }
 }

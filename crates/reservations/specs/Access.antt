@@ -8,8 +8,8 @@ use Rattle.registrants.specs.declared.kind.ReservationType.TheVariants.{Exclusiv
 use Rattle.registrants.specs.declared.kind.ReservationType.TheVariants.{WriteExclusiveAllRegistrants}
 use Rattle.registrants.specs.declared.kind.ReservationType.TheVariants.{ExclusiveAccessAllRegistrants}
 use Rattle.registrants.specs.declared.registrant.Reservation.{Reservation}
-use Rattle.reservations.specs.declared.request.Access.{Access}
-use Rattle.reservations.specs.declared.request.Access.TheVariants.{Read, Write, Other}
+use Rattle.scsi_types.specs.declared.traits.Access.{Access}
+use Rattle.scsi_types.specs.declared.traits.Access.TheVariants.{Read, Write, Other}
 use Rattle.registrants.specs.Registry.{RegistryValue, is_held_by, is_registered}
 
 -- what a nexus is to a reservation

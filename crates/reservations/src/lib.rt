@@ -21,4 +21,5 @@ pub use laws::{
 pub use notice::{Notice, Telling};
 pub use registrants::{Lasting, Nexus, Record, Registrant, Reservation, ReservationType};
 pub use registry::Registry;
-pub use request::{Access, PrEnd, PrOut};
+pub use request::{PrEnd, PrOut};
+pub use scsi_types::Access;

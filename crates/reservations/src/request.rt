@@ -40,17 +40,6 @@ pub enum PrEnd {
     TableFull,
 }
 
-/// How a command uses the medium, as reservations see it (SPC-4, 5.13.1).
-#[derive(Clone, Copy, PartialEq, Eq)]
-pub enum Access {
-    /// It reads blocks.
-    Read,
-    /// It writes blocks, or changes what other sessions may do.
-    Write,
-    /// No reservation keeps it out.
-    Other,
-}
-
 /// The type that a request names, if its scope is the logical unit and the type is one.
 pub fn type_asked(request: PrOut) -> Option<ReservationType>
     ensures { result ≡ (if nat_eq request.scope 0 then type_of request.kind else None) }

@@ -8,3 +8,4 @@ pub mod ReplyValue
 pub mod Reservation
 pub mod Sense
 pub mod Status
+pub mod Traits

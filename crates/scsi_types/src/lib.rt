@@ -18,6 +18,7 @@ mod reply;
 mod reservation;
 mod sense;
 mod status;
+mod traits;
 
 pub use attention::UnitAttention;
 pub use cdb::decode;
@@ -32,3 +33,4 @@ pub use reply::Reply;
 pub use reservation::{PrInAction, PrOutAction};
 pub use sense::Sense;
 pub use status::Status;
+pub use traits::{Access, ServedIn, Traits};

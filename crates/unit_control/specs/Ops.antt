@@ -1,13 +1,14 @@
 -- The kind of a command, also of one with a bad field, and what the kind alone decides.
 use Rattle.std.specs.Prelude.{ℕ, Bool, true, false, Option, Some, None, Result, Ok, Err}
-use Rattle.reservations.specs.declared.request.Access.{Access}
-use Rattle.reservations.specs.declared.request.Access.TheVariants.{Read, Write, Other}
+use Rattle.scsi_types.specs.declared.traits.Access.{Access}
+use Rattle.scsi_types.specs.declared.traits.Access.TheVariants.{Other}
 use Rattle.scsi_types.specs.declared.command.Command.{Command}
 use Rattle.scsi_types.specs.declared.command.Command.TheVariants as commands
 use Rattle.scsi_types.specs.declared.command.CdbFault.{CdbFault}
 use Rattle.scsi_types.specs.declared.command.CdbFault.TheVariants.{UnknownOpcode, BadField}
 use Rattle.scsi_types.specs.declared.command.Op.{Op}
 use Rattle.scsi_types.specs.declared.command.Op.TheVariants as ops
+use Rattle.scsi_types.specs.Traits.{traits_of}
 
 abbrev pub kind_of : Command → Op
 kind_of commands.TestUnitReady = ops.TestUnitReady
@@ -35,39 +36,12 @@ kind_asked (Err UnknownOpcode) = None
 -- a command that a pending attention lets pass (SAM-5, 5.14)
 abbrev pub passes_attention : Option Op → Bool
 passes_attention None = false
-passes_attention (Some ops.TestUnitReady) = false
-passes_attention (Some ops.RequestSense) = true
-passes_attention (Some ops.Inquiry) = true
-passes_attention (Some ops.ModeSense) = false
-passes_attention (Some ops.ReadCapacity) = false
-passes_attention (Some ops.Read) = false
-passes_attention (Some ops.Write) = false
-passes_attention (Some ops.CompareAndWrite) = false
-passes_attention (Some ops.SynchronizeCache) = false
-passes_attention (Some ops.PersistentReserveIn) = false
-passes_attention (Some ops.PersistentReserveOut) = false
-passes_attention (Some ops.ReportLuns) = true
-passes_attention (Some ops.ReportTargetPortGroups) = false
-passes_attention (Some ops.SetTargetPortGroups) = false
+passes_attention (Some op) = (traits_of op).passes_attention
 
--- what a command does with the medium, as a reservation sees it (SPC-4, 5.13.1): a flush counts as a write, and so does a
--- change of access states
+-- what a command does with the medium, as a reservation sees it (SPC-4, 5.13.1)
 abbrev pub access_of : Option Op → Access
 access_of None = Other
-access_of (Some ops.TestUnitReady) = Other
-access_of (Some ops.RequestSense) = Other
-access_of (Some ops.Inquiry) = Other
-access_of (Some ops.ModeSense) = Other
-access_of (Some ops.ReadCapacity) = Other
-access_of (Some ops.Read) = Read
-access_of (Some ops.Write) = Write
-access_of (Some ops.CompareAndWrite) = Write
-access_of (Some ops.SynchronizeCache) = Write
-access_of (Some ops.PersistentReserveIn) = Other
-access_of (Some ops.PersistentReserveOut) = Other
-access_of (Some ops.ReportLuns) = Other
-access_of (Some ops.ReportTargetPortGroups) = Other
-access_of (Some ops.SetTargetPortGroups) = Write
+access_of (Some op) = (traits_of op).access
 
 -- the parameter list of a command, with its PARAMETER LIST LENGTH: that of PERSISTENT RESERVE OUT (SPC-4, 6.16.3), or of SET
 -- TARGET PORT GROUPS (SPC-4, 6.45)

@@ -8,7 +8,7 @@ use Rattle.access_states.specs.Change.{fault_sense}
 use Rattle.access_states.specs.State.{refusal_in}
 use Rattle.access_states.specs.declared.list.AsetFault.{AsetFault}
 use Rattle.access_states.specs.declared.state.AccessState.{AccessState}
-use Rattle.reservations.specs.declared.request.Access.{Access}
+use Rattle.scsi_types.specs.declared.traits.Access.{Access}
 use Rattle.reservations.specs.Access.{is_let_through, party_of}
 use Rattle.scsi_types.specs.Nexus.{Nexus}
 use Rattle.scsi_types.specs.ReplyValue.{ReplyValue, check, conflict}

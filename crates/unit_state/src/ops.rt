@@ -2,8 +2,7 @@
 ghost use Rattle.std.specs.Prelude.{◌≡◌};
 ghost use Rattle.unit_control.specs.Ops.{access_of, kind_of, kind_asked, passes_attention};
 
-use reservations::Access;
-use scsi_types::{Asked, CdbFault, Command, Op};
+use scsi_types::{Access, Asked, CdbFault, Command, Op};
 
 /// The kind of a command, also of one with a bad field.
 pub fn kind_asked(asked: &Asked) -> Option<Op>
@@ -42,19 +41,8 @@ pub fn passes_attention(kind: Option<Op>) -> bool
     ensures { result ≡ passes_attention kind }
 {
     match kind {
-        Some(Op::Inquiry) | Some(Op::ReportLuns) | Some(Op::RequestSense) => true,
-        None
-        | Some(Op::TestUnitReady)
-        | Some(Op::ModeSense)
-        | Some(Op::ReadCapacity)
-        | Some(Op::Read)
-        | Some(Op::Write)
-        | Some(Op::CompareAndWrite)
-        | Some(Op::SynchronizeCache)
-        | Some(Op::PersistentReserveIn)
-        | Some(Op::PersistentReserveOut)
-        | Some(Op::ReportTargetPortGroups)
-        | Some(Op::SetTargetPortGroups) => false,
+        Some(op) => op.traits().passes_attention,
+        None => false,
     }
 }
 
@@ -63,20 +51,7 @@ pub fn access_of(kind: Option<Op>) -> Access
     ensures { result ≡ access_of kind }
 {
     match kind {
-        Some(Op::Read) => Access::Read,
-        Some(Op::Write)
-        | Some(Op::CompareAndWrite)
-        | Some(Op::SynchronizeCache)
-        | Some(Op::SetTargetPortGroups) => Access::Write,
-        None
-        | Some(Op::TestUnitReady)
-        | Some(Op::RequestSense)
-        | Some(Op::Inquiry)
-        | Some(Op::ModeSense)
-        | Some(Op::ReadCapacity)
-        | Some(Op::PersistentReserveIn)
-        | Some(Op::PersistentReserveOut)
-        | Some(Op::ReportLuns)
-        | Some(Op::ReportTargetPortGroups) => Access::Other,
+        Some(op) => op.traits().access,
+        None => Access::Other,
     }
 }
