@@ -1,5 +1,5 @@
 -- Beginnings of one list.
-use Rattle.std.proofs.Common.{◌≡◌, ◌≤◌, ◌⊎◌, inl, inr, ⊎_elim, List, [], ◌∷◌, ◌++◌, length, refl, ap, sym, ◌∙◌, arith, append_assoc}
+use Rattle.std.proofs.Common.{◌≡◌, ◌≤◌, ◌⊎◌, inl, inr, ⊎_elim, List, [], ◌∷◌, ◌++◌, length, refl, ◌∙◌, arith}
 use mathlib.Core.List.{IsPrefix}
 
 -- of two beginnings of one list the shorter begins the longer
@@ -30,12 +30,3 @@ prefix_whole [] (y ∷ ys) p le = absurd (omega arith)
 prefix_whole (x ∷ xs) [] p le = absurd (cc (p.1))
 prefix_whole (x ∷ xs) (y ∷ ys) p le =
     let rest = prefix_whole xs ys (p.0, cc (p.1)) (omega arith) in cc (p.1, rest)
-
--- what begins a list that is as long as its beginning begins that
-pub begins_held : {A : Type 0} (mine other both log : List A) → IsPrefix mine both → IsPrefix other both → IsPrefix both log
-    → length log ≡ length mine → IsPrefix other mine
-begins_held mine other both log m o b len =
-    let on : IsPrefix mine log =
-    (m.0 ++ b.0, sym (append_assoc mine m.0 b.0) ∙ (ap (λ w. w ++ b.0) m.1 ∙ b.1)) in
-    let same : mine ≡ log = prefix_whole mine log on (omega (arith, len)) in
-    rw same (o.0 ++ b.0, sym (append_assoc other o.0 b.0) ∙ (ap (λ w. w ++ b.0) o.1 ∙ b.1))

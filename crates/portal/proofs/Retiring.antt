@@ -13,7 +13,7 @@ use Rattle.unit_control.specs.State.{UnitState}
 use Rattle.portal.specs.Units.{Claims, IsRetired}
 use Rattle.portal.specs.Entries.{IsLast}
 use Rattle.portal.specs.Submitted.{At}
-use Rattle.portal.specs.Target.{Sight, AreOver, IsOverAt, Leaves}
+use Rattle.portal.specs.Target.{Sight, AreOver, IsOverAt}
 
 module _ (claims : Claims) (s : UnitState) where
   -- behind all that its pass had seen there is nothing of its own but its end
@@ -107,15 +107,4 @@ module _ (claims : Claims) (opening : ℕ → UnitState) where
         parts = so.parts ∙ sym (append_assoc so.done (b ∷ []) left);
         over = over_more so.done so.seen b one so.over (subst (λ (x : At). IsOverAt claims opening x one) is here);
         kept = ap (λ (l : List Sight). l ++ one ∷ []) so.kept ∙ append_assoc old so.seen (one ∷ []);
-      }
-
-  -- all of them
-  pub all_over : (all left : List At) (old now : List Sight) → left ≡ [] → SoFar all left old now
-      → Leaves claims opening all old now
-  all_over all left old now none so =
-      record {
-        seen = so.seen;
-        over = subst (λ (l : List At). AreOver claims opening l so.seen)
-            (sym (so.parts ∙ ap (λ (l : List At). so.done ++ l) none ∙ append-nil so.done)) so.over;
-        ends = so.kept;
       }

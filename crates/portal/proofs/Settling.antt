@@ -1,5 +1,5 @@
 -- A command whose flush came behind it could stand, as it was asked, in the place of its entry.
-use Rattle.std.proofs.Common.{◌≡◌, ℕ, ◌+◌, ◌-◌, ◌<◌, ◌≤◌, Bool, true, false, ◌&&◌, cond, List, [], ◌∷◌, ◌++◌}
+use Rattle.std.proofs.Common.{◌≡◌, ℕ, ◌+◌, ◌-◌, ◌<◌, ◌≤◌, Bool, false, ◌&&◌, cond, List, [], ◌∷◌, ◌++◌}
 use Rattle.std.proofs.Common.{Option, Some, None, Ok, refl, sym, ap, ◌∙◌, subst, ⊎_elim, inl, inr, arith}
 use Rattle.std.proofs.lemmas.Bool.{false≢true, and_from, and_left, and_right, cases_lt, lt-ltb, le-ltb, le-leb, lt-leb}
 use Rattle.std.specs.Prelude.{IsTrue, nat_lt, nat_le}
@@ -26,22 +26,10 @@ use Rattle.unit_control.specs.Refusal.{Request, request, refusal, refusal_reply,
 use Rattle.unit_control.specs.Refusal.{outside, saved_rule, state_for}
 use Rattle.unit_entries.specs.Histories.{IsHistory, IsToldBehind}
 use Rattle.portal.specs.Units.{Claims}
-use Rattle.portal.specs.Late.{Late, Flushing, writes, compares, synchronizes, asked_by, served_by, IsTold, IsUnflushed}
+use Rattle.portal.specs.Late.{Late, Flushing, writes, compares, synchronizes, asked_by, served_by, IsTold}
 use Rattle.portal.specs.Entries.{IsLate}
 
 -- ---- commands without their flush
-
-pub write_unflushed : (lba blocks : ℕ) → IsUnflushed (Ok (commands.Write lba blocks true)) (Ok (commands.Write lba blocks false))
-write_unflushed lba blocks = (writes lba blocks, refl, refl)
-
-pub compare_unflushed : (lba blocks : ℕ)
-    → IsUnflushed (Ok (commands.CompareAndWrite lba blocks true)) (Ok (commands.CompareAndWrite lba blocks false))
-compare_unflushed lba blocks = (compares lba blocks, refl, refl)
-
-pub flush_unflushed : (lba blocks last : ℕ) → last ≡ lba + (blocks - 1)
-    → IsUnflushed (Ok (commands.SynchronizeCache lba blocks)) (Ok (commands.Write last 0 false))
-flush_unflushed lba blocks last is =
-    (synchronizes lba blocks, refl, ap (λ (n : ℕ). Ok (commands.Write n 0 false)) is)
 
 -- ---- the end of a history
 

@@ -1,5 +1,5 @@
 -- The session's serial is the unit's next.
-use Rattle.std.proofs.Common.{◌≡◌, ◌≢◌, ℕ, ◌+◌, ◌<◌, ◌≤◌, ⊎_elim, true, false, nat_eq, List, [], ◌∷◌, Bool, Option, Some, None}
+use Rattle.std.proofs.Common.{◌≡◌, ◌≢◌, ℕ, ◌+◌, ◌<◌, ◌≤◌, ⊎_elim, true, false, nat_eq, List, [], ◌∷◌, Option, Some, None}
 use Rattle.std.proofs.Common.{Result, refl, sym, ap, ◌∙◌, arith}
 use Rattle.std.specs.Prelude.{IsSome}
 use Rattle.std.specs.Option.{option_map}
@@ -39,14 +39,6 @@ pub ready_next : (c new : ControlValue) (session serial : ℕ) (by_group : Group
     → next_of new.sessions session ≡ Some (serial + 1)
 ready_next c new session serial by_group asked bytes choice is after =
     ap (λ (d : ControlValue). next_of d.sessions session) after ∙ next_after c session serial by_group asked bytes choice is
-
-pub count_next : (c new : ControlValue) (session serial : ℕ) (by_group : Group) (asked : Result ScsiCommand CdbFault)
-    (bytes : List ℕ) (choice : Choice) → serial ≤ c.count
-    → new ≡ control_after c (Command session serial by_group asked bytes choice)
-    → serial + 1 ≤ new.count
-count_next c new session serial by_group asked bytes choice fits after =
-    let e : new.count ≡ c.count + 1 = ap (λ (d : ControlValue). d.count) after
-    ∙ count_after c session serial by_group asked bytes choice in omega arith
 
 -- behind a reset of its own its serial is the same
 next_reset : (sessions : List Attached) (by_session session : ℕ)

@@ -4,7 +4,7 @@ use Rattle.std.proofs.Common.{if◌then◌else◌, ◌&&◌, List, [], ◌∷◌
 use Rattle.std.proofs.Common.{◌∙◌, subst, arith}
 use Rattle.std.specs.Prelude.{IsSome, IsTrue}
 use Rattle.std.proofs.lemmas.Bool.Decides.{eqb_tells}
-use Rattle.access_states.specs.AccessMap.{AccessMapValue, owner_of}
+use Rattle.access_states.specs.AccessMap.{AccessMapValue}
 use Rattle.access_states.specs.Change.{change_between}
 use Rattle.access_states.specs.declared.change.Change.{Change}
 use Rattle.block_file.specs.Failures.{Tells, last_count}
@@ -27,12 +27,11 @@ use Rattle.unit_state.proofs.EntryLaws.{possible_over, reply_over}
 use Rattle.unit_state.specs.History.{state_after, IsReplyAt, has_failed, failed_entries}
 use Rattle.unit_state.proofs.HistoryLaws.{state_after-snoc, IsLegal-snoc, failed-snoc, failed-le-length, last_attached}
 use Rattle.unit_state.specs.Moves.{IsMove}
-use Rattle.unit_control.specs.Refusal.{request}
 use Rattle.unit_state.specs.Serials.{IsNumbered, IsOpening, commands_of}
 use Rattle.unit_state.proofs.SerialLaws.{numbered}
-use Rattle.unit_state.specs.Step.{IsStep, TakesMemory, entry_of}
+use Rattle.unit_state.specs.Step.{IsStep, entry_of}
 use Rattle.unit_entries.specs.Histories.{IsHistory, IsBehind, IsToldBehind, own, command}
-use Rattle.unit_entries.specs.Causes.{IsFull, IsGone, IsAbsent, IsOwner, WantsMemory, IsMoveTold}
+use Rattle.unit_entries.specs.Causes.{IsFull, IsGone, IsAbsent, IsMoveTold}
 
 -- ---- whose entries they are
 
@@ -46,10 +45,6 @@ pub own_command : (i n : ℕ) (g : Group) (asked : Result ScsiCommand CdbFault) 
     → IsOwn own command i (Command i n g asked bytes choice)
 own_command i n g asked bytes choice =
     record { one = rw (same i) refl; others = λ r m. (rw (other i r m) refl, rw (other i r m) refl) }
-
-pub is_command : (i n : ℕ) (g : Group) (asked : Result ScsiCommand CdbFault) (bytes : List ℕ) (choice : Choice)
-    → command i (Command i n g asked bytes choice) ≡ 1
-is_command i n g asked bytes choice = rw (same i) refl
 
 -- ---- the room of an entry
 
@@ -215,9 +210,6 @@ module _ {B R O : Type 0} (claims : Bool) (contents : B → List (List ℕ)) (fa
     failed = let f = a.failed in omega arith;
   }
 
-  pub same_stays : (s : UnitState) (h : List Entry) (old new : UnitValue B R O) → Is s h old → new ≡ old → Is s h new
-  same_stays s h old new a is = subst (λ (x : UnitValue B R O). Is s h x) (sym is) a
-
   pub attach_done : (old new : UnitValue B R O) (nexus : Nexus) (id : ℕ) → HasRoom old.control nexus → id ≡ old.control.count
       → new.control ≡ control_after old.control (Attach nexus) → new.device ≡ old.device → new.opener ≡ old.opener
       → new.file ≡ old.file → (s : UnitState) (h : List Entry) → IsHistory claims s h → Is s h old
@@ -245,10 +237,6 @@ module _ {B R O : Type 0} (claims : Bool) (contents : B → List (List ℕ)) (fa
       → IsHistory claims s (h ++ Reset i ∷ []) × Is s (h ++ Reset i ∷ []) new × (length h + 1 < 2 ^ 64)
   reset_done old new i was control device opener file s h l a =
       quiet s h old new (Reset i) l a was control device opener file refl refl
-
-  pub gone_done : (old new : UnitValue B R O) (i : ℕ) → (IsAttached old.control i → ⊥) → new ≡ old
-      → (s : UnitState) (h : List Entry) → IsHistory claims s h → Is s h old → Is s h new × IsGone s h i
-  gone_done old new i not same s h l a = (same_stays s h old new a same, gone s h old.control i a.control not)
 
   pub move_done : (old new : UnitValue B R O) (list : List ℕ) (told : Change) (moved : Result Change MoveFault)
       → moved ≡ Ok told → IsMove claims (state_of contents old) (state_of contents new) list moved

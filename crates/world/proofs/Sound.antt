@@ -77,10 +77,6 @@ entry_pushed h e at session serial of =
     (λ (t : (at ≡ length h) × (e ≡ of.0)). inr (t.0, subst (λ (x : Entry). IsOf x session serial) (sym t.1) of.2))
     (get_pushed h e at of.0 of.1)
 
-pub entry_kept : (h : List Entry) (e : Entry) (at session serial : ℕ) → IsEntryOf h at session serial
-    → IsEntryOf (h ++ e ∷ []) at session serial
-entry_kept h e at session serial of = (of.0, get_kept h e at of.0 of.1, of.2)
-
 pub reply_kept : (claims : Bool) (s : UnitState) (h : List Entry) (e : Entry) (at : ℕ) (reply : ReplyValue)
     → IsReplyAt claims s h at reply → IsReplyAt claims s (h ++ e ∷ []) at reply
 reply_kept claims s [] e at reply is = absurd is
