@@ -193,22 +193,7 @@ another session; attach 3 1;; ATTACHED 5
 "#
 }
 
-// Unit 1 prefers group 2.
-fn preferred() -> &'static str {
-    r#"
-unit 1
-unit 1
-opens 0
-a session through the second group; attach 1 2;; ATTACHED 0
-its power on; send 0 00;; CHECK 06 29 00
-the states; send 0 A3 0A 00000000 000000FF;; GOOD 00 00 00 18 01 0F 00 01 00 00 00 01 00 00 00 01 80 0F 00 02 00 00 00 01 00 00 00 02
-it writes; send 0 2A 00 00000001 00 0001; 512*5A; GOOD
-written 1 5A
-"#
-}
-
 #[test]
 fn access_states_change(rt: HostRuntime) {
     run(&rt, rt.alloc(), two_sessions(), rows());
-    run(&rt, rt.alloc(), "", preferred());
 }

@@ -1,5 +1,5 @@
 //! Persistent reservations: who registers, who is fenced, who hears of it (SPC-4, 5.13, 6.15 and 6.16).
-use crate::run::{play, run};
+use crate::run::run;
 
 // Four sessions that were told of their power on.
 fn four() -> &'static str {
@@ -120,26 +120,19 @@ written 1 5A
 "#
 }
 
-// A session registers 11h, and another one 22h.
-fn one_of_11() -> &'static str {
+// Each session is registered by three entries.
+fn many() -> &'static str {
     r#"
-a session; attach N 1;; ATTACHED 3N
-its power on; send N 00;; CHECK 06 29 00
-it registers; send N 5F 00 00 0000 00000018; 15*00 11 8*00; GOOD
-"#
-}
-
-fn one_of_22() -> &'static str {
-    r#"
+# The first has key 11h, 63 others have 22h, and there is no room for a 65th registrant. The first preempts the others.
+64 registrants
+a session; attach 0 1;; ATTACHED 0
+its power on; send 0 00;; CHECK 06 29 00
+it registers; send 0 5F 00 00 0000 00000018; 15*00 11 8*00; GOOD
+numbers 1 64
 a session; attach N 1;; ATTACHED 3N
 its power on; send N 00;; CHECK 06 29 00
 it registers; send N 5F 00 00 0000 00000018; 15*00 22 8*00; GOOD
-"#
-}
-
-// Behind 64 sessions that are registered, each by three entries: there is no room for a 65th registrant.
-fn full() -> &'static str {
-    r#"
+numbers 0 1
 the last session ends, and stays registered; detach 63;; DONE
 a new nexus attaches; attach 64 1;; ATTACHED 193
 its power on; send 64 00;; CHECK 06 29 00
@@ -148,13 +141,19 @@ the first by every port; send 0 5F 06 00 0000 00000018; 15*00 11 4*00 04 3*00; C
 64 changes, and as many keys; send 0 5E 00 0000000000 0008;; GOOD 00 00 00 40 00 00 02 00
 the first preempts; send 0 5F 04 05 0000 00000018; 7*00 11 7*00 22 8*00; GOOD
 its key alone; send 0 5E 00 0000000000 00FF;; GOOD 00 00 00 41 00 00 00 08 7*00 11
-"#
-}
+numbers 1 63
+another hears of it; send N 00;; CHECK 06 2A 05
 
-// Behind 62 sessions that are registered: both nexuses of a port have room, and both of one more have none. The first is registered
-// by one of its own, so it has room.
-fn room() -> &'static str {
-    r#"
+# Both nexuses of a port have room, and both of one more have none. The first is registered by one of its own, so it has room.
+62 registrants
+a session; attach 0 1;; ATTACHED 0
+its power on; send 0 00;; CHECK 06 29 00
+it registers; send 0 5F 00 00 0000 00000018; 15*00 11 8*00; GOOD
+numbers 1 62
+a session; attach N 1;; ATTACHED 3N
+its power on; send N 00;; CHECK 06 29 00
+it registers; send N 5F 00 00 0000 00000018; 15*00 22 8*00; GOOD
+numbers 0 1
 a port attaches; attach 62 1;; ATTACHED 186
 its power on; send 62 00;; CHECK 06 29 00
 it registers by every port; send 62 5F 00 00 0000 00000018; 15*00 33 4*00 04 3*00; GOOD
@@ -170,23 +169,8 @@ the first by every port; send 0 5F 06 00 0000 00000018; 15*00 11 4*00 04 3*00; G
 "#
 }
 
-fn hears() -> &'static str {
-    r#"
-another hears of it; send N 00;; CHECK 06 2A 05
-"#
-}
-
 #[test]
 fn who_is_fenced(rt: HostRuntime) {
     run(&rt, rt.alloc(), four(), rows());
-    // The first has key 11h, 63 others have 22h, and no other can register. The first preempts these.
-    let parts = [
-        (one_of_11(), 0, 1),
-        (one_of_22(), 1, 64),
-        (full(), 0, 1),
-        (hears(), 1, 63),
-    ];
-    play(&rt, rt.alloc(), "64 registrants", &parts);
-    let parts = [(one_of_11(), 0, 1), (one_of_22(), 1, 62), (room(), 0, 1)];
-    play(&rt, rt.alloc(), "62 registrants", &parts);
+    run(&rt, rt.alloc(), "", many());
 }

@@ -1,7 +1,5 @@
 //! What of the registrations outlasts a loss of power (SPC-4, 5.13.5).
-use crate::run::{ONE_SESSION, play, run};
-use std::alloc::Global;
-use std::process::Abort;
+use crate::run::{ONE_SESSION, run};
 
 // In a list of PERSISTENT RESERVE OUT, the byte 01h behind both keys and four bytes is APTPL.
 fn rows() -> &'static str {
@@ -85,65 +83,54 @@ it attaches; attach 1 1;; ATTACHED 0
 the power on; send 0 00;; CHECK 06 29 00
 nobody is registered; send 0 5E 00 0000000000 00FF;; GOOD 8*00
 written 1 5A
-"#
-}
 
-// The registration could not be saved, and nobody is registered.
-fn fails() -> &'static str {
-    r#"
+# A save that fails at each of its calls, and one that is done: the root is written in the last call but one.
+a save behind so many calls
+opens 0
+saves N
+each 5
 it registers, to last; send 0 5F 00 00 0000 00000018; 15*00 11 4*00 01 3*00; CHECK 70 00 04 00 00 00 00 0A 00 00 00 00 44 00 00 00 00 00
-nobody is registered; send 0 5E 00 0000000000 00FF;; GOOD 8*00
-what the unit says; send 0 5E 02 0000000000 00FF;; GOOD 00 08 05 80 EA 01 00 00
-"#
-}
-
-fn succeeds() -> &'static str {
-    r#"
-it registers, to last; send 0 5F 00 00 0000 00000018; 15*00 11 4*00 01 3*00; GOOD
-it is registered; send 0 5E 00 0000000000 00FF;; GOOD 00 00 00 01 00 00 00 08 7*00 11
-"#
-}
-
-// A restart finds no registrant, or that one.
-fn finds_nothing() -> &'static str {
-    r#"
+  | CHECK 70 00 04 00 00 00 00 0A 00 00 00 00 44 00 00 00 00 00
+  | CHECK 70 00 04 00 00 00 00 0A 00 00 00 00 44 00 00 00 00 00
+  | CHECK 70 00 04 00 00 00 00 0A 00 00 00 00 44 00 00 00 00 00 | GOOD
+who is registered; send 0 5E 00 0000000000 00FF;; GOOD 8*00 | GOOD 8*00 | GOOD 8*00 | GOOD 8*00
+  | GOOD 00 00 00 01 00 00 00 08 7*00 11
+what the unit says; send 0 5E 02 0000000000 00FF;; GOOD 00 08 05 80 EA 01 00 00 | GOOD 00 08 05 80 EA 01 00 00
+  | GOOD 00 08 05 80 EA 01 00 00 | GOOD 00 08 05 80 EA 01 00 00 | GOOD 00 08 05 81 EA 01 00 00
 the power is lost; restart;; DONE
 it attaches; attach 1 1;; ATTACHED 0
 the power on; send 0 00;; CHECK 06 29 00
-nobody is registered; send 0 5E 00 0000000000 00FF;; GOOD 8*00
+who is registered then; send 0 5E 00 0000000000 00FF;; GOOD 8*00 | GOOD 8*00 | GOOD 8*00 | GOOD 7*00 08 7*00 11
+  | GOOD 7*00 08 7*00 11
 "#
 }
 
-fn finds_it() -> &'static str {
+// 64 registrants with the key 5A5A5A5A5A5A5A5Ah, to last. All of them are found behind a restart, and hold a reservation.
+fn many() -> &'static str {
     r#"
-the power is lost; restart;; DONE
-it attaches; attach 1 1;; ATTACHED 0
-the power on; send 0 00;; CHECK 06 29 00
-its key; send 0 5E 00 0000000000 00FF;; GOOD 7*00 08 7*00 11
-"#
-}
-
-// 64 ports register the key 5A5A5A5A5A5A5A5Ah, to last, each through one group.
-fn one_of_64() -> &'static str {
-    r#"
+64 ports, each through one group
+opens 0
+saves always
+numbers 0 64
 a session; attach N 1;; ATTACHED 3N
 its power on; send N 00;; CHECK 06 29 00
 it registers, to last; send N 5F 00 00 0000 00000018; 8*00 8*5A 4*00 01 3*00; GOOD
-"#
-}
+numbers 0 1
+the first reserves; send 0 5F 01 08 0000 00000018; 8*5A 16*00; GOOD
+the power is lost; restart;; DONE
+it attaches; attach 0 1;; ATTACHED 0
+the power on; send 0 00;; CHECK 06 29 00
+64 keys; send 0 5E 00 0000000000 0208;; GOOD 6*00 02 00 512*5A
+their reservation; send 0 5E 01 0000000000 00FF;; GOOD 7*00 10 13*00 08 00 00
 
-// 32 ports, each through both groups.
-fn one_of_32() -> &'static str {
-    r#"
+32 ports, each through both groups
+opens 0
+saves always
+numbers 0 32
 a session; attach N 1;; ATTACHED 3N
 its power on; send N 00;; CHECK 06 29 00
 it registers by every port, to last; send N 5F 00 00 0000 00000018; 8*00 8*5A 4*00 05 3*00; GOOD
-"#
-}
-
-// All of them are found, and hold a reservation.
-fn finds_all() -> &'static str {
-    r#"
+numbers 0 1
 the first reserves; send 0 5F 01 08 0000 00000018; 8*5A 16*00; GOOD
 the power is lost; restart;; DONE
 it attaches; attach 0 1;; ATTACHED 0
@@ -153,39 +140,8 @@ their reservation; send 0 5E 01 0000000000 00FF;; GOOD 7*00 10 13*00 08 00 00
 "#
 }
 
-/// How 64 registrants come to be.
-// All that registered is there behind a restart.
-fn all_last(rt: &impl Abort, alloc: Global, registers: &str, ports: u64) {
-    let parts = [(registers, 0, ports), (finds_all(), 0, 1)];
-    let script = "64 registrants\nopens 0\nsaves always";
-    play(rt, alloc, script, &parts);
-}
-
 #[test]
 fn registrations_last(rt: HostRuntime) {
     run(&rt, rt.alloc(), ONE_SESSION, rows());
-    all_last(&rt, rt.alloc(), one_of_64(), 64);
-    all_last(&rt, rt.alloc(), one_of_32(), 32);
-}
-
-// A save ends so, and that is what a restart finds.
-fn saves<'x>(rt: &impl Abort, alloc: Global, script: &str, ends: &'x str, finds: &'x str) {
-    let parts = [(ONE_SESSION, 0, 1), (ends, 0, 1), (finds, 0, 1)];
-    play(rt, alloc, script, &parts);
-}
-
-// A save that fails at each of its calls, and one that is done: the root is written in the last call but one.
-#[test]
-fn a_save_fails_at_each_call(rt: HostRuntime) {
-    for script in [
-        "fails at once\nopens 0\nsaves 0",
-        "fails behind 1 call\nopens 0\nsaves 1",
-        "fails behind 2 calls\nopens 0\nsaves 2",
-    ] {
-        saves(&rt, rt.alloc(), script, fails(), finds_nothing());
-    }
-    let script = "fails behind 3 calls\nopens 0\nsaves 3";
-    saves(&rt, rt.alloc(), script, fails(), finds_it());
-    let script = "is done\nopens 0\nsaves 4";
-    saves(&rt, rt.alloc(), script, succeeds(), finds_it());
+    run(&rt, rt.alloc(), "", many());
 }

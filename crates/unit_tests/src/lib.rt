@@ -10,6 +10,8 @@ mod bench;
 #[cfg(test)]
 mod device;
 #[cfg(test)]
+mod ended;
+#[cfg(test)]
 mod failing;
 #[cfg(test)]
 mod fencing;

@@ -1,6 +1,6 @@
 //! The registration file over its public calls.
 
 mod bytes;
-mod files;
+pub mod files;
 mod refusals;
 mod saves;

@@ -11,7 +11,9 @@
 //! A table is one text, with an empty line between two scripts. A line that begins with `#` is a comment, and one that begins with
 //! a blank goes on with the line before. The first line of a script is its name. A line with semicolons is a row: its name,
 //! a call, its data, as `bytes_of` spells them, and how it is to end. A row that is played for several numbers has N in their place,
-//! or 3N for three times as much, and where it ends differently it has a bar between the ends for 0, 1, 2 and so on.
+//! or 3N for three times as much, and where its data or its end differ it has a bar between those for 0, 1, 2 and so on.
+//! `each 5`: the script is played five times, for the numbers from 0 to 4. The rows behind `numbers 1 64` are played for the numbers
+//! from 1 to 63, one after the other; those behind `numbers N`, and in front of all such lines, for the script's own.
 //!
 //! - `attach 1 2` attaches the port of ISID 1 through group 2. Sessions go by the order in which they were attached, from 0 on.
 //!   `detach 0` and `reset 0` are calls of the first; `move` moves the unit as a list says, and `flush` flushes it.
@@ -24,11 +26,12 @@
 //!   reset done, or the unit flushed, or `FAILED`. A move ends with what became of the states and, where another group owns
 //!   the unit, which: `NEITHER-CHANGES`, `BOTH-CHANGE 2`; or with why there is none: `BAD-LENGTH`, `BAD-LIST`, `NOT-OPENED`.
 //!
-//! The other lines say what the unit has (`Setup`): `unit 1`, `blocks 2048`, `calls 1`, `lands 2`, `opens 0`, `saves 8`, `alone 3`.
+//! The other lines say what the unit has (`Setup`): `unit 1`, `blocks 2048`, `calls 1`, `lands 2`, `opens 0`, `saves N`, `alone 3`.
 //! Where they say nothing it is unit 0, of 16 blocks, of which no call and no open fails, and whose registration file makes no
 //! call. What was written last is there behind a restart.
 //! `written 1 5A`: afterwards this block is of this byte; all others are of zeros.
-use crate::bench::Setup;
+use crate::bench::{Faults, NO_FAULTS, Setup};
+use crate::device::Failing;
 use crash_blocks::Pick;
 use scsi_types::Place;
 use std::alloc::Global;
@@ -57,14 +60,17 @@ impl<'a> Row<'a> {
 
     /// The data of the call.
     pub fn data(&self, rt: &impl Abort, alloc: Global) -> Vec<u8> {
-        spelled(rt, alloc, part(self.text, 2))
+        spelled(rt, alloc, self.own(part(self.text, 2)))
     }
 
     /// How it is to end: a word, and what comes behind.
     pub fn end(&self) -> (&'a str, &'a str) {
-        let ends = part(self.text, 3);
-        let end = ends.split('|').nth(self.n as usize).unwrap_or(ends);
-        words_of(end)
+        words_of(self.own(part(self.text, 3)))
+    }
+
+    // What stands for its number between bars, or all where there are none.
+    fn own(&self, words: &'a str) -> &'a str {
+        words.split('|').nth(self.n as usize).unwrap_or(words)
     }
 
     /// The number that a word says.
@@ -72,7 +78,8 @@ impl<'a> Row<'a> {
         match word {
             "N" => self.n,
             "3N" => self.n.wrapping_mul(3),
-            _ => number_of(rt, word),
+            "always" => u64::MAX,
+            _ => word.parse().expect(rt, self.text),
         }
     }
 }
@@ -93,45 +100,38 @@ pub fn spelled(rt: &impl Abort, alloc: Global, words: &str) -> Vec<u8> {
     bytes_of(alloc, TEXTS, words).expect(rt, words)
 }
 
-/// The CDB of these digits, with zeros behind.
-pub fn cdb_of(rt: &impl Abort, alloc: Global, digits: &str) -> [u8; 16] {
+/// The CDB of these digits, with this byte at each place behind.
+pub fn cdb_of(rt: &impl Abort, alloc: Global, digits: &str, behind: u8) -> [u8; 16] {
     let bytes = spelled(rt, alloc, digits);
-    let mut cdb = [0; 16];
-    for (place, byte) in cdb.iter_mut().zip(bytes.iter()) {
-        *place = *byte;
-    }
+    let mut cdb = [behind; 16];
+    let len = bytes.len().min(16);
+    cdb[..len].copy_from_slice(&bytes[..len]);
     cdb
 }
 
-// The number of these decimal digits.
-fn number_of(rt: &impl Abort, word: &str) -> u64 {
-    if word == "always" {
-        return u64::MAX;
-    }
-    word.parse::<u64>().expect(rt, word)
-}
-
-/// The unit that the lines of a script say.
-pub fn setup_of<'a>(rt: &impl Abort, lines: &[&'a str]) -> Setup<'a> {
+/// The unit that the lines of a script say, where it is played for this number.
+pub fn setup_of<'a>(rt: &impl Abort, lines: &[&'a str], n: u64) -> Setup<'a> {
     let mut setup = Setup {
         script: lines.first().copied().unwrap_or(""),
+        times: 1,
         place: Place {
             unit: 0,
             units: 2,
             array: 1,
         },
         blocks: 16,
-        calls: u64::MAX,
-        lands: 0,
-        opens: u64::MAX,
-        saves: 0,
-        save_lands: 0,
-        alone: u64::MAX,
+        faults: Faults {
+            file: Failing {
+                behind: 0,
+                ..NO_FAULTS.file
+            },
+            ..NO_FAULTS
+        },
         pick: Pick::Newest,
     };
     for line in lines.get(1..).unwrap_or(&[]) {
         if !is_row(line) {
-            take(rt, &mut setup, line);
+            take(rt, &mut setup, &Row { text: *line, n });
         }
     }
     setup
@@ -143,18 +143,19 @@ pub fn is_row(line: &str) -> bool {
 }
 
 // Takes what a line says of the unit.
-fn take(rt: &impl Abort, setup: &mut Setup, line: &str) {
-    let (word, rest) = line.split_once(' ').unwrap_or((line, ""));
+fn take(rt: &impl Abort, setup: &mut Setup, line: &Row) {
+    let (word, rest) = words_of(line.text);
     match word {
-        "unit" => setup.place.unit = rest.parse().expect(rt, line),
-        "blocks" => setup.blocks = rest.parse().expect(rt, line),
-        "calls" => setup.calls = number_of(rt, rest),
-        "lands" => setup.lands = rest.parse().expect(rt, line),
-        "opens" => setup.opens = number_of(rt, rest),
-        "saves" => setup.saves = number_of(rt, rest),
-        "alone" => setup.alone = number_of(rt, rest),
-        "written" => {}
-        _ => panic!(rt; "{line}"),
+        "unit" => setup.place.unit = rest.parse().expect(rt, line.text),
+        "blocks" => setup.blocks = rest.parse().expect(rt, line.text),
+        "calls" => setup.faults.disk.behind = line.number(rt, rest),
+        "lands" => setup.faults.disk.lands = rest.parse().expect(rt, line.text),
+        "opens" => setup.faults.opens = line.number(rt, rest),
+        "saves" => setup.faults.file.behind = line.number(rt, rest),
+        "alone" => setup.faults.file.alone = line.number(rt, rest),
+        "each" => setup.times = line.number(rt, rest),
+        "written" | "numbers" | "loses" => {}
+        _ => panic!(rt; "{}", line.text),
     }
 }
 

@@ -1,4 +1,4 @@
 //! Tests of what stands below a unit: what CDBs ask for, registrations, and calls that may want memory.
 mod ample;
-mod registrations;
+pub mod registrations;
 mod scsi;

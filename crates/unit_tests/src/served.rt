@@ -1,22 +1,11 @@
 //! A unit with the sessions of a script.
+use crate::ended::Ended;
 use crate::rows::{Row, cdb_of};
 use crate::unit::AnyUnit;
-use access_states::Change;
-use block_file::DeviceFailed;
 use scsi_types::{Group, decode};
 use std::alloc::Global;
 use std::process::Abort;
-use unit_state::{AttachFault, Gone, MoveFault, SessionId, StepEnd};
-
-/// What a call ended with.
-#[derive(Debug, Drop)]
-pub enum Ended {
-    Step(StepEnd),
-    Attach(Result<SessionId, AttachFault>),
-    Session(Result<(), Gone>),
-    Move(Result<Change, MoveFault>),
-    Flush(Result<(), DeviceFailed>),
-}
+use unit_state::SessionId;
 
 /// A session that was attached: its id, its group, and the serial of its next command.
 #[derive(Clone, Copy)]
@@ -52,25 +41,16 @@ impl<U: AnyUnit> Served<U> {
     pub fn call(&mut self, rt: &impl Abort, alloc: Global, row: &Row) -> Ended {
         let (word, rest) = row.call();
         match word {
-            "attach" => Ended::Attach(self.attach(rt, alloc, row, rest)),
-            "detach" | "reset" => Ended::Session(self.end(rt, row, word, rest)),
-            "move" => Ended::Move(self.unit.move_to(&row.data(rt, alloc))),
-            "flush" => Ended::Flush(self.unit.flush()),
-            "send" | "forward" => {
-                Ended::Step(self.send(rt, alloc, row, rest, word == "forward"))
+            "attach" => self.attach(rt, alloc, row, rest),
+            "detach" | "reset" => {
+                let id = self.session(rt, row, rest).id;
+                self.unit.end(alloc, id, word == "detach")
             }
-            "serial" => Ended::Step(self.serial(rt, alloc, row, rest)),
+            "move" => self.unit.move_to(alloc, &row.data(rt, alloc)),
+            "flush" => self.unit.flush(alloc),
+            "send" | "forward" => self.send(rt, alloc, row, rest, word == "forward"),
+            "serial" => self.serial(rt, alloc, row, rest),
             _ => panic!(rt; "{}: no call", row.text),
-        }
-    }
-
-    // Detaches a session, or resets the unit by it.
-    fn end(&mut self, rt: &impl Abort, row: &Row, word: &str, place: &str) -> Result<(), Gone> {
-        let id = self.session(rt, row, place).id;
-        if word == "detach" {
-            self.unit.detach(id)
-        } else {
-            self.unit.reset(id)
         }
     }
 
@@ -81,18 +61,12 @@ impl<U: AnyUnit> Served<U> {
     }
 
     // Attaches the port of an ISID, `attach 1 2` by the second group.
-    fn attach(
-        &mut self,
-        rt: &impl Abort,
-        alloc: Global,
-        row: &Row,
-        words: &str,
-    ) -> Result<SessionId, AttachFault> {
+    fn attach(&mut self, rt: &impl Abort, alloc: Global, row: &Row, words: &str) -> Ended {
         let (isid, group) = words.split_once(' ').expect(rt, row.text);
-        let isid = row.number(rt, isid);
-        let group = if group == "1" { Group::One } else { Group::Two };
-        let end = self.unit.attach(rt, alloc, isid, group);
-        if let Ok(id) = end {
+        let group = group_of(row.number(rt, group));
+        let end = self.unit.attach(rt, alloc, row.number(rt, isid), group);
+        if end.word == "ATTACHED" {
+            let id = end.number;
             let session = Attached { id, group, next: 1 };
             self.sessions.push(session).expect(rt, "memory");
         }
@@ -108,18 +82,14 @@ impl<U: AnyUnit> Served<U> {
         row: &Row,
         words: &str,
         forwards: bool,
-    ) -> StepEnd {
+    ) -> Ended {
         let (place, cdb) = words.split_once(' ').expect(rt, row.text);
         let Attached { id, group, next } = self.session(rt, row, place);
-        let cdb = cdb_of(rt, alloc, cdb);
-        let bytes = row.data(rt, alloc);
-        let end = match self.unit.step(alloc, id, next, group, decode(&cdb), &bytes) {
-            StepEnd::Moved(owner) if forwards => {
-                self.unit.step(alloc, id, next, owner, decode(&cdb), &bytes)
-            }
-            end => end,
-        };
-        if let StepEnd::Reply(_) = end {
+        let mut end = self.step(rt, alloc, row, (id, next, group), cdb);
+        if forwards && end.word == "MOVED" {
+            end = self.step(rt, alloc, row, (id, next, group_of(end.number)), cdb);
+        }
+        if end.word != "MOVED" && end.word != "GONE" {
             self.pass(row.number(rt, place) as usize);
         }
         end
@@ -133,12 +103,29 @@ impl<U: AnyUnit> Served<U> {
     }
 
     // A command of the session of an id with a serial, `serial 0 2 25`, by the first group.
-    fn serial(&mut self, rt: &impl Abort, alloc: Global, row: &Row, words: &str) -> StepEnd {
+    fn serial(&mut self, rt: &impl Abort, alloc: Global, row: &Row, words: &str) -> Ended {
         let (id, rest) = words.split_once(' ').expect(rt, row.text);
         let (serial, cdb) = rest.split_once(' ').expect(rt, row.text);
         let (id, serial) = (row.number(rt, id), row.number(rt, serial));
-        let asked = decode(&cdb_of(rt, alloc, cdb));
-        let bytes = row.data(rt, alloc);
-        self.unit.step(alloc, id, serial, Group::One, asked, &bytes)
+        self.step(rt, alloc, row, (id, serial, Group::One), cdb)
     }
+
+    // The command of a CDB, of the session of an id with a serial, by a group.
+    fn step(
+        &mut self,
+        rt: &impl Abort,
+        alloc: Global,
+        row: &Row,
+        by: (SessionId, u64, Group),
+        cdb: &str,
+    ) -> Ended {
+        let asked = decode(&cdb_of(rt, alloc, cdb, 0));
+        let bytes = row.data(rt, alloc);
+        self.unit.step(rt, alloc, by, asked, &bytes)
+    }
+}
+
+// The group of a number.
+fn group_of(number: u64) -> Group {
+    if number == 1 { Group::One } else { Group::Two }
 }

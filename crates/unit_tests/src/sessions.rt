@@ -1,5 +1,5 @@
 //! Sessions, their serials, and the group that owns a unit.
-use crate::run::{play, run};
+use crate::run::run;
 
 fn rows() -> &'static str {
     r#"
@@ -56,18 +56,11 @@ its read; send 3 28 00 00000005 00 0001;; GOOD 512*11
 the second group's session; forward 1 00;; CHECK 06 29 00
 the other port's session; send 2 00;; CHECK 06 29 00
 written 5 11
-"#
-}
 
-fn one_of_64() -> &'static str {
-    r#"
+64 sessions of as many nexuses
+numbers 0 64
 one of 64; attach N 1;; ATTACHED N
-"#
-}
-
-// Behind 64 sessions of as many nexuses.
-fn full() -> &'static str {
-    r#"
+numbers 0 1
 a new nexus; attach 64 1;; TOO-MANY
 a port that is there, through the other group; attach 5 2;; TOO-MANY
 a nexus that is there; attach 5 1;; ATTACHED 64
@@ -84,6 +77,4 @@ its command; send 65 00;; CHECK 06 29 00
 #[test]
 fn sessions_and_their_commands(rt: HostRuntime) {
     run(&rt, rt.alloc(), "", rows());
-    let parts = [(one_of_64(), 0, 64), (full(), 0, 1)];
-    play(&rt, rt.alloc(), "64 sessions", &parts);
 }

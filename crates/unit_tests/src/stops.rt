@@ -1,7 +1,6 @@
 //! A power loss at each call of each device of a unit: what a restart finds then.
 
 mod calls;
-mod examples;
 mod power;
 mod script;
 mod stops;

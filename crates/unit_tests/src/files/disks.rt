@@ -8,15 +8,20 @@ use std::test::Fail;
 #[test]
 fn what_is_written_is_there_after_a_restart(rt: HostRuntime) -> Result<(), Fail> {
     let path = made(&rt, "restart", 4 * 512)?;
-    are_written(rt, path.as_str())?;
-    are_there(rt, path.as_str())?;
+    in_one_run(rt, path.as_str(), true)?;
+    in_one_run(rt, path.as_str(), false)?;
     let bytes = fs::read(&rt, path.as_str())?;
     lie_in_turn(bytes.as_slice())
 }
 
-fn are_written(rt: HostRuntime, path: &str) -> Result<(), Fail> {
+// Opens the disk, and writes the blocks, or reads them.
+fn in_one_run(rt: HostRuntime, path: &str, is_first: bool) -> Result<(), Fail> {
     let mut disk = opened(rt, path)?;
-    flush_three(&mut disk.blocks)
+    if is_first {
+        flush_three(&mut disk.blocks)
+    } else {
+        read_them(&mut disk.blocks)
+    }
 }
 
 /// Writes three blocks of a device of four, by two runs.
@@ -27,15 +32,10 @@ pub fn write_three<B: Blocks>(blocks: &mut B) -> Result<(), Fail> {
     want(writes(blocks, 3, &[9]), "a write of the last")
 }
 
-/// Writes and flushes them.
-pub fn flush_three<B: Blocks>(blocks: &mut B) -> Result<(), Fail> {
+// Writes and flushes them.
+fn flush_three<B: Blocks>(blocks: &mut B) -> Result<(), Fail> {
     write_three(blocks)?;
     want(blocks.flush().is_ok(), "a flush")
-}
-
-fn are_there(rt: HostRuntime, path: &str) -> Result<(), Fail> {
-    let mut disk = opened(rt, path)?;
-    read_them(&mut disk.blocks)
 }
 
 /// Reads them, by two runs.

@@ -5,7 +5,7 @@ ghost use Rattle.block_file.specs.Cut.{run_of};
 ghost use Rattle.block_file.specs.Disk.{block_at};
 ghost use Rattle.disk_files.specs.Backing.{put};
 
-use crate::files::disks::{flush_three, lie_in_turn, read_them, write_three};
+use crate::files::disks::{lie_in_turn, read_them, write_three};
 use crate::files::runs::{device_of, want};
 use block_file::Blocks;
 use disk_files::{BackingFile, FileBlocks};
@@ -106,43 +106,34 @@ fn lay(bytes: &mut Vec<u8>, from: usize, part: &[u8])
     bytes[from..from + part.len()].copy_from_slice(part);
 }
 
-// The device of a file of so many zero blocks.
-fn device(alloc: Global, blocks: usize) -> Result<FileBlocks<MemFile>, Fail> {
-    device_of(MemFile::new(alloc, blocks.saturating_mul(512))?)
-}
-
 /// What its contracts say of the blocks and of a crash is said of this one.
 fn it_claims()
     ensures { IsTrue (⟦<FileBlocks<MemFile> as Blocks>⟧.claims) }
 {}
 
-#[test]
-fn blocks_lie_at_their_places(rt: HostRuntime) -> Result<(), Fail> {
-    it_claims();
-    let mut blocks = device(rt.alloc(), 4)?;
-    write_and_read(&mut blocks)?;
-    lie_in_turn(blocks.into_file().bytes())
+// The file of a device of four blocks that were written, and flushed or not.
+fn written(alloc: Global, flushes: bool) -> Result<MemFile, Fail> {
+    let mut blocks = device_of(MemFile::new(alloc, 2048)?)?;
+    write_them(&mut blocks, flushes)?;
+    Ok(blocks.into_file())
 }
 
-fn write_and_read<B: Blocks>(blocks: &mut B) -> Result<(), Fail> {
+fn write_them<B: Blocks>(blocks: &mut B, flushes: bool) -> Result<(), Fail> {
     write_three(blocks)?;
-    read_them(blocks)
+    read_them(blocks)?;
+    want(!flushes || blocks.flush().is_ok(), "a flush")
 }
 
+// What was not flushed is taken back by a crash, which leaves zeros, and nothing else.
 #[test]
-fn a_crash_takes_back_what_was_not_flushed(rt: HostRuntime) -> Result<(), Fail> {
-    let mut blocks = device(rt.alloc(), 4)?;
-    write_three(&mut blocks)?;
-    let zeros = blocks.into_file().crash();
-    want(
-        zeros.bytes() == [0; 2048].as_slice(),
-        "zeros behind a crash",
-    )
+fn what_a_crash_leaves(rt: HostRuntime) -> Result<(), Fail> {
+    it_claims();
+    let file = written(rt.alloc(), false)?;
+    lie_in_turn(file.bytes())?;
+    are_zeros(file.crash().bytes())?;
+    lie_in_turn(written(rt.alloc(), true)?.crash().bytes())
 }
 
-#[test]
-fn a_crash_leaves_what_was_flushed(rt: HostRuntime) -> Result<(), Fail> {
-    let mut blocks = device(rt.alloc(), 4)?;
-    flush_three(&mut blocks)?;
-    lie_in_turn(blocks.into_file().crash().bytes())
+fn are_zeros(bytes: &[u8]) -> Result<(), Fail> {
+    want(bytes == [0; 2048].as_slice(), "zeros behind a crash")
 }

@@ -1,41 +1,33 @@
 //! The registration file beside a disk.
 use crate::files::runs::{beside, disk, want};
-use aptpl_file::{OpenFault, RegFile};
-use disk_files::{FileBlocks, FileFault, RegistrationsFault, open_registrations};
-use reservations::{PrOut, Record, Registry};
-use scsi_types::{Group, NoMemory, PortName, PrOutAction};
-use std::alloc::Global;
+use crate::reg_file::files::record_after;
+use aptpl_file::OpenFault;
+use disk_files::{FileFault, RegistrationsFault, open_registrations};
+use reservations::Record;
 use std::fs;
-use std::fs::File;
 use std::test::Fail;
-
-/// The record of one nexus with this key.
-fn record_of(alloc: Global, key: u64) -> Result<Record, NoMemory> {
-    let mut registry = Registry::new(alloc)?;
-    let name = Vec::from_slice(alloc, b"iqn.2000-01.test:host")?;
-    let Some(port) = PortName::new(name, 0x4000_0137_0000) else {
-        unreachable!()
-    };
-    let asked = PrOut {
-        action: PrOutAction::Register,
-        scope: 0,
-        kind: 0,
-        key: 0,
-        sakey: key,
-        spec_i_pt: false,
-        all_tg_pt: false,
-        aptpl: true,
-    };
-    let _ = registry.out(&port, Group::One, asked);
-    registry.record()
-}
 
 #[test]
 fn a_saved_record_is_there_after_a_restart(rt: HostRuntime) -> Result<(), Fail> {
     let path = disk(&rt, "saved")?;
-    is_saved(rt, path.as_str(), None, 0x11)?;
-    is_saved(rt, path.as_str(), Some(0x11), 0x22)?;
-    is_saved(rt, path.as_str(), Some(0x22), 0x33)?;
+    is_saved(
+        rt,
+        path.as_str(),
+        None,
+        &record_after(&rt, rt.alloc(), "A Register 0 0 11 APTPL"),
+    )?;
+    is_saved(
+        rt,
+        path.as_str(),
+        Some(0x11),
+        &record_after(&rt, rt.alloc(), "A Register 0 0 22 APTPL"),
+    )?;
+    is_saved(
+        rt,
+        path.as_str(),
+        Some(0x22),
+        &record_after(&rt, rt.alloc(), "A Register 0 0 33 APTPL"),
+    )?;
     want(
         length(rt, path.as_str(), ".reg")? == Some(67 * 512),
         "the file",
@@ -56,12 +48,12 @@ fn length(rt: HostRuntime, path: &str, end: &str) -> Result<Option<usize>, Fail>
 }
 
 // The file of a disk has the record of this key, or nothing, and then this one is saved.
-fn is_saved(rt: HostRuntime, path: &str, found: Option<u64>, key: u64) -> Result<(), Fail> {
-    let Ok((mut file, record)) = open_registrations(&rt, rt.alloc(), path, None) else {
+fn is_saved(rt: HostRuntime, path: &str, found: Option<u64>, record: &Record) -> Result<(), Fail> {
+    let Ok((mut file, old)) = open_registrations(&rt, rt.alloc(), path, None) else {
         return Err("a registration file".into());
     };
-    is_found(&record, found)?;
-    saves(rt.alloc(), &mut file, key)
+    is_found(&old, found)?;
+    want(file.save(&record.lasting()).is_ok(), "a save")
 }
 
 fn is_found(record: &Record, found: Option<u64>) -> Result<(), Fail> {
@@ -71,11 +63,6 @@ fn is_found(record: &Record, found: Option<u64>) -> Result<(), Fail> {
         None => None,
     };
     want(key == found, "the key")
-}
-
-fn saves(alloc: Global, file: &mut RegFile<FileBlocks<File>>, key: u64) -> Result<(), Fail> {
-    let record = record_of(alloc, key)?;
-    want(file.save(&record.lasting()).is_ok(), "a save")
 }
 
 #[test]
@@ -99,7 +86,10 @@ fn put(rt: HostRuntime, path: &str, end: &str, bytes: &[u8]) -> Result<(), Fail>
 
 // Why the registration file of a disk is not opened.
 fn fault(rt: HostRuntime, path: &str) -> Option<RegistrationsFault> {
-    open_registrations(&rt, rt.alloc(), path, None).err()
+    match open_registrations(&rt, rt.alloc(), path, None) {
+        Ok((_file, _record)) => None,
+        Err(fault) => Some(fault),
+    }
 }
 
 #[test]

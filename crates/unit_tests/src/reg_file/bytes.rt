@@ -1,210 +1,146 @@
 //! The bytes of a file, as they stand in the format.
-use crate::reg_file::files::{Asked, Sent, block_of, formatted, record_after};
+use crate::reg_file::files::{block_of, formatted, put};
+use crate::rules::registrations::run::out;
+use aptpl_file::{FILE_BLOCKS, RegFile};
 use block_file::{Blocks, MemBlocks};
-use scsi_types::Group;
+use reservations::Registry;
 use std::alloc::Global;
 use std::process::Abort;
+use test_streams::lines_of;
 
-/// Requests of `iqn.2000-01.test:` and a letter, ISID 400001370000h, each of which is saved, and how blocks of the file
-/// begin then. The rest of a block is zeros, and so is each block that is not named.
-struct Row {
-    name: &'static str,
-    requests: &'static [Sent],
-    blocks: &'static [Part],
+// Requests, each of which is saved, and how blocks of the file begin then: a block, a place in it, and bytes that stand there. The
+// rest of a block is zeros, and so is each block that is not named.
+fn rows() -> &'static str {
+    r#"
+a formatted file
+0 0 "ALUAREG1" 0002 00
+1 0 "ALUASLT1" 00 00 00 FF
+
+REGISTER of 11h with APTPL goes to the second slot
+> A_LONG Register 0 0 11 APTPL
+0 0 "ALUAREG1" 0002 01
+1 0 "ALUASLT1" 00 00 00 FF
+34 0 "ALUASLT1" 01 01 00 FF
+35 0 0000000000000011 0001 400001370000 12 "iqn.2000-01.test:a"
+
+RESERVE of type 5 goes to the first slot again
+> A_LONG Register 0 0 11 APTPL
+> A_LONG Reserve 5 11 0 APTPL
+0 0 "ALUAREG1" 0002 00
+1 0 "ALUASLT1" 01 01 05 00 01
+2 0 0000000000000011 0001 400001370000 12 "iqn.2000-01.test:a"
+34 0 "ALUASLT1" 01 01 00 FF
+35 0 0000000000000011 0001 400001370000 12 "iqn.2000-01.test:a"
+
+ALL_TG_PT: one entry of both groups
+> A_LONG Register 0 0 11 ALL_TG_PT APTPL
+0 0 "ALUAREG1" 0002 01
+1 0 "ALUASLT1" 00 00 00 FF
+34 0 "ALUASLT1" 01 01 00 FF
+35 0 0000000000000011 0003 400001370000 12 "iqn.2000-01.test:a"
+
+both groups singly with one key: the same
+> A_LONG Register 0 0 11 APTPL
+> A_LONG_TWO Register 0 0 11 APTPL
+0 0 "ALUAREG1" 0002 00
+1 0 "ALUASLT1" 01 01 00 FF
+2 0 0000000000000011 0003 400001370000 12 "iqn.2000-01.test:a"
+34 0 "ALUASLT1" 01 01 00 FF
+35 0 0000000000000011 0001 400001370000 12 "iqn.2000-01.test:a"
+
+the holder through group 2 of an entry of both
+> A_LONG Register 0 0 11 ALL_TG_PT APTPL
+> A_LONG_TWO Reserve 5 11 0 APTPL
+0 0 "ALUAREG1" 0002 00
+1 0 "ALUASLT1" 01 01 05 00 02
+2 0 0000000000000011 0003 400001370000 12 "iqn.2000-01.test:a"
+34 0 "ALUASLT1" 01 01 00 FF
+35 0 0000000000000011 0003 400001370000 12 "iqn.2000-01.test:a"
+
+a holder behind an entry of both: the second entry
+> A_LONG Register 0 0 11 ALL_TG_PT APTPL
+> B_LONG_TWO Register 0 0 22 APTPL
+> B_LONG_TWO Reserve 1 22 0 APTPL
+0 0 "ALUAREG1" 0002 01
+1 0 "ALUASLT1" 01 02 00 FF
+2 0 0000000000000011 0003 400001370000 12 "iqn.2000-01.test:a"
+2 256 0000000000000022 0002 400001370000 12 "iqn.2000-01.test:b"
+34 0 "ALUASLT1" 01 02 01 01 02
+35 0 0000000000000011 0003 400001370000 12 "iqn.2000-01.test:a"
+35 256 0000000000000022 0002 400001370000 12 "iqn.2000-01.test:b"
+
+every registrant holds: no place and no group
+> A_LONG Register 0 0 11 ALL_TG_PT APTPL
+> B_LONG_TWO Register 0 0 22 APTPL
+> B_LONG_TWO Reserve 7 22 0 APTPL
+0 0 "ALUAREG1" 0002 01
+1 0 "ALUASLT1" 01 02 00 FF
+2 0 0000000000000011 0003 400001370000 12 "iqn.2000-01.test:a"
+2 256 0000000000000022 0002 400001370000 12 "iqn.2000-01.test:b"
+34 0 "ALUASLT1" 01 02 07 FF
+35 0 0000000000000011 0003 400001370000 12 "iqn.2000-01.test:a"
+35 256 0000000000000022 0002 400001370000 12 "iqn.2000-01.test:b"
+"#
 }
 
-/// A block of the file, a place in it, and bytes that stand there.
-type Part = (u32, usize, &'static [u8]);
-
-const ROOT_0: &[u8] = &[
-    0x41, 0x4C, 0x55, 0x41, 0x52, 0x45, 0x47, 0x31, 0x00, 0x02, 0x00,
-];
-
-const ROOT_1: &[u8] = &[
-    0x41, 0x4C, 0x55, 0x41, 0x52, 0x45, 0x47, 0x31, 0x00, 0x02, 0x01,
-];
-
-const EMPTY: &[u8] = &[
-    0x41, 0x4C, 0x55, 0x41, 0x53, 0x4C, 0x54, 0x31, 0, 0, 0, 0xFF,
-];
-
-const REGISTERED: &[u8] = &[
-    0x41, 0x4C, 0x55, 0x41, 0x53, 0x4C, 0x54, 0x31, 1, 1, 0, 0xFF,
-];
-
-const RESERVED: &[u8] = &[
-    0x41, 0x4C, 0x55, 0x41, 0x53, 0x4C, 0x54, 0x31, 1, 1, 5, 0, 1,
-];
-
-const ENTRY: &[u8] = &[
-    0, 0, 0, 0, 0, 0, 0, 0x11, 0x00, 0x01, 0x40, 0x00, 0x01, 0x37, 0x00, 0x00, 0x12, b'i', b'q',
-    b'n', b'.', b'2', b'0', b'0', b'0', b'-', b'0', b'1', b'.', b't', b'e', b's', b't', b':', b'a',
-];
-
-const ENTRY_OF_BOTH: &[u8] = &[
-    0, 0, 0, 0, 0, 0, 0, 0x11, 0x00, 0x03, 0x40, 0x00, 0x01, 0x37, 0x00, 0x00, 0x12, b'i', b'q',
-    b'n', b'.', b'2', b'0', b'0', b'0', b'-', b'0', b'1', b'.', b't', b'e', b's', b't', b':', b'a',
-];
-
-const ENTRY_OF_B: &[u8] = &[
-    0, 0, 0, 0, 0, 0, 0, 0x22, 0x00, 0x02, 0x40, 0x00, 0x01, 0x37, 0x00, 0x00, 0x12, b'i', b'q',
-    b'n', b'.', b'2', b'0', b'0', b'0', b'-', b'0', b'1', b'.', b't', b'e', b's', b't', b':', b'b',
-];
-
-const BOTH_REGISTERED: &[u8] = &[
-    0x41, 0x4C, 0x55, 0x41, 0x53, 0x4C, 0x54, 0x31, 1, 1, 0, 0xFF,
-];
-
-const BOTH_AND_RESERVED: &[u8] = &[
-    0x41, 0x4C, 0x55, 0x41, 0x53, 0x4C, 0x54, 0x31, 1, 1, 5, 0, 2,
-];
-
-const TWO_REGISTERED: &[u8] = &[
-    0x41, 0x4C, 0x55, 0x41, 0x53, 0x4C, 0x54, 0x31, 1, 2, 0, 0xFF,
-];
-
-const B_HOLDS: &[u8] = &[
-    0x41, 0x4C, 0x55, 0x41, 0x53, 0x4C, 0x54, 0x31, 1, 2, 1, 1, 2,
-];
-
-const ALL_HOLD: &[u8] = &[
-    0x41, 0x4C, 0x55, 0x41, 0x53, 0x4C, 0x54, 0x31, 1, 2, 7, 0xFF,
-];
-
-const A1: Sent = (b'a', Group::One, Asked::Register(0x11));
-
-const A2: Sent = (b'a', Group::Two, Asked::Register(0x11));
-
-const A_ALL: Sent = (b'a', Group::One, Asked::RegisterEveryPort(0x11));
-
-const B2: Sent = (b'b', Group::Two, Asked::Register(0x22));
-
-const ROWS: &[Row] = &[
-    Row {
-        name: "a formatted file",
-        requests: &[],
-        blocks: &[(0, 0, ROOT_0), (1, 0, EMPTY)],
-    },
-    Row {
-        name: "REGISTER of 11h with APTPL goes to the second slot",
-        requests: &[A1],
-        blocks: &[
-            (0, 0, ROOT_1),
-            (1, 0, EMPTY),
-            (34, 0, REGISTERED),
-            (35, 0, ENTRY),
-        ],
-    },
-    Row {
-        name: "RESERVE of type 5 goes to the first slot again",
-        requests: &[A1, (b'a', Group::One, Asked::Reserve(0x11, 5))],
-        blocks: &[
-            (0, 0, ROOT_0),
-            (1, 0, RESERVED),
-            (2, 0, ENTRY),
-            (34, 0, REGISTERED),
-            (35, 0, ENTRY),
-        ],
-    },
-    Row {
-        name: "ALL_TG_PT: one entry of both groups",
-        requests: &[A_ALL],
-        blocks: &[
-            (0, 0, ROOT_1),
-            (1, 0, EMPTY),
-            (34, 0, BOTH_REGISTERED),
-            (35, 0, ENTRY_OF_BOTH),
-        ],
-    },
-    Row {
-        name: "both groups singly with one key: the same",
-        requests: &[A1, A2],
-        blocks: &[
-            (0, 0, ROOT_0),
-            (1, 0, BOTH_REGISTERED),
-            (2, 0, ENTRY_OF_BOTH),
-            (34, 0, REGISTERED),
-            (35, 0, ENTRY),
-        ],
-    },
-    Row {
-        name: "the holder through group 2 of an entry of both",
-        requests: &[A_ALL, (b'a', Group::Two, Asked::Reserve(0x11, 5))],
-        blocks: &[
-            (0, 0, ROOT_0),
-            (1, 0, BOTH_AND_RESERVED),
-            (2, 0, ENTRY_OF_BOTH),
-            (34, 0, BOTH_REGISTERED),
-            (35, 0, ENTRY_OF_BOTH),
-        ],
-    },
-    Row {
-        name: "a holder behind an entry of both: the second entry",
-        requests: &[A_ALL, B2, (b'b', Group::Two, Asked::Reserve(0x22, 1))],
-        blocks: &[
-            (0, 0, ROOT_1),
-            (1, 0, TWO_REGISTERED),
-            (2, 0, ENTRY_OF_BOTH),
-            (2, 256, ENTRY_OF_B),
-            (34, 0, B_HOLDS),
-            (35, 0, ENTRY_OF_BOTH),
-            (35, 256, ENTRY_OF_B),
-        ],
-    },
-    Row {
-        name: "every registrant holds: no place and no group",
-        requests: &[A_ALL, B2, (b'b', Group::Two, Asked::Reserve(0x22, 7))],
-        blocks: &[
-            (0, 0, ROOT_1),
-            (1, 0, TWO_REGISTERED),
-            (2, 0, ENTRY_OF_BOTH),
-            (2, 256, ENTRY_OF_B),
-            (34, 0, ALL_HOLD),
-            (35, 0, ENTRY_OF_BOTH),
-            (35, 256, ENTRY_OF_B),
-        ],
-    },
-];
-
-/// A block as the row has it.
-fn wanted_block(row: &Row, index: u32) -> [u8; 512] {
-    let mut block = [0; 512];
-    for (of, at, bytes) in row.blocks {
-        if *of == index && *at <= 512 && bytes.len() <= 512 - *at {
-            block[*at..*at + bytes.len()].copy_from_slice(bytes);
-        }
-    }
-    block
+// Does the request of a line, and saves what is registered then.
+fn save(
+    rt: &impl Abort,
+    alloc: Global,
+    file: &mut RegFile<MemBlocks>,
+    registry: &mut Registry,
+    request: &str,
+) {
+    let _ = out(rt, alloc, registry, request);
+    let record = registry.record().expect(rt, "memory");
+    assert!(rt; file.save(&record.lasting()).is_ok(), "{request}");
 }
 
-/// The first block of a file that is not as the row has it.
-fn other_block(device: &mut MemBlocks, row: &Row) -> Option<u32> {
-    for index in 0..67 {
-        if block_of(device, index) != wanted_block(row, index) {
-            return Some(index);
-        }
-    }
-    None
-}
-
-/// The blocks after a save behind each request.
-fn saved(rt: &impl Abort, alloc: Global, row: &Row) -> MemBlocks {
+// The blocks after a save behind each request.
+fn saved(rt: &impl Abort, alloc: Global, lines: &[&str]) -> MemBlocks {
     let mut file = formatted(rt, alloc);
-    for saved in 1..row.requests.len() + 1 {
-        let record = record_after(rt, alloc, &row.requests[..saved]);
-        assert!(rt; file.save(&record.lasting()).is_ok(), "{}", row.name);
+    let mut registry = Registry::new(alloc).expect(rt, "memory");
+    for line in lines {
+        if let Some(request) = line.strip_prefix("> ") {
+            save(rt, alloc, &mut file, &mut registry, request);
+        }
     }
     file.close()
 }
 
-#[test]
-fn rows(rt: HostRuntime) {
-    for row in ROWS {
-        let mut device = saved(&rt, rt.alloc(), row);
+// The blocks as the lines have them.
+fn wanted(rt: &impl Abort, alloc: Global, lines: &[&str]) -> MemBlocks {
+    let mut device = MemBlocks::new(alloc, FILE_BLOCKS).expect(rt, "memory");
+    for line in lines {
+        if !line.starts_with('>') {
+            put(rt, alloc, &mut device, line);
+        }
+    }
+    device
+}
+
+// Each block of a file is as it is wanted.
+fn are_alike(rt: &impl Abort, name: &str, found: &mut MemBlocks, wanted: &mut MemBlocks) {
+    assert!(rt; found.count() == 67, "{name}");
+    for index in 0..67 {
         assert!(rt;
-            device.count() == 67 && other_block(&mut device, row) == None,
-            "{}",
-            row.name
+            block_of(found, index) == block_of(wanted, index),
+            "{name}: block {index}"
         );
+    }
+}
+
+// The blocks of a file are as a row has them.
+fn is_met(rt: &impl Abort, alloc: Global, row: &str) {
+    let lines = lines_of(alloc, row).expect(rt, "memory");
+    let (name, lines) = lines.split_first().expect(rt, "a row");
+    let mut found = saved(rt, alloc, lines);
+    are_alike(rt, name, &mut found, &mut wanted(rt, alloc, lines));
+}
+
+#[test]
+fn bytes_of_a_file(rt: HostRuntime) {
+    for row in rows().split("\n\n") {
+        is_met(&rt, rt.alloc(), row);
     }
 }

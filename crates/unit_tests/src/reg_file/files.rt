@@ -1,10 +1,11 @@
 //! Records, and devices with their blocks.
-use aptpl_file::{FILE_BLOCKS, RegFile, SaveFault};
+use crate::rules::registrations::run::out;
+use aptpl_file::{FILE_BLOCKS, RegFile};
 use block_file::{Blocks, MemBlocks};
-use reservations::{PrOut, Record, Registry};
-use scsi_types::{Group, PortName, PrOutAction};
+use reservations::{Record, Registry};
 use std::alloc::Global;
 use std::process::Abort;
+use test_streams::bytes_of;
 
 /// The calls of an open: the root, the slot, and a flush.
 pub const OPEN_CALLS: u64 = 3;
@@ -12,79 +13,37 @@ pub const OPEN_CALLS: u64 = 3;
 /// The calls of a save: the slot, a flush, the root, and a flush.
 pub const SAVE_CALLS: u64 = 4;
 
-/// What a nexus asks.
-#[derive(Clone, Copy)]
-pub enum Asked {
-    /// REGISTER of a key with APTPL.
-    Register(u64),
-    /// The same with ALL_TG_PT.
-    RegisterEveryPort(u64),
-    /// RESERVE with its key, and the type.
-    Reserve(u64, u8),
-}
-
-/// The request.
-fn request(asked: Asked) -> PrOut {
-    let (action, key, sakey, kind) = match asked {
-        Asked::Register(sakey) | Asked::RegisterEveryPort(sakey) => {
-            (PrOutAction::Register, 0, sakey, 0)
-        }
-        Asked::Reserve(key, kind) => (PrOutAction::Reserve, key, 0, kind),
-    };
-    PrOut {
-        action,
-        scope: 0,
-        kind,
-        key,
-        sakey,
-        spec_i_pt: false,
-        all_tg_pt: matches!(asked, Asked::RegisterEveryPort(_)),
-        aptpl: true,
-    }
-}
-
-/// A request, by the last letter of its nexus's name and its group.
-pub type Sent = (u8, Group, Asked);
-
-/// A registry after these requests of nexuses, `iqn.2000-01.test:` and a letter with ISID 400001370000h.
-pub fn registry_after(rt: &impl Abort, alloc: Global, requests: &[Sent]) -> Registry {
+/// A registry after these requests, with commas between, each as the tables of `rules` have it.
+pub fn registry_after(rt: &impl Abort, alloc: Global, requests: &str) -> Registry {
     let mut registry = Registry::new(alloc).expect(rt, "memory");
-    for (letter, group, asked) in requests {
-        let mut name = Vec::from_slice(alloc, b"iqn.2000-01.test:").expect(rt, "memory");
-        name.push(*letter).expect(rt, "memory");
-        let port = PortName::new(name, 0x4000_0137_0000).expect(rt, "a name of a port");
-        let _ = registry.out(&port, *group, request(*asked));
+    for request in requests.split(", ") {
+        let _ = out(rt, alloc, &mut registry, request);
     }
     registry
 }
 
 /// The record of a registry after these requests.
-pub fn record_after(rt: &impl Abort, alloc: Global, requests: &[Sent]) -> Record {
+pub fn record_after(rt: &impl Abort, alloc: Global, requests: &str) -> Record {
     registry_after(rt, alloc, requests)
         .record()
         .expect(rt, "memory")
 }
 
-/// What a record says, as READ FULL STATUS of the registry that begins with it, and whether APTPL is set.
-fn told(rt: &impl Abort, alloc: Global, record: Record) -> (bool, Vec<u8>) {
-    let aptpl = record.aptpl();
+// What a record says, as READ FULL STATUS of the registry that begins with it.
+fn told(rt: &impl Abort, alloc: Global, record: Record) -> Vec<u8> {
     let registry = Registry::from_record(alloc, record).expect(rt, "memory");
-    (aptpl, registry.full_status(65535).expect(rt, "memory"))
+    registry.full_status(65535).expect(rt, "memory")
 }
 
 /// Whether the file of a device, opened, holds the record after these requests.
-pub fn holds<B: Blocks>(rt: &impl Abort, alloc: Global, device: B, requests: &[Sent]) -> bool {
+pub fn holds(rt: &impl Abort, alloc: Global, device: MemBlocks, requests: &str) -> bool {
     let (_file, record) = RegFile::open(alloc, device).expect(rt, "a registration file");
-    told(rt, alloc, record) == told(rt, alloc, record_after(rt, alloc, requests))
+    are_alike(rt, alloc, record, record_after(rt, alloc, requests))
 }
 
-/// Writes the beginning of a block, and zeros behind it.
-pub fn set_block<B: Blocks>(device: &mut B, index: u32, begin: &[u8]) {
-    let mut block = [0; 512];
-    if index < device.count() && begin.len() <= 512 {
-        block[..begin.len()].copy_from_slice(begin);
-        let _ = device.write_run(index, &block);
-    }
+// Whether two records say the same.
+fn are_alike(rt: &impl Abort, alloc: Global, one: Record, other: Record) -> bool {
+    one.aptpl() == other.aptpl() && told(rt, alloc, one) == told(rt, alloc, other)
 }
 
 /// A formatted file in memory.
@@ -94,7 +53,7 @@ pub fn formatted(rt: &impl Abort, alloc: Global) -> RegFile<MemBlocks> {
 }
 
 /// The bytes of a block; zeros where it cannot be read.
-pub fn block_of<B: Blocks>(device: &mut B, index: u32) -> [u8; 512] {
+pub fn block_of(device: &mut MemBlocks, index: u32) -> [u8; 512] {
     let mut block = [0; 512];
     if index < device.count() {
         let _ = device.read_run(index, &mut block);
@@ -102,11 +61,23 @@ pub fn block_of<B: Blocks>(device: &mut B, index: u32) -> [u8; 512] {
     block
 }
 
-/// Puts a byte into a block.
-pub fn set_byte<B: Blocks>(device: &mut B, index: u32, at: usize, value: u8) {
+/// Puts bytes into a block: its number, their place there, and what they are.
+pub fn put(rt: &impl Abort, alloc: Global, device: &mut MemBlocks, words: &str) {
+    let (index, rest) = words.split_once(' ').expect(rt, words);
+    let (at, bytes) = rest.split_once(' ').expect(rt, words);
+    let bytes = bytes_of(alloc, &[], bytes).expect(rt, words);
+    let (index, at) = (
+        index.parse().expect(rt, words),
+        at.parse().expect(rt, words),
+    );
+    put_bytes(device, index, at, &bytes);
+}
+
+/// Puts these bytes into a block.
+pub fn put_bytes(device: &mut MemBlocks, index: u32, at: usize, bytes: &[u8]) {
     let mut block = block_of(device, index);
-    if index < device.count() && at < 512 {
-        block[at] = value;
+    if index < device.count() && at <= 512 && bytes.len() <= 512 - at {
+        block[at..at + bytes.len()].copy_from_slice(bytes);
         let _ = device.write_run(index, &block);
     }
 }

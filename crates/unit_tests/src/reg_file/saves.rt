@@ -1,39 +1,53 @@
 //! A save that stops at each of its calls in turn, over a file of either version, and a format.
+use crate::device::{Failing, FailingBlocks};
 use crate::reg_file::files::{
-    Asked, OPEN_CALLS, SAVE_CALLS, Sent, block_of, holds, registry_after, set_block, set_byte,
+    OPEN_CALLS, SAVE_CALLS, block_of, holds, put, put_bytes, registry_after,
 };
 use aptpl_file::{FILE_BLOCKS, RegFile, SaveFault};
-use block_file::{FusedBlocks, MemBlocks};
-use scsi_types::Group;
+use block_file::{Blocks, MemBlocks};
+use crash_blocks::Pick;
 use std::alloc::Global;
 use std::process::Abort;
 
-/// The blocks of a file of version 1, as the program before this one left it: `iqn.2000-01.test:a`, ISID 400001370000h, has
-/// registered 11h with APTPL through group 1. In version 2 it differs in the version alone. Block 0, the root:
-const ROOT: &[u8] = b"ALUAREG1\x00\x01\x01";
-
-/// Block 34, the slot.
-const SLOT: &[u8] = b"ALUASLT1\x01\x01\x00\xFF";
-
-/// Block 35, its entry.
-const ENTRY: &[u8] = b"\0\0\0\0\0\0\0\x11\x00\x01\x40\x00\x01\x37\x00\x00\x12iqn.2000-01.test:a";
+// The blocks of a file of version 1, as the program before this one left it: `iqn.2000-01.test:a`, ISID 400001370000h, has
+// registered 11h with APTPL through group 1. In version 2 it differs in the version alone. Block 0 is the root, block 34 the slot, and
+// block 35 its entry.
+const OLD_BLOCKS: &str = r#"0 0 "ALUAREG1" 0001 01
+34 0 "ALUASLT1" 01 01 00 FF
+35 0 0000000000000011 0001 400001370000 12 "iqn.2000-01.test:a""#;
 
 /// The root after the next save.
 const NEW_ROOT: &[u8; 11] = b"ALUAREG1\x00\x02\x00";
 
 /// What the file holds.
-const OLD: &[Sent] = &[(b'a', Group::One, Asked::Register(0x11))];
+const OLD: &str = "A_LONG Register 0 0 11 APTPL";
 
 /// What it is to hold then: the port with one key through both groups.
-const NEW: &[Sent] = &[(b'a', Group::One, Asked::RegisterEveryPort(0x22))];
+const NEW: &str = "A_LONG Register 0 0 22 ALL_TG_PT APTPL";
 
 fn old_file(rt: &impl Abort, alloc: Global, version: u8) -> MemBlocks {
     let mut device = MemBlocks::new(alloc, FILE_BLOCKS).expect(rt, "memory");
-    set_block(&mut device, 0, ROOT);
-    set_byte(&mut device, 0, 9, version);
-    set_block(&mut device, 34, SLOT);
-    set_block(&mut device, 35, ENTRY);
+    for line in OLD_BLOCKS.lines() {
+        put(rt, alloc, &mut device, line);
+    }
+    put_bytes(&mut device, 0, 9, &[version]);
     device
+}
+
+// A device that stops at this call, and lands so many blocks of the write at which it stops.
+fn stopping(
+    rt: &impl Abort,
+    alloc: Global,
+    blocks: MemBlocks,
+    behind: u64,
+    lands: u32,
+) -> FailingBlocks {
+    let failing = Failing {
+        behind,
+        lands,
+        alone: u64::MAX,
+    };
+    FailingBlocks::new(alloc, blocks, failing).expect(rt, "memory")
 }
 
 /// Opens the file, and saves over a device that stops at this call of the save, and lands so many blocks of the write at
@@ -46,11 +60,11 @@ fn stopped(
     lands: u32,
 ) -> (Option<SaveFault>, MemBlocks) {
     let old = old_file(rt, alloc, version);
-    let device = FusedBlocks::inside(old, OPEN_CALLS + calls % 100, lands);
+    let device = stopping(rt, alloc, old, calls.saturating_add(OPEN_CALLS), lands);
     let (mut file, _old) = RegFile::open(alloc, device).expect(rt, "a registration file");
     let registry = registry_after(rt, alloc, NEW);
     let fault = file.save(&registry.lasting()).err();
-    (fault, file.close().into_inner())
+    (fault, file.close().crash(Pick::Newest))
 }
 
 /// Where a save fails that stops at this call, counted from 0.
@@ -85,7 +99,12 @@ fn has_the_new_root(rt: &impl Abort, alloc: Global, version: u8) -> bool {
 /// A format fails that stops at one of its four calls.
 fn format(rt: &impl Abort, alloc: Global, calls: u64) {
     let device = MemBlocks::new(alloc, FILE_BLOCKS).expect(rt, "memory");
-    let fault = RegFile::format(FusedBlocks::new(device, calls)).err();
+    let device = stopping(rt, alloc, device, calls, 0);
+    assert!(rt;
+        device.count() >= FILE_BLOCKS,
+        "a registration file's blocks"
+    );
+    let fault = RegFile::format(device).err();
     assert!(rt; fault == place_of(calls), "a format, {calls}: {fault:?}");
 }
 

@@ -1,6 +1,6 @@
 //! Calls that may want memory, each with enough of it. `unit_tests` has more of what a unit says of itself, in `identities.rt` and
 //! `access.rt`.
-use crate::rules::scsi::cdbs::cdb;
+use crate::rows::cdb_of;
 use access_states::AccessMap;
 use identity::{
     absent, inquiry, mode_sense, read_capacity_10, read_capacity_16, report_luns, request_sense,
@@ -62,8 +62,9 @@ fn what_a_unit_says_of_itself(rt: HostRuntime) {
     );
 }
 
-/// CDBs for a unit that is not there, and the data, or the sense.
-const ABSENT: &str = r#"
+// CDBs for a unit that is not there, and the data, or the sense.
+fn rows() -> &'static str {
+    r#"
 12 00 00 0001 00; 7F
 12 00 00 00FF 00; 7F 00 06 12 1F 30 10 02 "TWINCTL ALUA DISK       0001"
 03 00 0000 FC 00; 70 00 05 4*00 0A 4*00 25 00 4*00
@@ -77,7 +78,8 @@ A0 00 00 000000 000000FF 00 00; CHECK 70 00 05 4*00 0A 4*00 25 00 4*00
 00 00 000000 00; CHECK 70 00 05 4*00 0A 4*00 25 00 4*00
 28 00 00000000 00 0801 00; CHECK 70 00 05 4*00 0A 4*00 25 00 4*00
 04 00 000000 00; CHECK 70 00 05 4*00 0A 4*00 25 00 4*00
-"#;
+"#
+}
 
 // Whether a reply has these bytes of data, or of sense behind CHECK.
 fn has(rt: &impl Abort, alloc: Global, reply: &Reply, want: &str) -> bool {
@@ -94,12 +96,17 @@ fn has(rt: &impl Abort, alloc: Global, reply: &Reply, want: &str) -> bool {
     }
 }
 
+// A unit that is not there answers as a row says.
+fn answers(rt: &impl Abort, alloc: Global, row: &str) {
+    let (digits, want) = row.split_once(';').expect(rt, row);
+    let cdb = cdb_of(rt, alloc, digits, 0xEE);
+    let reply = absent(alloc, &decode(&cdb)).expect(rt, row);
+    assert!(rt; has(rt, alloc, &reply, want.trim()), "{row}: {reply:?}");
+}
+
 #[test]
 fn of_a_unit_that_is_not_there(rt: HostRuntime) {
-    let alloc = rt.alloc();
-    for line in &lines_of(alloc, ABSENT).expect(&rt, "memory") {
-        let (digits, want) = line.split_once(';').expect(&rt, *line);
-        let reply = absent(alloc, &decode(&cdb(&rt, digits))).expect(&rt, *line);
-        assert!(rt; has(&rt, alloc, &reply, want.trim()), "{line}: {reply:?}");
+    for row in &lines_of(rt.alloc(), rows()).expect(&rt, "memory") {
+        answers(&rt, rt.alloc(), row);
     }
 }

@@ -1,5 +1,5 @@
 //! What CDBs ask for.
 
-pub mod cdbs;
+mod cdbs;
 mod commands;
 mod faults;

@@ -8,7 +8,7 @@ use std::process::Abort;
 use test_streams::lines_of;
 
 /// The two devices of a unit.
-#[derive(Clone, Copy, Debug, PartialEq, Eq)]
+#[derive(Clone, Copy, PartialEq, Eq)]
 pub enum Device {
     Blocks,
     Registrations,
@@ -25,10 +25,11 @@ pub struct Stop {
 ///
 /// It is read from a text. Its rows have two parts more: what they call of the blocks' device, and of the registration file's, whose
 /// block 0, the root, has the number of the record that it leads to. Where one of these calls is a stop, a row ends as it
-/// says behind the first bar, or where that call is a read, behind the second.
+/// says behind the first bar, or where that call is a read, behind the second. `loses blocks 0 26` says that the power is lost at each
+/// call of this device from the first on and behind the last, 26 times in all.
 #[derive(Drop)]
 pub struct Script<'a> {
-    setup: Setup<'a>,
+    pub setup: Setup<'a>,
     pub rows: Vec<&'a str>,
     blocks: Vec<Call>,
     registrations: Vec<Call>,
@@ -39,7 +40,7 @@ impl<'a> Script<'a> {
     pub fn read(rt: &impl Abort, alloc: Global, text: &'a str) -> Script<'a> {
         let lines = lines_of(alloc, text).expect(rt, "memory");
         let mut script = Script {
-            setup: setup_of(rt, &lines),
+            setup: setup_of(rt, &lines, 0),
             rows: Vec::new(alloc),
             blocks: Vec::new(alloc),
             registrations: Vec::new(alloc),
@@ -86,22 +87,15 @@ impl<'a> Script<'a> {
 
     /// The unit whose power is lost there, and what these pick is left.
     pub fn setup(&self, stop: Stop, pick: Pick) -> Setup<'a> {
-        let calls = stop.reach.calls as u64;
-        let lands = stop.reach.landed;
-        match stop.of {
-            Device::Blocks => Setup {
-                calls,
-                lands,
-                pick,
-                ..self.setup
-            },
-            Device::Registrations => Setup {
-                saves: calls,
-                save_lands: lands,
-                pick,
-                ..self.setup
-            },
-        }
+        let mut setup = self.setup;
+        setup.pick = pick;
+        let failing = match stop.of {
+            Device::Blocks => &mut setup.faults.disk,
+            Device::Registrations => &mut setup.faults.file,
+        };
+        failing.behind = stop.reach.calls as u64;
+        failing.lands = stop.reach.landed;
+        setup
     }
 
     // How far the calls of a device come up to a stop of this or of the other.

@@ -1,17 +1,16 @@
 //! Each action by each kind of nexus: the holder, the same port through the other group, the same name with another
 //! ISID, another registrant, and one that isn't registered.
-use crate::rules::registrations::run::run_each;
-use std::test::*;
 
-// A holds type 5 with the key 11h; its port is registered with that key through the other group too, and B with 22h.
-const SET_UP: &str = "
+/// Rows as `run.rt` says.
+pub fn rows() -> &'static str {
+    "
+# A holds type 5 with the key 11h; its port is registered with that key through the other group too, and B with 22h.
+each action
 A Register 0 0 11; Good;; 1; 11; 0 0
 A_TWO Register 0 0 11; Good;; 2; 11 11; 0 0
 B Register 0 0 22; Good;; 3; 11 11 22; 0 0
 A Reserve 5 11 0; Good;; 3; 11 11 22; 11 5
-";
-
-const ROWS: &str = "
+each
 # Register
 A Register 0 11 44; Good;; 4; 44 11 22; 44 5
 A Register 0 11 11; Good;; 4; 11 11 22; 11 5
@@ -69,9 +68,27 @@ C Preempt 6 0 11; Conflict;; 3; 11 11 22; 11 5
 A_TWO PreemptAndAbort 5 11 11; Good; A:RegistrationsPreempted; 4; 11 22; 11 5
 B PreemptAndAbort 6 22 11; Good; A:RegistrationsPreempted A_TWO:RegistrationsPreempted; 4; 22; 22 6
 C PreemptAndAbort 6 0 11; Conflict;; 3; 11 11 22; 11 5
-";
 
-#[test]
-fn each_action(rt: HostRuntime) {
-    run_each(&rt, rt.alloc(), SET_UP, ROWS);
+# ALL_TG_PT is one registration for every port; the bit counts in the two actions that register, and the others ignore it. Without
+# it: the holder is A through the other group, and B is registered. Then with it.
+each kind of sender, for every port
+A Register 0 0 11; Good;; 1; 11; 0 0
+A_TWO Register 0 0 44; Good;; 2; 11 44; 0 0
+B Register 0 0 22; Good;; 3; 11 44 22; 0 0
+A_TWO Reserve 6 44 0; Good;; 3; 11 44 22; 44 6
+each
+A Register 0 11 0 ALL_TG_PT; Good; B:ReservationsReleased; 4; 22; 0 0
+A Register 0 11 33 ALL_TG_PT; Good;; 4; 33 33 22; 33 6
+A Register 0 44 33 ALL_TG_PT; Conflict;; 3; 11 44 22; 44 6
+A Register 0 0 33 ALL_TG_PT; Conflict;; 3; 11 44 22; 44 6
+A_TWO Register 0 44 0 ALL_TG_PT; Good; B:ReservationsReleased; 4; 22; 0 0
+A_TWO RegisterAndIgnoreExistingKey 0 99 44 ALL_TG_PT; Good;; 4; 44 44 22; 44 6
+B Register 0 22 0 ALL_TG_PT; Good;; 4; 11 44; 44 6
+B Register 0 22 55 ALL_TG_PT; Good;; 4; 11 44 55 55; 44 6
+B_TWO Register 0 0 55 ALL_TG_PT; Good;; 4; 11 44 55 55; 44 6
+C Register 0 0 0 ALL_TG_PT; Good;; 4; 11 44 22; 44 6
+C Register 0 0 33 ALL_TG_PT; Good;; 4; 11 44 22 33 33; 44 6
+A_TWO Release 6 44 0 ALL_TG_PT; Good; A:ReservationsReleased B:ReservationsReleased; 3; 11 44 22; 0 0
+B Clear 0 22 0 ALL_TG_PT; Good; A:ReservationsPreempted A_TWO:ReservationsPreempted; 4;; 0 0
+"
 }

@@ -1,8 +1,8 @@
 //! The data of PERSISTENT RESERVE IN, byte for byte; flags; and what lasts.
-use crate::rules::registrations::run::run;
-use std::test::*;
 
-const ROWS: &str = r#"
+/// Rows as `run.rt` says.
+pub fn rows() -> &'static str {
+    r#"
 the reservation of a holder
 A Register 0 0 11; Good;; 1; 11; 0 0
 A Reserve 5 11 0; Good;; 1; 11; 11 5
@@ -35,10 +35,8 @@ capabilities 8 0008 05 80 EA01 0000
 the capabilities with APTPL
 A Register 0 0 11 APTPL; Good;; 1; 11; 0 0
 capabilities 8 0008 05 81 EA01 0000
-"#;
 
-// SPEC_I_PT comes before the key, and ALL_TG_PT is looked at only where a nexus registers.
-const FLAGS: &str = "
+# SPEC_I_PT comes before the key, and ALL_TG_PT is looked at only where a nexus registers.
 SPEC_I_PT
 A Register 0 0 11 SPEC_I_PT; Illegal 26 00;; 0;; 0 0
 A Reserve 5 11 0 SPEC_I_PT; Illegal 26 00;; 0;; 0 0
@@ -48,9 +46,7 @@ A Register 0 0 11 ALL_TG_PT; Good;; 1; 11 11; 0 0
 
 ALL_TG_PT without a registration
 A Reserve 5 11 0 ALL_TG_PT; Conflict;; 0;; 0 0
-";
 
-const LASTING: &str = r#"
 with APTPL
 A Register 0 0 11 APTPL; Good;; 1; 11; 0 0
 A Reserve 5 11 0; Good;; 1; 11; 11 5
@@ -68,11 +64,5 @@ A Reserve 5 11 0; Good;; 1; 11; 11 5
 lasted
 reservation 999 00000000 00000000
 full-status 999 00000000 00000000
-"#;
-
-#[test]
-fn data_flags_and_what_lasts(rt: HostRuntime) {
-    run(&rt, rt.alloc(), ROWS);
-    run(&rt, rt.alloc(), FLAGS);
-    run(&rt, rt.alloc(), LASTING);
+"#
 }

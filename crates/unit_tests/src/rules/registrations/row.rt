@@ -7,17 +7,20 @@ use std::test::*;
 /// A nexus of a script: the last letter of its name, its ISID without the qualifier, which is 0, and its group.
 pub type Who = (u8, u32, Group);
 
-/// The names of all nexuses, in the order in which a line has them.
+/// The names of the nexuses that may be told something, in the order in which a line has them.
 pub const NAMES: &str = "A A_TWO A_ISID A_LONG B B_TWO C D";
 
 /// The nexus of a name: A_TWO is the port of A through the other group, A_ISID and A_LONG have its name and another ISID, as
-/// 400001370000h.
+/// 400001370000h. B_LONG is of the name of B.
 pub fn who_named(rt: &impl Abort, name: &str) -> Who {
     match name {
         "A" => (b'a', 0, Group::One),
         "A_TWO" => (b'a', 0, Group::Two),
         "A_ISID" => (b'a', 1, Group::One),
         "A_LONG" => (b'a', 0x4000_0137, Group::One),
+        "A_LONG_TWO" => (b'a', 0x4000_0137, Group::Two),
+        "B_LONG" => (b'b', 0x4000_0137, Group::One),
+        "B_LONG_TWO" => (b'b', 0x4000_0137, Group::Two),
         "B" => (b'b', 0, Group::One),
         "B_TWO" => (b'b', 0, Group::Two),
         "C" => (b'c', 0, Group::One),

@@ -22,8 +22,11 @@
 //! - `reservation 24 BYTES`, `full-status 24 BYTES` or `capabilities 8 BYTES`: the data, where there is room for so many
 //!   bytes.
 //! - `copied`, `lasted`: it goes on with a copy of the registry, or with what is left behind a loss of power.
+//!
+//! Each line behind one that says `each` is run on a registry of its own, behind the lines before that one.
 
 use crate::rules::registrations::row::{NAMES, Who, request_of, who_named, word};
+use crate::rules::registrations::{actions, data_bytes, steps};
 use reservations::{Access, PrEnd, Registry};
 use scsi_types::PortName;
 use std::alloc::Global;
@@ -38,34 +41,31 @@ fn port_of(rt: &impl Abort, alloc: Global, who: Who) -> PortName {
     PortName::new(name, u64::from(who.1) * 0x1_0000).expect(rt, "a name of a port")
 }
 
-// A registry as it is at first.
-fn registry(rt: &impl Abort, alloc: Global) -> Registry {
-    Registry::new(alloc).expect(rt, "memory")
-}
-
-/// Runs each row of a table.
-pub fn run(rt: &impl Abort, alloc: Global, table: &str) {
+// Runs each row of a table.
+fn run(rt: &impl Abort, alloc: Global, table: &str) {
     for text in table.split("\n\n") {
-        let lines = lines_of(alloc, text).expect(rt, "memory");
-        let (name, lines) = lines.split_first().expect(rt, "a table has a row");
-        assert!(rt;
-            !lines.is_empty() && !name.contains(';'),
-            "{name}: a row has a name, and lines"
-        );
-        run_lines(rt, alloc, &mut registry(rt, alloc), name, lines);
+        let (row, each) = text.split_once("\neach\n").unwrap_or((text, ""));
+        let each = lines_of(alloc, each).expect(rt, "memory");
+        for line in &each {
+            run_row(rt, alloc, row, &[*line]);
+        }
+        if each.is_empty() {
+            run_row(rt, alloc, row, &[]);
+        }
     }
 }
 
-/// Runs each line of a table behind those that set it up, on a registry of its own.
-pub fn run_each(rt: &impl Abort, alloc: Global, set_up: &str, table: &str) {
-    let set_up = lines_of(alloc, set_up).expect(rt, "memory");
-    let lines = lines_of(alloc, table).expect(rt, "memory");
-    assert!(rt; !lines.is_empty(), "a table has a row");
-    for line in &lines {
-        let mut registry = registry(rt, alloc);
-        run_lines(rt, alloc, &mut registry, "set up", &set_up);
-        run_lines(rt, alloc, &mut registry, "one line", &[*line]);
-    }
+// Runs each line of a row, and these behind them, on a registry of its own.
+fn run_row(rt: &impl Abort, alloc: Global, text: &str, more: &[&str]) {
+    let lines = lines_of(alloc, text).expect(rt, "memory");
+    let (name, lines) = lines.split_first().expect(rt, "a table has a row");
+    assert!(rt;
+        !lines.is_empty() && !name.contains(';'),
+        "{name}: a row has a name, and lines"
+    );
+    let mut registry = Registry::new(alloc).expect(rt, "memory");
+    run_lines(rt, alloc, &mut registry, name, lines);
+    run_lines(rt, alloc, &mut registry, name, more);
 }
 
 // Runs lines from where the registry stands.
@@ -83,12 +83,8 @@ fn is_met(rt: &impl Abort, alloc: Global, registry: &mut Registry, line: &str) -
         "reservation" | "full-status" | "capabilities" => {
             shows(rt, alloc, registry, first, rest)
         }
-        "copied" => {
-            *registry = registry.copy().expect(rt, "memory");
-            true
-        }
-        "lasted" => {
-            *registry = lasted(rt, alloc, registry);
+        "copied" | "lasted" => {
+            go_on(rt, alloc, registry, first);
             true
         }
         _ => ends_so(rt, alloc, registry, line),
@@ -109,7 +105,8 @@ fn ends_so(rt: &impl Abort, alloc: Global, registry: &mut Registry, line: &str) 
     true
 }
 
-fn out(rt: &impl Abort, alloc: Global, registry: &mut Registry, asked: &str) -> PrEnd {
+/// Does the request of these words.
+pub fn out(rt: &impl Abort, alloc: Global, registry: &mut Registry, asked: &str) -> PrEnd {
     let who = who_named(rt, word(asked, 0));
     registry.out(&port_of(rt, alloc, who), who.2, request_of(rt, asked))
 }
@@ -194,8 +191,19 @@ fn shows(rt: &impl Abort, alloc: Global, registry: &Registry, of: &str, words: &
     data.expect(rt, "memory") == want
 }
 
-// The registry behind a loss of power.
-fn lasted(rt: &impl Abort, alloc: Global, registry: &Registry) -> Registry {
-    let record = registry.record().expect(rt, "memory");
-    Registry::from_record(alloc, record).expect(rt, "memory")
+// Goes on with a copy of the registry, or with what is left behind a loss of power.
+fn go_on(rt: &impl Abort, alloc: Global, registry: &mut Registry, word: &str) {
+    let next = if word == "copied" {
+        registry.copy()
+    } else {
+        Registry::from_record(alloc, registry.record().expect(rt, "memory"))
+    };
+    *registry = next.expect(rt, "memory");
+}
+
+#[test]
+fn each_table(rt: HostRuntime) {
+    run(&rt, rt.alloc(), actions::rows());
+    run(&rt, rt.alloc(), steps::rows());
+    run(&rt, rt.alloc(), data_bytes::rows());
 }

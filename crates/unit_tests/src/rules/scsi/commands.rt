@@ -1,7 +1,8 @@
 //! What CDBs ask for: each field at its place, with every byte of it telling, and what is not looked at set.
 
 /// Rows as `cdbs.rt` says.
-pub const ROWS: &str = "
+pub fn rows() -> &'static str {
+    "
 READ (6): high bits of byte 1 are no LBA; 08 F5 6789 80 FF; Ok(Read { lba: 156789 blocks: 80 fua: false })
 READ (6) of length 0: 256 blocks; 08 00 0000 00 00; Ok(Read { lba: 0 blocks: 100 fua: false })
 READ (10); 28 08 01234567 00 0102 00; Ok(Read { lba: 1234567 blocks: 102 fua: true })
@@ -69,4 +70,5 @@ REGISTER AND IGNORE EXISTING KEY; 5F 06 00 0000 00000019 00;
   Ok(PersistentReserveOut { action: RegisterAndIgnoreExistingKey scope: 0 kind: 0 list_length: 19 })
 REPORT TARGET PORT GROUPS; A3 0A FFFFFFFF 01234567 FF FF; Ok(ReportTargetPortGroups { allocation: 1234567 })
 SET TARGET PORT GROUPS, reserved bits; A4 EA FFFFFFFF 01234567 FF FF; Ok(SetTargetPortGroups { list_length: 1234567 })
-";
+"
+}

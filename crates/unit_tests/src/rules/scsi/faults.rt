@@ -1,7 +1,8 @@
 //! CDBs that ask for no command.
 
 /// Rows as `cdbs.rt` says.
-pub const ROWS: &str = "
+pub fn rows() -> &'static str {
+    "
 REQUEST SENSE in descriptor format; 03 01 0000 12 00; Err(BadField(RequestSense))
 INQUIRY for a page without EVPD; 12 00 80 0024 00; Err(BadField(Inquiry))
 INQUIRY for an unknown page; 12 01 81 0024 00; Err(BadField(Inquiry))
@@ -56,4 +57,5 @@ another action with port group bits; A3 2B 00000000 00000010 00 00; Err(UnknownO
 SET TIMESTAMP; A4 0F 00000000 0000000C 00 00; Err(UnknownOpcode)
 READ (12); A8 00 00000000 00000001 00 00; Err(UnknownOpcode)
 the highest operation code; FF 0A 0000000000000000 00000000 00 00; Err(UnknownOpcode)
-";
+"
+}

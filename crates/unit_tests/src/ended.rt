@@ -1,0 +1,89 @@
+//! How calls of a unit end, as a row says it.
+use access_states::{AsetFault, Change};
+use scsi_types::{Group, Reply, Status};
+use std::alloc::Global;
+use std::process::Abort;
+use unit_state::{MoveFault, StepEnd};
+
+/// How a call ended: its word, and behind that a number, as that of a group, or the bytes of data or of sense.
+#[derive(Debug, Drop)]
+pub struct Ended {
+    pub word: &'static str,
+    pub number: u64,
+    pub bytes: Vec<u8>,
+}
+
+/// An end of a word alone.
+pub fn worded(alloc: Global, word: &'static str) -> Ended {
+    numbered(alloc, word, 0)
+}
+
+/// An end of a word and a number.
+pub fn numbered(alloc: Global, word: &'static str, number: u64) -> Ended {
+    Ended {
+        word,
+        number,
+        bytes: Vec::new(alloc),
+    }
+}
+
+/// The end of a command.
+pub fn stepped(rt: &impl Abort, alloc: Global, end: &StepEnd) -> Ended {
+    match end {
+        StepEnd::Reply(reply) => replied(rt, alloc, reply),
+        StepEnd::Moved(owner) => numbered(alloc, "MOVED", number(*owner)),
+        StepEnd::Gone => worded(alloc, "GONE"),
+        StepEnd::NoMemory => worded(alloc, "no memory"),
+    }
+}
+
+// A reply.
+fn replied(rt: &impl Abort, alloc: Global, reply: &Reply) -> Ended {
+    match (reply.status(), reply.sense()) {
+        (Status::Good, None) => told(rt, alloc, "GOOD", reply.bytes()),
+        (Status::ReservationConflict, None) => told(rt, alloc, "CONFLICT", reply.bytes()),
+        (Status::CheckCondition, Some(sense)) if reply.bytes().is_empty() => {
+            told(rt, alloc, "CHECK", sense.to_bytes().as_slice())
+        }
+        _ => worded(alloc, "another reply"),
+    }
+}
+
+// An end of a word and bytes.
+fn told(rt: &impl Abort, alloc: Global, word: &'static str, bytes: &[u8]) -> Ended {
+    Ended {
+        word,
+        number: 0,
+        bytes: Vec::from_slice(alloc, bytes).expect(rt, "memory"),
+    }
+}
+
+/// The end of a move.
+pub fn moved(alloc: Global, end: Result<Change, MoveFault>) -> Ended {
+    match end {
+        Ok(change) => changed(alloc, change),
+        Err(MoveFault::List(AsetFault::Length)) => worded(alloc, "BAD-LENGTH"),
+        Err(MoveFault::List(AsetFault::BadList)) => worded(alloc, "BAD-LIST"),
+        Err(MoveFault::OpenFailed) => worded(alloc, "NOT-OPENED"),
+        Err(_) => worded(alloc, "another fault"),
+    }
+}
+
+// What a move changed.
+fn changed(alloc: Global, change: Change) -> Ended {
+    match change.owner {
+        None if change.changed == [false, false] => worded(alloc, "NEITHER-CHANGES"),
+        Some(owner) if change.changed == [true, true] => {
+            numbered(alloc, "BOTH-CHANGE", number(owner))
+        }
+        _ => worded(alloc, "another change"),
+    }
+}
+
+// The number of a group.
+fn number(group: Group) -> u64 {
+    match group {
+        Group::One => 1,
+        Group::Two => 2,
+    }
+}

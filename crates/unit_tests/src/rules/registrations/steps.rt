@@ -1,0 +1,109 @@
+//! Requests over several steps, and who may read and write beside a reservation of each type (SPC-4, 5.13.1).
+
+/// Rows as `run.rt` says.
+pub fn rows() -> &'static str {
+    "
+the holder is preempted
+A Register 0 0 11; Good;; 1; 11; 0 0
+B Register 0 0 22; Good;; 2; 11 22; 0 0
+C Register 0 0 11; Good;; 3; 11 22 11; 0 0
+D Register 0 0 33; Good;; 4; 11 22 11 33; 0 0
+A Reserve 5 11 0; Good;; 4; 11 22 11 33; 11 5
+B Preempt 6 22 11; Good; A:RegistrationsPreempted C:RegistrationsPreempted D:ReservationsReleased; 5; 22 33; 22 6
+
+all registrants hold until the last
+A Register 0 0 11; Good;; 1; 11; 0 0
+B Register 0 0 22; Good;; 2; 11 22; 0 0
+A Reserve 7 11 0; Good;; 2; 11 22; 0 7
+B Reserve 7 22 0; Good;; 2; 11 22; 0 7
+B Reserve 8 22 0; Conflict;; 2; 11 22; 0 7
+A Register 0 11 0; Good;; 3; 22; 0 7
+B Register 0 22 0; Good;; 4;; 0 0
+A Register 0 0 11; Good;; 5; 11; 0 0
+A Reserve 8 11 0; Good;; 5; 11; 0 8
+A Preempt 0 11 11; Good;; 6;; 0 0
+
+all registrants are preempted
+A Register 0 0 11; Good;; 1; 11; 0 0
+B Register 0 0 22; Good;; 2; 11 22; 0 0
+C Register 0 0 33; Good;; 3; 11 22 33; 0 0
+A Reserve 8 11 0; Good;; 3; 11 22 33; 0 8
+B Preempt 8 22 33; Good; C:RegistrationsPreempted; 4; 11 22; 0 8
+B Preempt 9 22 0; Illegal 24 00;; 4; 11 22; 0 8
+B Preempt 3 22 0; Good; A:RegistrationsPreempted; 5; 22; 22 3
+B Release 3 22 0; Good;; 5; 22; 0 0
+A Register 0 0 11; Good;; 6; 11 22; 0 0
+A Reserve 7 11 0; Good;; 6; 11 22; 0 7
+B Release 7 22 0; Good; A:ReservationsReleased; 6; 11 22; 0 0
+
+# ALL_TG_PT: one registration for every port.
+the holder writes through either port, until both are preempted
+A Register 0 0 11 ALL_TG_PT; Good;; 1; 11 11; 0 0
+A Reserve 5 11 0 ALL_TG_PT; Good;; 1; 11 11; 11 5
+A_TWO Release 5 11 0 ALL_TG_PT; Good;; 1; 11 11; 11 5
+allows A rwo
+allows A_TWO rwo
+B Register 0 0 22; Good;; 2; 11 11 22; 11 5
+B Preempt 5 22 11 ALL_TG_PT; Good; A:RegistrationsPreempted A_TWO:RegistrationsPreempted; 3; 22; 22 5
+allows A r-o
+allows A_TWO r-o
+
+the last port of all registrants
+A Register 0 0 11 ALL_TG_PT; Good;; 1; 11 11; 0 0
+A Reserve 7 11 0 ALL_TG_PT; Good;; 1; 11 11; 0 7
+B Register 0 0 22 ALL_TG_PT; Good;; 2; 11 11 22 22; 0 7
+A_TWO Register 0 11 0 ALL_TG_PT; Good;; 3; 22 22; 0 7
+B Register 0 22 0 ALL_TG_PT; Good;; 4;; 0 0
+
+type 1
+A Register 0 0 11; Good;; 1; 11; 0 0
+B Register 0 0 22; Good;; 2; 11 22; 0 0
+A Reserve 1 11 0; Good;; 2; 11 22; 11 1
+allows A rwo
+allows B r-o
+allows C r-o
+
+type 3
+A Register 0 0 11; Good;; 1; 11; 0 0
+B Register 0 0 22; Good;; 2; 11 22; 0 0
+A Reserve 3 11 0; Good;; 2; 11 22; 11 3
+allows A rwo
+allows B --o
+allows C --o
+
+type 5
+A Register 0 0 11; Good;; 1; 11; 0 0
+B Register 0 0 22; Good;; 2; 11 22; 0 0
+A Reserve 5 11 0; Good;; 2; 11 22; 11 5
+allows A rwo
+allows B rwo
+allows C r-o
+
+type 6
+A Register 0 0 11; Good;; 1; 11; 0 0
+B Register 0 0 22; Good;; 2; 11 22; 0 0
+A Reserve 6 11 0; Good;; 2; 11 22; 11 6
+allows A rwo
+allows B rwo
+allows C --o
+
+type 7
+A Register 0 0 11; Good;; 1; 11; 0 0
+B Register 0 0 22; Good;; 2; 11 22; 0 0
+A Reserve 7 11 0; Good;; 2; 11 22; 0 7
+allows A rwo
+allows B rwo
+allows C r-o
+
+type 8
+A Register 0 0 11; Good;; 1; 11; 0 0
+B Register 0 0 22; Good;; 2; 11 22; 0 0
+A Reserve 8 11 0; Good;; 2; 11 22; 0 8
+allows A rwo
+allows B rwo
+allows C --o
+
+no reservation
+allows C rwo
+"
+}
