@@ -1,14 +1,18 @@
 -- A session whose command is looked at before it goes on.
 use Rattle.std.proofs.Common.{◌≡◌, ◌||◌, ℕ, Bool, true, false, nat_eq, if◌then◌else◌, List, [], ◌∷◌, ◌++◌, length, Option, Some, None}
-use Rattle.std.proofs.Common.{refl, ap, subst, ◌∙◌}
-use Rattle.std.specs.Prelude.{IfSome, ◌<◌, slice_get, slice_index_or, slice_set}
+use Rattle.std.proofs.Common.{refl, sym, ap, subst, ◌∙◌, ◌⊎◌, inl, inr}
+use Rattle.std.specs.List.{remove}
+use Rattle.std.specs.Prelude.{IfSome, MatchOption, ◌<◌, slice_get, slice_index_or, slice_set}
 use Rattle.std.proofs.lemmas.Option.{slice_get_read}
 use Rattle.std.proofs.lemmas.List.{set-set}
 use Rattle.locked_unit.specs.declared.machine.Refused.TheVariants.{Gone as IsGone, Moved, NoMemory}
 use Rattle.scsi_types.specs.declared.names.Group.{Group}
 use Rattle.scsi_types.specs.declared.names.Group.TheVariants.{One, Two}
-use Rattle.world.specs.Traffic.{Traffic, at_stage, given, given_up, handed_in, heard, in_hand, is_closed, note_of, noted, waiting}
-use Rattle.world.specs.Traffic.{with_waiting}
+use Rattle.world.specs.Records.{sent}
+use Rattle.world.specs.declared.records.Way.{Way}
+use Rattle.world.specs.declared.records.Way.TheVariants as ways
+use Rattle.world.specs.Traffic.{Traffic, at_stage, given, given_up, heard, is_closed, note_of, noted, waiting}
+use Rattle.world.specs.Traffic.{IsTakenBack, in_lane, taken_back, waits_in, with_waiting}
 use Rattle.world.specs.declared.note.What.{What}
 use Rattle.world.specs.declared.note.What.TheVariants.{Submitted, Replied as HasReply, Busy, Gone}
 use Rattle.unit_events.specs.declared.job.Job.{Job}
@@ -129,19 +133,16 @@ module _ (t : Traffic) (n : ℕ) (x : Session) (stage : Stage) where
       subst (λ (o : Option Session). IfSome o (λ y. new ≡ act then_at y a)) (get_written t.sessions n seen x there) did in
       rw (there, is) (done ∙ again)
 
-  pub hands_in_again : (in_stage : Session → Option Job) (count : ℕ) (job : Job) (new : Traffic)
-      → slice_get t.sessions n ≡ Some x → in_stage x ≡ Some job
-      → IfSome (slice_get then_at.sessions n) (λ y. new ≡ handed_in count then_at n y job)
-      → new ≡ given t (slice_get t.sessions n) (λ y. given t (in_stage y) (λ j. handed_in count t n y j))
-  hands_in_again in_stage count job new there is did =
-      goes_on in_stage (λ u y j. handed_in count u n y j) job new there is (handed_to count job job.by_group) did
+  sent_again : (way : Way) (count : ℕ) (job : Job) → sent way count then_at n seen job ≡ sent way count t n x job
+  sent_again ways.Desk count job = handed_to count job job.by_group
+  sent_again ways.Hand count job = held_by count job job.by_group
 
-  pub takes_in_hand : (in_stage : Session → Option Job) (count : ℕ) (job : Job) (new : Traffic)
+  pub sends_again : (in_stage : Session → Option Job) (way : Way) (count : ℕ) (job : Job) (new : Traffic)
       → slice_get t.sessions n ≡ Some x → in_stage x ≡ Some job
-      → IfSome (slice_get then_at.sessions n) (λ y. new ≡ in_hand count then_at n y job)
-      → new ≡ given t (slice_get t.sessions n) (λ y. given t (in_stage y) (λ j. in_hand count t n y j))
-  takes_in_hand in_stage count job new there is did =
-      goes_on in_stage (λ u y j. in_hand count u n y j) job new there is (held_by count job job.by_group) did
+      → IfSome (slice_get then_at.sessions n) (λ y. new ≡ sent way count then_at n y job)
+      → new ≡ given t (slice_get t.sessions n) (λ y. given t (in_stage y) (λ j. sent way count t n y j))
+  sends_again in_stage way count job new there is did =
+      goes_on in_stage (λ u y j. sent way count u n y j) job new there is (sent_again way count job) did
 
   pub hears_it : (in_stage : Session → Option (Job × End)) (count : ℕ) (job : Job) (end : End) (new : Traffic)
       → slice_get t.sessions n ≡ Some x → in_stage x ≡ Some (job, end)
@@ -149,3 +150,51 @@ module _ (t : Traffic) (n : ℕ) (x : Session) (stage : Stage) where
       → new ≡ given t (slice_get t.sessions n) (λ y. given t (in_stage y) (λ a. heard count t n y a.0 a.1))
   hears_it in_stage count job end new there is did =
       goes_on in_stage (λ u y a. heard count u n y a.0 a.1) (job, end) new there is (heard_again count job end) did
+
+-- ---- a job that is taken back from its desk
+
+module _ (t : Traffic) (n : ℕ) (x : Session) (group : Group) (there : slice_get t.sessions n ≡ Some x) where
+  put : (job : Job) (g : Group) (rest : List ℕ) → waits_in x.stage ≡ Some job
+      → given (with_waiting t g rest) (slice_get (with_waiting t g rest).sessions n) (λ y. in_lane (with_waiting t g rest) n y)
+      ≡ with_waiting (at_stage t n x (InLane job)) g rest
+  put job One rest is = rw (there, is) refl
+  put job Two rest is = rw (there, is) refl
+
+  back_by : (at : ℕ) (new : Traffic) (o : Option Job) → waits_in x.stage ≡ o
+      → MatchOption o ⊥ (λ job. job.by_group ≡ group) → slice_get (waiting t group) at ≡ Some n
+      → new ≡ given (with_waiting t group (remove (waiting t group) at))
+      (slice_get (with_waiting t group (remove (waiting t group) at)).sessions n)
+      (λ y. in_lane (with_waiting t group (remove (waiting t group) at)) n y)
+      → MatchOption o (new ≡ t)
+      (λ job. ((at : ℕ) × (slice_get (waiting t job.by_group) at ≡ Some n) × (new ≡ taken_back t n x job at))
+      ⊎ (((at : ℕ) → slice_get (waiting t job.by_group) at ≡ Some n → ⊥) × (new ≡ t)))
+  back_by at new None is asks waits did = absurd asks
+  back_by at new (Some job) is asks waits did =
+      inl (
+        at,
+        subst (λ (g : Group). slice_get (waiting t g) at ≡ Some n) (sym asks) waits,
+        subst (λ (g : Group). new ≡ with_waiting (at_stage t n x (InLane job)) g (remove (waiting t g) at)) (sym asks)
+            (did ∙ put job group (remove (waiting t group) at) is),
+      )
+
+  pub took_back : (at : ℕ) (mid new : Traffic) → MatchOption (waits_in x.stage) ⊥ (λ job. job.by_group ≡ group)
+      → slice_get (waiting t group) at ≡ Some n → mid ≡ with_waiting t group (remove (waiting t group) at)
+      → new ≡ given mid (slice_get mid.sessions n) (λ y. in_lane mid n y)
+      → MatchOption (slice_get t.sessions n) (new ≡ t) (λ y. IsTakenBack t n y new)
+  took_back at mid new asks waits left did =
+      rw there (back_by at new (waits_in x.stage) refl asks waits
+      (subst (λ (u : Traffic). new ≡ given u (slice_get u.sessions n) (λ y. in_lane u n y)) left did))
+
+  not_by : (o : Option Job) → MatchOption o ⊥ (λ job. job.by_group ≡ group)
+      → ((at : ℕ) → slice_get (waiting t group) at ≡ Some n → ⊥)
+      → MatchOption o (t ≡ t)
+      (λ job. ((at : ℕ) × (slice_get (waiting t job.by_group) at ≡ Some n) × (t ≡ taken_back t n x job at))
+      ⊎ (((at : ℕ) → slice_get (waiting t job.by_group) at ≡ Some n → ⊥) × (t ≡ t)))
+  not_by None asks nowhere = refl
+  not_by (Some job) asks nowhere =
+      inr (subst (λ (g : Group). (at : ℕ) → slice_get (waiting t g) at ≡ Some n → ⊥) (sym asks) nowhere, refl)
+
+  pub took_nothing : MatchOption (waits_in x.stage) ⊥ (λ job. job.by_group ≡ group)
+      → ((at : ℕ) → slice_get (waiting t group) at ≡ Some n → ⊥)
+      → MatchOption (slice_get t.sessions n) (t ≡ t) (λ y. IsTakenBack t n y t)
+  took_nothing asks nowhere = rw there (not_by (waits_in x.stage) asks nowhere)

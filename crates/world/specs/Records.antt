@@ -1,7 +1,11 @@
 -- What the code keeps of what is on its way.
-use Rattle.std.specs.Prelude.{◌<◌, length, vec_capacity}
-use Rattle.world.specs.Traffic.{Traffic}
+use Rattle.std.specs.Prelude.{ℕ, ◌<◌, length, vec_capacity}
+use Rattle.world.specs.Traffic.{Traffic, handed_in, in_hand}
+use Rattle.unit_events.specs.declared.job.Job.{Job}
 use Rattle.world.specs.declared.records.Records.{Records}
+use Rattle.world.specs.declared.records.Way.{Way}
+use Rattle.world.specs.declared.records.Way.TheVariants as ways
+use Rattle.world.specs.declared.session.Session.{Session}
 
 abbrev pub traffic_of : Records → Traffic
 traffic_of r = record {
@@ -17,3 +21,8 @@ traffic_of r = record {
 pub record HasRoom (r : Records) : Type 0 where
   pub sessions : length r.sessions.items < vec_capacity r.sessions
   pub notes : length r.notes.items < vec_capacity r.notes
+
+-- a job that is sent to the desk of its group, or that the session's worker has in hand
+abbrev pub sent : Way → ℕ → Traffic → ℕ → Session → Job → Traffic
+sent ways.Desk count t n x job = handed_in count t n x job
+sent ways.Hand count t n x job = in_hand count t n x job

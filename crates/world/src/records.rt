@@ -1,10 +1,10 @@
 //! What is on its way in the array.
-ghost use Rattle.std.specs.Prelude.{◌≡◌, ◌<◌, ◌∷◌, [], ℕ, Some, length, slice_get, OnOk, IfOk, IfSome, IfNone, MatchOption};
+ghost use Rattle.std.specs.Prelude.{◌≡◌, ◌<◌, ◌∷◌, [], ℕ, Some, length, slice_get, OnOk, IfOk, IfSome, IfNone, MatchOption, if◌then◌else◌};
 ghost use Rattle.std.specs.List.{remove};
-ghost use Rattle.world.specs.Records.{HasRoom, traffic_of};
-ghost use Rattle.world.specs.Traffic.{attached, begun, begun_again, closed, collected, ended, given, given_up, handed_in, heard};
-ghost use Rattle.world.specs.Traffic.{IsTakenBack, in_hand, in_lane, is_closed, no_traffic, note_of, posted, submitted};
-ghost use Rattle.world.specs.Traffic.{submitted_again, taken, waiting, with_waiting};
+ghost use Rattle.world.specs.Records.{HasRoom, sent, traffic_of};
+ghost use Rattle.world.specs.Traffic.{attached, closed, collected, ended, given, given_up, handed_in, heard};
+ghost use Rattle.world.specs.Traffic.{IsTakenBack, in_hand, in_lane, is_closed, is_idle, no_traffic, note_of, posted, returned_in};
+ghost use Rattle.world.specs.Traffic.{taken, waiting, with_waiting};
 ghost use Rattle.locked_unit.specs.declared.machine.Refused.TheVariants as causes;
 ghost use Rattle.unit_events.specs.declared.job.End.TheVariants as ends;
 
@@ -15,6 +15,13 @@ use locked_unit::Refused;
 use scsi_types::{Group, NoMemory};
 use std::alloc::Global;
 use unit_events::{End, Job};
+
+// Who serves a session's command: a lane that takes it from its desk, or the session's worker, which has it in hand.
+#[derive(Clone, Copy)]
+pub(crate) enum Way {
+    Desk,
+    Hand,
+}
 
 // The sessions, the desks of both groups, and what was submitted and collected.
 #[derive(Drop)]
@@ -98,8 +105,8 @@ impl Records {
             (λ x. traffic_of self.new ≡ given_up count (traffic_of self.old) n x what) }
     {
         let session = &mut self.sessions[n];
-        session.stage = Stage::Idle;
         let note = note_of(session, count, what);
+        session.go_to(Stage::Idle);
         self.notes.push_reserved(note);
     }
 
@@ -122,34 +129,6 @@ impl Records {
         let note = note_of(session, count, What::Submitted);
         session.go_to(Stage::Waits(job));
         self.notes.push_reserved(note);
-    }
-
-    // Hands a new command in, where the session has none on its way.
-    pub(crate) fn submit(&mut self, n: usize, count: u64, job: Job)
-        requires { HasRoom self.old }
-        ensures { traffic_of self.new ≡ given (traffic_of self.old) (slice_get self.old.sessions.items n)
-            (λ x. submitted count (traffic_of self.old) n x job) }
-    {
-        let Some(session) = self.sessions.get(n) else {
-            return;
-        };
-        if session.stage.is_idle() {
-            self.hand_in(n, count, job);
-        }
-    }
-
-    // Hands a command that came to Moved in once more.
-    pub(crate) fn submit_again(&mut self, n: usize, count: u64)
-        requires { HasRoom self.old }
-        ensures { traffic_of self.new ≡ given (traffic_of self.old) (slice_get self.old.sessions.items n)
-            (λ x. submitted_again count (traffic_of self.old) n x) }
-    {
-        let Some(session) = self.sessions.get_mut(n) else {
-            return;
-        };
-        if let Some(job) = session.stage.take_returned() {
-            self.hand_in(n, count, job);
-        }
     }
 
     // Whether the desk of a group is closed.
@@ -189,31 +168,44 @@ impl Records {
         self.notes.push_reserved(note);
     }
 
-    // A session's worker serves a new command at once, where it has none on its way.
-    pub(crate) fn begin(&mut self, n: usize, count: u64, job: Job)
-        requires { HasRoom self.old }
-        ensures { traffic_of self.new ≡ given (traffic_of self.old) (slice_get self.old.sessions.items n)
-            (λ x. begun count (traffic_of self.old) n x job) }
+    // Sends a session's job this way.
+    fn send(&mut self, n: usize, count: u64, way: Way, job: Job)
+        requires room { HasRoom self.old }
+        requires there { n < length self.old.sessions.items }
+        ensures { IfSome (slice_get self.old.sessions.items n)
+            (λ x. traffic_of self.new ≡ sent way count (traffic_of self.old) n x job) }
     {
-        let Some(session) = self.sessions.get(n) else {
-            return;
-        };
-        if session.stage.is_idle() {
-            self.take_in_hand(n, count, job);
+        match way {
+            Way::Desk => self.hand_in(n, count, job),
+            Way::Hand => self.take_in_hand(n, count, job),
         }
     }
 
-    // And one that came to Moved.
-    pub(crate) fn begin_again(&mut self, n: usize, count: u64)
+    // Sends a new command, where the session has none on its way.
+    pub(crate) fn submit(&mut self, n: usize, count: u64, way: Way, job: Job)
         requires { HasRoom self.old }
         ensures { traffic_of self.new ≡ given (traffic_of self.old) (slice_get self.old.sessions.items n)
-            (λ x. begun_again count (traffic_of self.old) n x) }
+            (λ x. if is_idle x.stage then sent way count (traffic_of self.old) n x job else traffic_of self.old) }
+    {
+        let Some(session) = self.session(n) else {
+            return;
+        };
+        if session.stage.is_idle() {
+            self.send(n, count, way, job);
+        }
+    }
+
+    // Sends a command that came to Moved once more.
+    pub(crate) fn submit_again(&mut self, n: usize, count: u64, way: Way)
+        requires { HasRoom self.old }
+        ensures { traffic_of self.new ≡ given (traffic_of self.old) (slice_get self.old.sessions.items n)
+            (λ x. given (traffic_of self.old) (returned_in x.stage) (λ job. sent way count (traffic_of self.old) n x job)) }
     {
         let Some(session) = self.sessions.get_mut(n) else {
             return;
         };
         if let Some(job) = session.stage.take_returned() {
-            self.take_in_hand(n, count, job);
+            self.send(n, count, way, job);
         }
     }
 
@@ -245,7 +237,7 @@ impl Records {
         ensures { MatchOption (slice_get self.old.sessions.items n) (traffic_of self.new ≡ traffic_of self.old)
             (λ x. IsTakenBack (traffic_of self.old) n x (traffic_of self.new)) }
     {
-        let Some(session) = self.sessions.get(n) else {
+        let Some(session) = self.session(n) else {
             return;
         };
         let Some(group) = session.stage.waits_at() else {

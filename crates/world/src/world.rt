@@ -1,14 +1,14 @@
 //! The world.
-ghost use Rattle.std.specs.Prelude.{◌≡◌, ◌<◌, ◌&&◌, [], ℕ, All, IfOk, MatchOption, OnOk, OnErr, length, slice_get, take};
+ghost use Rattle.std.specs.Prelude.{◌≡◌, ◌<◌, ◌&&◌, [], ℕ, All, IfOk, MatchOption, OnOk, OnErr, if◌then◌else◌, length, slice_get, take};
 ghost use Rattle.unit_state.specs.Serials.{IsOpening};
-ghost use Rattle.world.specs.Traffic.{IsTakenBack, begun, begun_again, closed, collected, given, new_job, no_traffic, posted};
-ghost use Rattle.world.specs.Traffic.{submitted, submitted_again, taken};
+ghost use Rattle.world.specs.Records.{sent};
+ghost use Rattle.world.specs.Traffic.{IsTakenBack, closed, collected, given, is_idle, new_job, no_traffic, posted, returned_in, taken};
 ghost use Rattle.world.specs.Worlds.{AllHappen, Happens, IsCountAt, IsCountOf, Stands, opening_of};
 ghost use Rattle.world.specs.declared.event.Event.TheVariants as events;
 
 use crate::event::Event;
 use crate::note::Note;
-use crate::records::Records;
+use crate::records::{Records, Way};
 use crate::session::{Session, Stage};
 use block_file::{Blocks, Opener};
 use scsi_types::{Asked, Group, NoMemory, PortName};
@@ -206,24 +206,25 @@ impl<B: Blocks, F: Blocks, O: Opener<B>> World<B, F, O> {
         Ok(())
     }
 
-    // A session whose command came to Moved hands it in once more.
-    fn submit_again(&mut self, session: usize) -> Result<(), NoMemory>
+    // A session whose command came to Moved sends it once more.
+    fn submit_again(&mut self, session: usize, way: Way) -> Result<(), NoMemory>
         ensures units { self.new.units ≡ self.old.units }
         ensures traffic { OnOk result ((count : ℕ) × IsCountOf self.old session count × (self.new.traffic
             ≡ given self.old.traffic (slice_get self.old.traffic.sessions session)
-            (λ x. submitted_again count self.old.traffic session x))) }
+            (λ x. given self.old.traffic (returned_in x.stage) (λ job. sent way count self.old.traffic session x job)))) }
         ensures err { OnErr result (self.new ≡ self.old) }
     {
         self.records.make_room()?;
         let count = self.count_of(session);
-        self.records.submit_again(session, count);
+        self.records.submit_again(session, count, way);
         Ok(())
     }
 
-    // A session hands a command in.
+    // A session sends a command.
     fn submit(
         &mut self,
         session: usize,
+        way: Way,
         by_group: Group,
         asked: Asked,
         bytes: &Bytes,
@@ -231,7 +232,9 @@ impl<B: Blocks, F: Blocks, O: Opener<B>> World<B, F, O> {
         ensures units { self.new.units ≡ self.old.units }
         ensures traffic { OnOk result ((count : ℕ) × IsCountOf self.old session count × (self.new.traffic
             ≡ given self.old.traffic (slice_get self.old.traffic.sessions session)
-            (λ x. submitted count self.old.traffic session x (new_job by_group asked bytes.now)))) }
+            (λ x. if is_idle x.stage
+            then sent way count self.old.traffic session x (new_job by_group asked bytes.now)
+            else self.old.traffic))) }
         ensures err { OnErr result (self.new ≡ self.old) }
     {
         let bytes = bytes.copy(self.alloc)?;
@@ -243,48 +246,7 @@ impl<B: Blocks, F: Blocks, O: Opener<B>> World<B, F, O> {
             bytes,
             is_second: false,
         };
-        self.records.submit(session, count, job);
-        Ok(())
-    }
-
-    // A session's worker serves a command at once.
-    fn begin(
-        &mut self,
-        session: usize,
-        by_group: Group,
-        asked: Asked,
-        bytes: &Bytes,
-    ) -> Result<(), NoMemory>
-        ensures units { self.new.units ≡ self.old.units }
-        ensures traffic { OnOk result ((count : ℕ) × IsCountOf self.old session count × (self.new.traffic
-            ≡ given self.old.traffic (slice_get self.old.traffic.sessions session)
-            (λ x. begun count self.old.traffic session x (new_job by_group asked bytes.now)))) }
-        ensures err { OnErr result (self.new ≡ self.old) }
-    {
-        let bytes = bytes.copy(self.alloc)?;
-        self.records.make_room()?;
-        let count = self.count_of(session);
-        let job = Job {
-            by_group,
-            asked,
-            bytes,
-            is_second: false,
-        };
-        self.records.begin(session, count, job);
-        Ok(())
-    }
-
-    // A session's worker serves one that came to Moved at once.
-    fn begin_again(&mut self, session: usize) -> Result<(), NoMemory>
-        ensures units { self.new.units ≡ self.old.units }
-        ensures traffic { OnOk result ((count : ℕ) × IsCountOf self.old session count × (self.new.traffic
-            ≡ given self.old.traffic (slice_get self.old.traffic.sessions session)
-            (λ x. begun_again count self.old.traffic session x))) }
-        ensures err { OnErr result (self.new ≡ self.old) }
-    {
-        self.records.make_room()?;
-        let count = self.count_of(session);
-        self.records.begin_again(session, count);
+        self.records.submit(session, count, way, job);
         Ok(())
     }
 
@@ -321,15 +283,15 @@ impl<B: Blocks, F: Blocks, O: Opener<B>> World<B, F, O> {
                 by_group,
                 asked,
                 bytes,
-            } => return self.submit(*session, *by_group, *asked, bytes),
-            Event::SubmitAgain { session } => return self.submit_again(*session),
+            } => return self.submit(*session, Way::Desk, *by_group, *asked, bytes),
+            Event::SubmitAgain { session } => return self.submit_again(*session, Way::Desk),
             Event::Begin {
                 session,
                 by_group,
                 asked,
                 bytes,
-            } => return self.begin(*session, *by_group, *asked, bytes),
-            Event::BeginAgain { session } => return self.begin_again(*session),
+            } => return self.submit(*session, Way::Hand, *by_group, *asked, bytes),
+            Event::BeginAgain { session } => return self.submit_again(*session, Way::Hand),
             Event::TakeBack { session } => self.take_back(*session),
             Event::Close { group } => self.close(*group),
             Event::Take { group } => self.take(*group),

@@ -73,23 +73,23 @@ pub returns-in-Begin-clause-done : goal.returns-in-Begin-clause-done
 returns-in-Begin-clause-done g c =
     let t = c.args.self.now.traffic in
     rw c.in-Begin.is
-    (on_done c.begin.result c.begin.ensures.traffic
+    (on_done c.submit-in-Begin.result c.submit-in-Begin.ensures.traffic
     (λ did. counted_goes (g.O.Opener.claims && g.B.Blocks.claims) g.B.Blocks.contents g.B.Blocks.failures g.O.Opener.opens_failed
     g.F.Blocks.failures
     (events.Begin c.in-Begin.session c.in-Begin.by_group c.in-Begin.asked c.in-Begin.bytes) c.args.self.now
-    c.begin.new.self c.in-Begin.session did.0 (λ count x. begun count t c.in-Begin.session x (new_job c.in-Begin.by_group c.in-Begin.asked c.in-Begin.bytes))
-    did.1 c.begin.ensures.units did.2 (λ opening past. refl)))
+    c.submit-in-Begin.new.self c.in-Begin.session did.0 (λ count x. begun count t c.in-Begin.session x (new_job c.in-Begin.by_group c.in-Begin.asked c.in-Begin.bytes))
+    did.1 c.submit-in-Begin.ensures.units did.2 (λ opening past. refl)))
 
 pub returns-in-BeginAgain-clause-done : goal.returns-in-BeginAgain-clause-done
 returns-in-BeginAgain-clause-done g c =
     let t = c.args.self.now.traffic in
     rw c.in-BeginAgain.is
-    (on_done c.begin_again.result c.begin_again.ensures.traffic
+    (on_done c.submit_again-in-BeginAgain.result c.submit_again-in-BeginAgain.ensures.traffic
     (λ did. counted_goes (g.O.Opener.claims && g.B.Blocks.claims) g.B.Blocks.contents g.B.Blocks.failures g.O.Opener.opens_failed
     g.F.Blocks.failures
     (events.BeginAgain c.in-BeginAgain.session) c.args.self.now
-    c.begin_again.new.self c.in-BeginAgain.session did.0 (λ count x. begun_again count t c.in-BeginAgain.session x)
-    did.1 c.begin_again.ensures.units did.2 (λ opening past. refl)))
+    c.submit_again-in-BeginAgain.new.self c.in-BeginAgain.session did.0 (λ count x. begun_again count t c.in-BeginAgain.session x)
+    did.1 c.submit_again-in-BeginAgain.ensures.units did.2 (λ opening past. refl)))
 
 pub returns-in-Close-clause-done : goal.returns-in-Close-clause-done
 returns-in-Close-clause-done g c =
