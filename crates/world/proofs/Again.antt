@@ -8,7 +8,7 @@ use Rattle.std.proofs.lemmas.List.{set-set}
 use Rattle.locked_unit.specs.declared.machine.Refused.TheVariants.{Gone as IsGone, Moved, NoMemory}
 use Rattle.scsi_types.specs.declared.names.Group.{Group}
 use Rattle.scsi_types.specs.declared.names.Group.TheVariants.{One, Two}
-use Rattle.world.specs.Records.{sent}
+use Rattle.world.specs.Records.{on_from, sent}
 use Rattle.world.specs.declared.records.Way.{Way}
 use Rattle.world.specs.declared.records.Way.TheVariants as ways
 use Rattle.world.specs.Traffic.{Traffic, at_stage, given, given_up, heard, is_closed, note_of, noted, waiting}
@@ -198,3 +198,22 @@ module _ (t : Traffic) (n : ℕ) (x : Session) (group : Group) (there : slice_ge
       → ((at : ℕ) → slice_get (waiting t group) at ≡ Some n → ⊥)
       → MatchOption (slice_get t.sessions n) (t ≡ t) (λ y. IsTakenBack t n y t)
   took_nothing asks nowhere = rw there (not_by (waits_in x.stage) asks nowhere)
+
+-- ---- a command that goes on where it is at the stage that is asked for
+
+module _ {A : Type 0} (t : Traffic) (n : ℕ) (to : A → Stage) where
+  on_or_not : (x : Session) (o : Option A) → slice_get t.sessions n ≡ Some x
+      → at_stage t n x (on_from o to x.stage) ≡ given t o (λ a. at_stage t n x (to a))
+  on_or_not x None there = ap (λ (xs : List Session). record t { sessions = xs }) (set_same t.sessions n x there)
+  on_or_not x (Some a) there = refl
+
+  went_by : (in_stage : Stage → Option A) (o : Option Session) → slice_get t.sessions n ≡ o
+      → given t o (λ x. at_stage t n x (on_from (in_stage x.stage) to x.stage))
+      ≡ given t o (λ x. given t (in_stage x.stage) (λ a. at_stage t n x (to a)))
+  went_by in_stage None there = refl
+  went_by in_stage (Some x) there = on_or_not x (in_stage x.stage) there
+
+  pub went_on : (in_stage : Stage → Option A)
+      → given t (slice_get t.sessions n) (λ x. at_stage t n x (on_from (in_stage x.stage) to x.stage))
+      ≡ given t (slice_get t.sessions n) (λ x. given t (in_stage x.stage) (λ a. at_stage t n x (to a)))
+  went_on in_stage = went_by in_stage (slice_get t.sessions n) refl

@@ -1,8 +1,8 @@
 //! What is on its way in the array.
 ghost use Rattle.std.specs.Prelude.{◌≡◌, ◌<◌, ◌∷◌, [], ℕ, Some, length, slice_get, OnOk, IfOk, IfSome, IfNone, MatchOption, if◌then◌else◌};
 ghost use Rattle.std.specs.List.{remove};
-ghost use Rattle.world.specs.Records.{HasRoom, sent, traffic_of};
-ghost use Rattle.world.specs.Traffic.{attached, closed, collected, ended, given, given_up, handed_in, heard};
+ghost use Rattle.world.specs.Records.{HasRoom, sent, traffic_of, turned};
+ghost use Rattle.world.specs.Traffic.{at_stage, attached, closed, collected, ended, given, given_up, handed_in, heard};
 ghost use Rattle.world.specs.Traffic.{IsTakenBack, in_hand, in_lane, is_closed, is_idle, no_traffic, note_of, posted, returned_in};
 ghost use Rattle.world.specs.Traffic.{taken, waiting, with_waiting};
 ghost use Rattle.locked_unit.specs.declared.machine.Refused.TheVariants as causes;
@@ -10,7 +10,7 @@ ghost use Rattle.unit_events.specs.declared.job.End.TheVariants as ends;
 
 use crate::desk::Desk;
 use crate::note::{Note, What};
-use crate::session::{Session, Stage};
+use crate::session::{Session, Stage, Turn};
 use locked_unit::Refused;
 use scsi_types::{Group, NoMemory};
 use std::alloc::Global;
@@ -262,17 +262,22 @@ impl Records {
         }
     }
 
+    // A session's command takes a turn.
+    fn turn(&mut self, n: usize, turn: Turn)
+        ensures { traffic_of self.new ≡ given (traffic_of self.old) (slice_get self.old.sessions.items n)
+            (λ x. at_stage (traffic_of self.old) n x (turned turn x.stage)) }
+    {
+        if let Some(session) = self.sessions.get_mut(n) {
+            session.turn(turn);
+        }
+    }
+
     // A lane holds a session's job, which had waited.
     fn to_lane(&mut self, n: usize)
         ensures { traffic_of self.new ≡ given (traffic_of self.old) (slice_get self.old.sessions.items n)
             (λ x. in_lane (traffic_of self.old) n x) }
     {
-        let Some(session) = self.sessions.get_mut(n) else {
-            return;
-        };
-        if let Some(job) = session.stage.take_waiting() {
-            session.go_to(Stage::InLane(job));
-        }
+        self.turn(n, Turn::ToLane);
     }
 
     // A lane takes the job that waits first at the desk of a group.
@@ -289,12 +294,7 @@ impl Records {
         ensures { traffic_of self.new ≡ given (traffic_of self.old) (slice_get self.old.sessions.items n)
             (λ x. ended (traffic_of self.old) n x end) }
     {
-        let Some(session) = self.sessions.get_mut(n) else {
-            return;
-        };
-        if let Some(job) = session.stage.take_in_lane() {
-            session.go_to(Stage::Ended(job, end));
-        }
+        self.turn(n, Turn::End(end));
     }
 
     // A lane posts the answer of a session's job.
@@ -302,12 +302,7 @@ impl Records {
         ensures { traffic_of self.new ≡ given (traffic_of self.old) (slice_get self.old.sessions.items n)
             (λ x. posted (traffic_of self.old) n x) }
     {
-        let Some(session) = self.sessions.get_mut(n) else {
-            return;
-        };
-        if let Some((job, end)) = session.stage.take_ended() {
-            session.go_to(Stage::Answered(job, end));
-        }
+        self.turn(n, Turn::Post);
     }
 
     // A session hears the answer to its job.

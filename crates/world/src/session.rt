@@ -1,6 +1,7 @@
 //! The sessions of a world, and where their commands are.
 ghost use Rattle.std.specs.Prelude.{◌≡◌, IfNone, MatchOption, None};
-ghost use Rattle.world.specs.Traffic.{answered_in, ended_in, is_idle, lane_in, returned_in, waits_in};
+ghost use Rattle.world.specs.Records.{turned};
+ghost use Rattle.world.specs.Traffic.{answered_in, is_idle, returned_in, waits_in};
 
 use scsi_types::Group;
 use std::mem;
@@ -36,7 +37,38 @@ pub struct Session {
     pub stage: Stage,
 }
 
+/// What moves a session's command on, where it is at the stage that this asks for.
+#[derive(Drop)]
+pub(crate) enum Turn {
+    // A lane, or its worker, takes the job that waits.
+    ToLane,
+    // It has this answer to the job that it holds.
+    End(End),
+    // It posts its answer.
+    Post,
+}
+
 impl Stage {
+    // The stage behind a turn.
+    fn turned(self, turn: Turn) -> Stage
+        ensures { result ≡ turned turn self }
+    {
+        match turn {
+            Turn::ToLane => match self {
+                Stage::Waits(job) => Stage::InLane(job),
+                other => other,
+            },
+            Turn::End(end) => match self {
+                Stage::InLane(job) => Stage::Ended(job, end),
+                other => other,
+            },
+            Turn::Post => match self {
+                Stage::Ended(job, end) => Stage::Answered(job, end),
+                other => other,
+            },
+        }
+    }
+
     // Whether there is no command.
     pub(crate) fn is_idle(&self) -> bool
         ensures { result ≡ is_idle self.now }
@@ -51,20 +83,6 @@ impl Stage {
         }
     }
 
-    // The job that waits at a desk.
-    pub(crate) fn take_waiting(&mut self) -> Option<Job>
-        ensures job { result ≡ waits_in self.old }
-        ensures none { IfNone result (self.new ≡ self.old) }
-    {
-        match mem::replace(self, Stage::Idle) {
-            Stage::Waits(job) => Some(job),
-            other => {
-                *self = other;
-                None
-            }
-        }
-    }
-
     // The group at whose desk its job waits.
     pub(crate) fn waits_at(&self) -> Option<Group>
         ensures { MatchOption result (waits_in self.now ≡ None) (λ group. MatchOption (waits_in self.now) ⊥ (λ job. job.by_group ≡ group)) }
@@ -76,34 +94,6 @@ impl Stage {
             | Stage::Ended(_, _)
             | Stage::Answered(_, _)
             | Stage::Returned(_) => None,
-        }
-    }
-
-    // The job that a lane holds.
-    pub(crate) fn take_in_lane(&mut self) -> Option<Job>
-        ensures job { result ≡ lane_in self.old }
-        ensures none { IfNone result (self.new ≡ self.old) }
-    {
-        match mem::replace(self, Stage::Idle) {
-            Stage::InLane(job) => Some(job),
-            other => {
-                *self = other;
-                None
-            }
-        }
-    }
-
-    // The job that a lane has an answer to.
-    pub(crate) fn take_ended(&mut self) -> Option<(Job, End)>
-        ensures job { result ≡ ended_in self.old }
-        ensures none { IfNone result (self.new ≡ self.old) }
-    {
-        match mem::replace(self, Stage::Idle) {
-            Stage::Ended(job, end) => Some((job, end)),
-            other => {
-                *self = other;
-                None
-            }
         }
     }
 
@@ -137,6 +127,14 @@ impl Stage {
 }
 
 impl Session {
+    // Its command takes a turn.
+    pub(crate) fn turn(&mut self, turn: Turn)
+        ensures { self.new ≡ record self.old { stage = turned turn self.old.stage } }
+    {
+        let stage = mem::replace(&mut self.stage, Stage::Idle).turned(turn);
+        self.go_to(stage);
+    }
+
     // Its command is there now.
     pub(crate) fn go_to(&mut self, stage: Stage)
         ensures { self.new ≡ record self.old { stage = stage } }

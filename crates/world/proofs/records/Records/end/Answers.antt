@@ -1,13 +1,9 @@
-use Rattle.std.proofs.Common.{sym}
+use Rattle.std.proofs.Common.{◌∙◌}
 use Rattle.world.specs.Records.{traffic_of}
-use Rattle.world.specs.Traffic.{at_stage, lane_in}
+use Rattle.world.specs.Traffic.{lane_in}
 use Rattle.world.specs.declared.session.Stage.TheVariants.{Ended}
-use Rattle.world.proofs.Again.{put_back, there_is}
+use Rattle.world.proofs.Again.{went_on}
 use Rattle.world.proofs.records.Records.end.Goals as goal
 
-pub returns-in_default-take_in_lane : goal.returns-in_default-take_in_lane
-returns-in_default-take_in_lane c =
-    let t = traffic_of c.args.self.now in
-    put_back t c.args.n c.in-Some.session.now c.take_in_lane.new.self (λ x. lane_in x.stage)
-    (λ y job. at_stage t c.args.n y (Ended job c.args.end)) (there_is c.args.self.now.sessions.items c.args.n c.in-Some.session.now c.in-Some.ensures.item.3.0 c.in-Some.ensures.item.1)
-    (sym c.in_default-take_in_lane.ensures.job) c.in_default-take_in_lane.ensures.none
+pub returns : goal.returns
+returns c = c.turn.ensures ∙ went_on (traffic_of c.args.self.now) c.args.n (λ job. Ended job c.args.end) lane_in
