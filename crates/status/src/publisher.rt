@@ -86,14 +86,7 @@ impl<E, S, P: Published<E, S>, J: Origin<S>> Publisher<E, S, P, J> {
     {
         let Publisher { mut token, of } = self;
         publish_new::<E, S, P, J, A, M, R>(rt, &board.cell, &mut token, row, about);
-        let right = split_right::<E, S, P, J>(&board.cell, &mut token);
-        (
-            Publisher { token, of },
-            SessionRight {
-                token: right,
-                of: PhantomData,
-            },
-        )
+        Holder { token, of }.give_back(board)
     }
 
     /// Publishes an entry of no session's own.
@@ -136,14 +129,7 @@ impl<E, S, P: Published<E, S>, J: Origin<S>> Holder<E, S, P, J> {
     {
         let Holder { mut token, of } = self;
         publish_own::<E, S, P, J, A, M, R>(rt, &board.cell, &mut token, row, about);
-        let right = split_right::<E, S, P, J>(&board.cell, &mut token);
-        (
-            Publisher { token, of },
-            SessionRight {
-                token: right,
-                of: PhantomData,
-            },
-        )
+        Holder { token, of }.give_back(board)
     }
 
     /// Gives the right back.
