@@ -6,13 +6,13 @@ use Rattle.std.specs.Prelude.{IfSome, MatchOption}
 use Rattle.login.specs.declared.status.Kind.{Kind}
 use Rattle.login.specs.declared.status.Kind.TheVariants.{Normal, Discovery}
 use Rattle.registrants.specs.Nexus.{through}
-use Rattle.scsi_types.specs.Nexus.{Port, Nexus}
+use Rattle.scsi_types.specs.Nexus.{IsPortName, Port, Nexus}
 use Rattle.unit_control.specs.State.{UnitState}
 use Rattle.portal.specs.Sessions.{Sayings}
 use Rattle.portal.specs.Units.{Claims}
 use Rattle.portal.specs.Submitted.{At}
 use Rattle.portal.specs.Target.{TargetValue, Sight, AreAttached, IsCauseOf, IsFullAt, IsJoined, IsGrounded, IsRefused, IsTurnedBack, Leaves, fault_of}
-use Rattle.portal.specs.Target.{IsOfUnits, IsUnnamed, is_taken}
+use Rattle.portal.specs.Target.{HasBegun, IsOfUnits, IsUnnamed, is_taken}
 use Rattle.portal.specs.declared.live.EnterFault.{EnterFault}
 use Rattle.portal.specs.declared.live.EnterFault.TheVariants as enters
 use Rattle.portal.specs.declared.target.BeginFault.{BeginFault}
@@ -151,20 +151,66 @@ grounds_of table asked enters.NoTsih said = said
 grounds_of table asked enters.NoNumber said = said
 grounds_of table asked enters.NoMemory said = tt
 
-module _ (claims : Claims) (table : Sayings) (opening : ℕ → UnitState) where
-  -- So it is said of the target of a session that was not asked before: it had not begun.
-  pub turned_back : (old new : TargetValue) (port : Port) (kind : Kind) (fault : BeginFault) (before after : List Sight)
-      → old.begun ≡ false → before ≡ old.seen → after ≡ new.seen → new ≡ record old { asked = true; seen = new.seen }
-      → IsGrounded table old.asked fault
-      → IsTurnedBack claims opening (through port old.group) kind old.units fault before after
-      → IsRefused claims table opening old port kind fault new
-  turned_back old new port kind fault before after fresh one two rest grounds is =
+-- one that was asked before is as it was
+pub asked_twice : (claims : Claims) (table : Sayings) (opening : ℕ → UnitState) {C : Type 0} (now old : TargetValue) (port : Port)
+    (kind : Kind) (slot : Option C) → now ≡ old → now.asked ≡ true → slot ≡ None
+    → IsRefused claims table opening old port kind faults.Begun (record now { asked = is_taken slot })
+asked_twice claims table opening now old port kind slot is asked none =
+    subst (λ o. IsRefused claims table opening old port kind faults.Begun (record now { asked = is_taken o })) (sym none)
+    (subst (λ (t : TargetValue). IsRefused claims table opening t port kind faults.Begun (record now { asked = true })) is (record {
+      turned_back = record {
+        at = [];
+        attached = tt;
+        left = [];
+        over = tt;
+        full = [];
+        cause = (refl, refl);
+        ends = sym (append-nil now.seen) ∙ sym (append-nil (now.seen ++ []));
+      };
+      grounds = asked;
+      again = λ _. sym (ap (λ (b : Bool). record now { asked = b }) asked);
+      rest = refl;
+    }))
+
+-- the target of a session that was asked, before that
+pub unasked : (now : TargetValue) → now.asked ≡ true → now ≡ record (record now { asked = false }) { asked = true }
+unasked now asked = ap (λ (b : Bool). record now { asked = b }) asked
+
+-- The target of a session that was not asked before, and had not begun, as it is then.
+module _ (claims : Claims) (table : Sayings) (opening : ℕ → UnitState) (old now : TargetValue)
+    (is : now ≡ record old { asked = true }) where
+  -- it may not begin
+  pub turned_back : (port : Port) (kind : Kind) (fault : BeginFault) (at : List At) (before seen : List Sight) → old.begun ≡ false
+      → at ≡ old.at → before ≡ old.seen → IsGrounded table old.asked fault
+      → IsTurnedBack claims opening (through port now.group) kind now.units fault before seen
+      → IsRefused claims table opening old port kind fault (record now { at = at; seen = seen })
+  turned_back port kind fault at before seen fresh stays same grounds back =
       record {
-        turned_back = subst (λ (l : List Sight). IsTurnedBack claims opening (through port old.group) kind old.units fault l new.seen) one
-            (subst (λ (l : List Sight). IsTurnedBack claims opening (through port old.group) kind old.units fault before l) two is);
+        turned_back = subst (λ (l : List Sight). IsTurnedBack claims opening (through port old.group) kind old.units fault l seen) same
+            (subst (λ (t : TargetValue). IsTurnedBack claims opening (through port t.group) kind t.units fault before seen) is back);
         grounds = grounds;
         again = λ (begun : old.begun ≡ true). let e : true ≡ false = sym begun ∙ fresh in absurd (cc);
-        rest = rest;
+        rest = ap (λ (t : TargetValue). record t { at = at; seen = seen }) is
+            ∙ ap (λ (l : List At). record old { asked = true; at = l; seen = seen }) stays;
+      }
+
+  -- or it begins
+  pub has_begun : (port : Port) (kind : Kind) (number tsih : ℕ) (at : List At) (seen : List Sight) → IsPortName port
+      → old.asked ≡ false → (old.begun ≡ false) × (old.at ≡ []) × (old.seen ≡ []) → seen ≡ old.seen
+      → IsJoined claims opening kind (through port now.group) now.units at
+      → table.entered (through port now.group) kind number tsih
+      → HasBegun claims table opening old port kind tsih
+      (record now { begun = true; number = Some number; at = at; seen = seen })
+  has_begun port kind number tsih at seen name first fresh same joined entered =
+      record {
+        name = name;
+        first = first;
+        fresh = fresh;
+        joined = subst (λ (t : TargetValue). IsJoined claims opening kind (through port t.group) t.units at) is joined;
+        number = number;
+        entered = subst (λ (t : TargetValue). table.entered (through port t.group) kind number tsih) is entered;
+        rest = ap (λ (t : TargetValue). record t { begun = true; number = Some number; at = at; seen = seen }) is
+            ∙ ap (λ (l : List Sight). record old { asked = true; begun = true; number = Some number; at = at; seen = l }) same;
       }
 
 nothing : {X : Type 0} (xs : List X) → length xs ≡ 0 → xs ≡ []

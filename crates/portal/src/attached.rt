@@ -1,7 +1,7 @@
 //! A session at one unit.
 ghost use Rattle.std.specs.Prelude.{◌≡◌, ◌<◌, Some, None};
 ghost use Rattle.portal.specs.Late.{late_of};
-ghost use Rattle.portal.specs.Submitted.{IsCalled, IsOnce, IsServed, IsResetAnswer, answer_of};
+ghost use Rattle.portal.specs.Submitted.{IsCalled, IsOnce, IsServed, IsResetAnswer, answer_of, believed};
 
 use crate::gate::Gate;
 use crate::late::{told, without_flush};
@@ -58,6 +58,16 @@ fn put_back<P: Pass>(slot: &mut Option<P>, pass: P)
     match mem::replace(slot, Some(pass)) {
         None => {}
         Some(_) => unreachable!(),
+    }
+}
+
+// Which group is believed to own the unit behind a call by this one, which came to this.
+fn believed_behind(by_group: Group, end: &Result<Reply, Unserved>) -> Group
+    ensures { result ≡ believed by_group end.now }
+{
+    match end {
+        Err(Unserved::ByUnit(Refused::Moved(owner))) => *owner,
+        _ => by_group,
     }
 }
 
@@ -138,9 +148,7 @@ impl<P: Pass> Attached<P> {
         let by_group = self.by_group;
         let (pass, end) = call(rt, alloc, units, gate, pass, by_group, asked, bytes);
         put_back(&mut self.pass, pass);
-        if let Err(Unserved::ByUnit(Refused::Moved(owner))) = end {
-            self.by_group = owner;
-        }
+        self.by_group = believed_behind(by_group, &end);
         end
     }
 

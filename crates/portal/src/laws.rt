@@ -28,7 +28,6 @@ pub fn a_command_with_a_late_flush_is_one_step()
 
 /// What a session has done behind a gate that flushes late, it has done as it was asked and told in a history of the model, over any
 /// device. That differs from the one that was seen in entries of the session's own alone: so all sessions have done so in one history.
-#[tactic(auto, using(crate::proofs::AsTold::has_done_as_told))]
 pub fn what_was_told_stands_in_one_history<U: LogicalUnits<P, H>, P: Pass, H: Drop, G: Gate>()
     ensures { (s : UnitState) (unit : ℕ) (nexus : Nexus) (done : List Done) (history : List Entry)
         → (is : HasDone U.claims (late_at (late_of G.is_late G.lasts) unit) s nexus done history)

@@ -21,7 +21,6 @@ use scsi_types::{Asked, Group, NoMemory, PortName};
 use session::{BeginAnswer, ResetAnswer, Target, TargetAnswer};
 use std::alloc::{AllocError, Global};
 use std::marker::Model;
-use std::mem;
 use std::sync::Wait;
 
 /// Why a session does not begin. It is attached to no unit.
@@ -178,21 +177,20 @@ fn retire<R: Wait, U: LogicalUnits<P, H>, P: Pass, H: Drop>(
 fn retire_all<R: Wait, U: LogicalUnits<P, H>, P: Pass, H: Drop>(
     rt: &R,
     units: &U,
-    attached: Vec<Attached<P>>,
+    attached: &mut Vec<Attached<P>>,
     seen: &mut Vec<H>,
 )
-    requires placed { All (λ a. a.place < U.unit_count units.now) attached.items }
-    requires room { length seen.old.items + length attached.items ≤ vec_capacity seen.old }
-    ensures over { Leaves U.claims U.opening attached.items (map U.seen seen.old.items) (map U.seen seen.new.items) }
-    ensures room { length seen.new.items ≡ length seen.old.items + length attached.items }
+    requires placed { All (λ a. a.place < U.unit_count units.now) attached.old.items }
+    requires room { length seen.old.items + length attached.old.items ≤ vec_capacity seen.old }
+    ensures over { Leaves U.claims U.opening attached.old.items (map U.seen seen.old.items) (map U.seen seen.new.items) }
+    ensures room { length seen.new.items ≡ length seen.old.items + length attached.old.items }
     ensures capacity { vec_capacity seen.new ≡ vec_capacity seen.old }
+    ensures left { attached.new.items ≡ [] }
 {
-    let mut attached = attached;
     'units: while !attached.is_empty() {
         let one = attached.remove(0);
         seen.push_reserved(retire(rt, units, one));
     }
-    attached.destroy_empty();
 }
 
 // Why a session was refused at this unit, of which this was seen, which is kept; or there was no memory.
@@ -218,20 +216,23 @@ fn attach_all<R: Wait, U: LogicalUnits<P, H>, P: Pass, H: Drop>(
     units: &U,
     port: &PortName,
     group: Group,
+    attached: &mut Vec<Attached<P>>,
     seen: &mut Vec<H>,
-) -> Result<Vec<Attached<P>>, BeginFault>
+) -> Result<(), BeginFault>
+    requires none { attached.old.items ≡ [] }
     requires room { length seen.old.items + U.unit_count units.now ≤ vec_capacity seen.old }
-    ensures joined { IfOk result (λ v. IsJoined U.claims U.opening Kind.Normal (through port.now group) (U.unit_count units.now) v.items) }
-    ensures placed { IfOk result (λ v. All (λ a. a.place < U.unit_count units.now) v.items) }
-    ensures unseen { IfOk result (λ v. seen.new ≡ seen.old) }
+    ensures joined { IfOk result (λ _. IsJoined U.claims U.opening Kind.Normal (through port.now group) (U.unit_count units.now) attached.new.items) }
+    ensures placed { IfOk result (λ _. All (λ a. a.place < U.unit_count units.now) attached.new.items) }
+    ensures unseen { IfOk result (λ _. seen.new ≡ seen.old) }
     ensures turned_back { IfErr result (λ fault. IsTurnedBack U.claims U.opening (through port.now group) Kind.Normal
         (U.unit_count units.now) fault (map U.seen seen.old.items) (map U.seen seen.new.items)) }
     ensures of_units { IfErr result IsOfUnits }
+    ensures left { IfErr result (λ _. attached.new.items ≡ []) }
 {
     let count = units.count();
-    let Ok(mut attached) = Vec::with_capacity(alloc, usize::from(count)) else {
+    if attached.reserve_exact(usize::from(count)).is_err() {
         return Err(BeginFault::NoMemory);
-    };
+    }
     for unit in 0..count {
         match attach_to(rt, alloc, units, unit, port, group) {
             Ok(one) => attached.push_reserved(one),
@@ -241,7 +242,7 @@ fn attach_all<R: Wait, U: LogicalUnits<P, H>, P: Pass, H: Drop>(
             }
         }
     }
-    Ok(attached)
+    Ok(())
 }
 
 // A session begins to live: its number and its TSIH.
@@ -261,8 +262,8 @@ fn enter<R: Wait, S: Sessions<C>, C: Connection>(
     sessions.enter(rt, port, group, kind, connection)
 }
 
-// Attaches a normal session to all units; then it begins to live: the session at each unit, its number and its TSIH. Where a unit or
-// the table refuses it, it is over at all units. What was seen then is kept.
+// Attaches a normal session to all units; then it begins to live: its number and its TSIH. Where a unit or the table refuses it, it
+// is over at all units. What was seen then is kept.
 fn attach_and_enter<
     R: Wait,
     U: LogicalUnits<P, H>,
@@ -278,24 +279,27 @@ fn attach_and_enter<
     port: PortName,
     group: Group,
     connection: C,
+    at: &mut Vec<Attached<P>>,
     seen: &mut Vec<H>,
-) -> Result<(Vec<Attached<P>>, u64, u16), BeginFault>
+) -> Result<(u64, u16), BeginFault>
+    requires none { at.old.items ≡ [] }
     requires room { length seen.old.items + U.unit_count units.now ≤ vec_capacity seen.old }
-    ensures joined { IfOk result (λ r. IsJoined U.claims U.opening Kind.Normal (through port group) (U.unit_count units.now) r.0.items) }
-    ensures placed { IfOk result (λ r. All (λ a. a.place < U.unit_count units.now) r.0.items) }
-    ensures entered { IfOk result (λ r. S.says.entered (through port group) Kind.Normal r.1 r.2) }
-    ensures tsih { IfOk result (λ r. 0 < r.2) }
-    ensures unseen { IfOk result (λ r. seen.new ≡ seen.old) }
+    ensures joined { IfOk result (λ _. IsJoined U.claims U.opening Kind.Normal (through port group) (U.unit_count units.now) at.new.items) }
+    ensures placed { IfOk result (λ _. All (λ a. a.place < U.unit_count units.now) at.new.items) }
+    ensures entered { IfOk result (λ r. S.says.entered (through port group) Kind.Normal r.0 r.1) }
+    ensures tsih { IfOk result (λ r. 0 < r.1) }
+    ensures unseen { IfOk result (λ _. seen.new ≡ seen.old) }
     ensures turned_back { IfErr result (λ fault. IsTurnedBack U.claims U.opening (through port group) Kind.Normal
         (U.unit_count units.now) fault (map U.seen seen.old.items) (map U.seen seen.new.items)) }
     ensures grounds { IfErr result (IsGrounded S.says false) }
+    ensures left { IfErr result (λ _. at.new.items ≡ []) }
 {
-    let at = match attach_all(rt, alloc, units, &port, group, seen) {
-        Ok(at) => at,
+    match attach_all(rt, alloc, units, &port, group, at, seen) {
+        Ok(()) => {}
         Err(fault) => return Err(fault),
-    };
+    }
     match enter(rt, sessions, port, group, Kind::Normal, connection) {
-        Ok((number, tsih)) => Ok((at, number, tsih)),
+        Ok(entered) => Ok(entered),
         Err(fault) => {
             retire_all(rt, units, at, seen);
             Err(BeginFault::from(fault))
@@ -354,10 +358,9 @@ impl<
         ensures { HasTried U.claims S.says U.opening (record self.old { asked = false }) port Kind.Normal result self.new }
     {
         let device = self.device;
-        let Ok(seen) = Vec::with_capacity(self.alloc, usize::from(device.units.count())) else {
+        let Ok(()) = self.seen.reserve_exact(usize::from(device.units.count())) else {
             return Err(BeginFault::NoMemory);
         };
-        self.seen = seen;
         let _turn = device.beginning.lock(self.rt);
         match attach_and_enter(
             self.rt,
@@ -367,12 +370,12 @@ impl<
             port,
             self.group,
             connection,
+            &mut self.at,
             &mut self.seen,
         ) {
-            Ok((at, number, tsih)) => {
+            Ok((number, tsih)) => {
                 self.number = Some(number);
                 self.begun = true;
-                mem::replace(&mut self.at, at).destroy_empty();
                 Ok(tsih)
             }
             Err(fault) => Err(fault),
@@ -500,8 +503,7 @@ impl<
     }
 
     fn end(&mut self) {
-        let at = mem::replace(&mut self.at, Vec::new(self.alloc));
-        retire_all(self.rt, &self.device.units, at, &mut self.seen);
+        retire_all(self.rt, &self.device.units, &mut self.at, &mut self.seen);
         if let Some(number) = self.number.take() {
             self.device.sessions.leave(self.rt, number);
         }

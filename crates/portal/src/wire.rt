@@ -110,9 +110,7 @@ fn last_in(bytes: &[u8]) -> &[u8] {
         if rest.len() < BHS {
             break;
         }
-        let data = (usize::from(rest[5]) << 16)
-            | (usize::from(rest[6]) << 8)
-            | usize::from(rest[7]);
+        let data = u32::from_be_bytes([0, rest[5], rest[6], rest[7]]) as usize;
         let end = BHS + (data + 3) / 4 * 4;
         if end >= rest.len() {
             break;

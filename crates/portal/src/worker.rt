@@ -23,7 +23,6 @@ use std::time::Clock;
 /// Refused for want of memory, it has read and written nothing. It says how the session ended, and whose it was, and hands
 /// out what was seen of each unit as the session left it, or was refused there: of what several sessions have so seen of a unit, one
 /// history begins the other (`LogicalUnits::in_one_history`). Of what happens meanwhile the log is told.
-#[tactic(auto, using(crate::proofs::Answering::session_of))]
 pub fn serve_session<
     R: Wait + Clock,
     U: LogicalUnits<P, H> + Drop,

@@ -17,7 +17,7 @@ loop-unit-preserved g c =
     subst (λ (at : List At). Onward g.U.LogicalUnits.claims g.U.LogicalUnits.opening nexus
     (g.U.LogicalUnits.unit_count c.args.units.now) c.loop-unit.unit at) (sym c.push_reserved.ensures.items)
     (onward g.U.LogicalUnits.claims g.U.LogicalUnits.opening nexus (g.U.LogicalUnits.unit_count c.args.units.now)
-    c.loop-unit.unit _ _ (search rules) before.0 before.2 before.3 c.in-Ok-attach_to.ensures.attached) in
+    c.loop-unit.unit _ _ (search rules) before.0 before.2 before.3 c.in-Ok.ensures.attached) in
     let room : c.count-count.result ≤ vec_capacity c.push_reserved.new.self = search rules in
     (done.count, room, done.attached, done.placed, before.4)
 
@@ -34,7 +34,7 @@ returns-in-Err-clause-turned_back g c =
 pub returns-clause-unseen : goal.returns-clause-unseen
 returns-clause-unseen g c = c.loop-unit.invariant.4
 
-pub returns-in_default-clause-turned_back : goal.returns-in_default-clause-turned_back
-returns-in_default-clause-turned_back g c = at_once g.U.LogicalUnits.claims g.U.LogicalUnits.opening
+pub returns-then-is_err-clause-turned_back : goal.returns-then-is_err-clause-turned_back
+returns-then-is_err-clause-turned_back g c = at_once g.U.LogicalUnits.claims g.U.LogicalUnits.opening
     (through c.args.port.now c.args.group) Normal (g.U.LogicalUnits.unit_count c.args.units.now)
     (map g.U.LogicalUnits.seen c.args.seen.now.items)

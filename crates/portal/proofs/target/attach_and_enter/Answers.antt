@@ -18,11 +18,11 @@ returns-in-Err-enter-clause-turned_back g c =
     let units = g.U.LogicalUnits.unit_count c.args.units.now in
     let before : List Sight = map f c.args.seen.now.items in
     let after : List Sight = map f c.retire_all.new.seen.items in
-    let leaves : Leaves claims opening c.in-Ok.at.items before after =
-    subst (λ v. Leaves claims opening c.in-Ok.at.items (map f v.items) after) c.in-Ok.ensures.unseen
+    let leaves : Leaves claims opening c.attach_all.new.attached.items before after =
+    subst (λ v. Leaves claims opening c.attach_all.new.attached.items (map f v.items) after) c.in-Ok.ensures.unseen
     c.retire_all.ensures.over in
     subst (λ (fault : BeginFault). IsTurnedBack claims opening nexus Normal units fault before after) (sym c.from.ensures)
-    (behind_all claims opening nexus units c.in-Ok.at.items before after c.in-Err-enter.fault
+    (behind_all claims opening nexus units c.attach_all.new.attached.items before after c.in-Err-enter.fault
     c.in-Ok.ensures.joined leaves)
 
 pub returns-in-Err-enter-clause-grounds : goal.returns-in-Err-enter-clause-grounds

@@ -1,20 +1,30 @@
-use Rattle.std.proofs.Common.{rules, false, refl, sym, subst}
+use Rattle.std.proofs.Common.{◌∙◌, false, refl, sym, ap, subst}
 use Rattle.login.specs.declared.status.Kind.TheVariants.{Discovery}
 use Rattle.registrants.specs.Nexus.{through}
 use Rattle.portal.specs.Target.{TargetValue, IsGrounded, IsTurnedBack}
 use Rattle.portal.specs.declared.target.BeginFault.{BeginFault}
-use Rattle.portal.proofs.Refusing.{at_none, grounds_of, turned_back}
+use Rattle.portal.proofs.Refusing.{at_none, grounds_of, has_begun, turned_back, unasked}
 use Rattle.portal.proofs.target.SessionTarget.join_none.Goals as goal
+
+pub returns-in-Ok : goal.returns-in-Ok
+returns-in-Ok g c = (
+  c.in-Ok.ensures.tsih,
+  has_begun g.U.LogicalUnits.claims g.S.Sessions.says g.U.LogicalUnits.opening (record c.args.self.now { asked = false }) _
+      (c.self.view_is ∙ unasked c.args.self.now c.requires.asked) c.args.port Discovery c.in-Ok.number c.in-Ok.tsih _ _
+      c.requires.name refl c.requires.fresh (ap (λ (v : TargetValue). v.seen) c.self.view_is)
+      (ap (λ (v : TargetValue). v.at) c.self.view_is ∙ c.requires.fresh.1) c.in-Ok.ensures.entered,
+)
 
 pub returns-in-Err : goal.returns-in-Err
 returns-in-Err g c =
     let claims = g.U.LogicalUnits.claims in
     let table = g.S.Sessions.says in
     let opening = g.U.LogicalUnits.opening in
-    let old : TargetValue = record c.args.self.now { asked = false } in
-    let port = c.args.port in
-    turned_back claims table opening old c.args.self.now port Discovery c.from.result old.seen old.seen c.requires.fresh.0 refl refl (search rules)
+    let now : TargetValue = c.args.self.now in
+    let nexus = through c.args.port now.group in
+    turned_back claims table opening (record now { asked = false }) now (unasked now c.requires.asked) c.args.port Discovery c.from.result
+    now.at now.seen now.seen c.requires.fresh.0 refl refl
     (subst (λ (fault : BeginFault). IsGrounded table false fault) (sym c.from.ensures)
     (grounds_of table false c.in-Err.fault c.in-Err.ensures.refused))
-    (subst (λ (fault : BeginFault). IsTurnedBack claims opening (through port old.group) Discovery old.units fault old.seen old.seen)
-    (sym c.from.ensures) (at_none claims opening (through port old.group) old.units old.seen c.in-Err.fault))
+    (subst (λ (fault : BeginFault). IsTurnedBack claims opening nexus Discovery now.units fault now.seen now.seen) (sym c.from.ensures)
+    (at_none claims opening nexus now.units now.seen c.in-Err.fault))

@@ -1,33 +1,33 @@
-use Rattle.std.proofs.Common.{◌≡◌, ℕ, List, length, map, Some, arith, ap, refl, subst}
+use Rattle.std.proofs.Common.{length, arith, refl, vec_capacity}
 use Rattle.std.proofs.lemmas.Option.{slice_get_read}
-use Rattle.std.specs.Prelude.{slice_get, slice_set}
-use Rattle.portal.specs.Target.{TargetValue, IsResetIn, is_taken}
-use Rattle.portal.specs.Submitted.{At}
-use Rattle.portal.proofs.Slots.{at_place}
+use Rattle.portal.specs.Submitted.{IsResetAnswer}
+use Rattle.portal.proofs.Slots.{reset_stays, at_unit, placed_at, still_placed}
 use Rattle.portal.proofs.target.SessionTarget.reset_at.Goals as goal
+
+pub invariant_of-self-2 : goal.invariant_of-self-2
+invariant_of-self-2 g c =
+    let known = c.self.inside.at.items in
+    let place = c.from-place.result in
+    still_placed (g.U.LogicalUnits.unit_count c.self.inside.device.now.units) (vec_capacity c.self.inside.seen) c.self.inside.connection
+    c.self.inside.begun known c.self.inside.seen.items place c.in-Some.at.now c.reset.new.self
+    (slice_get_read known (length known) place c.in-Some.at.now refl
+    (omega (arith, c.in-Some.ensures.variant.0 refl, c.self.inside.at.ok.0)) c.in-Some.ensures.value)
+    (reset_stays g.U.LogicalUnits.claims g.U.LogicalUnits.opening c.in-Some.at.now c.reset.result c.reset.new.self c.reset.ensures) c.self.invariant
+
+pub reset-requires : goal.reset-requires
+reset-requires g c =
+    let known = c.self.inside.at.items in
+    let place = c.from-place.result in
+    placed_at (g.U.LogicalUnits.unit_count c.self.inside.device.now.units) known place c.in-Some.at.now c.self.invariant.0
+    (slice_get_read known (length known) place c.in-Some.at.now refl
+    (omega (arith, c.in-Some.ensures.variant.0 refl, c.self.inside.at.ok.0)) c.in-Some.ensures.value)
 
 pub returns : goal.returns
 returns g c =
-    let old : TargetValue = c.args.self.now in
-    let known : List At = c.self.inside.at.items in
+    let known = c.self.inside.at.items in
     let place = c.from-place.result in
-    let here : slice_get known place ≡ Some c.in-Some.at.now =
-    slice_get_read known (length known) place c.in-Some.at.now refl
-    (omega (arith, c.in-Some.ensures.variant.0 refl, c.self.inside.at.ok.0)) c.in-Some.ensures.value in
-    let there : slice_get old.at place ≡ Some c.in-Some.at.now =
-    subst (λ (at : List At). slice_get at place ≡ Some c.in-Some.at.now) (ap (λ (v : TargetValue). v.at) c.self.view_is) here in
-    let new : TargetValue = record {
-      units = g.U.LogicalUnits.unit_count c.self.inside.device.now.units;
-      group = c.self.inside.group;
-      asked = is_taken c.self.inside.connection;
-      begun = c.self.inside.begun;
-      number = c.self.inside.number;
-      at = slice_set known place c.reset.new.self;
-      seen = map g.U.LogicalUnits.seen c.self.inside.seen.items;
-    } in
-    subst (λ (n : ℕ). IsResetIn g.U.LogicalUnits.claims g.U.LogicalUnits.opening old n c.reset.result new) c.from-place.ensures
-    (at_place old.at place c.in-Some.at.now _ _ there (
-      c.reset.new.self,
-      c.reset.ensures,
-      ap (λ (v : TargetValue). record v { at = slice_set v.at place c.reset.new.self }) c.self.view_is,
-    ))
+    at_unit _ c.args.self.now place c.args.unit c.in-Some.at.now c.reset.new.self _
+    (λ a after. IsResetAnswer g.U.LogicalUnits.claims g.U.LogicalUnits.opening a c.reset.result after) c.self.view_is
+    c.from-place.ensures
+    (slice_get_read known (length known) place c.in-Some.at.now refl
+    (omega (arith, c.in-Some.ensures.variant.0 refl, c.self.inside.at.ok.0)) c.in-Some.ensures.value) c.reset.ensures

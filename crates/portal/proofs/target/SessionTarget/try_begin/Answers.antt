@@ -1,19 +1,26 @@
-use Rattle.std.proofs.Common.{rules, ◌≡◌, List, map, refl}
+use Rattle.std.proofs.Common.{rules, ◌≡◌, ◌∙◌, false, true, sym, ap}
 use Rattle.registrants.specs.Nexus.{through}
 use Rattle.scsi_types.specs.Nexus.{Port}
-use Rattle.portal.specs.Target.{TargetValue, Sight}
-use Rattle.portal.proofs.Refusing.{grounds_of_unnamed, turned_back, unnamed}
+use Rattle.portal.specs.Target.{TargetValue, is_taken}
+use Rattle.portal.proofs.Refusing.{asked_twice, grounds_of_unnamed, turned_back, unnamed}
 use Rattle.portal.proofs.target.SessionTarget.try_begin.Goals as goal
 
 pub returns-in-Err : goal.returns-in-Err
 returns-in-Err g c =
     let claims = g.U.LogicalUnits.claims in
-    let table = g.S.Sessions.says in
     let opening = g.U.LogicalUnits.opening in
-    let old : TargetValue = c.args.self.now in
     let port : Port = record { name = c.args.name.now; isid = c.args.isid } in
-    let seen : List Sight = map g.U.LogicalUnits.seen c.self.inside.seen.items in
-    let same : seen ≡ old.seen = search rules in
-    turned_back claims table opening old _ port c.args.kind c.in-Err.fault seen seen (search rules) same refl (search rules)
-    (grounds_of_unnamed table old.asked port c.in-Err.fault c.in-Err.ensures.unnamed)
-    (unnamed claims opening (through port old.group) c.args.kind old.units seen c.in-Err.fault c.in-Err.ensures.unnamed)
+    let fault = c.in-Err.fault in
+    let fresh : c.args.self.now.begun ≡ false = search rules in
+    turned_back claims g.S.Sessions.says opening c.args.self.now _
+    (ap (λ (t : TargetValue). record t { asked = is_taken c.take.new.self }) c.self.view_is
+    ∙ ap (λ o. record c.args.self.now { asked = is_taken o }) c.take.ensures.after) port c.args.kind fault _ _ _ fresh
+    (ap (λ (t : TargetValue). t.at) c.self.view_is) (ap (λ (t : TargetValue). t.seen) c.self.view_is)
+    (grounds_of_unnamed g.S.Sessions.says c.args.self.now.asked port fault c.in-Err.ensures.unnamed)
+    (unnamed claims opening (through port c.self.inside.group) c.args.kind
+    (g.U.LogicalUnits.unit_count c.self.inside.device.now.units) _ fault c.in-Err.ensures.unnamed)
+
+pub returns-in_default : goal.returns-in_default
+returns-in_default g c =
+    asked_twice g.U.LogicalUnits.claims g.S.Sessions.says g.U.LogicalUnits.opening _ c.args.self.now _ c.args.kind c.take.new.self
+    c.self.view_is (ap is_taken (sym c.take.ensures.value ∙ c.in_default.is)) c.take.ensures.after

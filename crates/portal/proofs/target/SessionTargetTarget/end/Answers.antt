@@ -1,17 +1,16 @@
-use Rattle.std.proofs.Common.{◌≡◌, ◌<◌, ◌∙◌, All, List, [], length, arith, ap, subst, sym}
+use Rattle.std.proofs.Common.{◌<◌, All, List, length, arith, ap, subst, sym}
 use Rattle.portal.specs.Submitted.{At}
 use Rattle.portal.proofs.Refusing.{still_fresh}
 use Rattle.portal.proofs.target.SessionTargetTarget.end.Goals as goal
 
 pub invariant_of-self : goal.invariant_of-self
 invariant_of-self g c =
-    let units = g.U.LogicalUnits.unit_count c.self.inside.device.now.units in
-    let none : c.replace-at.new.dest.items ≡ [] = ap (λ v. v.items) c.replace-at.ensures.after ∙ c.new.ensures.items in
-    let count : length c.replace-at.result.items ≡ length c.self.inside.at.items = ap (λ v. length v.items) c.replace-at.ensures.value in
+    let none = c.retire_all.ensures.left in
     let room = c.retire_all.ensures.room in
     let empty = ap length none in (
-      subst (λ (at : List At). All (λ a. a.place < units) at) (sym none) (λ k d lt. absurd (omega (arith, lt))),
-      omega (arith, room, c.retire_all.ensures.capacity, c.self.invariant.1, empty, count),
-      still_fresh c.self.inside.connection c.self.inside.begun c.self.inside.at.items c.replace-at.new.dest.items
-          c.self.inside.seen.items c.retire_all.new.seen.items c.self.invariant.2 none (omega (arith, room, count)),
+      subst (λ (at : List At). All (λ a. a.place < g.U.LogicalUnits.unit_count c.self.inside.device.now.units) at) (sym none)
+          (λ k d lt. absurd (omega (arith, lt))),
+      omega (arith, room, c.retire_all.ensures.capacity, c.self.invariant.1, empty),
+      still_fresh c.self.inside.connection c.self.inside.begun c.self.inside.at.items c.retire_all.new.attached.items
+          c.self.inside.seen.items c.retire_all.new.seen.items c.self.invariant.2 none room,
     )
