@@ -126,6 +126,12 @@ pub taken : {C : Type 0} (slot : Option C) (P : C → Type 0) → is_taken slot 
 taken (Some c) P is = let e : false ≡ true = is in absurd (cc)
 taken None P is = tt
 
+-- where it was not asked, it had not begun
+pub fresh_of : {C X H : Type 0} (slot : Option C) (one : C) (begun : Bool) (at : List X) (seen : List H) → slot ≡ Some one
+    → IfSome slot (λ _. (begun ≡ false) × (at ≡ []) × (seen ≡ [])) → (begun ≡ false) × (at ≡ []) × (seen ≡ [])
+fresh_of (Some c) one begun at seen is fresh = fresh
+fresh_of None one begun at seen is fresh = absurd (cc)
+
 -- a cause that lies in the units stands by itself
 pub grounds_of_units : (table : Sayings) (asked : Bool) (fault : BeginFault) → IsOfUnits fault → IsGrounded table asked fault
 grounds_of_units table asked faults.Begun is = absurd is

@@ -1,5 +1,5 @@
 -- A list in which one place was written, and a target in which it was that of a unit.
-use Rattle.std.proofs.Common.{◌≡◌, ◌≢◌, ℕ, zero, suc, ◌+◌, ◌<◌, ◌≤◌, All, Bool, false, List, [], ◌∷◌, length, Option, Some, None, refl, ap, arith}
+use Rattle.std.proofs.Common.{◌≡◌, ◌≢◌, ℕ, zero, suc, ◌+◌, ◌<◌, ◌≤◌, All, Bool, false, true, List, [], ◌∷◌, length, Option, Some, None, refl, ap, arith}
 use Rattle.std.proofs.Common.{Result, ⊎_elim, subst, sym, ◌∙◌}
 use Rattle.std.proofs.lemmas.List.Elements.{All-set}
 use Rattle.std.proofs.lemmas.Option.{get_or_from_slice_get, slice_get_within}
@@ -44,10 +44,24 @@ module _ {X : Type 0} where
   nowhere [] n a none is = absurd (cc)
   nowhere (x ∷ xs) n a none is = absurd (cc)
 
+  -- nothing where there is no place
+  beyond : (xs : List X) (n : ℕ) → (n < length xs → false ≡ true) → slice_get xs n ≡ None
+  beyond [] n less = refl
+  beyond (y ∷ xs) zero less = let e : false ≡ true = less (omega arith) in absurd (cc)
+  beyond (y ∷ xs) (suc n) less = beyond xs n (λ lt. less (omega (arith, lt)))
+
   -- what is said of what stands at a place is said of the list
   at_place : (xs : List X) (n : ℕ) (a : X) (P : Type 0) (Q : X → Type 0) → slice_get xs n ≡ Some a → Q a
       → MatchOption (slice_get xs n) P Q
   at_place xs n a P Q is q = subst (λ (o : Option X). MatchOption o P Q) (sym is) q
+
+-- where no place of the unit's number is, what is said of that is said
+pub at_no_unit : (now old : TargetValue) (place unit : ℕ) (P : Type 0) (Q : At → Type 0) → now ≡ old → place ≡ unit
+    → (place < length now.at → false ≡ true) → P → MatchOption (slice_get old.at unit) P Q
+at_no_unit now old place unit P Q is named less p =
+    subst (λ (t : TargetValue). MatchOption (slice_get t.at unit) P Q) is
+    (subst (λ (n : ℕ). MatchOption (slice_get now.at n) P Q) named
+    (subst (λ (o : Option At). MatchOption o P Q) (sym (beyond now.at place less)) p))
 
 -- What stands at a place is at one of so many units, where all are.
 pub placed_at : (units : ℕ) (at : List At) (n : ℕ) (a : At) → All (λ a. a.place < units) at → slice_get at n ≡ Some a → a.place < units

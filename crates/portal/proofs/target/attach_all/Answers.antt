@@ -1,4 +1,4 @@
-use Rattle.std.proofs.Common.{rules, map, subst, sym, List, ◌≤◌}
+use Rattle.std.proofs.Common.{arith, ap, length, map, subst, sym, List, ◌≤◌}
 use Rattle.login.specs.declared.status.Kind.TheVariants.{Normal}
 use Rattle.registrants.specs.Nexus.{through}
 use Rattle.std.specs.Vec.{vec_capacity}
@@ -17,8 +17,8 @@ loop-unit-preserved g c =
     subst (λ (at : List At). Onward g.U.LogicalUnits.claims g.U.LogicalUnits.opening nexus
     (g.U.LogicalUnits.unit_count c.args.units.now) c.loop-unit.unit at) (sym c.push_reserved.ensures.items)
     (onward g.U.LogicalUnits.claims g.U.LogicalUnits.opening nexus (g.U.LogicalUnits.unit_count c.args.units.now)
-    c.loop-unit.unit _ _ (search rules) before.0 before.2 before.3 c.in-Ok.ensures.attached) in
-    let room : c.count-count.result ≤ vec_capacity c.push_reserved.new.self = search rules in
+    c.loop-unit.unit _ _ (omega (arith, c.loop-unit-test.true, c.count-count.ensures)) before.0 before.2 before.3 c.in-Ok.ensures.attached) in
+    let room : c.count-count.result ≤ vec_capacity c.push_reserved.new.self = omega (arith, c.push_reserved.ensures.capacity, before.1) in
     (done.count, room, done.attached, done.placed, before.4)
 
 pub returns-in-Err-clause-turned_back : goal.returns-in-Err-clause-turned_back
@@ -38,3 +38,19 @@ pub returns-then-is_err-clause-turned_back : goal.returns-then-is_err-clause-tur
 returns-then-is_err-clause-turned_back g c = at_once g.U.LogicalUnits.claims g.U.LogicalUnits.opening
     (through c.args.port.now c.args.group) Normal (g.U.LogicalUnits.unit_count c.args.units.now)
     (map g.U.LogicalUnits.seen c.args.seen.now.items)
+
+pub retire_all-requires-clause-placed : goal.retire_all-requires-clause-placed
+retire_all-requires-clause-placed g c = c.loop-unit.invariant.3
+
+pub retire_all-requires-clause-room : goal.retire_all-requires-clause-room
+retire_all-requires-clause-room g c =
+    let before = c.loop-unit.invariant in
+    omega (
+      arith,
+      ap (λ v. length v.items) before.4,
+      ap vec_capacity before.4,
+      before.0,
+      c.requires.room,
+      c.loop-unit-test.true,
+      c.count-count.ensures,
+    )

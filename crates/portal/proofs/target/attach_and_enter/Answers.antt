@@ -1,4 +1,4 @@
-use Rattle.std.proofs.Common.{false, sym, subst, map, List}
+use Rattle.std.proofs.Common.{arith, ap, false, length, sym, subst, map, List, vec_capacity}
 use Rattle.login.specs.declared.status.Kind.TheVariants.{Normal}
 use Rattle.registrants.specs.Nexus.{through}
 use Rattle.portal.specs.Target.{Sight, IsGrounded, IsTurnedBack, Leaves}
@@ -29,3 +29,14 @@ pub returns-in-Err-enter-clause-grounds : goal.returns-in-Err-enter-clause-groun
 returns-in-Err-enter-clause-grounds g c =
     subst (λ (fault : BeginFault). IsGrounded g.S.Sessions.says false fault) (sym c.from.ensures)
     (grounds_of g.S.Sessions.says false c.in-Err-enter.fault c.in-Err-enter.ensures.refused)
+
+pub retire_all-requires-clause-placed : goal.retire_all-requires-clause-placed
+retire_all-requires-clause-placed g c = c.in-Ok.ensures.placed
+
+pub retire_all-requires-clause-room : goal.retire_all-requires-clause-room
+retire_all-requires-clause-room g c =
+    let e = c.in-Ok.ensures in
+    omega (arith, ap (λ v. length v.items) e.unseen, ap vec_capacity e.unseen, e.joined.0, c.requires.room)
+
+pub returns-in-Err-clause-turned_back : goal.returns-in-Err-clause-turned_back
+returns-in-Err-clause-turned_back g c = c.in-Err.ensures.turned_back

@@ -1,7 +1,7 @@
 use Rattle.std.proofs.Common.{length, arith, refl, vec_capacity}
 use Rattle.std.proofs.lemmas.Option.{slice_get_read}
 use Rattle.portal.specs.Submitted.{IsResetAnswer}
-use Rattle.portal.proofs.Slots.{reset_stays, at_unit, placed_at, still_placed}
+use Rattle.portal.proofs.Slots.{reset_stays, at_no_unit, at_unit, placed_at, still_placed}
 use Rattle.portal.proofs.target.SessionTarget.reset_at.Goals as goal
 
 pub invariant_of-self-2 : goal.invariant_of-self-2
@@ -21,6 +21,11 @@ reset-requires g c =
     placed_at (g.U.LogicalUnits.unit_count c.self.inside.device.now.units) known place c.in-Some.at.now c.self.invariant.0
     (slice_get_read known (length known) place c.in-Some.at.now refl
     (omega (arith, c.in-Some.ensures.variant.0 refl, c.self.inside.at.ok.0)) c.in-Some.ensures.value)
+
+pub returns-in_default : goal.returns-in_default
+returns-in_default g c =
+    at_no_unit _ c.args.self.now c.from-place.result c.args.unit _ _ c.self.view_is c.from-place.ensures
+    (λ lt. c.in_default.ensures.variant.1 (omega (arith, lt, c.self.inside.at.ok.0))) (refl, c.self.view_is)
 
 pub returns : goal.returns
 returns g c =
