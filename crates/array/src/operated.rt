@@ -1,9 +1,9 @@
 //! The array as its console sees it.
 use crate::lines::Operations;
 use block_file::{Blocks, Opener};
+use entry_numbers::Array as Naming;
 use event_log::{By, Event, Log, Stayed};
 use failover::{Mover, take_down};
-use numbering::Array as Naming;
 use portal::Controllers;
 use scsi_types::Group;
 use status::Row;

@@ -11,14 +11,14 @@ use crate::any_unit::{AnyUnit, Seated};
 use access_states::Change;
 use block_file::{Blocks, DeviceFailed, Opener};
 use crossbeam_utils::CachePadded;
-use locked_unit::Refused;
-use numbering::Array;
+use entry_numbers::Array;
 use scsi_types::{Asked, Group, NoMemory, PortName, Reply};
 use status::Row;
 use std::alloc::Global;
 use std::marker::Model;
 use std::sync::{Mutex, Wait};
 use unit_history::{LegalHistory, NewUnit, Opened, Pass, SharedUnit};
+use unit_lock::Refused;
 use unit_state::MoveFault;
 
 /// The most units of an array.

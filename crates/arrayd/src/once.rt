@@ -2,11 +2,11 @@
 
 use block_file::MemBlocks;
 use command_line::Fault;
+use once_target::once;
 use session::{End, Identity, Watched};
 use std::alloc::Global;
 use std::io;
 use std::net::{Ipv4Addr, SocketAddrV4};
-use targets::once;
 
 /// How many blocks the unit has.
 const BLOCKS: u32 = 2048;

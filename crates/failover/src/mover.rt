@@ -6,7 +6,7 @@ use crate::set_groups;
 use access_states::Change;
 use array_units::{MOST_UNITS, Units};
 use block_file::{Blocks, Opener};
-use numbering::Array;
+use entry_numbers::Array;
 use std::marker::Model;
 use std::sync::Wait;
 use unit_history::{LegalHistory, Opened};

@@ -1,7 +1,7 @@
 -- What a job's end and its ticket say.
 use Rattle.std.specs.Prelude.{◌≡◌, Option, IsSome, IfSome, Result}
-use Rattle.locked_unit.specs.Calls.{Known}
-use Rattle.locked_unit.specs.declared.machine.Refused.{Refused}
+use Rattle.unit_lock.specs.Calls.{Known}
+use Rattle.unit_lock.specs.declared.machine.Refused.{Refused}
 use Rattle.scsi_types.specs.ReplyValue.{ReplyValue}
 use Rattle.scsi_types.specs.declared.names.Group.{Group}
 use Rattle.unit_control.specs.Entry.{Entry}

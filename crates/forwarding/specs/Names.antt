@@ -1,6 +1,6 @@
 -- What a command is known by on its way.
 use Rattle.std.specs.Prelude.{Result}
-use Rattle.locked_unit.specs.Calls.{PlacedPass}
+use Rattle.unit_lock.specs.Calls.{PlacedPass}
 use Rattle.scsi_types.specs.declared.names.Group.{Group}
 use Rattle.scsi_types.specs.declared.command.Command.{Command as ScsiCommand}
 use Rattle.scsi_types.specs.declared.command.CdbFault.{CdbFault}

@@ -1,7 +1,7 @@
 -- A command on its way, and what serving it comes to.
 use Rattle.std.specs.Prelude.{ℕ, List, IfOk, IfErr, Result}
-use Rattle.locked_unit.specs.Calls.{Known, PlacedPass}
-use Rattle.locked_unit.specs.declared.machine.Refused.{Refused}
+use Rattle.unit_lock.specs.Calls.{Known, PlacedPass}
+use Rattle.unit_lock.specs.declared.machine.Refused.{Refused}
 use Rattle.scsi_types.specs.ReplyValue.{ReplyValue}
 use Rattle.scsi_types.specs.declared.names.Group.{Group}
 use Rattle.scsi_types.specs.declared.command.Command.{Command as ScsiCommand}

@@ -1,7 +1,7 @@
 -- What becomes of a command at a desk.
 use Rattle.std.specs.Prelude.{◌≡◌, IfOk, IfErr, Result}
-use Rattle.locked_unit.specs.Calls.{PlacedPass}
-use Rattle.locked_unit.specs.declared.machine.Refused.{Refused}
+use Rattle.unit_lock.specs.Calls.{PlacedPass}
+use Rattle.unit_lock.specs.declared.machine.Refused.{Refused}
 use Rattle.scsi_types.specs.ReplyValue.{ReplyValue}
 use Rattle.scsi_types.specs.declared.names.Group.{Group}
 use Rattle.unit_control.specs.State.{UnitState}

@@ -9,7 +9,7 @@ use crate::queue::{NotQueued, Queue};
 use array_units::Units;
 use block_file::{Blocks, Opener};
 use crossbeam_utils::CachePadded;
-use numbering::Array;
+use entry_numbers::Array;
 use scsi_types::{Asked, Group, NoMemory, Reply};
 use std::alloc::Global;
 use std::marker::Model;

@@ -6,8 +6,8 @@ ghost use Rattle.unit_entries.specs.Devices.{devices};
 
 use array_units::Units;
 use block_file::{Blocks, Opener};
+use entry_numbers::Array;
 use job_names::Names;
-use numbering::Array;
 use scsi_types::{Asked, Group, Reply};
 use std::alloc::Global;
 use std::sync::Wait;

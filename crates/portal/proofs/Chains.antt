@@ -15,9 +15,9 @@ use Rattle.session_rules.specs.declared.target.ResetAnswer.{ResetAnswer}
 use Rattle.session_rules.specs.declared.target.ResetAnswer.TheVariants as resets
 use Rattle.unit_control.specs.State.{UnitState}
 use Rattle.status.specs.Views.{counted}
-use Rattle.locked_unit.specs.Calls.{Known, PlacedPass, IsRefused}
+use Rattle.unit_lock.specs.Calls.{Known, PlacedPass, IsRefused}
 use Rattle.forwarding.specs.declared.desk.DeskFault.TheVariants as desks
-use Rattle.locked_unit.specs.declared.machine.Refused.TheVariants as refusals
+use Rattle.unit_lock.specs.declared.machine.Refused.TheVariants as refusals
 use Rattle.unit_control.specs.Entry.{Entry, Command}
 use Rattle.unit_entries.specs.Histories.{IsHistory, IsCommand, IsToldBehind, is_own, own}
 use Rattle.unit_history.specs.Calls.{HasServed}

@@ -4,7 +4,7 @@ use Rattle.std.proofs.Common.{refl, sym, ap, ◌∙◌, subst, append_assoc, ⊎
 use Rattle.std.proofs.lemmas.List.Elements.{All-tail}
 use Rattle.std.proofs.lemmas.List.Sums.{sum_by-append}
 use Rattle.std.specs.Prelude.{slice_get, slice_index_or}
-use Rattle.locked_unit.specs.Calls.{Known}
+use Rattle.unit_lock.specs.Calls.{Known}
 use Rattle.status.specs.Views.{counted}
 use Rattle.unit_history.specs.Calls.{HasRetired, WasGone}
 use Rattle.unit_entries.specs.Histories.{IsHistory, own}

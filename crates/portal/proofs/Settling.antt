@@ -7,7 +7,7 @@ use Rattle.std.specs.Option.{option_or}
 use Rattle.access_states.specs.declared.state.AccessState.{AccessState}
 use Rattle.access_states.specs.declared.state.AccessState.TheVariants.{ActiveOptimized, ActiveNonOptimized, Standby, Unavailable}
 use Rattle.block_file.specs.DiskLaws.{written_none}
-use Rattle.locked_unit.specs.Calls.{PlacedPass}
+use Rattle.unit_lock.specs.Calls.{PlacedPass}
 use Rattle.scsi_types.specs.ReplyValue.{ReplyValue, check}
 use Rattle.scsi_types.specs.Sense.{lba_out_of_range, write_error}
 use Rattle.scsi_types.specs.declared.names.Group.{Group}

@@ -19,7 +19,7 @@ use Rattle.unit_control.specs.State.{UnitState}
 use Rattle.unit_control.specs.Choice.{Choice}
 use Rattle.unit_control.specs.Entry.{Entry, Attach, Detach, Reset, Move, Command, IsPossible, after}
 use Rattle.unit_state.specs.History.{state_after}
-use Rattle.locked_unit.specs.Calls.{PlacedPass}
+use Rattle.unit_lock.specs.Calls.{PlacedPass}
 use Rattle.status.specs.Views.{counted}
 use Rattle.unit_entries.specs.Histories.{IsHistory, IsToldBehind, is_own, own}
 use Rattle.portal.specs.Late.{Late, IsTold, IsUnflushed, late_at}

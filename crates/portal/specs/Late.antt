@@ -1,7 +1,7 @@
 -- Commands whose flush comes behind them, without the unit's lock (SBC-3, FUA of WRITE and of COMPARE AND WRITE, SYNCHRONIZE CACHE
 -- commands): what the unit is asked in their place, and what they are told.
 use Rattle.std.specs.Prelude.{◌≡◌, ◌⊎◌, ℕ, ◌+◌, ◌-◌, Bool, true, false, Result, Ok, Err}
-use Rattle.locked_unit.specs.Calls.{PlacedPass}
+use Rattle.unit_lock.specs.Calls.{PlacedPass}
 use Rattle.scsi_types.specs.ReplyValue.{ReplyValue, check}
 use Rattle.scsi_types.specs.Sense.{write_error}
 use Rattle.scsi_types.specs.declared.command.Command.{Command}

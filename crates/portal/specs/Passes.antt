@@ -1,7 +1,7 @@
 -- What a slot for a pass holds.
 use Rattle.std.specs.Prelude.{[], Option, Some, None}
 use Rattle.scsi_types.specs.declared.names.Group.{Group}
-use Rattle.locked_unit.specs.Calls.{PlacedPass}
+use Rattle.unit_lock.specs.Calls.{PlacedPass}
 use Rattle.unit_control.specs.Entry.{Entry}
 use Rattle.portal.specs.Submitted.{At}
 

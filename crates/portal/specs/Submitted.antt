@@ -1,8 +1,8 @@
 -- How a session has a command served by a unit that may have moved: what its worker submits, and what it answers.
 use Rattle.std.specs.Prelude.{◌≡◌, ◌⊎◌, ℕ, Bool, true, false, IsTrue, List, Result, Ok, Err}
-use Rattle.locked_unit.specs.Calls.{Known, PlacedPass}
+use Rattle.unit_lock.specs.Calls.{Known, PlacedPass}
 use Rattle.forwarding.specs.declared.desk.DeskFault.TheVariants as desks
-use Rattle.locked_unit.specs.declared.machine.Refused.TheVariants as refusals
+use Rattle.unit_lock.specs.declared.machine.Refused.TheVariants as refusals
 use Rattle.scsi_types.specs.ReplyValue.{ReplyValue}
 use Rattle.scsi_types.specs.declared.names.Group.{Group}
 use Rattle.scsi_types.specs.declared.command.Command.{Command as ScsiCommand}

@@ -1,6 +1,6 @@
 -- What the calls of a session at a unit promise, said of the unit's one history (`unit_history`).
 use Rattle.std.specs.Prelude.{◌≡◌, ◌⊎◌, ℕ, Bool, false, List, MatchBool, Result, Ok, Err}
-use Rattle.locked_unit.specs.Calls.{Known}
+use Rattle.unit_lock.specs.Calls.{Known}
 use Rattle.scsi_types.specs.ReplyValue.{ReplyValue}
 use Rattle.scsi_types.specs.declared.names.Group.{Group}
 use Rattle.scsi_types.specs.declared.command.Command.{Command as ScsiCommand}

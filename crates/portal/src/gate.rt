@@ -1,6 +1,6 @@
 //! What stands before a unit.
 ghost use Rattle.std.specs.Prelude.{Bool, IsTrue, false};
-ghost use Rattle.locked_unit.specs.Calls.{PlacedPass};
+ghost use Rattle.unit_lock.specs.Calls.{PlacedPass};
 ghost use Rattle.unit_control.specs.Entry.{Entry};
 
 use crate::units::Pass;

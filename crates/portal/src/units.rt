@@ -3,7 +3,7 @@ ghost use Rattle.std.specs.Prelude.{◌≡◌, ◌<◌, ◌⊎◌, ℕ, List, If
 ghost use mathlib.Core.List.{IsPrefix};
 ghost use Rattle.registrants.specs.Nexus.{through};
 ghost use Rattle.unit_control.specs.State.{UnitState};
-ghost use Rattle.locked_unit.specs.Calls.{PlacedPass};
+ghost use Rattle.unit_lock.specs.Calls.{PlacedPass};
 ghost use Rattle.unit_control.specs.Entry.{Entry};
 ghost use Rattle.unit_history.specs.Calls.{HasAttached, HasNoRoom};
 ghost use Rattle.portal.specs.Units.{Claims, IsSubmitted, IsResetBy, IsRetired};

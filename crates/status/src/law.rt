@@ -2,7 +2,7 @@
 use atomic_table::{Join, Split};
 use crossbeam_utils::atomic::seq_cell::{Pass, RuledSeqCell};
 use crossbeam_utils::rule::{Outcome, Protocol};
-use numbering::{Array, At};
+use entry_numbers::{Array, At};
 use std::collections::LinkedList;
 use std::marker::{Brand, PhantomData};
 

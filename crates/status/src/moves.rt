@@ -12,8 +12,8 @@ use crate::law::{
 use crate::row::Row;
 use atomic_table::{Join, Split};
 use crossbeam_utils::rule::Outcome;
+use entry_numbers::Answer;
 use logbook::Plain;
-use numbering::Answer;
 use std::marker::Brand;
 use std::sync::Wait;
 

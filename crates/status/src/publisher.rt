@@ -7,8 +7,8 @@ use crate::law::{Origin, Published, Token};
 use crate::moves::{audit, join_right, publish_free, publish_new, publish_own, split_right};
 use crate::right::SessionRight;
 use crate::row::Row;
+use entry_numbers::Answer;
 use logbook::Plain;
-use numbering::Answer;
 use std::marker::{Model, PhantomData};
 use std::sync::Wait;
 

@@ -2,7 +2,7 @@
 ghost use Rattle.std.specs.Prelude.{◌≡◌};
 
 use crate::law::{Origin, Token};
-use numbering::{Array, At};
+use entry_numbers::{Array, At};
 use std::marker::{Model, PhantomData};
 
 /// The one right to add the entries of a session. It has counted them. It takes no memory, and stays when the session ends.

@@ -5,7 +5,7 @@ use Rattle.unit_control.specs.Choice.{Choice}
 use Rattle.unit_control.specs.Entry.{Entry, Attach, Command}
 use Rattle.unit_entries.specs.Causes.{IsFull, IsGone, IsOwner, WantsMemory}
 use Rattle.unit_entries.specs.Histories.{IsBehind, IsHistory, IsToldBehind, command}
-use Rattle.locked_unit.specs.Calls.{IsCause}
+use Rattle.unit_lock.specs.Calls.{IsCause}
 use Rattle.scsi_types.specs.Nexus.{Nexus}
 use Rattle.status.specs.Views.{counted}
 use Rattle.unit_events.specs.declared.job.End.{End}

@@ -9,10 +9,10 @@ ghost use Rattle.unit_events.specs.Entries.{IsUnitAttach, IsUnitEntry, IsUnitSer
 
 use crate::job::{End, Job};
 use block_file::{Blocks, Opener};
-use locked_unit::Machine;
 use scsi_types::{Group, PortName};
 use std::alloc::Global;
 use unit_history::{Arrival, Noted, Opened};
+use unit_lock::Machine;
 use unit_state::Unit;
 
 /// A unit ends the session with this id.

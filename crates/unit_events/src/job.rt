@@ -1,7 +1,7 @@
 //! A job of a session, and what it came to.
 use crate::bytes::Bytes;
-use locked_unit::Refused;
 use scsi_types::{Asked, Group, Reply};
+use unit_lock::Refused;
 
 /// A command that was handed in at the desk of a group.
 #[derive(Drop)]

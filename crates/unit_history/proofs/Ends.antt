@@ -2,7 +2,7 @@
 use Rattle.std.proofs.Common.{◌≡◌, ℕ, List, [], ◌∷◌, ◌++◌, Result, Ok, Err}
 use Rattle.std.specs.Prelude.{IfOk, IfErr}
 use Rattle.access_states.specs.declared.change.Change.{Change}
-use Rattle.locked_unit.specs.Calls.{IsBeside, IsBetween}
+use Rattle.unit_lock.specs.Calls.{IsBeside, IsBetween}
 use Rattle.unit_state.specs.declared.unit.MoveFault.{MoveFault}
 use Rattle.unit_control.specs.Choice.{Fine}
 use Rattle.unit_control.specs.Entry.{Entry, Move}

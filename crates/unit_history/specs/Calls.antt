@@ -3,8 +3,8 @@ use Rattle.std.specs.Prelude.{◌≡◌, ℕ, ◌+◌, Bool, List, [], ◌∷◌
 use mathlib.Core.List.{IsPrefix}
 use Rattle.access_states.specs.declared.change.Change.{Change}
 use Rattle.block_file.specs.declared.blocks.DeviceFailed.{DeviceFailed}
-use Rattle.locked_unit.specs.Calls.{Known, IsAdded, IsBeside, IsBetween, IsEnded, IsRefused, IsCause}
-use Rattle.locked_unit.specs.declared.machine.Refused.{Refused}
+use Rattle.unit_lock.specs.Calls.{Known, IsAdded, IsBeside, IsBetween, IsEnded, IsRefused, IsCause}
+use Rattle.unit_lock.specs.declared.machine.Refused.{Refused}
 use Rattle.scsi_types.specs.Nexus.{Nexus}
 use Rattle.scsi_types.specs.ReplyValue.{ReplyValue}
 use Rattle.scsi_types.specs.declared.names.Group.{Group}

@@ -9,7 +9,7 @@
 mod new_unit;
 mod shared;
 
-pub use locked_unit::Refused;
 pub use new_unit::NewUnit;
 pub use shared::{Board, LegalHistory, Pass, Seat, SharedUnit};
 pub use unit_entries::{Arrival, Noted, Opened};
+pub use unit_lock::Refused;

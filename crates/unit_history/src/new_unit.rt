@@ -3,10 +3,10 @@ ghost use Rattle.std.specs.Prelude.{◌≡◌, ◌<◌, IfOk};
 ghost use Rattle.unit_state.specs.Serials.{IsOpening};
 
 use block_file::{Blocks, Opener};
-use locked_unit::NewUnit as Posted;
 use scsi_types::NoMemory;
 use std::alloc::Global;
 use unit_entries::{Noted, Opened};
+use unit_lock::NewUnit as Posted;
 use unit_state::Unit;
 
 /// A unit of which nothing was asked yet, before it has a name.

@@ -9,14 +9,14 @@ ghost use Rattle.unit_history.specs.Naming.{IsNamedAt};
 use crate::new_unit::NewUnit;
 use access_states::Change;
 use block_file::{Blocks, DeviceFailed, Opener};
-use locked_unit::{LegalHistory as Seen, Pass as SessionPass, Refused};
-use numbering::{Array, At};
+use entry_numbers::{Array, At};
 use scsi_types::{Asked, Group, NoMemory, PortName, Reply};
 use status::{Board as StatusBoard, MOST_SEATS, Seat as BoardSeat};
 use std::alloc::Global;
 use std::sync::Wait;
 use unit_entries::laws::a_unit_that_opened_has_the_history_without_an_entry;
 use unit_entries::{Arrival, Noted, Opened};
+use unit_lock::{LegalHistory as Seen, Pass as SessionPass, Refused};
 use unit_state::{MoveFault, Unit};
 
 /// A session of a unit: what it has seen of the unit's history, and the one right to add the session's entries. Contracts see
@@ -45,7 +45,7 @@ pub type Seat<B, F, O, N, const U: usize> = BoardSeat<
 /// The unit at a place of an array, which all threads share: each call of any session is one step of it, at one point of one
 /// history.
 pub struct SharedUnit<B: Blocks, F: Blocks, O: Opener<B>, N: Array<Opened>, const U: usize> {
-    unit: locked_unit::SharedUnit<Noted, Opened, Unit<B, F, O>, N, U>,
+    unit: unit_lock::SharedUnit<Noted, Opened, Unit<B, F, O>, N, U>,
 }
 
 impl<B: Blocks + Drop, F: Blocks + Drop, O: Opener<B> + Drop, N: Array<Opened>, const U: usize> Drop
@@ -75,7 +75,7 @@ impl<B: Blocks, F: Blocks, O: Opener<B>, N: Array<Opened>, const U: usize> Share
     {
         let NewUnit { posted, unit } = new;
         a_unit_that_opened_has_the_history_without_an_entry::<B, F, O, N, U>(&unit);
-        match locked_unit::SharedUnit::new(rt, alloc, posted, unit, seats) {
+        match unit_lock::SharedUnit::new(rt, alloc, posted, unit, seats) {
             Ok((unit, seats)) => Ok((SharedUnit { unit }, seats)),
             Err(_) => Err(NoMemory),
         }

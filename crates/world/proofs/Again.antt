@@ -5,7 +5,7 @@ use Rattle.std.specs.List.{remove}
 use Rattle.std.specs.Prelude.{IfSome, MatchOption, ◌<◌, slice_get, slice_index_or, slice_set}
 use Rattle.std.proofs.lemmas.Option.{slice_get_read}
 use Rattle.std.proofs.lemmas.List.{set-set}
-use Rattle.locked_unit.specs.declared.machine.Refused.TheVariants.{Gone as IsGone, Moved, NoMemory}
+use Rattle.unit_lock.specs.declared.machine.Refused.TheVariants.{Gone as IsGone, Moved, NoMemory}
 use Rattle.scsi_types.specs.declared.names.Group.{Group}
 use Rattle.scsi_types.specs.declared.names.Group.TheVariants.{One, Two}
 use Rattle.world.specs.Records.{on_from, sent}

@@ -4,7 +4,7 @@ use Rattle.std.proofs.Common.{List, [], ◌∷◌, ◌++◌, length, Some, refl,
 use Rattle.std.specs.Prelude.{MatchOption, slice_get, slice_set}
 use Rattle.std.specs.List.{remove}
 use Rattle.std.proofs.lemmas.Option.{slice_get_within}
-use Rattle.locked_unit.specs.declared.machine.Refused.TheVariants.{Gone as IsGone, Moved, NoMemory}
+use Rattle.unit_lock.specs.declared.machine.Refused.TheVariants.{Gone as IsGone, Moved, NoMemory}
 use Rattle.scsi_types.specs.ReplyValue.{ReplyValue}
 use Rattle.scsi_types.specs.Nexus.{Nexus}
 use Rattle.scsi_types.specs.declared.names.Group.{Group}

@@ -1,7 +1,7 @@
 -- What each event makes of the world: of the histories of its units, by their places, and of what is on its way.
 use Rattle.std.specs.Prelude.{◌≡◌, ◌⊎◌, ℕ, ◌+◌, ◌<◌, ◌≤◌, Bool, nat_eq, if◌then◌else◌, List, [], ◌∷◌, ◌++◌, length}
 use Rattle.std.specs.Prelude.{MatchOption, slice_get}
-use Rattle.locked_unit.specs.Calls.{IsCause}
+use Rattle.unit_lock.specs.Calls.{IsCause}
 use Rattle.registrants.specs.Nexus.{through}
 use Rattle.unit_control.specs.State.{UnitState}
 use Rattle.unit_control.specs.Choice.{Choice, Fine}

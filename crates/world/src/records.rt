@@ -5,16 +5,16 @@ ghost use Rattle.world.specs.Records.{HasRoom, sent, traffic_of, turned};
 ghost use Rattle.world.specs.Traffic.{at_stage, attached, closed, collected, ended, given, given_up, handed_in, heard};
 ghost use Rattle.world.specs.Traffic.{IsTakenBack, in_hand, in_lane, is_closed, is_idle, no_traffic, note_of, posted, returned_in};
 ghost use Rattle.world.specs.Traffic.{taken, waiting, with_waiting};
-ghost use Rattle.locked_unit.specs.declared.machine.Refused.TheVariants as causes;
+ghost use Rattle.unit_lock.specs.declared.machine.Refused.TheVariants as causes;
 ghost use Rattle.unit_events.specs.declared.job.End.TheVariants as ends;
 
 use crate::desk::Desk;
 use crate::note::{Note, What};
 use crate::session::{Session, Stage, Turn};
-use locked_unit::Refused;
 use scsi_types::{Group, NoMemory};
 use std::alloc::Global;
 use unit_events::{End, Job};
+use unit_lock::Refused;
 
 // Who serves a session's command: a lane that takes it from its desk, or the session's worker, which has it in hand.
 #[derive(Clone, Copy)]

@@ -1,6 +1,6 @@
 //! An array as its console sees it.
 use block_file::{Blocks, Opener};
-use numbering::Array as Naming;
+use entry_numbers::Array as Naming;
 use portal::Controllers;
 use std::sync::Wait;
 use unit_history::Opened;

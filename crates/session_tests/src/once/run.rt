@@ -3,11 +3,11 @@ use crate::once::{examples, first_questions, medium};
 use crate::row::Row;
 use crate::run::{Table, portal};
 use block_file::{Blocks, DeviceFailed, FusedBlocks, MemBlocks};
+use once_target::once::once;
 use session::{End, Identity, Watched};
 use std::alloc::Global;
 use std::process::Abort;
 use std::test::*;
-use targets::once::once;
 use test_streams::{Calls, FakeReader, FakeWriter, ONE_BYTE, WHOLE};
 
 /// How many blocks the unit has.
