@@ -7,7 +7,7 @@ use std::alloc::{AllocError, Global};
 use std::net::{Net, SocketAddrV4, TcpListener, TcpStream};
 use std::process::Abort;
 use std::test::Fail;
-use test_streams::{lines_of, pdu_of};
+use test_streams::{lines_of, must, pdu_of};
 
 // Sends what a line spells, or compares it with what comes.
 fn obey<R: Abort>(rt: &R, alloc: Global, host: &mut Host, line: &str) -> Result<(), Fail> {
@@ -18,7 +18,7 @@ fn obey<R: Abort>(rt: &R, alloc: Global, host: &mut Host, line: &str) -> Result<
     }
     let came = host.receive(alloc)?;
     let is_answer = host.is_answer(came.as_slice(), pdu.as_mut_slice());
-    assert!(rt; is_answer, "{line}, and not {came:?}");
+    must(rt, is_answer, line, &came);
     Ok(())
 }
 
@@ -71,6 +71,6 @@ pub fn finds<R: Abort + Net<Listener = TcpListener, Stream = TcpStream>>(
     let wanted = told(alloc, site)?;
     let came = host.receive(alloc)?;
     let is_told = is_text(came.as_slice(), wanted.as_bytes());
-    assert!(rt; is_told, "{wanted}, and not {came:?}");
+    must(rt, is_told, wanted.as_str(), &came);
     Ok(())
 }

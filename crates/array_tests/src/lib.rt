@@ -1,10 +1,11 @@
 //! Tests of the array and of the program that serves it. Over real files, through the portals of both controllers (`whole`); of what
-//! needs no file: words, the texts of faults, the console, and the lines of the log (`words`, `lines`, `down`, `log_lines`). Over the
-//! loopback, through portals that a test opens over units in memory or in its files (`portals`).
+//! needs no file: words, the texts of faults, the console, and the lines of the log (`words`, `lines`, `log_lines`). Over the
+//! loopback, through portals that a test opens over units in memory or in its files (`portals`). Without a portal, by what both
+//! controllers call: units that threads share, desks, moves, and the pure world (`controllers`).
 #![tactic(auto)]
 
 #[cfg(test)]
-mod down;
+mod controllers;
 #[cfg(test)]
 mod host;
 #[cfg(test)]
@@ -13,6 +14,8 @@ mod hosts;
 mod lines;
 #[cfg(test)]
 mod log_lines;
+#[cfg(test)]
+mod memory;
 #[cfg(test)]
 mod portals;
 #[cfg(test)]

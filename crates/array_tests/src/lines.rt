@@ -6,6 +6,7 @@ use std::alloc::Global;
 use std::io::{self, BufReader, Read, Write};
 use std::process::Abort;
 use std::test::*;
+use test_streams::must;
 
 // Two units, which count how often they were asked, and flushed behind the close. Of controller 2 unit 1 does not move.
 #[derive(Drop)]
@@ -70,10 +71,8 @@ fn compare(rt: &impl Abort, alloc: Global, lines: &[u8], answers: &str) -> Resul
     let mut written = Vec::new(alloc);
     console(alloc, lines, &mut written, &mut array);
     let text = String::from_utf8(written)?;
-    assert!(rt;
-        text.as_str() == answers && array.flushed == 1,
-        "{lines:?}: {text}"
-    );
+    let is_right = text.as_str() == answers && array.flushed == 1;
+    must(rt, is_right, "these lines", &(lines, text));
     Ok(())
 }
 

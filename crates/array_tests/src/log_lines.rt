@@ -7,6 +7,7 @@ use std::alloc::Global;
 use std::net::{Ipv4Addr, SocketAddrV4};
 use std::test::*;
 use std::time::Duration;
+use test_streams::must;
 
 // An initiator port whose name would begin a line, and move a terminal.
 const WHO: Initiator<'static> = Initiator {
@@ -103,7 +104,7 @@ fn events_are_spelled(rt: HostRuntime) -> Result<(), Fail> {
     ];
     for (event, wanted) in &rows {
         let line = spelled(rt.alloc(), event)?;
-        assert_eq!(rt; line.as_str(), *wanted);
+        must(&rt, line.as_str() == *wanted, wanted, &line);
     }
     Ok(())
 }
@@ -120,7 +121,7 @@ fn moments_are_spelled(rt: HostRuntime) -> Result<(), Fail> {
     for (seconds, micros, wanted) in &rows {
         let stamp = Stamp::of(Duration::new(*seconds, *micros * 1000));
         let text = stamp.to_string(rt.alloc())?;
-        assert_eq!(rt; text.as_str(), *wanted);
+        must(&rt, text.as_str() == *wanted, wanted, &text);
     }
     Ok(())
 }

@@ -6,11 +6,11 @@ use disk_files::{DiskFault, open_disk};
 use std::alloc::Global;
 use std::fs::File;
 use std::io::{self, BufReader, ErrorKind, Read};
-use std::net::{Net, TcpListener, TcpStream};
+use std::net::{Net, SocketAddrV4, TcpListener, TcpStream};
 use std::process::{Abort, Termination};
 use std::rt::Files;
 use std::test::Fail;
-use test_streams::bytes_of;
+use test_streams::{bytes_of, must};
 
 // The name of the host that registers.
 const REGISTRANT: &[u8] = b"iqn.2000-01.test:a";
@@ -81,22 +81,38 @@ fn is_refused<R: Files<File = File> + Clone + Drop>(
     Ok(matches!(end, Err(DiskFault::InUse)))
 }
 
-// What the hosts wrote lies in the files, each unit's in its own, the registration beside unit 1, and no other server may have
-// these.
+// In the file of a unit lie these blocks 5 and 6, its registration file names the host that registers, or not, and no other server
+// may have them.
+fn compare_unit<R: Abort + Files<File = File> + Clone + Drop>(
+    rt: &R,
+    alloc: Global,
+    file: &str,
+    blocks: [&str; 2],
+    is_registered: bool,
+) -> Result<(), Fail> {
+    let [five, six] = blocks;
+    must(rt, lies(rt, alloc, file, 5, five)?, file, &five);
+    must(rt, lies(rt, alloc, file, 6, six)?, file, &six);
+    let is_named = names_registrant(rt, alloc, file)?;
+    must(rt, is_named == is_registered, file, &is_named);
+    must(rt, is_refused(rt, alloc, file)?, file, &"not refused");
+    Ok(())
+}
+
+// What the hosts wrote lies in the files, each unit's in its own, and the registration beside unit 1.
 fn compare<R: Abort + Files<File = File> + Clone + Drop>(
     rt: &R,
     alloc: Global,
     site: &Site<'_>,
 ) -> Result<(), Fail> {
-    assert!(rt; lies(rt, alloc, site.one, 5, "pattern 512")?);
-    assert!(rt; lies(rt, alloc, site.one, 6, "512*00")?);
-    assert!(rt; lies(rt, alloc, site.two, 5, "512*00")?);
-    assert!(rt; lies(rt, alloc, site.two, 6, "pattern 100+512")?);
-    assert!(rt; !names_registrant(rt, alloc, site.one)?);
-    assert!(rt; names_registrant(rt, alloc, site.two)?);
-    assert!(rt; is_refused(rt, alloc, site.one)?);
-    assert!(rt; is_refused(rt, alloc, site.two)?);
-    Ok(())
+    compare_unit(rt, alloc, site.one, ["pattern 512", "512*00"], false)?;
+    compare_unit(rt, alloc, site.two, ["512*00", "pattern 100+512"], true)
+}
+
+// The portal that a line names: its controller, and its place there.
+fn portal_at(site: &Site<'_>, line: &str) -> Option<SocketAddrV4> {
+    let (controller, portal) = line.split_once(' ')?;
+    Some(site.portal(controller.parse().ok()?, portal.parse().ok()?))
 }
 
 // The hosts come.
@@ -108,11 +124,8 @@ fn come_all<R: Abort + Net<Listener = TcpListener, Stream = TcpStream>>(
 ) -> Result<(), Fail> {
     for visit in visited.visits.split("\n\n") {
         let (place, script) = visit.trim_start().split_once('\n').ok_or("a visit")?;
-        let (controller, portal) = place.split_once(' ').ok_or("a portal")?;
-        let controller = controller.parse().ok().ok_or("a controller")?;
-        let portal = portal.parse().ok().ok_or("a portal")?;
-        let host = come(rt, alloc, visited.site.portal(controller, portal), script)?;
-        hosts.push(host)?;
+        let portal = portal_at(&visited.site, place).ok_or("a portal")?;
+        hosts.push(come(rt, alloc, portal, script)?)?;
     }
     Ok(())
 }

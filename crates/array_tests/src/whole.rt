@@ -12,7 +12,9 @@ use std::fs::{self, File};
 use std::marker::Brand;
 use std::net::{Net, TcpListener, TcpStream};
 use std::process::{self, Abort};
+use std::rt::Files;
 use std::test::*;
+use test_streams::must;
 
 // What hosts do before power is lost. Each login is told the group of its portal.
 fn before() -> &'static str {
@@ -141,6 +143,46 @@ fn site_of<'a, R: Net<Listener = TcpListener, Stream = TcpStream>>(
     }
 }
 
+// What was told, and that the sessions which are still open find the desks closed.
+fn compare<R: Abort>(
+    rt: &R,
+    alloc: Global,
+    visited: &Visited<'_>,
+    said: &[u8],
+    hosts: &mut [Host],
+) -> Result<(), Fail> {
+    must(rt, said == visited.said.as_bytes(), visited.said, &said);
+    for host in hosts {
+        perform(rt, alloc, host, busy())?;
+    }
+    Ok(())
+}
+
+// A folder of this process without a file.
+fn new_folder<R: Files<File = File> + AllocGlobal>(
+    rt: &R,
+    alloc: Global,
+    process: u32,
+) -> Result<String, Fail> {
+    let folder = format!(in alloc; "/tmp/arrayd_{process}_whole")?;
+    let _ = fs::remove_dir_all(rt, folder.as_str());
+    fs::create_dir(rt, folder.as_str())?;
+    Ok(folder)
+}
+
+// Where an array is served over new files, and where one over those in which they are left.
+fn sites<'a, R: Files<File = File> + Net<Listener = TcpListener, Stream = TcpStream>>(
+    rt: &R,
+    process: u32,
+    paths: &'a [String; 4],
+) -> Result<(Site<'a>, Site<'a>), Fail> {
+    let site = site_of(rt, process, paths, false)?;
+    let left = site_of(rt, process, paths, true)?;
+    make(rt, site.one)?;
+    make(rt, site.two)?;
+    Ok((site, left))
+}
+
 // An array over new files, and one over what lies in these when power is lost.
 fn story<'a>(site: Site<'a>, left: Site<'a>) -> [Visited<'a>; 2] {
     [
@@ -159,33 +201,13 @@ fn story<'a>(site: Site<'a>, left: Site<'a>) -> [Visited<'a>; 2] {
     ]
 }
 
-// What was told, and that the sessions which are still open find the desks closed.
-fn compare<R: Abort>(
-    rt: &R,
-    alloc: Global,
-    visited: &Visited<'_>,
-    said: &[u8],
-    hosts: &mut [Host],
-) -> Result<(), Fail> {
-    assert_eq!(rt; said, visited.said.as_bytes());
-    for host in hosts {
-        perform(rt, alloc, host, busy())?;
-    }
-    Ok(())
-}
-
 #[test]
 fn units_have_their_files_and_portals_their_groups(rt: HostRuntime) -> Result<(), Fail> {
     let alloc = rt.alloc();
     let process = process::id(rt.process());
-    let folder = format!(in alloc; "/tmp/arrayd_{process}_whole")?;
-    let _ = fs::remove_dir_all(&rt, folder.as_str());
-    fs::create_dir(&rt, folder.as_str())?;
-    let paths = &paths(alloc, folder.as_str())?;
-    let site = site_of(&rt, process, paths, false)?;
-    let left = site_of(&rt, process, paths, true)?;
-    make(&rt, site.one)?;
-    make(&rt, site.two)?;
+    let folder = new_folder(&rt, alloc, process)?;
+    let paths = paths(alloc, folder.as_str())?;
+    let (site, left) = sites(&rt, process, &paths)?;
     for visited in story(site, left) {
         let options = visited.site.options(alloc)?;
         let mut hosts = Vec::new(alloc);

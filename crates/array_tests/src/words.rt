@@ -1,221 +1,141 @@
 //! The words of the command line, and the texts of the faults.
 use command_line::{Fault, Options, WordsFault, read};
 use std::alloc::Global;
-use std::net::Ipv4Addr;
 use std::test::*;
+use test_streams::must;
 
-const NAME: &str = "iqn.2000-01.test:array";
-
-// The words, each as a string of its own.
-fn strings(alloc: Global, words: &[&str]) -> Result<Vec<String>, Fail> {
-    let mut strings = Vec::new(alloc);
-    for word in words {
-        strings.push(word.to_string(alloc)?)?;
+// The words of a line, each as a string of its own: they stand between bars. A line of nothing has none.
+fn words_of(alloc: Global, line: &str) -> Result<Vec<String>, Fail> {
+    let mut words = Vec::new(alloc);
+    if line.is_empty() {
+        return Ok(words);
     }
-    Ok(strings)
+    for word in line.split('|') {
+        words.push(word.to_string(alloc)?)?;
+    }
+    Ok(words)
 }
 
-// Words that are obeyed, behind the program's name, and all that they ask for.
-#[derive(Clone, Copy)]
-struct Row<'a> {
-    words: &'a [&'a str],
-    is_once: bool,
-    target: &'a str,
-    array: u32,
-    host: [u8; 4],
-    port: u16,
-    portals: u16,
-    paths: &'a [&'a str],
+// What options ask for, as a line.
+fn told(alloc: Global, options: &Options<'_>) -> Result<String, Fail> {
+    let mut line = format!(in alloc;
+        "{} {} {} {} {} {}",
+        options.is_once, options.target, options.array, options.host, options.port, options.portals
+    )?;
+    for path in &options.paths {
+        line.push(' ')?;
+        line.push_str(*path)?;
+    }
+    Ok(line)
 }
 
-// What one file alone asks for.
-const PLAIN: Row<'static> = Row {
-    words: &["arrayd", "a"],
-    is_once: false,
-    target: NAME,
-    array: 1,
-    host: [127, 0, 0, 1],
-    port: 3260,
-    portals: 1,
-    paths: &["a"],
-};
-
-// Whether the options are those of the row.
-fn is_row(options: &Options<'_>, row: &Row<'_>) -> bool {
-    let [a, b, c, d] = row.host;
-    options.is_once == row.is_once
-        && options.target == row.target
-        && options.array == row.array
-        && options.host == Ipv4Addr::new(a, b, c, d)
-        && options.port == row.port
-        && options.portals == row.portals
-        && options.paths.as_slice() == row.paths
+// Words that are obeyed, behind the program's name, and what they ask for: whether one session is served, the target, the number
+// of the array, the host, the port, how many portals, and the files.
+fn obeyed() -> &'static str {
+    "arrayd|a = false iqn.2000-01.test:array 1 127.0.0.1 3260 1 a
+arrayd|--once = true iqn.2000-01.test:array 1 127.0.0.1 3260 1
+arrayd|--once|--array|7 = true iqn.2000-01.test:array 7 127.0.0.1 3260 1
+arrayd|--target|iqn.2020-02.a:b|a = false iqn.2020-02.a:b 1 127.0.0.1 3260 1 a
+arrayd|--target=x|a = false x 1 127.0.0.1 3260 1 a
+arrayd|--array|0|a = false iqn.2000-01.test:array 0 127.0.0.1 3260 1 a
+arrayd|--array|4294967295|a = false iqn.2000-01.test:array 4294967295 127.0.0.1 3260 1 a
+arrayd|--array|007|a = false iqn.2000-01.test:array 7 127.0.0.1 3260 1 a
+arrayd|--host|0.0.0.0|a = false iqn.2000-01.test:array 1 0.0.0.0 3260 1 a
+arrayd|a|--host=255.10.9.199 = false iqn.2000-01.test:array 1 255.10.9.199 3260 1 a
+arrayd|--port|1|a = false iqn.2000-01.test:array 1 127.0.0.1 1 1 a
+arrayd|--port=65528|a = false iqn.2000-01.test:array 1 127.0.0.1 65528 1 a
+arrayd|--portals|4|a = false iqn.2000-01.test:array 1 127.0.0.1 3260 4 a
+arrayd|a|--portals|2|b = false iqn.2000-01.test:array 1 127.0.0.1 3260 2 a b
+arrayd|--|--once|b = false iqn.2000-01.test:array 1 127.0.0.1 3260 1 --once b
+arrayd|1|2|3|4|5|6|7|8 = false iqn.2000-01.test:array 1 127.0.0.1 3260 1 1 2 3 4 5 6 7 8"
 }
 
 #[test]
 fn words_that_are_obeyed(rt: HostRuntime) -> Result<(), Fail> {
-    let rows = [
-        PLAIN,
-        Row {
-            words: &["arrayd", "--once"],
-            is_once: true,
-            paths: &[],
-            ..PLAIN
-        },
-        Row {
-            words: &["arrayd", "--once", "--array", "7"],
-            is_once: true,
-            array: 7,
-            paths: &[],
-            ..PLAIN
-        },
-        Row {
-            words: &["arrayd", "--target", "iqn.2020-02.a:b", "a"],
-            target: "iqn.2020-02.a:b",
-            ..PLAIN
-        },
-        Row {
-            words: &["arrayd", "--target=x", "a"],
-            target: "x",
-            ..PLAIN
-        },
-        Row {
-            words: &["arrayd", "--array", "0", "a"],
-            array: 0,
-            ..PLAIN
-        },
-        Row {
-            words: &["arrayd", "--array", "4294967295", "a"],
-            array: 4294967295,
-            ..PLAIN
-        },
-        Row {
-            words: &["arrayd", "--array", "007", "a"],
-            array: 7,
-            ..PLAIN
-        },
-        Row {
-            words: &["arrayd", "--host", "0.0.0.0", "a"],
-            host: [0, 0, 0, 0],
-            ..PLAIN
-        },
-        Row {
-            words: &["arrayd", "a", "--host=255.10.9.199"],
-            host: [255, 10, 9, 199],
-            ..PLAIN
-        },
-        Row {
-            words: &["arrayd", "--port", "1", "a"],
-            port: 1,
-            ..PLAIN
-        },
-        Row {
-            words: &["arrayd", "--port=65528", "a"],
-            port: 65528,
-            ..PLAIN
-        },
-        Row {
-            words: &["arrayd", "--portals", "4", "a"],
-            portals: 4,
-            ..PLAIN
-        },
-        Row {
-            words: &["arrayd", "a", "--portals", "2", "b"],
-            portals: 2,
-            paths: &["a", "b"],
-            ..PLAIN
-        },
-        Row {
-            words: &["arrayd", "--", "--once", "b"],
-            paths: &["--once", "b"],
-            ..PLAIN
-        },
-        Row {
-            words: &["arrayd", "1", "2", "3", "4", "5", "6", "7", "8"],
-            paths: &["1", "2", "3", "4", "5", "6", "7", "8"],
-            ..PLAIN
-        },
-    ];
     let alloc = rt.alloc();
-    for row in &rows {
-        let words = strings(alloc, row.words)?;
-        let options = read(alloc, words.as_slice()).expect(&rt, "options");
-        let shown = row.words;
-        assert!(rt; is_row(&options, row), "{shown:?}");
+    for line in obeyed().lines() {
+        let (words, wanted) = line.split_once(" = ").ok_or("a row")?;
+        let words = words_of(alloc, words)?;
+        let options = read(alloc, words.as_slice()).expect(&rt, line);
+        let told = told(alloc, &options)?;
+        must(&rt, told.as_str() == wanted, line, &told);
     }
     Ok(())
 }
 
 // Whether these words are refused as wrong ones.
-fn is_wrong(alloc: Global, words: &[&str]) -> Result<bool, Fail> {
-    let words = strings(alloc, words)?;
+fn are_wrong(alloc: Global, line: &str) -> Result<bool, Fail> {
+    let words = words_of(alloc, line)?;
     Ok(matches!(read(alloc, words.as_slice()), Err(WordsFault::Wrong)))
+}
+
+// Words that are wrong. The first line has none.
+fn wrong() -> &'static str {
+    "
+arrayd
+arrayd|--port|3260
+arrayd|1|2|3|4|5|6|7|8|9
+arrayd|--once|a
+arrayd|a|--once
+arrayd|--once|--|a
+arrayd|--once|--once
+arrayd|--onc
+arrayd|--once=true
+arrayd|--help
+arrayd|-h
+arrayd|--version
+arrayd|-V
+arrayd|--size|4|a
+arrayd|-p|3260|a
+arrayd|--port|3260|--port|3260|a
+arrayd|--target
+arrayd|--target||a
+arrayd|--target=|a
+arrayd|--array|-1|a
+arrayd|--array|4294967296|a
+arrayd|--array|0x10|a
+arrayd|--array|1_0|a
+arrayd|--array||a
+arrayd|--array| 1|a
+arrayd|--host|localhost|a
+arrayd|--host|::1|a
+arrayd|--host|127.0.0.256|a
+arrayd|--host|127.0.0|a
+arrayd|--host|127.0.0.1.|a
+arrayd|--host|127.0.0.01|a
+arrayd|--host|00.0.0.0|a
+arrayd|--host|+1.0.0.0|a
+arrayd|--host| 1.0.0.0|a
+arrayd|--host||a
+arrayd|--once|--host|localhost
+arrayd|--once|--port|0
+arrayd|--port|0|a
+arrayd|--port|65529|a
+arrayd|--port|65536|a
+arrayd|--port|-3260|a
+arrayd|--port|0xCBC|a
+arrayd|--port|3260.0|a
+arrayd|--portals|0|a
+arrayd|--portals|5|a
+arrayd|--portals|two|a"
 }
 
 #[test]
 fn wrong_words(rt: HostRuntime) -> Result<(), Fail> {
-    let wrong: [&[&str]; 47] = [
-        &[],
-        &["arrayd"],
-        &["arrayd", "--port", "3260"],
-        &["arrayd", "1", "2", "3", "4", "5", "6", "7", "8", "9"],
-        &["arrayd", "--once", "a"],
-        &["arrayd", "a", "--once"],
-        &["arrayd", "--once", "--", "a"],
-        &["arrayd", "--once", "--once"],
-        &["arrayd", "--onc"],
-        &["arrayd", "--once=true"],
-        &["arrayd", "--help"],
-        &["arrayd", "-h"],
-        &["arrayd", "--version"],
-        &["arrayd", "-V"],
-        &["arrayd", "--size", "4", "a"],
-        &["arrayd", "-p", "3260", "a"],
-        &["arrayd", "--port", "3260", "--port", "3260", "a"],
-        &["arrayd", "--target"],
-        &["arrayd", "--target", "", "a"],
-        &["arrayd", "--target=", "a"],
-        &["arrayd", "--array", "-1", "a"],
-        &["arrayd", "--array", "4294967296", "a"],
-        &["arrayd", "--array", "0x10", "a"],
-        &["arrayd", "--array", "1_0", "a"],
-        &["arrayd", "--array", "", "a"],
-        &["arrayd", "--array", " 1", "a"],
-        &["arrayd", "--host", "localhost", "a"],
-        &["arrayd", "--host", "::1", "a"],
-        &["arrayd", "--host", "127.0.0.256", "a"],
-        &["arrayd", "--host", "127.0.0", "a"],
-        &["arrayd", "--host", "127.0.0.1.", "a"],
-        &["arrayd", "--host", "127.0.0.01", "a"],
-        &["arrayd", "--host", "00.0.0.0", "a"],
-        &["arrayd", "--host", "+1.0.0.0", "a"],
-        &["arrayd", "--host", " 1.0.0.0", "a"],
-        &["arrayd", "--host", "", "a"],
-        &["arrayd", "--once", "--host", "localhost"],
-        &["arrayd", "--once", "--port", "0"],
-        &["arrayd", "--port", "0", "a"],
-        &["arrayd", "--port", "65529", "a"],
-        &["arrayd", "--port", "65536", "a"],
-        &["arrayd", "--port", "-3260", "a"],
-        &["arrayd", "--port", "0xCBC", "a"],
-        &["arrayd", "--port", "3260.0", "a"],
-        &["arrayd", "--portals", "0", "a"],
-        &["arrayd", "--portals", "5", "a"],
-        &["arrayd", "--portals", "two", "a"],
-    ];
-    for words in &wrong {
-        assert!(rt; is_wrong(rt.alloc(), words)?, "{words:?}");
+    for line in wrong().lines() {
+        must(&rt, are_wrong(rt.alloc(), line)?, line, &"obeyed");
     }
     Ok(())
 }
 
 // Words with a target's name of so many bytes.
 fn named(alloc: Global, len: usize) -> Result<Vec<String>, Fail> {
-    let mut name = String::new(alloc);
+    let mut line = String::new(alloc);
+    line.push_str("arrayd|a|--target=")?;
     for _ in 0..len {
-        name.push('n')?;
+        line.push('n')?;
     }
-    strings(alloc, &["arrayd", "--target", name.as_str(), "a"])
+    words_of(alloc, line.as_str())
 }
 
 #[test]
@@ -223,10 +143,15 @@ fn length_of_a_name(rt: HostRuntime) -> Result<(), Fail> {
     let alloc = rt.alloc();
     let longest = named(alloc, 196)?;
     let options = read(alloc, longest.as_slice()).expect(&rt, "options");
-    assert_eq!(rt; options.target.len(), 196);
+    must(
+        &rt,
+        options.target.len() == 196,
+        "the longest",
+        &options.target,
+    );
     let longer = named(alloc, 197)?;
-    let refused = matches!(read(alloc, longer.as_slice()), Err(WordsFault::Wrong));
-    assert!(rt; refused);
+    let is_refused = matches!(read(alloc, longer.as_slice()), Err(WordsFault::Wrong));
+    must(&rt, is_refused, "one that is longer", &longer);
     Ok(())
 }
 
@@ -251,7 +176,7 @@ fn texts_of_the_faults(rt: HostRuntime) -> Result<(), Fail> {
     ];
     for (fault, text) in &rows {
         let said = fault.to_string(rt.alloc())?;
-        assert_eq!(rt; said.as_str(), *text);
+        must(&rt, said.as_str() == *text, text, &said);
     }
     Ok(())
 }

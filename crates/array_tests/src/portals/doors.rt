@@ -1,11 +1,11 @@
 //! The gate before the units of a test: its commands may wait before a unit, and flushes may be left to it.
 ghost use Rattle.std.specs.Prelude.{true};
 
+use crate::memory::Latch;
 use portal::{Gate, Pass};
 use scsi_types::Asked;
 use std::sync::atomic::{AtomicUsize, Ordering};
 use std::sync::{Mutex, Wait};
-use test_units::Latch;
 
 /// The place of no unit.
 const NONE: usize = usize::MAX;

@@ -103,7 +103,8 @@ fn unsaved() -> Story<'static> {
 
 #[test]
 fn a_restart_and_a_write_an_open_and_a_save_that_fail(rt: HostRuntime) {
-    for story in [restart(), torn(), unopened(), unsaved()] {
-        run_twice(&rt, rt.alloc(), rt.process(), &story);
-    }
+    run_twice(&rt, rt.alloc(), rt.process(), &restart());
+    run_twice(&rt, rt.alloc(), rt.process(), &torn());
+    run_twice(&rt, rt.alloc(), rt.process(), &unopened());
+    run_twice(&rt, rt.alloc(), rt.process(), &unsaved());
 }

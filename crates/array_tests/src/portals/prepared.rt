@@ -8,6 +8,7 @@ use std::alloc::Global;
 use std::sync::Arc;
 use std::sync::atomic::{AtomicU64, Ordering};
 use std::test::*;
+use test_streams::must;
 
 /// How often a disk was flushed, and how often blocks of it were fetched.
 #[derive(Drop)]
@@ -112,18 +113,21 @@ fn each_unit_has_its_own_disk_made_ready_and_flushed(rt: HostRuntime) -> Result<
         (2, (false, true)),
         (3, (false, false)),
     ] {
-        assert!(rt; gate.settles(*unit) == *settles, "{unit}");
-        assert!(rt; gate.settle(&At { place: *unit }) == *is_done, "{unit}");
+        must(&rt, gate.settles(*unit) == *settles, "settles", unit);
+        let has_settled = gate.settle(&At { place: *unit });
+        must(&rt, has_settled == *is_done, "has settled", unit);
     }
-    assert!(rt; !gate.foresees());
+    must(&rt, !gate.foresees(), "the gate", &"foresees");
     gate.pass(1, 7, &read);
     gate.pass(0, 8, &read);
     gate.pass(3, 7, &read);
     let mut counts = seen.iter();
     for fetched in &[0, 1, 0] {
         let disk = counts.next().expect(&rt, "a disk");
-        assert!(rt; disk.flushed.load(Ordering::Relaxed) == 1);
-        assert!(rt; disk.fetched.load(Ordering::Relaxed) == *fetched);
+        let flushed = disk.flushed.load(Ordering::Relaxed);
+        must(&rt, flushed == 1, "flushed", &flushed);
+        let has_fetched = disk.fetched.load(Ordering::Relaxed);
+        must(&rt, has_fetched == *fetched, "fetched", &has_fetched);
     }
     Ok(())
 }

@@ -1,5 +1,6 @@
 //! An array over a file that is ended while a session is open, and started again at the same ports.
 use crate::host::Host;
+use crate::memory::Latch;
 use crate::portals::at::At;
 use crate::portals::serving::{Script, perform};
 use crate::portals::units::{Faults, NO_FAULTS, fused_file, fused_registrations, opened};
@@ -15,7 +16,6 @@ use std::sync::Wait;
 use std::thread::Threads;
 use std::time::Clock;
 use std::{fs, process};
-use test_units::Latch;
 
 /// An array that fails so while hosts perform a script, and, started again, does not while they perform another, which stands
 /// behind the first and an empty line. By its name its file is found.

@@ -2,7 +2,8 @@
 //! which the first line is the name.
 use crate::portals::serving::{Script, run};
 use crate::portals::{
-    clients, discovery, fencing, hanging, late, lives, logins, medium, streams, wanting, worked,
+    clients, discovery, down, fencing, hanging, late, lives, logins, medium, streams, wanting,
+    worked,
 };
 use std::alloc::Global;
 use std::io::Eprint;
@@ -63,6 +64,16 @@ fn logins_blocks_and_bytes(rt: HostRuntime) {
 #[test]
 fn worked_examples(rt: HostRuntime) {
     run_all(&rt, rt.alloc(), worked::scripts(), false, WHOLE);
+}
+
+#[test]
+fn controllers_that_go_down(rt: HostRuntime) {
+    run_all(&rt, rt.alloc(), down::scripts(), true, WHOLE);
+    let unopened = Script {
+        opens: 0,
+        ..Script::of(down::unopened())
+    };
+    run(&rt, rt.alloc(), &unopened);
 }
 
 // In pieces, too, that are one byte shorter than a header segment, and in single bytes.

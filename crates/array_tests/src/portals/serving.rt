@@ -3,10 +3,12 @@ ghost use Rattle.std.specs.Prelude.{◌≤◌, length};
 ghost use Rattle.unit_history.specs.Naming.{IsNamed};
 
 use crate::host::Host;
+use crate::memory::Latch;
 use crate::portals::at::At;
 use crate::portals::behind::Behind;
 use crate::portals::doors::Doors;
 use crate::portals::no_room::NoRoom;
+use crate::portals::scene::{Portals, Scene};
 use crate::portals::stage::Stage;
 use crate::portals::units::in_memory;
 use array_units::Units;
@@ -23,11 +25,11 @@ use std::process::Abort;
 use std::sync::{Arc, Wait};
 use std::thread::{JoinHandle, Threads};
 use std::time::Clock;
-use test_units::Latch;
 use unit_history::{LegalHistory, NewUnit, Opened, Pass};
 
 /// What the hosts of an array do, of one unit or of two, and where it listens: at this address, and at these ports of its two
-/// controllers. So many connections to each find no thread. What a host sends goes out in pieces of so many bytes.
+/// controllers. So many connections to each find no thread. The last unit is opened anew so often. What a host sends goes out in
+/// pieces of so many bytes.
 #[derive(Clone, Copy)]
 pub struct Script<'a> {
     pub name: &'a str,
@@ -35,6 +37,7 @@ pub struct Script<'a> {
     pub ports: [u16; 2],
     pub refused: u32,
     pub is_alone: bool,
+    pub opens: u64,
     pub piece: usize,
     pub text: &'a str,
 }
@@ -54,6 +57,7 @@ impl<'a> Script<'a> {
             ports: [0, 0],
             refused: 0,
             is_alone: false,
+            opens: u64::MAX,
             piece: usize::MAX,
             text,
         }
@@ -125,6 +129,73 @@ fn found_at(portal: SocketAddrV4) -> SocketAddrV4 {
     SocketAddrV4::new(Ipv4Addr::new(127, 0, 0, 1), portal.port())
 }
 
+// Hosts perform a script: these, whose sessions may still be open.
+fn performed<R: Abort + Eprint, S: Scene>(
+    rt: &R,
+    alloc: Global,
+    scene: &S,
+    script: &Script<'_>,
+) -> Vec<Host> {
+    let mut stage = Stage::new(rt, alloc, scene, script.name, script.piece);
+    stage.perform(script.text);
+    stage.into_hosts()
+}
+
+// What serves these units, behind a gate at which nothing hangs yet, at these portals.
+fn server_of<N: Naming<Opened>, B: Blocks, F: Blocks, O: Opener<B>, R>(
+    rt: &R,
+    alloc: Global,
+    new: Vec<NewUnit<B, F, O>>,
+    first: SocketAddrV4,
+    second: SocketAddrV4,
+) -> Arc<Server<Controllers<B, F, O, N>, Doors<R>>, Global>
+where
+    R: Wait + Abort + Clone + Drop,
+    requires named { IsNamed N.book N.table N.opening B.contents new.items }
+    requires count { length new.items ≤ 8 }
+{
+    let units = Units::<B, F, O, N>::new(rt, alloc, new).expect(rt, "memory");
+    let controllers = Controllers::new(alloc, units).expect(rt, "memory");
+    let server = Server {
+        device: TargetDevice::new(alloc, controllers, gate(rt)),
+        target_name: Vec::from_slice(alloc, b"iqn.2000-01.test:array").expect(rt, "memory"),
+        first: Vec::from_slice(alloc, &[first]).expect(rt, "memory"),
+        second: Vec::from_slice(alloc, &[second]).expect(rt, "memory"),
+        log: Log::off(),
+    };
+    Arc::new(alloc, server).expect(rt, "memory")
+}
+
+// A gate that is open.
+fn gate<R: Wait + Abort + Clone + Drop>(rt: &R) -> Doors<R> {
+    Doors::new(
+        rt.clone().expect(rt, "memory"),
+        Latch::open(rt.clone().expect(rt, "memory")),
+        Latch::open(rt.clone().expect(rt, "memory")),
+    )
+}
+
+// Hosts perform a script before these portals: the hosts.
+fn performed_before<
+    N: Naming<Opened>,
+    B: Blocks,
+    F: Blocks,
+    O: Opener<B>,
+    R: Wait + Clock + Abort + Eprint + Net<Listener = TcpListener, Stream = TcpStream> + Drop,
+>(
+    rt: &R,
+    alloc: Global,
+    server: &Server<Controllers<B, F, O, N>, Doors<R>>,
+    portals: [SocketAddrV4; 2],
+    disk: &Latch<R>,
+    script: &Script<'_>,
+) -> Vec<Host> {
+    let controllers = &server.device.units;
+    let behind = Behind { rt, controllers };
+    let scene = Portals::new(rt, portals, &server.device.gate, disk, &behind);
+    performed(rt, alloc, &scene, script)
+}
+
 /// Serves these units, whose devices may hang at this latch, while hosts perform a script: the ports, and the hosts, whose
 /// sessions may still be open.
 pub fn perform<
@@ -155,45 +226,18 @@ pub fn perform<
 {
     let (first, first_at) = bind(rt, script.host, script.ports[0]);
     let (second, second_at) = bind(rt, script.host, script.ports[1]);
-    let units = Units::<B, F, O, N>::new(rt, alloc, new).expect(rt, "memory");
-    let controllers = Controllers::new(alloc, units).expect(rt, "memory");
-    let gate = Doors::new(
-        rt.clone().expect(rt, "memory"),
-        Latch::open(rt.clone().expect(rt, "memory")),
-        Latch::open(rt.clone().expect(rt, "memory")),
-    );
-    let server = Server {
-        device: TargetDevice::new(alloc, controllers, gate),
-        target_name: Vec::from_slice(alloc, b"iqn.2000-01.test:array").expect(rt, "memory"),
-        first: Vec::from_slice(alloc, &[first_at]).expect(rt, "memory"),
-        second: Vec::from_slice(alloc, &[second_at]).expect(rt, "memory"),
-        log: Log::off(),
-    };
-    let server = Arc::new(alloc, server).expect(rt, "memory");
+    let server = server_of::<N, B, F, O, R>(rt, alloc, new, first_at, second_at);
     let stacks = NoRoom {
         refused: script.refused,
     };
     let first = serve::<N, B, F, O, R>(rt, alloc, first, &server, Group::One, stacks);
     let second = serve::<N, B, F, O, R>(rt, alloc, second, &server, Group::Two, stacks);
     let portals = [found_at(first_at), found_at(second_at)];
-    let controllers = &server.device.units;
-    let behind = Behind { rt, controllers };
-    let gate = &server.device.gate;
-    let mut stage = Stage::new(
-        rt,
-        alloc,
-        gate,
-        disk,
-        &behind,
-        portals,
-        script.name,
-        script.piece,
-    );
-    stage.perform(script.text);
+    let hosts = performed_before(rt, alloc, &server, portals, disk, script);
     end(rt, first);
     end(rt, second);
-    controllers.close(rt);
-    ([first_at.port(), second_at.port()], stage.into_hosts())
+    server.device.units.close(rt);
+    ([first_at.port(), second_at.port()], hosts)
 }
 
 /// Hosts perform a script before units in memory.
@@ -217,6 +261,6 @@ pub fn run<
         script: script.name,
         line: "",
     };
-    let units = at.must(in_memory(alloc, &disk, script.is_alone));
+    let units = at.must(in_memory(alloc, &disk, script.is_alone, script.opens));
     let _ended = perform::<Brand, _, _, _, R>(rt, alloc, units, &disk, script);
 }

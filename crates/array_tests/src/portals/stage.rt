@@ -19,29 +19,24 @@
 //! - `gate flushes done`: from now on flushes are left to the gate, and done; `fail`: they fail; `in place`: none is left to it;
 //! - `gate flushed 1`: since the last such line a flush was asked of the gate, the last one of unit 1; `gate unflushed`: none was;
 //! - `0 shows 3`: the row of unit 0 tells of three entries, whoever has its lock;
+//! - `console status / down 1 = unit 0 .. / down`: these lines of the console are answered by those; behind them the desks are closed;
 //! - `desks close`: the desks of both controllers are closed.
 use crate::host::{Host, is_text, put};
 use crate::portals::at::At;
-use crate::portals::behind::Console;
-use crate::portals::doors::{Doors, Flushes};
+use crate::portals::doors::Flushes;
+use crate::portals::scene::{Place, Scene};
 use crate::texts::texts;
 use std::alloc::{AllocError, Global};
 use std::io::Eprint;
-use std::net::{Net, SocketAddrV4, TcpListener, TcpStream};
 use std::process::Abort;
-use std::sync::Wait;
 use test_streams::{lines_of, pdu_of};
-use test_units::Latch;
 
 /// The hosts of a script, and the array that they reach.
 #[derive(Drop)]
-pub struct Stage<'a, R: Wait + Drop, C: Console> {
+pub struct Stage<'a, R, S> {
     at: At<'a, R>,
     alloc: Global,
-    gate: &'a Doors<R>,
-    disk: &'a Latch<R>,
-    behind: &'a C,
-    portals: [SocketAddrV4; 2],
+    scene: &'a S,
     // What a host sends goes out in such pieces.
     piece: usize,
     // What the lines name.
@@ -69,32 +64,23 @@ B < CHECK_CONDITION 0012 70000600000000 0A00000000 2900 00000000
 }
 
 // What initiators are told of the target: both portals, each with the tag of its group (RFC 7143, appendix C).
-fn told(alloc: Global, portals: [SocketAddrV4; 2]) -> Result<String, AllocError> {
-    let [first, second] = portals;
+fn told(alloc: Global, ports: [u16; 2]) -> Result<String, AllocError> {
+    let [first, second] = ports;
     format!(in alloc;
-        "TargetName=iqn.2000-01.test:array\0TargetAddress=127.0.0.1:{},1\0TargetAddress=127.0.0.1:{},2\0",
-        first.port(),
-        second.port()
+        "TargetName=iqn.2000-01.test:array\0TargetAddress=127.0.0.1:{first},1\0TargetAddress=127.0.0.1:{second},2\0"
     )
 }
 
-impl<
-    'a,
-    R: Wait + Abort + Eprint + Net<Listener = TcpListener, Stream = TcpStream> + Drop,
-    C: Console,
-> Stage<'a, R, C> {
-    /// A stage before the portals of an array with this gate, whose devices hang at this latch, and whose console this is. It
-    /// is for the script of this name, and what its hosts send goes out in pieces of so many bytes.
+impl<'a, R: Abort + Eprint, S: Scene> Stage<'a, R, S> {
+    /// A stage before the portals of an array. It is for the script of this name, and what its hosts send goes out in pieces of
+    /// so many bytes.
     pub fn new(
         rt: &'a R,
         alloc: Global,
-        gate: &'a Doors<R>,
-        disk: &'a Latch<R>,
-        behind: &'a C,
-        portals: [SocketAddrV4; 2],
+        scene: &'a S,
         script: &'a str,
         piece: usize,
-    ) -> Stage<'a, R, C> {
+    ) -> Stage<'a, R, S> {
         Stage {
             at: At {
                 rt,
@@ -102,10 +88,7 @@ impl<
                 line: "",
             },
             alloc,
-            gate,
-            disk,
-            behind,
-            portals,
+            scene,
             piece,
             texts: texts().to_vec(alloc).expect(rt, "memory"),
             names: Vec::new(alloc),
@@ -150,12 +133,46 @@ impl<
 
     fn obey(&mut self, line: &'a str) {
         self.at.line = line;
-        let (who, rest) = line.split_once(' ').unwrap_or((line, ""));
-        let (verb, rest) = rest.split_once(' ').unwrap_or((rest, ""));
+        let (who, words) = line.split_once(' ').unwrap_or((line, ""));
+        let (verb, rest) = words.split_once(' ').unwrap_or((words, ""));
+        match who {
+            "console" => self.compare_answers(words),
+            "gate" | "disk" | "flush" | "desks" => self.obey_behind(who, verb, rest),
+            "all" => self.obey_all_hosts(verb, rest),
+            _ => self.obey_host(who, verb, rest),
+        }
+    }
+
+    // A line for what is behind the portals.
+    fn obey_behind(&self, who: &str, verb: &str, rest: &str) {
+        match verb {
+            "hold" => self
+                .scene
+                .hold(place_of(who), Some(self.number(rest) as usize)),
+            "held" => self.scene.await_held(place_of(who), self.number(rest)),
+            "open" => self.scene.hold(place_of(who), None),
+            "flushes" => self.scene.come_to(self.flushes(rest)),
+            "flushed" => self.compare_flush(Some(self.number(rest) as usize)),
+            "unflushed" => self.compare_flush(None),
+            "close" => self.scene.close(),
+            _ => self.at.stop("a verb"),
+        }
+    }
+
+    // A line for all connections that entered.
+    fn obey_all_hosts(&mut self, verb: &str, rest: &str) {
+        match verb {
+            ">" => self.send_all(rest),
+            "<" => self.compare_all(rest),
+            "leave" => self.leave(rest),
+            _ => self.at.stop("a verb"),
+        }
+    }
+
+    // A line for one host.
+    fn obey_host(&mut self, who: &'a str, verb: &str, rest: &str) {
         match verb {
             "at" => self.connect(who, rest),
-            ">" if who == "all" => self.send_all(rest),
-            "<" if who == "all" => self.compare_all(rest),
             ">" => self.send(who, rest),
             "<" => self.compare(who, rest),
             ">>" => self.send_as_is(who, rest),
@@ -164,17 +181,16 @@ impl<
             "cut" => self.cut(who, rest),
             "told" => self.compare_text(who),
             "over" => self.end(who),
+            _ => self.obey_other(who, verb, rest),
+        }
+    }
+
+    // A line for two hosts, for those that enter, or for the row of a unit.
+    fn obey_other(&mut self, who: &str, verb: &str, rest: &str) {
+        match verb {
             "race" => self.race(rest),
             "enter" => self.enter(who, rest),
-            "leave" => self.leave(rest),
-            "hold" => self.latch(who).hold(Some(self.number(rest) as usize)),
-            "held" => self.latch(who).await_held(self.number(rest)),
-            "open" => self.latch(who).hold(None),
-            "flushes" => self.gate.come_to(self.flushes(rest)),
-            "flushed" => self.compare_flush(Some(self.number(rest) as usize)),
-            "unflushed" => self.compare_flush(None),
             "shows" => self.compare_row(who, rest),
-            "close" => self.behind.close(),
             _ => self.at.stop("a verb"),
         }
     }
@@ -189,18 +205,19 @@ impl<
         word.parse().expect(self.at.rt, self.at.line)
     }
 
-    // The latch of this name.
-    fn latch(&self, name: &str) -> &Latch<R> {
-        match name {
-            "disk" => self.disk,
-            "flush" => &self.gate.flushes,
-            _ => &self.gate.commands,
-        }
+    // What the lines of the console are answered.
+    fn compare_answers(&self, words: &str) {
+        let (lines, wanted) = words.split_once('=').unwrap_or((words, ""));
+        let lines = lines_between(self.alloc, lines).expect(self.at.rt, "memory");
+        let wanted = lines_between(self.alloc, wanted).expect(self.at.rt, "memory");
+        let answers = self.scene.answers(self.alloc, lines.as_str());
+        let answers = self.at.must(answers);
+        self.at.check(answers == wanted, &answers);
     }
 
     // Of which unit a flush was asked for last.
     fn compare_flush(&self, unit: Option<usize>) {
-        let asked_for = self.gate.asked_for();
+        let asked_for = self.scene.asked_for();
         self.at.check(asked_for == unit, &asked_for);
     }
 
@@ -219,18 +236,14 @@ impl<
         pdu_of(self.alloc, self.texts.as_slice(), line).expect(self.at.rt, self.at.line)
     }
 
-    // The portal of a controller.
-    fn portal(&self, controller: &str) -> SocketAddrV4 {
-        match controller {
-            "1" => self.portals[0],
-            "2" => self.portals[1],
-            _ => self.at.stop("a controller"),
-        }
+    // A connection to the portal of a controller.
+    fn connected(&self, controller: &str) -> Host {
+        let controller = self.number(controller) as usize;
+        self.at.must(self.scene.connect(controller))
     }
 
     fn connect(&mut self, name: &'a str, controller: &str) {
-        let portal = self.portal(controller);
-        let mut host = self.at.must(Host::connect(self.at.rt, portal));
+        let mut host = self.connected(controller);
         self.at.must(host.send_in_pieces(self.piece));
         self.names.push(name).expect(self.at.rt, "memory");
         self.hosts.push(host).expect(self.at.rt, "memory");
@@ -302,7 +315,7 @@ impl<
     }
 
     fn compare_text(&mut self, name: &str) {
-        let wanted = told(self.alloc, self.portals).expect(self.at.rt, "memory");
+        let wanted = told(self.alloc, self.scene.ports()).expect(self.at.rt, "memory");
         let came = self.receive(name);
         self.at
             .check(is_text(came.as_slice(), wanted.as_bytes()), &came);
@@ -334,11 +347,11 @@ impl<
 
     fn enter(&mut self, count: &str, line: &str) {
         let (controller, line) = line.split_once(' ').unwrap_or((line, ""));
-        let portal = self.portal(controller);
         let mut pdu = self.spelled(line);
         for number in 0..self.number(count) {
             put(pdu.as_mut_slice(), 10, 0x0137_0100 | number);
-            let host = entered(&self.at, self.alloc, portal, pdu.as_mut_slice());
+            let mut host = self.connected(controller);
+            enter(&self.at, self.alloc, &mut host, pdu.as_mut_slice());
             self.crowd.push(host).expect(self.at.rt, "memory");
         }
     }
@@ -358,7 +371,7 @@ impl<
     }
 
     fn compare_row(&self, unit: &str, entries: &str) {
-        let shown = self.behind.entries(self.unit(unit));
+        let shown = self.scene.entries(self.unit(unit));
         let wanted = u64::from(self.number(entries));
         self.at.check(shown == Some(wanted), &shown);
     }
@@ -371,19 +384,31 @@ impl<
     }
 }
 
-// A host that logs in by this PDU.
-fn entered<R: Abort + Eprint + Net<Listener = TcpListener, Stream = TcpStream>>(
-    at: &At<'_, R>,
-    alloc: Global,
-    portal: SocketAddrV4,
-    pdu: &mut [u8],
-) -> Host {
-    let mut host = at.must(Host::connect(at.rt, portal));
+// The lines between slashes, each with its end.
+fn lines_between(alloc: Global, words: &str) -> Result<String, AllocError> {
+    let mut lines = String::new(alloc);
+    for line in words.split('/') {
+        lines.push_str(line.trim())?;
+        lines.push('\n')?;
+    }
+    Ok(lines)
+}
+
+// Where the calls hang that this name stands for.
+fn place_of(name: &str) -> Place {
+    match name {
+        "disk" => Place::Disks,
+        "flush" => Place::Flushes,
+        _ => Place::Commands,
+    }
+}
+
+// A host logs in by this PDU.
+fn enter<R: Abort + Eprint>(at: &At<'_, R>, alloc: Global, host: &mut Host, pdu: &mut [u8]) {
     at.must(host.send(pdu));
     let came = at.must(host.receive(alloc));
     at.check(came.first() == Some(&0x23), &came);
     at.check(came.get(36..38) == Some([0u8, 0].as_slice()), &came);
-    host
 }
 
 // A host is answered by this.

@@ -1,8 +1,9 @@
 //! Units in memory and over files, before they are shared.
 ghost use Rattle.std.specs.Prelude.{◌≤◌, IfOk, length};
 
+use crate::memory::{HeldBlocks, Latch, Opens, new_unit};
 use aptpl_file::RegFile;
-use block_file::{Blocks, FusedBlocks, KeepOpener, MemBlocks, Opener};
+use block_file::{Blocks, FusedBlocks, FusedOpener, KeepOpener, MemBlocks, Opener};
 use disk_files::{FileBlocks, open_registrations};
 use scsi_types::Place;
 use std::alloc::Global;
@@ -11,48 +12,55 @@ use std::process::Abort;
 use std::rt::Files;
 use std::sync::{Arc, Wait};
 use std::test::Fail;
-use test_units::{HeldBlocks, Latch, new_unit};
 use unit_history::NewUnit;
 use unit_state::{Unit, laws};
 
 /// So many blocks a unit in memory has.
 const BLOCKS: u32 = 2048;
 
-/// A unit in memory, whose device may hang.
-pub type HeldUnit<R> = NewUnit<HeldBlocks<MemBlocks, R>, MemBlocks, KeepOpener>;
+/// A unit in memory, whose device may hang, and may not be opened anew.
+pub type HeldUnit<R> = NewUnit<HeldBlocks<R>, MemBlocks, Opens>;
 
 /// A file that may fail.
 pub type FusedFile = FusedBlocks<FileBlocks<File>>;
 
-// A unit of zeros, of so many, which holds no registrations, and whose device hangs at this latch.
+// A unit of zeros, of so many, which holds no registrations, whose device hangs at this latch, and is opened anew so often.
 fn held<R: Wait + Drop>(
     alloc: Global,
     latch: &Arc<Latch<R>, Global>,
     unit: u8,
     units: u8,
+    opens: u64,
 ) -> Result<HeldUnit<R>, Fail> {
     let blocks = HeldBlocks {
-        inner: MemBlocks::new(alloc, BLOCKS)?,
+        inner: FusedBlocks::window(MemBlocks::new(alloc, BLOCKS)?, u64::MAX, 0),
         unit: usize::from(unit),
         latch: Arc::try_clone(latch)?,
     };
-    new_unit(alloc, blocks, KeepOpener, unit, units)
+    new_unit(
+        alloc,
+        blocks,
+        FusedOpener::new(KeepOpener, opens),
+        unit,
+        units,
+    )
 }
 
-/// Unit 0, alone or with unit 1, in memory. Their devices hang at this latch.
+/// Unit 0, alone or with unit 1, in memory. Their devices hang at this latch, and that of the last unit is opened anew so often.
 pub fn in_memory<R: Wait + Drop>(
     alloc: Global,
     latch: &Arc<Latch<R>, Global>,
     is_alone: bool,
+    opens: u64,
 ) -> Result<Vec<HeldUnit<R>>, Fail>
     ensures { IfOk result (λ v. length v.items ≤ 8) }
 {
     let mut units = Vec::new(alloc);
     if is_alone {
-        units.push(held(alloc, latch, 0, 1)?)?;
+        units.push(held(alloc, latch, 0, 1, opens)?)?;
     } else {
-        units.push(held(alloc, latch, 0, 2)?)?;
-        units.push(held(alloc, latch, 1, 2)?)?;
+        units.push(held(alloc, latch, 0, 2, u64::MAX)?)?;
+        units.push(held(alloc, latch, 1, 2, opens)?)?;
     }
     Ok(units)
 }

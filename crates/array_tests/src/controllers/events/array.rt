@@ -1,0 +1,132 @@
+//! Units 0 and 1 of an array in memory as a world, and the events of a row.
+ghost use Rattle.std.specs.Prelude.{All, IfOk, OnOk};
+ghost use Rattle.unit_state.specs.Serials.{IsOpening};
+
+use crate::controllers::events::rows::{Act, Asks};
+use crate::memory::{Opens, opened};
+use block_file::{FusedOpener, KeepOpener, MemBlocks};
+use scsi_types::{Asked, Group, PortName, decode};
+use std::alloc::Global;
+use std::test::Fail;
+use unit_events::Bytes;
+use unit_state::Unit;
+use world::{Event, World};
+
+type MemUnit = Unit<MemBlocks, MemBlocks, Opens>;
+
+/// A world of units in memory, whose openers pass so many opens and then fail.
+pub type MemWorld = World<MemBlocks, MemBlocks, Opens>;
+
+/// The blocks of a unit.
+const BLOCKS: u32 = 16;
+
+// TEST UNIT READY
+const TEST: [u8; 16] = [0; 16];
+
+// SET TARGET PORT GROUPS with a list of 8 bytes (SPC-4, 6.45)
+const SET: [u8; 16] = [0xA4, 0x0A, 0, 0, 0, 0, 0, 0, 0, 8, 0, 0, 0, 0, 0, 0];
+
+// its list: a group is active/optimized
+const FIRST: [u8; 8] = [0, 0, 0, 0, 0, 0, 0, 1];
+
+const SECOND: [u8; 8] = [0, 0, 0, 0, 0, 0, 0, 2];
+
+fn in_memory(alloc: Global, unit: u8, opens: u64) -> Result<MemUnit, Fail>
+    ensures { IfOk result (λ u. IsOpening u.control) }
+{
+    let blocks = MemBlocks::new(alloc, BLOCKS)?;
+    opened(alloc, blocks, FusedOpener::new(KeepOpener, opens), unit, 2)
+}
+
+// Adds the unit with this number.
+fn add(alloc: Global, units: &mut Vec<MemUnit>, unit: u8, opens: u64) -> Result<(), Fail>
+    requires { All (λ u. IsOpening u.control) units.old.items }
+    ensures { OnOk result (All (λ u. IsOpening u.control) units.new.items) }
+{
+    units.push(in_memory(alloc, unit, opens)?)?;
+    Ok(())
+}
+
+/// Units 0 and 1, whose openers pass so many opens each.
+pub fn two_units(alloc: Global, opens: [u64; 2]) -> Result<MemWorld, Fail> {
+    let mut units = Vec::new(alloc);
+    add(alloc, &mut units, 0, opens[0])?;
+    add(alloc, &mut units, 1, opens[1])?;
+    Ok(World::new(alloc, units)?)
+}
+
+fn list_of(group: Group) -> &'static [u8] {
+    match group {
+        Group::One => &FIRST,
+        Group::Two => &SECOND,
+    }
+}
+
+// What a command asks, and its data.
+fn asked(alloc: Global, asks: Asks) -> Result<(Asked, Bytes), Fail> {
+    let (cdb, list): (&[u8; 16], &[u8]) = match asks {
+        Asks::Test => (&TEST, &[]),
+        Asks::Set(group) => (&SET, list_of(group)),
+    };
+    Ok((decode(cdb), Bytes::new(Vec::from_slice(alloc, list)?)))
+}
+
+fn submit(alloc: Global, session: usize, by_group: Group, asks: Asks) -> Result<Event, Fail> {
+    let (asked, bytes) = asked(alloc, asks)?;
+    Ok(Event::Submit {
+        session,
+        by_group,
+        asked,
+        bytes,
+    })
+}
+
+fn begin(alloc: Global, session: usize, by_group: Group, asks: Asks) -> Result<Event, Fail> {
+    let (asked, bytes) = asked(alloc, asks)?;
+    Ok(Event::Begin {
+        session,
+        by_group,
+        asked,
+        bytes,
+    })
+}
+
+fn event_of(alloc: Global, act: Act) -> Result<Event, Fail> {
+    match act {
+        Act::Attach(place, isid, group) => {
+            let name = Vec::from_slice(alloc, b"iqn.2000-01.test:a")?;
+            let port = PortName::new(name, isid).ok_or("an ISID of six bytes")?;
+            Ok(Event::Attach { place, port, group })
+        }
+        Act::Detach(session) => Ok(Event::Detach { session }),
+        Act::Reset(session) => Ok(Event::Reset { session }),
+        Act::Move(place, group) => {
+            let list = Bytes::new(Vec::from_slice(alloc, list_of(group))?);
+            Ok(Event::Move { place, list })
+        }
+        Act::Submit(session, by_group, asks) => submit(alloc, session, by_group, asks),
+        Act::Again(session) => Ok(Event::SubmitAgain { session }),
+        Act::Begin(session, by_group, asks) => begin(alloc, session, by_group, asks),
+        Act::BeginAgain(session) => Ok(Event::BeginAgain { session }),
+        Act::TakeBack(session) => Ok(Event::TakeBack { session }),
+        Act::Close(group) => Ok(Event::Close { group }),
+        Act::Take(group) => Ok(Event::Take { group }),
+        Act::Serve(session) => Ok(Event::Serve { session }),
+        Act::Post(session) => Ok(Event::Post { session }),
+        Act::Collect(session) => Ok(Event::Collect { session }),
+    }
+}
+
+fn put(alloc: Global, events: &mut Vec<Event>, act: Act) -> Result<(), Fail> {
+    events.push(event_of(alloc, act)?)?;
+    Ok(())
+}
+
+/// The events of a row.
+pub fn events_of(alloc: Global, acts: &[Act]) -> Result<Vec<Event>, Fail> {
+    let mut events = Vec::new(alloc);
+    for act in acts {
+        put(alloc, &mut events, *act)?;
+    }
+    Ok(events)
+}

@@ -1,0 +1,129 @@
+//! The runner of the tables.
+use crate::controllers::events::array::{MemWorld, events_of, two_units};
+use crate::controllers::events::rows::{At, Noted, Row, Said, Stands};
+use scsi_types::{Reply, Status};
+use std::alloc::Global;
+use std::process::Abort;
+use std::test::Fail;
+use test_streams::must;
+use unit_events::Job;
+use unit_state::Row as Board;
+use world::{Note, Stage, What};
+
+/// What is seen of a world behind a row: what was noted, what the units show, and how the sessions stand.
+#[derive(Debug, Drop)]
+struct Seen {
+    notes: Vec<Noted>,
+    boards: [Option<Board>; 2],
+    sessions: Vec<Stands>,
+}
+
+fn told(job: &Job, reply: &Reply, at: u64) -> Said {
+    match reply.sense() {
+        Some(sense) => Said::Check(job.by_group, at, (sense.key, sense.asc, sense.ascq)),
+        None if reply.status() == Status::Good && reply.bytes().is_empty() => {
+            Said::Good(job.by_group, at)
+        }
+        None => Said::Other,
+    }
+}
+
+fn said(what: &What) -> Said {
+    match what {
+        What::Submitted => Said::Submitted,
+        What::Replied(job, reply, at) => told(job, reply, *at),
+        What::Busy => Said::Busy,
+        What::Gone => Said::Gone,
+    }
+}
+
+fn at(stage: &Stage) -> At {
+    match stage {
+        Stage::Idle => At::Idle,
+        Stage::Waits(_) => At::Waits,
+        Stage::InLane(_) => At::InLane,
+        Stage::Ended(_, _) => At::Ended,
+        Stage::Answered(_, _) => At::Answered,
+        Stage::Returned(_) => At::Returned,
+    }
+}
+
+// Those that stand behind so many.
+fn notes_behind(alloc: Global, notes: &[Note], before: usize) -> Result<Vec<Noted>, Fail> {
+    let mut seen = Vec::new(alloc);
+    for (place, note) in notes.iter().enumerate() {
+        if place >= before {
+            seen.push(Noted(
+                note.place,
+                note.session,
+                note.serial,
+                note.count,
+                said(&note.what),
+            ))?;
+        }
+    }
+    Ok(seen)
+}
+
+fn sessions_of(alloc: Global, world: &MemWorld) -> Result<Vec<Stands>, Fail> {
+    let mut seen = Vec::new(alloc);
+    for session in world.sessions() {
+        seen.push(Stands(session.place, session.id, session.next, at(&session.stage)))?;
+    }
+    Ok(seen)
+}
+
+fn board(world: &MemWorld, place: usize) -> Option<Board> {
+    match world.unit(place) {
+        Some(unit) => Some(unit.row()),
+        None => None,
+    }
+}
+
+fn look(alloc: Global, world: &MemWorld, before: usize) -> Result<Seen, Fail> {
+    Ok(Seen {
+        notes: notes_behind(alloc, world.notes(), before)?,
+        boards: [board(world, 0), board(world, 1)],
+        sessions: sessions_of(alloc, world)?,
+    })
+}
+
+// A unit has so many entries. Where it had as many before, it shows what it showed.
+fn is_unit(before: Option<Board>, after: Option<Board>, entries: u64) -> bool {
+    let (Some(before), Some(after)) = (before, after) else {
+        return false;
+    };
+    after.entries == entries && (before.entries != entries || before == after)
+}
+
+fn is_met(before: &Seen, after: &Seen, row: &Row) -> bool {
+    after.notes.as_slice() == row.notes
+        && after.sessions.as_slice() == row.sessions
+        && is_unit(before.boards[0], after.boards[0], row.entries.0)
+        && is_unit(before.boards[1], after.boards[1], row.entries.1)
+}
+
+// Runs the events of a row, behind which so much was seen: what is seen then.
+fn run_row(
+    rt: &impl Abort,
+    alloc: Global,
+    world: &mut MemWorld,
+    before: &Seen,
+    row: &Row<'_>,
+) -> Result<Seen, Fail> {
+    let noted = world.notes().len();
+    world.run(&events_of(alloc, row.acts)?)?;
+    let after = look(alloc, world, noted)?;
+    must(rt, is_met(before, &after, row), row.what, &after);
+    Ok(after)
+}
+
+/// Runs the events of each row in turn, over units whose openers pass so many opens each.
+pub fn run(rt: &impl Abort, alloc: Global, opens: [u64; 2], rows: &[Row]) -> Result<(), Fail> {
+    let mut world = two_units(alloc, opens)?;
+    let mut seen = look(alloc, &world, 0)?;
+    for row in rows {
+        seen = run_row(rt, alloc, &mut world, &seen, row)?;
+    }
+    Ok(())
+}

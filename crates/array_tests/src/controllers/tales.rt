@@ -1,0 +1,53 @@
+//! What is told of an array by its tests, and over which units.
+
+use crate::controllers::array::Array;
+use crate::controllers::histories::{sessions, threads};
+use crate::controllers::script::Line;
+use crate::controllers::{held_lanes, lanes, stage};
+use std::alloc::Global;
+use std::sync::Wait;
+use std::test::Fail;
+use std::thread::Threads;
+
+/// What happens to an array.
+#[derive(Clone, Copy)]
+pub enum Tale<'a> {
+    /// What a script says.
+    Script(&'a [Line]),
+    /// A worker and a lane share a desk.
+    Shared,
+    /// A write hangs in a device, while lanes serve another unit.
+    OneHangs,
+    /// So many writes hang in a device that no lane is left.
+    AllHang,
+    /// 2000 commands of a session, and what comes behind them.
+    Served,
+    /// More sessions than may be attached at once, one behind another.
+    InTurn,
+    /// Two threads exchange a block.
+    Exchanged,
+    /// Two threads write, while so many calls of the device fail.
+    Failing(u64),
+    /// Two threads write, and a third reads the board.
+    Watched,
+}
+
+/// Lets it happen.
+pub fn happens<W: Threads + Wait + Sync, S: Send + Drop, A: Array<S> + Sync>(
+    rt: &W,
+    alloc: Global,
+    array: &A,
+    tale: Tale<'_>,
+) -> Result<(), Fail> {
+    match tale {
+        Tale::Script(script) => stage::is_performed(alloc, array, script),
+        Tale::Shared => lanes::share(rt, alloc, array),
+        Tale::OneHangs => held_lanes::one_hangs(rt, alloc, array),
+        Tale::AllHang => held_lanes::all_hang(rt, alloc, array),
+        Tale::Served => sessions::are_served(array),
+        Tale::InTurn => sessions::come_in_turn(array),
+        Tale::Exchanged => threads::exchange_by_two(rt, array),
+        Tale::Failing(calls) => threads::meet_failures(rt, array, calls),
+        Tale::Watched => threads::are_watched(rt, array),
+    }
+}

@@ -1,0 +1,51 @@
+//! PDUs without data, the longest PDU, and bytes that come one by one.
+use crate::sessions::pdus::rows::{
+    Figure, NUMBERS, bytes_of, decoded_otherwise, is_waited_for, put_pdu,
+};
+use iscsi_pdu::{DataIn, Header, LONGEST_PDU, MAX_DATA_SEGMENT_LENGTH, TargetHeader};
+use pdu_coding::decode;
+use std::test::*;
+use test_streams::{fail, must};
+
+// TEST UNIT READY to LUN 0 with the tag 1, CmdSN 1 and ExpStatSN 1.
+const TEST_UNIT_READY: Figure = "01810000 0 0 0 1 0 1 1 0 0 0 0";
+
+#[test]
+fn a_pdu_is_waited_for(rt: HostRuntime) {
+    let bytes = bytes_of(&rt, rt.alloc(), TEST_UNIT_READY, [0x2A, 0, 0, 0]);
+    for n in 0..48 {
+        let front = bytes.get(..n).expect(&rt, "the front is there");
+        must(&rt, is_waited_for(front), "the first bytes", &n);
+    }
+    must(
+        &rt,
+        has_no_data(&bytes),
+        "the whole",
+        &"another PDU, or none",
+    );
+}
+
+// These bytes begin with a PDU of 48 bytes, which has no data.
+fn has_no_data(bytes: &[u8]) -> bool {
+    matches!(decode(bytes), Ok(Some((pdu, 48))) if pdu.data.is_empty())
+}
+
+const LAST_DATA_IN: Header = Header::Target(TargetHeader::DataIn(DataIn {
+    last: true,
+    task_tag: 3,
+    transfer_tag: 0xFFFFFFFF,
+    numbers: NUMBERS,
+    data_sn: 0,
+    offset: 0,
+}));
+
+#[test]
+fn the_longest_pdu(rt: HostRuntime) {
+    let data = vec![in rt.alloc(); 0x5A; MAX_DATA_SEGMENT_LENGTH].expect(&rt, "memory");
+    let mut out = Vec::new(rt.alloc());
+    put_pdu(&rt, &mut out, &LAST_DATA_IN, &data);
+    must(&rt, out.len() == LONGEST_PDU, "the bytes", &out.len());
+    if let Some(what) = decoded_otherwise(&rt, rt.alloc(), &out, &out) {
+        fail(&rt, "decoded", &what);
+    }
+}

@@ -1,0 +1,8 @@
+//! Tests over real files, in a folder of their own each.
+mod calls;
+mod flushes;
+mod memory;
+mod preparers;
+mod rows;
+mod runs;
+mod scripts;

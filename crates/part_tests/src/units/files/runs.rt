@@ -1,0 +1,60 @@
+//! Files of a test, and runs of blocks, each told by the byte that fills it.
+use block_file::Blocks;
+use std::alloc::Global;
+use std::fs::{File, Files};
+use std::process::Abort;
+use std::{fs, io};
+
+/// The folder of a test of this process, made anew.
+pub fn folder<R: Files<File = File> + AllocGlobal + Abort>(
+    rt: &R,
+    process: u32,
+    name: &str,
+) -> String {
+    let folder = format!(in rt.alloc(); "/tmp/arrayd_{process}_{name}").expect(rt, "memory");
+    let _ = fs::remove_dir_all(rt, folder.as_str());
+    fs::create_dir(rt, folder.as_str()).expect(rt, name);
+    folder
+}
+
+/// The path of a name in a folder.
+pub fn path_of(rt: &impl Abort, alloc: Global, folder: &str, name: &str) -> String {
+    format!(in alloc; "{folder}/{name}").expect(rt, "memory")
+}
+
+/// Sets the length of a file, if it was opened.
+pub fn sized(file: io::Result<File>, bytes: u64) -> bool {
+    match file {
+        Ok(file) => file.set_len(bytes).is_ok(),
+        Err(_) => false,
+    }
+}
+
+/// Four blocks, which these bytes fill in turn.
+fn filled(bytes: &[u8]) -> [u8; 2048] {
+    let mut blocks = [0xEE; 2048];
+    for (block, byte) in blocks.chunks_exact_mut(512).zip(bytes) {
+        block.fill(*byte);
+    }
+    blocks
+}
+
+/// Whether a run of blocks was read that these bytes fill.
+pub fn reads<B: Blocks>(device: &mut B, first: u32, bytes: &[u8]) -> bool {
+    let n = bytes.len();
+    if n > 4 || first > 4 || first as usize + n > device.count() as usize {
+        return false;
+    }
+    let mut run = [0xDD; 2048];
+    let run = &mut run[..512 * n];
+    device.read_run(first, run).is_ok() && filled(bytes).starts_with(run)
+}
+
+/// Whether a run of blocks that these bytes fill was written.
+pub fn writes<B: Blocks>(device: &mut B, first: u32, bytes: &[u8]) -> bool {
+    let n = bytes.len();
+    n <= 4
+        && first <= 4
+        && first as usize + n <= device.count() as usize
+        && device.write_run(first, &filled(bytes)[..512 * n]).is_ok()
+}

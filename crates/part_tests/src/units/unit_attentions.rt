@@ -1,0 +1,73 @@
+//! What a session is told once: a power on, a reset (SAM-5, 5.14; SPC-4, 6.39).
+use crate::units::run::run;
+
+const ROWS: &str = r#"
+TEST UNIT READY
+a session attaches; attach 1 1;; ATTACHED 0
+TEST UNIT READY; send 0 00;; CHECK 70 00 06 00 00 00 00 0A 00 00 00 00 29 00 00 00 00 00
+TEST UNIT READY again; send 0 00;; GOOD
+
+an unknown operation code
+a session attaches; attach 1 1;; ATTACHED 0
+an unknown operation code; send 0 04;; CHECK 06 29 00
+the same again; send 0 04;; CHECK 05 20 00
+
+before all else
+a session attaches; attach 1 1;; ATTACHED 0
+a WRITE; send 0 2A 00 00000005 00 0001; 512*5A; CHECK 06 29 00
+its nexus attaches again; attach 1 1;; ATTACHED 2
+a bad field; send 1 28 00 00000000 00 0801;; CHECK 06 29 00
+the same again; send 1 28 00 00000000 00 0801;; CHECK 05 24 00
+its nexus attaches a third time; attach 1 1;; ATTACHED 5
+a range past the end; send 2 28 00 0000000F 00 0002;; CHECK 06 29 00
+the same again; send 2 28 00 0000000F 00 0002;; CHECK 05 21 00
+
+commands that pass
+a session attaches; attach 1 1;; ATTACHED 0
+INQUIRY; send 0 12 00 00 0001;; GOOD 00
+REPORT LUNS; send 0 A0 00 00 000000 00000004;; GOOD 00000010
+a bad INQUIRY; send 0 12 00 80 0001;; CHECK 05 24 00
+a bad REPORT LUNS; send 0 A0 00 03 000000 00000010;; CHECK 05 24 00
+a bad REQUEST SENSE; send 0 03 01 0000 FC;; CHECK 05 24 00
+what is still to be told; send 0 00;; CHECK 06 29 00
+nothing more; send 0 00;; GOOD
+
+REQUEST SENSE
+a session attaches; attach 1 1;; ATTACHED 0
+REQUEST SENSE; send 0 03 00 0000 FC;; GOOD 70 00 06 00 00 00 00 0A 00 00 00 00 29 00 00 00 00 00
+TEST UNIT READY; send 0 00;; GOOD
+REQUEST SENSE with nothing to tell; send 0 03 00 0000 FC;; GOOD 70 00 00 00 00 00 00 0A 10*00
+another session attaches; attach 2 1;; ATTACHED 4
+REQUEST SENSE of no byte; send 1 03 00 0000 00;; GOOD
+TEST UNIT READY of the other; send 1 00;; GOOD
+
+# The third session has not yet been told of its power on.
+resets and the end of a session
+the first session; attach 1 1;; ATTACHED 0
+its power on; send 0 00;; CHECK 06 29 00
+the second session; attach 2 1;; ATTACHED 2
+its power on; send 1 00;; CHECK 06 29 00
+the third session; attach 3 1;; ATTACHED 4
+the first resets the unit; reset 0;; DONE
+the sender is told nothing; send 0 00;; GOOD
+the second is told; send 1 00;; CHECK 06 29 00
+the second is told once; send 1 00;; GOOD
+the third is told; send 2 00;; CHECK 06 29 00
+the third is told once; send 2 00;; GOOD
+the second resets the unit; reset 1;; DONE
+the second resets it again; reset 1;; DONE
+the first is told; send 0 00;; CHECK 06 29 00
+the first is told once; send 0 00;; GOOD
+the second session ends; detach 1;; DONE
+its command; send 1 00;; GONE
+its reset; reset 1;; GONE
+it ends again; detach 1;; GONE
+the first is told nothing; send 0 00;; GOOD
+its nexus attaches; attach 2 1;; ATTACHED 17
+the new session; send 3 00;; CHECK 06 29 00
+"#;
+
+#[test]
+fn what_a_session_is_told(rt: HostRuntime) {
+    run(&rt, rt.alloc(), "", ROWS);
+}
