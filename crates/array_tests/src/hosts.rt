@@ -1,5 +1,6 @@
 //! What hosts do at an array, and are answered. A script has a line for each PDU: `> PDU` is sent, and `< PDU` comes.
 //! `test_streams` says how a PDU is spelled.
+use crate::ends::must;
 use crate::host::{Host, is_text};
 use crate::site::Site;
 use crate::texts::texts;
@@ -7,7 +8,7 @@ use std::alloc::{AllocError, Global};
 use std::net::{Net, SocketAddrV4, TcpListener, TcpStream};
 use std::process::Abort;
 use std::test::Fail;
-use test_streams::{lines_of, must, pdu_of};
+use test_streams::{lines_of, pdu_of};
 
 // Sends what a line spells, or compares it with what comes.
 fn obey<R: Abort>(rt: &R, alloc: Global, host: &mut Host, line: &str) -> Result<(), Fail> {

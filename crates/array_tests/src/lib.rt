@@ -7,6 +7,8 @@
 #[cfg(test)]
 mod controllers;
 #[cfg(test)]
+mod ends;
+#[cfg(test)]
 mod host;
 #[cfg(test)]
 mod hosts;

@@ -1,4 +1,5 @@
 //! The lines of the console, over units that count.
+use crate::ends::must;
 use array::{Operations, console};
 use scsi_types::Group;
 use status::Row;
@@ -6,7 +7,6 @@ use std::alloc::Global;
 use std::io::{self, BufReader, Read, Write};
 use std::process::Abort;
 use std::test::*;
-use test_streams::must;
 
 // Two units, which count how often they were asked, and flushed behind the close. Of controller 2 unit 1 does not move.
 #[derive(Drop)]

@@ -1,4 +1,5 @@
 //! The lines of the log, as they are to be read.
+use crate::ends::must;
 use event_log::{
     Action, By, Call, Cause, Event, Initiator, Kind, Part, Path, Place, Reservation, Stamp, Stayed,
     Why, spell,
@@ -7,7 +8,6 @@ use std::alloc::Global;
 use std::net::{Ipv4Addr, SocketAddrV4};
 use std::test::*;
 use std::time::Duration;
-use test_streams::must;
 
 // An initiator port whose name would begin a line, and move a terminal.
 const WHO: Initiator<'static> = Initiator {

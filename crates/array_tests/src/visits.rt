@@ -1,4 +1,5 @@
 //! The console of an array whose hosts come between two of its lines.
+use crate::ends::must;
 use crate::host::Host;
 use crate::hosts::{come, finds};
 use crate::site::{SIZE, Site, copy};
@@ -10,7 +11,7 @@ use std::net::{Net, SocketAddrV4, TcpListener, TcpStream};
 use std::process::{Abort, Termination};
 use std::rt::Files;
 use std::test::Fail;
-use test_streams::{bytes_of, must};
+use test_streams::bytes_of;
 
 // The name of the host that registers.
 const REGISTRANT: &[u8] = b"iqn.2000-01.test:a";

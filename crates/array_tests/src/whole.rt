@@ -1,4 +1,5 @@
 //! An array over two files that loses power and is started again.
+use crate::ends::must;
 use crate::host::Host;
 use crate::hosts::perform;
 use crate::site::{Site, free_site, make};
@@ -14,7 +15,6 @@ use std::net::{Net, TcpListener, TcpStream};
 use std::process::{self, Abort};
 use std::rt::Files;
 use std::test::*;
-use test_streams::must;
 
 // What hosts do before power is lost. Each login is told the group of its portal.
 fn before() -> &'static str {

@@ -1,8 +1,8 @@
 //! The words of the command line, and the texts of the faults.
+use crate::ends::must;
 use command_line::{Fault, Options, WordsFault, read};
 use std::alloc::Global;
 use std::test::*;
-use test_streams::must;
 
 // The words of a line, each as a string of its own: they stand between bars. A line of nothing has none.
 fn words_of(alloc: Global, line: &str) -> Result<Vec<String>, Fail> {

@@ -1,9 +1,9 @@
-//! What tests share: how one ends, a reader and a writer that do as they are told, and PDUs as lines of text.
+//! What tests over streams of bytes share: a reader and a writer that do as they are told, and PDUs
+//! as lines of text.
 #![tactic(auto)]
 
 mod calls;
 mod digits;
-mod ends;
 mod lines;
 mod logins;
 mod named;
@@ -12,7 +12,6 @@ mod rows;
 mod texts;
 
 pub use calls::{Calls, FakeReader, FakeWriter, ONE_BYTE, WHOLE};
-pub use ends::{fail, must};
 pub use lines::{Texts, bytes_of, lines_of, pdu_of};
 pub use rows::RowError;
 pub use texts::{HOST_A, THE_TARGET, WELCOME};

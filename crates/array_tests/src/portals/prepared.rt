@@ -1,6 +1,7 @@
 //! The gate of the product, before disks that count what they are asked.
 ghost use Rattle.std.specs.Prelude.{[], true};
 
+use crate::ends::must;
 use portal::{Gate, Pass, Prepared};
 use preparer::Preparer;
 use scsi_types::{Asked, Command};
@@ -8,7 +9,6 @@ use std::alloc::Global;
 use std::sync::Arc;
 use std::sync::atomic::{AtomicU64, Ordering};
 use std::test::*;
-use test_streams::must;
 
 /// How often a disk was flushed, and how often blocks of it were fetched.
 #[derive(Drop)]

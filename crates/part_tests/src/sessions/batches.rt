@@ -1,11 +1,12 @@
 //! How the answers leave: those of commands that came together in one write, many and long ones in parts.
+use crate::ends::must;
 use crate::sessions::row::Row;
 use crate::sessions::run::{Ran, serve, spells};
 use std::alloc::Global;
 use std::io::ErrorKind;
 use std::process::Abort;
 use std::test::*;
-use test_streams::{Calls, WHOLE, must};
+use test_streams::{Calls, WHOLE};
 
 /// A session, and how its answers leave.
 struct Batch {

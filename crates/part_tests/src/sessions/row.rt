@@ -43,6 +43,7 @@
 //!   ends at each place.
 //! - Of any other session: `each-place`: what comes is also cut in two at each place, as that of a row of few bytes
 //!   always is. `pieces 7`: it also comes in pieces of so many bytes.
+use crate::ends::{fail, must};
 use crate::sessions::fixed::{Answer, Answers};
 use crate::sessions::run::Wanted;
 use login::Kind;
@@ -51,7 +52,7 @@ use std::alloc::Global;
 use std::process::Abort;
 use std::str::FromStr;
 use std::test::*;
-use test_streams::{HOST_A, THE_TARGET, Texts, WELCOME, bytes_of, fail, lines_of, must, pdu_of};
+use test_streams::{HOST_A, THE_TARGET, Texts, WELCOME, bytes_of, lines_of, pdu_of};
 
 /// The texts that rows name: those of both sides of a login, what the target says by itself, and what it tells of itself.
 pub fn named_texts() -> Texts<'static> {

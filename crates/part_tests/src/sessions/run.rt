@@ -1,4 +1,5 @@
 //! The runner of the tables.
+use crate::ends::must;
 use crate::sessions::fixed::{Fixed, Heard};
 use crate::sessions::row::Row;
 use session::{End, Identity, Watched, serve_stream};
@@ -8,7 +9,7 @@ use std::io::ErrorKind;
 use std::net::{Ipv4Addr, SocketAddrV4};
 use std::process::Abort;
 use std::test::*;
-use test_streams::{Calls, FakeReader, FakeWriter, ONE_BYTE, WHOLE, must};
+use test_streams::{Calls, FakeReader, FakeWriter, ONE_BYTE, WHOLE};
 
 /// How a session ended, what it wrote and by how many bytes a call, and what its target was asked and given.
 #[derive(Drop)]

@@ -30,13 +30,14 @@
 //! Where they say nothing it is unit 0, of 16 blocks, of which no call and no open fails, and whose registration file makes no
 //! call. What was written last is there behind a restart.
 //! `written 1 5A`: afterwards this block is of this byte; all others are of zeros.
+use crate::ends::fail;
 use crate::units::bench::{Faults, NO_FAULTS, Setup};
 use crate::units::device::Failing;
 use crash_blocks::Pick;
 use scsi_types::Place;
 use std::alloc::Global;
 use std::process::Abort;
-use test_streams::{Texts, bytes_of, fail};
+use test_streams::{Texts, bytes_of};
 
 /// The TransportIDs of two ports, behind their first four bytes (SPC-4, 7.6.4.6).
 const TEXTS: Texts = &[

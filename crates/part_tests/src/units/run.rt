@@ -1,4 +1,5 @@
 //! The runner of the scripts.
+use crate::ends::must;
 use crate::units::bench::{Bench, Setup, filled_by};
 use crate::units::ended::Ended;
 use crate::units::rows::{Row, is_row, setup_of, spelled, written_at};
@@ -7,7 +8,7 @@ use crash_blocks::Pick;
 use scsi_types::Sense;
 use std::alloc::Global;
 use std::process::Abort;
-use test_streams::{lines_of, must};
+use test_streams::lines_of;
 
 /// A session through the first group that was told of the power on.
 pub const ONE_SESSION: &str = "

@@ -1,11 +1,11 @@
 //! A unit with the sessions of a script.
+use crate::ends::fail;
 use crate::units::ended::Ended;
 use crate::units::rows::{Row, cdb_of};
 use crate::units::unit::AnyUnit;
 use scsi_types::{Group, decode};
 use std::alloc::Global;
 use std::process::Abort;
-use test_streams::fail;
 use unit_state::SessionId;
 
 /// A session that was attached: its id, its group, and the serial of its next command.

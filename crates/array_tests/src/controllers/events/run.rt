@@ -1,11 +1,11 @@
 //! The runner of the tables.
 use crate::controllers::events::array::{MemWorld, events_of, two_units};
 use crate::controllers::events::rows::{At, Noted, Row, Said, Stands};
+use crate::ends::must;
 use scsi_types::{Reply, Status};
 use std::alloc::Global;
 use std::process::Abort;
 use std::test::Fail;
-use test_streams::must;
 use unit_events::Job;
 use unit_state::Row as Board;
 use world::{Note, Stage, What};

@@ -1,11 +1,11 @@
 //! Each key: values below, in and above its range, of a wrong form, and absent.
+use crate::ends::must;
 use crate::sessions::row::Row;
 use crate::sessions::run::{run_row, spells};
 use login::{Key, in_force};
 use std::alloc::Global;
 use std::process::Abort;
 use std::test::*;
-use test_streams::must;
 
 // A line has a key, an offer in stage 1, the answer to it or `-` for none, and the key's value in force then (`Value`).
 fn lists_of_words() -> &'static str {

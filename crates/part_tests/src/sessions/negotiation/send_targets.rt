@@ -1,11 +1,12 @@
 //! The answers to the text of a Text request.
+use crate::ends::must;
 use crate::sessions::row::named_texts;
 use crate::sessions::run::portal;
 use login::{Kind, TextEnd, send_targets};
 use std::alloc::Global;
 use std::process::Abort;
 use std::test::*;
-use test_streams::{bytes_of, must};
+use test_streams::bytes_of;
 
 /// A name, the session's kind, a text, and the answer to it, both spelled as a PDU's data segment.
 type Row = (&'static str, Kind, &'static str, &'static str);

@@ -1,4 +1,5 @@
 //! The runner of the tables of one session over one unit, and their test.
+use crate::ends::must;
 use crate::sessions::once::{examples, first_questions, medium};
 use crate::sessions::row::Row;
 use crate::sessions::run::{Table, portal};
@@ -8,7 +9,7 @@ use session::{End, Identity, Watched};
 use std::alloc::Global;
 use std::process::Abort;
 use std::test::*;
-use test_streams::{Calls, FakeReader, FakeWriter, ONE_BYTE, WHOLE, must};
+use test_streams::{Calls, FakeReader, FakeWriter, ONE_BYTE, WHOLE};
 
 /// How many blocks the unit has.
 const BLOCKS: u32 = 2048;

@@ -1,11 +1,11 @@
 //! The faults, in their order.
+use crate::ends::must;
 use crate::sessions::pdus::rows::{bytes_of, is_waited_for};
 use crate::sessions::run::spells;
 use pdu_coding::decode;
 use std::alloc::Global;
 use std::process::Abort;
 use std::test::*;
-use test_streams::must;
 
 // A name, a figure and its fault. Each row has the faults behind its own too. Behind each figure stand one byte of data and
 // 1, 0, 0.

@@ -1,11 +1,11 @@
 //! PDUs without data, the longest PDU, and bytes that come one by one.
+use crate::ends::{fail, must};
 use crate::sessions::pdus::rows::{
     Figure, NUMBERS, bytes_of, decoded_otherwise, is_waited_for, put_pdu,
 };
 use iscsi_pdu::{DataIn, Header, LONGEST_PDU, MAX_DATA_SEGMENT_LENGTH, TargetHeader};
 use pdu_coding::decode;
 use std::test::*;
-use test_streams::{fail, must};
 
 // TEST UNIT READY to LUN 0 with the tag 1, CmdSN 1 and ExpStatSN 1.
 const TEST_UNIT_READY: Figure = "01810000 0 0 0 1 0 1 1 0 0 0 0";

@@ -1,11 +1,11 @@
 //! How the rows of the tables are run.
+use crate::ends::{fail, must};
 use crate::sessions::run::put;
 use iscsi_pdu::{BHS_LENGTH, CommandNumbers, Header, MAX_DATA_SEGMENT_LENGTH, Numbers, Pdu};
 use pdu_coding::{decode, encode};
 use std::alloc::Global;
 use std::process::Abort;
 use std::test::*;
-use test_streams::{fail, must};
 
 /// A basic header segment as its figure shows it: twelve lines of four bytes, as numbers in hexadecimal.
 pub type Figure = &'static str;

@@ -1,4 +1,5 @@
 //! The runner of the scripts over files (`scripts`).
+use crate::ends::must;
 use crate::units::files::rows::{Row, row_of};
 use crate::units::files::runs::{folder, path_of, reads, sized, writes};
 use crate::units::reg_file::files::record_after;
@@ -11,7 +12,6 @@ use std::fmt::Debug;
 use std::fs;
 use std::fs::{File, Files};
 use std::process::Abort;
-use test_streams::must;
 
 /// Plays each script of a table in a folder of this process.
 pub fn play_each<R: Files<File = File> + AllocGlobal + Abort + Copy + Drop>(

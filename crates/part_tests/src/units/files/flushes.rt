@@ -1,6 +1,7 @@
 //! Flushes after one that failed.
 ghost use Rattle.std.specs.Prelude.{[], false, refl};
 
+use crate::ends::must;
 use crate::units::files::runs::writes;
 use block_file::Blocks;
 use disk_files::{BackingFile, FileBlocks, FlushFault, Flushes, LastingFile};
@@ -12,7 +13,6 @@ use std::sync::{Arc, Mutex, Wait};
 use std::thread;
 use std::thread::{Threads, join};
 use std::time::Duration;
-use test_streams::must;
 
 /// The error of its flush that fails, as a system numbers EIO.
 const FAILED: u32 = 5;

@@ -5,6 +5,7 @@ ghost use Rattle.block_file.specs.Cut.{run_of};
 ghost use Rattle.block_file.specs.Disk.{block_at};
 ghost use Rattle.disk_files.specs.Backing.{put};
 
+use crate::ends::must;
 use crate::units::files::calls::is_done_on;
 use crate::units::files::rows::row_of;
 use crate::units::rows::spelled;
@@ -12,7 +13,6 @@ use block_file::Blocks;
 use disk_files::{BackingFile, FileBlocks};
 use std::alloc::{AllocError, Global};
 use std::process::Abort;
-use test_streams::must;
 
 /// A file in memory. A crash leaves each sector as it was when it was flushed last, or as it is.
 #[derive(Drop)]

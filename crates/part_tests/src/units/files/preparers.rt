@@ -1,4 +1,5 @@
 //! Preparers that cannot prepare: the device does the same.
+use crate::ends::must;
 use crate::units::files::runs::{folder, path_of, reads, sized, writes};
 use block_file::Blocks;
 use disk_files::{FileBlocks, FilePreparer, open_disk};
@@ -9,7 +10,6 @@ use std::process;
 use std::process::Abort;
 use std::rt::{Clock, Files};
 use std::sync::Wait;
-use test_streams::must;
 
 // Runs that lie in the disk of four blocks, reach behind it, or lie behind all that a file can have.
 const RUNS: [(u64, u16); 5] = [(0, 4), (1, 1), (3, 2048), (8, 1), (u64::MAX, 65535)];

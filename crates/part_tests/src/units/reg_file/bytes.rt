@@ -1,4 +1,5 @@
 //! The bytes of a file, as they stand in the format.
+use crate::ends::must;
 use crate::units::reg_file::files::{block_of, formatted, put};
 use crate::units::rules::registrations::run::out;
 use aptpl_file::{FILE_BLOCKS, RegFile};
@@ -6,7 +7,7 @@ use block_file::{Blocks, MemBlocks};
 use reservations::Registry;
 use std::alloc::Global;
 use std::process::Abort;
-use test_streams::{lines_of, must};
+use test_streams::lines_of;
 
 // Requests, each of which is saved, and how blocks of the file begin then: a block, a place in it, and bytes that stand there. The
 // rest of a block is zeros, and so is each block that is not named.

@@ -1,11 +1,12 @@
 //! Files that are refused, and why.
+use crate::ends::{fail, must};
 use crate::units::reg_file::files::{formatted, put, registry_after};
 use crate::units::rows::part;
 use aptpl_file::{OpenFault, RegFile};
 use block_file::MemBlocks;
 use std::alloc::Global;
 use std::process::Abort;
-use test_streams::{fail, lines_of, must};
+use test_streams::lines_of;
 
 // Each begins with a device: that of a file after these requests, or so many blocks of zeros. Then come rows: a name; the bytes that are
 // put into the device, each by its block, its place there and, in hexadecimal, its value; and why the file is refused, or that it opens.

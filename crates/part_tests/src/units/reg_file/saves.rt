@@ -1,4 +1,5 @@
 //! A save that stops at each of its calls in turn, over a file of either version, and a format.
+use crate::ends::must;
 use crate::units::device::{Failing, FailingBlocks};
 use crate::units::reg_file::files::{
     OPEN_CALLS, SAVE_CALLS, block_of, holds, put, put_bytes, registry_after,
@@ -8,7 +9,6 @@ use block_file::{Blocks, MemBlocks};
 use crash_blocks::Pick;
 use std::alloc::Global;
 use std::process::Abort;
-use test_streams::must;
 
 // The blocks of a file of version 1, as the program before this one left it: `iqn.2000-01.test:a`, ISID 400001370000h, has
 // registered 11h with APTPL through group 1. In version 2 it differs in the version alone. Block 0 is the root, block 34 the slot, and

@@ -1,5 +1,6 @@
 //! Calls that may want memory, each with enough of it. More of what a unit says of itself stands in `identities.rt` and
 //! `access.rt`.
+use crate::ends::must;
 use crate::units::rows::cdb_of;
 use access_states::AccessMap;
 use identity::{
@@ -11,7 +12,7 @@ use scsi_types::{
 };
 use std::alloc::Global;
 use std::process::Abort;
-use test_streams::{bytes_of, lines_of, must};
+use test_streams::{bytes_of, lines_of};
 
 /// The last of eight units.
 const PLACE: Place = Place {

@@ -1,10 +1,10 @@
 //! The power is lost at each call of a device.
+use crate::ends::must;
 use crate::units::stops::calls::{Does, Reach};
 use crate::units::stops::power::lose;
 use crate::units::stops::script::{Device, Script, Stop};
 use std::alloc::Global;
 use std::process::Abort;
-use test_streams::must;
 
 // Scripts, and where each loses the power: at each call of a device from this one on and behind the last, so many times.
 fn scripts() -> &'static str {

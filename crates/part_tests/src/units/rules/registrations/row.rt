@@ -1,9 +1,9 @@
 //! The words of a request.
+use crate::ends::fail;
 use reservations::PrOut;
 use scsi_types::{Group, PrOutAction};
 use std::process::Abort;
 use std::test::*;
-use test_streams::fail;
 
 /// A nexus of a script: the last letter of its name, its ISID without the qualifier, which is 0, and its group.
 pub type Who = (u8, u32, Group);

@@ -25,6 +25,7 @@
 //!
 //! Each line behind one that says `each` is run on a registry of its own, behind the lines before that one.
 
+use crate::ends::must;
 use crate::units::rules::registrations::row::{NAMES, Who, request_of, who_named, word};
 use crate::units::rules::registrations::{actions, data_bytes, steps};
 use reservations::{Access, PrEnd, Registry};
@@ -32,7 +33,7 @@ use scsi_types::PortName;
 use std::alloc::Global;
 use std::process::Abort;
 use std::test::*;
-use test_streams::{bytes_of, lines_of, must};
+use test_streams::{bytes_of, lines_of};
 
 // The port of a nexus.
 fn port_of(rt: &impl Abort, alloc: Global, who: Who) -> PortName {

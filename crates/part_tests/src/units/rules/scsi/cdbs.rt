@@ -1,11 +1,12 @@
 //! CDBs, and what they ask for, as lines of text: a name, a CDB in hexadecimal digits, and what it asks for in the form of `Debug`
 //! without its commas, and with its numbers in hexadecimal digits too. The bytes behind the end of a CDB are EEh.
+use crate::ends::must;
 use crate::units::rows::{cdb_of, part};
 use crate::units::rules::scsi::{commands, faults};
 use scsi_types::decode;
 use std::alloc::Global;
 use std::process::Abort;
-use test_streams::{lines_of, must};
+use test_streams::lines_of;
 
 // Each CDB asks for what stands beside it.
 fn ask(rt: &impl Abort, alloc: Global, rows: &str) {

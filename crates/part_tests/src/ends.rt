@@ -1,4 +1,4 @@
-//! How a test ends that finds something else than it wants.
+//! How a test ends that finds something else than it wants. A library may not end the process, so each crate of tests has this itself.
 use std::fmt::Debug;
 use std::process::Abort;
 
