@@ -1,5 +1,5 @@
 //! Four lanes at one desk by way of which two units are served. The device of the first hangs.
-use crate::controllers::array::{Array, End, TOLD_OF_POWER_ON, entries, want};
+use crate::controllers::any_array::{Array, End, TOLD_OF_POWER_ON, entries, want};
 use crate::controllers::runs::{Setting, run};
 use crate::controllers::script::{Asks, List, list_of};
 use crate::controllers::tales::Tale;

@@ -1,5 +1,5 @@
 //! A worker and a lane at one desk.
-use crate::controllers::array::{Array, End, want};
+use crate::controllers::any_array::{Array, End, want};
 use crate::controllers::runs::{Setting, run};
 use crate::controllers::script::Asks::{Read, Set, Test, Write};
 use crate::controllers::script::Deed::{AtDesk, Attach, Close, Collect, HandIn, ServeOwn};

@@ -1,5 +1,5 @@
 //! Units that move between the controllers.
-use crate::controllers::array::End;
+use crate::controllers::any_array::End;
 use crate::controllers::runs::perform;
 use crate::controllers::script::Asks::{Read as ReadIt, Report, Set, Test};
 use crate::controllers::script::Data::{Altered, AtFirst};

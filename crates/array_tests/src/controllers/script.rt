@@ -1,5 +1,5 @@
 //! What scripts tell of: what is done at two units and at the desk of group 1, and what it comes to.
-use crate::controllers::array::End;
+use crate::controllers::any_array::End;
 use scsi_types::{Command, Group};
 use unit_state::MoveFault;
 

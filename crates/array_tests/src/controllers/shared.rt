@@ -2,7 +2,7 @@
 ghost use Rattle.std.specs.Prelude.{◌<◌, ◌≤◌, length};
 ghost use Rattle.unit_history.specs.Naming.{IsNamed};
 
-use crate::controllers::array::{Array, End};
+use crate::controllers::any_array::{Array, End};
 use crate::controllers::script::{Asks, command_of};
 use crate::controllers::tales::{Tale, happens};
 use crate::controllers::tally::Tally;

@@ -1,5 +1,5 @@
 //! Performs scripts.
-use crate::controllers::array::{Array, End};
+use crate::controllers::any_array::{Array, End};
 use crate::controllers::script::{Asks, Deed, Line, List, Told, bytes_of, command_of, list_of};
 use scsi_types::Group;
 use std::alloc::Global;

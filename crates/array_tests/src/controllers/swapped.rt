@@ -1,5 +1,5 @@
 //! Answers that come to the wrong tickets.
-use crate::controllers::array::End;
+use crate::controllers::any_array::End;
 use crate::controllers::runs::perform;
 use crate::controllers::script::Asks::Test;
 use crate::controllers::script::Deed::{Attach, Collect, Cross, HandIn, Hear, ServeFirst};

@@ -1,6 +1,6 @@
 //! What is told of an array by its tests, and over which units.
 
-use crate::controllers::array::Array;
+use crate::controllers::any_array::Array;
 use crate::controllers::histories::{sessions, threads};
 use crate::controllers::script::Line;
 use crate::controllers::{held_lanes, lanes, stage};

@@ -1,5 +1,5 @@
 //! A desk without lanes: 64 jobs, one more, and none once it is closed; the jobs come back in their order.
-use crate::controllers::array::End;
+use crate::controllers::any_array::End;
 use crate::controllers::runs::perform;
 use crate::controllers::script::Asks::Spare;
 use crate::controllers::script::Deed::{Attach, Close, Collect, HandIn, ServeFirst};

@@ -1,6 +1,6 @@
 //! The runner of the tables.
-use crate::controllers::events::array::{MemWorld, events_of, two_units};
 use crate::controllers::events::rows::{At, Noted, Row, Said, Stands};
+use crate::controllers::events::worlds::{MemWorld, events_of, two_units};
 use crate::ends::must;
 use scsi_types::{Reply, Status};
 use std::alloc::Global;

@@ -1,5 +1,5 @@
 //! Sessions of one unit, one call behind another: what each is answered, and how many entries the board shows then.
-use crate::controllers::array::{Array, End, TOLD_OF_POWER_ON, attached, entries, test, want};
+use crate::controllers::any_array::{Array, End, TOLD_OF_POWER_ON, attached, entries, test, want};
 use crate::controllers::runs::{Setting, run};
 use crate::controllers::tales::Tale;
 use scsi_types::Group;

@@ -1,5 +1,5 @@
 //! Two threads that use one unit.
-use crate::controllers::array::{
+use crate::controllers::any_array::{
     Array, End, TOLD_OF_POWER_ON, attached, entries, exchange, read, test, want, write,
 };
 use crate::controllers::runs::{Setting, run};
