@@ -13,8 +13,11 @@ use std::test::Fail;
 use std::thread::Threads;
 use unit_history::NewUnit;
 
-/// A unit in memory, whose device may fail and may hang.
-type New<W> = NewUnit<HeldBlocks<W>, MemBlocks, Opens>;
+/// Memory behind a fuse, which may hang.
+type Device<W> = HeldBlocks<FusedBlocks<MemBlocks>, W>;
+
+/// A unit over it.
+type New<W> = NewUnit<Device<W>, MemBlocks, Opens>;
 
 /// So many blocks a unit has.
 const BLOCKS: u32 = 64;

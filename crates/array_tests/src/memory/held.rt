@@ -2,24 +2,24 @@
 ghost use Rattle.std.specs.Prelude.{[], false};
 
 use crate::memory::latch::Latch;
-use block_file::{Blocks, DeviceFailed, FusedBlocks, MemBlocks};
+use block_file::{Blocks, DeviceFailed};
 use std::alloc::Global;
 use std::sync::{Arc, Wait};
 
-/// The device of a unit in memory, whose calls may fail, and whose writes wait at a latch. Of its contents it claims nothing.
+/// The device of a unit, whose writes wait at a latch. Of its contents it claims nothing.
 #[derive(Drop)]
-pub struct HeldBlocks<R: Wait + Drop> {
-    pub inner: FusedBlocks<MemBlocks>,
+pub struct HeldBlocks<B: Blocks, R: Wait + Drop> {
+    pub inner: B,
     pub unit: usize,
     pub latch: Arc<Latch<R>, Global>,
 }
 
-impl<R: Wait + Drop> Blocks for HeldBlocks<R> {
+impl<B: Blocks, R: Wait + Drop> Blocks for HeldBlocks<B, R> {
     ghost claims = { false };
 
     ghost claims_moments = { false };
 
-    ghost size = { λ d. ⟦<FusedBlocks<MemBlocks> as Blocks>⟧.size d.inner };
+    ghost size = { λ d. B.size d.inner };
 
     ghost contents = { λ d. [] };
 
@@ -29,17 +29,17 @@ impl<R: Wait + Drop> Blocks for HeldBlocks<R> {
 
     ghost left_since = { λ d t disk. Unit {0} };
 
-    ghost reads_failed = { λ d. ⟦<FusedBlocks<MemBlocks> as Blocks>⟧.reads_failed d.inner };
+    ghost reads_failed = { λ d. B.reads_failed d.inner };
 
-    ghost writes_failed = { λ d. ⟦<FusedBlocks<MemBlocks> as Blocks>⟧.writes_failed d.inner };
+    ghost writes_failed = { λ d. B.writes_failed d.inner };
 
-    ghost failures = { λ d. ⟦<FusedBlocks<MemBlocks> as Blocks>⟧.failures d.inner };
+    ghost failures = { λ d. B.failures d.inner };
 
-    ghost fits = { λ d. ⟦<FusedBlocks<MemBlocks> as Blocks>⟧.fits d.inner };
+    ghost fits = { λ d. B.fits d.inner };
 
-    ghost summed = { λ d. ⟦<FusedBlocks<MemBlocks> as Blocks>⟧.summed d.inner };
+    ghost summed = { λ d. B.summed d.inner };
 
-    ghost bounded = { λ d. ⟦<FusedBlocks<MemBlocks> as Blocks>⟧.bounded d.inner };
+    ghost bounded = { λ d. B.bounded d.inner };
 
     ghost sized = { λ d h. Prim.cc };
 

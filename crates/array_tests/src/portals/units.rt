@@ -19,7 +19,7 @@ use unit_state::{Unit, laws};
 const BLOCKS: u32 = 2048;
 
 /// A unit in memory, whose device may hang, and may not be opened anew.
-pub type HeldUnit<R> = NewUnit<HeldBlocks<R>, MemBlocks, Opens>;
+pub type HeldUnit<R> = NewUnit<HeldBlocks<MemBlocks, R>, MemBlocks, Opens>;
 
 /// A file that may fail.
 pub type FusedFile = FusedBlocks<FileBlocks<File>>;
@@ -33,7 +33,7 @@ fn held<R: Wait + Drop>(
     opens: u64,
 ) -> Result<HeldUnit<R>, Fail> {
     let blocks = HeldBlocks {
-        inner: FusedBlocks::window(MemBlocks::new(alloc, BLOCKS)?, u64::MAX, 0),
+        inner: MemBlocks::new(alloc, BLOCKS)?,
         unit: usize::from(unit),
         latch: Arc::try_clone(latch)?,
     };
