@@ -56,7 +56,8 @@ pub fn open<R: Net<Listener = TcpListener, Stream = TcpStream> + Clock>(
     log: &Log,
 ) -> Result<Vec<Portal>, Fault> {
     let mut portals = Vec::new(alloc);
-    for group in [Group::One, Group::Two] {
+    for group in &[Group::One, Group::Two] {
+        let group = *group;
         let ports = ports.of(group);
         for portal in 0..ports.count {
             let port = ports.first.saturating_add(portal);

@@ -88,13 +88,13 @@ fn start<
     G: Gate + Drop + Send + Sync + 'static,
     R: Threads + Wait + Clone + Drop + Send + 'static,
 >(rt: &R, alloc: Global, server: &Served<B, F, O, N, G>) -> Result<(), Fault> {
-    for group in [Group::One, Group::Two] {
+    for group in &[Group::One, Group::Two] {
         let mut stacks = SmallStacks;
         let started = start_lanes::<N, B, F, O, G, R, SmallStacks>(
             rt,
             alloc,
             server,
-            group,
+            *group,
             &mut stacks,
         );
         if started.is_err() {

@@ -77,9 +77,9 @@ pub fn copy<R: Files<File = File>>(
 
 // Whether all portals can listen that begin at this port.
 fn are_free<R: Net<Listener = TcpListener, Stream = TcpStream>>(rt: &R, site: &Site<'_>) -> bool {
-    for controller in [1, 2] {
+    for controller in &[1, 2] {
         for portal in 0..PORTALS {
-            if TcpListener::bind(rt, site.portal(controller, portal)).is_err() {
+            if TcpListener::bind(rt, site.portal(*controller, portal)).is_err() {
                 return false;
             }
         }

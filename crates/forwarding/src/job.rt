@@ -12,7 +12,6 @@ use job_names::Names;
 use scsi_types::{Asked, Group, NoMemory, Reply};
 use std::alloc::Global;
 use std::marker::Model;
-use std::mem;
 use std::sync::{Arc, Condvar, Mutex, Wait};
 use unit_history::{LegalHistory, Opened, Pass, Refused};
 
@@ -141,19 +140,6 @@ impl<B: Blocks, F: Blocks, O: Opener<B>, N: Array<Opened>> Job<B, F, O, N> {
         self.waiting.pass.place()
     }
 
-    /// Two jobs, each with the other's slot, so that a test can send each answer to the wrong ticket. What a ticket is promised does not
-    /// rest on the slots.
-    pub fn with_slots_exchanged(
-        one: Job<B, F, O, N>,
-        two: Job<B, F, O, N>,
-    ) -> (Job<B, F, O, N>, Job<B, F, O, N>)
-        ensures { (result.0 ≡ one) × (result.1 ≡ two) }
-    {
-        let (mut one, mut two) = (one, two);
-        mem::swap(&mut one.waiting.slot, &mut two.waiting.slot);
-        (one, two)
-    }
-
     /// Serves the job, as [`Units::serve`].
     pub fn serve<W: Wait>(
         self,
@@ -276,12 +262,6 @@ impl<'a, B: Blocks, F: Blocks, O: Opener<B>, N: Array<Opened>> Ticket<'a, B, F, 
             (handed_of pass.now self.now.names.asked self.now.data_in self.now.names.by_group ≡ self.now) (Unit {0}) }
     {
         are_of(&self.names, pass) && pass.history().is_same(&self.seen)
-    }
-
-    /// Whether its answer is there.
-    pub fn is_answered<W: Wait>(&self, rt: &W) -> bool {
-        let held = self.slot.answer.lock(rt);
-        is_for(&*held, &self.names, self.bytes, &self.seen)
     }
 
     // Serves its job, whose pass was taken back, with the data that it came with.

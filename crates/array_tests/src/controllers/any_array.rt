@@ -7,7 +7,7 @@ use std::test::Fail;
 use unit_state::MoveFault;
 
 /// What a command came to.
-#[derive(Clone, Copy, Debug, PartialEq, Eq)]
+#[derive(Clone, Copy, PartialEq, Eq)]
 pub enum End {
     Good,
     Check(Sense),
@@ -21,8 +21,6 @@ pub enum End {
     Closed,
     /// It waits in the queue of the desk, or for its lane.
     Waits,
-    /// Its answer is there.
-    Answered,
     /// There is no session that could send it, or no command that waits.
     Nobody,
 }
@@ -30,8 +28,7 @@ pub enum End {
 /// What the first command of a session comes to.
 pub const TOLD_OF_POWER_ON: End = End::Check(Sense::POWER_ON);
 
-/// Units that threads share, a desk of the first controller, and the sessions S of hosts, or what is left of them. The writes of the units' devices may
-/// hang at a latch.
+/// Units that threads share, a desk of the first controller, and the sessions S of hosts, or what is left of them.
 pub trait Array<S> {
     /// The host of this ISID attaches to a unit by a group. None: there is no such unit, no room for a session, or no memory.
     fn attach(&self, place: usize, isid: u32, group: Group) -> Option<S>;
@@ -50,9 +47,6 @@ pub trait Array<S> {
 
     /// Serves it, unless a lane is first.
     fn serve_own(&self, host: &mut S) -> End;
-
-    /// Whether the answer of its command that waits is there.
-    fn hears(&self, host: &S) -> End;
 
     /// The data of the last reply to a host.
     fn data<'s>(&self, host: &'s S) -> &'s [u8];
@@ -81,23 +75,8 @@ pub trait Array<S> {
     /// It serves the first job as the program's lanes do: whether there was one.
     fn serve_next(&self) -> bool;
 
-    /// It takes the first two, and the answer of each goes to the ticket of the other.
-    fn cross(&self) -> Option<()>;
-
     /// The desk closes.
     fn close(&self);
-
-    /// From now on writes of the device of this unit hang; or those go on that hung.
-    fn hold(&self, unit: Option<usize>);
-
-    /// Waits until so many of them hang.
-    fn await_held(&self, count: u32);
-
-    /// How many jobs lanes have taken to serve.
-    fn taken(&self) -> u32;
-
-    /// Waits until they have taken so many.
-    fn await_taken(&self, count: u32);
 }
 
 /// Fails, unless this holds.

@@ -16,33 +16,35 @@ use std::thread::{Threads, join};
 // What the worker does: a write that a lane serves, and a read of the same block by another session, which serves it itself
 // unless the lane was first. Then jobs of both units at once, of which group 2 owns the second. At last unit 0 moves to group 2, so
 // that this desk's next command of it is told who owns it.
-const WORK: &[Line] = &[
-    Line(Attach(0, One), Done),
-    Line(HandIn(0, Test), WAITS),
-    Line(Collect(0), POWER_ON),
-    Line(HandIn(0, Write), WAITS),
-    Line(Collect(0), GOOD),
-    Line(Attach(0, One), Done),
-    Line(AtDesk(1, Test), POWER_ON),
-    Line(AtDesk(1, Read), WRITTEN),
-    Line(Attach(0, One), Done),
-    Line(Attach(1, One), Done),
-    Line(HandIn(2, Test), WAITS),
-    Line(HandIn(3, Test), WAITS),
-    Line(ServeOwn(3), Ends(End::Moved(Two))),
-    Line(Collect(2), POWER_ON),
-    Line(Attach(0, One), Done),
-    Line(AtDesk(4, Test), POWER_ON),
-    Line(AtDesk(4, Set(Two)), GOOD),
-    Line(AtDesk(4, Test), Ends(End::Moved(Two))),
-    Line(HandIn(4, Test), WAITS),
-    Line(Collect(4), Ends(End::Moved(Two))),
-    Line(Close, Done),
-];
+fn what_is_done() -> &'static [Line] {
+    &[
+        Line(Attach(0, One), Done),
+        Line(HandIn(0, Test), WAITS),
+        Line(Collect(0), POWER_ON),
+        Line(HandIn(0, Write), WAITS),
+        Line(Collect(0), GOOD),
+        Line(Attach(0, One), Done),
+        Line(AtDesk(1, Test), POWER_ON),
+        Line(AtDesk(1, Read), WRITTEN),
+        Line(Attach(0, One), Done),
+        Line(Attach(1, One), Done),
+        Line(HandIn(2, Test), WAITS),
+        Line(HandIn(3, Test), WAITS),
+        Line(ServeOwn(3), Ends(End::Moved(Two))),
+        Line(Collect(2), POWER_ON),
+        Line(Attach(0, One), Done),
+        Line(AtDesk(4, Test), POWER_ON),
+        Line(AtDesk(4, Set(Two)), GOOD),
+        Line(AtDesk(4, Test), Ends(End::Moved(Two))),
+        Line(HandIn(4, Test), WAITS),
+        Line(Collect(4), Ends(End::Moved(Two))),
+        Line(Close, Done),
+    ]
+}
 
 // Does the worker's work.
 fn work<S: Drop, A: Array<S>>(alloc: Global, array: &A) -> Result<(), Fail> {
-    let end = is_performed(alloc, array, WORK);
+    let end = is_performed(alloc, array, what_is_done());
     array.close();
     end
 }

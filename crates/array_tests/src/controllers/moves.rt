@@ -14,104 +14,116 @@ use unit_state::MoveFault::{List, OpenFailed};
 
 // A session on controller 2 sets group 2; the report tells that it was altered so. The session on controller 1 is told, and then
 // served by the new owner.
-const SET_BY_A_SESSION: &[Line] = &[
-    Line(Attach(0, One), Done),
-    Line(Attach(0, Two), Done),
-    Line(Send(0, One, Test), POWER_ON),
-    Line(Send(1, One, Test), POWER_ON),
-    Line(Send(1, One, Set(Two)), GOOD),
-    Line(Send(1, Two, Report), Good(Altered)),
-    Line(Read(0), Row(2, (1, 0), 6)),
-    Line(Send(0, One, Test), Ends(End::Moved(Two))),
-    Line(Send(0, Two, Test), STATES_CHANGED),
-    Line(Send(0, Two, ReadIt), BLANK),
-    Line(Send(1, Two, Test), GOOD),
-    Line(Read(0), Row(2, (1, 0), 9)),
-    Line(Read(1), Row(2, (1, 0), 0)),
-];
+fn set_by_a_session() -> &'static [Line] {
+    &[
+        Line(Attach(0, One), Done),
+        Line(Attach(0, Two), Done),
+        Line(Send(0, One, Test), POWER_ON),
+        Line(Send(1, One, Test), POWER_ON),
+        Line(Send(1, One, Set(Two)), GOOD),
+        Line(Send(1, Two, Report), Good(Altered)),
+        Line(Read(0), Row(2, (1, 0), 6)),
+        Line(Send(0, One, Test), Ends(End::Moved(Two))),
+        Line(Send(0, Two, Test), STATES_CHANGED),
+        Line(Send(0, Two, ReadIt), BLANK),
+        Line(Send(1, Two, Test), GOOD),
+        Line(Read(0), Row(2, (1, 0), 9)),
+        Line(Read(1), Row(2, (1, 0), 0)),
+    ]
+}
 
 #[test]
 fn a_session_sets_the_owner(rt: HostRuntime) -> Result<(), Fail> {
-    perform(&rt, rt.alloc(), &[9, 9], SET_BY_A_SESSION)
+    perform(&rt, rt.alloc(), &[9, 9], set_by_a_session())
 }
 
 // The same where the blocks cannot be opened for the new owner: nothing has changed.
-const SET_WITHOUT_AN_OPEN: &[Line] = &[
-    Line(Attach(0, One), Done),
-    Line(Attach(0, Two), Done),
-    Line(Send(0, One, Test), POWER_ON),
-    Line(Send(1, One, Test), POWER_ON),
-    Line(Send(1, One, Set(Two)), Check(0x04, 0x67, 0x0A)),
-    Line(Send(1, One, Report), Good(AtFirst)),
-    Line(Send(0, One, Test), GOOD),
-    Line(Send(0, One, ReadIt), BLANK),
-    Line(Move(0, To(Two)), Stays(OpenFailed)),
-    Line(Read(0), Row(1, (0, 1), 8)),
-];
+fn set_without_an_open() -> &'static [Line] {
+    &[
+        Line(Attach(0, One), Done),
+        Line(Attach(0, Two), Done),
+        Line(Send(0, One, Test), POWER_ON),
+        Line(Send(1, One, Test), POWER_ON),
+        Line(Send(1, One, Set(Two)), Check(0x04, 0x67, 0x0A)),
+        Line(Send(1, One, Report), Good(AtFirst)),
+        Line(Send(0, One, Test), GOOD),
+        Line(Send(0, One, ReadIt), BLANK),
+        Line(Move(0, To(Two)), Stays(OpenFailed)),
+        Line(Read(0), Row(1, (0, 1), 8)),
+    ]
+}
 
 #[test]
 fn an_owner_that_is_not_opened(rt: HostRuntime) -> Result<(), Fail> {
-    perform(&rt, rt.alloc(), &[0, 9], SET_WITHOUT_AN_OPEN)
+    perform(&rt, rt.alloc(), &[0, 9], set_without_an_open())
 }
 
 // The array moves a unit by itself, and every session is told.
-const MOVED_BY_THE_ARRAY: &[Line] = &[
-    Line(Attach(0, One), Done),
-    Line(Send(0, One, Test), POWER_ON),
-    Line(Move(0, ToNone), Stays(List(AsetFault::BadList))),
-    Line(Move(0, Short), Stays(List(AsetFault::Length))),
-    Line(Move(0, To(Two)), Done),
-    Line(Read(0), Row(2, (1, 0), 3)),
-    Line(Send(0, Two, Test), STATES_CHANGED),
-    Line(Send(0, Two, ReadIt), BLANK),
-];
+fn moved_by_the_array() -> &'static [Line] {
+    &[
+        Line(Attach(0, One), Done),
+        Line(Send(0, One, Test), POWER_ON),
+        Line(Move(0, ToNone), Stays(List(AsetFault::BadList))),
+        Line(Move(0, Short), Stays(List(AsetFault::Length))),
+        Line(Move(0, To(Two)), Done),
+        Line(Read(0), Row(2, (1, 0), 3)),
+        Line(Send(0, Two, Test), STATES_CHANGED),
+        Line(Send(0, Two, ReadIt), BLANK),
+    ]
+}
 
 #[test]
 fn the_array_moves_a_unit(rt: HostRuntime) -> Result<(), Fail> {
-    perform(&rt, rt.alloc(), &[9, 9], MOVED_BY_THE_ARRAY)
+    perform(&rt, rt.alloc(), &[9, 9], moved_by_the_array())
 }
 
 // Each controller goes down in turn; a session on the one that is down is told so.
-const EACH_GOES_DOWN: &[Line] = &[
-    Line(Attach(0, One), Done),
-    Line(Send(0, One, Test), POWER_ON),
-    Line(TakeDown(One), Done),
-    Line(Read(0), Row(2, (3, 0), 3)),
-    Line(Read(1), Row(2, (3, 0), 1)),
-    Line(Send(0, Two, Test), STATES_CHANGED),
-    Line(Send(0, Two, ReadIt), Check(0x02, 0x04, 0x0C)),
-    Line(TakeDown(Two), Done),
-    Line(Read(0), Row(1, (0, 3), 6)),
-    Line(Read(1), Row(1, (0, 3), 2)),
-];
+fn each_goes_down() -> &'static [Line] {
+    &[
+        Line(Attach(0, One), Done),
+        Line(Send(0, One, Test), POWER_ON),
+        Line(TakeDown(One), Done),
+        Line(Read(0), Row(2, (3, 0), 3)),
+        Line(Read(1), Row(2, (3, 0), 1)),
+        Line(Send(0, Two, Test), STATES_CHANGED),
+        Line(Send(0, Two, ReadIt), Check(0x02, 0x04, 0x0C)),
+        Line(TakeDown(Two), Done),
+        Line(Read(0), Row(1, (0, 3), 6)),
+        Line(Read(1), Row(1, (0, 3), 2)),
+    ]
+}
 
 #[test]
 fn each_controller_goes_down(rt: HostRuntime) -> Result<(), Fail> {
-    perform(&rt, rt.alloc(), &[9, 9], EACH_GOES_DOWN)
+    perform(&rt, rt.alloc(), &[9, 9], each_goes_down())
 }
 
 // Unit 1 cannot be opened for another owner: group 2 owns it, so that controller 1 goes down. Controller 2 does not: unit 0 is
 // moved and stays so, and unit 1 is told.
-const STOPPED_AT_THE_SECOND: &[Line] = &[
-    Line(TakeDown(One), Done),
-    Line(TakeDown(Two), StopsAt(1, OpenFailed)),
-    Line(Read(0), Row(1, (0, 3), 2)),
-    Line(Read(1), Row(2, (3, 0), 1)),
-];
+fn stopped_at_the_second() -> &'static [Line] {
+    &[
+        Line(TakeDown(One), Done),
+        Line(TakeDown(Two), StopsAt(1, OpenFailed)),
+        Line(Read(0), Row(1, (0, 3), 2)),
+        Line(Read(1), Row(2, (3, 0), 1)),
+    ]
+}
 
 #[test]
 fn what_moved_stays_moved(rt: HostRuntime) -> Result<(), Fail> {
-    perform(&rt, rt.alloc(), &[9, 0], STOPPED_AT_THE_SECOND)
+    perform(&rt, rt.alloc(), &[9, 0], stopped_at_the_second())
 }
 
 // Unit 0 cannot: it is told, and unit 1 is not asked.
-const STOPPED_AT_THE_FIRST: &[Line] = &[
-    Line(TakeDown(One), StopsAt(0, OpenFailed)),
-    Line(Read(0), Row(1, (0, 1), 0)),
-    Line(Read(1), Row(2, (1, 0), 0)),
-];
+fn stopped_at_the_first() -> &'static [Line] {
+    &[
+        Line(TakeDown(One), StopsAt(0, OpenFailed)),
+        Line(Read(0), Row(1, (0, 1), 0)),
+        Line(Read(1), Row(2, (1, 0), 0)),
+    ]
+}
 
 #[test]
 fn the_first_that_does_not_move_ends_it(rt: HostRuntime) -> Result<(), Fail> {
-    perform(&rt, rt.alloc(), &[0, 9], STOPPED_AT_THE_FIRST)
+    perform(&rt, rt.alloc(), &[0, 9], stopped_at_the_first())
 }

@@ -1,23 +1,20 @@
-//! Units in memory whose devices may fail or hang, and whose openers may fail, and the tales that are told of them.
+//! Units in memory whose devices and openers may fail, and the tales that are told of them.
 ghost use Rattle.std.specs.Prelude.{◌≤◌, IfOk, length};
 
 use crate::controllers::script::Line;
 use crate::controllers::shared::tell;
 use crate::controllers::tales::Tale;
-use crate::memory::{HeldBlocks, Latch, Opens, new_unit};
+use crate::memory::{Opens, new_unit};
 use block_file::{FusedBlocks, FusedOpener, KeepOpener, MemBlocks};
 use std::alloc::Global;
 use std::marker::Brand;
-use std::sync::{Arc, Wait};
+use std::sync::Wait;
 use std::test::Fail;
 use std::thread::Threads;
 use unit_history::NewUnit;
 
-/// Memory behind a fuse, which may hang.
-type Device<W> = HeldBlocks<FusedBlocks<MemBlocks>, W>;
-
-/// A unit over it.
-type New<W> = NewUnit<Device<W>, MemBlocks, Opens>;
+/// A unit over memory behind a fuse.
+type New = NewUnit<FusedBlocks<MemBlocks>, MemBlocks, Opens>;
 
 /// So many blocks a unit has.
 const BLOCKS: u32 = 64;
@@ -43,36 +40,27 @@ impl<'a> Setting<'a> {
 }
 
 // The unit at a place of so many.
-fn unit<W: Wait + Drop>(
+fn unit(
     alloc: Global,
     setting: &Setting<'_>,
-    latch: &Arc<Latch<W>, Global>,
     place: u8,
     opens: u64,
     units: u8,
-) -> Result<New<W>, Fail> {
+) -> Result<New, Fail> {
     let memory = MemBlocks::new(alloc, BLOCKS)?;
-    let device = HeldBlocks {
-        inner: FusedBlocks::window(memory, setting.passed, setting.failing),
-        unit: usize::from(place),
-        latch: Arc::try_clone(latch)?,
-    };
+    let device = FusedBlocks::window(memory, setting.passed, setting.failing);
     let opener = FusedOpener::new(KeepOpener, opens);
     new_unit(alloc, device, opener, place, units)
 }
 
-fn units_of<W: Wait + Drop>(
-    alloc: Global,
-    setting: &Setting<'_>,
-    latch: &Arc<Latch<W>, Global>,
-) -> Result<Vec<New<W>>, Fail>
+fn units_of(alloc: Global, setting: &Setting<'_>) -> Result<Vec<New>, Fail>
     ensures { IfOk result (λ v. length v.items ≤ 8) }
 {
     let count = u8::try_from(setting.opens.len()).unwrap_or(u8::MAX);
     let mut new = Vec::new(alloc);
     let mut place = 0u8;
     for opens in setting.opens {
-        new.push(unit(alloc, setting, latch, place, *opens, count)?)?;
+        new.push(unit(alloc, setting, place, *opens, count)?)?;
         place = place.saturating_add(1);
     }
     if new.len() > 8 {
@@ -88,10 +76,8 @@ pub fn run<W: Threads + Wait + Clone + Send + Sync + Drop>(
     setting: &Setting<'_>,
     tale: Tale<'_>,
 ) -> Result<(), Fail> {
-    let latch = Latch::open(rt.clone()?);
-    let disk = Arc::new(alloc, latch)?;
-    let new = units_of(alloc, setting, &disk)?;
-    tell::<Brand, _, _, W>(rt, alloc, new, &disk, tale)
+    let new = units_of(alloc, setting)?;
+    tell::<Brand, _, _, W>(rt, alloc, new, tale)
 }
 
 /// Performs a script over units that are opened so often, and a desk without lanes.

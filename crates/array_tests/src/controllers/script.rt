@@ -52,16 +52,12 @@ pub enum Deed {
     AtDesk(usize, Asks),
     /// It is handed in at the desk, where it waits then.
     HandIn(usize, Asks),
-    /// Whether the answer of what was handed in is there.
-    Hear(usize),
     /// The host waits until a lane has served it.
     Collect(usize),
     /// The host serves it itself, unless a lane was first.
     ServeOwn(usize),
     /// A lane takes the first job, and serves it.
     ServeFirst,
-    /// It takes the first two, and the answer of each goes to the ticket of the other.
-    Cross,
     /// The desk closes.
     Close,
     /// The row of a unit is read.

@@ -5,17 +5,15 @@ ghost use Rattle.unit_history.specs.Naming.{IsNamed};
 use crate::controllers::any_array::{Array, End};
 use crate::controllers::script::{Asks, command_of};
 use crate::controllers::tales::{Tale, happens};
-use crate::controllers::tally::Tally;
-use crate::memory::Latch;
 use array_units::Units;
 use block_file::{Blocks, MemBlocks, Opener};
 use entry_numbers::Array as Naming;
 use failover::{Mover, set_groups, take_down};
-use forwarding::{Desk, DeskFault, Job, Ticket};
+use forwarding::{Desk, DeskFault, Ticket};
 use scsi_types::{Command, Group, PortName, Reply, Status};
 use status::Row;
 use std::alloc::Global;
-use std::sync::{Arc, Wait};
+use std::sync::Wait;
 use std::test::Fail;
 use std::thread::Threads;
 use unit_history::{NewUnit, Opened, Pass, Refused};
@@ -53,8 +51,6 @@ struct Shared<W: Wait + Drop, B: Blocks, O: Opener<B>, N: Naming<Opened>> {
     alloc: Global,
     units: Units<B, MemBlocks, O, N>,
     desk: Desk<B, MemBlocks, O, N>,
-    disk: Arc<Latch<W>, Global>,
-    taken: Tally,
 }
 
 /// The session of a host at one of them: its pass, the ticket of its command that waits at the desk, and the last reply.
@@ -80,22 +76,6 @@ impl<B: Blocks, O: Opener<B>, N: Naming<Opened>> Host<B, O, N> {
                 end_by(why)
             }
         }
-    }
-}
-
-impl<W: Wait + Drop, B: Blocks, O: Opener<B>, N: Naming<Opened>> Shared<W, B, O, N> {
-    fn serve(&self, job: Job<B, MemBlocks, O, N>) {
-        if job.place() < self.units.count() {
-            let answer = job.serve(&self.rt, self.alloc, &self.units);
-            self.desk.post(&self.rt, answer);
-        }
-    }
-
-    // The first job, which is counted.
-    fn take(&self) -> Option<Job<B, MemBlocks, O, N>> {
-        let job = self.desk.take(&self.rt)?;
-        self.taken.add(&self.rt);
-        Some(job)
     }
 }
 
@@ -208,14 +188,6 @@ impl<W: Wait + Drop, B: Blocks, O: Opener<B>, N: Naming<Opened>> Array<Host<B, O
         host.keep(pass, end)
     }
 
-    fn hears(&self, host: &Host<B, O, N>) -> End {
-        match &host.ticket {
-            Some(ticket) if ticket.is_answered(&self.rt) => End::Answered,
-            Some(_) => End::Waits,
-            None => End::Nobody,
-        }
-    }
-
     fn data<'s>(&self, host: &'s Host<B, O, N>) -> &'s [u8] {
         match &host.reply {
             Some(reply) => reply.bytes(),
@@ -281,9 +253,12 @@ impl<W: Wait + Drop, B: Blocks, O: Opener<B>, N: Naming<Opened>> Array<Host<B, O
     }
 
     fn serve_first(&self) -> Option<usize> {
-        let job = self.take()?;
+        let job = self.desk.take(&self.rt)?;
         let unit = job.place();
-        self.serve(job);
+        if unit < self.units.count() {
+            let answer = job.serve(&self.rt, self.alloc, &self.units);
+            self.desk.post(&self.rt, answer);
+        }
         Some(unit)
     }
 
@@ -291,42 +266,16 @@ impl<W: Wait + Drop, B: Blocks, O: Opener<B>, N: Naming<Opened>> Array<Host<B, O
         self.desk.serve_next(&self.rt, self.alloc, &self.units)
     }
 
-    fn cross(&self) -> Option<()> {
-        let one = self.take()?;
-        let two = self.take()?;
-        let (one, two) = Job::with_slots_exchanged(one, two);
-        self.serve(one);
-        self.serve(two);
-        Some(())
-    }
-
     fn close(&self) {
         self.desk.close(&self.rt);
     }
-
-    fn hold(&self, unit: Option<usize>) {
-        self.disk.hold(unit);
-    }
-
-    fn await_held(&self, count: u32) {
-        self.disk.await_held(count);
-    }
-
-    fn taken(&self) -> u32 {
-        self.taken.count(&self.rt)
-    }
-
-    fn await_taken(&self, count: u32) {
-        self.taken.await_count(&self.rt, count);
-    }
 }
 
-// Shares these units, whose devices may hang at this latch.
+// Shares these units.
 fn make_shared<N: Naming<Opened>, B: Blocks, O: Opener<B>, W: Wait + Clone + Drop>(
     rt: &W,
     alloc: Global,
     new: Vec<NewUnit<B, MemBlocks, O>>,
-    disk: &Arc<Latch<W>, Global>,
 ) -> Result<Shared<W, B, O, N>, Fail>
     requires named { IsNamed N.book N.table N.opening B.contents new.items }
     requires count { length new.items ≤ 8 }
@@ -336,27 +285,19 @@ fn make_shared<N: Naming<Opened>, B: Blocks, O: Opener<B>, W: Wait + Clone + Dro
         alloc,
         units: Units::new(rt, alloc, new)?,
         desk: Desk::new(alloc, Group::One)?,
-        disk: Arc::try_clone(disk)?,
-        taken: Tally::new(),
     })
 }
 
-/// Shares these units, whose devices may hang at this latch, and tells a tale of them.
+/// Shares these units, and tells a tale of them.
 pub fn tell<
     N: Naming<Opened> + Send + Sync,
     B: Blocks + Send + Sync,
     O: Opener<B> + Send + Sync,
     W: Threads + Wait + Clone + Send + Sync + Drop,
->(
-    rt: &W,
-    alloc: Global,
-    new: Vec<NewUnit<B, MemBlocks, O>>,
-    disk: &Arc<Latch<W>, Global>,
-    tale: Tale<'_>,
-) -> Result<(), Fail>
+>(rt: &W, alloc: Global, new: Vec<NewUnit<B, MemBlocks, O>>, tale: Tale<'_>) -> Result<(), Fail>
     requires named { IsNamed N.book N.table N.opening B.contents new.items }
     requires count { length new.items ≤ 8 }
 {
-    let shared = make_shared::<N, B, O, W>(rt, alloc, new, disk)?;
+    let shared = make_shared::<N, B, O, W>(rt, alloc, new)?;
     happens::<W, Host<B, O, N>, Shared<W, B, O, N>>(rt, alloc, &shared, tale)
 }

@@ -39,11 +39,9 @@ impl<S: Drop, A: Array<S>> Stage<'_, S, A> {
             Deed::Send(host, group, asks) => self.send(host, group, asks, told),
             Deed::AtDesk(host, asks) => self.at_desk(host, asks, told),
             Deed::HandIn(host, asks) => self.hand_in(host, asks, told),
-            Deed::Hear(host) => self.hear(host, told),
             Deed::Collect(host) => self.collect(host, told),
             Deed::ServeOwn(host) => self.serve_own(host, told),
             Deed::ServeFirst => Some(self.serve_first(told)),
-            Deed::Cross => self.cross(),
             Deed::Close => Some(self.close()),
             Deed::Read(unit) => self.read(unit, told),
             Deed::Move(unit, list) => self.move_by(unit, list, told),
@@ -94,11 +92,6 @@ impl<S: Drop, A: Array<S>> Stage<'_, S, A> {
         self.ends(host, end, told)
     }
 
-    fn hear(&mut self, host: usize, told: Told) -> Option<bool> {
-        let end = self.array.hears(self.hosts.get(host)?);
-        self.ends(host, end, told)
-    }
-
     fn collect(&mut self, host: usize, told: Told) -> Option<bool> {
         let end = self.array.collect(self.hosts.get_mut(host)?);
         self.ends(host, end, told)
@@ -115,11 +108,6 @@ impl<S: Drop, A: Array<S>> Stage<'_, S, A> {
             (Told::NoJob, None) => true,
             _ => false,
         }
-    }
-
-    fn cross(&self) -> Option<bool> {
-        self.array.cross()?;
-        Some(true)
     }
 
     fn close(&self) -> bool {

@@ -3,7 +3,7 @@
 use crate::controllers::any_array::Array;
 use crate::controllers::histories::{sessions, threads};
 use crate::controllers::script::Line;
-use crate::controllers::{held_lanes, lanes, stage};
+use crate::controllers::{lanes, stage};
 use std::alloc::Global;
 use std::sync::Wait;
 use std::test::Fail;
@@ -16,10 +16,6 @@ pub enum Tale<'a> {
     Script(&'a [Line]),
     /// A worker and a lane share a desk.
     Shared,
-    /// A write hangs in a device, while lanes serve another unit.
-    OneHangs,
-    /// So many writes hang in a device that no lane is left.
-    AllHang,
     /// 2000 commands of a session, and what comes behind them.
     Served,
     /// More sessions than may be attached at once, one behind another.
@@ -42,8 +38,6 @@ pub fn happens<W: Threads + Wait + Sync, S: Send + Drop, A: Array<S> + Sync>(
     match tale {
         Tale::Script(script) => stage::is_performed(alloc, array, script),
         Tale::Shared => lanes::share(rt, alloc, array),
-        Tale::OneHangs => held_lanes::one_hangs(rt, alloc, array),
-        Tale::AllHang => held_lanes::all_hang(rt, alloc, array),
         Tale::Served => sessions::are_served(array),
         Tale::InTurn => sessions::come_in_turn(array),
         Tale::Exchanged => threads::exchange_by_two(rt, array),

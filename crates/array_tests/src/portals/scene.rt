@@ -1,5 +1,5 @@
-//! What a script meets: the portals to which its hosts connect, and what is behind them. `Stage` sees no more of an array, so that its functions know
-//! neither the units nor their gate, and cost little to prove.
+//! What a script meets: the portals to which its hosts connect, and what is behind them. `Stage` sees no more of an array, so
+//! that its functions know neither the units nor their gate, and cost little to prove.
 use crate::host::Host;
 use crate::memory::Latch;
 use crate::portals::behind::Console;

@@ -44,20 +44,20 @@ const WHOLE: usize = usize::MAX;
 
 #[test]
 fn sessions_before_desks(rt: HostRuntime) {
-    for table in [fencing::scripts(), hanging::scripts(), late::scripts()] {
-        run_all(&rt, rt.alloc(), table, false, WHOLE);
+    for table in &[fencing::scripts(), hanging::scripts(), late::scripts()] {
+        run_all(&rt, rt.alloc(), *table, false, WHOLE);
     }
 }
 
 #[test]
 fn logins_blocks_and_bytes(rt: HostRuntime) {
-    for table in [
+    for table in &[
         discovery::scripts(),
         logins::scripts(),
         medium::scripts(),
         streams::scripts(),
     ] {
-        run_all(&rt, rt.alloc(), table, false, WHOLE);
+        run_all(&rt, rt.alloc(), *table, false, WHOLE);
     }
 }
 
@@ -79,9 +79,9 @@ fn controllers_that_go_down(rt: HostRuntime) {
 // In pieces, too, that are one byte shorter than a header segment, and in single bytes.
 #[test]
 fn whole_lives_and_what_hosts_in_use_send(rt: HostRuntime) {
-    for piece in [WHOLE, 47, 1] {
-        run_all(&rt, rt.alloc(), lives::scripts(), true, piece);
-        run_all(&rt, rt.alloc(), clients::scripts(), true, piece);
+    for piece in &[WHOLE, 47, 1] {
+        run_all(&rt, rt.alloc(), lives::scripts(), true, *piece);
+        run_all(&rt, rt.alloc(), clients::scripts(), true, *piece);
     }
 }
 

@@ -8,8 +8,6 @@ use crate::controllers::events::rows::Said::{Busy, Check, Good, Submitted};
 use crate::controllers::events::rows::{Noted, Row, Stands, rows};
 use crate::controllers::events::run::run;
 use scsi_types::Group::{One, Two};
-use std::alloc::Global;
-use std::process::Abort;
 use std::test::Fail;
 
 const POWER_ON: (u8, u8, u8) = (0x06, 0x29, 0x00);
@@ -18,7 +16,7 @@ const CHANGED: (u8, u8, u8) = (0x06, 0x2A, 0x06);
 
 const OPEN_FAILED: (u8, u8, u8) = (0x04, 0x67, 0x0A);
 
-const MOVED: &[Row] = rows! {
+static MOVED: &[Row] = rows! {
     "a session on each controller": [Attach(0, 1, One), Attach(0, 2, Two)]
         => [], (2, 0), [Stands(0, 0, 1, Idle), Stands(0, 1, 1, Idle)];
     "the power on": [Submit(0, One, Test), Submit(1, One, Test), Take(One), Take(One), Serve(1), Serve(0), Post(0), Post(1),
@@ -47,7 +45,7 @@ const MOVED: &[Row] = rows! {
         [Stands(0, 0, 4, Idle), Stands(0, 1, 3, Idle)];
 };
 
-const UNOPENED: &[Row] = rows! {
+static UNOPENED: &[Row] = rows! {
     "a session of each unit": [Attach(0, 1, One), Attach(1, 1, One)]
         => [], (1, 1), [Stands(0, 0, 1, Idle), Stands(1, 0, 1, Idle)];
     "an open that fails": [Move(0, Two)] => [], (1, 1), [Stands(0, 0, 1, Idle), Stands(1, 0, 1, Idle)];
@@ -61,17 +59,8 @@ const UNOPENED: &[Row] = rows! {
         [Stands(0, 0, 3, Idle), Stands(1, 0, 2, Idle)];
 };
 
-// As in `sessions`, each table has a function of its own.
-fn moved(rt: &impl Abort, alloc: Global) -> Result<(), Fail> {
-    run(rt, alloc, [9, 9], MOVED)
-}
-
-fn unopened(rt: &impl Abort, alloc: Global) -> Result<(), Fail> {
-    run(rt, alloc, [0, 9], UNOPENED)
-}
-
 #[test]
 fn a_unit_that_moves_and_one_that_is_not_opened(rt: HostRuntime) -> Result<(), Fail> {
-    moved(&rt, rt.alloc())?;
-    unopened(&rt, rt.alloc())
+    run(&rt, rt.alloc(), [9, 9], MOVED)?;
+    run(&rt, rt.alloc(), [0, 9], UNOPENED)
 }

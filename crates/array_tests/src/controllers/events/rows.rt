@@ -38,7 +38,7 @@ pub enum Act {
 }
 
 /// What a session did or heard.
-#[derive(Clone, Copy, Debug, PartialEq, Eq)]
+#[derive(Clone, Copy, PartialEq, Eq)]
 pub enum Said {
     Submitted,
     /// GOOD without data, at the desk of this group, as the entry at this place.
@@ -52,11 +52,11 @@ pub enum Said {
 }
 
 /// A note: the place of the unit, the session's id, the serial, how many entries the unit had, and what the session did.
-#[derive(Clone, Copy, Debug, PartialEq, Eq)]
+#[derive(Clone, Copy, PartialEq, Eq)]
 pub struct Noted(pub usize, pub u64, pub u64, pub u64, pub Said);
 
 /// Where a session's command is.
-#[derive(Clone, Copy, Debug, PartialEq, Eq)]
+#[derive(Clone, Copy, PartialEq, Eq)]
 pub enum At {
     Idle,
     Waits,
@@ -67,17 +67,17 @@ pub enum At {
 }
 
 /// A session: the place of its unit, its id, the serial of its next command, and where its command is.
-#[derive(Clone, Copy, Debug, PartialEq, Eq)]
+#[derive(Clone, Copy, PartialEq, Eq)]
 pub struct Stands(pub usize, pub u64, pub u64, pub At);
 
 /// Some events, in one list: what is noted of them, how many entries units 0 and 1 then have, and how the sessions stand.
 #[derive(Clone, Copy)]
-pub struct Row<'a> {
-    pub what: &'a str,
-    pub acts: &'a [Act],
-    pub notes: &'a [Noted],
+pub struct Row {
+    pub what: &'static str,
+    pub acts: &'static [Act],
+    pub notes: &'static [Noted],
     pub entries: (u64, u64),
-    pub sessions: &'a [Stands],
+    pub sessions: &'static [Stands],
 }
 
 /// A table of rows, each "what": acts => notes, entries, sessions.

@@ -11,7 +11,7 @@ use unit_state::Row as Board;
 use world::{Note, Stage, What};
 
 /// What is seen of a world behind a row: what was noted, what the units show, and how the sessions stand.
-#[derive(Debug, Drop)]
+#[derive(Drop)]
 struct Seen {
     notes: Vec<Noted>,
     boards: [Option<Board>; 2],
@@ -109,21 +109,32 @@ fn run_row(
     alloc: Global,
     world: &mut MemWorld,
     before: &Seen,
-    row: &Row<'_>,
+    row: &Row,
 ) -> Result<Seen, Fail> {
     let noted = world.notes().len();
-    world.run(&events_of(alloc, row.acts)?)?;
+    let events = events_of(alloc, row.acts)?;
+    world.run(&events)?;
     let after = look(alloc, world, noted)?;
-    must(rt, is_met(before, &after, row), row.what, &after);
+    must(rt, is_met(before, &after, row), row.what, &"something else");
     Ok(after)
 }
 
-/// Runs the events of each row in turn, over units whose openers pass so many opens each.
-pub fn run(rt: &impl Abort, alloc: Global, opens: [u64; 2], rows: &[Row]) -> Result<(), Fail> {
-    let mut world = two_units(alloc, opens)?;
-    let mut seen = look(alloc, &world, 0)?;
+// Runs the events of each row in turn.
+fn run_rows(
+    rt: &impl Abort,
+    alloc: Global,
+    world: &mut MemWorld,
+    rows: &[Row],
+) -> Result<(), Fail> {
+    let mut seen = look(alloc, world, 0)?;
     for row in rows {
-        seen = run_row(rt, alloc, &mut world, &seen, row)?;
+        seen = run_row(rt, alloc, world, &seen, row)?;
     }
     Ok(())
+}
+
+/// Does so over units whose openers pass so many opens each.
+pub fn run(rt: &impl Abort, alloc: Global, opens: [u64; 2], rows: &[Row]) -> Result<(), Fail> {
+    let mut world = two_units(alloc, opens)?;
+    run_rows(rt, alloc, &mut world, rows)
 }

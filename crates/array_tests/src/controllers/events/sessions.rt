@@ -9,15 +9,13 @@ use crate::controllers::events::rows::Said::{Busy, Check, Gone, Good, Submitted}
 use crate::controllers::events::rows::{Noted, Row, Stands, rows};
 use crate::controllers::events::run::run;
 use scsi_types::Group::{One, Two};
-use std::alloc::Global;
-use std::process::Abort;
 use std::test::Fail;
 
 const POWER_ON: (u8, u8, u8) = (0x06, 0x29, 0x00);
 
 const CHANGED: (u8, u8, u8) = (0x06, 0x2A, 0x06);
 
-const ONE_COMMAND: &[Row] = rows! {
+static ONE_COMMAND: &[Row] = rows! {
     "it attaches": [Attach(0, 1, One)] => [], (1, 0), [Stands(0, 0, 1, Idle)];
     "it submits": [Submit(0, One, Test)] => [Noted(0, 0, 1, 1, Submitted)], (1, 0), [Stands(0, 0, 1, Waits)];
     "it is taken": [Take(One)] => [], (1, 0), [Stands(0, 0, 1, InLane)];
@@ -28,7 +26,7 @@ const ONE_COMMAND: &[Row] = rows! {
         => [Noted(0, 0, 2, 2, Submitted), Noted(0, 0, 2, 3, Good(One, 2))], (3, 0), [Stands(0, 0, 3, Idle)];
 };
 
-const WORKERS: &[Row] = rows! {
+static WORKERS: &[Row] = rows! {
     "two sessions": [Attach(0, 1, One), Attach(0, 2, One)]
         => [], (2, 0), [Stands(0, 0, 1, Idle), Stands(0, 1, 1, Idle)];
     "one waits, and the other's worker serves past it": [Submit(0, One, Test), Begin(1, One, Test)]
@@ -52,7 +50,7 @@ const WORKERS: &[Row] = rows! {
         => [Noted(0, 1, 2, 7, Check(Two, 6, CHANGED))], (7, 0), [Stands(0, 0, 3, Idle), Stands(0, 1, 3, Idle)];
 };
 
-const IMPOSSIBLE: &[Row] = rows! {
+static IMPOSSIBLE: &[Row] = rows! {
     "one session": [Attach(0, 1, One)] => [], (1, 0), [Stands(0, 0, 1, Idle)];
     "no such unit or session": [Attach(2, 5, One), Move(2, Two), Detach(1), Reset(1),
         Submit(1, One, Test), Again(1), Serve(1), Post(1), Collect(1)] => [], (1, 0), [Stands(0, 0, 1, Idle)];
@@ -70,7 +68,7 @@ const IMPOSSIBLE: &[Row] = rows! {
     "idle again": [Again(0), Take(One), Serve(0), Post(0), Collect(0)] => [], (2, 0), [Stands(0, 0, 2, Idle)];
 };
 
-const ENDS: &[Row] = rows! {
+static ENDS: &[Row] = rows! {
     "three sessions": [Attach(0, 1, One), Attach(0, 2, One), Attach(0, 3, One)]
         => [], (3, 0), [Stands(0, 0, 1, Idle), Stands(0, 1, 1, Idle), Stands(0, 2, 1, Idle)];
     "their commands": [Submit(0, One, Test), Submit(1, One, Test), Submit(2, One, Test)]
@@ -98,27 +96,10 @@ const ENDS: &[Row] = rows! {
         [Stands(0, 0, 1, Idle), Stands(0, 1, 1, Idle), Stands(0, 2, 2, Idle), Stands(0, 4, 3, Idle)];
 };
 
-// A constant is written out at each step of a function that names it, so each table has a function of its own.
-fn one_command(rt: &impl Abort, alloc: Global) -> Result<(), Fail> {
-    run(rt, alloc, [9, 9], ONE_COMMAND)
-}
-
-fn workers(rt: &impl Abort, alloc: Global) -> Result<(), Fail> {
-    run(rt, alloc, [9, 9], WORKERS)
-}
-
-fn impossible(rt: &impl Abort, alloc: Global) -> Result<(), Fail> {
-    run(rt, alloc, [9, 9], IMPOSSIBLE)
-}
-
-fn ends(rt: &impl Abort, alloc: Global) -> Result<(), Fail> {
-    run(rt, alloc, [9, 9], ENDS)
-}
-
 #[test]
 fn commands_of_sessions(rt: HostRuntime) -> Result<(), Fail> {
-    one_command(&rt, rt.alloc())?;
-    workers(&rt, rt.alloc())?;
-    impossible(&rt, rt.alloc())?;
-    ends(&rt, rt.alloc())
+    for table in &[ONE_COMMAND, WORKERS, IMPOSSIBLE, ENDS] {
+        run(&rt, rt.alloc(), [9, 9], *table)?;
+    }
+    Ok(())
 }

@@ -19,44 +19,54 @@ fn tested<S, A: Array<S>>(array: &A, host: &mut S, times: u64) -> u64 {
     good
 }
 
-/// All but the first, which tells of the power on, are GOOD. By the other group it is moved, which is no entry.
-fn serves<S, A: Array<S>>(array: &A, host: &mut S) -> Result<(), Fail> {
-    want(
-        test(array, host, Group::One) == TOLD_OF_POWER_ON,
-        "the power on",
-    )?;
-    let good = tested(array, host, TESTS - 1);
-    want(good == TESTS - 1, "each command is GOOD")?;
-    want(entries(array, 0) == 2001, "an attach and 2000 commands")?;
-    let moved = test(array, host, Group::Two);
-    want(moved == End::Moved(Group::One), "by the other group")?;
-    want(entries(array, 0) == 2001, "it is no entry")?;
-    want(test(array, host, Group::One) == End::Good, "by the owner")?;
-    want(entries(array, 0) == 2002, "it is an entry")
+/// Whether the board shows so many entries.
+fn shows<S, A: Array<S>>(array: &A, count: u64) -> bool {
+    entries(array, 0) == count
 }
 
-/// The nexus attached again: the session before is gone, and the new one resets the unit.
-fn ends<S, A: Array<S>>(array: &A, old: &mut S, new: &mut S) -> Result<(), Fail> {
-    want(entries(array, 0) == 2003, "the nexus attached again")?;
-    want(
-        test(array, old, Group::One) == End::Gone,
-        "the session before",
-    )?;
-    want(!array.reset(old), "its reset")?;
-    want(entries(array, 0) == 2003, "they are no entries")?;
-    want(array.reset(new), "a reset of the new session")?;
-    want(entries(array, 0) == 2004, "it is an entry")?;
-    want(!array.retire(old), "the end of the session before")?;
-    want(array.retire(new), "the end of the new session")?;
-    want(entries(array, 0) == 2005, "one of them is an entry")
+/// All but the first, which tells of the power on, are GOOD: an attach and 2000 commands.
+fn serves<S, A: Array<S>>(array: &A, host: &mut S) -> bool {
+    test(array, host, Group::One) == TOLD_OF_POWER_ON
+        && tested(array, host, TESTS - 1) == TESTS - 1
+        && shows(array, 2001)
+}
+
+/// By the other group it is moved, which is no entry; by the owner it is one.
+fn is_moved<S, A: Array<S>>(array: &A, host: &mut S) -> bool {
+    test(array, host, Group::Two) == End::Moved(Group::One)
+        && shows(array, 2001)
+        && test(array, host, Group::One) == End::Good
+        && shows(array, 2002)
+}
+
+/// The nexus has attached again: the session before is gone, and neither its command nor its reset is an entry.
+fn is_gone<S, A: Array<S>>(array: &A, old: &mut S) -> bool {
+    shows(array, 2003)
+        && test(array, old, Group::One) == End::Gone
+        && !array.reset(old)
+        && shows(array, 2003)
+}
+
+/// The new session resets the unit, and ends; the session before does not end once more.
+fn ends<S, A: Array<S>>(array: &A, old: &mut S, new: &mut S) -> bool {
+    array.reset(new)
+        && shows(array, 2004)
+        && !array.retire(old)
+        && array.retire(new)
+        && shows(array, 2005)
 }
 
 /// 2000 commands of a session, and what comes behind them.
 pub fn are_served<S: Drop, A: Array<S>>(array: &A) -> Result<(), Fail> {
     let mut old = attached(array, 0, 1)?;
-    serves(array, &mut old)?;
+    want(serves(array, &mut old), "2000 commands")?;
+    want(
+        is_moved(array, &mut old),
+        "by the other group, and the owner",
+    )?;
     let mut new = attached(array, 0, 1)?;
-    ends(array, &mut old, &mut new)
+    want(is_gone(array, &mut old), "the session before")?;
+    want(ends(array, &mut old, &mut new), "a reset, and the ends")
 }
 
 #[test]

@@ -21,8 +21,8 @@ fn a_preparer_costs_time_alone(rt: HostRuntime) {
     let folder = folder(&rt, process, "preparers");
     let other = path_of(&rt, rt.alloc(), folder.as_str(), "other");
     make(&rt, other.as_str(), 2048);
-    for name in ["disk", "other", "none"] {
-        under_a_name(&rt, rt.alloc(), folder.as_str(), name);
+    for name in &["disk", "other", "none"] {
+        under_a_name(&rt, rt.alloc(), folder.as_str(), *name);
     }
 }
 

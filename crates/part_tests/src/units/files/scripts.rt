@@ -19,8 +19,8 @@ use std::process;
 #[test]
 fn each_call_ends_so(rt: HostRuntime) {
     let process = process::id(rt.process());
-    for table in [disks(), locks(), lengths(), registrations()] {
-        play_each(&rt, process, table);
+    for table in &[disks(), locks(), lengths(), registrations()] {
+        play_each(&rt, process, *table);
     }
 }
 

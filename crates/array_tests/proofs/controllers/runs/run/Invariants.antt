@@ -1,4 +1,4 @@
-use Rattle.std.proofs.Common.{[]}
+use Rattle.block_file.specs.Cut.{cut}
 use Rattle.unit_history.specs.Naming.{book_of, opening_of, table_of}
 use Rattle.array_tests.proofs.controllers.runs.run.Given as goal
 
@@ -6,5 +6,5 @@ abbrev pub ghosts-tell : goal.ghosts-tell
 ghosts-tell g a = record {
   book = book_of a.new.items;
   table = table_of a.new.items;
-  opening = opening_of (λ d. []) a.new.items;
+  opening = opening_of (λ d. cut d.inner.count d.inner.bytes.items) a.new.items;
 }
