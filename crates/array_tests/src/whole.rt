@@ -208,11 +208,11 @@ fn units_have_their_files_and_portals_their_groups(rt: HostRuntime) -> Result<()
     let folder = new_folder(&rt, alloc, process)?;
     let paths = paths(alloc, folder.as_str())?;
     let (site, left) = sites(&rt, process, &paths)?;
-    for visited in &story(site, left) {
+    for visited in story(site, left) {
         let options = visited.site.options(alloc)?;
         let mut hosts = Vec::new(alloc);
         let mut said = Vec::new(alloc);
-        let reader = console(&rt, alloc, visited, &mut hosts)?;
+        let reader = console(&rt, alloc, &visited, &mut hosts)?;
         let log = Log::off();
         let Ok(array) = open(&rt, alloc, &log, &options) else {
             return Err("an array that is opened".into());
@@ -228,7 +228,7 @@ fn units_have_their_files_and_portals_their_groups(rt: HostRuntime) -> Result<()
             Vec<u8>,
         >(&rt, alloc, &options, array, &log, reader, &mut said);
         assert!(rt; end.is_ok());
-        compare(&rt, alloc, visited, said.as_slice(), hosts.as_mut_slice())?;
+        compare(&rt, alloc, &visited, said.as_slice(), hosts.as_mut_slice())?;
     }
     fs::remove_dir_all(&rt, folder.as_str())?;
     Ok(())
