@@ -57,9 +57,6 @@ pub trait Array<S> {
     /// Whether a session ended by this call.
     fn retire(&self, host: &mut S) -> bool;
 
-    /// How many entries a session has seen, or 0.
-    fn seen(&self, host: &S) -> u64;
-
     /// What the board of a unit shows.
     fn row(&self, place: usize) -> Option<Row>;
 
@@ -103,45 +100,4 @@ pub fn attached<S, A: Array<S>>(array: &A, place: usize, isid: u32) -> Result<S,
 /// How a TEST UNIT READY ends.
 pub fn test<S, A: Array<S>>(array: &A, host: &mut S, by_group: Group) -> End {
     array.ask(host, by_group, Command::TestUnitReady, &[])
-}
-
-/// How a WRITE of a block ends, of which each byte is this.
-pub fn write<S, A: Array<S>>(array: &A, host: &mut S, lba: u64, byte: u8) -> End {
-    let command = Command::Write {
-        lba,
-        blocks: 1,
-        fua: false,
-    };
-    array.ask(host, Group::One, command, &[byte; 512])
-}
-
-/// How a COMPARE AND WRITE of a block ends: each byte is to be the first, and then is the second.
-pub fn exchange<S, A: Array<S>>(array: &A, host: &mut S, lba: u64, old: u8, new: u8) -> End {
-    let command = Command::CompareAndWrite {
-        lba,
-        blocks: 1,
-        fua: false,
-    };
-    let mut bytes = [old; 1024];
-    bytes[512..].fill(new);
-    array.ask(host, Group::One, command, &bytes)
-}
-
-/// The byte that a READ of a block finds in all its places.
-pub fn read<S, A: Array<S>>(array: &A, host: &mut S, lba: u64) -> Option<u8> {
-    let command = Command::Read {
-        lba,
-        blocks: 1,
-        fua: false,
-    };
-    if array.ask(host, Group::One, command, &[]) != End::Good {
-        return None;
-    }
-    let data = array.data(host);
-    let byte = data.first().copied()?;
-    if data == [byte; 512].as_slice() {
-        Some(byte)
-    } else {
-        None
-    }
 }

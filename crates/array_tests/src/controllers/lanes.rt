@@ -1,6 +1,6 @@
 //! A worker and a lane at one desk.
 use crate::controllers::any_array::{Array, End, want};
-use crate::controllers::runs::{Setting, run};
+use crate::controllers::runs::run;
 use crate::controllers::script::Asks::{Read, Set, Test, Write};
 use crate::controllers::script::Deed::{AtDesk, Attach, Close, Collect, HandIn, ServeOwn};
 use crate::controllers::script::Told::{Done, Ends};
@@ -75,5 +75,5 @@ pub fn share<W: Threads + Wait + Sync, S: Send + Drop, A: Array<S> + Sync>(
 
 #[test]
 fn a_worker_and_a_lane_share_a_desk(rt: HostRuntime) -> Result<(), Fail> {
-    run(&rt, rt.alloc(), &Setting::of(&[9, 9]), Tale::Shared)
+    run(&rt, rt.alloc(), &[9, 9], Tale::Shared)
 }

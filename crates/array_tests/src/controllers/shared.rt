@@ -219,13 +219,6 @@ impl<W: Wait + Drop, B: Blocks, O: Opener<B>, N: Naming<Opened>> Array<Host<B, O
         units.retire(&self.rt, pass).is_ok()
     }
 
-    fn seen(&self, host: &Host<B, O, N>) -> u64 {
-        match &host.pass {
-            Some(pass) => pass.len(),
-            None => 0,
-        }
-    }
-
     fn row(&self, place: usize) -> Option<Row> {
         if place >= self.units.count() {
             return None;

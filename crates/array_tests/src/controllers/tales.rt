@@ -20,11 +20,7 @@ pub enum Tale<'a> {
     Served,
     /// More sessions than may be attached at once, one behind another.
     InTurn,
-    /// Two threads exchange a block.
-    Exchanged,
-    /// Two threads write, while so many calls of the device fail.
-    Failing(u64),
-    /// Two threads write, and a third reads the board.
+    /// Two threads register, and a third reads the board.
     Watched,
 }
 
@@ -40,8 +36,6 @@ pub fn happens<W: Threads + Wait + Sync, S: Send + Drop, A: Array<S> + Sync>(
         Tale::Shared => lanes::share(rt, alloc, array),
         Tale::Served => sessions::are_served(array),
         Tale::InTurn => sessions::come_in_turn(array),
-        Tale::Exchanged => threads::exchange_by_two(rt, array),
-        Tale::Failing(calls) => threads::meet_failures(rt, array, calls),
         Tale::Watched => threads::are_watched(rt, array),
     }
 }

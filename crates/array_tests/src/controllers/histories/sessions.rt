@@ -1,6 +1,6 @@
 //! Sessions of one unit, one call behind another: what each is answered, and how many entries the board shows then.
 use crate::controllers::any_array::{Array, End, TOLD_OF_POWER_ON, attached, entries, test, want};
-use crate::controllers::runs::{Setting, run};
+use crate::controllers::runs::run;
 use crate::controllers::tales::Tale;
 use scsi_types::Group;
 use std::test::Fail;
@@ -71,7 +71,7 @@ pub fn are_served<S: Drop, A: Array<S>>(array: &A) -> Result<(), Fail> {
 
 #[test]
 fn two_thousand_commands(rt: HostRuntime) -> Result<(), Fail> {
-    run(&rt, rt.alloc(), &Setting::of(&[9]), Tale::Served)
+    run(&rt, rt.alloc(), &[9], Tale::Served)
 }
 
 /// More than may be attached at once.
@@ -92,5 +92,5 @@ pub fn come_in_turn<S: Drop, A: Array<S>>(array: &A) -> Result<(), Fail> {
 
 #[test]
 fn more_sessions_in_turn_than_at_once(rt: HostRuntime) -> Result<(), Fail> {
-    run(&rt, rt.alloc(), &Setting::of(&[9]), Tale::InTurn)
+    run(&rt, rt.alloc(), &[9], Tale::InTurn)
 }

@@ -6,5 +6,5 @@ abbrev pub ghosts-tell : goal.ghosts-tell
 ghosts-tell g a = record {
   book = book_of a.new.items;
   table = table_of a.new.items;
-  opening = opening_of (λ d. cut d.inner.count d.inner.bytes.items) a.new.items;
+  opening = opening_of (λ d. cut d.count d.bytes.items) a.new.items;
 }
