@@ -103,6 +103,24 @@ begin missing
 ends
 is 'a fault at the start is told, and the status is 1' "$(cat "$place/complains") $ended" 'arrayd: cannot use unit 0 1'
 
+# links to disks that lie elsewhere, which the start makes
+begin unit0 linked="$place/disk1"
+is 'a link is made to a disk that lies elsewhere' "$(readlink "$place/state/linked")" "$place/disk1"
+is 'and it is a unit, with its registration file' "$(grep -c unit "$place/status") $(ls "$place/state/linked.reg")" "2 $place/state/linked.reg"
+console quit
+ends
+begin unit0 linked="$place/disk1"
+console quit
+ends
+is 'a link that is there is taken' $ended 0
+begin linked="$place/disk0"
+ends
+is 'one to another disk is left' "$(cat "$place/complains") $ended" "arrayd-run: linked is a link to $place/disk1, and not to $place/disk0 2"
+begin unit2="$place/nowhere"
+ends
+is 'there is none to a disk that is not there' "$(cat "$place/complains") $ended" "arrayd-run: there is no $place/nowhere for unit2 1"
+is 'and none was made' "$(ls "$place/state" | grep -c unit2)" 0
+
 if command -v systemd-analyze > /dev/null; then
     # as it is installed, under a root of its own
     DESTDIR="$place/root" service/install.sh "$ARRAYD"
@@ -116,7 +134,7 @@ else
     echo 'systemd-analyze is not installed: the unit was not checked'
 fi
 if command -v mandoc > /dev/null; then
-    is 'mandoc has nothing to say' "$(mandoc -T lint -W warning service/arrayd.8 2>&1)" ''
+    is 'mandoc has nothing to say' "$(mandoc -T lint -W warning service/*.8 2>&1)" ''
 else
     echo 'mandoc is not installed: the page was not checked'
 fi
