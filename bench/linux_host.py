@@ -48,14 +48,7 @@ def build(folder):
         # some packages' last steps want a running system, and are not needed
         subprocess.run(["debootstrap", "--variant=minbase", f"--include={PACKAGES}", "bookworm", root, mirror()], check=False,
                        stdout=subprocess.DEVNULL)
-    kernel = subprocess.run(["apt-cache", "depends", "linux-image-amd64"], check=True, stdout=subprocess.PIPE, text=True)
-    name = next(line.split()[-1] for line in kernel.stdout.splitlines() if "Depends:" in line)
-    if not glob.glob(os.path.join(folder, f"{name}_*.deb")):
-        run("apt-get", "download", "-qq", name, cwd=folder, stderr=subprocess.DEVNULL)
-    unpacked = os.path.join(folder, "kernel")
-    run("dpkg-deb", "-x", glob.glob(os.path.join(folder, f"{name}_*.deb"))[0], unpacked)
-    shutil.copy(glob.glob(os.path.join(unpacked, "boot", "vmlinuz-*"))[0], os.path.join(folder, "vmlinuz"))
-    version = os.listdir(os.path.join(unpacked, "lib", "modules"))[0]
+    unpacked, version = take_kernel(folder)
     modules = os.path.join(root, "lib", "modules", version)
     shutil.rmtree(modules, ignore_errors=True)
     shutil.copytree(os.path.join(unpacked, "lib", "modules", version), modules, symlinks=True)
@@ -67,6 +60,18 @@ def build(folder):
         sys.exit("debootstrap did not make the host: see debootstrap/debootstrap.log in FOLDER/root")
     run("chroot", root, "depmod", version)
     pack(folder)
+
+
+def take_kernel(folder):
+    """Debian's kernel as FOLDER/vmlinuz, with its modules: the folder into which it was unpacked, and its version."""
+    kernel = subprocess.run(["apt-cache", "depends", "linux-image-amd64"], check=True, stdout=subprocess.PIPE, text=True)
+    name = next(line.split()[-1] for line in kernel.stdout.splitlines() if "Depends:" in line)
+    if not glob.glob(os.path.join(folder, f"{name}_*.deb")):
+        run("apt-get", "download", "-qq", name, cwd=folder, stderr=subprocess.DEVNULL)
+    unpacked = os.path.join(folder, "kernel")
+    run("dpkg-deb", "-x", glob.glob(os.path.join(folder, f"{name}_*.deb"))[0], unpacked)
+    shutil.copy(glob.glob(os.path.join(unpacked, "boot", "vmlinuz-*"))[0], os.path.join(folder, "vmlinuz"))
+    return unpacked, os.listdir(os.path.join(unpacked, "lib", "modules"))[0]
 
 
 def mirror():
