@@ -199,7 +199,7 @@ def strange_name(place):
     data = base_of("A_LONG Register 0 0 11 APTPL")
     data[35 * 512 + 17:35 * 512 + 35] = b'iqn.2000-01\n"\\\xff\x1b[m'
     out = reader(place, data)[1]
-    check("a strange name", '"iqn.2000-01\\x0A\\"\\\\\\xFF\\x1B[m"' in out and out.count("\n") == 4, out)
+    check("a strange name", '"iqn.2000-01\\x0a\\"\\\\\\xff\\x1b[m"' in out and out.count("\n") == 4, out)
 
 
 # ---- files of a running array

@@ -124,12 +124,15 @@ is 'and none was made' "$(ls "$place/state" | grep -c unit2)" 0
 if command -v systemd-analyze > /dev/null; then
     # as it is installed, under a root of its own
     DESTDIR="$place/root" service/install.sh "$ARRAYD"
-    mkdir -p "$place/root/etc/systemd/system"
-    is 'systemd-analyze verify has nothing to say' "$(sed "s#/usr/libexec#$place/root/usr/libexec#" service/arrayd@.service > "$place/arrayd@test.service"
-        systemd-analyze verify --man=no "$place/arrayd@test.service" 2>&1)" ''
-    systemd-analyze security --offline=true --threshold=25 "$place/arrayd@test.service" > "$place/security" 2>&1
-    is 'systemd-analyze security calls its exposure at most 2.5' $? 0
-    tail -1 "$place/security"
+    for unit in arrayd@.service arrayd-status@.service arrayd-status@.socket; do
+        sed "s#/usr/libexec#$place/root/usr/libexec#" "service/$unit" > "$place/$(echo "$unit" | sed 's/@/@test/')"
+    done
+    is 'systemd-analyze verify has nothing to say' "$(cd "$place" && systemd-analyze verify --man=no ./arrayd*@test.* 2>&1)" ''
+    for unit in arrayd@test.service arrayd-status@test.service; do
+        systemd-analyze security --offline=true --threshold=25 "$place/$unit" > "$place/security" 2>&1
+        is 'systemd-analyze security calls its exposure at most 2.5' $? 0
+        tail -1 "$place/security"
+    done
 else
     echo 'systemd-analyze is not installed: the unit was not checked'
 fi
