@@ -105,3 +105,7 @@ module _ (count : ℕ) (file : List ℕ) (long : length file ≡ 512 * count) wh
           ) in
           ⊎_elim (λ is. inl (subst (old k) (sym is) (now k below))) (λ m. inr m) (block_of_it k value n))
           (adds (run_lies (length part) run) k value held)
+
+-- what a call says of an offset it says of the same offset
+pub said_at : (says : ℕ → List ℕ → Type 0) (offset at : ℕ) (bytes : List ℕ) → offset ≡ at → says offset bytes → says at bytes
+said_at says offset at bytes e said = subst (λ (m : ℕ). says m bytes) e said

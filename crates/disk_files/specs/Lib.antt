@@ -3,3 +3,4 @@ pub mod BackingLaws
 pub mod Lasting
 pub mod Lengths
 pub mod Tally
+pub mod System

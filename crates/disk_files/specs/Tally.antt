@@ -5,7 +5,7 @@ use Rattle.disk_files.specs.declared.tally.Tally.{Tally}
 
 -- no call was made yet
 abbrev pub none : Tally
-none = record { opened = 0; written = 0; failed_reads = 0; failed_writes = 0; is_lost = false }
+none = record { opened = 0; failed_reads = 0; failed_writes = 0; is_lost = false }
 
 abbrev pub all_failures : Tally → ℕ
 all_failures c = min (c.failed_reads + c.failed_writes) last_count

@@ -1,6 +1,7 @@
 //! A file as a device of blocks.
-ghost use Rattle.std.specs.Prelude.{◌≡◌, ◌<◌, ◌≤◌, ◌+◌, ◌*◌, ◌/◌, ◌^◌, length, min, true, false, None};
-ghost use Rattle.std.specs.Prelude.{IfOk, IfErr, IsTrue, IsErr, OnOk, OnErr};
+ghost use Rattle.std.specs.Prelude.{◌≡◌, ◌⊎◌, ◌<◌, ◌≤◌, ◌+◌, ◌*◌, ◌/◌, ◌^◌, length, min, true, false, None};
+ghost use Rattle.std.specs.Prelude.{IfOk, IfErr, IfSome, IsSomeAnd, IsTrue, IsErr, OnOk, OnErr};
+ghost use Rattle.std.specs.Arc.{arc_value};
 ghost use Rattle.std.proofs.Common.{arith};
 ghost use Rattle.block_file.specs.declared.blocks.TheConstants.{BLOCK_LENGTH};
 ghost use Rattle.block_file.specs.Cut.{run_of, IsRun};
@@ -14,21 +15,23 @@ ghost use Rattle.disk_files.specs.Lengths.{IsLengthFault};
 use crate::FileFault;
 use crate::backing::BackingFile;
 use crate::flushes::{Flushes, LastingFile};
+use crate::system::SystemFile;
 use crate::tally::Tally;
 use crate::voice::Voice;
+use crate::writes::Writes;
 use block_file::{BLOCK_LENGTH, Blocks, DeviceFailed};
 use event_log::Call;
+use preparer::OnDisk;
 use std::alloc::Global;
 use std::fs::File;
-use std::io::ErrorKind;
 use std::rt::Files;
-use std::sync::Arc;
+use std::sync::{Arc, Mutex};
 
 /// A file as a device of blocks: each run is one read or write at its place, 512 times the number of its first block. A flush is one
 /// of the file. It does nothing where a flush beside the device is done, behind whose beginning no write has ended.
 ///
-/// It claims what its file claims, which of a file of the system is nothing. Its number of blocks is that of its length when it
-/// was opened. Where the file has another length by now each write fails, and a read behind its end.
+/// It claims what its file claims, which of a file of the system is nothing. Of every file it says which calls were made of it. Its
+/// number of blocks is that of its length when it was opened. Where the file has another length by now each write fails, and a read behind its end.
 ///
 /// A flush that failed is not made good by the next one: the system drops what it could not write. So each later flush
 /// fails too, also through a handle that was opened anew.
@@ -37,6 +40,8 @@ pub struct FileBlocks<F: BackingFile> {
     file: F,
     count: u32,
     tally: Tally,
+    // How many writes have ended.
+    writes: Writes<F>,
     // What its preparer flushes, where it has one.
     flushes: Option<Arc<Flushes<F>, Global>>,
     // What tells of calls that failed.
@@ -81,6 +86,7 @@ impl<F: BackingFile> FileBlocks<F> {
             file,
             count,
             tally: Tally::NONE,
+            writes: Writes::none(),
             flushes: None,
             voice: None,
         })
@@ -89,7 +95,7 @@ impl<F: BackingFile> FileBlocks<F> {
     /// From now on calls that fail are told.
     pub fn tell_by(&mut self, voice: Voice)
         ensures { (self.new.file ≡ self.old.file) × (self.new.count ≡ self.old.count)
-            × (self.new.tally ≡ self.old.tally) }
+            × (self.new.tally ≡ self.old.tally) × (self.new.writes ≡ self.old.writes) }
     {
         self.voice = Some(voice);
     }
@@ -102,7 +108,9 @@ impl<F: BackingFile> FileBlocks<F> {
     }
 
     /// The handle.
-    pub(crate) fn file(&self) -> &F {
+    pub(crate) fn file(&self) -> &F
+        ensures { result.now ≡ self.now.file }
+    {
         &self.file
     }
 
@@ -125,22 +133,23 @@ impl<F: BackingFile> FileBlocks<F> {
     // nothing to be told where it has told already.
     fn make_last(&mut self) -> Result<(), DeviceFailed>
         ensures size { self.new.count ≡ self.old.count }
+        ensures node { F.node self.new.file ≡ F.node self.old.file }
         ensures flushes { self.new.flushes ≡ self.old.flushes }
-        ensures tally { self.new.tally ≡ self.old.tally }
+        ensures tally { (self.new.tally ≡ self.old.tally) × (self.new.writes ≡ self.old.writes) }
         ensures bytes { IsTrue F.claims → F.bytes self.new.file ≡ F.bytes self.old.file }
         ensures durable { IsTrue F.claims → OnOk result (Only (run_of (F.bytes self.old.file)) (F.may_hold self.new.file)) }
         ensures crash { IsTrue F.claims → NoMore (F.may_hold self.old.file) (F.may_hold self.new.file) }
-        ensures lasts { OnOk result (IsSettled F.lasts self.old.tally.written) }
+        ensures lasts { OnOk result (IsSettled (F.lasts (F.node self.old.file)) self.old.writes.count) }
     {
         if self.is_lost_beside() {
             return Err(DeviceFailed);
         }
         if let Some(flushes) = &self.flushes {
-            if flushes.covers(self.tally.written) {
+            if flushes.covers(self.file.node(), self.writes.count) {
                 return Ok(());
             }
         }
-        match self.file.flush(self.tally.written) {
+        match self.file.flush(self.writes.count) {
             // One that ran beside it may have had its blocks in hand.
             Ok(()) if self.is_lost_beside() => Err(DeviceFailed),
             Ok(()) => Ok(()),
@@ -151,15 +160,21 @@ impl<F: BackingFile> FileBlocks<F> {
         }
     }
 
-    /// Takes a handle through which the same file was opened anew, as the other controller's opener does. Its length has
-    /// to be the same: else the old handle stays. The counts of failures go over, and that a flush failed.
+    /// Takes a handle through which the same file was opened anew, as the other controller's opener does. Of another file, or where its
+    /// length is another one, the old handle stays. The counts of failures go over, and that a flush failed.
     pub fn renew(&mut self, file: F) -> Result<(), DeviceFailed>
         ensures ok { OnOk result (self.new.tally ≡ once_more_opened self.old.tally) }
         ensures size { self.new.count ≡ self.old.count }
         ensures file { OnOk result (self.new.file ≡ file) }
+        ensures node { F.node self.new.file ≡ F.node self.old.file }
         ensures flushes { self.new.flushes ≡ self.old.flushes }
+        ensures written { self.new.writes ≡ self.old.writes }
         ensures err { OnErr result (self.new ≡ self.old) }
     {
+        if !file.node().is(self.file.node()) {
+            self.tell(Call::Open, 0, 0, 0);
+            return Err(DeviceFailed);
+        }
         if let Err(error) = ends_at(&file, self.count) {
             self.tell(Call::Seek, 0, 0, error);
             return Err(DeviceFailed);
@@ -171,25 +186,36 @@ impl<F: BackingFile> FileBlocks<F> {
 }
 
 impl<F: LastingFile> FileBlocks<F> {
-    /// From now on a preparer flushes the file too, as it tells here.
-    pub fn share(&mut self, flushes: Arc<Flushes<F>, Global>)
-        ensures { (self.new.file ≡ self.old.file) × (self.new.count ≡ self.old.count)
-            × (self.new.tally ≡ self.old.tally) }
+    /// From now on a preparer flushes the file too, by these handles: its share of what both tell each other. None where there was no
+    /// memory for it.
+    pub fn share(
+        &mut self,
+        alloc: Global,
+        handles: Vec<Mutex<F>>,
+    ) -> Option<Arc<Flushes<F>, Global>>
+        ensures same { (self.new.file ≡ self.old.file) × (self.new.count ≡ self.old.count)
+            × (self.new.tally ≡ self.old.tally) × (self.new.writes ≡ self.old.writes) }
+        ensures shared { IfSome result (λ share. IsSomeAnd self.new.flushes (λ mine. arc_value mine ≡ arc_value share)) }
     {
-        flushes.tell(self.tally.written);
+        let flushes = Arc::new(alloc, Flushes::new(handles)).ok()?;
+        let share = Arc::try_clone(&flushes).ok()?;
+        flushes.tell(self.writes.count);
         self.flushes = Some(flushes);
+        Some(share)
     }
 }
 
-impl FileBlocks<File> {
+impl FileBlocks<SystemFile> {
     /// Opens a file for reading and writing, as long as it is.
-    pub fn open<R: Files<File = File>>(rt: &R, path: &str) -> Result<FileBlocks<File>, FileFault>
+    pub fn open<R: Files<File = File>>(
+        rt: &R,
+        path: &str,
+    ) -> Result<FileBlocks<SystemFile>, FileFault>
         ensures { IfOk result (λ d. d.tally ≡ none) }
     {
-        match File::options().read(true).write(true).open(rt, path) {
+        match SystemFile::open(rt, path) {
             Ok(file) => FileBlocks::of(file),
-            Err(e) if e.kind() == ErrorKind::NotFound => Err(FileFault::NotThere),
-            Err(_) => Err(FileFault::NotOpened),
+            Err(fault) => Err(fault),
         }
     }
 }
@@ -251,6 +277,7 @@ impl<F: BackingFile> Blocks for FileBlocks<F> {
         ensures size { self.new.count ≡ self.old.count }
         ensures file { self.new.file ≡ self.old.file }
         ensures flushes { self.new.flushes ≡ self.old.flushes }
+        ensures said { OnOk result (F.has_read (F.node self.old.file) (BLOCK_LENGTH * first) bytes.new) }
         ensures read { IsTrue F.claims → OnOk result
             (bytes.new ≡ range_bytes (run_of (F.bytes self.old.file)) first (length bytes.old / BLOCK_LENGTH)) }
         ensures failures { Counts (all_failures self.old.tally) (all_failures self.new.tally) result }
@@ -258,7 +285,7 @@ impl<F: BackingFile> Blocks for FileBlocks<F> {
             result }
         ensures failed_writes { self.new.tally.failed_writes ≡ self.old.tally.failed_writes }
         ensures lost { self.new.tally.is_lost ≡ self.old.tally.is_lost }
-        ensures written { self.new.tally.written ≡ self.old.tally.written }
+        ensures written { self.new.writes.count ≡ self.old.writes.count }
     {
         match self.file.read_at(bytes, at(first)) {
             Ok(()) => Ok(()),
@@ -272,7 +299,9 @@ impl<F: BackingFile> Blocks for FileBlocks<F> {
     fn write_run(&mut self, first: u32, bytes: &[u8]) -> Result<(), DeviceFailed>
         requires { IsRun self.old.count first (length bytes.now) }
         ensures size { self.new.count ≡ self.old.count }
+        ensures node { F.node self.new.file ≡ F.node self.old.file }
         ensures flushes { self.new.flushes ≡ self.old.flushes }
+        ensures said { OnOk result (F.has_written (F.node self.old.file) (BLOCK_LENGTH * first) bytes.now) }
         ensures done { IsTrue F.claims → OnOk result
             (run_of (F.bytes self.new.file) ≡ written (run_of (F.bytes self.old.file)) first (run_of bytes.now)) }
         ensures torn { IsTrue F.claims
@@ -284,18 +313,19 @@ impl<F: BackingFile> Blocks for FileBlocks<F> {
         ensures failed_writes { Counts (min self.old.tally.failed_writes last_count) (min self.new.tally.failed_writes last_count)
             result }
         ensures lost { self.new.tally.is_lost ≡ self.old.tally.is_lost }
-        // It has ended, well or not.
-        ensures written { self.new.tally.written ≡ min (self.old.tally.written + 1) last_count }
-        ensures rises { self.old.tally.written ≤ self.new.tally.written }
+        // It has ended, well or not; or the file was not asked for it.
+        ensures written { (self.new.writes.count ≡ min (self.old.writes.count + 1) last_count)
+            ⊎ ((self.new.writes.count ≡ self.old.writes.count) × (self.new.file ≡ self.old.file)) }
+        ensures counted { OnOk result (self.new.writes.count ≡ min (self.old.writes.count + 1) last_count) }
+        ensures rises { self.old.writes.count ≤ self.new.writes.count }
     {
         // A write behind the end would make the file longer, with zeros in place of what was there.
         if let Err(error) = ends_at(&self.file, self.count) {
             self.tell(Call::Seek, first, bytes.len(), error);
-            self.tally.written = one_more(self.tally.written, &self.flushes);
             return failed(&mut self.tally.failed_writes);
         }
-        let end = self.file.write_at(bytes, at(first));
-        self.tally.written = one_more(self.tally.written, &self.flushes);
+        let end = self.file.write_at(bytes, at(first), self.writes.count);
+        self.writes = one_more(self.writes.count, &self.flushes);
         match end {
             Ok(()) => Ok(()),
             Err(error) => {
@@ -307,6 +337,7 @@ impl<F: BackingFile> Blocks for FileBlocks<F> {
 
     fn flush(&mut self) -> Result<(), DeviceFailed>
         ensures size { self.new.count ≡ self.old.count }
+        ensures node { F.node self.new.file ≡ F.node self.old.file }
         ensures flushes { self.new.flushes ≡ self.old.flushes }
         ensures bytes { IsTrue F.claims → F.bytes self.new.file ≡ F.bytes self.old.file }
         ensures durable { IsTrue F.claims → OnOk result (Only (run_of (F.bytes self.old.file)) (F.may_hold self.new.file)) }
@@ -317,8 +348,8 @@ impl<F: BackingFile> Blocks for FileBlocks<F> {
             result }
         ensures lost { self.old.tally.is_lost ≡ true → IsErr result }
         ensures loses { OnErr result (self.new.tally.is_lost ≡ true) }
-        ensures written { self.new.tally.written ≡ self.old.tally.written }
-        ensures lasts { OnOk result (IsSettled F.lasts self.old.tally.written) }
+        ensures written { self.new.writes.count ≡ self.old.writes.count }
+        ensures lasts { OnOk result (IsSettled (F.lasts (F.node self.old.file)) self.old.writes.count) }
     {
         if !self.tally.is_lost && self.make_last().is_ok() {
             return Ok(());
@@ -331,6 +362,10 @@ impl<F: BackingFile> Blocks for FileBlocks<F> {
     }
 }
 
+impl<F: BackingFile> OnDisk for FileBlocks<F> {
+    ghost disk = { λ d. F.node d.file };
+}
+
 // The place of a block in its file.
 fn at(first: u32) -> u64
     ensures { result ≡ BLOCK_LENGTH * first }
@@ -339,14 +374,15 @@ fn at(first: u32) -> u64
 }
 
 // How many writes have ended behind one more, well or not.
-fn one_more<F: BackingFile>(written: u64, flushes: &Option<Arc<Flushes<F>, Global>>) -> u64
-    ensures { result ≡ min (written + 1) last_count }
+fn one_more<F: BackingFile>(written: u64, flushes: &Option<Arc<Flushes<F>, Global>>) -> Writes<F>
+    requires { IsTrue (F.ended (min (written + 1) last_count)) }
+    ensures { result.count ≡ min (written + 1) last_count }
 {
     let written = written.saturating_add(1);
     if let Some(flushes) = flushes {
         flushes.tell(written);
     }
-    written
+    Writes::of(written)
 }
 
 // Counts a call that failed.

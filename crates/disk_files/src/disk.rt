@@ -2,8 +2,11 @@
 ghost use Rattle.std.specs.Prelude.{◌≡◌, IfOk};
 ghost use Rattle.disk_files.specs.Tally.{none};
 
-use crate::opener::{Node, node_of};
+use crate::backing::BackingFile;
+use crate::node::node_of;
+use crate::system::SystemFile;
 use crate::{DiskFault, FileBlocks, FileFault, FileOpener};
+use preparer::Node;
 use std::alloc::Global;
 use std::fs::{File, TryLockError};
 use std::rt::Files;
@@ -41,7 +44,7 @@ impl DiskLock {
 /// long as the unit does.
 #[derive(Drop)]
 pub struct Disk<R: Files<File = File> + Drop> {
-    pub blocks: FileBlocks<File>,
+    pub blocks: FileBlocks<SystemFile>,
     pub opener: FileOpener<R>,
     pub lock: DiskLock,
 }
@@ -63,10 +66,10 @@ pub fn open_disk<R: Files<File = File> + Drop>(
         Err(fault) => return Err(fault),
     };
     // Another file may have taken the name in between.
-    if node_of(blocks.file()) != Some(lock.node) {
+    if !blocks.file().node().is(lock.node) {
         return Err(DiskFault::File(FileFault::NotOpened));
     }
-    let Ok(opener) = FileOpener::new(rt, alloc, path, lock.node) else {
+    let Ok(opener) = FileOpener::new(rt, alloc, path) else {
         return Err(DiskFault::NoMemory);
     };
     Ok(Disk {

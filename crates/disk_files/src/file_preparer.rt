@@ -1,14 +1,16 @@
 //! A file made ready for the calls of its device.
-ghost use Rattle.std.specs.Prelude.{◌≡◌, ℕ, true};
+ghost use Rattle.std.specs.Prelude.{◌≡◌, ℕ, true, IfSome, IsSomeAnd};
+ghost use Rattle.std.specs.Arc.{arc_value};
 
 use crate::FileBlocks;
+use crate::backing::BackingFile;
 use crate::flushes::{FlushFault, Flushes, LastingFile};
-use crate::opener::node_of;
+use crate::system::SystemFile;
 use crate::voice::Voice;
 use block_file::BLOCK_LENGTH;
 use event_log::Call;
 use libc::{POSIX_FADV_WILLNEED, posix_fadvise};
-use preparer::Preparer;
+use preparer::{Node, Preparer};
 use std::alloc::Global;
 use std::fs::File;
 use std::os::fd::AsRawFd;
@@ -58,8 +60,10 @@ const LOOKED_AT: u64 = 61;
 /// While the disk counts as fast, as where the system has the file in memory, it only looks now and then whether a read takes time.
 pub struct FilePreparer<R: Clock + Wait + Drop, F: LastingFile> {
     rt: R,
+    // Which file it is of.
+    node: Node,
     // None where there was no handle for it: then nothing is prepared.
-    file: Option<File>,
+    file: Option<SystemFile>,
     // What tells of its flushes that failed.
     voice: Option<Voice>,
     // Its flushes; none where it makes none.
@@ -72,6 +76,7 @@ impl<R: Clock + Wait + Drop, F: LastingFile + Drop> Drop for FilePreparer<R, F> 
     fn drop(self) {
         let Self {
             rt: _,
+            node: _,
             file: _,
             voice: _,
             flushes: _,
@@ -80,23 +85,27 @@ impl<R: Clock + Wait + Drop, F: LastingFile + Drop> Drop for FilePreparer<R, F> 
     }
 }
 
-impl<R: Clock + Wait + Files<File = File> + Drop> FilePreparer<R, File> {
+impl<R: Clock + Wait + Files<File = File> + Drop> FilePreparer<R, SystemFile> {
     /// The preparer of a device, whose file has this name. Where the name is another file's by now, or has none, it does nothing;
     /// where there is no memory, or no handle more, it makes no flush.
     pub fn open(
         rt: R,
         alloc: Global,
         path: &str,
-        blocks: &mut FileBlocks<File>,
+        blocks: &mut FileBlocks<SystemFile>,
         voice: Option<Voice>,
-    ) -> FilePreparer<R, File>
-        ensures { (blocks.new.file ≡ blocks.old.file) × (blocks.new.count ≡ blocks.old.count)
-            × (blocks.new.tally ≡ blocks.old.tally) }
+    ) -> FilePreparer<R, SystemFile>
+        ensures same { (blocks.new.file ≡ blocks.old.file) × (blocks.new.count ≡ blocks.old.count)
+            × (blocks.new.tally ≡ blocks.old.tally) × (blocks.new.writes ≡ blocks.old.writes) }
+        ensures node { result.node ≡ blocks.old.file.node }
+        ensures shared { IfSome result.flushes (λ share. IsSomeAnd blocks.new.flushes (λ theirs. arc_value theirs ≡ arc_value share)) }
     {
-        let file = again(&rt, path, blocks.file());
+        let node = blocks.file().node();
+        let file = again(&rt, path, node);
         let flushes = shared(alloc, &rt, path, blocks);
         FilePreparer {
             rt,
+            node,
             file,
             voice,
             flushes,
@@ -105,10 +114,12 @@ impl<R: Clock + Wait + Files<File = File> + Drop> FilePreparer<R, File> {
     }
 }
 
-// A handle more on a file that has this name, unless the name is another's by now.
-fn again<R: Files<File = File>>(rt: &R, path: &str, file: &File) -> Option<File> {
-    match File::options().read(true).write(true).open(rt, path) {
-        Ok(again) if node_of(&again) == node_of(file) => Some(again),
+// A handle more on this file, which has this name, unless the name is another's by now.
+fn again<R: Files<File = File>>(rt: &R, path: &str, node: Node) -> Option<SystemFile>
+    ensures { IfSome result (λ file. file.node ≡ node) }
+{
+    match SystemFile::open(rt, path) {
+        Ok(again) if again.node().is(node) => Some(again),
         _ => None,
     }
 }
@@ -118,11 +129,11 @@ fn handles<R: Files<File = File>>(
     alloc: Global,
     rt: &R,
     path: &str,
-    file: &File,
-) -> Vec<Mutex<File>> {
+    node: Node,
+) -> Vec<Mutex<SystemFile>> {
     let mut handles = Vec::new(alloc);
     for _ in 0..AT_A_TIME {
-        if let Some(handle) = again(rt, path, file) {
+        if let Some(handle) = again(rt, path, node) {
             let _ = handles.push(Mutex::new(handle));
         }
     }
@@ -134,23 +145,17 @@ fn shared<R: Files<File = File>>(
     alloc: Global,
     rt: &R,
     path: &str,
-    blocks: &mut FileBlocks<File>,
-) -> Option<Arc<Flushes<File>, Global>>
-    ensures { (blocks.new.file ≡ blocks.old.file) × (blocks.new.count ≡ blocks.old.count)
-        × (blocks.new.tally ≡ blocks.old.tally) }
+    blocks: &mut FileBlocks<SystemFile>,
+) -> Option<Arc<Flushes<SystemFile>, Global>>
+    ensures same { (blocks.new.file ≡ blocks.old.file) × (blocks.new.count ≡ blocks.old.count)
+        × (blocks.new.tally ≡ blocks.old.tally) × (blocks.new.writes ≡ blocks.old.writes) }
+    ensures shared { IfSome result (λ share. IsSomeAnd blocks.new.flushes (λ theirs. arc_value theirs ≡ arc_value share)) }
 {
-    let handles = handles(alloc, rt, path, blocks.file());
+    let handles = handles(alloc, rt, path, blocks.file().node());
     if handles.is_empty() {
         return None;
     }
-    let Ok(flushes) = Arc::new(alloc, Flushes::new(0, handles)) else {
-        return None;
-    };
-    let Ok(mine) = Arc::try_clone(&flushes) else {
-        return None;
-    };
-    blocks.share(flushes);
-    Some(mine)
+    blocks.share(alloc, handles)
 }
 
 impl<R: Clock + Wait + Drop, F: LastingFile> FilePreparer<R, F> {
@@ -256,7 +261,9 @@ fn edges_of(first: u64, blocks: u16) -> (Option<u64>, Option<u64>) {
 impl<R: Clock + Wait + Drop, F: LastingFile> Preparer for FilePreparer<R, F> {
     ghost may_flush = { true };
 
-    ghost has_flushed = { (writes : ℕ) × F.lasts writes };
+    ghost disk = { λ p. p.node };
+
+    ghost has_flushed = { λ disk. (writes : ℕ) × F.lasts disk writes };
 
     fn is_slow(&self) -> bool {
         self.slow.load(Ordering::Relaxed) >= IN_A_ROW
@@ -267,7 +274,7 @@ impl<R: Clock + Wait + Drop, F: LastingFile> Preparer for FilePreparer<R, F> {
             return;
         }
         if let (Some(file), Some((at, length))) = (&self.file, place_of(first, blocks)) {
-            ask(file, at, length);
+            ask(file.handle(), at, length);
         }
     }
 
@@ -293,7 +300,7 @@ impl<R: Clock + Wait + Drop, F: LastingFile> Preparer for FilePreparer<R, F> {
             } else {
                 length.min(LEAST)
             };
-            self.fetch(file, at, length);
+            self.fetch(file.handle(), at, length);
         }
     }
 
@@ -315,7 +322,7 @@ impl<R: Clock + Wait + Drop, F: LastingFile> Preparer for FilePreparer<R, F> {
         let Some(flushes) = &self.flushes else {
             return false;
         };
-        match flushes.flush(&self.rt) {
+        match flushes.flush(&self.rt, self.node) {
             Ok(()) => true,
             Err(fault) => {
                 self.tell(fault);

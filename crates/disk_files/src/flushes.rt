@@ -1,12 +1,11 @@
 //! Flushes of a file beside its device.
-ghost use Rattle.std.specs.Prelude.{◌≡◌, ℕ, IsTrue, OnOk, false, refl};
+ghost use Rattle.std.specs.Prelude.{◌≡◌, ℕ, IsTrue, OnOk, false};
 ghost use Rattle.disk_files.specs.Lasting.{IsSettled};
 
-use crate::backing::BackingFile;
-use crate::voice::number_of;
-use std::fs::File;
+use crate::backing::{BackingFile, Counted};
+use preparer::Node;
 use std::marker::{Model, PhantomData};
-use std::sync::atomic::{AtomicBool, AtomicU64, AtomicUsize, Ordering};
+use std::sync::atomic::{AtomicBool, AtomicIn, AtomicUsize, Ordering, Rule};
 use std::sync::{Mutex, Wait};
 
 /// A file of which threads may flush several handles at one time. What one of them has made last is not seen in the others, so
@@ -15,57 +14,57 @@ pub trait LastingFile: BackingFile {
     /// Makes all that was written last, where so many writes of the file's device have ended; else the error of the system, 0
     /// where it told none.
     fn make_last(&self, writes: u64) -> Result<(), u32>
-        ensures { OnOk result (Self.lasts writes) };
+        requires { IsTrue (Self.ended writes) }
+        ensures { OnOk result (Self.lasts (Self.node self.now) writes) };
 
     /// It claims nothing.
     ghost unclaimed: { Self.claims ≡ false };
 }
 
-impl LastingFile for File {
-    ghost unclaimed = { refl };
+// Of how many writes it is known that they have ended.
+struct Ended<F: Counted>(PhantomData<F>);
 
-    fn make_last(&self, _writes: u64) -> Result<(), u32> {
-        match self.sync_data() {
-            Ok(()) => Ok(()),
-            Err(e) => Err(number_of(&e)),
-        }
-    }
+impl<F: Counted> Rule for Ended<F> {
+    ghost use Rattle.std.specs.Prelude.{IsTrue};
+
+    ghost invariant = { λ writes. IsTrue (F.ended writes) };
 }
 
-// How many writes of the device had ended when the last flush began that is done, of those beside the device.
+// How many writes of the device had ended when the last flush of this file began that is done, of those beside the device.
 #[derive(Drop)]
 struct Settled<F: BackingFile> {
-    writes: Option<u64>,
+    last: Option<(Node, u64)>,
     of: PhantomData<F>,
 }
 
 impl<F: BackingFile> Model for Settled<F> {
     ghost use Rattle.std.specs.Prelude.{Option, ℕ, IfSome};
+    ghost use Rattle.preparer.specs.declared.Node.{Node};
 
-    ghost Value = { Option ℕ };
+    ghost Value = { Option (Node × ℕ) };
 
-    ghost view = { λ s. s.writes };
+    ghost view = { λ s. s.last };
 
-    ghost invariant = { λ s. IfSome s.writes F.lasts };
+    ghost invariant = { λ s. IfSome s.last (λ last. F.lasts last.0 last.1) };
 }
 
 impl<F: BackingFile> Settled<F> {
-    // Whether so many writes are among those.
-    fn has(&self, writes: u64) -> bool
-        ensures { IsTrue result → IsSettled F.lasts writes }
+    // Whether so many writes of this file are among those.
+    fn has(&self, node: Node, writes: u64) -> bool
+        ensures { IsTrue result → IsSettled (F.lasts node) writes }
     {
-        match self.writes {
-            Some(settled) => writes <= settled,
+        match self.last {
+            Some((settled, count)) => settled.is(node) && writes <= count,
             None => false,
         }
     }
 
-    // A flush that began behind so many writes is done.
-    fn put(&mut self, writes: u64)
-        requires { F.lasts writes }
+    // A flush of this file that began behind so many writes is done.
+    fn put(&mut self, node: Node, writes: u64)
+        requires { F.lasts node writes }
     {
-        if !self.has(writes) {
-            self.writes = Some(writes);
+        if !self.has(node, writes) {
+            self.last = Some((node, writes));
         }
     }
 }
@@ -76,7 +75,7 @@ impl<F: BackingFile> Settled<F> {
 /// Each of its handles makes one flush at a time. The system tells an error of what it could not write once by each handle: so where
 /// several flushes run by one handle, one of them would end well in place of the one that was told.
 pub struct Flushes<F: BackingFile> {
-    written: AtomicU64,
+    written: AtomicIn<Ended<F>>,
     settled: Mutex<Settled<F>>,
     is_lost: AtomicBool,
     turns: AtomicUsize,
@@ -100,17 +99,17 @@ impl<F: BackingFile + Drop> Drop for Flushes<F> {
 pub enum FlushFault {
     /// It failed by this error of the system, 0 where that told none.
     Failed(u32),
-    /// One before it had failed, or there is no handle for it.
+    /// One before it had failed, or there is no handle of the file for it.
     Lost,
 }
 
 impl<F: BackingFile> Flushes<F> {
-    /// Flushes by these handles on the file of a device of which so many writes have ended.
-    pub fn new(written: u64, handles: Vec<Mutex<F>>) -> Flushes<F> {
+    /// Flushes by these handles on the file of a device that has written nothing yet.
+    pub fn new(handles: Vec<Mutex<F>>) -> Flushes<F> {
         Flushes {
-            written: AtomicU64::new(written),
+            written: AtomicIn::new(0),
             settled: Mutex::new(Settled {
-                writes: None,
+                last: None,
                 of: PhantomData,
             }),
             is_lost: AtomicBool::new(false),
@@ -120,7 +119,9 @@ impl<F: BackingFile> Flushes<F> {
     }
 
     /// So many writes of the device have ended.
-    pub fn tell(&self, written: u64) {
+    pub fn tell(&self, written: u64)
+        requires { IsTrue (F.ended written) }
+    {
         self.written.store(written, Ordering::Release);
     }
 
@@ -134,21 +135,21 @@ impl<F: BackingFile> Flushes<F> {
         self.is_lost.load(Ordering::Acquire)
     }
 
-    /// Whether a flush beside the device has made the first so many writes last, as far as is seen without waiting.
-    pub fn covers(&self, writes: u64) -> bool
-        ensures { IsTrue result → IsSettled F.lasts writes }
+    /// Whether a flush beside the device has made the first so many writes of this file last, as far as is seen without waiting.
+    pub fn covers(&self, node: Node, writes: u64) -> bool
+        ensures { IsTrue result → IsSettled (F.lasts node) writes }
     {
         match self.settled.try_lock() {
-            Some(settled) => settled.has(writes),
+            Some(settled) => settled.has(node, writes),
             None => false,
         }
     }
 }
 
 impl<F: LastingFile> Flushes<F> {
-    /// Makes last what the writes left that have ended by now. A failure is remembered, and told by each later flush.
-    pub fn flush<R: Wait>(&self, rt: &R) -> Result<(), FlushFault>
-        ensures { OnOk result ((writes : ℕ) × F.lasts writes) }
+    /// Makes last what the writes of this file left that have ended by now. A failure is remembered, and told by each later flush.
+    pub fn flush<R: Wait>(&self, rt: &R, node: Node) -> Result<(), FlushFault>
+        ensures { OnOk result ((writes : ℕ) × F.lasts node writes) }
     {
         if self.handles.is_empty() {
             return Err(FlushFault::Lost);
@@ -160,15 +161,19 @@ impl<F: LastingFile> Flushes<F> {
         if self.is_lost() {
             return Err(FlushFault::Lost);
         }
-        if self.settled.lock(rt).has(wanted) {
+        if self.settled.lock(rt).has(node, wanted) {
             return Ok(());
+        }
+        // A handle of another file flushes nothing here.
+        if !handle.node().is(node) {
+            return Err(FlushFault::Lost);
         }
         let writes = self.written.load(Ordering::Acquire);
         match handle.make_last(writes) {
             // One that ran beside it may have had its blocks in hand.
             Ok(()) if self.is_lost() => Err(FlushFault::Lost),
             Ok(()) => {
-                self.settled.lock(rt).put(writes);
+                self.settled.lock(rt).put(node, writes);
                 Ok(())
             }
             Err(error) => {

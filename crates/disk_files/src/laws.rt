@@ -3,7 +3,7 @@ ghost use Rattle.std.specs.Prelude.{◌≡◌, ◌<◌, ◌*◌, ℕ, take, drop
 ghost use Rattle.block_file.specs.Disk.{block_at};
 ghost use Rattle.block_file.specs.Failures.{last_count};
 
-use crate::{BackingFile, FileBlocks, FileOpener};
+use crate::{BackingFile, FileBlocks, FileOpener, SystemFile};
 use block_file::{BLOCK_LENGTH, Blocks, Opener};
 use std::fs::File;
 use std::rt::Files;
@@ -16,9 +16,9 @@ pub fn a_device_claims_what_its_file_claims<F: BackingFile>()
 
 /// A file of the system claims nothing of its contents, nor of a crash, and its opener nothing of the device that it opens.
 pub fn files_claim_nothing<R: Files<File = File> + Drop>()
-    ensures now { ⟦<FileBlocks<File> as Blocks>⟧.claims ≡ false }
-    ensures moments { ⟦<FileBlocks<File> as Blocks>⟧.claims_moments ≡ false }
-    ensures opened { ⟦<FileOpener<R> as Opener<FileBlocks<File>>>⟧.claims ≡ false }
+    ensures now { ⟦<FileBlocks<SystemFile> as Blocks>⟧.claims ≡ false }
+    ensures moments { ⟦<FileBlocks<SystemFile> as Blocks>⟧.claims_moments ≡ false }
+    ensures opened { ⟦<FileOpener<R> as Opener<FileBlocks<SystemFile>>>⟧.claims ≡ false }
 {}
 
 /// Where a file claims its bytes, each block of its device is the 512 bytes from 512 times its number on.
@@ -28,20 +28,21 @@ pub fn a_block_lies_at_its_place<F: BackingFile>(device: &FileBlocks<F>)
         ≡ take BLOCK_LENGTH (drop (BLOCK_LENGTH * k) (F.bytes device.now.file)) }
 {}
 
-/// A disk that was opened anew was opened once more: no open can be left out.
+/// A disk that was opened anew was opened once more, by a handle of the same file: no open can be left out.
 pub fn an_open_is_counted<R: Files<File = File> + Drop>(
-    old: &FileBlocks<File>,
-    new: &FileBlocks<File>,
+    old: &FileBlocks<SystemFile>,
+    new: &FileBlocks<SystemFile>,
 )
-    ensures { ⟦<FileOpener<R> as Opener<FileBlocks<File>>>⟧.opened old.now new.now → old.now.tally.opened < last_count
+    ensures counted { ⟦<FileOpener<R> as Opener<FileBlocks<SystemFile>>>⟧.opened old.now new.now → old.now.tally.opened < last_count
         → old.now.tally.opened < new.now.tally.opened }
+    ensures same { ⟦<FileOpener<R> as Opener<FileBlocks<SystemFile>>>⟧.opened old.now new.now → new.now.file.node ≡ old.now.file.node }
 {}
 
 /// It has not forgotten that a flush failed: each later one fails too.
 pub fn an_open_forgets_no_failed_flush<R: Files<File = File> + Drop>(
-    old: &FileBlocks<File>,
-    new: &FileBlocks<File>,
+    old: &FileBlocks<SystemFile>,
+    new: &FileBlocks<SystemFile>,
 )
-    ensures { ⟦<FileOpener<R> as Opener<FileBlocks<File>>>⟧.opened old.now new.now → old.now.tally.is_lost ≡ true
+    ensures { ⟦<FileOpener<R> as Opener<FileBlocks<SystemFile>>>⟧.opened old.now new.now → old.now.tally.is_lost ≡ true
         → new.now.tally.is_lost ≡ true }
 {}

@@ -1,6 +1,6 @@
 //! Disks and registration files that are files. What a file of the system holds cannot be said: of its device it is proved
-//! that it keeps its number of blocks, and that a call fails just where its count of failures rises. The device of a file
-//! that claims its bytes, as one in memory does, claims its blocks.
+//! that it keeps its number of blocks, that a call fails just where its count of failures rises, and which calls were made of the
+//! file. The device of a file that claims its bytes, as one in memory does, claims its blocks.
 #![tactic(auto)]
 
 mod backing;
@@ -10,12 +10,15 @@ mod fault;
 mod file_preparer;
 mod flushes;
 pub mod laws;
+mod node;
 mod opener;
 mod registrations;
+mod system;
 mod tally;
 mod voice;
+mod writes;
 
-pub use backing::BackingFile;
+pub use backing::{BackingFile, Counted};
 pub use blocks::{FileBlocks, blocks_in};
 pub use disk::{Disk, DiskLock, open_disk};
 pub use fault::{DiskFault, FileFault, RegistrationsFault};
@@ -23,5 +26,7 @@ pub use file_preparer::FilePreparer;
 pub use flushes::{FlushFault, Flushes, LastingFile};
 pub use opener::FileOpener;
 pub use registrations::open_registrations;
+pub use system::SystemFile;
 pub use tally::Tally;
 pub use voice::Voice;
+pub use writes::Writes;

@@ -5,12 +5,12 @@ ghost use Rattle.block_file.specs.Failures.{last_count};
 ghost use Rattle.disk_files.specs.Tally.{once_more_opened};
 
 use crate::FileBlocks;
+use crate::system::SystemFile;
 use crate::voice::number_of;
 use block_file::{DeviceFailed, Opener};
 use event_log::Call;
 use std::alloc::{AllocError, Global};
 use std::fs::{File, OpenFile};
-use std::os::unix::fs::MetadataExt;
 use std::rt::Files;
 
 /// Opens the file of a disk again by its name, for the other controller.
@@ -21,48 +21,24 @@ use std::rt::Files;
 pub struct FileOpener<R: Files<File = File> + Drop> {
     rt: R,
     path: String,
-    node: Node,
     failed: u64,
-}
-
-/// What a file is by, whatever its names: its device and its number there.
-#[derive(Clone, Copy, PartialEq, Eq)]
-pub(crate) struct Node {
-    device: u64,
-    number: u64,
-}
-
-/// What an open file is.
-pub(crate) fn node_of(file: &File) -> Option<Node> {
-    match file.metadata() {
-        Ok(metadata) => Some(Node {
-            device: metadata.dev(),
-            number: metadata.ino(),
-        }),
-        Err(_) => None,
-    }
 }
 
 impl<R: Files<File = File> + Drop> FileOpener<R> {
     /// The opener of a file that has this name.
-    pub(crate) fn new(
-        rt: R,
-        alloc: Global,
-        path: &str,
-        node: Node,
-    ) -> Result<FileOpener<R>, AllocError> {
+    pub(crate) fn new(rt: R, alloc: Global, path: &str) -> Result<FileOpener<R>, AllocError> {
         let path = String::from_str(alloc, path)?;
         Ok(FileOpener {
             rt,
             path,
-            node,
             failed: 0,
         })
     }
 
     // Opens the file again and puts its handle into the device.
-    fn renew(&self, device: &mut FileBlocks<File>) -> Result<(), DeviceFailed>
+    fn renew(&self, device: &mut FileBlocks<SystemFile>) -> Result<(), DeviceFailed>
         ensures ok { OnOk result (device.new.tally ≡ once_more_opened device.old.tally) }
+        ensures node { device.new.file.node ≡ device.old.file.node }
         ensures size { device.new.count ≡ device.old.count }
         ensures err { OnErr result (device.new ≡ device.old) }
     {
@@ -77,24 +53,24 @@ impl<R: Files<File = File> + Drop> FileOpener<R> {
                 return Err(DeviceFailed);
             }
         };
-        if node_of(&file) != Some(self.node) {
+        let Some(file) = SystemFile::of(file) else {
             device.tell(Call::Open, 0, 0, 0);
             return Err(DeviceFailed);
-        }
+        };
         device.renew(file)
     }
 }
 
-impl<R: Files<File = File> + Drop> Opener<FileBlocks<File>> for FileOpener<R> {
+impl<R: Files<File = File> + Drop> Opener<FileBlocks<SystemFile>> for FileOpener<R> {
     ghost claims = { false };
 
-    ghost opened = { λ old new. new.tally ≡ once_more_opened old.tally };
+    ghost opened = { λ old new. (new.tally ≡ once_more_opened old.tally) × (new.file.node ≡ old.file.node) };
 
     ghost opens_failed = { λ o. min o.failed last_count };
 
     ghost bounded = { λ o. Prim.omega arith };
 
-    fn open(&mut self, device: &mut FileBlocks<File>) -> Result<(), DeviceFailed> {
+    fn open(&mut self, device: &mut FileBlocks<SystemFile>) -> Result<(), DeviceFailed> {
         let Ok(()) = self.renew(device) else {
             self.failed = self.failed.saturating_add(1);
             return Err(DeviceFailed);

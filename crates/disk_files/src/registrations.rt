@@ -1,5 +1,5 @@
 //! The registration file of a unit.
-use crate::{FileBlocks, FileFault, RegistrationsFault, Voice};
+use crate::{FileBlocks, FileFault, RegistrationsFault, SystemFile, Voice};
 use aptpl_file::{FILE_BLOCKS, OpenFault, RegFile};
 use block_file::{BLOCK_LENGTH, Blocks};
 use registrants::Record;
@@ -17,7 +17,7 @@ pub fn open_registrations<R: Files<File = File>>(
     alloc: Global,
     disk: &str,
     voice: Option<Voice>,
-) -> Result<(RegFile<FileBlocks<File>>, Record), RegistrationsFault> {
+) -> Result<(RegFile<FileBlocks<SystemFile>>, Record), RegistrationsFault> {
     if is_forgotten(rt, disk) {
         return Err(RegistrationsFault::Forgotten);
     }
@@ -71,7 +71,7 @@ fn opened_or_made<R: Files<File = File>>(
     rt: &R,
     alloc: Global,
     path: &str,
-) -> Result<FileBlocks<File>, RegistrationsFault> {
+) -> Result<FileBlocks<SystemFile>, RegistrationsFault> {
     match FileBlocks::open(rt, path) {
         Ok(blocks) => return Ok(blocks),
         Err(FileFault::NotThere) => {}
@@ -112,6 +112,9 @@ fn is_formatted<R: Files<File = File>>(rt: &R, new: &str) -> bool {
     {
         return false;
     }
+    let Some(file) = SystemFile::of(file) else {
+        return false;
+    };
     let Ok(mut blocks) = FileBlocks::of(file) else {
         return false;
     };
@@ -119,14 +122,14 @@ fn is_formatted<R: Files<File = File>>(rt: &R, new: &str) -> bool {
         return false;
     }
     match RegFile::format(blocks) {
-        Ok(file) => file.close().into_file().sync_all().is_ok(),
+        Ok(file) => file.close().into_file().handle().sync_all().is_ok(),
         Err(_) => false,
     }
 }
 
 // Whether all blocks were written and flushed, so that the file system has them, however full it becomes: a save that finds no
 // room would be a fence that cannot be had.
-fn is_filled(blocks: &mut FileBlocks<File>) -> bool {
+fn is_filled(blocks: &mut FileBlocks<SystemFile>) -> bool {
     for block in 0..blocks.count() {
         if block >= blocks.count() || blocks.write_run(block, &[0; BLOCK_LENGTH]).is_err() {
             return false;

@@ -5,8 +5,6 @@
 pub struct Tally {
     /// How often it was opened anew.
     pub opened: u64,
-    /// How many writes have ended, well or not.
-    pub written: u64,
     pub failed_reads: u64,
     /// Of writes and of flushes.
     pub failed_writes: u64,
@@ -18,7 +16,6 @@ impl Tally {
     /// Of a device of which no call was made yet.
     pub(crate) const NONE: Tally = Tally {
         opened: 0,
-        written: 0,
         failed_reads: 0,
         failed_writes: 0,
         is_lost: false,

@@ -6,15 +6,43 @@
 //! does the same and waits longer.
 #![tactic(auto)]
 
-ghost use Rattle.std.specs.Prelude.{Bool, IsTrue, false};
+ghost use Rattle.std.specs.Prelude.{◌≡◌, Bool, IsTrue, false};
+
+/// What a file is by, whatever its names: the number of its file system, and its own there.
+#[derive(Clone, Copy, PartialEq, Eq)]
+pub struct Node {
+    pub device: u64,
+    pub number: u64,
+}
+
+impl Node {
+    /// Whether it is the same file.
+    pub fn is(self, other: Node) -> bool
+        ensures { IsTrue result → self ≡ other }
+    {
+        self.device == other.device && self.number == other.number
+    }
+}
+
+/// A device that is over a file.
+pub trait OnDisk {
+    ghost use Rattle.preparer.specs.declared.Node.{Node};
+
+    ghost disk: { Self → Node };
+}
 
 /// Makes a disk ready for calls of its device, and flushes it, beside the device.
 pub trait Preparer: Drop {
+    ghost use Rattle.preparer.specs.declared.Node.{Node};
+
     /// Whether it ever flushes.
     ghost may_flush: { Bool };
 
-    /// A flush of its disk is done. Nothing but a flush says so.
-    ghost has_flushed: { Type 0 };
+    /// Which file its disk is.
+    ghost disk: { Self → Node };
+
+    /// A flush of this disk is done. Nothing but a flush says so.
+    ghost has_flushed: { Node → Type 0 };
 
     /// Whether the disk has been slow of late: only then does it serve to tell of calls that are to come.
     fn is_slow(&self) -> bool;
@@ -42,7 +70,7 @@ pub trait Preparer: Drop {
 
     /// Makes all last that was written until now. False: this flush has failed, or one before it.
     fn flush(&self) -> bool
-        ensures { IsTrue result → has_flushed };
+        ensures { IsTrue result → has_flushed (disk self.now) };
 }
 
 /// The preparer of a disk that takes no time, as one in memory: it does nothing.
@@ -52,7 +80,9 @@ pub struct NoPreparer;
 impl Preparer for NoPreparer {
     ghost may_flush = { false };
 
-    ghost has_flushed = { ⊥ };
+    ghost disk = { λ p. record { device = 0; number = 0 } };
+
+    ghost has_flushed = { λ disk. ⊥ };
 
     fn is_slow(&self) -> bool {
         false

@@ -1,4 +1,4 @@
-use Rattle.disk_files.specs.BackingLaws.{run_is_written, run_is_torn, run_adds}
+use Rattle.disk_files.specs.BackingLaws.{run_is_written, run_is_torn, run_adds, said_at}
 use Rattle.disk_files.proofs.blocks.FileBlocksBlocks.write_run.Goals as goal
 
 pub returns-in-Ok-clause-done : goal.returns-in-Ok-clause-done
@@ -32,3 +32,8 @@ returns-in-Err-end-clause-crash g c claims =
     run_adds d.count (g.F.BackingFile.bytes d.file) (d.whole claims) c.args.first c.at.result c.at.ensures
     c.args.bytes.now c.requires _ _
     (λ k lt. g.met.F.BackingFile.is_outcome d.file k claims lt) (c.in-Err-end.ensures.crash claims)
+
+pub returns-in-Ok-clause-said : goal.returns-in-Ok-clause-said
+returns-in-Ok-clause-said g c =
+    let F = g.F.BackingFile in
+    said_at (F.has_written (F.node c.args.self.now.file)) _ _ _ c.at.ensures c.in-Ok.ensures.said

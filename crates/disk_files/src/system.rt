@@ -1,0 +1,120 @@
+//! A file of the system: the calls that reach it.
+//!
+//! What is said of these calls over the program's own type is said here alone: no other proof opens the words of `specs/System`. That each
+//! is the call of the system that it says, by its offset and its bytes, no contract can show. Tests call each.
+ghost use Rattle.std.specs.Prelude.{false, [], refl, OnOk};
+ghost use Rattle.disk_files.specs.System.{has_read, has_written, ended, lasts, none_has_ended};
+
+use crate::backing::{BackingFile, Counted};
+use crate::fault::FileFault;
+use crate::flushes::LastingFile;
+use crate::node::node_of;
+use crate::voice::number_of;
+use preparer::Node;
+use std::fs::{File, OpenFile};
+use std::io::{ErrorKind, Seek, SeekFrom};
+use std::os::unix::fs::FileExt;
+use std::rt::Files;
+
+/// A file of the system, through one handle that reads and writes.
+#[derive(Drop)]
+pub struct SystemFile {
+    handle: File,
+    node: Node,
+}
+
+impl SystemFile {
+    /// The file of a handle; None where the system does not tell which file it is.
+    pub fn of(handle: File) -> Option<SystemFile> {
+        let node = node_of(&handle)?;
+        Some(SystemFile { handle, node })
+    }
+
+    /// Opens the file of this name for reading and writing.
+    pub fn open<R: Files<File = File>>(rt: &R, path: &str) -> Result<SystemFile, FileFault> {
+        match File::options().read(true).write(true).open(rt, path) {
+            Ok(handle) => SystemFile::of(handle).ok_or(FileFault::NotOpened),
+            Err(e) if e.kind() == ErrorKind::NotFound => Err(FileFault::NotThere),
+            Err(_) => Err(FileFault::NotOpened),
+        }
+    }
+
+    /// The handle.
+    pub fn handle(&self) -> &File {
+        &self.handle
+    }
+
+    // Has the system flush the file, of whose device so many writes have ended.
+    fn sync(&self, writes: u64) -> Result<(), u32>
+        ensures { OnOk result (lasts self.now.node writes) }
+    {
+        let _ = writes;
+        match self.handle.sync_data() {
+            Ok(()) => Ok(()),
+            Err(e) => Err(number_of(&e)),
+        }
+    }
+}
+
+impl Counted for SystemFile {
+    ghost ended = { ended };
+}
+
+impl BackingFile for SystemFile {
+    ghost claims = { false };
+
+    ghost bytes = { λ f. [] };
+
+    ghost may_hold = { λ f k value. Unit {0} };
+
+    ghost node = { λ f. f.node };
+
+    ghost has_read = { has_read };
+
+    ghost has_written = { has_written };
+
+    ghost lasts = { lasts };
+
+    ghost is_outcome = { λ f k h lt. tt };
+
+    ghost none_has_ended = { none_has_ended };
+
+    fn node(&self) -> Node {
+        self.node
+    }
+
+    // A block device has an end, and no length.
+    fn end(&self) -> Result<u64, u32> {
+        let mut handle = &self.handle;
+        match handle.seek(SeekFrom::End(0)) {
+            Ok(end) => Ok(end),
+            Err(e) => Err(number_of(&e)),
+        }
+    }
+
+    fn read_at(&self, room: &mut [u8], offset: u64) -> Result<(), u32> {
+        match self.handle.read_exact_at(room, offset) {
+            Ok(()) => Ok(()),
+            Err(e) => Err(number_of(&e)),
+        }
+    }
+
+    fn write_at(&mut self, part: &[u8], offset: u64, _writes: u64) -> Result<(), u32> {
+        match self.handle.write_all_at(part, offset) {
+            Ok(()) => Ok(()),
+            Err(e) => Err(number_of(&e)),
+        }
+    }
+
+    fn flush(&mut self, writes: u64) -> Result<(), u32> {
+        self.sync(writes)
+    }
+}
+
+impl LastingFile for SystemFile {
+    ghost unclaimed = { refl };
+
+    fn make_last(&self, writes: u64) -> Result<(), u32> {
+        self.sync(writes)
+    }
+}
