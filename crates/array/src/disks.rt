@@ -1,5 +1,5 @@
 //! The units of the array, over files.
-ghost use Rattle.std.specs.Prelude.{◌≤◌, IfOk, length};
+ghost use Rattle.std.specs.Prelude.{◌≡◌, ◌≤◌, IfOk, length, map};
 ghost use Rattle.unit_state.specs.Serials.{IsOpening};
 
 use aptpl_file::{OpenFault, RegFile};
@@ -7,10 +7,9 @@ use block_file::{Blocks, Opener};
 use command_line::{Fault, MAX_UNITS, Options};
 use disk_files::{
     Disk, DiskFault, DiskLock, FileBlocks, FileFault, FileOpener, FilePreparer, RegistrationsFault,
-    Voice, open_disk, open_registrations,
+    SystemFile, Voice, open_disk, open_registrations,
 };
 use event_log::{Event, Log, Part, Unusable};
-use portal::Prepared;
 use reservations::Record;
 use scsi_types::Place;
 use std::alloc::Global;
@@ -22,22 +21,22 @@ use unit_history::NewUnit;
 use unit_state::{Unit, laws};
 
 /// A unit over a file, with the registration file beside it.
-type FileUnit<R> = Unit<FileBlocks<File>, FileBlocks<File>, FileOpener<R>>;
+type FileUnit<R> = Unit<FileBlocks<SystemFile>, FileBlocks<SystemFile>, FileOpener<R>>;
 
-/// An array before it is served: its units, what stands before them, and the locks of their disks, for as long as it is served.
+/// An array before it is served: its units, the preparers of their disks, and the locks of these, for as long as it is served.
 #[derive(Drop)]
-pub struct OpenArray<B: Blocks, F: Blocks, O: Opener<B>, G> {
+pub struct OpenArray<B: Blocks, F: Blocks, O: Opener<B>, P> {
     pub units: Vec<NewUnit<B, F, O>>,
-    pub gate: G,
+    pub preparers: Vec<P>,
     pub locks: Vec<DiskLock>,
 }
 
 /// One over files.
 pub type FileArray<R> = OpenArray<
-    FileBlocks<File>,
-    FileBlocks<File>,
+    FileBlocks<SystemFile>,
+    FileBlocks<SystemFile>,
     FileOpener<R>,
-    Prepared<FilePreparer<R, File>>,
+    FilePreparer<R, SystemFile>,
 >;
 
 // Why a file is no device of blocks, as the log names it.
@@ -118,8 +117,11 @@ fn open_preparer<R: Files<File = File> + Clock + Wait + Clone + Drop>(
     log: &Log,
     unit: u8,
     path: &str,
-    blocks: &mut FileBlocks<File>,
-) -> Result<FilePreparer<R, File>, Fault> {
+    blocks: &mut FileBlocks<SystemFile>,
+) -> Result<FilePreparer<R, SystemFile>, Fault>
+    ensures same { blocks.new.file ≡ blocks.old.file }
+    ensures disk { IfOk result (λ preparer. preparer.node ≡ blocks.old.file.node) }
+{
     let mine = rt.clone()?;
     let voice = voice(log, unit, Part::Disk)?;
     Ok(FilePreparer::open(mine, alloc, path, blocks, Some(voice)))
@@ -132,7 +134,7 @@ fn open_record<R: Files<File = File>>(
     log: &Log,
     unit: u8,
     path: &str,
-) -> Result<(RegFile<FileBlocks<File>>, Record), Fault> {
+) -> Result<(RegFile<FileBlocks<SystemFile>>, Record), Fault> {
     let voice = voice(log, unit, Part::Registrations)?;
     match open_registrations(rt, alloc, path, Some(voice)) {
         Ok(found) => Ok(found),
@@ -151,8 +153,9 @@ fn open_unit<R: Files<File = File> + Clock + Wait + Clone + Drop>(
     log: &Log,
     place: Place,
     path: &str,
-) -> Result<(FileUnit<R>, DiskLock, FilePreparer<R, File>), Fault>
-    ensures { IfOk result (λ r. IsOpening r.0.control) }
+) -> Result<(FileUnit<R>, DiskLock, FilePreparer<R, SystemFile>), Fault>
+    ensures opening { IfOk result (λ r. IsOpening r.0.control) }
+    ensures disk { IfOk result (λ r. r.0.device.file.node ≡ r.2.node) }
 {
     let mut disk = open_blocks(rt, alloc, log, place.unit, path)?;
     let preparer = open_preparer(rt, alloc, log, place.unit, path, &mut disk.blocks)?;
@@ -162,7 +165,8 @@ fn open_unit<R: Files<File = File> + Clock + Wait + Clone + Drop>(
     Ok((unit, disk.lock, preparer))
 }
 
-/// Opens the units of the array that the words ask for, in order, each over its file. From then on no other server may have these.
+/// Opens the units of the array that the words ask for, in order, each over its file, with the preparer of that file. From then on no
+/// other server may have these.
 pub fn open<R: Files<File = File> + Clock + Wait + Clone + Drop>(
     rt: &R,
     alloc: Global,
@@ -170,7 +174,9 @@ pub fn open<R: Files<File = File> + Clock + Wait + Clone + Drop>(
     options: &Options<'_>,
 ) -> Result<FileArray<R>, Fault>
     requires { length options.now.paths.items ≤ MAX_UNITS }
-    ensures { IfOk result (λ array. length array.units.items ≤ MAX_UNITS) }
+    ensures count { IfOk result (λ array. length array.units.items ≤ MAX_UNITS) }
+    ensures disks { IfOk result (λ array.
+        map (λ new. new.unit.device.file.node) array.units.items ≡ map (λ preparer. preparer.node) array.preparers.items) }
 {
     let mut units = Vec::new(alloc);
     let mut locks = Vec::new(alloc);
@@ -190,7 +196,7 @@ pub fn open<R: Files<File = File> + Clock + Wait + Clone + Drop>(
     }
     Ok(OpenArray {
         units,
-        gate: Prepared::new(preparers),
+        preparers,
         locks,
     })
 }

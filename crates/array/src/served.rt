@@ -1,6 +1,7 @@
 //! The array as it is served.
 
 ghost use Rattle.std.specs.Prelude.{◌≤◌, length};
+ghost use Rattle.portal.specs.Disks.{AreOver};
 ghost use Rattle.unit_history.specs.Naming.{IsNamed};
 
 use crate::disks::OpenArray;
@@ -12,7 +13,10 @@ use block_file::{Blocks, Opener};
 use command_line::{Fault, MAX_UNITS, Options};
 use entry_numbers::Array as Naming;
 use event_log::{Event, Log, Resource};
-use portal::{Controllers, Gate, Server, SmallStacks, TargetDevice, listen, start_lanes};
+use portal::{
+    Controllers, Disks, Gate, Prepared, Server, SmallStacks, TargetDevice, listen, start_lanes,
+};
+use preparer::{OnDisk, Preparer};
 use scsi_types::Group;
 use std::alloc::Global;
 use std::io::{BufRead, Write};
@@ -197,13 +201,13 @@ pub fn tell_want<R: Clock>(rt: &R, log: &Log, fault: Fault) {
 
 /// Serves an array whose files are open, at the portals that the words ask for, until its console has no more lines for it or says
 /// `quit`. Behind it the last lines of the log are written, and only then another server may have the files. The names of the
-/// units are picked where it is called.
+/// units and of their disks are picked where it is called: the preparer at each place is of the file that the unit there is over.
 pub fn serve<
-    N: Naming<Opened> + Send + Sync + 'static,
-    B: Blocks + Send + Sync + 'static,
+    N: Naming<Opened> + Disks + Send + Sync + 'static,
+    B: Blocks + OnDisk + Send + Sync + 'static,
     F: Blocks + Send + Sync + 'static,
     O: Opener<B> + Send + Sync + 'static,
-    G: Gate + Drop + Send + Sync + 'static,
+    P: Preparer + Send + Sync + 'static,
     R: Threads
         + Wait
         + Clock
@@ -218,16 +222,25 @@ pub fn serve<
     rt: &R,
     alloc: Global,
     options: &Options<'_>,
-    array: OpenArray<B, F, O, G>,
+    array: OpenArray<B, F, O, P>,
     log: &Log,
     reader: I,
     writer: &mut C,
 ) -> Result<(), Fault>
     requires named { IsNamed N.book N.table N.opening B.contents array.units.items }
     requires count { length array.units.items ≤ MAX_UNITS }
+    requires disks { AreOver (λ new. B.OnDisk.disk new.unit.device) N.disk array.units.items }
+    requires prepared { AreOver P.disk N.disk array.preparers.items }
 {
-    let OpenArray { units, gate, locks } = array;
-    let ended = match serve_units::<N, B, F, O, G, R>(rt, alloc, options, units, gate, log) {
+    let OpenArray {
+        units,
+        preparers,
+        locks,
+    } = array;
+    let gate = Prepared::<P, N>::new(preparers);
+    let ended = match serve_units::<N, B, F, O, Prepared<P, N>, R>(
+        rt, alloc, options, units, gate, log,
+    ) {
         Ok(server) => {
             log.tell(rt, &Event::Ready);
             let mut operated = Operated {

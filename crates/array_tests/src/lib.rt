@@ -21,6 +21,8 @@ mod memory;
 #[cfg(test)]
 mod portals;
 #[cfg(test)]
+mod quits;
+#[cfg(test)]
 mod site;
 #[cfg(test)]
 mod texts;

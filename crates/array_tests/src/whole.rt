@@ -5,9 +5,8 @@ use crate::hosts::perform;
 use crate::site::{Site, free_site, make};
 use crate::visits::{Console, Visited, console};
 use array::{open, serve};
-use disk_files::{FileBlocks, FileOpener, FilePreparer};
+use disk_files::{FileBlocks, FileOpener, FilePreparer, SystemFile};
 use event_log::Log;
-use portal::Prepared;
 use std::alloc::Global;
 use std::fs::{self, File};
 use std::marker::Brand;
@@ -219,10 +218,10 @@ fn units_have_their_files_and_portals_their_groups(rt: HostRuntime) -> Result<()
         };
         let end = serve::<
             Brand,
-            FileBlocks<File>,
-            FileBlocks<File>,
+            FileBlocks<SystemFile>,
+            FileBlocks<SystemFile>,
             FileOpener<HostRuntime>,
-            Prepared<FilePreparer<HostRuntime, File>>,
+            FilePreparer<HostRuntime, SystemFile>,
             HostRuntime,
             Console<'_, HostRuntime>,
             Vec<u8>,

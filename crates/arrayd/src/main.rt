@@ -6,13 +6,11 @@ mod once;
 
 use array::{open, serve, tell_want};
 use command_line::Fault;
-use disk_files::{FileBlocks, FileOpener, FilePreparer};
+use disk_files::{FileBlocks, FileOpener, FilePreparer, SystemFile};
 use event_log::{Log, start};
 use log_file::LogFile;
-use portal::Prepared;
 use std::alloc::Global;
 use std::env::Env;
-use std::fs::File;
 use std::marker::Brand;
 use std::process::ExitCode;
 use std::rt::Files;
@@ -80,10 +78,10 @@ fn main(rt: HostRuntime) -> ExitCode {
     };
     let served = serve::<
         Brand,
-        FileBlocks<File>,
-        FileBlocks<File>,
+        FileBlocks<SystemFile>,
+        FileBlocks<SystemFile>,
         FileOpener<HostRuntime>,
-        Prepared<FilePreparer<HostRuntime, File>>,
+        FilePreparer<HostRuntime, SystemFile>,
         HostRuntime,
         _,
         _,

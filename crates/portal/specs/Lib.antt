@@ -1,3 +1,4 @@
+pub mod Disks
 pub mod Entries
 pub mod Handles
 pub mod Late

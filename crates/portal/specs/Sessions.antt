@@ -14,20 +14,33 @@ pub record Sayings : Type 1 where
   pub lived : ℕ → Port → Bool → Type 0
   pub left : ℕ → Type 0
 
--- what the table itself makes of them, over connections of this type: each is said of the sessions that lived at that moment
-abbrev pub of_table : (C : Type 0) → Sayings
-of_table C =
-    record {
-      entered = λ nexus kind number tsih. (old : TableValue C) × (new : TableValue C) × (connection : C)
-          × HasEntered old new (record {
-            number = number;
-            tsih = tsih;
-            port = nexus.port;
-            group = nexus.group;
-            kind = kind;
-            connection = connection;
-          });
-      refused = λ fault. (old : TableValue C) × IsCauseOf old fault;
-      lived = λ tsih port answer. (table : TableValue C) × (answer ≡ is_live table.live tsih port);
-      left = λ number. (old : TableValue C) × (new : TableValue C) × (new ≡ record old { live = without number old.live });
-    }
+-- the same of whatever table stands behind a lock, by what its calls say of it before them and behind them
+module _ {T : Type 0} (entered : T → Nexus → Kind → ℕ → ℕ → T → Type 0) (refused : T → EnterFault → Type 0)
+    (lived : T → ℕ → Port → Bool → Type 0) (left : T → ℕ → T → Type 0) where
+  abbrev pub of_table : Sayings
+  of_table =
+      record {
+        entered = λ nexus kind number tsih. (old : T) × (new : T) × entered old nexus kind number tsih new;
+        refused = λ fault. (old : T) × refused old fault;
+        lived = λ tsih port answer. (table : T) × lived table tsih port answer;
+        left = λ number. (old : T) × (new : T) × left old number new;
+      }
+
+-- what the calls of the table say
+module _ {C : Type 0} where
+  abbrev pub entered_in : TableValue C → Nexus → Kind → ℕ → ℕ → TableValue C → Type 0
+  entered_in old nexus kind number tsih new =
+      (connection : C) × HasEntered old new (record {
+        number = number;
+        tsih = tsih;
+        port = nexus.port;
+        group = nexus.group;
+        kind = kind;
+        connection = connection;
+      })
+
+  abbrev pub lived_in : TableValue C → ℕ → Port → Bool → Type 0
+  lived_in table tsih port answer = answer ≡ is_live table.live tsih port
+
+  abbrev pub left_in : TableValue C → ℕ → TableValue C → Type 0
+  left_in old number new = new ≡ record old { live = without number old.live }

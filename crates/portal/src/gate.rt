@@ -1,11 +1,13 @@
 //! What stands before a unit.
-ghost use Rattle.std.specs.Prelude.{Bool, IsTrue, false};
+ghost use Rattle.std.specs.Prelude.{ℕ, Bool, IsTrue, false};
+ghost use Rattle.portal.specs.Disks.{AreOver, no_file};
 ghost use Rattle.unit_lock.specs.Calls.{PlacedPass};
 ghost use Rattle.unit_control.specs.Entry.{Entry};
 
 use crate::units::Pass;
 use preparer::Preparer;
 use scsi_types::{Asked, Command};
+use std::marker::{Brand, Model, PhantomData};
 
 /// What each command passes before its unit is asked, and what makes last behind it what the unit was not asked to. It answers no
 /// command: it may take its time, and tell that a flush has failed.
@@ -57,23 +59,52 @@ impl Gate for Open {
     }
 }
 
-/// The gate of the product: each unit's disk is made ready for what is to come, and flushed, by a preparer of its own.
-#[derive(Drop)]
-pub struct Prepared<P: Preparer> {
-    of: Vec<P>,
+/// Which file is the disk of the unit at a place of an array.
+pub trait Disks {
+    ghost use Rattle.preparer.specs.declared.Node.{Node};
+
+    ghost disk: { ℕ → Node };
 }
 
-impl<P: Preparer> Prepared<P> {
-    /// The gate before units with these preparers, in order.
-    pub fn new(of: Vec<P>) -> Prepared<P> {
-        Prepared { of }
+impl Disks for Brand {
+    ghost disk = { λ place. no_file };
+}
+
+/// The gate of the product: each unit's disk is made ready for what is to come, and flushed, by a preparer of its own. Contracts see
+/// the preparers.
+#[derive(Drop)]
+pub struct Prepared<P: Preparer, N: Disks> {
+    of: Vec<P>,
+    disks: PhantomData<N>,
+}
+
+impl<P: Preparer, N: Disks> Model for Prepared<P, N> {
+    ghost use Rattle.std.specs.Prelude.{List};
+    ghost use Rattle.portal.specs.Disks.{AreOver};
+
+    ghost Value = { List P };
+
+    ghost view = { λ g. g.of.items };
+
+    ghost invariant = { λ g. AreOver P.disk N.disk g.of.items };
+}
+
+impl<P: Preparer, N: Disks> Prepared<P, N> {
+    /// The gate before units with these preparers, in order: each is of the disk of the unit at its place.
+    pub fn new(of: Vec<P>) -> Prepared<P, N>
+        requires { AreOver P.disk N.disk of.items }
+    {
+        Prepared {
+            of,
+            disks: PhantomData,
+        }
     }
 }
 
-impl<P: Preparer> Gate for Prepared<P> {
+impl<P: Preparer, N: Disks> Gate for Prepared<P, N> {
     ghost is_late = { P.may_flush };
 
-    ghost lasts = { λ pass. P.has_flushed };
+    ghost lasts = { λ pass. P.has_flushed (N.disk pass.place) };
 
     fn pass(&self, unit: usize, serial: u64, asked: &Asked) {
         let Some(preparer) = self.of.get(unit) else {

@@ -1,6 +1,7 @@
 //! The sessions that live at an array, as its threads share them.
-ghost use Rattle.std.specs.Prelude.{◌<◌, IfOk, IfErr};
+ghost use Rattle.std.specs.Prelude.{◌<◌, ℕ, Bool, IfOk, IfErr};
 ghost use Rattle.registrants.specs.Nexus.{through};
+ghost use Rattle.scsi_types.specs.Nexus.{Port, Nexus};
 ghost use Rattle.portal.specs.Sessions.{Sayings};
 
 use crate::connection::Connection;
@@ -39,10 +40,83 @@ pub trait Sessions<C> {
     fn has<R: Wait>(&self, rt: &R, number: u64) -> bool;
 }
 
-impl<C: Connection + Drop> Sessions<C> for Mutex<Table<C>> {
+/// A table of sessions, as the thread has it that holds its lock. What its calls say is of the table before it and of the one behind it:
+/// nothing else says it.
+pub trait Living<C> {
+    ghost use Rattle.login.specs.declared.status.Kind.{Kind};
+    ghost use Rattle.portal.specs.declared.live.EnterFault.{EnterFault};
+
+    /// A session of this nexus and kind began to live, with this number and this TSIH.
+    ghost entered: { Self → Nexus → Kind → ℕ → ℕ → Self → Type 0 };
+
+    /// None could, for this cause.
+    ghost refused: { Self → EnterFault → Type 0 };
+
+    /// Whether the session with this TSIH lived, and was of this port.
+    ghost lived: { Self → ℕ → Port → Bool → Type 0 };
+
+    /// The session with this number is over.
+    ghost left: { Self → ℕ → Self → Type 0 };
+
+    fn enter(
+        &mut self,
+        port: PortName,
+        group: Group,
+        kind: Kind,
+        connection: C,
+    ) -> Result<(u64, u16), EnterFault>
+        ensures entered { IfOk result (λ r. entered self.old (through port group) kind r.0 r.1 self.new) }
+        ensures tsih { IfOk result (λ r. 0 < r.1) }
+        ensures refused { IfErr result (refused self.old) };
+
+    fn lives(&self, tsih: u16, name: &[u8], isid: u64) -> bool
+        ensures { lived self.now tsih (record { name = name.now; isid = isid }) result };
+
+    fn leave(&mut self, number: u64)
+        ensures { left self.old number self.new };
+
+    fn has(&self, number: u64) -> bool;
+}
+
+impl<C: Connection + Drop> Living<C> for Table<C> {
+    ghost use Rattle.portal.specs.Sessions.{entered_in, lived_in, left_in};
+    ghost use Rattle.portal.specs.Live.{IsCauseOf};
+
+    ghost entered = { entered_in };
+
+    ghost refused = { IsCauseOf };
+
+    ghost lived = { lived_in };
+
+    ghost left = { left_in };
+
+    fn enter(
+        &mut self,
+        port: PortName,
+        group: Group,
+        kind: Kind,
+        connection: C,
+    ) -> Result<(u64, u16), EnterFault> {
+        self.enter(port, group, kind, connection)
+    }
+
+    fn lives(&self, tsih: u16, name: &[u8], isid: u64) -> bool {
+        self.lives(tsih, name, isid)
+    }
+
+    fn leave(&mut self, number: u64) {
+        self.leave(number);
+    }
+
+    fn has(&self, number: u64) -> bool {
+        self.has(number)
+    }
+}
+
+impl<C, T: Living<C>> Sessions<C> for Mutex<T> {
     ghost use Rattle.portal.specs.Sessions.{of_table};
 
-    ghost says = { of_table C };
+    ghost says = { of_table T.entered T.refused T.lived T.left };
 
     fn enter<R: Wait>(
         &self,

@@ -19,6 +19,8 @@ pub enum Flushes {
     Done,
     /// Each fails.
     Failed,
+    /// The next one fails, and each behind it is done.
+    FailedOnce,
 }
 
 /// A gate at whose latches commands wait before their unit, and flushes behind it.
@@ -74,6 +76,11 @@ impl<R: Wait + Drop> Gate for Doors<R> {
     fn settle<P: Pass>(&self, pass: &P) -> bool {
         self.flushes.wait_at(pass.place());
         self.asked_for.store(pass.place(), Ordering::Relaxed);
-        *self.come_to.lock(&self.rt) == Flushes::Done
+        let mut come_to = self.come_to.lock(&self.rt);
+        let is_done = *come_to == Flushes::Done;
+        if *come_to == Flushes::FailedOnce {
+            *come_to = Flushes::Done;
+        }
+        is_done
     }
 }

@@ -1,8 +1,9 @@
 //! The gate of the product, before disks that count what they are asked.
 ghost use Rattle.std.specs.Prelude.{[], true};
+ghost use Rattle.portal.specs.Disks.{no_file};
 
 use crate::ends::must;
-use portal::{Gate, Pass, Prepared};
+use portal::{Disks, Gate, Pass, Prepared};
 use preparer::Preparer;
 use scsi_types::{Asked, Command};
 use std::alloc::Global;
@@ -28,7 +29,9 @@ struct Counted {
 impl Preparer for Counted {
     ghost may_flush = { true };
 
-    ghost has_flushed = { Unit {0} };
+    ghost disk = { λ p. no_file };
+
+    ghost has_flushed = { λ disk. Unit {0} };
 
     fn is_slow(&self) -> bool {
         false
@@ -56,6 +59,14 @@ impl Preparer for Counted {
         self.counts.flushed.fetch_add(1, Ordering::Relaxed);
         self.is_done
     }
+}
+
+/// Disks whose files have no name.
+#[derive(Drop)]
+struct Nameless;
+
+impl Disks for Nameless {
+    ghost disk = { λ place. no_file };
 }
 
 /// A pass of a unit at this place.
@@ -101,7 +112,7 @@ fn disks(alloc: Global) -> Result<(Vec<Counted>, Vec<Arc<Counts, Global>>), Fail
 #[test]
 fn each_unit_has_its_own_disk_made_ready_and_flushed(rt: HostRuntime) -> Result<(), Fail> {
     let (of, seen) = disks(rt.alloc())?;
-    let gate = Prepared::new(of);
+    let gate = Prepared::<Counted, Nameless>::new(of);
     let read: Asked = Ok(Command::Read {
         lba: 0,
         blocks: 1,

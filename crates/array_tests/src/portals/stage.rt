@@ -16,7 +16,8 @@
 //! - `all > PDU`, `all < PDU`: each of those connections sends it, and each is answered by it;
 //! - `gate hold 1`: from now on commands of unit 1 wait before it; `gate held 2`: once two of them wait; `gate open`; `disk`
 //!   in place of `gate`: the writes of its device wait; `flush` in place of it: flushes wait that are left to the gate;
-//! - `gate flushes done`: from now on flushes are left to the gate, and done; `fail`: they fail; `in place`: none is left to it;
+//! - `gate flushes done`: from now on flushes are left to the gate, and done; `fail`: they fail; `fail once`: the next one does; `in place`:
+//!   none is left to it;
 //! - `gate flushed 1`: since the last such line a flush was asked of the gate, the last one of unit 1; `gate unflushed`: none was;
 //! - `0 shows 3`: the row of unit 0 tells of three entries, whoever has its lock;
 //! - `console status / down 1 = unit 0 .. / down`: these lines of the console are answered by those; behind them the desks are closed;
@@ -226,6 +227,7 @@ impl<'a, R: Abort + Eprint, S: Scene> Stage<'a, R, S> {
         match word {
             "done" => Flushes::Done,
             "fail" => Flushes::Failed,
+            "fail once" => Flushes::FailedOnce,
             "in place" => Flushes::InPlace,
             _ => self.at.stop("what becomes of flushes"),
         }

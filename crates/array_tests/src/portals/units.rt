@@ -4,7 +4,7 @@ ghost use Rattle.std.specs.Prelude.{◌≤◌, IfOk, length};
 use crate::memory::{HeldBlocks, Latch, Opens, new_unit};
 use aptpl_file::RegFile;
 use block_file::{Blocks, FusedBlocks, FusedOpener, KeepOpener, MemBlocks, Opener};
-use disk_files::{FileBlocks, open_registrations};
+use disk_files::{FileBlocks, SystemFile, open_registrations};
 use scsi_types::Place;
 use std::alloc::Global;
 use std::fs::File;
@@ -22,7 +22,7 @@ const BLOCKS: u32 = 2048;
 pub type HeldUnit<R> = NewUnit<HeldBlocks<MemBlocks, R>, MemBlocks, Opens>;
 
 /// A file that may fail.
-pub type FusedFile = FusedBlocks<FileBlocks<File>>;
+pub type FusedFile = FusedBlocks<FileBlocks<SystemFile>>;
 
 // A unit of zeros, of so many, which holds no registrations, whose device hangs at this latch, and is opened anew so often.
 fn held<R: Wait + Drop>(

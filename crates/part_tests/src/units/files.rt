@@ -1,4 +1,5 @@
 //! Tests over real files, in a folder of their own each.
+mod beside;
 mod calls;
 mod flushes;
 mod memory;
@@ -6,3 +7,4 @@ mod preparers;
 mod rows;
 mod runs;
 mod scripts;
+mod system;

@@ -1,13 +1,13 @@
 //! Flushes after one that failed.
-ghost use Rattle.std.specs.Prelude.{[], false, refl};
+ghost use Rattle.std.specs.Prelude.{[], false, true, refl};
 
 use crate::ends::must;
 use crate::units::files::runs::writes;
 use block_file::Blocks;
-use disk_files::{BackingFile, FileBlocks, FlushFault, Flushes, LastingFile};
+use disk_files::{BackingFile, Counted, FileBlocks, FlushFault, Flushes, LastingFile};
+use preparer::Node;
 use std::alloc::Global;
 use std::cell::Cell;
-use std::fs::File;
 use std::process::Abort;
 use std::sync::{Arc, Mutex, Wait};
 use std::thread;
@@ -17,15 +17,19 @@ use std::time::Duration;
 /// The error of its flush that fails, as a system numbers EIO.
 const FAILED: u32 = 5;
 
-/// The error of a flush of what cannot be flushed, as Linux numbers EINVAL.
-const NOT_FLUSHED: u32 = 22;
+/// What its file is by.
+pub const NODE: Node = Node {
+    device: 0,
+    number: 0,
+};
 
 /// So many milliseconds are a while.
 const A_WHILE: u64 = 100;
 
-/// A file of four blocks, of which one flush fails, counted from 0, or none. Where it has a clock, that one takes a while.
+/// A file of four blocks, of which one flush fails, counted from 0, or none. Where it has a clock, that one takes a while, and each
+/// other one twice as long.
 #[derive(Drop)]
-struct Flushed {
+pub struct Flushed {
     flushes: Cell<u32>,
     fails_at: Option<u32>,
     clock: Option<HostRuntime>,
@@ -39,6 +43,26 @@ impl Flushed {
             clock: None,
         }
     }
+
+    /// One whose flushes take their time.
+    pub fn slow(clock: HostRuntime, fails_at: Option<u32>) -> Flushed {
+        Flushed {
+            flushes: Cell::new(0),
+            fails_at,
+            clock: Some(clock),
+        }
+    }
+
+    // Takes a while, so many times.
+    fn wait(&self, times: u64) {
+        if let Some(clock) = &self.clock {
+            thread::sleep(clock, Duration::from_millis(A_WHILE.saturating_mul(times)));
+        }
+    }
+}
+
+impl Counted for Flushed {
+    ghost ended = { λ writes. true };
 }
 
 impl BackingFile for Flushed {
@@ -48,9 +72,21 @@ impl BackingFile for Flushed {
 
     ghost may_hold = { λ f k value. Unit {0} };
 
-    ghost lasts = { λ writes. Unit {0} };
+    ghost node = { λ f. record { device = 0; number = 0 } };
+
+    ghost has_read = { λ node offset bytes. Unit {0} };
+
+    ghost has_written = { λ node offset bytes. Unit {0} };
+
+    ghost lasts = { λ node writes. Unit {0} };
 
     ghost is_outcome = { λ f k h lt. tt };
+
+    ghost none_has_ended = { refl };
+
+    fn node(&self) -> Node {
+        NODE
+    }
 
     fn end(&self) -> Result<u64, u32> {
         Ok(2048)
@@ -60,7 +96,7 @@ impl BackingFile for Flushed {
         Ok(())
     }
 
-    fn write_at(&mut self, _part: &[u8], _offset: u64) -> Result<(), u32> {
+    fn write_at(&mut self, _part: &[u8], _offset: u64, _writes: u64) -> Result<(), u32> {
         Ok(())
     }
 
@@ -76,11 +112,10 @@ impl LastingFile for Flushed {
         let before = self.flushes.get();
         self.flushes.set(before.wrapping_add(1));
         if self.fails_at == Some(before) {
-            if let Some(clock) = &self.clock {
-                thread::sleep(clock, Duration::from_millis(A_WHILE));
-            }
+            self.wait(1);
             Err(FAILED)
         } else {
+            self.wait(2);
             Ok(())
         }
     }
@@ -146,7 +181,7 @@ fn ends_so(
         "flush failed" => device.flush().is_err(),
         "write" => writes(device, 1, &[0x11]),
         "open" => device.renew(Flushed::new(None)).is_ok(),
-        _ => row.strip_prefix("beside ") == Some(ended(beside.flush(rt))),
+        _ => row.strip_prefix("beside ") == Some(ended(beside.flush(rt, NODE))),
     }
 }
 
@@ -193,14 +228,11 @@ fn beside(
 ) -> Arc<Flushes<Flushed>, Global> {
     let handles = head.split("; ").nth(2).unwrap_or("");
     let mut by = Vec::new(alloc);
-    if handles != "no handle" {
-        put_two(rt, &mut by, handles.parse().ok());
+    if handles == "no handle" {
+        return Arc::new(alloc, Flushes::new(by)).expect(rt, "memory");
     }
-    let flushes = Arc::new(alloc, Flushes::new(0, by)).expect(rt, "memory");
-    if handles != "no handle" {
-        device.share(Arc::try_clone(&flushes).expect(rt, "memory"));
-    }
-    flushes
+    put_two(rt, &mut by, handles.parse().ok());
+    device.share(alloc, by).expect(rt, "memory")
 }
 
 // Puts two handles.
@@ -219,28 +251,18 @@ fn each_flush_ends_so(rt: HostRuntime) {
     }
 }
 
-// The system cannot flush the null device, and says so; so a flush is one call of the system.
-#[test]
-fn a_flush_of_a_file_is_one_of_the_system(rt: HostRuntime) {
-    let null = File::options()
-        .read(true)
-        .write(true)
-        .open(&rt, "/dev/null");
-    let flush = null.expect(&rt, "the null device").make_last(0);
-    must(&rt, flush == Err(NOT_FLUSHED), "a flush", &flush);
-}
-
 // One of two waits for the handle by which the other fails. The system would tell it nothing of that.
 #[test]
 fn who_waits_behind_a_flush_that_fails_is_told(rt: HostRuntime) {
-    let mut file = Flushed::new(Some(0));
-    file.clock = Some(rt);
     let mut handles = Vec::new(rt.alloc());
-    handles.push(Mutex::new(file)).expect(&rt, "memory");
-    both_are_told(&rt, &Flushes::new(0, handles));
+    handles
+        .push(Mutex::new(Flushed::slow(rt, Some(0))))
+        .expect(&rt, "memory");
+    both_are_told(&rt, &Flushes::new(handles));
 }
 
-fn both_are_told(rt: &(impl Threads + Wait + Abort + Sync), flushes: &Flushes<Flushed>) {
-    let (one, other) = join(rt, || flushes.flush(rt), || flushes.flush(rt));
+/// Of two flushes neither is done.
+pub fn both_are_told(rt: &(impl Threads + Wait + Abort + Sync), flushes: &Flushes<Flushed>) {
+    let (one, other) = join(rt, || flushes.flush(rt, NODE), || flushes.flush(rt, NODE));
     must(rt, one.is_err() && other.is_err(), "both are told", &());
 }

@@ -10,7 +10,8 @@ use crate::units::files::calls::is_done_on;
 use crate::units::files::rows::row_of;
 use crate::units::rows::spelled;
 use block_file::Blocks;
-use disk_files::{BackingFile, FileBlocks};
+use disk_files::{BackingFile, Counted, FileBlocks};
+use preparer::Node;
 use std::alloc::{AllocError, Global};
 use std::process::Abort;
 
@@ -60,6 +61,10 @@ impl MemFile {
     }
 }
 
+impl Counted for MemFile {
+    ghost ended = { λ writes. true };
+}
+
 impl BackingFile for MemFile {
     ghost claims = { true };
 
@@ -68,10 +73,25 @@ impl BackingFile for MemFile {
     ghost may_hold = { λ f k value. (value ≡ block_at (run_of f.bytes.items) k)
         ⊎ (value ≡ block_at (run_of f.lasting.items) k) };
 
-    // No other handle flushes it, so nobody asks.
-    ghost lasts = { λ writes. Unit {0} };
+    ghost node = { λ f. record { device = 0; number = 0 } };
+
+    // What it claims says it.
+    ghost has_read = { λ node offset bytes. Unit {0} };
+
+    ghost has_written = { λ node offset bytes. Unit {0} };
+
+    ghost lasts = { λ node writes. Unit {0} };
 
     ghost is_outcome = { λ f k h lt. inl refl };
+
+    ghost none_has_ended = { refl };
+
+    fn node(&self) -> Node {
+        Node {
+            device: 0,
+            number: 0,
+        }
+    }
 
     fn end(&self) -> Result<u64, u32> {
         Ok(self.bytes.len() as u64)
@@ -85,7 +105,7 @@ impl BackingFile for MemFile {
         Ok(())
     }
 
-    fn write_at(&mut self, part: &[u8], offset: u64) -> Result<(), u32> {
+    fn write_at(&mut self, part: &[u8], offset: u64, _writes: u64) -> Result<(), u32> {
         let Some(from) = self.place(offset, part.len()) else {
             return Err(0);
         };

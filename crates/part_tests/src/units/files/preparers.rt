@@ -2,7 +2,7 @@
 use crate::ends::must;
 use crate::units::files::runs::{folder, path_of, reads, sized, writes};
 use block_file::Blocks;
-use disk_files::{FileBlocks, FilePreparer, open_disk};
+use disk_files::{FileBlocks, FilePreparer, SystemFile, open_disk};
 use preparer::Preparer;
 use std::alloc::Global;
 use std::fs::File;
@@ -62,7 +62,7 @@ fn device<R: Files<File = File> + Abort + Copy + Drop>(
     rt: &R,
     alloc: Global,
     path: &str,
-) -> FileBlocks<File> {
+) -> FileBlocks<SystemFile> {
     open_disk(*rt, alloc, path).expect(rt, path).blocks
 }
 

@@ -1,0 +1,49 @@
+//! Flushes that end well, and ran beside one that failed: they may have had its blocks in hand.
+use crate::ends::must;
+use crate::units::files::flushes::{Flushed, NODE, both_are_told};
+use block_file::Blocks;
+use disk_files::{FileBlocks, Flushes};
+use std::alloc::Global;
+use std::process::Abort;
+use std::sync::{Mutex, Wait};
+use std::thread::{Threads, join};
+
+// Handles, of which the first fails its first flush in a while. Each other flush ends well, in twice that time.
+fn handles(rt: HostRuntime, alloc: Global, fails: &[Option<u32>]) -> Vec<Mutex<Flushed>> {
+    let mut handles = Vec::new(alloc);
+    for fails_at in fails {
+        let handle = Mutex::new(Flushed::slow(rt, *fails_at));
+        handles.push(handle).expect(&rt, "memory");
+    }
+    handles
+}
+
+// By two handles beside the device.
+#[test]
+fn a_flush_beside_one_that_failed_is_not_believed(rt: HostRuntime) {
+    both_are_told(
+        &rt,
+        &Flushes::new(handles(rt, rt.alloc(), &[Some(0), None])),
+    );
+}
+
+// By the device, while one beside it fails.
+#[test]
+fn a_flush_of_the_device_beside_one_that_failed_is_not_believed(rt: HostRuntime) {
+    let mut device = FileBlocks::of(Flushed::slow(rt, None)).expect(&rt, "a device");
+    let beside = device.share(rt.alloc(), handles(rt, rt.alloc(), &[Some(0)]));
+    neither_is_done(&rt, &mut device, &beside.expect(&rt, "memory"));
+}
+
+fn neither_is_done(
+    rt: &(impl Threads + Wait + Abort + Sync),
+    device: &mut FileBlocks<Flushed>,
+    beside: &Flushes<Flushed>,
+) {
+    let (device, beside) = join(
+        rt,
+        || device.flush().is_ok(),
+        || beside.flush(rt, NODE).is_ok(),
+    );
+    must(rt, !device && !beside, "neither is done", &());
+}
