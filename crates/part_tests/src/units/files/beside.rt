@@ -9,11 +9,16 @@ use std::sync::{Mutex, Wait};
 use std::thread::{Threads, join};
 
 // Handles, of which the first fails its first flush in a while. Each other flush ends well, in twice that time.
-fn handles(rt: HostRuntime, alloc: Global, fails: &[Option<u32>]) -> Vec<Mutex<Flushed>> {
+fn handles(
+    rt: &impl Abort,
+    clock: HostRuntime,
+    alloc: Global,
+    fails: &[Option<u32>],
+) -> Vec<Mutex<Flushed>> {
     let mut handles = Vec::new(alloc);
     for fails_at in fails {
-        let handle = Mutex::new(Flushed::slow(rt, *fails_at));
-        handles.push(handle).expect(&rt, "memory");
+        let handle = Mutex::new(Flushed::slow(clock, *fails_at));
+        handles.push(handle).expect(rt, "memory");
     }
     handles
 }
@@ -23,7 +28,7 @@ fn handles(rt: HostRuntime, alloc: Global, fails: &[Option<u32>]) -> Vec<Mutex<F
 fn a_flush_beside_one_that_failed_is_not_believed(rt: HostRuntime) {
     both_are_told(
         &rt,
-        &Flushes::new(handles(rt, rt.alloc(), &[Some(0), None])),
+        &Flushes::new(handles(&rt, rt, rt.alloc(), &[Some(0), None])),
     );
 }
 
@@ -31,7 +36,7 @@ fn a_flush_beside_one_that_failed_is_not_believed(rt: HostRuntime) {
 #[test]
 fn a_flush_of_the_device_beside_one_that_failed_is_not_believed(rt: HostRuntime) {
     let mut device = FileBlocks::of(Flushed::slow(rt, None)).expect(&rt, "a device");
-    let beside = device.share(rt.alloc(), handles(rt, rt.alloc(), &[Some(0)]));
+    let beside = device.share(rt.alloc(), handles(&rt, rt, rt.alloc(), &[Some(0)]));
     neither_is_done(&rt, &mut device, &beside.expect(&rt, "memory"));
 }
 
