@@ -11,6 +11,7 @@ use event_log::{Log, start};
 use log_file::LogFile;
 use std::alloc::Global;
 use std::env::Env;
+use std::fs::File;
 use std::marker::Brand;
 use std::process::ExitCode;
 use std::rt::Files;
