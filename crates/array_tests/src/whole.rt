@@ -201,6 +201,7 @@ fn story<'a>(site: Site<'a>, left: Site<'a>) -> [Visited<'a>; 2] {
 }
 
 #[test]
+#[tactic(auto, using(crate::proofs::Disks::units_are, crate::proofs::Disks::preparers_are))]
 fn units_have_their_files_and_portals_their_groups(rt: HostRuntime) -> Result<(), Fail> {
     let alloc = rt.alloc();
     let process = process::id(rt.process());

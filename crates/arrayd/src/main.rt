@@ -43,6 +43,7 @@ fn complain(rt: &impl Eprint, fault: Fault) -> ExitCode {
     fault.status()
 }
 
+#[tactic(auto, using(crate::proofs::Disks::units_are, crate::proofs::Disks::preparers_are))]
 fn main(rt: HostRuntime) -> ExitCode {
     let alloc = rt.alloc();
     let words = match all_words(&rt) {
