@@ -1,9 +1,11 @@
 //! The target that the tables' sessions are served by.
-use crate::sessions::row::named_texts;
+use crate::ends::fail;
+use crate::sessions::row::{named_texts, read};
 use login::Kind;
 use scsi_types::{Asked, Reply, Sense};
 use session::{BeginAnswer, ResetAnswer, Target, TargetAnswer};
 use std::alloc::{AllocError, Global};
+use std::process::Abort;
 use test_streams::{RowError, bytes_of};
 
 /// What a target answers to each command.
@@ -26,6 +28,64 @@ pub struct Answers<'a> {
     pub reset: ResetAnswer,
     pub begin: BeginAnswer,
     pub lives: bool,
+}
+
+impl<'a> Answers<'a> {
+    /// Where no line says anything: GOOD without data, a reset that is done, a session that begins with TSIH 1, and none that lives.
+    pub fn first() -> Answers<'a> {
+        Answers {
+            command: Answer::Good(""),
+            reset: ResetAnswer::Done,
+            begin: BeginAnswer::Begun(1),
+            lives: false,
+        }
+    }
+
+    /// Takes a line that says what a target answers.
+    pub fn take(&mut self, rt: &impl Abort, alloc: Global, word: &str, rest: &'a str) {
+        match word {
+            "answer" => self.command = command_answer(rt, alloc, rest),
+            "reset" => self.reset = reset_answer(rt, rest),
+            "begin" => self.begin = begin_answer(rt, rest),
+            _ if rest.is_empty() => self.lives = true,
+            _ => fail(rt, word, &rest),
+        }
+    }
+}
+
+fn command_answer<'t>(rt: &impl Abort, alloc: Global, text: &'t str) -> Answer<'t> {
+    let (word, rest) = text.split_once(' ').unwrap_or((text, ""));
+    match word {
+        "good" => Answer::Good(rest),
+        "in-turn" => Answer::InTurn(rest),
+        "check" => check_answer(rt, &bytes_of(alloc, named_texts(), rest).expect(rt, text)),
+        "busy" if rest.is_empty() => Answer::Busy,
+        "gone" if rest.is_empty() => Answer::Gone,
+        _ => fail(rt, "no answer", &text),
+    }
+}
+
+fn check_answer(rt: &impl Abort, sense: &[u8]) -> Answer<'static> {
+    match sense {
+        [key, code, qualifier] => Answer::Check(*key, *code, *qualifier),
+        _ => fail(rt, "no sense", &sense),
+    }
+}
+
+fn reset_answer(rt: &impl Abort, text: &str) -> ResetAnswer {
+    match text {
+        "failed" => ResetAnswer::Failed,
+        "gone" => ResetAnswer::Gone,
+        _ => fail(rt, "no answer", &text),
+    }
+}
+
+fn begin_answer(rt: &impl Abort, text: &str) -> BeginAnswer {
+    if text == "refused" {
+        BeginAnswer::Refused
+    } else {
+        BeginAnswer::Begun(read(rt, text))
+    }
 }
 
 /// What a target was asked, each as a line, and what bytes it was given.

@@ -14,8 +14,8 @@
 //!
 //! A table is one text, with an empty line between two rows. Of its lines, one that begins with `#` is a comment, and one
 //! that begins with a blank goes on with the line before. The first line of a row is its name. Each other line is one of
-//! these, and one that is none, or that cannot be read, fails the test with the row's name. Those of `>`, `<`, `asked`
-//! and `written` stand as often as there is something to say, the others once at most.
+//! these, and one that is none, that its table has no use for, or that cannot be read, fails the test with the row's name.
+//! Those of `>`, `<`, `asked` and `written` stand as often as there is something to say, the others once at most.
 //!
 //! - `> PDU`: what comes, and `< PDU`: what goes out, in their order; a row has one of them at least. `test_streams` says
 //!   how a PDU is spelled (`pdu_of`), and has the header segments by their names.
@@ -44,10 +44,10 @@
 //! - Of any other session: `each-place`: what comes is also cut in two at each place, as that of a row of few bytes
 //!   always is. `pieces 7`: it also comes in pieces of so many bytes.
 use crate::ends::{fail, must};
-use crate::sessions::fixed::{Answer, Answers};
+use crate::sessions::fixed::Answers;
 use crate::sessions::run::Wanted;
 use login::Kind;
-use session::{BeginAnswer, Lengths, Opening, ResetAnswer, Start};
+use session::{Lengths, Opening, Start};
 use std::alloc::Global;
 use std::process::Abort;
 use std::str::FromStr;
@@ -180,12 +180,7 @@ impl<'a> Row<'a> {
             kind: Kind::Normal,
             begin: FROM_ONE,
             portals: 1,
-            answers: Answers {
-                command: Answer::Good(""),
-                reset: ResetAnswer::Done,
-                begin: BeginAnswer::Begun(1),
-                lives: false,
-            },
+            answers: Answers::first(),
             input: Vec::new(alloc),
             output: Vec::new(alloc),
             asked: Vec::new(alloc),
@@ -219,6 +214,13 @@ impl<'a> Row<'a> {
             }
         }
         at
+    }
+
+    /// None of its lines has one of these words, which its table has no use for.
+    pub fn has_none_of(&self, rt: &impl Abort, words: &[&str]) {
+        for word in words {
+            must(rt, !self.words.contains(word), self.name, word);
+        }
     }
 
     /// All that it wants.
@@ -296,19 +298,6 @@ impl<'a> Row<'a> {
     }
 }
 
-impl<'a> Answers<'a> {
-    // Takes a line that says what a target answers.
-    fn take(&mut self, rt: &impl Abort, alloc: Global, word: &str, rest: &'a str) {
-        match word {
-            "answer" => self.command = command_answer(rt, alloc, rest),
-            "reset" => self.reset = reset_answer(rt, rest),
-            "begin" => self.begin = begin_answer(rt, rest),
-            _ if rest.is_empty() => self.lives = true,
-            _ => fail(rt, word, &rest),
-        }
-    }
-}
-
 impl Fuse {
     // Takes a line that says how the device fails.
     fn take(&mut self, rt: &impl Abort, word: &str, rest: &str) {
@@ -373,8 +362,8 @@ impl Begin {
     }
 }
 
-// The number of these decimal digits.
-fn read<T: FromStr>(rt: &impl Abort, text: &str) -> T
+/// The number of these decimal digits.
+pub fn read<T: FromStr>(rt: &impl Abort, text: &str) -> T
 where
     T::Err: Drop,
 {
@@ -384,39 +373,4 @@ where
 // The number of these digits in hexadecimal.
 fn read_hexadecimal(rt: &impl Abort, text: &str) -> u32 {
     u32::from_str_radix(text, 16).expect(rt, text)
-}
-
-fn command_answer<'t>(rt: &impl Abort, alloc: Global, text: &'t str) -> Answer<'t> {
-    let (word, rest) = text.split_once(' ').unwrap_or((text, ""));
-    match word {
-        "good" => Answer::Good(rest),
-        "in-turn" => Answer::InTurn(rest),
-        "check" => check_answer(rt, &bytes_of(alloc, named_texts(), rest).expect(rt, text)),
-        "busy" if rest.is_empty() => Answer::Busy,
-        "gone" if rest.is_empty() => Answer::Gone,
-        _ => fail(rt, "no answer", &text),
-    }
-}
-
-fn check_answer(rt: &impl Abort, sense: &[u8]) -> Answer<'static> {
-    match sense {
-        [key, code, qualifier] => Answer::Check(*key, *code, *qualifier),
-        _ => fail(rt, "no sense", &sense),
-    }
-}
-
-fn reset_answer(rt: &impl Abort, text: &str) -> ResetAnswer {
-    match text {
-        "failed" => ResetAnswer::Failed,
-        "gone" => ResetAnswer::Gone,
-        _ => fail(rt, "no answer", &text),
-    }
-}
-
-fn begin_answer(rt: &impl Abort, text: &str) -> BeginAnswer {
-    if text == "refused" {
-        BeginAnswer::Refused
-    } else {
-        BeginAnswer::Begun(read(rt, text))
-    }
 }

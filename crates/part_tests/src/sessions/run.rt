@@ -96,6 +96,15 @@ fn serve_by(
     (end.expect(rt, "memory"), sink.into_inner())
 }
 
+// What only a session over the unit of `--once` has lines for.
+const OF_ONE_UNIT: [&str; 4] = ["fails", "lands", "all-blocks", "ends"];
+
+/// A row says nothing of a device, which its target has not.
+pub fn is_of_a_target(rt: &impl Abort, row: &Row<'_>) {
+    row.has_none_of(rt, &OF_ONE_UNIT);
+    must(rt, row.written.is_empty(), row.name, &"written");
+}
+
 /// Serves each row, and compares.
 pub fn run(rt: &impl Abort, alloc: Global, (table, rows): Table) {
     let mut has_row = false;
@@ -110,6 +119,7 @@ fn run_text(rt: &impl Abort, alloc: Global, table: &str, text: &str) -> bool {
     let row = Row::read(rt, alloc, table, text);
     let is_row = !row.name.is_empty();
     if is_row {
+        is_of_a_target(rt, &row);
         run_row(rt, alloc, &row);
     }
     is_row

@@ -1,7 +1,8 @@
 //! Sessions over streams that end and are cut anywhere, that fail at each call in turn, that take nothing, and whose calls are
 //! interrupted.
+use crate::ends::must;
 use crate::sessions::row::Row;
-use crate::sessions::run::{Wanted, calls_of, run_part, run_row};
+use crate::sessions::run::{Wanted, calls_of, is_of_a_target, run_part, run_row};
 use std::alloc::Global;
 use std::io::ErrorKind;
 use std::process::Abort;
@@ -121,6 +122,7 @@ fn calls_are_interrupted(rt: &impl Abort, alloc: Global, row: &Row<'_>) {
 }
 
 fn each_stream(rt: &impl Abort, alloc: Global, row: &Row<'_>) {
+    is_of_a_target(rt, row);
     run_row(rt, alloc, row);
     ends_anywhere(rt, alloc, row);
     if row.end == "EndOfInput" {
@@ -142,10 +144,8 @@ fn each_stream(rt: &impl Abort, alloc: Global, row: &Row<'_>) {
 #[test]
 fn streams(rt: HostRuntime) {
     for text in rows().split("\n\n") {
-        each_stream(
-            &rt,
-            rt.alloc(),
-            &Row::read(&rt, rt.alloc(), "streams", text),
-        );
+        let row = Row::read(&rt, rt.alloc(), "streams", text);
+        must(&rt, !row.name.is_empty(), "streams", &"a table has rows");
+        each_stream(&rt, rt.alloc(), &row);
     }
 }

@@ -4,7 +4,7 @@ ghost use Rattle.std.proofs.Common.{arith};
 ghost use Rattle.block_file.specs.declared.blocks.TheConstants.{BLOCK_LENGTH};
 ghost use Rattle.block_file.specs.Failures.{Counts, last_count};
 
-use block_file::{BLOCK_LENGTH, Blocks, DeviceFailed, MemBlocks};
+use block_file::{BLOCK_LENGTH, Blocks, DeviceFailed, FusedBlocks, MemBlocks};
 use crash_blocks::{CrashBlocks, Pick};
 use std::alloc::{AllocError, Global};
 
@@ -19,12 +19,13 @@ pub struct Failing {
     pub alone: u64,
 }
 
-/// A device in memory whose calls fail so, and of which a loss of power takes back what was not flushed. Of its contents it
-/// claims nothing.
+/// A device in memory whose calls fail so, and of which a loss of power takes back what was not flushed: a fuse fails the one call
+/// that fails alone. Of its contents it claims nothing.
 #[derive(Drop)]
 pub struct FailingBlocks {
-    inner: CrashBlocks,
-    failing: Failing,
+    inner: FusedBlocks<CrashBlocks>,
+    behind: u64,
+    lands: u32,
     calls: u64,
     failed_reads: u64,
     failed_writes: u64,
@@ -37,9 +38,11 @@ impl FailingBlocks {
         blocks: MemBlocks,
         failing: Failing,
     ) -> Result<FailingBlocks, AllocError> {
+        let blocks = CrashBlocks::new(alloc, blocks)?;
         Ok(FailingBlocks {
-            inner: CrashBlocks::new(alloc, blocks)?,
-            failing,
+            inner: FusedBlocks::window(blocks, failing.alone, 1),
+            behind: failing.behind,
+            lands: failing.lands,
             calls: 0,
             failed_reads: 0,
             failed_writes: 0,
@@ -49,25 +52,25 @@ impl FailingBlocks {
     /// What a loss of power leaves.
     pub fn crash(self, pick: Pick) -> MemBlocks {
         let FailingBlocks { inner, .. } = self;
-        inner.crash(pick)
+        inner.into_inner().crash(pick)
     }
 }
 
-// Counts a call that fails so, and tells whether it reaches the device.
-fn reaches(failing: Failing, calls: &mut u64) -> bool {
+// Counts a call, and tells whether it is one of those that reach the device.
+fn reaches(behind: u64, calls: &mut u64) -> bool {
     let call = *calls;
     *calls = call.saturating_add(1);
-    call < failing.behind && call != failing.alone
+    call < behind
 }
 
-// How much of a run of so many bytes is written by a call that does not reach the device.
-fn landing(failing: Failing, call: u64, len: usize) -> usize
+// How much of a run of so many bytes is written by a call that does not reach the device: of the first such one so many blocks.
+fn landing(lands: u32, is_first: bool, len: usize) -> usize
     ensures fits { result ≤ len / BLOCK_LENGTH }
 {
-    if call != failing.behind {
+    if !is_first {
         return 0;
     }
-    (failing.lands as usize).min(len / BLOCK_LENGTH)
+    (lands as usize).min(len / BLOCK_LENGTH)
 }
 
 // Counts what failed.
@@ -85,7 +88,7 @@ impl Blocks for FailingBlocks {
 
     ghost claims_moments = { false };
 
-    ghost size = { λ d. ⟦<CrashBlocks as Blocks>⟧.size d.inner };
+    ghost size = { λ d. ⟦<FusedBlocks<CrashBlocks> as Blocks>⟧.size d.inner };
 
     ghost contents = { λ d. [] };
 
@@ -101,7 +104,7 @@ impl Blocks for FailingBlocks {
 
     ghost failures = { λ d. min (d.failed_reads + d.failed_writes) last_count };
 
-    ghost fits = { λ d. d.inner.inner.fits };
+    ghost fits = { λ d. d.inner.inner.inner.fits };
 
     ghost summed = { λ d. Prim.omega arith };
 
@@ -122,7 +125,7 @@ impl Blocks for FailingBlocks {
     }
 
     fn read_run(&mut self, first: u32, bytes: &mut [u8]) -> Result<(), DeviceFailed> {
-        let end = if reaches(self.failing, &mut self.calls) {
+        let end = if reaches(self.behind, &mut self.calls) {
             self.inner.read_run(first, bytes)
         } else {
             Err(DeviceFailed)
@@ -131,8 +134,8 @@ impl Blocks for FailingBlocks {
     }
 
     fn write_run(&mut self, first: u32, bytes: &[u8]) -> Result<(), DeviceFailed> {
-        let blocks = landing(self.failing, self.calls, bytes.len());
-        let end = if reaches(self.failing, &mut self.calls) {
+        let blocks = landing(self.lands, self.calls == self.behind, bytes.len());
+        let end = if reaches(self.behind, &mut self.calls) {
             self.inner.write_run(first, bytes)
         } else {
             let _ = self.inner.write_run(first, &bytes[..BLOCK_LENGTH * blocks]);
@@ -142,7 +145,7 @@ impl Blocks for FailingBlocks {
     }
 
     fn flush(&mut self) -> Result<(), DeviceFailed> {
-        let end = if reaches(self.failing, &mut self.calls) {
+        let end = if reaches(self.behind, &mut self.calls) {
             self.inner.flush()
         } else {
             Err(DeviceFailed)

@@ -82,6 +82,7 @@ fields and nexuses
 what a fresh unit can; send 0 5E 02 0000000000 00FF;; GOOD 00 08 05 80 EA 01 00 00
 no key; send 0 5E 00 0000000000 00FF;; GOOD 8*00
 a list of 23 bytes; send 0 5F 00 00 0000 00000017; 23*00; CHECK 05 1A 00
+a list of 25 bytes; send 0 5F 00 00 0000 00000019; 15*00 11 9*00; CHECK 05 1A 00
 a list that came short; send 0 5F 00 00 0000 00000018; 23*00; CHECK 05 24 00
 for ports in the list; send 0 5F 00 00 0000 00000018; 15*00 11 4*00 08 3*00; CHECK 05 26 00
 a wrong key; send 0 5F 00 00 0000 00000018; 7*00 11 7*00 22 8*00; CONFLICT
@@ -90,7 +91,7 @@ a RESERVE of no type; send 0 5F 01 02 0000 00000018; 7*00 11 16*00; CHECK 05 24 
 it registers; send 0 5F 00 00 0000 00000018; 15*00 11 8*00; GOOD
 it reserves; send 0 5F 01 05 0000 00000018; 7*00 11 16*00; GOOD
 it releases another type; send 0 5F 02 06 0000 00000018; 7*00 11 16*00; CHECK 05 26 04
-its port through the other controller; attach 1 2;; ATTACHED 19
+its port through the other controller; attach 1 2;; ATTACHED 20
 its power on; forward 4 00;; CHECK 06 29 00
 another nexus is fenced; forward 4 2A 00 00000000 00 0001; 512*5A; CONFLICT
 another nexus reads; forward 4 28 00 00000000 00 0001;; GOOD 512*00

@@ -2,5 +2,6 @@
 
 mod bytes;
 pub mod files;
+mod records;
 mod refusals;
 mod saves;

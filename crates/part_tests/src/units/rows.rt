@@ -30,7 +30,7 @@
 //! Where they say nothing it is unit 0, of 16 blocks, of which no call and no open fails, and whose registration file makes no
 //! call. What was written last is there behind a restart.
 //! `written 1 5A`: afterwards this block is of this byte; all others are of zeros.
-use crate::ends::fail;
+use crate::ends::{fail, must};
 use crate::units::bench::{Faults, NO_FAULTS, Setup};
 use crate::units::device::Failing;
 use crash_blocks::Pick;
@@ -155,20 +155,35 @@ fn take(rt: &impl Abort, setup: &mut Setup, line: &Row) {
         "saves" => setup.faults.file.behind = line.number(rt, rest),
         "alone" => setup.faults.file.alone = line.number(rt, rest),
         "each" => setup.times = line.number(rt, rest),
-        "written" | "numbers" | "loses" => {}
+        "written" | "numbers" => {}
         _ => fail(rt, line.text, &"no line of a script"),
     }
+}
+
+// The block that a line says is written, and the byte of which it is afterwards; none where it is no such line.
+fn written_by(rt: &impl Abort, line: &str) -> Option<(u32, u8)> {
+    let words = line.strip_prefix("written ")?;
+    let (index, byte) = words.split_once(' ').expect(rt, line);
+    let byte = u8::from_str_radix(byte, 16).expect(rt, line);
+    Some((index.parse().expect(rt, line), byte))
 }
 
 /// The byte of which a block is afterwards.
 pub fn written_at(rt: &impl Abort, lines: &[&str], block: u32) -> u8 {
     for line in lines {
-        if let Some(words) = line.strip_prefix("written ") {
-            let (index, byte) = words.split_once(' ').expect(rt, *line);
-            if index.parse::<u32>().expect(rt, *line) == block {
-                return u8::from_str_radix(byte, 16).expect(rt, *line);
-            }
+        match written_by(rt, line) {
+            Some((index, byte)) if index == block => return byte,
+            _ => {}
         }
     }
     0
+}
+
+/// What is written lies in a device of so many blocks.
+pub fn are_within(rt: &impl Abort, lines: &[&str], count: u32) {
+    for line in lines {
+        if let Some((index, _)) = written_by(rt, line) {
+            must(rt, index < count, line, &count);
+        }
+    }
 }

@@ -2,7 +2,7 @@
 use crate::ends::must;
 use crate::units::bench::{Bench, Setup, filled_by};
 use crate::units::ended::Ended;
-use crate::units::rows::{Row, is_row, setup_of, spelled, written_at};
+use crate::units::rows::{Row, are_within, is_row, part, setup_of, spelled, written_at};
 use block_file::{Blocks, MemBlocks};
 use crash_blocks::Pick;
 use scsi_types::Sense;
@@ -20,10 +20,21 @@ the power on; send 0 00;; CHECK 06 29 00
 pub fn run(rt: &impl Abort, alloc: Global, before: &str, table: &str) {
     for script in table.split("\n\n") {
         let lines = lines_of(alloc, script).expect(rt, "memory");
+        must(rt, has_row(rt, &lines), script, &"a script has rows");
         for n in 0..setup_of(rt, &lines, 0).times {
             play(rt, alloc, before, script, &lines, n);
         }
     }
+}
+
+// Whether one of these lines is a row. None has more parts than four.
+fn has_row(rt: &impl Abort, lines: &[&str]) -> bool {
+    let mut has_row = false;
+    for line in lines {
+        must(rt, part(line, 4).is_empty(), line, &"four parts at most");
+        has_row |= is_row(line);
+    }
+    has_row
 }
 
 // Plays a script of these lines for a number, and looks at all blocks afterwards.
@@ -46,9 +57,10 @@ pub fn played(
     n: u64,
 ) -> Bench {
     let mut bench = bench;
-    for part in rows.split("\nnumbers ") {
+    for (place, part) in rows.split("\nnumbers ").enumerate() {
         let rows = lines_of(alloc, part).expect(rt, "memory");
-        let (first, end) = numbers_of(part).unwrap_or((n, n.saturating_add(1)));
+        let numbers = if place == 0 { "N" } else { part };
+        let (first, end) = numbers_of(rt, numbers, n);
         for n in first..end {
             bench = behind(rt, alloc, bench, setup, &rows, n);
         }
@@ -56,14 +68,19 @@ pub fn played(
     bench
 }
 
-// The numbers that the first line of a part says: the first, and the one behind the last.
-fn numbers_of(part: &str) -> Option<(u64, u64)> {
-    let (first, end) = part.lines().next()?.split_once(' ')?;
-    Some((first.parse().ok()?, end.parse().ok()?))
+// The numbers that the first line says: the first, and the one behind the last; or `N` for this one.
+fn numbers_of(rt: &impl Abort, part: &str, n: u64) -> (u64, u64) {
+    let line = part.lines().next().unwrap_or("");
+    if line == "N" {
+        return (n, n.saturating_add(1));
+    }
+    let (first, end) = line.split_once(' ').expect(rt, line);
+    (first.parse().expect(rt, line), end.parse().expect(rt, line))
 }
 
 // Each block is as the lines of the script say.
 fn look_at_all(rt: &impl Abort, device: &mut MemBlocks, script: &str, lines: &[&str]) {
+    are_within(rt, lines, device.count());
     for index in 0..device.count() {
         let is_right = filled_by(device, index) == Some(written_at(rt, lines, index));
         must(rt, is_right, script, &index);
@@ -83,6 +100,7 @@ fn behind(
     for text in rows {
         let row = Row { text: *text, n };
         if row.call().0 == "restart" {
+            must(rt, row.end() == ("DONE", ""), text, &"a restart is done");
             bench = bench.restart(rt, alloc, setup);
         } else if is_row(text) {
             make(rt, alloc, &mut bench, setup, &row);

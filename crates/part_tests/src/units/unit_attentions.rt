@@ -65,6 +65,33 @@ it ends again; detach 1;; GONE
 the first is told nothing; send 0 00;; GOOD
 its nexus attaches; attach 2 1;; ATTACHED 17
 the new session; send 3 00;; CHECK 06 29 00
+
+# B is registered by the other nexus of its port, whose ALL_TG_PT registers both; so it hears of all without a command of its own.
+five attentions, each once, in the order in which they came
+A; attach 1 1;; ATTACHED 0
+its power on; send 0 00;; CHECK 06 29 00
+the other nexus of B; attach 2 2;; ATTACHED 2
+its power on; forward 1 00;; CHECK 06 29 00
+B, which waits for its power on; attach 2 1;; ATTACHED 4
+A registers; send 0 5F 00 00 0000 00000018; 15*00 11 8*00; GOOD
+A reserves; send 0 5F 01 05 0000 00000018; 7*00 11 16*00; GOOD
+both nexuses of B are registered; forward 1 5F 00 00 0000 00000018; 15*00 22 4*00 04 3*00; GOOD
+A releases; send 0 5F 02 05 0000 00000018; 7*00 11 16*00; GOOD
+A reserves and releases again; send 0 5F 01 05 0000 00000018; 7*00 11 16*00; GOOD
+the same code again; send 0 5F 02 05 0000 00000018; 7*00 11 16*00; GOOD
+A preempts both; send 0 5F 04 05 0000 00000018; 7*00 11 7*00 22 8*00; GOOD
+the other nexus hears of a release; forward 1 00;; CHECK 06 2A 04
+and of the preempt; forward 1 00;; CHECK 06 2A 05
+both are registered once more; forward 1 5F 00 00 0000 00000018; 15*00 22 4*00 04 3*00; GOOD
+A clears; send 0 5F 03 00 0000 00000018; 7*00 11 16*00; GOOD
+A makes the second group standby; send 0 A4 0A 00000000 00000008; 4*00 02 00 00 02; GOOD
+B hears of its power on; send 2 00;; CHECK 06 29 00
+of the release; send 2 00;; CHECK 06 2A 04
+of the preempt; send 2 00;; CHECK 06 2A 05
+of the clear; send 2 00;; CHECK 06 2A 03
+of the access states; send 2 00;; CHECK 06 2A 06
+and of nothing more; send 2 00;; GOOD
+A hears of none of its own; send 0 00;; GOOD
 "#;
 
 #[test]

@@ -41,6 +41,9 @@ fn byte_of(written: &[(u32, u8)], index: u32) -> u8 {
 
 // Whether the device has so many blocks, these of them of this byte, and all others of zeros.
 fn keeps<B: Blocks>(device: &mut B, count: u32, written: &[(u32, u8)]) -> bool {
+    if written.iter().any(|(block, _)| *block >= count) {
+        return false;
+    }
     for index in 0..count {
         let byte = byte_of(written, index);
         if block_at(device, index) != Some([byte; 512]) {
@@ -119,6 +122,36 @@ fn run_row(rt: &impl Abort, alloc: Global, row: &Row<'_>) {
     }
 }
 
+// What only a session over a target of a row's own has lines for.
+const OF_A_TARGET: [&str; 17] = [
+    "answer",
+    "reset",
+    "begin",
+    "lives",
+    "given",
+    "end",
+    "each-place",
+    "pieces",
+    "login",
+    "discovery",
+    "portals",
+    "ExpCmdSN",
+    "StatSN",
+    "MaxRecvDataSegmentLength",
+    "MaxBurstLength",
+    "FirstBurstLength",
+    "ImmediateData",
+];
+
+// Serves the row of these lines.
+fn run_text(rt: &impl Abort, alloc: Global, table: &str, text: &str) {
+    let row = Row::read(rt, alloc, table, text);
+    must(rt, !row.name.is_empty(), table, &"a table has rows");
+    row.has_none_of(rt, &OF_A_TARGET);
+    must(rt, row.asked.is_empty(), row.name, &"asked");
+    run_row(rt, alloc, &row);
+}
+
 #[test]
 fn sessions_of_one_unit(rt: HostRuntime) {
     let tables: [Table; 3] = [
@@ -128,7 +161,7 @@ fn sessions_of_one_unit(rt: HostRuntime) {
     ];
     for (table, rows) in &tables {
         for text in rows.split("\n\n") {
-            run_row(&rt, rt.alloc(), &Row::read(&rt, rt.alloc(), table, text));
+            run_text(&rt, rt.alloc(), table, text);
         }
     }
 }

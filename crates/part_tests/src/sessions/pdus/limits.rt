@@ -3,8 +3,11 @@ use crate::ends::{fail, must};
 use crate::sessions::pdus::rows::{
     Figure, NUMBERS, bytes_of, decoded_otherwise, is_waited_for, put_pdu,
 };
-use iscsi_pdu::{DataIn, Header, LONGEST_PDU, MAX_DATA_SEGMENT_LENGTH, TargetHeader};
+use crate::sessions::run::put;
+use iscsi_pdu::{BHS_LENGTH, DataIn, Header, LONGEST_PDU, MAX_DATA_SEGMENT_LENGTH, TargetHeader};
 use pdu_coding::decode;
+use std::alloc::Global;
+use std::process::Abort;
 use std::test::*;
 
 // TEST UNIT READY to LUN 0 with the tag 1, CmdSN 1 and ExpStatSN 1.
@@ -30,6 +33,9 @@ fn has_no_data(bytes: &[u8]) -> bool {
     matches!(decode(bytes), Ok(Some((pdu, 48))) if pdu.data.is_empty())
 }
 
+// The longest PDU: F, a data segment of 65536 bytes, LUN 0, the tag 3, no Target Transfer Tag, the numbers, DataSN and offset 0.
+const LONGEST: Figure = "25800000 00010000 0 0 3 FFFFFFFF 21222324 31323334 41424344 0 0 0";
+
 const LAST_DATA_IN: Header = Header::Target(TargetHeader::DataIn(DataIn {
     last: true,
     task_tag: 3,
@@ -39,13 +45,23 @@ const LAST_DATA_IN: Header = Header::Target(TargetHeader::DataIn(DataIn {
     offset: 0,
 }));
 
+// Its bytes, of which the last are this data.
+fn longest(rt: &impl Abort, alloc: Global, data: &[u8]) -> Vec<u8> {
+    let mut bytes = bytes_of(rt, alloc, LONGEST, [0; 4]);
+    bytes.truncate(BHS_LENGTH);
+    put(rt, &mut bytes, data);
+    bytes
+}
+
 #[test]
 fn the_longest_pdu(rt: HostRuntime) {
     let data = vec![in rt.alloc(); 0x5A; MAX_DATA_SEGMENT_LENGTH].expect(&rt, "memory");
     let mut out = Vec::new(rt.alloc());
     put_pdu(&rt, &mut out, &LAST_DATA_IN, &data);
-    must(&rt, out.len() == LONGEST_PDU, "the bytes", &out.len());
-    if let Some(what) = decoded_otherwise(&rt, rt.alloc(), &out, &out) {
+    let want = longest(&rt, rt.alloc(), &data);
+    must(&rt, want.len() == LONGEST_PDU, "the bytes", &want.len());
+    must(&rt, out == want, "encoded", &"other bytes");
+    if let Some(what) = decoded_otherwise(&rt, rt.alloc(), &want, &want) {
         fail(&rt, "decoded", &what);
     }
 }

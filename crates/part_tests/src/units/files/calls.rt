@@ -1,7 +1,7 @@
 //! The runner of the scripts over files (`scripts`).
 use crate::ends::must;
 use crate::units::files::rows::{Row, row_of};
-use crate::units::files::runs::{folder, path_of, reads, sized, writes};
+use crate::units::files::runs::{clean, folder, path_of, reads, sized, writes};
 use crate::units::reg_file::files::record_after;
 use aptpl_file::RegFile;
 use block_file::{Blocks, Opener};
@@ -23,6 +23,7 @@ pub fn play_each<R: Files<File = File> + AllocGlobal + Abort + Copy + Drop>(
         let (name, rows) = script.split_once('\n').unwrap_or((script, ""));
         let folder = folder(rt, process, name);
         play(rt, folder.as_str(), rows);
+        clean(rt, folder.as_str());
     }
 }
 
@@ -213,7 +214,7 @@ fn names<R: Files<File = File>>(rt: &R, path: &str, other: &str, row: &Row) -> b
     match row.word {
         "rename" => fs::rename(rt, path, other).is_ok(),
         "link" => fs::hard_link(rt, path, other).is_ok(),
-        "symlink" => std::os::unix::fs::symlink(rt, path, other).is_ok(),
+        "symlink" => std::os::unix::fs::symlink(rt, row.on, other).is_ok(),
         _ => false,
     }
 }

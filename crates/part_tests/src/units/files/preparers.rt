@@ -1,6 +1,6 @@
 //! Preparers that cannot prepare: the device does the same.
 use crate::ends::must;
-use crate::units::files::runs::{folder, path_of, reads, sized, writes};
+use crate::units::files::runs::{clean, folder, path_of, reads, sized, writes};
 use block_file::Blocks;
 use disk_files::{FileBlocks, FilePreparer, SystemFile, open_disk};
 use preparer::Preparer;
@@ -24,6 +24,7 @@ fn a_preparer_costs_time_alone(rt: HostRuntime) {
     for name in &["disk", "other", "none"] {
         under_a_name(&rt, rt.alloc(), folder.as_str(), *name);
     }
+    clean(&rt, folder.as_str());
 }
 
 // Makes a file of so many zeros.

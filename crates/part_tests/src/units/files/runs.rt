@@ -5,16 +5,22 @@ use std::fs::{File, Files};
 use std::process::Abort;
 use std::{fs, io};
 
-/// The folder of a test of this process, made anew.
+/// The folder of a test of this process, made anew in the one that the test runs in: who runs it made that for it, and takes it away
+/// again, also where it fails.
 pub fn folder<R: Files<File = File> + AllocGlobal + Abort>(
     rt: &R,
     process: u32,
     name: &str,
 ) -> String {
-    let folder = format!(in rt.alloc(); "/tmp/arrayd_{process}_{name}").expect(rt, "memory");
+    let folder = format!(in rt.alloc(); "arrayd_{process}_{name}").expect(rt, "memory");
     let _ = fs::remove_dir_all(rt, folder.as_str());
     fs::create_dir(rt, folder.as_str()).expect(rt, name);
     folder
+}
+
+/// Takes the folder of a test away.
+pub fn clean<R: Files<File = File> + AllocGlobal + Abort>(rt: &R, folder: &str) {
+    fs::remove_dir_all(rt, folder).expect(rt, folder);
 }
 
 /// The path of a name in a folder.

@@ -35,15 +35,10 @@ fn told(rt: &impl Abort, alloc: Global, record: Record) -> Vec<u8> {
     registry.full_status(65535).expect(rt, "memory")
 }
 
-/// Whether the file of a device, opened, holds the record after these requests.
-pub fn holds(rt: &impl Abort, alloc: Global, device: MemBlocks, requests: &str) -> bool {
+/// Whether the file of a device, opened, holds a record that is to last, which READ FULL STATUS tells in these bytes.
+pub fn holds(rt: &impl Abort, alloc: Global, device: MemBlocks, status: &[u8]) -> bool {
     let (_file, record) = RegFile::open(alloc, device).expect(rt, "a registration file");
-    are_alike(rt, alloc, record, record_after(rt, alloc, requests))
-}
-
-// Whether two records say the same.
-fn are_alike(rt: &impl Abort, alloc: Global, one: Record, other: Record) -> bool {
-    one.aptpl() == other.aptpl() && told(rt, alloc, one) == told(rt, alloc, other)
+    record.aptpl() && told(rt, alloc, record).as_slice() == status
 }
 
 /// A formatted file in memory.

@@ -15,6 +15,9 @@ fn tables() -> &'static str {
 # Two registrants, a and b, of which a holds a reservation of type 5. Slot 1 stands from block 34 on, its entries in block 35.
 A_LONG Register 0 0 11 APTPL, B_LONG Register 0 0 22 APTPL, A_LONG Reserve 5 11 0 APTPL
 as it was saved;; opens
+the same in version 1, where nothing tells the holder's group; 0 9 01, 34 12 00; opens
+version 1 and a holder's group; 0 9 01; not-a-file
+version 1, and a holder that is not there; 0 9 01, 34 12 00, 34 11 02; not-a-file
 another root; 0 7 32; not-a-file
 version 3; 0 9 03; version
 version 257; 0 8 01; version
@@ -119,6 +122,7 @@ fn fault_named(rt: &impl Abort, word: &str) -> Option<OpenFault> {
 fn are_refused(rt: &impl Abort, alloc: Global, table: &str) {
     let lines = lines_of(alloc, table).expect(rt, "memory");
     let (words, rows) = lines.split_first().expect(rt, "a device");
+    must(rt, !rows.is_empty(), words, &"a device has rows");
     for row in rows {
         is_refused(rt, alloc, words, row);
     }

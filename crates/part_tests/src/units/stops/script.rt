@@ -1,4 +1,5 @@
 //! The scripts, and what is known of them.
+use crate::ends::must;
 use crate::units::bench::Setup;
 use crate::units::rows::{is_row, part, setup_of};
 use crate::units::stops::calls::{Call, Does, Reach, picked, put_calls, values_of};
@@ -6,6 +7,11 @@ use crash_blocks::Pick;
 use std::alloc::Global;
 use std::process::Abort;
 use test_streams::lines_of;
+
+// Whether a line says what no stop looks at.
+fn is_passed_over(line: &str) -> bool {
+    line.starts_with("written ") || line.starts_with("numbers ") || line.starts_with("each ")
+}
 
 /// The two devices of a unit.
 #[derive(Clone, Copy, PartialEq, Eq)]
@@ -38,7 +44,8 @@ pub struct Script<'a> {
 impl<'a> Script<'a> {
     /// The script of this text.
     pub fn read(rt: &impl Abort, alloc: Global, text: &'a str) -> Script<'a> {
-        let lines = lines_of(alloc, text).expect(rt, "memory");
+        let mut lines = lines_of(alloc, text).expect(rt, "memory");
+        lines.retain(|line| !line.starts_with("loses "));
         let mut script = Script {
             setup: setup_of(rt, &lines, 0),
             rows: Vec::new(alloc),
@@ -49,6 +56,8 @@ impl<'a> Script<'a> {
             if is_row(line) {
                 script.add(rt, *line);
             }
+            let is_looked_at = *line == script.setup.script || !is_passed_over(line);
+            must(rt, is_looked_at, text, line);
         }
         script
     }

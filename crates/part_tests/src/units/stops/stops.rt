@@ -1,5 +1,5 @@
 //! The power is lost at each call of a device.
-use crate::ends::must;
+use crate::ends::{fail, must};
 use crate::units::stops::calls::{Does, Reach};
 use crate::units::stops::power::lose;
 use crate::units::stops::script::{Device, Script, Stop};
@@ -120,10 +120,10 @@ fn landings(script: &Script, of: Device, place: usize) -> u32 {
 fn loses(rt: &impl Abort, alloc: Global, script: &Script, words: &str) {
     let (of, rest) = words.split_once(' ').expect(rt, words);
     let (from, count) = rest.split_once(' ').expect(rt, words);
-    let of = if of == "blocks" {
-        Device::Blocks
-    } else {
-        Device::Registrations
+    let of = match of {
+        "blocks" => Device::Blocks,
+        "registrations" => Device::Registrations,
+        _ => fail(rt, words, &"no device"),
     };
     let stops = lose_at_each(rt, alloc, script, of, from.parse().expect(rt, words));
     let is_right = count.parse::<u64>().expect(rt, words) == stops;
@@ -133,11 +133,14 @@ fn loses(rt: &impl Abort, alloc: Global, script: &Script, words: &str) {
 // Loses the power as each line of a script says that does.
 fn each_loses(rt: &impl Abort, alloc: Global, text: &str) {
     let script = Script::read(rt, alloc, text);
+    let mut has_stop = false;
     for line in text.lines() {
         if let Some(words) = line.strip_prefix("loses ") {
             loses(rt, alloc, &script, words);
+            has_stop = true;
         }
     }
+    must(rt, has_stop, text, &"a script loses the power");
 }
 
 #[test]

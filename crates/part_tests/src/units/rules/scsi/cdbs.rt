@@ -10,13 +10,16 @@ use test_streams::lines_of;
 
 // Each CDB asks for what stands beside it.
 fn ask(rt: &impl Abort, alloc: Global, rows: &str) {
-    for row in &lines_of(alloc, rows).expect(rt, "memory") {
+    let rows = lines_of(alloc, rows).expect(rt, "memory");
+    must(rt, !rows.is_empty(), "CDBs", &"a table has rows");
+    for row in &rows {
         asks(rt, alloc, row);
     }
 }
 
 // The CDB of a row does.
 fn asks(rt: &impl Abort, alloc: Global, row: &str) {
+    must(rt, part(row, 3).is_empty(), row, &"more parts than three");
     let asked = decode(&cdb_of(rt, alloc, part(row, 1), 0xEE));
     let text = format!(in alloc; "{asked:?}").expect(rt, "memory");
     let text = in_hexadecimal(rt, alloc, text.as_str());
