@@ -8,26 +8,23 @@ Then, with nothing refused, counts the allocations between two reads of a sessio
 write that waits, and, at a desk of the array, a command's job. Then it does the first again with examples of logins and of several sessions, through both controllers
 of the array: each allocation behind the first connection (bench/sessions.py).
 
-With --tests it does the same with the proved tests of these crates: each test passes, or ends for want of memory that its
-own rows, writer or target ask for, or shows BUSY or a login refused by 0302 where the example has an answer. A word behind
-a colon picks tests; one with more than N allocations, 1000, is left out.
+In two of these examples a call of the device fails besides (bench/failing.py).
 
-usage: bench/refused.py [PROGRAM] | --tests CRATE[:WORD].. [--most N]
+usage: bench/refused.py [PROGRAM]
 
-PROGRAM is ./arrayd where none is given; `./example.sh --proved` makes it. `rt test` in its folder builds the tests
-of a crate. Wants a C compiler and the GNU C library.
+PROGRAM is ./arrayd where none is given; `./example.sh --proved` makes it. Wants a C compiler and the GNU C library.
 """
 
 import argparse
 import mmap
 import os
-import re
 import struct
 import subprocess
 import sys
 import tempfile
 import time
 
+from failing import Failing
 from sessions import EXAMPLES as OF_SESSIONS, STEPS, Wrong, serve, step_by_step
 
 TOP = os.path.dirname(os.path.dirname(os.path.abspath(__file__)))
@@ -373,10 +370,14 @@ class Refuser:
         source = os.path.join(TOP, "bench", "refused.c")
         subprocess.run(["cc", "-O2", "-shared", "-fPIC", "-o", self.library, source], check=True)
         self.counts = Counts(os.path.join(folder, "counts"))
+        self.failing = Failing(folder)
 
     def environment(self, at, **more):
         self.counts.clear()
-        return {"LD_PRELOAD": self.library, "REFUSED_AT": str(at), "REFUSED_COUNTS": self.counts.path, **more}
+        self.failing.stop()
+        refuses = {"REFUSED_AT": str(at), "REFUSED_COUNTS": self.counts.path}
+        both = f"{self.library}:{self.failing.environment['LD_PRELOAD']}"
+        return {**self.failing.environment, "LD_PRELOAD": both, **refuses, **more}
 
     def run(self, words, came, at):
         """Status, output and errors of a run, how many allocations it asked for, and how often it read."""
@@ -472,7 +473,7 @@ def between_reads(refuser, program, example):
 
 def count_in_a_session(refuser, program, folder):
     """Prints how many allocations a session takes before its first read, and behind each PDU of its life."""
-    serve(program, folder, refuser.environment(0, REFUSED_FROM_ACCEPT="1"), step_by_step)
+    serve(program, folder, refuser.environment(0, REFUSED_FROM_ACCEPT="1"), refuser.failing, step_by_step)
     reads = refuser.counts.at(1)
     if reads != len(STEPS) + 1:
         raise Wrong(f"{reads} reads of a session of {len(STEPS) + 1} PDUs")
@@ -502,7 +503,8 @@ def refuse_each_of_sessions(refuser, program, folder, example):
     at = 0
     while True:
         try:
-            what = serve(program, folder, refuser.environment(at, REFUSED_FROM_ACCEPT="1"), example)
+            environment = refuser.environment(at, REFUSED_FROM_ACCEPT="1")
+            what = serve(program, folder, environment, refuser.failing, example)
         except Wrong as wrong:
             raise Wrong(f"allocation {at} refused: {wrong}") from None
         if at == 0 and what != "example":
@@ -531,102 +533,7 @@ def sessions_table(refuser, program, folder):
     print(f"{tried} runs with an allocation refused; asked again, each went on as in the example")
 
 
-# ---- the proved tests
-
-
-def bytes_in(text, word):
-    """The bytes that a failed comparison prints behind this word, where it prints a list of them."""
-    found = re.search(word + r": *\[([0-9, \n]*)\]", text)
-    return bytes(int(number) for number in found.group(1).split(",") if number.strip()) if found else None
-
-
-def shown(got, wanted):
-    """BUSY or a refused login, where that stands in place of what was wanted; or a want of a test's own."""
-    if len(got) < len(wanted) and wanted.startswith(got):
-        return "own want"
-    for pdu, other in zip(pdus(got), pdus(wanted)):
-        if pdu != other:
-            if pdu[0] == 0x21 and pdu[3] == BUSY:
-                return "BUSY"
-            if pdu[0] == 0x23 and pdu[36:38] == b"\x03\x02":
-                return "0302"
-            if pdu[0] == 0x22 and pdu[2] == 0xFF:
-                return "own want"  # the reset failed at the target
-            if pdu[0] == 0x23 and (pdu[36:38], other[36:38]) == (b"\x02\x0a", b"\x02\x06"):
-                return "own want"
-            return None
-    return None
-
-
-def judge_test(status, output, errors):
-    """What the run of a test came to."""
-    text = (output + errors).decode("utf-8", "replace")
-    if status == 0 and "test result: ok" in text:
-        return "passed"
-    left, right = bytes_in(text, "left"), bytes_in(text, "right")
-    if left is not None and right is not None:
-        return shown(left, right)
-    # A test's writer keeps in memory what it took, and its target what it was asked, which is counted.
-    if re.search('left: ["(]OutputFailed', text) or re.search("left: [0-9]+\\s+right: [0-9]+\\s", text):
-        return "own want"
-    # The end of a session whose login was refused, and a login that a target refused.
-    if re.search('left: ["(]Protocol["a-z0-9, )]+\\s+right: ["(](LoggedOut|EndOfInput|InputFailed|OutputFailed)', text):
-        return "0302"
-    if re.search('left: "(Refused|Not\\(NoMemory\\))"\\s+right: "Begun', text):
-        return "0302"
-    # A row that can't be read is named, cut where it is long.
-    if re.search("OutOfMemory|NoMemory|AllocError|\\.\\.\\.\nthe test failed: its result", text):
-        return "own want"
-    return None
-
-
-def tests_of(crate):
-    """The program of a crate's tests, and those that are named, else all."""
-    name, _, word = crate.partition(":")
-    program = os.path.join(TOP, "crates", name, "out", f"{name}_tests")
-    said = subprocess.run([program, "--list"], capture_output=True, text=True, check=True).stdout
-    tests = [line.split(": ")[0] for line in said.splitlines() if line.endswith(": test")]
-    # A writer that fails at a call has no place for a failure of its own; `batches` compares no PDUs, but their count.
-    tests = [test for test in tests if word in test and not re.search("write.*_fails|^batches", test)]
-    if not tests:
-        raise Wrong(f"{crate}: no such test")
-    return name, program, tests
-
-
-def refuse_each_of(refuser, program, test):
-    counted = {"passed": 0, "BUSY": 0, "own want": 0, "0302": 0}
-    at = 0
-    while True:
-        status, output, errors, asked, _ = refuser.run([program, test], b"", at)
-        what = judge_test(status, output, errors)
-        if what is None or at == 0 and what != "passed":
-            text = (output + errors).decode("utf-8", "replace")
-            raise Wrong(f"{test}, allocation {at} refused: status {status}\n{text}")
-        if at > asked:
-            return at - 1, counted
-        if at > 0:
-            counted[what] += 1
-        at += 1
-
-
-def tests_table(refuser, crates, most):
-    print(f"{'test':60} {'allocations':>11} {'passed':>7} {'BUSY':>6} {'own want':>10} {'0302':>5}")
-    tried = 0
-    for crate in crates:
-        name, program, tests = tests_of(crate)
-        for test in tests:
-            if refuser.run([program, test], b"", 0)[3] > most:
-                print(f"{name + ' ' + test:60} more than {most}: left out", flush=True)
-                continue
-            allocations, counted = refuse_each_of(refuser, program, test)
-            tried += allocations
-            print(
-                f"{name + ' ' + test:60} {allocations:11} {counted['passed']:7} {counted['BUSY']:6} "
-                f"{counted['own want']:10} {counted['0302']:5}",
-                flush=True,
-            )
-    print(f"{tried} runs with an allocation refused")
-
+# ---- all of it
 
 def table(refuser, program):
     """Refuses each allocation of each example in turn, and prints what the runs came to."""
@@ -663,16 +570,11 @@ def count_between_reads(refuser, program):
 
 def main():
     words = argparse.ArgumentParser(usage=__doc__.split("usage: ")[1].splitlines()[0])
-    words.add_argument("--tests", nargs="+", default=[])
-    words.add_argument("--most", type=int, default=1000)
     words.add_argument("program", nargs="?", default=BUILT)
     words = words.parse_args()
     with tempfile.TemporaryDirectory() as folder:
         refuser = Refuser(folder)
         try:
-            if words.tests:
-                tests_table(refuser, words.tests, words.most)
-                return
             stored(refuser, words.program)
             table(refuser, words.program)
             count_between_reads(refuser, words.program)

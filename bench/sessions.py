@@ -2,6 +2,7 @@
 command is answered as in the example, or once BUSY, and then, sent again, as in the example; a login is accepted, or once
 refused by 0302 or its connection closed, and then, tried again, accepted."""
 
+import errno
 import itertools
 import os
 import struct
@@ -21,8 +22,8 @@ class Wrong(Exception):
 class Watched:
     """What an example asks of the array, and what became of the one allocation that was refused."""
 
-    def __init__(self, port, disk):
-        self.port, self.disk = port, disk
+    def __init__(self, port, disk, failing):
+        self.port, self.disk, self.failing = port, disk, failing
         self.what = "example"
 
     def becomes(self, what):
@@ -73,8 +74,8 @@ class Watched:
         """The next command of a session is told of this."""
         self.ask(session, "00" * 6, status=CHECK_CONDITION, sense=(6, code, qualifier))
 
-    def reserve(self, session, action, kind=0, key=0, new_key=0, **wanted):
-        values = struct.pack(">QQ8x", key, new_key)
+    def reserve(self, session, action, kind=0, key=0, new_key=0, aptpl=False, **wanted):
+        values = struct.pack(">QQ4xB3x", key, new_key, aptpl)
         self.ask(session, f"5F{action:02X}{kind:02X}0000{len(values):08X}00", out=values, **wanted)
 
 
@@ -223,6 +224,32 @@ def four_registrants(run):
     run.ask(b, "5E01" + "00" * 5 + "020000", expected=512, data=bytes.fromhex(told))
 
 
+def a_device_that_fails(run):
+    """A write that fails is told; sent again it is done."""
+    session = run.log_in()
+    run.powered_on(session)
+    run.failing.let("pwrite", errno.ENOSPC)
+    run.ask(session, write_10(10, 4), out=b"\x5a" * (4 * BLOCK), status=CHECK_CONDITION, sense=(3, 0x0C, 0))
+    run.ask(session, write_10(10, 4), out=b"\x5a" * (4 * BLOCK))
+    run.ask(session, read_10(9, 6), expected=6 * BLOCK, data=bytes(BLOCK) + b"\x5a" * (4 * BLOCK) + bytes(BLOCK))
+    if not run.failing.is_over("pwrite"):
+        raise Wrong("no write failed")
+
+
+def an_unsaved_registration(run):
+    """The last flush of the save fails: nobody is registered. No later flush of the file makes that good, and while it is in doubt what
+    the file holds, a registration that is not to last wants a save too."""
+    session = run.log_in()
+    run.powered_on(session)
+    run.failing.let("fdatasync", errno.EIO, behind=1)
+    for key, aptpl in ((0x11, True), (0x22, True), (0x33, False)):
+        run.reserve(session, 0, new_key=key, aptpl=aptpl, status=CHECK_CONDITION, sense=(4, 0x44, 0))
+        run.ask(session, "5E00" + "00" * 5 + "020000", expected=512, data=bytes(8))
+    if not run.failing.is_over("fdatasync"):
+        raise Wrong("no flush failed")
+    run.ask(session, write_10(5), out=b"\x5a" * BLOCK)
+
+
 EXAMPLES = {
     "a life of a session": a_life,
     "discovery": discovery,
@@ -235,6 +262,8 @@ EXAMPLES = {
     "the same port again": same_port_again,
     "READ FULL STATUS": full_status,
     "four registrants": four_registrants,
+    "a device that fails": a_device_that_fails,
+    "a save whose last flush fails": an_unsaved_registration,
 }
 
 
@@ -265,8 +294,9 @@ STEPS = (
 )
 
 
-def serve(program, folder, environment, example):
-    """Starts the array on a new disk of 2048 blocks, and does what an example says; what became of a refused allocation."""
+def serve(program, folder, environment, failing, example):
+    """Starts the array on a new disk of 2048 blocks, of which calls may fail, and does what an example says; what became of a refused
+    allocation."""
     port = next(PORTS)
     disk = os.path.join(folder, "disk.img")
     for path in (disk, disk + ".reg"):
@@ -280,7 +310,7 @@ def serve(program, folder, environment, example):
     try:
         if array.stdout.readline() != b"arrayd: ready\n":
             raise Wrong("the array does not get ready")
-        run = Watched(port, disk)
+        run = Watched(port, disk, failing)
         example(run)
         array.stdin.write(b"quit\n")
         if array.wait(20) != 0:
