@@ -80,14 +80,14 @@ def off_by_default(folder, log):
 def files_that_cannot_be_used(folder, log):
     name = os.path.join(folder, 'no\n"disk"\x1b[2J')
     is_so("not there", ended([name], log=log.path), (1, "arrayd: cannot use unit 0"))
-    log.find("cannot_use", unit="0", file="disk", disk=name, why="not_there")
+    log.find("cannot_use", unit="0", file="disk", disk=name, why="not_there", errno="2", error="ENOENT")
     for length, why in ((0, "empty"), (513, "length_no_multiple_of_512"), (512 << 32, "too_long")):
         with open(folder + "/odd", "wb") as file:
             file.truncate(length)
         is_so(why, ended([folder + "/odd"], log=log.path), (1, "arrayd: cannot use unit 0"))
-        log.find("cannot_use", file="disk", disk=folder + "/odd", why=why)
+        log.find("cannot_use", file="disk", disk=folder + "/odd", why=why, errno="0", error="none")
     is_so("a folder", ended([folder], log=log.path), (1, "arrayd: cannot use unit 0"))
-    log.find("cannot_use", disk=folder, why="not_opened")
+    log.find("cannot_use", disk=folder, why="not_opened", errno="21", error="EISDIR")
     good = disk(folder)
     with Array([good]):
         is_so("in use", ended(["--port", str(PORT + 16), good], log=log.path), (1, "arrayd: cannot use unit 0"))
@@ -206,15 +206,45 @@ def session_ended(folder, log):
 # ---- units
 
 @case
+def grew(folder, log):
+    path = disk(folder)
+    with Array([path], log=log.path) as array:
+        session = login()
+        os.truncate(path, 1 << 20)
+        is_so("writes", (write(session), write(session)), (GOOD, GOOD))
+        log.find("grew", unit="0", file="disk")
+        array.quit()
+
+
+@case
+def hung(folder, log):
+    with Mounted(folder) as place:
+        image = disk(folder, "image", 32768)
+        run("mkfs.ext4", "-q", "-F", image)
+        place.mount(place.loop(image))
+        with Array([disk(place.place)], log=log.path, more={"ARRAYD_DEADLINE": "1"}):
+            session = login()
+            run("fsfreeze", "-f", place.place)
+            try:
+                is_so("writes", (write(session), write(session)), ("03 0C/00", "03 0C/00"))
+                log.find("hung", unit="0", file="disk", call="write")
+            finally:
+                run("fsfreeze", "-u", place.place)
+
+
+@case
 def groups_set(folder, log):
     path = disk(folder)
     with Array([path, disk(folder, "second")], log=log.path) as array:
         session = login(1, 1)
         is_so("set", end_of(session.set_port_groups(0, [(2, 0), (1, 1)])), GOOD)
-        log.find("groups_set", unit="0", owner="2", by="session", initiator="iqn.2000-01.test:host", isid=hex(ISID + 1))
-        is_so("down", array.ask("down 2"), ["down"])
+        log.find("groups_set", unit="0", owner="2", states="1,0", by="session", initiator="iqn.2000-01.test:host", isid=hex(ISID + 1))
+        session.ready(0)
+        is_so("its own group alone", end_of(session.set_port_groups(0, [(1, 3)])), GOOD)
+        log.find("groups_set", unit="0", owner="2", states="3,0", by="session")
+        is_so("down, twice", array.ask("down 2") + array.ask("down 2"), ["down", "down"])
         for unit in ("0", "1"):
-            log.find("groups_set", unit=unit, owner="1", by="console")
+            log.find("groups_set", unit=unit, owner="1", states="0,3", by="console")
         os.rename(path, path + ".away")
         is_so("not moved", array.ask("down 1"), ["not moved 0"])
         log.find("device_failed", unit="0", file="disk", call="open", errno="2", error="ENOENT")
@@ -430,6 +460,7 @@ def many_at_once(folder, log):
 
 # Events and words that no case provokes, and why.
 NEVER = {
+    ("no_keepalive", "event", "no_keepalive"): "Linux takes these options for each connection over TCP",
     ("login_refused", "lacks", "tsih"): "there are 65,535, and so many sessions at once take some 20 GiB of memory",
     ("login_refused", "lacks", "number"): "2^64 sessions have to begin before",
     ("not_moved", "why", "bad_list"): "the console's list is a good one, whatever the states are",

@@ -2,15 +2,14 @@
 ghost use Rattle.std.specs.Prelude.{◌≡◌, ◌≤◌, IfOk, length, map};
 ghost use Rattle.unit_state.specs.Serials.{IsOpening};
 
-use aptpl_file::{OpenFault, RegFile};
+use aptpl_file::OpenFault;
 use block_file::{Blocks, Opener};
 use command_line::{Fault, MAX_UNITS, Options};
 use disk_files::{
-    Disk, DiskFault, DiskLock, FileBlocks, FileFault, FileOpener, FilePreparer, RegistrationsFault,
-    SystemFile, Voice, open_disk, open_registrations,
+    Disk, DiskFault, DiskLock, FileBlocks, FileFault, FileOpener, FilePreparer, NamedBlocks,
+    Registrations, RegistrationsFault, SystemFile, Voice, open_disk, open_registrations,
 };
 use event_log::{Event, Log, Part, Unusable};
-use reservations::Record;
 use scsi_types::Place;
 use std::alloc::Global;
 use std::fs::File;
@@ -21,9 +20,9 @@ use unit_history::NewUnit;
 use unit_state::{Unit, laws};
 
 /// A unit over a file, with the registration file beside it.
-type FileUnit<R> = Unit<FileBlocks<SystemFile>, FileBlocks<SystemFile>, FileOpener<R>>;
+type FileUnit<R> = Unit<FileBlocks<SystemFile>, NamedBlocks<R>, FileOpener<R>>;
 
-/// An array before it is served: its units, the preparers of their disks, and the locks of these, for as long as it is served.
+/// An array before it is served: its units, the preparers of their disks, and the locks of their files, for as long as it is served.
 #[derive(Drop)]
 pub struct OpenArray<B: Blocks, F: Blocks, O: Opener<B>, P> {
     pub units: Vec<NewUnit<B, F, O>>,
@@ -34,16 +33,19 @@ pub struct OpenArray<B: Blocks, F: Blocks, O: Opener<B>, P> {
 /// One over files.
 pub type FileArray<R> = OpenArray<
     FileBlocks<SystemFile>,
-    FileBlocks<SystemFile>,
+    NamedBlocks<R>,
     FileOpener<R>,
     FilePreparer<R, SystemFile>,
 >;
+
+// ENOENT, as Linux numbers it.
+const NO_ENTRY: u32 = 2;
 
 // Why a file is no device of blocks, as the log names it.
 fn file_unusable(fault: FileFault) -> Unusable {
     match fault {
         FileFault::NotThere => Unusable::NotThere,
-        FileFault::NotOpened => Unusable::NotOpened,
+        FileFault::NotOpened(_) => Unusable::NotOpened,
         FileFault::Length => Unusable::Length,
         FileFault::Empty => Unusable::Empty,
         FileFault::TooLong => Unusable::TooLong,
@@ -55,7 +57,7 @@ fn disk_unusable(fault: DiskFault) -> Unusable {
     match fault {
         DiskFault::File(fault) => file_unusable(fault),
         DiskFault::InUse => Unusable::InUse,
-        DiskFault::NotLocked => Unusable::NotLocked,
+        DiskFault::NotLocked(_) => Unusable::NotLocked,
         DiskFault::NoMemory => Unusable::NoMemory,
     }
 }
@@ -64,7 +66,9 @@ fn disk_unusable(fault: DiskFault) -> Unusable {
 fn registrations_unusable(fault: RegistrationsFault) -> Unusable {
     match fault {
         RegistrationsFault::File(fault) => file_unusable(fault),
-        RegistrationsFault::NotMade => Unusable::NotMade,
+        RegistrationsFault::NotMade(_) => Unusable::NotMade,
+        RegistrationsFault::InUse => Unusable::InUse,
+        RegistrationsFault::NotLocked(_) => Unusable::NotLocked,
         RegistrationsFault::Held(OpenFault::NotARegFile) => Unusable::NotARegistrationFile,
         RegistrationsFault::Held(OpenFault::Version) => Unusable::Version,
         RegistrationsFault::Held(OpenFault::DeviceFailed) => Unusable::Failed,
@@ -74,8 +78,38 @@ fn registrations_unusable(fault: RegistrationsFault) -> Unusable {
     }
 }
 
+// The error of the system, 0 where it told none.
+fn file_error(fault: FileFault) -> u32 {
+    match fault {
+        FileFault::NotThere => NO_ENTRY,
+        FileFault::NotOpened(error) => error,
+        FileFault::Length | FileFault::Empty | FileFault::TooLong => 0,
+    }
+}
+
+// The same of a disk.
+fn disk_error(fault: DiskFault) -> u32 {
+    match fault {
+        DiskFault::File(fault) => file_error(fault),
+        DiskFault::NotLocked(error) => error,
+        DiskFault::InUse | DiskFault::NoMemory => 0,
+    }
+}
+
+// The same of a registration file.
+fn registrations_error(fault: RegistrationsFault) -> u32 {
+    match fault {
+        RegistrationsFault::File(fault) => file_error(fault),
+        RegistrationsFault::NotMade(error) | RegistrationsFault::NotLocked(error) => error,
+        RegistrationsFault::Held(_)
+        | RegistrationsFault::InUse
+        | RegistrationsFault::Forgotten
+        | RegistrationsFault::NoMemory => 0,
+    }
+}
+
 // That a file of a unit cannot be used, or that there was no memory.
-fn fault_of(unit: u8, part: Part, why: Unusable) -> Fault {
+pub(crate) fn fault_of(unit: u8, part: Part, why: Unusable) -> Fault {
     match (why, part) {
         (Unusable::NoMemory, _) => Fault::NoMemory,
         (_, Part::Disk) => Fault::CannotUseUnit(unit),
@@ -89,7 +123,7 @@ fn voice(log: &Log, unit: u8, part: Part) -> Result<Voice, Fault> {
 }
 
 // The disk of a unit.
-fn open_blocks<R: Files<File = File> + Clone + Drop>(
+pub(crate) fn open_blocks<R: Files<File = File> + Clone + Drop>(
     rt: &R,
     alloc: Global,
     log: &Log,
@@ -104,14 +138,15 @@ fn open_blocks<R: Files<File = File> + Clone + Drop>(
         }
         Err(fault) => {
             let why = disk_unusable(fault);
-            log.note(&Event::CannotUse(unit, Part::Disk, path.as_bytes(), why));
+            let error = disk_error(fault);
+            log.note(&Event::CannotUse(unit, Part::Disk, path.as_bytes(), why, error));
             Err(fault_of(unit, Part::Disk, why))
         }
     }
 }
 
 // The preparer of a disk, which tells of its own flushes that fail.
-fn open_preparer<R: Files<File = File> + Clock + Wait + Clone + Drop>(
+pub(crate) fn open_preparer<R: Files<File = File> + Clock + Wait + Clone + Drop>(
     rt: &R,
     alloc: Global,
     log: &Log,
@@ -128,19 +163,21 @@ fn open_preparer<R: Files<File = File> + Clock + Wait + Clone + Drop>(
 }
 
 // The registration file of a unit, and its record.
-fn open_record<R: Files<File = File>>(
+pub(crate) fn open_record<R: Files<File = File> + Clone + Drop>(
     rt: &R,
     alloc: Global,
     log: &Log,
     unit: u8,
     path: &str,
-) -> Result<(RegFile<FileBlocks<SystemFile>>, Record), Fault> {
+) -> Result<Registrations<R>, Fault> {
     let voice = voice(log, unit, Part::Registrations)?;
-    match open_registrations(rt, alloc, path, Some(voice)) {
+    let mine = rt.clone()?;
+    match open_registrations(mine, alloc, path, Some(voice)) {
         Ok(found) => Ok(found),
         Err(fault) => {
             let why = registrations_unusable(fault);
-            log.note(&Event::CannotUse(unit, Part::Registrations, path.as_bytes(), why));
+            let error = registrations_error(fault);
+            log.note(&Event::CannotUse(unit, Part::Registrations, path.as_bytes(), why, error));
             Err(fault_of(unit, Part::Registrations, why))
         }
     }
@@ -153,16 +190,23 @@ fn open_unit<R: Files<File = File> + Clock + Wait + Clone + Drop>(
     log: &Log,
     place: Place,
     path: &str,
-) -> Result<(FileUnit<R>, DiskLock, FilePreparer<R, SystemFile>), Fault>
+) -> Result<(FileUnit<R>, [DiskLock; 2], FilePreparer<R, SystemFile>), Fault>
     ensures opening { IfOk result (λ r. IsOpening r.0.control) }
     ensures disk { IfOk result (λ r. r.0.device.file.node ≡ r.2.node) }
 {
     let mut disk = open_blocks(rt, alloc, log, place.unit, path)?;
     let preparer = open_preparer(rt, alloc, log, place.unit, path, &mut disk.blocks)?;
-    let (file, record) = open_record(rt, alloc, log, place.unit, path)?;
+    let found = open_record(rt, alloc, log, place.unit, path)?;
     laws::nobody_is_attached_at_first();
-    let unit = Unit::open(alloc, place, disk.blocks, disk.opener, file, record)?;
-    Ok((unit, disk.lock, preparer))
+    let unit = Unit::open(
+        alloc,
+        place,
+        disk.blocks,
+        disk.opener,
+        found.file,
+        found.record,
+    )?;
+    Ok((unit, [disk.lock, found.lock], preparer))
 }
 
 /// Opens the units of the array that the words ask for, in order, each over its file, with the preparer of that file. From then on no
@@ -189,9 +233,10 @@ pub fn open<R: Files<File = File> + Clock + Wait + Clone + Drop>(
             array: options.array,
         };
         let path = options.paths[usize::from(unit)];
-        let (opened, lock, preparer) = open_unit(rt, alloc, log, place, path)?;
+        let (opened, [disk, registrations], preparer) = open_unit(rt, alloc, log, place, path)?;
         units.push(NewUnit::new(alloc, opened)?)?;
-        locks.push(lock)?;
+        locks.push(disk)?;
+        locks.push(registrations)?;
         preparers.push(preparer)?;
     }
     Ok(OpenArray {

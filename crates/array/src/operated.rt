@@ -1,9 +1,10 @@
 //! The array as its console sees it.
 use crate::lines::Operations;
 use block_file::{Blocks, Opener};
+use command_line::MAX_UNITS;
 use entry_numbers::Array as Naming;
-use event_log::{By, Event, Log, Stayed};
-use failover::{Mover, take_down};
+use event_log::{Access, By, Event, Log, Stayed};
+use failover::{Mover, NotMoved, take_down};
 use portal::Controllers;
 use scsi_types::Group;
 use status::Row;
@@ -43,16 +44,26 @@ impl<R: Wait + Clock, B: Blocks, F: Blocks, O: Opener<B>, N: Naming<Opened>> Ope
     O,
     N,
 > {
-    // Tells that a controller is down at so many units, and why the next one stays, where it does.
-    fn tell_down(&self, controller: Group, units: usize, end: Option<MoveFault>) {
-        let owner = u16::from(controller.other().number());
-        for unit in 0..units {
-            let set = Event::GroupsSet(number(unit), owner, By::Console);
-            self.log.tell(self.rt, &set);
+    // The access states of the groups at each unit.
+    fn states(&self) -> [(u64, u64); MAX_UNITS] {
+        let units = self.controllers.units();
+        let mut states = [(0, 0); MAX_UNITS];
+        for (place, kept) in states.iter_mut().enumerate() {
+            if place < units.count() {
+                *kept = units.read(self.rt, place).states;
+            }
         }
-        if let Some(why) = end {
-            let stays = Event::NotMoved(number(units), owner, stayed(why), By::Console);
-            self.log.tell(self.rt, &stays);
+        states
+    }
+
+    // Tells of each unit at which the states are others than these.
+    fn tell_set(&self, before: &[(u64, u64); MAX_UNITS], owner: u16) {
+        for (place, (before, now)) in before.iter().zip(&self.states()).enumerate() {
+            if before != now {
+                let (first, second) = (Access::of(now.0), Access::of(now.1));
+                let set = Event::GroupsSet(number(place), owner, first, second, By::Console);
+                self.log.tell(self.rt, &set);
+            }
         }
     }
 }
@@ -71,14 +82,16 @@ impl<R: Wait + Clock, B: Blocks, F: Blocks, O: Opener<B>, N: Naming<Opened>> Ope
     fn down(&mut self, controller: Group) -> Result<(), usize> {
         let units = self.controllers.units();
         let mut mover = Mover::new(units);
-        match take_down(self.rt, &mut mover, controller) {
-            Ok(()) => {
-                self.tell_down(controller, units.count(), None);
-                Ok(())
-            }
-            Err(stopped) => {
-                self.tell_down(controller, stopped.unit, Some(stopped.why));
-                Err(stopped.unit)
+        let before = self.states();
+        let end = take_down(self.rt, &mut mover, controller);
+        let owner = u16::from(controller.other().number());
+        self.tell_set(&before, owner);
+        match end {
+            Ok(()) => Ok(()),
+            Err(NotMoved { unit, why }) => {
+                let stays = Event::NotMoved(number(unit), owner, stayed(why), By::Console);
+                self.log.tell(self.rt, &stays);
+                Err(unit)
             }
         }
     }

@@ -10,10 +10,11 @@ use std::time::Clock;
 /// How far the ports of the two controllers lie apart.
 const APART: u16 = 4;
 
-/// Where a controller listens: at so many ports from this one on.
+/// Where a controller listens: at so many ports from this one on. Controller 2 may have an address of its own.
 #[derive(Clone, Copy, PartialEq, Eq)]
 pub struct Ports {
     pub host: Ipv4Addr,
+    pub second_host: Ipv4Addr,
     pub first: u16,
     pub count: u16,
 }
@@ -24,6 +25,7 @@ impl Ports {
         match group {
             Group::One => self,
             Group::Two => Ports {
+                host: self.second_host,
                 first: self.first.saturating_add(APART),
                 ..self
             },

@@ -181,6 +181,7 @@ fn serve_units<
 {
     let ports = Ports {
         host: options.host,
+        second_host: options.second_host.unwrap_or(options.host),
         first: options.port,
         count: options.portals,
     };

@@ -1,7 +1,7 @@
 //! The lines of the log, as they are to be read.
 use crate::ends::must;
 use event_log::{
-    Action, By, Call, Cause, Event, Initiator, Kind, Part, Path, Place, Reservation, Stamp, Stayed,
+    Access, Action, By, Call, Cause, Event, Initiator, Kind, Part, Path, Place, Reservation, Stamp, Stayed,
     Why, spell,
 };
 use std::alloc::Global;
@@ -70,8 +70,8 @@ fn events_are_spelled(rt: HostRuntime) -> Result<(), Fail> {
              why=protocol_error reason=0x9 words=\"Invalid PDU field\" opcode=0x1 task=0x77",
         ),
         (
-            Event::GroupsSet(1, 2, By::Console),
-            "event=groups_set unit=1 owner=2 by=console",
+            Event::GroupsSet(1, 2, Access::Unavailable, Access::Optimized, By::Console),
+            "event=groups_set unit=1 owner=2 states=3,0 by=console",
         ),
         (
             Event::Reserved(0, RESERVATION, WHO, 2),

@@ -39,6 +39,7 @@ impl<'a> Site<'a> {
             is_once: false,
             target: "iqn.2000-01.test:array",
             array: 1,
+            second_host: None,
             host: Ipv4Addr::LOCALHOST,
             port: self.port,
             portals: PORTALS,

@@ -5,7 +5,7 @@ use crate::hosts::perform;
 use crate::site::{Site, free_site, make};
 use crate::visits::{Console, Visited, console};
 use array::{open, serve};
-use disk_files::{FileBlocks, FileOpener, FilePreparer, SystemFile};
+use disk_files::{FileBlocks, FileOpener, FilePreparer, NamedBlocks, SystemFile};
 use event_log::Log;
 use std::alloc::Global;
 use std::fs::{self, File};
@@ -220,7 +220,7 @@ fn units_have_their_files_and_portals_their_groups(rt: HostRuntime) -> Result<()
         let end = serve::<
             Brand,
             FileBlocks<SystemFile>,
-            FileBlocks<SystemFile>,
+            NamedBlocks<HostRuntime>,
             FileOpener<HostRuntime>,
             FilePreparer<HostRuntime, SystemFile>,
             HostRuntime,

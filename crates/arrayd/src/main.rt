@@ -3,11 +3,12 @@
 
 mod log_file;
 mod once;
+mod settings;
 
 use array::{open, serve, tell_want};
 use command_line::Fault;
-use disk_files::{FileBlocks, FileOpener, FilePreparer, SystemFile};
-use event_log::{Log, start};
+use disk_files::{FileBlocks, FileOpener, FilePreparer, NamedBlocks, SystemFile};
+use event_log::{Log, Page, start};
 use log_file::LogFile;
 use std::alloc::Global;
 use std::env::Env;
@@ -15,6 +16,7 @@ use std::fs::File;
 use std::marker::Brand;
 use std::process::ExitCode;
 use std::rt::Files;
+use std::time::Clock;
 use std::{env, io};
 
 // The program's words, its own name first.
@@ -43,6 +45,13 @@ fn complain(rt: &impl Eprint, fault: Fault) -> ExitCode {
     fault.status()
 }
 
+// The same, where the log has begun.
+fn give_up(rt: &(impl Eprint + Clock), log: &Log, fault: Fault) -> ExitCode {
+    tell_want(rt, log, fault);
+    event_log::close(rt, log);
+    complain(rt, fault)
+}
+
 #[tactic(auto, using(crate::proofs::Disks::units_are, crate::proofs::Disks::preparers_are))]
 fn main(rt: HostRuntime) -> ExitCode {
     let alloc = rt.alloc();
@@ -50,7 +59,7 @@ fn main(rt: HostRuntime) -> ExitCode {
         Ok(words) => words,
         Err(fault) => return complain(&rt, fault),
     };
-    let options = match command_line::read(alloc, words.as_slice()) {
+    let mut options = match command_line::read(alloc, words.as_slice()) {
         Ok(options) => options,
         Err(fault) => return complain(&rt, Fault::from(fault)),
     };
@@ -60,28 +69,31 @@ fn main(rt: HostRuntime) -> ExitCode {
             Err(fault) => complain(&rt, fault),
         };
     }
+    options.second_host = match settings::second_host(&rt) {
+        Ok(address) => address,
+        Err(fault) => return complain(&rt, fault),
+    };
     let (log, file) = match asked_log(&rt, alloc) {
         Ok(asked) => asked,
         Err(fault) => return complain(&rt, fault),
     };
     // What threads may do is known here alone.
     if let Some(file) = file {
+        if file.open().is_none() {
+            let _ = eprintln!(&rt; "arrayd: cannot write the log");
+        }
         if start::<HostRuntime, LogFile<HostRuntime>>(&rt, alloc, &log, file).is_err() {
             return complain(&rt, Fault::NoMemory);
         }
     }
     let array = match open(&rt, alloc, &log, &options) {
         Ok(array) => array,
-        Err(fault) => {
-            tell_want(&rt, &log, fault);
-            event_log::close(&rt, &log);
-            return complain(&rt, fault);
-        }
+        Err(fault) => return give_up(&rt, &log, fault),
     };
     let served = serve::<
         Brand,
         FileBlocks<SystemFile>,
-        FileBlocks<SystemFile>,
+        NamedBlocks<HostRuntime>,
         FileOpener<HostRuntime>,
         FilePreparer<HostRuntime, SystemFile>,
         HostRuntime,

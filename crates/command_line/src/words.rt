@@ -29,8 +29,10 @@ pub struct Options<'a> {
     pub target: &'a str,
     /// The array's number, which its units tell by page 83h.
     pub array: u32,
-    /// The address at which all portals listen.
+    /// The address at which the portals listen.
     pub host: Ipv4Addr,
+    /// Another one at which those of controller 2 listen, where one is named. No word names it.
+    pub second_host: Option<Ipv4Addr>,
     /// The port of the first portal of controller 1.
     pub port: u16,
     /// How many portals each controller has.
@@ -259,6 +261,7 @@ fn options_in<'a>(alloc: Global, matches: &ArgMatches<'a>) -> Result<Options<'a>
         target,
         array,
         host,
+        second_host: None,
         port,
         portals,
         paths,

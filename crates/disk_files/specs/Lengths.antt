@@ -6,7 +6,7 @@ use Rattle.disk_files.specs.declared.fault.FileFault.TheVariants.{NotThere, NotO
 -- why a file of so many bytes is no device of blocks
 abbrev pub IsLengthFault : ℕ → FileFault → Type 0
 IsLengthFault bytes NotThere = ⊥
-IsLengthFault bytes NotOpened = ⊥
+IsLengthFault bytes (NotOpened error) = ⊥
 IsLengthFault bytes Length = bytes % 512 ≢ 0
 IsLengthFault bytes Empty = bytes ≡ 0
 IsLengthFault bytes TooLong = 2 ^ 32 * 512 ≤ bytes

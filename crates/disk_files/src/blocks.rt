@@ -21,7 +21,7 @@ use crate::voice::Voice;
 use crate::writes::Writes;
 use block_file::{BLOCK_LENGTH, Blocks, DeviceFailed};
 use event_log::Call;
-use preparer::OnDisk;
+use preparer::{Node, OnDisk};
 use std::alloc::Global;
 use std::fs::File;
 use std::rt::Files;
@@ -31,7 +31,8 @@ use std::sync::{Arc, Mutex};
 /// of the file. It does nothing where a flush beside the device is done, behind whose beginning no write has ended.
 ///
 /// It claims what its file claims, which of a file of the system is nothing. Of every file it says which calls were made of it. Its
-/// number of blocks is that of its length when it was opened. Where the file has another length by now each write fails, and a read behind its end.
+/// number of blocks is that of its length when it was opened, also where the file has become longer. Where it has become shorter each
+/// write fails, and a read behind its end.
 ///
 /// A flush that failed is not made good by the next one: the system drops what it could not write. So each later flush
 /// fails too, also through a handle that was opened anew.
@@ -75,8 +76,9 @@ impl<F: BackingFile> FileBlocks<F> {
         ensures unused { IfOk result (λ d. d.tally ≡ none) }
         ensures file { IfOk result (λ d. d.file ≡ file) }
     {
-        let Ok(end) = file.end() else {
-            return Err(FileFault::NotOpened);
+        let end = match file.end() {
+            Ok(end) => end,
+            Err(error) => return Err(FileFault::NotOpened(error)),
         };
         let count = match blocks_in(end) {
             Ok(count) => count,
@@ -107,11 +109,28 @@ impl<F: BackingFile> FileBlocks<F> {
         }
     }
 
+    // Whether the file still has so many blocks; else the error of the system, 0 where it has become shorter. That it has become
+    // longer is told.
+    fn still_reaches(&self) -> Result<(), u32> {
+        let is_longer = reaches(&self.file, self.count)?;
+        if let (true, Some(voice)) = (is_longer, &self.voice) {
+            voice.tell_longer();
+        }
+        Ok(())
+    }
+
     /// The handle.
     pub(crate) fn file(&self) -> &F
         ensures { result.now ≡ self.now.file }
     {
         &self.file
+    }
+
+    /// Which file the device is over.
+    pub fn node(&self) -> Node
+        ensures { result ≡ F.node self.now.file }
+    {
+        self.file.node()
     }
 
     /// Ends the device and gives the handle.
@@ -159,9 +178,11 @@ impl<F: BackingFile> FileBlocks<F> {
             }
         }
     }
+}
 
-    /// Takes a handle through which the same file was opened anew, as the other controller's opener does. Of another file, or where its
-    /// length is another one, the old handle stays. The counts of failures go over, and that a flush failed.
+impl<F: LastingFile> FileBlocks<F> {
+    /// Takes a handle through which the same file was opened anew, as the other controller's opener does. Of another file, or of one that
+    /// has become shorter, the old handle stays. The counts of failures go over, and that a flush failed.
     pub fn renew(&mut self, file: F) -> Result<(), DeviceFailed>
         ensures ok { OnOk result (self.new.tally ≡ once_more_opened self.old.tally) }
         ensures size { self.new.count ≡ self.old.count }
@@ -175,7 +196,7 @@ impl<F: BackingFile> FileBlocks<F> {
             self.tell(Call::Open, 0, 0, 0);
             return Err(DeviceFailed);
         }
-        if let Err(error) = ends_at(&file, self.count) {
+        if let Err(error) = reaches(&file, self.count) {
             self.tell(Call::Seek, 0, 0, error);
             return Err(DeviceFailed);
         }
@@ -183,9 +204,7 @@ impl<F: BackingFile> FileBlocks<F> {
         self.tally.opened = self.tally.opened.saturating_add(1);
         Ok(())
     }
-}
 
-impl<F: LastingFile> FileBlocks<F> {
     /// From now on a preparer flushes the file too, by these handles: its share of what both tell each other. None where there was no
     /// memory for it.
     pub fn share(
@@ -220,12 +239,10 @@ impl FileBlocks<SystemFile> {
     }
 }
 
-// Whether a file still has so many blocks; else the error of the system, 0 where it has another length.
-fn ends_at<F: BackingFile>(file: &F, count: u32) -> Result<(), u32>
-    ensures { IsTrue F.claims → OnOk result (length (F.bytes file.now) ≡ BLOCK_LENGTH * count) }
-{
+// Whether a file that still has so many blocks has become longer; else the error of the system, 0 where it has become shorter.
+fn reaches<F: BackingFile>(file: &F, count: u32) -> Result<bool, u32> {
     match file.end() {
-        Ok(end) if end == at(count) => Ok(()),
+        Ok(end) if end >= at(count) => Ok(end != at(count)),
         Ok(_) => Err(0),
         Err(error) => Err(error),
     }
@@ -320,7 +337,7 @@ impl<F: BackingFile> Blocks for FileBlocks<F> {
         ensures rises { self.old.writes.count ≤ self.new.writes.count }
     {
         // A write behind the end would make the file longer, with zeros in place of what was there.
-        if let Err(error) = ends_at(&self.file, self.count) {
+        if let Err(error) = self.still_reaches() {
             self.tell(Call::Seek, first, bytes.len(), error);
             return failed(&mut self.tally.failed_writes);
         }

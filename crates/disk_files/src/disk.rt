@@ -5,14 +5,15 @@ ghost use Rattle.disk_files.specs.Tally.{none};
 use crate::backing::BackingFile;
 use crate::node::node_of;
 use crate::system::SystemFile;
+use crate::voice::number_of;
 use crate::{DiskFault, FileBlocks, FileFault, FileOpener};
 use preparer::Node;
 use std::alloc::Global;
 use std::fs::{File, TryLockError};
 use std::rt::Files;
 
-/// The right to be the one server of a disk, until it is dropped: an exclusive lock of the system on a handle of its own,
-/// which is no part of the device. It is on the file, whatever its names.
+/// The right to be the one server of a disk, or of a registration file, until it is dropped: an exclusive lock of the system on a handle
+/// of its own, which is no part of the device. It is on the file, whatever its names.
 #[derive(Drop)]
 pub struct DiskLock {
     _handle: File,
@@ -21,22 +22,28 @@ pub struct DiskLock {
 
 impl DiskLock {
     // Locks a file.
-    fn take<R: Files<File = File>>(rt: &R, path: &str) -> Result<DiskLock, DiskFault> {
-        let Ok(handle) = File::open(rt, path) else {
-            return Err(DiskFault::NotLocked);
+    pub(crate) fn take<R: Files<File = File>>(rt: &R, path: &str) -> Result<DiskLock, DiskFault> {
+        let handle = match File::open(rt, path) {
+            Ok(handle) => handle,
+            Err(e) => return Err(DiskFault::NotLocked(number_of(&e))),
         };
         match handle.try_lock() {
             Ok(()) => {}
             Err(TryLockError::WouldBlock) => return Err(DiskFault::InUse),
-            Err(TryLockError::Error(_)) => return Err(DiskFault::NotLocked),
+            Err(TryLockError::Error(e)) => return Err(DiskFault::NotLocked(number_of(&e))),
         }
         let Some(node) = node_of(&handle) else {
-            return Err(DiskFault::NotLocked);
+            return Err(DiskFault::NotLocked(0));
         };
         Ok(DiskLock {
             _handle: handle,
             node,
         })
+    }
+
+    /// The file that is locked.
+    pub(crate) fn node(&self) -> Node {
+        self.node
     }
 }
 
@@ -67,7 +74,7 @@ pub fn open_disk<R: Files<File = File> + Drop>(
     };
     // Another file may have taken the name in between.
     if !blocks.file().node().is(lock.node) {
-        return Err(DiskFault::File(FileFault::NotOpened));
+        return Err(DiskFault::File(FileFault::NotOpened(0)));
     }
     let Ok(opener) = FileOpener::new(rt, alloc, path) else {
         return Err(DiskFault::NoMemory);

@@ -2,7 +2,7 @@
 use aptpl_file::OpenFault;
 use thiserror::Error;
 
-/// Why a file is no device of blocks.
+/// Why a file is no device of blocks. A number is the error of the system, 0 where it told none.
 #[derive(Clone, Copy, Debug, PartialEq, Eq, Error)]
 pub enum FileFault {
     /// There is none.
@@ -10,7 +10,7 @@ pub enum FileFault {
     NotThere,
     /// It is there and cannot be opened for reading and writing, or its end cannot be found.
     #[error("the file cannot be opened")]
-    NotOpened,
+    NotOpened(u32),
     /// Its length is no multiple of 512.
     #[error("the length of the file is no multiple of 512")]
     Length,
@@ -22,7 +22,7 @@ pub enum FileFault {
     TooLong,
 }
 
-/// Why a disk is not used.
+/// Why a disk is not used. A number is the error of the system, 0 where it told none.
 #[derive(Clone, Copy, Debug, PartialEq, Eq, Error)]
 pub enum DiskFault {
     /// Its file is no device of blocks.
@@ -33,13 +33,13 @@ pub enum DiskFault {
     InUse,
     /// It cannot be locked.
     #[error("the disk cannot be locked")]
-    NotLocked,
+    NotLocked(u32),
     /// There was no memory for its name.
     #[error("no memory")]
     NoMemory,
 }
 
-/// Why a registration file is not used.
+/// Why a registration file is not used. A number is the error of the system, 0 where it told none.
 #[derive(Clone, Copy, Debug, PartialEq, Eq, Error)]
 pub enum RegistrationsFault {
     /// Its file is no device of blocks.
@@ -47,10 +47,16 @@ pub enum RegistrationsFault {
     File(FileFault),
     /// It is not there and could not be made.
     #[error("the registration file cannot be made")]
-    NotMade,
+    NotMade(u32),
     /// It is there and is no registration file that can be read.
     #[error("{0}")]
     Held(OpenFault),
+    /// Another server has it, or another unit of this one.
+    #[error("the registration file is in use")]
+    InUse,
+    /// It cannot be locked.
+    #[error("the registration file cannot be locked")]
+    NotLocked(u32),
     /// It would lie where a reboot forgets it, and its disk would not.
     #[error("a reboot would forget the registration file")]
     Forgotten,

@@ -1,41 +1,87 @@
 //! The registration file of a unit.
-use crate::{FileBlocks, FileFault, RegistrationsFault, SystemFile, Voice};
+use crate::backing::BackingFile;
+use crate::voice::number_of;
+use crate::{
+    DiskFault, DiskLock, FileBlocks, FileFault, NamedBlocks, RegistrationsFault, SystemFile, Voice,
+};
 use aptpl_file::{FILE_BLOCKS, OpenFault, RegFile};
 use block_file::{BLOCK_LENGTH, Blocks};
 use registrants::Record;
 use std::alloc::{AllocError, Global};
-use std::fs;
 use std::fs::{File, OpenFile};
 use std::os::unix::fs::MetadataExt;
 use std::rt::Files;
+use std::{fs, io};
 
-/// Opens the registration file beside the disk of this name, which has `.reg` behind it, and gives the record that it
-/// holds. Where there is none it is made. A file that is there and is no registration file is left as it was. Calls on it that
-/// fail are told by this voice.
-pub fn open_registrations<R: Files<File = File>>(
-    rt: &R,
+/// A registration file: its blocks, the record that it holds, and its lock, which has to live as long as the unit does.
+#[derive(Drop)]
+pub struct Registrations<R: Files<File = File> + Drop> {
+    pub file: RegFile<NamedBlocks<R>>,
+    pub record: Record,
+    pub lock: DiskLock,
+}
+
+/// Opens the registration file beside the disk of this name, which has `.reg` behind it, for one server alone. Where there is none
+/// it is made. A file that is there and is no registration file is left as it was. Calls on it that fail are told by this voice.
+pub fn open_registrations<R: Files<File = File> + Drop>(
+    rt: R,
     alloc: Global,
     disk: &str,
     voice: Option<Voice>,
-) -> Result<(RegFile<FileBlocks<SystemFile>>, Record), RegistrationsFault> {
-    if is_forgotten(rt, disk) {
+) -> Result<Registrations<R>, RegistrationsFault> {
+    if is_forgotten(&rt, disk) {
         return Err(RegistrationsFault::Forgotten);
     }
     let Ok(path) = joined(alloc, disk, ".reg") else {
         return Err(RegistrationsFault::NoMemory);
     };
-    let mut blocks = match opened_or_made(rt, alloc, path.as_str()) {
+    let mut blocks = match opened_or_made(&rt, alloc, path.as_str()) {
         Ok(blocks) => blocks,
+        Err(fault) => return Err(fault),
+    };
+    let lock = match locked(&rt, path.as_str(), &blocks) {
+        Ok(lock) => lock,
         Err(fault) => return Err(fault),
     };
     if let Some(voice) = voice {
         blocks.tell_by(voice);
     }
-    match RegFile::open(alloc, blocks) {
-        Ok(found) => Ok(found),
+    match NamedBlocks::new(rt, alloc, path.as_str(), blocks, lock.node()) {
+        Ok(named) => held(alloc, named, lock),
+        Err(_) => Err(RegistrationsFault::NoMemory),
+    }
+}
+
+// Reads the record of a registration file.
+fn held<R: Files<File = File> + Drop>(
+    alloc: Global,
+    named: NamedBlocks<R>,
+    lock: DiskLock,
+) -> Result<Registrations<R>, RegistrationsFault> {
+    match RegFile::open(alloc, named) {
+        Ok((file, record)) => Ok(Registrations { file, record, lock }),
         Err(OpenFault::NoMemory) => Err(RegistrationsFault::NoMemory),
         Err(fault) => Err(RegistrationsFault::Held(fault)),
     }
+}
+
+// Locks the file of these blocks, which has this name.
+fn locked<R: Files<File = File>>(
+    rt: &R,
+    path: &str,
+    blocks: &FileBlocks<SystemFile>,
+) -> Result<DiskLock, RegistrationsFault> {
+    let lock = match DiskLock::take(rt, path) {
+        Ok(lock) => lock,
+        Err(DiskFault::InUse) => return Err(RegistrationsFault::InUse),
+        Err(DiskFault::NotLocked(error)) => return Err(RegistrationsFault::NotLocked(error)),
+        Err(_) => return Err(RegistrationsFault::NotLocked(0)),
+    };
+    // Another file may have taken the name in between.
+    if !blocks.file().node().is(lock.node()) {
+        return Err(RegistrationsFault::File(FileFault::NotOpened(0)));
+    }
+    Ok(lock)
 }
 
 // Whether the disk outlasts a reboot and what lies beside it does not: it is no regular file, and its folder lies in the file system
@@ -66,7 +112,8 @@ fn joined(alloc: Global, name: &str, end: &str) -> Result<String, AllocError> {
     Ok(path)
 }
 
-// The file's blocks, where it is there, or else of one that was made.
+// The file's blocks, where it is there, or else of one that was made. A link to a file that is not there is left as it is: what it leads
+// to may be there later, with the registrations of before.
 fn opened_or_made<R: Files<File = File>>(
     rt: &R,
     alloc: Global,
@@ -77,11 +124,14 @@ fn opened_or_made<R: Files<File = File>>(
         Err(FileFault::NotThere) => {}
         Err(fault) => return Err(RegistrationsFault::File(fault)),
     }
+    if fs::symlink_metadata(rt, path).is_ok() {
+        return Err(RegistrationsFault::File(FileFault::NotThere));
+    }
     let Ok(new) = joined(alloc, path, ".new") else {
         return Err(RegistrationsFault::NoMemory);
     };
-    if !made(rt, path, new.as_str()) {
-        return Err(RegistrationsFault::NotMade);
+    if let Err(error) = made(rt, path, new.as_str()) {
+        return Err(RegistrationsFault::NotMade(error));
     }
     match FileBlocks::open(rt, path) {
         Ok(blocks) => Ok(blocks),
@@ -90,28 +140,45 @@ fn opened_or_made<R: Files<File = File>>(
 }
 
 // Makes a registration file of nothing under another name, and gives it its own when it is whole, so that a stop leaves
-// none or a whole one.
-fn made<R: Files<File = File>>(rt: &R, path: &str, new: &str) -> bool {
-    is_formatted(rt, new) && fs::rename(rt, new, path).is_ok() && is_flushed(rt, folder_of(path))
+// none or a whole one. Else the error of the system.
+fn made<R: Files<File = File>>(rt: &R, path: &str, new: &str) -> Result<(), u32> {
+    let file = begun(rt, new)?;
+    if !is_formatted(file) {
+        return Err(0);
+    }
+    told(fs::rename(rt, new, path))?;
+    if !is_flushed(rt, folder_of(path)) {
+        return Err(0);
+    }
+    Ok(())
 }
 
-// Whether a file of nothing was written under this name, in place of what an earlier stop may have left there.
-fn is_formatted<R: Files<File = File>>(rt: &R, new: &str) -> bool {
-    let Ok(file) = File::options()
+// What the system said, where a call failed.
+fn told(end: io::Result<()>) -> Result<(), u32> {
+    match end {
+        Ok(()) => Ok(()),
+        Err(e) => Err(number_of(&e)),
+    }
+}
+
+// A file of zeros under this name, in place of what an earlier stop may have left there.
+fn begun<R: Files<File = File>>(rt: &R, new: &str) -> Result<File, u32> {
+    let opened = File::options()
         .read(true)
         .write(true)
         .create(true)
         .truncate(true)
-        .open(rt, new)
-    else {
-        return false;
+        .open(rt, new);
+    let file = match opened {
+        Ok(file) => file,
+        Err(e) => return Err(number_of(&e)),
     };
-    if file
-        .set_len(BLOCK_LENGTH as u64 * u64::from(FILE_BLOCKS))
-        .is_err()
-    {
-        return false;
-    }
+    told(file.set_len(BLOCK_LENGTH as u64 * u64::from(FILE_BLOCKS)))?;
+    Ok(file)
+}
+
+// Whether a registration file of nothing was written there.
+fn is_formatted(file: File) -> bool {
     let Some(file) = SystemFile::of(file) else {
         return false;
     };

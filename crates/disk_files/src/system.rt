@@ -33,9 +33,9 @@ impl SystemFile {
     /// Opens the file of this name for reading and writing.
     pub fn open<R: Files<File = File>>(rt: &R, path: &str) -> Result<SystemFile, FileFault> {
         match File::options().read(true).write(true).open(rt, path) {
-            Ok(handle) => SystemFile::of(handle).ok_or(FileFault::NotOpened),
+            Ok(handle) => SystemFile::of(handle).ok_or(FileFault::NotOpened(0)),
             Err(e) if e.kind() == ErrorKind::NotFound => Err(FileFault::NotThere),
-            Err(_) => Err(FileFault::NotOpened),
+            Err(e) => Err(FileFault::NotOpened(number_of(&e))),
         }
     }
 

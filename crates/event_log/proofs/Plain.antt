@@ -10,7 +10,7 @@ use Rattle.std.specs.Net.Text.{dotted_text, ipv4_text, socket_v4_text}
 use Rattle.std.specs.declared.net.socket_addr.SocketAddrV4.{SocketAddrV4}
 use Rattle.std.proofs.lemmas.Bool.Decides.{nat_tests}
 use Rattle.std.proofs.lemmas.List.Folds.{list_all-append}
-use Rattle.event_log.specs.Words.{kind_text, stayed_text, action_text, operation_text, part_text, call_text, resource_text}
+use Rattle.event_log.specs.Words.{access_text, kind_text, stayed_text, action_text, operation_text, part_text, call_text, resource_text}
 use Rattle.event_log.specs.Words.{unusable_text, named, statuses, status_text, rejects, reject_text, errors, error_text}
 use Rattle.event_log.specs.Text.{is_plain, are_plain, hex_digit, escaped, quoted, joined, hex, initiator_in, path_in, by_in, cause_in}
 use Rattle.event_log.specs.Text.{why_in, session_in, error_in}
@@ -29,6 +29,8 @@ use Rattle.event_log.specs.declared.words.Kind.{Kind}
 use Rattle.event_log.specs.declared.words.Kind.TheVariants as kinds
 use Rattle.event_log.specs.declared.words.Stayed.{Stayed}
 use Rattle.event_log.specs.declared.words.Stayed.TheVariants as stayeds
+use Rattle.event_log.specs.declared.words.Access.{Access}
+use Rattle.event_log.specs.declared.words.Access.TheVariants as accesses
 use Rattle.event_log.specs.declared.words.Action.{Action}
 use Rattle.event_log.specs.declared.words.Action.TheVariants as actions
 use Rattle.event_log.specs.declared.words.Operation.{Operation}
@@ -146,6 +148,13 @@ stayed_plain : (x : Stayed) → are_plain (stayed_text x) ≡ true
 stayed_plain stayeds.NotOpened = refl
 stayed_plain stayeds.BadList = refl
 stayed_plain stayeds.Gone = refl
+
+access_plain : (x : Access) → are_plain (access_text x) ≡ true
+access_plain accesses.Optimized = refl
+access_plain accesses.NonOptimized = refl
+access_plain accesses.Standby = refl
+access_plain accesses.Unavailable = refl
+access_plain accesses.Unnamed = refl
 
 action_plain : (x : Action) → are_plain (action_text x) ≡ true
 action_plain actions.Register = refl
@@ -270,7 +279,8 @@ each (events.SessionEnded who by tsih end) =
     let rest : List (List ℕ) = codes " tsih=" ∷ decimal tsih ∷ why_in end in
     initiator who (path_in by rest) (path by rest (both _ _ (number tsih) (why end)))
 each (events.ConnectionEnded by end) = path by (why_in end) (why end)
-each (events.GroupsSet unit group by) = both _ _ (number unit) (both _ _ (number group) (by_plain by))
+each (events.GroupsSet unit group first second by) =
+    both _ _ (number unit) (both _ _ (number group) (both _ _ (access_plain first) (both _ _ (access_plain second) (by_plain by))))
 each (events.NotMoved unit group end by) =
     both _ _ (number unit) (both _ _ (number group) (both _ _ (stayed_plain end) (by_plain by)))
 each (events.Reserved unit asked who group) =
@@ -285,9 +295,14 @@ each (events.Busy unit operation who group) =
 each (events.DeviceFailed unit part call place n) =
     both _ _ (number unit) (both _ _ (part_plain part) (both _ _ (call_plain call) (both _ _ (number place.first)
     (both _ _ (number place.count) (error n)))))
+each (events.Hung unit part call) =
+    both _ _ (number unit) (both _ _ (part_plain part) (both _ _ (call_plain call) refl))
+each (events.Grew unit part) = both _ _ (number unit) (both _ _ (part_plain part) refl)
 each (events.NotFlushed unit) = both _ _ (number unit) refl
-each (events.CannotUse unit part disk why) =
-    both _ _ (number unit) (both _ _ (part_plain part) (both _ _ (quoted_plain disk.now) (both _ _ (unusable_plain why) refl)))
+each (events.CannotUse unit part disk why n) =
+    both _ _ (number unit) (both _ _ (part_plain part) (both _ _ (quoted_plain disk.now) (both _ _ (unusable_plain why)
+    (error n))))
+each (events.NoKeepalive from) = both _ _ (address from) refl
 each (events.Wanting what) = both _ _ (resource_plain what) refl
 each (events.Dropped count) = both _ _ (number count) refl
 

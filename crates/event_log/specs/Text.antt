@@ -11,8 +11,10 @@ use Rattle.event_log.specs.declared.words.Why.TheVariants as whys
 use Rattle.event_log.specs.declared.words.Sense.{Sense}
 use Rattle.event_log.specs.declared.words.Operation.{Operation}
 use Rattle.event_log.specs.declared.words.Part.{Part}
+use Rattle.event_log.specs.declared.words.Access.{Access}
 use Rattle.event_log.specs.declared.words.Call.{Call}
 use Rattle.event_log.specs.declared.words.Stayed.{Stayed}
+use Rattle.event_log.specs.declared.words.Unusable.{Unusable}
 use Rattle.event_log.specs.declared.event.Initiator.{Initiator}
 use Rattle.event_log.specs.declared.event.Path.{Path}
 use Rattle.event_log.specs.declared.event.Place.{Place}
@@ -22,7 +24,7 @@ use Rattle.event_log.specs.declared.line.Piece.{Piece}
 use Rattle.event_log.specs.declared.line.Piece.TheVariants as pieces
 use Rattle.event_log.specs.declared.event.Event.{Event}
 use Rattle.event_log.specs.declared.event.Event.TheVariants as events
-use Rattle.event_log.specs.Words.{kind_text, stayed_text, action_text, operation_text, part_text, call_text, resource_text}
+use Rattle.event_log.specs.Words.{access_text, kind_text, stayed_text, action_text, operation_text, part_text, call_text, resource_text}
 use Rattle.event_log.specs.Words.{unusable_text, status_text, reject_text, error_text}
 
 -- ---- what a name is between quotes
@@ -122,8 +124,13 @@ failed_in call place error =
     codes " call=" ∷ call_text call ∷ codes " block=" ∷ decimal place.first ∷ codes " blocks=" ∷ decimal place.count
     ∷ error_in error
 
-abbrev pub set_in : ℕ → ℕ → List (List ℕ) → List (List ℕ)
-set_in unit group rest = codes "event=groups_set unit=" ∷ decimal unit ∷ codes " owner=" ∷ decimal group ∷ rest
+abbrev pub unusable_in : List ℕ → Unusable → ℕ → List (List ℕ)
+unusable_in disk why error = codes " disk=" ∷ quoted disk ∷ codes " why=" ∷ unusable_text why ∷ error_in error
+
+abbrev pub set_in : ℕ → ℕ → Access → Access → List (List ℕ) → List (List ℕ)
+set_in unit group first second rest =
+    codes "event=groups_set unit=" ∷ decimal unit ∷ codes " owner=" ∷ decimal group ∷ codes " states=" ∷ access_text first
+    ∷ codes "," ∷ access_text second ∷ rest
 
 abbrev pub stay_in : ℕ → ℕ → Stayed → List (List ℕ) → List (List ℕ)
 stay_in unit group why rest =
@@ -146,7 +153,7 @@ parts (events.LoginRefused who path status cause) =
 parts (events.SessionEnded who path tsih why) =
     codes "event=session_ended" ∷ initiator_in who (path_in path (codes " tsih=" ∷ decimal tsih ∷ why_in why))
 parts (events.ConnectionEnded path why) = codes "event=connection_ended" ∷ path_in path (why_in why)
-parts (events.GroupsSet unit group by) = set_in unit group (by_in by)
+parts (events.GroupsSet unit group first second by) = set_in unit group first second (by_in by)
 parts (events.NotMoved unit group why by) = stay_in unit group why (by_in by)
 parts (events.Reserved unit asked who group) =
     codes "event=reservation unit=" ∷ decimal unit ∷ codes " action=" ∷ action_text asked.action
@@ -158,9 +165,12 @@ parts (events.CommandFailed unit operation sense who group) =
 parts (events.Busy unit operation who group) = codes "event=busy" ∷ command_in unit operation (session_in who group)
 parts (events.DeviceFailed unit part call place error) =
     codes "event=device_failed" ∷ file_in unit part (failed_in call place error)
+parts (events.Hung unit part call) = codes "event=hung" ∷ file_in unit part (codes " call=" ∷ call_text call ∷ [])
+parts (events.Grew unit part) = codes "event=grew" ∷ file_in unit part []
 parts (events.NotFlushed unit) = codes "event=not_flushed unit=" ∷ decimal unit ∷ []
-parts (events.CannotUse unit part disk why) =
-    codes "event=cannot_use" ∷ file_in unit part (codes " disk=" ∷ quoted disk.now ∷ codes " why=" ∷ unusable_text why ∷ [])
+parts (events.CannotUse unit part disk why error) =
+    codes "event=cannot_use" ∷ file_in unit part (unusable_in disk.now why error)
+parts (events.NoKeepalive from) = codes "event=no_keepalive from=" ∷ socket_v4_text from ∷ []
 parts (events.Wanting what) = codes "event=wanting what=" ∷ resource_text what ∷ []
 parts (events.Dropped count) = codes "event=dropped lines=" ∷ decimal count ∷ []
 

@@ -4,6 +4,8 @@ use Rattle.event_log.specs.declared.words.Kind.{Kind}
 use Rattle.event_log.specs.declared.words.Kind.TheVariants as kinds
 use Rattle.event_log.specs.declared.words.Stayed.{Stayed}
 use Rattle.event_log.specs.declared.words.Stayed.TheVariants as stayeds
+use Rattle.event_log.specs.declared.words.Access.{Access}
+use Rattle.event_log.specs.declared.words.Access.TheVariants as accesses
 use Rattle.event_log.specs.declared.words.Action.{Action}
 use Rattle.event_log.specs.declared.words.Action.TheVariants as actions
 use Rattle.event_log.specs.declared.words.Operation.{Operation}
@@ -25,6 +27,14 @@ abbrev pub stayed_text : Stayed → List ℕ
 stayed_text stayeds.NotOpened = codes "not_opened"
 stayed_text stayeds.BadList = codes "bad_list"
 stayed_text stayeds.Gone = codes "gone"
+
+-- the code of an access state (SPC-4, 6.27)
+abbrev pub access_text : Access → List ℕ
+access_text accesses.Optimized = codes "0"
+access_text accesses.NonOptimized = codes "1"
+access_text accesses.Standby = codes "2"
+access_text accesses.Unavailable = codes "3"
+access_text accesses.Unnamed = codes "unnamed"
 
 abbrev pub action_text : Action → List ℕ
 action_text actions.Register = codes "register"
@@ -119,20 +129,27 @@ reject_text n = named rejects n
 abbrev pub errors : List (ℕ × List ℕ)
 errors =
     (0, codes "none")
+    ∷ (1, codes "EPERM")
     ∷ (2, codes "ENOENT")
     ∷ (5, codes "EIO")
     ∷ (6, codes "ENXIO")
     ∷ (9, codes "EBADF")
+    ∷ (11, codes "EAGAIN")
     ∷ (12, codes "ENOMEM")
     ∷ (13, codes "EACCES")
     ∷ (16, codes "EBUSY")
     ∷ (19, codes "ENODEV")
+    ∷ (20, codes "ENOTDIR")
+    ∷ (21, codes "EISDIR")
     ∷ (22, codes "EINVAL")
     ∷ (23, codes "ENFILE")
     ∷ (24, codes "EMFILE")
     ∷ (27, codes "EFBIG")
     ∷ (28, codes "ENOSPC")
     ∷ (30, codes "EROFS")
+    ∷ (36, codes "ENAMETOOLONG")
+    ∷ (40, codes "ELOOP")
+    ∷ (92, codes "ENOPROTOOPT")
     ∷ (98, codes "EADDRINUSE")
     ∷ (99, codes "EADDRNOTAVAIL")
     ∷ (110, codes "ETIMEDOUT")

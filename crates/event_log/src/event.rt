@@ -1,7 +1,7 @@
 //! What happened.
 
 use crate::words::{
-    Action, Call, Cause, Kind, Operation, Part, Resource, Sense, Stayed, Unusable, Why,
+    Access, Action, Call, Cause, Kind, Operation, Part, Resource, Sense, Stayed, Unusable, Why,
 };
 use std::net::SocketAddrV4;
 
@@ -62,9 +62,8 @@ pub enum Event<'a> {
     SessionEnded(Initiator<'a>, Path, u16, Why),
     /// A connection ended that had not.
     ConnectionEnded(Path, Why),
-    /// The access states of a unit's groups were set; this is the tag of the one that was made active/optimized, 0 where none was
-    /// named.
-    GroupsSet(u8, u16, By<'a>),
+    /// The access states of a unit's groups were set: the tag of the one that is active/optimized now, and the states of both.
+    GroupsSet(u8, u16, Access, Access, By<'a>),
     /// A unit was to move to a group, and stayed.
     NotMoved(u8, u16, Stayed, By<'a>),
     /// A PERSISTENT RESERVE OUT was GOOD, by a session of this initiator through the group with this tag.
@@ -77,10 +76,16 @@ pub enum Event<'a> {
     Busy(u8, Operation, Initiator<'a>, u16),
     /// A call on a unit's file failed, at these blocks, with this error of the system, 0 where it told none.
     DeviceFailed(u8, Part, Call, Place, u32),
+    /// A call on a unit's file took longer than the deadline. No call on it is made any more.
+    Hung(u8, Part, Call),
+    /// A unit's file became longer while it was served.
+    Grew(u8, Part),
     /// A unit's blocks could not be flushed when the array stopped.
     NotFlushed(u8),
-    /// A file of a unit, of this name, cannot be used.
-    CannotUse(u8, Part, &'a [u8], Unusable),
+    /// A file of a unit, whose disk has this name, cannot be used; with the error of the system, 0 where it told none.
+    CannotUse(u8, Part, &'a [u8], Unusable, u32),
+    /// The system does not look whether the host at this address is still there: it refused to.
+    NoKeepalive(SocketAddrV4),
     /// This is wanting.
     Wanting(Resource),
     /// So many lines were dropped.

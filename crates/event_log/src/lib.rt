@@ -17,6 +17,6 @@ pub use log::Log;
 pub use spelling::spell;
 pub use stamp::Stamp;
 pub use words::{
-    Action, Call, Cause, Kind, Operation, Part, Resource, Sense, Stayed, Unusable, Why,
+    Access, Action, Call, Cause, Kind, Operation, Part, Resource, Sense, Stayed, Unusable, Why,
 };
 pub use writer::{Page, close, start};

@@ -3,7 +3,7 @@ ghost use Rattle.std.specs.Prelude.{◌≡◌, ◌∷◌, [], OnOk};
 ghost use Rattle.std.specs.Fmt.{decimal};
 ghost use Rattle.std.specs.String.{string_bytes};
 ghost use Rattle.event_log.specs.Text.{by_in, cause_in, command_in, error_in, failed_in, file_in, initiator_in, joined, parts, path_in};
-ghost use Rattle.event_log.specs.Text.{portal_in, sense_in, session_in, set_in, stay_in, why_in};
+ghost use Rattle.event_log.specs.Text.{portal_in, sense_in, session_in, set_in, stay_in, unusable_in, why_in};
 ghost use Rattle.event_log.specs.declared.event.Event.TheVariants as events;
 ghost use Rattle.event_log.specs.declared.words.Why.TheVariants as whys;
 
@@ -11,8 +11,8 @@ use crate::event::{By, Event, Initiator, Path, Place, Reservation};
 use crate::line::Piece::{Address, Hex, Name, Number, Text};
 use crate::line::put;
 use crate::words::{
-    Call, Cause, Kind, Operation, Part, Sense, Stayed, Unusable, Why, error_text, reject_text,
-    status_text,
+    Access, Call, Cause, Kind, Operation, Part, Sense, Stayed, Unusable, Why, error_text,
+    reject_text, status_text,
 };
 use std::alloc::AllocError;
 use std::net::SocketAddrV4;
@@ -262,8 +262,15 @@ fn session_ended(
 }
 
 // That the groups of a unit were set.
-fn set(line: &mut String, unit: u8, group: u16) -> Result<(), AllocError>
-    ensures { OnOk result (string_bytes line.new ≡ joined (string_bytes line.old) (set_in unit group [])) }
+fn set(
+    line: &mut String,
+    unit: u8,
+    group: u16,
+    first: Access,
+    second: Access,
+) -> Result<(), AllocError>
+    ensures { OnOk result (string_bytes line.new
+        ≡ joined (string_bytes line.old) (set_in unit group first second [])) }
 {
     put(
         line,
@@ -272,6 +279,10 @@ fn set(line: &mut String, unit: u8, group: u16) -> Result<(), AllocError>
             Number(u64::from(unit)),
             Text(" owner="),
             Number(u64::from(group)),
+            Text(" states="),
+            Text(first.text()),
+            Text(","),
+            Text(second.text()),
         ],
     )
 }
@@ -354,17 +365,11 @@ fn failed(line: &mut String, call: Call, place: Place, errno: u32) -> Result<(),
     error(line, errno)
 }
 
-fn cannot_use(
-    line: &mut String,
-    unit: u8,
-    part: Part,
-    disk: &[u8],
-    cause: Unusable,
-) -> Result<(), AllocError>
+// Why a file of a unit cannot be used, whose disk has this name.
+fn unusable(line: &mut String, disk: &[u8], cause: Unusable, errno: u32) -> Result<(), AllocError>
     ensures { OnOk result (string_bytes line.new
-        ≡ joined (string_bytes line.old) (parts (events.CannotUse unit part disk.entry cause))) }
+        ≡ joined (string_bytes line.old) (unusable_in disk.now cause errno)) }
 {
-    file(line, "event=cannot_use", unit, part)?;
     put(
         line,
         &[
@@ -373,7 +378,16 @@ fn cannot_use(
             Text(" why="),
             Text(cause.text()),
         ],
-    )
+    )?;
+    error(line, errno)
+}
+
+fn hung(line: &mut String, unit: u8, part: Part, call: Call) -> Result<(), AllocError>
+    ensures { OnOk result (string_bytes line.new
+        ≡ joined (string_bytes line.old) (parts (events.Hung unit part call))) }
+{
+    file(line, "event=hung", unit, part)?;
+    put(line, &[Text(" call="), Text(call.text())])
 }
 
 fn busy(
@@ -410,8 +424,8 @@ pub fn spell(line: &mut String, event: &Event<'_>) -> Result<(), AllocError>
             path(line, by)?;
             why(line, *end)
         }
-        Event::GroupsSet(unit, group, whom) => {
-            set(line, *unit, *group)?;
+        Event::GroupsSet(unit, group, first, second, whom) => {
+            set(line, *unit, *group, *first, *second)?;
             by(line, whom)
         }
         Event::NotMoved(unit, group, end, whom) => {
@@ -433,8 +447,16 @@ pub fn spell(line: &mut String, event: &Event<'_>) -> Result<(), AllocError>
             file(line, "event=device_failed", *unit, *part)?;
             failed(line, *call, *place, *errno)
         }
+        Event::Hung(unit, part, call) => hung(line, *unit, *part, *call),
+        Event::Grew(unit, part) => file(line, "event=grew", *unit, *part),
         Event::NotFlushed(unit) => counted(line, "event=not_flushed unit=", u64::from(*unit)),
-        Event::CannotUse(unit, part, disk, cause) => cannot_use(line, *unit, *part, disk, *cause),
+        Event::CannotUse(unit, part, disk, cause, errno) => {
+            file(line, "event=cannot_use", *unit, *part)?;
+            unusable(line, disk, *cause, *errno)
+        }
+        Event::NoKeepalive(from) => {
+            put(line, &[Text("event=no_keepalive from="), Address(*from)])
+        }
         Event::Wanting(what) => put(line, &[Text("event=wanting what="), Text(what.text())]),
         Event::Dropped(count) => counted(line, "event=dropped lines=", *count),
     }

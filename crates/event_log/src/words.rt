@@ -1,6 +1,6 @@
 //! The words of the log.
 ghost use Rattle.std.specs.Prelude.{◌≡◌};
-ghost use Rattle.event_log.specs.Words.{action_text, call_text, error_text, kind_text, operation_text, part_text, resource_text};
+ghost use Rattle.event_log.specs.Words.{access_text, action_text, call_text, error_text, kind_text, operation_text, part_text, resource_text};
 ghost use Rattle.event_log.specs.Words.{status_text, stayed_text, unusable_text, reject_text};
 
 /// What a session is for (RFC 7143, 4.3).
@@ -54,6 +54,17 @@ pub enum Stayed {
     BadList,
     /// Its history has its last length.
     Gone,
+}
+
+/// An asymmetric access state of a group (SPC-4, 5.15.2.2), as the log tells it.
+#[derive(Clone, Copy, PartialEq, Eq)]
+pub enum Access {
+    Optimized,
+    NonOptimized,
+    Standby,
+    Unavailable,
+    /// Whoever set it did not name it.
+    Unnamed,
 }
 
 /// The service action of a PERSISTENT RESERVE OUT (SPC-4, 6.16.2).
@@ -151,6 +162,31 @@ impl Stayed {
             Stayed::NotOpened => "not_opened",
             Stayed::BadList => "bad_list",
             Stayed::Gone => "gone",
+        }
+    }
+}
+
+impl Access {
+    /// The state of this code.
+    pub fn of(code: u64) -> Access {
+        match code {
+            0 => Access::Optimized,
+            1 => Access::NonOptimized,
+            2 => Access::Standby,
+            3 => Access::Unavailable,
+            _ => Access::Unnamed,
+        }
+    }
+
+    pub(crate) fn text(self) -> &'static str
+        ensures { result.now ≡ access_text self }
+    {
+        match self {
+            Access::Optimized => "0",
+            Access::NonOptimized => "1",
+            Access::Standby => "2",
+            Access::Unavailable => "3",
+            Access::Unnamed => "unnamed",
         }
     }
 }
@@ -289,20 +325,27 @@ pub(crate) fn error_text(error: u32) -> &'static str
 {
     match error {
         0 => "none",
+        1 => "EPERM",
         2 => "ENOENT",
         5 => "EIO",
         6 => "ENXIO",
         9 => "EBADF",
+        11 => "EAGAIN",
         12 => "ENOMEM",
         13 => "EACCES",
         16 => "EBUSY",
         19 => "ENODEV",
+        20 => "ENOTDIR",
+        21 => "EISDIR",
         22 => "EINVAL",
         23 => "ENFILE",
         24 => "EMFILE",
         27 => "EFBIG",
         28 => "ENOSPC",
         30 => "EROFS",
+        36 => "ENAMETOOLONG",
+        40 => "ELOOP",
+        92 => "ENOPROTOOPT",
         98 => "EADDRINUSE",
         99 => "EADDRNOTAVAIL",
         110 => "ETIMEDOUT",

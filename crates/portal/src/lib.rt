@@ -8,6 +8,7 @@ mod controllers;
 mod device;
 mod gate;
 mod handles;
+mod keepalive;
 mod lanes;
 mod late;
 pub mod laws;

@@ -5,6 +5,7 @@ ghost use Rattle.portal.specs.Server.{named_by};
 use crate::connection::Connection;
 use crate::device::TargetDevice;
 use crate::gate::Gate;
+use crate::keepalive::is_kept_alive;
 use crate::live::Table;
 use crate::stacks::{STACK, Stacks};
 use crate::units::{LogicalUnits, Pass};
@@ -221,6 +222,9 @@ fn work<R: Wait + Clock, U: LogicalUnits<P, H> + Drop, G: Gate + Drop, P: Pass, 
     let _ = stream.set_nodelay(true);
     let _ = stream.set_read_timeout(Some(Duration::from_secs(LOGIN_SILENCE)));
     let path = path_of(stream, group);
+    if !is_kept_alive(stream) {
+        server.log.tell(rt, &Event::NoKeepalive(path.from));
+    }
     if serve_socket::<R, U, G, P, H>(rt, alloc, server, group, socket, path).is_err() {
         tell_no_memory(rt, &server.log, path);
     }

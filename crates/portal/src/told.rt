@@ -1,6 +1,6 @@
 //! What of commands and replies the log is told.
 
-use event_log::{Action, Operation, Reservation, Sense};
+use event_log::{Access, Action, Operation, Reservation, Sense};
 use scsi_types::{Asked, Command, PrOutAction, Reply};
 
 /// What a command is, as the log names it.
@@ -53,18 +53,58 @@ pub(crate) fn reservation_in(asked: &Asked, list: &[u8]) -> Option<Reservation> 
     }
 }
 
-/// The group that a SET TARGET PORT GROUPS makes active/optimized by its parameter list (SPC-4, 6.45), 0 where it names none.
-pub(crate) fn groups_in(asked: &Asked, list: &[u8]) -> Option<u16> {
+/// The access states of a unit's groups: which one is active/optimized, and the states of both.
+#[derive(Clone, Copy)]
+pub(crate) struct States {
+    pub(crate) owner: u16,
+    pub(crate) first: Access,
+    pub(crate) second: Access,
+}
+
+// The states of both groups where these were set: just one of them is active/optimized, also where only the other one was named.
+fn states_of(first: Access, second: Access) -> Option<States> {
+    match (first, second) {
+        (Access::Unnamed, Access::Unnamed) => None,
+        (Access::Optimized, _) => Some(States {
+            owner: 1,
+            first,
+            second,
+        }),
+        (_, Access::Optimized) => Some(States {
+            owner: 2,
+            first,
+            second,
+        }),
+        (Access::Unnamed, _) => Some(States {
+            owner: 1,
+            first: Access::Optimized,
+            second,
+        }),
+        _ => Some(States {
+            owner: 2,
+            first,
+            second: Access::Optimized,
+        }),
+    }
+}
+
+/// What a SET TARGET PORT GROUPS makes of both groups by its parameter list (SPC-4, 6.45), where it is GOOD and names any.
+pub(crate) fn states_in(asked: &Asked, list: &[u8]) -> Option<States> {
     let Ok(Command::SetTargetPortGroups { .. }) = asked else {
         return None;
     };
-    let mut owner = 0;
+    let (mut first, mut second) = (Access::Unnamed, Access::Unnamed);
     for descriptor in list.chunks(4).skip(1) {
-        if descriptor.len() == 4 && descriptor[0] & 0x0F == 0 {
-            owner = u16::from_be_bytes([descriptor[2], descriptor[3]]);
+        if descriptor.len() == 4 {
+            let state = Access::of(u64::from(descriptor[0] & 0x0F));
+            match u16::from_be_bytes([descriptor[2], descriptor[3]]) {
+                1 => first = state,
+                2 => second = state,
+                _ => {}
+            }
         }
     }
-    Some(owner)
+    states_of(first, second)
 }
 
 /// Whether a reply tells of a device that failed: MEDIUM ERROR or HARDWARE ERROR (SPC-4, 4.5.6).

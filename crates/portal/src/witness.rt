@@ -5,7 +5,7 @@ use crate::connection::Connection;
 use crate::gate::Gate;
 use crate::sessions::Sessions;
 use crate::target::{BeginFault, SessionTarget};
-use crate::told::{groups_in, is_trouble, operation_of, reservation_in, sense_of};
+use crate::told::{States, is_trouble, operation_of, reservation_in, sense_of, states_in};
 use crate::units::{LogicalUnits, Pass};
 use event_log::{By, Cause, Event, Initiator, Log, Operation, Path, Reservation};
 use login::Kind;
@@ -78,8 +78,8 @@ impl Visitor {
 struct Deed {
     operation: Operation,
     reservation: Option<Reservation>,
-    // The group that is to own the unit, 0 where none is named.
-    owner: Option<u16>,
+    // The access states that are to be set.
+    states: Option<States>,
 }
 
 // What of a command a log that is on is told, if it is.
@@ -90,7 +90,7 @@ fn deed_of(log: &Log, asked: &Asked, bytes: &[u8]) -> Option<Deed> {
     Some(Deed {
         operation: operation_of(asked),
         reservation: reservation_in(asked, bytes),
-        owner: groups_in(asked, bytes),
+        states: states_in(asked, bytes),
     })
 }
 
@@ -124,8 +124,9 @@ impl<R: Clock> Told<'_, R> {
             let reserved = Event::Reserved(unit, reservation, self.who, self.path.tag);
             self.log.tell(self.rt, &reserved);
         }
-        if let Some(owner) = deed.owner {
-            let set = Event::GroupsSet(unit, owner, By::Session(self.who));
+        if let Some(set) = deed.states {
+            let by = By::Session(self.who);
+            let set = Event::GroupsSet(unit, set.owner, set.first, set.second, by);
             self.log.tell(self.rt, &set);
         }
     }

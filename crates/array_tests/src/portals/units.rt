@@ -128,6 +128,8 @@ pub fn fused_registrations<R: Files<File = File> + Abort>(
     path: &str,
     faults: Faults,
 ) -> FusedFile {
-    let (file, _) = open_registrations(rt, alloc, path, None).expect(rt, path);
-    FusedBlocks::new(file.close(), faults.saving.saturating_add(OPEN_CALLS))
+    drop(open_registrations(rt, alloc, path, None).expect(rt, path));
+    let name = format!(in alloc; "{path}.reg").expect(rt, path);
+    let blocks = FileBlocks::open(rt, name.as_str()).expect(rt, path);
+    FusedBlocks::new(blocks, faults.saving.saturating_add(OPEN_CALLS))
 }

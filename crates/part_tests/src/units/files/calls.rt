@@ -155,7 +155,7 @@ fn is_counted(rt: &impl Abort, alloc: Global, count: Result<u32, FileFault>, row
 // Opens the registration file of a disk.
 fn is_opened<R: Files<File = File> + Abort>(rt: &R, alloc: Global, path: &str, row: &Row) -> bool {
     match open_registrations(rt, alloc, path, None) {
-        Ok((mut file, record)) => is_found(rt, alloc, &mut file, &record, row),
+        Ok(mut found) => is_found(rt, alloc, &mut found.file, &found.record, row),
         Err(fault) => is_told(rt, alloc, &fault, row),
     }
 }

@@ -129,7 +129,7 @@ count disk; 2048
 
 no file and a folder cannot be opened
 count disk; NotThere
-count ..; NotOpened"#
+count ..; NotOpened(21)"#
 }
 
 // The registration file beside a disk.
@@ -158,5 +158,5 @@ registrations disk; File(Length)
 holds disk.reg "text"
 
 a folder that is not there
-registrations disk/none; NotMade"#
+registrations disk/none; NotMade(2)"#
 }

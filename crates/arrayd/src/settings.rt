@@ -1,0 +1,30 @@
+//! What the environment asks for, beside the log.
+
+use command_line::Fault;
+use std::env::{self, Env, VarError};
+use std::net::Ipv4Addr;
+
+/// The variable that names an address of controller 2.
+const SECOND_HOST: &str = "ARRAYD_HOST2";
+
+// The value of a variable; none where it is not there, or empty.
+fn value_of<R: Env + AllocGlobal>(rt: &R, name: &str) -> Result<Option<String>, Fault> {
+    match env::var(rt, name) {
+        Ok(value) if value.is_empty() => Ok(None),
+        Ok(value) => Ok(Some(value)),
+        Err(VarError::OutOfMemory) => Err(Fault::NoMemory),
+        Err(VarError::NotPresent) => Ok(None),
+        Err(_) => Err(Fault::WrongWords),
+    }
+}
+
+/// The address at which controller 2 listens, where the environment names one.
+pub fn second_host<R: Env + AllocGlobal>(rt: &R) -> Result<Option<Ipv4Addr>, Fault> {
+    let Some(text) = value_of(rt, SECOND_HOST)? else {
+        return Ok(None);
+    };
+    match text.parse::<Ipv4Addr>() {
+        Ok(address) => Ok(Some(address)),
+        Err(_) => Err(Fault::WrongWords),
+    }
+}

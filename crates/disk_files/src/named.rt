@@ -1,0 +1,151 @@
+//! A file that has to keep its name.
+ghost use Rattle.std.specs.Prelude.{◌≡◌, ◌<◌, ◌≤◌, ◌+◌, [], false, length, min, IsErr, OnErr};
+ghost use Rattle.std.proofs.Common.{arith};
+ghost use Rattle.block_file.specs.Cut.{IsRun};
+ghost use Rattle.block_file.specs.Failures.{Counts, last_count};
+
+use crate::FileBlocks;
+use crate::system::SystemFile;
+use crate::voice::number_of;
+use block_file::{Blocks, DeviceFailed};
+use event_log::Call;
+use preparer::{Node, OnDisk};
+use std::alloc::{AllocError, Global};
+use std::fs;
+use std::fs::File;
+use std::os::unix::fs::MetadataExt;
+use std::rt::Files;
+
+/// The blocks of a file that the next start finds by its name alone, as a registration file. Nothing is written, and no flush is
+/// told as done, while the name is another file's or nobody's: what were saved then would be lost.
+#[derive(Drop)]
+pub struct NamedBlocks<R: Files<File = File> + Drop> {
+    rt: R,
+    blocks: FileBlocks<SystemFile>,
+    path: String,
+    node: Node,
+    // How often a call failed since the name was not the file's.
+    unnamed: u64,
+}
+
+impl<R: Files<File = File> + Drop> NamedBlocks<R> {
+    /// Those of a file that has this name.
+    pub(crate) fn new(
+        rt: R,
+        alloc: Global,
+        path: &str,
+        blocks: FileBlocks<SystemFile>,
+        node: Node,
+    ) -> Result<NamedBlocks<R>, AllocError> {
+        Ok(NamedBlocks {
+            rt,
+            blocks,
+            path: String::from_str(alloc, path)?,
+            node,
+            unnamed: 0,
+        })
+    }
+
+    /// Which file they are of.
+    pub fn node(&self) -> Node
+        ensures { result ≡ self.now.node }
+    {
+        self.node
+    }
+
+    // Whether the name is the file's. It is told where not.
+    fn is_named(&self) -> bool {
+        match fs::metadata(&self.rt, self.path.as_str()) {
+            Ok(found) => {
+                let found = Node {
+                    device: found.dev(),
+                    number: found.ino(),
+                };
+                let is_named = found.is(self.node);
+                if !is_named {
+                    self.blocks.tell(Call::Open, 0, 0, 0);
+                }
+                is_named
+            }
+            Err(e) => {
+                self.blocks.tell(Call::Open, 0, 0, number_of(&e));
+                false
+            }
+        }
+    }
+
+    // A call fails, since the name is not the file's.
+    fn refuse(&mut self) -> Result<(), DeviceFailed>
+        ensures err { IsErr result }
+        ensures blocks { self.new.blocks ≡ self.old.blocks }
+        ensures count { self.new.unnamed ≡ min (self.old.unnamed + 1) last_count }
+    {
+        self.unnamed = self.unnamed.saturating_add(1);
+        Err(DeviceFailed)
+    }
+}
+
+impl<R: Files<File = File> + Drop> OnDisk for NamedBlocks<R> {
+    ghost disk = { λ d. d.node };
+}
+
+impl<R: Files<File = File> + Drop> Blocks for NamedBlocks<R> {
+    ghost claims = { false };
+
+    ghost claims_moments = { false };
+
+    ghost size = { λ d. d.blocks.count };
+
+    ghost contents = { λ d. [] };
+
+    ghost may_hold = { λ d k value. Unit {0} };
+
+    ghost moment = { λ d. 0 };
+
+    ghost left_since = { λ d t disk. Unit {0} };
+
+    ghost reads_failed = { λ d. min d.blocks.tally.failed_reads last_count };
+
+    ghost writes_failed = { λ d. min (d.blocks.tally.failed_writes + d.unnamed) last_count };
+
+    ghost failures = { λ d. min (d.blocks.tally.failed_reads + (d.blocks.tally.failed_writes + d.unnamed)) last_count };
+
+    ghost fits = { λ d. d.blocks.fits };
+
+    ghost summed = { λ d. Prim.omega arith };
+
+    ghost bounded = { λ d. Prim.omega arith };
+
+    ghost sized = { λ d h. Prim.cc };
+
+    ghost wide = { λ d k h. Prim.cc };
+
+    ghost is_outcome = { λ d k h lt. tt };
+
+    ghost counts_now = { λ d t disk h. Prim.cc };
+
+    ghost only_now = { λ d disk h. Prim.cc };
+
+    fn count(&self) -> u32 {
+        self.blocks.count()
+    }
+
+    fn read_run(&mut self, first: u32, bytes: &mut [u8]) -> Result<(), DeviceFailed> {
+        self.blocks.read_run(first, bytes)
+    }
+
+    fn write_run(&mut self, first: u32, bytes: &[u8]) -> Result<(), DeviceFailed> {
+        if !self.is_named() {
+            return self.refuse();
+        }
+        self.blocks.write_run(first, bytes)
+    }
+
+    fn flush(&mut self) -> Result<(), DeviceFailed> {
+        self.blocks.flush()?;
+        if !self.is_named() {
+            return self.refuse();
+        }
+        Ok(())
+    }
+}
