@@ -16,7 +16,7 @@ import tempfile
 import threading
 import time
 
-from initiator import BUSY, CHECK_CONDITION, GOOD, RESERVATION_CONFLICT, Closed, Refused, Session
+from initiator import BUSY, CHECK_CONDITION, GOOD, RESERVATION_CONFLICT, Closed, Refused, Session, discover
 from running import PORT, TARGET, Array, Wrong, ended, made
 
 NOBODY = 65534
@@ -44,6 +44,12 @@ def root():
 
 def run(*words):
     return subprocess.run(words, check=True, stdout=subprocess.PIPE, stderr=subprocess.PIPE, text=True).stdout.strip()
+
+
+def lines(log, event):
+    """The lines of the log that tell of this event."""
+    with open(log, encoding="utf-8") as file:
+        return [line.strip() for line in file if f" event={event} " in line]
 
 
 def login(controller=1, number=0, name="iqn.2000-01.test:host", timeout=20):
@@ -153,6 +159,53 @@ def registration_file_damaged(folder):
 
 
 @case
+def registration_file_busy(folder):
+    disk = made(folder + "/disk", 16)
+    with Array([disk]) as array:
+        os.rename(disk, disk + ".old")
+        made(disk, 16)
+        is_so("a second array on the same registrations", ended(["--port", str(PORT + 16), disk]),
+              (1, "arrayd: cannot use registration file 0"))
+        array.quit()
+    with Array([disk]) as array:
+        array.quit()
+
+
+@case
+def registration_file_that_is_a_link_into_nothing(folder):
+    disk = made(folder + "/disk", 16)
+    place = folder + "/not_mounted_yet/disk.reg"
+    os.symlink(place, disk + ".reg")
+    is_so("a start", ended([disk]), (1, "arrayd: cannot use registration file 0"))
+    is_so("nothing was touched", (os.readlink(disk + ".reg"), sorted(os.listdir(folder))), (place, ["disk", "disk.reg"]))
+    os.mkdir(folder + "/not_mounted_yet")
+    is_so("nor where its folder is there, and the file is not", ended([disk]), (1, "arrayd: cannot use registration file 0"))
+    is_so("nothing was touched", (os.readlink(disk + ".reg"), os.listdir(folder + "/not_mounted_yet")), (place, []))
+
+
+@case
+def registration_file_removed(folder):
+    disk, log = made(folder + "/disk", 16), folder + "/log"
+    with Array([disk], log=log) as array:
+        session = login()
+        is_so("REGISTER with APTPL", end_of(session.reserve_out(0, 6, new_key=1, aptpl=True)), GOOD)
+        os.rename(disk + ".reg", disk + ".kept")
+        is_so("with the file gone", end_of(session.reserve_out(0, 6, new_key=2, aptpl=True)), "04 44/00")
+        shutil.copy(disk + ".kept", disk + ".reg")
+        is_so("with another file in its place", end_of(session.reserve_out(0, 6, new_key=3, aptpl=True)), "04 44/00")
+        is_so("reads and writes go on", (write(session), read(session)), (GOOD, GOOD))
+        os.rename(disk + ".kept", disk + ".reg")
+        is_so("with the file back", end_of(session.reserve_out(0, 6, new_key=4, aptpl=True)), GOOD)
+        array.quit()
+    told = [line.split("event=", 1)[1] for line in lines(log, "device_failed")]
+    failed = "device_failed unit=0 file=registrations call=open block=0 blocks=0 errno="
+    is_so("the log", told, [failed + "2 error=ENOENT", failed + "0 error=none"])
+    with Array([disk]) as array:
+        is_so("after a restart the key is there", array.status()["keys"], "1")
+        array.quit()
+
+
+@case
 def registration_file_of_another_disk(folder):
     disk, other = made(folder + "/disk", 16), made(folder + "/other", 16)
     with Array([other]) as array:
@@ -190,6 +243,64 @@ def port_taken(folder):
         with Array([disk]) as array:
             login()
             array.quit()
+
+
+@case
+def start_that_fails(folder):
+    root()
+    disk, log = made(folder + "/disk", 16), folder + "/log"
+    os.chmod(folder, 0o777)
+
+    def told(words, user=None):
+        """The log's cause and the system's error of a start that fails."""
+        is_so(f"{words}", ended(words, user=user, log=log)[0], 1)
+        return lines(log, "cannot_use")[-1].split(" why=", 1)[1]
+
+    is_so("no disk", told([folder + "/none"]), "not_there errno=2 error=ENOENT")
+    is_so("a folder", told([folder]), "not_opened errno=21 error=EISDIR")
+    is_so("a way through a file", told([disk + "/disk"]), "not_opened errno=20 error=ENOTDIR")
+    os.chmod(log, 0o666)
+    os.chmod(disk, 0o600)
+    is_so("no permission", told([disk], user=NOBODY), "not_opened errno=13 error=EACCES")
+    with Mounted(folder) as place:
+        place.mount("-t", "tmpfs", "none")
+        made(place.place + "/disk", 16)
+        run("mount", "-o", "remount,ro", place.place)
+        is_so("a file system that is read-only", told([place.place + "/disk"]), "not_opened errno=30 error=EROFS")
+    os.mkdir(folder + "/kept")
+    os.chmod(folder + "/kept", 0o755)
+    other = made(folder + "/kept/disk", 16)
+    os.chown(other, NOBODY, NOBODY)
+    is_so("registrations in a folder of root's", told([other], user=NOBODY), "not_made errno=13 error=EACCES")
+
+
+@case
+def log_that_cannot_be_written(folder):
+    with Array([made(folder + "/disk", 16)], log=folder + "/none/log") as array:
+        is_so("it is served", write(login()), GOOD)
+        array.quit()
+        is_so("standard error", array.process.stderr.read(), "arrayd: cannot write the log\n")
+
+
+@case
+def address_of_each_controller(folder):
+    with Array([made(folder + "/disk", 16)], more={"ARRAYD_HOST2": "127.0.0.2"}) as array:
+        told = [f"127.0.0.1:{PORT},1", f"127.0.0.2:{PORT + 4},2"]
+        for host, port in (("127.0.0.1", PORT), ("127.0.0.2", PORT + 4)):
+            is_so(f"a discovery at {host}", discover(host, port), {TARGET: told})
+        second = Session("127.0.0.2", PORT + 4, TARGET)
+        second.ready(0)
+        is_so("a write by controller 2", write(second), GOOD)
+        try:
+            socket.create_connection(("127.0.0.1", PORT + 4), 5)
+            raise Wrong("controller 2 listens at the address of controller 1 too")
+        except ConnectionRefusedError:
+            pass
+        array.quit()
+    for address in ("localhost", "10.0.0.01", "1.2.3", "::1"):
+        is_so(address, ended([folder + "/disk"], more={"ARRAYD_HOST2": address}), (2, "arrayd: wrong words"))
+    is_so("an address of another machine", ended([folder + "/disk"], more={"ARRAYD_HOST2": "192.0.2.1"}),
+          (1, "arrayd: cannot listen at controller 2 portal 0"))
 
 
 # ---- hosts
@@ -281,6 +392,59 @@ def host_vanished(folder):
         is_so("others do not write meanwhile", write(other), RESERVATION_CONFLICT)
 
 
+class Away:
+    """A network of its own, in which another process is a host of this machine's."""
+
+    HERE, THERE = "10.213.77.1", "10.213.77.2"
+
+    def __init__(self):
+        root()
+        self.name = f"arrayd{os.getpid()}"
+        try:
+            run("ip", "netns", "add", self.name)
+        except (OSError, subprocess.CalledProcessError) as error:
+            raise NotHere("it wants a network namespace") from error
+        run("ip", "link", "add", "arrayd0", "type", "veth", "peer", "name", "arrayd1", "netns", self.name)
+        run("ip", "address", "add", self.HERE + "/30", "dev", "arrayd0")
+        run("ip", "link", "set", "arrayd0", "up")
+        for words in (["address", "add", self.THERE + "/30", "dev", "arrayd1"], ["link", "set", "arrayd1", "up"]):
+            run("ip", "-n", self.name, *words)
+
+    def __enter__(self):
+        return self
+
+    def __exit__(self, *_):
+        run("ip", "link", "delete", "arrayd0")
+        run("ip", "netns", "delete", self.name)
+
+    def host(self, code):
+        """A host there, which does this and waits."""
+        code = f"import sys, time; sys.path.insert(0, {os.path.dirname(os.path.abspath(__file__))!r})\n{code}\nprint('in', flush=True); time.sleep(600)"
+        words = ["ip", "netns", "exec", self.name, sys.executable, "-c", code]
+        return subprocess.Popen(words, stdout=subprocess.PIPE, text=True)
+
+
+@case
+def link_cut(folder):
+    with Away() as away:
+        log = folder + "/log"
+        with Array([made(folder + "/disk", 16)], options=["--host", away.HERE], log=log) as array:
+            host = away.host(f"from initiator import Session\nsession = Session({away.HERE!r}, {PORT}, {TARGET!r})\nsession.ready(0)")
+            try:
+                is_so("it logs in", host.stdout.readline(), "in\n")
+                run("ip", "link", "set", "arrayd0", "down")
+                begun = time.monotonic()
+                while not lines(log, "session_ended"):
+                    if time.monotonic() - begun > 120:
+                        raise Wrong("its session is there after two minutes")
+                    time.sleep(1)
+                is_so("why", "why=connection_lost" in lines(log, "session_ended")[0], True)
+            finally:
+                host.kill()
+                host.wait()
+            array.quit()
+
+
 @case
 def reservation_conflict(folder):
     with Array([made(folder + "/disk", 16)]) as array:
@@ -358,6 +522,20 @@ def controller_down(folder):
 
 
 @case
+def down_twice(folder):
+    log = folder + "/log"
+    with Array([made(folder + "/disk", 16)], log=log) as array:
+        first, second = login(1), login(2, 1)
+        is_so("down 1, twice", array.ask("down 1") + array.ask("down 1"), ["down", "down"])
+        first.test_unit_ready(0)
+        second.test_unit_ready(0)
+        is_so("a host makes a group unavailable that is no owner's", end_of(second.set_port_groups(0, [(1, 3)])), GOOD)
+        array.quit()
+    told = [line.split("event=", 1)[1].split(" initiator=")[0] for line in lines(log, "groups_set")]
+    is_so("the log", told, ["groups_set unit=0 owner=2 states=3,0 by=console", "groups_set unit=0 owner=2 states=3,0 by=session"])
+
+
+@case
 def unit_that_does_not_move(folder):
     disk = made(folder + "/disk", 16)
     second = made(folder + "/second", 16)
@@ -413,15 +591,19 @@ def disk_that_became_shorter(folder):
 
 @case
 def disk_that_became_longer(folder):
-    disk = made(folder + "/disk", 16)
-    with Array([disk]) as array:
-        session = login()
+    disk, log = made(folder + "/disk", 16), folder + "/log"
+    with Array([disk], log=log) as array:
+        session, other = login(), login(2, 1)
         os.truncate(disk, 32 * 512)
         is_so("a read", read(session, 7), GOOD)
-        is_so("any write", write(session, 0), "03 0C/00")
+        is_so("writes", (write(session, 0), write(session, 15)), (GOOD, GOOD))
         is_so("the blocks that there are", session.capacity(0), (16, 512))
-        is_so("a move", array.ask("down 1"), ["not moved 0"])
+        is_so("one behind them", write(session, 16), "05 21/00")
+        is_so("a move", array.ask("down 1"), ["down"])
+        other.test_unit_ready(0)
+        is_so("a write by the other controller", write(other, 0), GOOD)
         array.quit()
+    is_so("the log tells it once", [line.split("event=", 1)[1] for line in lines(log, "grew")], ["grew unit=0 file=disk"])
     with Array([disk]) as array:
         session = login()
         is_so("after a restart it has more", session.capacity(0), (32, 512))
