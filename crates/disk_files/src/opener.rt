@@ -15,7 +15,7 @@ use std::rt::Files;
 
 /// Opens the file of a disk again by its name, for the other controller.
 ///
-/// What is there by then has to be the same file, of the same length: else the open fails, and the old handle stays.
+/// What is there by then has to be the same file, and no shorter: else the open fails, and the old handle stays.
 /// The counts of failures go over to the new handle, and that a flush failed.
 #[derive(Drop)]
 pub struct FileOpener<R: Files<File = File> + Drop> {
