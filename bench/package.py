@@ -98,7 +98,7 @@ def three_commands(machine):
 
 
 def console(machine):
-    machine.run("useradd -G arrayd-status watcher; useradd -G arrayd operator; useradd stranger")
+    check("users are made", machine.run("set -e; useradd -G arrayd-status watcher; useradd -G arrayd keeper; useradd stranger")[0] == 0)
 
     def as_user(user, command):
         return machine.run(f"runuser -u {user} -- {command}")
@@ -106,10 +106,10 @@ def console(machine):
     check("a watcher may ask for status", as_user("watcher", STATUS)[1].count("unit ") == 2, as_user("watcher", STATUS))
     check("and not by the console", as_user("watcher", f"{CONSOLE} status")[0] == 3 and as_user("watcher", f"{CONSOLE} quit")[0] == 3)
     check("a stranger may neither", as_user("stranger", STATUS)[0] == 3 and as_user("stranger", f"{CONSOLE} status")[0] == 3)
-    check("an operator may take a controller down", as_user("operator", f"{CONSOLE} down 2") == (0, "down"))
+    check("a keeper may take a controller down", as_user("keeper", f"{CONSOLE} down 2") == (0, "down"))
     check("which the status tells", as_user("watcher", STATUS)[1].count("states 0 3") == 2, as_user("watcher", STATUS))
-    check("an operator may not read a disk", as_user("operator", "ls /var/lib/arrayd/one")[0] != 0)
-    machine.run(f"{CONSOLE} down 1")
+    check("a keeper may not read a disk", as_user("keeper", "ls /var/lib/arrayd/one")[0] != 0)
+    check("a restart brings it back", machine.run(f"systemctl restart arrayd@one; {CONSOLE} status")[1].count("states 0 1") == 1)
 
 
 def upgrade(machine):
@@ -134,7 +134,7 @@ def upgrade(machine):
     time.sleep(15)
     for host in hosts:
         host.end()
-        check(f"host {host.unit} went on: {host.answers} answers, {host.breaks} interruptions", host.breaks > 0 and not host.wrong, host.wrong)
+        check(f"host {host.unit} went on: {host.answers} answers, {host.breaks} interruption", host.breaks == 1 and not host.wrong, host.wrong)
         told("the longest that it waited for an answer", host.longest)
         found = host.lost(machine.port + 4 * (1 - host.unit))
         check(f"each of the {len(host.values)} blocks that it has written is there, by the other controller", not found, found)

@@ -9,7 +9,8 @@ import time
 from initiator import BLOCK, BUSY, Closed, Failed, Refused, Session
 from running import TARGET
 
-FIRST, BLOCKS = 1000, 200
+# A little time behind each answer: the machine of the array is emulated, and has other things to do too.
+FIRST, BLOCKS, PAUSE = 1000, 200, 0.05
 
 
 def block_of(lba, number):
@@ -25,7 +26,7 @@ class Host(threading.Thread):
         self.address, self.port, self.unit = address, port, unit
         self.values, self.open, self.wrong = {}, None, []
         self.answers = self.breaks = self.number = 0
-        self.longest, self.last, self.is_over = 0.0, None, False
+        self.longest, self.last, self.is_in, self.is_over = 0.0, None, False, False
         self.random = random.Random(port)
 
     def run(self):
@@ -33,10 +34,12 @@ class Host(threading.Thread):
             try:
                 with Session(self.address, self.port, TARGET, name=f"iqn.2000-01.test:host{self.unit}", timeout=120) as session:
                     session.ready(self.unit)
+                    self.is_in = True
                     while not self.is_over:
                         self.step(session)
             except (OSError, Closed, Refused):
-                self.breaks += self.last is not None
+                self.breaks += self.is_in
+                self.is_in = False
                 time.sleep(0.2)
 
     def step(self, session):
@@ -56,8 +59,9 @@ class Host(threading.Thread):
         now = time.monotonic()
         if self.last is not None:
             self.longest = max(self.longest, now - self.last)
-        self.last = now
         self.answers += 1
+        time.sleep(PAUSE)
+        self.last = time.monotonic()
 
     def write(self, session):
         if self.open is None:
