@@ -57,7 +57,7 @@ def start_and_stop(folder, log):
             log.find("listening", controller=str(controller), portal=f"127.0.0.1:{port}")
         log.find("ready")
         array.quit()
-    is_so("events in order", log.events(), ["listening"] * 4 + ["ready", "stopping"])
+    is_so("events in order", log.events(), ["started"] + ["listening"] * 4 + ["ready", "stopping"])
     with open(log.path, encoding="ascii") as file:
         when = TIME.match(file.readline())
     told = time.mktime(tuple(map(int, when.groups()[:6])) + (0, 0, 0)) - time.timezone
@@ -129,7 +129,7 @@ def login_and_logout(folder, log):
         log.find("login", type="discovery", tag="1")
         log.find("session_ended", why="logout", tag="1")
     is_so("reads and writes that go well tell nothing", log.events(),
-          ["listening", "listening", "ready", "login", "session_ended", "login", "session_ended"])
+          ["started", "listening", "listening", "ready", "login", "session_ended", "login", "session_ended"])
 
 
 @case

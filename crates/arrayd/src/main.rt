@@ -8,7 +8,7 @@ mod settings;
 use array::{open, serve, tell_want};
 use command_line::Fault;
 use disk_files::{FileBlocks, FileOpener, FilePreparer, NamedBlocks, SystemFile};
-use event_log::{Log, Page, start};
+use event_log::{Event, Log, Page, start};
 use log_file::LogFile;
 use std::alloc::Global;
 use std::env::Env;
@@ -18,6 +18,9 @@ use std::process::ExitCode;
 use std::rt::Files;
 use std::time::Clock;
 use std::{env, io};
+
+/// The version of the program, as the file VERSION at the top has it.
+const VERSION: &str = "1.0.0";
 
 // The program's words, its own name first.
 fn all_words(rt: &(impl Env + AllocGlobal)) -> Result<Vec<String>, Fault> {
@@ -85,6 +88,7 @@ fn main(rt: HostRuntime) -> ExitCode {
         if start::<HostRuntime, LogFile<HostRuntime>>(&rt, alloc, &log, file).is_err() {
             return complain(&rt, Fault::NoMemory);
         }
+        log.tell(&rt, &Event::Started(VERSION.as_bytes()));
     }
     let array = match open(&rt, alloc, &log, &options) {
         Ok(array) => array,

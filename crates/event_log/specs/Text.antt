@@ -139,6 +139,7 @@ stay_in unit group why rest =
 -- ---- the parts of the line of an event
 
 abbrev pub parts : Event → List (List ℕ)
+parts (events.Started version) = codes "event=started version=" ∷ quoted version.now ∷ []
 parts (events.Listening controller portal) = codes "event=listening" ∷ portal_in controller portal []
 parts (events.CannotListen controller portal error) =
     codes "event=cannot_listen" ∷ portal_in controller portal (error_in error)

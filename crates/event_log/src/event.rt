@@ -46,6 +46,8 @@ pub struct Reservation {
 /// What happened.
 #[derive(Clone, Copy)]
 pub enum Event<'a> {
+    /// The program began: its version.
+    Started(&'a [u8]),
     /// A portal of a controller takes connections.
     Listening(u16, SocketAddrV4),
     /// A portal could not: the system's error.

@@ -409,6 +409,7 @@ pub fn spell(line: &mut String, event: &Event<'_>) -> Result<(), AllocError>
     ensures { OnOk result (string_bytes line.new ≡ joined (string_bytes line.old) (parts event.now)) }
 {
     match event {
+        Event::Started(version) => put(line, &[Text("event=started version="), Name(version)]),
         Event::Listening(controller, at) => portal(line, "event=listening", *controller, *at),
         Event::CannotListen(controller, at, errno) => {
             portal(line, "event=cannot_listen", *controller, *at)?;
