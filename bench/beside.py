@@ -1,11 +1,14 @@
 #!/usr/bin/env python3
-"""How fast arrayd is beside tgt, or beside another build of itself: both serve the same file on tmpfs in turn, to the same
-client on the loopback. Prints a line for each kind of command, with the medians of the runs, how the two compare, by how
-many microseconds a command takes longer, and the time of the processor that each took for it. A run is done again where the
-host of a virtual machine gave more than 3 % of its processors to others meanwhile. It wants rustc, by which it builds the
-client, and the Debian package tgt where no other program is named.
+"""How fast arrayd is beside tgt, or beside another build of itself, and beside the limit (limit.c), which does the least that a
+target does over a socket: all serve the same file on tmpfs in turn, to the same client on the loopback. Prints a line for each
+kind of command, with the medians of the runs, how arrayd and the other compare, by how many microseconds a command takes longer,
+the time of the processor that each took for it, and how arrayd compares with the limit: its commands a second, and its time of
+the processor a command. A run is done again where the host of a virtual machine gave more than 3 % of its processors to others
+meanwhile. It wants rustc, by which it builds the client, a C compiler, and the Debian package tgt where no other program is
+named.
 
-usage: bench/beside.py [--seconds N] [--runs N] [--only WORDS] [--size MIB] [--before PROGRAM] [--controller C]
+usage: bench/beside.py [--seconds N] [--runs N] [--only WORDS] [--size MIB] [--depths N,..] [--before PROGRAM] [--controller C]
+       bench/beside.py --limit ..       beside the limit alone
 
 The program is $ARRAYD, or ./arrayd. Sessions go through controller C of an arrayd; 1 owns the unit.
 """
@@ -87,6 +90,20 @@ class Tgt:
         self.process.wait()
 
 
+class Limit:
+    unit = 0
+    program = ""
+
+    def __init__(self, disk):
+        self.process = subprocess.Popen([Limit.program, str(PORT), disk], stdout=subprocess.PIPE, text=True)
+        if self.process.stdout.readline() != "limit: ready\n":
+            sys.exit("the limit does not get ready")
+
+    def end(self):
+        self.process.kill()
+        self.process.wait()
+
+
 def measure(start, disk, client, port, words):
     """Commands a second, and the microseconds of the processor that each took, user's and system's."""
     server = start(disk)
@@ -105,42 +122,64 @@ def measure(start, disk, client, port, words):
         server.end()
 
 
+def told(line, medians, name):
+    """What is printed of the medians of each program, of which arrayd's come first and those of the limit last."""
+    (rate, user, system), *others, limit = medians
+    text = f"{line}: arrayd {rate:,.0f} a second"
+    for other in others:
+        text += f", {name} {other[0]:,.0f}: {rate / other[0]:.2f}, {1e6 / rate - 1e6 / other[0]:+.2f} us a command"
+    text += f"; processor, user and system: arrayd {user:.1f} and {system:.1f} us"
+    for other in others:
+        text += f", {name} {other[1]:.1f} and {other[2]:.1f}"
+    return text + (f"; the limit {limit[0]:,.0f} a second, {limit[1]:.1f} and {limit[2]:.1f} us: rate {rate / limit[0]:.2f}, "
+                   f"processor {(user + system) / (limit[1] + limit[2]):.2f}")
+
+
+def compare(asked, line, run, disk, client):
+    """Runs each program in turn, in which each goes first in every so many turns, and prints the line."""
+    port = PORT + 4 * (asked.controller - 1)
+    programs = [(Arrayd, port), (Limit, PORT)]
+    if asked.before:
+        programs.insert(1, (lambda disk: Arrayd(disk, asked.before), port))
+    elif not asked.limit:
+        programs.insert(1, (Tgt, PORT))
+    got = [[] for _ in programs]
+    for turn in range(asked.runs):
+        order = list(range(len(programs)))
+        for which in order[turn % len(order):] + order[:turn % len(order)]:
+            start, at = programs[which]
+            got[which].append(undisturbed(lambda: measure(start, disk, client, at, run)))
+    medians = [[statistics.median(r[k] for r in runs) for k in range(3)] for runs in got]
+    print(told(line, medians, "before" if asked.before else "tgt"), flush=True)
+
+
 def main():
-    words = argparse.ArgumentParser(description="How fast arrayd is beside tgt, or beside another arrayd.")
+    words = argparse.ArgumentParser(description="How fast arrayd is beside tgt, or beside another arrayd, and beside the limit.")
     words.add_argument("--seconds", type=float, default=1.0, help="how long a run is")
     words.add_argument("--runs", type=int, default=5, help="runs of each, of which the median counts")
     words.add_argument("--size", type=int, default=256, help="MiB of the disk")
     words.add_argument("--only", default="", help="only lines with these words")
+    words.add_argument("--depths", default="1,32", help="how many commands a session has open")
     words.add_argument("--before", help="another arrayd, in place of tgt")
+    words.add_argument("--limit", action="store_true", help="beside the limit alone")
     words.add_argument("--controller", type=int, choices=(1, 2), default=1, help="of an arrayd, which sessions go through")
     asked = words.parse_args()
-    name, other = ("before", lambda disk: Arrayd(disk, asked.before)) if asked.before else ("tgt", Tgt)
-    port = PORT + 4 * (asked.controller - 1)
     with tempfile.TemporaryDirectory(dir="/dev/shm") as place:
-        client = os.path.join(place, "client")
-        source = os.path.join(TOP, "bench", "client.rs")
-        subprocess.run(["rustc", "-O", "--edition", "2021", "-o", client, source], check=True)
+        client, Limit.program = os.path.join(place, "client"), os.path.join(place, "limit")
+        bench = os.path.join(TOP, "bench")
+        subprocess.run(["rustc", "-O", "--edition", "2021", "-o", client, f"{bench}/client.rs"], check=True)
+        subprocess.run(["cc", "-O2", "-pthread", "-o", Limit.program, f"{bench}/limit.c"], check=True)
         disk = os.path.join(place, "disk.img")
         with open(disk, "wb") as file:
             file.truncate(asked.size << 20)
         for size in (512, 4096, 262144):
             for work in ("read", "write"):
-                for depth in (1, 32):
+                for depth in map(int, asked.depths.split(",")):
                     for sessions in (1, 4):
                         line = f"{work} {size} bytes, {depth} deep, {sessions} session{'s'[sessions == 1:]}"
-                        if asked.only not in line:
-                            continue
-                        run = [work, str(size), str(depth), str(sessions), str(asked.seconds)]
-                        got, others = [], []
-                        pair = [(got, Arrayd, port), (others, other, PORT if other is Tgt else port)]
-                        for turn in range(asked.runs):
-                            # each of the two goes first in every other turn
-                            for kept, start, at in pair[:: 1 - turn % 2 * 2]:
-                                kept.append(undisturbed(lambda: measure(start, disk, client, at, run)))
-                        ours, theirs = ([statistics.median(r[k] for r in runs) for k in range(3)] for runs in (got, others))
-                        print(f"{line}: arrayd {ours[0]:,.0f} a second, {name} {theirs[0]:,.0f}: {ours[0] / theirs[0]:.2f}, "
-                              f"{1e6 / ours[0] - 1e6 / theirs[0]:+.2f} us a command; processor, user and system: "
-                              f"arrayd {ours[1]:.1f} and {ours[2]:.1f} us, {name} {theirs[1]:.1f} and {theirs[2]:.1f}", flush=True)
+                        if asked.only in line:
+                            run = [work, str(size), str(depth), str(sessions), str(asked.seconds)]
+                            compare(asked, line, run, disk, client)
 
 
 if __name__ == "__main__":
