@@ -21,7 +21,7 @@ WRONG = "wrong words"
 
 # The words, where P is a port that is free, and what is wrong with them.
 ROWS = [
-    ("", WRONG), ("--help", WRONG), ("--version", WRONG), ("--port 0 disk", WRONG), ("--port 65529 disk", WRONG),
+    ("", WRONG), ("--help disk", WRONG), ("--once --version", WRONG), ("--port 0 disk", WRONG), ("--port 65529 disk", WRONG),
     ("--portals 5 disk", WRONG), ("--array 4294967296 disk", WRONG), ("--host localhost disk", WRONG),
     ("--target= disk", WRONG), ("--once disk", WRONG), ("1 2 3 4 5 6 7 8 9", WRONG), ("--onc", WRONG),
     ("none", "cannot use unit 0"), ("odd", "cannot use unit 0"), ("empty", "cannot use unit 0"),
@@ -54,6 +54,14 @@ def refused(words, fault):
     expect(words, run(words), (2 if fault == WRONG else 1, "", f"arrayd: {fault}\n"))
 
 
+def tells_of_itself():
+    with open(f"{TOP}/VERSION", encoding="utf-8") as file:
+        version = file.read().strip()
+    expect("--version", run(["--version"]), (0, f"arrayd {version}\n", ""))
+    status, told, faults = run(["--help"])
+    expect("--help", (status, told.split("\n")[0][:20], faults), (0, "usage: arrayd [OPTIO", ""))
+
+
 def make(name, size):
     with open(name, "wb") as file:
         file.truncate(size)
@@ -83,6 +91,7 @@ def main():
         os.chdir(folder)
         for name, size in [("disk", 8192), ("odd", 8193), ("empty", 0), ("noreg", 8192), ("noreg.reg", 512)]:
             make(name, size)
+        tells_of_itself()
         for words, fault in ROWS:
             refused(words.split(), fault)
         for taken, portals, fault in TAKEN:

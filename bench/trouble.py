@@ -88,7 +88,7 @@ def wrong_words(folder):
     disk = made(folder + "/disk", 16)
     for words in ([], [disk] * 9, ["--port", "65529", disk], ["--port", "0", disk], ["--portals", "5", disk],
                   ["--host", "localhost", disk], ["--host", "10.0.0.01", disk], ["--target", "", disk],
-                  ["--array", "4294967296", disk], ["--once", disk], ["--help"], ["--port", "1", "--port", "2", disk]):
+                  ["--array", "4294967296", disk], ["--once", disk], ["--help", disk], ["--port", "1", "--port", "2", disk]):
         is_so(f"{words}", ended(words), (2, "arrayd: wrong words"))
 
 

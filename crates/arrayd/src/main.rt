@@ -4,6 +4,7 @@
 mod log_file;
 mod once;
 mod settings;
+mod told;
 
 use array::{open, serve, tell_want};
 use command_line::Fault;
@@ -18,9 +19,6 @@ use std::process::ExitCode;
 use std::rt::Files;
 use std::time::Clock;
 use std::{env, io};
-
-/// The version of the program, as the file VERSION at the top has it.
-const VERSION: &str = "1.0.0";
 
 // The program's words, its own name first.
 fn all_words(rt: &(impl Env + AllocGlobal)) -> Result<Vec<String>, Fault> {
@@ -62,6 +60,9 @@ fn main(rt: HostRuntime) -> ExitCode {
         Ok(words) => words,
         Err(fault) => return complain(&rt, fault),
     };
+    if told::tells(&rt, words.as_slice()) {
+        return ExitCode::SUCCESS;
+    }
     let mut options = match command_line::read(alloc, words.as_slice()) {
         Ok(options) => options,
         Err(fault) => return complain(&rt, Fault::from(fault)),
@@ -88,7 +89,7 @@ fn main(rt: HostRuntime) -> ExitCode {
         if start::<HostRuntime, LogFile<HostRuntime>>(&rt, alloc, &log, file).is_err() {
             return complain(&rt, Fault::NoMemory);
         }
-        log.tell(&rt, &Event::Started(VERSION.as_bytes()));
+        log.tell(&rt, &Event::Started(told::VERSION.as_bytes()));
     }
     let array = match open(&rt, alloc, &log, &options) {
         Ok(array) => array,
