@@ -2,9 +2,9 @@
 //! `test_streams` says how a PDU is spelled.
 use crate::ends::must;
 use crate::host::{Host, is_text};
-use crate::site::Site;
+use crate::site::{PORTALS, Site};
 use crate::texts::texts;
-use std::alloc::{AllocError, Global};
+use std::alloc::Global;
 use std::net::{Net, SocketAddrV4, TcpListener, TcpStream};
 use std::process::Abort;
 use std::test::Fail;
@@ -26,6 +26,7 @@ fn obey<R: Abort>(rt: &R, alloc: Global, host: &mut Host, line: &str) -> Result<
 /// A host does what the lines of a script say.
 pub fn perform<R: Abort>(rt: &R, alloc: Global, host: &mut Host, script: &str) -> Result<(), Fail> {
     let lines = lines_of(alloc, script)?;
+    must(rt, !lines.is_empty(), script, &"a script has lines");
     for line in &lines {
         obey(rt, alloc, host, line)?;
     }
@@ -52,14 +53,16 @@ const DISCOVERY: &str = r#"
 "#;
 
 // What initiators are told of the target: its portals, each with the tag of its group (RFC 7143, appendix C).
-fn told(alloc: Global, site: &Site<'_>) -> Result<String, AllocError> {
-    format!(in alloc;
-        "TargetName=iqn.2000-01.test:array\0TargetAddress={},1\0TargetAddress={},1\0TargetAddress={},2\0TargetAddress={},2\0",
-        site.portal(1, 0),
-        site.portal(1, 1),
-        site.portal(2, 0),
-        site.portal(2, 1)
-    )
+fn told(alloc: Global, site: &Site<'_>) -> Result<String, Fail> {
+    let mut text = String::new(alloc);
+    text.push_str("TargetName=iqn.2000-01.test:array\0")?;
+    for controller in 1..3u16 {
+        for portal in 0..PORTALS {
+            let address = site.portal(controller, portal);
+            write!(text, "TargetAddress={address},{controller}\0")?;
+        }
+    }
+    Ok(text)
 }
 
 /// An initiator finds all portals, each with its group, by the last of controller 2.
@@ -68,7 +71,7 @@ pub fn finds<R: Abort + Net<Listener = TcpListener, Stream = TcpStream>>(
     alloc: Global,
     site: &Site<'_>,
 ) -> Result<(), Fail> {
-    let mut host = come(rt, alloc, site.portal(2, 1), DISCOVERY)?;
+    let mut host = come(rt, alloc, site.portal(2, PORTALS - 1), DISCOVERY)?;
     let wanted = told(alloc, site)?;
     let came = host.receive(alloc)?;
     let is_told = is_text(came.as_slice(), wanted.as_bytes());

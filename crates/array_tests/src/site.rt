@@ -22,9 +22,10 @@ pub struct Site<'a> {
 /// How many bytes a disk has.
 pub const SIZE: u64 = 16 * 512;
 
-/// How many portals each controller has, and how far those of controller 2 lie behind those of controller 1.
-const PORTALS: u16 = 2;
+/// How many portals each controller has: as many as it may have.
+pub const PORTALS: u16 = 4;
 
+// How far those of controller 2 lie behind those of controller 1.
 const APART: u16 = 4;
 
 impl<'a> Site<'a> {

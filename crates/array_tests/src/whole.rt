@@ -22,11 +22,11 @@ fn before() -> &'static str {
 > LOGIN 7:56 HOST_B
 < LOGGED_IN 7:36 15:02 WELCOME
 
-2 1
+2 2
 > LOGIN 7:56 HOST_A
 < LOGGED_IN 7:36 15:03 WELCOME_2
 
-1 1
+1 3
 # Power came on at both units; WRITE (10) of block 5 of unit 0 and of block 6 of unit 1; REGISTER of 11h with APTPL at unit 1;
 # SYNCHRONIZE CACHE (10) of both.
 > LOGIN 7:56 HOST_A
@@ -69,7 +69,7 @@ fn before() -> &'static str {
 // Behind the restart.
 fn after() -> &'static str {
     r#"
-2 1
+2 3
 # Power came on, and both blocks are there; READ KEYS, whose generation is 0, tells of the key at unit 1 alone.
 > LOGIN 7:56 HOST_B
 < LOGGED_IN 7:36 15:02 WELCOME_2
@@ -157,13 +157,13 @@ fn compare<R: Abort>(
     Ok(())
 }
 
-// A folder of this process without a file.
+// A folder of this process without a file, in the one that the test runs in: who runs it made that for it, and takes it away again.
 fn new_folder<R: Files<File = File> + AllocGlobal>(
     rt: &R,
     alloc: Global,
     process: u32,
 ) -> Result<String, Fail> {
-    let folder = format!(in alloc; "/tmp/arrayd_{process}_whole")?;
+    let folder = format!(in alloc; "arrayd_{process}_whole")?;
     let _ = fs::remove_dir_all(rt, folder.as_str());
     fs::create_dir(rt, folder.as_str())?;
     Ok(folder)

@@ -53,6 +53,7 @@ arrayd|1|2|3|4|5|6|7|8 = false iqn.2000-01.test:array 1 127.0.0.1 3260 1 1 2 3 4
 #[test]
 fn words_that_are_obeyed(rt: HostRuntime) -> Result<(), Fail> {
     let alloc = rt.alloc();
+    must(&rt, !obeyed().is_empty(), "words", &"a table has rows");
     for line in obeyed().lines() {
         let (words, wanted) = line.split_once(" = ").ok_or("a row")?;
         let words = words_of(alloc, words)?;
@@ -122,6 +123,7 @@ arrayd|--portals|two|a"
 
 #[test]
 fn wrong_words(rt: HostRuntime) -> Result<(), Fail> {
+    must(&rt, !wrong().is_empty(), "words", &"a table has rows");
     for line in wrong().lines() {
         must(&rt, are_wrong(rt.alloc(), line)?, line, &"obeyed");
     }

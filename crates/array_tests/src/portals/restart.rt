@@ -97,7 +97,7 @@ pub fn run_twice<
         + 'static,
 >(rt: &R, alloc: Global, process: Process, story: &Story<'_>) {
     let id = process::id(process);
-    let path = format!(in alloc; "/tmp/arrayd_{id}_{}", story.name).expect(rt, "memory");
+    let path = format!(in alloc; "arrayd_{id}_{}", story.name).expect(rt, "memory");
     let path = path.as_str();
     File::create(rt, path)
         .expect(rt, path)

@@ -101,6 +101,7 @@ impl<'a, R: Abort + Eprint, S: Scene> Stage<'a, R, S> {
     /// Does what the lines of a script say.
     pub fn perform(&mut self, text: &'a str) {
         let lines = lines_of(self.alloc, text).expect(self.at.rt, "memory");
+        self.at.check(!lines.is_empty(), &"a script has lines");
         for line in &lines {
             if *line == "A and B" {
                 self.obey_all(a_and_b());

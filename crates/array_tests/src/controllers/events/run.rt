@@ -48,8 +48,8 @@ fn at(stage: &Stage) -> At {
     }
 }
 
-// Those that stand behind so many.
-fn notes_behind(alloc: Global, notes: &[Note], before: usize) -> Result<Vec<Noted>, Fail> {
+/// Those that stand behind so many.
+pub fn notes_behind(alloc: Global, notes: &[Note], before: usize) -> Result<Vec<Noted>, Fail> {
     let mut seen = Vec::new(alloc);
     for (place, note) in notes.iter().enumerate() {
         if place >= before {
@@ -135,6 +135,7 @@ fn run_rows(
 
 /// Does so over units whose openers pass so many opens each.
 pub fn run(rt: &impl Abort, alloc: Global, opens: [u64; 2], rows: &[Row]) -> Result<(), Fail> {
+    must(rt, !rows.is_empty(), "events", &"a table has rows");
     let mut world = two_units(alloc, opens)?;
     run_rows(rt, alloc, &mut world, rows)
 }
