@@ -1,8 +1,8 @@
 //! The lines of the log, as they are to be read.
 use crate::ends::must;
 use event_log::{
-    Access, Action, By, Call, Cause, Event, Initiator, Kind, Part, Path, Place, Reservation, Stamp, Stayed,
-    Why, spell,
+    Access, Action, By, Call, Cause, Event, Initiator, Kind, Part, Path, Place, Reservation, Stamp,
+    Stayed, Why, spell,
 };
 use std::alloc::Global;
 use std::net::{Ipv4Addr, SocketAddrV4};

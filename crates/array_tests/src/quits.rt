@@ -4,7 +4,7 @@ ghost use Rattle.unit_history.specs.Naming.{IsNamed};
 
 use crate::ends::must;
 use crate::memory::new_unit;
-use array::{Operated, Operations};
+use array::{Operated, console};
 use array_units::Units;
 use block_file::{Blocks, FusedBlocks, KeepOpener, MemBlocks, Opener};
 use entry_numbers::Array as Naming;
@@ -51,8 +51,8 @@ fn are_left<B: Blocks, F: Blocks, O: Opener<B>, N: Naming<Opened>, R: Wait + Clo
         controllers: &controllers,
         log: &log,
     };
-    operated.close();
-    operated.flush();
+    let mut told = Vec::new(alloc);
+    console(alloc, "quit\n".as_bytes(), &mut told, &mut operated);
     let units = controllers.units();
     for group in &[Group::One, Group::Two] {
         let desk = controllers.desk(*group);
