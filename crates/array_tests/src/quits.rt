@@ -34,6 +34,21 @@ fn two(alloc: Global) -> Result<Vec<Once>, Fail> {
     Ok(new)
 }
 
+fn quit<B: Blocks, F: Blocks, O: Opener<B>, N: Naming<Opened>, R: Wait + Clock>(
+    rt: &R,
+    alloc: Global,
+    controllers: &Controllers<B, F, O, N>,
+) {
+    let log = Log::off();
+    let mut told = Vec::new(alloc);
+    let mut operated = Operated {
+        rt,
+        controllers,
+        log: &log,
+    };
+    console(alloc, "quit\n".as_bytes(), &mut told, &mut operated);
+}
+
 // Behind it no desk has a job any more, where an open one would wait for the next. Each unit was flushed: of each the next flush fails.
 fn are_left<B: Blocks, F: Blocks, O: Opener<B>, N: Naming<Opened>, R: Wait + Clock + Abort>(
     rt: &R,
@@ -45,14 +60,7 @@ fn are_left<B: Blocks, F: Blocks, O: Opener<B>, N: Naming<Opened>, R: Wait + Clo
 {
     let units = Units::<B, F, O, N>::new(rt, alloc, new).expect(rt, "memory");
     let controllers = Controllers::new(alloc, units).expect(rt, "memory");
-    let log = Log::off();
-    let mut operated = Operated {
-        rt,
-        controllers: &controllers,
-        log: &log,
-    };
-    let mut told = Vec::new(alloc);
-    console(alloc, "quit\n".as_bytes(), &mut told, &mut operated);
+    quit(rt, alloc, &controllers);
     let units = controllers.units();
     for group in &[Group::One, Group::Two] {
         let desk = controllers.desk(*group);
