@@ -5,7 +5,9 @@ use crate::units::files::runs::{clean, folder, path_of, reads, sized, writes};
 use crate::units::reg_file::files::record_after;
 use aptpl_file::RegFile;
 use block_file::{Blocks, Opener};
-use disk_files::{Disk, FileBlocks, FileFault, blocks_in, open_disk, open_registrations};
+use disk_files::{
+    Disk, FileBlocks, FileFault, Registrations, blocks_in, open_disk, open_registrations,
+};
 use reservations::Record;
 use std::alloc::Global;
 use std::fmt::Debug;
@@ -155,7 +157,13 @@ fn is_counted(rt: &impl Abort, alloc: Global, count: Result<u32, FileFault>, row
 // Opens the registration file of a disk.
 fn is_opened<R: Files<File = File> + Abort>(rt: &R, alloc: Global, path: &str, row: &Row) -> bool {
     match open_registrations(rt, alloc, path, None) {
-        Ok(mut found) => is_found(rt, alloc, &mut found.file, &found.record, row),
+        Ok(
+            Registrations {
+                mut file,
+                record,
+                lock: _lock,
+            },
+        ) => is_found(rt, alloc, &mut file, &record, row),
         Err(fault) => is_told(rt, alloc, &fault, row),
     }
 }
