@@ -170,7 +170,7 @@ def main():
             resource.prlimit(array.ran.pid, resource.RLIMIT_AS, (room, room))
             lacks("memory", array)
             # The console, the disk and its registrations, and two portals come first; a session has one.
-            limit = (resource.RLIMIT_NOFILE, (16, 16))
+            limit = (resource.RLIMIT_NOFILE, (17, 17))
             lacks("descriptors", Array(own, folder, port + 20, limit), (socket.timeout,), 2)
         except Wrong as wrong:
             sys.exit(f"want.py: {wrong}")
