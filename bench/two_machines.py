@@ -9,8 +9,9 @@ docs/TWO_MACHINES.md says what this is for.
 usage: bench/two_machines.py build FOLDER          makes what they boot, in FOLDER: some minutes, root, the network
        bench/two_machines.py rounds FOLDER [N]     N rounds, ten where none are named; what a machine gave its disk is
                                                    there
-       bench/two_machines.py power FOLDER [N]      the same; a disk forgets all that was not flushed, or some of it, and
-                                                   in every second round the dead machine comes back as the active one
+       bench/two_machines.py power FOLDER [N]      the same; a disk forgets all that was not flushed, or some of it. By
+                                                   turns the dead machine comes back as the active one, the other one
+                                                   takes over, or both are lost and both come back
        bench/two_machines.py move FOLDER [N]       the active machine gives up in order, as for an upgrade, N times
        bench/two_machines.py wire_cut FOLDER       the wire is cut before the kill: has to find what is lost
        bench/two_machines.py local_registrations FOLDER
@@ -22,6 +23,7 @@ emulated. The machines take the time that others leave; $MACHINES_NICE gives the
 gate.
 """
 
+import concurrent.futures
 import glob
 import os
 import random
@@ -30,12 +32,14 @@ import tempfile
 import time
 
 import two_machines_build
-from two_machines_emulated import WIRE, Disk, Machine, Wire, Wrong
+from two_machines_disk import Disk
+from two_machines_emulated import WIRE, Machine, Wire, Wrong
 from two_machines_hosts import UNITS, Hosts
 
 LENGTH = 24 << 20
 PLACE = "/usr/libexec/two_machines"
-IN_SYNC = ["Connected", "UpToDate/UpToDate"]
+# Of /proc/drbd, which is read without a program of its own: that would take much of an emulated processor.
+STATE = 'state=$(< /proc/drbd); state=${state#*cs:}; echo ${state%% C *}'
 WORKS, WORKS_ALONE = 12, 5
 began = time.monotonic()
 
@@ -44,12 +48,18 @@ def say(line):
     print(f"{time.monotonic() - began:6.0f} s  {line}", flush=True)
 
 
+def drbdadm(words):
+    """A command again and again until it is done: it is waited for five seconds only, and a machine may take longer."""
+    return f"until drbdadm {words} array; do sleep 1; done"
+
+
 class Pair:
     """Both machines, the wire, and the hosts."""
 
-    def __init__(self, folder, run, units="/srv/array/unit"):
+    def __init__(self, folder, run, units="/srv/array/unit", kind="plain"):
+        when_on = f"{PLACE}/begin; {drbdadm('adjust')}"
         self.disks = {name: Disk(os.path.join(run, f"disk.{name}"), LENGTH) for name in "ab"}
-        self.machines = {name: Machine(name, folder, run, self.disks[name], ["plain"]) for name in "ab"}
+        self.machines = {name: Machine(name, kind, folder, run, self.disks[name], when_on) for name in "ab"}
         self.wire = Wire([machine.port(WIRE) for machine in self.machines.values()])
         self.active, self.passive = self.machines.values()
         self.units = [f"{units}{unit}" for unit in UNITS]
@@ -73,16 +83,17 @@ class Pair:
 
     def make_filesystem(self, folder):
         """Makes the file system that both machines have, with the array's disks; its place is this folder."""
-        self.active.wait("drbdadm cstate array", ["Connected"])
+        self.active.wait(STATE, lambda state: state.startswith("Connected "))
         # both disks are empty, so they need not be copied
-        self.active.ask("drbdadm -- --clear-bitmap new-current-uuid array")
+        self.active.ask(drbdadm("-- --clear-bitmap new-current-uuid"))
         self.wait_in_sync()
-        self.active.ask(f"drbdadm primary array; mkfs.ext4 -q /dev/drbd0; mkdir -p {folder}; mount /dev/drbd0 {folder}")
+        self.active.ask(f"{drbdadm('primary')}; mkfs.ext4 -q /dev/drbd0; mkdir -p {folder}; mount /dev/drbd0 {folder}")
         self.active.ask(f"cd {folder}; fallocate -l 1M unit0; truncate -s 1M unit1 unit2; chown arrayd: . unit?")
-        self.active.ask(f"umount {folder}; drbdadm secondary array")
+        self.active.ask(f"umount {folder}; {drbdadm('secondary')}")
 
     def wait_in_sync(self):
-        return self.active.wait("drbdadm cstate array; drbdadm dstate array", IN_SYNC)
+        """Both disks are good: how long that took."""
+        return self.active.wait(STATE, lambda state: "Connected ro:" in state and state.endswith("UpToDate/UpToDate"))
 
     def activate(self):
         """The active machine takes up its work: its steps, with the milliseconds that each took from the begin."""
@@ -171,6 +182,26 @@ def return_alone(pair, keeps):
     say(f"in sync {synced:.0f} s later; {pair.same_disks()} bytes are the same on both")
 
 
+def both_lost(pair, keeps):
+    """Both machines lose their power at once, and come back: the one that was active serves again."""
+    told = works(pair, WORKS)
+    killed = time.monotonic()
+    pair.active.kill(keeps)
+    pair.passive.kill(keeps)
+    pair.hosts.stop(is_lost=True)
+    forgotten = [disk.forgotten for disk in pair.disks.values()]
+    say(f"both machines were killed behind {told}; {forgotten} sectors forgotten")
+    for machine in pair.machines.values():
+        machine.start()
+    for machine in pair.machines.values():
+        machine.wait_up()
+    synced = pair.wait_in_sync()
+    told, wrong = pair.serves_again(killed)
+    must_be_whole(wrong)
+    say(f"in sync {synced:.0f} s after both were up, machine {pair.active.name} serves again: {told}: nothing is lost; "
+        f"{pair.same_disks()} bytes are the same on both")
+
+
 # ---- what can be asked for
 
 def rounds(pair, count):
@@ -180,9 +211,10 @@ def rounds(pair, count):
 
 
 def power(pair, count):
+    ways = (return_alone, takeover, both_lost, takeover)
     for number in range(count):
         say(f"round {number + 1}")
-        (takeover if number % 2 else return_alone)(pair, "none" if number % 4 < 2 else "some")
+        ways[number % len(ways)](pair, "none" if number // len(ways) % 2 == 0 else "some")
 
 
 def move(pair, count):
@@ -209,7 +241,7 @@ def finds(wrong, what):
 
 def wire_cut(pair, _):
     pair.wire.is_cut = True
-    pair.active.wait("drbdadm cstate array", ["WFConnection"])
+    pair.active.wait(STATE, lambda state: state.startswith("WFConnection "))
     say("the wire is cut, and both machines have noticed it")
     works(pair, WORKS_ALONE)
     killed = lose(pair, "all")
@@ -220,11 +252,12 @@ def wire_cut(pair, _):
     pair.wire.is_cut = False
     dead.start()
     dead.wait_up()
-    pair.active.wait("drbdadm cstate array", ["StandAlone"])
+    pair.active.wait(STATE, lambda state: state.startswith("StandAlone "))
     say(f"the wire is whole again. Both machines say that they have two histories, and stay apart: {split_brain(pair)}")
     # what docs/TWO_MACHINES.md says is to be done then
-    dead.ask("drbdadm disconnect array; drbdadm secondary array; drbdadm connect --discard-my-data array")
-    pair.active.ask("drbdadm connect array")
+    dead.ask(f"drbdadm disconnect array || true; {drbdadm('secondary')}")
+    dead.ask("drbdadm connect --discard-my-data array || true")
+    pair.active.ask("drbdadm connect array || true")
     pair.wait_in_sync()
     say(f"machine {dead.name} has given up its history; {pair.same_disks()} bytes are the same on both")
 
@@ -250,6 +283,20 @@ WAYS = {"rounds": (rounds, 10), "power": (power, 10), "move": (move, 2), "wire_c
         "local_registrations": (local_registrations, 1)}
 
 
+def boot(folder):
+    """Boots each machine of each kind once, all at the same time, and keeps what it then is."""
+    def boot_one(run, name, kind):
+        os.mkdir(run)
+        Machine(name, kind, folder, run, Disk(os.path.join(run, "disk"), LENGTH)).boot()
+        say(f"machine {name}, {kind}, has booted")
+
+    with tempfile.TemporaryDirectory(dir=folder) as run, concurrent.futures.ThreadPoolExecutor(4) as lanes:
+        booted = [lanes.submit(boot_one, os.path.join(run, kind + name), name, kind)
+                  for kind in ("plain", "systemd") for name in "ab"]
+        for each in booted:
+            each.result()
+
+
 def tell_consoles(run):
     """The last lines that each machine wrote at each of its starts."""
     for console in sorted(glob.glob(os.path.join(run, "console.*"))):
@@ -263,6 +310,7 @@ def main():
     way, folder = sys.argv[1], os.path.abspath(sys.argv[2])
     if way == "build":
         two_machines_build.build(folder)
+        boot(folder)
         return
     act, count = WAYS[way]
     with tempfile.TemporaryDirectory(dir=folder) as run:
@@ -275,7 +323,7 @@ def main():
             raise
         finally:
             pair.end()
-    say(f"{way}: all is as it has to be")
+    say(f"{way}: as it has to be")
 
 
 if __name__ == "__main__":

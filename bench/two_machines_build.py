@@ -6,6 +6,7 @@ import os
 import shutil
 import subprocess
 import sys
+import uuid
 
 from linux_host import mirror, run, take_kernel
 from running import ARRAYD, TOP
@@ -14,13 +15,22 @@ from running import ARRAYD, TOP
 PACKAGES = ("systemd-sysv", "dbus", "udev", "kmod", "iproute2", "util-linux", "procps", "psmisc", "e2fsprogs", "socat",
             "python3-minimal", "busybox-static", "drbd-utils", "pacemaker", "pacemaker-cli-utils", "corosync",
             "resource-agents", "crmsh")
-# The modules of the machine's first steps, and those that it uses behind them.
-FIRST_MODULES, MODULES = ("virtio_pci", "virtio_blk", "crc32c_generic", "ext4"), ("virtio_net", "drbd", "softdog")
+# The modules that a machine uses.
+MODULES = ("virtio_pci", "virtio_blk", "crc32c_generic", "ext4", "virtio_net", "drbd")
 # What only costs time here, or is the cluster's own business.
-MASKED = ("systemd-networkd.service", "systemd-networkd-wait-online.service", "systemd-networkd.socket",
-          "systemd-timesyncd.service", "systemd-logind.service", "getty@tty1.service", "serial-getty@ttyS0.service",
-          "e2scrub_reap.service", "drbd.service", "apt-daily.timer", "apt-daily-upgrade.timer", "dpkg-db-backup.timer",
-          "e2scrub_all.timer", "fstrim.timer")
+MASKED = """
+    drbd.service logd.service systemd-networkd.service systemd-networkd-wait-online.service systemd-networkd.socket
+    systemd-timesyncd.service systemd-logind.service systemd-user-sessions.service getty@tty1.service
+    serial-getty@ttyS0.service systemd-udevd.service systemd-udev-trigger.service systemd-udevd-control.socket
+    systemd-udevd-kernel.socket kmod-static-nodes.service systemd-modules-load.service systemd-binfmt.service
+    systemd-update-utmp.service systemd-update-utmp-runlevel.service systemd-journal-flush.service
+    systemd-pstore.service systemd-random-seed.service systemd-repart.service systemd-firstboot.service
+    systemd-machine-id-commit.service systemd-pcrphase.service systemd-pcrphase-sysinit.service systemd-sysctl.service
+    systemd-sysusers.service proc-sys-fs-binfmt_misc.automount sys-fs-fuse-connections.mount sys-kernel-config.mount
+    sys-kernel-debug.mount sys-kernel-tracing.mount dev-hugepages.mount dev-mqueue.mount e2scrub_reap.service
+    apt-daily.timer apt-daily-upgrade.timer dpkg-db-backup.timer e2scrub_all.timer fstrim.timer
+    systemd-tmpfiles-clean.timer
+""".split()
 GUEST = os.path.join(TOP, "bench", "two_machines")
 ROOT_SIZE = "1200M"
 
@@ -35,7 +45,7 @@ def build(folder):
         subprocess.run(words, check=False, stdout=subprocess.DEVNULL)
     if not os.path.exists(os.path.join(root, "usr", "sbin", "pacemakerd")):
         sys.exit("debootstrap did not make the machine: see debootstrap/debootstrap.log in FOLDER/root")
-    for what in ("var/cache/apt", "var/lib/apt", "usr/share/doc", "usr/share/man", "usr/share/locale", "usr/share/info"):
+    for what in ("var/cache/apt", "var/lib/apt", *(f"usr/share/{name}" for name in ("doc", "man", "locale", "info"))):
         shutil.rmtree(os.path.join(root, what), ignore_errors=True)
     order = take_modules(folder, root)
     settle(root)
@@ -44,26 +54,26 @@ def build(folder):
 
 
 def take_modules(folder, root):
-    """Copies the modules that are used, and what they need: the files of the first steps, in their order."""
+    """Copies the modules that are used, and what they need: their files, in the order in which they are loaded."""
     unpacked, version = take_kernel(folder)
     every = os.path.join(root, "every")
     shutil.rmtree(every, ignore_errors=True)
     shutil.copytree(unpacked, every, symlinks=True, copy_function=os.link)
     run("chroot", root, "depmod", "-b", "/every", version)
 
-    def files(names):
+    def files():
         found = []
-        for name in names:
+        for name in MODULES:
             words = ["chroot", root, "modprobe", "-d", "/every", "-S", version, "--show-depends", name]
             told = subprocess.run(words, check=True, stdout=subprocess.PIPE, text=True).stdout
             lines = [line for line in told.splitlines() if line.startswith("insmod")]
             found += [line.split()[1].split(f"/lib/modules/{version}/")[1] for line in lines]
         return list(dict.fromkeys(found))
 
-    order = files(FIRST_MODULES)
+    order = files()
     target = os.path.join(root, "lib", "modules", version)
     shutil.rmtree(os.path.join(root, "lib", "modules"), ignore_errors=True)
-    for name in [*order, *files(MODULES), "modules.builtin", "modules.order", "modules.builtin.modinfo"]:
+    for name in [*order, "modules.builtin", "modules.order", "modules.builtin.modinfo"]:
         os.makedirs(os.path.dirname(os.path.join(target, name)), exist_ok=True)
         shutil.copy(os.path.join(every, "lib", "modules", version, name), os.path.join(target, name))
     shutil.rmtree(every)
@@ -88,14 +98,15 @@ def settle(root):
     """What makes of the system these two machines: the array and its service, and the files of bench/two_machines."""
     run("sh", os.path.join(TOP, "service", "install.sh"), os.path.abspath(ARRAYD), env={**os.environ, "DESTDIR": root})
     run("chroot", root, "systemd-sysusers")
-    for name in ("plain", "network", "shell", "activate", "deactivate", "fencing.res", "cluster.crm"):
+    for name in ("plain", "network", "shell", "begin", "activate", "deactivate", "fencing.res", "cluster.crm"):
         place(name, root, "usr/libexec/two_machines")
     place("array.res", root, "etc/drbd.d")
     # else drbdadm waits for a network that is not there, to be counted
     write(os.path.join(root, "etc", "drbd.d", "global_common.conf"), "global { usage-count no; }\n")
     write(os.path.join(root, "etc", "hosts"), "127.0.0.1 localhost\n10.9.0.1 a\n10.9.0.2 b\n")
     write(os.path.join(root, "etc", "fstab"), "/dev/vda / ext4 rw,noatime 0 0\n")
-    write(os.path.join(root, "etc", "machine-id"), "uninitialized\n")
+    # without one it would be a first boot, at which systemd starts whatever is installed
+    write(os.path.join(root, "etc", "machine-id"), f"{uuid.uuid4().hex}\n")
 
 
 def settle_cluster(root):
@@ -108,6 +119,8 @@ def settle_cluster(root):
     units = os.path.join(root, "etc", "systemd", "system")
     for name in ("two-machines-network.service", "two-machines-shell.service"):
         place(name, root, "etc/systemd/system")
+    # these machines are slow
+    write(os.path.join(root, "etc", "systemd", "system.conf.d", "slow.conf"), "[Manager]\nDefaultTimeoutStartSec=600\n")
     # what the cluster starts is not started by systemd itself
     run("chroot", root, "systemctl", "--quiet", "disable", "corosync", "pacemaker", "drbd", stderr=subprocess.DEVNULL)
     run("chroot", root, "systemctl", "--quiet", "enable", "two-machines-network", "two-machines-shell")

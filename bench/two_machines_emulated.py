@@ -2,8 +2,10 @@
 wire between them that can be cut. The ports are this machine's own, on the loopback."""
 
 import itertools
+import json
 import os
 import random
+import shutil
 import socket
 import struct
 import subprocess
@@ -11,13 +13,13 @@ import threading
 import time
 
 from free_port import is_free
+from two_machines_disk import take
 
 HOST = "127.0.0.1"
-SECTOR = 512
 # Of a machine's four ports: controller 1 and 2 of the array, the shell, the end of the wire.
 CONTROLLER_1, CONTROLLER_2, SHELL, WIRE = 0, 4, 5, 6
 # What a step of a machine may take; its processor is emulated, and this machine may have much else to do.
-PATIENCE = 600
+PATIENCE = 1200
 
 
 class Wrong(Exception):
@@ -30,138 +32,6 @@ def free_base():
         if all(is_free(base + at) for at in (CONTROLLER_1, CONTROLLER_2, SHELL, WIRE)):
             return base
     raise Wrong("no free ports")
-
-
-def take(end, count):
-    """So many bytes of a socket, or nothing where it has ended."""
-    got = b""
-    while len(got) < count:
-        more = end.recv(count - len(got))
-        if not more:
-            return None
-        got += more
-    return got
-
-
-class Disk:
-    """A disk that qemu reaches by the NBD protocol: a file, and before it a cache that a loss of power empties. A
-    flush, and a write with FUA, put into the file what they have to
-    (https://github.com/NetworkBlockDevice/nbd/blob/master/doc/proto.md)."""
-
-    READ, WRITE, DISCONNECT, FLUSH = range(4)
-    HAS_FLAGS, SEND_FLUSH, SEND_FUA = 1, 4, 8
-    GO, ABORT = 7, 2
-    ACK, INFO, UNSUPPORTED = 1, 3, 0x80000001
-    FUA = 1
-
-    def __init__(self, path, length):
-        self.path, self.length = path, length
-        with open(path, "wb") as file:
-            file.truncate(length)
-        self.file = os.open(path, os.O_RDWR)
-        self.cache, self.lock = {}, threading.Lock()
-        self.flushes = self.forgotten = 0
-        self.address = path + ".socket"
-        if os.path.exists(self.address):
-            os.remove(self.address)
-        self.listening = socket.socket(socket.AF_UNIX)
-        self.listening.bind(self.address)
-        self.listening.listen()
-        threading.Thread(target=self.listen, daemon=True).start()
-
-    def listen(self):
-        while True:
-            end, _ = self.listening.accept()
-            threading.Thread(target=self.serve, args=[end], daemon=True).start()
-
-    def serve(self, end):
-        try:
-            if self.agree(end):
-                while self.answer(end):
-                    pass
-        except OSError:
-            # the machine is dead
-            pass
-        end.close()
-
-    def agree(self, end):
-        """The begin of a connection: whether requests follow."""
-        end.sendall(b"NBDMAGICIHAVEOPT" + struct.pack(">H", 3))
-        if take(end, 4) is None:
-            return False
-        while (header := take(end, 16)) is not None:
-            option, length = struct.unpack(">8xII", header)
-            take(end, length)
-            if option == self.GO:
-                flags = self.HAS_FLAGS | self.SEND_FLUSH | self.SEND_FUA
-                self.say(end, option, self.INFO, struct.pack(">HQH", 0, self.length, flags))
-                self.say(end, option, self.ACK)
-                return True
-            self.say(end, option, self.ACK if option == self.ABORT else self.UNSUPPORTED)
-            if option == self.ABORT:
-                return False
-        return False
-
-    @staticmethod
-    def say(end, option, kind, data=b""):
-        end.sendall(struct.pack(">QIII", 0x3E889045565A9, option, kind, len(data)) + data)
-
-    def answer(self, end):
-        """Serves a request: whether another may follow."""
-        header = take(end, 28)
-        if header is None:
-            return False
-        _, flags, kind, handle, at, length = struct.unpack(">IHHQQI", header)
-        data = b""
-        if kind == self.WRITE:
-            written = take(end, length)
-            if written is None:
-                return False
-            self.write(at, written, flags & self.FUA)
-        elif kind == self.READ:
-            data = self.read(at, length)
-        elif kind == self.FLUSH:
-            self.flush()
-        else:
-            return False
-        end.sendall(struct.pack(">IIQ", 0x67446698, 0, handle) + data)
-        return True
-
-    def write(self, at, data, fua):
-        with self.lock:
-            for offset in range(0, len(data), SECTOR):
-                self.cache[at + offset] = data[offset:offset + SECTOR]
-            if fua:
-                self.keep(range(at, at + len(data), SECTOR))
-
-    def read(self, at, length):
-        with self.lock:
-            data = bytearray(os.pread(self.file, length, at))
-            if self.cache:
-                for sector in range(at, at + length, SECTOR):
-                    if sector in self.cache:
-                        data[sector - at:sector - at + SECTOR] = self.cache[sector]
-        return bytes(data)
-
-    def flush(self):
-        with self.lock:
-            self.keep(list(self.cache))
-            self.flushes += 1
-
-    def keep(self, sectors):
-        for sector in sectors:
-            data = self.cache.pop(sector, None)
-            if data is not None:
-                os.pwrite(self.file, data, sector)
-
-    def lose_power(self, keeps):
-        """What a loss of power leaves of what was not flushed: all of it (the machine was lost, and not its disk),
-        none, or of each sector by chance."""
-        with self.lock:
-            chosen = [sector for sector in self.cache if keeps == "all" or keeps == "some" and random.random() < 0.5]
-            self.keep(chosen)
-            self.forgotten = len(self.cache)
-            self.cache.clear()
 
 
 class Wire:
@@ -206,12 +76,27 @@ class Wire:
             pass
 
 
-class Machine:
-    """One of the two machines, "a" or "b"."""
+def command(lines, request):
+    """What qemu answers to a request by its control."""
+    lines.write(json.dumps(request) + "\n")
+    lines.flush()
+    while True:
+        answer = json.loads(lines.readline())
+        if "error" in answer:
+            raise Wrong(f"qemu: {request}: {answer}")
+        if "return" in answer:
+            return answer["return"]
 
-    def __init__(self, name, folder, run, disk, words=(), is_fresh=True):
-        self.name, self.disk, self.words, self.is_fresh = name, disk, words, is_fresh
-        self.folder, self.run = folder, run
+
+class Machine:
+    """One of the two machines, "a" or "b". To boot an emulated machine takes minutes where others use the processors.
+    So each was booted once, as kind "plain" and as kind "systemd", up to where nothing has looked at its disk yet; what
+    it then was lies in FOLDER, and that is what is switched on."""
+
+    def __init__(self, name, kind, folder, run, disk, when_on="true"):
+        self.name, self.kind, self.folder, self.run = name, kind, folder, run
+        # the disk, and the script by which the machine begins with it
+        self.disk, self.when_on = disk, when_on
         self.base = free_base()
         self.process = None
         self.starts = itertools.count(1)
@@ -219,29 +104,57 @@ class Machine:
     def port(self, which):
         return self.base + which
 
-    def start(self):
-        """Switches it on."""
-        number, root = "ab".index(self.name) + 1, os.path.join(self.run, f"root.{self.name}")
-        if self.is_fresh or not os.path.exists(root):
-            below = os.path.join(self.folder, "root.img")
-            subprocess.run(["qemu-img", "create", "-q", "-f", "qcow2", "-b", below, "-F", "raw", root], check=True)
+    def kept(self, what):
+        """A file with what the machine was when it had booted."""
+        return os.path.join(self.folder, f"{what}.{self.kind}.{self.name}")
+
+    def words(self, root):
+        number = "ab".index(self.name) + 1
         forwards = ((CONTROLLER_1, 3260), (CONTROLLER_2, 3264), (SHELL, 2222))
         world = "user,id=world" + "".join(f",hostfwd=tcp:{HOST}:{self.port(at)}-:{port}" for at, port in forwards)
         console = os.path.join(self.run, f"console.{self.name}.{next(self.starts)}")
-        append = f"console=ttyS0 machine={self.name} panic=1 loglevel=4 mitigations=off no_timer_check tsc=unstable"
-        words = [
+        append = f"{self.kind} machine={self.name} console=ttyS0 panic=1 loglevel=4 mitigations=off no_timer_check"
+        return [
             "setpriv", "--pdeathsig", "KILL", "nice", "-n", "19", "qemu-system-x86_64",
             "-accel", "tcg,thread=multi,tb-size=64", "-cpu", "max", "-smp", "1", "-m", "512",
             "-display", "none", "-monitor", "none", "-no-reboot", "-serial", f"file:{console}",
             "-kernel", os.path.join(self.folder, "vmlinuz"), "-initrd", os.path.join(self.folder, "initrd"),
-            "-append", " ".join([append, *self.words]), "-drive", f"file={root},format=qcow2,if=virtio,cache=unsafe",
+            "-append", f"{append} tsc=unstable systemd.show_status=false",
+            "-drive", f"file={root},format=qcow2,if=virtio,cache=unsafe",
             "-drive", f"file=nbd:unix:{self.disk.address},format=raw,if=virtio,cache=writeback",
             "-netdev", world, "-device", f"virtio-net-pci,netdev=world,mac=52:54:00:aa:00:0{number}",
             "-netdev", f"socket,id=wire,listen={HOST}:{self.port(WIRE)}",
             "-device", f"virtio-net-pci,netdev=wire,mac=52:54:00:bb:00:0{number}",
         ]
+
+    def run_qemu(self, words):
         self.process = subprocess.Popen(words, stdin=subprocess.DEVNULL, start_new_session=True)
         self.give_way()
+
+    def boot(self):
+        """Boots it, keeps what it then is, and switches it off."""
+        root, control = self.kept("root"), os.path.join(self.run, f"control.{self.name}")
+        below = os.path.join(self.folder, "root.img")
+        subprocess.run(["qemu-img", "create", "-q", "-f", "qcow2", "-b", below, "-F", "raw", root], check=True)
+        self.run_qemu([*self.words(root), "-qmp", f"unix:{control},server=on,wait=off"])
+        self.wait_shell()
+        with socket.socket(socket.AF_UNIX) as end:
+            end.connect(control)
+            lines = end.makefile("rw")
+            command(lines, {"execute": "qmp_capabilities"})
+            command(lines, {"execute": "migrate", "arguments": {"uri": f"exec:cat > {self.kept('memory')}"}})
+            while (state := command(lines, {"execute": "query-migrate"}).get("status")) != "completed":
+                if state == "failed":
+                    raise Wrong(f"what machine {self.name} is could not be kept")
+                time.sleep(1)
+            command(lines, {"execute": "quit"})
+        self.process.wait()
+
+    def start(self):
+        """Switches it on."""
+        root = os.path.join(self.run, f"root.{self.name}")
+        shutil.copy(self.kept("root"), root)
+        self.run_qemu([*self.words(root), "-incoming", f"exec:cat {self.kept('memory')}"])
 
     def give_way(self):
         """Its processor time is what others leave, also where the system shares it by sessions."""
@@ -275,27 +188,35 @@ class Machine:
             raise Wrong(f"machine {self.name}: {script!r} says {lines[-12:]}")
         return lines[:-1]
 
-    def wait_up(self, seconds=PATIENCE):
-        """Waits until its shell answers: how long that took."""
+    def wait_shell(self, seconds=PATIENCE):
         began = time.monotonic()
         while time.monotonic() < began + seconds and self.is_on():
             try:
                 self.ask("true", 20)
-                return time.monotonic() - began
+                return
             except (OSError, Wrong):
                 time.sleep(0.5)
         raise Wrong(f"machine {self.name} does not come up")
 
-    def wait(self, script, wanted, seconds=PATIENCE):
-        """Waits until a script says this: how long that took."""
+    def wait_up(self):
+        """Waits until it has begun with its disk: how long that took. Its random numbers are others than at its last
+        start, where it was what it is now."""
+        began = time.monotonic()
+        self.wait_shell()
+        seed = f"echo {os.urandom(64).hex()} > /dev/urandom; perl -e 'ioctl(STDIN, 0x5207, 0) || die' < /dev/urandom"
+        self.ask(f"{seed}\n{self.when_on}")
+        return time.monotonic() - began
+
+    def wait(self, script, is_wanted, seconds=PATIENCE):
+        """Waits until a script says what is wanted, in one line: how long that took."""
         began = time.monotonic()
         told = None
         while time.monotonic() < began + seconds:
             try:
-                told = self.ask(script, 60)
-                if told == wanted:
+                told = "\n".join(self.ask(script, 60))
+                if is_wanted(told):
                     return time.monotonic() - began
             except (OSError, Wrong) as fault:
-                told = [repr(fault)]
-            time.sleep(1)
-        raise Wrong(f"machine {self.name}: {script!r} says {told}, and not {wanted}")
+                told = repr(fault)
+            time.sleep(2)
+        raise Wrong(f"machine {self.name}: {script!r} says {told!r}")

@@ -8,7 +8,7 @@ import struct
 import threading
 import time
 
-from initiator import BLOCK, CHECK_CONDITION, GOOD, RESERVATION_CONFLICT, Closed, Refused, Session
+from initiator import BLOCK, BUSY, CHECK_CONDITION, GOOD, RESERVATION_CONFLICT, Closed, Failed, Refused, Session
 from may_be import PREEMPT, REGISTER_AND_IGNORE, RESERVE, Registry
 from two_machines_emulated import CONTROLLER_1, CONTROLLER_2, HOST, Wrong
 
@@ -21,7 +21,7 @@ ISID = 0x400001370000
 MISCOMPARE = (0x0E, 0x1D, 0x00)
 LOST = (Closed, Refused, OSError)
 # A command that is not answered for so long ends with the connection: the machine is dead, and nobody may say so.
-SECONDS = 40
+SECONDS = 180
 
 
 def told(reply):
@@ -51,6 +51,9 @@ class Registrations:
             wanted, _ = model.out(host.nexus(by), action_of_rules, kind, key, new_key, self.is_lasting)
             self.or_else = model
             reply = host.paths[by].reserve_out(unit, action, kind, key, new_key, self.is_lasting)
+            if reply.status == BUSY:
+                self.or_else = None
+                raise Failed(reply)
             if (reply.status, reply.sense_key()) != wanted:
                 raise Wrong(f"{host.name} unit {unit}: action {action}: {told(reply)}, and not {wanted}")
             self.now, self.or_else = model if wanted[0] == GOOD else self.now, None
@@ -117,6 +120,11 @@ class Host:
             self.last_good[unit, at] = count
         self.answered += 1
 
+    def never(self, unit, lba, blocks, count):
+        """The command was refused: nothing of it is ever there."""
+        for at in range(lba, lba + blocks):
+            self.may(unit, at).remove(count)
+
     def kept(self, unit):
         """A flush was GOOD: whatever was GOOD before is there, or what was written later."""
         for (of, lba), last in self.last_good.items():
@@ -132,7 +140,11 @@ class Host:
         data = b"".join(content(self.number, unit, at, count) for at in range(lba, lba + blocks))
         for at in range(lba, lba + blocks):
             self.may(unit, at).append(count)
-        path.write(unit, lba, data, fua)
+        try:
+            path.write(unit, lba, data, fua)
+        except Failed:
+            self.never(unit, lba, blocks, count)
+            raise
         self.good(unit, lba, blocks, count)
         if fua:
             self.kept(unit)
@@ -146,6 +158,10 @@ class Host:
             self.may(unit, lba).append(count)
         compared = content(self.number, unit, lba, count if is_miss else old)
         reply = path.compare_and_write(unit, lba, compared, content(self.number, unit, lba, count))
+        if reply.status == BUSY:
+            if not is_miss:
+                self.never(unit, lba, 1, count)
+            raise Failed(reply)
         found = reply.sense_key() if reply.status == CHECK_CONDITION else reply.status
         if found != (MISCOMPARE if is_miss else GOOD):
             raise Wrong(f"{self.name} unit {unit} LBA {lba}: COMPARE AND WRITE: {told(reply)}")
@@ -180,7 +196,7 @@ class Host:
         if reply.status == GOOD:
             self.good(unit, lba, 1, count)
         elif reply.status == RESERVATION_CONFLICT:
-            self.may(unit, lba).remove(count)
+            self.never(unit, lba, 1, count)
         else:
             raise Wrong(f"{self.name} unit {unit}: WRITE: {told(reply)}")
         return reply.status == GOOD
@@ -303,13 +319,22 @@ class Hosts:
 
     # ---- work
 
+    def do(self, node):
+        """A command of a node. An array that is ending answers BUSY, and has done nothing."""
+        try:
+            if node.random.random() < 0.1:
+                self.register_more(node)
+            else:
+                node.work()
+        except Failed as failed:
+            if failed.reply.status != BUSY:
+                raise
+            time.sleep(0.1)
+
     def work(self, node):
         try:
             while not self.is_over.is_set():
-                if node.random.random() < 0.1:
-                    self.register_more(node)
-                else:
-                    node.work()
+                self.do(node)
         except LOST as lost:
             node.fault = lost
         except Exception as fault:

@@ -17,12 +17,12 @@ import tempfile
 import threading
 import time
 
-from two_machines import IN_SYNC, WORKS, Pair, lose, must_be_whole, say, tell_consoles, works
+from two_machines import PLACE, WORKS, Pair, drbdadm, lose, must_be_whole, say, tell_consoles, works
 from two_machines_emulated import HOST, Wrong
 
-CRM = "/usr/libexec/two_machines/cluster.crm"
+CRM = f"{PLACE}/cluster.crm"
 # How long the cluster may take to come to something, in seconds.
-PATIENCE = 900
+PATIENCE = 1800
 
 
 class Fences(socketserver.ThreadingTCPServer):
@@ -67,10 +67,11 @@ class Cluster(Pair):
     """Both machines with Pacemaker."""
 
     def __init__(self, folder, run):
-        super().__init__(folder, run)
+        super().__init__(folder, run, kind="systemd")
         self.fences = Fences(self.machines)
         for machine in self.machines.values():
-            machine.words, machine.is_fresh = [f"fence={self.fences.port()}"], False
+            machine.when_on = (f"echo {self.fences.port()} > /run/fence_port; cp {PLACE}/fencing.res /etc/drbd.d/; "
+                               f"{PLACE}/begin")
 
     def begin(self):
         for machine in self.machines.values():
@@ -79,17 +80,20 @@ class Cluster(Pair):
             machine.wait_up()
         say("both machines are up")
         for machine in self.machines.values():
-            machine.ask("drbdadm up array")
+            machine.ask(drbdadm("adjust"))
         self.make_filesystem("/var/lib/arrayd/one")
         for machine in self.machines.values():
-            machine.ask("drbdadm down array; systemctl start pacemaker")
-        self.active.wait("crm_mon -1 | grep -c 'Online: \\[ a b \\]' || true", ["1"], PATIENCE)
+            machine.ask(f"{drbdadm('down')}; systemctl start pacemaker")
+        self.wait_online()
         say("the cluster is online")
         self.active.ask(f"crm -F configure load replace {CRM}", PATIENCE)
         self.see_active(None)
         self.wait_in_sync()
         self.hosts.log_in(self.active.base)
         self.hosts.begin()
+
+    def wait_online(self):
+        self.active.wait("crm_mon -1", lambda told: "Online: [ a b ]" in told, PATIENCE)
 
     def active_of(self, names):
         """The machine of these whose cluster says that the array runs on it."""
@@ -130,8 +134,8 @@ class Cluster(Pair):
         self.hosts.start()
         self.passive.wait_up()
         self.passive.ask("systemctl start pacemaker")
-        self.active.wait("drbdadm cstate array; drbdadm dstate array", IN_SYNC, PATIENCE)
-        self.active.wait("crm_mon -1 | grep -c 'Online: \\[ a b \\]' || true", ["1"], PATIENCE)
+        self.wait_in_sync()
+        self.wait_online()
         self.hosts.stop()
         _, wrong = self.hosts.check()
         must_be_whole(wrong)
