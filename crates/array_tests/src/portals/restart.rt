@@ -3,8 +3,8 @@ use crate::host::Host;
 use crate::memory::Latch;
 use crate::portals::at::At;
 use crate::portals::serving::{Script, perform};
-use crate::portals::units::{Faults, NO_FAULTS, fused_file, fused_registrations, opened};
-use block_file::{Blocks, FusedOpener, KeepOpener, Opener};
+use crate::portals::units::{Faults, NO_FAULTS, file_of, opened, registrations_of};
+use block_file::{Blocks, FusedBlocks, FusedOpener, KeepOpener, Opener};
 use std::alloc::Global;
 use std::fs::File;
 use std::io::Eprint;
@@ -60,6 +60,35 @@ fn serve_over<
     perform::<Brand, B, F, O, R>(rt, alloc, units, &disk, script)
 }
 
+// The same over devices that fail so.
+fn serve_failing<
+    B: Blocks + Send + Sync + 'static,
+    F: Blocks + Send + Sync + 'static,
+    R: Threads
+        + Wait
+        + Clock
+        + Abort
+        + Eprint
+        + Net<Listener = TcpListener, Stream = TcpStream>
+        + Clone
+        + Drop
+        + Send
+        + Sync
+        + 'static,
+>(
+    rt: &R,
+    alloc: Global,
+    blocks: B,
+    file: F,
+    faults: Faults,
+    script: &Script<'_>,
+) -> ([u16; 2], Vec<Host>) {
+    let blocks = FusedBlocks::inside(blocks, faults.passed, faults.landed);
+    let file = FusedBlocks::new(file, faults.registration_calls());
+    let opener = FusedOpener::new(KeepOpener, faults.opened);
+    serve_over(rt, alloc, blocks, opener, file, script)
+}
+
 // The same over the file of this name, which fails so.
 fn serve<
     R: Threads
@@ -75,10 +104,9 @@ fn serve<
         + Sync
         + 'static,
 >(rt: &R, alloc: Global, path: &str, faults: Faults, script: &Script<'_>) -> ([u16; 2], Vec<Host>) {
-    let blocks = fused_file(rt, path, faults);
-    let file = fused_registrations(rt, alloc, path, faults);
-    let opener = FusedOpener::new(KeepOpener, faults.opened);
-    serve_over(rt, alloc, blocks, opener, file, script)
+    let blocks = file_of(rt, path);
+    let file = registrations_of(rt, alloc, path);
+    serve_failing(rt, alloc, blocks, file, faults, script)
 }
 
 /// Runs it over a file of 16 blocks of zeros.

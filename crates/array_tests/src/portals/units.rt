@@ -3,7 +3,7 @@ ghost use Rattle.std.specs.Prelude.{◌≤◌, IfOk, length};
 
 use crate::memory::{HeldBlocks, Latch, Opens, new_unit};
 use aptpl_file::RegFile;
-use block_file::{Blocks, FusedBlocks, FusedOpener, KeepOpener, MemBlocks, Opener};
+use block_file::{Blocks, FusedOpener, KeepOpener, MemBlocks, Opener};
 use disk_files::{FileBlocks, SystemFile, open_registrations};
 use scsi_types::Place;
 use std::alloc::Global;
@@ -20,9 +20,6 @@ const BLOCKS: u32 = 2048;
 
 /// A unit in memory, whose device may hang, and may not be opened anew.
 pub type HeldUnit<R> = NewUnit<HeldBlocks<MemBlocks, R>, MemBlocks, Opens>;
-
-/// A file that may fail.
-pub type FusedFile = FusedBlocks<FileBlocks<SystemFile>>;
 
 // A unit of zeros, of so many, which holds no registrations, whose device hangs at this latch, and is opened anew so often.
 fn held<R: Wait + Drop>(
@@ -80,6 +77,13 @@ pub struct Faults {
     pub opened: u64,
 }
 
+impl Faults {
+    /// So many calls of its registration file's device pass, those that open it among them.
+    pub fn registration_calls(&self) -> u64 {
+        self.saving.saturating_add(OPEN_CALLS)
+    }
+}
+
 /// Nothing fails.
 pub const NO_FAULTS: Faults = Faults {
     passed: u64::MAX,
@@ -115,21 +119,18 @@ pub fn opened<B: Blocks, F: Blocks, O: Opener<B>>(
     Ok(units)
 }
 
-/// The file of this name as a device that fails so.
-pub fn fused_file<R: Files<File = File> + Abort>(rt: &R, path: &str, faults: Faults) -> FusedFile {
-    let blocks = FileBlocks::open(rt, path).expect(rt, path);
-    FusedBlocks::inside(blocks, faults.passed, faults.landed)
+/// The file of this name as a device.
+pub fn file_of<R: Files<File = File> + Abort>(rt: &R, path: &str) -> FileBlocks<SystemFile> {
+    FileBlocks::open(rt, path).expect(rt, path)
 }
 
-/// The device of the registration file beside it, which fails so.
-pub fn fused_registrations<R: Files<File = File> + Abort>(
+/// The device of the registration file beside it, which is made where it is not there.
+pub fn registrations_of<R: Files<File = File> + Abort>(
     rt: &R,
     alloc: Global,
     path: &str,
-    faults: Faults,
-) -> FusedFile {
+) -> FileBlocks<SystemFile> {
     drop(open_registrations(rt, alloc, path, None).expect(rt, path));
     let name = format!(in alloc; "{path}.reg").expect(rt, path);
-    let blocks = FileBlocks::open(rt, name.as_str()).expect(rt, path);
-    FusedBlocks::new(blocks, faults.saving.saturating_add(OPEN_CALLS))
+    FileBlocks::open(rt, name.as_str()).expect(rt, path)
 }
