@@ -1,6 +1,6 @@
 //! Devices and openers that fail, what is then seen through both controllers, and what an array finds that is started again.
-use crate::portals::restart::{Story, restart, run_twice};
-use crate::portals::units::{Faults, NO_FAULTS};
+use crate::portals::restart::{Story, made, removed, restart, run_twice};
+use crate::portals::units::{Faults, NO_FAULTS, file_of, registrations_of};
 use std::test::*;
 
 fn torn_text() -> &'static str {
@@ -101,10 +101,27 @@ fn unsaved() -> Story<'static> {
     }
 }
 
+fn story_at(place: usize) -> Story<'static> {
+    match place {
+        0 => restart(),
+        1 => torn(),
+        2 => unopened(),
+        _ => unsaved(),
+    }
+}
+
 #[test]
 fn a_restart_and_a_write_an_open_and_a_save_that_fail(rt: HostRuntime) {
-    run_twice(&rt, rt.alloc(), rt.process(), &restart());
-    run_twice(&rt, rt.alloc(), rt.process(), &torn());
-    run_twice(&rt, rt.alloc(), rt.process(), &unopened());
-    run_twice(&rt, rt.alloc(), rt.process(), &unsaved());
+    let alloc = rt.alloc();
+    for place in 0..4usize {
+        let story = story_at(place);
+        let path = made(&rt, alloc, rt.process(), &story);
+        let name = path.as_str();
+        let first = file_of(&rt, name);
+        let first_file = registrations_of(&rt, alloc, name);
+        let blocks = file_of(&rt, name);
+        let file = registrations_of(&rt, alloc, name);
+        run_twice(&rt, alloc, &story, first, first_file, blocks, file);
+        removed(&rt, alloc, name);
+    }
 }

@@ -3,7 +3,7 @@ use crate::host::Host;
 use crate::memory::Latch;
 use crate::portals::at::At;
 use crate::portals::serving::{Script, perform};
-use crate::portals::units::{Faults, NO_FAULTS, file_of, opened, registrations_of};
+use crate::portals::units::{Faults, NO_FAULTS, opened};
 use block_file::{Blocks, FusedBlocks, FusedOpener, KeepOpener, Opener};
 use std::alloc::Global;
 use std::fs::File;
@@ -89,60 +89,55 @@ fn serve_failing<
     serve_over(rt, alloc, blocks, opener, file, script)
 }
 
-// The same over the file of this name, which fails so.
-fn serve<
-    R: Threads
-        + Wait
-        + Clock
-        + Abort
-        + Eprint
-        + Net<Listener = TcpListener, Stream = TcpStream>
-        + Files<File = File>
-        + Clone
-        + Drop
-        + Send
-        + Sync
-        + 'static,
->(rt: &R, alloc: Global, path: &str, faults: Faults, script: &Script<'_>) -> ([u16; 2], Vec<Host>) {
-    let blocks = file_of(rt, path);
-    let file = registrations_of(rt, alloc, path);
-    serve_failing(rt, alloc, blocks, file, faults, script)
-}
-
-/// Runs it over a file of 16 blocks of zeros.
-pub fn run_twice<
-    R: Threads
-        + Wait
-        + Clock
-        + Abort
-        + Eprint
-        + Net<Listener = TcpListener, Stream = TcpStream>
-        + Files<File = File>
-        + Clone
-        + Drop
-        + Send
-        + Sync
-        + 'static,
->(rt: &R, alloc: Global, process: Process, story: &Story<'_>) {
+/// Makes its file, of 16 blocks of zeros.
+pub fn made<R: Abort + Files<File = File>>(
+    rt: &R,
+    alloc: Global,
+    process: Process,
+    story: &Story<'_>,
+) -> String {
     let id = process::id(process);
     let path = format!(in alloc; "arrayd_{id}_{}", story.name).expect(rt, "memory");
-    let path = path.as_str();
-    File::create(rt, path)
-        .expect(rt, path)
+    let name = path.as_str();
+    File::create(rt, name)
+        .expect(rt, name)
         .set_len(8192)
-        .expect(rt, path);
+        .expect(rt, name);
+    path
+}
+
+/// Takes the files away.
+pub fn removed<R: Abort + Files<File = File>>(rt: &R, alloc: Global, path: &str) {
+    fs::remove_file(rt, path).expect(rt, path);
+    let registrations = format!(in alloc; "{path}.reg").expect(rt, "memory");
+    fs::remove_file(rt, registrations.as_str()).expect(rt, path);
+}
+
+/// Runs it over the first devices, and behind the restart over the others of the same files.
+pub fn run_twice<
+    B: Blocks + Send + Sync + 'static,
+    F: Blocks + Send + Sync + 'static,
+    R: Threads
+        + Wait
+        + Clock
+        + Abort
+        + Eprint
+        + Net<Listener = TcpListener, Stream = TcpStream>
+        + Clone
+        + Drop
+        + Send
+        + Sync
+        + 'static,
+>(rt: &R, alloc: Global, story: &Story<'_>, first: B, first_file: F, blocks: B, file: F) {
     let (before, after) = story.text.split_once("\n\n").expect(rt, story.name);
     let before = Script::new(story.name, before);
-    let (ports, hosts) = serve(rt, alloc, path, story.faults, &before);
+    let (ports, hosts) = serve_failing(rt, alloc, first, first_file, story.faults, &before);
     let again = Script {
         ports,
         ..Script::new(story.name, after)
     };
-    let _ended = serve(rt, alloc, path, NO_FAULTS, &again);
+    let _ended = serve_failing(rt, alloc, blocks, file, NO_FAULTS, &again);
     drop(hosts);
-    fs::remove_file(rt, path).expect(rt, path);
-    let registrations = format!(in alloc; "{path}.reg").expect(rt, "memory");
-    fs::remove_file(rt, registrations.as_str()).expect(rt, path);
 }
 
 // Nothing fails, and the registrations are there after the restart.
