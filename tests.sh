@@ -3,7 +3,7 @@
 # and what failed; the last line is 'N passed, M failed'. `rt ci` proves the code and its tests, and runs both.
 #
 #   ./tests.sh                 all crates
-#   ./tests.sh part_tests      one crate
+#   ./tests.sh test_parts      one crate
 if ! command -v python3 > /dev/null; then
     echo 'tests.sh wants python3' >&2
     exit 1

@@ -1,6 +1,6 @@
 -- Units and the preparers of their disks, in the same order: for those who serve an array.
 use Rattle.std.proofs.Common.{◌≡◌, sym, subst, List, map}
-use Rattle.preparer.specs.declared.Node.{Node}
+use Rattle.disk_preparer.specs.declared.Node.{Node}
 use Rattle.portal.specs.Disks.{AreOver, named_by, over_their_own}
 
 -- what is over these files, in order, is over the files that are named by them

@@ -2,7 +2,6 @@
 use crate::lines::Operations;
 use block_file::{Blocks, Opener};
 use command_line::MAX_UNITS;
-use entry_numbers::Array as Naming;
 use event_log::{Access, By, Event, Log, Stayed};
 use failover::{Mover, NotMoved, take_down};
 use portal::Controllers;
@@ -11,6 +10,7 @@ use status::Row;
 use std::sync::Wait;
 use std::time::Clock;
 use unit_history::Opened;
+use unit_sequence::Array as Naming;
 use unit_state::MoveFault;
 
 /// Both controllers, as the console sees them.

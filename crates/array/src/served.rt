@@ -11,12 +11,11 @@ use crate::portals::{self, Portal, Ports};
 use array_units::Units;
 use block_file::{Blocks, Opener};
 use command_line::{Fault, MAX_UNITS, Options};
-use entry_numbers::Array as Naming;
+use disk_preparer::{OnDisk, Preparer};
 use event_log::{Event, Log, Resource};
 use portal::{
     Controllers, Disks, Gate, Prepared, Server, SmallStacks, TargetDevice, listen, start_lanes,
 };
-use preparer::{OnDisk, Preparer};
 use scsi_types::Group;
 use std::alloc::Global;
 use std::io::{BufRead, Write};
@@ -25,6 +24,7 @@ use std::sync::{Arc, Wait};
 use std::thread::Threads;
 use std::time::Clock;
 use unit_history::{LegalHistory, NewUnit, Opened, Pass};
+use unit_sequence::Array as Naming;
 
 /// What the portals serve.
 type Served<B, F, O, N, G> = Arc<Server<Controllers<B, F, O, N>, G>, Global>;

@@ -8,13 +8,13 @@ ghost use Rattle.array_units.specs.Places.{place_of};
 
 use access_states::Change;
 use block_file::{Blocks, DeviceFailed, Opener};
-use entry_numbers::Array;
 use scsi_types::{Asked, Group, PortName, Reply};
 use status::Row;
 use std::alloc::Global;
 use std::sync::{Mutex, Wait};
 use unit_history::{LegalHistory, Opened, Pass, Seat, SharedUnit};
 use unit_lock::Refused;
+use unit_sequence::Array;
 use unit_state::MoveFault;
 
 /// A shared unit, and a reader's seat at its board.

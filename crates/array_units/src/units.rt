@@ -11,7 +11,6 @@ use crate::any_unit::{AnyUnit, Seated};
 use access_states::Change;
 use block_file::{Blocks, DeviceFailed, Opener};
 use crossbeam_utils::CachePadded;
-use entry_numbers::Array;
 use scsi_types::{Asked, Group, NoMemory, PortName, Reply};
 use status::Row;
 use std::alloc::Global;
@@ -19,6 +18,7 @@ use std::marker::Model;
 use std::sync::{Mutex, Wait};
 use unit_history::{LegalHistory, NewUnit, Opened, Pass, SharedUnit};
 use unit_lock::Refused;
+use unit_sequence::Array;
 use unit_state::MoveFault;
 
 /// The most units of an array.

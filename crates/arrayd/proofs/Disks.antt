@@ -1,6 +1,6 @@
 -- The names of an array's disks, as they are picked: those of the files that its units are over.
 use Rattle.std.proofs.Common.{◌≡◌, List, map}
-use Rattle.preparer.specs.declared.Node.{Node}
+use Rattle.disk_preparer.specs.declared.Node.{Node}
 use Rattle.portal.specs.Disks.{AreOver, named_by, over_their_own}
 use Rattle.array.proofs.Pairs.{over_the_same}
 

@@ -1,7 +1,7 @@
 -- What is said of calls on a file of the system. These words stand for their names: only the proofs of the wrapper round the handle
 -- (`system`) cite what gives them.
 use Rattle.std.specs.Prelude.{ℕ, Bool, true, List, IsTrue, refl}
-use Rattle.preparer.specs.declared.Node.{Node}
+use Rattle.disk_preparer.specs.declared.Node.{Node}
 
 -- these bytes were read from an offset of a file on
 pub has_read : Node → ℕ → List ℕ → Type 0

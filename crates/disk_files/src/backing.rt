@@ -7,7 +7,7 @@ ghost use Rattle.block_file.specs.Failures.{last_count};
 ghost use Rattle.disk_files.specs.Backing.{put, LiesIn};
 
 use block_file::BLOCK_LENGTH;
-use preparer::Node;
+use disk_preparer::Node;
 
 /// Files by what is known of the writes that devices made of them.
 pub trait Counted: Drop {
@@ -24,7 +24,7 @@ pub trait Counted: Drop {
 /// says it of the file that its handle is of (`node`), which stays the same. A file that stands before another one passes these words on:
 /// they are those of the file behind it.
 pub trait BackingFile: Counted {
-    ghost use Rattle.preparer.specs.declared.Node.{Node};
+    ghost use Rattle.disk_preparer.specs.declared.Node.{Node};
 
     /// Whether the type keeps what is said of bytes and of a crash now.
     ghost claims: { Bool };

@@ -7,7 +7,7 @@ use crate::node::node_of;
 use crate::system::SystemFile;
 use crate::voice::number_of;
 use crate::{DiskFault, FileBlocks, FileFault, FileOpener};
-use preparer::Node;
+use disk_preparer::Node;
 use std::alloc::Global;
 use std::fs::{File, TryLockError};
 use std::rt::Files;

@@ -3,7 +3,7 @@ ghost use Rattle.std.specs.Prelude.{◌≡◌, ℕ, IsTrue, OnOk, false};
 ghost use Rattle.disk_files.specs.Lasting.{IsSettled};
 
 use crate::backing::{BackingFile, Counted};
-use preparer::Node;
+use disk_preparer::Node;
 use std::marker::{Model, PhantomData};
 use std::sync::atomic::{AtomicBool, AtomicIn, AtomicUsize, Ordering, Rule};
 use std::sync::{Mutex, Wait};
@@ -39,7 +39,7 @@ struct Settled<F: BackingFile> {
 
 impl<F: BackingFile> Model for Settled<F> {
     ghost use Rattle.std.specs.Prelude.{Option, ℕ, IfSome};
-    ghost use Rattle.preparer.specs.declared.Node.{Node};
+    ghost use Rattle.disk_preparer.specs.declared.Node.{Node};
 
     ghost Value = { Option (Node × ℕ) };
 

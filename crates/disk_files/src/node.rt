@@ -1,6 +1,6 @@
 //! Which file a handle is of.
 
-use preparer::Node;
+use disk_preparer::Node;
 use std::fs::File;
 use std::os::unix::fs::MetadataExt;
 

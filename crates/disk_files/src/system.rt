@@ -10,7 +10,7 @@ use crate::fault::FileFault;
 use crate::flushes::LastingFile;
 use crate::node::node_of;
 use crate::voice::number_of;
-use preparer::Node;
+use disk_preparer::Node;
 use std::fs::{File, OpenFile};
 use std::io::{ErrorKind, Seek, SeekFrom};
 use std::os::unix::fs::FileExt;

@@ -11,11 +11,11 @@ mod mover;
 use access_states::Change;
 use array_units::Units;
 use block_file::{Blocks, Opener};
-use entry_numbers::Array;
 pub use mover::{GroupsList, Mover, Moves};
 use scsi_types::Group;
 use std::sync::Wait;
 use unit_history::{LegalHistory, Opened};
+use unit_sequence::Array;
 use unit_state::MoveFault;
 
 /// A unit did not move.

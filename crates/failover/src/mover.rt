@@ -6,10 +6,10 @@ use crate::set_groups;
 use access_states::Change;
 use array_units::{MOST_UNITS, Units};
 use block_file::{Blocks, Opener};
-use entry_numbers::Array;
 use std::marker::Model;
 use std::sync::Wait;
 use unit_history::{LegalHistory, Opened};
+use unit_sequence::Array;
 use unit_state::MoveFault;
 
 /// A parameter list of SET TARGET PORT GROUPS with a descriptor for each group (SPC-4, 6.45).

@@ -5,7 +5,7 @@ use Rattle.scsi_types.specs.declared.names.Group.{Group}
 use Rattle.scsi_types.specs.declared.command.Command.{Command as ScsiCommand}
 use Rattle.scsi_types.specs.declared.command.CdbFault.{CdbFault}
 use Rattle.unit_control.specs.Entry.{Entry}
-use Rattle.job_names.specs.declared.names.Names.{Names}
+use Rattle.desk_jobs.specs.declared.names.Names.{Names}
 
 -- the next command of the session with this pass, at the desk of a group
 abbrev pub names_of : PlacedPass Entry → Result ScsiCommand CdbFault → Group → Names

@@ -11,7 +11,7 @@ use Rattle.unit_control.specs.Entry.{Entry}
 use Rattle.unit_history.specs.Calls.{HasServed, HasRefused, HasWorked}
 use Rattle.unit_entries.specs.Devices.{Devices, claims_of}
 use Rattle.forwarding.specs.Names.{names_of}
-use Rattle.job_names.specs.declared.names.Names.{Names}
+use Rattle.desk_jobs.specs.declared.names.Names.{Names}
 
 -- a job that a desk was handed: what it is known by, the data that came for its command, and what its pass had seen
 pub record Handed : Type 0 where

@@ -9,7 +9,6 @@ use crate::queue::{NotQueued, Queue};
 use array_units::Units;
 use block_file::{Blocks, Opener};
 use crossbeam_utils::CachePadded;
-use entry_numbers::Array;
 use scsi_types::{Asked, Group, NoMemory, Reply};
 use std::alloc::Global;
 use std::marker::Model;
@@ -17,6 +16,7 @@ use std::sync::atomic::{AtomicBool, AtomicU64, Ordering};
 use std::sync::{Condvar, Mutex, Wait};
 use thiserror::Error;
 use unit_history::{Opened, Pass, Refused};
+use unit_sequence::Array;
 
 /// Longer data is not copied for a desk: the worker that it came to serves its command at once, past those that wait.
 pub const LONGEST_COPY: usize = 256;

@@ -7,13 +7,13 @@ ghost use Rattle.unit_entries.specs.Devices.{devices};
 use crate::names::{are_of, named, serve_named};
 use array_units::Units;
 use block_file::{Blocks, Opener};
-use entry_numbers::Array;
-use job_names::Names;
+use desk_jobs::Names;
 use scsi_types::{Asked, Group, NoMemory, Reply};
 use std::alloc::Global;
 use std::marker::Model;
 use std::sync::{Arc, Condvar, Mutex, Wait};
 use unit_history::{LegalHistory, Opened, Pass, Refused};
+use unit_sequence::Array;
 
 // What a command came to. It keeps what the job's pass had seen, and that the pass has since seen what the reply or the refusal
 // says.

@@ -8,6 +8,6 @@ mod names;
 mod queue;
 
 pub use desk::{Desk, DeskFault, LANES, LONGEST_COPY};
+pub use desk_jobs::Names;
 pub use job::{Answer, Job, Ticket};
-pub use job_names::Names;
 pub use queue::{MOST_JOBS, NotQueued, Queue};

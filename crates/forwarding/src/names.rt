@@ -6,12 +6,12 @@ ghost use Rattle.unit_entries.specs.Devices.{devices};
 
 use array_units::Units;
 use block_file::{Blocks, Opener};
-use entry_numbers::Array;
-use job_names::Names;
+use desk_jobs::Names;
 use scsi_types::{Asked, Group, Reply};
 use std::alloc::Global;
 use std::sync::Wait;
 use unit_history::{Opened, Pass, Refused};
+use unit_sequence::Array;
 
 /// What a command of the session with this pass is known by at the desk of a group.
 pub(crate) fn named<B: Blocks, F: Blocks, O: Opener<B>, N: Array<Opened>>(

@@ -1,7 +1,7 @@
 //! iSCSI PDUs as values, and what bytes spell them (RFC 7143, section 11).
 //!
 //! A header is read from its basic header segment, and written as one. The grammar of whole PDUs stands in specs/ `Pdu`,
-//! `Fault` and `Spelling`, and its laws are here. `pdu_coding` makes whole PDUs of bytes, and bytes of them, by this grammar.
+//! `Fault` and `Spelling`, and its laws are here. `iscsi_coding` makes whole PDUs of bytes, and bytes of them, by this grammar.
 #![tactic(auto)]
 
 mod fault;

@@ -2,7 +2,7 @@
 use Rattle.std.specs.Prelude.{◌≡◌, ℕ, List, Some, slice_get, get_or, map}
 use Rattle.std.proofs.Common.{sym, ◌∙◌, ap, option_map}
 use Rattle.std.proofs.lemmas.Option.{slice_get-map, get_or_from_slice_get}
-use Rattle.preparer.specs.declared.Node.{Node}
+use Rattle.disk_preparer.specs.declared.Node.{Node}
 
 -- the name of no file
 abbrev pub no_file : Node

@@ -4,13 +4,13 @@ ghost use Rattle.std.specs.Prelude.{◌≡◌, IfOk};
 use crate::units::{LogicalUnits, Pass, Unserved};
 use array_units::Units;
 use block_file::{Blocks, Opener};
-use entry_numbers::Array;
 use forwarding::Desk;
 use scsi_types::{Asked, Group, NoMemory, PortName, Reply};
 use std::alloc::Global;
 use std::marker::Model;
 use std::sync::Wait;
 use unit_history::{LegalHistory, Opened, Pass as UnitPass};
+use unit_sequence::Array;
 
 impl<B: Blocks, F: Blocks, O: Opener<B>, N: Array<Opened>> Pass for UnitPass<B, F, O, N> {
     ghost held = { λ p. p };

@@ -5,7 +5,7 @@ ghost use Rattle.unit_lock.specs.Calls.{PlacedPass};
 ghost use Rattle.unit_control.specs.Entry.{Entry};
 
 use crate::units::Pass;
-use preparer::Preparer;
+use disk_preparer::Preparer;
 use scsi_types::{Asked, Command};
 use std::marker::{Brand, Model, PhantomData};
 
@@ -61,7 +61,7 @@ impl Gate for Open {
 
 /// Which file is the disk of the unit at a place of an array.
 pub trait Disks {
-    ghost use Rattle.preparer.specs.declared.Node.{Node};
+    ghost use Rattle.disk_preparer.specs.declared.Node.{Node};
 
     ghost disk: { ℕ → Node };
 }

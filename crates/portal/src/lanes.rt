@@ -5,7 +5,6 @@ use crate::gate::Gate;
 use crate::server::Server;
 use crate::stacks::Stacks;
 use block_file::{Blocks, Opener};
-use entry_numbers::Array;
 use forwarding::LANES;
 use scsi_types::Group;
 use std::alloc::Global;
@@ -13,6 +12,7 @@ use std::io;
 use std::sync::{Arc, Wait};
 use std::thread::{Builder, JoinHandle, Threads};
 use unit_history::Opened;
+use unit_sequence::Array;
 
 // Serves what comes to the desk of a group, until it is closed and nothing waits there any more.
 fn lane<B: Blocks, F: Blocks, O: Opener<B>, N: Array<Opened>, R: Wait>(

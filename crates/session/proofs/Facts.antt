@@ -7,17 +7,17 @@ use Rattle.session_rules.specs.Words.{AllByRecursion, list_any, find, option_map
 use Rattle.session_rules.specs.Words.{DataOutHeader, R2tHeader, ResponseHeader, Numbers, Header, Initiator, NopOut, ScsiCommand, DataOut}
 use Rattle.session_rules.specs.Words.{TaskManagementRequest, TextRequest, LogoutRequest, R2t, Reject, ManagementHeader, status_code}
 use Rattle.scsi_types.specs.declared.status.Status.{Status}
-use Rattle.full_feature.specs.{declared.response.Completion.Completion, Step.Step, Step.Runs, Step.IsRun}
-use Rattle.full_feature.specs.Counters.{Counters, after_status, after_collecting, after_r2t, after_reply, next_numbers, after_number}
-use Rattle.full_feature.specs.Counters.{after_answer}
-use Rattle.full_feature.specs.AnswerPdus.{response_for, reply_with, reply_to, busy, task_set_full}
-use Rattle.full_feature.specs.Machine.{Waits, OnOpened, calls, sends_first_r2t, turns_away, OnFed, fills, sends_next_r2t, calls_now}
-use Rattle.full_feature.specs.Machine.{OnTaken, OnFullPdu, OnUnaccepted, OnIncoming, OnManagedBy}
+use Rattle.session_full_feature.specs.{declared.response.Completion.Completion, Step.Step, Step.Runs, Step.IsRun}
+use Rattle.session_full_feature.specs.Counters.{Counters, after_status, after_collecting, after_r2t, after_reply, next_numbers, after_number}
+use Rattle.session_full_feature.specs.Counters.{after_answer}
+use Rattle.session_full_feature.specs.AnswerPdus.{response_for, reply_with, reply_to, busy, task_set_full}
+use Rattle.session_full_feature.specs.Machine.{Waits, OnOpened, calls, sends_first_r2t, turns_away, OnFed, fills, sends_next_r2t, calls_now}
+use Rattle.session_full_feature.specs.Machine.{OnTaken, OnFullPdu, OnUnaccepted, OnIncoming, OnManagedBy}
 use Rattle.session.proofs.RequestFacts.{OutFacts, TaskFacts, TurnFacts, silent, one_out, nobody, commands_of, moved, some_or_none}
 use Rattle.session.proofs.RequestFacts.{one_facts, management_facts, no_command}
 use Rattle.session_rules.specs.declared.task_function.Management.{Management, TheVariants.Respond, TheVariants.Reset}
 use Rattle.session_rules.specs.TaskManagement.{IsManagement, management_answer, reset_response}
-use Rattle.full_feature.proofs.{Turns.ran}
+use Rattle.session_full_feature.proofs.{Turns.ran}
 use Rattle.session.proofs.{Right.none_at}
 use Rattle.session.proofs.ReadSegments.{outs_of, OutsFacts, answer_facts, outs_tiled}
 use Rattle.session_rules.specs.{Asking.Asking, Asking.served, Turn.Incoming, Turn.pdu, Turn.Out, Codes.reserved_tag, Asking.reset}
@@ -32,7 +32,7 @@ use Rattle.session_rules.specs.Transfer.{expected_transfer, transfer_of, sent_da
 use Rattle.session_rules.specs.Answered.{Outcome, by_target, no_buffer, set_full, outcome_uncalled, outcome_of, command_at, Answered}
 use Rattle.session_rules.specs.Answered.{answered_by, answered_in, IsServed, IsCalled, outcome_data}
 use Rattle.session_rules.specs.Response.{responses, HasOneResponse, IsAnsweredAs, IsTelling, IsToldAs, sense_part}
-use Rattle.pdu_stream.specs.Pdus.{data_ins_for}
+use Rattle.session_stream.specs.Pdus.{data_ins_for}
 
 abbrev none_data : List ℕ
 none_data = []

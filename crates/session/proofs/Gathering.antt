@@ -18,14 +18,14 @@ use Rattle.session_rules.specs.declared.task_function.Management.{Management, Th
 use Rattle.session_rules.specs.Tasks.{r2ts_of, touches, has_tag, ends, Task, Collecting, accepted_command, begun_by, tasks}
 use Rattle.session_rules.specs.Verdict.{IsJudged, IsJudgedPdu, verdict_of, most_immediate}
 use Rattle.session_rules.proofs.Tasks.{with_turn, no_more, extended, tasks_more, not_full}
-use Rattle.full_feature.proofs.{Turns.ran}
+use Rattle.session_full_feature.proofs.{Turns.ran}
 use Rattle.session.proofs.{Dropping.kept_is, Dropping.no_r2t_managed}
 use Rattle.session.proofs.Steps.{Becomes, opened_rest, opened, fed_rest, fed}
 use Rattle.session.proofs.Table.{InPlace, IsKept, nothing_comes, command_comes, data_comes, management_comes}
-use Rattle.full_feature.specs.Counters.{Counters, after_number, after_collecting, after_answer, after_reply, next_numbers}
-use Rattle.full_feature.specs.{Step.Step, Step.says, Step.Runs, MakesTurn.TurnOf}
-use Rattle.full_feature.specs.Machine.{Makes, Calls, OnOpened, calls, sends_first_r2t, turns_away, OnFed, fills, sends_next_r2t, calls_now}
-use Rattle.full_feature.specs.Machine.{OnManagedBy, OnTaken, OnFullPdu, OnUnaccepted, OnIncoming}
+use Rattle.session_full_feature.specs.Counters.{Counters, after_number, after_collecting, after_answer, after_reply, next_numbers}
+use Rattle.session_full_feature.specs.{Step.Step, Step.says, Step.Runs, MakesTurn.TurnOf}
+use Rattle.session_full_feature.specs.Machine.{Makes, Calls, OnOpened, calls, sends_first_r2t, turns_away, OnFed, fills, sends_next_r2t, calls_now}
+use Rattle.session_full_feature.specs.Machine.{OnManagedBy, OnTaken, OnFullPdu, OnUnaccepted, OnIncoming}
 
 -- ---- what waits behind a step
 

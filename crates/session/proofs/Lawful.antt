@@ -11,7 +11,7 @@ use Rattle.session_rules.specs.Legal.{status_number, status_numbers, HaveWindow,
 use Rattle.session_rules.proofs.AtEach.{at_each_more, at_each_none}
 use Rattle.session.proofs.{Right.get_more, Right.none_at, Steps.sent_more, Steps.r2ts_more, Table.IsKept}
 use Rattle.session.proofs.{Gathering.kept_more, RequestFacts.TurnFacts, Facts.made_facts}
-use Rattle.full_feature.specs.{Counters.Counters, Counters.begun, MakesTurn.TurnOf}
+use Rattle.session_full_feature.specs.{Counters.Counters, Counters.begun, MakesTurn.TurnOf}
 
 -- the counters behind some turns
 abbrev pub counters_of : Setting → List Turn → Counters

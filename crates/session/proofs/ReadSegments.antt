@@ -11,9 +11,9 @@ use Rattle.session_rules.specs.{Standing.numbers_at, Tasks.r2ts_of, Tasks.is_res
 use Rattle.session_rules.specs.DataIn.{data_ins, joined_data, left_of_run, segment_size, IsSegment, Tiles}
 use Rattle.session_rules.specs.Legal.{status_numbers, IsWindow, HaveWindow, IsOfCommand, HasItsData, HaveTheirData}
 use Rattle.session_rules.specs.{Response.sense_part, Transfer.transfer_of, Transfer.sent_data}
-use Rattle.full_feature.specs.{declared.response.Completion.Completion, Counters.Counters, AnswerPdus.response_for}
-use Rattle.pdu_stream.specs.Pdus.{data_in_at, cons_if, data_ins_from, data_ins_for}
-use Rattle.pdu_stream.proofs.Segments.{at_least, size_some, size_within}
+use Rattle.session_full_feature.specs.{declared.response.Completion.Completion, Counters.Counters, AnswerPdus.response_for}
+use Rattle.session_stream.specs.Pdus.{data_in_at, cons_if, data_ins_from, data_ins_for}
+use Rattle.session_stream.proofs.Segments.{at_least, size_some, size_within}
 use Rattle.session.proofs.Right.{none_at}
 
 abbrev Segment : Type 0

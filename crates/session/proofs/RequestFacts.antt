@@ -11,7 +11,7 @@ use Rattle.session_rules.specs.TaskManagement.{IsManaged, management_answer}
 use Rattle.session_rules.specs.Answered.{Answered, Outcome, answered_by, answered_in, IsCalled}
 use Rattle.session_rules.specs.Legal.{status_number, status_numbers, IsWindow, HaveWindow, HaveNextR2t, IsSentFor, HasItsData}
 use Rattle.session_rules.specs.Legal.{HaveTheirData, IsAnsweredTask, IsTiledTask, IsCountedTask, HasResiduals, IsToldTask}
-use Rattle.full_feature.specs.Counters.{Counters, after_status, after_number, after_collecting, after_answer, next_numbers}
+use Rattle.session_full_feature.specs.Counters.{Counters, after_status, after_number, after_collecting, after_answer, next_numbers}
 
 -- what goes out in a turn, and the numbers behind it, where the session's counters are these before and behind it
 pub record OutFacts (s s' : Counters) (came : Incoming) (outs : List Out) : Type 0 where

@@ -18,11 +18,11 @@ use Rattle.session_rules.specs.declared.verdict.Verdict.{Verdict, TheVariants.Ac
 use Rattle.session_rules.specs.Turn.{Incoming, pdu, faulty, bytes_of, Spells, Leads, IsLed}
 use Rattle.session_rules.specs.Ends.{NoneWhole, StandsBehind, EndsWith, most_bytes, EndsBy}
 use Rattle.session_rules.specs.Phases.{Transcript, Exchange, exchanges, incoming, asked, outgoing, NoneEnds, IsLawful}
-use Rattle.full_feature.specs.Counters.{Counters}
-use Rattle.pdu_stream.specs.{declared.outbox.TheConstants.ENOUGH_TO_WRITE}
-use Rattle.pdu_stream.specs.Source.{AppendsFrom, Rises}
-use Rattle.pdu_stream.specs.Outbox.{OutboxValue, IsOut, IsWritten, IsClosed, IsClosedAs}
-use Rattle.pdu_stream.proofs.Queues.{took, all_out_at_last, broke}
+use Rattle.session_full_feature.specs.Counters.{Counters}
+use Rattle.session_stream.specs.{declared.outbox.TheConstants.ENOUGH_TO_WRITE}
+use Rattle.session_stream.specs.Source.{AppendsFrom, Rises}
+use Rattle.session_stream.specs.Outbox.{OutboxValue, IsOut, IsWritten, IsClosed, IsClosedAs}
+use Rattle.session_stream.proofs.Queues.{took, all_out_at_last, broke}
 use Rattle.session.specs.{Front.IsWhole, Front.IsFaulty, Inbox.Filled}
 use Rattle.session.specs.Stream.{PhasesValue, ExchangeOf, MakesExchange}
 use Rattle.session.specs.Transcript.{but_last, Written, IsPassed, IsFailureOf, HasPassed}

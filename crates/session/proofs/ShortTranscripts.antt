@@ -10,9 +10,9 @@ use Rattle.session_rules.specs.declared.verdict.Verdict.{Verdict, TheVariants.Ac
 use Rattle.session_rules.specs.Examples.{example, unit_0, numbers_with, out, ping, pong, read_header, three_bytes, read, the_data_in}
 use Rattle.session_rules.specs.Examples.{the_response, unanswered, write_header, write, the_r2t, turned_away, leave, reject, the_reject}
 use Rattle.session_rules.proofs.AtEach.{at_each_none}
-use Rattle.waiting_commands.specs.Slots.{IsAskedBy, waits}
-use Rattle.full_feature.specs.{Step.Step, Step.serves, Step.says_r2t, Step.Runs, Machine.OnIncoming, Machine.calls, Machine.sends_first_r2t}
-use Rattle.full_feature.specs.Counters.{Counters, begun, after_status, after_number, after_r2t, after_collecting}
+use Rattle.session_tasks.specs.Slots.{IsAskedBy, waits}
+use Rattle.session_full_feature.specs.{Step.Step, Step.serves, Step.says_r2t, Step.Runs, Machine.OnIncoming, Machine.calls, Machine.sends_first_r2t}
+use Rattle.session_full_feature.specs.Counters.{Counters, begun, after_status, after_number, after_r2t, after_collecting}
 use Rattle.session.proofs.{Right.last_push, Lawful.stands_none, Lawful.stands_more}
 
 -- ---- one turn that the session makes is lawful

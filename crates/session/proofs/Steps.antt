@@ -16,15 +16,15 @@ use Rattle.session_rules.specs.Tasks.{Collecting, collected, collecting_of}
 use Rattle.session_rules.specs.Collecting.{sizes, r2ts_end, IsR2tAt, IsUncalled, HasCalls, IsCollected, IsTurnedAwayAtOnce}
 use Rattle.session_rules.specs.Collecting.{IsRightTask, IsNext, Continues, HasToCollect}
 use Rattle.session_rules.proofs.Tasks.{with_turn}
-use Rattle.full_feature.specs.{Counters.Counters, Counters.after_command}
-use Rattle.full_feature.specs.AnswerPdus.{reply_to, busy as out_of_room}
-use Rattle.full_feature.specs.Step.{Step, Runs, IsRun}
-use Rattle.full_feature.specs.Machine.{Calls, OnOpened, calls, sends_first_r2t, turns_away, OnFed, fills, sends_next_r2t, calls_now}
-use Rattle.full_feature.proofs.{Turns.ran}
+use Rattle.session_full_feature.specs.{Counters.Counters, Counters.after_command}
+use Rattle.session_full_feature.specs.AnswerPdus.{reply_to, busy as out_of_room}
+use Rattle.session_full_feature.specs.Step.{Step, Runs, IsRun}
+use Rattle.session_full_feature.specs.Machine.{Calls, OnOpened, calls, sends_first_r2t, turns_away, OnFed, fills, sends_next_r2t, calls_now}
+use Rattle.session_full_feature.proofs.{Turns.ran}
 use Rattle.session.proofs.{ReadSegments.answer_facts}
 use Rattle.session.proofs.Right.{none_at, last_push, end_is, within_need, more_data, more_r2ts, reaches}
-use Rattle.waiting_commands.specs.Slots.{waits}
-use Rattle.waiting_commands.specs.Slots as slots
+use Rattle.session_tasks.specs.Slots.{waits}
+use Rattle.session_tasks.specs.Slots as slots
 
 -- ---- one turn more of a list of turns
 

@@ -6,8 +6,8 @@ use Rattle.session_rules.specs.declared.{end.End.End, identity.Identity.Identity
 use Rattle.session_rules.specs.declared.opening.Opening.{Opening, TheVariants.Login, TheVariants.FullFeature}
 use Rattle.session_rules.specs.Turn.{Incoming, Turn, bytes_of, IsLed}
 use Rattle.session_rules.specs.LoginPhase.{LoginTurn, LoginStanding, login_standing, login_after, IsLoginTurn, begins, IsStart}
-use Rattle.full_feature.specs.{Counters.Counters, Counters.begun, MakesTurn.TurnOf}
-use Rattle.pdu_stream.specs.Outbox.{OutboxValue, IsQueued}
+use Rattle.session_full_feature.specs.{Counters.Counters, Counters.begun, MakesTurn.TurnOf}
+use Rattle.session_stream.specs.Outbox.{OutboxValue, IsQueued}
 
 -- ---- both phases
 

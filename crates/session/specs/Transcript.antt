@@ -7,7 +7,7 @@ use Rattle.session_rules.specs.declared.{identity.Identity.Identity, opening.Ope
 use Rattle.session_rules.specs.declared.end.End.{End, TheVariants.EndOfInput, TheVariants.InputFailed, TheVariants.OutputFailed}
 use Rattle.session_rules.specs.declared.end.End.{TheVariants.Protocol, TheVariants.Reinstated, TheVariants.LoggedOut}
 use Rattle.session_rules.specs.Phases.{Transcript, Exchange, exchanges, incoming, asked, outgoing, IsLawful}
-use Rattle.pdu_stream.specs.{declared.outbox.TheConstants.ENOUGH_TO_WRITE, Source.Rises}
+use Rattle.session_stream.specs.{declared.outbox.TheConstants.ENOUGH_TO_WRITE, Source.Rises}
 
 -- the turns before the last
 abbrev pub but_last : List Exchange → List Exchange

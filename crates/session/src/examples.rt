@@ -12,7 +12,7 @@ ghost use Rattle.session_rules.specs.declared.verdict.Verdict.{Verdict};
 ghost use Rattle.session_rules.specs.declared.verdict.Verdict.TheVariants.{Accepted, Refused};
 ghost use Rattle.session_rules.specs.Asking.{Asking};
 ghost use Rattle.session_rules.specs.Turn.{Out, Turn};
-ghost use Rattle.waiting_commands.specs.Slots.{IsAskedBy};
+ghost use Rattle.session_tasks.specs.Slots.{IsAskedBy};
 ghost use Rattle.session_rules.specs.Legal.{Lawful};
 ghost use Rattle.session_rules.specs.Examples.{example, numbers_with, ping, pong, read_header, three_bytes, read};
 ghost use Rattle.session_rules.specs.Examples.{the_data_in, unanswered, the_response, write_header, write, the_r2t};

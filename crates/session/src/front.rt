@@ -1,7 +1,7 @@
 ghost use Rattle.session.specs.Front.{IsFront};
 
+use iscsi_coding::decode;
 use iscsi_pdu::{BHS_LENGTH, Pdu, PduFault};
-use pdu_coding::decode;
 
 /// What stands at the front of the bytes that wait.
 #[derive(Clone, Copy)]

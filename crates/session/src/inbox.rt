@@ -1,10 +1,10 @@
 ghost use Rattle.std.specs.Prelude.{◌≡◌, ℕ, ◌+◌, ◌-◌, ◌<◌, ◌≤◌, List, [], length, take, drop, IfOk, OnErr};
 ghost use Rattle.std.specs.Io.KnownBytes.{Keeps};
-ghost use Rattle.pdu_stream.specs.Source.{Counted};
+ghost use Rattle.session_stream.specs.Source.{Counted};
 ghost use Rattle.session.specs.Inbox.{Filled, Waits};
 
 use iscsi_pdu::LONGEST_PDU;
-use pdu_stream::{Failed, Source};
+use session_stream::{Failed, Source};
 use std::alloc::{AllocError, Global};
 use std::marker::Model;
 

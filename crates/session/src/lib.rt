@@ -8,8 +8,8 @@
 //! The theorem stands on [`serve_stream`]: the bytes that are written spell a legal transcript of the bytes that
 //! were read, however they were cut. Which transcripts are legal is said by `session_rules`; here `Transcript` says how one lies
 //! over the bytes, `Stream` what one turn of either phase makes, `Inbox` how bytes come, and `Front` what stands at the front of
-//! those that wait. `Lawful` of proofs/ has that a transcript stays legal turn by turn. The parts stand below: `full_feature` and
-//! `login_side` have the two phases, `waiting_commands` the writes that wait for data, `pdu_stream` how bytes leave.
+//! those that wait. `Lawful` of proofs/ has that a transcript stays legal turn by turn. The parts stand below: `session_full_feature` and
+//! `session_login` have the two phases, `session_tasks` the writes that wait for data, `session_stream` how bytes leave.
 #![tactic(auto)]
 
 mod ahead;
@@ -24,9 +24,9 @@ pub use examples::{
     a_nop_out_has_one_legal_answer, a_pdu_of_a_target_has_one_legal_answer,
     a_read_has_one_legal_answer, a_write_has_one_legal_r2t, nothing_comes_behind_a_logout,
 };
-pub use pdu_stream::{Failed, Sink, Source};
 pub use session_rules::{
     BeginAnswer, End, Identity, Lengths, Opening, ResetAnswer, Start, Target, TargetAnswer,
 };
+pub use session_stream::{Failed, Sink, Source};
 pub use stream::serve_stream;
 pub use watched::Watched;

@@ -3,15 +3,15 @@ ghost use Rattle.std.specs.Prelude.{◌<◌, ◌≤◌, length, vec_capacity, If
 ghost use Rattle.session_rules.specs.declared.end.End.TheVariants.{Protocol};
 ghost use Rattle.session_rules.specs.Turn.{pdu as came, faulty};
 ghost use Rattle.session.specs.Stream.{OpensWith, IsFresh, MakesExchange};
-ghost use Rattle.pdu_stream.specs.declared.outbox.TheConstants.{ENOUGH_TO_WRITE};
+ghost use Rattle.session_stream.specs.declared.outbox.TheConstants.{ENOUGH_TO_WRITE};
 
-use full_feature::{Session, fault_turn, feature_turn};
 use iscsi_pdu::{BHS_LENGTH, Pdu, PduFault};
 use login::Kind;
-use login_side::{LoginPhase, login_fault_turn, login_turn};
-use pdu_stream::{Outbox, Sink};
 use scsi_types::NoMemory;
+use session_full_feature::{Session, fault_turn, feature_turn};
+use session_login::{LoginPhase, login_fault_turn, login_turn};
 use session_rules::{End, Identity, LONGEST_TEXT, Lengths, Opening, Start, Target};
+use session_stream::{Outbox, Sink};
 use std::alloc::Global;
 use std::marker::Model;
 

@@ -1,8 +1,8 @@
 ghost use Rattle.std.specs.Prelude.{◌≡◌, ℕ, ◌<◌, ◌≤◌, [], false, length, vec_capacity, IfOk, OnErr};
 ghost use Rattle.std.specs.Io.KnownBytes.{Keeps};
 ghost use Rattle.session_rules.specs.declared.end.End.TheVariants.{InputFailed, OutputFailed};
-ghost use Rattle.pdu_stream.specs.Source.{Counted};
-ghost use Rattle.pdu_stream.specs.Outbox.{IsClosedAs};
+ghost use Rattle.session_stream.specs.Source.{Counted};
+ghost use Rattle.session_stream.specs.Outbox.{IsClosedAs};
 ghost use Rattle.session.specs.Inbox.{Filled};
 ghost use Rattle.session_rules.specs.declared.identity.Identity.{Identity};
 ghost use Rattle.session_rules.specs.declared.opening.Opening.{Opening};
@@ -14,9 +14,9 @@ use crate::front::{Front, front_of};
 use crate::inbox::{INBOX_CAPACITY, Inbox};
 use crate::phases::Phases;
 use iscsi_pdu::LONGEST_PDU;
-use pdu_stream::{Failed, Outbox, Sink, Source};
 use scsi_types::NoMemory;
 use session_rules::{End, Identity, LONGEST_TEXT, Opening, Target};
+use session_stream::{Failed, Outbox, Sink, Source};
 use std::alloc::Global;
 
 // Writes what waits at the session's end: this end, or that the sink failed.

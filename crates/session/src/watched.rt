@@ -1,7 +1,7 @@
 ghost use Rattle.std.specs.Prelude.{◌≡◌};
 ghost use Rattle.session.specs.Watched.{WatchedValue};
 
-use pdu_stream::{Failed, Sink, Source};
+use session_stream::{Failed, Sink, Source};
 use std::io::{ErrorKind, Read, Write};
 use std::marker::Model;
 

@@ -2,9 +2,9 @@
 use atomic_table::{Join, Split};
 use crossbeam_utils::atomic::seq_cell::{Pass, RuledSeqCell};
 use crossbeam_utils::rule::{Outcome, Protocol};
-use entry_numbers::{Array, At};
 use std::collections::LinkedList;
 use std::marker::{Brand, PhantomData};
+use unit_sequence::{Array, At};
 
 /// The words of a row.
 pub type Words = [u64; 7];

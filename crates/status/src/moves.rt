@@ -12,10 +12,10 @@ use crate::law::{
 use crate::row::Row;
 use atomic_table::{Join, Split};
 use crossbeam_utils::rule::Outcome;
-use entry_numbers::Answer;
 use logbook::Plain;
 use std::marker::Brand;
 use std::sync::Wait;
+use unit_sequence::Answer;
 
 /// Reads the words, and learns what this says.
 fn load_as<E, S, P: Published<E, S>, O: Outcome<Words, View<E, S>>, R: Wait>(

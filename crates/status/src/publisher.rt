@@ -7,10 +7,10 @@ use crate::law::{Origin, Published, Token};
 use crate::moves::{audit, join_right, publish_free, publish_new, publish_own, split_right};
 use crate::right::SessionRight;
 use crate::row::Row;
-use entry_numbers::Answer;
 use logbook::Plain;
 use std::marker::{Model, PhantomData};
 use std::sync::Wait;
+use unit_sequence::Answer;
 
 /// The one right to publish at a board, which has seen all that was published. Contracts see that history.
 #[derive(Drop)]

@@ -2,8 +2,8 @@
 ghost use Rattle.std.specs.Prelude.{◌≡◌};
 
 use crate::law::{Origin, Token};
-use entry_numbers::{Array, At};
 use std::marker::{Model, PhantomData};
+use unit_sequence::{Array, At};
 
 /// The one right to add the entries of a session. It has counted them. It takes no memory, and stays when the session ends.
 #[derive(Drop)]

@@ -6,7 +6,7 @@ ghost use Rattle.unit_entries.specs.Histories.{IsBehind, IsHistory};
 
 use crate::entry::Opened;
 use block_file::{Blocks, Opener};
-use entry_numbers::Array;
+use unit_sequence::Array;
 use unit_state::Unit;
 
 /// A unit of which nothing was asked yet is what the history without an entry leaves.

@@ -5,12 +5,12 @@ ghost use Rattle.unit_entries.specs.RowOf.{row_of};
 use crate::entry::{Arrival, Noted, Opened};
 use access_states::Change;
 use block_file::{Blocks, DeviceFailed, Opener};
-use entry_numbers::Array;
 use scsi_types::{Asked, Group, Reply};
 use status::{Published, Row};
 use std::alloc::Global;
 use std::marker::Brand;
 use unit_lock::{Machine, Refused};
+use unit_sequence::Array;
 use unit_state::{MoveFault, StepEnd, Unit};
 
 impl<B: Blocks, F: Blocks, O: Opener<B>> Published<Noted, Opened> for Unit<B, F, O> {
@@ -28,7 +28,7 @@ impl<B: Blocks, F: Blocks, O: Opener<B>> Published<Noted, Opened> for Unit<B, F,
 }
 
 impl Array<Opened> for Brand {
-    ghost use Rattle.entry_numbers.specs.Rights.{no_book, no_table};
+    ghost use Rattle.unit_sequence.specs.Rights.{no_book, no_table};
     ghost use Rattle.unit_entries.specs.Histories.{no_state};
 
     ghost book = { λ place. no_book };

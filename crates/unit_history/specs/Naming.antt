@@ -2,7 +2,7 @@
 use Rattle.std.specs.Prelude.{◌≡◌, ℕ, List, Option, Some, None, slice_get}
 use Rattle.atomic_table.specs.Seated.{TableId}
 use Rattle.logbook.specs.Pages.{Book}
-use Rattle.entry_numbers.specs.Rights.{no_book, no_table}
+use Rattle.unit_sequence.specs.Rights.{no_book, no_table}
 use Rattle.unit_control.specs.State.{UnitState, state_of}
 use Rattle.unit_entries.specs.Histories.{no_state}
 use Rattle.unit_history.specs.declared.new_unit.NewUnit.{NewUnit}

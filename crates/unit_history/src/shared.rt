@@ -9,7 +9,6 @@ ghost use Rattle.unit_history.specs.Naming.{IsNamedAt};
 use crate::new_unit::NewUnit;
 use access_states::Change;
 use block_file::{Blocks, DeviceFailed, Opener};
-use entry_numbers::{Array, At};
 use scsi_types::{Asked, Group, NoMemory, PortName, Reply};
 use status::{Board as StatusBoard, MOST_SEATS, Seat as BoardSeat};
 use std::alloc::Global;
@@ -17,6 +16,7 @@ use std::sync::Wait;
 use unit_entries::laws::a_unit_that_opened_has_the_history_without_an_entry;
 use unit_entries::{Arrival, Noted, Opened};
 use unit_lock::{LegalHistory as Seen, Pass as SessionPass, Refused};
+use unit_sequence::{Array, At};
 use unit_state::{MoveFault, Unit};
 
 /// A session of a unit: what it has seen of the unit's history, and the one right to add the session's entries. Contracts see

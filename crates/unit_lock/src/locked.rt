@@ -6,11 +6,11 @@ use crate::machine::{Machine, Refused};
 use crate::pass::PassAt;
 use crate::records::{Posted, Records};
 use crate::visit::Visit;
-use entry_numbers::{Answer, Array, At, History};
 use logbook::Plain;
 use std::alloc::Global;
 use std::marker::{Model, PhantomData};
 use std::sync::Wait;
+use unit_sequence::{Answer, Array, At, History};
 
 /// A command that was served, and the unit afterwards.
 #[derive(Drop)]

@@ -2,9 +2,9 @@
 ghost use Rattle.std.specs.Prelude.{◌≡◌, ◌⊎◌, length, MatchBool};
 ghost use mathlib.Core.List.{IsPrefix};
 
-use entry_numbers::{AnyHistory, Array, At, History};
 use status::{AnySessionRight, Published, SessionRight};
 use std::marker::{Model, PhantomData};
+use unit_sequence::{AnyHistory, Array, At, History};
 
 /// A legal history that was seen of the unit at a place. Contracts see the place and the entries.
 #[derive(Drop)]

@@ -4,7 +4,6 @@ ghost use mathlib.Core.List.{IsPrefix};
 ghost use Rattle.status.specs.Views.{IsFree, IsOwn, counted};
 ghost use Rattle.unit_lock.specs.Calls.{held};
 
-use entry_numbers::{Answer, History, HistoryWord, Naming, NewHistory, Recorder};
 use logbook::Plain;
 use status::{
     Board, Holder, MOST_SEATS, NewBoard, Origin, Published, Publisher, Row, Seat, SessionRight,
@@ -12,6 +11,7 @@ use status::{
 use std::alloc::{AllocError, Global};
 use std::marker::{Model, PhantomData};
 use std::sync::Wait;
+use unit_sequence::{Answer, History, HistoryWord, Naming, NewHistory, Recorder};
 
 /// What stands outside the lock: the word that counts the history, and the board that shows it.
 #[derive(Drop)]

@@ -8,10 +8,10 @@ use crate::machine::{Machine, Refused};
 use crate::pass::{LegalHistory, Pass, meet};
 use crate::records::{Posted, Records};
 use crossbeam_utils::{Backoff, CachePadded};
-use entry_numbers::{Array, At, NewHistory};
 use status::{Board, MOST_SEATS, NewBoard, Published, Seat};
 use std::alloc::{AllocError, Global};
 use std::sync::{Mutex, MutexGuard, Wait};
+use unit_sequence::{Array, At, NewHistory};
 
 /// The word and the board of a unit, before they have names.
 #[derive(Drop)]

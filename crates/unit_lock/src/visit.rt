@@ -5,11 +5,11 @@ ghost use Rattle.unit_lock.specs.Calls.{IsAdded, IsRefused, held};
 
 use crate::pass::PassAt;
 use crate::records::{Posted, Records, Turn, put_back};
-use entry_numbers::{Answer, Array, At, History};
 use logbook::Plain;
 use status::{Published, Row};
 use std::marker::{Model, PhantomData};
 use std::sync::Wait;
+use unit_sequence::{Answer, Array, At, History};
 
 /// A session's pass, whose right is in hand, beside the whole history: nothing of the session's own came since its pass saw
 /// it. Contracts see the pass and the history.

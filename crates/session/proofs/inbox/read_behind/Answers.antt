@@ -1,7 +1,7 @@
 use Rattle.std.proofs.Common.{◌≡◌, ◌<◌, ◌≤◌, ◌+◌, ℕ, List, Option, Result, Ok, Err, IfOk, length, take, drop, arith, length-take-le}
 use Rattle.std.proofs.Common.{length-take, length-drop}
 use Rattle.std.specs.Io.KnownBytes.{Consumes, IsAtEnd}
-use Rattle.pdu_stream.specs.declared.source.Failed.{Failed}
+use Rattle.session_stream.specs.declared.source.Failed.{Failed}
 use Rattle.session.{specs.Inbox.Filled, proofs.Memory.grown_behind}
 use borrow.Rule.Slice.PartMut.{put_mid, post_of}
 use Rattle.session.proofs.inbox.read_behind.Goals as goal

@@ -1,5 +1,5 @@
 use Rattle.std.proofs.Common.{◌∙◌, ◌+◌, ℕ, List, length, arith, ap, sym, refl}
-use Rattle.pdu_stream.specs.Outbox.{OutboxValue}
+use Rattle.session_stream.specs.Outbox.{OutboxValue}
 use Rattle.session.proofs.Exchanges.{stands_opened, fresh_more}
 use Rattle.session.proofs.Running.{starts, pdu_came, fault_came, turn_ends, sink_failed, flushed, more_came, input_ended}
 use Rattle.session.proofs.Running.{input_failed, taken_all}

@@ -1,7 +1,7 @@
 use Rattle.std.proofs.Common.{◌≡◌, ◌+◌, ◌-◌, ◌*◌, ◌<◌, ◌≤◌, ℕ, None, false, vec_capacity, length}
 use Rattle.session_rules.specs.declared.{text.TheConstants.LONGEST_TEXT, identity.Identity.Identity, opening.Opening.Opening}
 use Rattle.session_rules.specs.Ends.{most_bytes}
-use Rattle.pdu_stream.specs.declared.outbox.TheConstants.{ENOUGH_TO_WRITE}
+use Rattle.session_stream.specs.declared.outbox.TheConstants.{ENOUGH_TO_WRITE}
 use Rattle.session.specs.declared.inbox.TheConstants.{INBOX_CAPACITY}
 use Rattle.session.{specs.Stream.OpensWith, specs.Stream.IsFresh, proofs.Running.Running}
 use Rattle.session.proofs.stream.pass.Given as goal

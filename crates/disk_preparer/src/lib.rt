@@ -1,0 +1,110 @@
+//! What makes a disk ready for the calls that are to come.
+//!
+//! A device serves one call at a time, under its unit's lock, and waits there for its disk. A [`Preparer`] is a handle of its own
+//! on the same disk, by which any thread waits without the lock: before it takes the lock, for the blocks that it will read; and
+//! behind it, for the flush of what it wrote. It changes no block: a unit that is not prepared, or by a preparer that fails to read,
+//! does the same and waits longer.
+#![tactic(auto)]
+
+ghost use Rattle.std.specs.Prelude.{◌≡◌, Bool, IsTrue, false};
+
+/// What a file is by, whatever its names: the number of its file system, and its own there.
+#[derive(Clone, Copy, PartialEq, Eq)]
+pub struct Node {
+    pub device: u64,
+    pub number: u64,
+}
+
+impl Node {
+    /// Whether it is the same file.
+    pub fn is(self, other: Node) -> bool
+        ensures { IsTrue result → self ≡ other }
+    {
+        self.device == other.device && self.number == other.number
+    }
+}
+
+/// A device that is over a file.
+pub trait OnDisk {
+    ghost use Rattle.disk_preparer.specs.declared.Node.{Node};
+
+    ghost disk: { Self → Node };
+}
+
+/// Makes a disk ready for calls of its device, and flushes it, beside the device.
+pub trait Preparer: Drop {
+    ghost use Rattle.disk_preparer.specs.declared.Node.{Node};
+
+    /// Whether it ever flushes.
+    ghost may_flush: { Bool };
+
+    /// Which file its disk is.
+    ghost disk: { Self → Node };
+
+    /// A flush of this disk is done. Nothing but a flush says so.
+    ghost has_flushed: { Node → Type 0 };
+
+    /// Whether the disk has been slow of late: only then does it serve to tell of calls that are to come.
+    fn is_slow(&self) -> bool;
+
+    /// These blocks will be read soon: has the disk fetch them, and waits for none.
+    fn advise(&self, first: u64, blocks: u16);
+
+    /// These blocks will be written soon: has the disk fetch what the system has to read before it can write a part of a page.
+    fn advise_edges(&self, first: u64, blocks: u16);
+
+    /// Whether it has a use for the session's command with this serial: for each where the disk has been slow of late, else for some
+    /// of them, by which it sees that.
+    fn wants(&self, serial: u64) -> bool;
+
+    /// These blocks are read next: waits until the disk has fetched them, where it has been slow of late; else it looks how long the
+    /// first of them take.
+    fn warm(&self, first: u64, blocks: u16);
+
+    /// These blocks are written next: waits likewise for what the system has to read first.
+    fn warm_edges(&self, first: u64, blocks: u16);
+
+    /// Whether flushes may be left to it.
+    fn flushes(&self) -> bool
+        ensures { IsTrue result → IsTrue may_flush };
+
+    /// Makes all last that was written until now. False: this flush has failed, or one before it.
+    fn flush(&self) -> bool
+        ensures { IsTrue result → has_flushed (disk self.now) };
+}
+
+/// The preparer of a disk that takes no time, as one in memory: it does nothing.
+#[derive(Clone, Copy, Drop)]
+pub struct NoPreparer;
+
+impl Preparer for NoPreparer {
+    ghost may_flush = { false };
+
+    ghost disk = { λ p. record { device = 0; number = 0 } };
+
+    ghost has_flushed = { λ disk. ⊥ };
+
+    fn is_slow(&self) -> bool {
+        false
+    }
+
+    fn advise(&self, _first: u64, _blocks: u16) {}
+
+    fn advise_edges(&self, _first: u64, _blocks: u16) {}
+
+    fn wants(&self, _serial: u64) -> bool {
+        false
+    }
+
+    fn warm(&self, _first: u64, _blocks: u16) {}
+
+    fn warm_edges(&self, _first: u64, _blocks: u16) {}
+
+    fn flushes(&self) -> bool {
+        false
+    }
+
+    fn flush(&self) -> bool {
+        false
+    }
+}

@@ -1,0 +1,31 @@
+-- What the login phase of a session keeps between what a PDU comes to and what goes out.
+use Rattle.std.specs.Prelude.{◌≡◌}
+use Rattle.session_rules.specs.Words.{ℕ, List, Option, Header, Initiator, LoginRequest, Progress, Ending, answer_to}
+use Rattle.session_rules.specs.{Asking.Asking, Turn.Incoming, Turn.bytes_of, Turn.IsLed}
+use Rattle.session_rules.specs.declared.login_outcome.LoginOutcome.{LoginOutcome}
+use Rattle.session_rules.specs.declared.login_outcome.LoginOutcome.TheVariants.{GoesOn, Begun, Refused, Rejected}
+use Rattle.session_rules.specs.LoginPhase.{flags_of, ending_text, LoginTurn, LoginStanding, login_after, IsLoginTurn}
+use Rattle.session_stream.specs.Outbox.{OutboxValue, IsQueued}
+
+-- where a request passed, this is the text of its response
+abbrev pub HasText : Ending → LoginOutcome → List ℕ → Type 0
+HasText e GoesOn text = text ≡ ending_text e
+HasText e (Begun tsih) text = text ≡ ending_text e
+HasText e (Refused status) text = Unit {0}
+HasText e (Rejected reason) text = Unit {0}
+
+abbrev pub IsTextOf : Progress → Header → List ℕ → LoginOutcome → List ℕ → Type 0
+IsTextOf s (Initiator (LoginRequest p)) d o text = HasText (answer_to s (flags_of p) d) o text
+IsTextOf s h d o text = Unit {0}
+
+-- a turn of a login, and what it came to
+pub record MakesLoginTurn {T : Type 0} (leads : T → Asking → T → Type 0)
+    (v v' : LoginStanding) (target target' : T) (held held' : Option (List ℕ)) (before now : ℕ) (o o' : OutboxValue)
+    (came : Incoming) (outcome : LoginOutcome) : Type 0 where
+  pub turn : LoginTurn
+  pub came_is : turn.came ≡ came
+  pub outcome_is : turn.outcome ≡ outcome
+  pub made : IsLoginTurn v turn
+  pub next : v' ≡ login_after v came
+  pub led : IsLed leads turn.call target target'
+  pub queued : IsQueued held held' before now o o' (bytes_of turn.sent)

@@ -1,0 +1,211 @@
+ghost use Rattle.std.specs.Prelude.{◌≡◌, ◌+◌, ◌++◌, ◌<◌, ◌≤◌, [], false, length, vec_capacity, IfOk, Some};
+ghost use Rattle.session_stream.specs.Pdus.{AreInReach, data_ins_of, sent_by};
+ghost use Rattle.session_stream.specs.Outbox.{OutboxValue, IsQueued, IsWritten};
+ghost use Rattle.session_rules.specs.Response.{sense_part};
+ghost use Rattle.session_rules.specs.Turn.{bytes_of};
+ghost use Rattle.iscsi_pdu.specs.Spelling.{spelling};
+
+use crate::data_in::segment_at;
+use crate::pdus::{DataIns, Pdus};
+use crate::source::Sink;
+use iscsi_coding::encode;
+use iscsi_pdu::{BHS_LENGTH, Header, MAX_DATA_SEGMENT_LENGTH, Pdu, ScsiResponse, TargetHeader};
+use scsi_types::Sense;
+use std::alloc::{AllocError, Global};
+use std::marker::Model;
+
+/// The bytes of sense in the fixed format (SPC-4, 4.5.3).
+pub const SENSE_LENGTH: u8 = 18;
+
+/// The data segment of a SCSI Response with sense: SenseLength, and the sense (RFC 7143, 11.4.7).
+pub const SENSE_SEGMENT_LENGTH: usize = 20;
+
+/// The bytes of the memory: room for a read of 256 KiB in Data-In of 8192 behind what may wait, so that it leaves in one
+/// write.
+pub const OUTBOX_CAPACITY: usize = 299008;
+
+/// So many bytes do not wait for the next read: they leave, so that the peer works on them while the session makes its
+/// next turns.
+pub const ENOUGH_TO_WRITE: usize = 32768;
+
+/// The most bytes that pad a data segment.
+const MOST_PADDING: usize = 3;
+
+/// The bytes of PDUs until they are written, in memory that was taken once.
+///
+/// They leave together: before the session waits for its peer, behind a turn that leaves `ENOUGH_TO_WRITE`, where there
+/// is no room for more, and at its end. Once the sink failed, nothing more is written.
+#[derive(Drop)]
+pub struct Outbox {
+    bytes: Vec<u8>,
+    failed: bool,
+}
+
+impl Model for Outbox {
+    ghost use Rattle.std.specs.Prelude.{◌≤◌, length, vec_capacity};
+    ghost use Rattle.session_stream.specs.Outbox.{OutboxValue};
+    ghost use Rattle.session_stream.specs.declared.outbox.TheConstants.{OUTBOX_CAPACITY};
+
+    ghost Value = { OutboxValue };
+
+    ghost view = { λ s. record { waiting = s.bytes.items; failed = s.failed } };
+
+    ghost invariant = { λ s. (length s.bytes.items ≤ OUTBOX_CAPACITY) × (OUTBOX_CAPACITY ≤ vec_capacity s.bytes) };
+}
+
+impl Outbox {
+    /// An empty outbox, with all its memory.
+    pub fn new(alloc: Global) -> Result<Outbox, AllocError>
+        ensures { IfOk result (λ b. b ≡ record { waiting = []; failed = false }) }
+    {
+        Ok(Outbox {
+            bytes: Vec::with_capacity(alloc, OUTBOX_CAPACITY)?,
+            failed: false,
+        })
+    }
+
+    /// Whether the sink failed.
+    pub fn has_failed(&self) -> bool
+        ensures { result ≡ self.now.failed }
+    {
+        self.failed
+    }
+
+    /// Writes what waits, in one write.
+    pub fn flush<K: Sink>(&mut self, sink: &mut K)
+        ensures written { IsWritten (K.held sink.old) (K.held sink.new) (K.failures sink.old) (K.failures sink.new)
+            self.old self.new }
+        ensures all_written { self.new.waiting ≡ [] }
+    {
+        self.failed = write_out(sink, &self.bytes, self.failed);
+        self.bytes.clear();
+    }
+
+    /// Takes the PDUs of a turn in, and writes what waits where it is enough; a Reject has the header segment's bytes as
+    /// its data.
+    pub fn fill<K: Sink>(&mut self, sink: &mut K, bhs: &[u8; BHS_LENGTH], pdus: &Pdus<'_>)
+        requires reach { AreInReach pdus.now }
+        ensures queued { IsQueued (K.held sink.old) (K.held sink.new) (K.failures sink.old) (K.failures sink.new)
+            self.old self.new (bytes_of (sent_by bhs.now pdus.now)) }
+        ensures few { length self.new.waiting < ENOUGH_TO_WRITE }
+    {
+        self.take_in(sink, bhs, pdus);
+        if self.bytes.len() >= ENOUGH_TO_WRITE {
+            self.flush(sink);
+        }
+    }
+
+    // Takes the PDUs of a turn in, one behind the other.
+    fn take_in<K: Sink>(&mut self, sink: &mut K, bhs: &[u8; BHS_LENGTH], pdus: &Pdus<'_>)
+        requires reach { AreInReach pdus.now }
+        ensures { IsQueued (K.held sink.old) (K.held sink.new) (K.failures sink.old) (K.failures sink.new)
+            self.old self.new (bytes_of (sent_by bhs.now pdus.now)) }
+    {
+        match pdus {
+            Pdus::Nothing => {}
+            Pdus::Reject(reject) => self.put(sink, TargetHeader::Reject(*reject), bhs),
+            Pdus::R2t(r2t) => self.put(sink, TargetHeader::R2t(*r2t), &[]),
+            Pdus::Response(pdu) => self.put(sink, pdu.header, pdu.bytes),
+            Pdus::Answer {
+                data_ins,
+                response,
+                sense,
+            } => {
+                self.put_data_ins(sink, data_ins);
+                self.put_response(sink, *response, sense);
+            }
+        }
+    }
+
+    // Writes what waits, where there is no room for so many bytes behind it.
+    fn make_room<K: Sink>(&mut self, sink: &mut K, n: usize)
+        requires { n ≤ OUTBOX_CAPACITY }
+        ensures written { IsWritten (K.held sink.old) (K.held sink.new) (K.failures sink.old) (K.failures sink.new)
+            self.old self.new }
+        ensures room { length self.new.waiting + n ≤ OUTBOX_CAPACITY }
+    {
+        if OUTBOX_CAPACITY - self.bytes.len() < n {
+            self.flush(sink);
+        }
+    }
+
+    // Takes a PDU in.
+    fn put<K: Sink>(&mut self, sink: &mut K, header: TargetHeader, segment: &[u8])
+        requires short { length segment.now ≤ MAX_DATA_SEGMENT_LENGTH }
+        ensures { IsQueued (K.held sink.old) (K.held sink.new) (K.failures sink.old) (K.failures sink.new)
+            self.old self.new (spelling (Header.Target header) segment.now) }
+    {
+        self.make_room(sink, BHS_LENGTH + segment.len() + MOST_PADDING);
+        append(&mut self.bytes, header, segment);
+    }
+
+    // Takes the Data-In of a read in, one behind the other.
+    fn put_data_ins<K: Sink>(&mut self, sink: &mut K, data_ins: &DataIns<'_>)
+        requires reach { length data_ins.now.bytes.now ≤ 4294967295 }
+        ensures { IsQueued (K.held sink.old) (K.held sink.new) (K.failures sink.old) (K.failures sink.new)
+            self.old self.new (bytes_of (data_ins_of data_ins.now)) }
+    {
+        let mut data_sn = 0;
+        let mut offset = 0;
+        while (offset as usize) < data_ins.bytes.len() {
+            let pdu = segment_at(data_ins, data_sn, offset);
+            self.put(sink, TargetHeader::DataIn(pdu.header), pdu.bytes);
+            offset += pdu.bytes.len() as u32;
+            data_sn += 1;
+        }
+    }
+
+    // Takes a SCSI Response in, with its sense, if any.
+    fn put_response<K: Sink>(&mut self, sink: &mut K, response: ScsiResponse, sense: &Option<Sense>)
+        ensures { IsQueued (K.held sink.old) (K.held sink.new) (K.failures sink.old) (K.failures sink.new)
+            self.old self.new (spelling (Header.Target (TargetHeader.ScsiResponse response)) (sense_part sense.now)) }
+    {
+        let header = TargetHeader::ScsiResponse(response);
+        match sense {
+            None => self.put(sink, header, &[]),
+            Some(sense) => self.put(sink, header, &sense_segment(sense)),
+        }
+    }
+}
+
+// Writes these bytes, unless the sink failed before or there are none: whether it failed.
+fn write_out<K: Sink>(sink: &mut K, bytes: &[u8], failed: bool) -> bool
+    ensures { IsWritten (K.held sink.old) (K.held sink.new) (K.failures sink.old) (K.failures sink.new)
+        (record { waiting = bytes.now; failed = failed }) (record { waiting = []; failed = result }) }
+{
+    if failed || bytes.is_empty() {
+        return failed;
+    }
+    match sink.write_whole(bytes) {
+        Ok(()) => false,
+        Err(_) => true,
+    }
+}
+
+// Appends a PDU, for which there is room.
+fn append(bytes: &mut Vec<u8>, header: TargetHeader, segment: &[u8])
+    requires short { length segment.now ≤ MAX_DATA_SEGMENT_LENGTH }
+    requires room { length bytes.old.items + BHS_LENGTH + length segment.now + MOST_PADDING ≤ vec_capacity bytes.old }
+    ensures put { bytes.new.items ≡ bytes.old.items ++ spelling (Header.Target header) segment.now }
+    ensures long { length bytes.new.items ≤ length bytes.old.items + BHS_LENGTH + length segment.now + MOST_PADDING }
+    ensures kept { vec_capacity bytes.old ≤ vec_capacity bytes.new }
+{
+    let pdu = Pdu {
+        header: Header::Target(header),
+        data: segment,
+    };
+    match encode(&pdu, bytes) {
+        Ok(()) => {}
+        Err(_) => unreachable!(),
+    }
+}
+
+// The data of a SCSI Response with sense: the length of the sense, and the sense.
+fn sense_segment(sense: &Sense) -> [u8; SENSE_SEGMENT_LENGTH]
+    ensures { result ≡ sense_part (Some sense.now) }
+{
+    let mut segment = [0; SENSE_SEGMENT_LENGTH];
+    segment[1] = SENSE_LENGTH;
+    segment[2..].copy_from_slice(&sense.to_bytes());
+    segment
+}

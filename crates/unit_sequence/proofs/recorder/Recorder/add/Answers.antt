@@ -1,0 +1,16 @@
+use Rattle.std.proofs.Common.{sym, ◌∙◌, ap}
+use Rattle.unit_sequence.proofs.Numbering.{adds_moves}
+use Rattle.unit_sequence.proofs.recorder.Recorder.add.Goals as goal
+
+pub compare_exchange-found-requires : goal.compare_exchange-found-requires
+compare_exchange-found-requires g c =
+    let h = c.word.invariant in
+    let offer = c.offer-offer.ensures in
+    let pen = c.no_pen-pen.ensures in (
+      ap (λ w. w.tracked) h,
+      c.self.invariant.1 ∙ sym (ap (λ w. w.book) h),
+      pen.0 ∙ (c.self.invariant.1 ∙ sym (ap (λ w. w.book) h)),
+      offer.0,
+      rw (ap (λ w. w.key) h, pen.1, offer.1, offer.3)
+          (adds_moves c.self.inside.seen.log (g.M.Plain.ask c.args.about.now) c.self.inside.count c.self.invariant.0),
+    )
