@@ -72,39 +72,3 @@ pub trait Preparer: Drop {
     fn flush(&self) -> bool
         ensures { IsTrue result → has_flushed (disk self.now) };
 }
-
-/// The preparer of a disk that takes no time, as one in memory: it does nothing.
-#[derive(Clone, Copy, Drop)]
-pub struct NoPreparer;
-
-impl Preparer for NoPreparer {
-    ghost may_flush = { false };
-
-    ghost disk = { λ p. record { device = 0; number = 0 } };
-
-    ghost has_flushed = { λ disk. ⊥ };
-
-    fn is_slow(&self) -> bool {
-        false
-    }
-
-    fn advise(&self, _first: u64, _blocks: u16) {}
-
-    fn advise_edges(&self, _first: u64, _blocks: u16) {}
-
-    fn wants(&self, _serial: u64) -> bool {
-        false
-    }
-
-    fn warm(&self, _first: u64, _blocks: u16) {}
-
-    fn warm_edges(&self, _first: u64, _blocks: u16) {}
-
-    fn flushes(&self) -> bool {
-        false
-    }
-
-    fn flush(&self) -> bool {
-        false
-    }
-}

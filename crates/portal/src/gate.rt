@@ -39,26 +39,6 @@ pub trait Gate {
         ensures { IsTrue result → lasts (P.held pass.now) };
 }
 
-/// The gate that is open.
-#[derive(Clone, Copy, Drop)]
-pub struct Open;
-
-impl Gate for Open {
-    ghost is_late = { false };
-
-    ghost lasts = { λ pass. ⊥ };
-
-    fn pass(&self, _unit: usize, _serial: u64, _asked: &Asked) {}
-
-    fn settles(&self, _unit: usize) -> bool {
-        false
-    }
-
-    fn settle<P: Pass>(&self, _pass: &P) -> bool {
-        false
-    }
-}
-
 /// Which file is the disk of the unit at a place of an array.
 pub trait Disks {
     ghost use Rattle.disk_preparer.specs.declared.Node.{Node};

@@ -27,7 +27,7 @@ pub use attached::Attached;
 pub use connection::Connection;
 pub use controllers::Controllers;
 pub use device::TargetDevice;
-pub use gate::{Disks, Gate, Open, Prepared};
+pub use gate::{Disks, Gate, Prepared};
 pub use handles::{Handled, LAST_NUMBER, LAST_TSIH, next_tsih};
 pub use lanes::start_lanes;
 pub use live::{EnterFault, LiveSession, Table};
