@@ -6,8 +6,8 @@ use aptpl_file::OpenFault;
 use block_file::{Blocks, Opener};
 use command_line::{Fault, MAX_UNITS, Options};
 use disk_files::{
-    Disk, DiskFault, DiskLock, FileBlocks, FileFault, FileOpener, FilePreparer, NamedBlocks,
-    Registrations, RegistrationsFault, SystemFile, Voice, open_disk, open_registrations,
+    Disk, DiskFault, DiskLock, FileBlocks, FileFault, FileLog, FileOpener, FilePreparer,
+    NamedBlocks, Registrations, RegistrationsFault, SystemFile, open_disk, open_registrations,
 };
 use event_log::{Event, Log, Part, Unusable};
 use scsi_types::Place;
@@ -118,8 +118,8 @@ pub(crate) fn fault_of(unit: u8, part: Part, why: Unusable) -> Fault {
 }
 
 // What tells of calls that fail on a file of a unit.
-fn voice(log: &Log, unit: u8, part: Part) -> Result<Voice, Fault> {
-    Ok(Voice::new(log.share()?, unit, part))
+fn file_log(log: &Log, unit: u8, part: Part) -> Result<FileLog, Fault> {
+    Ok(FileLog::new(log.share()?, unit, part))
 }
 
 // The disk of a unit.
@@ -133,7 +133,7 @@ pub(crate) fn open_blocks<R: Files<File = File> + Clone + Drop>(
     let mine = rt.clone()?;
     match open_disk(mine, alloc, path) {
         Ok(mut disk) => {
-            disk.blocks.tell_by(voice(log, unit, Part::Disk)?);
+            disk.blocks.tell_by(file_log(log, unit, Part::Disk)?);
             Ok(disk)
         }
         Err(fault) => {
@@ -158,8 +158,8 @@ pub(crate) fn open_preparer<R: Files<File = File> + Clock + Wait + Clone + Drop>
     ensures disk { IfOk result (λ preparer. preparer.node ≡ blocks.old.file.node) }
 {
     let mine = rt.clone()?;
-    let voice = voice(log, unit, Part::Disk)?;
-    Ok(FilePreparer::open(mine, alloc, path, blocks, Some(voice)))
+    let file_log = file_log(log, unit, Part::Disk)?;
+    Ok(FilePreparer::open(mine, alloc, path, blocks, Some(file_log)))
 }
 
 // The registration file of a unit, and its record.
@@ -170,9 +170,9 @@ pub(crate) fn open_record<R: Files<File = File> + Clone + Drop>(
     unit: u8,
     path: &str,
 ) -> Result<Registrations<R>, Fault> {
-    let voice = voice(log, unit, Part::Registrations)?;
+    let file_log = file_log(log, unit, Part::Registrations)?;
     let mine = rt.clone()?;
-    match open_registrations(mine, alloc, path, Some(voice)) {
+    match open_registrations(mine, alloc, path, Some(file_log)) {
         Ok(found) => Ok(found),
         Err(fault) => {
             let why = registrations_unusable(fault);

@@ -14,10 +14,10 @@ ghost use Rattle.disk_files.specs.Lengths.{IsLengthFault};
 
 use crate::FileFault;
 use crate::backing::BackingFile;
+use crate::file_log::FileLog;
 use crate::flushes::{Flushes, LastingFile};
 use crate::system::SystemFile;
 use crate::tally::Tally;
-use crate::voice::Voice;
 use crate::writes::Writes;
 use block_file::{BLOCK_LENGTH, Blocks, DeviceFailed};
 use disk_preparer::{Node, OnDisk};
@@ -46,7 +46,7 @@ pub struct FileBlocks<F: BackingFile> {
     // What its preparer flushes, where it has one.
     flushes: Option<Arc<Flushes<F>, Global>>,
     // What tells of calls that failed.
-    voice: Option<Voice>,
+    file_log: Option<FileLog>,
     ghost fits: { count < 2 ^ 32 },
     ghost some: { 0 < count },
     ghost whole: { IsTrue F.claims → length (F.bytes file) ≡ BLOCK_LENGTH * count },
@@ -90,22 +90,22 @@ impl<F: BackingFile> FileBlocks<F> {
             tally: Tally::NONE,
             writes: Writes::none(),
             flushes: None,
-            voice: None,
+            file_log: None,
         })
     }
 
     /// From now on calls that fail are told.
-    pub fn tell_by(&mut self, voice: Voice)
+    pub fn tell_by(&mut self, file_log: FileLog)
         ensures { (self.new.file ≡ self.old.file) × (self.new.count ≡ self.old.count)
             × (self.new.tally ≡ self.old.tally) × (self.new.writes ≡ self.old.writes) }
     {
-        self.voice = Some(voice);
+        self.file_log = Some(file_log);
     }
 
     // Tells that a call failed at so many bytes from this block on, with this error of the system.
     pub(crate) fn tell(&self, call: Call, first: u32, bytes: usize, error: u32) {
-        if let Some(voice) = &self.voice {
-            voice.tell(call, first, bytes / BLOCK_LENGTH, error);
+        if let Some(file_log) = &self.file_log {
+            file_log.tell(call, first, bytes / BLOCK_LENGTH, error);
         }
     }
 
@@ -113,8 +113,8 @@ impl<F: BackingFile> FileBlocks<F> {
     // longer is told.
     fn still_reaches(&self) -> Result<(), u32> {
         let is_longer = reaches(&self.file, self.count)?;
-        if let (true, Some(voice)) = (is_longer, &self.voice) {
-            voice.tell_longer();
+        if let (true, Some(file_log)) = (is_longer, &self.file_log) {
+            file_log.tell_longer();
         }
         Ok(())
     }

@@ -4,9 +4,9 @@ ghost use Rattle.std.specs.Arc.{arc_value};
 
 use crate::FileBlocks;
 use crate::backing::BackingFile;
+use crate::file_log::FileLog;
 use crate::flushes::{FlushFault, Flushes, LastingFile};
 use crate::system::SystemFile;
-use crate::voice::Voice;
 use block_file::BLOCK_LENGTH;
 use disk_preparer::{Node, Preparer};
 use event_log::Call;
@@ -65,7 +65,7 @@ pub struct FilePreparer<R: Clock + Wait + Drop, F: LastingFile> {
     // None where there was no handle for it: then nothing is prepared.
     file: Option<SystemFile>,
     // What tells of its flushes that failed.
-    voice: Option<Voice>,
+    file_log: Option<FileLog>,
     // Its flushes; none where it makes none.
     flushes: Option<Arc<Flushes<F>, Global>>,
     // For how many reads more the disk counts as slow; below IN_A_ROW how many slow ones in a row were looked at.
@@ -78,7 +78,7 @@ impl<R: Clock + Wait + Drop, F: LastingFile + Drop> Drop for FilePreparer<R, F> 
             rt: _,
             node: _,
             file: _,
-            voice: _,
+            file_log: _,
             flushes: _,
             slow: _,
         } = self;
@@ -93,7 +93,7 @@ impl<R: Clock + Wait + Files<File = File> + Drop> FilePreparer<R, SystemFile> {
         alloc: Global,
         path: &str,
         blocks: &mut FileBlocks<SystemFile>,
-        voice: Option<Voice>,
+        file_log: Option<FileLog>,
     ) -> FilePreparer<R, SystemFile>
         ensures same { (blocks.new.file ≡ blocks.old.file) × (blocks.new.count ≡ blocks.old.count)
             × (blocks.new.tally ≡ blocks.old.tally) × (blocks.new.writes ≡ blocks.old.writes) }
@@ -107,7 +107,7 @@ impl<R: Clock + Wait + Files<File = File> + Drop> FilePreparer<R, SystemFile> {
             rt,
             node,
             file,
-            voice,
+            file_log,
             flushes,
             slow: AtomicU64::new(0),
         }
@@ -181,8 +181,8 @@ impl<R: Clock + Wait + Drop, F: LastingFile> FilePreparer<R, F> {
 
     // Tells that a flush failed, once.
     fn tell(&self, fault: FlushFault) {
-        if let (Some(voice), FlushFault::Failed(error)) = (&self.voice, fault) {
-            voice.tell(Call::Flush, 0, 0, error);
+        if let (Some(file_log), FlushFault::Failed(error)) = (&self.file_log, fault) {
+            file_log.tell(Call::Flush, 0, 0, error);
         }
     }
 

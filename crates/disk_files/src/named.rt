@@ -5,8 +5,8 @@ ghost use Rattle.block_file.specs.Cut.{IsRun};
 ghost use Rattle.block_file.specs.Failures.{Counts, last_count};
 
 use crate::FileBlocks;
+use crate::file_log::number_of;
 use crate::system::SystemFile;
-use crate::voice::number_of;
 use block_file::{Blocks, DeviceFailed};
 use disk_preparer::{Node, OnDisk};
 use event_log::Call;

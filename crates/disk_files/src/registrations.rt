@@ -1,8 +1,9 @@
 //! The registration file of a unit.
 use crate::backing::BackingFile;
-use crate::voice::number_of;
+use crate::file_log::number_of;
 use crate::{
-    DiskFault, DiskLock, FileBlocks, FileFault, NamedBlocks, RegistrationsFault, SystemFile, Voice,
+    DiskFault, DiskLock, FileBlocks, FileFault, FileLog, NamedBlocks, RegistrationsFault,
+    SystemFile,
 };
 use aptpl_file::{FILE_BLOCKS, OpenFault, RegFile};
 use block_file::{BLOCK_LENGTH, Blocks};
@@ -22,12 +23,12 @@ pub struct Registrations<R: Files<File = File> + Drop> {
 }
 
 /// Opens the registration file beside the disk of this name, which has `.reg` behind it, for one server alone. Where there is none
-/// it is made. A file that is there and is no registration file is left as it was. Calls on it that fail are told by this voice.
+/// it is made. A file that is there and is no registration file is left as it was. Calls on it that fail are told by this file_log.
 pub fn open_registrations<R: Files<File = File> + Drop>(
     rt: R,
     alloc: Global,
     disk: &str,
-    voice: Option<Voice>,
+    file_log: Option<FileLog>,
 ) -> Result<Registrations<R>, RegistrationsFault> {
     if is_forgotten(&rt, disk) {
         return Err(RegistrationsFault::Forgotten);
@@ -43,8 +44,8 @@ pub fn open_registrations<R: Files<File = File> + Drop>(
         Ok(lock) => lock,
         Err(fault) => return Err(fault),
     };
-    if let Some(voice) = voice {
-        blocks.tell_by(voice);
+    if let Some(file_log) = file_log {
+        blocks.tell_by(file_log);
     }
     match NamedBlocks::new(rt, alloc, path.as_str(), blocks, lock.node()) {
         Ok(named) => held(alloc, named, lock),

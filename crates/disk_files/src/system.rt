@@ -7,9 +7,9 @@ ghost use Rattle.disk_files.specs.System.{has_read, has_written, ended, lasts, n
 
 use crate::backing::{BackingFile, Counted};
 use crate::fault::FileFault;
+use crate::file_log::number_of;
 use crate::flushes::LastingFile;
 use crate::node::node_of;
-use crate::voice::number_of;
 use disk_preparer::Node;
 use std::fs::{File, OpenFile};
 use std::io::{ErrorKind, Seek, SeekFrom};

@@ -7,10 +7,10 @@ use crate::device::TargetDevice;
 use crate::gate::Gate;
 use crate::keepalive::is_kept_alive;
 use crate::live::Table;
+use crate::logged_target::Visitor;
 use crate::stacks::{STACK, Stacks};
 use crate::units::{LogicalUnits, Pass};
-use crate::wire::{Heard, LastSaid, Said};
-use crate::witness::Visitor;
+use crate::wire::{KeptSink, KeptSource, LastSent};
 use crate::worker::serve_session;
 use event_log::{Event, Initiator, Log, Path, Resource, Why};
 use scsi_types::{Group, NoMemory};
@@ -96,10 +96,10 @@ fn v4(address: io::Result<SocketAddr>) -> SocketAddrV4 {
 }
 
 // Why a session ended, as the log tells it.
-fn why(end: End, visitor: &Visitor, last: LastSaid) -> Why {
+fn why(end: End, visitor: &Visitor, last: LastSent) -> Why {
     match (end, last) {
         (End::LoggedOut, _) => Why::Logout,
-        (End::Protocol, LastSaid::Reject(reason, opcode, task)) => {
+        (End::Protocol, LastSent::Reject(reason, opcode, task)) => {
             Why::Rejected(reason, opcode, task)
         }
         (End::Protocol, _) => Why::Gap,
@@ -120,7 +120,7 @@ fn tell_end<R: Clock>(
     path: Path,
     end: End,
     visitor: &Visitor,
-    last: LastSaid,
+    last: LastSent,
     named: Initiator<'_>,
 ) {
     let why = why(end, visitor, last);
@@ -129,7 +129,7 @@ fn tell_end<R: Clock>(
         return log.tell(rt, &ended);
     }
     match last {
-        LastSaid::Refusal(status) => {
+        LastSent::Refusal(status) => {
             log.tell(rt, &Event::LoginRefused(named, path, status, visitor.lacks));
         }
         _ => log.tell(rt, &Event::ConnectionEnded(path, why)),
@@ -151,8 +151,8 @@ fn serve_as<R: Wait + Clock, U: LogicalUnits<P, H> + Drop, G: Gate + Drop, P: Pa
     };
     let stream: &TcpStream = socket;
     let is_told = server.log.is_on();
-    let mut source = Heard::new(alloc, Watched::new(stream), is_told);
-    let mut sink = Said::new(Watched::new(stream), is_told);
+    let mut source = KeptSource::new(alloc, Watched::new(stream), is_told);
+    let mut sink = KeptSink::new(Watched::new(stream), is_told);
     match serve_session::<
         R,
         U,
@@ -161,8 +161,8 @@ fn serve_as<R: Wait + Clock, U: LogicalUnits<P, H> + Drop, G: Gate + Drop, P: Pa
         Socket,
         P,
         H,
-        Heard<Watched<&TcpStream>>,
-        Said<Watched<&TcpStream>>,
+        KeptSource<Watched<&TcpStream>>,
+        KeptSink<Watched<&TcpStream>>,
     >(
         rt,
         alloc,

@@ -12,17 +12,17 @@ const BHS: usize = 48;
 
 /// A source of which the first bytes are kept.
 #[derive(Drop)]
-pub struct Heard<S> {
+pub struct KeptSource<S> {
     inner: S,
     first: Vec<u8>,
 }
 
-impl<S> Heard<S> {
+impl<S> KeptSource<S> {
     /// A source, of which bytes are kept where they are wanted and there is memory.
-    pub fn new(alloc: Global, inner: S, is_wanted: bool) -> Heard<S> {
+    pub fn new(alloc: Global, inner: S, is_wanted: bool) -> KeptSource<S> {
         let room = if is_wanted { FIRST } else { 0 };
         let first = Vec::with_capacity(alloc, room).unwrap_or(Vec::new(alloc));
-        Heard { inner, first }
+        KeptSource { inner, first }
     }
 
     // Keeps bytes as far as there is room.
@@ -43,7 +43,7 @@ impl<S> Heard<S> {
     }
 }
 
-impl<S: Source> Source for Heard<S> {
+impl<S: Source> Source for KeptSource<S> {
     ghost left = { λ h. S.left h.inner };
 
     ghost failures = { λ h. S.failures h.inner };
@@ -84,7 +84,7 @@ fn name_in(text: &[u8]) -> &[u8] {
 
 /// A sink of which the last PDU is kept.
 #[derive(Drop)]
-pub struct Said<K> {
+pub struct KeptSink<K> {
     inner: K,
     is_wanted: bool,
     // The header segments of the last PDU, and of the PDU that it rejects, where it does.
@@ -94,7 +94,7 @@ pub struct Said<K> {
 
 /// What the last PDU of a session tells of its end.
 #[derive(Clone, Copy, PartialEq, Eq)]
-pub enum LastSaid {
+pub enum LastSent {
     /// A Login Response with this Status-Class and Status-Detail, which are not 0 (RFC 7143, 11.13.5).
     Refusal(u16),
     /// A Reject: its reason, and opcode and Initiator Task Tag of what it rejects (RFC 7143, 11.17).
@@ -120,10 +120,10 @@ fn last_in(bytes: &[u8]) -> &[u8] {
     rest
 }
 
-impl<K> Said<K> {
+impl<K> KeptSink<K> {
     /// A sink, of which the last PDU is kept where it is wanted.
-    pub fn new(inner: K, is_wanted: bool) -> Said<K> {
-        Said {
+    pub fn new(inner: K, is_wanted: bool) -> KeptSink<K> {
+        KeptSink {
             inner,
             is_wanted,
             last: [0; 96],
@@ -143,22 +143,22 @@ impl<K> Said<K> {
     }
 
     /// What the last PDU tells.
-    pub fn last(&self) -> LastSaid {
+    pub fn last(&self) -> LastSent {
         let pdu = &self.last;
         match pdu[0] & 0x3F {
             0x23 if pdu[36] != 0 => {
-                LastSaid::Refusal((u16::from(pdu[36]) << 8) | u16::from(pdu[37]))
+                LastSent::Refusal((u16::from(pdu[36]) << 8) | u16::from(pdu[37]))
             }
             0x3F if self.length == 96 => {
                 let tag = u32::from_be_bytes([pdu[64], pdu[65], pdu[66], pdu[67]]);
-                LastSaid::Reject(pdu[2], pdu[48] & 0x3F, tag)
+                LastSent::Reject(pdu[2], pdu[48] & 0x3F, tag)
             }
-            _ => LastSaid::Other,
+            _ => LastSent::Other,
         }
     }
 }
 
-impl<K: Sink> Sink for Said<K> {
+impl<K: Sink> Sink for KeptSink<K> {
     ghost held = { λ s. K.held s.inner };
 
     ghost failures = { λ s. K.failures s.inner };

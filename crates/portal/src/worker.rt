@@ -8,10 +8,10 @@ ghost use Rattle.portal.specs.Worker.{IsSession};
 use crate::connection::Connection;
 use crate::device::TargetDevice;
 use crate::gate::Gate;
+use crate::logged_target::{LoggedTarget, Visitor};
 use crate::sessions::Sessions;
 use crate::target::SessionTarget;
 use crate::units::{LogicalUnits, Pass};
-use crate::witness::{Visitor, Witness};
 use event_log::{Log, Path};
 use scsi_types::{Group, NoMemory};
 use session::{End, Identity, Opening, Sink, Source, serve_stream};
@@ -52,7 +52,7 @@ pub fn serve_session<
     ensures no_memory { OnErr result ((source.new ≡ source.old) × (sink.new ≡ sink.old)) }
 {
     let target = SessionTarget::<R, U, G, T, C, P, H>::new(rt, alloc, device, group, connection);
-    let mut target = Witness::new(rt, alloc, target, log, path);
+    let mut target = LoggedTarget::new(rt, alloc, target, log, path);
     let end = serve_stream(
         alloc,
         source,

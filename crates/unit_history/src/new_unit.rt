@@ -6,7 +6,7 @@ use block_file::{Blocks, Opener};
 use scsi_types::NoMemory;
 use std::alloc::Global;
 use unit_entries::{Noted, Opened};
-use unit_lock::NewUnit as Posted;
+use unit_lock::NewLocked as Posted;
 use unit_state::Unit;
 
 /// A unit of which nothing was asked yet, before it has a name.

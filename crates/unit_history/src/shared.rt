@@ -45,7 +45,7 @@ pub type Seat<B, F, O, N, const U: usize> = BoardSeat<
 /// The unit at a place of an array, which all threads share: each call of any session is one step of it, at one point of one
 /// history.
 pub struct SharedUnit<B: Blocks, F: Blocks, O: Opener<B>, N: Array<Opened>, const U: usize> {
-    unit: unit_lock::SharedUnit<Noted, Opened, Unit<B, F, O>, N, U>,
+    unit: unit_lock::LockedUnit<Noted, Opened, Unit<B, F, O>, N, U>,
 }
 
 impl<B: Blocks + Drop, F: Blocks + Drop, O: Opener<B> + Drop, N: Array<Opened>, const U: usize> Drop
@@ -75,7 +75,7 @@ impl<B: Blocks, F: Blocks, O: Opener<B>, N: Array<Opened>, const U: usize> Share
     {
         let NewUnit { posted, unit } = new;
         a_unit_that_opened_has_the_history_without_an_entry::<B, F, O, N, U>(&unit);
-        match unit_lock::SharedUnit::new(rt, alloc, posted, unit, seats) {
+        match unit_lock::LockedUnit::new(rt, alloc, posted, unit, seats) {
             Ok((unit, seats)) => Ok((SharedUnit { unit }, seats)),
             Err(_) => Err(NoMemory),
         }

@@ -15,15 +15,15 @@ use unit_sequence::{Array, At, NewHistory};
 
 /// The word and the board of a unit, before they have names.
 #[derive(Drop)]
-pub struct NewUnit<E, S, P: Published<E, S>> {
+pub struct NewLocked<E, S, P: Published<E, S>> {
     pub history: NewHistory<E>,
     pub board: NewBoard<E, S, P>,
 }
 
-impl<E, S, P: Published<E, S>> NewUnit<E, S, P> {
+impl<E, S, P: Published<E, S>> NewLocked<E, S, P> {
     /// A new word and a new board, of which each other one is another.
-    pub fn new(alloc: Global) -> Result<NewUnit<E, S, P>, AllocError> {
-        Ok(NewUnit {
+    pub fn new(alloc: Global) -> Result<NewLocked<E, S, P>, AllocError> {
+        Ok(NewLocked {
             history: NewHistory::new(),
             board: NewBoard::new(alloc)?,
         })
@@ -32,13 +32,13 @@ impl<E, S, P: Published<E, S>> NewUnit<E, S, P> {
 
 /// One unit of an array, at the place that its type names: under its lock the unit, outside of it the word that counts its
 /// history, and its board.
-pub struct SharedUnit<E, S, X: Machine<E, S>, N: Array<S>, const U: usize> {
+pub struct LockedUnit<E, S, X: Machine<E, S>, N: Array<S>, const U: usize> {
     posted: Posted<E, S, X, At<S, N, U>>,
     locked: CachePadded<Mutex<Locked<E, S, X, N, U>>>,
 }
 
 impl<E, S, X: Machine<E, S> + Drop, N: Array<S>, const U: usize> Drop
-    for SharedUnit<E, S, X, N, U> {
+    for LockedUnit<E, S, X, N, U> {
     fn drop(self) {
         let Self {
             posted: _,
@@ -51,15 +51,15 @@ impl<E, S, X: Machine<E, S> + Drop, N: Array<S>, const U: usize> Drop
 /// run. A command is shorter than a sleep with its wake, unless its device is slow.
 const LOOKS: usize = 64;
 
-impl<E, S, X: Machine<E, S>, N: Array<S>, const U: usize> SharedUnit<E, S, X, N, U> {
+impl<E, S, X: Machine<E, S>, N: Array<S>, const U: usize> LockedUnit<E, S, X, N, U> {
     /// A unit of which nothing was asked yet, and so many readers' seats at its board.
     pub fn new<R: Wait>(
         rt: &R,
         alloc: Global,
-        new: NewUnit<E, S, X>,
+        new: NewLocked<E, S, X>,
         object: X,
         seats: usize,
-    ) -> Result<(SharedUnit<E, S, X, N, U>, Vec<Seat<E, S, X, At<S, N, U>>>), AllocError>
+    ) -> Result<(LockedUnit<E, S, X, N, U>, Vec<Seat<E, S, X, At<S, N, U>>>), AllocError>
         requires book { new.history.seen.book ≡ N.book U }
         requires table { new.board.cell.table.shared.table_id ≡ N.table U }
         requires legal { X.legal (N.opening U) [] }
@@ -69,11 +69,11 @@ impl<E, S, X: Machine<E, S>, N: Array<S>, const U: usize> SharedUnit<E, S, X, N,
     {
         let object = Box::new(alloc, object)?;
         let row = object.row();
-        let NewUnit { history, board } = new;
+        let NewLocked { history, board } = new;
         let (posted, mut records) = Records::open::<R>(rt, history, board, row);
         let seats = records.seats(alloc, &posted, seats)?;
         let locked = CachePadded::new(Mutex::new(Locked::new(object, records)));
-        Ok((SharedUnit { posted, locked }, seats))
+        Ok((LockedUnit { posted, locked }, seats))
     }
 
     /// The unit under its lock, once no other thread has it.

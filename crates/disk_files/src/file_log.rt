@@ -5,7 +5,7 @@ use std::io;
 use std::sync::atomic::{AtomicBool, Ordering};
 
 /// Tells the log of calls that failed on a file of a unit, and once that the file became longer.
-pub struct Voice {
+pub struct FileLog {
     log: Log,
     unit: u8,
     part: Part,
@@ -13,7 +13,7 @@ pub struct Voice {
     is_told: AtomicBool,
 }
 
-impl Drop for Voice {
+impl Drop for FileLog {
     fn drop(self) {
         let Self {
             log: _,
@@ -24,10 +24,10 @@ impl Drop for Voice {
     }
 }
 
-impl Voice {
+impl FileLog {
     /// Tells this log of this file of the unit with this number.
-    pub fn new(log: Log, unit: u8, part: Part) -> Voice {
-        Voice {
+    pub fn new(log: Log, unit: u8, part: Part) -> FileLog {
+        FileLog {
             log,
             unit,
             part,

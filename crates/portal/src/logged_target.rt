@@ -75,7 +75,7 @@ impl Visitor {
 
 // What of a command the log is told where it went well.
 #[derive(Clone, Copy)]
-struct Deed {
+struct Outcome {
     operation: Operation,
     reservation: Option<Reservation>,
     // The access states that are to be set.
@@ -83,11 +83,11 @@ struct Deed {
 }
 
 // What of a command a log that is on is told, if it is.
-fn deed_of(log: &Log, asked: &Asked, bytes: &[u8]) -> Option<Deed> {
+fn outcome_of(log: &Log, asked: &Asked, bytes: &[u8]) -> Option<Outcome> {
     if !log.is_on() {
         return None;
     }
-    Some(Deed {
+    Some(Outcome {
         operation: operation_of(asked),
         reservation: reservation_in(asked, bytes),
         states: states_in(asked, bytes),
@@ -119,12 +119,12 @@ impl<R: Clock> Told<'_, R> {
     }
 
     // Tells what a command did to a unit.
-    fn done(&self, unit: u8, deed: &Deed) {
-        if let Some(reservation) = deed.reservation {
+    fn done(&self, unit: u8, outcome: &Outcome) {
+        if let Some(reservation) = outcome.reservation {
             let reserved = Event::Reserved(unit, reservation, self.who, self.path.tag);
             self.log.tell(self.rt, &reserved);
         }
-        if let Some(set) = deed.states {
+        if let Some(set) = outcome.states {
             let by = By::Session(self.who);
             let set = Event::GroupsSet(unit, set.owner, set.first, set.second, by);
             self.log.tell(self.rt, &set);
@@ -132,23 +132,23 @@ impl<R: Clock> Told<'_, R> {
     }
 
     // Tells of the answer to a command of a unit what of it is to be told.
-    fn served(&self, unit: Option<u8>, deed: Option<Deed>, answer: &TargetAnswer) {
-        if let (Some(unit), Some(deed)) = (unit, deed) {
-            self.answered(unit, &deed, answer);
+    fn served(&self, unit: Option<u8>, outcome: Option<Outcome>, answer: &TargetAnswer) {
+        if let (Some(unit), Some(outcome)) = (unit, outcome) {
+            self.answered(unit, &outcome, answer);
         }
     }
 
     // Tells of an answer what of it is to be told.
-    fn answered(&self, unit: u8, deed: &Deed, answer: &TargetAnswer) {
+    fn answered(&self, unit: u8, outcome: &Outcome, answer: &TargetAnswer) {
         let tag = self.path.tag;
         match answer {
             TargetAnswer::Replied(reply) => {
                 if reply.status() == Status::Good {
-                    self.done(unit, deed);
+                    self.done(unit, outcome);
                 } else if is_trouble(reply) {
                     let failed = Event::CommandFailed(
                         unit,
-                        deed.operation,
+                        outcome.operation,
                         sense_of(reply),
                         self.who,
                         tag,
@@ -157,8 +157,10 @@ impl<R: Clock> Told<'_, R> {
                 }
             }
             TargetAnswer::Busy => {
-                self.log
-                    .tell(self.rt, &Event::Busy(unit, deed.operation, self.who, tag));
+                self.log.tell(
+                    self.rt,
+                    &Event::Busy(unit, outcome.operation, self.who, tag),
+                );
             }
             TargetAnswer::Outside(_) | TargetAnswer::Gone => {}
         }
@@ -167,7 +169,7 @@ impl<R: Clock> Told<'_, R> {
 
 /// The target of a session. What changes a unit for others and what fails is told to the log.
 #[derive(Drop)]
-pub struct Witness<
+pub struct LoggedTarget<
     'a,
     R: Wait + Clock,
     U: LogicalUnits<P, H> + Drop,
@@ -194,7 +196,7 @@ impl<
     C: Connection + Drop,
     P: Pass,
     H: Drop,
-> Model for Witness<'a, R, U, G, S, C, P, H> {
+> Model for LoggedTarget<'a, R, U, G, S, C, P, H> {
     ghost use Rattle.portal.specs.Target.{TargetValue};
 
     ghost Value = { TargetValue };
@@ -211,7 +213,7 @@ impl<
     C: Connection + Drop,
     P: Pass,
     H: Drop,
-> Witness<'a, R, U, G, S, C, P, H> {
+> LoggedTarget<'a, R, U, G, S, C, P, H> {
     /// The target of a session that has not begun, which came by this path.
     pub fn new(
         rt: &'a R,
@@ -219,10 +221,10 @@ impl<
         target: SessionTarget<'a, R, U, G, S, C, P, H>,
         log: &'a Log,
         path: Path,
-    ) -> Witness<'a, R, U, G, S, C, P, H>
+    ) -> LoggedTarget<'a, R, U, G, S, C, P, H>
         ensures { result ≡ target.entry }
     {
-        Witness {
+        LoggedTarget {
             target,
             rt,
             alloc,
@@ -279,7 +281,7 @@ impl<
     C: Connection + Drop,
     P: Pass,
     H: Drop,
-> Target for Witness<'a, R, U, G, S, C, P, H> {
+> Target for LoggedTarget<'a, R, U, G, S, C, P, H> {
     ghost use Rattle.portal.specs.Late.{late_of};
     ghost use Rattle.portal.specs.Target.{LeadsOn};
 
@@ -321,9 +323,9 @@ impl<
     }
 
     fn serve(&mut self, unit: Option<u8>, asked: Asked, bytes: &[u8]) -> TargetAnswer {
-        let deed = deed_of(self.log, &asked, bytes);
+        let outcome = outcome_of(self.log, &asked, bytes);
         let answer = self.target.serve(unit, asked, bytes);
-        self.told().served(unit, deed, &answer);
+        self.told().served(unit, outcome, &answer);
         answer
     }
 

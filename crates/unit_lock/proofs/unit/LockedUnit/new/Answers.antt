@@ -1,5 +1,5 @@
 use Rattle.std.proofs.Common.{◌≡◌, subst, List, All}
-use Rattle.unit_lock.proofs.unit.SharedUnit.new.Goals as goal
+use Rattle.unit_lock.proofs.unit.LockedUnit.new.Goals as goal
 
 pub returns : goal.returns
 returns g c = (
