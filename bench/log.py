@@ -395,7 +395,7 @@ def log_that_cannot_be_written(folder, log):
         log.find("login", isid=hex(ISID + 2))
         lines = log.all()
         lost = sum(int(line["lines"]) for line in lines if line["event"] == "dropped")
-        is_so("lines that were dropped", lost + len([line for line in lines if line["event"] != "dropped"]), 5)
+        is_so("lines that were dropped", lost + len([line for line in lines if line["event"] != "dropped"]), 6)
         array.quit()
 
 
