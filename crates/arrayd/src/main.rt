@@ -1,6 +1,10 @@
 //! A disk array over iSCSI.
 #![tactic(auto)]
 
+ghost use Rattle.std.specs.Prelude.{◌≡◌};
+ghost use Rattle.std.specs.Process.{exit_status};
+ghost use Rattle.command_line.specs.Fault.{status_of};
+
 mod log_file;
 mod once;
 mod settings;
@@ -41,13 +45,17 @@ fn asked_log<R: Env + AllocGlobal + Files<File = File> + Clone + Drop>(
 }
 
 // Says why the program ends, and with which status.
-fn complain(rt: &impl Eprint, fault: Fault) -> ExitCode {
+fn complain(rt: &impl Eprint, fault: Fault) -> ExitCode
+    ensures { exit_status result ≡ status_of fault }
+{
     let _ = eprintln!(rt; "arrayd: {fault}");
     fault.status()
 }
 
 // The same, where the log has begun.
-fn give_up(rt: &(impl Eprint + Clock), log: &Log, fault: Fault) -> ExitCode {
+fn give_up(rt: &(impl Eprint + Clock), log: &Log, fault: Fault) -> ExitCode
+    ensures { exit_status result ≡ status_of fault }
+{
     tell_want(rt, log, fault);
     event_log::close(rt, log);
     complain(rt, fault)

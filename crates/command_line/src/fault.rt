@@ -1,5 +1,9 @@
 //! Why the program ends without having served, with the text and the exit status of each.
 
+ghost use Rattle.std.specs.Prelude.{◌≡◌};
+ghost use Rattle.std.specs.Process.{exit_status};
+ghost use Rattle.command_line.specs.Fault.{status_of};
+
 use crate::words::WordsFault;
 use scsi_types::NoMemory;
 use std::alloc::{AllocError, AllocFailed};
@@ -25,7 +29,9 @@ pub enum Fault {
 
 impl Fault {
     /// The exit status.
-    pub fn status(self) -> ExitCode {
+    pub fn status(self) -> ExitCode
+        ensures { exit_status result ≡ status_of self }
+    {
         match self {
             Fault::WrongWords => ExitCode::from(2),
             _ => ExitCode::from(1),
