@@ -1,7 +1,9 @@
 //! The array as it is served.
 
-ghost use Rattle.std.specs.Prelude.{◌≤◌, length};
+ghost use Rattle.std.specs.Prelude.{◌≤◌, length, IfOk};
 ghost use Rattle.portal.specs.Disks.{AreOver};
+ghost use Rattle.portal.specs.Lanes.{AreLanesOf};
+ghost use Rattle.scsi_types.specs.declared.names.Group.TheVariants.{One, Two};
 ghost use Rattle.unit_history.specs.Naming.{IsNamed};
 
 use crate::disks::OpenArray;
@@ -14,7 +16,8 @@ use command_line::{Fault, MAX_UNITS, Options};
 use disk_preparer::{OnDisk, Preparer};
 use event_log::{Event, Log, Resource};
 use portal::{
-    Controllers, Disks, Gate, Prepared, Server, SmallStacks, TargetDevice, listen, start_lanes,
+    Controllers, Disks, Gate, Lane, Prepared, Server, SmallStacks, TargetDevice, listen,
+    start_lanes,
 };
 use scsi_types::Group;
 use std::alloc::Global;
@@ -83,7 +86,10 @@ fn server_of<N: Naming<Opened>, B: Blocks, F: Blocks, O: Opener<B>, G: Gate + Dr
     }
 }
 
-// Starts the lanes of both controllers.
+// The lanes of both controllers' desks.
+type Lanes = ([Lane; 4], [Lane; 4]);
+
+// Starts the lanes of one.
 fn start<
     N: Naming<Opened> + Send + Sync + 'static,
     B: Blocks + Send + Sync + 'static,
@@ -91,24 +97,21 @@ fn start<
     O: Opener<B> + Send + Sync + 'static,
     G: Gate + Drop + Send + Sync + 'static,
     R: Threads + Wait + Clone + Drop + Send + 'static,
->(rt: &R, alloc: Global, server: &Served<B, F, O, N, G>) -> Result<(), Fault> {
-    for group in &[Group::One, Group::Two] {
-        let mut stacks = SmallStacks;
-        let started = start_lanes::<N, B, F, O, G, R, SmallStacks>(
-            rt,
-            alloc,
-            server,
-            *group,
-            &mut stacks,
-        );
-        if started.is_err() {
-            return Err(Fault::NoMemory);
-        }
-    }
-    Ok(())
+>(rt: &R, alloc: Global, server: &Served<B, F, O, N, G>, group: Group) -> Result<[Lane; 4], Fault>
+    ensures { IfOk result (AreLanesOf group) }
+{
+    let mut stacks = SmallStacks;
+    let lanes = start_lanes::<N, B, F, O, G, R, SmallStacks>(
+        rt,
+        alloc,
+        server,
+        group,
+        &mut stacks,
+    )?;
+    Ok(lanes)
 }
 
-// Starts the accept loop of each portal.
+// Starts the accept loop of each portal, once both controllers have their lanes.
 fn accept_at<
     N: Naming<Opened> + Send + Sync + 'static,
     B: Blocks + Send + Sync + 'static,
@@ -121,7 +124,11 @@ fn accept_at<
     alloc: Global,
     server: &Served<B, F, O, N, G>,
     portals: Vec<Portal>,
-) -> Result<(), Fault> {
+    _lanes: &Lanes,
+) -> Result<(), Fault>
+    requires first { AreLanesOf One _lanes.now.0 }
+    requires second { AreLanesOf Two _lanes.now.1 }
+{
     for Portal { listener, group } in portals {
         let loops = listen::<
             R,
@@ -188,8 +195,10 @@ fn serve_units<
     let portals = portals::open(rt, alloc, ports, log)?;
     let found = found_by(alloc, options, ports, log)?;
     let server = server_of::<N, B, F, O, G, R>(rt, alloc, found, units, gate)?;
-    start::<N, B, F, O, G, R>(rt, alloc, &server)?;
-    accept_at::<N, B, F, O, G, R>(rt, alloc, &server, portals)?;
+    let first = start::<N, B, F, O, G, R>(rt, alloc, &server, Group::One)?;
+    let second = start::<N, B, F, O, G, R>(rt, alloc, &server, Group::Two)?;
+    let lanes = (first, second);
+    accept_at::<N, B, F, O, G, R>(rt, alloc, &server, portals, &lanes)?;
     Ok(server)
 }
 

@@ -1,6 +1,7 @@
 pub mod Disks
 pub mod Entries
 pub mod Handles
+pub mod Lanes
 pub mod Late
 pub mod Live
 pub mod Passes
