@@ -7,6 +7,7 @@ pub mod Live
 pub mod Passes
 pub mod Server
 pub mod Sessions
+pub mod Silence
 pub mod Submitted
 pub mod Target
 pub mod Units

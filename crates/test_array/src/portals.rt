@@ -19,6 +19,7 @@ mod restart;
 mod scene;
 mod scripts;
 mod serving;
+mod silence;
 mod stage;
 mod streams;
 mod units;
