@@ -1,0 +1,56 @@
+//! What all that ask calls of one file share.
+
+use event_log::{Call, Event, Log, Part};
+use std::sync::atomic::{AtomicBool, Ordering};
+use std::time::Duration;
+
+/// How long a call of a file may take, and whether one took longer.
+pub struct Watch {
+    patience: Duration,
+    is_hung: AtomicBool,
+    log: Log,
+    unit: u8,
+    part: Part,
+}
+
+impl Drop for Watch {
+    fn drop(self) {
+        let Self {
+            patience: _,
+            is_hung: _,
+            log: _,
+            unit: _,
+            part: _,
+        } = self;
+    }
+}
+
+impl Watch {
+    /// Over this file of the unit with this number. The first call that takes longer than this is told to this log.
+    pub fn new(patience: Duration, log: Log, unit: u8, part: Part) -> Watch {
+        Watch {
+            patience,
+            is_hung: AtomicBool::new(false),
+            log,
+            unit,
+            part,
+        }
+    }
+
+    /// How long a call may take.
+    pub(crate) fn patience(&self) -> Duration {
+        self.patience
+    }
+
+    /// Whether a call has taken longer.
+    pub(crate) fn is_hung(&self) -> bool {
+        self.is_hung.load(Ordering::Acquire)
+    }
+
+    /// This call has taken longer.
+    pub(crate) fn hang(&self, call: Call) {
+        if !self.is_hung.swap(true, Ordering::AcqRel) {
+            self.log.note(&Event::Hung(self.unit, self.part, call));
+        }
+    }
+}
