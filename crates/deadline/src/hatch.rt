@@ -109,16 +109,19 @@ impl<E: Drop> Hatch<E> {
         unreachable!()
     }
 
-    // Hands an errand to the thread, and waits so long for it. None: it has not come back by then.
-    fn ask<R: Wait + Clock>(&self, rt: &R, errand: E, patience: Duration) -> Option<E> {
+    // Hands an errand to the thread, and waits for it as long as is watched. None: it has not come back by then.
+    fn ask<R: Wait + Clock>(&self, rt: &R, errand: E, watch: &Watch) -> Option<E> {
         *self.errand.lock(rt) = Some(errand);
         if self.turn.swap(ASKED, Ordering::AcqRel) == RESTING {
             self.turn.wake_one();
         }
-        if self.is_answered_soon() || self.is_answered_in(rt, patience) {
-            return self.errand.lock(rt).take();
+        if !self.is_answered_soon() {
+            watch.sleep();
+            if !self.is_answered_in(rt, watch.patience()) {
+                return None;
+            }
         }
-        None
+        self.errand.lock(rt).take()
     }
 
     // Whether something is asked while the thread looks; none where it is not known yet.
@@ -249,7 +252,7 @@ impl<R: Wait + Clock + Drop, E: Drop> Asker<R, E> {
     pub(crate) fn ask(&mut self, errand: E, call: Call) -> Option<E>
         ensures { self.new.errand ≡ self.old.errand }
     {
-        let answered = self.hatch.ask(&self.rt, errand, self.watch.patience());
+        let answered = self.hatch.ask(&self.rt, errand, &self.watch);
         if answered.is_none() {
             self.watch.hang(call);
         }

@@ -108,6 +108,7 @@ pub struct DeadlinedPreparer<R: Wait + Clock + Drop, P: Preparer> {
     rt: R,
     preparer: Arc<P, Global>,
     node: Node,
+    watch: Arc<Watch, Global>,
     fetchers: Vec<Mutex<Asker<R, Favor<P>>>>,
     flushers: Vec<Mutex<Asker<R, Favor<P>>>>,
     turns: AtomicUsize,
@@ -119,6 +120,7 @@ impl<R: Wait + Clock + Drop, P: Preparer> Drop for DeadlinedPreparer<R, P> {
             rt: _,
             preparer: _,
             node: _,
+            watch: _,
             fetchers: _,
             flushers: _,
             turns: _,
@@ -173,6 +175,7 @@ impl<
             rt: rt.clone()?,
             preparer,
             node: disk,
+            watch: Arc::try_clone(watch)?,
             fetchers,
             flushers,
             turns: AtomicUsize::new(0),
@@ -250,8 +253,10 @@ impl<R: Wait + Clock + Drop, P: Preparer> Preparer for DeadlinedPreparer<R, P> {
         }
     }
 
+    // To look costs the way to a thread that sleeps. So while the disk counts as fast, it is looked at only where the device has kept
+    // somebody waiting.
     fn wants(&self, serial: u64) -> bool {
-        self.preparer.wants(serial)
+        self.is_slow() || self.preparer.wants(serial) && self.watch.has_slept()
     }
 
     fn warm(&self, first: u64, blocks: u16) {

@@ -8,6 +8,8 @@ use std::time::Duration;
 pub struct Watch {
     patience: Duration,
     is_hung: AtomicBool,
+    // Whether a call of late took so long that whoever asked slept.
+    has_slept: AtomicBool,
     log: Log,
     unit: u8,
     part: Part,
@@ -18,6 +20,7 @@ impl Drop for Watch {
         let Self {
             patience: _,
             is_hung: _,
+            has_slept: _,
             log: _,
             unit: _,
             part: _,
@@ -31,6 +34,7 @@ impl Watch {
         Watch {
             patience,
             is_hung: AtomicBool::new(false),
+            has_slept: AtomicBool::new(false),
             log,
             unit,
             part,
@@ -45,6 +49,16 @@ impl Watch {
     /// Whether a call has taken longer.
     pub(crate) fn is_hung(&self) -> bool {
         self.is_hung.load(Ordering::Acquire)
+    }
+
+    /// A call takes so long that whoever asked sleeps.
+    pub(crate) fn sleep(&self) {
+        self.has_slept.store(true, Ordering::Relaxed);
+    }
+
+    /// Whether a call did since this was asked last.
+    pub(crate) fn has_slept(&self) -> bool {
+        self.has_slept.swap(false, Ordering::Relaxed)
     }
 
     /// This call has taken longer.
