@@ -233,7 +233,7 @@ fn start_timed<
 }
 
 /// Serves the array over these parts, as `serve` does. Each call on their files takes so long at most.
-#[tactic(auto, using(crate::proofs::Disks::units_are, crate::proofs::Disks::preparers_are))]
+#[tactic(auto, using(crate::proofs::NamedDisks::units_are, crate::proofs::NamedDisks::preparers_are))]
 pub fn serve_timed<
     R: Threads
         + Wait

@@ -7,19 +7,24 @@ use crossbeam_utils::CachePadded;
 use event_log::Call;
 use std::alloc::{AllocError, Global};
 use std::hint::spin_loop;
+use std::io;
 use std::sync::atomic::{AtomicU64, Ordering};
 use std::sync::{Arc, Mutex, Wait};
 use std::thread::{Builder, JoinHandle, Threads};
 use std::time::{Clock, Duration};
-use std::{io, thread};
 
 /// What the stack of the thread takes.
 const STACK: usize = 256 * 1024;
 
-/// How often both sides look whether it is their turn before they sleep: first without letting another thread run, then with.
-const LOOKS: u32 = 1000;
+/// How often one who asked looks for the answer before it sleeps, and the thread for what is asked: some 20 and 80 microseconds.
+const FOR_ANSWERS: u32 = 10_000;
 
-const YIELDS: u32 = 16;
+const FOR_ERRANDS: u32 = 40_000;
+
+/// After it has looked in vain so often in a row, a side sleeps at once so often, and then tries again.
+const IN_VAIN: u32 = 3;
+
+const AT_ONCE: u32 = 64;
 
 /// Whose turn it is: the errand is asked, and who asked looks for the answer.
 const ASKED: u64 = 1;
@@ -54,12 +59,42 @@ impl<E: Drop> Drop for Hatch<E> {
     }
 }
 
-// Lets some time pass, of which this is the turn.
-fn pause(look: u32) {
-    if look < LOOKS {
-        spin_loop();
-    } else {
-        thread::yield_now();
+// How often one side looks for the other one before it sleeps. Where that has no processor it comes too late, and to look only keeps
+// it from the one that is used for that.
+#[derive(Drop)]
+struct Looks {
+    most: u32,
+    in_vain: u32,
+}
+
+impl Looks {
+    // So often at most.
+    fn up_to(most: u32) -> Looks {
+        Looks { most, in_vain: 0 }
+    }
+
+    // How often this time.
+    fn next(&mut self) -> u32 {
+        if self.in_vain < IN_VAIN {
+            return self.most;
+        }
+        self.in_vain = if self.in_vain < IN_VAIN + AT_ONCE {
+            self.in_vain + 1
+        } else {
+            IN_VAIN - 1
+        };
+        0
+    }
+
+    // Whether the other side came while one looked so often.
+    fn learn(&mut self, looks: u32, came: bool) {
+        if looks > 0 {
+            self.in_vain = if came {
+                0
+            } else {
+                self.in_vain.saturating_add(1)
+            };
+        }
     }
 }
 
@@ -80,11 +115,11 @@ impl<E: Drop> Hatch<E> {
             .compare_exchange(from, to, Ordering::AcqRel, Ordering::Acquire);
     }
 
-    // Whether it is answered while one looks.
-    fn is_answered_soon(&self) -> bool {
-        for look in 0..LOOKS + YIELDS {
+    // Whether it is answered while one looks so often.
+    fn is_answered_soon(&self, looks: u32) -> bool {
+        for _ in 0..looks {
             match self.turn.load(Ordering::Acquire) {
-                ASKED | AWAITED => pause(look),
+                ASKED | AWAITED => spin_loop(),
                 _ => return true,
             }
         }
@@ -109,36 +144,38 @@ impl<E: Drop> Hatch<E> {
         unreachable!()
     }
 
-    // Hands an errand to the thread, and waits for it as long as is watched. None: it has not come back by then.
-    fn ask<R: Wait + Clock>(&self, rt: &R, errand: E, watch: &Watch) -> Option<E> {
+    // Hands an errand to the thread, and looks for it so often; whether it is answered by then.
+    fn is_done_soon<R: Wait>(&self, rt: &R, errand: E, looks: u32) -> bool {
         *self.errand.lock(rt) = Some(errand);
         if self.turn.swap(ASKED, Ordering::AcqRel) == RESTING {
             self.turn.wake_one();
         }
-        if !self.is_answered_soon() {
-            watch.sleep();
-            if !self.is_answered_in(rt, watch.patience()) {
-                return None;
-            }
-        }
+        self.is_answered_soon(looks)
+    }
+
+    // Gives an errand that is answered.
+    fn take<R: Wait>(&self, rt: &R) -> Option<E> {
         self.errand.lock(rt).take()
     }
 
-    // Whether something is asked while the thread looks; none where it is not known yet.
-    fn is_asked_soon(&self) -> Option<bool> {
-        for look in 0..LOOKS + YIELDS {
+    // Whether something is asked while the thread looks so often; none where it is not known yet.
+    fn is_asked_soon(&self, looks: u32) -> Option<bool> {
+        for _ in 0..looks {
             match self.turn.load(Ordering::Acquire) {
                 ASKED | AWAITED => return Some(true),
                 OVER => return Some(false),
-                _ => pause(look),
+                _ => spin_loop(),
             }
         }
         None
     }
 
     // Waits until something is asked. False: nobody asks any more.
-    fn is_asked<R: Wait>(&self, rt: &R) -> bool {
-        if let Some(is_asked) = self.is_asked_soon() {
+    fn is_asked<R: Wait>(&self, rt: &R, looks: &mut Looks) -> bool {
+        let most = looks.next();
+        let soon = self.is_asked_soon(most);
+        looks.learn(most, soon.is_some());
+        if let Some(is_asked) = soon {
             return is_asked;
         }
         for _ in rt.forever() {
@@ -164,12 +201,12 @@ impl<E: Drop> Hatch<E> {
 
     // Runs what is asked, until nobody asks any more.
     fn serve<R: Wait, W: Runner<E>>(&self, rt: &R, runner: &mut W) {
+        let mut looks = Looks::up_to(FOR_ERRANDS);
         for _ in rt.forever() {
-            if !self.is_asked(rt) {
+            if !self.is_asked(rt, &mut looks) {
                 break;
             }
-            let asked = self.errand.lock(rt).take();
-            if let Some(errand) = asked {
+            if let Some(errand) = self.take(rt) {
                 let done = runner.run(errand);
                 self.answer(rt, done);
             }
@@ -182,6 +219,7 @@ pub(crate) struct Asker<R: Wait + Clock + Drop, E: Drop> {
     rt: R,
     hatch: Arc<Hatch<E>, Global>,
     watch: Arc<Watch, Global>,
+    looks: Looks,
     errand: Option<E>,
 }
 
@@ -193,6 +231,7 @@ impl<R: Wait + Clock + Drop, E: Drop> Drop for Asker<R, E> {
             rt: _,
             hatch: _,
             watch: _,
+            looks: _,
             errand: _,
         } = self;
     }
@@ -225,6 +264,7 @@ impl<R: Threads + Wait + Clock + Clone + Drop + Send + 'static, E: Drop + Send +
             rt: mine,
             hatch,
             watch,
+            looks: Looks::up_to(FOR_ANSWERS),
             errand: Some(errand),
         })
     }
@@ -248,14 +288,23 @@ impl<R: Wait + Clock + Drop, E: Drop> Asker<R, E> {
         self.errand = Some(errand);
     }
 
+    // Whether it is answered in time, while one sleeps.
+    fn is_done(&self) -> bool {
+        self.watch.sleep();
+        self.hatch.is_answered_in(&self.rt, self.watch.patience())
+    }
+
     /// Asks, and waits for the answer. None: it has not come in time, and never will; then there is no errand any more.
     pub(crate) fn ask(&mut self, errand: E, call: Call) -> Option<E>
         ensures { self.new.errand ≡ self.old.errand }
     {
-        let answered = self.hatch.ask(&self.rt, errand, &self.watch);
-        if answered.is_none() {
-            self.watch.hang(call);
+        let looks = self.looks.next();
+        let is_soon = self.hatch.is_done_soon(&self.rt, errand, looks);
+        self.looks.learn(looks, is_soon);
+        if is_soon || self.is_done() {
+            return self.hatch.take(&self.rt);
         }
-        answered
+        self.watch.hang(call);
+        None
     }
 }
