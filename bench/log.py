@@ -217,6 +217,22 @@ def grew(folder, log):
 
 
 @case
+def hung(folder, log):
+    with Mounted(folder) as place:
+        image = disk(folder, "image", 32768)
+        run("mkfs.ext4", "-q", "-F", image)
+        place.mount(place.loop(image))
+        with Array([disk(place.place)], log=log.path, more={"ARRAYD_DEADLINE": "1"}):
+            session = login()
+            run("fsfreeze", "-f", place.place)
+            try:
+                is_so("writes", (write(session), write(session)), ("03 0C/00", "03 0C/00"))
+                log.find("hung", unit="0", file="disk", call="write")
+            finally:
+                run("fsfreeze", "-u", place.place)
+
+
+@case
 def groups_set(folder, log):
     path = disk(folder)
     with Array([path, disk(folder, "second")], log=log.path) as array:
@@ -444,7 +460,6 @@ def many_at_once(folder, log):
 
 # Events and words that no case provokes, and why.
 NEVER = {
-    ("hung", "event", "hung"): "no call has a deadline",
     ("no_keepalive", "event", "no_keepalive"): "Linux takes these options for each connection over TCP",
     ("login_refused", "lacks", "tsih"): "there are 65,535, and so many sessions at once take some 20 GiB of memory",
     ("login_refused", "lacks", "number"): "2^64 sessions have to begin before",

@@ -759,6 +759,58 @@ def disk_that_hangs(folder):
 
 
 @case
+def hung(folder):
+    with Mounted(folder) as place:
+        image, log = made(folder + "/image", 32768), folder + "/log"
+        run("mkfs.ext4", "-q", "-F", image)
+        place.mount(place.loop(image))
+        disks = [made(place.place + "/disk", 2048), made(folder + "/other", 16)]
+        with Array(disks, log=log, more={"ARRAYD_DEADLINE": "2"}) as array:
+            session, other = login(), login(2, 1)
+            session.ready(1)
+            is_so("writes and reads", (write(session), read(session), flush(session)), (GOOD,) * 3)
+            run("fsfreeze", "-f", place.place)
+            try:
+                begun = time.monotonic()
+                is_so("a write", write(session), "03 0C/00")
+                if not 1.9 < time.monotonic() - begun < 4:
+                    raise Wrong("it does not fail behind the deadline")
+                begun = time.monotonic()
+                is_so("and then", (write(session), read(session), flush(session)), ("03 0C/00", "03 11/00", "03 0C/00"))
+                reply = session.reserve_out(0, 6, new_key=1, aptpl=True)
+                is_so("registrations, whose file hangs too", end_of(reply), "04 44/00")
+                is_so("another unit, in the same session", (write(session, unit=1), read(session, unit=1)), (GOOD, GOOD))
+                is_so("a login is done", write(login(number=9)), "03 0C/00")
+                is_so("status is answered", array.status(0, 2)["owner"], "1")
+                is_so("down", array.ask("down 1"), ["not moved 0"])
+                is_so("a host that asks", take(other, 2), "04 67/0A")
+                array.tell("quit")
+                for _ in range(50):
+                    with open(f"/proc/{array.process.pid}/stat", encoding="utf-8") as stat:
+                        if stat.read().rsplit(")", 1)[1].split()[0] == "Z":
+                            break
+                    time.sleep(0.1)
+                else:
+                    raise Wrong("quit waits")
+            finally:
+                run("fsfreeze", "-u", place.place)
+            is_so("the system's own calls came back, and the process is gone", array.process.wait(20), 0)
+        told = [line.split("event=", 1)[1] for line in lines(log, "hung")]
+        is_so("the log", told, ["hung unit=0 file=disk call=write", "hung unit=0 file=registrations call=write"])
+
+
+@case
+def wrong_deadlines(folder):
+    disk = made(folder + "/disk", 16)
+    for deadline in ("0", "3601", "-1", "x", "5s", "1.5", "99999999999999999999"):
+        is_so(deadline, ended([disk], more={"ARRAYD_DEADLINE": deadline}), (2, "arrayd: wrong words"))
+    for deadline in ("1", "3600", ""):
+        with Array([disk], more={"ARRAYD_DEADLINE": deadline}) as array:
+            is_so(deadline, write(login()), GOOD)
+            array.quit()
+
+
+@case
 def quit_with_commands_on_their_way(folder):
     with Mounted(folder) as place:
         image = made(folder + "/image", 32768)

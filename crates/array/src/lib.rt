@@ -6,8 +6,10 @@ mod lines;
 mod operated;
 mod portals;
 mod served;
+mod timed;
 
 pub use disks::{FileArray, OpenArray, open};
 pub use lines::{Operations, console};
 pub use operated::Operated;
 pub use served::{serve, tell_want};
+pub use timed::{FileParts, Parts, open_files, serve_timed};

@@ -10,7 +10,7 @@ mod once;
 mod settings;
 mod told;
 
-use array::{open, serve, tell_want};
+use array::{open, open_files, serve, serve_timed, tell_want};
 use command_line::Fault;
 use disk_files::{FileBlocks, FileOpener, FilePreparer, NamedBlocks, SystemFile};
 use event_log::{Event, Log, Page, start};
@@ -81,6 +81,10 @@ fn main(rt: HostRuntime) -> ExitCode {
             Err(fault) => complain(&rt, fault),
         };
     }
+    let patience = match settings::deadline(&rt) {
+        Ok(patience) => patience,
+        Err(fault) => return complain(&rt, fault),
+    };
     options.second_host = match settings::second_host(&rt) {
         Ok(address) => address,
         Err(fault) => return complain(&rt, fault),
@@ -98,6 +102,27 @@ fn main(rt: HostRuntime) -> ExitCode {
             return complain(&rt, Fault::NoMemory);
         }
         log.tell(&rt, &Event::Started(told::VERSION.as_bytes()));
+    }
+    if let Some(patience) = patience {
+        let parts = match open_files(&rt, alloc, &log, &options) {
+            Ok(parts) => parts,
+            Err(fault) => return give_up(&rt, &log, fault),
+        };
+        let (reader, mut writer) = (rt.reader(), io::writer(&rt));
+        let served = serve_timed(
+            &rt,
+            alloc,
+            &options,
+            parts,
+            patience,
+            &log,
+            reader,
+            &mut writer,
+        );
+        return match served {
+            Ok(()) => ExitCode::SUCCESS,
+            Err(fault) => complain(&rt, fault),
+        };
     }
     let array = match open(&rt, alloc, &log, &options) {
         Ok(array) => array,

@@ -17,6 +17,7 @@ const HELP: &str =
 
 environment:
   ARRAYD_LOG=FILE       a line for each thing that happens is written there
+  ARRAYD_DEADLINE=N     a call on a unit's file that takes N seconds has failed, and so has each later one
   ARRAYD_HOST2=IPV4     controller 2 listens there
 
 Standard input takes the lines status, down 1, down 2 and quit.

@@ -9,6 +9,7 @@ mod down;
 mod failing;
 mod fencing;
 mod hanging;
+mod hung;
 mod late;
 mod lives;
 mod logins;
