@@ -6,8 +6,9 @@ mod lines;
 mod operated;
 mod portals;
 mod served;
+mod sight;
 
 pub use disks::{FileArray, OpenArray, open};
 pub use lines::{Operations, console};
 pub use operated::Operated;
-pub use served::{serve, tell_want};
+pub use served::{Pane, serve, tell_want};
