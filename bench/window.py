@@ -20,9 +20,9 @@ import tempfile
 import threading
 import time
 
-from initiator import RESERVATION_CONFLICT, Session
+from initiator import GOOD, RESERVATION_CONFLICT, Session
 from running import ARRAYD, PORT, TARGET, TOP, Array, Wrong, ended, made
-from trouble import NotHere, is_so
+from trouble import Mounted, NotHere, end_of, flush, is_so, run, write
 
 AT = 15000 + os.getpid() % 5000
 CASES = []
@@ -224,6 +224,89 @@ def names(folder):
         for session in open_:
             session.close()
         array.quit()
+
+
+# ---- what is wrong
+
+def wrong(unit, trouble):
+    """/health tells of this trouble of a unit as the page of trouble has it, /metrics and /status too."""
+    with open(f"{TOP}/docs/TROUBLE.md", encoding="utf-8") as file:
+        page = " ".join(file.read().replace("**", "").split())
+    code, _, said = get("/health")
+    is_so("health", code, 503)
+    for line in said.decode().splitlines():
+        words_ = re.fullmatch(f"unit {unit}: (.*)", line)[1]
+        if words_ not in page:
+            raise Wrong(f"docs/TROUBLE.md does not say: {words_}")
+    view = status()
+    is_so("problems", view["problems"], said.decode().splitlines())
+    is_so("/status", {one["what"]: one["count"] for one in view["units"][unit]["troubles"]}[trouble], 1)
+    is_so("/metrics", value(metrics(), "arrayd_unit_trouble", unit=unit, trouble=trouble), 1)
+    return view["units"][unit]["health"]
+
+
+@case
+def disk_that_became_shorter(folder):
+    with window(folder, 2) as array:
+        session = host(2)
+        is_so("well", (get("/health")[::2], status()["units"][1]["health"]), ((200, b"ok\n"), "well"))
+        os.truncate(f"{folder}/disk1", 512)
+        is_so("a read", session.command(1, [0x28, 0, 0, 0, 0, 100, 0, 0, 1, 0], expected=512).sense_key(), (3, 0x11, 0))
+        is_so("health", wrong(1, "calls_failed"), "calls on it failed")
+        is_so("calls", value(metrics(), "arrayd_device_failures_total", unit=1, file="disk", call="read"), 1)
+        is_so("sense 3", value(metrics(), "arrayd_check_conditions_total", unit=1, controller=2, sense_key="0x3"), 1)
+        array.quit()
+
+
+@case
+def flushes_that_are_lost(folder):
+    with Mounted(folder) as place:
+        place.mount("-t", "tmpfs", "-o", "size=256k", "none")
+        file = made(place.place + "/file", 4096)
+        os.symlink(place.loop(file), folder + "/unit0")
+        with Array([folder + "/unit0"], more={"ARRAYD_HTTP": f"127.0.0.1:{AT}"}) as array:
+            session = host()
+            is_so("a flush", (write(session, 0), flush(session)), (GOOD, GOOD))
+            for lba in range(0, 4096, 8):
+                write(session, lba, b"more")
+            is_so("the flush fails", flush(session), "03 0C/00")
+            is_so("health", wrong(0, "flushes_lost"), "flushes are lost")
+            found = metrics()
+            is_so("flushes", [value(found, name, unit=0, controller=1) for name in
+                              ("arrayd_flushes_total", "arrayd_failed_flushes_total")], [2, 1])
+            array.quit()
+
+
+@case
+def disk_that_hangs(folder):
+    with Mounted(folder) as place:
+        image = made(folder + "/image", 32768)
+        run("mkfs.ext4", "-q", "-F", image)
+        place.mount(place.loop(image))
+        disks = [made(place.place + "/disk", 2048), made(folder + "/other", 16)]
+        with Array(disks, more={"ARRAYD_HTTP": f"127.0.0.1:{AT}"}) as array:
+            session = host()
+            run("fsfreeze", "-f", place.place)
+            try:
+                tag = session.submit(0, [0x2A, 0, 0, 0, 0, 0, 0, 0, 1, 0], out=bytes(512))
+                time.sleep(2)
+                is_so("slow", status()["units"][0]["health"], "slow")
+                is_so("not wrong yet", get("/health")[0], 200)
+                began = time.monotonic()
+                get("/metrics")
+                took = time.monotonic() - began
+                print(f"      a scrape beside it took {1000 * took:.1f} ms")
+                time.sleep(9)
+                is_so("health", wrong(0, "hangs"), "hangs")
+                is_so("for so long", 10 < value(metrics(), "arrayd_unit_oldest_command_seconds", unit=0) < 20, True)
+            finally:
+                run("fsfreeze", "-u", place.place)
+            is_so("then", end_of(session.wait(tag)), GOOD)
+            is_so("well again", (get("/health")[0], status()["units"][0]["health"]), (200, "well"))
+            is_so("the bucket of what took so long",
+                  value(metrics(), "arrayd_command_duration_seconds_bucket", unit=0, controller=1, le="+Inf")
+                  - value(metrics(), "arrayd_command_duration_seconds_bucket", unit=0, controller=1, le="10"), 1)
+            array.quit()
 
 
 # ---- what may be asked, and by how many

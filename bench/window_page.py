@@ -2,7 +2,7 @@
 """Looks at the page of the window in Chromium (Debian's package), headless: compares the numbers that it shows with those that were
 sent, looks whether a name of a host became a part of it, walks it with the keyboard, and takes pictures at three widths, light and dark.
 
-usage: bench/window_page.py [--pictures FOLDER]
+usage: bench/window_page.py [--pictures FOLDER [--seconds COUNT]]     two hosts work for so long before the first picture
 
 The program is ./arrayd, or what the environment's ARRAYD names. Ends with status 1 where something is otherwise.
 """
@@ -10,6 +10,7 @@ The program is ./arrayd, or what the environment's ARRAYD names. Ends with statu
 import argparse
 import base64
 import json
+import math
 import os
 import shutil
 import socket
@@ -191,7 +192,19 @@ def pictures(page, folder, name):
                 page.picture(f"{folder}/window-{name}-{width}-{'dark' if is_dark else 'light'}.png", width, is_dark)
 
 
-def tried(folder, to):
+def worked(hosts, seconds):
+    """Hosts work for so many seconds, now more and now less, so that pictures have lines."""
+    end = time.monotonic() + seconds
+    while (left := end - time.monotonic()) > 0:
+        for unit, host in enumerate(hosts):
+            for _ in range(1 + int(8 * (1 + math.sin(left / (11 + 7 * unit))))):
+                host.read(unit, 0, 64)
+            host.write(unit, 0, bytes(8192))
+        hosts[0].flush(0)
+        time.sleep(0.05)
+
+
+def tried(folder, to, seconds):
     disks = [made(f"{folder}/disk{unit}", 4096) for unit in range(2)]
     with Array(disks, more={"ARRAYD_HTTP": f"127.0.0.1:{AT}"}) as array:
         first = Session("127.0.0.1", PORT, TARGET, NAME, 0x400001370000, keys=[("InitiatorAlias", ALIAS)], timeout=20)
@@ -212,6 +225,7 @@ def tried(folder, to):
             is_unharmed(page)
             is_reached_by_keys(page)
             fits(page)
+            worked([first, second], seconds)
             pictures(page, to, "healthy")
             array.ask("down 1")
             page.until("document.querySelectorAll('.wire.none').length === 2")
@@ -233,13 +247,14 @@ def tried(folder, to):
 def main():
     words = argparse.ArgumentParser()
     words.add_argument("--pictures")
-    to = words.parse_args().pictures
+    words.add_argument("--seconds", type=int, default=0)
+    wanted = words.parse_args()
     if not shutil.which("chromium"):
         print("left  page: no chromium")
         return
     with tempfile.TemporaryDirectory(ignore_cleanup_errors=True) as folder:
         try:
-            tried(folder, to)
+            tried(folder, wanted.pictures, wanted.seconds)
         except Wrong as why:
             print(f"WRONG page: {why}")
             sys.exit(1)
