@@ -116,7 +116,7 @@ fn unit_of(
         registration_file,
         blocks: seen.happened.blocks.get(place).copied().unwrap_or(0),
         health: window::health_words(&signs),
-        troubles: window::troubles(alloc, &signs)?,
+        troubles: window::trouble_tallies(alloc, &signs)?,
         disk_failures: window::failures(alloc, &signs.disk)?,
         registration_failures: window::failures(alloc, &signs.registrations)?,
         oldest_command_micros: oldest,

@@ -21,5 +21,5 @@ pub use line::{Amount, Label, put_help, put_sample, put_type};
 pub use made::{failures, refusals, route, session, spelled};
 pub use measures::metrics;
 pub use serving::open;
-pub use troubles::{Signs, Trouble, health, health_words, problems, troubles};
+pub use troubles::{Signs, Trouble, health, health_words, problems, trouble_tallies};
 pub use view::{Commands, Controller, Route, Session, Tally, Unit, View, state_words};

@@ -144,7 +144,7 @@ impl Signs {
 }
 
 /// What may be wrong with a unit: 1 where it is.
-pub fn troubles(alloc: Global, signs: &Signs) -> Result<Vec<Tally>, AllocError> {
+pub fn trouble_tallies(alloc: Global, signs: &Signs) -> Result<Vec<Tally>, AllocError> {
     let mut tallies = Vec::new(alloc);
     for trouble in &ALL {
         tallies.push(Tally {
