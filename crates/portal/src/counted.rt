@@ -1,5 +1,6 @@
 //! What of commands is counted.
 
+use crate::target::BeginFault;
 use crate::told::operation_of;
 use event_log::{Ended, Hand, Initiator, Kind, Log, Path, Served, Visit};
 use scsi_types::{Asked, Command, Reply, Status};
@@ -16,20 +17,30 @@ fn clock(rt: &impl Clock) -> Duration {
     rt.monotonic().unwrap_or(Duration::ZERO)
 }
 
-/// What the commands of a session that has begun are counted by, where they are counted and there is memory for it.
+/// What the commands of a session that was to begin are counted by: where it has begun, they are counted, and there is memory for it.
 pub(crate) fn enter<R: Wait + Clock>(
     rt: &R,
     alloc: Global,
     log: &Log,
     who: Initiator<'_>,
     path: Path,
-    tsih: u16,
+    tried: Result<u16, BeginFault>,
     kind: Kind,
 ) -> Option<Hand> {
     let meters = log.meters()?;
+    let Ok(tsih) = tried else {
+        return None;
+    };
     let since = rt.since_1970().unwrap_or(Duration::ZERO);
     let visit = Visit::new(alloc, who, path, tsih, kind, since).ok()?;
     meters.enter(rt, alloc, visit).ok()
+}
+
+/// The session has ended, whose commands were counted by this.
+pub(crate) fn leave<R: Wait>(rt: &R, log: &Log, hand: Option<Hand>) {
+    if let (Some(hand), Some(meters)) = (hand, log.meters()) {
+        meters.leave(rt, hand);
+    }
 }
 
 // How a command with this reply ended.

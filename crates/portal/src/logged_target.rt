@@ -2,7 +2,7 @@
 ghost use Rattle.std.specs.Prelude.{◌≡◌, [], map};
 
 use crate::connection::Connection;
-use crate::counted::{begin, count, enter};
+use crate::counted::{begin, count, enter, leave};
 use crate::gate::Gate;
 use crate::sessions::Sessions;
 use crate::target::{BeginFault, SessionTarget};
@@ -302,11 +302,16 @@ impl<
         let tried = self.target.try_begin(name, isid, kind);
         self.visitor.tried(tried);
         self.told().tried(tried, kind);
-        if let Ok(tsih) = tried {
-            let who = self.visitor.initiator();
-            let kind = kind_of(kind);
-            self.hand = enter(self.rt, self.alloc, self.log, who, self.path, tsih, kind);
-        }
+        let who = self.visitor.initiator();
+        self.hand = enter(
+            self.rt,
+            self.alloc,
+            self.log,
+            who,
+            self.path,
+            tried,
+            kind_of(kind),
+        );
         match tried {
             Ok(tsih) => BeginAnswer::Begun(tsih),
             Err(_) => BeginAnswer::Refused,
@@ -321,9 +326,7 @@ impl<
         let lives = self.target.is_live();
         self.visitor.end(lives);
         self.target.end();
-        if let (Some(hand), Some(meters)) = (self.hand.take(), self.log.meters()) {
-            meters.leave(self.rt, hand);
-        }
+        leave(self.rt, self.log, self.hand.take());
     }
 
     fn foresees(&self) -> bool {
