@@ -10,6 +10,7 @@ use crate::disks::OpenArray;
 use crate::lines::{Operations, console};
 use crate::operated::Operated;
 use crate::portals::{self, Portal, Ports};
+use crate::sight::Lookout;
 use array_units::Units;
 use block_file::{Blocks, Opener};
 use command_line::{Fault, MAX_UNITS, Options};
@@ -23,6 +24,7 @@ use scsi_types::Group;
 use std::alloc::Global;
 use std::io::{BufRead, Write};
 use std::net::{Net, SocketAddrV4, TcpListener, TcpStream};
+use std::random::RandomSource;
 use std::sync::{Arc, Wait};
 use std::thread::Threads;
 use std::time::Clock;
@@ -160,6 +162,40 @@ fn attend<A: Operations, I: BufRead + Drop, C: Write>(
     console(alloc, reader, writer, array);
 }
 
+/// Where the window is that is to be opened: the socket that listens there, and the version that it tells.
+#[derive(Drop)]
+pub struct Pane {
+    pub listener: TcpListener,
+    pub version: &'static str,
+}
+
+// Opens the window on what is served, where one is wanted.
+fn open_window<
+    N: Naming<Opened> + Send + Sync + 'static,
+    B: Blocks + Send + Sync + 'static,
+    F: Blocks + Send + Sync + 'static,
+    O: Opener<B> + Send + Sync + 'static,
+    G: Gate + Drop + Send + Sync + 'static,
+    R: Threads + Wait + Clock + RandomSource + Clone + Drop + Send + Sync + 'static,
+>(
+    rt: &R,
+    alloc: Global,
+    options: &Options<'_>,
+    server: &Served<B, F, O, N, G>,
+    pane: Option<Pane>,
+) -> Result<(), Fault> {
+    let Some(Pane { listener, version }) = pane else {
+        return Ok(());
+    };
+    let mine = rt.clone()?;
+    let server = Arc::try_clone(server)?;
+    let lookout = Lookout::new(mine, alloc, options, version, server)?;
+    match window::open(rt, alloc, listener, lookout) {
+        Ok(()) => Ok(()),
+        Err(_) => Err(Fault::NoMemory),
+    }
+}
+
 // Serves these units, behind this gate, at the portals that the words ask for.
 fn serve_units<
     N: Naming<Opened> + Send + Sync + 'static,
@@ -171,9 +207,11 @@ fn serve_units<
         + Wait
         + Clock
         + Net<Listener = TcpListener, Stream = TcpStream>
+        + RandomSource
         + Clone
         + Drop
         + Send
+        + Sync
         + 'static,
 >(
     rt: &R,
@@ -182,6 +220,7 @@ fn serve_units<
     units: Vec<NewUnit<B, F, O>>,
     gate: G,
     log: &Log,
+    pane: Option<Pane>,
 ) -> Result<Served<B, F, O, N, G>, Fault>
     requires named { IsNamed N.book N.table N.opening B.contents units.items }
     requires count { length units.items ≤ MAX_UNITS }
@@ -198,6 +237,7 @@ fn serve_units<
     let first = start::<N, B, F, O, G, R>(rt, alloc, &server, Group::One)?;
     let second = start::<N, B, F, O, G, R>(rt, alloc, &server, Group::Two)?;
     let lanes = (first, second);
+    open_window::<N, B, F, O, G, R>(rt, alloc, options, &server, pane)?;
     accept_at::<N, B, F, O, G, R>(rt, alloc, &server, portals, &lanes)?;
     Ok(server)
 }
@@ -222,9 +262,11 @@ pub fn serve<
         + Wait
         + Clock
         + Net<Listener = TcpListener, Stream = TcpStream>
+        + RandomSource
         + Clone
         + Drop
         + Send
+        + Sync
         + 'static,
     I: BufRead + Drop,
     C: Write,
@@ -234,6 +276,7 @@ pub fn serve<
     options: &Options<'_>,
     array: OpenArray<B, F, O, P>,
     log: &Log,
+    pane: Option<Pane>,
     reader: I,
     writer: &mut C,
 ) -> Result<(), Fault>
@@ -249,7 +292,7 @@ pub fn serve<
     } = array;
     let gate = Prepared::<P, N>::new(preparers);
     let ended = match serve_units::<N, B, F, O, Prepared<P, N>, R>(
-        rt, alloc, options, units, gate, log,
+        rt, alloc, options, units, gate, log, pane,
     ) {
         Ok(server) => {
             log.tell(rt, &Event::Ready);

@@ -3,7 +3,7 @@ ghost use Rattle.std.specs.Prelude.{◌≡◌, ◌<◌, ◌≤◌, IfOk, length,
 ghost use Rattle.unit_state.specs.Serials.{IsOpening};
 
 use crate::disks::{OpenArray, fault_of, open_blocks, open_preparer, open_record};
-use crate::served::{serve, tell_want};
+use crate::served::{Pane, serve, tell_want};
 use aptpl_file::RegFile;
 use block_file::{Blocks, KeepOpener, Opener};
 use command_line::{Fault, MAX_UNITS, Options};
@@ -18,6 +18,7 @@ use std::fs::File;
 use std::io::{BufRead, Write};
 use std::marker::Brand;
 use std::net::{Net, TcpListener, TcpStream};
+use std::random::RandomSource;
 use std::rt::Files;
 use std::sync::{Arc, Wait};
 use std::thread::Threads;
@@ -239,6 +240,7 @@ pub fn serve_timed<
         + Wait
         + Clock
         + Net<Listener = TcpListener, Stream = TcpStream>
+        + RandomSource
         + Clone
         + Drop
         + Send
@@ -257,6 +259,7 @@ pub fn serve_timed<
     parts: Vec<Parts<B, F, O, P>>,
     patience: Duration,
     log: &Log,
+    pane: Option<Pane>,
     reader: I,
     writer: &mut C,
 ) -> Result<(), Fault> {
@@ -277,5 +280,5 @@ pub fn serve_timed<
         R,
         I,
         C,
-    >(rt, alloc, options, array, log, reader, writer)
+    >(rt, alloc, options, array, log, pane, reader, writer)
 }

@@ -7,6 +7,7 @@ ghost use Rattle.command_line.specs.Fault.{status_of};
 
 mod log_file;
 mod once;
+mod pane;
 mod settings;
 mod told;
 
@@ -19,6 +20,7 @@ use std::alloc::Global;
 use std::env::Env;
 use std::fs::File;
 use std::marker::Brand;
+use std::net::SocketAddrV4;
 use std::process::ExitCode;
 use std::rt::Files;
 use std::time::Clock;
@@ -42,6 +44,17 @@ fn asked_log<R: Env + AllocGlobal + Files<File = File> + Clone + Drop>(
         Some(file) => Ok((Log::new(alloc)?, Some(file))),
         None => Ok((Log::off(), None)),
     }
+}
+
+// The log, its file, and where the window is to be, where one is.
+fn asked<R: Env + AllocGlobal + Files<File = File> + Clone + Drop>(
+    rt: &R,
+    alloc: Global,
+    units: usize,
+) -> Result<(Log, Option<LogFile<R>>, Option<SocketAddrV4>), Fault> {
+    let at = pane::asked(rt)?;
+    let (log, file) = asked_log(rt, alloc)?;
+    Ok((pane::counted(alloc, log, at, units)?, file, at))
 }
 
 // Says why the program ends, and with which status.
@@ -89,7 +102,7 @@ fn main(rt: HostRuntime) -> ExitCode {
         Ok(address) => address,
         Err(fault) => return complain(&rt, fault),
     };
-    let (log, file) = match asked_log(&rt, alloc) {
+    let (log, file, at) = match asked(&rt, alloc, options.paths.len()) {
         Ok(asked) => asked,
         Err(fault) => return complain(&rt, fault),
     };
@@ -103,6 +116,10 @@ fn main(rt: HostRuntime) -> ExitCode {
         }
         log.tell(&rt, &Event::Started(told::VERSION.as_bytes()));
     }
+    let pane = match pane::opened(&rt, &log, at) {
+        Ok(pane) => pane,
+        Err(fault) => return give_up(&rt, &log, fault),
+    };
     if let Some(patience) = patience {
         let parts = match open_files(&rt, alloc, &log, &options) {
             Ok(parts) => parts,
@@ -116,6 +133,7 @@ fn main(rt: HostRuntime) -> ExitCode {
             parts,
             patience,
             &log,
+            pane,
             reader,
             &mut writer,
         );
@@ -143,6 +161,7 @@ fn main(rt: HostRuntime) -> ExitCode {
         &options,
         array,
         &log,
+        pane,
         rt.reader(),
         &mut io::writer(&rt),
     );

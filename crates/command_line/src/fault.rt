@@ -8,6 +8,7 @@ use crate::words::WordsFault;
 use scsi_types::NoMemory;
 use std::alloc::{AllocError, AllocFailed};
 use std::fmt::{self, Display, Formatter};
+use std::net::SocketAddrV4;
 use std::process::ExitCode;
 use std::thread::SpawnError;
 
@@ -23,6 +24,8 @@ pub enum Fault {
     CannotUseRegistrationFile(u8),
     /// A controller, 1 or 2, can't listen at its portal with this number, counted from 0.
     CannotListen(u8, u16),
+    /// The window can't listen at this address.
+    CannotListenAt(SocketAddrV4),
     /// Memory, or a thread, is refused.
     NoMemory,
 }
@@ -53,6 +56,7 @@ impl Display for Fault {
                     "cannot listen at controller {controller} portal {portal}"
                 )
             }
+            Fault::CannotListenAt(at) => write!(f, "cannot listen at {at}"),
             Fault::NoMemory => write!(f, "no memory"),
         }
     }

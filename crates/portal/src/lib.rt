@@ -5,6 +5,7 @@
 mod attached;
 mod connection;
 mod controllers;
+mod counted;
 mod device;
 mod gate;
 mod handles;
