@@ -13,7 +13,6 @@ pub fn no_name_begins_a_line(name: &str, labels: &[Label<'_>], amount: Amount)
 {}
 
 /// So has the line that tells what a metric is, or its type.
-#[tactic(auto, using(crate::proofs::Plain::heading))]
 pub fn no_words_begin_a_line(name: &str, words: &str)
     ensures help { are_plain (heading_onto [] (codes "# HELP ") name.now words.now) ≡ true }
     ensures kind { are_plain (heading_onto [] (codes "# TYPE ") name.now words.now) ≡ true }
