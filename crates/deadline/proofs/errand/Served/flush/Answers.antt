@@ -1,5 +1,3 @@
-use Rattle.std.proofs.Common.{IsTrue}
-use Rattle.deadline.specs.Answers.{HasFlushed}
 use Rattle.deadline.proofs.errand.Served.flush.Goals as goal
 
 pub returns-in-Ok : goal.returns-in-Ok
