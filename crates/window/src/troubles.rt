@@ -69,7 +69,8 @@ impl Trouble {
     fn sentence(self) -> Option<&'static str> {
         match self {
             Trouble::Hangs => Some(
-                "A disk hangs: commands of one unit are not answered. Sessions that do not touch the unit go on with other units.",
+                "A disk hangs: commands of its unit wait, or fail where `ARRAYD_DEADLINE` is set. Sessions that do not touch the unit \
+                go on with other units.",
             ),
             Trouble::FlushesLost => Some(
                 "One flush failed, so what was written since the last good one may be lost. Taking the controller down does not heal \
