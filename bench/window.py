@@ -259,6 +259,24 @@ def disk_that_became_shorter(folder):
 
 
 @case
+def log_that_cannot_be_written(folder):
+    with window(folder, log=f"{folder}/none/log") as array:
+        session = host()
+        until = time.monotonic() + 5
+        while get("/health")[0] == 200 and time.monotonic() < until:
+            time.sleep(0.05)
+        is_so("health", get("/health")[::2], (503, b"The log cannot be written.\n"))
+        is_so("in numbers", value(metrics(), "arrayd_problems"), 1)
+        os.mkdir(f"{folder}/none")
+        session.logout()
+        until = time.monotonic() + 5
+        while get("/health")[0] != 200 and time.monotonic() < until:
+            time.sleep(0.05)
+        is_so("well again", get("/health")[::2], (200, b"ok\n"))
+        array.quit()
+
+
+@case
 def flushes_that_are_lost(folder):
     with Mounted(folder) as place:
         place.mount("-t", "tmpfs", "-o", "size=256k", "none")
