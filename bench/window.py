@@ -473,6 +473,16 @@ def words(folder):
     is_so("two", ended(["--version", "--help"]), (2, "arrayd: wrong words"))
 
 
+@case
+def dashboard(folder):
+    """The dashboard asks for metrics that there are."""
+    with open(f"{TOP}/service/grafana.json", encoding="utf-8") as file:
+        named = set(re.findall("arrayd_[a-z_]+", file.read()))
+    with window(folder) as array:
+        is_so("not there", sorted(named - {name for name, _ in metrics()}), [])
+        array.quit()
+
+
 # ---- Prometheus itself
 
 @case
