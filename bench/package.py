@@ -62,6 +62,13 @@ def repacked(package, place):
     subprocess.run(["dpkg-deb", "--root-owner-group", "-b", root, newer], check=True, stdout=subprocess.DEVNULL)
 
 
+def tell_program(package):
+    """Says of which program a package was made: package.sh marks one that was not proved."""
+    words = ["dpkg-deb", "-f", package, "Version"]
+    version = subprocess.run(words, check=True, stdout=subprocess.PIPE, text=True).stdout.strip()
+    print(f"package {version}, of a program that was {'not ' if '~unproved' in version else ''}proved", flush=True)
+
+
 def field(machine, name, unit="arrayd@one"):
     return machine.run(f"systemctl show -P {name} {unit}")[1]
 
@@ -230,6 +237,8 @@ def main(words):
         return 0
     if words[:1] != ["run"] or len(words) not in (3, 4):
         sys.exit(__doc__)
+    for package in words[2:]:
+        tell_program(package)
     with tempfile.TemporaryDirectory() as place:
         os.mkdir(os.path.join(place, "packages"))
         shutil.copy(words[2], os.path.join(place, "packages", "first.deb"))

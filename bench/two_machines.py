@@ -284,13 +284,13 @@ WAYS = {"rounds": (rounds, 10), "power": (power, 10), "move": (move, 2), "wire_c
 
 
 def boot(folder):
-    """Boots each machine of each kind once, all at the same time, and keeps what it then is."""
+    """Boots each machine of each kind once, two at the same time, and keeps what it then is."""
     def boot_one(run, name, kind):
         os.mkdir(run)
         Machine(name, kind, folder, run, Disk(os.path.join(run, "disk"), LENGTH)).boot()
         say(f"machine {name}, {kind}, has booted")
 
-    with tempfile.TemporaryDirectory(dir=folder) as run, concurrent.futures.ThreadPoolExecutor(4) as lanes:
+    with tempfile.TemporaryDirectory(dir=folder) as run, concurrent.futures.ThreadPoolExecutor(2) as lanes:
         booted = [lanes.submit(boot_one, os.path.join(run, kind + name), name, kind)
                   for kind in ("plain", "systemd") for name in "ab"]
         for each in booted:

@@ -101,6 +101,7 @@ def settle(root):
     for name in ("plain", "network", "shell", "begin", "activate", "deactivate", "fencing.res", "cluster.crm"):
         place(name, root, "usr/libexec/two_machines")
     place("array.res", root, "etc/drbd.d")
+    shutil.copy(os.path.join(GUEST, "quick.res"), os.path.join(root, "etc", "drbd.d", "common.res"))
     # else drbdadm waits for a network that is not there, to be counted
     write(os.path.join(root, "etc", "drbd.d", "global_common.conf"), "global { usage-count no; }\n")
     write(os.path.join(root, "etc", "hosts"), "127.0.0.1 localhost\n10.9.0.1 a\n10.9.0.2 b\n")

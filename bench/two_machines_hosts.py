@@ -21,7 +21,7 @@ ISID = 0x400001370000
 MISCOMPARE = (0x0E, 0x1D, 0x00)
 LOST = (Closed, Refused, OSError)
 # A command that is not answered for so long ends with the connection: the machine is dead, and nobody may say so.
-SECONDS = 180
+SECONDS = 900
 
 
 def told(reply):

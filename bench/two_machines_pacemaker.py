@@ -70,7 +70,7 @@ class Cluster(Pair):
         super().__init__(folder, run, kind="systemd")
         self.fences = Fences(self.machines)
         for machine in self.machines.values():
-            machine.when_on = (f"echo {self.fences.port()} > /run/fence_port; cp {PLACE}/fencing.res /etc/drbd.d/; "
+            machine.when_on = (f"echo {self.fences.port()} > /run/fence_port; cp {PLACE}/fencing.res /etc/drbd.d/common.res; "
                                f"{PLACE}/begin")
 
     def begin(self):
@@ -171,7 +171,7 @@ def cut(cluster):
     # whoever would fence late has time to do so
     time.sleep(30)
     living = [name for name, machine in cluster.machines.items() if machine.is_on()]
-    if len(living) != 1 or len(cluster.fences.fenced) != 1:
+    if len(living) != 1 or len(set(cluster.fences.fenced)) != 1:
         raise Wrong(f"{living} live, fenced was {cluster.fences.fenced}")
     dead = next(machine for machine in cluster.machines.values() if not machine.is_on())
     was_active = dead is not cluster.active
