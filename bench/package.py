@@ -7,11 +7,13 @@ the gate: it takes some twenty minutes, since the machine's processor is emulate
 usage: bench/package.py build FOLDER                     makes what is booted, of Debian's packages (root, the network)
        bench/package.py run FOLDER PACKAGE [NEWER]       boots it and tries; where no newer package is given, PACKAGE is packed
                                                          again as one. Status 1 where a line begins with FAILED
+       bench/package.py only NAME,.. FOLDER PACKAGE      the same, and no trials but these (three_commands has to be the first)
 
 What it wants of Debian's packages says bench/package_machine.py.
 """
 
 import os
+import random
 import re
 import shutil
 import subprocess
@@ -19,12 +21,12 @@ import sys
 import tempfile
 import time
 
+from free_port import is_free
 from initiator import Closed, Refused, Session
 from package_host import Host
 from package_machine import Machine, build
 from running import TARGET
 
-PORT = 26200
 APT = "DEBIAN_FRONTEND=noninteractive apt-get -y -q -o Dpkg::Options::=--force-confold"
 CONSOLE = "/usr/libexec/arrayd/arrayd-console /run/arrayd/one"
 STATUS = "/usr/libexec/arrayd/arrayd-status /run/arrayd/one"
@@ -177,7 +179,7 @@ def missing(machine):
     machine.run("printf '%s\\n' 'OPTIONS=\"--host 10.0.2.15 --port 3280 --array 2\"' 'DISKS=\"unit0=/dev/nowhere\"' > /etc/arrayd/two.conf")
     began = time.monotonic()
     check("an array whose disk is not there does not start", machine.run("systemctl start arrayd@two")[0] != 0)
-    while field(machine, "ActiveState", "arrayd@two") != "failed" and time.monotonic() - began < 400:
+    while field(machine, "ActiveState", "arrayd@two") != "failed" and time.monotonic() - began < 1500:
         time.sleep(5)
     found = [field(machine, name, "arrayd@two") for name in ("ActiveState", "NRestarts")]
     check("it is tried again, and then failed", found == ["failed", "30"] or found[0] == "failed" and int(found[1]) >= 25, found)
@@ -222,9 +224,18 @@ def removed(machine):
     check("and leaves the device to which a link led", machine.run("dd if=/dev/vdb bs=512 skip=7 count=1 status=none")[1] == "seen" * 128)
 
 
-def trials(machine):
+TRIALS = (three_commands, console, upgrade, filtered, missing, rebooted, removed)
+
+
+def free_port():
+    """A port with which those of the second controller and of the shell are free too."""
+    tried = random.sample(range(20000, 30000, 16), 100)
+    return next(port for port in tried if all(is_free(port + at) for at in (0, 4, 8)))
+
+
+def trials(machine, chosen):
     machine.run("mkdir -p /packages; mount -o ro /dev/vdd /packages")
-    for trial in (three_commands, console, upgrade, filtered, missing, rebooted, removed):
+    for trial in chosen:
         print(trial.__name__.replace("_", " "), flush=True)
         if trial is removed:
             machine.run("mount -o ro /dev/vdd /packages")
@@ -235,6 +246,10 @@ def main(words):
     if words[:1] == ["build"] and len(words) == 2:
         build(os.path.abspath(words[1]))
         return 0
+    chosen = TRIALS
+    if words[:1] == ["only"] and len(words) == 4:
+        chosen = [trial for trial in TRIALS if trial.__name__ in words[1].split(",")]
+        words = ["run", *words[2:]]
     if words[:1] != ["run"] or len(words) not in (3, 4):
         sys.exit(__doc__)
     for package in words[2:]:
@@ -246,9 +261,9 @@ def main(words):
             shutil.copy(words[3], os.path.join(place, "packages", "newer.deb"))
         else:
             repacked(words[2], place)
-        with Machine(os.path.abspath(words[1]), place, os.path.join(place, "packages"), PORT) as machine:
+        with Machine(os.path.abspath(words[1]), place, os.path.join(place, "packages"), free_port()) as machine:
             told("the machine is up after", machine.wait())
-            trials(machine)
+            trials(machine, chosen)
     print(f"{len(failed)} failed")
     return 1 if failed else 0
 

@@ -20,7 +20,7 @@ import time
 from two_machines import PLACE, WORKS, Pair, drbdadm, lose, must_be_whole, say, tell_consoles, works
 from two_machines_emulated import HOST, Wrong
 
-CRM = f"{PLACE}/cluster.crm"
+CONFIGURATION = f"{PLACE}/cluster.xml"
 # How long the cluster may take to come to something, in seconds.
 PATIENCE = 1800
 
@@ -86,7 +86,7 @@ class Cluster(Pair):
             machine.ask(f"{drbdadm('down')}; systemctl start pacemaker")
         self.wait_online()
         say("the cluster is online")
-        self.active.ask(f"crm -F configure load replace {CRM}", PATIENCE)
+        self.active.ask(f"cibadmin --replace --scope configuration --xml-file {CONFIGURATION}", PATIENCE)
         self.see_active(None)
         self.wait_in_sync()
         self.hosts.log_in(self.active.base)

@@ -118,14 +118,19 @@ def with_good(cib, names):
     return cib
 
 
-def plans(root, text):
-    """Goes over what the cluster would do with this configuration: which machine is the active one."""
+def as_cib(root, text):
+    """This configuration as Pacemaker keeps it."""
     root.write("cib.xml", EMPTY)
     words = root.write("cluster.crm", text)
     told = root.run("crm", "-F", "configure", "load", "replace", words, CIB_file=f"{TRIAL}/cib.xml")
     if "syntax" in told.lower() or "commit forced" not in told and "ERROR" in told:
         raise Wrong(told)
-    root.write("both.xml", with_both(root.read("cib.xml")))
+    return root.read("cib.xml")
+
+
+def plans(root, text):
+    """Goes over what the cluster would do with this configuration: which machine is the active one."""
+    root.write("both.xml", with_both(as_cib(root, text)))
     root.simulate("both.xml", "started.xml")
     for name in "ab":
         # only this one's disk is good, so all of it has to be there
