@@ -84,7 +84,7 @@ def session(machine, controller=1, timeout=60):
 def three_commands(machine):
     status, said = machine.run("command -v arrayd; getent passwd arrayd; ls -d /etc/arrayd /var/lib/arrayd /usr/libexec/arrayd")
     check("nothing of the array is there", status != 0 and "/arrayd\n" not in said.replace("cannot access", ""), said)
-    status, said, seconds = timed(machine, f"{APT} install /packages/first.deb")
+    status, said, seconds = timed(machine, f"cd /packages; {APT} install ./arrayd_*.deb")
     check("1. apt install", status == 0, said)
     told("it took", seconds)
     check("no array was started", machine.run("systemctl list-units --all --plain --no-legend 'arrayd@*'")[1] == "", "")
@@ -189,6 +189,18 @@ def missing(machine):
     machine.run("rm /etc/arrayd/two.conf; systemctl reset-failed arrayd@two; rm -rf /var/lib/arrayd/two")
 
 
+def file_disk(machine):
+    """A disk that is a file, made by the lines of README."""
+    folder = "/var/lib/arrayd/three"
+    status, said = machine.run(f"set -e\ninstall -d -m 700 -o arrayd -g arrayd {folder}\ntruncate -s 1G {folder}/unit0\n"
+                               f"chown arrayd: {folder}/unit0\nprintf '%s\\n' 'OPTIONS=\"--host 10.0.2.15 --port 3290 --array 3\"' "
+                               "'DISKS=\"unit0\"' > /etc/arrayd/three.conf\nsystemctl start arrayd@three")
+    check("an array over a file that was made before starts", status == 0, said)
+    status, said = machine.run("/usr/libexec/arrayd/arrayd-console /run/arrayd/three status; arrayd-reg /var/lib/arrayd/three/unit0.reg")
+    check("its console and arrayd-reg tell of it", status == 0 and said.startswith("unit 0 ") and "unit0.reg: version" in said, said)
+    machine.run(f"systemctl stop arrayd@three; rm -rf {folder} /etc/arrayd/three.conf /var/log/arrayd/three")
+
+
 def rebooted(machine):
     boot = machine.run("cat /proc/sys/kernel/random/boot_id")[1]
     machine.run("systemctl reboot --no-block")
@@ -224,7 +236,7 @@ def removed(machine):
     check("and leaves the device to which a link led", machine.run("dd if=/dev/vdb bs=512 skip=7 count=1 status=none")[1] == "seen" * 128)
 
 
-TRIALS = (three_commands, console, upgrade, filtered, missing, rebooted, removed)
+TRIALS = (three_commands, console, upgrade, filtered, missing, file_disk, rebooted, removed)
 
 
 def free_port():
@@ -256,7 +268,7 @@ def main(words):
         tell_program(package)
     with tempfile.TemporaryDirectory() as place:
         os.mkdir(os.path.join(place, "packages"))
-        shutil.copy(words[2], os.path.join(place, "packages", "first.deb"))
+        shutil.copy(words[2], os.path.join(place, "packages", "arrayd_first.deb"))
         if len(words) == 4:
             shutil.copy(words[3], os.path.join(place, "packages", "newer.deb"))
         else:

@@ -2,8 +2,9 @@
 """Two machines as a cluster: what bench/two_machines.py does by hand is done here by Pacemaker, with systemd, Corosync,
 ocf:linbit:drbd, Filesystem, IPaddr2 and the array's own service, and with fencing. Hosts work; the active machine's
 qemu is killed, and the cluster makes the other one active by itself. The dead one comes back. Then the wire is cut
-while they work: exactly one machine lives on, and serves. Each time every block whose flush was GOOD has to be there,
-every registration with APTPL, and the fenced host stays out.
+while they work: exactly one machine lives on, and serves. At last the service is moved in order, as for an upgrade.
+Each time every block whose flush was GOOD has to be there, every registration with APTPL, and the fenced host stays
+out.
 
 usage: bench/two_machines_pacemaker.py FOLDER         FOLDER is that of `bench/two_machines.py build`
 
@@ -183,6 +184,21 @@ def cut(cluster):
     cluster.comes_back()
 
 
+def moved(cluster):
+    """The service moves to the other machine in order, as for an upgrade: nobody is fenced."""
+    cluster.fences.fenced.clear()
+    told = works(cluster, WORKS)
+    asked, source = time.monotonic(), cluster.active
+    source.ask(f"crm_resource --move --resource service --node {cluster.passive.name}")
+    say(f"the service is told to move away from machine {source.name} behind {told}")
+    cluster.hosts.stop(is_lost=True)
+    cluster.see_active(source)
+    cluster.hosts_come_back(asked)
+    cluster.active.ask("crm_resource --clear --resource service")
+    if cluster.fences.fenced:
+        raise Wrong(f"{cluster.fences.fenced} fenced each other over an orderly move")
+
+
 def main():
     if len(sys.argv) != 2:
         sys.exit(__doc__)
@@ -193,6 +209,7 @@ def main():
             cluster.begin()
             killed(cluster)
             cut(cluster)
+            moved(cluster)
         except BaseException:
             tell_consoles(run)
             raise
