@@ -70,6 +70,8 @@ class Cluster(Pair):
     def __init__(self, folder, run):
         super().__init__(folder, run, kind="systemd")
         self.fences = Fences(self.machines)
+        # a part of Pacemaker that does not answer for five seconds is ended, and the machine fenced
+        self.hosts.rest = 0.5
         for machine in self.machines.values():
             machine.when_on = (f"echo {self.fences.port()} > /run/fence_port; cp {PLACE}/fencing.res /etc/drbd.d/common.res; "
                                f"{PLACE}/begin")
