@@ -124,7 +124,7 @@ class Pair:
         self.hosts.log_in(self.active.base)
         answered = time.monotonic() - killed
         alone, wrong = self.hosts.check()
-        return f"{told}, all hosts back {answered:.1f} s behind the kill; {alone} blocks whose value was flushed", wrong
+        return f"{told}, all hosts back {answered:.1f} s behind it; {alone} blocks whose value was flushed", wrong
 
     def comes_back(self):
         """The passive machine is switched on, and gets in sync while the hosts work on."""
