@@ -8,8 +8,8 @@ out.
 
 usage: bench/two_machines_pacemaker.py FOLDER         FOLDER is that of `bench/two_machines.py build`
 
-Ends with status 1 where it is not so. Some 15 minutes, since the machines are emulated; to be run before a release. Not
-part of the gate."""
+Ends with status 1 where it is not so. Half an hour, since the machines are emulated; to be run before a release, and
+beside little else: a machine that gets too little of the processors is fenced as a dead one. Not part of the gate."""
 
 import os
 import socketserver
@@ -70,7 +70,7 @@ class Cluster(Pair):
     def __init__(self, folder, run):
         super().__init__(folder, run, kind="systemd")
         self.fences = Fences(self.machines)
-        # a part of Pacemaker that does not answer for five seconds is ended, and the machine fenced
+        # where parts of Pacemaker get no time to answer, the machine is fenced
         self.hosts.rest = 0.5
         for machine in self.machines.values():
             machine.when_on = (f"echo {self.fences.port()} > /run/fence_port; cp {PLACE}/fencing.res /etc/drbd.d/common.res; "
